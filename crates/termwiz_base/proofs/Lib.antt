@@ -1,0 +1,2 @@
+pub mod BitFacts
+mod MouseRows

@@ -1,0 +1,218 @@
+// The modifier keys that are held while another key is pressed.
+
+ghost use Rattle.std.specs.Prelude.{⊤, ◌≡◌, [], ◌∷◌, codes};
+ghost use Rattle.bitflags.specs.Sets.{without};
+ghost use Rattle.termwiz_base.specs.Modifiers.{positional, xterm_number};
+
+mod flag_calls;
+
+use bitflags::{Flag, Flags};
+
+/// The modifier keys that are held, a set of sixteen bits. Its calls are those of the trait [`Flags`]. The names are
+/// those of the crate termwiz, and which bit each one has is a choice of this crate.
+#[derive(Clone, Copy, PartialEq, Eq, Hash, Debug, Default)]
+pub struct Modifiers(u16);
+
+impl Modifiers {
+    /// No modifier.
+    pub const NONE: Modifiers = Modifiers(0);
+
+    /// Shift.
+    pub const SHIFT: Modifiers = Modifiers(1 << 1);
+
+    /// Alt.
+    pub const ALT: Modifiers = Modifiers(1 << 2);
+
+    /// Ctrl.
+    pub const CTRL: Modifiers = Modifiers(1 << 3);
+
+    /// Super, the Windows or Command key.
+    pub const SUPER: Modifiers = Modifiers(1 << 4);
+
+    /// The Alt key on the left.
+    pub const LEFT_ALT: Modifiers = Modifiers(1 << 5);
+
+    /// The Alt key on the right.
+    pub const RIGHT_ALT: Modifiers = Modifiers(1 << 6);
+
+    /// A leader key, which a program defines.
+    pub const LEADER: Modifiers = Modifiers(1 << 7);
+
+    /// The Ctrl key on the left.
+    pub const LEFT_CTRL: Modifiers = Modifiers(1 << 8);
+
+    /// The Ctrl key on the right.
+    pub const RIGHT_CTRL: Modifiers = Modifiers(1 << 9);
+
+    /// The Shift key on the left.
+    pub const LEFT_SHIFT: Modifiers = Modifiers(1 << 10);
+
+    /// The Shift key on the right.
+    pub const RIGHT_SHIFT: Modifiers = Modifiers(1 << 11);
+
+    const FLAGS: &'static [Flag<Modifiers>] = &[
+        Flag {
+            name: "NONE",
+            value: Modifiers::NONE,
+        },
+        Flag {
+            name: "SHIFT",
+            value: Modifiers::SHIFT,
+        },
+        Flag {
+            name: "ALT",
+            value: Modifiers::ALT,
+        },
+        Flag {
+            name: "CTRL",
+            value: Modifiers::CTRL,
+        },
+        Flag {
+            name: "SUPER",
+            value: Modifiers::SUPER,
+        },
+        Flag {
+            name: "LEFT_ALT",
+            value: Modifiers::LEFT_ALT,
+        },
+        Flag {
+            name: "RIGHT_ALT",
+            value: Modifiers::RIGHT_ALT,
+        },
+        Flag {
+            name: "LEADER",
+            value: Modifiers::LEADER,
+        },
+        Flag {
+            name: "LEFT_CTRL",
+            value: Modifiers::LEFT_CTRL,
+        },
+        Flag {
+            name: "RIGHT_CTRL",
+            value: Modifiers::RIGHT_CTRL,
+        },
+        Flag {
+            name: "LEFT_SHIFT",
+            value: Modifiers::LEFT_SHIFT,
+        },
+        Flag {
+            name: "RIGHT_SHIFT",
+            value: Modifiers::RIGHT_SHIFT,
+        },
+    ];
+}
+
+impl Flags for Modifiers {
+    type Bits = u16;
+
+    ghost exact = { ⊤ };
+
+    ghost table = { (codes "NONE", 0)
+        ∷ (codes "SHIFT", 2)
+        ∷ (codes "ALT", 4)
+        ∷ (codes "CTRL", 8)
+        ∷ (codes "SUPER", 16)
+        ∷ (codes "LEFT_ALT", 32)
+        ∷ (codes "RIGHT_ALT", 64)
+        ∷ (codes "LEADER", 128)
+        ∷ (codes "LEFT_CTRL", 256)
+        ∷ (codes "RIGHT_CTRL", 512)
+        ∷ (codes "LEFT_SHIFT", 1024)
+        ∷ (codes "RIGHT_SHIFT", 2048)
+        ∷ [] };
+
+    ghost set_of = { λ m. m.0 };
+
+    fn flags<'a>() -> &'a [Flag<Modifiers>] {
+        Modifiers::FLAGS
+    }
+
+    fn bits(&self) -> u16 {
+        self.0
+    }
+
+    fn from_bits_retain(bits: u16) -> Modifiers {
+        Modifiers(bits)
+    }
+}
+
+impl Modifiers {
+    /// The same modifiers without the six flags that name a key on the left or on the right.
+    pub fn remove_positional_mods(self) -> Modifiers
+        ensures { result.0 ≡ without 16 self.0 positional }
+    {
+        let left = Modifiers::LEFT_ALT
+            .union(Modifiers::LEFT_CTRL)
+            .union(Modifiers::LEFT_SHIFT);
+        let right = Modifiers::RIGHT_ALT
+            .union(Modifiers::RIGHT_CTRL)
+            .union(Modifiers::RIGHT_SHIFT);
+        self.difference(left.union(right))
+    }
+
+    /// The number that xterm's key sequences give these modifiers: 1 for Shift plus 2 for Alt plus 4 for Ctrl. A
+    /// sequence writes one more than it ("PC-Style Function Keys" in xterm's "Control Sequences").
+    pub fn encode_xterm(self) -> u8
+        ensures { result ≡ xterm_number self.0 }
+    {
+        let mut number = 0;
+        if self.contains(Modifiers::SHIFT) {
+            number += 1;
+        }
+        if self.contains(Modifiers::ALT) {
+            number += 2;
+        }
+        if self.contains(Modifiers::CTRL) {
+            number += 4;
+        }
+        number
+    }
+}
+
+#[cfg(test)]
+mod tests {
+    use super::*;
+
+    // The number is one less than what follows the `;` in xterm's key sequences.
+    #[test]
+    fn encodes_as_xterm(rt: HostRuntime) {
+        for (held, number) in [
+            (Modifiers::NONE, 0),
+            (Modifiers::SHIFT, 1),
+            (Modifiers::ALT, 2),
+            (Modifiers::SHIFT.union(Modifiers::ALT), 3),
+            (Modifiers::CTRL, 4),
+            (Modifiers::SHIFT.union(Modifiers::CTRL), 5),
+            (Modifiers::ALT.union(Modifiers::CTRL), 6),
+            (
+                Modifiers::SHIFT
+                    .union(Modifiers::ALT)
+                    .union(Modifiers::CTRL),
+                7,
+            ),
+            (Modifiers::SUPER.union(Modifiers::LEFT_ALT), 0),
+        ] {
+            assert_eq!(rt; held.encode_xterm(), number, "{held:?}");
+        }
+    }
+
+    #[test]
+    fn removes_positional_mods(rt: HostRuntime) {
+        let kept = Modifiers::SHIFT.union(Modifiers::LEADER);
+        for positional in [
+            Modifiers::NONE,
+            Modifiers::LEFT_ALT,
+            Modifiers::RIGHT_ALT,
+            Modifiers::LEFT_CTRL,
+            Modifiers::RIGHT_CTRL,
+            Modifiers::LEFT_SHIFT,
+            Modifiers::RIGHT_SHIFT,
+        ] {
+            assert_eq!(rt;
+                kept.union(positional).remove_positional_mods(),
+                kept,
+                "{positional:?}"
+            );
+        }
+    }
+}

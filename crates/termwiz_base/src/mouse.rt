@@ -1,0 +1,235 @@
+// Mouse reports in xterm's SGR mode 1006: what a report's code and final byte say.
+
+ghost use Rattle.std.specs.Prelude.{◌≡◌, ◌≤◌};
+ghost use Rattle.std.specs.Option.{SomeIff};
+ghost use Rattle.termwiz_base.specs.Mouse.{HasRow, IsReport, row_of, report_of, modifiers_of};
+
+use crate::modifiers::Modifiers;
+use bitflags::Flags;
+
+/// What a mouse report says of the buttons: one was pressed, released or held while the mouse moved, or none was.
+/// Buttons 4 and 5 are the wheel turned up and down, buttons 6 and 7 the wheel turned to the sides.
+#[derive(Clone, Copy, PartialEq, Eq, Debug)]
+pub enum MouseButton {
+    Button1Press,
+    Button2Press,
+    Button3Press,
+    Button4Press,
+    Button5Press,
+    Button6Press,
+    Button7Press,
+    Button1Release,
+    Button2Release,
+    Button3Release,
+    Button4Release,
+    Button5Release,
+    Button6Release,
+    Button7Release,
+    Button1Drag,
+    Button2Drag,
+    Button3Drag,
+    None,
+}
+
+/// A mouse report, by the mode of xterm that it comes from.
+#[derive(Clone, PartialEq, Eq, Debug, Drop)]
+pub enum MouseReport {
+    /// A report in mode 1006. Its column and row are in cells.
+    SGR1006 {
+        x: u16,
+        y: u16,
+        button: MouseButton,
+        modifiers: Modifiers,
+    },
+    /// A report in mode 1016, which is in pixels.
+    SGR1016 {
+        x_pixels: u16,
+        y_pixels: u16,
+        button: MouseButton,
+        modifiers: Modifiers,
+    },
+}
+
+// The largest code of a report on one of the seven buttons.
+const LARGEST_CODE: u16 = 95;
+
+// The bits of a code that say which modifiers are held.
+const SHIFT_BIT: u16 = 4;
+
+const ALT_BIT: u16 = 8;
+
+const CTRL_BIT: u16 = 16;
+
+/// What a mouse report in xterm's SGR mode 1006 says, by its code, its place in cells and its final byte: `M` for a
+/// press or a move and `m` for a release. The place stays as it was sent, with 1 for the first column or row.
+///
+/// There is no report where the code is above 95, since it then names none of the seven buttons, and none where the
+/// final byte is another one.
+///
+/// The source is xterm's "Control Sequences", "Mouse Tracking" and "Extended coordinates".
+#[tactic(auto, unfolding(crate::specs::Mouse::button_of))]
+pub fn sgr_mouse(code: u16, x: u16, y: u16, last: u8) -> Option<MouseReport>
+    ensures { SomeIff result (IsReport code last) (report_of code x y last) }
+{
+    if code > LARGEST_CODE {
+        return None;
+    }
+    let base = code & !(SHIFT_BIT | ALT_BIT | CTRL_BIT);
+    let button = match last {
+        b'M' => pressed(base),
+        b'm' => released(base),
+        _ => return None,
+    };
+    Some(MouseReport::SGR1006 {
+        x,
+        y,
+        button,
+        modifiers: held(code),
+    })
+}
+
+// Each code of a report has its row in the table of buttons.
+#[tactic(auto, using(crate::proofs::MouseRows::has_row))]
+fn has_row(code: u16)
+    ensures { code ≤ 95 → HasRow code }
+{}
+
+// The button of a press or a move, by the code without its modifiers.
+#[tactic(auto, unfolding(crate::specs::Mouse::row_of))]
+fn pressed(base: u16) -> MouseButton
+    ensures { result ≡ (row_of base).1 }
+{
+    match base {
+        0 => MouseButton::Button1Press,
+        1 => MouseButton::Button2Press,
+        2 => MouseButton::Button3Press,
+        32 => MouseButton::Button1Drag,
+        33 => MouseButton::Button2Drag,
+        34 => MouseButton::Button3Drag,
+        64 => MouseButton::Button4Press,
+        65 => MouseButton::Button5Press,
+        66 => MouseButton::Button6Press,
+        67 => MouseButton::Button7Press,
+        _ => MouseButton::None,
+    }
+}
+
+// The button of a release, by the code without its modifiers.
+#[tactic(auto, unfolding(crate::specs::Mouse::row_of))]
+fn released(base: u16) -> MouseButton
+    ensures { result ≡ (row_of base).2 }
+{
+    match base {
+        0 | 32 => MouseButton::Button1Release,
+        1 | 33 => MouseButton::Button2Release,
+        2 | 34 => MouseButton::Button3Release,
+        64 => MouseButton::Button4Release,
+        65 => MouseButton::Button5Release,
+        66 => MouseButton::Button6Release,
+        67 => MouseButton::Button7Release,
+        _ => MouseButton::None,
+    }
+}
+
+// The modifiers that a code says are held.
+#[tactic(auto, unfolding(crate::specs::Mouse::modifiers_of))]
+fn held(code: u16) -> Modifiers
+    ensures { result ≡ modifiers_of code }
+{
+    let mut held = Modifiers::empty();
+    held.set(Modifiers::SHIFT, code & SHIFT_BIT != 0);
+    held.set(Modifiers::ALT, code & ALT_BIT != 0);
+    held.set(Modifiers::CTRL, code & CTRL_BIT != 0);
+    held
+}
+
+#[cfg(test)]
+mod tests {
+    use super::*;
+
+    // The reports of codes without modifiers, as xterm sends them.
+    #[test]
+    fn tells_buttons(rt: HostRuntime) {
+        for (code, press, release) in [
+            (0, MouseButton::Button1Press, MouseButton::Button1Release),
+            (1, MouseButton::Button2Press, MouseButton::Button2Release),
+            (2, MouseButton::Button3Press, MouseButton::Button3Release),
+            (3, MouseButton::None, MouseButton::None),
+            (32, MouseButton::Button1Drag, MouseButton::Button1Release),
+            (33, MouseButton::Button2Drag, MouseButton::Button2Release),
+            (34, MouseButton::Button3Drag, MouseButton::Button3Release),
+            (35, MouseButton::None, MouseButton::None),
+            (64, MouseButton::Button4Press, MouseButton::Button4Release),
+            (65, MouseButton::Button5Press, MouseButton::Button5Release),
+            (66, MouseButton::Button6Press, MouseButton::Button6Release),
+            (67, MouseButton::Button7Press, MouseButton::Button7Release),
+        ] {
+            for (last, button) in [(b'M', press), (b'm', release)] {
+                let modifiers = Modifiers::NONE;
+                let want = MouseReport::SGR1006 {
+                    x: 42,
+                    y: 12,
+                    button,
+                    modifiers,
+                };
+                assert_eq!(rt;
+                    sgr_mouse(code, 42, 12, last),
+                    Some(want),
+                    "code {code}, final byte {last}"
+                );
+            }
+        }
+    }
+
+    // A press of the first button with Shift, Alt and Ctrl, and the largest report.
+    #[test]
+    fn tells_modifiers(rt: HostRuntime) {
+        let shift_alt = Modifiers::SHIFT.union(Modifiers::ALT);
+        for (code, modifiers) in [
+            (4, Modifiers::SHIFT),
+            (8, Modifiers::ALT),
+            (16, Modifiers::CTRL),
+            (12, shift_alt),
+            (20, Modifiers::SHIFT.union(Modifiers::CTRL)),
+            (24, Modifiers::ALT.union(Modifiers::CTRL)),
+            (28, shift_alt.union(Modifiers::CTRL)),
+        ] {
+            let button = MouseButton::Button1Press;
+            let want = MouseReport::SGR1006 {
+                x: 0,
+                y: 1,
+                button,
+                modifiers,
+            };
+            assert_eq!(rt; sgr_mouse(code, 0, 1, b'M'), Some(want), "code {code}");
+        }
+        let largest = MouseReport::SGR1006 {
+            x: 65535,
+            y: 65535,
+            button: MouseButton::Button7Press,
+            modifiers: shift_alt.union(Modifiers::CTRL),
+        };
+        assert_eq!(rt; sgr_mouse(95, 65535, 65535, b'M'), Some(largest));
+    }
+
+    // Codes of no button, among them those of xterm's buttons 8 to 11, and other final bytes.
+    #[test]
+    fn refuses(rt: HostRuntime) {
+        for (code, last) in [
+            (96, b'M'),
+            (128, b'M'),
+            (131, b'm'),
+            (300, b'M'),
+            (65535, b'm'),
+            (0, b'A'),
+            (0, 0),
+            (95, b'N'),
+        ] {
+            assert_eq!(rt;
+                sgr_mouse(code, 1, 1, last),
+                None,
+                "code {code}, final byte {last}"
+            );
+        }
+    }
+}

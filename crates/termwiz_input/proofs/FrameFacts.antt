@@ -1,0 +1,218 @@
+-- Frames: each has one report, and it can be told whether a text is one.
+use Rattle.std.proofs.Common.{◌≡◌, ◌⊎◌, inl, inr, ⊎_elim, ℕ, ◌+◌, ◌<◌, ◌≤◌, List, [], ◌∷◌, ◌++◌, length, drop, codes, refl, sym, ap, ap₂, ◌∙◌, subst, arith, append_assoc, length-append}
+use Rattle.std.specs.List.{AllByRecursion, join_with_byte}
+use Rattle.termwiz_input.specs.declared.types.MouseEvent.{MouseEvent}
+use Rattle.termwiz_input.specs.Bytes.{ESC}
+use Rattle.termwiz_input.specs.Frame.{IsDigit, IsNumber, IsFrame, value_of, mouse_event}
+use Rattle.termwiz_input.proofs.Searches.{Told, both_told, either_told, told_by, le_told, eq_told, all_told, parts_told}
+
+-- the form of a frame, each part before the next
+abbrev pub laid_out : List ℕ → List ℕ → List ℕ → ℕ → List ℕ
+laid_out code x y last = 27 ∷ 91 ∷ 60 ∷ (code ++ 59 ∷ (x ++ 59 ∷ (y ++ last ∷ [])))
+
+pub regroup : (code x y : List ℕ) (last : ℕ) → ESC ++ codes "[<" ++ join_with_byte 59 (code ∷ x ∷ y ∷ []) ++ last ∷ [] ≡ laid_out code x y last
+regroup code x y last = ap (λ t. 27 ∷ 91 ∷ 60 ∷ t) (simp append_assoc)
+
+pub layout : (text : List ℕ) (report : MouseEvent) (f : IsFrame text report) → text ≡ laid_out f.code f.x f.y f.last
+layout text report f = f.form ∙ regroup f.code f.x f.y f.last
+
+-- digits end where something else comes
+pub digits_end : (a b r s : List ℕ) (v w : ℕ) → AllByRecursion IsDigit a → AllByRecursion IsDigit b → (IsDigit v → ⊥) → (IsDigit w → ⊥)
+    → a ++ v ∷ r ≡ b ++ w ∷ s → (a ≡ b) × (v ≡ w) × (r ≡ s)
+digits_end [] [] r s v w da db nv nw e = (refl, cc (e), cc (e))
+digits_end [] (x ∷ b) r s v w da db nv nw e = absurd (nv (subst IsDigit (let q : x ≡ v = cc (e) in q) db.0))
+digits_end (x ∷ a) [] r s v w da db nv nw e = absurd (nw (subst IsDigit (let q : x ≡ w = cc (e) in q) da.0))
+digits_end (x ∷ a) (y ∷ b) r s v w da db nv nw e =
+    let head : x ≡ y = cc (e) in
+    let rest = digits_end a b r s v w da.1 db.1 nv nw (cc (e)) in
+    (ap₂ (λ c t. c ∷ t) head rest.0, rest.1, rest.2)
+
+pub semicolon : IsDigit 59 → ⊥
+semicolon d = omega arith
+
+pub final : (last : ℕ) → (last ≡ 77) ⊎ (last ≡ 109) → IsDigit last → ⊥
+final last h d = omega arith
+
+pub frame_once : (text : List ℕ) (r s : MouseEvent) → IsFrame text r → IsFrame text s → r ≡ s
+frame_once text r s f g =
+    let e : laid_out f.code f.x f.y f.last ≡ laid_out g.code g.x g.y g.last = sym (layout text r f) ∙ layout text s g in
+    let one = digits_end f.code g.code (f.x ++ 59 ∷ (f.y ++ f.last ∷ [])) (g.x ++ 59 ∷ (g.y ++ g.last ∷ [])) 59 59
+    f.code_is.each g.code_is.each semicolon semicolon (cc (e)) in
+    let two = digits_end f.x g.x (f.y ++ f.last ∷ []) (g.y ++ g.last ∷ []) 59 59 f.x_is.each g.x_is.each semicolon semicolon one.2 in
+    let three = digits_end f.y g.y [] [] f.last g.last f.y_is.each g.y_is.each (final f.last f.last_is) (final g.last g.last_is) two.2 in
+    let same : mouse_event (value_of f.code) (value_of f.x) (value_of f.y) f.last ≡ mouse_event (value_of g.code) (value_of g.x) (value_of g.y) g.last
+    = cc (one.0, two.0, three.0, three.1) in
+    f.means ∙ same ∙ sym g.means
+
+number_told : (limit : ℕ) (t : List ℕ) → Told (IsNumber t limit)
+number_told limit t = told_by
+    (λ p. record { some = p.0; short = p.1.0; each = p.1.1.0; within = p.1.1.1 })
+    (λ n. (n.some, (n.short, (n.each, n.within))))
+    (both_told (le_told 1 (length t)) (both_told (le_told (length t) 5) (both_told
+    (all_told IsDigit (λ b. both_told (le_told 48 b) (le_told b 57)) t) (le_told (value_of t) limit))))
+
+-- t is b and then what has P
+abbrev Next : ℕ → (List ℕ → Type 0) → List ℕ → Type 0
+Next b P t = (r : List ℕ) × (t ≡ b ∷ r) × P r
+
+next_told : (b : ℕ) (P : List ℕ → Type 0) → ((r : List ℕ) → Told (P r)) → (t : List ℕ) → Told (Next b P t)
+next_told b P told [] = inr (λ x. cc (x.1))
+next_told b P told (c ∷ t) = told_by
+    (λ (p : (c ≡ b) × P t). (t, ap (λ z. z ∷ t) p.0, p.1))
+    (λ x. let same : x.0 ≡ t = cc (x.1) in (cc (x.1), subst P same x.2))
+    (both_told (eq_told c b) (told t))
+
+-- t is a number and then what has P
+abbrev Field : ℕ → (List ℕ → List ℕ → Type 0) → List ℕ → Type 0
+Field limit P t = (a : List ℕ) × (b : List ℕ) × (t ≡ a ++ b) × (IsNumber a limit × P a b)
+
+field_told : (limit : ℕ) (P : List ℕ → List ℕ → Type 0) → ((a b : List ℕ) → Told (P a b)) → (t : List ℕ) → Told (Field limit P t)
+field_told limit P told t = parts_told (λ a b. IsNumber a limit × P a b) (λ a b. both_told (number_told limit a) (told a b)) t
+
+abbrev IsNil : List ℕ → Type 0
+IsNil t = t ≡ []
+
+nil_told : (t : List ℕ) → Told (IsNil t)
+nil_told [] = inl refl
+nil_told (x ∷ t) = inr (λ h. cc (h))
+
+abbrev Final : List ℕ → Type 0
+Final t = Next 77 IsNil t ⊎ Next 109 IsNil t
+
+final_told : (t : List ℕ) → Told (Final t)
+final_told t = either_told (next_told 77 IsNil nil_told t) (next_told 109 IsNil nil_told t)
+
+abbrev Fields : List ℕ → Type 0
+Fields t = Field 95 (λ code r. Next 59 (λ u. Field 65535 (λ x s. Next 59 (λ v. Field 65535 (λ y w. Final w) v) s) u) r) t
+
+fields_told : (t : List ℕ) → Told (Fields t)
+fields_told t = field_told 95 _ (λ code r. next_told 59 _ (λ u. field_told 65535 _ (λ x s. next_told 59 _ (λ v. field_told 65535 _ (λ y w. final_told w) v) s) u) r) t
+
+abbrev Whole : List ℕ → Type 0
+Whole t = Next 27 (λ u. Next 91 (λ v. Next 60 Fields v) u) t
+
+whole_told : (t : List ℕ) → Told (Whole t)
+whole_told t = next_told 27 _ (λ u. next_told 91 _ (λ v. next_told 60 Fields fields_told v) u) t
+
+whole_from : (t : List ℕ) → (r : MouseEvent) × IsFrame t r → Whole t
+whole_from t (r, f) =
+    let e = layout t r f in (
+      91 ∷ 60 ∷ (f.code ++ 59 ∷ (f.x ++ 59 ∷ (f.y ++ f.last ∷ []))),
+      e,
+      (
+        60 ∷ (f.code ++ 59 ∷ (f.x ++ 59 ∷ (f.y ++ f.last ∷ []))),
+        refl,
+        (
+          f.code ++ 59 ∷ (f.x ++ 59 ∷ (f.y ++ f.last ∷ [])),
+          refl,
+          (
+            f.code,
+            59 ∷ (f.x ++ 59 ∷ (f.y ++ f.last ∷ [])),
+            refl,
+            (
+              f.code_is,
+              (
+                f.x ++ 59 ∷ (f.y ++ f.last ∷ []),
+                refl,
+                (
+                  f.x,
+                  59 ∷ (f.y ++ f.last ∷ []),
+                  refl,
+                  (
+                    f.x_is,
+                    (
+                      f.y ++ f.last ∷ [],
+                      refl,
+                      (f.y, f.last ∷ [], refl, (f.y_is, last_from f.last f.last_is)),
+                    ),
+                  ),
+                ),
+              ),
+            ),
+          ),
+        ),
+      ),
+    )
+  where
+    last_from : (last : ℕ) → (last ≡ 77) ⊎ (last ≡ 109) → Final (last ∷ [])
+    last_from last (inl h) = inl ([], ap (λ z. z ∷ []) h, refl)
+    last_from last (inr h) = inr ([], ap (λ z. z ∷ []) h, refl)
+
+built : (t code x y : List ℕ) (last : ℕ) → t ≡ laid_out code x y last → IsNumber code 95 → IsNumber x 65535 → IsNumber y 65535
+    → (last ≡ 77) ⊎ (last ≡ 109) → (r : MouseEvent) × IsFrame t r
+built t code x y last e c n m l = (
+  mouse_event (value_of code) (value_of x) (value_of y) last,
+  record {
+    code = code;
+    x = x;
+    y = y;
+    last = last;
+    form = e ∙ sym (regroup code x y last);
+    code_is = c;
+    x_is = n;
+    y_is = m;
+    last_is = l;
+    means = refl;
+  },
+)
+
+from_whole : (t : List ℕ) → Whole t → (r : MouseEvent) × IsFrame t r
+from_whole t (u, e1, (v, e2, (w, e3, (code, r, e4, (c, (r2, e5, (x, s, e6, (n, (s2, e7, (y, z, e8, (m, l))))))))))) =
+    let tail = λ (last : ℕ) (q : z ≡ last ∷ []).
+    (let k : t ≡ laid_out code x y last = cc (e1, e2, e3, e4, e5, e6, e7, e8, q) in k) in
+    ⊎_elim
+    (λ (a : Next 77 IsNil z). built t code x y 77 (tail 77 (a.1 ∙ ap (λ i. 77 ∷ i) a.2)) c n m (inl refl))
+    (λ (a : Next 109 IsNil z). built t code x y 109 (tail 109 (a.1 ∙ ap (λ i. 109 ∷ i) a.2)) c n m (inr refl))
+    l
+
+pub frame_or_not : (t : List ℕ) → ((r : MouseEvent) × IsFrame t r) ⊎ ((r : MouseEvent) → IsFrame t r → ⊥)
+frame_or_not t = ⊎_elim
+    (λ w. inl (from_whole t w))
+    (λ never. inr (λ r f. never (whole_from t (r, f))))
+    (whole_told t)
+
+pub length-laid_out : (code x y : List ℕ) (last : ℕ) → length (laid_out code x y last) ≡ length code + length x + length y + 6
+length-laid_out code x y last = omega (arith, length-append code (59 ∷ (x ++ 59 ∷ (y ++ last ∷ []))), length-append x (59 ∷ (y ++ last ∷ [])), length-append y (last ∷ []))
+
+pub frame_short : (t : List ℕ) (r : MouseEvent) → IsFrame t r → length t < 22
+frame_short t r f = omega (arith, ap length (layout t r f), length-laid_out f.code f.x f.y f.last, f.code_is.short, f.x_is.short, f.y_is.short)
+
+-- a byte of a row or a frame after the first
+abbrev pub IsPlain : ℕ → Type 0
+IsPlain b = (32 ≤ b) × (b < 127)
+
+pub plain_append : (s t : List ℕ) → AllByRecursion IsPlain s → AllByRecursion IsPlain t → AllByRecursion IsPlain (s ++ t)
+plain_append [] t a b = b
+plain_append (x ∷ s) t a b = (a.0, plain_append s t a.1 b)
+
+digits_plain : (t : List ℕ) → AllByRecursion IsDigit t → AllByRecursion IsPlain t
+digits_plain [] a = tt
+digits_plain (x ∷ t) a = ((let d : IsDigit x = a.0 in (omega arith, omega arith)), digits_plain t a.1)
+
+final_plain : (last : ℕ) → (last ≡ 77) ⊎ (last ≡ 109) → IsPlain last
+final_plain last h = (omega arith, omega arith)
+
+pub frame_plain : (t : List ℕ) (r : MouseEvent) → IsFrame t r → (rest : List ℕ) × (t ≡ 27 ∷ 91 ∷ 60 ∷ rest) × AllByRecursion IsPlain rest
+frame_plain t r f = (
+  f.code ++ 59 ∷ (f.x ++ 59 ∷ (f.y ++ f.last ∷ [])),
+  layout t r f,
+  plain_append f.code (59 ∷ (f.x ++ 59 ∷ (f.y ++ f.last ∷ []))) (digits_plain f.code f.code_is.each) (
+    (omega arith, omega arith),
+    plain_append f.x (59 ∷ (f.y ++ f.last ∷ [])) (digits_plain f.x f.x_is.each)
+        ((omega arith, omega arith), plain_append f.y (f.last ∷ []) (digits_plain f.y f.y_is.each) (final_plain f.last f.last_is, tt)),
+  ),
+)
+
+-- no frame begins another
+pub frame_alone : (t tail : List ℕ) (r s : MouseEvent) → IsFrame t r → IsFrame (t ++ tail) s → tail ≡ []
+frame_alone t tail r s f g =
+    let e : laid_out f.code f.x f.y f.last ++ tail ≡ laid_out g.code g.x g.y g.last = ap (λ z. z ++ tail) (sym (layout t r f)) ∙ layout (t ++ tail) s g in
+    let d : f.code ++ 59 ∷ (f.x ++ 59 ∷ (f.y ++ f.last ∷ tail)) ≡ g.code ++ 59 ∷ (g.x ++ 59 ∷ (g.y ++ g.last ∷ []))
+    = sym (simp append_assoc) ∙ drop_three (laid_out f.code f.x f.y f.last ++ tail) (laid_out g.code g.x g.y g.last) e in
+    let one = digits_end f.code g.code (f.x ++ 59 ∷ (f.y ++ f.last ∷ tail)) (g.x ++ 59 ∷ (g.y ++ g.last ∷ [])) 59 59
+    f.code_is.each g.code_is.each semicolon semicolon d in
+    let two = digits_end f.x g.x (f.y ++ f.last ∷ tail) (g.y ++ g.last ∷ []) 59 59 f.x_is.each g.x_is.each semicolon semicolon one.2 in
+    (digits_end f.y g.y tail [] f.last g.last f.y_is.each g.y_is.each (final f.last f.last_is) (final g.last g.last_is) two.2).2
+  where
+    drop_three : (a b : List ℕ) → a ≡ b → drop 3 a ≡ drop 3 b
+    drop_three a b h = ap (drop 3) h

@@ -1,0 +1,136 @@
+-- A text has at most one head, and it can be told which.
+use Rattle.std.proofs.Common.{◌≡◌, ◌⊎◌, inl, inr, ℕ, zero, suc, ◌<◌, ◌≤◌, Bool, true, false, List, [], ◌∷◌, ◌++◌, length, take, drop, refl, sym, ap, ◌∙◌, subst, ⊎_elim, arith, encode_utf8, Option, Some, None, length-take, length-append, take-append-drop, le_antisymm}
+use Rattle.std.specs.Char.{IsScalar}
+use Rattle.std.proofs.lemmas.Str.{encode_same, encode_ascii}
+use Rattle.std.proofs.Math.Utf8.{low_scalar}
+use Rattle.bstr.specs.Utf8.{Decoded, decoded}
+use Rattle.bstr.proofs.lemmas.EncodeLemmas.{decoded-encode}
+use Rattle.bstr.proofs.lemmas.SoundLemmas.{SpellsChar-decoded}
+use Rattle.termwiz_input.specs.Bytes.{Begins}
+use Rattle.termwiz_input.specs.Known.{Meaning, IsKnown}
+use Rattle.termwiz_input.specs.Grammar.{Head, IsHead, IsLongest, IsOpen}
+use Rattle.termwiz_input.specs.Grammar.Head.{Known, Character}
+use Rattle.termwiz_input.proofs.Lists.{same_from_length}
+use Rattle.termwiz_input.proofs.Searches.{Told}
+use Rattle.termwiz_input.proofs.Facts.{known_some, known_once, known_or_not, unfinished_or_not}
+
+pub longest_once : (u s t : List ℕ) (m n : Meaning) → IsLongest u s m → IsLongest u t n → (s ≡ t) × (m ≡ n)
+longest_once u s t m n a b =
+    let e : s ≡ t = same_from_length s t u a.begins b.begins (le_antisymm (b.longest s m a.known a.begins) (a.longest t n b.known b.begins)) in
+    (e, known_once t m n (subst (λ x. IsKnown x m) e a.known) b.known)
+
+pub head_once : (u : List ℕ) (h k : Head) → IsHead u h → IsHead u k → h ≡ k
+head_once u (Known s m) (Known t n) a b = let e = longest_once u s t m n a b in cc (e.0, e.1)
+head_once u (Known s m) (Character d) a b = absurd (b.unknown s m a.known a.begins)
+head_once u (Character c) (Known t n) a b = absurd (a.unknown t n b.known b.begins)
+head_once u (Character c) (Character d) a b =
+    ap (λ x. Character x) (encode_same c d a.begins.0 b.begins.0 (sym a.begins.1 ∙ b.begins.1)).0
+
+-- the longest known text of at most n bytes that begins u, or none
+pub data Found (u : List ℕ) (n : ℕ) : Type 0 where
+  found : (text : List ℕ) (m : Meaning) → IsKnown text m → Begins text u
+      → ((other : List ℕ) (k : Meaning) → IsKnown other k → Begins other u → length other ≤ n → length other ≤ length text) → Found u n
+  missing : ((other : List ℕ) (k : Meaning) → IsKnown other k → Begins other u → length other ≤ n → ⊥) → Found u n
+
+empty_unknown : (other : List ℕ) (k : Meaning) → IsKnown other k → length other ≤ 0 → ⊥
+empty_unknown [] k known l = known_some [] k known refl
+empty_unknown (x ∷ other) k known l = absurd (omega arith)
+
+eq_or_less : (a n : ℕ) → a ≤ suc n → (a ≡ suc n) ⊎ (a ≤ n)
+eq_or_less a n h = grind arith
+
+find_up_to : (u : List ℕ) (n : ℕ) → n ≤ length u → Found u n
+find_up_to u zero l = missing (λ other k known b short. empty_unknown other k known short)
+find_up_to u (suc n) l = go (known_or_not (take (suc n) u)) (find_up_to u n (omega arith))
+  where
+    begins : Begins (take (suc n) u) u
+    begins = (drop (suc n) u, sym (take-append-drop (suc n) u))
+
+    long : length (take (suc n) u) ≡ suc n
+    long = omega (arith, length-take (suc n) u)
+
+    same : (other : List ℕ) → Begins other u → length other ≡ suc n → other ≡ take (suc n) u
+    same other b e = same_from_length other (take (suc n) u) u b begins (e ∙ sym long)
+
+    go : Told ((m : Meaning) × IsKnown (take (suc n) u) m) → Found u n → Found u (suc n)
+    go (inl k) below = found (take (suc n) u) k.0 k.1 begins (λ other m known b short. omega (arith, long))
+    go (inr never) (found text m known b longest) = found text m known b (λ other k is c short. at_most other k is c short)
+      where
+        at_most : (other : List ℕ) (k : Meaning) → IsKnown other k → Begins other u → length other ≤ suc n → length other ≤ length text
+        at_most other k is c short = ⊎_elim
+            (λ (e : length other ≡ suc n). absurd (never (k, subst (λ x. IsKnown x k) (same other c e) is)))
+            (λ (lt : length other ≤ n). longest other k is c lt)
+            (eq_or_less (length other) n short)
+    go (inr never) (missing none) = missing (λ other k is c short. ⊎_elim
+        (λ (e : length other ≡ suc n). never (k, subst (λ x. IsKnown x k) (same other c e) is))
+        (λ (lt : length other ≤ n). none other k is c lt)
+        (eq_or_less (length other) n short))
+
+begins_at_most : (other u : List ℕ) → Begins other u → length other ≤ length u
+begins_at_most other u b = omega (arith, length-append other b.0, ap length b.1)
+
+-- whether a character begins u
+pub character_or_not : (u : List ℕ) → ((c : ℕ) × IsScalar c × Begins (encode_utf8 c) u) ⊎ ((c : ℕ) → IsScalar c → Begins (encode_utf8 c) u → ⊥)
+character_or_not u = go (decoded u).char refl
+  where
+    go : (o : Option ℕ) → (decoded u).char ≡ o → ((c : ℕ) × IsScalar c × Begins (encode_utf8 c) u) ⊎ ((c : ℕ) → IsScalar c → Begins (encode_utf8 c) u → ⊥)
+    go (Some c) e = let spelled = SpellsChar-decoded u c e in inl (c, spelled.scalar, (drop (decoded u).size u, spelled.bytes))
+    go None e = inr (λ c scalar b.
+        let read : (decoded u).char ≡ Some c = ap (λ x. (decoded x).char) b.1 ∙ ap (λ (p : Decoded). p.char) (decoded-encode c b.0 scalar) in
+        cc)
+
+pub head_or_none : (u : List ℕ) → ((h : Head) × IsHead u h) ⊎ ((h : Head) → IsHead u h → ⊥)
+head_or_none u = go (find_up_to u (length u) (omega arith)) (character_or_not u)
+  where
+    go : Found u (length u) → ((c : ℕ) × IsScalar c × Begins (encode_utf8 c) u) ⊎ ((c : ℕ) → IsScalar c → Begins (encode_utf8 c) u → ⊥)
+        → ((h : Head) × IsHead u h) ⊎ ((h : Head) → IsHead u h → ⊥)
+    go (found text m known b longest) char = inl (
+      Known text m,
+      record {
+        known = known;
+        begins = b;
+        longest = λ other k is c. longest other k is c (begins_at_most other u c);
+      },
+    )
+    go (missing none) (inl (c, scalar, b)) = inl (
+      Character c,
+      record {
+        unknown = λ other k is d. none other k is d (begins_at_most other u d);
+        scalar = scalar;
+        begins = b;
+      },
+    )
+    go (missing none) (inr never) = inr (λ h. elim h as (λ x. IsHead u x → ⊥) [
+      | Known text m ↦ λ is. none text m is.known is.begins (begins_at_most text u is.begins)
+      | Character c ↦ λ is. never c is.scalar is.begins
+    ])
+
+pub open_or_not : (u : List ℕ) (f : Bool) → IsOpen u f ⊎ (IsOpen u f → ⊥)
+open_or_not [] f = inr (λ h. h.some refl)
+open_or_not (x ∷ u) false = inr (λ h. cc (h.more_comes))
+open_or_not (x ∷ u) true = ⊎_elim
+    (λ h. inl (record { more_comes = refl; some = λ e. cc; unfinished = h }))
+    (λ never. inr (λ h. never h.unfinished))
+    (unfinished_or_not (x ∷ u))
+
+-- a byte below 128 always begins something
+pub ascii_head : (x : ℕ) (t : List ℕ) → x < 128 → (h : Head) × IsHead (x ∷ t) h
+ascii_head x t small = go (find_up_to (x ∷ t) (length (x ∷ t)) (omega arith))
+  where
+    go : Found (x ∷ t) (length (x ∷ t)) → (h : Head) × IsHead (x ∷ t) h
+    go (found text m known b longest) = (
+      Known text m,
+      record {
+        known = known;
+        begins = b;
+        longest = λ other k is c. longest other k is c (begins_at_most other (x ∷ t) c);
+      },
+    )
+    go (missing none) = (
+      Character x,
+      record {
+        unknown = λ other k is d. none other k is d (begins_at_most other (x ∷ t) d);
+        scalar = low_scalar x (omega arith);
+        begins = (t, ap (λ z. z ++ t) (sym (encode_ascii x small)));
+      },
+    )

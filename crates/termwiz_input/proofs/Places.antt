@@ -1,0 +1,130 @@
+-- Where a needle occurs in a text, and where the end marker of a paste first occurs.
+use Rattle.std.proofs.Common.{◌≡◌, ◌⊎◌, ℕ, ◌+◌, ◌-◌, ◌<◌, ◌≤◌, List, [], ◌∷◌, ◌++◌, length, take, drop, refl, sym, ap, ◌∙◌, subst, arith, append_assoc, length-append, length-drop, length-take-le, take-append-drop, drop-drop, get_or-drop, ⊎_elim}
+use Rattle.std.specs.Prelude.{Option, Some, None}
+use Rattle.std.proofs.lemmas.List.{take_rest}
+use Rattle.std.proofs.Math.Seq.{take-append_seam, drop-append_seam}
+use Rattle.memchr.specs.Find.{OccursAt, FindsNeedle, Nowhere}
+use Rattle.memchr.proofs.lemmas.MatchLemmas.{OccursAt-split, OccursAt-from_part}
+use Rattle.termwiz_input.specs.Bytes.{Begins, Occurs, START, END}
+use Rattle.termwiz_input.specs.Grammar.{EndsFirst}
+
+-- an occurrence past an offset, and in what is left from there
+occurs_later : (hay needle : List ℕ) (offset k : ℕ) → offset ≤ length hay → OccursAt (drop offset hay) needle k → OccursAt hay needle (offset + k)
+occurs_later hay needle offset k inside h = record {
+  fits = omega (arith, length-drop offset hay, h.fits);
+  reads = λ j l. (let e : (offset + k) + j ≡ offset + (k + j) = omega arith in rw e (sym (get_or-drop offset hay (k + j) 0) ∙ h.reads j l));
+}
+
+occurs_sooner : (hay needle : List ℕ) (offset k : ℕ) → offset ≤ k → OccursAt hay needle k → OccursAt (drop offset hay) needle (k - offset)
+occurs_sooner hay needle offset k past h = record {
+  fits = omega (arith, length-drop offset hay, h.fits);
+  reads = λ j l. get_or-drop offset hay ((k - offset) + j) 0 ∙ (let e : offset + ((k - offset) + j) ≡ k + j = omega arith in rw e (h.reads j l));
+}
+
+-- a search from an offset on, by a search of what is left from there
+pub none_from : (hay needle : List ℕ) (offset : ℕ) → offset ≤ length hay
+    → FindsNeedle (take (length hay - offset) (drop offset hay)) needle 0 None → FindsNeedle hay needle offset None
+none_from hay needle offset inside never k low high here =
+    (let P : List ℕ → Type 0 = λ t. Nowhere (OccursAt t needle) 0 (length t + 1) in subst P (take_rest hay offset) never)
+    (k - offset) (omega arith) (omega (arith, length-drop offset hay, here.fits)) (occurs_sooner hay needle offset k low here)
+
+pub found_from : (hay needle : List ℕ) (offset k : ℕ) → offset ≤ length hay
+    → FindsNeedle (take (length hay - offset) (drop offset hay)) needle 0 (Some k) → FindsNeedle hay needle offset (Some (offset + k))
+found_from hay needle offset k inside found =
+    let P : List ℕ → Type 0 = λ t. FindsNeedle t needle 0 (Some k) in
+    let first = subst P (take_rest hay offset) found in
+    let here = occurs_later hay needle offset k inside first.1 in (
+      record {
+        low = omega arith;
+        high = omega (arith, here.fits);
+        before = λ j low high at. first.0.before (j - offset) (omega arith) (omega arith) (occurs_sooner hay needle offset j low at);
+      },
+      here,
+    )
+
+-- the empty needle is found at once
+pub empty_found : (hay : List ℕ) (offset : ℕ) (r : Option ℕ) → offset ≤ length hay → FindsNeedle hay [] offset r → r ≡ Some offset
+empty_found hay offset None inside never =
+    absurd (never offset (omega arith) (omega arith) (record { fits = omega arith; reads = λ j l. absurd (omega arith) }))
+empty_found hay offset (Some k) inside found = go (⊎_elim (λ (e : offset ≡ k). e) (λ (l : offset < k). absurd (found.0.before offset (omega arith) l
+    (record { fits = omega arith; reads = λ j l2. absurd (omega arith) }))) (same_or_less offset k found.0.low))
+  where
+    go : offset ≡ k → Some k ≡ Some offset
+    go e = ap (λ x. Some x) (sym e)
+
+    same_or_less : (a b : ℕ) → a ≤ b → (a ≡ b) ⊎ (a < b)
+    same_or_less a b h = grind arith
+
+-- an occurrence that is written out
+occurs_between : (u before needle after : List ℕ) → u ≡ before ++ needle ++ after → OccursAt u needle (length before)
+occurs_between u before needle after e =
+    let rest : drop (length before) u ≡ needle ++ after = ap (drop (length before)) (e ∙ append_assoc before needle after) ∙ drop-append_seam before (needle ++ after) in
+    OccursAt-from_part u needle (length before)
+    (omega (arith, ap length e, length-append (before ++ needle) after, length-append before needle))
+    (ap (take (length needle)) rest ∙ take-append_seam needle after)
+
+-- what a search for the end marker says of a paste
+pub endless : (u : List ℕ) → Begins START u → FindsNeedle u END 6 None → (body : List ℕ) → u ≡ START ++ body → Occurs END body → ⊥
+endless u begins never body e (before, after, o) =
+    let here = occurs_between u (START ++ before) END after (e ∙ ap (λ x. START ++ x) o) in
+    never (length (START ++ before)) (omega arith) (omega (arith, here.fits)) here
+
+pub record IsPasteTo (u : List ℕ) (k : ℕ) : Type 0 where
+  pub rest : List ℕ
+  pub parts : u ≡ START ++ take (k - 6) (drop 6 u) ++ END ++ rest
+  pub first : EndsFirst (take (k - 6) (drop 6 u))
+  pub within : k + 6 ≤ length u
+  pub bytes : START ++ take (k - 6) (drop 6 u) ++ END ≡ take (k + 6) u
+
+pub paste_to : (u : List ℕ) (k : ℕ) → Begins START u → FindsNeedle u END 6 (Some k) → IsPasteTo u k
+paste_to u k begins found = record {
+  rest = rest;
+  parts = parts;
+  first = λ before after e. only_once before after e;
+  within = inside;
+  bytes = sym (take-append_seam (START ++ body ++ END) rest) ∙ ap (take (length (START ++ body ++ END))) (sym parts) ∙ ap (λ n. take n u) long;
+}
+  where
+    body : List ℕ
+    body = take (k - 6) (drop 6 u)
+
+    rest : List ℕ
+    rest = drop (k + 6) u
+
+    inside : k + 6 ≤ length u
+    inside = found.1.fits
+
+    low : 6 ≤ k
+    low = found.0.low
+
+    from_start : u ≡ START ++ drop 6 u
+    from_start = begins.1 ∙ ap (λ t. START ++ t) (sym (ap (drop 6) begins.1))
+
+    from_end : drop (k - 6) (drop 6 u) ≡ END ++ rest
+    from_end = drop-drop (k - 6) 6 u ∙ (let e : 6 + (k - 6) ≡ k = omega (arith, low) in ap (λ n. drop n u) e) ∙ OccursAt-split u END k found.1
+
+    parts : u ≡ START ++ body ++ END ++ rest
+    parts = from_start ∙ ap (λ t. START ++ t) (sym (take-append-drop (k - 6) (drop 6 u)) ∙ ap (λ t. body ++ t) from_end) ∙ ap (λ t. START ++ t) (sym (append_assoc body END rest))
+
+    long_body : length body ≡ k - 6
+    long_body = length-take-le (k - 6) (drop 6 u) (omega (arith, length-drop 6 u, inside, low))
+
+    long : length (START ++ body ++ END) ≡ k + 6
+    long = omega (arith, length-append (START ++ body) END, length-append START body, long_body, low)
+
+    only_once : (before after : List ℕ) → body ++ END ≡ before ++ END ++ after → after ≡ []
+    only_once before after e =
+        let here = occurs_between u (START ++ before) END (after ++ rest)
+        (parts ∙ ap (λ t. START ++ t ++ rest) e ∙ ap (λ t. START ++ t) (append_assoc (before ++ END) after rest)) in
+        let least : k ≤ length (START ++ before) = not_before (length (START ++ before)) (omega arith) here in
+        none_left after (omega (arith, ap length e, length-append body END, length-append (before ++ END) after, length-append before END, long_body, low, least))
+      where
+        not_before : (j : ℕ) → 6 ≤ j → OccursAt u END j → k ≤ j
+        not_before j l o = ⊎_elim (λ (h : k ≤ j). h) (λ (h : j < k). absurd (found.0.before j l h o)) (le_or_less k j)
+          where
+            le_or_less : (a b : ℕ) → (a ≤ b) ⊎ (b < a)
+            le_or_less a b = grind arith
+
+        none_left : (t : List ℕ) → length t ≤ 0 → t ≡ []
+        none_left [] l = refl
+        none_left (x ∷ t) l = absurd (omega arith)

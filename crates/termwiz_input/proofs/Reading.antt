@@ -1,0 +1,195 @@
+-- What a lookup in the table, and a test for a frame, say of the head of a text.
+use Rattle.std.proofs.Common.{◌≡◌, ◌≢◌, ◌⊎◌, inl, inr, ⊎_elim, ℕ, ◌<◌, ◌≤◌, Bool, true, false, List, [], ◌∷◌, ◌++◌, length, take, drop, refl, sym, ap, ◌∙◌, subst, arith, append_assoc, length-append, length-take-le, take-append-drop, encode_utf8}
+use Rattle.std.specs.Prelude.{Option, Some, None, is_some, IsSome}
+use Rattle.std.specs.Option.{option_map}
+use Rattle.std.specs.Char.{IsScalar}
+use Rattle.std.specs.FinMap.{get}
+use Rattle.std.proofs.Math.Seq.{take-append_seam}
+use Rattle.bstr.specs.Utf8.{Decoded, decoded}
+use Rattle.bstr.proofs.lemmas.SoundLemmas.{SpellsChar-decoded}
+use Rattle.bstr.proofs.lemmas.EncodeLemmas.{decoded-encode}
+use Rattle.termwiz_input.specs.declared.types.KeyEvent.{KeyEvent}
+use Rattle.termwiz_input.specs.declared.types.MouseEvent.{MouseEvent}
+use Rattle.termwiz_input.specs.declared.item.Front.TheVariants.{Row as row, Frame as frame, Character as character}
+use Rattle.termwiz_input.specs.Bytes.{Begins}
+use Rattle.termwiz_input.specs.Lookup.{IsLongestKey, IsExtended, NoKeyBegins}
+use Rattle.termwiz_input.specs.Table.{table}
+use Rattle.termwiz_input.specs.Frame.{IsFrame}
+use Rattle.termwiz_input.specs.Frames.{IsBegun}
+use Rattle.termwiz_input.specs.Known.{Meaning, IsKnown}
+use Rattle.termwiz_input.specs.Known.Meaning.{Row, Frame}
+use Rattle.termwiz_input.specs.Grammar.{Head, IsHead, IsOpen}
+use Rattle.termwiz_input.specs.Grammar.Head.{Known, Character}
+use Rattle.termwiz_input.specs.Fronts.{IsFront, HasNoHead, HasNoFrame, HasNoFront, character_of}
+use Rattle.termwiz_input.proofs.Lists.{append-some, length-some, Overlaps, overlap}
+use Rattle.termwiz_input.proofs.Lists.Overlaps.{within, past}
+use Rattle.termwiz_input.proofs.Facts.{frame_ends, known_some}
+use Rattle.termwiz_input.proofs.Standing.{encode_some as encoding_some}
+use Rattle.termwiz_input.proofs.TableFacts.{row_from_table, table_from_row}
+
+-- what a beginning of a text is
+begins_take : (u : List ℕ) (n : ℕ) → Begins (take n u) u
+begins_take u n = (drop n u, sym (take-append-drop n u))
+
+begins_length : (other u : List ℕ) → Begins other u → length other ≤ length u
+begins_length other u b = omega (arith, ap length b.1, length-append other b.0)
+
+begins_is : (other u : List ℕ) → Begins other u → take (length other) u ≡ other
+begins_is other u b = ap (take (length other)) b.1 ∙ take-append_seam other b.0
+
+known_row : (text : List ℕ) (k : KeyEvent) → get table text ≡ Some k → IsKnown text (Row k)
+unfolding IsKnown
+known_row text k e = row_from_table text k e
+
+row_known : (text : List ℕ) (k : KeyEvent) → IsKnown text (Row k) → get table text ≡ Some k
+unfolding IsKnown
+row_known text k c = table_from_row text k c
+
+known_frame : (text : List ℕ) (event : MouseEvent) → IsFrame text event → IsKnown text (Frame event)
+unfolding IsKnown
+known_frame text event f = f
+
+frame_known : (text : List ℕ) (event : MouseEvent) → IsKnown text (Frame event) → IsFrame text event
+unfolding IsKnown
+frame_known text event f = f
+
+-- the key that the map answers for a beginning of the text
+stored_at : (u other : List ℕ) (k : KeyEvent) → Begins other u → IsKnown other (Row k) → get table (take (length other) u) ≡ Some k
+stored_at u other k b known = ap (get table) (begins_is other u b) ∙ row_known other k known
+
+some_none : (o : Option KeyEvent) (k : KeyEvent) → o ≡ Some k → o ≡ None → ⊥
+some_none o k e f = cc
+
+-- the longest key of the map is the longest known text, where no frame begins the text
+pub longest_from_key : (u : List ℕ) (n : ℕ) (k : KeyEvent) → HasNoFrame u → IsLongestKey table u n k → IsFront u (row k n)
+longest_from_key u n k none is = (
+  is.within,
+  record {
+    known = known_row (take n u) k is.stored;
+    begins = begins_take u n;
+    longest = λ other m known b. at_most other m known b;
+  },
+)
+  where
+    at_most : (other : List ℕ) (m : Meaning) → IsKnown other m → Begins other u → length other ≤ length (take n u)
+    at_most other (Row j) known b = ⊎_elim
+        (λ (l : length other ≤ n). omega (arith, length-take-le n u is.within))
+        (λ (l : n < length other). absurd (some_none _ j (stored_at u other j b known) (is.longest (length other) l (begins_length other u b))))
+        (le_or_less (length other) n)
+      where
+        le_or_less : (a b : ℕ) → (a ≤ b) ⊎ (b < a)
+        le_or_less a b = grind arith
+    at_most other (Frame event) known b = absurd (none other event (frame_known other event known) b)
+
+-- where a text is open, the map has a longer key that begins with it, or the text begins a frame
+pub extended_from_open : (u : List ℕ) (more : Bool) → IsOpen u more → (more ≡ true → IsBegun u → ⊥) → IsExtended table u
+extended_from_open u more opens never = go opens.unfinished.tail opens.unfinished.meaning opens.unfinished.longer opens.unfinished.known
+  where
+    go : (tail : List ℕ) (m : Meaning) → tail ≢ [] → IsKnown (u ++ tail) m → IsExtended table u
+    go tail (Row k) longer known = (tail, length-some tail longer, ap is_some (row_known (u ++ tail) k known))
+    go tail (Frame event) longer known = absurd (never opens.more_comes (tail, event, longer, frame_known (u ++ tail) event known))
+
+stored_key : (o : Option KeyEvent) → IsSome o → (k : KeyEvent) × (o ≡ Some k)
+stored_key (Some k) h = (k, refl)
+stored_key None h = absurd (cc)
+
+pub open_from_extended : (u : List ℕ) → u ≢ [] → IsExtended table u → IsOpen u true
+open_from_extended u some (tail, longer, stored) =
+    let k = stored_key (get table (u ++ tail)) stored in
+    record { more_comes = refl; some = some; unfinished = record { tail = tail; longer = λ none. omega (arith, ap length none); meaning = Row k.0; known = known_row (u ++ tail) k.0 k.1 } }
+
+-- nothing begins the empty text
+pub empty_headless : HasNoHead []
+empty_headless h is = go h is
+  where
+    none_begins : (text : List ℕ) → text ≢ [] → Begins text [] → ⊥
+    none_begins [] some b = some refl
+    none_begins (x ∷ text) some b = cc (b.1)
+
+    go : (h : Head) → IsHead [] h → ⊥
+    go (Known text m) is = none_begins text (known_some text m is.known) is.begins
+    go (Character c) is = none_begins (encode_utf8 c) (encoding_some c) is.begins
+
+pub extended_waits : (u : List ℕ) → IsExtended table u → HasNoFront u true
+extended_waits [] ext = inr empty_headless
+extended_waits (x ∷ u) ext = inl (open_from_extended (x ∷ u) (λ h. cc) ext)
+
+-- no known text begins the text, where no key and no frame does
+pub nothing_known : (u : List ℕ) → HasNoFrame u → NoKeyBegins table u → (text : List ℕ) (m : Meaning) → IsKnown text m → Begins text u → ⊥
+nothing_known u none no_key text (Row k) known b = some_none _ k (stored_at u text k b known) (no_key (length text) (begins_length text u b))
+nothing_known u none no_key text (Frame event) known b = none text event (frame_known text event known) b
+
+same_pair : (d s c n : ℕ) → ◌≡◌ {A = Option (ℕ × ℕ)} (Some (d, s)) (Some (c, n)) → (d ≡ c) × (s ≡ n)
+same_pair d s c n e =
+    let pair : ◌≡◌ {A = ℕ × ℕ} (d, s) (c, n) = cc (e) in
+    (ap (λ (p : ℕ × ℕ). p.0) pair, ap (λ (p : ℕ × ℕ). p.1) pair)
+
+spelled : (u : List ℕ) (c n : ℕ) → character_of u ≡ Some (c, n) → IsScalar c × (n ≡ length (encode_utf8 c)) × Begins (encode_utf8 c) u
+unfolding character_of
+spelled u c n e = go (decoded u).char refl e
+  where
+    go : (o : Option ℕ) → (decoded u).char ≡ o → option_map {U = ℕ × ℕ} (λ d. (d, (decoded u).size)) o ≡ Some (c, n) → IsScalar c × (n ≡ length (encode_utf8 c)) × Begins (encode_utf8 c) u
+    go (Some d) f h =
+        let same = same_pair d (decoded u).size c n h in
+        let spells = SpellsChar-decoded u d f in
+        subst (λ x. IsScalar x × (n ≡ length (encode_utf8 x)) × Begins (encode_utf8 x) u) same.0
+        (spells.scalar, sym (spells.width ∙ same.1), (drop (decoded u).size u, spells.bytes))
+    go None f h = absurd (cc (h))
+
+pub character_front : (u : List ℕ) (c n : ℕ) → HasNoFrame u → NoKeyBegins table u → character_of u ≡ Some (c, n) → IsFront u (character c n)
+character_front u c n none no_key e =
+    let s = spelled u c n e in
+    (s.1, record { unknown = nothing_known u none no_key; scalar = s.0; begins = s.2 })
+
+unspelled : (u : List ℕ) → character_of u ≡ None → (c : ℕ) → IsScalar c → Begins (encode_utf8 c) u → ⊥
+unfolding character_of
+unspelled u e c scalar b =
+    let read : (decoded u).char ≡ Some c = ap (λ x. (decoded x).char) b.1 ∙ ap (λ (p : Decoded). p.char) (decoded-encode c b.0 scalar) in
+    let found : option_map {U = ℕ × ℕ} (λ d. (d, (decoded u).size)) (decoded u).char ≡ Some (c, (decoded u).size) = ap (option_map {U = ℕ × ℕ} (λ d. (d, (decoded u).size))) read in
+    cc (e, found)
+
+pub headless : (u : List ℕ) → HasNoFrame u → NoKeyBegins table u → character_of u ≡ None → HasNoHead u
+headless u none no_key e (Known text m) is = nothing_known u none no_key text m is.known is.begins
+headless u none no_key e (Character c) is = unspelled u e c is.scalar is.begins
+
+-- a frame at the front is the head, and nothing that comes changes it
+pub frame_front : (u : List ℕ) (n : ℕ) (event : MouseEvent) → n ≤ length u → IsFrame (take n u) event → IsFront u (frame event n)
+frame_front u n event inside f = (
+  inside,
+  record {
+    known = known_frame (take n u) event f;
+    begins = begins_take u n;
+    longest = λ other m known b. at_most other m known (overlap other b.0 (take n u) (drop n u) (take-append-drop n u ∙ b.1));
+  },
+)
+  where
+    at_most : {r s : List ℕ} (other : List ℕ) (m : Meaning) → IsKnown other m → Overlaps other r (take n u) s → length other ≤ length (take n u)
+    at_most other m known (within t e g) = omega (arith, length-append other t, ap length e)
+    at_most other m known (past t longer e g) =
+        absurd (longer (frame_ends (take n u) t event m (known_frame (take n u) event f) (subst (λ x. IsKnown x m) e known)))
+
+pub frame_closed : (u : List ℕ) (n : ℕ) (more : Bool) (event : MouseEvent) → IsFrame (take n u) event → IsOpen u more → ⊥
+frame_closed u n more event f opens =
+    let tail = opens.unfinished.tail in
+    let whole : u ++ tail ≡ take n u ++ (drop n u ++ tail) = ap (λ x. x ++ tail) (sym (take-append-drop n u)) ∙ append_assoc (take n u) (drop n u) tail in
+    append-some (drop n u) tail opens.unfinished.longer
+    (frame_ends (take n u) (drop n u ++ tail) event opens.unfinished.meaning (known_frame (take n u) event f) (subst (λ x. IsKnown x opens.unfinished.meaning) whole opens.unfinished.known))
+
+pub begun_waits : (u : List ℕ) → IsBegun u → HasNoFront u true
+begun_waits [] begun = inr empty_headless
+begun_waits (x ∷ u) (tail, event, longer, f) =
+    inl (record { more_comes = refl; some = λ h. cc; unfinished = record { tail = tail; longer = longer; meaning = Frame event; known = known_frame (x ∷ u ++ tail) event f } })
+
+-- where a text properly begins a frame, no frame begins it
+pub begun_no_frame : (u : List ℕ) → IsBegun u → HasNoFrame u
+begun_no_frame u (tail, event, longer, f) word other g b =
+    let whole : u ++ tail ≡ word ++ (b.0 ++ tail) = ap (λ x. x ++ tail) b.1 ∙ append_assoc word b.0 tail in
+    append-some b.0 tail longer
+    (frame_ends word (b.0 ++ tail) other (Frame event) (known_frame word other g) (subst (λ x. IsKnown x (Frame event)) whole (known_frame (u ++ tail) event f)))
+
+-- where nothing longer that is stored may come, the text isn't open
+pub exact_closed : (u : List ℕ) (more : Bool) → (more ≡ true → IsBegun u → ⊥) → (IsExtended table u → more ≡ false) → IsOpen u more → ⊥
+exact_closed u more never stops opens =
+    let one : more ≡ true = opens.more_comes in
+    let two : more ≡ false = stops (extended_from_open u more opens never) in
+    cc (one, two)

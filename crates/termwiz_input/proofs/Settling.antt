@@ -1,0 +1,152 @@
+-- At each text an item stands or the text waits, and it can be told which.
+use Rattle.std.proofs.Common.{◌≡◌, ◌⊎◌, inl, inr, ℕ, zero, suc, ◌<◌, ◌≤◌, Bool, List, [], ◌∷◌, ◌++◌, length, refl, sym, ap, ◌∙◌, subst, ⊎_elim, arith, encode_utf8, length-append}
+use Rattle.std.specs.Str.Lossy.{utf8_lossy}
+use Rattle.termwiz_input.specs.declared.types.KeyEvent.{KeyEvent}
+use Rattle.termwiz_input.specs.Bytes.{ESC, START, END}
+use Rattle.termwiz_input.specs.declared.types.InputEvent.{InputEvent}
+use Rattle.termwiz_input.specs.Keys.{plain, escape, with_alt}
+use Rattle.termwiz_input.specs.declared.types.InputEvent.TheVariants.{Key, Mouse, Paste}
+use Rattle.termwiz_input.specs.Known.{IsKnown}
+use Rattle.termwiz_input.specs.Known.Meaning.{Row, Frame}
+use Rattle.termwiz_input.specs.Grammar.{Head, IsHead, IsLongest, IsOpen, IsAfterEscape, bytes_of, IsKey, IsApart, Item, Stands, IsRest}
+use Rattle.termwiz_input.specs.Grammar.Head.{Known, Character}
+use Rattle.termwiz_input.specs.Grammar.Item.{key, char, mouse, paste, lone_escape, alt}
+use Rattle.termwiz_input.specs.Laws.{OneMeaning, WaitingShape, Waits}
+use Rattle.termwiz_input.specs.Laws.Waits.{nothing, open_paste, broken, undecided}
+use Rattle.termwiz_input.proofs.Lists.{append-some_left, length-some}
+use Rattle.termwiz_input.proofs.Facts.{known_once, escape_known, beginnings_short}
+use Rattle.termwiz_input.proofs.Standing.{item_some, item_begins}
+use Rattle.termwiz_input.proofs.Heads.{head_once, head_or_none, open_or_not}
+use Rattle.termwiz_input.proofs.Searches.{same_or_not}
+use Rattle.termwiz_input.proofs.Pastes.{Ends, find_end}
+use Rattle.termwiz_input.proofs.Pastes.Ends.{ends, endless}
+use Rattle.termwiz_input.proofs.Meaning.{RowGives, Gives, reads, not_alone, Read, read_of, steps_once}
+use Rattle.termwiz_input.proofs.Meaning.RowGives.{its_key, its_paste, apart, joined}
+
+pub data Settled (u : List ℕ) (f : Bool) : Type 0 where
+  standing : (bytes : List ℕ) (event : InputEvent) → Stands u f bytes event → Settled u f
+  resting : IsRest u f → Waits u f → Settled u f
+
+-- the head's key, or the key that ESC joins to: each head has one, or stands apart
+key_or_apart : (h : Head) → ((k : KeyEvent) × IsKey h k) ⊎ IsApart h
+key_or_apart (Known text (Row k)) = ⊎_elim (λ e. inr e) (λ other. inl (k, (other, refl))) (same_or_not text START)
+key_or_apart (Known text (Frame report)) = inr tt
+key_or_apart (Character c) = inl (plain c, refl)
+
+stand : (u bytes : List ℕ) (f : Bool) (event : InputEvent) → ¬ IsOpen u f → Item u f bytes event → Settled u f
+stand u bytes f event closed item = standing bytes event (record { closed = closed; item = item })
+
+-- a text that isn't open, whose head is START
+after_start : (u : List ℕ) (f : Bool) (k : KeyEvent) → ¬ IsOpen u f → IsLongest u START (Row k) → Settled u f
+after_start u f k closed is = go (find_end is.begins.0)
+  where
+    go : Ends is.begins.0 → Settled u f
+    go (ends body rest e first) = stand u (START ++ body ++ END) f (Paste (utf8_lossy body)) closed
+        (paste body (rest, is.begins.1 ∙ ap (λ x. START ++ x) e) first)
+    go (endless none) = resting
+        (λ bytes event stands. let r = reads u bytes event f stands.item in
+        unread bytes event (subst (λ h. Gives u f h bytes event) (head_once u r.0 (Known START (Row k)) r.1 is) r.2))
+        (open_paste is.begins.0 is.begins.1 none)
+      where
+        unread : (bytes : List ℕ) (event : InputEvent) → RowGives u f START k bytes event → ⊥
+        unread bytes event (its_key p q r s) = p refl
+        unread bytes event (its_paste at body rest split first r s) = none (body, rest, cc (split, is.begins.1))
+        unread bytes event (apart at v h split some closed is far r s) = cc (at)
+        unread bytes event (joined at v h j split some closed is near r s) = cc (at)
+
+-- a text that isn't open, whose head is ESC
+after_escape_head : (u : List ℕ) (f : Bool) → ¬ IsOpen u f → IsLongest u ESC (Row escape) → (v : List ℕ) → u ≡ ESC ++ v → Settled u f
+after_escape_head u f closed is [] e = stand u ESC f (Key escape) closed (key ESC escape is (λ h. cc) (λ h. e))
+after_escape_head u f closed is (x ∷ v) e = ⊎_elim
+    (λ (o : IsOpen (x ∷ v) f). resting (unread (λ gap. absurd (gap o)))
+    (undecided ESC (x ∷ v) (inr refl) e (λ h. cc) o.unfinished
+    (beginnings_short (x ∷ v) o.unfinished.tail o.unfinished.meaning o.unfinished.longer o.unfinished.known) o.more_comes))
+    (λ gap. ⊎_elim
+    (λ (second : (h : Head) × IsHead (x ∷ v) h).
+    let after : IsAfterEscape u (x ∷ v) f = record { escape_head = is; splits = e; some = λ h. cc; closed = gap } in
+    ⊎_elim
+    (λ (near : (k : KeyEvent) × IsKey second.0 k). stand u (ESC ++ bytes_of second.0) f (Key (with_alt near.0)) closed (alt (x ∷ v) second.0 near.0 after second.1 near.1))
+    (λ (far : IsApart second.0). stand u ESC f (Key escape) closed (lone_escape (x ∷ v) second.0 after second.1 far))
+    (key_or_apart second.0))
+    (λ (none : (h : Head) → IsHead (x ∷ v) h → ⊥). resting (unread (λ gap2. λ h second. none h second))
+    (broken ESC (x ∷ v) (inr refl) e (λ h. cc) none))
+    (head_or_none (x ∷ v)))
+    (open_or_not (x ∷ v) f)
+  where
+    unread_row : ((IsOpen (x ∷ v) f → ⊥) → (h : Head) → IsHead (x ∷ v) h → ⊥) → (bytes : List ℕ) (event : InputEvent) → RowGives u f ESC escape bytes event → ⊥
+    unread_row never bytes event (its_key p q r s) = not_alone u (x ∷ v) e (λ h. cc) (q refl)
+    unread_row never bytes event (its_paste at body rest split first r s) = cc (at)
+    unread_row never bytes event (apart at w h split some gap second far r s) =
+        let same : w ≡ x ∷ v = cc (split, e) in
+        never (subst (λ z. IsOpen z f → ⊥) same gap) h (subst (λ z. IsHead z h) same second)
+    unread_row never bytes event (joined at w h j split some gap second near r s) =
+        let same : w ≡ x ∷ v = cc (split, e) in
+        never (subst (λ z. IsOpen z f → ⊥) same gap) h (subst (λ z. IsHead z h) same second)
+
+    unread : ((IsOpen (x ∷ v) f → ⊥) → (h : Head) → IsHead (x ∷ v) h → ⊥) → IsRest u f
+    unread never bytes event stands =
+        let r = reads u bytes event f stands.item in
+        unread_row never bytes event (subst (λ h. Gives u f h bytes event) (head_once u r.0 (Known ESC (Row escape)) r.1 is) r.2)
+
+-- a text that isn't open, by its head
+by_head : (u : List ℕ) (f : Bool) → ¬ IsOpen u f → (h : Head) → IsHead u h → Settled u f
+by_head u f closed (Character c) is = stand u (encode_utf8 c) f (Key (plain c)) closed (char c is)
+by_head u f closed (Known text (Frame report)) is = stand u text f (Mouse report) closed (mouse text report is)
+by_head u f closed (Known text (Row k)) is = ⊎_elim
+    (λ (e : text ≡ START). after_start u f k closed (subst (λ x. IsLongest u x (Row k)) e is))
+    (λ (usual : text ≡ START → ⊥). ⊎_elim
+    (λ (e : text ≡ ESC).
+    let same : Row k ≡ Row escape = known_once ESC (Row k) (Row escape) (subst (λ x. IsKnown x (Row k)) e is.known) escape_known in
+    let here : IsLongest u ESC (Row escape) = subst (λ m. IsLongest u ESC m) same (subst (λ x. IsLongest u x (Row k)) e is) in
+    after_escape_head u f closed here here.begins.0 here.begins.1)
+    (λ (other : text ≡ ESC → ⊥). stand u text f (Key k) closed (key text k is usual (λ h. absurd (other h))))
+    (same_or_not text ESC))
+    (same_or_not text START)
+
+pub settle : (u : List ℕ) (f : Bool) → Settled u f
+settle [] f = resting
+    (λ bytes event stands.
+    let b = item_begins [] bytes event f stands.item in
+    append-some_left bytes b.0 (item_some [] bytes event f stands.item) (sym b.1))
+    (nothing refl)
+settle (x ∷ u) f = ⊎_elim
+    (λ (o : IsOpen (x ∷ u) f). resting (λ bytes event stands. stands.closed o)
+    (undecided [] (x ∷ u) (inl refl) refl (λ h. cc) o.unfinished
+    (beginnings_short (x ∷ u) o.unfinished.tail o.unfinished.meaning o.unfinished.longer o.unfinished.known) o.more_comes))
+    (λ closed. ⊎_elim
+    (λ (first : (h : Head) × IsHead (x ∷ u) h). by_head (x ∷ u) f closed first.0 first.1)
+    (λ (none : (h : Head) → IsHead (x ∷ u) h → ⊥). resting
+    (λ bytes event stands. let r = reads (x ∷ u) bytes event f stands.item in none r.0 r.1)
+    (broken [] (x ∷ u) (inl refl) refl (λ h. cc) none))
+    (head_or_none (x ∷ u)))
+    (open_or_not (x ∷ u) f)
+
+pub waiting_shape : WaitingShape
+waiting_shape u f rest = go (settle u f)
+  where
+    go : Settled u f → Waits u f
+    go (standing bytes event stands) = absurd (rest bytes event stands)
+    go (resting r waits) = waits
+
+meaning_within : (n : ℕ) (T : List ℕ) (f : Bool) → length T ≤ n → (E : List InputEvent) × (W : List ℕ) × Read T f E W
+meaning_within zero [] f l = go (settle [] f)
+  where
+    go : Settled [] f → (E : List InputEvent) × (W : List ℕ) × Read [] f E W
+    go (standing bytes event stands) = let b = item_begins [] bytes event f stands.item in
+        absurd (append-some_left bytes b.0 (item_some [] bytes event f stands.item) (sym b.1))
+    go (resting r waits) = ([], [], (refl, r))
+meaning_within zero (x ∷ T) f l = absurd (omega arith)
+meaning_within (suc n) T f l = go (settle T f) (λ rest lt. meaning_within n rest f lt)
+  where
+    go : Settled T f → ((rest : List ℕ) → length rest ≤ n → (E : List InputEvent) × (W : List ℕ) × Read rest f E W) → (E : List InputEvent) × (W : List ℕ) × Read T f E W
+    go (resting r waits) below = ([], T, (refl, r))
+    go (standing bytes event stands) below =
+        let b = item_begins T bytes event f stands.item in
+        let some : 0 < length bytes = length-some bytes (item_some T bytes event f stands.item) in
+        let m = below b.0 (omega (arith, length-append bytes b.0, ap length b.1)) in
+        (event ∷ m.0, m.1, ((bytes, b.0, stands, b.1, m.2.0), m.2.1))
+
+pub one_meaning : OneMeaning
+one_meaning T f =
+    let m = meaning_within (length T) T f (omega arith) in
+    (m.0, m.1, record { steps = m.2.0; rest = m.2.1 }, λ D V h. steps_once D m.0 T V m.1 f (read_of h) m.2)

@@ -1,0 +1,73 @@
+-- Tests that are computed over the whole table.
+use Rattle.std.proofs.Common.{◌≡◌, ℕ, zero, suc, ◌+◌, ◌*◌, ◌/◌, ◌%◌, Bool, true, false, not, cond, List, [], ◌∷◌, length, map, refl, nat_lt, ◌==◌, ◌&&◌, ◌||◌}
+use Rattle.std.specs.List.{list_all, list_any}
+use Rattle.std.specs.Fmt.{digits}
+use Rattle.termwiz_input.specs.Table.{TableRow, rows, control_letters_rows, backspace_bytes_rows, tab_byte_rows, enter_bytes_rows, escape_byte_rows, alt_letters_rows, alt_bracket_rows, shift_tab_rows, csi_u_rows, modify_other_keys_rows, cursor_keys_rows, modified_cursor_keys_rows, shift_arrows_rows, ctrl_arrows_rows, application_arrows_rows, modified_application_arrows_rows, ss3_function_keys_rows, lettered_function_keys_rows, numbered_function_keys_rows, edit_keys_rows, paste_start_rows, paste_end_rows}
+
+-- a byte that may stand before the last of a row that begins ESC [ or ESC O: a digit or a semicolon
+abbrev pub is_inner : ℕ → Bool
+is_inner x = nat_lt 47 x && nat_lt x 60
+
+-- one that may stand last
+abbrev pub is_last : ℕ → Bool
+is_last x = (nat_lt 60 x && nat_lt x 127) || x == 36
+
+abbrev pub ends_well : List ℕ → Bool
+ends_well [] = false
+ends_well (x ∷ []) = is_last x
+ends_well (x ∷ y ∷ t) = is_inner x && ends_well (y ∷ t)
+
+-- the shape that all rows have
+abbrev pub has_shape : List ℕ → Bool
+has_shape [] = false
+has_shape (b ∷ []) = true
+has_shape (b ∷ c ∷ []) = (b == 27) && (nat_lt 64 c && nat_lt c 92)
+has_shape (b ∷ c ∷ d ∷ t) = (b == 27) && ((c == 91) || (c == 79)) && ends_well (d ∷ t)
+
+-- a byte that may stand after the first
+abbrev pub is_plain : ℕ → Bool
+is_plain x = nat_lt 31 x && nat_lt x 127
+
+-- one byte that is a control or 0x7f, or ESC and plain bytes
+abbrev pub is_sequence : List ℕ → Bool
+is_sequence [] = false
+is_sequence (b ∷ []) = nat_lt b 28 || (b == 127)
+is_sequence (b ∷ c ∷ t) = (b == 27) && list_all is_plain (c ∷ t)
+
+abbrev pub is_ours : List ℕ → Bool
+is_ours t = has_shape t && nat_lt (length t) 12 && is_sequence t
+
+-- a number for a text
+abbrev pub mix : ℕ → List ℕ → ℕ
+mix n [] = n
+mix n (b ∷ t) = mix (n * 257 + b) t
+
+-- the halves of the even numbers, and of the odd ones
+abbrev pub halves : ℕ → List ℕ → List ℕ
+halves r [] = []
+halves r (x ∷ xs) = cond (x % 2 == r) (x / 2 ∷ halves r xs) (halves r xs)
+
+abbrev pub all_differ : List ℕ → Bool
+all_differ [] = true
+all_differ (x ∷ xs) = not (list_any (λ y. y == x) xs) && all_differ xs
+
+abbrev pub split_differ : ℕ → List ℕ → Bool
+split_differ zero xs = all_differ xs
+split_differ (suc n) xs = split_differ n (halves 0 xs) && split_differ n (halves 1 xs)
+
+-- the table, opened: to unfold this is to unfold every rule
+unfoldable pub written_out : List TableRow
+unfolding rows control_letters_rows backspace_bytes_rows tab_byte_rows enter_bytes_rows escape_byte_rows alt_letters_rows alt_bracket_rows shift_tab_rows csi_u_rows modify_other_keys_rows cursor_keys_rows modified_cursor_keys_rows shift_arrows_rows ctrl_arrows_rows application_arrows_rows modified_application_arrows_rows ss3_function_keys_rows lettered_function_keys_rows numbered_function_keys_rows edit_keys_rows paste_start_rows paste_end_rows digits
+written_out = rows
+
+pub rows_shaped : list_all (λ r. is_ours r.0) rows ≡ true
+unfolding written_out
+rows_shaped = refl
+
+pub rows_differ : split_differ 10 (map (λ r. mix 1 r.0) rows) ≡ true
+unfolding written_out
+rows_differ = refl
+
+pub row_count : length rows ≡ 2834
+unfolding written_out
+row_count = refl

@@ -1,0 +1,28 @@
+use Rattle.std.proofs.Common.{◌≡◌, subst}
+use Rattle.std.specs.Prelude.{false}
+use Rattle.termwiz_input.specs.Lookup.{IsLongestKey, IsExtended}
+use Rattle.termwiz_input.proofs.Reading.{longest_from_key, extended_waits, extended_from_open, exact_closed}
+use Rattle.termwiz_input.proofs.item.row_or_character_at.Goals as goal
+
+pub returns-in-Exact-clause-closed : goal.returns-in-Exact-clause-closed
+returns-in-Exact-clause-closed c = λ some opens.
+    exact_closed c.args.text.now c.args.maybe_more c.requires.not_begun
+    (subst (λ m. IsExtended m c.args.text.now → c.args.maybe_more ≡ false) c.requires.rows c.in-Exact.ensures.1) opens
+
+pub returns-in-Exact-clause-front : goal.returns-in-Exact-clause-front
+returns-in-Exact-clause-front c =
+    longest_from_key c.args.text.now c.in-Exact.len c.in-Exact.key.now c.requires.no_frame
+    (subst (λ m. IsLongestKey m c.args.text.now c.in-Exact.len c.in-Exact.key.now) c.requires.rows c.in-Exact.ensures.0)
+
+pub returns-in-Ambiguous-clause-waits : goal.returns-in-Ambiguous-clause-waits
+returns-in-Ambiguous-clause-waits c =
+    rw c.in-Ambiguous.ensures.2 (extended_waits c.args.text.now (subst (λ m. IsExtended m c.args.text.now) c.requires.rows c.in-Ambiguous.ensures.1))
+
+pub returns-in-NeedData-clause-waits : goal.returns-in-NeedData-clause-waits
+returns-in-NeedData-clause-waits c =
+    rw c.if-maybe_more.true (extended_waits c.args.text.now (subst (λ m. IsExtended m c.args.text.now) c.requires.rows c.in-NeedData.ensures.1))
+
+pub returns-in-None-clause-closed : goal.returns-in-None-clause-closed
+returns-in-None-clause-closed c = λ some opens.
+    subst (λ m. IsExtended m c.args.text.now → ⊥) c.requires.rows c.in-None.ensures.1
+    (extended_from_open c.args.text.now c.args.maybe_more opens c.requires.not_begun)

@@ -1,0 +1,44 @@
+-- Mouse frames: the reports of xterm's SGR mode 1006, with limits on the digits and on the code.
+use Rattle.std.specs.Prelude.{◌≡◌, ℕ, ◌+◌, ◌-◌, ◌*◌, ◌<◌, ◌≤◌, ◌⊎◌, List, [], ◌∷◌, ◌++◌, length, codes, fold}
+use Rattle.std.specs.List.{AllByRecursion, join_with_byte}
+use Rattle.termwiz_input.specs.declared.types.MouseEvent.{MouseEvent}
+use Rattle.termwiz_input.specs.Bytes.{ESC}
+use Rattle.termwiz_base.specs.Mouse.{button_of, modifiers_of}
+use Rattle.termwiz_input.specs.Buttons.{buttons_of}
+
+-- an ASCII digit
+abbrev pub IsDigit : ℕ → Type 0
+IsDigit b = (48 ≤ b) × (b ≤ 57)
+
+-- the number that decimal digits write
+abbrev pub value_of : List ℕ → ℕ
+value_of digits = fold (λ n b. n * 10 + (b - 48)) 0 digits
+
+-- from one to five digits, which write a number up to the limit
+pub record IsNumber (digits : List ℕ) (limit : ℕ) : Type 0 where
+  pub some : 0 < length digits
+  pub short : length digits ≤ 5
+  pub each : AllByRecursion IsDigit digits
+  pub within : value_of digits ≤ limit
+
+-- the event of a report: its code and its place, and M or m at the end
+unfoldable pub mouse_event : ℕ → ℕ → ℕ → ℕ → MouseEvent
+mouse_event code x y last = record {
+  x = x;
+  y = y;
+  mouse_buttons = buttons_of (button_of code last);
+  modifiers = modifiers_of code;
+}
+
+-- A frame is ESC [<, three numbers parted by semicolons, and M or m.
+pub record IsFrame (text : List ℕ) (event : MouseEvent) : Type 0 where
+  pub code : List ℕ
+  pub x : List ℕ
+  pub y : List ℕ
+  pub last : ℕ
+  pub form : text ≡ ESC ++ codes "[<" ++ join_with_byte 59 (code ∷ x ∷ y ∷ []) ++ last ∷ []
+  pub code_is : IsNumber code 95
+  pub x_is : IsNumber x 65535
+  pub y_is : IsNumber y 65535
+  pub last_is : (last ≡ 77) ⊎ (last ≡ 109)
+  pub means : event ≡ mouse_event (value_of code) (value_of x) (value_of y) last

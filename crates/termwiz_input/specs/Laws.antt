@@ -1,0 +1,46 @@
+-- The laws of the grammar.
+use Rattle.std.specs.Prelude.{◌≡◌, ◌≢◌, ℕ, ◌≤◌, ◌⊎◌, ◌↔◌, Bool, true, List, [], ◌++◌, length, Contains}
+use Rattle.termwiz_input.specs.declared.types.KeyEvent.{KeyEvent}
+use Rattle.termwiz_input.specs.declared.types.InputEvent.{InputEvent}
+use Rattle.termwiz_input.specs.Bytes.{Occurs, ESC, CSI, SS3, START, END}
+use Rattle.termwiz_input.specs.Table.{rows}
+use Rattle.termwiz_input.specs.Grammar.{Head, IsHead, IsUnfinished, Steps, IsRest, Means}
+
+-- How the bytes are cut doesn't matter.
+abbrev pub CutIndependent : Type 0
+CutIndependent = (T S W1 W2 : List ℕ) (E1 E2 : List InputEvent) (f : Bool)
+    → Means T true E1 W1 → Means (W1 ++ S) f E2 W2 → Means (T ++ S) f (E1 ++ E2) W2
+
+-- Going on after a refusal gives the events of the whole.
+abbrev pub Resumes : Type 0
+Resumes = (T S W1 W2 : List ℕ) (E1 E2 : List InputEvent) (f : Bool)
+    → (Steps T true E1 W1 → Means (W1 ++ S) f E2 W2 → Means (T ++ S) f (E1 ++ E2) W2)
+    × (Steps T f E1 W1 → Means W1 f E2 W2 → Means T f (E1 ++ E2) W2)
+
+-- Each text means, under each flag, one list of events and one rest.
+abbrev pub OneMeaning : Type 0
+OneMeaning = (T : List ℕ) (f : Bool) → (E : List InputEvent) × (W : List ℕ) × Means T f E W
+    × ((D : List InputEvent) (V : List ℕ) → Means T f D V → (D ≡ E) × (V ≡ W))
+
+-- nothing, or one held Escape
+abbrev pub IsHeld : List ℕ → Type 0
+IsHeld held = (held ≡ []) ⊎ (held ≡ ESC)
+
+-- What can wait.
+pub data Waits (u : List ℕ) (more : Bool) : Type 0 where
+  nothing : u ≡ [] → Waits u more
+  open_paste : (body : List ℕ) → u ≡ START ++ body → (Occurs END body → ⊥) → Waits u more
+  broken : (held bytes : List ℕ) → IsHeld held → u ≡ held ++ bytes → bytes ≢ [] → ((h : Head) → IsHead bytes h → ⊥) → Waits u more
+  undecided : (held bytes : List ℕ) → IsHeld held → u ≡ held ++ bytes → bytes ≢ [] → IsUnfinished bytes → length bytes ≤ 20 → more ≡ true → Waits u more
+
+-- Every rest waits for one of these.
+abbrev pub WaitingShape : Type 0
+WaitingShape = (u : List ℕ) (more : Bool) → IsRest u more → Waits u more
+
+-- the bytes of a row that properly begin another row
+abbrev pub BeginsRow : List ℕ → Type 0
+BeginsRow text = (key longer : KeyEvent) × (tail : List ℕ) × Contains rows (text, key) × (tail ≢ []) × Contains rows (text ++ tail, longer)
+
+-- Of the rows exactly three properly begin another row.
+abbrev pub ThreeBeginnings : Type 0
+ThreeBeginnings = (text : List ℕ) → BeginsRow text ↔ ((text ≡ ESC) ⊎ (text ≡ CSI) ⊎ (text ≡ SS3))

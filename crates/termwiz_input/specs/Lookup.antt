@@ -1,0 +1,45 @@
+-- What a lookup in a map from byte lists answers.
+use Rattle.std.specs.Prelude.{◌≡◌, ◌<◌, ◌≤◌, ℕ, Bool, true, false, List, ◌++◌, length, take, None, Some, IsSome}
+use Rattle.std.specs.Ordering.{nat_cmp}
+use Rattle.std.specs.Cmp.Lexicographic.{slice_cmp}
+use Rattle.std.specs.FinMap as map
+use denote.Ref.{Bor}
+use Rattle.termwiz_input.specs.declared.keymap.Found.{Found}
+use Rattle.termwiz_input.specs.declared.keymap.Found.TheVariants.{None as Nothing, Exact, Ambiguous, NeedData}
+
+-- maps from byte lists
+abbrev pub Keys : Type 0 → Type 0
+Keys V = map.FinMap (slice_cmp nat_cmp) V
+
+-- a clone of a value equals it
+abbrev pub ClonesEqual : {V : Type 0} → (V → V → Type 0) → Type 0
+ClonesEqual {V} is_clone = (x y : V) → is_clone x y → y ≡ x
+
+module _ {V : Type 0} where
+  -- some key is longer than the text and begins with it
+  abbrev pub IsExtended : Keys V → List ℕ → Type 0
+  IsExtended m t = (r : List ℕ) × (0 < length r) × IsSome (map.get m (t ++ r))
+
+  -- the longest key that begins the text has this length and this value
+  pub record IsLongestKey (m : Keys V) (t : List ℕ) (n : ℕ) (v : V) : Type 0 where
+    pub within : n ≤ length t
+    pub stored : map.get m (take n t) ≡ Some v
+    pub longest : (k : ℕ) → n < k → k ≤ length t → map.get m (take k t) ≡ None
+
+  -- no key begins the text
+  abbrev pub NoKeyBegins : Keys V → List ℕ → Type 0
+  NoKeyBegins m t = (k : ℕ) → k ≤ length t → map.get m (take k t) ≡ None
+
+  -- the lookup rule
+  abbrev pub LookupGives : Keys V → List ℕ → Bool → Found V → Type 0
+  LookupGives m t more (Ambiguous n v) = IsLongestKey m t n v × IsExtended m t × (more ≡ true)
+  LookupGives m t more (Exact n v) = IsLongestKey m t n v × (IsExtended m t → more ≡ false)
+  LookupGives m t more NeedData = NoKeyBegins m t × IsExtended m t
+  LookupGives m t more Nothing = NoKeyBegins m t × (IsExtended m t → ⊥)
+
+  -- an answer by reference, as what it refers to
+  abbrev pub shown : Found (Bor V) → Found V
+  shown (Ambiguous n r) = Ambiguous n r.now
+  shown (Exact n r) = Exact n r.now
+  shown NeedData = NeedData
+  shown Nothing = Nothing

@@ -1,0 +1,196 @@
+-- The sequence table, rule by rule: each rule gives pairs of bytes and the key that they spell.
+-- From xterm's control sequences ("PC-Style Function Keys", "VT220-Style Function Keys", modifyOtherKeys), from fixterms
+-- (CSI u) and from rxvt's keys ($, ^ and @ at the end). The table is the set of these pairs, whatever their order.
+use Rattle.std.specs.Prelude.{ℕ, zero, suc, ◌+◌, List, [], ◌∷◌, ◌++◌, map, flat_map, codes, decimal, if◌then◌else◌, ◌==◌, ◌||◌}
+use Rattle.termwiz_input.specs.declared.types.KeyCode.{KeyCode}
+use Rattle.termwiz_input.specs.declared.types.KeyCode.TheVariants.{Char, Backspace, Tab, Enter, Escape, PageUp, PageDown, End, Home, LeftArrow, RightArrow, UpArrow, DownArrow, Insert, Delete, Function, ApplicationLeftArrow, ApplicationRightArrow, ApplicationUpArrow, ApplicationDownArrow, InternalPasteStart, InternalPasteEnd}
+use Rattle.termwiz_input.specs.declared.types.KeyEvent.{KeyEvent}
+use Rattle.termwiz_input.specs.Bytes.{ESC, CSI, SS3, START, END}
+use Rattle.std.specs.FinMap as map_of
+use Rattle.termwiz_input.specs.Lookup.{Keys}
+use Rattle.termwiz_input.specs.Keys.{key_with, NONE, SHIFT, ALT, CTRL, escape}
+
+-- the bytes of a row, and its key
+abbrev pub TableRow : Type 0
+TableRow = List ℕ × KeyEvent
+
+-- count numbers from first on
+abbrev pub numbers : ℕ → ℕ → List ℕ
+numbers first zero = []
+numbers first (suc count) = first ∷ numbers (suc first) count
+
+-- a suffix with the modifiers that it tells
+abbrev pub Suffix : Type 0
+Suffix = List ℕ × ℕ
+
+-- the empty suffix
+abbrev pub none : List Suffix
+none = ([], NONE) ∷ []
+
+-- the suffixes that aren't empty, up to ;8
+abbrev pub to_eight : List Suffix
+to_eight =
+    (codes ";1", NONE) ∷ (codes ";2", SHIFT) ∷ (codes ";3", ALT) ∷ (codes ";4", ALT + SHIFT)
+    ∷ (codes ";5", CTRL) ∷ (codes ";6", CTRL + SHIFT) ∷ (codes ";7", CTRL + ALT) ∷ (codes ";8", CTRL + ALT + SHIFT) ∷ []
+
+-- the suffixes ;9 to ;16, which tell Meta as Alt
+abbrev pub nine_up : List Suffix
+nine_up =
+    (codes ";9", ALT) ∷ (codes ";10", ALT + SHIFT) ∷ (codes ";11", ALT) ∷ (codes ";12", ALT + SHIFT)
+    ∷ (codes ";13", ALT + CTRL) ∷ (codes ";14", ALT + CTRL + SHIFT) ∷ (codes ";15", ALT + CTRL) ∷ (codes ";16", ALT + CTRL + SHIFT) ∷ []
+
+-- the nine suffixes, and the seventeen
+abbrev pub nine : List Suffix
+nine = none ++ to_eight
+
+abbrev pub seventeen : List Suffix
+seventeen = nine ++ nine_up
+
+-- a key for each text of a list, before the suffix and after it
+abbrev pub with_suffixes : List ℕ → List Suffix → List (List ℕ × KeyCode) → List TableRow
+with_suffixes front suffixes keys =
+    flat_map (λ k. map (λ s. (front ++ s.0 ++ k.0, key_with k.1 s.1)) suffixes) keys
+
+-- the cursor keys, by their letters
+abbrev pub arrows_and_ends : List (List ℕ × KeyCode)
+arrows_and_ends =
+    (codes "A", UpArrow) ∷ (codes "B", DownArrow) ∷ (codes "C", RightArrow) ∷ (codes "D", LeftArrow)
+    ∷ (codes "H", Home) ∷ (codes "F", End) ∷ []
+
+-- the arrows, by lower case letters
+abbrev pub small_arrows : List (List ℕ × KeyCode)
+small_arrows = (codes "a", UpArrow) ∷ (codes "b", DownArrow) ∷ (codes "c", RightArrow) ∷ (codes "d", LeftArrow) ∷ []
+
+-- the arrows in application cursor mode
+abbrev pub application_arrows : List (List ℕ × KeyCode)
+application_arrows =
+    (codes "A", ApplicationUpArrow) ∷ (codes "B", ApplicationDownArrow)
+    ∷ (codes "C", ApplicationRightArrow) ∷ (codes "D", ApplicationLeftArrow) ∷ []
+
+-- F1 to F4, by their letters
+abbrev pub first_functions : List (List ℕ × KeyCode)
+first_functions = (codes "P", Function 1) ∷ (codes "Q", Function 2) ∷ (codes "R", Function 3) ∷ (codes "S", Function 4) ∷ []
+
+-- the codes of the function keys, with the number of each
+abbrev pub function_codes : List (ℕ × ℕ)
+function_codes =
+    (11, 1) ∷ (12, 2) ∷ (13, 3) ∷ (14, 4) ∷ (15, 5) ∷ (17, 6) ∷ (18, 7) ∷ (19, 8) ∷ (20, 9) ∷ (21, 10)
+    ∷ (23, 11) ∷ (24, 12) ∷ (25, 13) ∷ (26, 14) ∷ (28, 15) ∷ (29, 16) ∷ (31, 17) ∷ (32, 18) ∷ (33, 19) ∷ (34, 20) ∷ []
+
+-- the key that a number stands for in the rule modify_other_keys
+abbrev pub named : ℕ → KeyCode
+named c = if (c == 8) || (c == 127) then Backspace else (if c == 27 then Escape else (if c == 9 then Tab else (if (c == 10) || (c == 13) then Enter else Char c)))
+
+-- the bytes 1 to 26 but 8, 9, 10 and 13: Ctrl and the letter at that place in the alphabet
+unfoldable pub control_letters_rows : List TableRow
+control_letters_rows = map (λ b. (b ∷ [], key_with (Char (96 + b)) CTRL)) (numbers 1 7 ++ numbers 11 2 ++ numbers 14 13)
+
+-- 8 and 0x7f: Backspace
+unfoldable pub backspace_bytes_rows : List TableRow
+backspace_bytes_rows = (8 ∷ [], key_with Backspace NONE) ∷ (127 ∷ [], key_with Backspace NONE) ∷ []
+
+-- 9: Tab
+unfoldable pub tab_byte_rows : List TableRow
+tab_byte_rows = (9 ∷ [], key_with Tab NONE) ∷ []
+
+-- 10 and 13: Enter
+unfoldable pub enter_bytes_rows : List TableRow
+enter_bytes_rows = (10 ∷ [], key_with Enter NONE) ∷ (13 ∷ [], key_with Enter NONE) ∷ []
+
+-- ESC: Escape
+unfoldable pub escape_byte_rows : List TableRow
+escape_byte_rows = (ESC, escape) ∷ []
+
+-- ESC and an upper case letter: that letter with Alt
+unfoldable pub alt_letters_rows : List TableRow
+alt_letters_rows = map (λ c. (ESC ++ c ∷ [], key_with (Char c) ALT)) (numbers 65 26)
+
+-- ESC [: the bracket with Alt
+unfoldable pub alt_bracket_rows : List TableRow
+alt_bracket_rows = (CSI, key_with (Char 91) ALT) ∷ []
+
+-- ESC [Z: Tab with Shift
+unfoldable pub shift_tab_rows : List TableRow
+shift_tab_rows = (CSI ++ codes "Z", key_with Tab SHIFT) ∷ []
+
+-- ESC [ c s u, c from 0 to 127 in decimal: the character c, with the modifiers of the suffix s
+unfoldable pub csi_u_rows : List TableRow
+csi_u_rows = flat_map (λ c. map (λ s. (CSI ++ decimal c ++ s.0 ++ codes "u", key_with (Char c) s.1)) nine) (numbers 0 128)
+
+-- ESC [27 s ; c ~, c from 0 to 127 in decimal and s not empty: the key of c, with the modifiers of s
+unfoldable pub modify_other_keys_rows : List TableRow
+modify_other_keys_rows = flat_map (λ c. map (λ s. (CSI ++ codes "27" ++ s.0 ++ codes ";" ++ decimal c ++ codes "~", key_with (named c) s.1)) to_eight) (numbers 0 128)
+
+-- ESC [ and a letter: a cursor key
+unfoldable pub cursor_keys_rows : List TableRow
+cursor_keys_rows = with_suffixes CSI none arrows_and_ends
+
+-- ESC [1 s and a letter: a cursor key, with the modifiers of s
+unfoldable pub modified_cursor_keys_rows : List TableRow
+modified_cursor_keys_rows = with_suffixes (CSI ++ codes "1") seventeen arrows_and_ends
+
+-- ESC [ and a lower case letter: an arrow with Shift
+unfoldable pub shift_arrows_rows : List TableRow
+shift_arrows_rows = map (λ k. (CSI ++ k.0, key_with k.1 SHIFT)) small_arrows
+
+-- ESC O and a lower case letter: an arrow with Ctrl
+unfoldable pub ctrl_arrows_rows : List TableRow
+ctrl_arrows_rows = map (λ k. (SS3 ++ k.0, key_with k.1 CTRL)) small_arrows
+
+-- ESC O and a letter: an arrow in application cursor mode
+unfoldable pub application_arrows_rows : List TableRow
+application_arrows_rows = with_suffixes SS3 none application_arrows
+
+-- ESC O1 s and a letter: such an arrow, with the modifiers of s
+unfoldable pub modified_application_arrows_rows : List TableRow
+modified_application_arrows_rows = with_suffixes (SS3 ++ codes "1") nine application_arrows
+
+-- ESC O and P to S: F1 to F4
+unfoldable pub ss3_function_keys_rows : List TableRow
+ss3_function_keys_rows = with_suffixes SS3 none first_functions
+
+-- ESC [1 s and P to S: F1 to F4, with the modifiers of s
+unfoldable pub lettered_function_keys_rows : List TableRow
+lettered_function_keys_rows = with_suffixes (CSI ++ codes "1") seventeen first_functions
+
+-- ESC [ code s ~: F1 to F20 by their codes, with the modifiers of s
+unfoldable pub numbered_function_keys_rows : List TableRow
+numbered_function_keys_rows = flat_map (λ f. with_suffixes (CSI ++ decimal f.0) seventeen ((codes "~", Function f.1) ∷ [])) function_codes
+
+-- the editing block, by its digits
+abbrev pub digit_keys : List (List ℕ × KeyCode)
+digit_keys =
+    (codes "2", Insert) ∷ (codes "3", Delete) ∷ (codes "1", Home) ∷ (codes "7", Home)
+    ∷ (codes "4", End) ∷ (codes "8", End) ∷ (codes "5", PageUp) ∷ (codes "6", PageDown) ∷ []
+
+-- the ends, by the modifiers that they tell
+abbrev pub digit_ends : List Suffix
+digit_ends = (codes "~", NONE) ∷ (codes "$", SHIFT) ∷ (codes "^", CTRL) ∷ (codes "@", SHIFT + CTRL) ∷ []
+
+-- ESC [ digit end: a key of the editing block by its digit, with the modifiers of the end
+unfoldable pub edit_keys_rows : List TableRow
+edit_keys_rows = flat_map (λ d. map (λ e. (CSI ++ d.0 ++ e.0, key_with d.1 e.1)) digit_ends) digit_keys
+
+-- START
+unfoldable pub paste_start_rows : List TableRow
+paste_start_rows = (START, key_with InternalPasteStart NONE) ∷ []
+
+-- END
+unfoldable pub paste_end_rows : List TableRow
+paste_end_rows = (END, key_with InternalPasteEnd NONE) ∷ []
+
+-- the whole table
+unfoldable pub rows : List TableRow
+rows =
+    control_letters_rows ++ backspace_bytes_rows ++ tab_byte_rows ++ enter_bytes_rows ++ escape_byte_rows ++ alt_letters_rows ++ alt_bracket_rows ++ shift_tab_rows ++ csi_u_rows ++ modify_other_keys_rows
+    ++ cursor_keys_rows ++ modified_cursor_keys_rows ++ shift_arrows_rows ++ ctrl_arrows_rows ++ application_arrows_rows ++ modified_application_arrows_rows ++ ss3_function_keys_rows ++ lettered_function_keys_rows ++ numbered_function_keys_rows
+    ++ edit_keys_rows ++ paste_start_rows ++ paste_end_rows
+
+-- a map with these rows put into it, one after another
+abbrev pub with_rows : Keys KeyEvent → List TableRow → Keys KeyEvent
+with_rows m [] = m
+with_rows m (r ∷ rs) = with_rows (map_of.insert m r.0 r.1) rs
+
+-- the table as a map from bytes to keys
+unfoldable pub table : Keys KeyEvent
+table = with_rows map_of.empty rows

@@ -1,0 +1,40 @@
+// Laws of the grammar and of the key map, each the contract of a function without effect.
+//
+// They speak of the definitions alone. That the parser obeys the definitions is said by its own contracts.
+ghost use Rattle.std.specs.Prelude.{◌++◌, ℕ, List, Bool, true};
+ghost use Rattle.termwiz_input.specs.Lookup.{Keys, LookupGives};
+ghost use Rattle.termwiz_input.specs.declared.keymap.Found.TheVariants.{Exact};
+ghost use Rattle.termwiz_input.specs.Laws.{CutIndependent, OneMeaning, Resumes, ThreeBeginnings, WaitingShape};
+
+/// Each text means, under each flag, exactly one list of events and one rest.
+pub fn one_meaning()
+    ensures { OneMeaning }
+{}
+
+/// Of the rows of the sequence table exactly ESC, ESC `[` and ESC `O` properly begin another row.
+pub fn three_beginnings()
+    ensures { ThreeBeginnings }
+{}
+
+/// However a text is cut, it means the same: if T under more to come gives the events E1 and the rest W1, and W1 followed
+/// by S gives E2 and W2, then T followed by S gives E1 followed by E2, and W2.
+pub fn cut_independent()
+    ensures { CutIndependent }
+{}
+
+/// Going on from any place between two items gives the events of the whole.
+pub fn resumes()
+    ensures { Resumes }
+{}
+
+/// What waits is nothing, an open paste, bytes that begin no character after at most one held Escape, or at most twenty
+/// bytes that properly begin a known text after at most one held Escape.
+pub fn waiting_shape()
+    ensures { WaitingShape }
+{}
+
+/// Where a lookup answers `Exact` although more may come, each longer text that begins with that text has the same answer,
+/// under either flag: for every map, of every type of value.
+pub fn exact_stays<V>()
+    ensures { (m : Keys V) (t s : List ℕ) (n : ℕ) (v : V) (more : Bool) → LookupGives m t true (Exact n v) → LookupGives m (t ++ s) more (Exact n v) }
+{}

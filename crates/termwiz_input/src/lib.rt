@@ -1,0 +1,11 @@
+//! Bytes of a terminal, read as keys.
+#![tactic(auto)]
+
+mod bytes;
+mod frame;
+pub mod input;
+mod item;
+pub mod keymap;
+pub mod laws;
+pub mod readbuf;
+pub mod types;
