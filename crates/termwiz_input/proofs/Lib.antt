@@ -20,6 +20,7 @@ pub mod Pastes
 pub mod Places
 pub mod Reading
 pub mod RowFacts
+pub mod Rows
 pub mod Searches
 pub mod Settling
 pub mod Standing

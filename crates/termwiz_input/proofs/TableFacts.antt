@@ -1,5 +1,5 @@
 -- The table as a map has exactly the rows.
-use Rattle.std.proofs.Common.{◌≡◌, ◌⊎◌, inl, inr, ⊎_elim, ℕ, zero, suc, Bool, true, false, cond, List, [], ◌∷◌, refl, sym, ap, ap₂, ◌∙◌, subst, arith, Contains, nat_eq}
+use Rattle.std.proofs.Common.{◌≡◌, ◌⊎◌, inl, inr, ⊎_elim, ℕ, zero, suc, Bool, true, false, cond, List, [], ◌∷◌, refl, sym, ap, ap₂, ◌∙◌, subst, arith, Contains, nat_eq, ◌↔◌}
 use Rattle.std.specs.Prelude.{Some}
 use Rattle.std.specs.Ordering.{nat_cmp, eq_by_cmp}
 use Rattle.std.specs.Cmp.Lexicographic.{slice_cmp, pointwise, same_text}
@@ -74,3 +74,6 @@ table_from_row text k c =
     let h = has_row rows empty text k c in
     let same : h.0 ≡ k = row_once text h.0 k (row_from_table text h.0 h.1) c in
     h.1 ∙ ap (λ x. Some x) same
+
+pub table_exact : (text : List ℕ) (k : KeyEvent) → (get table text ≡ Some k) ↔ Contains rows (text, k)
+table_exact text k = (row_from_table text k, table_from_row text k)

@@ -11,4 +11,5 @@ pub mod Keys
 pub mod Known
 pub mod Laws
 pub mod Lookup
+pub mod Suffixes
 pub mod Table

@@ -1,7 +1,7 @@
 -- The sequence table, rule by rule: each rule gives pairs of bytes and the key that they spell.
 -- From xterm's control sequences ("PC-Style Function Keys", "VT220-Style Function Keys", modifyOtherKeys), from fixterms
 -- (CSI u) and from rxvt's keys ($, ^ and @ at the end). The table is the set of these pairs, whatever their order.
-use Rattle.std.specs.Prelude.{ℕ, zero, suc, ◌+◌, List, [], ◌∷◌, ◌++◌, map, flat_map, codes, decimal, if◌then◌else◌, ◌==◌, ◌||◌}
+use Rattle.std.specs.Prelude.{ℕ, zero, suc, ◌+◌, Bool, not, List, [], ◌∷◌, ◌++◌, map, filter, flat_map, codes, decimal, if◌then◌else◌, ◌==◌, ◌||◌}
 use Rattle.termwiz_input.specs.declared.types.KeyCode.{KeyCode}
 use Rattle.termwiz_input.specs.declared.types.KeyCode.TheVariants.{Char, Backspace, Tab, Enter, Escape, PageUp, PageDown, End, Home, LeftArrow, RightArrow, UpArrow, DownArrow, Insert, Delete, Function, ApplicationLeftArrow, ApplicationRightArrow, ApplicationUpArrow, ApplicationDownArrow, InternalPasteStart, InternalPasteEnd}
 use Rattle.termwiz_input.specs.declared.types.KeyEvent.{KeyEvent}
@@ -15,17 +15,13 @@ abbrev pub TableRow : Type 0
 TableRow = List ℕ × KeyEvent
 
 -- count numbers from first on
-abbrev pub numbers : ℕ → ℕ → List ℕ
+unfoldable pub numbers : ℕ → ℕ → List ℕ
 numbers first zero = []
 numbers first (suc count) = first ∷ numbers (suc first) count
 
 -- a suffix with the modifiers that it tells
 abbrev pub Suffix : Type 0
 Suffix = List ℕ × ℕ
-
--- the empty suffix
-abbrev pub none : List Suffix
-none = ([], NONE) ∷ []
 
 -- the suffixes that aren't empty, up to ;8
 abbrev pub to_eight : List Suffix
@@ -39,17 +35,25 @@ nine_up =
     (codes ";9", ALT) ∷ (codes ";10", ALT + SHIFT) ∷ (codes ";11", ALT) ∷ (codes ";12", ALT + SHIFT)
     ∷ (codes ";13", ALT + CTRL) ∷ (codes ";14", ALT + CTRL + SHIFT) ∷ (codes ";15", ALT + CTRL) ∷ (codes ";16", ALT + CTRL + SHIFT) ∷ []
 
--- the nine suffixes, and the seventeen
+-- the empty suffix and these
 abbrev pub nine : List Suffix
-nine = none ++ to_eight
+nine = ([], NONE) ∷ to_eight
 
+-- all of them
 abbrev pub seventeen : List Suffix
 seventeen = nine ++ nine_up
 
--- a key for each text of a list, before the suffix and after it
-abbrev pub with_suffixes : List ℕ → List Suffix → List (List ℕ × KeyCode) → List TableRow
-with_suffixes front suffixes keys =
-    flat_map (λ k. map (λ s. (front ++ s.0 ++ k.0, key_with k.1 s.1)) suffixes) keys
+-- one key with each suffix, between a front and an end
+abbrev pub suffixed : List ℕ → List Suffix → List ℕ → KeyCode → List TableRow
+suffixed front suffixes end key = map (λ s. (front ++ s.0 ++ end, key_with key s.1)) suffixes
+
+-- each key of a list with each suffix, where the key's own text is the end
+abbrev pub each_suffixed : List ℕ → List Suffix → List (List ℕ × KeyCode) → List TableRow
+each_suffixed front suffixes keys = flat_map (λ k. suffixed front suffixes k.0 k.1) keys
+
+-- each key of a list with these modifiers, behind a front
+abbrev pub each_with : List ℕ → List (List ℕ × KeyCode) → ℕ → List TableRow
+each_with front keys bits = map (λ k. (front ++ k.0, key_with k.1 bits)) keys
 
 -- the cursor keys, by their letters
 abbrev pub arrows_and_ends : List (List ℕ × KeyCode)
@@ -81,9 +85,17 @@ function_codes =
 abbrev pub named : ℕ → KeyCode
 named c = if (c == 8) || (c == 127) then Backspace else (if c == 27 then Escape else (if c == 9 then Tab else (if (c == 10) || (c == 13) then Enter else Char c)))
 
+-- a byte that stands for no key of its own: not 8, 9, 10 or 13
+abbrev pub is_letter : ℕ → Bool
+is_letter b = not ((b == 8) || (b == 9) || (b == 10) || (b == 13))
+
+-- Ctrl and the letter at this place in the alphabet
+abbrev pub control_letter : ℕ → TableRow
+control_letter b = (b ∷ [], key_with (Char (96 + b)) CTRL)
+
 -- the bytes 1 to 26 but 8, 9, 10 and 13: Ctrl and the letter at that place in the alphabet
 unfoldable pub control_letters_rows : List TableRow
-control_letters_rows = map (λ b. (b ∷ [], key_with (Char (96 + b)) CTRL)) (numbers 1 7 ++ numbers 11 2 ++ numbers 14 13)
+control_letters_rows = map control_letter (filter is_letter (numbers 1 26))
 
 -- 8 and 0x7f: Backspace
 unfoldable pub backspace_bytes_rows : List TableRow
@@ -101,9 +113,13 @@ enter_bytes_rows = (10 ∷ [], key_with Enter NONE) ∷ (13 ∷ [], key_with Ent
 unfoldable pub escape_byte_rows : List TableRow
 escape_byte_rows = (ESC, escape) ∷ []
 
+-- ESC and a letter: that letter with Alt
+abbrev pub alt_letter : ℕ → TableRow
+alt_letter c = (ESC ++ c ∷ [], key_with (Char c) ALT)
+
 -- ESC and an upper case letter: that letter with Alt
 unfoldable pub alt_letters_rows : List TableRow
-alt_letters_rows = map (λ c. (ESC ++ c ∷ [], key_with (Char c) ALT)) (numbers 65 26)
+alt_letters_rows = map alt_letter (numbers 65 26)
 
 -- ESC [: the bracket with Alt
 unfoldable pub alt_bracket_rows : List TableRow
@@ -113,63 +129,77 @@ alt_bracket_rows = (CSI, key_with (Char 91) ALT) ∷ []
 unfoldable pub shift_tab_rows : List TableRow
 shift_tab_rows = (CSI ++ codes "Z", key_with Tab SHIFT) ∷ []
 
--- ESC [ c s u, c from 0 to 127 in decimal: the character c, with the modifiers of the suffix s
-unfoldable pub csi_u_rows : List TableRow
-csi_u_rows = flat_map (λ c. map (λ s. (CSI ++ decimal c ++ s.0 ++ codes "u", key_with (Char c) s.1)) nine) (numbers 0 128)
+-- ESC [ c s u, c in decimal: the character c, with the modifiers of the suffix s
+abbrev pub csi_u_of : ℕ → List TableRow
+csi_u_of c = suffixed (CSI ++ decimal c) nine (codes "u") (Char c)
 
--- ESC [27 s ; c ~, c from 0 to 127 in decimal and s not empty: the key of c, with the modifiers of s
+-- the same for c from 0 to 127
+unfoldable pub csi_u_rows : List TableRow
+csi_u_rows = flat_map csi_u_of (numbers 0 128)
+
+-- ESC [27 s ; c ~, c in decimal and s not empty: the key of c, with the modifiers of s
+abbrev pub modify_other_keys_of : ℕ → List TableRow
+modify_other_keys_of c = suffixed (CSI ++ codes "27") to_eight (codes ";" ++ decimal c ++ codes "~") (named c)
+
+-- the same for c from 0 to 127
 unfoldable pub modify_other_keys_rows : List TableRow
-modify_other_keys_rows = flat_map (λ c. map (λ s. (CSI ++ codes "27" ++ s.0 ++ codes ";" ++ decimal c ++ codes "~", key_with (named c) s.1)) to_eight) (numbers 0 128)
+modify_other_keys_rows = flat_map modify_other_keys_of (numbers 0 128)
 
 -- ESC [ and a letter: a cursor key
 unfoldable pub cursor_keys_rows : List TableRow
-cursor_keys_rows = with_suffixes CSI none arrows_and_ends
+cursor_keys_rows = each_with CSI arrows_and_ends NONE
 
 -- ESC [1 s and a letter: a cursor key, with the modifiers of s
 unfoldable pub modified_cursor_keys_rows : List TableRow
-modified_cursor_keys_rows = with_suffixes (CSI ++ codes "1") seventeen arrows_and_ends
+modified_cursor_keys_rows = each_suffixed (CSI ++ codes "1") seventeen arrows_and_ends
 
 -- ESC [ and a lower case letter: an arrow with Shift
 unfoldable pub shift_arrows_rows : List TableRow
-shift_arrows_rows = map (λ k. (CSI ++ k.0, key_with k.1 SHIFT)) small_arrows
+shift_arrows_rows = each_with CSI small_arrows SHIFT
 
 -- ESC O and a lower case letter: an arrow with Ctrl
 unfoldable pub ctrl_arrows_rows : List TableRow
-ctrl_arrows_rows = map (λ k. (SS3 ++ k.0, key_with k.1 CTRL)) small_arrows
+ctrl_arrows_rows = each_with SS3 small_arrows CTRL
 
 -- ESC O and a letter: an arrow in application cursor mode
 unfoldable pub application_arrows_rows : List TableRow
-application_arrows_rows = with_suffixes SS3 none application_arrows
+application_arrows_rows = each_with SS3 application_arrows NONE
 
 -- ESC O1 s and a letter: such an arrow, with the modifiers of s
 unfoldable pub modified_application_arrows_rows : List TableRow
-modified_application_arrows_rows = with_suffixes (SS3 ++ codes "1") nine application_arrows
+modified_application_arrows_rows = each_suffixed (SS3 ++ codes "1") nine application_arrows
 
 -- ESC O and P to S: F1 to F4
 unfoldable pub ss3_function_keys_rows : List TableRow
-ss3_function_keys_rows = with_suffixes SS3 none first_functions
+ss3_function_keys_rows = each_with SS3 first_functions NONE
 
 -- ESC [1 s and P to S: F1 to F4, with the modifiers of s
 unfoldable pub lettered_function_keys_rows : List TableRow
-lettered_function_keys_rows = with_suffixes (CSI ++ codes "1") seventeen first_functions
+lettered_function_keys_rows = each_suffixed (CSI ++ codes "1") seventeen first_functions
 
--- ESC [ code s ~: F1 to F20 by their codes, with the modifiers of s
+-- ESC [ code s ~: a function key by its code and its number, with the modifiers of s
+abbrev pub function_key_of : ℕ × ℕ → List TableRow
+function_key_of f = suffixed (CSI ++ decimal f.0) seventeen (codes "~") (Function f.1)
+
+-- the same for F1 to F20
 unfoldable pub numbered_function_keys_rows : List TableRow
-numbered_function_keys_rows = flat_map (λ f. with_suffixes (CSI ++ decimal f.0) seventeen ((codes "~", Function f.1) ∷ [])) function_codes
+numbered_function_keys_rows = flat_map function_key_of function_codes
 
 -- the editing block, by its digits
-abbrev pub digit_keys : List (List ℕ × KeyCode)
-digit_keys =
-    (codes "2", Insert) ∷ (codes "3", Delete) ∷ (codes "1", Home) ∷ (codes "7", Home)
-    ∷ (codes "4", End) ∷ (codes "8", End) ∷ (codes "5", PageUp) ∷ (codes "6", PageDown) ∷ []
+abbrev pub digit_keys : List (ℕ × KeyCode)
+digit_keys = (2, Insert) ∷ (3, Delete) ∷ (1, Home) ∷ (7, Home) ∷ (4, End) ∷ (8, End) ∷ (5, PageUp) ∷ (6, PageDown) ∷ []
 
 -- the ends, by the modifiers that they tell
 abbrev pub digit_ends : List Suffix
 digit_ends = (codes "~", NONE) ∷ (codes "$", SHIFT) ∷ (codes "^", CTRL) ∷ (codes "@", SHIFT + CTRL) ∷ []
 
--- ESC [ digit end: a key of the editing block by its digit, with the modifiers of the end
+-- ESC [ digit end: a key by its digit, with the modifiers of the end
+abbrev pub edit_key_of : ℕ × KeyCode → List TableRow
+edit_key_of d = suffixed (CSI ++ decimal d.0) digit_ends [] d.1
+
+-- the same for the editing block
 unfoldable pub edit_keys_rows : List TableRow
-edit_keys_rows = flat_map (λ d. map (λ e. (CSI ++ d.0 ++ e.0, key_with d.1 e.1)) digit_ends) digit_keys
+edit_keys_rows = flat_map edit_key_of digit_keys
 
 -- START
 unfoldable pub paste_start_rows : List TableRow

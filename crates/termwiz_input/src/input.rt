@@ -1,5 +1,6 @@
 // The parser: bytes of a terminal to events.
-ghost use Rattle.std.specs.Prelude.{◌≡◌, ◌≢◌, ◌++◌, ◌+◌, ◌≤◌, [], length, drop, true, false, OnErr, IfOk, IfErr, IfSome, IfNone, IsTrue, ◌↔◌};
+ghost use Rattle.std.specs.Prelude.{◌≡◌, ◌≢◌, ◌++◌, ◌+◌, ◌≤◌, ℕ, List, [], length, drop, Contains, Some, true, false, OnErr, IfOk, IfErr, IfSome, IfNone, IsTrue, ◌↔◌};
+ghost use Rattle.termwiz_input.specs.declared.types.KeyEvent.{KeyEvent};
 ghost use Rattle.termwiz_input.specs.Bytes.{Begins, START};
 ghost use Rattle.termwiz_input.specs.Grammar.{HasItem, IsRest, Steps, Means};
 ghost use Rattle.termwiz_input.specs.Fronts.{StandsTo};
@@ -8,6 +9,7 @@ use crate::bytes::begins_with;
 use crate::item::{PASTE_START, item_at, paste_at};
 use crate::keymap::KeyMap;
 use crate::readbuf::ReadBuffer;
+use crate::rules::add_rows;
 use std::alloc::{AllocError, Global};
 use std::marker::Model;
 
@@ -49,6 +51,25 @@ impl Model for InputParser {
 }
 
 impl InputParser {
+    ghost use Rattle.std.specs.FinMap as map;
+    ghost use Rattle.termwiz_input.specs.Table.{rows, table};
+
+    /// A parser with exactly the sequence table, and with an empty waiting text. The table is the same in every later
+    /// state, by the invariant of the type.
+    #[tactic(auto, unfolding(crate::specs::Table::table))]
+    pub fn new(alloc: Global) -> Result<InputParser, AllocError>
+        ensures empty { IfOk result (λ parser. parser ≡ []) }
+        ensures exactly { (text : List ℕ) (key : KeyEvent) → (map.get table text ≡ Some key) ↔ Contains rows (text, key) }
+    {
+        let mut key_map = KeyMap::new(alloc);
+        add_rows(&mut key_map, alloc)?;
+        Ok(InputParser {
+            key_map,
+            buffer: ReadBuffer::new(alloc),
+            alloc,
+        })
+    }
+
     /// The length of the waiting text.
     pub fn waiting_len(&self) -> usize
         ensures { result ≡ length self.now }

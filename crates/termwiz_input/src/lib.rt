@@ -8,4 +8,5 @@ mod item;
 pub mod keymap;
 pub mod laws;
 pub mod readbuf;
+mod rules;
 pub mod types;

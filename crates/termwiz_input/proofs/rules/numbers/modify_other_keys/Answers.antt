@@ -1,0 +1,13 @@
+use Rattle.std.proofs.Common.{ap, sym}
+use Rattle.std.specs.Prelude.{flat_map}
+use Rattle.termwiz_input.specs.Table.{with_rows, modify_other_keys_of}
+use Rattle.termwiz_input.proofs.Rows.{rows_pushed, numbers_none, numbers_below}
+use Rattle.termwiz_input.proofs.rules.numbers.modify_other_keys.Goals as goal
+
+pub loop-code-init : goal.loop-code-init
+loop-code-init c = ap (λ xs. with_rows c.args.keys.now (flat_map modify_other_keys_of xs)) (sym (numbers_none 0))
+
+pub loop-code-preserved : goal.loop-code-preserved
+loop-code-preserved c =
+    rows_pushed _ _ _ modify_other_keys_of _ _ _ (numbers_below c.loop-code.code-counter) c.loop-code.invariant
+    (rw (c.as_str.ensures.value, c.in_ok-end.ensures.ok, c.named_key-key.ensures) at c.in_ok-insert_suffixed.ensures)

@@ -1,0 +1,18 @@
+-- The lists of the rules as the table has them.
+use Rattle.std.specs.Prelude.{ℕ, List, map, fold, bit_or}
+use denote.Ref.{Bor}
+use Rattle.termwiz_base.specs.declared.modifiers.Modifiers.{Modifiers}
+use Rattle.termwiz_input.specs.declared.types.KeyCode.{KeyCode}
+use Rattle.termwiz_input.specs.Table.{Suffix}
+
+-- modifiers that are held together
+abbrev pub held_together : List Modifiers → Modifiers
+held_together modifiers = fold (λ held m. record { 0 = bit_or held.0 m.0 }) (record { 0 = 0 }) modifiers
+
+-- suffixes, each with the bits of its modifiers
+abbrev pub told : List (Bor (List ℕ) × Bor (List Modifiers)) → List Suffix
+told suffixes = map (λ s. (s.0.now, (held_together s.1.now).0)) suffixes
+
+-- keys, each with its text
+abbrev pub spelled : List (Bor (List ℕ) × KeyCode) → List (List ℕ × KeyCode)
+spelled keys = map (λ k. (k.0.now, k.1)) keys

@@ -1,0 +1,58 @@
+// The rules of the sequence table, each of which puts its rows into a key map. The sequences are those of xterm
+// ("PC-Style Function Keys", "VT220-Style Function Keys" and modifyOtherKeys in its "Control Sequences"), of fixterms
+// (CSI u) and of rxvt (`$`, `^` and `@` at the end).
+ghost use Rattle.std.specs.Prelude.{◌≡◌, OnOk};
+ghost use Rattle.termwiz_input.specs.Table.{rows, with_rows};
+
+mod cursor;
+mod function;
+mod insert;
+mod lists;
+mod numbers;
+mod single;
+
+use crate::keymap::KeyMap;
+use crate::types::KeyEvent;
+use cursor::{
+    application_arrows, ctrl_arrows, cursor_keys, modified_application_arrows,
+    modified_cursor_keys, shift_arrows,
+};
+use function::{edit_keys, lettered_function_keys, numbered_function_keys, ss3_function_keys};
+use numbers::{csi_u, modify_other_keys};
+use single::{
+    alt_bracket, alt_letters, backspace_bytes, control_letters, enter_bytes, escape_byte,
+    paste_end, paste_start, shift_tab, tab_byte,
+};
+use std::alloc::{AllocError, Global};
+
+// All rows, rule by rule.
+#[tactic(auto, using(crate::proofs::Rows::joined_rows), unfolding(crate::specs::Table::rows))]
+pub(crate) fn add_rows(keys: &mut KeyMap<KeyEvent>, alloc: Global) -> Result<(), AllocError>
+    ensures { OnOk result (keys.new ≡ with_rows keys.old rows) }
+{
+    control_letters(keys)?;
+    backspace_bytes(keys)?;
+    tab_byte(keys)?;
+    enter_bytes(keys)?;
+    escape_byte(keys)?;
+    alt_letters(keys)?;
+    alt_bracket(keys)?;
+    shift_tab(keys)?;
+    csi_u(keys, alloc)?;
+    modify_other_keys(keys, alloc)?;
+    cursor_keys(keys, alloc)?;
+    modified_cursor_keys(keys, alloc)?;
+    shift_arrows(keys, alloc)?;
+    ctrl_arrows(keys, alloc)?;
+    application_arrows(keys, alloc)?;
+    modified_application_arrows(keys, alloc)?;
+    ss3_function_keys(keys, alloc)?;
+    lettered_function_keys(keys, alloc)?;
+    numbered_function_keys(keys, alloc)?;
+    edit_keys(keys, alloc)?;
+    paste_start(keys)?;
+    paste_end(keys)
+}
+
+#[cfg(test)]
+mod tests;
