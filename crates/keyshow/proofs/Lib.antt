@@ -1,0 +1,4 @@
+pub mod FlagNames
+pub mod Numerals
+pub mod Printed
+pub mod Written

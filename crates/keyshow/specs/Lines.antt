@@ -1,0 +1,63 @@
+-- The lines that events are printed as.
+use Rattle.std.specs.Prelude.{ℕ, List, [], ◌∷◌, ◌++◌, ◌/◌, ◌%◌, false, length, codes, nat_lt, if◌then◌else◌}
+use Rattle.std.specs.List.{flat_map}
+use Rattle.std.specs.Fmt.{decimal, digit_glyph}
+use Rattle.termwiz_base.specs.declared.modifiers.Modifiers.{Modifiers}
+use Rattle.termwiz_input.specs.declared.types.MouseButtons.{MouseButtons}
+use Rattle.termwiz_input.specs.declared.types.InputEvent.{InputEvent}
+use Rattle.termwiz_input.specs.declared.types.InputEvent.TheVariants.{Key, Mouse, PixelMouse, Resized, Paste, Wake}
+use Rattle.keyshow.specs.Names.{key_name, joined, names_held, modifier_flags, button_flags}
+
+-- a line feed
+abbrev pub LINE_END : List ℕ
+LINE_END = 10 ∷ []
+
+-- a space
+abbrev pub SPACE : List ℕ
+SPACE = 32 ∷ []
+
+-- the names of the modifiers that are held
+abbrev pub modifiers_text : Modifiers → List ℕ
+modifiers_text modifiers = joined (names_held modifier_flags modifiers.0)
+
+-- the names of the mouse buttons that are down
+abbrev pub buttons_text : MouseButtons → List ℕ
+buttons_text buttons = joined (names_held button_flags buttons.0)
+
+-- the place of the mouse, the buttons and the modifiers
+abbrev pub mouse_text : ℕ → ℕ → MouseButtons → Modifiers → List ℕ
+mouse_text x y buttons modifiers =
+    decimal x ++ SPACE ++ decimal y ++ SPACE ++ buttons_text buttons ++ SPACE ++ modifiers_text modifiers
+
+-- the two lowercase hexadecimal digits of a byte
+abbrev pub hex_digits : ℕ → List ℕ
+hex_digits byte = digit_glyph false (byte / 16) ∷ digit_glyph false (byte % 16) ∷ []
+
+-- the hexadecimal digits of the bytes of a text
+abbrev pub hexadecimal : List ℕ → List ℕ
+hexadecimal text = flat_map hex_digits text
+
+-- what the line of an event says
+abbrev pub told : InputEvent → List ℕ
+told (Key event) = codes "key " ++ key_name event.key ++ SPACE ++ modifiers_text event.modifiers
+told (Mouse event) = codes "mouse " ++ mouse_text event.x event.y event.mouse_buttons event.modifiers
+told (PixelMouse event) = codes "pixelmouse " ++ mouse_text event.x_pixels event.y_pixels event.mouse_buttons event.modifiers
+told (Resized cols rows) = codes "resized " ++ decimal cols ++ SPACE ++ decimal rows
+told (Paste text) = codes "paste " ++ decimal (length text) ++ codes ":" ++ hexadecimal text
+told Wake = codes "wake"
+
+-- the line of an event
+unfoldable pub line : InputEvent → List ℕ
+line event = told event ++ LINE_END
+
+-- the lines of events, in their order
+abbrev pub lines : List InputEvent → List ℕ
+lines events = flat_map line events
+
+-- the line that tells how many bytes wait, where some do
+abbrev pub waiting_line : ℕ → List ℕ
+waiting_line count = if nat_lt 0 count then codes "waiting " ++ decimal count ++ LINE_END else []
+
+-- the lines of events, and then of what waits
+abbrev pub all_lines : List InputEvent → List ℕ → List ℕ
+all_lines events waiting = lines events ++ waiting_line (length waiting)

@@ -1,0 +1,130 @@
+// Reads bytes in pieces, and writes the lines of their events.
+
+ghost use Rattle.std.specs.Prelude.{◌≡◌, ◌≤◌, ◌<◌, ◌++◌, List, [], ℕ, true, false, length, OnOk, OnErr, IfOk};
+ghost use Rattle.std.specs.Io.KnownBytes.{Appends, Consumes, Keeps, IsAtEnd};
+ghost use Rattle.termwiz_input.specs.Bytes.{Begins};
+ghost use Rattle.termwiz_input.specs.Grammar.{Means};
+ghost use Rattle.termwiz_input.specs.declared.types.InputEvent.{InputEvent as Event};
+ghost use Rattle.keyshow.specs.Lines.{lines, all_lines};
+ghost use Rattle.keyshow.specs.Pieces.{ReadsToEnd, join};
+
+use crate::lines::{push_lines, push_waiting};
+use std::alloc::Global;
+use std::io::{Read, Write};
+use termwiz_input::input::InputParser;
+use thiserror::Error;
+
+/// Why a run ended early.
+#[derive(Clone, Copy, PartialEq, Eq, Debug, Error)]
+pub enum RunError {
+    /// A read failed, or 2^64 - 1 reads came without the end.
+    #[error("read failed")]
+    Read,
+    /// A write failed or took no byte, or the writer could not be flushed.
+    #[error("write failed")]
+    Write,
+    /// Memory was refused.
+    #[error("out of memory")]
+    Memory,
+}
+
+/// Reads all that the reader gives, at most `piece` bytes at a time, and writes the lines of its events. Each
+/// piece's lines are written before the next read. At the end of input the lines of what is left are written, with
+/// a last one for what still waits, and the writer is flushed once. Any error of a read or a write ends the run.
+/// After an error of a read nothing more is written, and nothing is flushed.
+pub fn run<R: Read, W: Write>(
+    alloc: Global,
+    reader: &mut R,
+    writer: &mut W,
+    piece: usize,
+) -> Result<(), RunError>
+    requires { (1 ≤ piece) × (piece ≤ 4096) }
+    ensures ok { OnOk result ((pieces : List (List ℕ)) × (events : List Event) × (waiting : List ℕ)
+        × ReadsToEnd pieces events waiting
+        × Consumes (R.remaining reader.old) (R.remaining reader.new) (join pieces)
+        × IsAtEnd (R.remaining reader.new)
+        × Appends (W.contents writer.old) (W.contents writer.new) (all_lines events waiting)) }
+{
+    let mut parser = InputParser::new(alloc).map_err(|_| RunError::Memory)?;
+    let mut buffer = [0u8; 4096];
+    for _ in 0..u64::MAX {
+        let more = turn(alloc, &mut parser, reader, writer, &mut buffer[..piece])?;
+        if !more {
+            return finish(alloc, &mut parser, writer);
+        }
+    }
+    Err(RunError::Read)
+}
+
+// Reads one piece, and writes the lines of the events that it decides. At the end of input it answers `false`.
+fn turn<R: Read, W: Write>(
+    alloc: Global,
+    parser: &mut InputParser,
+    reader: &mut R,
+    writer: &mut W,
+    buffer: &mut [u8],
+) -> Result<bool, RunError>
+    requires { 0 < length buffer.old }
+    ensures more { IfOk result (λ more. more ≡ true → (bytes : List ℕ) × (events : List Event)
+        × Consumes (R.remaining reader.old) (R.remaining reader.new) bytes
+        × Means (parser.old ++ bytes) true events parser.new
+        × Appends (W.contents writer.old) (W.contents writer.new) (lines events)) }
+    ensures end { IfOk result (λ more. more ≡ false → IsAtEnd (R.remaining reader.new)
+        × Keeps (R.remaining reader.old) (R.remaining reader.new)
+        × (parser.new ≡ parser.old) × (writer.new ≡ writer.old)) }
+{
+    let count = reader.read(buffer).map_err(|_| RunError::Read)?;
+    if count == 0 {
+        return Ok(false);
+    }
+    let text = decoded(alloc, parser, &buffer[..count], true)?;
+    put(writer, text.as_slice())?;
+    Ok(true)
+}
+
+// Writes the lines of what is left where no more comes, and of what waits even then.
+fn finish<W: Write>(alloc: Global, parser: &mut InputParser, writer: &mut W) -> Result<(), RunError>
+    ensures ok { OnOk result ((events : List Event) × Means parser.old false events parser.new
+        × Appends (W.contents writer.old) (W.contents writer.new) (all_lines events parser.new)) }
+{
+    let mut text = decoded(alloc, parser, &[], false)?;
+    push_waiting(&mut text, parser.waiting_len()).map_err(|_| RunError::Memory)?;
+    put(writer, text.as_slice())?;
+    writer.flush().map_err(|_| RunError::Write)
+}
+
+// Gives the bytes to the parser, and answers the lines of the events.
+fn decoded(
+    alloc: Global,
+    parser: &mut InputParser,
+    bytes: &[u8],
+    maybe_more: bool,
+) -> Result<Vec<u8>, RunError>
+    ensures { IfOk result (λ text. (events : List Event)
+        × Means (parser.old ++ bytes.now) maybe_more events parser.new
+        × (text.items ≡ lines events)) }
+{
+    let events = parser
+        .parse_as_vec(bytes, maybe_more)
+        .map_err(|_| RunError::Memory)?;
+    let mut text = Vec::new(alloc);
+    push_lines(&mut text, events.as_slice()).map_err(|_| RunError::Memory)?;
+    Ok(text)
+}
+
+// Writes the bytes by as many writes as it takes.
+fn put<W: Write>(writer: &mut W, bytes: &[u8]) -> Result<(), RunError>
+    ensures ok { OnOk result (Appends (W.contents writer.old) (W.contents writer.new) bytes.now) }
+    ensures err { OnErr result ((part : List ℕ) × Begins part bytes.now
+        × Appends (W.contents writer.old) (W.contents writer.new) part) }
+    ensures kind { OnErr result (result ≡ Err RunError.Write) }
+{
+    let mut rest = bytes;
+    while !rest.is_empty() {
+        match writer.write(rest) {
+            Ok(0) | Err(_) => return Err(RunError::Write),
+            Ok(n) => rest = &rest[n..],
+        }
+    }
+    Ok(())
+}

@@ -1,0 +1,315 @@
+// The texts of lines, the words of the program, and runs over readers and writers that fail.
+
+use crate::lines::push_line;
+use crate::pump::{RunError, run};
+use crate::{fault_line, piece_of};
+use bitflags::Flags;
+use std::alloc::{AllocError, Global};
+use std::cell::Cell;
+use std::io;
+use std::io::{Error, ErrorKind, Read, Write};
+use std::test::Fail;
+use termwiz_base::Modifiers;
+use termwiz_input::types::{
+    InputEvent, KeyCode, KeyEvent, MouseButtons, MouseEvent, PastedText, PixelMouseEvent,
+};
+
+fn line_of(alloc: Global, event: &InputEvent) -> Result<Vec<u8>, AllocError> {
+    let mut out = Vec::new(alloc);
+    push_line(&mut out, event)?;
+    Ok(out)
+}
+
+#[test]
+fn lines_of_keys(rt: HostRuntime) -> Result<(), Fail> {
+    let chord = Modifiers::CTRL
+        .union(Modifiers::ALT)
+        .union(Modifiers::SHIFT);
+    let sides = Modifiers::RIGHT_SHIFT.union(Modifiers::LEFT_ALT);
+    let unnamed = Modifiers::from_bits_retain(1 << 15 | 1);
+    let cases = [
+        (KeyCode::UpArrow, Modifiers::NONE, "key UpArrow NONE\n"),
+        (KeyCode::Char('q'), Modifiers::NONE, "key U+0071 NONE\n"),
+        (KeyCode::Char('\u{a}'), Modifiers::CTRL, "key U+000A CTRL\n"),
+        (
+            KeyCode::Char('\u{1f600}'),
+            Modifiers::NONE,
+            "key U+1F600 NONE\n",
+        ),
+        (
+            KeyCode::Char('\u{10ffff}'),
+            Modifiers::SUPER,
+            "key U+10FFFF SUPER\n",
+        ),
+        (KeyCode::Function(12), chord, "key F12 SHIFT+ALT+CTRL\n"),
+        (KeyCode::Function(0), Modifiers::LEADER, "key F0 LEADER\n"),
+        (
+            KeyCode::Numpad0,
+            sides,
+            "key Numpad0 LEFT_ALT+RIGHT_SHIFT\n",
+        ),
+        (
+            KeyCode::InternalPasteEnd,
+            unnamed,
+            "key InternalPasteEnd NONE\n",
+        ),
+    ];
+    for (key, modifiers, wanted) in cases {
+        let event = InputEvent::Key(KeyEvent { key, modifiers });
+        let line = line_of(rt.alloc(), &event)?;
+        assert_eq!(rt; line.as_slice(), wanted.as_bytes(), "{wanted}");
+    }
+    Ok(())
+}
+
+#[test]
+fn lines_of_other_events(rt: HostRuntime) -> Result<(), Fail> {
+    let cases = [
+        (
+            InputEvent::Mouse(MouseEvent {
+                x: 1,
+                y: 2,
+                mouse_buttons: MouseButtons::LEFT,
+                modifiers: Modifiers::NONE,
+            }),
+            "mouse 1 2 LEFT NONE\n",
+        ),
+        (
+            InputEvent::PixelMouse(PixelMouseEvent {
+                x_pixels: 65535,
+                y_pixels: 0,
+                mouse_buttons: MouseButtons::WHEEL_POSITIVE.union(MouseButtons::VERT_WHEEL),
+                modifiers: Modifiers::ALT,
+            }),
+            "pixelmouse 65535 0 VERT_WHEEL+WHEEL_POSITIVE ALT\n",
+        ),
+        (
+            InputEvent::Resized { cols: 80, rows: 24 },
+            "resized 80 24\n",
+        ),
+        (pasted(rt.alloc(), "\u{fffd}a")?, "paste 4:efbfbd61\n"),
+        (pasted(rt.alloc(), "")?, "paste 0:\n"),
+        (InputEvent::Wake, "wake\n"),
+    ];
+    for (event, wanted) in &cases {
+        let line = line_of(rt.alloc(), event)?;
+        assert_eq!(rt; line.as_slice(), wanted.as_bytes(), "{wanted}");
+    }
+    Ok(())
+}
+
+fn pasted(alloc: Global, text: &str) -> Result<InputEvent, AllocError> {
+    let text = String::from_str(alloc, text)?;
+    Ok(InputEvent::Paste(PastedText::new(text)))
+}
+
+#[test]
+fn pieces_of_words(rt: HostRuntime) -> Result<(), Fail> {
+    let cases = [
+        ("", Some(64)),
+        ("1", Some(1)),
+        ("4096", Some(4096)),
+        ("0064", Some(64)),
+        ("0", None),
+        ("0000", None),
+        ("4097", None),
+        ("00001", None),
+        ("x", None),
+        ("6x", None),
+        ("+5", None),
+        ("-5", None),
+        ("\u{664}", None),
+        ("1 2", None),
+        ("x 2 3", None),
+    ];
+    for (line, wanted) in cases {
+        let mut words = Vec::new(rt.alloc());
+        for word in line.split_whitespace() {
+            words.push(String::from_str(rt.alloc(), word)?)?;
+        }
+        assert_eq!(rt; piece_of(words.as_slice()), wanted, "{line}");
+    }
+    let empty = [String::new(rt.alloc())];
+    assert_eq!(rt; piece_of(&empty), None);
+    Ok(())
+}
+
+#[test]
+fn lines_of_faults(rt: HostRuntime) -> Result<(), Fail> {
+    let cases = [
+        (RunError::Read, "read failed"),
+        (RunError::Write, "write failed"),
+        (RunError::Memory, "out of memory"),
+    ];
+    for (fault, wanted) in cases {
+        let message = format!(in rt.alloc(); "{fault}")?;
+        assert_eq!(rt; message.as_str(), wanted);
+        let line = format!(in rt.alloc(); "keyshow: {wanted}")?;
+        assert_eq!(rt; fault_line(&fault), line.as_str());
+    }
+    Ok(())
+}
+
+// Gives its text at most `most` bytes a read, and fails once its reads are used up. It keeps the most bytes that it was
+// asked for, and counts its reads where the writer sees it.
+#[derive(Drop)]
+struct TestReader<'a> {
+    text: &'a [u8],
+    most: usize,
+    reads_left: usize,
+    asked: usize,
+    reads: &'a Cell<usize>,
+}
+
+impl<'a> Read for TestReader<'a> {
+    fn read(&mut self, buf: &mut [u8]) -> io::Result<usize> {
+        self.asked = self.asked.max(buf.len());
+        if self.reads_left == 0 {
+            return Err(Error::from(ErrorKind::BrokenPipe));
+        }
+        self.reads_left -= 1;
+        self.reads.set(self.reads.get().wrapping_add(1));
+        let count = buf.len().min(self.most);
+        self.text.read(&mut buf[..count])
+    }
+}
+
+// Holds what it took, at most `most` bytes a write, and fails once its writes are used up, or its flushes. It notes how
+// many reads came before each write.
+#[derive(Drop)]
+struct TestWriter<'a> {
+    held: Vec<u8>,
+    most: usize,
+    writes_left: usize,
+    flushes_left: usize,
+    reads: &'a Cell<usize>,
+    noted: Vec<usize>,
+}
+
+impl<'a> Write for TestWriter<'a> {
+    fn write(&mut self, buf: &[u8]) -> io::Result<usize> {
+        if self.writes_left == 0 {
+            return Err(Error::from(ErrorKind::BrokenPipe));
+        }
+        self.writes_left -= 1;
+        let count = buf.len().min(self.most);
+        self.held.extend_from_slice(&buf[..count])?;
+        self.noted.push(self.reads.get())?;
+        Ok(count)
+    }
+
+    fn flush(&mut self) -> io::Result<()> {
+        if self.flushes_left == 0 {
+            return Err(Error::from(ErrorKind::BrokenPipe));
+        }
+        self.flushes_left -= 1;
+        Ok(())
+    }
+}
+
+// A reader that gives `most` bytes a read and never fails.
+fn reader<'a>(text: &'a [u8], most: usize, reads: &'a Cell<usize>) -> TestReader<'a> {
+    TestReader {
+        text,
+        most,
+        reads_left: usize::MAX,
+        asked: 0,
+        reads,
+    }
+}
+
+// A writer that takes `most` bytes a write and can be flushed once.
+fn writer<'a>(alloc: Global, most: usize, reads: &'a Cell<usize>) -> TestWriter<'a> {
+    TestWriter {
+        held: Vec::new(alloc),
+        most,
+        writes_left: usize::MAX,
+        flushes_left: 1,
+        reads,
+        noted: Vec::new(alloc),
+    }
+}
+
+const ARROW_AND_Q: &[u8] = b"\x1b[Aq";
+
+const ARROW_AND_Q_LINES: &[u8] = b"key UpArrow NONE\nkey U+0071 NONE\n";
+
+#[test]
+fn runs_to_the_end(rt: HostRuntime) -> Result<(), Fail> {
+    let cases: [(&[u8], &[u8]); 5] = [
+        (b"", b""),
+        (ARROW_AND_Q, ARROW_AND_Q_LINES),
+        (b"\xc3\xa9\x1b", b"key U+00E9 NONE\nkey Escape NONE\n"),
+        (b"\x1b[", b"key U+005B ALT\n"),
+        (b"\x1b[B\xff", b"key DownArrow NONE\nwaiting 1\n"),
+    ];
+    for (text, wanted) in cases {
+        for piece in [1, 2, 64, 4096] {
+            for most in [1, 4096] {
+                let reads = Cell::new(0);
+                let mut source = reader(text, most, &reads);
+                let mut target = writer(rt.alloc(), most, &reads);
+                let result = run(rt.alloc(), &mut source, &mut target, piece);
+                assert_eq!(rt; result, Ok(()));
+                assert_eq!(rt; target.held.as_slice(), wanted, "piece {piece}");
+                assert_eq!(rt; target.flushes_left, 0);
+                assert_eq!(rt; source.asked, piece);
+            }
+        }
+    }
+    Ok(())
+}
+
+#[test]
+fn writes_before_the_next_read(rt: HostRuntime) -> Result<(), Fail> {
+    let reads = Cell::new(0);
+    let mut source = reader(b"abc", 1, &reads);
+    let mut target = writer(rt.alloc(), 4096, &reads);
+    let result = run(rt.alloc(), &mut source, &mut target, 64);
+    assert_eq!(rt; result, Ok(()));
+    assert_eq!(rt; target.noted.as_slice(), [1, 2, 3].as_slice());
+    Ok(())
+}
+
+#[test]
+fn a_read_fails(rt: HostRuntime) -> Result<(), Fail> {
+    let reads = Cell::new(0);
+    let mut source = reader(b"\x1b[Aab", 4096, &reads);
+    source.reads_left = 2;
+    let mut target = writer(rt.alloc(), 4096, &reads);
+    let result = run(rt.alloc(), &mut source, &mut target, 4);
+    assert_eq!(rt; result, Err(RunError::Read));
+    let wanted = b"key UpArrow NONE\nkey U+0061 NONE\nkey U+0062 NONE\n".as_slice();
+    assert_eq!(rt; target.held.as_slice(), wanted);
+    assert_eq!(rt; target.flushes_left, 1);
+    Ok(())
+}
+
+#[test]
+fn a_write_fails(rt: HostRuntime) -> Result<(), Fail> {
+    let whole = ARROW_AND_Q_LINES;
+    for writes in 0..whole.len() {
+        let reads = Cell::new(0);
+        let mut source = reader(ARROW_AND_Q, 4096, &reads);
+        let mut target = writer(rt.alloc(), 1, &reads);
+        target.writes_left = writes;
+        let result = run(rt.alloc(), &mut source, &mut target, 3);
+        assert_eq!(rt; result, Err(RunError::Write), "at {writes}");
+        assert_eq!(rt; target.held.as_slice(), &whole[..writes], "at {writes}");
+        assert_eq!(rt; target.flushes_left, 1);
+    }
+    Ok(())
+}
+
+#[test]
+fn a_writer_takes_nothing_or_has_no_flush(rt: HostRuntime) -> Result<(), Fail> {
+    for (most, flushes) in [(0, 1), (4096, 0)] {
+        let reads = Cell::new(0);
+        let mut source = reader(ARROW_AND_Q, 4096, &reads);
+        let mut target = writer(rt.alloc(), most, &reads);
+        target.flushes_left = flushes;
+        let result = run(rt.alloc(), &mut source, &mut target, 64);
+        assert_eq!(rt; result, Err(RunError::Write));
+    }
+    Ok(())
+}
