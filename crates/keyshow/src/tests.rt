@@ -234,10 +234,16 @@ const ARROW_AND_Q: &[u8] = b"\x1b[Aq";
 
 const ARROW_AND_Q_LINES: &[u8] = b"key UpArrow NONE\nkey U+0071 NONE\n";
 
+// A key after a held Escape, a paste that isn't UTF-8, a mouse report, characters, and a byte that begins none.
+const MIXED: &[u8] = b"\x1b\x1b[A\x1b[200~a\xff\x1b[201~\x1b[<0;1;2M\xc3\xa9\x03\xff";
+
+const MIXED_LINES: &[u8] = b"key UpArrow ALT\npaste 4:61efbfbd\nmouse 1 2 LEFT NONE\nkey U+00E9 NONE\nkey U+0063 CTRL\nwaiting 1\n";
+
 #[test]
 fn runs_to_the_end(rt: HostRuntime) -> Result<(), Fail> {
-    let cases: [(&[u8], &[u8]); 5] = [
+    let cases: [(&[u8], &[u8]); 6] = [
         (b"", b""),
+        (MIXED, MIXED_LINES),
         (ARROW_AND_Q, ARROW_AND_Q_LINES),
         (b"\xc3\xa9\x1b", b"key U+00E9 NONE\nkey Escape NONE\n"),
         (b"\x1b[", b"key U+005B ALT\n"),

@@ -11,10 +11,10 @@ use Rattle.termwiz_input.specs.declared.frame.Field.TheVariants.{Number, Unended
 use Rattle.termwiz_input.specs.Bytes.{Begins}
 use Rattle.termwiz_input.specs.Frame.{IsDigit, IsNumber, value_of, IsFrame, mouse_event}
 use Rattle.termwiz_input.specs.Frames.{IsBegun, TellsFrame, TellsNumber, HasCode, HasColumn}
-use Rattle.termwiz_input.proofs.Lists.{append-some, Overlaps, overlap}
+use Rattle.termwiz_input.proofs.Lists.{append-some, length-some, Overlaps, overlap}
 use Rattle.termwiz_input.proofs.Lists.Overlaps.{within, past}
 use Rattle.termwiz_input.proofs.Numbers.{completes}
-use Rattle.termwiz_input.proofs.FrameFacts.{laid_out, regroup, layout, digits_end, semicolon, final}
+use Rattle.termwiz_input.proofs.FrameFacts.{frame_short, laid_out, regroup, layout, digits_end, semicolon, final}
 
 -- where no frame and the text begin one text, the text has no frame at its front
 absent : (text : List ℕ) → ((word : List ℕ) (event : MouseEvent) (r s : List ℕ) → IsFrame word event → word ++ r ≡ text ++ s → ⊥) → TellsFrame text Absent
@@ -233,3 +233,8 @@ no_introducer text longer shorter = absent text (λ word event r s f e. go word 
     go word event r s f e =
         let t = (f.code ++ 59 ∷ (f.x ++ 59 ∷ (f.y ++ f.last ∷ []))) ++ r in
         split t s (overlap (27 ∷ 91 ∷ 60 ∷ []) t text s (sym e ∙ ap (λ w. w ++ r) (layout word event f)))
+
+-- a proper beginning of a frame has at most twenty bytes
+pub begun_short : (text : List ℕ) → IsBegun text → length text ≤ 20
+begun_short text (tail, event, longer, f) =
+    omega (arith, length-append text tail, length-some tail longer, frame_short (text ++ tail) event f)

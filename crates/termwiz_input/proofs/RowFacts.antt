@@ -1,5 +1,5 @@
 -- What the tests of the table say of each of its rows.
-use Rattle.std.proofs.Common.{◌≡◌, ◌≢◌, ◌⊎◌, inl, inr, ⊎_elim, ℕ, zero, suc, ◌/◌, ◌%◌, ◌<◌, Bool, true, false, not, List, [], ◌∷◌, ◌++◌, length, map, refl, sym, ap, ap₂, ◌∙◌, subst, nat_lt, ◌==◌, ◌&&◌, ◌||◌, arith, lit<, Contains, eq-eqb}
+use Rattle.std.proofs.Common.{◌≡◌, ◌≢◌, ◌⊎◌, inl, inr, ⊎_elim, ℕ, zero, suc, ◌/◌, ◌%◌, ◌<◌, ◌≤◌, Bool, true, false, not, List, [], ◌∷◌, ◌++◌, length, map, refl, sym, ap, ap₂, ◌∙◌, subst, nat_lt, ◌==◌, ◌&&◌, ◌||◌, arith, lit<, Contains, eq-eqb}
 use Rattle.std.specs.List.{list_all, list_any, AllByRecursion}
 use Rattle.std.proofs.lemmas.Bool.Decides.{nat_tests}
 use Rattle.std.proofs.lemmas.Bool.{not-true}
@@ -128,6 +128,26 @@ key_of_text (r ∷ rs) text j k d (suc i, l, e) (suc m, l2, e2) =
 pub row_once : (text : List ℕ) (j k : KeyEvent) → Contains rows (text, j) → Contains rows (text, k) → j ≡ k
 row_once text j k a b = key_of_text rows text j k (differ_from_split 10 (map code rows) rows_differ) a b
 
+-- rows at two places have different bytes
+place_of_text : (rs : List TableRow) (text : List ℕ) (j k : KeyEvent) → all_differ (map code rs) ≡ true → (p : Contains rs (text, j)) (q : Contains rs (text, k)) → p.0 ≡ q.0
+place_of_text [] text j k d (i, l, e) c = absurd (omega arith)
+place_of_text (r ∷ rs) text j k d (zero, l, e) (zero, l2, e2) = refl
+place_of_text (r ∷ rs) text j k d (zero, l, e) (suc i, l2, e2) = absurd (head_differs rs r text j k d e (i, omega arith, e2))
+place_of_text (r ∷ rs) text j k d (suc i, l, e) (zero, l2, e2) = absurd (head_differs rs r text k j d e2 (i, omega arith, e))
+place_of_text (r ∷ rs) text j k d (suc i, l, e) (suc m, l2, e2) =
+    ap suc_of (place_of_text rs text j k (both (not (list_any (λ y. y == mix 1 r.0) (map code rs))) (all_differ (map code rs)) d).1
+    (i, omega arith, e) (m, omega arith, e2))
+  where
+    suc_of : ℕ → ℕ
+    suc_of n = suc n
+
+pub rows_apart : (text : List ℕ) (j k : KeyEvent) (p : Contains rows (text, j)) (q : Contains rows (text, k)) → p.0 ≡ q.0
+rows_apart text j k p q = place_of_text rows text j k (differ_from_split 10 (map code rows) rows_differ) p q
+
+-- each row has at most eleven bytes
+pub row_short : (text : List ℕ) (k : KeyEvent) → Contains rows (text, k) → length text ≤ 11
+row_short text k c = omega (arith, (row_shaped text k c).short)
+
 pub escape_row : Contains rows (ESC, escape)
 unfolding written_out
 escape_row = (27, lit< tt, refl)
@@ -213,6 +233,18 @@ not_inner (x ∷ s) e = cc (e)
 
 pub no_frame_shape : (rest : List ℕ) → has_shape (27 ∷ 91 ∷ 60 ∷ rest) ≡ true → ⊥
 no_frame_shape rest a = not_inner rest a
+
+-- a row of two or more bytes starts with ESC and holds no other: what follows is from 32 to 126
+pub row_escapes : (first second : ℕ) (t : List ℕ) (k : KeyEvent) → Contains rows (first ∷ second ∷ t, k) → (first ≡ 27) × AllByRecursion IsPlain (second ∷ t)
+row_escapes first second t k c = go (bytes_from_test (first ∷ second ∷ t) (row_shaped (first ∷ second ∷ t) k c).sequence)
+  where
+    go : Bytes (first ∷ second ∷ t) → (first ≡ 27) × AllByRecursion IsPlain (second ∷ t)
+    go (one b l e) = absurd (cc (e))
+    go (more s n e p) = (cc (e), subst (AllByRecursion IsPlain) (let same : s ≡ second ∷ t = cc (e) in same) p)
+
+-- no row starts as a frame does
+pub no_row_begins_frame : (rest : List ℕ) (k : KeyEvent) → Contains rows (27 ∷ 91 ∷ 60 ∷ rest, k) → ⊥
+no_row_begins_frame rest k c = no_frame_shape rest (row_shaped (27 ∷ 91 ∷ 60 ∷ rest) k c).shape
 
 esc_begins : BeginsRow ESC
 unfolding written_out
