@@ -8,6 +8,7 @@ use std::alloc::{AllocError, Global};
 use std::cell::Cell;
 use std::io;
 use std::io::{Error, ErrorKind, Read, Write};
+use std::process::Abort;
 use std::test::Fail;
 use termwiz_base::Modifiers;
 use termwiz_input::types::{
@@ -103,6 +104,15 @@ fn pasted(alloc: Global, text: &str) -> Result<InputEvent, AllocError> {
     Ok(InputEvent::Paste(PastedText::new(text)))
 }
 
+// The words of a line, parted by spaces.
+fn words_of(alloc: Global, line: &str) -> Result<Vec<String>, AllocError> {
+    let mut words = Vec::new(alloc);
+    for word in line.split_whitespace() {
+        words.push(String::from_str(alloc, word)?)?;
+    }
+    Ok(words)
+}
+
 #[test]
 fn pieces_of_words(rt: HostRuntime) -> Result<(), Fail> {
     let cases = [
@@ -123,10 +133,7 @@ fn pieces_of_words(rt: HostRuntime) -> Result<(), Fail> {
         ("x 2 3", None),
     ];
     for (line, wanted) in cases {
-        let mut words = Vec::new(rt.alloc());
-        for word in line.split_whitespace() {
-            words.push(String::from_str(rt.alloc(), word)?)?;
-        }
+        let words = words_of(rt.alloc(), line)?;
         assert_eq!(rt; piece_of(words.as_slice()), wanted, "{line}");
     }
     let empty = [String::new(rt.alloc())];
@@ -237,7 +244,30 @@ const ARROW_AND_Q_LINES: &[u8] = b"key UpArrow NONE\nkey U+0071 NONE\n";
 // A key after a held Escape, a paste that isn't UTF-8, a mouse report, characters, and a byte that begins none.
 const MIXED: &[u8] = b"\x1b\x1b[A\x1b[200~a\xff\x1b[201~\x1b[<0;1;2M\xc3\xa9\x03\xff";
 
-const MIXED_LINES: &[u8] = b"key UpArrow ALT\npaste 4:61efbfbd\nmouse 1 2 LEFT NONE\nkey U+00E9 NONE\nkey U+0063 CTRL\nwaiting 1\n";
+const MIXED_LINES: &[u8] =
+    b"key UpArrow ALT\npaste 4:61efbfbd\nmouse 1 2 LEFT NONE\nkey U+00E9 NONE\nkey U+0063 CTRL\nwaiting 1\n";
+
+// Runs over the text in pieces of several sizes, with a reader and a writer that take one byte a call or many.
+fn assert_runs(rt: &impl Abort, alloc: Global, text: &[u8], wanted: &[u8]) {
+    for (piece, most) in [
+        (1, 1),
+        (1, 4096),
+        (2, 1),
+        (2, 4096),
+        (64, 1),
+        (64, 4096),
+        (4096, 4096),
+    ] {
+        let reads = Cell::new(0);
+        let mut source = reader(text, most, &reads);
+        let mut target = writer(alloc, most, &reads);
+        let result = run(alloc, &mut source, &mut target, piece);
+        assert_eq!(rt; result, Ok(()));
+        assert_eq!(rt; target.held.as_slice(), wanted, "piece {piece}");
+        assert_eq!(rt; target.flushes_left, 0);
+        assert_eq!(rt; source.asked, piece);
+    }
+}
 
 #[test]
 fn runs_to_the_end(rt: HostRuntime) -> Result<(), Fail> {
@@ -250,18 +280,7 @@ fn runs_to_the_end(rt: HostRuntime) -> Result<(), Fail> {
         (b"\x1b[B\xff", b"key DownArrow NONE\nwaiting 1\n"),
     ];
     for (text, wanted) in cases {
-        for piece in [1, 2, 64, 4096] {
-            for most in [1, 4096] {
-                let reads = Cell::new(0);
-                let mut source = reader(text, most, &reads);
-                let mut target = writer(rt.alloc(), most, &reads);
-                let result = run(rt.alloc(), &mut source, &mut target, piece);
-                assert_eq!(rt; result, Ok(()));
-                assert_eq!(rt; target.held.as_slice(), wanted, "piece {piece}");
-                assert_eq!(rt; target.flushes_left, 0);
-                assert_eq!(rt; source.asked, piece);
-            }
-        }
+        assert_runs(&rt, rt.alloc(), text, wanted);
     }
     Ok(())
 }

@@ -147,6 +147,17 @@ fn held(code: u16) -> Modifiers
 mod tests {
     use super::*;
 
+    // The report of a button at column 42 and row 12, without modifiers.
+    fn report(button: MouseButton) -> Option<MouseReport> {
+        let report = MouseReport::SGR1006 {
+            x: 42,
+            y: 12,
+            button,
+            modifiers: Modifiers::NONE,
+        };
+        Some(report)
+    }
+
     // The reports of codes without modifiers, as xterm sends them.
     #[test]
     fn tells_buttons(rt: HostRuntime) {
@@ -164,20 +175,16 @@ mod tests {
             (66, MouseButton::Button6Press, MouseButton::Button6Release),
             (67, MouseButton::Button7Press, MouseButton::Button7Release),
         ] {
-            for (last, button) in [(b'M', press), (b'm', release)] {
-                let modifiers = Modifiers::NONE;
-                let want = MouseReport::SGR1006 {
-                    x: 42,
-                    y: 12,
-                    button,
-                    modifiers,
-                };
-                assert_eq!(rt;
-                    sgr_mouse(code, 42, 12, last),
-                    Some(want),
-                    "code {code}, final byte {last}"
-                );
-            }
+            assert_eq!(rt;
+                sgr_mouse(code, 42, 12, b'M'),
+                report(press),
+                "code {code}, M"
+            );
+            assert_eq!(rt;
+                sgr_mouse(code, 42, 12, b'm'),
+                report(release),
+                "code {code}, m"
+            );
         }
     }
 

@@ -5,17 +5,21 @@ ghost use Rattle.termwiz_input.specs.Bytes.{Begins, START};
 ghost use Rattle.termwiz_input.specs.Grammar.{HasItem, IsRest, Steps, Means};
 ghost use Rattle.termwiz_input.specs.Fronts.{StandsTo};
 
+#[cfg(test)]
+mod plain;
+#[cfg(test)]
+mod tests;
+
 use crate::bytes::begins_with;
 use crate::item::{PASTE_START, item_at, paste_at};
 use crate::keymap::KeyMap;
 use crate::readbuf::ReadBuffer;
 use crate::rules::add_rows;
-use std::alloc::{AllocError, Global};
-use std::marker::Model;
-
 pub use crate::types::{
     InputEvent, KeyCode, KeyEvent, MouseButtons, MouseEvent, PastedText, PixelMouseEvent,
 };
+use std::alloc::{AllocError, Global};
+use std::marker::Model;
 pub use termwiz_base::{Flags, Modifiers};
 
 /// A call of [`InputParser::parse_as_vec`] was refused memory. The parser stands exactly after `events`, and may be used

@@ -198,7 +198,11 @@ fn joined_at(
 }
 
 // The item at a text that doesn't begin with the start of a paste: its event and the number of its bytes.
-pub(crate) fn item_at(key_map: &KeyMap<KeyEvent>, text: &[u8], maybe_more: bool) -> Option<(InputEvent, usize)>
+pub(crate) fn item_at(
+    key_map: &KeyMap<KeyEvent>,
+    text: &[u8],
+    maybe_more: bool,
+) -> Option<(InputEvent, usize)>
     requires rows { key_map.now ≡ table }
     requires no_paste { Begins START text.now → ⊥ }
     ensures item { IfSome result (StandsTo text.now maybe_more) }

@@ -136,26 +136,47 @@ impl Numbers {
     }
 }
 
+// Looks ten texts up in both maps.
+fn assert_alike(
+    rt: &impl Abort,
+    alloc: Global,
+    numbers: &mut Numbers,
+    tree: &KeyMap<u32>,
+    plain: &PlainMap<u32>,
+) -> Result<(), AllocError> {
+    for _ in 0..10 {
+        let text = numbers.text(alloc)?;
+        let maybe_more = numbers.below(2) == 0;
+        assert_eq!(rt;
+            tree.lookup(&text, maybe_more),
+            plain.lookup(&text, maybe_more)
+        );
+    }
+    Ok(())
+}
+
+// Puts sixty keys into both maps, and looks texts up after each.
+fn assert_grow_alike(
+    rt: &impl Abort,
+    alloc: Global,
+    numbers: &mut Numbers,
+) -> Result<(), AllocError> {
+    let mut tree = KeyMap::new(alloc);
+    let mut plain = PlainMap::new(alloc);
+    for value in 0u32..60 {
+        let key = numbers.text(alloc)?;
+        tree.insert(&key, value)?;
+        plain.insert(&key, value)?;
+        assert_alike(rt, alloc, numbers, &tree, &plain)?;
+    }
+    Ok(())
+}
+
 #[test]
 fn tree_and_plain_map_agree(rt: HostRuntime) -> Result<(), Fail> {
-    let alloc = rt.alloc();
     let mut numbers = Numbers(1);
     for _ in 0..8 {
-        let mut tree = KeyMap::new(alloc);
-        let mut plain = PlainMap::new(alloc);
-        for value in 0u32..60 {
-            let key = numbers.text(alloc)?;
-            tree.insert(&key, value)?;
-            plain.insert(&key, value)?;
-            for _ in 0..10 {
-                let text = numbers.text(alloc)?;
-                let maybe_more = numbers.below(2) == 0;
-                assert_eq!(rt;
-                    tree.lookup(&text, maybe_more),
-                    plain.lookup(&text, maybe_more)
-                );
-            }
-        }
+        assert_grow_alike(&rt, rt.alloc(), &mut numbers)?;
     }
     Ok(())
 }
