@@ -1,6 +1,5 @@
 -- Keys with the modifiers that are held, and how a key is told without them.
 use Rattle.std.specs.Prelude.{ℕ, bit_or}
-use Rattle.termwiz_base.specs.declared.modifiers.Modifiers.{Modifiers}
 use Rattle.termwiz_input.specs.declared.types.KeyCode.{KeyCode}
 use Rattle.termwiz_input.specs.declared.types.KeyCode.TheVariants.{Char, Escape}
 use Rattle.termwiz_input.specs.declared.types.KeyEvent.{KeyEvent}

@@ -1,5 +1,5 @@
-use Rattle.std.proofs.Common.{◌≡◌, ◌∙◌, ◌-◌, ◌≤◌, ap, sym, map, refl, arith}
-use Rattle.termwiz_input.specs.Table.{with_rows, numbers, alt_letter, alt_letters_rows}
+use Rattle.std.proofs.Common.{◌∙◌, ap, sym, map, refl}
+use Rattle.termwiz_input.specs.Table.{with_rows, alt_letter}
 use Rattle.termwiz_input.proofs.Rows.{row_pushed, numbers_none, numbers_up_to}
 use Rattle.termwiz_input.proofs.rules.single.alt_letters.Goals as goal
 

@@ -1,4 +1,4 @@
-use Rattle.std.proofs.Common.{◌≡◌, ◌∙◌, ◌-◌, ◌≤◌, ap, sym, map, refl, arith}
+use Rattle.std.proofs.Common.{◌∙◌, ◌-◌, ap, sym, map, refl}
 use Rattle.std.specs.Prelude.{filter}
 use Rattle.termwiz_input.specs.Table.{with_rows, numbers, is_letter, control_letter}
 use Rattle.termwiz_input.proofs.Rows.{row_pushed, numbers_none, numbers_up_to, filter_kept, filter_dropped}
