@@ -4,7 +4,7 @@
 # last one of one run).
 set -eu
 cd "$(dirname "$0")/../crates/keyshow"
-rt run > /dev/null 2>&1 < /dev/null || true
+rt run > /dev/null < /dev/null
 program=out/keyshow
 work=$(mktemp -d)
 trap 'rm -rf "$work"' EXIT

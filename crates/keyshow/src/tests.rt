@@ -271,9 +271,10 @@ fn assert_runs(rt: &impl Abort, alloc: Global, text: &[u8], wanted: &[u8]) {
 
 #[test]
 fn runs_to_the_end(rt: HostRuntime) -> Result<(), Fail> {
-    let cases: [(&[u8], &[u8]); 6] = [
+    let cases: [(&[u8], &[u8]); 7] = [
         (b"", b""),
         (MIXED, MIXED_LINES),
+        (b"\x1b[200~\xe2\x82a\x1b[201~", b"paste 4:efbfbd61\n"),
         (ARROW_AND_Q, ARROW_AND_Q_LINES),
         (b"\xc3\xa9\x1b", b"key U+00E9 NONE\nkey Escape NONE\n"),
         (b"\x1b[", b"key U+005B ALT\n"),

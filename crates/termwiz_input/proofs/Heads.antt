@@ -112,25 +112,3 @@ open_or_not (x ∷ u) true = ⊎_elim
     (λ h. inl (record { more_comes = refl; some = λ e. cc; unfinished = h }))
     (λ never. inr (λ h. never h.unfinished))
     (unfinished_or_not (x ∷ u))
-
--- a byte below 128 always begins something
-pub ascii_head : (x : ℕ) (t : List ℕ) → x < 128 → (h : Head) × IsHead (x ∷ t) h
-ascii_head x t small = go (find_up_to (x ∷ t) (length (x ∷ t)) (omega arith))
-  where
-    go : Found (x ∷ t) (length (x ∷ t)) → (h : Head) × IsHead (x ∷ t) h
-    go (found text m known b longest) = (
-      Known text m,
-      record {
-        known = known;
-        begins = b;
-        longest = λ other k is c. longest other k is c (begins_at_most other (x ∷ t) c);
-      },
-    )
-    go (missing none) = (
-      Character x,
-      record {
-        unknown = λ other k is d. none other k is d (begins_at_most other (x ∷ t) d);
-        scalar = low_scalar x (omega arith);
-        begins = (t, ap (λ z. z ++ t) (sym (encode_ascii x small)));
-      },
-    )

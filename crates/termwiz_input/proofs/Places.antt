@@ -42,19 +42,6 @@ found_from hay needle offset k inside found =
       here,
     )
 
--- the empty needle is found at once
-pub empty_found : (hay : List ℕ) (offset : ℕ) (r : Option ℕ) → offset ≤ length hay → FindsNeedle hay [] offset r → r ≡ Some offset
-empty_found hay offset None inside never =
-    absurd (never offset (omega arith) (omega arith) (record { fits = omega arith; reads = λ j l. absurd (omega arith) }))
-empty_found hay offset (Some k) inside found = go (⊎_elim (λ (e : offset ≡ k). e) (λ (l : offset < k). absurd (found.0.before offset (omega arith) l
-    (record { fits = omega arith; reads = λ j l2. absurd (omega arith) }))) (same_or_less offset k found.0.low))
-  where
-    go : offset ≡ k → Some k ≡ Some offset
-    go e = ap (λ x. Some x) (sym e)
-
-    same_or_less : (a b : ℕ) → a ≤ b → (a ≡ b) ⊎ (a < b)
-    same_or_less a b h = grind arith
-
 -- an occurrence that is written out
 occurs_between : (u before needle after : List ℕ) → u ≡ before ++ needle ++ after → OccursAt u needle (length before)
 occurs_between u before needle after e =

@@ -128,7 +128,6 @@ key_of_text (r ∷ rs) text j k d (suc i, l, e) (suc m, l2, e2) =
 pub row_once : (text : List ℕ) (j k : KeyEvent) → Contains rows (text, j) → Contains rows (text, k) → j ≡ k
 row_once text j k a b = key_of_text rows text j k (differ_from_split 10 (map code rows) rows_differ) a b
 
--- rows at two places have different bytes
 place_of_text : (rs : List TableRow) (text : List ℕ) (j k : KeyEvent) → all_differ (map code rs) ≡ true → (p : Contains rs (text, j)) (q : Contains rs (text, k)) → p.0 ≡ q.0
 place_of_text [] text j k d (i, l, e) c = absurd (omega arith)
 place_of_text (r ∷ rs) text j k d (zero, l, e) (zero, l2, e2) = refl
@@ -141,6 +140,7 @@ place_of_text (r ∷ rs) text j k d (suc i, l, e) (suc m, l2, e2) =
     suc_of : ℕ → ℕ
     suc_of n = suc n
 
+-- rows at two places have different bytes
 pub rows_apart : (text : List ℕ) (j k : KeyEvent) (p : Contains rows (text, j)) (q : Contains rows (text, k)) → p.0 ≡ q.0
 rows_apart text j k p q = place_of_text rows text j k (differ_from_split 10 (map code rows) rows_differ) p q
 

@@ -29,7 +29,7 @@ HasNoFront u more = IsOpen u more ⊎ HasNoHead u
 abbrev pub HasNoFrame : List ℕ → Type 0
 HasNoFrame u = (word : List ℕ) (event : MouseEvent) → IsFrame word event → Begins word u → ⊥
 
--- an item with this event stands at the text, and its bytes are the first ones
+-- an item with this event stands at the text, and its bytes are so many first ones
 abbrev pub StandsTo : List ℕ → Bool → InputEvent × ℕ → Type 0
 StandsTo u more item = (item.1 ≤ length u) × Stands u more (take item.1 u) item.0
 

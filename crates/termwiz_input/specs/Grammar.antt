@@ -46,7 +46,7 @@ pub record IsOpen (u : List ℕ) (more : Bool) : Type 0 where
   pub some : u ≢ []
   pub unfinished : IsUnfinished u
 
--- The first byte of u is a lone Escape so far, and v is what follows it: it isn't empty and isn't open.
+-- ESC is the head of u, and v follows it: v isn't empty and isn't open
 pub record IsAfterEscape (u v : List ℕ) (more : Bool) : Type 0 where
   pub escape_head : IsLongest u ESC (Row escape)
   pub splits : u ≡ ESC ++ v

@@ -35,11 +35,11 @@ nine_up =
     (codes ";9", ALT) ∷ (codes ";10", ALT + SHIFT) ∷ (codes ";11", ALT) ∷ (codes ";12", ALT + SHIFT)
     ∷ (codes ";13", ALT + CTRL) ∷ (codes ";14", ALT + CTRL + SHIFT) ∷ (codes ";15", ALT + CTRL) ∷ (codes ";16", ALT + CTRL + SHIFT) ∷ []
 
--- the empty suffix and these
+-- the empty suffix, and those up to ;8
 abbrev pub nine : List Suffix
 nine = ([], NONE) ∷ to_eight
 
--- all of them
+-- all seventeen suffixes
 abbrev pub seventeen : List Suffix
 seventeen = nine ++ nine_up
 

@@ -1,4 +1,4 @@
-// The parser: bytes of a terminal to events.
+//! The parser: bytes of a terminal to events.
 ghost use Rattle.std.specs.Prelude.{◌≡◌, ◌≢◌, ◌++◌, ◌+◌, ◌≤◌, ℕ, List, [], length, drop, Contains, Some, true, false, OnErr, IfOk, IfErr, IfSome, IfNone, IsTrue, ◌↔◌};
 ghost use Rattle.termwiz_input.specs.declared.types.KeyEvent.{KeyEvent};
 ghost use Rattle.termwiz_input.specs.Bytes.{Begins, START};

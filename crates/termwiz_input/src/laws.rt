@@ -1,10 +1,7 @@
-// Laws of the grammar and of the key map, each the contract of a function without effect.
-//
-// They speak of the definitions alone. That the parser obeys the definitions is said by its own contracts.
-ghost use Rattle.std.specs.Prelude.{◌++◌, ℕ, List, Bool, true};
-ghost use Rattle.termwiz_input.specs.Lookup.{Keys, LookupGives};
-ghost use Rattle.termwiz_input.specs.declared.keymap.Found.TheVariants.{Exact};
-ghost use Rattle.termwiz_input.specs.Laws.{CutIndependent, OneMeaning, Resumes, ThreeBeginnings, WaitingShape};
+//! Laws of the grammar and of the key map, each the contract of a function without effect.
+//!
+//! They speak of the definitions alone. That the parser obeys the definitions is said by its own contracts.
+ghost use Rattle.termwiz_input.specs.Laws.{CutIndependent, ExactStays, OneMeaning, Resumes, ThreeBeginnings, WaitingShape};
 
 /// Each text means, under each flag, exactly one list of events and one rest.
 pub fn one_meaning()
@@ -22,13 +19,15 @@ pub fn cut_independent()
     ensures { CutIndependent }
 {}
 
-/// Going on from any place between two items gives the events of the whole.
+/// Going on gives the events of the whole: from any place between two items, with more bytes under either flag, or with none
+/// under the same flag.
 pub fn resumes()
     ensures { Resumes }
 {}
 
-/// What waits is nothing, an open paste, bytes that begin no character after at most one held Escape, or at most twenty
-/// bytes that properly begin a known text after at most one held Escape.
+/// What waits is nothing, an open paste, a broken character, or undecided bytes. A broken character is bytes, at whose front
+/// neither a known text nor a whole character stands, after at most one held Escape. Undecided are at most twenty bytes that
+/// properly begin a known text, after at most one held Escape, and only where more may come.
 pub fn waiting_shape()
     ensures { WaitingShape }
 {}
@@ -36,5 +35,5 @@ pub fn waiting_shape()
 /// Where a lookup answers `Exact` although more may come, each longer text that begins with that text has the same answer,
 /// under either flag: for every map, of every type of value.
 pub fn exact_stays<V>()
-    ensures { (m : Keys V) (t s : List ℕ) (n : ℕ) (v : V) (more : Bool) → LookupGives m t true (Exact n v) → LookupGives m (t ++ s) more (Exact n v) }
+    ensures { ExactStays V }
 {}

@@ -1,4 +1,4 @@
-//! Bytes of a terminal, read as keys.
+//! Bytes of a terminal, read as key, mouse and paste events.
 #![tactic(auto)]
 
 mod bytes;

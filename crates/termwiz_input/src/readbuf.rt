@@ -1,4 +1,4 @@
-// The bytes that came and were not used yet.
+//! The bytes that came and were not used yet.
 ghost use Rattle.std.specs.Prelude.{◌≡◌, ◌≤◌, ◌++◌, ◌==◌, [], length, drop, OnOk, OnErr, IsOk, Some};
 ghost use Rattle.memchr.specs.Find.{FindsNeedle};
 

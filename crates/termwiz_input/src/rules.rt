@@ -53,6 +53,3 @@ pub(crate) fn add_rows(keys: &mut KeyMap<KeyEvent>, alloc: Global) -> Result<(),
     paste_start(keys)?;
     paste_end(keys)
 }
-
-#[cfg(test)]
-mod tests;

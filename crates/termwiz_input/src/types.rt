@@ -1,4 +1,4 @@
-// Keys, mouse reports and pastes: the events that input is read as.
+//! Keys, mouse reports and pastes: the events that input is read as.
 ghost use Rattle.std.specs.Prelude.{⊤, ◌≡◌, ◌==◌, [], ◌∷◌, codes, IfOk, IsOk, string_bytes};
 ghost use Rattle.std.specs.Cmp.Rules.{comparing};
 ghost use Rattle.std.specs.Cmp.Lexicographic.{pointwise};
@@ -14,6 +14,7 @@ mod flag_calls;
 /// A key, by what is on it.
 #[derive(Clone, Copy, PartialEq, Eq, Hash, Debug)]
 pub enum KeyCode {
+    /// A character: what it types, or with CTRL the letter on the key.
     Char(char),
     Hyper,
     Super,
@@ -73,6 +74,7 @@ pub enum KeyCode {
     Subtract,
     Decimal,
     Divide,
+    /// A function key, by its number from 1.
     Function(u8),
     NumLock,
     ScrollLock,
@@ -102,14 +104,18 @@ pub enum KeyCode {
     KeyPadPageUp,
     KeyPadPageDown,
     KeyPadBegin,
+    /// The start of a paste, which is never given as an event.
     InternalPasteStart,
+    /// The end of a paste where none is open.
     InternalPasteEnd,
 }
 
 /// A key that was pressed, and the modifiers that were held with it.
 #[derive(Clone, PartialEq, Eq, Debug, Drop)]
 pub struct KeyEvent {
+    /// The key.
     pub key: KeyCode,
+    /// The modifiers that were held.
     pub modifiers: Modifiers,
 }
 
@@ -228,18 +234,26 @@ impl From<MouseButton> for MouseButtons {
 /// A mouse report that tells the place by cells: `x` is the column and `y` the row.
 #[derive(Clone, PartialEq, Eq, Debug, Drop)]
 pub struct MouseEvent {
+    /// The column, as the terminal told it.
     pub x: u16,
+    /// The row, as the terminal told it.
     pub y: u16,
+    /// The buttons that are down, and the wheel that was turned.
     pub mouse_buttons: MouseButtons,
+    /// The modifiers that were held.
     pub modifiers: Modifiers,
 }
 
 /// A mouse report that tells the place by pixels.
 #[derive(Clone, PartialEq, Eq, Debug, Drop)]
 pub struct PixelMouseEvent {
+    /// The place from the left.
     pub x_pixels: u16,
+    /// The place from the top.
     pub y_pixels: u16,
+    /// The buttons that are down, and the wheel that was turned.
     pub mouse_buttons: MouseButtons,
+    /// The modifiers that were held.
     pub modifiers: Modifiers,
 }
 

@@ -1,7 +1,7 @@
 // The calls of the trait `Flags` at `Modifiers`, bit for bit. The trait's own clauses hold for a type that sets the
 // ghost member `exact`, and give each answer by the type's table of flags. Here each call stands alone in a function
 // whose contract gives the answer's bits, as the number in the field. No other code calls these functions: they are
-// there for their contracts. Another flag type can have the same functions, with its own width and flags.
+// there for their contracts.
 #![tactic(auto, using(std::proofs::lemmas::Nat::and_comm, crate::proofs::BitFacts::or_tests), unfolding(bitflags::proofs::OnLiterals::bitflags_on_literals))]
 
 ghost use Rattle.std.specs.Prelude.{◌≡◌, ◌∷◌, [], ◌↔◌, IsTrue, if◌then◌else◌};

@@ -3,6 +3,7 @@
 use crate::types::{InputEvent, KeyCode, KeyEvent, MouseButtons, MouseEvent, PastedText};
 use bitflags::Flags;
 use std::alloc::{AllocError, Global};
+use std::collections::{BTreeMap, BTreeSet};
 use std::ops::Range;
 use std::str;
 use termwiz_base::Modifiers;
@@ -13,32 +14,17 @@ const START: &[u8] = b"\x1b[200~";
 
 const END: &[u8] = b"\x1b[201~";
 
-// 1: a row of the sequence table.
-#[derive(Drop)]
-pub(super) struct Row {
-    bytes: String,
-    key: KeyCode,
-    modifiers: Modifiers,
-}
-
-impl Row {
-    pub(super) fn bytes(&self) -> &[u8] {
-        self.bytes.as_bytes()
-    }
-
-    pub(super) fn event(&self) -> InputEvent {
-        key_event(self.key, self.modifiers)
-    }
-
-    pub(super) fn is_start(&self) -> bool {
-        self.bytes() == START
-    }
-}
-
+// The event of a key.
 fn key_event(key: KeyCode, modifiers: Modifiers) -> InputEvent {
     InputEvent::Key(KeyEvent { key, modifiers })
 }
 
+// The event of a row.
+pub(super) fn event_of(row: &KeyEvent) -> InputEvent {
+    key_event(row.key, row.modifiers)
+}
+
+// The modifiers, by which of the three are held.
 fn held(shift: bool, alt: bool, ctrl: bool) -> Modifiers {
     let mut held = Modifiers::NONE;
     held.set(Modifiers::SHIFT, shift);
@@ -118,20 +104,50 @@ const EDIT_KEYS: &[(char, KeyCode)] = &[
     ('6', KeyCode::PageDown),
 ];
 
-// 1: the rows that the rules gave so far.
+// The rows of the sequence table by their bytes, and each text that properly begins one.
 #[derive(Drop)]
-struct Table {
-    rows: Vec<Row>,
+pub(super) struct PlainReader {
+    rows: BTreeMap<Vec<u8>, KeyEvent>,
+    begun: BTreeSet<Vec<u8>>,
+    // How many rows the rules gave.
+    given: usize,
     alloc: Global,
 }
 
-impl Table {
-    fn add(&mut self, bytes: String, key: KeyCode, modifiers: Modifiers) -> Result<(), AllocError> {
-        self.rows.push(Row {
-            bytes,
-            key,
-            modifiers,
-        })?;
+// 1: the rows, rule by rule.
+impl PlainReader {
+    pub(super) fn new(alloc: Global) -> Result<PlainReader, AllocError> {
+        let mut reader = PlainReader {
+            rows: BTreeMap::new(alloc),
+            begun: BTreeSet::new(alloc),
+            given: 0,
+            alloc,
+        };
+        reader.add_bytes()?;
+        reader.add_alt()?;
+        reader.add_characters()?;
+        reader.add_functions()?;
+        reader.add_lists()?;
+        Ok(reader)
+    }
+
+    // How many rows the rules gave, also where two have the same bytes.
+    pub(super) fn given(&self) -> usize {
+        self.given
+    }
+
+    pub(super) fn rows(&self) -> &BTreeMap<Vec<u8>, KeyEvent> {
+        &self.rows
+    }
+
+    fn add(&mut self, text: String, key: KeyCode, modifiers: Modifiers) -> Result<(), AllocError> {
+        let bytes = text.as_bytes();
+        for len in 1..bytes.len() {
+            self.begun.insert(bytes[..len].to_vec(self.alloc)?)?;
+        }
+        let event = KeyEvent { key, modifiers };
+        self.rows.insert(bytes.to_vec(self.alloc)?, event)?;
+        self.given = self.given.saturating_add(1);
         Ok(())
     }
 
@@ -257,20 +273,6 @@ impl Table {
     }
 }
 
-// 1: the rows of all rules.
-pub(super) fn all_rows(alloc: Global) -> Result<Vec<Row>, AllocError> {
-    let mut table = Table {
-        rows: Vec::new(alloc),
-        alloc,
-    };
-    table.add_bytes()?;
-    table.add_alt()?;
-    table.add_characters()?;
-    table.add_functions()?;
-    table.add_lists()?;
-    Ok(table.rows)
-}
-
 // "Mouse events": the buttons of a base at `M`.
 fn buttons_of(base: u16) -> MouseButtons {
     match base {
@@ -320,82 +322,30 @@ fn frame_of(text: &[u8]) -> Option<MouseEvent> {
 
 // 3 and 4: what a head is.
 #[derive(Drop)]
-enum Kind<'a> {
-    Row(&'a Row),
+enum Kind {
+    Row(KeyEvent),
     Frame(MouseEvent),
     Character(char),
 }
 
-// 4: the head of a text, and what follows it.
+// 4: the head of a text: its bytes, and what follows them.
 #[derive(Drop)]
 struct Head<'a> {
-    kind: Kind<'a>,
+    kind: Kind,
+    bytes: &'a [u8],
     rest: &'a [u8],
-}
-
-// 4: the longest row that begins the text.
-fn row_at<'a>(rows: &'a [Row], text: &'a [u8]) -> Option<Head<'a>> {
-    let mut longest: Option<Head<'a>> = None;
-    for row in rows {
-        if let Some(rest) = text.strip_prefix(row.bytes()) {
-            let kind = Kind::Row(row);
-            longest = longer(Some(Head { kind, rest }), longest);
-        }
-    }
-    longest
-}
-
-// 4: the longest frame that begins the text.
-fn frame_at(text: &[u8]) -> Option<Head<'_>> {
-    let mut longest: Option<Head<'_>> = None;
-    for len in 0..text.len() + 1 {
-        let (front, rest) = text.split_at(len);
-        if let Some(event) = frame_of(front) {
-            let kind = Kind::Frame(event);
-            longest = longer(Some(Head { kind, rest }), longest);
-        }
-    }
-    longest
-}
-
-// 4: of two known texts that begin a text, the longer one.
-fn longer<'a>(first: Option<Head<'a>>, second: Option<Head<'a>>) -> Option<Head<'a>> {
-    match (first, second) {
-        (Some(first), Some(second)) => {
-            if second.rest.len() < first.rest.len() {
-                Some(second)
-            } else {
-                Some(first)
-            }
-        }
-        (Some(only), None) | (None, Some(only)) => Some(only),
-        (None, None) => None,
-    }
 }
 
 // 4: the character whose encoding begins the text.
 fn character_at(text: &[u8]) -> Option<Head<'_>> {
     for len in 1..5 {
-        let (front, rest) = text.split_at_checked(len)?;
-        if let Ok(front) = str::from_utf8(front) {
-            let kind = Kind::Character(front.chars().next()?);
-            return Some(Head { kind, rest });
+        let (bytes, rest) = text.split_at_checked(len)?;
+        if let Ok(encoding) = str::from_utf8(bytes) {
+            let kind = Kind::Character(encoding.chars().next()?);
+            return Some(Head { kind, bytes, rest });
         }
     }
     None
-}
-
-// 4: the head of a text.
-fn head_of<'a>(rows: &'a [Row], text: &'a [u8]) -> Option<Head<'a>> {
-    match longer(row_at(rows, text), frame_at(text)) {
-        Some(known) => Some(known),
-        None => character_at(text),
-    }
-}
-
-// 5: whether some row is longer than the text and begins with it.
-fn begins_row(rows: &[Row], text: &[u8]) -> bool {
-    rows.iter().any(|row| text.len() < row.bytes().len() && row.bytes().starts_with(text))
 }
 
 // 5: whether some frame is longer than the text and begins with it. A number that has begun may end where it is, and a 0
@@ -413,19 +363,8 @@ fn begins_frame(alloc: Global, text: &[u8]) -> Result<bool, AllocError> {
     Ok(false)
 }
 
-// 5: whether the text is open.
-fn is_open(alloc: Global, rows: &[Row], text: &[u8], more: bool) -> Result<bool, AllocError> {
-    if !more || text.is_empty() {
-        return Ok(false);
-    }
-    Ok(begins_row(rows, text) || begins_frame(alloc, text)?)
-}
-
 // 6: the paste at the front of the text, and what follows it.
-fn paste_at<'a>(
-    alloc: Global,
-    text: &'a [u8],
-) -> Result<Option<(InputEvent, &'a [u8])>, AllocError> {
+fn paste_at(alloc: Global, text: &[u8]) -> Result<Option<(InputEvent, &[u8])>, AllocError> {
     let Some(body) = text.strip_prefix(START) else {
         return Ok(None);
     };
@@ -439,72 +378,105 @@ fn paste_at<'a>(
     Ok(None)
 }
 
-// 6: the item at an ESC that is a head, by what follows the ESC: a lone escape or an alt.
-fn escape_before<'a>(
-    alloc: Global,
-    rows: &'a [Row],
-    rest: &'a [u8],
-    more: bool,
-) -> Result<Option<(InputEvent, &'a [u8])>, AllocError> {
-    if is_open(alloc, rows, rest, more)? {
-        return Ok(None);
-    }
-    let Some(head) = head_of(rows, rest) else {
-        return Ok(None);
-    };
-    let (key, modifiers) = match head.kind {
-        Kind::Row(row) if !row.is_start() => (row.key, row.modifiers),
-        Kind::Character(character) => (KeyCode::Char(character), Modifiers::NONE),
-        Kind::Row(_) | Kind::Frame(_) => {
-            return Ok(Some((key_event(KeyCode::Escape, Modifiers::NONE), rest)));
+impl PlainReader {
+    // 3: what a known text stands for.
+    fn known(&self, text: &[u8]) -> Option<Kind> {
+        if let Some(row) = self.rows.get(text) {
+            return Some(Kind::Row(KeyEvent {
+                key: row.key,
+                modifiers: row.modifiers,
+            }));
         }
-    };
-    let event = key_event(key, modifiers.union(Modifiers::ALT));
-    Ok(Some((event, head.rest)))
-}
+        frame_of(text).map(|event| Kind::Frame(event))
+    }
 
-// 6: the item at a text, by its event and what follows its bytes.
-fn item_at<'a>(
-    alloc: Global,
-    rows: &'a [Row],
-    text: &'a [u8],
-    more: bool,
-) -> Result<Option<(InputEvent, &'a [u8])>, AllocError> {
-    if is_open(alloc, rows, text, more)? {
-        return Ok(None);
-    }
-    let Some(head) = head_of(rows, text) else {
-        return Ok(None);
-    };
-    match head.kind {
-        Kind::Row(row) if row.is_start() => paste_at(alloc, text),
-        Kind::Row(row) if row.bytes() == ESC && !head.rest.is_empty() => {
-            escape_before(alloc, rows, head.rest, more)
+    // 4: the head of a text. The longest known text is the last one that is found.
+    fn head_of<'a>(&self, text: &'a [u8]) -> Option<Head<'a>> {
+        let mut longest = None;
+        for len in 0..text.len() + 1 {
+            let (bytes, rest) = text.split_at(len);
+            if let Some(kind) = self.known(bytes) {
+                longest = Some(Head { kind, bytes, rest });
+            }
         }
-        Kind::Row(row) => Ok(Some((row.event(), head.rest))),
-        Kind::Frame(event) => Ok(Some((InputEvent::Mouse(event), head.rest))),
-        Kind::Character(character) => {
-            let event = key_event(KeyCode::Char(character), Modifiers::NONE);
-            Ok(Some((event, head.rest)))
+        if longest.is_some() {
+            return longest;
         }
+        character_at(text)
     }
-}
 
-// 7: the events of a text under a flag, and the rest that waits. There are no more items than bytes.
-pub(super) fn read<'a>(
-    alloc: Global,
-    rows: &'a [Row],
-    text: &'a [u8],
-    more: bool,
-) -> Result<(Vec<InputEvent>, &'a [u8]), AllocError> {
-    let mut events = Vec::new(alloc);
-    let mut rest = text;
-    for _ in 0..text.len() {
-        let Some((event, after)) = item_at(alloc, rows, rest, more)? else {
-            break;
+    // 5: whether the text is open.
+    fn is_open(&self, text: &[u8], more: bool) -> Result<bool, AllocError> {
+        if !more || text.is_empty() {
+            return Ok(false);
+        }
+        Ok(self.begun.contains(text) || begins_frame(self.alloc, text)?)
+    }
+
+    // 6: the item at an ESC that is a head, by what follows the ESC: a lone escape or an alt.
+    fn escape_before<'a>(
+        &self,
+        rest: &'a [u8],
+        more: bool,
+    ) -> Result<Option<(InputEvent, &'a [u8])>, AllocError> {
+        if self.is_open(rest, more)? {
+            return Ok(None);
+        }
+        let Some(head) = self.head_of(rest) else {
+            return Ok(None);
         };
-        events.push(event)?;
-        rest = after;
+        let (key, modifiers) = match head.kind {
+            Kind::Row(row) if head.bytes != START => (row.key, row.modifiers),
+            Kind::Character(character) => (KeyCode::Char(character), Modifiers::NONE),
+            Kind::Row(_) | Kind::Frame(_) => {
+                return Ok(Some((key_event(KeyCode::Escape, Modifiers::NONE), rest)));
+            }
+        };
+        let event = key_event(key, modifiers.union(Modifiers::ALT));
+        Ok(Some((event, head.rest)))
     }
-    Ok((events, rest))
+
+    // 6: the item at a text, by its event and what follows its bytes.
+    fn item_at<'a>(
+        &self,
+        text: &'a [u8],
+        more: bool,
+    ) -> Result<Option<(InputEvent, &'a [u8])>, AllocError> {
+        if self.is_open(text, more)? {
+            return Ok(None);
+        }
+        let Some(head) = self.head_of(text) else {
+            return Ok(None);
+        };
+        if head.bytes == START {
+            return paste_at(self.alloc, text);
+        }
+        if head.bytes == ESC && text != ESC {
+            return self.escape_before(head.rest, more);
+        }
+        let event = match head.kind {
+            Kind::Row(row) => InputEvent::Key(row),
+            Kind::Frame(event) => InputEvent::Mouse(event),
+            Kind::Character(character) => key_event(KeyCode::Char(character), Modifiers::NONE),
+        };
+        Ok(Some((event, head.rest)))
+    }
+
+    // 7: the events of a text under a flag, and the rest that waits. There are no more items than bytes.
+    pub(super) fn read<'a>(
+        &self,
+        text: &'a [u8],
+        more: bool,
+    ) -> Result<(Vec<InputEvent>, &'a [u8]), AllocError> {
+        let mut events = Vec::new(self.alloc);
+        let mut rest = text;
+        for _ in 0..text.len() {
+            let Some((event, after)) = self.item_at(rest, more)? else {
+                break;
+            };
+            events.push(event)?;
+            rest = after;
+        }
+        Ok((events, rest))
+    }
 }

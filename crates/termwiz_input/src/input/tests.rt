@@ -1,7 +1,7 @@
 // The parser's answers on worked examples, on every row, and against the plain reader.
 ghost use Rattle.std.specs.Prelude.{◌<◌};
 
-use super::plain::{Row, all_rows, read};
+use super::plain::{PlainReader, event_of};
 use super::{Flags, InputEvent, InputParser, KeyCode, KeyEvent, Modifiers, MouseButtons};
 use std::alloc::{AllocError, Global};
 use std::fmt::Write;
@@ -23,6 +23,7 @@ const KEYS: &[Example] = &[
     ("nothing", &[(b"", LAST, "")]),
     ("hello", &[(b"hello", LAST, "h, e, l, l, o")]),
     ("arrow and character", &[(b"\x1b[Aq", LAST, "UpArrow, q")]),
+    ("arrow at once", &[(b"\x1b[A", MORE, "UpArrow")]),
     (
         "control bytes",
         &[(
@@ -50,6 +51,7 @@ const KEYS: &[Example] = &[
     ),
     ("end with @", &[(b"\x1b[8@", LAST, "End SHIFT+CTRL")]),
     ("csi u", &[(b"\x1b[13;5u", LAST, "U+000D CTRL")]),
+    ("csi u escape", &[(b"\x1b[27u", LAST, "U+001B")]),
     (
         "modify other keys, one",
         &[(b"\x1b[27;5;13~", LAST, "Enter CTRL")],
@@ -63,6 +65,14 @@ const KEYS: &[Example] = &[
         )],
     ),
     ("leading zero", &[(b"\x1b[01u", LAST, "[ ALT, 0, 1, u")]),
+    (
+        "suffix 9 after csi u",
+        &[(b"\x1b[27;9u", LAST, "[ ALT, 2, 7, ;, 9, u")],
+    ),
+    (
+        "suffix 9 of an application arrow",
+        &[(b"\x1bO1;9A", LAST, "O ALT, 1, ;, 9, A")],
+    ),
     ("alt bracket", &[(b"\x1b[", LAST, "[ ALT")]),
     (
         "end of a paste outside of one",
@@ -112,6 +122,11 @@ const CUT_KEYS: &[Example] = &[
         "broken byte stops",
         &[(b"\xff", LAST, "waits 1"), (b"a", LAST, "waits 2")],
     ),
+    ("overlong character", &[(b"\xe0\x80a", LAST, "waits 3")]),
+    (
+        "character past the last",
+        &[(b"\xf4\x90\x80\x80", LAST, "waits 4")],
+    ),
 ];
 
 // Examples of a held escape.
@@ -131,6 +146,21 @@ const ESCAPES: &[Example] = &[
     ("alt broken byte", &[(b"\x1b\xff", LAST, "waits 2")]),
     ("alt arrow", &[(b"\x1b\x1b[A", LAST, "UpArrow ALT")]),
     (
+        "alt arrow with alt",
+        &[(b"\x1b\x1b[1;3A", LAST, "UpArrow ALT")],
+    ),
+    (
+        "alt end of a paste",
+        &[(b"\x1b\x1b[201~", LAST, "InternalPasteEnd ALT")],
+    ),
+    (
+        "alt beginning broken",
+        &[
+            (b"\x1b\x1b[200", MORE, "waits 6"),
+            (b"x", MORE, "[ ALT, 2, 0, 0, x"),
+        ],
+    ),
+    (
         "alt beginning flushed",
         &[(b"\x1b\x1b[1", MORE, "waits 4"), (b"", LAST, "[ ALT, 1")],
     ),
@@ -144,6 +174,10 @@ const ESCAPES: &[Example] = &[
     (
         "three escapes",
         &[(b"\x1b\x1b\x1b", LAST, "Escape ALT, Escape")],
+    ),
+    (
+        "three escapes and an arrow",
+        &[(b"\x1b\x1b\x1b[A", LAST, "Escape ALT, UpArrow")],
     ),
     (
         "long escape not held",
@@ -186,6 +220,14 @@ const FRAMES: &[Example] = &[
     (
         "released",
         &[(b"\x1b[<0;3;4m", LAST, "Mouse 3 4 NONE NONE")],
+    ),
+    (
+        "other buttons",
+        &[(
+            b"\x1b[<1;1;1M\x1b[<2;1;1M\x1b[<65;1;1M\x1b[<64;1;1M",
+            LAST,
+            "Mouse 1 1 MIDDLE NONE, Mouse 1 1 RIGHT NONE, Mouse 1 1 VERT_WHEEL NONE, Mouse 1 1 VERT_WHEEL+WHEEL_POSITIVE NONE",
+        )],
     ),
     ("moved", &[(b"\x1b[<35;3;4M", LAST, "Mouse 3 4 NONE NONE")]),
     (
@@ -251,7 +293,7 @@ const NO_FRAMES: &[Example] = &[
     ),
     (
         "no code",
-        &[(b"\x1b[<;1;1M", MORE, "[ ALT, <, ;, 1, ;, 1, M")],
+        &[(b"\x1b[<;1;1M", LAST, "[ ALT, <, ;, 1, ;, 1, M")],
     ),
 ];
 
@@ -462,19 +504,20 @@ fn reads_pastes(rt: HostRuntime) -> Result<(), Fail> {
 // Each row alone is its key, but the start of a paste, which waits.
 #[test]
 fn reads_each_row(rt: HostRuntime) -> Result<(), Fail> {
-    let rows = all_rows(rt.alloc())?;
-    assert_eq!(rt; rows.len(), 2834);
+    let reader = PlainReader::new(rt.alloc())?;
+    assert_eq!(rt; reader.given(), 2834);
+    assert_eq!(rt; reader.rows().len(), 2834, "all bytes differ");
     let mut parser = InputParser::new(rt.alloc())?;
-    for row in &rows {
-        let events = parser.parse_as_vec(row.bytes(), LAST)?;
-        let key = [row.event()];
-        let (wanted, waiting) = if row.is_start() {
-            (&key[..0], 6)
+    for (bytes, row) in reader.rows() {
+        let events = parser.parse_as_vec(bytes, LAST)?;
+        let key = [event_of(row)];
+        let (wanted, waiting) = if row.key == KeyCode::InternalPasteStart {
+            (&key[..0], bytes.len())
         } else {
             (&key[..], 0)
         };
-        assert_eq!(rt; events.as_slice(), wanted, "{:?}", row.bytes());
-        assert_eq!(rt; parser.waiting_len(), waiting, "{:?}", row.bytes());
+        assert_eq!(rt; events.as_slice(), wanted, "{bytes:?}");
+        assert_eq!(rt; parser.waiting_len(), waiting, "{bytes:?}");
         forget(&mut parser);
     }
     Ok(())
@@ -545,7 +588,7 @@ impl Draws {
 // A parser, and what it is compared by.
 #[derive(Drop)]
 struct Comparison {
-    rows: Vec<Row>,
+    reader: PlainReader,
     parser: InputParser,
     draws: Draws,
     alloc: Global,
@@ -554,7 +597,7 @@ struct Comparison {
 impl Comparison {
     fn new(alloc: Global) -> Result<Comparison, AllocError> {
         Ok(Comparison {
-            rows: all_rows(alloc)?,
+            reader: PlainReader::new(alloc)?,
             parser: InputParser::new(alloc)?,
             draws: Draws(1),
             alloc,
@@ -563,7 +606,7 @@ impl Comparison {
 
     // The parser reads the whole text as the plain reader does.
     fn check_whole(&mut self, rt: &impl Abort, text: &[u8], more: bool) -> Result<(), Fail> {
-        let (wanted, rest) = read(self.alloc, self.rows.as_slice(), text, more)?;
+        let (wanted, rest) = self.reader.read(text, more)?;
         let events = self.parser.parse_as_vec(text, more)?;
         assert_eq!(rt; events, wanted, "{text:?}, {more}");
         assert_eq!(rt; self.parser.waiting_len(), rest.len(), "{text:?}, {more}");
@@ -590,10 +633,10 @@ impl Comparison {
     // The parser reads the text in pieces as the plain reader reads the whole, and so what waits then.
     fn check_cut(&mut self, rt: &impl Abort, text: &[u8]) -> Result<(), Fail> {
         let events = self.read_pieces(text)?;
-        let (wanted, rest) = read(self.alloc, self.rows.as_slice(), text, MORE)?;
+        let (wanted, rest) = self.reader.read(text, MORE)?;
         assert_eq!(rt; events, wanted, "{text:?} in pieces");
         assert_eq!(rt; self.parser.waiting_len(), rest.len(), "{text:?} in pieces");
-        let (wanted, rest) = read(self.alloc, self.rows.as_slice(), rest, LAST)?;
+        let (wanted, rest) = self.reader.read(rest, LAST)?;
         let events = self.parser.parse_as_vec(b"", LAST)?;
         assert_eq!(rt; events, wanted, "{text:?} in pieces, flushed");
         assert_eq!(rt;
@@ -609,7 +652,7 @@ impl Comparison {
 #[test]
 fn reads_as_the_plain_reader(rt: HostRuntime) -> Result<(), Fail> {
     let mut comparison = Comparison::new(rt.alloc())?;
-    for number in 0..3000usize {
+    for number in 0..5000usize {
         let text = comparison.draws.text(rt.alloc(), 1 + number % 7)?;
         comparison.check_whole(&rt, text.as_slice(), MORE)?;
         comparison.check_whole(&rt, text.as_slice(), LAST)?;

@@ -15,12 +15,18 @@ struct Case<'a> {
     lookups: &'a [(&'a [u8], bool, Found<&'a bool>)],
 }
 
-// Checks a case, and the same in a clone of the map.
-fn check(rt: &impl Abort, alloc: Global, case: &Case) -> Result<(), AllocError> {
+// A map with the entries of a case.
+fn filled(alloc: Global, case: &Case) -> Result<KeyMap<bool>, AllocError> {
     let mut map = KeyMap::new(alloc);
     for (key, value) in case.entries {
         map.insert(key, *value)?;
     }
+    Ok(map)
+}
+
+// Checks a case, and the same in a clone of the map.
+fn check(rt: &impl Abort, alloc: Global, case: &Case) -> Result<(), AllocError> {
+    let map = filled(alloc, case)?;
     let copy = map.clone()?;
     for (text, maybe_more, answer) in case.lookups {
         assert_eq!(rt; map.lookup(text, *maybe_more), *answer);
