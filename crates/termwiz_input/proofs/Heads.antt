@@ -10,7 +10,7 @@ use Rattle.termwiz_input.specs.Bytes.{Begins}
 use Rattle.termwiz_input.specs.Known.{Meaning, IsKnown}
 use Rattle.termwiz_input.specs.Grammar.{Head, IsHead, IsLongest, IsOpen}
 use Rattle.termwiz_input.specs.Grammar.Head.{Known, Character}
-use Rattle.termwiz_input.proofs.Lists.{same_from_length}
+use Rattle.termwiz_input.proofs.Lists.{length-Begins, same_from_length}
 use Rattle.termwiz_input.proofs.Searches.{Told}
 use Rattle.termwiz_input.proofs.Facts.{known_some, known_once, known_or_not, unfinished_or_not}
 
@@ -66,9 +66,6 @@ find_up_to u (suc n) l = go (known_or_not (take (suc n) u)) (find_up_to u n (ome
         (λ (lt : length other ≤ n). none other k is c lt)
         (eq_or_less (length other) n short))
 
-begins_at_most : (other u : List ℕ) → Begins other u → length other ≤ length u
-begins_at_most other u b = omega (arith, length-append other b.0, ap length b.1)
-
 -- whether a character begins u
 pub character_or_not : (u : List ℕ) → ((c : ℕ) × IsScalar c × Begins (encode_utf8 c) u) ⊎ ((c : ℕ) → IsScalar c → Begins (encode_utf8 c) u → ⊥)
 character_or_not u = go (decoded u).char refl
@@ -89,19 +86,19 @@ head_or_none u = go (find_up_to u (length u) (omega arith)) (character_or_not u)
       record {
         known = known;
         begins = b;
-        longest = λ other k is c. longest other k is c (begins_at_most other u c);
+        longest = λ other k is c. longest other k is c (length-Begins other u c);
       },
     )
     go (missing none) (inl (c, scalar, b)) = inl (
       Character c,
       record {
-        unknown = λ other k is d. none other k is d (begins_at_most other u d);
+        unknown = λ other k is d. none other k is d (length-Begins other u d);
         scalar = scalar;
         begins = b;
       },
     )
     go (missing none) (inr never) = inr (λ h. elim h as (λ x. IsHead u x → ⊥) [
-      | Known text m ↦ λ is. none text m is.known is.begins (begins_at_most text u is.begins)
+      | Known text m ↦ λ is. none text m is.known is.begins (length-Begins text u is.begins)
       | Character c ↦ λ is. never c is.scalar is.begins
     ])
 

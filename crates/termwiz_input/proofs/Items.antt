@@ -1,4 +1,4 @@
--- Which item stands at a text, by what is found at its front.
+-- Which item stands at a text, by its head.
 use Rattle.std.proofs.Common.{◌≡◌, ◌≢◌, inl, inr, ℕ, suc, ◌+◌, ◌-◌, ◌≤◌, Bool, List, [], ◌++◌, length, take, drop, refl, sym, ap, ◌∙◌, subst, arith, append_assoc, length-append, encode_utf8}
 use Rattle.std.specs.Str.Lossy.{utf8_lossy}
 use Rattle.std.proofs.Math.Seq.{take-append_seam}
@@ -6,15 +6,16 @@ use Rattle.termwiz_input.specs.declared.types.KeyEvent.{KeyEvent}
 use Rattle.termwiz_input.specs.declared.types.MouseEvent.{MouseEvent}
 use Rattle.termwiz_input.specs.declared.types.InputEvent.{InputEvent}
 use Rattle.termwiz_input.specs.declared.types.InputEvent.TheVariants.{Key, Mouse, Paste}
-use Rattle.termwiz_input.specs.declared.item.Front.TheVariants.{Row as row, Frame as frame, Character as character}
+use Rattle.termwiz_input.specs.declared.item.Item.{Item as FoundItem}
+use Rattle.termwiz_input.specs.declared.head.Head.TheVariants.{Row as row, Frame as frame, Character as character}
 use Rattle.termwiz_input.specs.Bytes.{Begins, Occurs, ESC, START, END}
 use Rattle.termwiz_input.specs.Keys.{plain, escape, with_alt}
 use Rattle.termwiz_input.specs.Known.{IsKnown}
 use Rattle.termwiz_input.specs.Known.Meaning.{Row, Frame}
-use Rattle.termwiz_input.specs.Grammar.{Head, IsHead, IsLongest, IsOpen, IsAfterEscape, Item, HasItem, IsRest}
+use Rattle.termwiz_input.specs.Grammar.{Head, IsHead, IsLongest, IsOpen, IsAfterEscape, Item, HasPaste, IsRest}
 use Rattle.termwiz_input.specs.Grammar.Head.{Known, Character}
 use Rattle.termwiz_input.specs.Grammar.Item.{key, char, mouse, paste, lone_escape, alt}
-use Rattle.termwiz_input.specs.Fronts.{IsFront, StandsTo, HasNoFront}
+use Rattle.termwiz_input.specs.AtFront.{HasHead, IsItemAt, HasNoHeadYet}
 use Rattle.termwiz_input.proofs.Lists.{append-some}
 use Rattle.termwiz_input.proofs.Facts.{known_once, escape_known, start, start_ends}
 use Rattle.termwiz_input.proofs.Heads.{head_once}
@@ -22,31 +23,35 @@ use Rattle.termwiz_input.proofs.Meaning.{RowGives, Gives, reads, not_alone, star
 use Rattle.termwiz_input.proofs.Meaning.RowGives.{its_key, its_paste, apart, joined}
 use Rattle.termwiz_input.proofs.Places.{IsPasteTo}
 
+-- an item of this event and so many bytes
+abbrev pub item_of : InputEvent → ℕ → FoundItem
+item_of event len = record { event = event; len = len }
+
 -- no item stands where the text is open, or where it has no head
-pub waits_rest : (u : List ℕ) (more : Bool) → HasNoFront u more → IsRest u more
+pub waits_rest : (u : List ℕ) (more : Bool) → HasNoHeadYet u more → IsRest u more
 waits_rest u more (inl opens) bytes event stands = stands.closed opens
 waits_rest u more (inr none) bytes event stands = let r = reads u bytes event more stands.item in none r.0 r.1
 
 -- what isn't START at the front of a text
-not_start : (u : List ℕ) (n : ℕ) → (Begins START u → ⊥) → Begins (take n u) u → take n u ≢ START
+not_start : (u : List ℕ) (n : ℕ) → ¬ Begins START u → Begins (take n u) u → take n u ≢ START
 not_start u n never b e = never (subst (λ t. Begins t u) e b)
 
-pub row_stands : (u : List ℕ) (more : Bool) (k : KeyEvent) (n : ℕ) → ¬ IsOpen u more → IsFront u (row k n) → (Begins START u → ⊥)
-    → (take n u ≡ ESC → u ≡ ESC) → StandsTo u more (Key k, n)
+pub row_stands : (u : List ℕ) (more : Bool) (k : KeyEvent) (n : ℕ) → ¬ IsOpen u more → HasHead u (row k n) → ¬ Begins START u
+    → (take n u ≡ ESC → u ≡ ESC) → IsItemAt u more (item_of (Key k) n)
 row_stands u more k n closed front never alone =
     (front.0, record { closed = closed; item = key (take n u) k front.1 (not_start u n never front.1.begins) alone })
 
-pub frame_stands : (u : List ℕ) (more : Bool) (event : MouseEvent) (n : ℕ) → ¬ IsOpen u more → IsFront u (frame event n) → StandsTo u more (Mouse event, n)
+pub frame_stands : (u : List ℕ) (more : Bool) (event : MouseEvent) (n : ℕ) → ¬ IsOpen u more → HasHead u (frame event n) → IsItemAt u more (item_of (Mouse event) n)
 frame_stands u more event n closed front = (front.0, record { closed = closed; item = mouse (take n u) event front.1 })
 
 -- the bytes of a character at the front
-character_bytes : (u : List ℕ) (c n : ℕ) → IsFront u (character c n) → (n ≤ length u) × (encode_utf8 c ≡ take n u)
+character_bytes : (u : List ℕ) (c n : ℕ) → HasHead u (character c n) → (n ≤ length u) × (encode_utf8 c ≡ take n u)
 character_bytes u c n (long, is) = (
   omega (arith, long, ap length is.begins.1, length-append (encode_utf8 c) is.begins.0),
   sym (take-append_seam (encode_utf8 c) is.begins.0) ∙ ap (take (length (encode_utf8 c))) (sym is.begins.1) ∙ ap (λ m. take m u) (sym long),
 )
 
-pub character_stands : (u : List ℕ) (more : Bool) (c n : ℕ) → ¬ IsOpen u more → IsFront u (character c n) → StandsTo u more (Key (plain c), n)
+pub character_stands : (u : List ℕ) (more : Bool) (c n : ℕ) → ¬ IsOpen u more → HasHead u (character c n) → IsItemAt u more (item_of (Key (plain c)) n)
 character_stands u more c n closed front =
     let bytes = character_bytes u c n front in
     (bytes.0, record { closed = closed; item = subst (λ t. Item u more t (Key (plain c))) bytes.1 (char c front.1) })
@@ -59,7 +64,7 @@ take_after : (rest : List ℕ) (n : ℕ) → ESC ++ take n rest ≡ take (1 + n)
 take_after rest n = let e : 1 + n ≡ suc n = omega arith in rw e refl
 
 pub alt_row_stands : (rest : List ℕ) (more : Bool) (k : KeyEvent) (n : ℕ) → ¬ IsOpen (ESC ++ rest) more → IsLongest (ESC ++ rest) ESC (Row escape) → rest ≢ []
-    → ¬ IsOpen rest more → IsFront rest (row k n) → (Begins START rest → ⊥) → StandsTo (ESC ++ rest) more (Key (with_alt k), 1 + n)
+    → ¬ IsOpen rest more → HasHead rest (row k n) → ¬ Begins START rest → IsItemAt (ESC ++ rest) more (item_of (Key (with_alt k)) (1 + n))
 alt_row_stands rest more k n closed head some gap front never = (
   omega (arith, front.0),
   record {
@@ -70,7 +75,7 @@ alt_row_stands rest more k n closed head some gap front never = (
 )
 
 pub alt_character_stands : (rest : List ℕ) (more : Bool) (c n : ℕ) → ¬ IsOpen (ESC ++ rest) more → IsLongest (ESC ++ rest) ESC (Row escape) → rest ≢ []
-    → ¬ IsOpen rest more → IsFront rest (character c n) → StandsTo (ESC ++ rest) more (Key (with_alt (plain c)), 1 + n)
+    → ¬ IsOpen rest more → HasHead rest (character c n) → IsItemAt (ESC ++ rest) more (item_of (Key (with_alt (plain c))) (1 + n))
 alt_character_stands rest more c n closed head some gap front =
     let bytes = character_bytes rest c n front in (
       omega (arith, bytes.0),
@@ -82,7 +87,7 @@ alt_character_stands rest more c n closed head some gap front =
     )
 
 pub escape_before_frame : (rest : List ℕ) (more : Bool) (event : MouseEvent) (n : ℕ) → ¬ IsOpen (ESC ++ rest) more → IsLongest (ESC ++ rest) ESC (Row escape) → rest ≢ []
-    → ¬ IsOpen rest more → IsFront rest (frame event n) → StandsTo (ESC ++ rest) more (Key escape, 1)
+    → ¬ IsOpen rest more → HasHead rest (frame event n) → IsItemAt (ESC ++ rest) more (item_of (Key escape) 1)
 escape_before_frame rest more event n closed head some gap front = (
   omega arith,
   record { closed = closed; item = lone_escape rest (Known (take n rest) (Frame event)) (after rest more head some gap) front.1 tt },
@@ -97,7 +102,7 @@ start_closed u more (rest, e) opens =
     (subst (λ x. IsKnown x opens.unfinished.meaning) (ap (λ x. x ++ tail) e ∙ append_assoc START rest tail) opens.unfinished.known))
 
 pub escape_before_start : (rest : List ℕ) (more : Bool) → ¬ IsOpen (ESC ++ rest) more → IsLongest (ESC ++ rest) ESC (Row escape) → rest ≢ []
-    → Begins START rest → StandsTo (ESC ++ rest) more (Key escape, 1)
+    → Begins START rest → IsItemAt (ESC ++ rest) more (item_of (Key escape) 1)
 escape_before_start rest more closed head some b = (
   omega arith,
   record {
@@ -107,7 +112,7 @@ escape_before_start rest more closed head some b = (
 )
 
 -- no item stands at an Escape where none is decided for what follows it
-pub joined_rest : (rest : List ℕ) (more : Bool) → IsLongest (ESC ++ rest) ESC (Row escape) → rest ≢ [] → HasNoFront rest more → IsRest (ESC ++ rest) more
+pub joined_rest : (rest : List ℕ) (more : Bool) → IsLongest (ESC ++ rest) ESC (Row escape) → rest ≢ [] → HasNoHeadYet rest more → IsRest (ESC ++ rest) more
 joined_rest rest more head some waits bytes event stands =
     let r = reads (ESC ++ rest) bytes event more stands.item in
     unread bytes event (subst (λ h. Gives (ESC ++ rest) more h bytes event) (head_once (ESC ++ rest) r.0 (Known ESC (Row escape)) r.1 head) r.2)
@@ -117,24 +122,24 @@ joined_rest rest more head some waits bytes event stands =
     unread bytes event (its_paste at body tail split first r s) = cc (at)
     unread bytes event (apart at v h split some2 gap second far r s) = decided v h (cc (split)) gap second waits
       where
-        decided : (v : List ℕ) (h : Head) → v ≡ rest → ¬ IsOpen v more → IsHead v h → HasNoFront rest more → ⊥
+        decided : (v : List ℕ) (h : Head) → v ≡ rest → ¬ IsOpen v more → IsHead v h → HasNoHeadYet rest more → ⊥
         decided v h same gap second (inl opens) = gap (subst (λ z. IsOpen z more) (sym same) opens)
         decided v h same gap second (inr none) = none h (subst (λ z. IsHead z h) same second)
     unread bytes event (joined at v h j split some2 gap second near r s) = decided v h (cc (split)) gap second waits
       where
-        decided : (v : List ℕ) (h : Head) → v ≡ rest → ¬ IsOpen v more → IsHead v h → HasNoFront rest more → ⊥
+        decided : (v : List ℕ) (h : Head) → v ≡ rest → ¬ IsOpen v more → IsHead v h → HasNoHeadYet rest more → ⊥
         decided v h same gap second (inl opens) = gap (subst (λ z. IsOpen z more) (sym same) opens)
         decided v h same gap second (inr none) = none h (subst (λ z. IsHead z h) same second)
 
 -- a row at the front whose bytes are ESC is the key Escape
-pub escape_row_is : (u : List ℕ) (k : KeyEvent) (n : ℕ) → IsFront u (row k n) → take n u ≡ ESC → IsLongest u ESC (Row escape)
+pub escape_row_is : (u : List ℕ) (k : KeyEvent) (n : ℕ) → HasHead u (row k n) → take n u ≡ ESC → IsLongest u ESC (Row escape)
 escape_row_is u k n front e =
     let here : IsLongest u ESC (Row k) = subst (λ t. IsLongest u t (Row k)) e front.1 in
     subst (λ m. IsLongest u ESC m) (known_once ESC (Row k) (Row escape) here.known escape_known) here
 
 -- pastes
 pub paste_stands : (u : List ℕ) (more : Bool) (k : ℕ) → Begins START u → IsPasteTo u k
-    → StandsTo u more (Paste (utf8_lossy (take (k - 6) (drop 6 u))), k + 6)
+    → IsItemAt u more (item_of (Paste (utf8_lossy (take (k - 6) (drop 6 u)))) (k + 6))
 paste_stands u more k b is = (
   is.within,
   record {
@@ -143,7 +148,7 @@ paste_stands u more k b is = (
   },
 )
 
-pub paste_rest : (u : List ℕ) (more : Bool) → Begins START u → ((body : List ℕ) → u ≡ START ++ body → Occurs END body → ⊥) → IsRest u more
+pub paste_rest : (u : List ℕ) (more : Bool) → Begins START u → ((body : List ℕ) → u ≡ START ++ body → ¬ Occurs END body) → IsRest u more
 paste_rest u more b never bytes event stands =
     let r = reads u bytes event more stands.item in
     unread bytes event (subst (λ h. Gives u more h bytes event) (head_once u r.0 (Known START (Row start)) r.1 (start_head u b)) r.2)
@@ -155,5 +160,8 @@ paste_rest u more b never bytes event stands =
     unread bytes event (apart at v h split some gap second far r s) = cc (at)
     unread bytes event (joined at v h j split some gap second near r s) = cc (at)
 
-pub item_there : (u : List ℕ) (more : Bool) (item : InputEvent × ℕ) → StandsTo u more item → HasItem u more
-item_there u more item (inside, stands) = (take item.1 u, item.0, stands)
+-- so a paste stands there
+pub paste_there : (u : List ℕ) (more : Bool) (k : ℕ) → Begins START u → IsPasteTo u k → HasPaste u more
+paste_there u more k b is =
+    let stands = paste_stands u more k b is in
+    (take (k + 6) u, utf8_lossy (take (k - 6) (drop 6 u)), stands.1)

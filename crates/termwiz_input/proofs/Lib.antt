@@ -4,7 +4,6 @@ pub mod ExactStays
 pub mod Facts
 pub mod FrameFacts
 pub mod FrameReading
-pub mod Fronts
 pub mod Heads
 pub mod Items
 pub mod KeyChildren
@@ -18,6 +17,7 @@ pub mod Meaning
 pub mod Numbers
 pub mod Pastes
 pub mod Places
+pub mod Prefixes
 pub mod Reading
 pub mod RowFacts
 pub mod Rows

@@ -1,5 +1,5 @@
 -- Two lists that begin one list.
-use Rattle.std.proofs.Common.{◌≡◌, ◌≢◌, ℕ, ◌<◌, List, [], ◌∷◌, ◌++◌, length, refl, sym, ap, ◌∙◌, append_assoc, arith}
+use Rattle.std.proofs.Common.{◌≡◌, ◌≢◌, ℕ, ◌<◌, ◌≤◌, List, [], ◌∷◌, ◌++◌, length, refl, sym, ap, ◌∙◌, append_assoc, length-append, arith}
 use Rattle.termwiz_input.specs.Bytes.{Begins}
 
 -- Where a and u begin one list, a begins u or is longer and goes on after it.
@@ -30,6 +30,9 @@ append-some_left (x ∷ s) t n = λ h. cc
 pub length-some : (t : List ℕ) → t ≢ [] → 0 < length t
 length-some [] n = absurd (n refl)
 length-some (x ∷ t) n = omega arith
+
+pub length-Begins : (text u : List ℕ) → Begins text u → length text ≤ length u
+length-Begins text u b = omega (arith, ap length b.1, length-append text b.0)
 
 pub Begins-append : (text u s : List ℕ) → Begins text u → Begins text (u ++ s)
 Begins-append text u s (rest, e) = (rest ++ s, ap (λ x. x ++ s) e ∙ append_assoc text rest s)

@@ -1,7 +1,8 @@
 -- Where a needle occurs in a text, and where the end marker of a paste first occurs.
-use Rattle.std.proofs.Common.{◌≡◌, ◌⊎◌, ℕ, ◌+◌, ◌-◌, ◌<◌, ◌≤◌, List, [], ◌∷◌, ◌++◌, length, take, drop, refl, sym, ap, ◌∙◌, subst, arith, append_assoc, length-append, length-drop, length-take-le, take-append-drop, drop-drop, get_or-drop, ⊎_elim}
+use Rattle.std.proofs.Common.{◌≡◌, ℕ, ◌+◌, ◌-◌, ◌<◌, ◌≤◌, List, [], ◌∷◌, ◌++◌, length, take, drop, refl, sym, ap, ◌∙◌, subst, arith, append_assoc, length-append, length-drop, length-take-le, take-append-drop, drop-drop, get_or-drop, ⊎_elim}
 use Rattle.std.specs.Prelude.{Option, Some, None}
 use Rattle.std.proofs.lemmas.List.{take_rest}
+use Rattle.std.proofs.lemmas.Bool.{cases_lt}
 use Rattle.std.proofs.Math.Seq.{take-append_seam, drop-append_seam}
 use Rattle.memchr.specs.Find.{OccursAt, FindsNeedle, Nowhere}
 use Rattle.memchr.proofs.lemmas.MatchLemmas.{OccursAt-split, OccursAt-from_part}
@@ -51,7 +52,7 @@ occurs_between u before needle after e =
     (ap (take (length needle)) rest ∙ take-append_seam needle after)
 
 -- what a search for the end marker says of a paste
-pub endless : (u : List ℕ) → Begins START u → FindsNeedle u END 6 None → (body : List ℕ) → u ≡ START ++ body → Occurs END body → ⊥
+pub endless : (u : List ℕ) → Begins START u → FindsNeedle u END 6 None → (body : List ℕ) → u ≡ START ++ body → ¬ Occurs END body
 endless u begins never body e (before, after, o) =
     let here = occurs_between u (START ++ before) END after (e ∙ ap (λ x. START ++ x) o) in
     never (length (START ++ before)) (omega arith) (omega (arith, here.fits)) here
@@ -107,10 +108,7 @@ paste_to u k begins found = record {
         none_left after (omega (arith, ap length e, length-append body END, length-append (before ++ END) after, length-append before END, long_body, low, least))
       where
         not_before : (j : ℕ) → 6 ≤ j → OccursAt u END j → k ≤ j
-        not_before j l o = ⊎_elim (λ (h : k ≤ j). h) (λ (h : j < k). absurd (found.0.before j l h o)) (le_or_less k j)
-          where
-            le_or_less : (a b : ℕ) → (a ≤ b) ⊎ (b < a)
-            le_or_less a b = grind arith
+        not_before j l o = ⊎_elim (λ (h : j < k). absurd (found.0.before j l h o)) (λ (h : k ≤ j). h) (cases_lt j k)
 
         none_left : (t : List ℕ) → length t ≤ 0 → t ≡ []
         none_left [] l = refl

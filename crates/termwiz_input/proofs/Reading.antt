@@ -5,12 +5,13 @@ use Rattle.std.specs.Option.{option_map}
 use Rattle.std.specs.Char.{IsScalar}
 use Rattle.std.specs.FinMap.{get}
 use Rattle.std.proofs.Math.Seq.{take-append_seam}
+use Rattle.std.proofs.lemmas.Bool.{cases_lt}
 use Rattle.bstr.specs.Utf8.{Decoded, decoded}
 use Rattle.bstr.proofs.lemmas.SoundLemmas.{SpellsChar-decoded}
 use Rattle.bstr.proofs.lemmas.EncodeLemmas.{decoded-encode}
 use Rattle.termwiz_input.specs.declared.types.KeyEvent.{KeyEvent}
 use Rattle.termwiz_input.specs.declared.types.MouseEvent.{MouseEvent}
-use Rattle.termwiz_input.specs.declared.item.Front.TheVariants.{Row as row, Frame as frame, Character as character}
+use Rattle.termwiz_input.specs.declared.head.Head.TheVariants.{Row as row, Frame as frame, Character as character}
 use Rattle.termwiz_input.specs.Bytes.{Begins}
 use Rattle.termwiz_input.specs.Lookup.{IsLongestKey, IsExtended, NoKeyBegins}
 use Rattle.termwiz_input.specs.Table.{table}
@@ -20,8 +21,8 @@ use Rattle.termwiz_input.specs.Known.{Meaning, IsKnown}
 use Rattle.termwiz_input.specs.Known.Meaning.{Row, Frame}
 use Rattle.termwiz_input.specs.Grammar.{Head, IsHead, IsOpen}
 use Rattle.termwiz_input.specs.Grammar.Head.{Known, Character}
-use Rattle.termwiz_input.specs.Fronts.{IsFront, HasNoHead, HasNoFrame, HasNoFront, character_of}
-use Rattle.termwiz_input.proofs.Lists.{append-some, length-some, Overlaps, overlap}
+use Rattle.termwiz_input.specs.AtFront.{HasHead, HasNoHead, NoFrameBegins, HasNoHeadYet, character_of}
+use Rattle.termwiz_input.proofs.Lists.{append-some, length-some, length-Begins, Overlaps, overlap}
 use Rattle.termwiz_input.proofs.Lists.Overlaps.{within, past}
 use Rattle.termwiz_input.proofs.Facts.{frame_ends, known_some}
 use Rattle.termwiz_input.proofs.Standing.{encode_some as encoding_some}
@@ -30,9 +31,6 @@ use Rattle.termwiz_input.proofs.TableFacts.{row_from_table, table_from_row}
 -- what a beginning of a text is
 begins_take : (u : List ℕ) (n : ℕ) → Begins (take n u) u
 begins_take u n = (drop n u, sym (take-append-drop n u))
-
-begins_length : (other u : List ℕ) → Begins other u → length other ≤ length u
-begins_length other u b = omega (arith, ap length b.1, length-append other b.0)
 
 begins_is : (other u : List ℕ) → Begins other u → take (length other) u ≡ other
 begins_is other u b = ap (take (length other)) b.1 ∙ take-append_seam other b.0
@@ -61,7 +59,7 @@ some_none : (o : Option KeyEvent) (k : KeyEvent) → o ≡ Some k → o ≡ None
 some_none o k e f = cc
 
 -- the longest key of the map is the longest known text, where no frame begins the text
-pub longest_from_key : (u : List ℕ) (n : ℕ) (k : KeyEvent) → HasNoFrame u → IsLongestKey table u n k → IsFront u (row k n)
+pub longest_from_key : (u : List ℕ) (n : ℕ) (k : KeyEvent) → NoFrameBegins u → IsLongestKey table u n k → HasHead u (row k n)
 longest_from_key u n k none is = (
   is.within,
   record {
@@ -73,12 +71,9 @@ longest_from_key u n k none is = (
   where
     at_most : (other : List ℕ) (m : Meaning) → IsKnown other m → Begins other u → length other ≤ length (take n u)
     at_most other (Row j) known b = ⊎_elim
+        (λ (l : n < length other). absurd (some_none _ j (stored_at u other j b known) (is.longest (length other) l (length-Begins other u b))))
         (λ (l : length other ≤ n). omega (arith, length-take-le n u is.within))
-        (λ (l : n < length other). absurd (some_none _ j (stored_at u other j b known) (is.longest (length other) l (begins_length other u b))))
-        (le_or_less (length other) n)
-      where
-        le_or_less : (a b : ℕ) → (a ≤ b) ⊎ (b < a)
-        le_or_less a b = grind arith
+        (cases_lt n (length other))
     at_most other (Frame event) known b = absurd (none other event (frame_known other event known) b)
 
 -- where a text is open, the map has a longer key that begins with it, or the text begins a frame
@@ -110,13 +105,13 @@ empty_headless h is = go h is
     go (Known text m) is = none_begins text (known_some text m is.known) is.begins
     go (Character c) is = none_begins (encode_utf8 c) (encoding_some c) is.begins
 
-pub extended_waits : (u : List ℕ) → IsExtended table u → HasNoFront u true
+pub extended_waits : (u : List ℕ) → IsExtended table u → HasNoHeadYet u true
 extended_waits [] ext = inr empty_headless
 extended_waits (x ∷ u) ext = inl (open_from_extended (x ∷ u) (λ h. cc) ext)
 
 -- no known text begins the text, where no key and no frame does
-pub nothing_known : (u : List ℕ) → HasNoFrame u → NoKeyBegins table u → (text : List ℕ) (m : Meaning) → IsKnown text m → Begins text u → ⊥
-nothing_known u none no_key text (Row k) known b = some_none _ k (stored_at u text k b known) (no_key (length text) (begins_length text u b))
+pub nothing_known : (u : List ℕ) → NoFrameBegins u → NoKeyBegins table u → (text : List ℕ) (m : Meaning) → IsKnown text m → Begins text u → ⊥
+nothing_known u none no_key text (Row k) known b = some_none _ k (stored_at u text k b known) (no_key (length text) (length-Begins text u b))
 nothing_known u none no_key text (Frame event) known b = none text event (frame_known text event known) b
 
 same_pair : (d s c n : ℕ) → ◌≡◌ {A = Option (ℕ × ℕ)} (Some (d, s)) (Some (c, n)) → (d ≡ c) × (s ≡ n)
@@ -136,7 +131,7 @@ spelled u c n e = go (decoded u).char refl e
         (spells.scalar, sym (spells.width ∙ same.1), (drop (decoded u).size u, spells.bytes))
     go None f h = absurd (cc (h))
 
-pub character_front : (u : List ℕ) (c n : ℕ) → HasNoFrame u → NoKeyBegins table u → character_of u ≡ Some (c, n) → IsFront u (character c n)
+pub character_front : (u : List ℕ) (c n : ℕ) → NoFrameBegins u → NoKeyBegins table u → character_of u ≡ Some (c, n) → HasHead u (character c n)
 character_front u c n none no_key e =
     let s = spelled u c n e in
     (s.1, record { unknown = nothing_known u none no_key; scalar = s.0; begins = s.2 })
@@ -148,12 +143,12 @@ unspelled u e c scalar b =
     let found : option_map {U = ℕ × ℕ} (λ d. (d, (decoded u).size)) (decoded u).char ≡ Some (c, (decoded u).size) = ap (option_map {U = ℕ × ℕ} (λ d. (d, (decoded u).size))) read in
     cc (e, found)
 
-pub headless : (u : List ℕ) → HasNoFrame u → NoKeyBegins table u → character_of u ≡ None → HasNoHead u
+pub headless : (u : List ℕ) → NoFrameBegins u → NoKeyBegins table u → character_of u ≡ None → HasNoHead u
 headless u none no_key e (Known text m) is = nothing_known u none no_key text m is.known is.begins
 headless u none no_key e (Character c) is = unspelled u e c is.scalar is.begins
 
 -- a frame at the front is the head, and nothing that comes changes it
-pub frame_front : (u : List ℕ) (n : ℕ) (event : MouseEvent) → n ≤ length u → IsFrame (take n u) event → IsFront u (frame event n)
+pub frame_front : (u : List ℕ) (n : ℕ) (event : MouseEvent) → n ≤ length u → IsFrame (take n u) event → HasHead u (frame event n)
 frame_front u n event inside f = (
   inside,
   record {
@@ -175,13 +170,13 @@ frame_closed u n more event f opens =
     append-some (drop n u) tail opens.unfinished.longer
     (frame_ends (take n u) (drop n u ++ tail) event opens.unfinished.meaning (known_frame (take n u) event f) (subst (λ x. IsKnown x opens.unfinished.meaning) whole opens.unfinished.known))
 
-pub begun_waits : (u : List ℕ) → IsBegun u → HasNoFront u true
+pub begun_waits : (u : List ℕ) → IsBegun u → HasNoHeadYet u true
 begun_waits [] begun = inr empty_headless
 begun_waits (x ∷ u) (tail, event, longer, f) =
     inl (record { more_comes = refl; some = λ h. cc; unfinished = record { tail = tail; longer = longer; meaning = Frame event; known = known_frame (x ∷ u ++ tail) event f } })
 
 -- where a text properly begins a frame, no frame begins it
-pub begun_no_frame : (u : List ℕ) → IsBegun u → HasNoFrame u
+pub begun_no_frame : (u : List ℕ) → IsBegun u → NoFrameBegins u
 begun_no_frame u (tail, event, longer, f) word other g b =
     let whole : u ++ tail ≡ word ++ (b.0 ++ tail) = ap (λ x. x ++ tail) b.1 ∙ append_assoc word b.0 tail in
     append-some b.0 tail longer

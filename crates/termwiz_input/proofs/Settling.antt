@@ -11,7 +11,7 @@ use Rattle.termwiz_input.specs.Known.Meaning.{Row, Frame}
 use Rattle.termwiz_input.specs.Grammar.{Head, IsHead, IsLongest, IsOpen, IsAfterEscape, bytes_of, IsKey, IsApart, Item, Stands, IsRest}
 use Rattle.termwiz_input.specs.Grammar.Head.{Known, Character}
 use Rattle.termwiz_input.specs.Grammar.Item.{key, char, mouse, paste, lone_escape, alt}
-use Rattle.termwiz_input.specs.Laws.{OneMeaning, WaitingShape, Waits}
+use Rattle.termwiz_input.specs.Laws.{EmptyIsRest, OneMeaning, WaitingShape, Waits}
 use Rattle.termwiz_input.specs.Laws.Waits.{nothing, open_paste, broken, undecided}
 use Rattle.termwiz_input.proofs.Lists.{append-some_left, length-some}
 use Rattle.termwiz_input.proofs.Facts.{known_once, escape_known, beginnings_short}
@@ -103,12 +103,13 @@ by_head u f closed (Known text (Row k)) is = ⊎_elim
     (same_or_not text ESC))
     (same_or_not text START)
 
-pub settle : (u : List ℕ) (f : Bool) → Settled u f
-settle [] f = resting
-    (λ bytes event stands.
+pub empty_is_rest : EmptyIsRest
+empty_is_rest f bytes event stands =
     let b = item_begins [] bytes event f stands.item in
-    append-some_left bytes b.0 (item_some [] bytes event f stands.item) (sym b.1))
-    (nothing refl)
+    append-some_left bytes b.0 (item_some [] bytes event f stands.item) (sym b.1)
+
+pub settle : (u : List ℕ) (f : Bool) → Settled u f
+settle [] f = resting (empty_is_rest f) (nothing refl)
 settle (x ∷ u) f = ⊎_elim
     (λ (o : IsOpen (x ∷ u) f). resting (λ bytes event stands. stands.closed o)
     (undecided [] (x ∷ u) (inl refl) refl (λ h. cc) o.unfinished
@@ -132,8 +133,7 @@ meaning_within : (n : ℕ) (T : List ℕ) (f : Bool) → length T ≤ n → (E :
 meaning_within zero [] f l = go (settle [] f)
   where
     go : Settled [] f → (E : List InputEvent) × (W : List ℕ) × Read [] f E W
-    go (standing bytes event stands) = let b = item_begins [] bytes event f stands.item in
-        absurd (append-some_left bytes b.0 (item_some [] bytes event f stands.item) (sym b.1))
+    go (standing bytes event stands) = absurd (empty_is_rest f bytes event stands)
     go (resting r waits) = ([], [], (refl, r))
 meaning_within zero (x ∷ T) f l = absurd (omega arith)
 meaning_within (suc n) T f l = go (settle T f) (λ rest lt. meaning_within n rest f lt)

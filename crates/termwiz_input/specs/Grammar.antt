@@ -24,7 +24,7 @@ pub record IsLongest (u text : List ℕ) (meaning : Meaning) : Type 0 where
 
 -- no known text begins u, and the UTF-8 encoding of the character c does (Unicode, Table 3-7)
 pub record IsCharacter (u : List ℕ) (c : ℕ) : Type 0 where
-  pub unknown : (text : List ℕ) (m : Meaning) → IsKnown text m → Begins text u → ⊥
+  pub unknown : (text : List ℕ) (m : Meaning) → IsKnown text m → ¬ Begins text u
   pub scalar : IsScalar c
   pub begins : Begins (encode_utf8 c) u
 
@@ -98,9 +98,13 @@ pub record Stands (u : List ℕ) (more : Bool) (bytes : List ℕ) (event : Input
 abbrev pub HasItem : List ℕ → Bool → Type 0
 HasItem u more = (bytes : List ℕ) × (event : InputEvent) × Stands u more bytes event
 
+-- a paste stands at u
+abbrev pub HasPaste : List ℕ → Bool → Type 0
+HasPaste u more = (bytes text : List ℕ) × Stands u more bytes (Paste text)
+
 -- no item stands at u
 abbrev pub IsRest : List ℕ → Bool → Type 0
-IsRest u more = (bytes : List ℕ) (event : InputEvent) → Stands u more bytes event → ⊥
+IsRest u more = (bytes : List ℕ) (event : InputEvent) → ¬ Stands u more bytes event
 
 -- The text is the bytes of items, one after another, and then what waits: each stands at the text from its place on.
 abbrev pub Steps : List ℕ → Bool → List InputEvent → List ℕ → Type 0

@@ -1,5 +1,5 @@
 -- The laws of the grammar.
-use Rattle.std.specs.Prelude.{◌≡◌, ◌≢◌, ℕ, ◌≤◌, ◌⊎◌, ◌↔◌, Bool, true, List, [], ◌++◌, length, Contains}
+use Rattle.std.specs.Prelude.{◌≡◌, ◌≢◌, ℕ, ◌+◌, ◌≤◌, ◌⊎◌, ◌↔◌, Bool, true, List, [], ◌++◌, length, Contains}
 use Rattle.termwiz_input.specs.declared.types.KeyEvent.{KeyEvent}
 use Rattle.termwiz_input.specs.declared.types.InputEvent.{InputEvent}
 use Rattle.termwiz_input.specs.Bytes.{Occurs, ESC, CSI, SS3, START, END}
@@ -28,16 +28,24 @@ abbrev pub OneMeaning : Type 0
 OneMeaning = (T : List ℕ) (f : Bool) → (E : List InputEvent) × (W : List ℕ) × Means T f E W
     × ((D : List InputEvent) (V : List ℕ) → Means T f D V → (D ≡ E) × (V ≡ W))
 
--- nothing, or one held Escape
-abbrev pub IsHeld : List ℕ → Type 0
-IsHeld held = (held ≡ []) ⊎ (held ≡ ESC)
+-- Each event takes at least one byte, so there are no more events than bytes.
+abbrev pub FewEvents : Type 0
+FewEvents = (T W : List ℕ) (E : List InputEvent) (f : Bool) → Steps T f E W → length E + length W ≤ length T
+
+-- The empty text waits.
+abbrev pub EmptyIsRest : Type 0
+EmptyIsRest = (f : Bool) → IsRest [] f
+
+-- nothing, or one Escape that is held for what follows it
+abbrev pub IsHeldEscape : List ℕ → Type 0
+IsHeldEscape held = (held ≡ []) ⊎ (held ≡ ESC)
 
 -- What can wait.
 pub data Waits (u : List ℕ) (more : Bool) : Type 0 where
   nothing : u ≡ [] → Waits u more
-  open_paste : (body : List ℕ) → u ≡ START ++ body → (Occurs END body → ⊥) → Waits u more
-  broken : (held bytes : List ℕ) → IsHeld held → u ≡ held ++ bytes → bytes ≢ [] → ((h : Head) → IsHead bytes h → ⊥) → Waits u more
-  undecided : (held bytes : List ℕ) → IsHeld held → u ≡ held ++ bytes → bytes ≢ [] → IsUnfinished bytes → length bytes ≤ 20 → more ≡ true → Waits u more
+  open_paste : (body : List ℕ) → u ≡ START ++ body → ¬ Occurs END body → Waits u more
+  broken : (held bytes : List ℕ) → IsHeldEscape held → u ≡ held ++ bytes → bytes ≢ [] → ((h : Head) → ¬ IsHead bytes h) → Waits u more
+  undecided : (held bytes : List ℕ) → IsHeldEscape held → u ≡ held ++ bytes → bytes ≢ [] → IsUnfinished bytes → length bytes ≤ 20 → more ≡ true → Waits u more
 
 -- Every rest waits for one of these.
 abbrev pub WaitingShape : Type 0

@@ -1,3 +1,4 @@
+pub mod AtFront
 pub mod Branch
 pub mod Buttons
 pub mod Bytes
@@ -5,7 +6,6 @@ pub mod Entries
 pub mod Events
 pub mod Frame
 pub mod Frames
-pub mod Fronts
 pub mod Grammar
 pub mod Keys
 pub mod Known

@@ -1,18 +1,18 @@
 //! The parser: bytes of a terminal to events.
-ghost use Rattle.std.specs.Prelude.{◌≡◌, ◌≢◌, ◌++◌, ◌+◌, ◌≤◌, ℕ, List, [], length, drop, Contains, Some, true, false, OnErr, IfOk, IfErr, IfSome, IfNone, IsTrue, ◌↔◌};
+ghost use Rattle.std.specs.Prelude.{◌≡◌, ◌≢◌, ◌++◌, ◌+◌, ◌≤◌, ℕ, List, [], length, drop, Contains, Some, true, false, OnErr, IfOk, IfErr, IfSome, IfNone, IsTrue, ◌↔◌, OnOk};
 ghost use Rattle.termwiz_input.specs.declared.types.KeyEvent.{KeyEvent};
 ghost use Rattle.termwiz_input.specs.Bytes.{Begins, START};
-ghost use Rattle.termwiz_input.specs.Grammar.{HasItem, IsRest, Steps, Means};
-ghost use Rattle.termwiz_input.specs.Fronts.{StandsTo};
+ghost use Rattle.termwiz_input.specs.Grammar.{HasItem, HasPaste, IsRest, Steps, Means};
+ghost use Rattle.termwiz_input.specs.AtFront.{IsItemAt};
 
 #[cfg(test)]
 mod plain;
 #[cfg(test)]
 mod tests;
 
-use crate::bytes::begins_with;
-use crate::item::{PASTE_START, item_at, paste_at};
+use crate::item::{Item, item_at};
 use crate::keymap::KeyMap;
+use crate::paste::begins_paste;
 use crate::readbuf::ReadBuffer;
 use crate::rules::add_rows;
 pub use crate::types::{
@@ -22,13 +22,13 @@ use std::alloc::{AllocError, Global};
 use std::marker::Model;
 pub use termwiz_base::{Flags, Modifiers};
 
-/// A call of [`InputParser::parse_as_vec`] was refused memory. The parser stands exactly after `events`, and may be used
-/// again.
+/// A call of [`InputParser::parse_as_vec`] was refused memory. No event is lost: the parser stands after `events`, and the
+/// next call goes on from there. Call again with the same bytes if `taken` is false, and with no bytes if it is true.
 #[derive(PartialEq, Eq, Debug, Drop)]
 pub struct ParseVecError {
     /// The events so far.
     pub events: Vec<InputEvent>,
-    /// Whether the bytes of the call were taken. If not, there are no events, and the parser is as it was.
+    /// Whether the bytes of the call were taken. If not, there are no events, and the parser is unchanged.
     pub taken: bool,
 }
 
@@ -58,8 +58,10 @@ impl InputParser {
     ghost use Rattle.std.specs.FinMap as map;
     ghost use Rattle.termwiz_input.specs.Table.{rows, table};
 
-    /// A parser with exactly the sequence table, and with an empty waiting text. The table is the same in every later
-    /// state, by the invariant of the type.
+    /// A parser whose key map is exactly the sequence table, and whose waiting text is empty.
+    ///
+    /// The clause `exactly` speaks of the table alone: that the parser's key map is this table, now and in every later
+    /// state, is the invariant of the type.
     #[tactic(auto, unfolding(crate::specs::Table::table))]
     pub fn new(alloc: Global) -> Result<InputParser, AllocError>
         ensures empty { IfOk result (λ parser. parser ≡ []) }
@@ -81,23 +83,34 @@ impl InputParser {
         self.buffer.len()
     }
 
-    /// Whether the waiting text begins with the start of a paste, whose end didn't come yet or wasn't read yet.
+    /// Whether the waiting text begins with the start of a paste.
     pub fn is_paste_open(&self) -> bool
         ensures { IsTrue result ↔ Begins START self.now }
     {
-        begins_with(self.buffer.as_slice(), PASTE_START)
+        begins_paste(self.buffer.as_slice())
     }
 
-    // The item at the front of the waiting text: its event and the number of its bytes. It stays there.
-    fn peek(&self, maybe_more: bool) -> Result<Option<(InputEvent, usize)>, AllocError>
-        ensures item { IfOk result (λ found. IfSome found (StandsTo self.now maybe_more)) }
-        ensures none { IfOk result (λ found. IfNone found (IsRest self.now maybe_more)) }
-        ensures refused { OnErr result (HasItem self.now maybe_more) }
+    // Appends bytes to the waiting text. No bytes need no memory.
+    fn take_in(&mut self, bytes: &[u8]) -> Result<(), AllocError>
+        ensures ok { OnOk result (self.new ≡ self.old ++ bytes.now) }
+        ensures err { OnErr result (self.new ≡ self.old) }
+        ensures some { OnErr result (bytes.now ≢ []) }
     {
-        if self.is_paste_open() {
-            return paste_at(self.alloc, &self.buffer, maybe_more);
-        }
-        Ok(item_at(&self.key_map, self.buffer.as_slice(), maybe_more))
+        self.buffer.extend_with(bytes)
+    }
+
+    // The item at the front of the waiting text, where it stays.
+    fn peek(&self, maybe_more: bool) -> Result<Option<Item>, AllocError>
+        ensures item { IfOk result (λ found. IfSome found (IsItemAt self.now maybe_more)) }
+        ensures none { IfOk result (λ found. IfNone found (IsRest self.now maybe_more)) }
+        ensures refused { OnErr result (HasPaste self.now maybe_more) }
+    {
+        item_at(
+            self.alloc,
+            &self.key_map,
+            self.buffer.as_slice(),
+            maybe_more,
+        )
     }
 
     // Drops the first bytes of the waiting text.
@@ -108,8 +121,30 @@ impl InputParser {
         self.buffer.advance(len);
     }
 
-    /// The events of the waiting text followed by `bytes`, in order; the rest waits. Under `maybe_more` a text that may
-    /// yet become another known text waits too.
+    // Moves the events of the waiting text to an empty list, in order. An event leaves the parser only after it is stored.
+    fn store_events(
+        &mut self,
+        events: &mut Vec<InputEvent>,
+        maybe_more: bool,
+    ) -> Result<(), AllocError>
+        requires { events.old.items ≡ [] }
+        ensures steps { Steps self.old maybe_more events.new.items self.new }
+        ensures rest { OnOk result (IsRest self.new maybe_more) }
+        ensures item { OnErr result (HasItem self.new maybe_more) }
+        ensures few { length events.new.items + length self.new ≤ length self.old }
+    {
+        while let Some(Item { event, len }) = self.peek(maybe_more)? {
+            events.push(event)?;
+            self.consume(len);
+        }
+        Ok(())
+    }
+
+    /// Appends `bytes` to the waiting text, and returns its events in order. What is no event yet waits.
+    ///
+    /// Pass `maybe_more` as true while more bytes may come: then a text that may yet become a longer known text waits.
+    /// Pass false at the end of the input, or if a pause says that an Escape was meant alone: then only an open paste and
+    /// bytes that begin no character wait. No bytes and false flush a parser.
     pub fn parse_as_vec(
         &mut self,
         bytes: &[u8],
@@ -117,36 +152,23 @@ impl InputParser {
     ) -> Result<Vec<InputEvent>, ParseVecError>
         ensures ok { IfOk result (λ events. Means (self.old ++ bytes.now) maybe_more events.items self.new) }
         ensures few { IfOk result (λ events. length events.items + length self.new ≤ length self.old + length bytes.now) }
-        ensures not_taken { IfErr result (λ e. e.taken ≡ false → (e.events.items ≡ []) × (self.new ≡ self.old) × (bytes.now ≢ [])) }
-        ensures taken { IfErr result (λ e. e.taken ≡ true
-            → Steps (self.old ++ bytes.now) maybe_more e.events.items self.new × HasItem self.new maybe_more) }
+
+        // If the bytes weren't taken, nothing happened.
+        ensures not_taken_none { IfErr result (λ e. e.taken ≡ false → e.events.items ≡ []) }
+        ensures not_taken_same { IfErr result (λ e. e.taken ≡ false → self.new ≡ self.old) }
+        ensures not_taken_some { IfErr result (λ e. e.taken ≡ false → bytes.now ≢ []) }
+
+        // If they were, the parser stands after the events of the error, and an item is at its front.
+        ensures taken { IfErr result (λ e. e.taken ≡ true → Steps (self.old ++ bytes.now) maybe_more e.events.items self.new) }
+        ensures taken_item { IfErr result (λ e. e.taken ≡ true → HasItem self.new maybe_more) }
+        ensures taken_few { IfErr result (λ e. e.taken ≡ true
+            → length e.events.items + length self.new ≤ length self.old + length bytes.now) }
     {
         let mut events = Vec::new(self.alloc);
-        if self.buffer.extend_with(bytes).is_err() {
-            return Err(ParseVecError {
-                events,
-                taken: false,
-            });
+        let taken = self.take_in(bytes).is_ok();
+        if taken && self.store_events(&mut events, maybe_more).is_ok() {
+            return Ok(events);
         }
-        loop {
-            let Ok(item) = self.peek(maybe_more) else {
-                return Err(ParseVecError {
-                    events,
-                    taken: true,
-                });
-            };
-            let Some((event, len)) = item else {
-                return Ok(events);
-            };
-            match events.push(event) {
-                Ok(()) => self.consume(len),
-                Err(_) => {
-                    return Err(ParseVecError {
-                        events,
-                        taken: true,
-                    });
-                }
-            }
-        }
+        Err(ParseVecError { events, taken })
     }
 }

@@ -1,76 +1,33 @@
-// The item at the front of a text: which event it is, and how many bytes it has.
-//
-// A known text is a row of the sequence table or a mouse frame. The head of a text is the longest known text that begins
-// it, or else the character that does. Nothing is decided where more may come and the whole text may yet become a longer
-// known text.
-ghost use Rattle.std.specs.Prelude.{◌≡◌, ◌≢◌, ◌++◌, ◌≤◌, [], length, take, true, OnErr, IfOk, IfSome, IfNone, IsSome};
-ghost use Rattle.std.specs.Str.Lossy.{utf8_lossy};
+// The item at the front of a text: the event that it gives, and the number of its bytes.
+ghost use Rattle.std.specs.Prelude.{◌≡◌, ◌≢◌, ◌++◌, ◌≤◌, [], length, take, OnErr, IfOk, IfSome, IfNone};
 ghost use Rattle.termwiz_input.specs.Bytes.{Begins, ESC, START};
-ghost use Rattle.termwiz_input.specs.Frames.{IsBegun};
 ghost use Rattle.termwiz_input.specs.Keys.{plain, escape, with_alt};
 ghost use Rattle.termwiz_input.specs.Known.Meaning.{Row};
-ghost use Rattle.termwiz_input.specs.Grammar.{IsLongest, IsOpen, HasItem, IsRest};
-ghost use Rattle.termwiz_input.specs.Fronts.{IsFront, StandsTo, HasNoFront, HasNoFrame, HasNoHead, character_of};
-ghost use Rattle.termwiz_input.specs.Lookup.{NoKeyBegins};
+ghost use Rattle.termwiz_input.specs.Grammar.{IsLongest, IsOpen, HasPaste, IsRest};
+ghost use Rattle.termwiz_input.specs.AtFront.{IsItemAt};
 ghost use Rattle.termwiz_input.specs.Table.{table};
 
-use crate::bytes::begins_with;
-use crate::frame::{FrontFrame, frame_at};
-use crate::keymap::{Found, KeyMap};
-use crate::readbuf::ReadBuffer;
-use crate::types::{InputEvent, KeyCode, KeyEvent, MouseEvent, PastedText};
-use bstr::{ByteSlice, decode_utf8};
+use crate::head::{Head, head_at};
+use crate::keymap::KeyMap;
+use crate::paste::{begins_paste, paste_at};
+use crate::types::{InputEvent, KeyCode, KeyEvent};
 use std::alloc::{AllocError, Global};
 use termwiz_base::{Flags, Modifiers};
 
-// What comes before a pasted text, and after it.
-pub(crate) const PASTE_START: &[u8] = b"\x1b[200~";
-
-const PASTE_END: &[u8] = b"\x1b[201~";
-
-// What begins a text, and how many bytes it has.
+// An item: its event, and the number of its bytes.
 #[derive(Drop)]
-enum Front {
-    Row(KeyEvent, usize),
-    Frame(MouseEvent, usize),
-    Character(char, usize),
+pub(crate) struct Item {
+    pub(crate) event: InputEvent,
+    pub(crate) len: usize,
 }
 
-// The character that begins the text, and how many bytes it has.
-#[tactic(auto, unfolding(crate::specs::Fronts::character_of))]
-fn character_at(text: &[u8]) -> Option<(char, usize)>
-    ensures { result ≡ character_of text.now }
+// An item that is a key.
+fn key_item(key: KeyEvent, len: usize) -> Item
+    ensures { result ≡ record { event = InputEvent.Key key; len = len } }
 {
-    let (found, len) = decode_utf8(text);
-    found.map(|character| (character, len))
-}
-
-// The text of pasted bytes, with U+FFFD for what is no character.
-fn lossy_text(alloc: Global, bytes: &[u8]) -> Result<PastedText, AllocError>
-    ensures { IfOk result (λ text. text ≡ utf8_lossy bytes.now) }
-{
-    let mut text = String::new(alloc);
-    bytes.to_str_lossy_into(&mut text)?;
-    Ok(PastedText::new(text))
-}
-
-// The paste at the front of the text: its event and the number of its bytes. None where its end isn't there.
-pub(crate) fn paste_at(
-    alloc: Global,
-    text: &ReadBuffer,
-    maybe_more: bool,
-) -> Result<Option<(InputEvent, usize)>, AllocError>
-    requires { Begins START text.now }
-    ensures item { IfOk result (λ found. IfSome found (StandsTo text.now maybe_more)) }
-    ensures none { IfOk result (λ found. IfNone found (IsRest text.now maybe_more)) }
-    ensures refused { OnErr result (HasItem text.now maybe_more) }
-{
-    let Some(end) = text.find_subsequence(PASTE_START.len(), PASTE_END) else {
-        return Ok(None);
-    };
-    match lossy_text(alloc, &text.as_slice()[PASTE_START.len()..end]) {
-        Ok(pasted) => Ok(Some((InputEvent::Paste(pasted), end + PASTE_END.len()))),
-        Err(fault) => Err(fault),
+    Item {
+        event: InputEvent::Key(key),
+        len,
     }
 }
 
@@ -94,7 +51,7 @@ fn escape_key() -> KeyEvent
     }
 }
 
-// The same key with ALT held too.
+// The same key with ALT added to its modifiers.
 fn alt_key(key: KeyEvent) -> KeyEvent
     ensures { result ≡ with_alt key }
 {
@@ -104,60 +61,7 @@ fn alt_key(key: KeyEvent) -> KeyEvent
     }
 }
 
-// The head of a text that no known text begins: a character, if there is one.
-fn lone_character_at(text: &[u8]) -> Option<Front>
-    requires no_frame { HasNoFrame text.now }
-    requires no_row { NoKeyBegins table text.now }
-    ensures front { IfSome result (IsFront text.now) }
-    ensures headless { IfNone result (HasNoHead text.now) }
-{
-    match character_at(text) {
-        Some((character, len)) => Some(Front::Character(character, len)),
-        None => None,
-    }
-}
-
-// The head of a text that no frame begins: a row, or else a character. None where more to come may change it, and
-// where there is none.
-fn row_or_character_at(key_map: &KeyMap<KeyEvent>, text: &[u8], maybe_more: bool) -> Option<Front>
-    requires rows { key_map.now ≡ table }
-    requires no_frame { HasNoFrame text.now }
-    requires not_begun { maybe_more ≡ true → IsBegun text.now → ⊥ }
-    ensures closed { IsSome result → ¬ IsOpen text.now maybe_more }
-    ensures front { IfSome result (IsFront text.now) }
-    ensures waits { IfNone result (HasNoFront text.now maybe_more) }
-{
-    match key_map.lookup(text, maybe_more) {
-        Found::Exact(len, key) => Some(Front::Row(
-            KeyEvent {
-                key: key.key,
-                modifiers: key.modifiers,
-            },
-            len,
-        )),
-        Found::Ambiguous(..) => None,
-        Found::NeedData if maybe_more => None,
-        Found::NeedData => lone_character_at(text),
-        Found::None => lone_character_at(text),
-    }
-}
-
-// The head of a text, and None where more to come may change it, and where there is none.
-fn front_at(key_map: &KeyMap<KeyEvent>, text: &[u8], maybe_more: bool) -> Option<Front>
-    requires { key_map.now ≡ table }
-    ensures closed { IsSome result → ¬ IsOpen text.now maybe_more }
-    ensures front { IfSome result (IsFront text.now) }
-    ensures waits { IfNone result (HasNoFront text.now maybe_more) }
-{
-    match frame_at(text) {
-        FrontFrame::Whole(event, len) => Some(Front::Frame(event, len)),
-        FrontFrame::Begun if maybe_more => None,
-        FrontFrame::Begun => row_or_character_at(key_map, text, maybe_more),
-        FrontFrame::Absent => row_or_character_at(key_map, text, maybe_more),
-    }
-}
-
-// What follows a lone Escape that is the head of the text, and not all of it.
+// What follows the Escape, if the head of the text is the byte ESC and the text goes on after it.
 fn after_escape(text: &[u8], len: usize) -> Option<&[u8]>
     requires { len ≤ length text.now }
     ensures some { IfSome result (λ rest. (len ≡ 1) × (text.now ≡ ESC ++ rest.now) × (rest.now ≢ [])) }
@@ -169,55 +73,64 @@ fn after_escape(text: &[u8], len: usize) -> Option<&[u8]>
     }
 }
 
-// The item at an Escape that other bytes follow: the Escape joins the key after it, and stands alone before a frame
-// and before a paste.
-fn joined_at(
-    key_map: &KeyMap<KeyEvent>,
-    rest: &[u8],
-    maybe_more: bool,
-) -> Option<(InputEvent, usize)>
+// The item at an Escape that `rest` follows: the Escape adds ALT to the key after it, and stands alone before a frame and
+// before a paste.
+fn escape_item_at(key_map: &KeyMap<KeyEvent>, rest: &[u8], maybe_more: bool) -> Option<Item>
     requires rows { key_map.now ≡ table }
     requires closed { ¬ IsOpen (ESC ++ rest.now) maybe_more }
     requires head { IsLongest (ESC ++ rest.now) ESC (Row escape) }
     requires some { rest.now ≢ [] }
-    ensures item { IfSome result (StandsTo (ESC ++ rest.now) maybe_more) }
+    ensures item { IfSome result (IsItemAt (ESC ++ rest.now) maybe_more) }
     ensures none { IfNone result (IsRest (ESC ++ rest.now) maybe_more) }
 {
-    if begins_with(rest, PASTE_START) {
-        return Some((InputEvent::Key(escape_key()), 1));
+    if begins_paste(rest) {
+        return Some(key_item(escape_key(), 1));
     }
-    match front_at(key_map, rest, maybe_more) {
-        Some(Front::Row(key, len)) => Some((InputEvent::Key(alt_key(key)), 1 + len)),
-        Some(Front::Character(character, len)) => Some((
-            InputEvent::Key(alt_key(plain_key(character))),
-            1 + len,
-        )),
-        Some(Front::Frame(..)) => Some((InputEvent::Key(escape_key()), 1)),
+    match head_at(key_map, rest, maybe_more) {
+        Some(Head::Row(key, len)) => Some(key_item(alt_key(key), 1 + len)),
+        Some(Head::Character(character, len)) => {
+            Some(key_item(alt_key(plain_key(character)), 1 + len))
+        }
+        Some(Head::Frame(..)) => Some(key_item(escape_key(), 1)),
         None => None,
     }
 }
 
-// The item at a text that doesn't begin with the start of a paste: its event and the number of its bytes.
+// The item at a text that doesn't begin with the start of a paste.
+fn key_or_mouse_at(key_map: &KeyMap<KeyEvent>, text: &[u8], maybe_more: bool) -> Option<Item>
+    requires rows { key_map.now ≡ table }
+    requires no_paste { ¬ Begins START text.now }
+    ensures item { IfSome result (IsItemAt text.now maybe_more) }
+    ensures none { IfNone result (IsRest text.now maybe_more) }
+{
+    match head_at(key_map, text, maybe_more) {
+        Some(Head::Row(key, len)) => match after_escape(text, len) {
+            Some(rest) => escape_item_at(key_map, rest, maybe_more),
+            None => Some(key_item(key, len)),
+        },
+        Some(Head::Frame(event, len)) => Some(Item {
+            event: InputEvent::Mouse(event),
+            len,
+        }),
+        Some(Head::Character(character, len)) => Some(key_item(plain_key(character), len)),
+        None => None,
+    }
+}
+
+// The item at the front of a text, and `None` if the text waits. Only the text of a paste takes memory.
 pub(crate) fn item_at(
+    alloc: Global,
     key_map: &KeyMap<KeyEvent>,
     text: &[u8],
     maybe_more: bool,
-) -> Option<(InputEvent, usize)>
-    requires rows { key_map.now ≡ table }
-    requires no_paste { Begins START text.now → ⊥ }
-    ensures item { IfSome result (StandsTo text.now maybe_more) }
-    ensures none { IfNone result (IsRest text.now maybe_more) }
+) -> Result<Option<Item>, AllocError>
+    requires { key_map.now ≡ table }
+    ensures item { IfOk result (λ found. IfSome found (IsItemAt text.now maybe_more)) }
+    ensures none { IfOk result (λ found. IfNone found (IsRest text.now maybe_more)) }
+    ensures refused { OnErr result (HasPaste text.now maybe_more) }
 {
-    match front_at(key_map, text, maybe_more) {
-        Some(Front::Row(key, len)) => match after_escape(text, len) {
-            Some(rest) => joined_at(key_map, rest, maybe_more),
-            None => Some((InputEvent::Key(key), len)),
-        },
-        Some(Front::Frame(event, len)) => Some((InputEvent::Mouse(event), len)),
-        Some(Front::Character(character, len)) => Some((
-            InputEvent::Key(plain_key(character)),
-            len,
-        )),
-        None => None,
+    if begins_paste(text) {
+        return paste_at(alloc, text, maybe_more);
     }
+    Ok(key_or_mouse_at(key_map, text, maybe_more))
 }

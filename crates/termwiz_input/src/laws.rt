@@ -1,7 +1,7 @@
 //! Laws of the grammar and of the key map, each the contract of a function without effect.
 //!
-//! They speak of the definitions alone. That the parser obeys the definitions is said by its own contracts.
-ghost use Rattle.termwiz_input.specs.Laws.{CutIndependent, ExactStays, OneMeaning, Resumes, ThreeBeginnings, WaitingShape};
+//! They speak of the definitions alone; that the parser obeys the definitions is said by its own contracts.
+ghost use Rattle.termwiz_input.specs.Laws.{CutIndependent, EmptyIsRest, ExactStays, FewEvents, OneMeaning, Resumes, ThreeBeginnings, WaitingShape};
 
 /// Each text means, under each flag, exactly one list of events and one rest.
 pub fn one_meaning()
@@ -13,27 +13,39 @@ pub fn three_beginnings()
     ensures { ThreeBeginnings }
 {}
 
-/// However a text is cut, it means the same: if T under more to come gives the events E1 and the rest W1, and W1 followed
-/// by S gives E2 and W2, then T followed by S gives E1 followed by E2, and W2.
+/// A text may be read in parts, all but the last with more to come: if T with more to come gives the events E1 and the rest
+/// W1, and W1 followed by S gives E2 and W2 under either flag, then T followed by S gives E1 followed by E2, and W2, under
+/// that flag.
 pub fn cut_independent()
     ensures { CutIndependent }
 {}
 
-/// Going on gives the events of the whole: from any place between two items, with more bytes under either flag, or with none
-/// under the same flag.
+/// Reading may stop between any two items and go on later: with more bytes under either flag if it stopped with more to
+/// come, or without more bytes under the same flag. The events are those of the whole text.
 pub fn resumes()
     ensures { Resumes }
 {}
 
-/// What waits is nothing, an open paste, a broken character, or undecided bytes. A broken character is bytes, at whose front
-/// neither a known text nor a whole character stands, after at most one held Escape. Undecided are at most twenty bytes that
-/// properly begin a known text, after at most one held Escape, and only where more may come.
+/// There are no more events than bytes, also where reading stops between two items: the events and the bytes that are left
+/// are together at most as many as the bytes of the text.
+pub fn few_events()
+    ensures { FewEvents }
+{}
+
+/// The empty text gives no event, under either flag.
+pub fn empty_is_rest()
+    ensures { EmptyIsRest }
+{}
+
+/// What waits is one of four: nothing; an open paste; a broken character, which is bytes that neither a known text nor a
+/// whole character begins, after at most one Escape; or, if more may come, at most twenty bytes that properly begin a known
+/// text, after at most one Escape.
 pub fn waiting_shape()
     ensures { WaitingShape }
 {}
 
-/// Where a lookup answers `Exact` although more may come, each longer text that begins with that text has the same answer,
-/// under either flag: for every map, of every type of value.
+/// If a lookup answers `Exact` although more may come, each longer text that begins with that text has the same answer, under
+/// either flag: for every map, of every type of value.
 pub fn exact_stays<V>()
     ensures { ExactStays V }
 {}

@@ -3,10 +3,12 @@
 
 mod bytes;
 mod frame;
+mod head;
 pub mod input;
 mod item;
 pub mod keymap;
 pub mod laws;
+mod paste;
 pub mod readbuf;
 mod rules;
 pub mod types;

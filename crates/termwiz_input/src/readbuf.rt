@@ -1,12 +1,13 @@
-//! The bytes that came and were not used yet.
-ghost use Rattle.std.specs.Prelude.{◌≡◌, ◌≤◌, ◌++◌, ◌==◌, [], length, drop, OnOk, OnErr, IsOk, Some};
+//! A buffer of bytes that came and weren't used yet.
+ghost use Rattle.std.specs.Prelude.{◌≡◌, ◌≤◌, ◌++◌, ◌↔◌, [], length, drop, IsTrue, OnOk, OnErr, IsOk, Some};
 ghost use Rattle.memchr.specs.Find.{FindsNeedle};
 
-use memchr::memmem;
+use crate::bytes::find_from;
 use std::alloc::{AllocError, Global};
 use std::marker::Model;
 
-/// Bytes that came and were not used yet, which contracts see as a list of bytes. It keeps its allocator.
+/// Bytes that came and weren't used yet: append with [`ReadBuffer::extend_with`], drop from the front with
+/// [`ReadBuffer::advance`]. Contracts see a list of bytes. The buffer keeps its allocator.
 #[derive(Debug, Drop)]
 pub struct ReadBuffer {
     bytes: Vec<u8>,
@@ -21,7 +22,7 @@ impl Model for ReadBuffer {
 }
 
 impl ReadBuffer {
-    /// A buffer without bytes. It takes no memory.
+    /// An empty buffer, which takes no memory.
     pub fn new(alloc: Global) -> ReadBuffer
         ensures { result ≡ [] }
     {
@@ -46,7 +47,7 @@ impl ReadBuffer {
 
     /// Whether there are no bytes.
     pub fn is_empty(&self) -> bool
-        ensures { result ≡ (length self.now == 0) }
+        ensures { IsTrue result ↔ (self.now ≡ []) }
     {
         self.bytes.is_empty()
     }
@@ -59,11 +60,11 @@ impl ReadBuffer {
         self.bytes.drain(..len);
     }
 
-    /// Adds the bytes at the end. Where memory is refused, the buffer is as it was; no bytes need no memory.
+    /// Appends the bytes. If memory is refused, the buffer is unchanged. No bytes need no memory.
     pub fn extend_with(&mut self, slice: &[u8]) -> Result<(), AllocError>
         ensures ok { OnOk result (self.new ≡ self.old ++ slice.now) }
         ensures err { OnErr result (self.new ≡ self.old) }
-        ensures nothing { length slice.now ≡ 0 → IsOk result }
+        ensures nothing { slice.now ≡ [] → IsOk result }
     {
         if slice.is_empty() {
             return Ok(());
@@ -71,13 +72,13 @@ impl ReadBuffer {
         self.bytes.extend_from_slice(slice)
     }
 
-    /// The least place at or after `offset` where `needle` occurs; an empty needle occurs at `offset`.
+    /// The first place at or after `offset` where `needle` occurs, and `None` if it occurs nowhere there. An empty needle
+    /// occurs at `offset`.
     pub fn find_subsequence(&self, offset: usize, needle: &[u8]) -> Option<usize>
         requires { offset ≤ length self.now }
         ensures first { FindsNeedle self.now needle.now offset result }
         ensures empty { needle.now ≡ [] → result ≡ Some offset }
     {
-        let found = memmem::find(&self.as_slice()[offset..], needle)?;
-        Some(offset + found)
+        find_from(self.as_slice(), offset, needle)
     }
 }

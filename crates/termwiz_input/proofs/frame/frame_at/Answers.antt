@@ -1,5 +1,5 @@
 use Rattle.termwiz_input.proofs.FrameReading.{introducer_begun, no_introducer}
-use Rattle.termwiz_input.proofs.Fronts.{denied}
+use Rattle.termwiz_input.proofs.Prefixes.{denied}
 use Rattle.termwiz_input.proofs.frame.frame_at.Goals as goal
 
 pub returns-then-begins_with-2 : goal.returns-then-begins_with-2

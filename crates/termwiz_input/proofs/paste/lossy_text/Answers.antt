@@ -2,7 +2,7 @@ use Rattle.std.proofs.Common.{◌∙◌, ◌++◌, ap, refl}
 use Rattle.std.specs.Str.{encode_utf8_all}
 use Rattle.bstr.specs.Utf8.{lossy_chars}
 use Rattle.bstr.proofs.lemmas.LossyLemmas.{lossy_chars-utf8_lossy}
-use Rattle.termwiz_input.proofs.item.lossy_text.Goals as goal
+use Rattle.termwiz_input.proofs.paste.lossy_text.Goals as goal
 
 pub returns : goal.returns
 returns c =

@@ -2,15 +2,15 @@ use Rattle.std.proofs.Common.{◌≡◌, subst}
 use Rattle.std.specs.Prelude.{false}
 use Rattle.termwiz_input.specs.Lookup.{IsLongestKey, IsExtended}
 use Rattle.termwiz_input.proofs.Reading.{longest_from_key, extended_waits, extended_from_open, exact_closed}
-use Rattle.termwiz_input.proofs.item.row_or_character_at.Goals as goal
+use Rattle.termwiz_input.proofs.head.unframed_head_at.Goals as goal
 
 pub returns-in-Exact-clause-closed : goal.returns-in-Exact-clause-closed
 returns-in-Exact-clause-closed c = λ some opens.
     exact_closed c.args.text.now c.args.maybe_more c.requires.not_begun
     (subst (λ m. IsExtended m c.args.text.now → c.args.maybe_more ≡ false) c.requires.rows c.in-Exact.ensures.1) opens
 
-pub returns-in-Exact-clause-front : goal.returns-in-Exact-clause-front
-returns-in-Exact-clause-front c =
+pub returns-in-Exact-clause-head : goal.returns-in-Exact-clause-head
+returns-in-Exact-clause-head c =
     longest_from_key c.args.text.now c.in-Exact.len c.in-Exact.key.now c.requires.no_frame
     (subst (λ m. IsLongestKey m c.args.text.now c.in-Exact.len c.in-Exact.key.now) c.requires.rows c.in-Exact.ensures.0)
 

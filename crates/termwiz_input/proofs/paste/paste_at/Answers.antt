@@ -1,10 +1,10 @@
-use Rattle.std.proofs.Common.{◌∙◌, ◌-◌, ◌+◌, ap, sym, subst, take, drop}
+use Rattle.std.proofs.Common.{◌-◌, ◌+◌, sym, subst, take, drop}
 use Rattle.std.specs.Str.Lossy.{utf8_lossy}
 use Rattle.termwiz_input.specs.declared.types.InputEvent.TheVariants.{Paste}
-use Rattle.termwiz_input.specs.Fronts.{StandsTo}
+use Rattle.termwiz_input.specs.AtFront.{IsItemAt}
 use Rattle.termwiz_input.proofs.Places.{endless, paste_to}
-use Rattle.termwiz_input.proofs.Items.{paste_stands, paste_rest, item_there}
-use Rattle.termwiz_input.proofs.item.paste_at.Goals as goal
+use Rattle.termwiz_input.proofs.Items.{item_of, paste_stands, paste_rest, paste_there}
+use Rattle.termwiz_input.proofs.paste.paste_at.Goals as goal
 
 pub returns-in_default-clause-none : goal.returns-in_default-clause-none
 returns-in_default-clause-none c =
@@ -13,12 +13,10 @@ returns-in_default-clause-none c =
 pub returns-in-Ok-clause-item : goal.returns-in-Ok-clause-item
 returns-in-Ok-clause-item c =
     let end = c.in-Some.end in
-    let text = c.in-Ok.ensures ∙ ap (λ u. utf8_lossy (take (end - 6) (drop 6 u))) c.as_slice.ensures in
-    subst (λ t. StandsTo c.args.text.now c.args.maybe_more (Paste t, end + 6)) (sym text)
+    subst (λ t. IsItemAt c.args.text.now c.args.maybe_more (item_of (Paste t) (end + 6))) (sym c.in-Ok.ensures)
     (paste_stands c.args.text.now c.args.maybe_more end c.requires (paste_to c.args.text.now end c.requires c.in-Some.ensures.first))
 
 pub returns-in-Err-clause-refused : goal.returns-in-Err-clause-refused
 returns-in-Err-clause-refused c =
     let end = c.in-Some.end in
-    item_there c.args.text.now c.args.maybe_more (Paste (utf8_lossy (take (end - 6) (drop 6 c.args.text.now))), end + 6)
-    (paste_stands c.args.text.now c.args.maybe_more end c.requires (paste_to c.args.text.now end c.requires c.in-Some.ensures.first))
+    paste_there c.args.text.now c.args.maybe_more end c.requires (paste_to c.args.text.now end c.requires c.in-Some.ensures.first)

@@ -1,0 +1,38 @@
+-- What the parser finds at the front of a text, in the words of the grammar.
+use Rattle.std.specs.Prelude.{◌≡◌, ◌⊎◌, ℕ, ◌≤◌, Bool, List, length, take, encode_utf8, Option}
+use Rattle.std.specs.Option.{option_map}
+use Rattle.bstr.specs.Utf8.{decoded}
+use Rattle.termwiz_input.specs.declared.item.Item.{Item}
+use Rattle.termwiz_input.specs.declared.head.Head.{Head as FoundHead}
+use Rattle.termwiz_input.specs.declared.head.Head.TheVariants.{Row as row, Frame as frame, Character as character}
+use Rattle.termwiz_input.specs.Known.Meaning.{Row, Frame}
+use Rattle.termwiz_input.specs.declared.types.MouseEvent.{MouseEvent}
+use Rattle.termwiz_input.specs.Bytes.{Begins}
+use Rattle.termwiz_input.specs.Frame.{IsFrame}
+use Rattle.termwiz_input.specs.Grammar.{IsLongest, IsCharacter, Stands, Head, IsHead, IsOpen}
+
+-- the head of the text is this one, and it has so many bytes
+abbrev pub HasHead : List ℕ → FoundHead → Type 0
+HasHead u (row key len) = (len ≤ length u) × IsLongest u (take len u) (Row key)
+HasHead u (frame event len) = (len ≤ length u) × IsLongest u (take len u) (Frame event)
+HasHead u (character c len) = (len ≡ length (encode_utf8 c)) × IsCharacter u c
+
+-- the text has no head
+abbrev pub HasNoHead : List ℕ → Type 0
+HasNoHead u = (h : Head) → ¬ IsHead u h
+
+-- the text has no head yet: it is open, or it has none
+abbrev pub HasNoHeadYet : List ℕ → Bool → Type 0
+HasNoHeadYet u more = IsOpen u more ⊎ HasNoHead u
+
+-- no frame begins the text
+abbrev pub NoFrameBegins : List ℕ → Type 0
+NoFrameBegins u = (word : List ℕ) (event : MouseEvent) → IsFrame word event → ¬ Begins word u
+
+-- an item with this event stands at the text, and its bytes are so many first ones
+abbrev pub IsItemAt : List ℕ → Bool → Item → Type 0
+IsItemAt u more item = (item.len ≤ length u) × Stands u more (take item.len u) item.event
+
+-- the character that begins a text and the length of its encoding (Unicode, Table 3-7)
+unfoldable pub character_of : List ℕ → Option (ℕ × ℕ)
+character_of u = option_map (λ c. (c, (decoded u).size)) (decoded u).char

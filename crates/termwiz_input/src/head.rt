@@ -1,0 +1,83 @@
+// The head of a text: the longest known text that begins it, or else the character that does. A known text is a row of the
+// sequence table or a mouse frame.
+ghost use Rattle.std.specs.Prelude.{◌≡◌, ◌≢◌, true, IfSome, IfNone, IsSome};
+ghost use Rattle.termwiz_input.specs.Frames.{IsBegun};
+ghost use Rattle.termwiz_input.specs.Grammar.{IsOpen};
+ghost use Rattle.termwiz_input.specs.AtFront.{HasHead, HasNoHead, HasNoHeadYet, NoFrameBegins, character_of};
+ghost use Rattle.termwiz_input.specs.Lookup.{NoKeyBegins};
+ghost use Rattle.termwiz_input.specs.Table.{table};
+
+use crate::frame::{FrontFrame, frame_at};
+use crate::keymap::{Found, KeyMap};
+use crate::types::{KeyEvent, MouseEvent};
+use bstr::decode_utf8;
+
+// The head of a text, and the number of its bytes.
+#[derive(Drop)]
+pub(crate) enum Head {
+    Row(KeyEvent, usize),
+    Frame(MouseEvent, usize),
+    Character(char, usize),
+}
+
+// The character that begins the text, and the number of its bytes.
+#[tactic(auto, unfolding(crate::specs::AtFront::character_of))]
+fn character_at(text: &[u8]) -> Option<(char, usize)>
+    ensures { result ≡ character_of text.now }
+{
+    let (found, len) = decode_utf8(text);
+    found.map(|character| (character, len))
+}
+
+// The head of a text that no known text begins: a character, if there is one.
+fn unknown_head_at(text: &[u8]) -> Option<Head>
+    requires no_frame { NoFrameBegins text.now }
+    requires no_row { NoKeyBegins table text.now }
+    ensures head { IfSome result (HasHead text.now) }
+    ensures headless { IfNone result (HasNoHead text.now) }
+{
+    match character_at(text) {
+        Some((character, len)) => Some(Head::Character(character, len)),
+        None => None,
+    }
+}
+
+// The head of a text that no frame begins: a row, or else a character. `None` if more bytes may change it, and if there is
+// none.
+fn unframed_head_at(key_map: &KeyMap<KeyEvent>, text: &[u8], maybe_more: bool) -> Option<Head>
+    requires rows { key_map.now ≡ table }
+    requires no_frame { NoFrameBegins text.now }
+    requires not_begun { maybe_more ≡ true → ¬ IsBegun text.now }
+    ensures closed { IsSome result → ¬ IsOpen text.now maybe_more }
+    ensures head { IfSome result (HasHead text.now) }
+    ensures waits { IfNone result (HasNoHeadYet text.now maybe_more) }
+{
+    match key_map.lookup(text, maybe_more) {
+        Found::Exact(len, key) => Some(Head::Row(
+            KeyEvent {
+                key: key.key,
+                modifiers: key.modifiers,
+            },
+            len,
+        )),
+        Found::Ambiguous(..) => None,
+        Found::NeedData if maybe_more => None,
+        Found::NeedData => unknown_head_at(text),
+        Found::None => unknown_head_at(text),
+    }
+}
+
+// The head of a text. `None` if more bytes may change it, and if there is none.
+pub(crate) fn head_at(key_map: &KeyMap<KeyEvent>, text: &[u8], maybe_more: bool) -> Option<Head>
+    requires { key_map.now ≡ table }
+    ensures closed { IsSome result → ¬ IsOpen text.now maybe_more }
+    ensures head { IfSome result (HasHead text.now) }
+    ensures waits { IfNone result (HasNoHeadYet text.now maybe_more) }
+{
+    match frame_at(text) {
+        FrontFrame::Whole(event, len) => Some(Head::Frame(event, len)),
+        FrontFrame::Begun if maybe_more => None,
+        FrontFrame::Begun => unframed_head_at(key_map, text, maybe_more),
+        FrontFrame::Absent => unframed_head_at(key_map, text, maybe_more),
+    }
+}

@@ -1,0 +1,56 @@
+// Pasted texts, as a terminal sends them in xterm's bracketed paste mode: between ESC `[200~` and ESC `[201~`.
+ghost use Rattle.std.specs.Prelude.{◌≡◌, ◌↔◌, IsTrue, OnErr, IfOk, IfSome, IfNone};
+ghost use Rattle.std.specs.Str.Lossy.{utf8_lossy};
+ghost use Rattle.termwiz_input.specs.Bytes.{Begins, START};
+ghost use Rattle.termwiz_input.specs.AtFront.{IsItemAt};
+ghost use Rattle.termwiz_input.specs.Grammar.{HasPaste, IsRest};
+
+use crate::bytes::{begins_with, find_from};
+use crate::item::Item;
+use crate::types::{InputEvent, PastedText};
+use bstr::ByteSlice;
+use std::alloc::{AllocError, Global};
+
+// What comes before a pasted text, and after it.
+const PASTE_START: &[u8] = b"\x1b[200~";
+
+const PASTE_END: &[u8] = b"\x1b[201~";
+
+// Whether a paste begins the text.
+pub(crate) fn begins_paste(text: &[u8]) -> bool
+    ensures { IsTrue result ↔ Begins START text.now }
+{
+    begins_with(text, PASTE_START)
+}
+
+// Pasted bytes as text, with U+FFFD for what is no character.
+fn lossy_text(alloc: Global, bytes: &[u8]) -> Result<PastedText, AllocError>
+    ensures { IfOk result (λ text. text ≡ utf8_lossy bytes.now) }
+{
+    let mut text = String::new(alloc);
+    bytes.to_str_lossy_into(&mut text)?;
+    Ok(PastedText::new(text))
+}
+
+// The paste that begins the text, and `None` if its end isn't there.
+pub(crate) fn paste_at(
+    alloc: Global,
+    text: &[u8],
+    maybe_more: bool,
+) -> Result<Option<Item>, AllocError>
+    requires { Begins START text.now }
+    ensures item { IfOk result (λ found. IfSome found (IsItemAt text.now maybe_more)) }
+    ensures none { IfOk result (λ found. IfNone found (IsRest text.now maybe_more)) }
+    ensures refused { OnErr result (HasPaste text.now maybe_more) }
+{
+    let Some(end) = find_from(text, PASTE_START.len(), PASTE_END) else {
+        return Ok(None);
+    };
+    match lossy_text(alloc, &text[PASTE_START.len()..end]) {
+        Ok(pasted) => Ok(Some(Item {
+            event: InputEvent::Paste(pasted),
+            len: end + PASTE_END.len(),
+        })),
+        Err(fault) => Err(fault),
+    }
+}
