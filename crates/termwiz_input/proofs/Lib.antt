@@ -1,3 +1,4 @@
+pub mod Calls
 pub mod Counting
 pub mod Cutting
 pub mod ExactStays
@@ -14,6 +15,7 @@ pub mod KeyRows
 pub mod KeyWalk
 pub mod Lists
 pub mod Meaning
+pub mod Numbering
 pub mod Numbers
 pub mod Pastes
 pub mod Places

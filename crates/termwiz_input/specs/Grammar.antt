@@ -116,3 +116,7 @@ Steps text more (event ∷ events) waiting =
 pub record Means (text : List ℕ) (more : Bool) (events : List InputEvent) (waiting : List ℕ) : Type 0 where
   pub steps : Steps text more events waiting
   pub rest : IsRest waiting more
+
+-- The events that a text gives, as far as they are read, are no paste's.
+abbrev pub GivesNoPaste : List ℕ → Bool → Type 0
+GivesNoPaste text more = (events : List InputEvent) (rest : List ℕ) → Steps text more events rest → ¬ HasPaste rest more

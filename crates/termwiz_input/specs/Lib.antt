@@ -2,6 +2,7 @@ pub mod AtFront
 pub mod Branch
 pub mod Buttons
 pub mod Bytes
+pub mod Callbacks
 pub mod Entries
 pub mod Events
 pub mod Frame
@@ -11,5 +12,6 @@ pub mod Keys
 pub mod Known
 pub mod Laws
 pub mod Lookup
+pub mod Pieces
 pub mod Suffixes
 pub mod Table

@@ -1,9 +1,12 @@
 //! The parser: bytes of a terminal to events.
-ghost use Rattle.std.specs.Prelude.{◌≡◌, ◌≢◌, ◌++◌, ◌+◌, ◌≤◌, ℕ, List, [], length, drop, Contains, Some, true, false, OnErr, IfOk, IfErr, IfSome, IfNone, IsTrue, ◌↔◌, OnOk};
+ghost use Rattle.std.specs.Prelude.{◌≡◌, ◌≢◌, ◌++◌, ◌+◌, ◌^◌, ◌<◌, ◌≤◌, ℕ, List, [], length, drop, Contains, Some, true, false, OnErr, IfOk, IfErr, IfSome, IfNone, IsTrue, ◌↔◌, ◌==◌, ◌⊎◌, if◌then◌else◌, OnOk, IsOk, IsErrOf};
 ghost use Rattle.termwiz_input.specs.declared.types.KeyEvent.{KeyEvent};
 ghost use Rattle.termwiz_input.specs.Bytes.{Begins, START};
-ghost use Rattle.termwiz_input.specs.Grammar.{HasItem, HasPaste, IsRest, Steps, Means};
+ghost use Rattle.termwiz_input.specs.Grammar.{GivesNoPaste, HasItem, HasPaste, IsRest, Steps, Means};
 ghost use Rattle.termwiz_input.specs.AtFront.{IsItemAt};
+ghost use Rattle.termwiz_input.specs.Callbacks.{MayBeCalledOn, MayBeCalledOnNumbered, WasCalledOn, WasCalledOnNumbered};
+ghost use Rattle.termwiz_input.specs.Pieces.{AreNumbered, NumberedEvent, ReadsFirst, events_of, flag_at, join, numbered, pieces_or_one, taken_or_one, texts};
+ghost use Rattle.termwiz_input.specs.declared.types.InputEvent.{InputEvent as Event};
 
 #[cfg(test)]
 mod plain;
@@ -21,6 +24,43 @@ pub use crate::types::{
 use std::alloc::{AllocError, Global};
 use std::marker::Model;
 pub use termwiz_base::{Flags, Modifiers};
+use thiserror::Error;
+
+/// A call of [`InputParser::parse`] was refused memory. The parser may be used again.
+#[derive(Clone, Copy, PartialEq, Eq, Debug, Error)]
+pub enum ParseError {
+    /// The bytes weren't taken: no event was given, and the parser is unchanged. Call again with the same bytes.
+    #[error("input not taken: out of memory")]
+    NotTaken,
+    /// The bytes were taken, and memory for the text of a paste was refused. The paste is still at the front of what waits:
+    /// call again with no bytes.
+    #[error("input taken: out of memory")]
+    Taken,
+}
+
+/// A call of [`InputParser::parse_pieces`] was refused memory. The parser may be used again: call with the pieces from `taken`
+/// on, or with no pieces and the same flag if all were taken.
+#[derive(Clone, Copy, PartialEq, Eq, Debug, Error)]
+#[error("out of memory after {taken} pieces")]
+pub struct PiecesError {
+    /// How many pieces were taken, the one that met the refusal among them if its bytes were taken. The events that were
+    /// given are theirs.
+    pub taken: usize,
+}
+
+impl PiecesError {
+    // A refusal of the piece with this number.
+    fn at(number: usize, fault: ParseError) -> PiecesError
+        requires { number + 1 < 2 ^ 64 }
+        ensures not_taken { fault ≡ ParseError.NotTaken → result.taken ≡ number }
+        ensures taken { fault ≡ ParseError.Taken → result.taken ≡ number + 1 }
+    {
+        match fault {
+            ParseError::NotTaken => PiecesError { taken: number },
+            ParseError::Taken => PiecesError { taken: number + 1 },
+        }
+    }
+}
 
 /// A call of [`InputParser::parse_as_vec`] was refused memory. No event is lost: the parser stands after `events`, and the
 /// next call goes on from there. Call again with the same bytes if `taken` is false, and with no bytes if it is true.
@@ -30,6 +70,14 @@ pub struct ParseVecError {
     pub events: Vec<InputEvent>,
     /// Whether the bytes of the call were taken. If not, there are no events, and the parser is unchanged.
     pub taken: bool,
+}
+
+// Whether more may come after the piece with this number, of so many.
+fn more_after(number: usize, count: usize, maybe_more: bool) -> bool
+    requires { number < count }
+    ensures { result ≡ (if number + 1 == count then maybe_more else true) }
+{
+    maybe_more || number + 1 < count
 }
 
 /// Reads events from the bytes that a terminal sends, however they are cut.
@@ -105,12 +153,8 @@ impl InputParser {
         ensures none { IfOk result (λ found. IfNone found (IsRest self.now maybe_more)) }
         ensures refused { OnErr result (HasPaste self.now maybe_more) }
     {
-        item_at(
-            self.alloc,
-            &self.key_map,
-            self.buffer.as_slice(),
-            maybe_more,
-        )
+        let waiting = self.buffer.as_slice();
+        item_at(self.alloc, &self.key_map, waiting, maybe_more)
     }
 
     // Drops the first bytes of the waiting text.
@@ -119,6 +163,139 @@ impl InputParser {
         ensures { self.new ≡ drop len self.old }
     {
         self.buffer.advance(len);
+    }
+
+    /// Appends `bytes` to the waiting text, and calls `callback` with each of its events in order. What is no event yet waits.
+    ///
+    /// Pass `maybe_more` as true while more bytes may come: then a text that may yet become a longer known text waits.
+    /// Pass false at the end of the input, or if a pause says that an Escape was meant alone: then only an open paste and
+    /// bytes that begin no character wait. No bytes and false flush a parser.
+    pub fn parse<F: FnMut(InputEvent)>(
+        &mut self,
+        bytes: &[u8],
+        callback: &mut F,
+        maybe_more: bool,
+    ) -> Result<(), ParseError>
+        requires { (events : List Event) (rest : List ℕ) → Steps (self.old ++ bytes.now) maybe_more events rest
+            → MayBeCalledOn F.FnMut callback.old events }
+        ensures ok { OnOk result ((events : List Event) × Means (self.old ++ bytes.now) maybe_more events self.new
+            × WasCalledOn F.step callback.old events callback.new) }
+
+        // If the bytes weren't taken, nothing happened.
+        ensures not_taken_same { IsErrOf result ParseError.NotTaken → self.new ≡ self.old }
+        ensures not_taken_quiet { IsErrOf result ParseError.NotTaken → callback.new ≡ callback.old }
+        ensures not_taken_some { IsErrOf result ParseError.NotTaken → bytes.now ≢ [] }
+
+        // If they were, the parser stands after the events that were given, and a paste is at its front.
+        ensures taken { IsErrOf result ParseError.Taken
+            → (events : List Event) × Steps (self.old ++ bytes.now) maybe_more events self.new
+            × WasCalledOn F.step callback.old events callback.new }
+        ensures taken_paste { IsErrOf result ParseError.Taken → HasPaste self.new maybe_more }
+
+        // No bytes need no memory, unless the waiting text gives a paste.
+        ensures granted { bytes.now ≡ [] → GivesNoPaste self.old maybe_more → IsOk result }
+    {
+        if self.take_in(bytes).is_err() {
+            return Err(ParseError::NotTaken);
+        }
+        loop {
+            let Ok(found) = self.peek(maybe_more) else {
+                return Err(ParseError::Taken);
+            };
+            let Some(Item { event, len }) = found else {
+                return Ok(());
+            };
+            self.consume(len);
+            callback(event);
+        }
+    }
+
+    // Appends a piece to the waiting text, and calls back with its number and each of its events.
+    fn feed<F: FnMut(usize, InputEvent)>(
+        &mut self,
+        number: usize,
+        piece: &[u8],
+        callback: &mut F,
+        maybe_more: bool,
+    ) -> Result<(), ParseError>
+        requires { (events : List Event) (rest : List ℕ) → Steps (self.old ++ piece.now) maybe_more events rest
+            → MayBeCalledOnNumbered F.FnMut callback.old (numbered number events) }
+        ensures ok { OnOk result ((events : List Event) × Means (self.old ++ piece.now) maybe_more events self.new
+            × WasCalledOnNumbered F.step callback.old (numbered number events) callback.new) }
+        ensures not_taken_same { IsErrOf result ParseError.NotTaken → self.new ≡ self.old }
+        ensures not_taken_quiet { IsErrOf result ParseError.NotTaken → callback.new ≡ callback.old }
+        ensures not_taken_some { IsErrOf result ParseError.NotTaken → piece.now ≢ [] }
+        ensures taken { IsErrOf result ParseError.Taken
+            → (events : List Event) × Steps (self.old ++ piece.now) maybe_more events self.new
+            × WasCalledOnNumbered F.step callback.old (numbered number events) callback.new }
+        ensures taken_paste { IsErrOf result ParseError.Taken → HasPaste self.new maybe_more }
+        ensures granted { piece.now ≡ [] → GivesNoPaste self.old maybe_more → IsOk result }
+    {
+        if self.take_in(piece).is_err() {
+            return Err(ParseError::NotTaken);
+        }
+        loop {
+            let Ok(found) = self.peek(maybe_more) else {
+                return Err(ParseError::Taken);
+            };
+            let Some(Item { event, len }) = found else {
+                return Ok(());
+            };
+            self.consume(len);
+            callback(number, event);
+        }
+    }
+
+    /// Appends each piece to the waiting text in turn, and calls `callback` with the number of the piece, from 0, and each of
+    /// the events. All pieces but the last are read with more to come, and the last under `maybe_more`. No pieces are one
+    /// piece without bytes.
+    ///
+    /// The events are those of all pieces in a row, however they are cut.
+    pub fn parse_pieces<F: FnMut(usize, InputEvent)>(
+        &mut self,
+        pieces: &[&[u8]],
+        callback: &mut F,
+        maybe_more: bool,
+    ) -> Result<(), PiecesError>
+        requires { (taken : ℕ) (given : List NumberedEvent) (rest : List ℕ)
+            → ReadsFirst self.old (pieces_or_one (texts pieces.now)) maybe_more taken given rest
+            → MayBeCalledOnNumbered F.FnMut callback.old given }
+        ensures ok { OnOk result ((given : List NumberedEvent)
+            × Means (self.old ++ join (texts pieces.now)) maybe_more (events_of given) self.new
+            × AreNumbered self.old (pieces_or_one (texts pieces.now)) given
+            × WasCalledOnNumbered F.step callback.old given callback.new) }
+
+        // Nothing happened if the first of some pieces wasn't taken.
+        ensures none_taken_same { IfErr result (λ e. pieces.now ≢ [] → e.taken ≡ 0 → self.new ≡ self.old) }
+        ensures none_taken_quiet { IfErr result (λ e. pieces.now ≢ [] → e.taken ≡ 0 → callback.new ≡ callback.old) }
+
+        // The parser stands after the events that were given, which are events of the pieces that were taken.
+        ensures taken { IfErr result (λ e. (given : List NumberedEvent)
+            × ReadsFirst self.old (pieces_or_one (texts pieces.now)) maybe_more (taken_or_one (texts pieces.now) e.taken) given self.new
+            × WasCalledOnNumbered F.step callback.old given callback.new) }
+        ensures within { IfErr result (λ e. e.taken ≤ length pieces.now) }
+
+        // A paste is at its front, or the next piece wasn't taken.
+        ensures stops { IfErr result (λ e. 0 < taken_or_one (texts pieces.now) e.taken
+            → HasPaste self.new (flag_at (pieces_or_one (texts pieces.now)) maybe_more (taken_or_one (texts pieces.now) e.taken))
+            ⊎ ((e.taken < length pieces.now) × IsRest self.new true)) }
+
+        // No pieces need no memory, unless the waiting text gives a paste.
+        ensures granted { pieces.now ≡ [] → GivesNoPaste self.old maybe_more → IsOk result }
+    {
+        if pieces.is_empty() {
+            return match self.feed(0, &[], callback, maybe_more) {
+                Ok(()) => Ok(()),
+                Err(_) => Err(PiecesError { taken: 0 }),
+            };
+        }
+        for (number, piece) in pieces.iter().enumerate() {
+            let more = more_after(number, pieces.len(), maybe_more);
+            if let Err(fault) = self.feed(number, piece, callback, more) {
+                return Err(PiecesError::at(number, fault));
+            }
+        }
+        Ok(())
     }
 
     // Moves the events of the waiting text to an empty list, in order. An event leaves the parser only after it is stored.

@@ -1,5 +1,4 @@
-use Rattle.std.proofs.Common.{◌-◌, ◌+◌, sym, subst, take, drop}
-use Rattle.std.specs.Str.Lossy.{utf8_lossy}
+use Rattle.std.proofs.Common.{◌+◌, sym, subst}
 use Rattle.termwiz_input.specs.declared.types.InputEvent.TheVariants.{Paste}
 use Rattle.termwiz_input.specs.AtFront.{IsItemAt}
 use Rattle.termwiz_input.proofs.Places.{endless, paste_to}

@@ -1,4 +1,4 @@
-use Rattle.std.proofs.Common.{◌∷◌, [], ◌++◌, ◌+◌, ◌<◌, ◌≤◌, ◌∙◌, sym, ap, subst, arith, length-append, length, drop}
+use Rattle.std.proofs.Common.{◌<◌, sym, subst, length}
 use Rattle.std.specs.Prelude.{IfSome}
 use Rattle.termwiz_input.specs.AtFront.{IsItemAt}
 use Rattle.termwiz_input.proofs.Counting.{few_events, item_shortens, steps_more}

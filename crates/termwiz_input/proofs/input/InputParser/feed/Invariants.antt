@@ -1,0 +1,18 @@
+use Rattle.std.proofs.Common.{◌++◌, List, ℕ, length}
+use Rattle.termwiz_input.specs.declared.types.InputEvent.{InputEvent}
+use Rattle.termwiz_input.specs.Grammar.{Steps}
+use Rattle.termwiz_input.specs.Callbacks.{MayBeCalledOnNumbered, WasCalledOnNumbered}
+use Rattle.termwiz_input.specs.Pieces.{numbered}
+use Rattle.termwiz_input.proofs.input.InputParser.feed.Given as goal
+
+abbrev pub invariant-loop-found : goal.invariant-loop-found
+invariant-loop-found g l = record {
+  given : (events : List InputEvent)
+      × Steps (l.fn.self ++ l.fn.piece) l.fn.maybe_more events l.self
+      × WasCalledOnNumbered (goal.F-step g) l.fn.callback (numbered l.fn.number events) l.callback;
+  callable : (events : List InputEvent) (rest : List ℕ) → Steps l.self l.fn.maybe_more events rest
+      → MayBeCalledOnNumbered g.F.FnMut l.callback (numbered l.fn.number events);
+}
+
+abbrev pub decreases-loop-found : goal.decreases-loop-found
+decreases-loop-found g l = length l.self
