@@ -216,26 +216,26 @@ impl InputParser {
         number: usize,
         piece: &[u8],
         callback: &mut F,
-        maybe_more: bool,
+        more: bool,
     ) -> Result<(), ParseError>
-        requires { (events : List Event) (rest : List ℕ) → Steps (self.old ++ piece.now) maybe_more events rest
+        requires { (events : List Event) (rest : List ℕ) → Steps (self.old ++ piece.now) more events rest
             → MayBeCalledOnNumbered F.FnMut callback.old (numbered number events) }
-        ensures ok { OnOk result ((events : List Event) × Means (self.old ++ piece.now) maybe_more events self.new
+        ensures ok { OnOk result ((events : List Event) × Means (self.old ++ piece.now) more events self.new
             × WasCalledOnNumbered F.step callback.old (numbered number events) callback.new) }
         ensures not_taken_same { IsErrOf result ParseError.NotTaken → self.new ≡ self.old }
         ensures not_taken_quiet { IsErrOf result ParseError.NotTaken → callback.new ≡ callback.old }
         ensures not_taken_some { IsErrOf result ParseError.NotTaken → piece.now ≢ [] }
         ensures taken { IsErrOf result ParseError.Taken
-            → (events : List Event) × Steps (self.old ++ piece.now) maybe_more events self.new
+            → (events : List Event) × Steps (self.old ++ piece.now) more events self.new
             × WasCalledOnNumbered F.step callback.old (numbered number events) callback.new }
-        ensures taken_paste { IsErrOf result ParseError.Taken → HasPaste self.new maybe_more }
-        ensures granted { piece.now ≡ [] → GivesNoPaste self.old maybe_more → IsOk result }
+        ensures taken_paste { IsErrOf result ParseError.Taken → HasPaste self.new more }
+        ensures granted { piece.now ≡ [] → GivesNoPaste self.old more → IsOk result }
     {
         if self.take_in(piece).is_err() {
             return Err(ParseError::NotTaken);
         }
         loop {
-            let Ok(found) = self.peek(maybe_more) else {
+            let Ok(found) = self.peek(more) else {
                 return Err(ParseError::Taken);
             };
             let Some(Item { event, len }) = found else {

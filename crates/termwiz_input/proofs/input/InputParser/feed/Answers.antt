@@ -9,30 +9,30 @@ use Rattle.termwiz_input.proofs.input.InputParser.feed.Goals as goal
 
 pub callback-requires : goal.callback-requires
 callback-requires g c =
-    let found = subst (λ o. IfSome o (IsItemAt c.loop-found.self c.args.maybe_more)) c.in-Some.is c.in-Ok.ensures.item in
-    let item = subst (IsItemAt c.loop-found.self c.args.maybe_more) c.in-Some.field-0-is found in
-    (c.loop-found.invariant.callable (c.in-Some.field-0.event ∷ []) _ (first_step c.loop-found.self c.args.maybe_more _ [] _ item refl)).0
+    let found = subst (λ o. IfSome o (IsItemAt c.loop-found.self c.args.more)) c.in-Some.is c.in-Ok.ensures.item in
+    let item = subst (IsItemAt c.loop-found.self c.args.more) c.in-Some.field-0-is found in
+    (c.loop-found.invariant.callable (c.in-Some.field-0.event ∷ []) _ (first_step c.loop-found.self c.args.more _ [] _ item refl)).0
 
 pub loop-found-smaller : goal.loop-found-smaller
 loop-found-smaller g c =
-    let found = subst (λ o. IfSome o (IsItemAt c.loop-found.self c.args.maybe_more)) c.in-Some.is c.in-Ok.ensures.item in
-    let item = subst (IsItemAt c.loop-found.self c.args.maybe_more) c.in-Some.field-0-is found in
-    subst (λ u. length u < length c.loop-found.self) (sym c.consume.ensures) (item_shortens c.loop-found.self c.args.maybe_more _ item)
+    let found = subst (λ o. IfSome o (IsItemAt c.loop-found.self c.args.more)) c.in-Some.is c.in-Ok.ensures.item in
+    let item = subst (IsItemAt c.loop-found.self c.args.more) c.in-Some.field-0-is found in
+    subst (λ u. length u < length c.loop-found.self) (sym c.consume.ensures) (item_shortens c.loop-found.self c.args.more _ item)
 
 pub loop-found-preserved : goal.loop-found-preserved
 loop-found-preserved g c =
-    let found = subst (λ o. IfSome o (IsItemAt c.loop-found.self c.args.maybe_more)) c.in-Some.is c.in-Ok.ensures.item in
-    let item = subst (IsItemAt c.loop-found.self c.args.maybe_more) c.in-Some.field-0-is found in
+    let found = subst (λ o. IfSome o (IsItemAt c.loop-found.self c.args.more)) c.in-Some.is c.in-Ok.ensures.item in
+    let item = subst (IsItemAt c.loop-found.self c.args.more) c.in-Some.field-0-is found in
     let before = c.loop-found.invariant.given in
     record {
       given = (
         before.0 ++ c.in-Some.field-0.event ∷ [],
-        subst (Steps (c.args.self.now ++ c.args.piece.now) c.args.maybe_more (before.0 ++ c.in-Some.field-0.event ∷ [])) (sym c.consume.ensures)
-            (steps_more before.0 (c.args.self.now ++ c.args.piece.now) c.loop-found.self c.args.maybe_more _ before.1 item),
+        subst (Steps (c.args.self.now ++ c.args.piece.now) c.args.more (before.0 ++ c.in-Some.field-0.event ∷ [])) (sym c.consume.ensures)
+            (steps_more before.0 (c.args.self.now ++ c.args.piece.now) c.loop-found.self c.args.more _ before.1 item),
         rw (numbered-push c.args.number before.0 c.in-Some.field-0.event)
             (FoldsTo-push _ _ (numbered c.args.number before.0) c.loop-found.callback (c.args.number, c.in-Some.field-0.event) c.callback.new.self before.2 c.callback.ensures),
       );
       callable = λ events rest steps.
-          (c.loop-found.invariant.callable (c.in-Some.field-0.event ∷ events) rest (first_step c.loop-found.self c.args.maybe_more _ events rest item
-          (subst (λ u. Steps u c.args.maybe_more events rest) c.consume.ensures steps))).1 _ _ c.callback.ensures;
+          (c.loop-found.invariant.callable (c.in-Some.field-0.event ∷ events) rest (first_step c.loop-found.self c.args.more _ events rest item
+          (subst (λ u. Steps u c.args.more events rest) c.consume.ensures steps))).1 _ _ c.callback.ensures;
     }

@@ -8,9 +8,9 @@ use Rattle.termwiz_input.proofs.input.InputParser.feed.Given as goal
 abbrev pub invariant-loop-found : goal.invariant-loop-found
 invariant-loop-found g l = record {
   given : (events : List InputEvent)
-      × Steps (l.fn.self ++ l.fn.piece) l.fn.maybe_more events l.self
+      × Steps (l.fn.self ++ l.fn.piece) l.fn.more events l.self
       × WasCalledOnNumbered (goal.F-step g) l.fn.callback (numbered l.fn.number events) l.callback;
-  callable : (events : List InputEvent) (rest : List ℕ) → Steps l.self l.fn.maybe_more events rest
+  callable : (events : List InputEvent) (rest : List ℕ) → Steps l.self l.fn.more events rest
       → MayBeCalledOnNumbered g.F.FnMut l.callback (numbered l.fn.number events);
 }
 
