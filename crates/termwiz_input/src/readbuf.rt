@@ -2,6 +2,9 @@
 ghost use Rattle.std.specs.Prelude.{◌≡◌, ◌≤◌, ◌++◌, ◌==◌, [], length, drop, OnOk, OnErr, IsOk, Some};
 ghost use Rattle.memchr.specs.Find.{FindsNeedle};
 
+#[cfg(test)]
+mod tests;
+
 use memchr::memmem;
 use std::alloc::{AllocError, Global};
 use std::marker::Model;
