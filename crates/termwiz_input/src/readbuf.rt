@@ -2,6 +2,9 @@
 ghost use Rattle.std.specs.Prelude.{◌≡◌, ◌≤◌, ◌++◌, ◌↔◌, [], length, drop, IsTrue, OnOk, OnErr, IsOk, Some};
 ghost use Rattle.memchr.specs.Find.{FindsNeedle};
 
+#[cfg(test)]
+mod tests;
+
 use crate::bytes::find_from;
 use std::alloc::{AllocError, Global};
 use std::marker::Model;

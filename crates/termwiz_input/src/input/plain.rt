@@ -1,10 +1,13 @@
 // A slow reader, for tests. It follows docs/GRAMMAR.md sentence by sentence and by trying everything, and shares nothing
 // with the parser but the types of events. A number in a comment is that of the page's sentence.
+mod rows;
+
 use crate::types::{InputEvent, KeyCode, KeyEvent, MouseButtons, MouseEvent, PastedText};
 use bitflags::Flags;
+pub(super) use rows::ROWS;
+use rows::Rows;
 use std::alloc::{AllocError, Global};
-use std::collections::{BTreeMap, BTreeSet};
-use std::ops::Range;
+use std::collections::BTreeMap;
 use std::str;
 use termwiz_base::Modifiers;
 
@@ -25,252 +28,12 @@ pub(super) fn event_of(row: &KeyEvent) -> InputEvent {
 }
 
 // The modifiers, by which of the three are held.
-fn held(shift: bool, alt: bool, ctrl: bool) -> Modifiers {
-    let mut held = Modifiers::NONE;
-    held.set(Modifiers::SHIFT, shift);
-    held.set(Modifiers::ALT, alt);
-    held.set(Modifiers::CTRL, ctrl);
-    held
-}
-
-// "The sequence table": the modifiers that the number of a suffix tells; 0 stands for the empty suffix. One less than the
-// number has the bits 1 for SHIFT, 2 for ALT, 4 for CTRL and 8 for Meta.
-fn modifiers_of_suffix(number: u8) -> Modifiers {
-    let bits = number.saturating_sub(1);
-    held(bits & 1 != 0, bits & (2 | 8) != 0, bits & 4 != 0)
-}
-
-// "The sequence table": the key of c in the rule `modify_other_keys`.
-fn key_of_code(code: u8) -> KeyCode {
-    match code {
-        8 | 127 => KeyCode::Backspace,
-        27 => KeyCode::Escape,
-        9 => KeyCode::Tab,
-        10 | 13 => KeyCode::Enter,
-        _ => KeyCode::Char(code as char),
-    }
-}
-
-// "The sequence table": the function key of a code in the rule `numbered_function_keys`.
-fn function_of_code(code: u8) -> Option<u8> {
-    match code {
-        11..=15 => Some(code - 10),
-        17..=21 => Some(code - 11),
-        23..=26 => Some(code - 12),
-        28..=29 => Some(code - 13),
-        31..=34 => Some(code - 14),
-        _ => None,
-    }
-}
-
-const CURSOR_KEYS: &[(char, KeyCode)] = &[
-    ('A', KeyCode::UpArrow),
-    ('B', KeyCode::DownArrow),
-    ('C', KeyCode::RightArrow),
-    ('D', KeyCode::LeftArrow),
-    ('H', KeyCode::Home),
-    ('F', KeyCode::End),
-];
-
-const SMALL_ARROWS: &[(char, KeyCode)] = &[
-    ('a', KeyCode::UpArrow),
-    ('b', KeyCode::DownArrow),
-    ('c', KeyCode::RightArrow),
-    ('d', KeyCode::LeftArrow),
-];
-
-const APPLICATION_ARROWS: &[(char, KeyCode)] = &[
-    ('A', KeyCode::ApplicationUpArrow),
-    ('B', KeyCode::ApplicationDownArrow),
-    ('C', KeyCode::ApplicationRightArrow),
-    ('D', KeyCode::ApplicationLeftArrow),
-];
-
-const FIRST_FUNCTIONS: &[(char, KeyCode)] = &[
-    ('P', KeyCode::Function(1)),
-    ('Q', KeyCode::Function(2)),
-    ('R', KeyCode::Function(3)),
-    ('S', KeyCode::Function(4)),
-];
-
-const EDIT_KEYS: &[(char, KeyCode)] = &[
-    ('2', KeyCode::Insert),
-    ('3', KeyCode::Delete),
-    ('1', KeyCode::Home),
-    ('7', KeyCode::Home),
-    ('4', KeyCode::End),
-    ('8', KeyCode::End),
-    ('5', KeyCode::PageUp),
-    ('6', KeyCode::PageDown),
-];
-
-// The rows of the sequence table by their bytes, and each text that properly begins one.
-#[derive(Drop)]
-pub(super) struct PlainReader {
-    rows: BTreeMap<Vec<u8>, KeyEvent>,
-    begun: BTreeSet<Vec<u8>>,
-    // How many rows the rules gave.
-    given: usize,
-    alloc: Global,
-}
-
-// 1: the rows, rule by rule.
-impl PlainReader {
-    pub(super) fn new(alloc: Global) -> Result<PlainReader, AllocError> {
-        let mut reader = PlainReader {
-            rows: BTreeMap::new(alloc),
-            begun: BTreeSet::new(alloc),
-            given: 0,
-            alloc,
-        };
-        reader.add_bytes()?;
-        reader.add_alt()?;
-        reader.add_characters()?;
-        reader.add_functions()?;
-        reader.add_lists()?;
-        Ok(reader)
-    }
-
-    // How many rows the rules gave, also where two have the same bytes.
-    pub(super) fn given(&self) -> usize {
-        self.given
-    }
-
-    pub(super) fn rows(&self) -> &BTreeMap<Vec<u8>, KeyEvent> {
-        &self.rows
-    }
-
-    fn add(&mut self, text: String, key: KeyCode, modifiers: Modifiers) -> Result<(), AllocError> {
-        let bytes = text.as_bytes();
-        for len in 1..bytes.len() {
-            self.begun.insert(bytes[..len].to_vec(self.alloc)?)?;
-        }
-        let event = KeyEvent { key, modifiers };
-        self.rows.insert(bytes.to_vec(self.alloc)?, event)?;
-        self.given = self.given.saturating_add(1);
-        Ok(())
-    }
-
-    // A row for each key of a list, by its last character.
-    fn add_each(
-        &mut self,
-        front: &str,
-        keys: &[(char, KeyCode)],
-        end: &str,
-        modifiers: Modifiers,
-    ) -> Result<(), AllocError> {
-        for (last, key) in keys {
-            self.add(
-                format!(in self.alloc; "{front}{last}{end}")?,
-                *key,
-                modifiers,
-            )?;
-        }
-        Ok(())
-    }
-
-    // A row for each of these suffixes.
-    fn add_suffixed(
-        &mut self,
-        front: &str,
-        numbers: Range<u8>,
-        end: &str,
-        key: KeyCode,
-    ) -> Result<(), AllocError> {
-        for number in numbers {
-            let bytes = if number == 0 {
-                format!(in self.alloc; "{front}{end}")?
-            } else {
-                format!(in self.alloc; "{front};{number}{end}")?
-            };
-            self.add(bytes, key, modifiers_of_suffix(number))?;
-        }
-        Ok(())
-    }
-
-    // Each key of a list with each suffix up to a number.
-    fn add_each_suffixed(
-        &mut self,
-        front: &str,
-        limit: u8,
-        keys: &[(char, KeyCode)],
-    ) -> Result<(), AllocError> {
-        for (last, key) in keys {
-            let end = format!(in self.alloc; "{last}")?;
-            self.add_suffixed(front, 0..limit, end.as_str(), *key)?;
-        }
-        Ok(())
-    }
-
-    // The rules `control_letters`, `backspace_bytes`, `tab_byte`, `enter_bytes` and `escape_byte`.
-    fn add_bytes(&mut self) -> Result<(), AllocError> {
-        for byte in 1..128u8 {
-            let (key, modifiers) = match byte {
-                8 | 127 => (KeyCode::Backspace, Modifiers::NONE),
-                9 => (KeyCode::Tab, Modifiers::NONE),
-                10 | 13 => (KeyCode::Enter, Modifiers::NONE),
-                27 => (KeyCode::Escape, Modifiers::NONE),
-                1..=26 => (KeyCode::Char((byte + 96) as char), Modifiers::CTRL),
-                _ => continue,
-            };
-            self.add(format!(in self.alloc; "{}", byte as char)?, key, modifiers)?;
-        }
-        Ok(())
-    }
-
-    // The rules `alt_letters` and `alt_bracket`; the bracket comes behind the letters.
-    fn add_alt(&mut self) -> Result<(), AllocError> {
-        for byte in b'A'..b'[' + 1 {
-            let letter = byte as char;
-            let bytes = format!(in self.alloc; "\x1b{letter}")?;
-            self.add(bytes, KeyCode::Char(letter), Modifiers::ALT)?;
-        }
-        Ok(())
-    }
-
-    // The rules `csi_u` and `modify_other_keys`.
-    fn add_characters(&mut self) -> Result<(), AllocError> {
-        for code in 0..128u8 {
-            let front = format!(in self.alloc; "\x1b[{code}")?;
-            self.add_suffixed(front.as_str(), 0..9, "u", KeyCode::Char(code as char))?;
-            let end = format!(in self.alloc; ";{code}~")?;
-            self.add_suffixed("\x1b[27", 1..9, end.as_str(), key_of_code(code))?;
-        }
-        Ok(())
-    }
-
-    // The rule `numbered_function_keys`.
-    fn add_functions(&mut self) -> Result<(), AllocError> {
-        for code in 11..35u8 {
-            if let Some(number) = function_of_code(code) {
-                let front = format!(in self.alloc; "\x1b[{code}")?;
-                self.add_suffixed(front.as_str(), 0..17, "~", KeyCode::Function(number))?;
-            }
-        }
-        Ok(())
-    }
-
-    // All other rules.
-    fn add_lists(&mut self) -> Result<(), AllocError> {
-        let none = Modifiers::NONE;
-        let shift = Modifiers::SHIFT;
-        let ctrl = Modifiers::CTRL;
-        self.add_each("\x1b[", &[('Z', KeyCode::Tab)], "", shift)?;
-        self.add_each("\x1b[", CURSOR_KEYS, "", none)?;
-        self.add_each_suffixed("\x1b[1", 17, CURSOR_KEYS)?;
-        self.add_each("\x1b[", SMALL_ARROWS, "", shift)?;
-        self.add_each("\x1bO", SMALL_ARROWS, "", ctrl)?;
-        self.add_each("\x1bO", APPLICATION_ARROWS, "", none)?;
-        self.add_each_suffixed("\x1bO1", 9, APPLICATION_ARROWS)?;
-        self.add_each("\x1bO", FIRST_FUNCTIONS, "", none)?;
-        self.add_each_suffixed("\x1b[1", 17, FIRST_FUNCTIONS)?;
-        self.add_each("\x1b[", EDIT_KEYS, "~", none)?;
-        self.add_each("\x1b[", EDIT_KEYS, "$", shift)?;
-        self.add_each("\x1b[", EDIT_KEYS, "^", ctrl)?;
-        self.add_each("\x1b[", EDIT_KEYS, "@", shift.union(ctrl))?;
-        self.add_each("\x1b[20", &[('0', KeyCode::InternalPasteStart)], "~", none)?;
-        self.add_each("\x1b[20", &[('1', KeyCode::InternalPasteEnd)], "~", none)
-    }
+fn modifiers_of(shift: bool, alt: bool, ctrl: bool) -> Modifiers {
+    let mut modifiers = Modifiers::NONE;
+    modifiers.set(Modifiers::SHIFT, shift);
+    modifiers.set(Modifiers::ALT, alt);
+    modifiers.set(Modifiers::CTRL, ctrl);
+    modifiers
 }
 
 // "Mouse events": the buttons of a base at `M`.
@@ -311,7 +74,7 @@ fn frame_of(text: &[u8]) -> Option<MouseEvent> {
     if numbers.next().is_some() {
         return None;
     }
-    let modifiers = held(code & 4 != 0, code & 8 != 0, code & 16 != 0);
+    let modifiers = modifiers_of(code & 4 != 0, code & 8 != 0, code & 16 != 0);
     Some(MouseEvent {
         x,
         y,
@@ -363,7 +126,7 @@ fn begins_frame(alloc: Global, text: &[u8]) -> Result<bool, AllocError> {
     Ok(false)
 }
 
-// 6: the paste at the front of the text, and what follows it.
+// 6: the paste that begins the text, and what follows it.
 fn paste_at(alloc: Global, text: &[u8]) -> Result<Option<(InputEvent, &[u8])>, AllocError> {
     let Some(body) = text.strip_prefix(START) else {
         return Ok(None);
@@ -378,10 +141,43 @@ fn paste_at(alloc: Global, text: &[u8]) -> Result<Option<(InputEvent, &[u8])>, A
     Ok(None)
 }
 
+// "What waits": the shapes of a rest.
+#[derive(Clone, Copy, PartialEq, Eq, Debug)]
+pub(super) enum Shape {
+    Nothing,
+    OpenPaste,
+    BrokenCharacter,
+    Undecided,
+}
+
+// The reader, by the rows of the sequence table.
+#[derive(Drop)]
+pub(super) struct PlainReader {
+    rows: Rows,
+    alloc: Global,
+}
+
 impl PlainReader {
+    // 1: the rows, rule by rule.
+    pub(super) fn new(alloc: Global) -> Result<PlainReader, AllocError> {
+        Ok(PlainReader {
+            rows: Rows::new(alloc)?,
+            alloc,
+        })
+    }
+
+    // How many rows the rules gave, also where two have the same bytes.
+    pub(super) fn row_count(&self) -> usize {
+        self.rows.given()
+    }
+
+    pub(super) fn rows(&self) -> &BTreeMap<Vec<u8>, KeyEvent> {
+        self.rows.by_bytes()
+    }
+
     // 3: what a known text stands for.
     fn known(&self, text: &[u8]) -> Option<Kind> {
-        if let Some(row) = self.rows.get(text) {
+        if let Some(row) = self.rows.by_bytes().get(text) {
             return Some(Kind::Row(KeyEvent {
                 key: row.key,
                 modifiers: row.modifiers,
@@ -410,7 +206,7 @@ impl PlainReader {
         if !more || text.is_empty() {
             return Ok(false);
         }
-        Ok(self.begun.contains(text) || begins_frame(self.alloc, text)?)
+        Ok(self.rows.extend(text) || begins_frame(self.alloc, text)?)
     }
 
     // 6: the item at an ESC that is a head, by what follows the ESC: a lone escape or an alt.
@@ -478,5 +274,34 @@ impl PlainReader {
             rest = after;
         }
         Ok((events, rest))
+    }
+
+    // "What waits": the shape of bytes that stand there as they are, or after one ESC.
+    fn bare_shape_of(&self, bytes: &[u8], more: bool) -> Result<Option<Shape>, AllocError> {
+        if bytes.len() <= 20 && self.is_open(bytes, more)? {
+            return Ok(Some(Shape::Undecided));
+        }
+        if !bytes.is_empty() && self.head_of(bytes).is_none() {
+            return Ok(Some(Shape::BrokenCharacter));
+        }
+        Ok(None)
+    }
+
+    // "What waits": the shape of a rest, and `None` where it has none of them.
+    pub(super) fn shape_of(&self, rest: &[u8], more: bool) -> Result<Option<Shape>, AllocError> {
+        if rest.is_empty() {
+            return Ok(Some(Shape::Nothing));
+        }
+        if rest.starts_with(START) && paste_at(self.alloc, rest)?.is_none() {
+            return Ok(Some(Shape::OpenPaste));
+        }
+        let shape = self.bare_shape_of(rest, more)?;
+        if shape.is_some() {
+            return Ok(shape);
+        }
+        match rest.strip_prefix(ESC) {
+            Some(bytes) => self.bare_shape_of(bytes, more),
+            None => Ok(None),
+        }
     }
 }

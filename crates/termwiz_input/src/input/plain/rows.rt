@@ -1,0 +1,256 @@
+// The rows of the sequence table, rule by rule, as docs/GRAMMAR.md gives them under "The sequence table". A new row of the
+// page is added here: to the loop of its rule, and to `ROWS`.
+use super::modifiers_of;
+use crate::types::{KeyCode, KeyEvent};
+use bitflags::Flags;
+use std::alloc::{AllocError, Global};
+use std::collections::{BTreeMap, BTreeSet};
+use std::ops::Range;
+use termwiz_base::Modifiers;
+
+// How many rows the page counts.
+pub(crate) const ROWS: usize = 2834;
+
+// The modifiers of a suffix by its number; 0 stands for the empty suffix. One less than the number has the bits 1 for
+// SHIFT, 2 for ALT, 4 for CTRL and 8 for Meta.
+fn modifiers_of_suffix(number: u8) -> Modifiers {
+    let bits = number.saturating_sub(1);
+    modifiers_of(bits & 1 != 0, bits & (2 | 8) != 0, bits & 4 != 0)
+}
+
+// The key of c in the rule `modify_other_keys`.
+fn key_of_code(code: u8) -> KeyCode {
+    match code {
+        8 | 127 => KeyCode::Backspace,
+        27 => KeyCode::Escape,
+        9 => KeyCode::Tab,
+        10 | 13 => KeyCode::Enter,
+        _ => KeyCode::Char(code as char),
+    }
+}
+
+// The function key of a code in the rule `numbered_function_keys`.
+fn function_of_code(code: u8) -> Option<u8> {
+    match code {
+        11..=15 => Some(code - 10),
+        17..=21 => Some(code - 11),
+        23..=26 => Some(code - 12),
+        28..=29 => Some(code - 13),
+        31..=34 => Some(code - 14),
+        _ => None,
+    }
+}
+
+const CURSOR_KEYS: &[(char, KeyCode)] = &[
+    ('A', KeyCode::UpArrow),
+    ('B', KeyCode::DownArrow),
+    ('C', KeyCode::RightArrow),
+    ('D', KeyCode::LeftArrow),
+    ('H', KeyCode::Home),
+    ('F', KeyCode::End),
+];
+
+const SMALL_ARROWS: &[(char, KeyCode)] = &[
+    ('a', KeyCode::UpArrow),
+    ('b', KeyCode::DownArrow),
+    ('c', KeyCode::RightArrow),
+    ('d', KeyCode::LeftArrow),
+];
+
+const APPLICATION_ARROWS: &[(char, KeyCode)] = &[
+    ('A', KeyCode::ApplicationUpArrow),
+    ('B', KeyCode::ApplicationDownArrow),
+    ('C', KeyCode::ApplicationRightArrow),
+    ('D', KeyCode::ApplicationLeftArrow),
+];
+
+const FIRST_FUNCTIONS: &[(char, KeyCode)] = &[
+    ('P', KeyCode::Function(1)),
+    ('Q', KeyCode::Function(2)),
+    ('R', KeyCode::Function(3)),
+    ('S', KeyCode::Function(4)),
+];
+
+const EDIT_KEYS: &[(char, KeyCode)] = &[
+    ('2', KeyCode::Insert),
+    ('3', KeyCode::Delete),
+    ('1', KeyCode::Home),
+    ('7', KeyCode::Home),
+    ('4', KeyCode::End),
+    ('8', KeyCode::End),
+    ('5', KeyCode::PageUp),
+    ('6', KeyCode::PageDown),
+];
+
+// The rows by their bytes, and each text that properly begins one.
+#[derive(Drop)]
+pub(super) struct Rows {
+    by_bytes: BTreeMap<Vec<u8>, KeyEvent>,
+    prefixes: BTreeSet<Vec<u8>>,
+    // How many rows the rules gave.
+    given: usize,
+    alloc: Global,
+}
+
+impl Rows {
+    pub(super) fn new(alloc: Global) -> Result<Rows, AllocError> {
+        let mut rows = Rows {
+            by_bytes: BTreeMap::new(alloc),
+            prefixes: BTreeSet::new(alloc),
+            given: 0,
+            alloc,
+        };
+        rows.add_bytes()?;
+        rows.add_alt()?;
+        rows.add_characters()?;
+        rows.add_functions()?;
+        rows.add_lists()?;
+        Ok(rows)
+    }
+
+    // How many rows the rules gave, also where two have the same bytes.
+    pub(super) fn given(&self) -> usize {
+        self.given
+    }
+
+    pub(super) fn by_bytes(&self) -> &BTreeMap<Vec<u8>, KeyEvent> {
+        &self.by_bytes
+    }
+
+    // Whether some row is longer than the text and begins with it.
+    pub(super) fn extend(&self, text: &[u8]) -> bool {
+        self.prefixes.contains(text)
+    }
+
+    fn add(&mut self, text: String, key: KeyCode, modifiers: Modifiers) -> Result<(), AllocError> {
+        let bytes = text.as_bytes();
+        for len in 1..bytes.len() {
+            self.prefixes.insert(bytes[..len].to_vec(self.alloc)?)?;
+        }
+        let event = KeyEvent { key, modifiers };
+        self.by_bytes.insert(bytes.to_vec(self.alloc)?, event)?;
+        self.given = self.given.saturating_add(1);
+        Ok(())
+    }
+
+    // A row for each key of a list, by its last character.
+    fn add_each(
+        &mut self,
+        front: &str,
+        keys: &[(char, KeyCode)],
+        end: &str,
+        modifiers: Modifiers,
+    ) -> Result<(), AllocError> {
+        for (last, key) in keys {
+            self.add(
+                format!(in self.alloc; "{front}{last}{end}")?,
+                *key,
+                modifiers,
+            )?;
+        }
+        Ok(())
+    }
+
+    // A row for each of these suffixes.
+    fn add_suffixed(
+        &mut self,
+        front: &str,
+        numbers: Range<u8>,
+        end: &str,
+        key: KeyCode,
+    ) -> Result<(), AllocError> {
+        for number in numbers {
+            let bytes = if number == 0 {
+                format!(in self.alloc; "{front}{end}")?
+            } else {
+                format!(in self.alloc; "{front};{number}{end}")?
+            };
+            self.add(bytes, key, modifiers_of_suffix(number))?;
+        }
+        Ok(())
+    }
+
+    // Each key of a list with each suffix up to a number.
+    fn add_each_suffixed(
+        &mut self,
+        front: &str,
+        limit: u8,
+        keys: &[(char, KeyCode)],
+    ) -> Result<(), AllocError> {
+        for (last, key) in keys {
+            let end = format!(in self.alloc; "{last}")?;
+            self.add_suffixed(front, 0..limit, end.as_str(), *key)?;
+        }
+        Ok(())
+    }
+
+    // The rules `control_letters`, `backspace_bytes`, `tab_byte`, `enter_bytes` and `escape_byte`.
+    fn add_bytes(&mut self) -> Result<(), AllocError> {
+        for byte in 1..128u8 {
+            let (key, modifiers) = match byte {
+                8 | 127 => (KeyCode::Backspace, Modifiers::NONE),
+                9 => (KeyCode::Tab, Modifiers::NONE),
+                10 | 13 => (KeyCode::Enter, Modifiers::NONE),
+                27 => (KeyCode::Escape, Modifiers::NONE),
+                1..=26 => (KeyCode::Char((byte + 96) as char), Modifiers::CTRL),
+                _ => continue,
+            };
+            self.add(format!(in self.alloc; "{}", byte as char)?, key, modifiers)?;
+        }
+        Ok(())
+    }
+
+    // The rules `alt_letters` and `alt_bracket`: in ASCII the bracket follows `Z`.
+    fn add_alt(&mut self) -> Result<(), AllocError> {
+        for byte in b'A'..b'[' + 1 {
+            let letter = byte as char;
+            let bytes = format!(in self.alloc; "\x1b{letter}")?;
+            self.add(bytes, KeyCode::Char(letter), Modifiers::ALT)?;
+        }
+        Ok(())
+    }
+
+    // The rules `csi_u` and `modify_other_keys`.
+    fn add_characters(&mut self) -> Result<(), AllocError> {
+        for code in 0..128u8 {
+            let front = format!(in self.alloc; "\x1b[{code}")?;
+            self.add_suffixed(front.as_str(), 0..9, "u", KeyCode::Char(code as char))?;
+            let end = format!(in self.alloc; ";{code}~")?;
+            self.add_suffixed("\x1b[27", 1..9, end.as_str(), key_of_code(code))?;
+        }
+        Ok(())
+    }
+
+    // The rule `numbered_function_keys`.
+    fn add_functions(&mut self) -> Result<(), AllocError> {
+        for code in 11..35u8 {
+            if let Some(number) = function_of_code(code) {
+                let front = format!(in self.alloc; "\x1b[{code}")?;
+                self.add_suffixed(front.as_str(), 0..17, "~", KeyCode::Function(number))?;
+            }
+        }
+        Ok(())
+    }
+
+    // All other rules.
+    fn add_lists(&mut self) -> Result<(), AllocError> {
+        let none = Modifiers::NONE;
+        let shift = Modifiers::SHIFT;
+        let ctrl = Modifiers::CTRL;
+        self.add_each("\x1b[", &[('Z', KeyCode::Tab)], "", shift)?;
+        self.add_each("\x1b[", CURSOR_KEYS, "", none)?;
+        self.add_each_suffixed("\x1b[1", 17, CURSOR_KEYS)?;
+        self.add_each("\x1b[", SMALL_ARROWS, "", shift)?;
+        self.add_each("\x1bO", SMALL_ARROWS, "", ctrl)?;
+        self.add_each("\x1bO", APPLICATION_ARROWS, "", none)?;
+        self.add_each_suffixed("\x1bO1", 9, APPLICATION_ARROWS)?;
+        self.add_each("\x1bO", FIRST_FUNCTIONS, "", none)?;
+        self.add_each_suffixed("\x1b[1", 17, FIRST_FUNCTIONS)?;
+        self.add_each("\x1b[", EDIT_KEYS, "~", none)?;
+        self.add_each("\x1b[", EDIT_KEYS, "$", shift)?;
+        self.add_each("\x1b[", EDIT_KEYS, "^", ctrl)?;
+        self.add_each("\x1b[", EDIT_KEYS, "@", shift.union(ctrl))?;
+        self.add_each("\x1b[20", &[('0', KeyCode::InternalPasteStart)], "~", none)?;
+        self.add_each("\x1b[20", &[('1', KeyCode::InternalPasteEnd)], "~", none)
+    }
+}

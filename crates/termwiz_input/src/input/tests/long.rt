@@ -1,0 +1,110 @@
+// Input far past any small bound: many keys in one call, many calls, and a long paste.
+ghost use Rattle.std.specs.Prelude.{◌<◌};
+
+use super::{InputEvent, InputParser, KeyCode, KeyEvent, LAST, MORE, Modifiers};
+use std::alloc::{AllocError, Global};
+use std::process::Abort;
+use std::test::Fail;
+
+// Two keys, of four bytes.
+const KEYS: &[u8] = b"\x1b[Aq";
+
+// The events of the two keys, again and again.
+fn wanted_at(number: usize) -> InputEvent {
+    let key = if number % 2 == 0 {
+        KeyCode::UpArrow
+    } else {
+        KeyCode::Char('q')
+    };
+    InputEvent::Key(KeyEvent {
+        key,
+        modifiers: Modifiers::NONE,
+    })
+}
+
+// A text as often as this.
+pub(super) fn repeated(alloc: Global, text: &[u8], times: usize) -> Result<Vec<u8>, AllocError> {
+    let mut whole = Vec::new(alloc);
+    for _ in 0..times {
+        whole.extend_from_slice(text)?;
+    }
+    Ok(whole)
+}
+
+pub(super) fn check_events(rt: &impl Abort, events: &[InputEvent], len: usize) {
+    assert_eq!(rt; events.len(), len);
+    for (number, event) in events.iter().enumerate() {
+        assert_eq!(rt; *event, wanted_at(number), "event {number}");
+    }
+}
+
+#[test]
+fn reads_a_thousand_keys_in_one_call(rt: HostRuntime) -> Result<(), Fail> {
+    let text = repeated(rt.alloc(), KEYS, 500)?;
+    let mut parser = InputParser::new(rt.alloc())?;
+    let events = parser.parse_as_vec(text.as_slice(), LAST)?;
+    check_events(&rt, events.as_slice(), 1000);
+    assert_eq!(rt; parser.waiting_len(), 0);
+    Ok(())
+}
+
+// The events of a text, as many bytes in a call as the length of a piece, and all but the last call with more to come.
+fn read_in_pieces(
+    alloc: Global,
+    parser: &mut InputParser,
+    text: &[u8],
+    piece: usize,
+) -> Result<Vec<InputEvent>, Fail>
+    requires { 0 < piece }
+{
+    let mut events = Vec::new(alloc);
+    for bytes in text.chunks(piece) {
+        events.append(&mut parser.parse_as_vec(bytes, MORE)?)?;
+    }
+    events.append(&mut parser.parse_as_vec(b"", LAST)?)?;
+    Ok(events)
+}
+
+#[test]
+fn reads_70000_bytes_one_at_a_time(rt: HostRuntime) -> Result<(), Fail> {
+    let text = repeated(rt.alloc(), KEYS, 17500)?;
+    assert_eq!(rt; text.len(), 70000);
+    let mut parser = InputParser::new(rt.alloc())?;
+    let events = read_in_pieces(rt.alloc(), &mut parser, text.as_slice(), 1)?;
+    check_events(&rt, events.as_slice(), 35000);
+    assert_eq!(rt; parser.waiting_len(), 0);
+    Ok(())
+}
+
+// A text of 100 KB, and its paste.
+fn long_paste(alloc: Global) -> Result<(Vec<u8>, Vec<u8>), AllocError> {
+    let body = repeated(alloc, b"0123456789abcdef", 6400)?;
+    let mut paste = b"\x1b[200~".to_vec(alloc)?;
+    paste.extend_from_slice(body.as_slice())?;
+    paste.extend_from_slice(b"\x1b[201~")?;
+    Ok((body, paste))
+}
+
+// The one event is the paste of the body.
+fn check_paste(rt: &impl Abort, events: &[InputEvent], body: &[u8]) {
+    assert_eq!(rt; events.len(), 1);
+    for event in events {
+        match event {
+            InputEvent::Paste(text) => assert!(rt; text.as_str().as_bytes() == body),
+            _ => panic!(rt; "no paste"),
+        }
+    }
+}
+
+#[test]
+fn reads_a_paste_of_100_kilobytes(rt: HostRuntime) -> Result<(), Fail> {
+    let (body, paste) = long_paste(rt.alloc())?;
+    let mut parser = InputParser::new(rt.alloc())?;
+    let events = parser.parse_as_vec(paste.as_slice(), MORE)?;
+    check_paste(&rt, events.as_slice(), body.as_slice());
+    assert_eq!(rt; parser.waiting_len(), 0);
+    let events = read_in_pieces(rt.alloc(), &mut parser, paste.as_slice(), 999)?;
+    check_paste(&rt, events.as_slice(), body.as_slice());
+    assert_eq!(rt; parser.waiting_len(), 0);
+    Ok(())
+}
