@@ -8,6 +8,7 @@ pub mod Fronts
 pub mod Heads
 pub mod Items
 pub mod KeyChildren
+pub mod KeyClones
 pub mod KeyCopies
 pub mod KeyEdits
 pub mod KeyList
