@@ -7,14 +7,11 @@ pub mod FrameReading
 pub mod Fronts
 pub mod Heads
 pub mod Items
-pub mod KeyChildren
 pub mod KeyClones
-pub mod KeyCopies
-pub mod KeyEdits
 pub mod KeyList
-pub mod KeyRows
-pub mod KeyWalk
+pub mod KeysInEntries
 pub mod Lists
+pub mod LongestSoFar
 pub mod Meaning
 pub mod Numbers
 pub mod Pastes
@@ -27,3 +24,4 @@ pub mod Settling
 pub mod Standing
 pub mod TableFacts
 pub mod TableTests
+pub mod trie

@@ -127,7 +127,8 @@ impl<V> Node<V> {
 
     // The value of the key that ends at the node, beside that key's length, which the caller knows.
     fn own(&self, len: usize) -> Option<(usize, &V)>
-        ensures some { IfSome result (λ own. (own.0 ≡ len) × (map.get (keys_of self.now) [] ≡ Some own.1.now)) }
+        ensures len { IfSome result (λ own. own.0 ≡ len) }
+        ensures value { IfSome result (λ own. map.get (keys_of self.now) [] ≡ Some own.1.now) }
         ensures none { IfNone result (map.get (keys_of self.now) [] ≡ None) }
     {
         self.value.as_ref().map(|value| (len, value))

@@ -2,7 +2,7 @@ use Rattle.std.proofs.Common.{◌∙◌, rules, subst}
 use Rattle.std.proofs.lemmas.List.{take_all}
 use Rattle.std.proofs.lemmas.List.Elements.{all_zip_more}
 use Rattle.termwiz_input.specs.Branch.{IsBranchClone}
-use Rattle.termwiz_input.proofs.KeyCopies.{AreBranchClones, keeps_copy, IsBranchClone-node}
+use Rattle.termwiz_input.proofs.trie.Copies.{AreBranchClones, keeps_copy, IsBranchClone-node}
 use Rattle.termwiz_input.proofs.keymap.node.Node.+copy.Goals as goal
 
 pub loop-child-preserved : goal.loop-child-preserved

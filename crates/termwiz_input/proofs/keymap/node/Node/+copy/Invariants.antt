@@ -1,5 +1,5 @@
 use Rattle.std.proofs.Common.{take}
-use Rattle.termwiz_input.proofs.KeyCopies.{AreBranchClones}
+use Rattle.termwiz_input.proofs.trie.Copies.{AreBranchClones}
 use Rattle.termwiz_input.proofs.keymap.node.Node.+copy.Given as goal
 
 abbrev pub invariant-loop-child : goal.invariant-loop-child

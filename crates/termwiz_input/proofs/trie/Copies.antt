@@ -5,7 +5,7 @@ use Rattle.std.specs.List.{AllZip}
 use Rattle.std.proofs.lemmas.List.Elements.{All-from_get_or, All-get_or, AllZip-get_or, length_all_zip}
 use Rattle.termwiz_input.specs.Branch.{Branch, Rows, own, behind, below, height_of, labels, AreChildren, IsBranchClone}
 use Rattle.termwiz_input.specs.Entries.{AreClones}
-use Rattle.termwiz_input.proofs.KeyChildren.{no_branch}
+use Rattle.termwiz_input.proofs.trie.Children.{no_branch}
 
 module _ {V : Type 0} (is_clone : V → V → Type 0) where
   AreClones-append : (rows copies more others : Rows V) → AreClones is_clone rows copies → AreClones is_clone more others → AreClones is_clone (rows ++ more) (copies ++ others)
