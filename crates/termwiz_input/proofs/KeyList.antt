@@ -14,6 +14,7 @@ use Rattle.std.specs.Cmp.Lexicographic.{same_text}
 use Rattle.std.specs.FinMap.{get, from_entries, get-from_entries}
 use Rattle.termwiz_input.specs.Entries.{extends_any, IsLongestIn, IsNoneIn}
 use Rattle.termwiz_input.specs.Lookup.{Keys, IsExtended, IsLongestKey, NoKeyBegins}
+use Rattle.std.proofs.Math.Bool.{or-true}
 use Rattle.std.proofs.Math.Seq.{take-append_seam, split_at}
 use Rattle.std.proofs.lemmas.List.{set_split, get_or-map, take-map, take_more, map_push, length-map, map-set}
 use Rattle.std.specs.Global.{Vec}
@@ -21,18 +22,7 @@ use Rattle.std.specs.Option.{option_or}
 use Rattle.std.specs.FinMap as map
 use Rattle.std.specs.FinMap.{from_entries_push, same_map, get-insert, slice_cmp-IsAntisymmetric, nat_cmp-IsAntisymmetric}
 use Rattle.termwiz_input.specs.Entries.{IsFirstAt, seen}
-use Rattle.termwiz_input.proofs.KeyRows.{found, found-append, tied}
-
--- the tie that a lookup asks for, as the test that the code makes
-pub tie : (k x : List ℕ) (b : Bool) → b ≡ pointwise nat_eq x k → eq_by_cmp (slice_cmp nat_cmp) k x ≡ b
-tie k x b e = sym (texts_ties k x) ∙ nat_list_eq_equiv.symm k x ∙ sym e
-
-module _ {V : Type 0} where
-  pub find_here : (k x : List ℕ) (v : V) (es : List (List ℕ × V)) → true ≡ pointwise nat_eq x k → find (slice_cmp nat_cmp) k ((x, v) ∷ es) ≡ Some v
-  find_here k x v es e = ap (λ b. cond b (Some v) (find (slice_cmp nat_cmp) k es)) (tie k x true e)
-
-  pub find_later : (k x : List ℕ) (v : V) (es : List (List ℕ × V)) → false ≡ pointwise nat_eq x k → find (slice_cmp nat_cmp) k ((x, v) ∷ es) ≡ find (slice_cmp nat_cmp) k es
-  find_later k x v es e = ap (λ b. cond b (Some v) (find (slice_cmp nat_cmp) k es)) (tie k x false e)
+use Rattle.termwiz_input.proofs.KeysInEntries.{tied, tied_same, found, found-append, find_here, find_later, get-entries, key_set}
 
 -- a key that begins with the text and is longer
 abbrev pub extends : List ℕ → List ℕ → Bool
@@ -44,31 +34,27 @@ kept_some false v o h = h
 
 module _ {V : Type 0} where
   -- where some entry extends the text, some key does
-  pub extended_key : (t : List ℕ) (es : List (List ℕ × V)) → extends_any t es ≡ true → (k : List ℕ) × IsSome (find (slice_cmp nat_cmp) k es) × (extends t k ≡ true)
+  pub extended_key : (t : List ℕ) (es : List (List ℕ × V)) → extends_any t es ≡ true → (k : List ℕ) × IsSome (found k es) × (extends t k ≡ true)
   extended_key t [] h = absurd (cc)
   extended_key t (e ∷ es) h =
-      elim (extends t e.0) as (λ b. extends t e.0 ≡ b → (b || extends_any t es) ≡ true → (k : List ℕ) × IsSome (find (slice_cmp nat_cmp) k (e ∷ es)) × (extends t k ≡ true)) [
+      elim (extends t e.0) as (λ b. extends t e.0 ≡ b → (b || extends_any t es) ≡ true → (k : List ℕ) × IsSome (found k (e ∷ es)) × (extends t k ≡ true)) [
         | true ↦ λ is _. (e.0, ap is_some (find_here e.0 e.0 e.1 es (sym (nat_list_eq_equiv.refl e.0))), is)
-        | false ↦ λ _ later. let p = extended_key t es later in (p.0, kept_some (eq_by_cmp (slice_cmp nat_cmp) p.0 e.0) e.1 (find (slice_cmp nat_cmp) p.0 es) p.1, p.2)
+        | false ↦ λ _ later. let p = extended_key t es later in (p.0, kept_some (tied p.0 e.0) e.1 (found p.0 es) p.1, p.2)
       ] refl h
 
   -- and the other way round
-  pub key_extended : (t k : List ℕ) (es : List (List ℕ × V)) → IsSome (find (slice_cmp nat_cmp) k es) → extends t k ≡ true → extends_any t es ≡ true
+  pub key_extended : (t k : List ℕ) (es : List (List ℕ × V)) → IsSome (found k es) → extends t k ≡ true → extends_any t es ≡ true
   key_extended t k [] h x = absurd (cc)
   key_extended t k (e ∷ es) h x =
       elim (pointwise nat_eq e.0 k) as (λ b. b ≡ pointwise nat_eq e.0 k → extends_any t (e ∷ es) ≡ true) [
         | true ↦ λ is. let same : e.0 ≡ k = same_text e.0 k is in ap (λ b. b || extends_any t es) (ap (extends t) same ∙ x)
-        | false ↦ λ other. let later = key_extended t k es (ap is_some (sym (find_later k e.0 e.1 es other)) ∙ h) x in or_true (extends t e.0) (extends_any t es) later
+        | false ↦ λ other. let later = key_extended t k es (ap is_some (sym (find_later k e.0 e.1 es other)) ∙ h) x in ap (λ b. extends t e.0 || b) later ∙ or-true (extends t e.0)
       ] refl
-    where
-      or_true : (a b : Bool) → b ≡ true → (a || b) ≡ true
-      or_true true b h = refl
-      or_true false b h = h
 
   -- the three words on the map, from those on the entries
   module _ (m : Keys V) (es : List (List ℕ × V)) (is : from_entries es ≡ m) where
-    gets_same : (k : List ℕ) → get m k ≡ find (slice_cmp nat_cmp) k es
-    gets_same k = ap (λ n. get n k) (sym is) ∙ get-from_entries nat_list_cmp_total es k
+    gets_same : (k : List ℕ) → get m k ≡ found k es
+    gets_same k = ap (λ n. get n k) (sym is) ∙ get-entries es k
 
     pub extended_of : (t : List ℕ) → extends_any t es ≡ true → IsExtended m t
     extended_of t h =
@@ -95,9 +81,6 @@ module _ {V : Type 0} where
     pub none_of : (t : List ℕ) → IsNoneIn es t → NoKeyBegins m t
     none_of t h = λ k below. gets_same (take k t) ∙ h k below
 
-tied_same : (j k : List ℕ) → tied j k ≡ true → j ≡ k
-tied_same j k e = same_text j k (sym (nat_list_eq_equiv.symm j k ∙ sym (tie j k (pointwise nat_eq k j) refl) ∙ e))
-
 module _ {V : Type 0} where
   in_its_place : (b : Bool) (v w : V) (o p : Option V) → (b ≡ true → o ≡ None) → option_or o (cond b (Some v) p) ≡ cond b (Some v) (option_or o (cond b (Some w) p))
   in_its_place true v w o p none = ap (λ x. option_or x (Some v)) (none refl)
@@ -105,10 +88,7 @@ module _ {V : Type 0} where
 
   -- the first entry of a key with another value
   pub replaced : (es : List (List ℕ × V)) (key : List ℕ) (i : ℕ) (v : V) → IsFirstAt es key i → from_entries {R = slice_cmp nat_cmp} (set es i (key, v)) ≡ map.insert (from_entries es) key v
-  replaced es key i v first = same_map nat_list_cmp_total (slice_cmp-IsAntisymmetric nat_cmp-IsAntisymmetric) _ _ (λ q.
-      get-from_entries nat_list_cmp_total (set es i (key, v)) q
-      ∙ each q
-      ∙ sym (get-insert nat_list_cmp_total (from_entries es) key v q ∙ ap (cond (tied q key) (Some v)) (get-from_entries nat_list_cmp_total es q)))
+  replaced es key i v first = key_set (set es i (key, v)) (from_entries es) key v (λ q. each q ∙ sym (ap (cond (tied q key) (Some v)) (get-entries es q)))
     where
       each : (q : List ℕ) → found q (set es i (key, v)) ≡ cond (tied q key) (Some v) (found q es)
       each q =

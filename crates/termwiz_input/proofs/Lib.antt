@@ -7,13 +7,11 @@ pub mod FrameFacts
 pub mod FrameReading
 pub mod Heads
 pub mod Items
-pub mod KeyChildren
-pub mod KeyCopies
-pub mod KeyEdits
+pub mod KeyClones
 pub mod KeyList
-pub mod KeyRows
-pub mod KeyWalk
+pub mod KeysInEntries
 pub mod Lists
+pub mod LongestSoFar
 pub mod Meaning
 pub mod Numbering
 pub mod Numbers
@@ -28,3 +26,4 @@ pub mod Settling
 pub mod Standing
 pub mod TableFacts
 pub mod TableTests
+pub mod trie

@@ -9,7 +9,7 @@ use Rattle.termwiz_input.specs.declared.types.KeyEvent.{KeyEvent}
 use Rattle.termwiz_input.specs.Lookup.{Keys}
 use Rattle.termwiz_input.specs.Table.{TableRow, rows, with_rows, table}
 use Rattle.termwiz_input.proofs.RowFacts.{row_once}
-use Rattle.termwiz_input.proofs.KeyList.{tie}
+use Rattle.termwiz_input.proofs.KeysInEntries.{tie}
 
 -- what a map answers after one more row
 same_key : (k : List ℕ) → eq_by_cmp (slice_cmp nat_cmp) k k ≡ true

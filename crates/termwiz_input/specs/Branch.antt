@@ -4,6 +4,7 @@ use Rattle.std.specs.Ordering.{nat_cmp}
 use Rattle.std.specs.Cmp.Lexicographic.{slice_cmp}
 use Rattle.std.specs.List.{All}
 use Rattle.std.specs.FinMap as map
+use Rattle.termwiz_input.specs.Entries.{AreClones}
 
 -- keys with their values
 abbrev pub Rows : Type 0 → Type 0
@@ -39,9 +40,11 @@ module _ {V : Type 0} where
   below [] = []
   below (b ∷ bs) = behind b.label b.rows ++ below bs
 
-  -- what a branch is but for the values: its byte and its keys
-  abbrev pub shape : Branch V → ℕ × List (List ℕ)
-  shape b = (b.label, each (λ row. row.0) b.rows)
+  -- the copy is the branch, but that each of its values is a clone
+  pub record IsBranchClone (is_clone : V → V → Type 0) (b copy : Branch V) : Type 0 where
+    pub label : copy.label ≡ b.label
+    pub rows : AreClones is_clone b.rows copy.rows
+    pub height : copy.height ≡ b.height
 
   -- one more than the deepest of these branches
   abbrev pub height_of : List (Branch V) → ℕ

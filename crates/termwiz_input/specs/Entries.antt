@@ -1,7 +1,7 @@
 -- A map from byte lists as the list of its entries.
 use Rattle.std.specs.Prelude.{◌≡◌, ◌<◌, ◌≤◌, ◌&&◌, ℕ, Bool, List, [], length, take, get_or, None, Some, map as each, nat_lt, nat_eq}
 use Rattle.std.specs.Ordering.{nat_cmp}
-use Rattle.std.specs.List.{list_any}
+use Rattle.std.specs.List.{list_any, AllZip}
 use Rattle.std.specs.Cmp.Lexicographic.{slice_cmp, pointwise}
 use Rattle.std.specs.FinMap.{find}
 use Rattle.std.specs.Global.{Vec}
@@ -10,6 +10,10 @@ module _ {V : Type 0} where
   -- the entries as they lie in memory, seen as keys and values
   abbrev pub seen : List (Vec ℕ × V) → List (List ℕ × V)
   seen es = each (λ e. (e.0.items, e.1)) es
+
+  -- the same keys in the same order, each with a clone of its value
+  abbrev pub AreClones : (V → V → Type 0) → List (List ℕ × V) → List (List ℕ × V) → Type 0
+  AreClones is_clone es copies = AllZip (λ e copy. (copy.0 ≡ e.0) × is_clone e.1 copy.1) es copies
 
   -- whether some key is longer than the text and begins with it
   abbrev pub extends_any : List ℕ → List (List ℕ × V) → Bool

@@ -1,5 +1,5 @@
--- What a lookup in a map from byte lists answers.
-use Rattle.std.specs.Prelude.{◌≡◌, ◌<◌, ◌≤◌, ℕ, Bool, true, false, List, ◌++◌, length, take, None, Some, IsSome}
+-- What a lookup in a map from byte lists answers, and what a clone of such a map is.
+use Rattle.std.specs.Prelude.{◌≡◌, ◌<◌, ◌≤◌, ℕ, Bool, true, false, List, ◌++◌, length, take, None, Some, IsSome, IsSomeAnd, MatchOption}
 use Rattle.std.specs.Ordering.{nat_cmp}
 use Rattle.std.specs.Cmp.Lexicographic.{slice_cmp}
 use Rattle.std.specs.FinMap as map
@@ -11,11 +11,15 @@ use Rattle.termwiz_input.specs.declared.keymap.Found.TheVariants.{None as Nothin
 abbrev pub Keys : Type 0 → Type 0
 Keys V = map.FinMap (slice_cmp nat_cmp) V
 
--- a clone of a value equals it
-abbrev pub ClonesEqual : {V : Type 0} → (V → V → Type 0) → Type 0
-ClonesEqual {V} is_clone = (x y : V) → is_clone x y → y ≡ x
-
 module _ {V : Type 0} where
+  -- a clone of a value equals it
+  abbrev pub ClonesEqual : (V → V → Type 0) → Type 0
+  ClonesEqual is_clone = (value clone : V) → is_clone value clone → clone ≡ value
+
+  -- For each key, either neither map has it, or both have it and the copy's value is a clone of the original's.
+  abbrev pub IsClone : (V → V → Type 0) → Keys V → Keys V → Type 0
+  IsClone is_clone original copy = (key : List ℕ) → MatchOption (map.get original key) (map.get copy key ≡ None) (λ value. IsSomeAnd (map.get copy key) (is_clone value))
+
   -- some key is longer than the text and begins with it
   abbrev pub IsExtended : Keys V → List ℕ → Type 0
   IsExtended m t = (r : List ℕ) × (0 < length r) × IsSome (map.get m (t ++ r))

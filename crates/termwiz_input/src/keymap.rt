@@ -9,6 +9,7 @@ mod plain;
 #[cfg(test)]
 mod tests;
 
+use crate::types::KeyEvent;
 use node::Node;
 use std::alloc::{AllocError, Global};
 use std::fmt::Debug;
@@ -49,7 +50,7 @@ impl<V: Debug + Clone + Drop> Model for KeyMap<V> {
 }
 
 impl<V: Debug + Clone + Drop> KeyMap<V> {
-    ghost use Rattle.termwiz_input.specs.Lookup.{ClonesEqual, LookupGives, shown};
+    ghost use Rattle.termwiz_input.specs.Lookup.{ClonesEqual, IsClone, LookupGives, shown};
 
     /// The empty map. It takes no memory.
     pub fn new(alloc: Global) -> KeyMap<V>
@@ -88,14 +89,23 @@ impl<V: Debug + Clone + Drop> KeyMap<V> {
         }
     }
 
-    /// A map in new memory with a clone of each value: the same map, where clones of the values
-    /// equal them.
+    /// A map with the same keys, and with a clone of each value: the same map, if clones of the
+    /// values equal them. Takes memory from the allocator that this map was made with, and fails if
+    /// memory is refused or the clone of a value fails. This map is unchanged either way.
     pub fn clone(&self) -> Result<KeyMap<V>, AllocError>
-        ensures { ClonesEqual V.is_clone → IfOk result (λ copy. copy ≡ self.now) }
+        ensures cloned { IfOk result (IsClone V.is_clone self.now) }
+        ensures same { ClonesEqual V.is_clone → IfOk result (λ copy. copy ≡ self.now) }
     {
         Ok(KeyMap {
             root: self.root.copy(self.alloc)?,
             alloc: self.alloc,
         })
     }
+}
+
+// A clone of a map to keys of a keyboard: the same map, since a clone of such a key equals it.
+fn cloned_keys(keys: &KeyMap<KeyEvent>) -> Result<KeyMap<KeyEvent>, AllocError>
+    ensures { IfOk result (λ copy. copy ≡ keys.now) }
+{
+    keys.clone()
 }

@@ -2,8 +2,8 @@
 //! that beginning with one more byte.
 ghost use Rattle.std.specs.Prelude.{◌≡◌, ◌↔◌, [], ◌∷◌, IsTrue, IfOk, IfErr, OnOk, OnErr, IfSome, IfNone, Some, None};
 ghost use Rattle.std.specs.FinMap as map;
-ghost use Rattle.termwiz_input.specs.Branch.{AreChildren, IsAt, IsGapFor, keys_of, labels, shape};
-ghost use Rattle.termwiz_input.specs.Lookup.{ClonesEqual, IsExtended, IsLongestKey, NoKeyBegins};
+ghost use Rattle.termwiz_input.specs.Branch.{AreChildren, IsAt, IsBranchClone, IsGapFor, keys_of, labels};
+ghost use Rattle.termwiz_input.specs.Lookup.{IsExtended, IsLongestKey, NoKeyBegins};
 
 use std::alloc::{AllocError, Global};
 use std::marker::Model;
@@ -127,7 +127,8 @@ impl<V> Node<V> {
 
     // The value of the key that ends at the node, beside that key's length, which the caller knows.
     fn own(&self, len: usize) -> Option<(usize, &V)>
-        ensures some { IfSome result (λ own. (own.0 ≡ len) × (map.get (keys_of self.now) [] ≡ Some own.1.now)) }
+        ensures len { IfSome result (λ own. own.0 ≡ len) }
+        ensures value { IfSome result (λ own. map.get (keys_of self.now) [] ≡ Some own.1.now) }
         ensures none { IfNone result (map.get (keys_of self.now) [] ≡ None) }
     {
         self.value.as_ref().map(|value| (len, value))
@@ -137,8 +138,7 @@ impl<V> Node<V> {
 impl<V: Clone + Drop> Node<V> {
     /// The node with all that is below it, in new memory.
     pub fn copy(&self, alloc: Global) -> Result<Node<V>, AllocError>
-        ensures keys { IfOk result (λ copy. shape copy ≡ shape self.now) }
-        ensures same { ClonesEqual V.is_clone → IfOk result (λ copy. copy ≡ self.now) }
+        ensures { IfOk result (IsBranchClone V.is_clone self.now) }
     {
         let mut children = Vec::with_capacity(alloc, self.children.len())?;
         for child in &self.children {

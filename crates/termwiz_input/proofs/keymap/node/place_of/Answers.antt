@@ -1,6 +1,6 @@
 use Rattle.std.proofs.Common.{rules}
 use Rattle.std.proofs.lemmas.List.Sorted.{answers_always}
-use Rattle.termwiz_input.proofs.KeyChildren.{searched}
+use Rattle.termwiz_input.proofs.trie.Children.{searched}
 use Rattle.termwiz_input.proofs.keymap.node.place_of.Goals as goal
 
 pub returns : goal.returns

@@ -1,7 +1,7 @@
 use Rattle.std.proofs.Common.{◌∙◌, ◌+◌, sym, drop}
 use Rattle.std.proofs.lemmas.List.{drop_more}
 use Rattle.termwiz_input.specs.Entries.{seen}
-use Rattle.termwiz_input.proofs.KeyList.{find_here, find_later}
+use Rattle.termwiz_input.proofs.KeysInEntries.{find_here, find_later}
 use Rattle.termwiz_input.proofs.keymap.plain.value_of.Goals as goal
 
 pub returns-then-eq : goal.returns-then-eq

@@ -4,8 +4,8 @@ use Rattle.std.proofs.lemmas.Result.{on_ok_weaker}
 use Rattle.std.specs.FinMap as map
 use Rattle.std.specs.List.{insert}
 use Rattle.termwiz_input.specs.Branch.{Branch, keys_of, labels, IsAt, IsGapFor}
-use Rattle.termwiz_input.proofs.KeyChildren.{no_branch, inside_at, keeps_set, keeps_insert, inhabited_at}
-use Rattle.termwiz_input.proofs.KeyEdits.{own_set, set_there, set_new, inhabited_after}
+use Rattle.termwiz_input.proofs.trie.Children.{no_branch, inside_at, keeps_set, keeps_insert, inhabited_at}
+use Rattle.termwiz_input.proofs.trie.Edits.{own_set, set_there, set_new, inhabited_after}
 use Rattle.termwiz_input.proofs.keymap.node.Node.+insert.Goals as goal
 
 -- the child that the call changed has its byte, and holds a key as before

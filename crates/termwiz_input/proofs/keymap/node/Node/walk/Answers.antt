@@ -1,13 +1,14 @@
 use Rattle.std.proofs.Common.{rules, vec_len, ◌≡◌, ◌∙◌, ap, subst, refl, length, get_or, arith, false, IsTrue}
 use Rattle.std.proofs.lemmas.List.{get_or_default}
 use Rattle.termwiz_input.specs.Branch.{Branch, keys_of, labels, IsAt, IsGapFor}
-use Rattle.termwiz_input.proofs.KeyRows.{get-keys_of}
-use Rattle.termwiz_input.proofs.KeyChildren.{no_branch, inside_at}
-use Rattle.termwiz_input.proofs.KeyWalk.{IsBest, Leads, best_more, is_longest, none_begins, leads_on, dead_end, not_extended, goes_past, extended_at_end, some_test}
+use Rattle.termwiz_input.proofs.KeysInEntries.{get-entries}
+use Rattle.termwiz_input.proofs.trie.Children.{no_branch, inside_at}
+use Rattle.termwiz_input.proofs.LongestSoFar.{IsLongestBelow, is_longest, none_begins, none_after_end}
+use Rattle.termwiz_input.proofs.trie.Walks.{Leads, longest_here, leads_on, dead_end, not_extended, goes_past, extended_at_end, some_test}
 use Rattle.termwiz_input.proofs.keymap.node.Node.walk.Goals as goal
 
 pub loop-depth-init : goal.loop-depth-init
-loop-depth-init g c = record { leads = λ k. get-keys_of c.args.self.now k; best = λ k none. absurd (omega arith) }
+loop-depth-init g c = record { leads = λ k. get-entries c.args.self.now.rows k; longest = λ k none. absurd (omega arith) }
 
 pub loop-depth-preserved : goal.loop-depth-preserved
 loop-depth-preserved g c =
@@ -23,7 +24,7 @@ loop-depth-preserved g c =
     let child : c.index-node.result.now ≡ get_or bs i no_branch = c.index-node.ensures ∙ get_or_default bs i c.index-node.result.now no_branch (inside_at bs c.node.invariant byte i at) in
     record {
       leads = rw child (leads_on m t d node c.node.inside.value bs inv.leads (ap (λ (b : Branch _). b.rows) c.node.view_is) c.node.invariant i c.loop-depth-test.true byte refl at);
-      best = rw c.or-longest.ensures (best_more m t d node c.own.result c.loop-depth.longest inv.leads c.own.ensures.some c.own.ensures.none inv.best);
+      longest = rw c.or-longest.ensures (longest_here m t d node c.own.result c.loop-depth.longest inv.leads c.own.ensures.len c.own.ensures.value c.own.ensures.none inv.longest);
     }
 
 pub returns-in-Err-clause-longest : goal.returns-in-Err-clause-longest
@@ -34,10 +35,10 @@ returns-in-Err-clause-longest g c =
     let node = c.loop-depth.node.now in
     let bs = c.node.inside.children.items in
     let inv = c.loop-depth.invariant in
-    let best = best_more m t d node c.own.result c.loop-depth.longest inv.leads c.own.ensures.some c.own.ensures.none inv.best in
+    let longest = longest_here m t d node c.own.result c.loop-depth.longest inv.leads c.own.ensures.len c.own.ensures.value c.own.ensures.none inv.longest in
     let gap : IsGapFor (labels bs) (get_or t d 0) c.in-Err.field-0 = rw c.deref.ensures.value at c.in-Err.ensures.absent in
     let none = dead_end m t d node c.node.inside.value bs inv.leads (ap (λ (b : Branch _). b.rows) c.node.view_is) c.node.invariant c.in-Err.field-0 c.loop-depth-test.true (get_or t d 0) refl gap in
-    rw c.or-longest.ensures (is_longest m t d _ (omega arith) best none)
+    rw c.or-longest.ensures (is_longest m t d _ (omega arith) longest none)
 
 pub returns-in-Err-clause-none : goal.returns-in-Err-clause-none
 returns-in-Err-clause-none g c =
@@ -47,10 +48,10 @@ returns-in-Err-clause-none g c =
     let node = c.loop-depth.node.now in
     let bs = c.node.inside.children.items in
     let inv = c.loop-depth.invariant in
-    let best = best_more m t d node c.own.result c.loop-depth.longest inv.leads c.own.ensures.some c.own.ensures.none inv.best in
+    let longest = longest_here m t d node c.own.result c.loop-depth.longest inv.leads c.own.ensures.len c.own.ensures.value c.own.ensures.none inv.longest in
     let gap : IsGapFor (labels bs) (get_or t d 0) c.in-Err.field-0 = rw c.deref.ensures.value at c.in-Err.ensures.absent in
     let none = dead_end m t d node c.node.inside.value bs inv.leads (ap (λ (b : Branch _). b.rows) c.node.view_is) c.node.invariant c.in-Err.field-0 c.loop-depth-test.true (get_or t d 0) refl gap in
-    rw c.or-longest.ensures (none_begins m t d _ best none)
+    rw c.or-longest.ensures (none_begins m t d _ longest none)
 
 pub returns-in-Err-clause-extended : goal.returns-in-Err-clause-extended
 returns-in-Err-clause-extended g c =
@@ -70,8 +71,8 @@ returns-clause-longest g c =
     let inv = c.loop-depth.invariant in
     let end : c.loop-depth.depth ≡ length t = omega arith in
     let leads = subst (λ n. Leads m t n node) end inv.leads in
-    let best = best_more m t (length t) node c.own-2.result c.loop-depth.longest leads c.own-2.ensures.some c.own-2.ensures.none (subst (λ n. IsBest m t n c.loop-depth.longest) end inv.best) in
-    rw c.or.ensures (is_longest m t (length t) _ (omega arith) best (λ k above below. absurd (omega arith)))
+    let longest = longest_here m t (length t) node c.own-2.result c.loop-depth.longest leads c.own-2.ensures.len c.own-2.ensures.value c.own-2.ensures.none (subst (λ n. IsLongestBelow m t n c.loop-depth.longest) end inv.longest) in
+    rw c.or.ensures (is_longest m t (length t) _ (omega arith) longest (none_after_end m t (length t) (omega arith)))
 
 pub returns-clause-none : goal.returns-clause-none
 returns-clause-none g c =
@@ -81,8 +82,8 @@ returns-clause-none g c =
     let inv = c.loop-depth.invariant in
     let end : c.loop-depth.depth ≡ length t = omega arith in
     let leads = subst (λ n. Leads m t n node) end inv.leads in
-    let best = best_more m t (length t) node c.own-2.result c.loop-depth.longest leads c.own-2.ensures.some c.own-2.ensures.none (subst (λ n. IsBest m t n c.loop-depth.longest) end inv.best) in
-    rw c.or.ensures (none_begins m t (length t) _ best (λ k above below. absurd (omega arith)))
+    let longest = longest_here m t (length t) node c.own-2.result c.loop-depth.longest leads c.own-2.ensures.len c.own-2.ensures.value c.own-2.ensures.none (subst (λ n. IsLongestBelow m t n c.loop-depth.longest) end inv.longest) in
+    rw c.or.ensures (none_begins m t (length t) _ longest (none_after_end m t (length t) (omega arith)))
 
 pub returns-clause-extended : goal.returns-clause-extended
 returns-clause-extended g c =

@@ -11,7 +11,8 @@ use Rattle.std.proofs.lemmas.List.Sorted.{IsNonDecreasingBy-from_default}
 use Rattle.std.proofs.lemmas.Bool.Decides.{nat_tests}
 use Rattle.std.proofs.lemmas.List.Elements.{All-set, All-append, All-cons, All-take, All-drop, All-get_or}
 use Rattle.std.proofs.lemmas.List.Edits.{length-insert, get_or-insert_below, get_or-insert_at, get_or-insert_above}
-use Rattle.termwiz_input.proofs.KeyRows.{Lacks, found, found-here, found-lacks}
+use Rattle.termwiz_input.proofs.KeysInEntries.{found}
+use Rattle.termwiz_input.proofs.trie.BranchRows.{Lacks, found-here, found-lacks}
 use Rattle.termwiz_input.specs.Branch.{Branch, AreChildren, AreRising, IsAt, IsGapFor, labels, below}
 
 -- a byte put in its gap keeps the order

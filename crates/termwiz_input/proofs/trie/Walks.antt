@@ -1,68 +1,42 @@
--- A walk along a text: where it stands, and the longest key that it has passed.
+-- A walk along a text, down the tree: which branch goes on from where it stands.
 use Rattle.std.proofs.Common.{⊎_elim, ◌≡◌, ◌∙◌, ◌<◌, ◌≤◌, ◌+◌, ◌-◌, ◌↔◌, ℕ, suc, Bool, not, ◌==◌, cond, List, [], ◌∷◌, ◌++◌, length, take, drop, get_or, IsTrue, refl, sym, ap, subst, arith, append_assoc, append-nil}
 use Rattle.std.specs.Prelude.{Option, Some, None, is_some, IfSome, IfNone}
 use Rattle.std.proofs.lemmas.List.{take_all, take_more, length-take-le}
 use Rattle.std.proofs.lemmas.Bool.{cases_lt}
 use Rattle.std.proofs.lemmas.Bool.Decides.{nat_tests}
 use Rattle.std.proofs.Math.Seq.{take-append-add, split_at}
-use Rattle.termwiz_input.proofs.KeyChildren.{no_branch, found_at, found_gap}
+use Rattle.termwiz_input.proofs.trie.Children.{no_branch, found_at, found_gap}
 use Rattle.std.specs.Option.{option_or}
 use Rattle.std.specs.FinMap as map
 use denote.Ref.{Bor}
 use Rattle.termwiz_input.specs.Branch.{Branch, Rows, behind, own, below, keys_of, AreChildren, IsAt, IsGapFor, labels}
-use Rattle.termwiz_input.specs.Lookup.{Keys, IsExtended, IsLongestKey, NoKeyBegins}
-use Rattle.termwiz_input.proofs.KeyRows.{found, found-append, found-behind_same, found-nil, found-cons, get-keys_of}
+use Rattle.termwiz_input.specs.Lookup.{Keys, IsExtended}
+use Rattle.termwiz_input.proofs.KeysInEntries.{found, found-append, get-entries}
+use Rattle.termwiz_input.proofs.LongestSoFar.{IsLongestBelow, longest_more, NoneAfter}
+use Rattle.termwiz_input.proofs.trie.BranchRows.{found-behind_same, found-nil, found-cons}
 use Rattle.std.proofs.lemmas.Cmp.{nat_list_cmp_total, eq_by_cmp_equiv}
 use Rattle.std.proofs.lemmas.List.Elements.{All-head}
 
 module _ {V : Type 0} where
-  -- of the keys that are shorter than d and begin the text, the longest
-  abbrev pub IsBest : Keys V → List ℕ → ℕ → Option (ℕ × Bor V) → Type 0
-  IsBest m t d None = (k : ℕ) → k < d → map.get m (take k t) ≡ None
-  IsBest m t d (Some p) = (p.0 < d) × (map.get m (take p.0 t) ≡ Some p.1.now) × ((k : ℕ) → p.0 < k → k < d → map.get m (take k t) ≡ None)
-
   -- the node's branch holds what goes on from the text's first d bytes
   abbrev pub Leads : Keys V → List ℕ → ℕ → Branch V → Type 0
   Leads m t d node = (k : List ℕ) → map.get m (take d t ++ k) ≡ found k node.rows
 
   -- the key that ends at a node
   pub own_value : (node : Branch V) (w : Option V) (bs : List (Branch V)) → own w ++ below bs ≡ node.rows → map.get (keys_of node) [] ≡ w
-  own_value node w bs is = get-keys_of node [] ∙ ap (found []) (sym is) ∙ found-nil w bs
+  own_value node w bs is = get-entries node.rows [] ∙ ap (found []) (sym is) ∙ found-nil w bs
 
+  -- the key of the text's first d bytes is the one that ends at the node
   ends_here : (m : Keys V) (t : List ℕ) (d : ℕ) (node : Branch V) → Leads m t d node → map.get m (take d t) ≡ map.get (keys_of node) []
-  ends_here m t d node leads = ap (map.get m) (sym (append-nil (take d t))) ∙ leads [] ∙ sym (get-keys_of node [])
+  ends_here m t d node leads = ap (map.get m) (sym (append-nil (take d t))) ∙ leads [] ∙ sym (get-entries node.rows [])
 
-  one_more : (m : Keys V) (t : List ℕ) (d k : ℕ) → map.get m (take d t) ≡ None → (k < d → map.get m (take k t) ≡ None) → k < d + 1 → map.get m (take k t) ≡ None
-  one_more m t d k none h below = ⊎_elim h (λ last. subst (λ n. map.get m (take n t) ≡ None) {x = d} {y = k} (omega arith) none) (cases_lt k d)
-
-  none_more : (m : Keys V) (t : List ℕ) (d : ℕ) (best : Option (ℕ × Bor V)) → map.get m (take d t) ≡ None → IsBest m t d best → IsBest m t (d + 1) best
-  none_more m t d None none best = λ k below. one_more m t d k none (best k) below
-  none_more m t d (Some p) none best = (omega (arith, best.0), best.1, λ k above below. one_more m t d k none (best.2 k above) below)
-
-  -- where the walk stands: the key that ends there, or else the longest before
-  pub best_more : (m : Keys V) (t : List ℕ) (d : ℕ) (node : Branch V) (own best : Option (ℕ × Bor V)) → Leads m t d node
-      → IfSome own (λ o. (o.0 ≡ d) × (map.get (keys_of node) [] ≡ Some o.1.now)) → IfNone own (map.get (keys_of node) [] ≡ None)
-      → IsBest m t d best → IsBest m t (d + 1) (option_or own best)
-  best_more m t d node None best leads some none is = none_more m t d best (ends_here m t d node leads ∙ none) is
-  best_more m t d node (Some o) best leads some none is =
-      (omega (arith, some.0), rw some.0 (ends_here m t d node leads ∙ some.1), λ k above below. absurd (omega (arith, some.0)))
-
-  -- no key begins the text and is longer than its first d bytes
-  abbrev pub NoneAfter : Keys V → List ℕ → ℕ → Type 0
-  NoneAfter m t d = (k : ℕ) → d < k → k ≤ length t → map.get m (take k t) ≡ None
-
-  -- the longest so far is the longest, where none comes after
-  pub is_longest : (m : Keys V) (t : List ℕ) (d : ℕ) (best : Option (ℕ × Bor V)) → d ≤ length t → IsBest m t (d + 1) best → NoneAfter m t d → IfSome best (λ p. IsLongestKey m t p.0 p.1.now)
-  is_longest m t d None inside best after = tt
-  is_longest m t d (Some p) inside best after = record {
-    within = omega (arith, best.0);
-    stored = best.1;
-    longest = λ k above below. ⊎_elim (best.2 k above) (λ past. after k (omega arith) below) (cases_lt k (d + 1));
-  }
-
-  pub none_begins : (m : Keys V) (t : List ℕ) (d : ℕ) (best : Option (ℕ × Bor V)) → IsBest m t (d + 1) best → NoneAfter m t d → IfNone best (NoKeyBegins m t)
-  none_begins m t d None best after = λ k below. ⊎_elim (best k) (λ past. after k (omega arith) below) (cases_lt k (d + 1))
-  none_begins m t d (Some p) best after = tt
+  -- the longest key so far, with the one that ends at the node
+  pub longest_here : (m : Keys V) (t : List ℕ) (d : ℕ) (node : Branch V) (own longest : Option (ℕ × Bor V)) → Leads m t d node
+      → IfSome own (λ o. o.0 ≡ d) → IfSome own (λ o. map.get (keys_of node) [] ≡ Some o.1.now) → IfNone own (map.get (keys_of node) [] ≡ None)
+      → IsLongestBelow m t d longest → IsLongestBelow m t (d + 1) (option_or own longest)
+  longest_here m t d node own longest leads len value none is =
+      let here = ends_here m t d node leads in
+      longest_more m t d own longest len (rw here value) (rw here none) is
 
   module _ (m : Keys V) (t : List ℕ) (d : ℕ) (node : Branch V) (w : Option V) (bs : List (Branch V)) (leads : Leads m t d node) (is : own w ++ below bs ≡ node.rows) where
     -- a key that goes on by one byte
@@ -104,9 +78,6 @@ module _ {V : Type 0} where
     module _ (end : length t ≤ d) where
       pub goes_past : (a : ℕ) (k : List ℕ) → map.get m (t ++ a ∷ k) ≡ found (a ∷ k) (below bs)
       goes_past a k = ap (λ x. map.get m (x ++ a ∷ k)) (sym (take_all d t end)) ∙ goes_by a k
-
-      pub none_after_end : NoneAfter m t d
-      none_after_end k above below = absurd (omega arith)
 
   -- a branch with a row holds a longer key
   holds_one : (m : Keys V) (t : List ℕ) (b : Branch V) (bs : List (Branch V)) → ((a : ℕ) (k : List ℕ) → map.get m (t ++ a ∷ k) ≡ found (a ∷ k) (below (b ∷ bs))) → 0 < length b.rows → IsExtended m t

@@ -2,28 +2,20 @@
 use Rattle.std.proofs.Common.{◌≡◌, ◌≢◌, ◌∙◌, ◌<◌, ℕ, suc, cond, List, [], ◌∷◌, ◌++◌, length, take, drop, get_or, set, refl, sym, ap, subst, arith, ⊎_elim, take-append-drop}
 use Rattle.std.specs.Prelude.{Option, Some, Result, Ok, Err, OnOk, OnErr}
 use Rattle.std.specs.List.{insert}
-use Rattle.std.specs.FinMap as map
-use Rattle.std.specs.FinMap.{get-insert, get-from_entries, same_map, slice_cmp-IsAntisymmetric, nat_cmp-IsAntisymmetric}
+use Rattle.std.specs.FinMap.{get, from_entries, insert as insert_key}
 use Rattle.std.proofs.lemmas.Cmp.{nat_list_cmp_total, eq_by_cmp_equiv}
 use Rattle.std.proofs.lemmas.Bool.{cases_eq}
 use Rattle.std.proofs.lemmas.List.{set_split}
 use Rattle.termwiz_input.specs.Branch.{Branch, Rows, own, below, keys_of, AreChildren, IsAt, IsGapFor, labels}
 use Rattle.termwiz_input.specs.Lookup.{Keys}
-use Rattle.termwiz_input.proofs.KeyRows.{found, tied, tied_same_byte, tied_other_byte, found-nil, found-cons, found-here, found-elsewhere, get-keys_of, Lacks}
-use Rattle.termwiz_input.proofs.KeyChildren.{no_branch, inside_at, same_at, lacks_before, lacks_after, parted_at, found_at, lacks_front, lacks_back, found_gap}
+use Rattle.termwiz_input.proofs.KeysInEntries.{tied, found, get-entries, get-set, key_set}
+use Rattle.termwiz_input.proofs.trie.BranchRows.{tied_same_byte, tied_other_byte, found-nil, found-cons, found-here, found-elsewhere, Lacks}
+use Rattle.termwiz_input.proofs.trie.Children.{no_branch, inside_at, same_at, lacks_before, lacks_after, parted_at, found_at, lacks_front, lacks_back, found_gap}
 
 module _ {V : Type 0} where
-  -- the map of some rows
-  abbrev pub made : Rows V → Keys V
-  made rows = map.from_entries rows
-
-  -- a branch holds a map with one key set, where it finds that key's value and else what the map has
-  pub keys_set : (rows : Rows V) (m : Keys V) (key : List ℕ) (v : V) → ((q : List ℕ) → found q rows ≡ cond (tied q key) (Some v) (map.get m q)) → made rows ≡ map.insert m key v
-  keys_set rows m key v h = same_map nat_list_cmp_total (slice_cmp-IsAntisymmetric nat_cmp-IsAntisymmetric) _ _ (λ q. get-from_entries nat_list_cmp_total rows q ∙ h q ∙ sym (get-insert nat_list_cmp_total m key v q))
-
   -- the key that ends at the node
-  pub own_set : (o : Branch V) (w : Option V) (bs : List (Branch V)) (v : V) → o.rows ≡ own w ++ below bs → made (own (Some v) ++ below bs) ≡ map.insert (keys_of o) [] v
-  own_set o w bs v before = keys_set (own (Some v) ++ below bs) (keys_of o) [] v (λ q. each q ∙ sym (ap (cond (tied q []) (Some v)) (get-keys_of o q ∙ ap (found q) before)))
+  pub own_set : (o : Branch V) (w : Option V) (bs : List (Branch V)) (v : V) → o.rows ≡ own w ++ below bs → from_entries (own (Some v) ++ below bs) ≡ insert_key (keys_of o) [] v
+  own_set o w bs v before = key_set (own (Some v) ++ below bs) (keys_of o) [] v (λ q. each q ∙ sym (ap (cond (tied q []) (Some v)) (get-entries o.rows q ∙ ap (found q) before)))
     where
       each : (q : List ℕ) → found q (own (Some v) ++ below bs) ≡ cond (tied q []) (Some v) (found q (own w ++ below bs))
       each [] = refl
@@ -50,22 +42,22 @@ module _ {V : Type 0} where
         (cases_eq b a)
         ∙ sym (ap (cond (tied (b ∷ k) (a ∷ rest)) (Some v)) (found-cons w bs b k))
 
-    pub child_set : made (own w ++ below (xs ++ c ∷ ys)) ≡ map.insert (keys_of o) (a ∷ rest) v
-    child_set = keys_set (own w ++ below (xs ++ c ∷ ys)) (keys_of o) (a ∷ rest) v (λ q. each_key q ∙ sym (ap (cond (tied q (a ∷ rest)) (Some v)) (get-keys_of o q ∙ ap (found q) before)))
+    pub child_set : from_entries (own w ++ below (xs ++ c ∷ ys)) ≡ insert_key (keys_of o) (a ∷ rest) v
+    child_set = key_set (own w ++ below (xs ++ c ∷ ys)) (keys_of o) (a ∷ rest) v (λ q. each_key q ∙ sym (ap (cond (tied q (a ∷ rest)) (Some v)) (get-entries o.rows q ∙ ap (found q) before)))
 
   module _ (o : Branch V) (w : Option V) (bs : List (Branch V)) (are : AreChildren bs) (a i : ℕ) (rest : List ℕ) (v : V) (before : o.rows ≡ own w ++ below bs) where
     -- a key set in the child that is there
-    pub set_there : (at : IsAt (labels bs) a i) (c : Branch V) → c.label ≡ (get_or bs i no_branch).label → keys_of c ≡ map.insert (keys_of (get_or bs i no_branch)) rest v → made (own w ++ below (set bs i c)) ≡ map.insert (keys_of o) (a ∷ rest) v
+    pub set_there : (at : IsAt (labels bs) a i) (c : Branch V) → c.label ≡ (get_or bs i no_branch).label → keys_of c ≡ insert_key (keys_of (get_or bs i no_branch)) rest v → from_entries (own w ++ below (set bs i c)) ≡ insert_key (keys_of o) (a ∷ rest) v
     set_there at c label set_in =
         let old = get_or bs i no_branch in
-        ap (λ cs. made (own w ++ below cs)) (set_split bs i c (inside_at bs are a i at)) ∙
+        ap (λ cs. from_entries (own w ++ below cs)) (set_split bs i c (inside_at bs are a i at)) ∙
         child_set o w bs (take i bs) (drop (suc i) bs) c a rest v before
         (lacks_before bs are a i at) (lacks_after bs are a i at) (label ∙ same_at bs are a i at)
-        (λ k. sym (get-keys_of c k) ∙ ap (λ m. map.get m k) set_in ∙ get-insert nat_list_cmp_total (keys_of old) rest v k ∙ ap (cond (tied k rest) (Some v)) (get-keys_of old k ∙ sym (found_at bs are a i at k)))
+        (λ k. sym (get-entries c.rows k) ∙ ap (λ m. get m k) set_in ∙ get-set (keys_of old) rest v k ∙ ap (cond (tied k rest) (Some v)) (get-entries old.rows k ∙ sym (found_at bs are a i at k)))
         (λ b k other. ap (λ cs. found (b ∷ k) (below cs)) (parted_at bs are a i at) ∙ found-elsewhere b k (take i bs) old (drop (suc i) bs) (λ e. other (e ∙ same_at bs are a i at)))
 
     -- a key set by a new child
-    pub set_new : (gap : IsGapFor (labels bs) a i) (c : Branch V) → c.label ≡ a → c.rows ≡ (rest, v) ∷ [] → made (own w ++ below (insert bs i c)) ≡ map.insert (keys_of o) (a ∷ rest) v
+    pub set_new : (gap : IsGapFor (labels bs) a i) (c : Branch V) → c.label ≡ a → c.rows ≡ (rest, v) ∷ [] → from_entries (own w ++ below (insert bs i c)) ≡ insert_key (keys_of o) (a ∷ rest) v
     set_new gap c label key =
         child_set o w bs (take i bs) (drop i bs) c a rest v before
         (lacks_front bs are a i gap) (lacks_back bs are a i gap) label
@@ -73,14 +65,14 @@ module _ {V : Type 0} where
         (λ b k other. ap (λ cs. found (b ∷ k) (below cs)) (sym (take-append-drop i bs)))
 
   -- a branch that holds a key has a row
-  pub inhabited_by : (n : Branch V) (m : Keys V) (key : List ℕ) (v : V) → keys_of n ≡ map.insert m key v → 0 < length n.rows
-  inhabited_by n m key v is = some n.rows (sym (get-keys_of n key) ∙ ap (λ x. map.get x key) is ∙ get-insert nat_list_cmp_total m key v key ∙ ap (λ t. cond t (Some v) (map.get m key)) ((eq_by_cmp_equiv nat_list_cmp_total).refl key))
+  pub inhabited_by : (n : Branch V) (m : Keys V) (key : List ℕ) (v : V) → keys_of n ≡ insert_key m key v → 0 < length n.rows
+  inhabited_by n m key v is = some n.rows (sym (get-entries n.rows key) ∙ ap (λ x. get x key) is ∙ get-set m key v key ∙ ap (λ t. cond t (Some v) (get m key)) ((eq_by_cmp_equiv nat_list_cmp_total).refl key))
     where
       some : (rows : Rows V) → found key rows ≡ Some v → 0 < length rows
       some [] e = absurd (cc)
       some (row ∷ rows) e = omega arith
 
   -- a child that a call has set a key in, or left as it was, still holds a key
-  pub inhabited_after : {A E : Type 0} (r : Result A E) (o n : Branch V) (key : List ℕ) (v : V) → OnOk r (keys_of n ≡ map.insert (keys_of o) key v) → OnErr r (n ≡ o) → 0 < length o.rows → 0 < length n.rows
+  pub inhabited_after : {A E : Type 0} (r : Result A E) (o n : Branch V) (key : List ℕ) (v : V) → OnOk r (keys_of n ≡ insert_key (keys_of o) key v) → OnErr r (n ≡ o) → 0 < length o.rows → 0 < length n.rows
   inhabited_after (Ok x) o n key v ok err some = inhabited_by n (keys_of o) key v ok
   inhabited_after (Err e) o n key v ok err some = subst (λ (b : Branch V). 0 < length b.rows) (sym err) some

@@ -2,16 +2,13 @@
 use Rattle.std.proofs.Common.{◌≡◌, ◌≢◌, ◌∙◌, ℕ, Bool, true, false, cond, List, [], ◌∷◌, ◌++◌, refl, sym, ap}
 use Rattle.std.specs.Prelude.{Option, Some, None}
 use Rattle.std.specs.Option.{option_or}
-use Rattle.std.specs.Ordering.{nat_cmp, is_eq, ordering_then, eq_by_cmp}
+use Rattle.std.specs.Ordering.{nat_cmp, is_eq, ordering_then}
 use Rattle.std.specs.declared.cmp.Ordering.TheVariants.{Less, Equal, Greater}
 use Rattle.std.specs.Cmp.Lexicographic.{slice_cmp}
-use Rattle.std.specs.FinMap.{find, get, get-from_entries, nat_cmp-IsAntisymmetric}
-use Rattle.std.proofs.lemmas.Cmp.{nat_cmp_total, nat_list_cmp_total, tied_itself}
-use Rattle.termwiz_input.specs.Branch.{Branch, Rows, own, behind, below, keys_of}
-
--- whether two keys are one
-abbrev pub tied : List ℕ → List ℕ → Bool
-tied j k = eq_by_cmp (slice_cmp nat_cmp) j k
+use Rattle.std.specs.FinMap.{nat_cmp-IsAntisymmetric}
+use Rattle.std.proofs.lemmas.Cmp.{nat_cmp_total, tied_itself}
+use Rattle.termwiz_input.specs.Branch.{Branch, Rows, own, behind, below}
+use Rattle.termwiz_input.proofs.KeysInEntries.{tied, found, found-append}
 
 pub tied_same_byte : (b : ℕ) (j k : List ℕ) → tied (b ∷ j) (b ∷ k) ≡ tied j k
 tied_same_byte b j k = ap (λ o. is_eq (ordering_then o (slice_cmp nat_cmp j k))) (tied_itself nat_cmp_total b)
@@ -25,17 +22,6 @@ tied_other_byte a b j k apart =
     ] refl
 
 module _ {V : Type 0} where
-  abbrev pub found : List ℕ → Rows V → Option V
-  found k rows = find (slice_cmp nat_cmp) k rows
-
-  found_in_two : (b : Bool) (v : V) (o p : Option V) → cond b (Some v) (option_or o p) ≡ option_or (cond b (Some v) o) p
-  found_in_two true v o p = refl
-  found_in_two false v o p = refl
-
-  pub found-append : (k : List ℕ) (xs ys : Rows V) → found k (xs ++ ys) ≡ option_or (found k xs) (found k ys)
-  found-append k [] ys = refl
-  found-append k (x ∷ xs) ys = ap (cond (tied k x.0) (Some x.1)) (found-append k xs ys) ∙ found_in_two (tied k x.0) x.1 (found k xs) (found k ys)
-
   pub found-behind_same : (b : ℕ) (k : List ℕ) (rows : Rows V) → found (b ∷ k) (behind b rows) ≡ found k rows
   found-behind_same b k [] = refl
   found-behind_same b k (row ∷ rows) =
@@ -104,7 +90,3 @@ module _ {V : Type 0} where
       found-append (a ∷ k) (behind x.label x.rows) (below (xs ++ b ∷ ys))
       ∙ ap (option_or (found (a ∷ k) (behind x.label x.rows))) (found-elsewhere a k xs b ys apart)
       ∙ sym (found-append (a ∷ k) (behind x.label x.rows) (below (xs ++ ys)))
-
-  -- a key of the map of a branch
-  pub get-keys_of : (b : Branch V) (k : List ℕ) → get (keys_of b) k ≡ found k b.rows
-  get-keys_of b k = get-from_entries nat_list_cmp_total b.rows k
