@@ -1,5 +1,6 @@
 pub mod Counting
 pub mod Cutting
+pub mod EventEquality
 pub mod ExactStays
 pub mod Facts
 pub mod FrameFacts
@@ -26,3 +27,4 @@ pub mod Settling
 pub mod Standing
 pub mod TableFacts
 pub mod TableTests
+pub mod Variants
