@@ -1,6 +1,7 @@
 pub mod Calls
 pub mod Counting
 pub mod Cutting
+pub mod EventEquality
 pub mod ExactStays
 pub mod Facts
 pub mod FrameFacts
@@ -26,4 +27,5 @@ pub mod Settling
 pub mod Standing
 pub mod TableFacts
 pub mod TableTests
+pub mod Variants
 pub mod trie

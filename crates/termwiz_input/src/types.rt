@@ -9,6 +9,7 @@ use std::alloc::{AllocError, Global};
 use std::marker::Model;
 use termwiz_base::{Modifiers, MouseButton};
 
+mod equality;
 mod flag_calls;
 
 /// A key, by what is on it.
