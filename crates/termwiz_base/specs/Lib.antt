@@ -1,3 +1,5 @@
 pub mod Bits
+pub mod Control
+pub mod Kitty
 pub mod Modifiers
 pub mod Mouse

@@ -1,0 +1,63 @@
+// What the Ctrl key makes of a character.
+
+ghost use Rattle.std.specs.Prelude.{◌≡◌};
+ghost use Rattle.termwiz_base.specs.Control.{control_of};
+
+/// The control character that a terminal gets where `c` is typed with Ctrl held, and `None` where Ctrl makes no control
+/// character of it.
+///
+/// `@`, the letters, `[`, `\`, `]`, `^` and `_` give the ASCII character whose code is lower by 64, and a lowercase
+/// letter gives what its uppercase letter gives. `?` gives DEL. The digits `2` to `8`, the space and `/` give what
+/// they give on a VT220, and the other characters of the same keys of a US keyboard go with them.
+#[tactic(auto, unfolding(crate::specs::Control::control_of))]
+pub fn ctrl_mapping(c: char) -> Option<char>
+    ensures { result ≡ control_of c }
+{
+    match c {
+        '@' | '`' | ' ' | '2' => Some('\x00'),
+        'A'..='Z' => Some(((c as u8) - 64) as char),
+        'a'..='z' => Some(((c as u8) - 96) as char),
+        '[' | '3' | '{' => Some('\x1b'),
+        '\\' | '4' | '|' => Some('\x1c'),
+        ']' | '5' | '}' => Some('\x1d'),
+        '^' | '6' | '~' => Some('\x1e'),
+        '_' | '7' | '/' => Some('\x1f'),
+        '8' | '?' => Some('\x7f'),
+        _ => None,
+    }
+}
+
+#[cfg(test)]
+mod tests {
+    use super::*;
+
+    // The control characters of ASCII, by the characters that are typed for them.
+    #[test]
+    fn maps_to_control_characters(rt: HostRuntime) {
+        for (typed, control) in [
+            ("@` 2", '\x00'),
+            ("aA", '\x01'),
+            ("hH", '\x08'),
+            ("iI", '\x09'),
+            ("mM", '\x0d'),
+            ("zZ", '\x1a'),
+            ("[3{", '\x1b'),
+            ("\\4|", '\x1c'),
+            ("]5}", '\x1d'),
+            ("^6~", '\x1e'),
+            ("_7/", '\x1f'),
+            ("8?", '\x7f'),
+        ] {
+            for c in typed.chars() {
+                assert_eq!(rt; ctrl_mapping(c), Some(control), "{c}");
+            }
+        }
+    }
+
+    #[test]
+    fn maps_nothing_else(rt: HostRuntime) {
+        for c in "019!\"#$%&'()*+,-.:;<=>\x00\x1b\x7f\u{80}é\u{10ffff}".chars() {
+            assert_eq!(rt; ctrl_mapping(c), None, "{c:?}");
+        }
+    }
+}
