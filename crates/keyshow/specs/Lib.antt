@@ -1,4 +1,4 @@
 pub mod Lines
 pub mod Names
-pub mod Pieces
+pub mod Runs
 pub mod Words
