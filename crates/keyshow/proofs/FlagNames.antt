@@ -3,28 +3,28 @@ use Rattle.std.proofs.Common.{◌≡◌, ◌∙◌, ◌==◌, ◌&&◌, ℕ, ◌
 use Rattle.std.specs.Prelude.{bit_and, codes}
 use Rattle.std.specs.List.{join_with_byte}
 use Rattle.std.proofs.lemmas.List.{take_more, take_all, map_push}
-use Rattle.keyshow.specs.Names.{NamedFlag, names_held, with_a_bit, joined}
+use Rattle.keyshow.specs.Names.{NamedFlag, names_in_set, flags_with_a_bit, joined_names}
 
--- the flag has a bit, and the set has all of its bits
-abbrev pub is_named : ℕ → NamedFlag → Bool
-is_named bits flag = not (flag.1 == 0) && (bit_and bits flag.1 == flag.1)
+-- the set has the flag: the flag has a bit, and all of its bits are in the set
+abbrev pub is_in_set : ℕ → NamedFlag → Bool
+is_in_set bits flag = not (flag.1 == 0) && (bit_and bits flag.1 == flag.1)
 
--- the name of a flag, where it is named
+-- the name of a flag that the set has, as a list of one, or nothing
 abbrev pub name_of : ℕ → NamedFlag → List (List ℕ)
-name_of bits flag = cond (is_named bits flag) (flag.0 ∷ []) []
+name_of bits flag = cond (is_in_set bits flag) (flag.0 ∷ []) []
 
 -- the names so far
 abbrev pub names : ℕ → List NamedFlag → List (List ℕ)
-names bits flags = names_held (with_a_bit flags) bits
+names bits flags = names_in_set (flags_with_a_bit flags) bits
 
-step : (bit held : Bool) (flag : NamedFlag) (bits : ℕ) (rest : List NamedFlag) → not (flag.1 == 0) ≡ bit → (bit_and bits flag.1 == flag.1) ≡ held
-    → names bits (flag ∷ rest) ≡ cond (bit && held) (flag.0 ∷ []) [] ++ names bits rest
-step true true flag bits rest e f = rw (e, f) refl
-step true false flag bits rest e f = rw (e, f) refl
-step false held flag bits rest e f = rw e refl
+names-cons_by_tests : (has_bit contained : Bool) (flag : NamedFlag) (bits : ℕ) (rest : List NamedFlag) → not (flag.1 == 0) ≡ has_bit → (bit_and bits flag.1 == flag.1) ≡ contained
+    → names bits (flag ∷ rest) ≡ cond (has_bit && contained) (flag.0 ∷ []) [] ++ names bits rest
+names-cons_by_tests true true flag bits rest e f = rw (e, f) refl
+names-cons_by_tests true false flag bits rest e f = rw (e, f) refl
+names-cons_by_tests false contained flag bits rest e f = rw e refl
 
 pub names-cons : (bits : ℕ) (flag : NamedFlag) (rest : List NamedFlag) → names bits (flag ∷ rest) ≡ name_of bits flag ++ names bits rest
-names-cons bits flag rest = step _ _ flag bits rest refl refl
+names-cons bits flag rest = names-cons_by_tests _ _ flag bits rest refl refl
 
 pub names-push : (bits : ℕ) (flags : List NamedFlag) (flag : NamedFlag) → names bits (flags ++ flag ∷ []) ≡ names bits flags ++ name_of bits flag
 names-push bits [] flag = names-cons bits flag [] ∙ append-nil (name_of bits flag)
@@ -32,35 +32,35 @@ names-push bits (first ∷ rest) flag =
     names-cons bits first (rest ++ flag ∷ []) ∙ ap (λ l. name_of bits first ++ l) (names-push bits rest flag)
     ∙ sym (append_assoc (name_of bits first) (names bits rest) (name_of bits flag)) ∙ ap (λ l. l ++ name_of bits flag) (sym (names-cons bits first rest))
 
--- one more name behind others
+-- one more name at the end
 pub join-push : (first : List ℕ) (others : List (List ℕ)) (name : List ℕ) → join_with_byte 43 (first ∷ (others ++ name ∷ [])) ≡ join_with_byte 43 (first ∷ others) ++ (43 ∷ name)
 join-push first [] name = refl
 join-push first (next ∷ others) name =
     ap (λ l. first ++ (43 ∷ l)) (join-push next others name) ∙ sym (append_assoc first (43 ∷ join_with_byte 43 (next ∷ others)) (43 ∷ name))
 
--- some name stands in the list
-abbrev pub is_some_named : List (List ℕ) → Bool
-is_some_named [] = false
-is_some_named (first ∷ others) = true
+-- the list has a name
+abbrev pub has_a_name : List (List ℕ) → Bool
+has_a_name [] = false
+has_a_name (first ∷ others) = true
 
--- one more name: behind a + where another stands before it
-pub join-more : (so_far : List (List ℕ)) (name : List ℕ) → join_with_byte 43 (so_far ++ name ∷ []) ≡ join_with_byte 43 so_far ++ (cond (is_some_named so_far) (43 ∷ []) [] ++ name)
+-- one more name at the end, with a + before it unless it is the first
+pub join-more : (so_far : List (List ℕ)) (name : List ℕ) → join_with_byte 43 (so_far ++ name ∷ []) ≡ join_with_byte 43 so_far ++ (cond (has_a_name so_far) (43 ∷ []) [] ++ name)
 join-more [] name = refl
 join-more (first ∷ others) name = join-push first others name
 
-pub some-more : (so_far : List (List ℕ)) (name : List ℕ) → is_some_named (so_far ++ name ∷ []) ≡ true
+pub some-more : (so_far : List (List ℕ)) (name : List ℕ) → has_a_name (so_far ++ name ∷ []) ≡ true
 some-more [] name = refl
 some-more (first ∷ others) name = refl
 
--- all the names: as they are where there is one, and else NONE
-pub joined-whole : (all : List (List ℕ)) → joined all ≡ cond (is_some_named all) (join_with_byte 43 all) (codes "NONE")
-joined-whole [] = refl
-joined-whole (first ∷ others) = refl
+-- the names joined by + if there are any, else NONE
+pub joined_names-by_test : (all : List (List ℕ)) → joined_names all ≡ cond (has_a_name all) (join_with_byte 43 all) (codes "NONE")
+joined_names-by_test [] = refl
+joined_names-by_test (first ∷ others) = refl
 
--- a list in which no name stands is empty
-pub nothing_in : (all : List (List ℕ)) → is_some_named all ≡ false → all ≡ []
-nothing_in [] e = refl
-nothing_in (first ∷ others) e = absurd (cc)
+-- a list without a name is empty
+pub empty_without_name : (all : List (List ℕ)) → has_a_name all ≡ false → all ≡ []
+empty_without_name [] e = refl
+empty_without_name (first ∷ others) e = absurd (cc)
 
 -- the names after one more flag
 module _ {X : Type 0} (flags : List X) (i : ℕ) (flag : X) (row : X → NamedFlag) (bits : ℕ) (start before after : List ℕ) (named : Bool) where
@@ -75,21 +75,21 @@ module _ {X : Type 0} (flags : List X) (i : ℕ) (flag : X) (row : X → NamedFl
       ap (λ l. names bits (map row l)) (take_more flags i flag within) ∙ ap (names bits) (map_push row (take i flags) (get_or flags i flag))
       ∙ names-push bits (map row (take i flags)) (row (get_or flags i flag)) ∙ ap (λ x. so_far ++ name_of bits (row x)) (sym is)
 
-  pub after_held : i < length flags → flag ≡ get_or flags i flag → (answer : Bool) → answer ≡ is_named bits (row flag) → answer ≡ true → before ≡ start ++ join_with_byte 43 so_far → named ≡ is_some_named so_far
-      → after ≡ before ++ (cond named (43 ∷ []) [] ++ (row flag).0) → (after ≡ start ++ join_with_byte 43 next) × (true ≡ is_some_named next)
-  after_held within is answer told is_yes put e put_more =
-      let grown : next ≡ so_far ++ (row flag).0 ∷ [] = next_is within is ∙ ap (λ b. so_far ++ cond b ((row flag).0 ∷ []) []) (sym told ∙ is_yes) in (
-        put_more ∙ ap (λ b. before ++ (cond b (43 ∷ []) [] ++ (row flag).0)) e ∙ ap (λ l. l ++ (cond (is_some_named so_far) (43 ∷ []) [] ++ (row flag).0)) put
-            ∙ append_assoc start (join_with_byte 43 so_far) (cond (is_some_named so_far) (43 ∷ []) [] ++ (row flag).0)
+  pub after_named_flag : i < length flags → flag ≡ get_or flags i flag → (answer : Bool) → answer ≡ is_in_set bits (row flag) → answer ≡ true → before ≡ start ++ join_with_byte 43 so_far → named ≡ has_a_name so_far
+      → after ≡ before ++ (cond named (43 ∷ []) [] ++ (row flag).0) → (after ≡ start ++ join_with_byte 43 next) × (true ≡ has_a_name next)
+  after_named_flag within is answer answer_is is_yes written e appended =
+      let grown : next ≡ so_far ++ (row flag).0 ∷ [] = next_is within is ∙ ap (λ b. so_far ++ cond b ((row flag).0 ∷ []) []) (sym answer_is ∙ is_yes) in (
+        appended ∙ ap (λ b. before ++ (cond b (43 ∷ []) [] ++ (row flag).0)) e ∙ ap (λ l. l ++ (cond (has_a_name so_far) (43 ∷ []) [] ++ (row flag).0)) written
+            ∙ append_assoc start (join_with_byte 43 so_far) (cond (has_a_name so_far) (43 ∷ []) [] ++ (row flag).0)
             ∙ ap (λ l. start ++ l) (sym (join-more so_far (row flag).0)) ∙ ap (λ l. start ++ join_with_byte 43 l) (sym grown),
-        sym (ap is_some_named grown ∙ some-more so_far (row flag).0),
+        sym (ap has_a_name grown ∙ some-more so_far (row flag).0),
       )
 
-  pub after_other : i < length flags → flag ≡ get_or flags i flag → (answer : Bool) → answer ≡ is_named bits (row flag) → answer ≡ false → before ≡ start ++ join_with_byte 43 so_far → named ≡ is_some_named so_far
-      → (before ≡ start ++ join_with_byte 43 next) × (named ≡ is_some_named next)
-  after_other within is answer told is_no put e =
-      let same : next ≡ so_far = next_is within is ∙ ap (λ b. so_far ++ cond b ((row flag).0 ∷ []) []) (sym told ∙ is_no) ∙ append-nil so_far in
-      (put ∙ ap (λ l. start ++ join_with_byte 43 l) (sym same), e ∙ ap is_some_named (sym same))
+  pub after_other_flag : i < length flags → flag ≡ get_or flags i flag → (answer : Bool) → answer ≡ is_in_set bits (row flag) → answer ≡ false → before ≡ start ++ join_with_byte 43 so_far → named ≡ has_a_name so_far
+      → (before ≡ start ++ join_with_byte 43 next) × (named ≡ has_a_name next)
+  after_other_flag within is answer answer_is is_no written e =
+      let same : next ≡ so_far = next_is within is ∙ ap (λ b. so_far ++ cond b ((row flag).0 ∷ []) []) (sym answer_is ∙ is_no) ∙ append-nil so_far in
+      (written ∙ ap (λ l. start ++ join_with_byte 43 l) (sym same), e ∙ ap has_a_name (sym same))
 
 -- after the last flag
 module _ {X : Type 0} (flags : List X) (i : ℕ) (row : X → NamedFlag) (table : List NamedFlag) (bits : ℕ) (start before : List ℕ) (named : Bool) where
@@ -97,14 +97,14 @@ module _ {X : Type 0} (flags : List X) (i : ℕ) (row : X → NamedFlag) (table 
   all_of ended whole = ap (λ l. names bits (map row l)) (take_all i flags ended) ∙ ap (names bits) whole
 
   pub some_named : length flags ≤ i → map row flags ≡ table → before ≡ start ++ join_with_byte 43 (names bits (map row (take i flags)))
-      → named ≡ is_some_named (names bits (map row (take i flags))) → named ≡ true → before ≡ start ++ joined (names bits table)
-  some_named ended whole put e some =
+      → named ≡ has_a_name (names bits (map row (take i flags))) → named ≡ true → before ≡ start ++ joined_names (names bits table)
+  some_named ended whole written e some =
       let all = all_of ended whole in
-      put ∙ ap (λ l. start ++ join_with_byte 43 l) all
-      ∙ ap (λ l. start ++ l) (sym (joined-whole (names bits table) ∙ ap (λ b. cond b (join_with_byte 43 (names bits table)) (codes "NONE")) (sym (ap is_some_named all) ∙ sym e ∙ some)))
+      written ∙ ap (λ l. start ++ join_with_byte 43 l) all
+      ∙ ap (λ l. start ++ l) (sym (joined_names-by_test (names bits table) ∙ ap (λ b. cond b (join_with_byte 43 (names bits table)) (codes "NONE")) (sym (ap has_a_name all) ∙ sym e ∙ some)))
 
   pub none_named : length flags ≤ i → map row flags ≡ table → before ≡ start ++ join_with_byte 43 (names bits (map row (take i flags)))
-      → named ≡ is_some_named (names bits (map row (take i flags))) → named ≡ false → (after : List ℕ) → after ≡ before ++ codes "NONE" → after ≡ start ++ joined (names bits table)
-  none_named ended whole put e none after put_none =
-      let empty = nothing_in (names bits table) (sym (ap is_some_named (all_of ended whole)) ∙ sym e ∙ none) in
-      put_none ∙ ap (λ l. l ++ codes "NONE") (put ∙ ap (λ l. start ++ join_with_byte 43 l) (all_of ended whole ∙ empty) ∙ append-nil start) ∙ ap (λ l. start ++ joined l) (sym empty)
+      → named ≡ has_a_name (names bits (map row (take i flags))) → named ≡ false → (after : List ℕ) → after ≡ before ++ codes "NONE" → after ≡ start ++ joined_names (names bits table)
+  none_named ended whole written e none after appended =
+      let empty = empty_without_name (names bits table) (sym (ap has_a_name (all_of ended whole)) ∙ sym e ∙ none) in
+      appended ∙ ap (λ l. l ++ codes "NONE") (written ∙ ap (λ l. start ++ join_with_byte 43 l) (all_of ended whole ∙ empty) ∙ append-nil start) ∙ ap (λ l. start ++ joined_names l) (sym empty)

@@ -5,15 +5,15 @@ use Rattle.termwiz_input.specs.declared.types.KeyCode.{KeyCode}
 use Rattle.termwiz_input.specs.declared.types.KeyCode.TheVariants.{Char, Function}
 use Rattle.keyshow.specs.Names.{variant_name, key_name}
 
--- digits with zeros before them up to a width
+-- digits padded with zeros to a width
 pub zero_padded : (width : ℕ) (ds : List ℕ) → padded_integral (format_spec 32 0 4 width (2 ^ 64 - 1)) false [] ds ≡ replicate (width - length ds) 48 ++ ds
 unfolding padded_integral char_count
 zero_padded width ds =
     let less : width - length ds - 0 - 0 ≡ width - length ds = omega arith in
     rw (less, append-nil ds) refl
 
--- a key that is no character and no function key has its variant's name
-pub key_name-named : (key : KeyCode) → ((c : ℕ) → key ≡ Char c → ⊥) → ((n : ℕ) → key ≡ Function n → ⊥) → key_name key ≡ variant_name key
+-- a key other than a character and a function key has its variant's name
+pub key_name-named : (key : KeyCode) → ((c : ℕ) → ¬ (key ≡ Char c)) → ((n : ℕ) → ¬ (key ≡ Function n)) → key_name key ≡ variant_name key
 unfolding key_name
 key_name-named (Char c) p q = absurd (p c refl)
 key_name-named (Function n) p q = absurd (q n refl)

@@ -1,18 +1,14 @@
--- Bytes that were read or written, and what comes after them.
+-- Bytes that were written, and the lines of more events.
 use Rattle.std.proofs.Common.{◌≡◌, ◌∙◌, ◌-◌, ℕ, List, [], ◌∷◌, ◌++◌, length, take, drop, sym, ap, append_assoc, append-nil, take-append-drop}
 use Rattle.std.proofs.lemmas.List.{take_rest}
 use Rattle.std.proofs.lemmas.List.Concat.{flat_map-append}
 use Rattle.termwiz_input.specs.declared.types.InputEvent.{InputEvent}
 use Rattle.keyshow.specs.Lines.{line, lines}
-use Rattle.keyshow.specs.Pieces.{join}
 
--- n more bytes are done
-pub moved : (all done rest : List ℕ) (n : ℕ) → all ≡ done ++ rest → all ≡ (done ++ take n rest) ++ take (length rest - n) (drop n rest)
-moved all done rest n e =
+-- n more bytes are written
+pub written_further : (all done rest : List ℕ) (n : ℕ) → all ≡ done ++ rest → all ≡ (done ++ take n rest) ++ take (length rest - n) (drop n rest)
+written_further all done rest n e =
     e ∙ ap (λ l. done ++ l) (sym (take-append-drop n rest)) ∙ sym (append_assoc done (take n rest) (drop n rest)) ∙ ap (λ l. (done ++ take n rest) ++ l) (sym (take_rest rest n))
 
 pub lines-append : (events more : List InputEvent) → lines (events ++ more) ≡ lines events ++ lines more
 lines-append events more = flat_map-append line events more
-
-pub join-push : (pieces : List (List ℕ)) (piece : List ℕ) → join (pieces ++ piece ∷ []) ≡ join pieces ++ piece
-join-push pieces piece = flat_map-append (λ p. p) pieces (piece ∷ []) ∙ ap (λ l. join pieces ++ l) (append-nil piece)

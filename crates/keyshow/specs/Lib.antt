@@ -1,4 +1,5 @@
+pub mod Endings
 pub mod Lines
 pub mod Names
-pub mod Pieces
+pub mod Runs
 pub mod Words

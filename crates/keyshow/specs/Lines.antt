@@ -6,7 +6,7 @@ use Rattle.termwiz_base.specs.declared.modifiers.Modifiers.{Modifiers}
 use Rattle.termwiz_input.specs.declared.types.MouseButtons.{MouseButtons}
 use Rattle.termwiz_input.specs.declared.types.InputEvent.{InputEvent}
 use Rattle.termwiz_input.specs.declared.types.InputEvent.TheVariants.{Key, Mouse, PixelMouse, Resized, Paste, Wake}
-use Rattle.keyshow.specs.Names.{key_name, joined, names_held, modifier_flags, button_flags}
+use Rattle.keyshow.specs.Names.{key_name, joined_names, names_in_set, modifier_flags, button_flags}
 
 -- a line feed
 abbrev pub LINE_END : List ℕ
@@ -16,15 +16,15 @@ LINE_END = 10 ∷ []
 abbrev pub SPACE : List ℕ
 SPACE = 32 ∷ []
 
--- the names of the modifiers that are held
+-- the names of the modifiers that are down
 abbrev pub modifiers_text : Modifiers → List ℕ
-modifiers_text modifiers = joined (names_held modifier_flags modifiers.0)
+modifiers_text modifiers = joined_names (names_in_set modifier_flags modifiers.0)
 
 -- the names of the mouse buttons that are down
 abbrev pub buttons_text : MouseButtons → List ℕ
-buttons_text buttons = joined (names_held button_flags buttons.0)
+buttons_text buttons = joined_names (names_in_set button_flags buttons.0)
 
--- the place of the mouse, the buttons and the modifiers
+-- the column and row of the mouse, its buttons and the modifiers
 abbrev pub mouse_text : ℕ → ℕ → MouseButtons → Modifiers → List ℕ
 mouse_text x y buttons modifiers =
     decimal x ++ SPACE ++ decimal y ++ SPACE ++ buttons_text buttons ++ SPACE ++ modifiers_text modifiers
@@ -37,27 +37,27 @@ hex_digits byte = digit_glyph false (byte / 16) ∷ digit_glyph false (byte % 16
 abbrev pub hexadecimal : List ℕ → List ℕ
 hexadecimal text = flat_map hex_digits text
 
--- what the line of an event says
-abbrev pub told : InputEvent → List ℕ
-told (Key event) = codes "key " ++ key_name event.key ++ SPACE ++ modifiers_text event.modifiers
-told (Mouse event) = codes "mouse " ++ mouse_text event.x event.y event.mouse_buttons event.modifiers
-told (PixelMouse event) = codes "pixelmouse " ++ mouse_text event.x_pixels event.y_pixels event.mouse_buttons event.modifiers
-told (Resized cols rows) = codes "resized " ++ decimal cols ++ SPACE ++ decimal rows
-told (Paste text) = codes "paste " ++ decimal (length text) ++ codes ":" ++ hexadecimal text
-told Wake = codes "wake"
+-- the text of the line of an event
+abbrev pub event_text : InputEvent → List ℕ
+event_text (Key event) = codes "key " ++ key_name event.key ++ SPACE ++ modifiers_text event.modifiers
+event_text (Mouse event) = codes "mouse " ++ mouse_text event.x event.y event.mouse_buttons event.modifiers
+event_text (PixelMouse event) = codes "pixelmouse " ++ mouse_text event.x_pixels event.y_pixels event.mouse_buttons event.modifiers
+event_text (Resized cols rows) = codes "resized " ++ decimal cols ++ SPACE ++ decimal rows
+event_text (Paste text) = codes "paste " ++ decimal (length text) ++ codes ":" ++ hexadecimal text
+event_text Wake = codes "wake"
 
 -- the line of an event
 unfoldable pub line : InputEvent → List ℕ
-line event = told event ++ LINE_END
+line event = event_text event ++ LINE_END
 
--- the lines of events, in their order
+-- the lines of events, in order
 abbrev pub lines : List InputEvent → List ℕ
 lines events = flat_map line events
 
--- the line that tells how many bytes wait, where some do
+-- the line that says how many bytes wait, or nothing if none do
 abbrev pub waiting_line : ℕ → List ℕ
 waiting_line count = if nat_lt 0 count then codes "waiting " ++ decimal count ++ LINE_END else []
 
--- the lines of events, and then of what waits
+-- the lines of events, followed by the line of what waits
 abbrev pub all_lines : List InputEvent → List ℕ → List ℕ
 all_lines events waiting = lines events ++ waiting_line (length waiting)

@@ -98,10 +98,10 @@ variant_name KeyPadBegin = codes "KeyPadBegin"
 variant_name InternalPasteStart = codes "InternalPasteStart"
 variant_name InternalPasteEnd = codes "InternalPasteEnd"
 
--- a character as the Unicode standard writes it: U+, and at least four uppercase hexadecimal digits of its code point,
--- with the digit 0 (48) before them where they are fewer
+-- a character as the Unicode standard writes it: U+ and its code point in uppercase hexadecimal digits, padded with
+-- zeros (48) to at least four digits
 abbrev pub code_point : ℕ → List ℕ
-code_point c = let shown = digits 16 true c in codes "U+" ++ replicate (4 - length shown) 48 ++ shown
+code_point c = let hexadecimal = digits 16 true c in codes "U+" ++ replicate (4 - length hexadecimal) 48 ++ hexadecimal
 
 -- a character as its code point, a function key as F and its number, another key as its variant
 unfoldable pub key_name : KeyCode → List ℕ
@@ -109,7 +109,7 @@ key_name (Char c) = code_point c
 key_name (Function n) = codes "F" ++ decimal n
 key_name key = variant_name key
 
--- a flag: its name, and its bit
+-- a flag: its name and its bit
 abbrev pub NamedFlag : Type 0
 NamedFlag = List ℕ × ℕ
 
@@ -140,15 +140,15 @@ button_flags =
     ∷ (codes "WHEEL_POSITIVE", 64)
     ∷ []
 
--- the names of the flags that a set of bits holds
-abbrev pub names_held : List NamedFlag → ℕ → List (List ℕ)
-names_held flags bits = map (λ flag. flag.0) (filter (λ flag. bit_and bits flag.1 == flag.1) flags)
+-- the names of the flags whose bits are all in a set of bits
+abbrev pub names_in_set : List NamedFlag → ℕ → List (List ℕ)
+names_in_set flags bits = map (λ flag. flag.0) (filter (λ flag. bit_and bits flag.1 == flag.1) flags)
 
--- names joined by + (43), and NONE where there is none
-abbrev pub joined : List (List ℕ) → List ℕ
-joined [] = codes "NONE"
-joined (name ∷ names) = join_with_byte 43 (name ∷ names)
+-- names joined by + (43), or NONE if there are none
+abbrev pub joined_names : List (List ℕ) → List ℕ
+joined_names [] = codes "NONE"
+joined_names (name ∷ names) = join_with_byte 43 (name ∷ names)
 
--- the flags of a table that have a bit, so without one such as NONE
-abbrev pub with_a_bit : List NamedFlag → List NamedFlag
-with_a_bit flags = filter (λ flag. not (flag.1 == 0)) flags
+-- the flags of a table that have a bit, which NONE has not
+abbrev pub flags_with_a_bit : List NamedFlag → List NamedFlag
+flags_with_a_bit flags = filter (λ flag. not (flag.1 == 0)) flags

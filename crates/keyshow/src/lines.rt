@@ -1,8 +1,8 @@
-// The lines of events, put behind the bytes of a buffer.
+// The lines of events, appended to a buffer.
 
 ghost use Rattle.std.specs.Prelude.{◌≡◌, ◌==◌, ◌&&◌, ◌++◌, [], length, not, bit_and, codes, IfSome, OnOk, if◌then◌else◌};
 ghost use Rattle.std.specs.Fmt.{decimal};
-ghost use Rattle.keyshow.specs.Names.{key_name, code_point, joined, names_held, with_a_bit};
+ghost use Rattle.keyshow.specs.Names.{key_name, code_point, joined_names, names_in_set, flags_with_a_bit};
 ghost use Rattle.keyshow.specs.Lines.{line, lines, hexadecimal, hex_digits, mouse_text, waiting_line};
 
 use crate::names::variant_name;
@@ -13,7 +13,7 @@ use std::io::Write;
 use termwiz_base::Modifiers;
 use termwiz_input::types::{InputEvent, KeyCode, MouseButtons};
 
-/// Puts the lines of events behind the bytes of `out`, in their order.
+/// Appends the lines of the events to `out`, in order.
 pub fn push_lines(out: &mut Vec<u8>, events: &[InputEvent]) -> Result<(), AllocError>
     ensures { OnOk result (out.new.items ≡ out.old.items ++ lines events.now) }
 {
@@ -23,7 +23,7 @@ pub fn push_lines(out: &mut Vec<u8>, events: &[InputEvent]) -> Result<(), AllocE
     Ok(())
 }
 
-/// Puts the line of an event behind the bytes of `out`.
+/// Appends the line of an event to `out`.
 #[tactic(auto, unfolding(crate::specs::Lines::line))]
 pub fn push_line(out: &mut Vec<u8>, event: &InputEvent) -> Result<(), AllocError>
     ensures { OnOk result (out.new.items ≡ out.old.items ++ line event.now) }
@@ -56,7 +56,7 @@ pub fn push_line(out: &mut Vec<u8>, event: &InputEvent) -> Result<(), AllocError
     push(out, b"\n")
 }
 
-/// Puts the line that tells how many bytes wait behind the bytes of `out`, where some do.
+/// Appends the line that says how many bytes wait to `out`, or nothing if none do.
 pub fn push_waiting(out: &mut Vec<u8>, count: usize) -> Result<(), AllocError>
     ensures { OnOk result (out.new.items ≡ out.old.items ++ waiting_line count) }
 {
@@ -66,21 +66,21 @@ pub fn push_waiting(out: &mut Vec<u8>, count: usize) -> Result<(), AllocError>
     push_text(out, format_args!("waiting {count}\n"))
 }
 
-// Puts a printed text behind the bytes of `out`.
+// Appends what `text` displays to `out`.
 fn push_text<D: Display + Drop>(out: &mut Vec<u8>, text: D) -> Result<(), AllocError>
     ensures { OnOk result (IfSome (D.output text) (λ bytes. out.new.items ≡ out.old.items ++ bytes)) }
 {
     out.write_fmt(text).map_err(|_| AllocError)
 }
 
-// Puts bytes behind those of `out`.
+// Appends bytes to `out`.
 fn push(out: &mut Vec<u8>, bytes: &[u8]) -> Result<(), AllocError>
     ensures { OnOk result (out.new.items ≡ out.old.items ++ bytes.now) }
 {
     out.extend_from_slice(bytes)
 }
 
-// Puts the name of a key behind the bytes of `out`.
+// Appends the name of a key to `out`.
 fn push_key_name(out: &mut Vec<u8>, key: KeyCode) -> Result<(), AllocError>
     ensures { OnOk result (out.new.items ≡ out.old.items ++ key_name key) }
 {
@@ -91,14 +91,14 @@ fn push_key_name(out: &mut Vec<u8>, key: KeyCode) -> Result<(), AllocError>
     }
 }
 
-// Puts a character's code point behind the bytes of `out`, as in `U+0041`.
+// Appends a character's code point to `out`, as in `U+0041`.
 fn push_code_point(out: &mut Vec<u8>, code: u32) -> Result<(), AllocError>
     ensures { OnOk result (out.new.items ≡ out.old.items ++ code_point code) }
 {
     push_text(out, format_args!("U+{code:04X}"))
 }
 
-// Puts the place of the mouse, the buttons and the modifiers behind the bytes of `out`.
+// Appends the column and row of the mouse, its buttons and the modifiers to `out`.
 fn push_mouse(
     out: &mut Vec<u8>,
     x: u16,
@@ -114,7 +114,7 @@ fn push_mouse(
     push_flags(out, &modifiers)
 }
 
-// Puts what a resize's line says behind the bytes of `out`.
+// Appends the text of a resize's line to `out`.
 fn push_resized(out: &mut Vec<u8>, cols: usize, rows: usize) -> Result<(), AllocError>
     ensures { OnOk result (out.new.items
         ≡ out.old.items ++ (codes "resized " ++ decimal cols ++ codes " " ++ decimal rows)) }
@@ -122,7 +122,7 @@ fn push_resized(out: &mut Vec<u8>, cols: usize, rows: usize) -> Result<(), Alloc
     push_text(out, format_args!("resized {cols} {rows}"))
 }
 
-// Puts what a paste's line says behind the bytes of `out`.
+// Appends the text of a paste's line to `out`.
 fn push_pasted(out: &mut Vec<u8>, text: &str) -> Result<(), AllocError>
     ensures { OnOk result (out.new.items
         ≡ out.old.items ++ (codes "paste " ++ decimal (length text.now) ++ codes ":" ++ hexadecimal text.now)) }
@@ -135,22 +135,22 @@ fn push_pasted(out: &mut Vec<u8>, text: &str) -> Result<(), AllocError>
     Ok(())
 }
 
-// Puts the two hexadecimal digits of a byte behind the bytes of `out`.
+// Appends the two hexadecimal digits of a byte to `out`.
 fn push_hex_byte(out: &mut Vec<u8>, byte: u8) -> Result<(), AllocError>
     ensures { OnOk result (out.new.items ≡ out.old.items ++ hex_digits byte) }
 {
     push_text(out, format_args!("{byte:02x}"))
 }
 
-// Puts the names of the flags of a set behind the bytes of `out`, joined by +, and NONE where there is none.
+// Appends the names of the flags of a set to `out`, joined by +, or NONE if there are none.
 fn push_flags<F: Flags>(out: &mut Vec<u8>, set: &F) -> Result<(), AllocError>
     ensures { F.exact → OnOk result (out.new.items
-        ≡ out.old.items ++ joined (names_held (with_a_bit F.table) (F.set_of set.now))) }
+        ≡ out.old.items ++ joined_names (names_in_set (flags_with_a_bit F.table) (F.set_of set.now))) }
 {
     let mut named = false;
     let flags = F::flags();
     for flag in flags {
-        if is_held(set, flag.value()) {
+        if has_flag(set, flag.value()) {
             push_name(out, flag.name(), named)?;
             named = true;
         }
@@ -158,7 +158,7 @@ fn push_flags<F: Flags>(out: &mut Vec<u8>, set: &F) -> Result<(), AllocError>
     if named { Ok(()) } else { push(out, b"NONE") }
 }
 
-// Puts a name behind the bytes of `out`, and a + between where another name stands before it.
+// Appends a name to `out`, with a + before it unless it is the first.
 fn push_name(out: &mut Vec<u8>, name: &str, named: bool) -> Result<(), AllocError>
     ensures { OnOk result (out.new.items ≡ out.old.items ++ ((if named then codes "+" else []) ++ name.now)) }
 {
@@ -168,8 +168,8 @@ fn push_name(out: &mut Vec<u8>, name: &str, named: bool) -> Result<(), AllocErro
     push(out, name.as_bytes())
 }
 
-// Whether a flag has a bit, and a set has all of its bits.
-fn is_held<F: Flags>(set: &F, flag: &F) -> bool
+// Whether the set has the flag: the flag has a bit, and all of its bits are in the set.
+fn has_flag<F: Flags>(set: &F, flag: &F) -> bool
     ensures { F.exact → result ≡ (not (F.set_of flag.now == 0)
         && (bit_and (F.set_of set.now) (F.set_of flag.now) == F.set_of flag.now)) }
 {

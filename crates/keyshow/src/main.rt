@@ -2,9 +2,11 @@
 //! bytes that are read at a time.
 #![tactic(auto)]
 
-ghost use Rattle.std.specs.Prelude.{◌≡◌, ◌≤◌, map, string_bytes, IfSome};
-ghost use Rattle.std.specs.Option.{SomeIff};
+ghost use Rattle.std.specs.Prelude.{◌≡◌, ◌≤◌, ◌↔◌, None, map, string_bytes, IfSome, OnOk};
+ghost use Rattle.std.specs.Option.{SomeIff, option_copied};
 ghost use Rattle.std.specs.Str.Parse.{digits_value};
+ghost use Rattle.keyshow.specs.Endings.{status_of, error_line_of};
+ghost use Rattle.keyshow.specs.Runs.{ShowsAll};
 ghost use Rattle.keyshow.specs.Words.{IsPiece, PieceOf, fault_text};
 
 mod lines;
@@ -14,54 +16,109 @@ mod pump;
 mod tests;
 
 use pump::{RunError, run};
-use std::io::ErrorKind;
+use std::alloc::Global;
+use std::io::{ErrorKind, Read, Write};
 use std::process::ExitCode;
 use std::{env, io};
 
-const USAGE: &str = "usage: keyshow [PIECE]";
-
-fn main(rt: HostRuntime) -> ExitCode {
-    match words_given(&rt) {
-        Ok(words) => started(&rt, words.as_slice()),
-        Err(fault) if fault.kind() == ErrorKind::OutOfMemory => failed(&rt, &RunError::Memory),
-        Err(_) => misused(&rt),
-    }
+/// Why the program ends with a status other than 0.
+#[derive(Clone, Copy, PartialEq, Eq, Debug)]
+pub enum Failure {
+    /// The words after the program's name give no piece.
+    WrongWords,
+    /// The run ended early.
+    Run(RunError),
 }
 
-// The words after the program's name. One that isn't UTF-8 is `InvalidData`.
+/// How the program ends: its exit status, and the line that it prints on standard error, if any.
+#[derive(Clone, Copy, Debug)]
+pub struct Ending {
+    pub status: u8,
+    pub line: Option<&'static str>,
+}
+
+fn main(rt: HostRuntime) -> ExitCode {
+    let ending = ending_of(outcome(&rt));
+    if let Some(line) = ending.line {
+        let _ = eprintln!(rt; "{line}");
+    }
+    ExitCode::from(ending.status)
+}
+
+// Shows standard input on standard output, by the words that the program was started with.
+fn outcome(rt: &HostRuntime) -> Result<(), Failure> {
+    let words = words_given(rt).map_err(|fault| failure_of(&fault))?;
+    show(
+        rt.alloc(),
+        words.as_slice(),
+        &mut rt.stdin(),
+        &mut rt.stdout(),
+    )
+}
+
+// The words after the program's name. If one isn't UTF-8, or the name isn't, that is `InvalidData`.
 fn words_given(rt: &HostRuntime) -> io::Result<Vec<String>> {
     let mut words = env::args(rt)?;
     let _name = words.next();
     Ok(words.collect(rt.alloc())?)
 }
 
-// Runs over standard input and output, with the piece that the words give.
-fn started(rt: &HostRuntime, words: &[String]) -> ExitCode {
-    let Some(piece) = piece_of(words) else {
-        return misused(rt);
-    };
-    match run(rt.alloc(), &mut rt.stdin(), &mut rt.stdout(), piece) {
-        Ok(()) => ExitCode::SUCCESS,
-        Err(fault) => failed(rt, &fault),
+// Why the words could not be had.
+fn failure_of(fault: &io::Error) -> Failure {
+    if fault.kind() == ErrorKind::OutOfMemory {
+        Failure::Run(RunError::Memory)
+    } else {
+        Failure::WrongWords
     }
 }
 
-fn misused(rt: &HostRuntime) -> ExitCode {
-    let _ = eprintln!(rt; "{USAGE}");
-    ExitCode::from(2)
+/// Runs over the reader and the writer with the piece that the words give. If they give none, nothing is read or written.
+pub fn show<R: Read, W: Write>(
+    alloc: Global,
+    words: &[String],
+    reader: &mut R,
+    writer: &mut W,
+) -> Result<(), Failure>
+    ensures wrong_words { (result ≡ Err Failure.WrongWords) ↔ PieceOf (map string_bytes words.now) None }
+    ensures unread { result ≡ Err Failure.WrongWords → reader.new ≡ reader.old }
+    ensures unwritten { result ≡ Err Failure.WrongWords → writer.new ≡ writer.old }
+    ensures ok { OnOk result (ShowsAll (R.remaining reader.old) (R.remaining reader.new)
+        (W.contents writer.old) (W.contents writer.new)) }
+{
+    let Some(piece) = piece_of(words) else {
+        return Err(Failure::WrongWords);
+    };
+    run(alloc, reader, writer, piece).map_err(Failure::Run)
 }
 
-fn failed(rt: &HostRuntime, fault: &RunError) -> ExitCode {
-    let line = fault_line(fault);
-    let _ = eprintln!(rt; "{line}");
-    ExitCode::from(1)
+/// The exit status and the line on standard error: 0 and none if all was shown, 1 and the line of the fault if the run
+/// ended early, 2 and the usage if the words were wrong.
+pub fn ending_of(outcome: Result<(), Failure>) -> Ending
+    ensures status { result.status ≡ status_of outcome }
+    ensures line { option_copied result.line ≡ error_line_of outcome }
+{
+    match outcome {
+        Ok(()) => Ending {
+            status: 0,
+            line: None,
+        },
+        Err(Failure::Run(fault)) => Ending {
+            status: 1,
+            line: Some(fault_line(&fault)),
+        },
+        Err(Failure::WrongWords) => Ending {
+            status: 2,
+            line: Some("usage: keyshow [PIECE]"),
+        },
+    }
 }
 
-/// The most bytes to read at a time, by the words after the program's name: 64 where there is none, the value of
-/// one word of one to four ASCII digits where it is from 1 to 4096, and None for all other words.
+/// The most bytes to read at a time, by the words after the program's name: 64 if there are none, the value of a single
+/// word of one to four ASCII digits if it is from 1 to 4096, and `None` for all other words.
 pub fn piece_of(words: &[String]) -> Option<usize>
     ensures piece { PieceOf (map string_bytes words.now) result }
-    ensures in_range { IfSome result (λ piece. (1 ≤ piece) × (piece ≤ 4096)) }
+    ensures least { IfSome result (λ piece. 1 ≤ piece) }
+    ensures most { IfSome result (λ piece. piece ≤ 4096) }
 {
     match words {
         [] => Some(64),
@@ -87,7 +144,7 @@ fn piece_in(word: &str) -> Option<usize>
     }
 }
 
-/// The line that tells why a run ended early.
+/// The line on standard error that says why a run ended early.
 pub fn fault_line(fault: &RunError) -> &'static str
     ensures { result.now ≡ fault_text fault.now }
 {

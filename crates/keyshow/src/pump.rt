@@ -6,12 +6,13 @@ ghost use Rattle.termwiz_input.specs.Bytes.{Begins};
 ghost use Rattle.termwiz_input.specs.Grammar.{Means};
 ghost use Rattle.termwiz_input.specs.declared.types.InputEvent.{InputEvent as Event};
 ghost use Rattle.keyshow.specs.Lines.{lines, all_lines};
-ghost use Rattle.keyshow.specs.Pieces.{ReadsToEnd, join};
+ghost use Rattle.keyshow.specs.Runs.{ShowsAll};
 
 use crate::lines::{push_lines, push_waiting};
 use std::alloc::Global;
 use std::io::{Read, Write};
 use termwiz_input::input::InputParser;
+use termwiz_input::laws;
 use thiserror::Error;
 
 /// Why a run ended early.
@@ -28,27 +29,27 @@ pub enum RunError {
     Memory,
 }
 
-/// Reads all that the reader gives, at most `piece` bytes at a time, and writes the lines of its events. Each
-/// piece's lines are written before the next read. At the end of input the lines of what is left are written, with
-/// a last one for what still waits, and the writer is flushed once. Any error of a read or a write ends the run.
-/// After an error of a read nothing more is written, and nothing is flushed.
+/// Reads all that the reader gives, at most `piece` bytes at a time, and writes a line for each event. The lines of one
+/// piece are written before the next read. At the end of input it writes the lines of the bytes that were still undecided,
+/// then how many bytes wait, if any do, and flushes the writer once. The first error of a read or a write ends the run;
+/// after an error of a read nothing more is written, and nothing is flushed.
 pub fn run<R: Read, W: Write>(
     alloc: Global,
     reader: &mut R,
     writer: &mut W,
     piece: usize,
 ) -> Result<(), RunError>
-    requires { (1 ≤ piece) × (piece ≤ 4096) }
-    ensures ok { OnOk result ((pieces : List (List ℕ)) × (events : List Event) × (waiting : List ℕ)
-        × ReadsToEnd pieces events waiting
-        × Consumes (R.remaining reader.old) (R.remaining reader.new) (join pieces)
-        × IsAtEnd (R.remaining reader.new)
-        × Appends (W.contents writer.old) (W.contents writer.new) (all_lines events waiting)) }
+    requires least { 1 ≤ piece }
+    requires most { piece ≤ 4096 }
+    ensures ok { OnOk result (ShowsAll (R.remaining reader.old) (R.remaining reader.new)
+        (W.contents writer.old) (W.contents writer.new)) }
 {
+    // The law by which the events of the pieces are the events of the whole.
+    laws::resumes();
     let mut parser = InputParser::new(alloc).map_err(|_| RunError::Memory)?;
     let mut buffer = [0u8; 4096];
     for _ in 0..u64::MAX {
-        let more = turn(alloc, &mut parser, reader, writer, &mut buffer[..piece])?;
+        let more = show_piece(alloc, &mut parser, reader, writer, &mut buffer[..piece])?;
         if !more {
             return finish(alloc, &mut parser, writer);
         }
@@ -56,8 +57,8 @@ pub fn run<R: Read, W: Write>(
     Err(RunError::Read)
 }
 
-// Reads one piece, and writes the lines of the events that it decides. At the end of input it answers `false`.
-fn turn<R: Read, W: Write>(
+// Reads one piece, and writes the lines of the events that it decides. Returns `false` at the end of input.
+fn show_piece<R: Read, W: Write>(
     alloc: Global,
     parser: &mut InputParser,
     reader: &mut R,
@@ -69,32 +70,35 @@ fn turn<R: Read, W: Write>(
         × Consumes (R.remaining reader.old) (R.remaining reader.new) bytes
         × Means (parser.old ++ bytes) true events parser.new
         × Appends (W.contents writer.old) (W.contents writer.new) (lines events)) }
-    ensures end { IfOk result (λ more. more ≡ false → IsAtEnd (R.remaining reader.new)
-        × Keeps (R.remaining reader.old) (R.remaining reader.new)
-        × (parser.new ≡ parser.old) × (writer.new ≡ writer.old)) }
+
+    ensures at_end { IfOk result (λ more. more ≡ false → IsAtEnd (R.remaining reader.new)) }
+    ensures none_read { IfOk result (λ more. more ≡ false
+        → Keeps (R.remaining reader.old) (R.remaining reader.new)) }
+    ensures same_parser { IfOk result (λ more. more ≡ false → parser.new ≡ parser.old) }
+    ensures same_writer { IfOk result (λ more. more ≡ false → writer.new ≡ writer.old) }
 {
     let count = reader.read(buffer).map_err(|_| RunError::Read)?;
     if count == 0 {
         return Ok(false);
     }
-    let text = decoded(alloc, parser, &buffer[..count], true)?;
-    put(writer, text.as_slice())?;
+    let text = parsed_lines(alloc, parser, &buffer[..count], true)?;
+    write_whole(writer, text.as_slice())?;
     Ok(true)
 }
 
-// Writes the lines of what is left where no more comes, and of what waits even then.
+// Writes the lines of the bytes that were undecided until the end of input, and of what waits even then.
 fn finish<W: Write>(alloc: Global, parser: &mut InputParser, writer: &mut W) -> Result<(), RunError>
     ensures ok { OnOk result ((events : List Event) × Means parser.old false events parser.new
         × Appends (W.contents writer.old) (W.contents writer.new) (all_lines events parser.new)) }
 {
-    let mut text = decoded(alloc, parser, &[], false)?;
+    let mut text = parsed_lines(alloc, parser, &[], false)?;
     push_waiting(&mut text, parser.waiting_len()).map_err(|_| RunError::Memory)?;
-    put(writer, text.as_slice())?;
+    write_whole(writer, text.as_slice())?;
     writer.flush().map_err(|_| RunError::Write)
 }
 
-// Gives the bytes to the parser, and answers the lines of the events.
-fn decoded(
+// Gives the bytes to the parser, and returns the lines of the events.
+fn parsed_lines(
     alloc: Global,
     parser: &mut InputParser,
     bytes: &[u8],
@@ -112,8 +116,8 @@ fn decoded(
     Ok(text)
 }
 
-// Writes the bytes by as many writes as it takes.
-fn put<W: Write>(writer: &mut W, bytes: &[u8]) -> Result<(), RunError>
+// Writes all of the bytes, by as many writes as that takes.
+fn write_whole<W: Write>(writer: &mut W, bytes: &[u8]) -> Result<(), RunError>
     ensures ok { OnOk result (Appends (W.contents writer.old) (W.contents writer.new) bytes.now) }
     ensures err { OnErr result ((part : List ℕ) × Begins part bytes.now
         × Appends (W.contents writer.old) (W.contents writer.new) part) }

@@ -2,7 +2,7 @@
 
 use crate::lines::push_line;
 use crate::pump::{RunError, run};
-use crate::{fault_line, piece_of};
+use crate::{Failure, ending_of, fault_line, piece_of, show};
 use bitflags::Flags;
 use std::alloc::{AllocError, Global};
 use std::cell::Cell;
@@ -104,7 +104,7 @@ fn pasted(alloc: Global, text: &str) -> Result<InputEvent, AllocError> {
     Ok(InputEvent::Paste(PastedText::new(text)))
 }
 
-// The words of a line, parted by spaces.
+// The words of a line, separated by spaces.
 fn words_of(alloc: Global, line: &str) -> Result<Vec<String>, AllocError> {
     let mut words = Vec::new(alloc);
     for word in line.split_whitespace() {
@@ -157,20 +157,49 @@ fn lines_of_faults(rt: HostRuntime) -> Result<(), Fail> {
     Ok(())
 }
 
-// Gives its text at most `most` bytes a read, and fails once its reads are used up. It keeps the most bytes that it was
-// asked for, and counts its reads where the writer sees it.
+// Every way in which the program can end, with the status and the line on standard error.
+#[test]
+fn endings(rt: HostRuntime) {
+    let cases = [
+        (Ok(()), 0, None),
+        (Err(Failure::WrongWords), 2, Some("usage: keyshow [PIECE]")),
+        (
+            Err(Failure::Run(RunError::Read)),
+            1,
+            Some("keyshow: read failed"),
+        ),
+        (
+            Err(Failure::Run(RunError::Write)),
+            1,
+            Some("keyshow: write failed"),
+        ),
+        (
+            Err(Failure::Run(RunError::Memory)),
+            1,
+            Some("keyshow: out of memory"),
+        ),
+    ];
+    for (outcome, status, line) in cases {
+        let ending = ending_of(outcome);
+        assert_eq!(rt; ending.status, status);
+        assert_eq!(rt; ending.line, line);
+    }
+}
+
+// Gives its text at most `most` bytes a read, and fails once its reads are used up. It keeps the largest number of bytes
+// that it was asked for, and counts its reads where the writer sees it.
 #[derive(Drop)]
 struct TestReader<'a> {
     text: &'a [u8],
     most: usize,
     reads_left: usize,
-    asked: usize,
+    most_asked: usize,
     reads: &'a Cell<usize>,
 }
 
 impl<'a> Read for TestReader<'a> {
     fn read(&mut self, buf: &mut [u8]) -> io::Result<usize> {
-        self.asked = self.asked.max(buf.len());
+        self.most_asked = self.most_asked.max(buf.len());
         if self.reads_left == 0 {
             return Err(Error::from(ErrorKind::BrokenPipe));
         }
@@ -181,16 +210,17 @@ impl<'a> Read for TestReader<'a> {
     }
 }
 
-// Holds what it took, at most `most` bytes a write, and fails once its writes are used up, or its flushes. It notes how
-// many reads came before each write.
+// Takes at most `most` bytes a write, and fails once its writes are used up, or its flushes. It records how many reads
+// came before each write, and how many bytes it had at each flush.
 #[derive(Drop)]
 struct TestWriter<'a> {
-    held: Vec<u8>,
+    written: Vec<u8>,
     most: usize,
     writes_left: usize,
     flushes_left: usize,
     reads: &'a Cell<usize>,
-    noted: Vec<usize>,
+    reads_at_writes: Vec<usize>,
+    length_at_flushes: Vec<usize>,
 }
 
 impl<'a> Write for TestWriter<'a> {
@@ -200,8 +230,8 @@ impl<'a> Write for TestWriter<'a> {
         }
         self.writes_left -= 1;
         let count = buf.len().min(self.most);
-        self.held.extend_from_slice(&buf[..count])?;
-        self.noted.push(self.reads.get())?;
+        self.written.extend_from_slice(&buf[..count])?;
+        self.reads_at_writes.push(self.reads.get())?;
         Ok(count)
     }
 
@@ -210,6 +240,7 @@ impl<'a> Write for TestWriter<'a> {
             return Err(Error::from(ErrorKind::BrokenPipe));
         }
         self.flushes_left -= 1;
+        self.length_at_flushes.push(self.written.len())?;
         Ok(())
     }
 }
@@ -220,20 +251,21 @@ fn reader<'a>(text: &'a [u8], most: usize, reads: &'a Cell<usize>) -> TestReader
         text,
         most,
         reads_left: usize::MAX,
-        asked: 0,
+        most_asked: 0,
         reads,
     }
 }
 
-// A writer that takes `most` bytes a write and can be flushed once.
+// A writer that takes `most` bytes a write and never fails.
 fn writer<'a>(alloc: Global, most: usize, reads: &'a Cell<usize>) -> TestWriter<'a> {
     TestWriter {
-        held: Vec::new(alloc),
+        written: Vec::new(alloc),
         most,
         writes_left: usize::MAX,
-        flushes_left: 1,
+        flushes_left: usize::MAX,
         reads,
-        noted: Vec::new(alloc),
+        reads_at_writes: Vec::new(alloc),
+        length_at_flushes: Vec::new(alloc),
     }
 }
 
@@ -247,8 +279,9 @@ const MIXED: &[u8] = b"\x1b\x1b[A\x1b[200~a\xff\x1b[201~\x1b[<0;1;2M\xc3\xa9\x03
 const MIXED_LINES: &[u8] =
     b"key UpArrow ALT\npaste 4:61efbfbd\nmouse 1 2 LEFT NONE\nkey U+00E9 NONE\nkey U+0063 CTRL\nwaiting 1\n";
 
-// Runs over the text in pieces of several sizes, with a reader and a writer that take one byte a call or many.
-fn assert_runs(rt: &impl Abort, alloc: Global, text: &[u8], wanted: &[u8]) {
+// Runs over the text in pieces of several sizes, with a reader and a writer that take one byte a call or many. All lines
+// have to be written before the one flush.
+fn assert_runs(alloc: Global, rt: &impl Abort, text: &[u8], wanted: &[u8]) {
     for (piece, most) in [
         (1, 1),
         (1, 4096),
@@ -263,9 +296,12 @@ fn assert_runs(rt: &impl Abort, alloc: Global, text: &[u8], wanted: &[u8]) {
         let mut target = writer(alloc, most, &reads);
         let result = run(alloc, &mut source, &mut target, piece);
         assert_eq!(rt; result, Ok(()));
-        assert_eq!(rt; target.held.as_slice(), wanted, "piece {piece}");
-        assert_eq!(rt; target.flushes_left, 0);
-        assert_eq!(rt; source.asked, piece);
+        assert_eq!(rt; target.written.as_slice(), wanted, "piece {piece}");
+        assert_eq!(rt;
+            target.length_at_flushes.as_slice(),
+            [wanted.len()].as_slice()
+        );
+        assert_eq!(rt; source.most_asked, piece);
     }
 }
 
@@ -281,8 +317,32 @@ fn runs_to_the_end(rt: HostRuntime) -> Result<(), Fail> {
         (b"\x1b[B\xff", b"key DownArrow NONE\nwaiting 1\n"),
     ];
     for (text, wanted) in cases {
-        assert_runs(&rt, rt.alloc(), text, wanted);
+        assert_runs(rt.alloc(), &rt, text, wanted);
     }
+    Ok(())
+}
+
+// The text, `times` times over.
+fn repeated(alloc: Global, text: &[u8], times: usize) -> Result<Vec<u8>, AllocError> {
+    let mut whole = Vec::new(alloc);
+    for _ in 0..times {
+        whole.extend_from_slice(text)?;
+    }
+    Ok(whole)
+}
+
+// 70000 reads of one byte each.
+#[test]
+fn reads_many_times(rt: HostRuntime) -> Result<(), Fail> {
+    let text = repeated(rt.alloc(), ARROW_AND_Q, 17500)?;
+    let wanted = repeated(rt.alloc(), ARROW_AND_Q_LINES, 17500)?;
+    let reads = Cell::new(0);
+    let mut source = reader(text.as_slice(), 1, &reads);
+    let mut target = writer(rt.alloc(), 4096, &reads);
+    let result = run(rt.alloc(), &mut source, &mut target, 64);
+    assert_eq!(rt; result, Ok(()));
+    assert_eq!(rt; reads.get(), 70001);
+    assert!(rt; target.written.as_slice() == wanted.as_slice());
     Ok(())
 }
 
@@ -293,7 +353,7 @@ fn writes_before_the_next_read(rt: HostRuntime) -> Result<(), Fail> {
     let mut target = writer(rt.alloc(), 4096, &reads);
     let result = run(rt.alloc(), &mut source, &mut target, 64);
     assert_eq!(rt; result, Ok(()));
-    assert_eq!(rt; target.noted.as_slice(), [1, 2, 3].as_slice());
+    assert_eq!(rt; target.reads_at_writes.as_slice(), [1, 2, 3].as_slice());
     Ok(())
 }
 
@@ -306,8 +366,8 @@ fn a_read_fails(rt: HostRuntime) -> Result<(), Fail> {
     let result = run(rt.alloc(), &mut source, &mut target, 4);
     assert_eq!(rt; result, Err(RunError::Read));
     let wanted = b"key UpArrow NONE\nkey U+0061 NONE\nkey U+0062 NONE\n".as_slice();
-    assert_eq!(rt; target.held.as_slice(), wanted);
-    assert_eq!(rt; target.flushes_left, 1);
+    assert_eq!(rt; target.written.as_slice(), wanted);
+    assert!(rt; target.length_at_flushes.is_empty());
     Ok(())
 }
 
@@ -321,9 +381,23 @@ fn a_write_fails(rt: HostRuntime) -> Result<(), Fail> {
         target.writes_left = writes;
         let result = run(rt.alloc(), &mut source, &mut target, 3);
         assert_eq!(rt; result, Err(RunError::Write), "at {writes}");
-        assert_eq!(rt; target.held.as_slice(), &whole[..writes], "at {writes}");
-        assert_eq!(rt; target.flushes_left, 1);
+        assert_eq!(rt; target.written.as_slice(), &whole[..writes], "at {writes}");
+        assert!(rt; target.length_at_flushes.is_empty());
     }
+    Ok(())
+}
+
+// One ESC is decided only at the end of input, so the line of it is the first write.
+#[test]
+fn the_last_write_fails(rt: HostRuntime) -> Result<(), Fail> {
+    let reads = Cell::new(0);
+    let mut source = reader(b"\x1b", 4096, &reads);
+    let mut target = writer(rt.alloc(), 4096, &reads);
+    target.writes_left = 0;
+    let result = run(rt.alloc(), &mut source, &mut target, 64);
+    assert_eq!(rt; result, Err(RunError::Write));
+    assert_eq!(rt; reads.get(), 2);
+    assert!(rt; target.length_at_flushes.is_empty());
     Ok(())
 }
 
@@ -336,6 +410,28 @@ fn a_writer_takes_nothing_or_has_no_flush(rt: HostRuntime) -> Result<(), Fail> {
         target.flushes_left = flushes;
         let result = run(rt.alloc(), &mut source, &mut target, 64);
         assert_eq!(rt; result, Err(RunError::Write));
+    }
+    Ok(())
+}
+
+// The words give the piece that is read at a time. Wrong words read and write nothing.
+#[test]
+fn shows_by_words(rt: HostRuntime) -> Result<(), Fail> {
+    let cases = [
+        ("", Ok(()), 64, ARROW_AND_Q_LINES),
+        ("2", Ok(()), 2, ARROW_AND_Q_LINES),
+        ("0", Err(Failure::WrongWords), 0, b""),
+        ("1 2", Err(Failure::WrongWords), 0, b""),
+    ];
+    for (line, wanted, piece, lines) in cases {
+        let words = words_of(rt.alloc(), line)?;
+        let reads = Cell::new(0);
+        let mut source = reader(ARROW_AND_Q, 4096, &reads);
+        let mut target = writer(rt.alloc(), 4096, &reads);
+        let outcome = show(rt.alloc(), words.as_slice(), &mut source, &mut target);
+        assert_eq!(rt; outcome, wanted, "{line}");
+        assert_eq!(rt; source.most_asked, piece, "{line}");
+        assert_eq!(rt; target.written.as_slice(), lines, "{line}");
     }
     Ok(())
 }

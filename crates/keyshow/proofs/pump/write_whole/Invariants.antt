@@ -1,6 +1,6 @@
 use Rattle.std.proofs.Common.{◌≡◌, ◌++◌, List, ℕ, length}
 use Rattle.std.specs.Io.KnownBytes.{Appends}
-use Rattle.keyshow.proofs.pump.put.Given as goal
+use Rattle.keyshow.proofs.pump.write_whole.Given as goal
 
 -- what is written so far, and what is left
 abbrev pub invariant-loop-rest : goal.invariant-loop-rest

@@ -1,0 +1,63 @@
+#!/bin/sh
+# keyshow on a live terminal: each key, paste and mouse report shows as a line, as it comes.
+#
+#     tools/live.sh [--mouse] [--paste] [PIECE]
+#
+# --mouse switches mouse reports on, --paste bracketed paste; PIECE is passed to keyshow. ^C, ^Z and ^\ show as keys too. It
+# ends by itself three seconds after the last key, and restores the terminal on every exit.
+set -u
+
+program=$(dirname "$0")/../crates/keyshow/out/keyshow
+mouse=
+paste=
+while :; do
+    case ${1-} in
+        --mouse) mouse=yes ;;
+        --paste) paste=yes ;;
+        *) break ;;
+    esac
+    shift
+done
+
+if [ ! -x "$program" ]; then
+    echo "live.sh: keyshow isn't built; build it by: cd crates/keyshow && rt run < stdin" >&2
+    exit 1
+fi
+if [ ! -t 0 ] || [ ! -t 1 ]; then
+    echo "live.sh: standard input and output have to be a terminal" >&2
+    exit 1
+fi
+
+child=
+saved=$(stty -g) || exit 1
+
+# Switches off what was switched on, discards what the terminal sent meanwhile, and sets the line as it was.
+restore() {
+    trap '' HUP INT QUIT TERM
+    if [ -n "$child" ]; then kill "$child" 2> /dev/null; fi
+    if [ -n "$mouse" ]; then printf '\033[?1006l\033[?1003l'; fi
+    if [ -n "$paste" ]; then printf '\033[?2004l'; fi
+    stty min 0 time 1
+    cat > /dev/null
+    stty "$saved"
+}
+
+trap restore EXIT
+trap 'exit 129' HUP
+trap 'exit 130' INT
+trap 'exit 131' QUIT
+trap 'exit 143' TERM
+
+# Bytes come as they are typed. After three seconds without any a read gives none, which is the end of input for keyshow.
+stty -icanon -echo -icrnl -ixon -isig min 0 time 30
+if [ -n "$mouse" ]; then printf '\033[?1003h\033[?1006h'; fi
+if [ -n "$paste" ]; then printf '\033[?2004h'; fi
+
+# In the background, so that a signal is handled at once. A background job gets the terminal only by another descriptor.
+exec 3<&0
+"$program" "$@" <&3 &
+child=$!
+wait "$child"
+status=$?
+child=
+exit "$status"
