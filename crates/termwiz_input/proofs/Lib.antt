@@ -24,5 +24,5 @@ pub mod Rows
 pub mod Searches
 pub mod Settling
 pub mod Standing
-pub mod TableFacts
+pub mod TableMap
 pub mod TableTests
