@@ -25,7 +25,7 @@ pub mod Rows
 pub mod Searches
 pub mod Settling
 pub mod Standing
-pub mod TableFacts
+pub mod TableMap
 pub mod TableTests
 pub mod Variants
 pub mod trie

@@ -26,7 +26,7 @@ use Rattle.termwiz_input.proofs.Lists.{append-some, length-some, length-Begins, 
 use Rattle.termwiz_input.proofs.Lists.Overlaps.{within, past}
 use Rattle.termwiz_input.proofs.Facts.{frame_ends, known_some}
 use Rattle.termwiz_input.proofs.Standing.{encode_some as encoding_some}
-use Rattle.termwiz_input.proofs.TableFacts.{row_from_table, table_from_row}
+use Rattle.termwiz_input.proofs.TableMap.{row_from_table, table_from_row}
 
 -- what a beginning of a text is
 begins_take : (u : List ℕ) (n : ℕ) → Begins (take n u) u

@@ -1,24 +1,26 @@
 -- What the tests of the table say of each of its rows.
-use Rattle.std.proofs.Common.{◌≡◌, ◌≢◌, ◌⊎◌, inl, inr, ⊎_elim, ℕ, zero, suc, ◌/◌, ◌%◌, ◌<◌, ◌≤◌, Bool, true, false, not, List, [], ◌∷◌, ◌++◌, length, map, refl, sym, ap, ap₂, ◌∙◌, subst, nat_lt, ◌==◌, ◌&&◌, ◌||◌, arith, lit<, Contains, eq-eqb}
-use Rattle.std.specs.List.{list_all, list_any, AllByRecursion}
+use Rattle.std.proofs.Common.{◌≡◌, ◌≢◌, ◌⊎◌, inl, inr, ⊎_elim, ℕ, zero, suc, ◌+◌, ◌/◌, ◌%◌, ◌<◌, Bool, true, false, not, List, [], ◌∷◌, ◌++◌, length, map, refl, sym, ap, ap₂, ◌∙◌, subst, nat_lt, get_or, ◌==◌, ◌&&◌, ◌||◌, arith, Contains, eq-eqb, bytes_eq, codes}
+use Rattle.std.specs.Prelude.{Some}
+use Rattle.std.specs.List.{All, AllPairs, list_all, AllByRecursion}
+use Rattle.std.specs.Map.{lookup}
 use Rattle.std.proofs.lemmas.Bool.Decides.{nat_tests}
-use Rattle.std.proofs.lemmas.Bool.{not-true}
+use Rattle.std.proofs.lemmas.Bool.{and_parts, and_from, cases_order}
+use Rattle.std.proofs.lemmas.List.{get_or_default}
 use Rattle.std.proofs.lemmas.List.Sums.{AllPass-from_list_all}
-use Rattle.std.proofs.lemmas.List.Elements.{All-contains}
+use Rattle.std.proofs.lemmas.List.Folds.{list_all-map}
+use Rattle.std.proofs.lemmas.List.Elements.{All-contains, All-weaker}
+use Rattle.std.proofs.lemmas.List.Kept.{AllPairs-cons}
+use Rattle.std.proofs.lemmas.Map.Views.{Contains-from_lookup}
+use Rattle.std.proofs.lemmas.Slice.Eq.{bytes_eq-Decides}
 use Rattle.termwiz_input.specs.declared.types.KeyEvent.{KeyEvent}
-use Rattle.termwiz_input.specs.declared.types.KeyCode.TheVariants.{Char, Tab, UpArrow, InternalPasteStart}
+use Rattle.termwiz_input.specs.declared.types.KeyCode.TheVariants.{Char, Backspace, Tab, UpArrow, InternalPasteStart}
 use Rattle.termwiz_input.specs.Keys.{escape, key_with, NONE, SHIFT, ALT, CTRL}
-use Rattle.termwiz_input.specs.Laws.{BeginsRow, ThreeBeginnings}
-use Rattle.termwiz_input.specs.Bytes.{ESC, START}
-use Rattle.termwiz_input.specs.Bytes.{CSI, SS3}
+use Rattle.termwiz_input.specs.Laws.{BeginsRow, ThreeBeginnings, HasOtherBytes, TableFacts}
+use Rattle.termwiz_input.specs.Bytes.{ESC, CSI, SS3, START}
 use Rattle.termwiz_input.specs.Table.{TableRow, rows}
 use Rattle.termwiz_input.proofs.Searches.{same_or_not}
 use Rattle.termwiz_input.proofs.FrameFacts.{IsPlain}
-use Rattle.termwiz_input.proofs.TableTests.{is_inner, ends_well, has_shape, is_plain, is_sequence, is_ours, mix, halves, all_differ, split_differ, rows_shaped, rows_differ, written_out}
-
-pub both : (a b : Bool) → a && b ≡ true → (a ≡ true) × (b ≡ true)
-both true b e = (refl, e)
-both false b e = absurd (cc (e))
+use Rattle.termwiz_input.proofs.TableTests.{is_inner, ends_well, has_shape, is_plain, is_sequence, has_row_form, number_of_text, number_of_row, halves, all_but, all_differ, split_differ, rows_shaped, rows_differ, row_count, written_out}
 
 -- what the first test says of a row
 pub record Shaped (text : List ℕ) : Type 0 where
@@ -26,41 +28,34 @@ pub record Shaped (text : List ℕ) : Type 0 where
   pub short : length text < 12
   pub sequence : is_sequence text ≡ true
 
-pub row_shaped : (text : List ℕ) (k : KeyEvent) → Contains rows (text, k) → Shaped text
-row_shaped text k c =
-    let h : is_ours text ≡ true = All-contains (λ (r : TableRow). is_ours r.0 ≡ true) rows (text, k)
-    (AllPass-from_list_all (λ (r : TableRow). is_ours r.0) rows rows_shaped) c in
-    let parts = both (has_shape text && nat_lt (length text) 12) (is_sequence text) h in
-    let first = both (has_shape text) (nat_lt (length text) 12) parts.0 in
+shaped_from_test : (text : List ℕ) → has_row_form text ≡ true → Shaped text
+shaped_from_test text h =
+    let parts = and_parts (has_shape text && nat_lt (length text) 12) (is_sequence text) h in
+    let first = and_parts (has_shape text) (nat_lt (length text) 12) parts.0 in
     record { shape = first.0; short = (let e : nat_lt (length text) 12 ≡ true = first.1 in grind (arith, nat_tests)); sequence = parts.1 }
+
+all_shaped : All (λ (r : TableRow). Shaped r.0) rows
+all_shaped = All-weaker (λ (r : TableRow). has_row_form r.0 ≡ true) (λ r. Shaped r.0) (λ r h. shaped_from_test r.0 h) rows
+    (AllPass-from_list_all (λ (r : TableRow). has_row_form r.0) rows rows_shaped)
+
+pub row_shaped : (text : List ℕ) (k : KeyEvent) → Contains rows (text, k) → Shaped text
+row_shaped text k c = All-contains (λ (r : TableRow). Shaped r.0) rows (text, k) all_shaped c
 
 two_remainders : (x : ℕ) → (x % 2 ≡ 0) ⊎ (x % 2 ≡ 1)
 two_remainders x = grind arith
 
-or_right : (a b : Bool) → b ≡ true → a || b ≡ true
-or_right true b e = refl
-or_right false b e = e
-
--- a number that stands in a list has its half in the half of the list that has its remainder
-any_half : (x r : ℕ) (xs : List ℕ) → x % 2 ≡ r → list_any (λ y. y == x) xs ≡ true → list_any (λ y. y == x / 2) (halves r xs) ≡ true
-any_half x r [] e h = absurd (cc (h))
-any_half x r (y ∷ xs) e h = go (λ k. any_half x r xs e k) (y == x) (y % 2 == r) refl refl
+-- a number differs from those of a list if its half differs from the halves of those with its remainder
+all_but_from_half : (x r : ℕ) (xs : List ℕ) → x % 2 ≡ r → all_but (x / 2) (halves r xs) ≡ true → all_but x xs ≡ true
+all_but_from_half x r [] e h = refl
+all_but_from_half x r (y ∷ xs) e h = go (λ k. all_but_from_half x r xs e k) (y == x) (y % 2 == r) refl refl
   where
-    go : (list_any (λ z. z == x) xs ≡ true → list_any (λ z. z == x / 2) (halves r xs) ≡ true) → (b c : Bool) → (y == x) ≡ b → (y % 2 == r) ≡ c → list_any (λ z. z == x / 2) (halves r (y ∷ xs)) ≡ true
+    go : (all_but (x / 2) (halves r xs) ≡ true → all_but x xs ≡ true) → (b c : Bool) → (y == x) ≡ b → (y % 2 == r) ≡ c → all_but x (y ∷ xs) ≡ true
     go below true true f g =
         let same : (y / 2 == x / 2) ≡ true = (let s : y ≡ x = grind (arith, nat_tests) in rw s (eq-eqb (x / 2) (x / 2) refl)) in
-        rw (g, same)
+        absurd (let none : false ≡ true = rw (g, same) at h in cc)
     go below true false f g = absurd (let s : y ≡ x = grind (arith, nat_tests) in let t : (y % 2 == r) ≡ true = rw s (eq-eqb (x % 2) r e) in cc)
-    go below false true f g = rw g (or_right (y / 2 == x / 2) (list_any (λ z. z == x / 2) (halves r xs)) (below (rw f at h)))
-    go below false false f g = rw g (below (rw f at h))
-
--- a number whose half isn't in the half of a list isn't in the list
-none_from_half : (x r : ℕ) (xs : List ℕ) → x % 2 ≡ r → list_any (λ y. y == x / 2) (halves r xs) ≡ false → list_any (λ y. y == x) xs ≡ false
-none_from_half x r xs e h = go (list_any (λ y. y == x) xs) refl
-  where
-    go : (b : Bool) → list_any (λ y. y == x) xs ≡ b → list_any (λ y. y == x) xs ≡ false
-    go false f = f
-    go true f = absurd (let t = any_half x r xs e f in cc (t, h))
+    go below false true f g = rw f (below (and_parts (not (y / 2 == x / 2)) (all_but (x / 2) (halves r xs)) (rw g at h)).1)
+    go below false false f g = rw f (below (rw g at h))
 
 -- the head of a list is in one of the halves, and not in the other
 halves_of : (x r : ℕ) (xs : List ℕ) → x % 2 ≡ r → halves r (x ∷ xs) ≡ x / 2 ∷ halves r xs
@@ -71,90 +66,72 @@ halves_not x r xs n = let t : (x % 2 == r) ≡ false = grind (arith, nat_tests) 
 
 one_side : (x r q : ℕ) (xs : List ℕ) → x % 2 ≡ r → x % 2 ≢ q
     → all_differ (halves r (x ∷ xs)) ≡ true → all_differ (halves q (x ∷ xs)) ≡ true
-    → (list_any (λ y. y == x) xs ≡ false) × (all_differ (halves r xs) ≡ true) × (all_differ (halves q xs) ≡ true)
+    → (all_but x xs ≡ true) × (all_differ (halves r xs) ≡ true) × (all_differ (halves q xs) ≡ true)
 one_side x r q xs e n a b =
     let c : all_differ (x / 2 ∷ halves r xs) ≡ true = subst (λ l. all_differ l ≡ true) (halves_of x r xs e) a in
-    let parts = both (not (list_any (λ y. y == x / 2) (halves r xs))) (all_differ (halves r xs)) c in (
-      none_from_half x r xs e (not-true (list_any (λ y. y == x / 2) (halves r xs)) parts.0),
-      parts.1,
-      subst (λ l. all_differ l ≡ true) (halves_not x q xs n) b,
-    )
+    let parts = and_parts (all_but (x / 2) (halves r xs)) (all_differ (halves r xs)) c in
+    (all_but_from_half x r xs e parts.0, parts.1, subst (λ l. all_differ l ≡ true) (halves_not x q xs n) b)
 
-pub differ_from_halves : (xs : List ℕ) → all_differ (halves 0 xs) ≡ true → all_differ (halves 1 xs) ≡ true → all_differ xs ≡ true
+differ_from_halves : (xs : List ℕ) → all_differ (halves 0 xs) ≡ true → all_differ (halves 1 xs) ≡ true → all_differ xs ≡ true
 differ_from_halves [] a b = refl
 differ_from_halves (x ∷ xs) a b =
-    let together = λ (u : list_any (λ y. y == x) xs ≡ false) (v : all_differ (halves 0 xs) ≡ true) (w : all_differ (halves 1 xs) ≡ true).
-    (let t : all_differ (x ∷ xs) ≡ all_differ xs = rw u in t ∙ differ_from_halves xs v w) in
+    let together = λ (u : all_but x xs ≡ true) (v : all_differ (halves 0 xs) ≡ true) (w : all_differ (halves 1 xs) ≡ true).
+    and_from (all_but x xs) (all_differ xs) u (differ_from_halves xs v w) in
     ⊎_elim
     (λ (e : x % 2 ≡ 0). let p = one_side x 0 1 xs e (omega arith) a b in together p.0 p.1 p.2)
     (λ (e : x % 2 ≡ 1). let p = one_side x 1 0 xs e (omega arith) b a in together p.0 p.2 p.1)
     (two_remainders x)
 
-pub differ_from_split : (n : ℕ) (xs : List ℕ) → split_differ n xs ≡ true → all_differ xs ≡ true
+differ_from_split : (n : ℕ) (xs : List ℕ) → split_differ n xs ≡ true → all_differ xs ≡ true
 differ_from_split zero xs h = h
 differ_from_split (suc n) xs h =
-    let parts = both (split_differ n (halves 0 xs)) (split_differ n (halves 1 xs)) h in
+    let parts = and_parts (split_differ n (halves 0 xs)) (split_differ n (halves 1 xs)) h in
     differ_from_halves xs (differ_from_split n (halves 0 xs) parts.0) (differ_from_split n (halves 1 xs) parts.1)
 
-abbrev pub code : TableRow → ℕ
-code r = mix 1 r.0
+-- where the numbers of rows differ, so do their bytes
+other_bytes : (r s : TableRow) → not (number_of_row s == number_of_row r) ≡ true → HasOtherBytes r s
+other_bytes r s h e =
+    cc (h, eq-eqb (number_of_row s) (number_of_row r) (ap (number_of_text 1) (sym e)))
 
--- a row of the same text has the same number
-any_code : (rs : List TableRow) (text : List ℕ) (k : KeyEvent) → Contains rs (text, k) → list_any (λ y. y == mix 1 text) (map code rs) ≡ true
-any_code [] text k (i, l, e) = absurd (omega arith)
-any_code (r ∷ rs) text k (zero, l, e) =
-    let t : (mix 1 r.0 == mix 1 text) ≡ true = eq-eqb (mix 1 r.0) (mix 1 text) (ap code e) in rw t
-any_code (r ∷ rs) text k (suc i, l, e) =
-    or_right (mix 1 r.0 == mix 1 text) (list_any (λ y. y == mix 1 text) (map code rs)) (any_code rs text k (i, omega arith, e))
+differ_from_numbers : (rs : List TableRow) → all_differ (map number_of_row rs) ≡ true → AllPairs HasOtherBytes rs
+differ_from_numbers [] h = λ i j d l m. absurd (omega arith)
+differ_from_numbers (r ∷ rs) h =
+    let parts = and_parts (all_but (number_of_row r) (map number_of_row rs)) (all_differ (map number_of_row rs)) h in
+    let test = λ (s : TableRow). not (number_of_row s == number_of_row r) in
+    let others : list_all test rs ≡ true = sym (list_all-map (λ y. not (y == number_of_row r)) number_of_row rs) ∙ parts.0 in
+    AllPairs-cons HasOtherBytes r rs
+    (All-weaker (λ s. test s ≡ true) (HasOtherBytes r) (λ s k. other_bytes r s k) rs (AllPass-from_list_all test rs others))
+    (differ_from_numbers rs parts.1)
 
-head_differs : (rs : List TableRow) (r : TableRow) (text : List ℕ) (j k : KeyEvent) → all_differ (map code (r ∷ rs)) ≡ true → r ≡ (text, j) → Contains rs (text, k) → ⊥
-head_differs rs r text j k d e c =
-    let never : list_any (λ y. y == mix 1 r.0) (map code rs) ≡ false = not-true (list_any (λ y. y == mix 1 r.0) (map code rs))
-    (both (not (list_any (λ y. y == mix 1 r.0) (map code rs))) (all_differ (map code rs)) d).0 in
-    let there : list_any (λ y. y == mix 1 text) (map code rs) ≡ true = any_code rs text k c in
-    let same : mix 1 r.0 ≡ mix 1 text = ap code e in
-    cc (never, there, ap code e)
+bytes_differ : AllPairs HasOtherBytes rows
+bytes_differ = differ_from_numbers rows (differ_from_split 10 (map number_of_row rows) rows_differ)
 
--- where the numbers of rows differ, one text has one key
-key_of_text : (rs : List TableRow) (text : List ℕ) (j k : KeyEvent) → all_differ (map code rs) ≡ true → Contains rs (text, j) → Contains rs (text, k) → j ≡ k
-key_of_text [] text j k d (i, l, e) c = absurd (omega arith)
-key_of_text (r ∷ rs) text j k d (zero, l, e) (zero, l2, e2) = ap (λ (x : TableRow). x.1) (sym e ∙ e2)
-key_of_text (r ∷ rs) text j k d (zero, l, e) (suc i, l2, e2) = absurd (head_differs rs r text j k d e (i, omega arith, e2))
-key_of_text (r ∷ rs) text j k d (suc i, l, e) (zero, l2, e2) = absurd (head_differs rs r text k j d e2 (i, omega arith, e))
-key_of_text (r ∷ rs) text j k d (suc i, l, e) (suc m, l2, e2) =
-    key_of_text rs text j k (both (not (list_any (λ y. y == mix 1 r.0) (map code rs))) (all_differ (map code rs)) d).1
-    (i, omega arith, e) (m, omega arith, e2)
-
+-- one text has one key
 pub row_once : (text : List ℕ) (j k : KeyEvent) → Contains rows (text, j) → Contains rows (text, k) → j ≡ k
-row_once text j k a b = key_of_text rows text j k (differ_from_split 10 (map code rows) rows_differ) a b
-
-place_of_text : (rs : List TableRow) (text : List ℕ) (j k : KeyEvent) → all_differ (map code rs) ≡ true → (p : Contains rs (text, j)) (q : Contains rs (text, k)) → p.0 ≡ q.0
-place_of_text [] text j k d (i, l, e) c = absurd (omega arith)
-place_of_text (r ∷ rs) text j k d (zero, l, e) (zero, l2, e2) = refl
-place_of_text (r ∷ rs) text j k d (zero, l, e) (suc i, l2, e2) = absurd (head_differs rs r text j k d e (i, omega arith, e2))
-place_of_text (r ∷ rs) text j k d (suc i, l, e) (zero, l2, e2) = absurd (head_differs rs r text k j d e2 (i, omega arith, e))
-place_of_text (r ∷ rs) text j k d (suc i, l, e) (suc m, l2, e2) =
-    ap suc_of (place_of_text rs text j k (both (not (list_any (λ y. y == mix 1 r.0) (map code rs))) (all_differ (map code rs)) d).1
-    (i, omega arith, e) (m, omega arith, e2))
+row_once text j k (m, l, e) (n, i, f) = go (cases_order m n)
   where
-    suc_of : ℕ → ℕ
-    suc_of n = suc n
+    d : TableRow
+    d = (text, j)
 
--- rows at two places have different bytes
-pub rows_apart : (text : List ℕ) (j k : KeyEvent) (p : Contains rows (text, j)) (q : Contains rows (text, k)) → p.0 ≡ q.0
-rows_apart text j k p q = place_of_text rows text j k (differ_from_split 10 (map code rows) rows_differ) p q
+    there : get_or rows n d ≡ (text, k)
+    there = get_or_default rows n d (text, k) i ∙ f
 
--- each row has at most eleven bytes
-pub row_short : (text : List ℕ) (k : KeyEvent) → Contains rows (text, k) → length text ≤ 11
-row_short text k c = omega (arith, (row_shaped text k c).short)
+    go : (m ≡ n) ⊎ ((m < n) ⊎ (n < m)) → j ≡ k
+    go (inl same) = ap (λ (r : TableRow). r.1) (sym e ∙ ap (λ i. get_or rows i d) same ∙ there)
+    go (inr (inl before)) = absurd (bytes_differ m n d before i (ap (λ (r : TableRow). r.0) e ∙ sym (ap (λ (r : TableRow). r.0) there)))
+    go (inr (inr after)) = absurd (bytes_differ n m d after l (ap (λ (r : TableRow). r.0) there ∙ sym (ap (λ (r : TableRow). r.0) e)))
+
+-- a row is found by its bytes, wherever it stands
+row_by_bytes : (text : List ℕ) (key : KeyEvent) → lookup (bytes_eq text) rows ≡ Some key → Contains rows (text, key)
+row_by_bytes text key found = Contains-from_lookup (λ (s t : List ℕ) (e : bytes_eq s t ≡ true). (bytes_eq-Decides s t).0 e) text key rows found
 
 pub escape_row : Contains rows (ESC, escape)
 unfolding written_out
-escape_row = (27, lit< tt, refl)
+escape_row = row_by_bytes ESC escape refl
 
 pub start_row : Contains rows (START, key_with InternalPasteStart NONE)
 unfolding written_out
-start_row = (2832, lit< tt, refl)
+start_row = row_by_bytes START (key_with InternalPasteStart NONE) refl
 
 -- whether a text is a row's
 pub row_or_not : (rs : List TableRow) (text : List ℕ) → ((k : KeyEvent) × Contains rs (text, k)) ⊎ ((k : KeyEvent) → Contains rs (text, k) → ⊥)
@@ -175,7 +152,7 @@ row_or_not (r ∷ rs) text = ⊎_elim
 plain_from_test : (t : List ℕ) → list_all is_plain t ≡ true → AllByRecursion IsPlain t
 plain_from_test [] e = tt
 plain_from_test (x ∷ t) e =
-    let parts = both (is_plain x) (list_all is_plain t) e in
+    let parts = and_parts (is_plain x) (list_all is_plain t) e in
     let first : is_plain x ≡ true = parts.0 in
     ((grind (arith, nat_tests), grind (arith, nat_tests)), plain_from_test t parts.1)
 
@@ -188,7 +165,7 @@ pub bytes_from_test : (text : List ℕ) → is_sequence text ≡ true → Bytes 
 bytes_from_test [] e = absurd (cc (e))
 bytes_from_test (b ∷ []) e = one b (grind (arith, nat_tests)) refl
 bytes_from_test (b ∷ c ∷ t) e =
-    let parts = both (b == 27) (list_all is_plain (c ∷ t)) e in
+    let parts = and_parts (b == 27) (list_all is_plain (c ∷ t)) e in
     let first : (b == 27) ≡ true = parts.0 in
     let same : b ≡ 27 = grind (arith, nat_tests) in
     more (c ∷ t) (λ h. cc (h)) (ap (λ x. x ∷ c ∷ t) same) (plain_from_test (c ∷ t) parts.1)
@@ -196,9 +173,9 @@ bytes_from_test (b ∷ c ∷ t) e =
 -- a text that ends well doesn't go on
 ends_here : (x : ℕ) (s t : List ℕ) → ends_well (x ∷ s) ≡ true → ends_well (x ∷ s ++ t) ≡ true → t ≡ []
 ends_here x [] [] a b = refl
-ends_here x [] (y ∷ t) a b = absurd (grind (arith, nat_tests, (both (is_inner x) (ends_well (y ∷ t)) b).0, a))
+ends_here x [] (y ∷ t) a b = absurd (grind (arith, nat_tests, (and_parts (is_inner x) (ends_well (y ∷ t)) b).0, a))
 ends_here x (y ∷ s) t a b =
-    ends_here y s t (both (is_inner x) (ends_well (y ∷ s)) a).1 (both (is_inner x) (ends_well (y ∷ s ++ t)) b).1
+    ends_here y s t (and_parts (is_inner x) (ends_well (y ∷ s)) a).1 (and_parts (is_inner x) (ends_well (y ∷ s ++ t)) b).1
 
 -- Of the texts with the shape of a row, only three properly begin another.
 pub begins_another : (s t : List ℕ) → has_shape s ≡ true → has_shape (s ++ t) ≡ true → is_sequence (s ++ t) ≡ true → t ≢ []
@@ -206,13 +183,13 @@ pub begins_another : (s t : List ℕ) → has_shape s ≡ true → has_shape (s 
 begins_another [] t a b c n = absurd (cc (a))
 begins_another (x ∷ []) [] a b c n = absurd (n refl)
 begins_another (x ∷ []) (y ∷ t) a b c n =
-    let first : (x == 27) ≡ true = (both (x == 27) (list_all is_plain (y ∷ t)) c).0 in
+    let first : (x == 27) ≡ true = (and_parts (x == 27) (list_all is_plain (y ∷ t)) c).0 in
     let same : x ≡ 27 = grind (arith, nat_tests) in
     inl (ap (λ z. z ∷ []) same)
 begins_another (x ∷ y ∷ []) [] a b c n = absurd (n refl)
 begins_another (x ∷ y ∷ []) (z ∷ t) a b c n =
-    let front = (both ((x == 27) && ((y == 91) || (y == 79))) (ends_well (z ∷ t)) b).0 in
-    let parts = both (x == 27) ((y == 91) || (y == 79)) front in
+    let front = (and_parts ((x == 27) && ((y == 91) || (y == 79))) (ends_well (z ∷ t)) b).0 in
+    let parts = and_parts (x == 27) ((y == 91) || (y == 79)) front in
     let first : (x == 27) ≡ true = parts.0 in
     let same : x ≡ 27 = grind (arith, nat_tests) in
     let second : (y == 91) || (y == 79) ≡ true = parts.1 in
@@ -223,8 +200,8 @@ begins_another (x ∷ y ∷ []) (z ∷ t) a b c n =
     which
 begins_another (x ∷ y ∷ z ∷ s) t a b c n =
     absurd (n (ends_here z s t
-    (both ((x == 27) && ((y == 91) || (y == 79))) (ends_well (z ∷ s)) a).1
-    (both ((x == 27) && ((y == 91) || (y == 79))) (ends_well (z ∷ s ++ t)) b).1))
+    (and_parts ((x == 27) && ((y == 91) || (y == 79))) (ends_well (z ∷ s)) a).1
+    (and_parts ((x == 27) && ((y == 91) || (y == 79))) (ends_well (z ∷ s ++ t)) b).1))
 
 -- no row begins as a frame does
 not_inner : (s : List ℕ) → ends_well (60 ∷ s) ≡ true → ⊥
@@ -234,29 +211,24 @@ not_inner (x ∷ s) e = cc (e)
 pub no_frame_shape : (rest : List ℕ) → has_shape (27 ∷ 91 ∷ 60 ∷ rest) ≡ true → ⊥
 no_frame_shape rest a = not_inner rest a
 
--- a row of two or more bytes starts with ESC and holds no other: what follows is from 32 to 126
-pub row_escapes : (first second : ℕ) (t : List ℕ) (k : KeyEvent) → Contains rows (first ∷ second ∷ t, k) → (first ≡ 27) × AllByRecursion IsPlain (second ∷ t)
-row_escapes first second t k c = go (bytes_from_test (first ∷ second ∷ t) (row_shaped (first ∷ second ∷ t) k c).sequence)
-  where
-    go : Bytes (first ∷ second ∷ t) → (first ≡ 27) × AllByRecursion IsPlain (second ∷ t)
-    go (one b l e) = absurd (cc (e))
-    go (more s n e p) = (cc (e), subst (AllByRecursion IsPlain) (let same : s ≡ second ∷ t = cc (e) in same) p)
+bracket_row : Contains rows (CSI, key_with (Char 91) ALT)
+unfolding written_out
+bracket_row = row_by_bytes CSI (key_with (Char 91) ALT) refl
 
--- no row starts as a frame does
-pub no_row_begins_frame : (rest : List ℕ) (k : KeyEvent) → Contains rows (27 ∷ 91 ∷ 60 ∷ rest, k) → ⊥
-no_row_begins_frame rest k c = no_frame_shape rest (row_shaped (27 ∷ 91 ∷ 60 ∷ rest) k c).shape
+capital_o_row : Contains rows (SS3, key_with (Char 79) ALT)
+unfolding written_out
+capital_o_row = row_by_bytes SS3 (key_with (Char 79) ALT) refl
 
 esc_begins : BeginsRow ESC
-unfolding written_out
-esc_begins = (escape, key_with (Char 91) ALT, 91 ∷ [], (27, lit< tt, refl), (λ h. cc (h)), (54, lit< tt, refl))
+esc_begins = (escape, key_with (Char 91) ALT, codes "[", escape_row, (λ h. cc (h)), bracket_row)
 
 csi_begins : BeginsRow CSI
 unfolding written_out
-csi_begins = (key_with (Char 91) ALT, key_with Tab SHIFT, 90 ∷ [], (54, lit< tt, refl), (λ h. cc (h)), (55, lit< tt, refl))
+csi_begins = (key_with (Char 91) ALT, key_with Tab SHIFT, codes "Z", bracket_row, (λ h. cc (h)), row_by_bytes (CSI ++ codes "Z") (key_with Tab SHIFT) refl)
 
 ss3_begins : BeginsRow SS3
 unfolding written_out
-ss3_begins = (key_with (Char 79) ALT, key_with UpArrow CTRL, 97 ∷ [], (42, lit< tt, refl), (λ h. cc (h)), (2344, lit< tt, refl))
+ss3_begins = (key_with (Char 79) ALT, key_with UpArrow CTRL, codes "a", capital_o_row, (λ h. cc (h)), row_by_bytes (SS3 ++ codes "a") (key_with UpArrow CTRL) refl)
 
 pub three_beginnings : ThreeBeginnings
 three_beginnings text = (
@@ -270,3 +242,17 @@ three_beginnings text = (
       (λ (f : text ≡ CSI). subst BeginsRow (sym f) csi_begins)
       (λ (f : text ≡ SS3). subst BeginsRow (sym f) ss3_begins) d) e,
 )
+
+-- the row with the most bytes
+longest_row : Contains rows (CSI ++ codes "27;8;127~", key_with Backspace (CTRL + ALT + SHIFT))
+unfolding written_out
+longest_row = row_by_bytes (CSI ++ codes "27;8;127~") (key_with Backspace (CTRL + ALT + SHIFT)) refl
+
+pub table_facts : TableFacts
+table_facts = record {
+  rows_are_2834 = row_count;
+  bytes_differ = bytes_differ;
+  at_most_eleven_bytes = λ i d l. (let s : length (get_or rows i d).0 < 12 = (all_shaped i d l).short in omega arith);
+  one_has_eleven_bytes = (CSI ++ codes "27;8;127~", key_with Backspace (CTRL + ALT + SHIFT), longest_row, refl);
+  none_begins_like_a_frame = λ i d l b. no_frame_shape b.0 (subst (λ t. has_shape t ≡ true) b.1 (all_shaped i d l).shape);
+}

@@ -1,6 +1,6 @@
 -- Tests that are computed over the whole table.
 use Rattle.std.proofs.Common.{◌≡◌, ℕ, zero, suc, ◌+◌, ◌*◌, ◌/◌, ◌%◌, Bool, true, false, not, cond, List, [], ◌∷◌, length, map, refl, nat_lt, ◌==◌, ◌&&◌, ◌||◌}
-use Rattle.std.specs.List.{list_all, list_any}
+use Rattle.std.specs.List.{list_all}
 use Rattle.std.specs.Fmt.{digits}
 use Rattle.termwiz_input.specs.Table.{TableRow, numbers, rows, control_letters_rows, backspace_bytes_rows, tab_byte_rows, enter_bytes_rows, escape_byte_rows, alt_letters_rows, alt_bracket_rows, shift_tab_rows, csi_u_rows, modify_other_keys_rows, cursor_keys_rows, modified_cursor_keys_rows, shift_arrows_rows, ctrl_arrows_rows, application_arrows_rows, modified_application_arrows_rows, ss3_function_keys_rows, lettered_function_keys_rows, numbered_function_keys_rows, edit_keys_rows, paste_start_rows, paste_end_rows}
 
@@ -34,23 +34,33 @@ is_sequence [] = false
 is_sequence (b ∷ []) = nat_lt b 28 || (b == 127)
 is_sequence (b ∷ c ∷ t) = (b == 27) && list_all is_plain (c ∷ t)
 
-abbrev pub is_ours : List ℕ → Bool
-is_ours t = has_shape t && nat_lt (length t) 12 && is_sequence t
+-- the form that all rows have, with at most eleven bytes
+abbrev pub has_row_form : List ℕ → Bool
+has_row_form t = has_shape t && nat_lt (length t) 12 && is_sequence t
 
--- a number for a text
-abbrev pub mix : ℕ → List ℕ → ℕ
-mix n [] = n
-mix n (b ∷ t) = mix (n * 257 + b) t
+-- a number for a text, from a number for what comes before it
+abbrev pub number_of_text : ℕ → List ℕ → ℕ
+number_of_text n [] = n
+number_of_text n (b ∷ t) = number_of_text (n * 257 + b) t
 
--- the halves of the even numbers, and of the odd ones
+-- a number for a row: rows with the same bytes have the same number
+abbrev pub number_of_row : TableRow → ℕ
+number_of_row r = number_of_text 1 r.0
+
+-- the halves of the numbers with this remainder: 0 for the even ones, 1 for the odd ones
 abbrev pub halves : ℕ → List ℕ → List ℕ
 halves r [] = []
 halves r (x ∷ xs) = cond (x % 2 == r) (x / 2 ∷ halves r xs) (halves r xs)
 
+-- none of the numbers is x
+abbrev pub all_but : ℕ → List ℕ → Bool
+all_but x xs = list_all (λ y. not (y == x)) xs
+
 abbrev pub all_differ : List ℕ → Bool
 all_differ [] = true
-all_differ (x ∷ xs) = not (list_any (λ y. y == x) xs) && all_differ xs
+all_differ (x ∷ xs) = all_but x xs && all_differ xs
 
+-- the same by lists that are halved n times, so that few numbers are left to compare
 abbrev pub split_differ : ℕ → List ℕ → Bool
 split_differ zero xs = all_differ xs
 split_differ (suc n) xs = split_differ n (halves 0 xs) && split_differ n (halves 1 xs)
@@ -60,11 +70,11 @@ unfoldable pub written_out : List TableRow
 unfolding numbers rows control_letters_rows backspace_bytes_rows tab_byte_rows enter_bytes_rows escape_byte_rows alt_letters_rows alt_bracket_rows shift_tab_rows csi_u_rows modify_other_keys_rows cursor_keys_rows modified_cursor_keys_rows shift_arrows_rows ctrl_arrows_rows application_arrows_rows modified_application_arrows_rows ss3_function_keys_rows lettered_function_keys_rows numbered_function_keys_rows edit_keys_rows paste_start_rows paste_end_rows digits
 written_out = rows
 
-pub rows_shaped : list_all (λ r. is_ours r.0) rows ≡ true
+pub rows_shaped : list_all (λ r. has_row_form r.0) rows ≡ true
 unfolding written_out
 rows_shaped = refl
 
-pub rows_differ : split_differ 10 (map (λ r. mix 1 r.0) rows) ≡ true
+pub rows_differ : split_differ 10 (map number_of_row rows) ≡ true
 unfolding written_out
 rows_differ = refl
 

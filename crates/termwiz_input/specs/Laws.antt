@@ -1,11 +1,12 @@
 -- The laws of the grammar.
-use Rattle.std.specs.Prelude.{◌≡◌, ◌≢◌, ℕ, ◌+◌, ◌≤◌, ◌⊎◌, ◌↔◌, Bool, true, List, [], ◌++◌, length, Contains}
+use Rattle.std.specs.Prelude.{◌≡◌, ◌≢◌, ℕ, ◌+◌, ◌≤◌, ◌⊎◌, ◌↔◌, Bool, true, List, [], ◌++◌, length, codes, Contains, All}
+use Rattle.std.specs.List.{AllPairs}
 use Rattle.termwiz_input.specs.declared.types.KeyEvent.{KeyEvent}
 use Rattle.termwiz_input.specs.declared.types.InputEvent.{InputEvent}
-use Rattle.termwiz_input.specs.Bytes.{Occurs, ESC, CSI, SS3, START, END}
+use Rattle.termwiz_input.specs.Bytes.{Begins, Occurs, ESC, CSI, SS3, START, END}
 use Rattle.termwiz_input.specs.declared.keymap.Found.TheVariants.{Exact}
 use Rattle.termwiz_input.specs.Lookup.{Keys, LookupGives}
-use Rattle.termwiz_input.specs.Table.{rows}
+use Rattle.termwiz_input.specs.Table.{TableRow, rows}
 use Rattle.termwiz_input.specs.Grammar.{Head, IsHead, IsUnfinished, Steps, IsRest, Means}
 
 -- Where a lookup answers Exact although more may come, each longer text has the same answer.
@@ -58,3 +59,15 @@ BeginsRow text = (key longer : KeyEvent) × (tail : List ℕ) × Contains rows (
 -- Of the rows exactly three properly begin another row.
 abbrev pub ThreeBeginnings : Type 0
 ThreeBeginnings = (text : List ℕ) → BeginsRow text ↔ ((text ≡ ESC) ⊎ (text ≡ CSI) ⊎ (text ≡ SS3))
+
+-- the rows have different bytes
+abbrev pub HasOtherBytes : TableRow → TableRow → Type 0
+HasOtherBytes one other = one.0 ≢ other.0
+
+-- What is true of the table as a whole.
+pub record TableFacts : Type 0 where
+  pub rows_are_2834 : length rows ≡ 2834
+  pub bytes_differ : AllPairs HasOtherBytes rows
+  pub at_most_eleven_bytes : All (λ row. length row.0 ≤ 11) rows
+  pub one_has_eleven_bytes : (bytes : List ℕ) × (key : KeyEvent) × Contains rows (bytes, key) × (length bytes ≡ 11)
+  pub none_begins_like_a_frame : All (λ row. ¬ Begins (ESC ++ codes "[<") row.0) rows

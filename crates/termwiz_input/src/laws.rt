@@ -1,11 +1,17 @@
 //! Laws of the grammar and of the key map, each the contract of a function without effect.
 //!
 //! They speak of the definitions alone; that the parser obeys the definitions is said by its own contracts.
-ghost use Rattle.termwiz_input.specs.Laws.{CutIndependent, EmptyIsRest, ExactStays, FewEvents, OneMeaning, Resumes, ThreeBeginnings, WaitingShape};
+ghost use Rattle.termwiz_input.specs.Laws.{CutIndependent, EmptyIsRest, ExactStays, FewEvents, OneMeaning, Resumes, TableFacts, ThreeBeginnings, WaitingShape};
 
 /// Each text means, under each flag, exactly one list of events and one rest.
 pub fn one_meaning()
     ensures { OneMeaning }
+{}
+
+/// The sequence table has 2834 rows, and no two of them have the same bytes. The longest rows have eleven bytes, and no row
+/// begins with ESC `[<`, as mouse frames do.
+pub fn table_facts()
+    ensures { TableFacts }
 {}
 
 /// Of the rows of the sequence table exactly ESC, ESC `[` and ESC `O` properly begin another row.
