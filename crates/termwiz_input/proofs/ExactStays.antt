@@ -14,20 +14,20 @@ in_rest t s k past = ap (λ n. take n (t ++ s)) {x = k} {y = length t + (k - len
 
 module _ {V : Type 0} (m : Keys V) where
   -- a text that is not extended has no key beyond it
-  pub none_beyond : (t r : List ℕ) → (IsExtended m t → ⊥) → 0 < length r → map.get m (t ++ r) ≡ None
+  pub none_beyond : (t r : List ℕ) → ¬ (IsExtended m t) → 0 < length r → map.get m (t ++ r) ≡ None
   none_beyond t r closed more = by (map.get m (t ++ r)) (λ there. closed (r, more, there))
     where
-      by : (o : Option V) → (IsSome o → ⊥) → o ≡ None
+      by : (o : Option V) → ¬ (IsSome o) → o ≡ None
       by None h = refl
       by (Some v) h = absurd (h refl)
 
-  closed_beyond : (t s : List ℕ) → (IsExtended m t → ⊥) → IsExtended m (t ++ s) → ⊥
+  closed_beyond : (t s : List ℕ) → ¬ (IsExtended m t) → ¬ (IsExtended m (t ++ s))
   closed_beyond t s closed (r, more, there) =
       closed (s ++ r, omega (arith, length-append s r), subst (λ k. IsSome (map.get m k)) (append_assoc t s r) there)
 
   pub stays : (t s : List ℕ) (n : ℕ) (v : V) (more : Bool) → LookupGives m t true (Exact n v) → LookupGives m (t ++ s) more (Exact n v)
   stays t s n v more (is, final) =
-      let closed : IsExtended m t → ⊥ = λ h. absurd (let e = final h in (cc)) in (
+      let closed : ¬ (IsExtended m t) = λ h. absurd (let e = final h in (cc)) in (
         record {
           within = omega (arith, is.within, length-append t s);
           stored = ap (map.get m) (take-append-le n t s is.within) ∙ is.stored;

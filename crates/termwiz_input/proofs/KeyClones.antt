@@ -2,7 +2,7 @@
 use Rattle.std.proofs.Common.{◌≡◌, ℕ, Bool, true, false, cond, List, [], ◌∷◌, refl, sym, ap, subst}
 use Rattle.std.specs.Prelude.{Option, Some, None, MatchOption, IsSomeAnd}
 use Rattle.std.specs.FinMap.{get, from_entries}
-use Rattle.termwiz_input.specs.Entries.{AreClones}
+use Rattle.termwiz_input.specs.Entries.{Entries, AreClones}
 use Rattle.termwiz_input.specs.Lookup.{Keys, ClonesEqual, IsClone}
 use Rattle.termwiz_input.proofs.KeysInEntries.{tied, found, get-entries, same_keys}
 
@@ -15,7 +15,7 @@ module _ {V : Type 0} (is_clone : V → V → Type 0) where
   first_or_later true v w o p first later = first
   first_or_later false v w o p first later = later
 
-  found-clones : (k : List ℕ) (es copies : List (List ℕ × V)) → AreClones is_clone es copies → AnswersClone (found k es) (found k copies)
+  found-clones : (k : List ℕ) (es copies : Entries V) → AreClones is_clone es copies → AnswersClone (found k es) (found k copies)
   found-clones k [] [] these = refl
   found-clones k [] (c ∷ cs) these = absurd these
   found-clones k (e ∷ es) [] these = absurd these
@@ -25,7 +25,7 @@ module _ {V : Type 0} (is_clone : V → V → Type 0) where
       (first_or_later (tied k e.0) e.1 c.1 (found k es) (found k cs) these.0.1 (found-clones k es cs these.1))
 
   -- the map of the clones is a clone of the map
-  pub IsClone-from_entries : (m : Keys V) (es copies : List (List ℕ × V)) → from_entries es ≡ m → AreClones is_clone es copies → IsClone is_clone m (from_entries copies)
+  pub IsClone-from_entries : (m : Keys V) (es copies : Entries V) → from_entries es ≡ m → AreClones is_clone es copies → IsClone is_clone m (from_entries copies)
   IsClone-from_entries m es copies is these k = rw (← is, get-entries es k, get-entries copies k) (found-clones k es copies these)
 
   same_answer : (o p : Option V) → ClonesEqual is_clone → AnswersClone o p → p ≡ o

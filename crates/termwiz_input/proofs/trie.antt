@@ -1,5 +1,5 @@
 -- The tree of a key map.
-pub mod BranchRows
+pub mod BranchEntries
 pub mod Children
 pub mod Copies
 pub mod Edits

@@ -4,47 +4,38 @@ use Rattle.std.specs.Ordering.{nat_cmp}
 use Rattle.std.specs.Cmp.Lexicographic.{slice_cmp}
 use Rattle.std.specs.List.{All}
 use Rattle.std.specs.FinMap as map
-use Rattle.termwiz_input.specs.Entries.{AreClones}
+use Rattle.termwiz_input.specs.Entries.{Entries, AreClones}
 
--- keys with their values
-abbrev pub Rows : Type 0 → Type 0
-Rows V = List (List ℕ × V)
-
--- a node: the byte that leads to it, the keys of its branch from there on, and how deep the branch goes
+-- A node with all that is below it: the byte that leads to it, the entries of its branch, whose keys go on from there, and
+-- how deep the branch goes.
 pub record Branch (V : Type 0) : Type 0 where
   pub label : ℕ
-  pub rows : Rows V
+  pub entries : Entries V
   pub height : ℕ
 
 -- each byte is below those after it
-abbrev pub AreRising : List ℕ → Type 0
-AreRising bytes = (i j : ℕ) → i < j → j < length bytes → get_or bytes i 0 < get_or bytes j 0
+abbrev pub IsAscending : List ℕ → Type 0
+IsAscending bytes = (i j : ℕ) → i < j → j < length bytes → get_or bytes i 0 < get_or bytes j 0
 
 module _ {V : Type 0} where
   -- the map that a branch holds
-  abbrev pub keys_of : Branch V → map.FinMap (slice_cmp nat_cmp) V
-  keys_of b = map.from_entries b.rows
+  abbrev pub map_of : Branch V → map.FinMap (slice_cmp nat_cmp) V
+  map_of branch = map.from_entries branch.entries
 
-  -- the key that ends at a node
-  abbrev pub own : Option V → Rows V
-  own None = []
-  own (Some v) = ([], v) ∷ []
+  -- the entry of the key that ends at a node
+  abbrev pub own_entry : Option V → Entries V
+  own_entry None = []
+  own_entry (Some value) = ([], value) ∷ []
 
   -- each key with one byte in front
-  abbrev pub behind : ℕ → Rows V → Rows V
-  behind label [] = []
-  behind label (row ∷ rows) = (label ∷ row.0, row.1) ∷ behind label rows
+  abbrev pub prefixed : ℕ → Entries V → Entries V
+  prefixed byte [] = []
+  prefixed byte (e ∷ es) = (byte ∷ e.0, e.1) ∷ prefixed byte es
 
-  -- the keys of these branches, one branch after another
-  abbrev pub below : List (Branch V) → Rows V
-  below [] = []
-  below (b ∷ bs) = behind b.label b.rows ++ below bs
-
-  -- the copy is the branch, but that each of its values is a clone
-  pub record IsBranchClone (is_clone : V → V → Type 0) (b copy : Branch V) : Type 0 where
-    pub label : copy.label ≡ b.label
-    pub rows : AreClones is_clone b.rows copy.rows
-    pub height : copy.height ≡ b.height
+  -- the entries of these branches, one branch after another
+  abbrev pub entries_below : List (Branch V) → Entries V
+  entries_below [] = []
+  entries_below (b ∷ bs) = prefixed b.label b.entries ++ entries_below bs
 
   -- one more than the deepest of these branches
   abbrev pub height_of : List (Branch V) → ℕ
@@ -57,15 +48,21 @@ module _ {V : Type 0} where
 
   -- the branches stand in ascending order of their bytes, and each holds a key
   pub record AreChildren (bs : List (Branch V)) : Type 0 where
-    pub ascending : AreRising (labels bs)
-    pub inhabited : All (λ b. 0 < length b.rows) bs
+    pub ascending : IsAscending (labels bs)
+    pub inhabited : All (λ b. 0 < length b.entries) bs
 
--- the branch at place i is under this byte
-pub record IsAt (bytes : List ℕ) (byte i : ℕ) : Type 0 where
+  -- the copy has the branch's byte and its depth, and clones of its entries
+  pub record IsBranchClone (is_clone : V → V → Type 0) (branch copy : Branch V) : Type 0 where
+    pub label : copy.label ≡ branch.label
+    pub entries : AreClones is_clone branch.entries copy.entries
+    pub height : copy.height ≡ branch.height
+
+-- this byte stands at place i
+pub record IsPlaceOf (bytes : List ℕ) (byte i : ℕ) : Type 0 where
   pub in_range : i < length bytes
   pub same : get_or bytes i 0 ≡ byte
 
--- a branch under this byte would stand at place i
+-- this byte would stand at place i
 pub record IsGapFor (bytes : List ℕ) (byte i : ℕ) : Type 0 where
   pub in_range : i ≤ length bytes
   pub smaller_before : (j : ℕ) → j < i → get_or bytes j 0 < byte

@@ -6,31 +6,35 @@ use Rattle.std.specs.Cmp.Lexicographic.{slice_cmp, pointwise}
 use Rattle.std.specs.FinMap.{find}
 use Rattle.std.specs.Global.{Vec}
 
+-- keys with their values; of two entries with one key the first counts
+abbrev pub Entries : Type 0 → Type 0
+Entries V = List (List ℕ × V)
+
 module _ {V : Type 0} where
-  -- the entries as they lie in memory, seen as keys and values
-  abbrev pub seen : List (Vec ℕ × V) → List (List ℕ × V)
-  seen es = each (λ e. (e.0.items, e.1)) es
+  -- entries in memory, each key as the list of its bytes
+  abbrev pub entries_of : List (Vec ℕ × V) → Entries V
+  entries_of es = each (λ e. (e.0.items, e.1)) es
 
   -- the same keys in the same order, each with a clone of its value
-  abbrev pub AreClones : (V → V → Type 0) → List (List ℕ × V) → List (List ℕ × V) → Type 0
+  abbrev pub AreClones : (V → V → Type 0) → Entries V → Entries V → Type 0
   AreClones is_clone es copies = AllZip (λ e copy. (copy.0 ≡ e.0) × is_clone e.1 copy.1) es copies
 
-  -- whether some key is longer than the text and begins with it
-  abbrev pub extends_any : List ℕ → List (List ℕ × V) → Bool
-  extends_any t es = list_any (λ e. nat_lt (length t) (length e.0) && pointwise nat_eq (take (length t) e.0) t) es
+  -- whether some key begins with the text and is longer
+  abbrev pub some_key_extends : List ℕ → Entries V → Bool
+  some_key_extends text es = list_any (λ e. nat_lt (length text) (length e.0) && pointwise nat_eq (take (length text) e.0) text) es
 
   -- the longest key that begins the text has this length and this value
-  pub record IsLongestIn (es : List (List ℕ × V)) (t : List ℕ) (n : ℕ) (v : V) : Type 0 where
-    pub within : n ≤ length t
-    pub stored : find (slice_cmp nat_cmp) (take n t) es ≡ Some v
-    pub longest : (k : ℕ) → n < k → k ≤ length t → find (slice_cmp nat_cmp) (take k t) es ≡ None
+  pub record IsLongestEntry (es : Entries V) (text : List ℕ) (len : ℕ) (value : V) : Type 0 where
+    pub within : len ≤ length text
+    pub stored : find (slice_cmp nat_cmp) (take len text) es ≡ Some value
+    pub longest : (k : ℕ) → len < k → k ≤ length text → find (slice_cmp nat_cmp) (take k text) es ≡ None
 
   -- no key begins the text
-  abbrev pub IsNoneIn : List (List ℕ × V) → List ℕ → Type 0
-  IsNoneIn es t = (k : ℕ) → k ≤ length t → find (slice_cmp nat_cmp) (take k t) es ≡ None
+  abbrev pub NoEntryBegins : Entries V → List ℕ → Type 0
+  NoEntryBegins es text = (k : ℕ) → k ≤ length text → find (slice_cmp nat_cmp) (take k text) es ≡ None
 
   -- the first entry with this key is at place i
-  pub record IsFirstAt (es : List (List ℕ × V)) (key : List ℕ) (i : ℕ) : Type 0 where
+  pub record IsFirstPlace (es : Entries V) (key : List ℕ) (i : ℕ) : Type 0 where
     pub in_range : i < length es
     pub none_before : find (slice_cmp nat_cmp) key (take i es) ≡ None
     pub here : get_or (each (λ e. e.0) es) i [] ≡ key

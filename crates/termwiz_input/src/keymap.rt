@@ -1,5 +1,5 @@
-//! A map from byte strings to values, with the lookup that a reader of key sequences needs: which
-//! key does a text begin with, and may a longer key follow?
+//! A map from byte strings to values. A lookup finds the longest key that is a prefix of a text, and
+//! tells whether a longer key may still follow, as a reader of key sequences asks.
 ghost use Rattle.std.specs.Prelude.{◌≡◌, IfOk, OnOk, OnErr};
 ghost use Rattle.std.specs.FinMap as map;
 
@@ -15,16 +15,16 @@ use std::alloc::{AllocError, Global};
 use std::fmt::Debug;
 use std::marker::Model;
 
-/// What a text begins with.
+/// The answer of [`KeyMap::lookup`].
 #[derive(Clone, PartialEq, Eq, Debug, Drop)]
 pub enum Found<Value> {
-    /// No key begins the text, and no key begins with it.
+    /// No key is a prefix of the text, and the text is a prefix of no key.
     None,
-    /// The longest key that begins the text: its length in bytes, and its value.
+    /// The length in bytes and the value of the longest key that is a prefix of the text.
     Exact(usize, Value),
-    /// The same, where a longer key begins with the whole text and more of it may follow.
+    /// As `Exact`, but more of the text may follow, and the text is a prefix of a longer key too.
     Ambiguous(usize, Value),
-    /// No key begins the text yet, and some key begins with all of it.
+    /// No key is a prefix of the text, but the text is a prefix of some key.
     NeedData,
 }
 
@@ -40,19 +40,19 @@ impl<V: Debug + Clone + Drop> Model for KeyMap<V> {
     ghost use Rattle.std.specs.Cmp.Lexicographic.{slice_cmp};
     ghost use Rattle.std.specs.FinMap as map;
     ghost use Rattle.std.specs.Coded.{coded_ℕ, coded_list};
-    ghost use Rattle.termwiz_input.specs.Branch.{keys_of};
+    ghost use Rattle.termwiz_input.specs.Branch.{map_of};
 
     ghost Value = { map.FinMap (slice_cmp nat_cmp) V };
 
     ghost coded = { map.code (coded_list coded_ℕ) V.code };
 
-    ghost view = { λ m. keys_of m.root };
+    ghost view = { λ m. map_of m.root };
 }
 
 impl<V: Debug + Clone + Drop> KeyMap<V> {
-    ghost use Rattle.termwiz_input.specs.Lookup.{ClonesEqual, IsClone, LookupGives, shown};
+    ghost use Rattle.termwiz_input.specs.Lookup.{ClonesEqual, IsClone, LookupGives, found_copied};
 
-    /// The empty map. It takes no memory.
+    /// An empty map. Takes no memory; later calls take theirs from `alloc`.
     pub fn new(alloc: Global) -> KeyMap<V>
         ensures { result ≡ map.empty }
     {
@@ -62,8 +62,10 @@ impl<V: Debug + Clone + Drop> KeyMap<V> {
         }
     }
 
-    /// Sets the value of one key, the empty key too, and leaves every other key as it was. Where
-    /// memory is refused the map is as it was, and the value is dropped.
+    /// Sets the value of a key, in place of the one that it has, if any. Every other key keeps its
+    /// value. The empty key is a key like any other.
+    ///
+    /// Fails only if memory is refused; the map is then unchanged, and `value` is dropped.
     pub fn insert(&mut self, key: &[u8], value: V) -> Result<(), AllocError>
         ensures ok { OnOk result (self.new ≡ map.insert self.old key.now value) }
         ensures err { OnErr result (self.new ≡ self.old) }
@@ -71,14 +73,15 @@ impl<V: Debug + Clone + Drop> KeyMap<V> {
         self.root.insert(self.alloc, key, value)
     }
 
-    /// What a text begins with. `maybe_more` says that more of the text may follow. It takes no
-    /// memory.
+    /// Finds the longest key that is a prefix of the text `key`. Pass true for `maybe_more` if more
+    /// of the text may follow: the answer is then `Ambiguous` if a longer key is still possible, and
+    /// an `Exact` answer holds however the text goes on. Takes no memory.
     ///
-    /// The rule is the one that the crate termwiz's documentation gives for `KeyMap::lookup`, asked
-    /// of all keys: a text that no longer key begins with is never answered by `NeedData` or
-    /// `Ambiguous`.
+    /// This is the rule in the documentation of termwiz's `KeyMap::lookup`, with all keys taken into
+    /// account: `NeedData` and `Ambiguous` are given only if some key begins with the whole text and
+    /// is longer.
     pub fn lookup(&self, key: &[u8], maybe_more: bool) -> Found<&V>
-        ensures { LookupGives self.now key.now maybe_more (shown result) }
+        ensures { LookupGives self.now key.now maybe_more (found_copied result) }
     {
         let (longest, extended) = self.root.walk(key);
         match longest {
@@ -89,9 +92,11 @@ impl<V: Debug + Clone + Drop> KeyMap<V> {
         }
     }
 
-    /// A map with the same keys, and with a clone of each value: the same map, if clones of the
-    /// values equal them. Takes memory from the allocator that this map was made with, and fails if
-    /// memory is refused or the clone of a value fails. This map is unchanged either way.
+    /// A map with the same keys and with a clone of each value. If clones of the values equal them,
+    /// it is the same map.
+    ///
+    /// Takes memory from the allocator of this map. Fails only if memory is refused or if the clone
+    /// of a value fails.
     pub fn clone(&self) -> Result<KeyMap<V>, AllocError>
         ensures cloned { IfOk result (IsClone V.is_clone self.now) }
         ensures same { ClonesEqual V.is_clone → IfOk result (λ copy. copy ≡ self.now) }
@@ -103,7 +108,8 @@ impl<V: Debug + Clone + Drop> KeyMap<V> {
     }
 }
 
-// A clone of a map to keys of a keyboard: the same map, since a clone of such a key equals it.
+// A clone of a map of key events is the same map, since a clone of a key event equals it. Only tests
+// call this function: it is there for its contract.
 fn cloned_keys(keys: &KeyMap<KeyEvent>) -> Result<KeyMap<KeyEvent>, AllocError>
     ensures { IfOk result (λ copy. copy ≡ keys.now) }
 {

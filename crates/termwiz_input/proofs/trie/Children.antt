@@ -12,11 +12,11 @@ use Rattle.std.proofs.lemmas.Bool.Decides.{nat_tests}
 use Rattle.std.proofs.lemmas.List.Elements.{All-set, All-append, All-cons, All-take, All-drop, All-get_or}
 use Rattle.std.proofs.lemmas.List.Edits.{length-insert, get_or-insert_below, get_or-insert_at, get_or-insert_above}
 use Rattle.termwiz_input.proofs.KeysInEntries.{found}
-use Rattle.termwiz_input.proofs.trie.BranchRows.{Lacks, found-here, found-lacks}
-use Rattle.termwiz_input.specs.Branch.{Branch, AreChildren, AreRising, IsAt, IsGapFor, labels, below}
+use Rattle.termwiz_input.proofs.trie.BranchEntries.{Lacks, found-here, found-lacks}
+use Rattle.termwiz_input.specs.Branch.{Branch, AreChildren, IsAscending, IsPlaceOf, IsGapFor, labels, entries_below}
 
 -- a byte put in its gap keeps the order
-pub rising : (l : List ℕ) (a at : ℕ) → IsGapFor l a at → AreRising l → AreRising (insert l at a)
+pub rising : (l : List ℕ) (a at : ℕ) → IsGapFor l a at → IsAscending l → IsAscending (insert l at a)
 rising l a at gap sorted i j lt in_range =
     let new = insert l at a in
     let length_new = length-insert l at a gap.in_range in
@@ -28,7 +28,7 @@ rising l a at gap sorted i j lt in_range =
 module _ {V : Type 0} where
   -- a branch that stands for what is not there
   abbrev pub no_branch : Branch V
-  no_branch = record { label = 0; rows = []; height = 0 }
+  no_branch = record { label = 0; entries = []; height = 0 }
 
   pub length-labels : (bs : List (Branch V)) → length (labels bs) ≡ length bs
   length-labels bs = length-map bs (λ b. b.label)
@@ -46,7 +46,7 @@ module _ {V : Type 0} where
         grind (arith, nat_tests))
 
     -- a binary search ends at the child under the byte, or at the gap for it
-    pub searched : (r : Result ℕ ℕ) → IsSearchInRange r (length bs) → IsBinarySearchResult (λ b. nat_cmp b.label byte) bs r → IfOk r (IsAt (labels bs) byte) × IfErr r (IsGapFor (labels bs) byte)
+    pub searched : (r : Result ℕ ℕ) → IsSearchInRange r (length bs) → IsBinarySearchResult (λ b. nat_cmp b.label byte) bs r → IfOk r (IsPlaceOf (labels bs) byte) × IfErr r (IsGapFor (labels bs) byte)
     searched (Ok at) in_range equal = (record { in_range = omega (arith, length-labels bs); same = label_at bs at in_range ∙ ranked _ byte _ (sym (equal no_branch)) }, tt)
     searched (Err at) in_range parted = (
       tt,
@@ -71,7 +71,7 @@ module _ {V : Type 0} where
       apart (i + j) (omega arith) (omega (arith, length-drop i bs)) (ap (λ (b : Branch V). b.label) (sym (get_or-drop i bs j no_branch)) ∙ same))
 
   module _ (bs : List (Branch V)) (are : AreChildren bs) (a i : ℕ) where
-    module _ (at : IsAt (labels bs) a i) where
+    module _ (at : IsPlaceOf (labels bs) a i) where
       pub inside_at : i < length bs
       inside_at = omega (arith, at.in_range, length-labels bs)
 
@@ -95,20 +95,20 @@ module _ {V : Type 0} where
       parted_at = split_at bs i no_branch inside_at
 
       -- a key whose first byte is the child's goes on in the child
-      pub found_at : (k : List ℕ) → found (a ∷ k) (below bs) ≡ found k (get_or bs i no_branch).rows
-      found_at k = ap (λ cs. found (a ∷ k) (below cs)) parted_at ∙ found-here a k _ _ _ lacks_before lacks_after same_at
+      pub found_at : (k : List ℕ) → found (a ∷ k) (entries_below bs) ≡ found k (get_or bs i no_branch).entries
+      found_at k = ap (λ cs. found (a ∷ k) (entries_below cs)) parted_at ∙ found-here a k _ _ _ lacks_before lacks_after same_at
 
       -- a child with the same byte in its place
-      pub keeps_set : (n : Branch V) → n.label ≡ (get_or bs i no_branch).label → 0 < length n.rows → AreChildren (set bs i n)
+      pub keeps_set : (n : Branch V) → n.label ≡ (get_or bs i no_branch).label → 0 < length n.entries → AreChildren (set bs i n)
       keeps_set n same some =
           let all_same : labels (set bs i n) ≡ labels bs = map-set (λ (b : Branch V). b.label) bs i n ∙ ap (set (labels bs) i) (same ∙ sym (label_at bs i inside_at)) ∙ set-get_or (labels bs) i 0 in
           record {
             ascending = rw all_same are.ascending;
-            inhabited = All-set (λ (b : Branch V). 0 < length b.rows) bs i n some are.inhabited;
+            inhabited = All-set (λ (b : Branch V). 0 < length b.entries) bs i n some are.inhabited;
           }
 
-      pub inhabited_at : 0 < length (get_or bs i no_branch).rows
-      inhabited_at = All-get_or (λ (b : Branch V). 0 < length b.rows) bs i no_branch inside_at are.inhabited
+      pub inhabited_at : 0 < length (get_or bs i no_branch).entries
+      inhabited_at = All-get_or (λ (b : Branch V). 0 < length b.entries) bs i no_branch inside_at are.inhabited
 
     module _ (gap : IsGapFor (labels bs) a i) where
       pub within_gap : i ≤ length bs
@@ -129,20 +129,20 @@ module _ {V : Type 0} where
       lacks_both (x ∷ xs) ys p q = (p.0, lacks_both xs ys p.1 q)
 
       -- a key whose first byte has a gap is not there
-      pub found_gap : (k : List ℕ) → found (a ∷ k) (below bs) ≡ None
+      pub found_gap : (k : List ℕ) → found (a ∷ k) (entries_below bs) ≡ None
       found_gap k = found-lacks a k bs (subst (Lacks a) (take-append-drop i bs) (lacks_both _ _ lacks_front lacks_back))
 
       two_parts : (b : ℕ) {xs ys us vs : List ℕ} → xs ≡ us → ys ≡ vs → xs ++ b ∷ ys ≡ us ++ b ∷ vs
       two_parts b p q i = p i ++ b ∷ q i
 
       -- a new child in the gap
-      pub keeps_insert : (n : Branch V) → n.label ≡ a → 0 < length n.rows → AreChildren (insert bs i n)
+      pub keeps_insert : (n : Branch V) → n.label ≡ a → 0 < length n.entries → AreChildren (insert bs i n)
       keeps_insert n same some =
           let l = labels bs in
           let new = insert l i n.label in
           let all_same : labels (insert bs i n) ≡ new = map-append (λ (b : Branch V). b.label) (take i bs) (n ∷ drop i bs) ∙ two_parts n.label (sym (take-map (λ (b : Branch V). b.label) i bs)) (sym (drop-map (λ (b : Branch V). b.label) i bs)) in
           record {
             ascending = rw all_same (rising l n.label i (subst (λ b. IsGapFor l b i) (sym same) gap) are.ascending);
-            inhabited = let P : Branch V → Type 0 = λ b. 0 < length b.rows in
+            inhabited = let P : Branch V → Type 0 = λ b. 0 < length b.entries in
                 All-append P (take i bs) (n ∷ drop i bs) (All-take P i bs are.inhabited) (All-cons P n (drop i bs) some (All-drop P i bs are.inhabited));
           }

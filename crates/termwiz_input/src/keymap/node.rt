@@ -2,7 +2,7 @@
 //! that beginning with one more byte.
 ghost use Rattle.std.specs.Prelude.{◌≡◌, ◌↔◌, [], ◌∷◌, IsTrue, IfOk, IfErr, OnOk, OnErr, IfSome, IfNone, Some, None};
 ghost use Rattle.std.specs.FinMap as map;
-ghost use Rattle.termwiz_input.specs.Branch.{AreChildren, IsAt, IsBranchClone, IsGapFor, keys_of, labels};
+ghost use Rattle.termwiz_input.specs.Branch.{AreChildren, IsPlaceOf, IsBranchClone, IsGapFor, map_of, labels};
 ghost use Rattle.termwiz_input.specs.Lookup.{IsExtended, IsLongestKey, NoKeyBegins};
 
 use std::alloc::{AllocError, Global};
@@ -19,13 +19,13 @@ pub struct Node<V> {
 
 impl<V> Model for Node<V> {
     ghost use Rattle.std.specs.Prelude.{◌++◌};
-    ghost use Rattle.termwiz_input.specs.Branch.{Branch, own, below, height_of, AreChildren};
+    ghost use Rattle.termwiz_input.specs.Branch.{Branch, own_entry, entries_below, height_of, AreChildren};
 
     ghost Value = { Branch V };
 
     ghost view = { λ n. record {
       label = n.label;
-      rows = own n.value ++ below n.children.items;
+      entries = own_entry n.value ++ entries_below n.children.items;
       height = height_of n.children.items;
     } };
 
@@ -37,7 +37,7 @@ impl<V> Model for Node<V> {
 // The place of the child under a byte, or where it would go.
 fn place_of<V>(children: &[Node<V>], label: u8) -> Result<usize, usize>
     requires { AreChildren children.now }
-    ensures found { IfOk result (IsAt (labels children.now) label) }
+    ensures found { IfOk result (IsPlaceOf (labels children.now) label) }
     ensures absent { IfErr result (IsGapFor (labels children.now) label) }
 {
     children.binary_search_by_key(&label, |child| child.label())
@@ -46,7 +46,7 @@ fn place_of<V>(children: &[Node<V>], label: u8) -> Result<usize, usize>
 impl<V> Node<V> {
     /// A node with no keys.
     pub fn new(alloc: Global) -> Node<V>
-        ensures { result.rows ≡ [] }
+        ensures { result.entries ≡ [] }
     {
         Node {
             label: 0,
@@ -67,7 +67,7 @@ impl<V: Drop> Node<V> {
     // A chain of nodes with one key, which goes on from the first of them.
     fn chain(alloc: Global, label: u8, key: &[u8], value: V) -> Result<Node<V>, AllocError>
         ensures label { IfOk result (λ n. n.label ≡ label) }
-        ensures key { IfOk result (λ n. n.rows ≡ (key.now, value) ∷ []) }
+        ensures key { IfOk result (λ n. n.entries ≡ (key.now, value) ∷ []) }
     {
         let (children, value) = match key.split_first() {
             Some((next, rest)) => {
@@ -87,7 +87,7 @@ impl<V: Drop> Node<V> {
     /// Sets the value of one key. Where memory is refused, nothing is changed.
     pub fn insert(&mut self, alloc: Global, key: &[u8], value: V) -> Result<(), AllocError>
         ensures label { self.new.label ≡ self.old.label }
-        ensures ok { OnOk result (keys_of self.new ≡ map.insert (keys_of self.old) key.now value) }
+        ensures ok { OnOk result (map_of self.new ≡ map.insert (map_of self.old) key.now value) }
         ensures err { OnErr result (self.new ≡ self.old) }
     {
         let Some((label, rest)) = key.split_first() else {
@@ -109,27 +109,30 @@ impl<V> Node<V> {
     /// The longest key that begins a text, as its length and its value, and whether a longer key
     /// begins with the text.
     pub fn walk(&self, text: &[u8]) -> (Option<(usize, &V)>, bool)
-        ensures longest { IfSome result.0 (λ found. IsLongestKey (keys_of self.now) text.now found.0 found.1.now) }
-        ensures none { IfNone result.0 (NoKeyBegins (keys_of self.now) text.now) }
-        ensures extended { IsTrue result.1 ↔ IsExtended (keys_of self.now) text.now }
+        ensures longest { IfSome result.0 (λ found. IsLongestKey (map_of self.now) text.now found.0 found.1.now) }
+        ensures none { IfNone result.0 (NoKeyBegins (map_of self.now) text.now) }
+        ensures extended { IsTrue result.1 ↔ IsExtended (map_of self.now) text.now }
     {
         let mut node = self;
         let mut longest = None;
         for (depth, label) in text.iter().enumerate() {
-            longest = node.own(depth).or(longest);
+            longest = node.own_value(depth).or(longest);
             match place_of(&node.children, *label) {
                 Ok(place) => node = &node.children[place],
                 Err(_) => return (longest, false),
             }
         }
-        (node.own(text.len()).or(longest), !node.children.is_empty())
+        (
+            node.own_value(text.len()).or(longest),
+            !node.children.is_empty(),
+        )
     }
 
     // The value of the key that ends at the node, beside that key's length, which the caller knows.
-    fn own(&self, len: usize) -> Option<(usize, &V)>
+    fn own_value(&self, len: usize) -> Option<(usize, &V)>
         ensures len { IfSome result (λ own. own.0 ≡ len) }
-        ensures value { IfSome result (λ own. map.get (keys_of self.now) [] ≡ Some own.1.now) }
-        ensures none { IfNone result (map.get (keys_of self.now) [] ≡ None) }
+        ensures value { IfSome result (λ own. map.get (map_of self.now) [] ≡ Some own.1.now) }
+        ensures none { IfNone result (map.get (map_of self.now) [] ≡ None) }
     {
         self.value.as_ref().map(|value| (len, value))
     }

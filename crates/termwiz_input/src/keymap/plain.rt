@@ -5,7 +5,7 @@ ghost use Rattle.std.specs.Option.{option_copied};
 ghost use Rattle.std.specs.Ordering.{nat_cmp};
 ghost use Rattle.std.specs.Cmp.Lexicographic.{slice_cmp};
 ghost use Rattle.std.specs.FinMap as map;
-ghost use Rattle.termwiz_input.specs.Entries.{seen, extends_any, IsLongestIn, IsNoneIn, IsFirstAt};
+ghost use Rattle.termwiz_input.specs.Entries.{entries_of, some_key_extends, IsLongestEntry, NoEntryBegins, IsFirstPlace};
 
 use super::Found;
 use std::alloc::{AllocError, Global};
@@ -24,18 +24,18 @@ impl<V: Debug + Clone + Drop> Model for PlainMap<V> {
     ghost use Rattle.std.specs.Cmp.Lexicographic.{slice_cmp};
     ghost use Rattle.std.specs.FinMap as map;
     ghost use Rattle.std.specs.Coded.{coded_ℕ, coded_list};
-    ghost use Rattle.termwiz_input.specs.Entries.{seen};
+    ghost use Rattle.termwiz_input.specs.Entries.{entries_of};
 
     ghost Value = { map.FinMap (slice_cmp nat_cmp) V };
 
     ghost coded = { map.code (coded_list coded_ℕ) V.code };
 
-    ghost view = { λ m. map.from_entries (seen m.entries.items) };
+    ghost view = { λ m. map.from_entries (entries_of m.entries.items) };
 }
 
 // The value of the first entry with this key.
 fn value_of<'a, V>(entries: &'a [(Vec<u8>, V)], key: &[u8]) -> Option<&'a V>
-    ensures { option_copied result ≡ map.find (slice_cmp nat_cmp) key.now (seen entries.now) }
+    ensures { option_copied result ≡ map.find (slice_cmp nat_cmp) key.now (entries_of entries.now) }
 {
     for entry in entries {
         if entry.0.as_slice() == key {
@@ -47,8 +47,8 @@ fn value_of<'a, V>(entries: &'a [(Vec<u8>, V)], key: &[u8]) -> Option<&'a V>
 
 // The place of the first entry with this key.
 fn place_of<V>(entries: &[(Vec<u8>, V)], key: &[u8]) -> Option<usize>
-    ensures some { IfSome result (IsFirstAt (seen entries.now) key.now) }
-    ensures none { IfNone result (map.find (slice_cmp nat_cmp) key.now (seen entries.now) ≡ None) }
+    ensures some { IfSome result (IsFirstPlace (entries_of entries.now) key.now) }
+    ensures none { IfNone result (map.find (slice_cmp nat_cmp) key.now (entries_of entries.now) ≡ None) }
 {
     for (place, entry) in entries.iter().enumerate() {
         if entry.0.as_slice() == key {
@@ -60,7 +60,7 @@ fn place_of<V>(entries: &[(Vec<u8>, V)], key: &[u8]) -> Option<usize>
 
 // Whether some key is longer than the text and begins with it.
 fn is_extended<V>(entries: &[(Vec<u8>, V)], text: &[u8]) -> bool
-    ensures { result ≡ extends_any text.now (seen entries.now) }
+    ensures { result ≡ some_key_extends text.now (entries_of entries.now) }
 {
     for entry in entries {
         let key = entry.0.as_slice();
@@ -73,8 +73,8 @@ fn is_extended<V>(entries: &[(Vec<u8>, V)], text: &[u8]) -> bool
 
 // The longest key that begins the text: its length and its value.
 fn longest_of<'a, V>(entries: &'a [(Vec<u8>, V)], text: &[u8]) -> Option<(usize, &'a V)>
-    ensures found { IfSome result (λ p. IsLongestIn (seen entries.now) text.now p.0 p.1.now) }
-    ensures none { IfNone result (IsNoneIn (seen entries.now) text.now) }
+    ensures found { IfSome result (λ p. IsLongestEntry (entries_of entries.now) text.now p.0 p.1.now) }
+    ensures none { IfNone result (NoEntryBegins (entries_of entries.now) text.now) }
 {
     let mut len = text.len();
     loop {
@@ -89,7 +89,7 @@ fn longest_of<'a, V>(entries: &'a [(Vec<u8>, V)], text: &[u8]) -> Option<(usize,
 }
 
 impl<V: Debug + Clone + Drop> PlainMap<V> {
-    ghost use Rattle.termwiz_input.specs.Lookup.{LookupGives, shown};
+    ghost use Rattle.termwiz_input.specs.Lookup.{LookupGives, found_copied};
 
     /// The empty map.
     pub fn new(alloc: Global) -> PlainMap<V>
@@ -118,7 +118,7 @@ impl<V: Debug + Clone + Drop> PlainMap<V> {
 
     /// What a text begins with.
     pub fn lookup(&self, key: &[u8], maybe_more: bool) -> Found<&V>
-        ensures { LookupGives self.now key.now maybe_more (shown result) }
+        ensures { LookupGives self.now key.now maybe_more (found_copied result) }
     {
         let extended = is_extended(self.entries.as_slice(), key);
         match longest_of(self.entries.as_slice(), key) {

@@ -2,10 +2,12 @@
 ghost use Rattle.std.specs.Prelude.{◌<◌};
 
 use super::plain::PlainMap;
-use super::{Found, KeyMap};
+use super::{Found, KeyMap, cloned_keys};
+use crate::types::{KeyCode, KeyEvent};
 use std::alloc::{AllocError, Global};
 use std::process::Abort;
 use std::test::Fail;
+use termwiz_base::Modifiers;
 
 // Entries that are put in one after another, and what lookups in the map then answer: the text,
 // whether more of it may follow, and the answer.
@@ -39,7 +41,7 @@ fn check(rt: &impl Abort, alloc: Global, case: &Case) -> Result<(), AllocError> 
 fn lookup_empty(rt: HostRuntime) -> Result<(), Fail> {
     let case = Case {
         entries: &[],
-        lookups: &[(b"boo", true, Found::None), (b"", true, Found::None)],
+        lookups: &[(b"boo", true, Found::None), (b"boo", false, Found::None)],
     };
     Ok(check(&rt, rt.alloc(), &case)?)
 }
@@ -53,30 +55,39 @@ fn lookup(rt: HostRuntime) -> Result<(), Fail> {
             (b"bo", true, Found::NeedData),
             (b"boa", true, Found::Exact(3, &true)),
             (b"boo", true, Found::Ambiguous(3, &true)),
-            (b"boo", false, Found::Exact(3, &true)),
             (b"boom", true, Found::Exact(4, &false)),
             (b"boom!", true, Found::Exact(4, &false)),
-            (b"bz", true, Found::None),
         ],
     };
     Ok(check(&rt, rt.alloc(), &case)?)
 }
 
-#[test]
-fn lookup_with_multiple_ambiguous_matches(rt: HostRuntime) -> Result<(), Fail> {
-    let case = Case {
+// A case with three keys of which each is a prefix of the next, and one that is apart.
+fn nested_keys<'a>(lookups: &'a [(&'a [u8], bool, Found<&'a bool>)]) -> Case<'a> {
+    Case {
         entries: &[
             (b"boa", false),
             (b"boo", false),
             (b"boom", true),
             (b"boom!!", false),
         ],
-        lookups: &[
-            (b"boom!", false, Found::Exact(4, &true)),
-            (b"boom!", true, Found::Ambiguous(4, &true)),
-            (b"boom!x", true, Found::Exact(4, &true)),
-        ],
-    };
+        lookups,
+    }
+}
+
+#[test]
+fn lookup_with_multiple_ambiguous_matches_without_additional_input(
+    rt: HostRuntime,
+) -> Result<(), Fail> {
+    let case = nested_keys(&[(b"boom!", false, Found::Exact(4, &true))]);
+    Ok(check(&rt, rt.alloc(), &case)?)
+}
+
+#[test]
+fn lookup_with_multiple_ambiguous_matches_with_potential_additional_input(
+    rt: HostRuntime,
+) -> Result<(), Fail> {
+    let case = nested_keys(&[(b"boom!", true, Found::Ambiguous(4, &true))]);
     Ok(check(&rt, rt.alloc(), &case)?)
 }
 
@@ -94,15 +105,150 @@ fn sequence(rt: HostRuntime) -> Result<(), Fail> {
 }
 
 #[test]
+fn lookup_dead_ends(rt: HostRuntime) -> Result<(), Fail> {
+    let alloc = rt.alloc();
+    let words = Case {
+        entries: &[(b"boa", true), (b"boo", true), (b"boom", true)],
+        lookups: &[(b"bz", true, Found::None), (b"bo", true, Found::NeedData)],
+    };
+    check(&rt, alloc, &words)?;
+    let nothing = Case {
+        entries: &[],
+        lookups: &[(b"", true, Found::None)],
+    };
+    check(&rt, alloc, &nothing)?;
+    let empty_key = Case {
+        entries: &[(b"", true)],
+        lookups: &[(b"x", true, Found::Exact(0, &true))],
+    };
+    Ok(check(&rt, alloc, &empty_key)?)
+}
+
+#[test]
+fn text_past_a_longer_prefix(rt: HostRuntime) -> Result<(), Fail> {
+    let case = nested_keys(&[
+        (b"boom!x", true, Found::Exact(4, &true)),
+        (b"boo", false, Found::Exact(3, &false)),
+        (b"bo", false, Found::NeedData),
+        (b"", true, Found::NeedData),
+    ]);
+    Ok(check(&rt, rt.alloc(), &case)?)
+}
+
+#[test]
 fn empty_key(rt: HostRuntime) -> Result<(), Fail> {
     let case = Case {
-        entries: &[(b"", true)],
+        entries: &[(b"", true), (b"ab", false)],
         lookups: &[
             (b"x", true, Found::Exact(0, &true)),
-            (b"", true, Found::Exact(0, &true)),
+            (b"", true, Found::Ambiguous(0, &true)),
+            (b"", false, Found::Exact(0, &true)),
+            (b"a", true, Found::Ambiguous(0, &true)),
+            (b"ab", true, Found::Exact(2, &false)),
         ],
     };
     Ok(check(&rt, rt.alloc(), &case)?)
+}
+
+// A text of this many bytes. It begins with each shorter one.
+fn long_text(alloc: Global, len: usize) -> Result<Vec<u8>, AllocError> {
+    let mut text = Vec::new(alloc);
+    for i in 0..len {
+        text.push((i % 251) as u8)?;
+    }
+    Ok(text)
+}
+
+#[test]
+fn long_key(rt: HostRuntime) -> Result<(), Fail> {
+    let alloc = rt.alloc();
+    let short = long_text(alloc, 99)?;
+    let short_key = long_text(alloc, 100)?;
+    let almost = long_text(alloc, 299)?;
+    let key = long_text(alloc, 300)?;
+    let longer = long_text(alloc, 301)?;
+    let case = Case {
+        entries: &[(&key, true), (&short_key, false)],
+        lookups: &[
+            (&short, true, Found::NeedData),
+            (&short_key, true, Found::Ambiguous(100, &false)),
+            (&almost, true, Found::Ambiguous(100, &false)),
+            (&key, true, Found::Exact(300, &true)),
+            (&longer, true, Found::Exact(300, &true)),
+        ],
+    };
+    Ok(check(&rt, alloc, &case)?)
+}
+
+// The two bytes of a number below 65536.
+fn two_bytes(number: u32) -> [u8; 2] {
+    [(number / 256 % 256) as u8, (number % 256) as u8]
+}
+
+// A map with each number below a limit under its two bytes.
+fn numbered(alloc: Global, limit: u32) -> Result<KeyMap<u32>, AllocError> {
+    let mut map = KeyMap::new(alloc);
+    for number in 0..limit {
+        map.insert(&two_bytes(number), number)?;
+    }
+    Ok(map)
+}
+
+#[test]
+fn many_keys(rt: HostRuntime) -> Result<(), Fail> {
+    let map = numbered(rt.alloc(), 3000)?;
+    let copy = map.clone()?;
+    for number in 0u32..3000 {
+        let key = two_bytes(number);
+        assert_eq!(rt; map.lookup(&key, true), Found::Exact(2, &number));
+        assert_eq!(rt; copy.lookup(&key, true), Found::Exact(2, &number));
+    }
+    assert_eq!(rt; copy.lookup(&two_bytes(3000), true), Found::None);
+    Ok(())
+}
+
+#[test]
+fn clones_its_texts(rt: HostRuntime) -> Result<(), Fail> {
+    let mut map = KeyMap::new(rt.alloc());
+    map.insert(b"a", String::from_str(rt.alloc(), "one")?)?;
+    map.insert(b"ab", String::from_str(rt.alloc(), "two")?)?;
+    let copy = map.clone()?;
+    map.insert(b"a", String::from_str(rt.alloc(), "three")?)?;
+    assert_eq!(rt;
+        copy.lookup(b"a", false),
+        Found::Exact(1, &String::from_str(rt.alloc(), "one")?)
+    );
+    assert_eq!(rt;
+        copy.lookup(b"ab", false),
+        Found::Exact(2, &String::from_str(rt.alloc(), "two")?)
+    );
+    assert_eq!(rt;
+        map.lookup(b"a", false),
+        Found::Exact(1, &String::from_str(rt.alloc(), "three")?)
+    );
+    Ok(())
+}
+
+#[test]
+fn clones_key_events(rt: HostRuntime) -> Result<(), Fail> {
+    let enter = KeyEvent {
+        key: KeyCode::Enter,
+        modifiers: Modifiers::CTRL,
+    };
+    let mut keys = KeyMap::new(rt.alloc());
+    keys.insert(b"\r", enter.clone()?)?;
+    assert_eq!(rt;
+        cloned_keys(&keys)?.lookup(b"\r", true),
+        Found::Exact(1, &enter)
+    );
+    Ok(())
+}
+
+#[test]
+fn clones_an_answer(rt: HostRuntime) -> Result<(), Fail> {
+    let answer = Found::Ambiguous(2, 7u32);
+    assert_eq!(rt; answer.clone()?, answer);
+    Ok(())
 }
 
 #[test]

@@ -3,8 +3,8 @@ use Rattle.std.specs.Prelude.{None}
 use Rattle.std.specs.Ordering.{nat_cmp}
 use Rattle.std.specs.Cmp.Lexicographic.{slice_cmp}
 use Rattle.std.specs.FinMap.{find}
-use Rattle.termwiz_input.specs.Entries.{seen}
+use Rattle.termwiz_input.specs.Entries.{entries_of}
 use Rattle.termwiz_input.proofs.keymap.plain.place_of.Given as goal
 
 abbrev pub invariant-loop-place : goal.invariant-loop-place
-invariant-loop-place g l = find (slice_cmp nat_cmp) l.key (seen (take l.place l.entries)) ≡ None
+invariant-loop-place g l = find (slice_cmp nat_cmp) l.key (entries_of (take l.place l.entries)) ≡ None

@@ -1,5 +1,5 @@
 use Rattle.std.proofs.Common.{◌≡◌, sym, false}
-use Rattle.termwiz_input.specs.Entries.{seen}
+use Rattle.termwiz_input.specs.Entries.{entries_of}
 use Rattle.termwiz_input.specs.Lookup.{IsExtended}
 use Rattle.termwiz_input.proofs.KeyList.{extended_of, not_extended_of, longest_of, none_of}
 use Rattle.termwiz_input.proofs.keymap.plain.PlainMap.lookup.Goals as goal
@@ -7,7 +7,7 @@ use Rattle.termwiz_input.proofs.keymap.plain.PlainMap.lookup.Goals.{then-extende
 
 pub returns-in-Some : goal.returns-in-Some
 returns-in-Some g c =
-    let es = seen c.self.inside.entries.items in
+    let es = entries_of c.self.inside.entries.items in
     let found = rw c.as_slice-2.ensures.value at c.in-Some.ensures.found in
     let extends = sym (rw c.as_slice.ensures.value at c.if-extended.ensures) in (
       longest_of c.args.self.now es c.self.view_is c.args.key.now c.in-Some.len c.in-Some.value.now found,
@@ -17,7 +17,7 @@ returns-in-Some g c =
 
 pub returns-in-Some-2 : goal.returns-in-Some-2
 returns-in-Some-2 g c =
-    let es = seen c.self.inside.entries.items in
+    let es = entries_of c.self.inside.entries.items in
     let found = rw c.as_slice-2.ensures.value at c.in-Some.ensures.found in
     let exact : IsExtended c.args.self.now c.args.key.now → c.args.maybe_more ≡ false = elim c.if-extended.branch [
       | then-extended+else-maybe_more w ↦ λ _. w.if-maybe_more.false
@@ -27,7 +27,7 @@ returns-in-Some-2 g c =
 
 pub returns-in-None : goal.returns-in-None
 returns-in-None g c =
-    let es = seen c.self.inside.entries.items in
+    let es = entries_of c.self.inside.entries.items in
     let none = rw c.as_slice-2.ensures.value at c.in-None.ensures.none in
     let extends = sym (rw c.as_slice.ensures.value at c.if-extended-2.ensures) in (
       none_of c.args.self.now es c.self.view_is c.args.key.now none,
@@ -36,7 +36,7 @@ returns-in-None g c =
 
 pub returns-in-None-2 : goal.returns-in-None-2
 returns-in-None-2 g c =
-    let es = seen c.self.inside.entries.items in
+    let es = entries_of c.self.inside.entries.items in
     let none = rw c.as_slice-2.ensures.value at c.in-None-2.ensures.none in
     let extends = sym (rw c.as_slice.ensures.value at c.if-extended-2.ensures) in (
       none_of c.args.self.now es c.self.view_is c.args.key.now none,
