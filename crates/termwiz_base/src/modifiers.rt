@@ -8,8 +8,9 @@ mod flag_calls;
 
 use bitflags::{Flag, Flags};
 
-/// The modifier keys that are held, a set of sixteen bits. Its calls are those of the trait [`Flags`]. The names are
-/// those of the crate termwiz, and which bit each one has is a choice of this crate.
+/// A set of modifier keys, such as those held while another key is pressed. Its methods are those of the trait
+/// [`Flags`], such as `contains` and `union`. The names are those of the crate termwiz; which bit stands for which name
+/// is this crate's own choice.
 #[derive(Clone, Copy, PartialEq, Eq, Hash, Debug, Default)]
 pub struct Modifiers(u16);
 
@@ -26,28 +27,28 @@ impl Modifiers {
     /// Ctrl.
     pub const CTRL: Modifiers = Modifiers(1 << 3);
 
-    /// Super, the Windows or Command key.
+    /// Super: the key with the Windows logo, or Command.
     pub const SUPER: Modifiers = Modifiers(1 << 4);
 
-    /// The Alt key on the left.
+    /// The left Alt key.
     pub const LEFT_ALT: Modifiers = Modifiers(1 << 5);
 
-    /// The Alt key on the right.
+    /// The right Alt key.
     pub const RIGHT_ALT: Modifiers = Modifiers(1 << 6);
 
-    /// A leader key, which a program defines.
+    /// A leader key, for programs that define one.
     pub const LEADER: Modifiers = Modifiers(1 << 7);
 
-    /// The Ctrl key on the left.
+    /// The left Ctrl key.
     pub const LEFT_CTRL: Modifiers = Modifiers(1 << 8);
 
-    /// The Ctrl key on the right.
+    /// The right Ctrl key.
     pub const RIGHT_CTRL: Modifiers = Modifiers(1 << 9);
 
-    /// The Shift key on the left.
+    /// The left Shift key.
     pub const LEFT_SHIFT: Modifiers = Modifiers(1 << 10);
 
-    /// The Shift key on the right.
+    /// The right Shift key.
     pub const RIGHT_SHIFT: Modifiers = Modifiers(1 << 11);
 
     const FLAGS: &'static [Flag<Modifiers>] = &[
@@ -137,7 +138,8 @@ impl Flags for Modifiers {
 }
 
 impl Modifiers {
-    /// The same modifiers without the six flags that name a key on the left or on the right.
+    /// Returns the modifiers without the six flags that name a left or a right key. The other flags are unchanged: a
+    /// caller that doesn't care which Alt key is held looks at ALT alone.
     pub fn remove_positional_mods(self) -> Modifiers
         ensures { result.0 ≡ without 16 self.0 positional }
     {
@@ -150,8 +152,9 @@ impl Modifiers {
         self.difference(left.union(right))
     }
 
-    /// The number that xterm's key sequences give these modifiers: 1 for Shift plus 2 for Alt plus 4 for Ctrl. A
-    /// sequence writes one more than it ("PC-Style Function Keys" in xterm's "Control Sequences").
+    /// Returns the number by which xterm's key sequences tell these modifiers: 1 for SHIFT plus 2 for ALT plus 4 for
+    /// CTRL. Other flags don't count. The parameter in a sequence is one more than this number ("PC-Style Function
+    /// Keys" in xterm's "Control Sequences").
     pub fn encode_xterm(self) -> u8
         ensures { result ≡ xterm_number self.0 }
     {

@@ -9,45 +9,89 @@ mod equality;
 use crate::modifiers::Modifiers;
 use bitflags::Flags;
 
-/// What a mouse report says of the buttons: one was pressed, released or held while the mouse moved, or none was.
-/// Buttons 4 and 5 are the wheel turned up and down, buttons 6 and 7 the wheel turned to the sides.
+/// What a mouse report says of the buttons: which one was pressed, released, or held while the mouse moved. Turning a
+/// wheel is reported as pressing one of the buttons 4 to 7.
 #[derive(Clone, Copy, PartialEq, Eq, Debug)]
 pub enum MouseButton {
+    /// The left button was pressed.
     Button1Press,
+
+    /// The middle button was pressed.
     Button2Press,
+
+    /// The right button was pressed.
     Button3Press,
+
+    /// A wheel was turned up.
     Button4Press,
+
+    /// A wheel was turned down.
     Button5Press,
+
+    /// A wheel was turned left.
     Button6Press,
+
+    /// A wheel was turned right.
     Button7Press,
+
+    /// The left button was released.
     Button1Release,
+
+    /// The middle button was released.
     Button2Release,
+
+    /// The right button was released.
     Button3Release,
+
+    /// The end of turning a wheel up, which few terminals report.
     Button4Release,
+
+    /// The end of turning a wheel down, which few terminals report.
     Button5Release,
+
+    /// The end of turning a wheel left, which few terminals report.
     Button6Release,
+
+    /// The end of turning a wheel right, which few terminals report.
     Button7Release,
+
+    /// The mouse was moved with the left button down.
     Button1Drag,
+
+    /// The mouse was moved with the middle button down.
     Button2Drag,
+
+    /// The mouse was moved with the right button down.
     Button3Drag,
+
+    /// The mouse was moved with no button down, or the report doesn't say which button was released.
     None,
 }
 
-/// A mouse report, by the mode of xterm that it comes from.
+/// A mouse report, by the xterm mode in which it was sent.
 #[derive(Clone, PartialEq, Eq, Debug, Drop)]
 pub enum MouseReport {
-    /// A report in mode 1006. Its column and row are in cells.
+    /// A report in mode 1006, with the position in cells.
     SGR1006 {
+        /// The column, as it was sent: the leftmost is 1.
         x: u16,
+        /// The row, as it was sent: the topmost is 1.
         y: u16,
+        /// What happened to which button.
         button: MouseButton,
+        /// The modifier keys that were held.
         modifiers: Modifiers,
     },
-    /// A report in mode 1016, which is in pixels.
+
+    /// A report in mode 1016, with the position in pixels. [`sgr_mouse`] never returns one.
     SGR1016 {
+        /// The distance from the left, in pixels.
         x_pixels: u16,
+        /// The distance from the top, in pixels.
         y_pixels: u16,
+        /// What happened to which button.
         button: MouseButton,
+        /// The modifier keys that were held.
         modifiers: Modifiers,
     },
 }
@@ -62,13 +106,13 @@ const ALT_BIT: u16 = 8;
 
 const CTRL_BIT: u16 = 16;
 
-/// What a mouse report in xterm's SGR mode 1006 says, by its code, its place in cells and its final byte: `M` for a
-/// press or a move and `m` for a release. The place stays as it was sent, with 1 for the first column or row.
+/// Decodes a mouse report in xterm's SGR mode 1006 from its three numbers and its final byte `last`, which is `M` for a
+/// press or a move and `m` for a release. The position is unchanged.
 ///
-/// There is no report where the code is above 95, since it then names none of the seven buttons, and none where the
-/// final byte is another one.
+/// Returns `None` if `code` is above 95, since it then names none of the seven buttons, or if `last` is neither `M` nor
+/// `m`.
 ///
-/// The source is xterm's "Control Sequences", "Mouse Tracking" and "Extended coordinates".
+/// See "Mouse Tracking" and "Extended coordinates" in xterm's "Control Sequences".
 #[tactic(auto, unfolding(crate::specs::Mouse::button_of))]
 pub fn sgr_mouse(code: u16, x: u16, y: u16, last: u8) -> Option<MouseReport>
     ensures { SomeIff result (IsReport code last) (report_of code x y last) }

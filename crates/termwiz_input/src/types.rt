@@ -1,4 +1,4 @@
-//! Keys, mouse reports and pastes: the events that input is read as.
+//! The events that the parser makes of a terminal's bytes, and their parts: keys, mouse reports and pastes.
 ghost use Rattle.std.specs.Prelude.{⊤, ◌≡◌, ◌==◌, [], ◌∷◌, codes, IfOk, IsOk, string_bytes};
 ghost use Rattle.std.specs.Cmp.Rules.{comparing};
 ghost use Rattle.std.specs.Cmp.Lexicographic.{pointwise};
@@ -11,121 +11,302 @@ use termwiz_base::{Modifiers, MouseButton};
 
 mod equality;
 mod flag_calls;
+#[cfg(test)]
+mod tests;
 
-/// A key, by what is on it.
+/// A key: by the character that it types, or by its name.
+///
+/// Terminals report only some of these keys. The rest are here for programs that have keys from elsewhere, such as a
+/// window system. Where a key's name alone doesn't say which it is, Microsoft's list of virtual-key codes does, and for
+/// Hyper, Super and Meta the X Window System's list of keysyms.
 #[derive(Clone, Copy, PartialEq, Eq, Hash, Debug)]
 pub enum KeyCode {
-    /// A character: what it types, or with CTRL the letter on the key.
+    /// A key that types a character: `Char('A')` is what Shift-A types, and Ctrl-C is `Char('c')` with CTRL.
     Char(char),
+
+    /// Hyper, a modifier key of X11.
     Hyper,
+
+    /// Super, a modifier key of X11: on most keyboards the one with the Windows logo, or Command.
     Super,
+
+    /// Meta, a modifier key of X11. The key that is labelled Alt is [`KeyCode::Alt`].
     Meta,
+
+    /// Cancel, which on PC keyboards is Ctrl-Break.
     Cancel,
+
+    /// Backspace, which deletes the character before the cursor.
     Backspace,
+
+    /// Tab. Shift-Tab is this key with SHIFT.
     Tab,
+
+    /// Clear, which on PC keyboards is the 5 of the keypad while Num Lock is off.
     Clear,
+
+    /// Enter, also called Return.
     Enter,
+
+    /// Shift, where it isn't known which of the two.
     Shift,
+
+    /// Escape.
     Escape,
+
+    /// The left Shift key.
     LeftShift,
+
+    /// The right Shift key.
     RightShift,
+
+    /// Ctrl, where it isn't known which of the two.
     Control,
+
+    /// The left Ctrl key.
     LeftControl,
+
+    /// The right Ctrl key.
     RightControl,
+
+    /// Alt, or Option, where it isn't known which of the two.
     Alt,
+
+    /// The left Alt key.
     LeftAlt,
+
+    /// The right Alt key, also called AltGr.
     RightAlt,
+
+    /// Menu, Windows' name for Alt (`VK_MENU`). The key that opens a context menu is [`KeyCode::Applications`].
     Menu,
+
+    /// Windows' name for the left Alt key (`VK_LMENU`).
     LeftMenu,
+
+    /// Windows' name for the right Alt key (`VK_RMENU`).
     RightMenu,
+
+    /// Pause.
     Pause,
+
+    /// Caps Lock.
     CapsLock,
+
+    /// Page Up.
     PageUp,
+
+    /// Page Down.
     PageDown,
+
+    /// End.
     End,
+
+    /// Home.
     Home,
+
+    /// The left arrow key.
     LeftArrow,
+
+    /// The right arrow key.
     RightArrow,
+
+    /// The up arrow key.
     UpArrow,
+
+    /// The down arrow key.
     DownArrow,
+
+    /// Select, as on the VT220's editing keypad.
     Select,
+
+    /// Print (`VK_PRINT`), which few keyboards have. It isn't [`KeyCode::PrintScreen`].
     Print,
+
+    /// Execute (`VK_EXECUTE`), which few keyboards have.
     Execute,
+
+    /// Print Screen.
     PrintScreen,
+
+    /// Insert.
     Insert,
+
+    /// Delete, which deletes the character at the cursor.
     Delete,
+
+    /// Help.
     Help,
+
+    /// The left key with the Windows logo.
     LeftWindows,
+
+    /// The right key with the Windows logo.
     RightWindows,
+
+    /// The Applications key, which opens a context menu.
     Applications,
+
+    /// Sleep, which suspends the computer.
     Sleep,
+
+    /// The 0 of the numeric keypad, while Num Lock is on.
     Numpad0,
+
+    /// The 1 of the numeric keypad, while Num Lock is on.
     Numpad1,
+
+    /// The 2 of the numeric keypad, while Num Lock is on.
     Numpad2,
+
+    /// The 3 of the numeric keypad, while Num Lock is on.
     Numpad3,
+
+    /// The 4 of the numeric keypad, while Num Lock is on.
     Numpad4,
+
+    /// The 5 of the numeric keypad, while Num Lock is on.
     Numpad5,
+
+    /// The 6 of the numeric keypad, while Num Lock is on.
     Numpad6,
+
+    /// The 7 of the numeric keypad, while Num Lock is on.
     Numpad7,
+
+    /// The 8 of the numeric keypad, while Num Lock is on.
     Numpad8,
+
+    /// The 9 of the numeric keypad, while Num Lock is on.
     Numpad9,
+
+    /// The `*` of the numeric keypad.
     Multiply,
+
+    /// The `+` of the numeric keypad.
     Add,
+
+    /// The thousands separator of the numeric keypad, on keyboards that have one.
     Separator,
+
+    /// The `-` of the numeric keypad.
     Subtract,
+
+    /// The decimal point of the numeric keypad.
     Decimal,
+
+    /// The `/` of the numeric keypad.
     Divide,
-    /// A function key, by its number from 1.
+
+    /// A function key, by its number: F1 is `Function(1)`.
     Function(u8),
+
+    /// Num Lock.
     NumLock,
+
+    /// Scroll Lock.
     ScrollLock,
+
+    /// A key of its own for copying.
     Copy,
+
+    /// A key of its own for cutting.
     Cut,
+
+    /// A key of its own for pasting. Text that was pasted comes as [`InputEvent::Paste`].
     Paste,
+
+    /// Back, for a web browser.
     BrowserBack,
+
+    /// Forward, for a web browser.
     BrowserForward,
+
+    /// Refresh, for a web browser.
     BrowserRefresh,
+
+    /// Stop loading, for a web browser.
     BrowserStop,
+
+    /// Search, for a web browser.
     BrowserSearch,
+
+    /// Favorites, for a web browser.
     BrowserFavorites,
+
+    /// Home page, for a web browser.
     BrowserHome,
+
+    /// Mute the sound.
     VolumeMute,
+
+    /// Turn the volume down.
     VolumeDown,
+
+    /// Turn the volume up.
     VolumeUp,
+
+    /// Skip to the next track.
     MediaNextTrack,
+
+    /// Skip to the previous track.
     MediaPrevTrack,
+
+    /// Stop playing.
     MediaStop,
+
+    /// Play, or pause.
     MediaPlayPause,
+
+    /// The left arrow key while the terminal is in application cursor mode (DECCKM).
     ApplicationLeftArrow,
+
+    /// The right arrow key in application cursor mode.
     ApplicationRightArrow,
+
+    /// The up arrow key in application cursor mode.
     ApplicationUpArrow,
+
+    /// The down arrow key in application cursor mode.
     ApplicationDownArrow,
+
+    /// Home on the numeric keypad: the 7 while Num Lock is off.
     KeyPadHome,
+
+    /// End on the numeric keypad: the 1 while Num Lock is off.
     KeyPadEnd,
+
+    /// Page Up on the numeric keypad: the 9 while Num Lock is off.
     KeyPadPageUp,
+
+    /// Page Down on the numeric keypad: the 3 while Num Lock is off.
     KeyPadPageDown,
+
+    /// Begin on the numeric keypad: the 5 while Num Lock is off.
     KeyPadBegin,
-    /// The start of a paste, which is never given as an event.
+
+    /// The start of a bracketed paste. No event carries it: the paste comes as one [`InputEvent::Paste`].
     InternalPasteStart,
-    /// The end of a paste where none is open.
+
+    /// The end of a bracketed paste, where none was started.
     InternalPasteEnd,
 }
 
-/// A key that was pressed, and the modifiers that were held with it.
+/// A key press: which key, and the modifiers held with it.
 #[derive(Clone, PartialEq, Eq, Debug, Drop)]
 pub struct KeyEvent {
-    /// The key.
+    /// The key that was pressed.
     pub key: KeyCode,
-    /// The modifiers that were held.
+    /// The modifier keys that were held.
     pub modifiers: Modifiers,
 }
 
-/// Mouse buttons and wheels, a set of eight bits. Its calls are those of the trait [`Flags`].
+/// A set of mouse buttons and wheels. Its methods are those of the trait [`Flags`], such as `contains` and `union`.
 #[derive(Clone, PartialEq, Eq, Debug, Default, Drop)]
 pub struct MouseButtons(u8);
 
 impl MouseButtons {
-    /// No button.
+    /// No button and no wheel.
     pub const NONE: MouseButtons = MouseButtons(0);
 
     /// The left button.
@@ -137,13 +318,13 @@ impl MouseButtons {
     /// The middle button.
     pub const MIDDLE: MouseButtons = MouseButtons(1 << 3);
 
-    /// The wheel that scrolls up and down.
+    /// The wheel that scrolls up and down. It was turned up if WHEEL_POSITIVE is set too, and down if not.
     pub const VERT_WHEEL: MouseButtons = MouseButtons(1 << 4);
 
-    /// The wheel that scrolls to the sides.
+    /// The wheel that scrolls to the sides. It was turned left if WHEEL_POSITIVE is set too, and right if not.
     pub const HORZ_WHEEL: MouseButtons = MouseButtons(1 << 5);
 
-    /// The wheel was turned up or to the left.
+    /// Set with a wheel that was turned up or left.
     pub const WHEEL_POSITIVE: MouseButtons = MouseButtons(1 << 6);
 
     const FLAGS: &'static [Flag<MouseButtons>] = &[
@@ -213,7 +394,8 @@ impl From<MouseButton> for MouseButtons {
 
     ghost from_gives = { λ button buttons. buttons ≡ buttons_of button };
 
-    /// The buttons that are held after a press or a drag, and none after a release.
+    /// Returns the button that was pressed or dragged, or the wheel that was turned with its direction. Returns NONE for
+    /// a release, which leaves no button down that the report tells of.
     fn from(button: MouseButton) -> MouseButtons {
         match button {
             MouseButton::Button1Press | MouseButton::Button1Drag => MouseButtons::LEFT,
@@ -232,33 +414,35 @@ impl From<MouseButton> for MouseButtons {
     }
 }
 
-/// A mouse report that tells the place by cells: `x` is the column and `y` the row.
+/// A mouse report, with the position in cells.
 #[derive(Clone, PartialEq, Eq, Debug, Drop)]
 pub struct MouseEvent {
-    /// The column, as the terminal told it.
+    /// The column, as the terminal sent it: the leftmost is 1.
     pub x: u16,
-    /// The row, as the terminal told it.
+    /// The row, as the terminal sent it: the topmost is 1.
     pub y: u16,
-    /// The buttons that are down, and the wheel that was turned.
+    /// The button that is down, or the wheel that was turned. Empty after a release, and for a move with no button down.
     pub mouse_buttons: MouseButtons,
-    /// The modifiers that were held.
+    /// The modifier keys that were held.
     pub modifiers: Modifiers,
 }
 
-/// A mouse report that tells the place by pixels.
+/// A mouse report, with the position in pixels.
+///
+/// The parser never makes one: the bytes of such a report are those of a report in cells, and it reads them as that.
 #[derive(Clone, PartialEq, Eq, Debug, Drop)]
 pub struct PixelMouseEvent {
-    /// The place from the left.
+    /// The distance from the left, in pixels.
     pub x_pixels: u16,
-    /// The place from the top.
+    /// The distance from the top, in pixels.
     pub y_pixels: u16,
-    /// The buttons that are down, and the wheel that was turned.
+    /// The button that is down, or the wheel that was turned. Empty after a release, and for a move with no button down.
     pub mouse_buttons: MouseButtons,
-    /// The modifiers that were held.
+    /// The modifier keys that were held.
     pub modifiers: Modifiers,
 }
 
-/// A text that was pasted, which contracts see as its bytes.
+/// Text that was pasted. Contracts see it as its bytes.
 #[derive(Debug, Drop)]
 pub struct PastedText {
     inner: String,
@@ -287,21 +471,21 @@ impl Eq for PastedText {
 }
 
 impl PastedText {
-    /// The text, which is moved and not copied.
+    /// Wraps a text, without copying it.
     pub fn new(text: String) -> PastedText
         ensures { result ≡ string_bytes text }
     {
         PastedText { inner: text }
     }
 
-    /// The text, lent.
+    /// Returns the text, borrowed.
     pub fn as_str(&self) -> &str
         ensures { result.now ≡ self.now }
     {
         self.inner.as_str()
     }
 
-    /// The text, given back without a copy.
+    /// Returns the text itself, without copying it.
     pub fn into_string(self) -> String
         ensures { string_bytes result ≡ self }
     {
@@ -310,20 +494,26 @@ impl PastedText {
     }
 }
 
-/// What happened at the terminal.
+/// Something that happened at the terminal. The parser makes keys, mouse reports and pastes; the other events are for
+/// programs that put input from elsewhere into the same stream.
 #[derive(PartialEq, Eq, Debug, Drop)]
 pub enum InputEvent {
     /// A key was pressed.
     Key(KeyEvent),
-    /// The mouse was moved, or a button or a wheel was.
+    /// The mouse was moved, one of its buttons was pressed or released, or a wheel was turned.
     Mouse(MouseEvent),
-    /// The same, with the place in pixels.
+    /// The same, with the position in pixels.
     PixelMouse(PixelMouseEvent),
-    /// The terminal has a new size, in cells.
-    Resized { cols: usize, rows: usize },
-    /// A text was pasted, in bracketed paste mode.
+    /// The terminal has a new size.
+    Resized {
+        /// The number of columns.
+        cols: usize,
+        /// The number of rows.
+        rows: usize,
+    },
+    /// Text was pasted, in bracketed paste mode.
     Paste(PastedText),
-    /// The program was woken, by itself.
+    /// Another part of the program woke the one that waits for input.
     Wake,
 }
 
@@ -331,28 +521,15 @@ impl InputEvent {
     ghost use Rattle.std.specs.Prelude.{◌≡◌, IfOk, IsOk};
     ghost use Rattle.termwiz_input.specs.Events.{IsPaste};
 
-    /// An equal event. Only the text of a paste takes memory.
+    /// Returns an equal event. Only the text of a paste takes memory, so only the clone of a paste can fail.
     pub fn clone(&self, alloc: Global) -> Result<InputEvent, AllocError>
         ensures same { IfOk result (λ event. event ≡ self.now) }
-        ensures free { (IsPaste self.now → ⊥) → IsOk result }
+        ensures free { ¬ IsPaste self.now → IsOk result }
     {
         match self {
-            InputEvent::Key(key) => Ok(InputEvent::Key(KeyEvent {
-                key: key.key,
-                modifiers: key.modifiers,
-            })),
-            InputEvent::Mouse(event) => Ok(InputEvent::Mouse(MouseEvent {
-                x: event.x,
-                y: event.y,
-                mouse_buttons: MouseButtons(event.mouse_buttons.0),
-                modifiers: event.modifiers,
-            })),
-            InputEvent::PixelMouse(event) => Ok(InputEvent::PixelMouse(PixelMouseEvent {
-                x_pixels: event.x_pixels,
-                y_pixels: event.y_pixels,
-                mouse_buttons: MouseButtons(event.mouse_buttons.0),
-                modifiers: event.modifiers,
-            })),
+            InputEvent::Key(event) => Ok(InputEvent::Key(event.clone()?)),
+            InputEvent::Mouse(event) => Ok(InputEvent::Mouse(event.clone()?)),
+            InputEvent::PixelMouse(event) => Ok(InputEvent::PixelMouse(event.clone()?)),
             InputEvent::Resized { cols, rows } => Ok(InputEvent::Resized {
                 cols: *cols,
                 rows: *rows,

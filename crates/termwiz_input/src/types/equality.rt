@@ -5,6 +5,7 @@
 
 ghost use Rattle.std.specs.Prelude.{◌≡◌, ◌↔◌, IsTrue, IsOk, IfOk, fold};
 
+use crate::input::ParseVecError;
 use crate::types::{
     InputEvent, KeyCode, KeyEvent, MouseButtons, MouseEvent, PastedText, PixelMouseEvent,
 };
@@ -43,6 +44,13 @@ fn equal_pasted_texts(a: &PastedText, b: &PastedText) -> bool
 
 fn equal_events(a: &InputEvent, b: &InputEvent) -> bool
     ensures { IsTrue result ↔ (a.now ≡ b.now) }
+{
+    a == b
+}
+
+// Of the events it is those in the list that count, and not where the list lies in memory or how long it may grow.
+fn equal_errors(a: &ParseVecError, b: &ParseVecError) -> bool
+    ensures { IsTrue result ↔ ((a.now.events.items ≡ b.now.events.items) × (a.now.taken ≡ b.now.taken)) }
 {
     a == b
 }

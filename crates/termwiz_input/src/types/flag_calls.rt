@@ -1,6 +1,6 @@
 // The calls of the trait `Flags` at `MouseButtons`, bit for bit: each stands alone in a function whose contract gives the
 // answer's bits. No other code calls these functions: they are there for their contracts.
-#![tactic(auto, using(std::proofs::lemmas::Nat::and_comm, termwiz_base::proofs::BitFacts::or_tests), unfolding(bitflags::proofs::OnLiterals::bitflags_on_literals))]
+#![tactic(auto, using(std::proofs::lemmas::Nat::and_comm), unfolding(bitflags::proofs::OnLiterals::bitflags_on_literals))]
 
 ghost use Rattle.std.specs.Prelude.{◌≡◌, ◌∷◌, [], ◌↔◌, IsTrue, if◌then◌else◌};
 ghost use Rattle.std.specs.Int.RustNames.{bit_and, bit_or, bit_xor};
