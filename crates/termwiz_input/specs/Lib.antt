@@ -4,7 +4,7 @@ pub mod Bytes
 pub mod Entries
 pub mod Events
 pub mod Frame
-pub mod Frames
+pub mod FrameAnswers
 pub mod Fronts
 pub mod Grammar
 pub mod Keys
