@@ -6,7 +6,7 @@
 ghost use Rattle.std.specs.Prelude.{◌≡◌, ◌≢◌, ◌++◌, ◌≤◌, [], length, take, true, OnErr, IfOk, IfSome, IfNone, IsSome};
 ghost use Rattle.std.specs.Str.Lossy.{utf8_lossy};
 ghost use Rattle.termwiz_input.specs.Bytes.{Begins, ESC, START};
-ghost use Rattle.termwiz_input.specs.Frames.{IsBegun};
+ghost use Rattle.termwiz_input.specs.FrameAnswers.{IsBegun};
 ghost use Rattle.termwiz_input.specs.Keys.{plain, escape, with_alt};
 ghost use Rattle.termwiz_input.specs.Known.Meaning.{Row};
 ghost use Rattle.termwiz_input.specs.Grammar.{IsLongest, IsOpen, HasItem, IsRest};
