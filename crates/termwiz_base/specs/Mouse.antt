@@ -42,9 +42,23 @@ HasRow code = IsTrue (list_any (λ row. row.0 == base_of code) table)
 unfoldable pub row_of : ℕ → Row
 row_of base = unwrap_or (find (λ row. row.0 == base) table) (base, button.None, button.None)
 
--- the button of a code and a final byte, where 77 is `M`
+-- the final bytes of a report: `M`, and `m` where a button is released
+abbrev pub final_press : ℕ
+final_press = 77
+
+abbrev pub final_release : ℕ
+final_release = 109
+
+abbrev pub IsFinal : ℕ → Type 0
+IsFinal last = (last ≡ final_press) ⊎ (last ≡ final_release)
+
+-- the largest code of a report
+abbrev pub largest_code : ℕ
+largest_code = 95
+
+-- the button of a code and a final byte
 unfoldable pub button_of : ℕ → ℕ → MouseButton
-button_of code last = if last == 77 then (row_of (base_of code)).1 else (row_of (base_of code)).2
+button_of code last = if last == final_press then (row_of (base_of code)).1 else (row_of (base_of code)).2
 
 -- the modifiers of a code: its bit 4 is Shift, 8 is Alt and 16 is Ctrl, which are the flags 2, 4 and 8
 unfoldable pub modifiers_of : ℕ → Modifiers
@@ -52,9 +66,9 @@ modifiers_of code = record {
   0 = (if bit_and code 4 == 0 then 0 else 2) + (if bit_and code 8 == 0 then 0 else 4) + (if bit_and code 16 == 0 then 0 else 8);
 }
 
--- a code up to 95 and a final byte `M` or `m`, which are 77 and 109, make a report
+-- a code up to the largest and a final byte make a report
 abbrev pub IsReport : ℕ → ℕ → Type 0
-IsReport code last = (code ≤ 95) × ((last ≡ 77) ⊎ (last ≡ 109))
+IsReport code last = (code ≤ largest_code) × IsFinal last
 
 -- the report of a code at a place, with its final byte
 abbrev pub report_of : ℕ → ℕ → ℕ → ℕ → MouseReport

@@ -2,44 +2,34 @@
 use Rattle.std.proofs.Common.{◌≡◌, ◌⊎◌, inl, inr, ⊎_elim, ℕ, ◌+◌, ◌<◌, ◌≤◌, List, [], ◌∷◌, ◌++◌, length, drop, codes, refl, sym, ap, ap₂, ◌∙◌, subst, arith, append_assoc, length-append}
 use Rattle.std.specs.List.{AllByRecursion, join_with_byte}
 use Rattle.termwiz_input.specs.declared.types.MouseEvent.{MouseEvent}
-use Rattle.termwiz_input.specs.Bytes.{ESC}
-use Rattle.termwiz_input.specs.Frame.{IsDigit, IsNumber, IsFrame, value_of, mouse_event}
+use Rattle.termwiz_base.specs.Mouse.{largest_code, IsFinal}
+use Rattle.termwiz_input.specs.Frame.{IsDigit, IsNumber, introducer, semicolon, largest_place, IsFrame, value_of, mouse_event}
+use Rattle.termwiz_input.proofs.Numbers.{digits_end}
 use Rattle.termwiz_input.proofs.Searches.{Told, both_told, either_told, told_by, le_told, eq_told, all_told, parts_told}
 
 -- the form of a frame, each part before the next
 abbrev pub laid_out : List ℕ → List ℕ → List ℕ → ℕ → List ℕ
 laid_out code x y last = 27 ∷ 91 ∷ 60 ∷ (code ++ 59 ∷ (x ++ 59 ∷ (y ++ last ∷ [])))
 
-pub regroup : (code x y : List ℕ) (last : ℕ) → ESC ++ codes "[<" ++ join_with_byte 59 (code ∷ x ∷ y ∷ []) ++ last ∷ [] ≡ laid_out code x y last
+regroup : (code x y : List ℕ) (last : ℕ) → introducer ++ join_with_byte semicolon (code ∷ x ∷ y ∷ []) ++ last ∷ [] ≡ laid_out code x y last
 regroup code x y last = ap (λ t. 27 ∷ 91 ∷ 60 ∷ t) (simp append_assoc)
 
 pub layout : (text : List ℕ) (report : MouseEvent) (f : IsFrame text report) → text ≡ laid_out f.code f.x f.y f.last
 layout text report f = f.form ∙ regroup f.code f.x f.y f.last
 
--- digits end where something else comes
-pub digits_end : (a b r s : List ℕ) (v w : ℕ) → AllByRecursion IsDigit a → AllByRecursion IsDigit b → (IsDigit v → ⊥) → (IsDigit w → ⊥)
-    → a ++ v ∷ r ≡ b ++ w ∷ s → (a ≡ b) × (v ≡ w) × (r ≡ s)
-digits_end [] [] r s v w da db nv nw e = (refl, cc (e), cc (e))
-digits_end [] (x ∷ b) r s v w da db nv nw e = absurd (nv (subst IsDigit (let q : x ≡ v = cc (e) in q) db.0))
-digits_end (x ∷ a) [] r s v w da db nv nw e = absurd (nw (subst IsDigit (let q : x ≡ w = cc (e) in q) da.0))
-digits_end (x ∷ a) (y ∷ b) r s v w da db nv nw e =
-    let head : x ≡ y = cc (e) in
-    let rest = digits_end a b r s v w da.1 db.1 nv nw (cc (e)) in
-    (ap₂ (λ c t. c ∷ t) head rest.0, rest.1, rest.2)
+pub semicolon_no_digit : ¬ IsDigit semicolon
+semicolon_no_digit d = omega arith
 
-pub semicolon : IsDigit 59 → ⊥
-semicolon d = omega arith
-
-pub final : (last : ℕ) → (last ≡ 77) ⊎ (last ≡ 109) → IsDigit last → ⊥
-final last h d = omega arith
+pub final_no_digit : (last : ℕ) → IsFinal last → ¬ IsDigit last
+final_no_digit last h d = omega arith
 
 pub frame_once : (text : List ℕ) (r s : MouseEvent) → IsFrame text r → IsFrame text s → r ≡ s
 frame_once text r s f g =
     let e : laid_out f.code f.x f.y f.last ≡ laid_out g.code g.x g.y g.last = sym (layout text r f) ∙ layout text s g in
     let one = digits_end f.code g.code (f.x ++ 59 ∷ (f.y ++ f.last ∷ [])) (g.x ++ 59 ∷ (g.y ++ g.last ∷ [])) 59 59
-    f.code_is.each g.code_is.each semicolon semicolon (cc (e)) in
-    let two = digits_end f.x g.x (f.y ++ f.last ∷ []) (g.y ++ g.last ∷ []) 59 59 f.x_is.each g.x_is.each semicolon semicolon one.2 in
-    let three = digits_end f.y g.y [] [] f.last g.last f.y_is.each g.y_is.each (final f.last f.last_is) (final g.last g.last_is) two.2 in
+    f.code_is.each g.code_is.each semicolon_no_digit semicolon_no_digit (cc (e)) in
+    let two = digits_end f.x g.x (f.y ++ f.last ∷ []) (g.y ++ g.last ∷ []) 59 59 f.x_is.each g.x_is.each semicolon_no_digit semicolon_no_digit one.2 in
+    let three = digits_end f.y g.y [] [] f.last g.last f.y_is.each g.y_is.each (final_no_digit f.last f.last_is) (final_no_digit g.last g.last_is) two.2 in
     let same : mouse_event (value_of f.code) (value_of f.x) (value_of f.y) f.last ≡ mouse_event (value_of g.code) (value_of g.x) (value_of g.y) g.last
     = cc (one.0, two.0, three.0, three.1) in
     f.means ∙ same ∙ sym g.means
@@ -83,10 +73,10 @@ final_told : (t : List ℕ) → Told (Final t)
 final_told t = either_told (next_told 77 IsNil nil_told t) (next_told 109 IsNil nil_told t)
 
 abbrev Fields : List ℕ → Type 0
-Fields t = Field 95 (λ code r. Next 59 (λ u. Field 65535 (λ x s. Next 59 (λ v. Field 65535 (λ y w. Final w) v) s) u) r) t
+Fields t = Field largest_code (λ code r. Next 59 (λ u. Field largest_place (λ x s. Next 59 (λ v. Field largest_place (λ y w. Final w) v) s) u) r) t
 
 fields_told : (t : List ℕ) → Told (Fields t)
-fields_told t = field_told 95 _ (λ code r. next_told 59 _ (λ u. field_told 65535 _ (λ x s. next_told 59 _ (λ v. field_told 65535 _ (λ y w. final_told w) v) s) u) r) t
+fields_told t = field_told largest_code _ (λ code r. next_told 59 _ (λ u. field_told largest_place _ (λ x s. next_told 59 _ (λ v. field_told largest_place _ (λ y w. final_told w) v) s) u) r) t
 
 abbrev Whole : List ℕ → Type 0
 Whole t = Next 27 (λ u. Next 91 (λ v. Next 60 Fields v) u) t
@@ -134,38 +124,36 @@ whole_from t (r, f) =
       ),
     )
   where
-    last_from : (last : ℕ) → (last ≡ 77) ⊎ (last ≡ 109) → Final (last ∷ [])
+    last_from : (last : ℕ) → IsFinal last → Final (last ∷ [])
     last_from last (inl h) = inl ([], ap (λ z. z ∷ []) h, refl)
     last_from last (inr h) = inr ([], ap (λ z. z ∷ []) h, refl)
 
-built : (t code x y : List ℕ) (last : ℕ) → t ≡ laid_out code x y last → IsNumber code 95 → IsNumber x 65535 → IsNumber y 65535
-    → (last ≡ 77) ⊎ (last ≡ 109) → (r : MouseEvent) × IsFrame t r
-built t code x y last e c n m l = (
-  mouse_event (value_of code) (value_of x) (value_of y) last,
-  record {
-    code = code;
-    x = x;
-    y = y;
-    last = last;
-    form = e ∙ sym (regroup code x y last);
-    code_is = c;
-    x_is = n;
-    y_is = m;
-    last_is = l;
-    means = refl;
-  },
-)
+-- the frame that three numbers and a last byte make
+pub frame_from : (text code x y : List ℕ) (last : ℕ) → text ≡ laid_out code x y last → IsNumber code largest_code → IsNumber x largest_place → IsNumber y largest_place
+    → IsFinal last → IsFrame text (mouse_event (value_of code) (value_of x) (value_of y) last)
+frame_from text code x y last form code_is x_is y_is last_is = record {
+  code = code;
+  x = x;
+  y = y;
+  last = last;
+  form = form ∙ sym (regroup code x y last);
+  code_is = code_is;
+  x_is = x_is;
+  y_is = y_is;
+  last_is = last_is;
+  means = refl;
+}
 
 from_whole : (t : List ℕ) → Whole t → (r : MouseEvent) × IsFrame t r
 from_whole t (u, e1, (v, e2, (w, e3, (code, r, e4, (c, (r2, e5, (x, s, e6, (n, (s2, e7, (y, z, e8, (m, l))))))))))) =
-    let tail = λ (last : ℕ) (q : z ≡ last ∷ []).
-    (let k : t ≡ laid_out code x y last = cc (e1, e2, e3, e4, e5, e6, e7, e8, q) in k) in
+    let frame = λ (last : ℕ) (final : IsFinal last) (q : z ≡ last ∷ []).
+    frame_from t code x y last (cc (e1, e2, e3, e4, e5, e6, e7, e8, q)) c n m final in
     ⊎_elim
-    (λ (a : Next 77 IsNil z). built t code x y 77 (tail 77 (a.1 ∙ ap (λ i. 77 ∷ i) a.2)) c n m (inl refl))
-    (λ (a : Next 109 IsNil z). built t code x y 109 (tail 109 (a.1 ∙ ap (λ i. 109 ∷ i) a.2)) c n m (inr refl))
+    (λ (a : Next 77 IsNil z). (_, frame 77 (inl refl) (a.1 ∙ ap (λ i. 77 ∷ i) a.2)))
+    (λ (a : Next 109 IsNil z). (_, frame 109 (inr refl) (a.1 ∙ ap (λ i. 109 ∷ i) a.2)))
     l
 
-pub frame_or_not : (t : List ℕ) → ((r : MouseEvent) × IsFrame t r) ⊎ ((r : MouseEvent) → IsFrame t r → ⊥)
+pub frame_or_not : (t : List ℕ) → ((r : MouseEvent) × IsFrame t r) ⊎ ((r : MouseEvent) → ¬ IsFrame t r)
 frame_or_not t = ⊎_elim
     (λ w. inl (from_whole t w))
     (λ never. inr (λ r f. never (whole_from t (r, f))))
@@ -189,7 +177,7 @@ digits_plain : (t : List ℕ) → AllByRecursion IsDigit t → AllByRecursion Is
 digits_plain [] a = tt
 digits_plain (x ∷ t) a = ((let d : IsDigit x = a.0 in (omega arith, omega arith)), digits_plain t a.1)
 
-final_plain : (last : ℕ) → (last ≡ 77) ⊎ (last ≡ 109) → IsPlain last
+final_plain : (last : ℕ) → IsFinal last → IsPlain last
 final_plain last h = (omega arith, omega arith)
 
 pub frame_plain : (t : List ℕ) (r : MouseEvent) → IsFrame t r → (rest : List ℕ) × (t ≡ 27 ∷ 91 ∷ 60 ∷ rest) × AllByRecursion IsPlain rest
@@ -210,9 +198,9 @@ frame_alone t tail r s f g =
     let d : f.code ++ 59 ∷ (f.x ++ 59 ∷ (f.y ++ f.last ∷ tail)) ≡ g.code ++ 59 ∷ (g.x ++ 59 ∷ (g.y ++ g.last ∷ []))
     = sym (simp append_assoc) ∙ drop_three (laid_out f.code f.x f.y f.last ++ tail) (laid_out g.code g.x g.y g.last) e in
     let one = digits_end f.code g.code (f.x ++ 59 ∷ (f.y ++ f.last ∷ tail)) (g.x ++ 59 ∷ (g.y ++ g.last ∷ [])) 59 59
-    f.code_is.each g.code_is.each semicolon semicolon d in
-    let two = digits_end f.x g.x (f.y ++ f.last ∷ tail) (g.y ++ g.last ∷ []) 59 59 f.x_is.each g.x_is.each semicolon semicolon one.2 in
-    (digits_end f.y g.y tail [] f.last g.last f.y_is.each g.y_is.each (final f.last f.last_is) (final g.last g.last_is) two.2).2
+    f.code_is.each g.code_is.each semicolon_no_digit semicolon_no_digit d in
+    let two = digits_end f.x g.x (f.y ++ f.last ∷ tail) (g.y ++ g.last ∷ []) 59 59 f.x_is.each g.x_is.each semicolon_no_digit semicolon_no_digit one.2 in
+    (digits_end f.y g.y tail [] f.last g.last f.y_is.each g.y_is.each (final_no_digit f.last f.last_is) (final_no_digit g.last g.last_is) two.2).2
   where
     drop_three : (a b : List ℕ) → a ≡ b → drop 3 a ≡ drop 3 b
     drop_three a b h = ap (drop 3) h

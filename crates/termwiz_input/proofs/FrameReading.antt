@@ -1,240 +1,220 @@
--- What the digits that are read say of the frames that a text may begin.
-use Rattle.std.proofs.Common.{◌≡◌, ◌≢◌, ◌⊎◌, inl, ℕ, ◌+◌, ◌-◌, ◌≤◌, List, [], ◌∷◌, ◌++◌, length, take, drop, refl, sym, ap, ◌∙◌, subst, arith, append_assoc, append-nil, length-append, length-drop}
+-- What the numbers that are read say of the frames that a text may begin.
+use Rattle.std.proofs.Common.{◌≡◌, ◌≢◌, ℕ, ◌+◌, ◌-◌, ◌≤◌, List, [], ◌∷◌, ◌++◌, length, take, drop, inl, inr, refl, sym, ap, ◌∙◌, subst, arith, append_assoc, append-nil, length-append, Contains, zero, suc}
+use Rattle.std.specs.Prelude.{Ok}
+use denote.Ref.{Bor}
 use Rattle.std.specs.List.{AllByRecursion}
 use Rattle.std.proofs.lemmas.List.{take_rest}
 use Rattle.std.proofs.Math.Seq.{take-append_seam}
 use Rattle.termwiz_input.specs.declared.types.MouseEvent.{MouseEvent}
-use Rattle.termwiz_input.specs.declared.frame.FrontFrame.TheVariants.{Whole, Absent}
-use Rattle.termwiz_input.specs.declared.frame.Field.{Field}
-use Rattle.termwiz_base.specs.Mouse.{IsReport}
-use Rattle.termwiz_input.specs.declared.frame.Field.TheVariants.{Number, Unended, Broken}
+use Rattle.termwiz_input.specs.declared.frame.FrontFrame.TheVariants.{Whole}
+use Rattle.termwiz_input.specs.declared.frame.Unread.{Unread}
+use Rattle.termwiz_input.specs.declared.frame.Unread.TheVariants.{Begun, Absent}
+use Rattle.termwiz_input.specs.declared.frame.Number.{Number}
+use Rattle.termwiz_base.specs.Mouse.{largest_code, final_press, final_release, IsFinal, IsReport}
 use Rattle.termwiz_input.specs.Bytes.{Begins}
-use Rattle.termwiz_input.specs.Frame.{IsDigit, IsNumber, value_of, IsFrame, mouse_event}
-use Rattle.termwiz_input.specs.Frames.{IsBegun, TellsFrame, TellsNumber, HasCode, HasColumn}
-use Rattle.termwiz_input.proofs.Lists.{append-some, length-some, Overlaps, overlap}
+use Rattle.termwiz_input.specs.Frame.{IsDigit, IsNumber, value_of, introducer, semicolon, largest_place, IsFrame, mouse_event}
+use Rattle.termwiz_input.specs.FrameAnswers.{IsBegun, HasNoPartInFrames, IsFrameAnswer, IsNumberUnread, IsNumberAnswer, IsFrameUnread, IsEventAnswer}
+use Rattle.termwiz_input.proofs.Lists.{append-some, Overlaps, overlap}
 use Rattle.termwiz_input.proofs.Lists.Overlaps.{within, past}
-use Rattle.termwiz_input.proofs.Numbers.{completes}
-use Rattle.termwiz_input.proofs.FrameFacts.{frame_short, laid_out, regroup, layout, digits_end, semicolon, final}
+use Rattle.termwiz_input.proofs.Numbers.{completes, digits_end}
+use Rattle.termwiz_input.proofs.FrameFacts.{frame_from, laid_out, layout, semicolon_no_digit, final_no_digit}
 
--- where no frame and the text begin one text, the text has no frame at its front
-absent : (text : List ℕ) → ((word : List ℕ) (event : MouseEvent) (r s : List ℕ) → IsFrame word event → word ++ r ≡ text ++ s → ⊥) → TellsFrame text Absent
-absent text never = (
-  λ word event f b. never word event b.0 [] f (sym b.1 ∙ sym (append-nil text)),
-  λ begun. never (text ++ begun.0) begun.1 [] begun.0 begun.3 (append-nil (text ++ begun.0)),
+-- the bytes that may end a frame
+abbrev pub finals : List ℕ
+finals = final_press ∷ final_release ∷ []
+
+pub is_semicolon : (b : ℕ) → Contains (semicolon ∷ []) b → b ≡ semicolon
+is_semicolon b (zero, l, e) = sym e
+is_semicolon b (suc i, l, e) = absurd (omega arith)
+
+pub is_final : (b : ℕ) → Contains finals b → IsFinal b
+is_final b (zero, l, e) = inl (sym e)
+is_final b (suc zero, l, e) = inr (sym e)
+is_final b (suc (suc i), l, e) = absurd (omega arith)
+
+final_in : (b : ℕ) → IsFinal b → Contains finals b
+final_in b (inl e) = (0, omega arith, sym e)
+final_in b (inr e) = (1, omega arith, sym e)
+
+until : (text digits : List ℕ) (number : Number) → Contains (semicolon ∷ []) number.end → text ≡ digits ++ number.end ∷ number.rest.now → text ≡ digits ++ semicolon ∷ number.rest.now
+until text digits number ends parts = parts ∙ ap (λ b. digits ++ b ∷ number.rest.now) (is_semicolon number.end ends)
+
+-- where no frame and the text begin one text, the text has no part in frames
+no_part : (text : List ℕ) → ((word rest more : List ℕ) (event : MouseEvent) → IsFrame word event → word ++ rest ≢ text ++ more) → HasNoPartInFrames text
+no_part text never = (
+  λ word event f b. never word b.0 [] event f (sym b.1 ∙ sym (append-nil text)),
+  λ begun. never (text ++ begun.0) [] begun.0 begun.1 begun.3 (append-nil (text ++ begun.0)),
 )
 
--- the parts of a frame, each after the one before
-after_introducer : (word text t r s : List ℕ) (event : MouseEvent) (f : IsFrame word event) → text ≡ 27 ∷ 91 ∷ 60 ∷ t → word ++ r ≡ text ++ s
-    → f.code ++ 59 ∷ (f.x ++ 59 ∷ (f.y ++ f.last ∷ r)) ≡ t ++ s
-after_introducer word text t r s event f is e =
-    let whole : laid_out f.code f.x f.y f.last ++ r ≡ 27 ∷ 91 ∷ 60 ∷ (t ++ s) = ap (λ w. w ++ r) (sym (layout word event f)) ∙ e ∙ ap (λ w. w ++ s) is in
-    sym (regroup_rest f.code f.x f.y f.last r) ∙ drop_three _ _ whole
-  where
-    regroup_rest : (code x y : List ℕ) (last : ℕ) (r : List ℕ) → (code ++ 59 ∷ (x ++ 59 ∷ (y ++ last ∷ []))) ++ r ≡ code ++ 59 ∷ (x ++ 59 ∷ (y ++ last ∷ r))
-    regroup_rest code x y last r = simp append_assoc
+-- after front a frame has a number up to the limit and one of the bytes ends, and may have each such number
+record AsksNumber (front : List ℕ) (limit : ℕ) (ends : List ℕ) : Type 0 where
+  stops : (end : ℕ) → Contains ends end → ¬ IsDigit end
+  asked : (word rest more : List ℕ) (event : MouseEvent) → IsFrame word event → word ++ rest ≡ front ++ more
+      → (digits after : List ℕ) × (end : ℕ) × IsNumber digits limit × Contains ends end × (digits ++ end ∷ after ≡ more)
+  given : (digits : List ℕ) → IsNumber digits limit → (tail : List ℕ) × (event : MouseEvent) × (tail ≢ []) × IsFrame (front ++ (digits ++ tail)) event
 
-    drop_three : (a b : List ℕ) → 27 ∷ 91 ∷ 60 ∷ a ≡ 27 ∷ 91 ∷ 60 ∷ b → a ≡ b
+-- where no number is read after front, no frame is
+unread : (front text : List ℕ) (limit : ℕ) (ends : List ℕ) (why : Unread) → AsksNumber front limit ends → IsNumberUnread text limit ends why → IsFrameUnread (front ++ text) why
+unread front text limit ends Begun asks digits =
+    let more = completes text limit digits.0 digits.1 digits.2 in
+    let frame = asks.given (text ++ more.0) more.1 in
+    let parts : front ++ ((text ++ more.0) ++ frame.0) ≡ (front ++ text) ++ (more.0 ++ frame.0) = simp append_assoc in
+    (more.0 ++ frame.0, frame.1, append-some more.0 frame.0 frame.2, subst (λ w. IsFrame w frame.1) parts frame.3)
+unread front text limit ends Absent asks never = no_part (front ++ text) (λ word rest more event f e.
+    let number = asks.asked word rest (text ++ more) event f (e ∙ append_assoc front text more) in
+    never number.0 number.1 more number.2 number.3 number.4 (asks.stops number.2 number.4) number.5)
+
+-- the parts of a frame, each after the one before
+after_introducer : (word rest more : List ℕ) (event : MouseEvent) (f : IsFrame word event) → word ++ rest ≡ introducer ++ more
+    → f.code ++ semicolon ∷ (f.x ++ semicolon ∷ (f.y ++ f.last ∷ rest)) ≡ more
+after_introducer word rest more event f e =
+    let whole : laid_out f.code f.x f.y f.last ++ rest ≡ introducer ++ more = ap (λ w. w ++ rest) (sym (layout word event f)) ∙ e in
+    sym (simp append_assoc) ∙ drop_three (laid_out f.code f.x f.y f.last ++ rest) (introducer ++ more) whole
+  where
+    drop_three : (a b : List ℕ) → a ≡ b → drop 3 a ≡ drop 3 b
     drop_three a b h = ap (drop 3) h
 
-after_number : (d e X t s : List ℕ) → AllByRecursion IsDigit d → AllByRecursion IsDigit e → d ++ 59 ∷ X ≡ (e ++ 59 ∷ t) ++ s → X ≡ t ++ s
-after_number d e X t s all_d all_e h =
-    (digits_end d e X (t ++ s) 59 59 all_d all_e semicolon semicolon (h ∙ append_assoc e (59 ∷ t) s)).2
-
--- what a frame would have to read at the place of its code, its column and its row
-abbrev Ends : ℕ → Type 0
-Ends last = (last ≡ 77) ⊎ (last ≡ 109)
-
-pub no_code : (text t : List ℕ) → text ≡ 27 ∷ 91 ∷ 60 ∷ t → ((digits R s : List ℕ) → IsNumber digits 95 → digits ++ 59 ∷ R ≡ t ++ s → ⊥) → TellsFrame text Absent
-no_code text t is never = absent text (λ word event r s f e.
-    never f.code (f.x ++ 59 ∷ (f.y ++ f.last ∷ r)) s f.code_is (after_introducer word text t r s event f is e))
-
-pub no_column : (text first t : List ℕ) → IsNumber first 95 → text ≡ 27 ∷ 91 ∷ 60 ∷ (first ++ 59 ∷ t)
-    → ((digits R s : List ℕ) → IsNumber digits 65535 → digits ++ 59 ∷ R ≡ t ++ s → ⊥) → TellsFrame text Absent
-no_column text first t code is never = absent text (λ word event r s f e.
-    never f.x (f.y ++ f.last ∷ r) s f.x_is
-    (after_number f.code first (f.x ++ 59 ∷ (f.y ++ f.last ∷ r)) t s f.code_is.each code.each (after_introducer word text (first ++ 59 ∷ t) r s event f is e)))
-
-pub no_row : (text first second t : List ℕ) → IsNumber first 95 → IsNumber second 65535 → text ≡ 27 ∷ 91 ∷ 60 ∷ (first ++ 59 ∷ (second ++ 59 ∷ t))
-    → ((digits R s : List ℕ) (last : ℕ) → IsNumber digits 65535 → Ends last → digits ++ last ∷ R ≡ t ++ s → ⊥) → TellsFrame text Absent
-no_row text first second t code x is never = absent text (λ word event r s f e.
-    let two = after_number f.code first (f.x ++ 59 ∷ (f.y ++ f.last ∷ r)) (second ++ 59 ∷ t) s f.code_is.each code.each
-    (after_introducer word text (first ++ 59 ∷ (second ++ 59 ∷ t)) r s event f is e) in
-    never f.y r s f.last f.y_is f.last_is (after_number f.x second (f.y ++ f.last ∷ r) t s f.x_is.each x.each two))
-
--- a number that another byte ends
-pub ends_otherwise : (t d rest digits R s : List ℕ) (b last : ℕ) → t ≡ d ++ b ∷ rest → AllByRecursion IsDigit d → (IsDigit b → ⊥) → (last ≡ b → ⊥)
-    → AllByRecursion IsDigit digits → (IsDigit last → ⊥) → digits ++ last ∷ R ≡ t ++ s → ⊥
-ends_otherwise t d rest digits R s b last is all ends other all_digits stop e =
-    other (digits_end digits d R (rest ++ s) last b all_digits all stop ends (e ∙ ap (λ x. x ++ s) is ∙ append_assoc d (b ∷ rest) s)).1
-
--- the frame that three numbers and a last byte make
-frame_from : (code x y : List ℕ) (last : ℕ) → IsNumber code 95 → IsNumber x 65535 → IsNumber y 65535 → Ends last
-    → IsFrame (laid_out code x y last) (mouse_event (value_of code) (value_of x) (value_of y) last)
-frame_from code x y last code_is x_is y_is last_is = record {
-  code = code;
-  x = x;
-  y = y;
-  last = last;
-  form = sym (regroup code x y last);
-  code_is = code_is;
-  x_is = x_is;
-  y_is = y_is;
-  last_is = last_is;
-  means = refl;
-}
+after_number : (digits front rest more : List ℕ) (limit : ℕ) → IsNumber digits limit → IsNumber front limit → digits ++ semicolon ∷ rest ≡ front ++ semicolon ∷ more → rest ≡ more
+after_number digits front rest more limit is before e =
+    (digits_end digits front rest more semicolon semicolon is.each before.each semicolon_no_digit semicolon_no_digit e).2
 
 zero_number : (limit : ℕ) → IsNumber (48 ∷ []) limit
 zero_number limit = record { some = omega arith; short = omega arith; each = ((omega arith, omega arith), tt); within = omega arith }
 
-begun_from : (text tail word : List ℕ) (event : MouseEvent) → tail ≢ [] → IsFrame word event → word ≡ text ++ tail → IsBegun text
-begun_from text tail word event some f e = (tail, event, some, subst (λ w. IsFrame w event) e f)
+asks_code : AsksNumber introducer largest_code (semicolon ∷ [])
+asks_code = record {
+  stops = λ end is. subst (λ b. ¬ IsDigit b) (sym (is_semicolon end is)) semicolon_no_digit;
+  asked = λ word rest more event f e.
+      (f.code, f.x ++ semicolon ∷ (f.y ++ f.last ∷ rest), semicolon, f.code_is, (0, omega arith, refl), after_introducer word rest more event f e);
+  given = λ code is. (
+    semicolon ∷ 48 ∷ semicolon ∷ 48 ∷ final_press ∷ [],
+    _,
+    (λ h. cc (h)),
+    frame_from _ code (48 ∷ []) (48 ∷ []) final_press refl is (zero_number largest_place) (zero_number largest_place) (inl refl),
+  );
+}
 
-pub code_begun : (text t : List ℕ) → text ≡ 27 ∷ 91 ∷ 60 ∷ t → TellsNumber t 95 Unended → IsBegun text
-code_begun text t is digits =
-    let more = completes t 95 digits.0 digits.1 digits.2 in
-    begun_from text (more.0 ++ (59 ∷ 48 ∷ 59 ∷ 48 ∷ 77 ∷ [])) _ _ (append-some more.0 _ (λ h. cc (h)))
-    (frame_from (t ++ more.0) (48 ∷ []) (48 ∷ []) 77 more.1 (zero_number 65535) (zero_number 65535) (inl refl))
-    (ap (λ x. 27 ∷ 91 ∷ 60 ∷ x) (append_assoc t more.0 _) ∙ ap (λ x. x ++ (more.0 ++ (59 ∷ 48 ∷ 59 ∷ 48 ∷ 77 ∷ []))) (sym is))
-
-pub column_begun : (text first t : List ℕ) → IsNumber first 95 → text ≡ 27 ∷ 91 ∷ 60 ∷ (first ++ 59 ∷ t) → TellsNumber t 65535 Unended → IsBegun text
-column_begun text first t code is digits =
-    let more = completes t 65535 digits.0 digits.1 digits.2 in
-    begun_from text (more.0 ++ (59 ∷ 48 ∷ 77 ∷ [])) _ _ (append-some more.0 _ (λ h. cc (h)))
-    (frame_from first (t ++ more.0) (48 ∷ []) 77 code more.1 (zero_number 65535) (inl refl))
-    (parted first t more.0 (59 ∷ 48 ∷ 77 ∷ []) ∙ ap (λ x. x ++ (more.0 ++ (59 ∷ 48 ∷ 77 ∷ []))) (sym is))
+asks_column : (code : List ℕ) → IsNumber code largest_code → AsksNumber (introducer ++ (code ++ semicolon ∷ [])) largest_place (semicolon ∷ [])
+asks_column code code_is = record {
+  stops = asks_code.stops;
+  asked = λ word rest more event f e. (
+    f.x,
+    f.y ++ f.last ∷ rest,
+    semicolon,
+    f.x_is,
+    (0, omega arith, refl),
+    after_number f.code code _ more largest_code f.code_is code_is (after_introducer word rest (code ++ semicolon ∷ more) event f (e ∙ simp append_assoc)),
+  );
+  given = λ x is. (
+    semicolon ∷ 48 ∷ final_press ∷ [],
+    _,
+    (λ h. cc (h)),
+    frame_from _ code x (48 ∷ []) final_press (parted code x) code_is is (zero_number largest_place) (inl refl),
+  );
+}
   where
-    parted : (a b c d : List ℕ) → 27 ∷ 91 ∷ 60 ∷ (a ++ 59 ∷ ((b ++ c) ++ d)) ≡ (27 ∷ 91 ∷ 60 ∷ (a ++ 59 ∷ b)) ++ (c ++ d)
-    parted a b c d = ap (λ x. 27 ∷ 91 ∷ 60 ∷ x) (simp append_assoc)
+    parted : (a b : List ℕ) → (introducer ++ (a ++ semicolon ∷ [])) ++ (b ++ (semicolon ∷ 48 ∷ final_press ∷ [])) ≡ laid_out a b (48 ∷ []) final_press
+    parted a b = simp append_assoc
 
-pub row_begun : (text first second t : List ℕ) → IsNumber first 95 → IsNumber second 65535 → text ≡ 27 ∷ 91 ∷ 60 ∷ (first ++ 59 ∷ (second ++ 59 ∷ t))
-    → TellsNumber t 65535 Unended → IsBegun text
-row_begun text first second t code x is digits =
-    let more = completes t 65535 digits.0 digits.1 digits.2 in
-    begun_from text (more.0 ++ (77 ∷ [])) _ _ (append-some more.0 _ (λ h. cc (h)))
-    (frame_from first second (t ++ more.0) 77 code x more.1 (inl refl))
-    (parted first second t more.0 (77 ∷ []) ∙ ap (λ x. x ++ (more.0 ++ (77 ∷ []))) (sym is))
+asks_row : (code x : List ℕ) → IsNumber code largest_code → IsNumber x largest_place
+    → AsksNumber (introducer ++ (code ++ semicolon ∷ (x ++ semicolon ∷ []))) largest_place finals
+asks_row code x code_is x_is = record {
+  stops = λ end is. final_no_digit end (is_final end is);
+  asked = λ word rest more event f e. (
+    f.y,
+    rest,
+    f.last,
+    f.y_is,
+    final_in f.last f.last_is,
+    after_number f.x x _ more largest_place f.x_is x_is
+        (after_number f.code code _ (x ++ semicolon ∷ more) largest_code f.code_is code_is
+        (after_introducer word rest (code ++ semicolon ∷ (x ++ semicolon ∷ more)) event f (e ∙ simp append_assoc))),
+  );
+  given = λ y is. (
+    final_press ∷ [],
+    _,
+    (λ h. cc (h)),
+    frame_from _ code x y final_press (parted code x y) code_is x_is is (inl refl),
+  );
+}
   where
-    parted : (a b c d e : List ℕ) → 27 ∷ 91 ∷ 60 ∷ (a ++ 59 ∷ (b ++ 59 ∷ ((c ++ d) ++ e))) ≡ (27 ∷ 91 ∷ 60 ∷ (a ++ 59 ∷ (b ++ 59 ∷ c))) ++ (d ++ e)
-    parted a b c d e = ap (λ x. 27 ∷ 91 ∷ 60 ∷ x) (simp append_assoc)
+    parted : (a b c : List ℕ) → (introducer ++ (a ++ semicolon ∷ (b ++ semicolon ∷ []))) ++ (c ++ (final_press ∷ [])) ≡ laid_out a b c final_press
+    parted a b c = simp append_assoc
 
--- a whole frame
-pub row_whole : (text first second digits : List ℕ) (at len last : ℕ) → IsNumber first 95 → IsNumber second 65535 → IsNumber digits 65535 → Ends last
-    → text ≡ 27 ∷ 91 ∷ 60 ∷ (first ++ 59 ∷ (second ++ 59 ∷ drop at text)) → at ≤ length text
-    → drop at text ≡ digits ++ last ∷ drop len (drop at text) → len ≡ length digits + 1
-    → TellsFrame text (Whole (mouse_event (value_of first) (value_of second) (value_of digits) last) (at + len))
-row_whole text first second digits at len last code x y ends is inside row long =
-    let word = laid_out first second digits last in
-    let rest = drop len (drop at text) in
-    let parts : text ≡ word ++ rest = is ∙ ap (λ t. 27 ∷ 91 ∷ 60 ∷ (first ++ 59 ∷ (second ++ 59 ∷ t))) row ∙ ap (λ t. 27 ∷ 91 ∷ 60 ∷ t) (parted first second digits last rest) in
-    let long_word : length word ≡ 6 + length first + length second + length digits = length_laid_out first second digits last in
-    let place : at ≡ 5 + length first + length second = place_of text first second at is inside in
-    let sum : length word ≡ at + len = omega (arith, long_word, place, long) in
-    let fits : length text ≡ length word + length rest = ap length parts ∙ length-append word rest in (
-      omega (arith, fits, sum),
-      subst (λ t. IsFrame t (mouse_event (value_of first) (value_of second) (value_of digits) last))
-          (sym (take-append_seam word rest) ∙ ap (take (length word)) (sym parts) ∙ ap (λ n. take n text) sum)
-          (frame_from first second digits last code x y ends),
+-- the answers of the reader, by what it read before
+pub code_unread : (text : List ℕ) (why : Unread) → IsNumberUnread text largest_code (semicolon ∷ []) why → IsFrameUnread (introducer ++ text) why
+code_unread text why = unread introducer text largest_code (semicolon ∷ []) why asks_code
+
+pub column_unread : (text : List ℕ) (code : Number) (why : Unread) → IsNumberAnswer text largest_code (semicolon ∷ []) (Ok code)
+    → IsNumberUnread code.rest.now largest_place (semicolon ∷ []) why → IsFrameUnread (introducer ++ text) why
+column_unread text code why (digits, is, value, ends, parts) number =
+    subst (λ t. IsFrameUnread t why) (regroup digits code.rest.now ∙ ap (λ t. introducer ++ t) (sym (until text digits code ends parts)))
+    (unread (introducer ++ (digits ++ semicolon ∷ [])) code.rest.now largest_place (semicolon ∷ []) why (asks_column digits is) number)
+  where
+    regroup : (a b : List ℕ) → (introducer ++ (a ++ semicolon ∷ [])) ++ b ≡ introducer ++ (a ++ semicolon ∷ b)
+    regroup a b = simp append_assoc
+
+pub row_unread : (text : List ℕ) (code x : Number) (why : Unread) → IsNumberAnswer text largest_code (semicolon ∷ []) (Ok code)
+    → IsNumberAnswer code.rest.now largest_place (semicolon ∷ []) (Ok x) → IsNumberUnread x.rest.now largest_place finals why → IsFrameUnread (introducer ++ text) why
+row_unread text code x why (first, is, value, ends, parts) (second, is2, value2, ends2, parts2) number =
+    subst (λ t. IsFrameUnread t why)
+    (regroup first second x.rest.now ∙ ap (λ t. introducer ++ (first ++ semicolon ∷ t)) (sym (until code.rest.now second x ends2 parts2)) ∙ ap (λ t. introducer ++ t) (sym (until text first code ends parts)))
+    (unread (introducer ++ (first ++ semicolon ∷ (second ++ semicolon ∷ []))) x.rest.now largest_place finals why (asks_row first second is is2) number)
+  where
+    regroup : (a b c : List ℕ) → (introducer ++ (a ++ semicolon ∷ (b ++ semicolon ∷ []))) ++ c ≡ introducer ++ (a ++ semicolon ∷ (b ++ semicolon ∷ c))
+    regroup a b c = simp append_assoc
+
+pub frame_read : (text : List ℕ) (code x y : Number) (found : MouseEvent × Bor (List ℕ)) → IsNumberAnswer text largest_code (semicolon ∷ []) (Ok code)
+    → IsNumberAnswer code.rest.now largest_place (semicolon ∷ []) (Ok x) → IsNumberAnswer x.rest.now largest_place finals (Ok y)
+    → found.0 ≡ mouse_event code.value x.value y.value y.end → found.1.now ≡ y.rest.now → IsEventAnswer text (Ok found)
+frame_read text code x y found (first, is, value, ends, parts) (second, is2, value2, ends2, parts2) (third, is3, value3, ends3, parts3) event rest =
+    let same : mouse_event (value_of first) (value_of second) (value_of third) y.end ≡ found.0 = cc in
+    let whole : text ≡ first ++ semicolon ∷ (second ++ semicolon ∷ (third ++ y.end ∷ y.rest.now))
+    = until text first code ends parts ∙ ap (λ t. first ++ semicolon ∷ t) (until code.rest.now second x ends2 parts2 ∙ ap (λ t. second ++ semicolon ∷ t) parts3) in (
+      laid_out first second third y.end,
+      subst (λ e. IsFrame (laid_out first second third y.end) e) same
+          (frame_from _ first second third y.end refl is is2 is3 (is_final y.end ends3)),
+      ap (λ t. introducer ++ t) whole ∙ regroup first second third y.end y.rest.now ∙ ap (λ t. laid_out first second third y.end ++ t) (sym rest),
     )
   where
-    parted : (a b c : List ℕ) (e : ℕ) (d : List ℕ) → a ++ 59 ∷ (b ++ 59 ∷ (c ++ e ∷ d)) ≡ (a ++ 59 ∷ (b ++ 59 ∷ (c ++ e ∷ []))) ++ d
-    parted a b c e d = simp append_assoc
+    regroup : (a b c : List ℕ) (e : ℕ) (d : List ℕ) → introducer ++ (a ++ semicolon ∷ (b ++ semicolon ∷ (c ++ e ∷ d))) ≡ laid_out a b c e ++ d
+    regroup a b c e d = simp append_assoc
 
-    length_laid_out : (a b c : List ℕ) (e : ℕ) → length (laid_out a b c e) ≡ 6 + length a + length b + length c
-    length_laid_out a b c e = omega (arith, length-append a (59 ∷ (b ++ 59 ∷ (c ++ e ∷ []))), length-append b (59 ∷ (c ++ e ∷ [])), length-append c (e ∷ []))
+-- the numbers that are read make a report
+pub report_read : (text rest : List ℕ) (code y : Number) → IsNumberAnswer text largest_code (semicolon ∷ []) (Ok code)
+    → IsNumberAnswer rest largest_place finals (Ok y) → IsReport code.value y.end
+report_read text rest code y (first, is, value, ends, parts) (third, is3, value3, ends3, parts3) =
+    (omega (arith, value, is.within), is_final y.end ends3)
 
-    place_of : (text a b : List ℕ) (at : ℕ) → text ≡ 27 ∷ 91 ∷ 60 ∷ (a ++ 59 ∷ (b ++ 59 ∷ drop at text)) → at ≤ length text → at ≡ 5 + length a + length b
-    place_of text a b at e l = omega (arith, ap length e, length-append a (59 ∷ (b ++ 59 ∷ drop at text)), length-append b (59 ∷ drop at text), length-drop at text)
-
-pub introduced : (text : List ℕ) → Begins (27 ∷ 91 ∷ 60 ∷ []) text → text ≡ 27 ∷ 91 ∷ 60 ∷ drop 3 text
-introduced text b = b.1 ∙ ap (λ t. 27 ∷ 91 ∷ 60 ∷ t) (sym (ap (drop 3) b.1))
-
--- what is read from a place on
-abbrev pub from_place : ℕ → List ℕ → List ℕ
-from_place at text = take (length text - at) (drop at text)
-
-told_from : (text : List ℕ) (at limit : ℕ) (answer : Field) → TellsNumber (from_place at text) limit answer → TellsNumber (drop at text) limit answer
-told_from text at limit answer h = let P : List ℕ → Type 0 = λ t. TellsNumber t limit answer in subst P (take_rest text at) h
-
--- the answers of each function, by what it read
-pub code_other : (text : List ℕ) (value last len : ℕ) → Begins (27 ∷ 91 ∷ 60 ∷ []) text → TellsNumber (from_place 3 text) 95 (Number value last len)
-    → (last ≡ 59 → ⊥) → TellsFrame text Absent
-code_other text value last len b told other =
-    let (digits, is, same, stops, parts, long) = told_from text 3 95 (Number value last len) told in
-    no_code text (drop 3 text) (introduced text b)
-    (λ d R s number e. ends_otherwise (drop 3 text) digits (drop len (drop 3 text)) d R s last 59 parts is.each stops (λ q. other (sym q)) number.each semicolon e)
-
-pub code_unended : (text : List ℕ) → Begins (27 ∷ 91 ∷ 60 ∷ []) text → TellsNumber (from_place 3 text) 95 Unended → IsBegun text
-code_unended text b told = code_begun text (drop 3 text) (introduced text b) (told_from text 3 95 Unended told)
-
-pub code_broken : (text : List ℕ) → Begins (27 ∷ 91 ∷ 60 ∷ []) text → TellsNumber (from_place 3 text) 95 Broken → TellsFrame text Absent
-code_broken text b told =
-    let never = told_from text 3 95 Broken told in
-    no_code text (drop 3 text) (introduced text b) (λ d R s number e. never d 59 R s number semicolon e)
-
-pub column_other : (text : List ℕ) (code at value last len : ℕ) → HasCode text code at → TellsNumber (from_place at text) 65535 (Number value last len)
-    → (last ≡ 59 → ⊥) → TellsFrame text Absent
-column_other text code at value last len (first, code_is, same_code, form, inside) told other =
-    let (digits, is, same, stops, parts, long) = told_from text at 65535 (Number value last len) told in
-    no_column text first (drop at text) code_is form
-    (λ d R s number e. ends_otherwise (drop at text) digits (drop len (drop at text)) d R s last 59 parts is.each stops (λ q. other (sym q)) number.each semicolon e)
-
-pub column_unended : (text : List ℕ) (code at : ℕ) → HasCode text code at → TellsNumber (from_place at text) 65535 Unended → IsBegun text
-column_unended text code at (first, code_is, same_code, form, inside) told =
-    column_begun text first (drop at text) code_is form (told_from text at 65535 Unended told)
-
-pub column_broken : (text : List ℕ) (code at : ℕ) → HasCode text code at → TellsNumber (from_place at text) 65535 Broken → TellsFrame text Absent
-column_broken text code at (first, code_is, same_code, form, inside) told =
-    let never = told_from text at 65535 Broken told in
-    no_column text first (drop at text) code_is form (λ d R s number e. never d 59 R s number semicolon e)
-
-pub row_read : (text : List ℕ) (code x at y last len : ℕ) (event : MouseEvent) → HasColumn text code x at
-    → TellsNumber (from_place at text) 65535 (Number y last len) → IsReport code last → event ≡ mouse_event code x y last → TellsFrame text (Whole event (at + len))
-row_read text code x at y last len event (first, second, code_is, x_is, same_code, same_x, form, inside) told report is =
-    let (digits, y_is, same_y, stops, parts, long) = told_from text at 65535 (Number y last len) told in
-    let same : mouse_event (value_of first) (value_of second) (value_of digits) last ≡ event = cc in
-    let P : MouseEvent → Type 0 = λ e. TellsFrame text (Whole e (at + len)) in
-    subst P same (row_whole text first second digits at len last code_is x_is y_is report.1 form inside parts long)
-
-pub row_other : (text : List ℕ) (code x at y last len : ℕ) → HasColumn text code x at
-    → TellsNumber (from_place at text) 65535 (Number y last len) → (IsReport code last → ⊥) → TellsFrame text Absent
-row_other text code x at y last len (first, second, code_is, x_is, same_code, same_x, form, inside) told never =
-    let (digits, y_is, same_y, stops, parts, long) = told_from text at 65535 (Number y last len) told in
-    let small : code ≤ 95 = omega (arith, same_code, code_is.within) in
-    no_row text first second (drop at text) code_is x_is form
-    (λ d R s end number ends e. ends_otherwise (drop at text) digits (drop len (drop at text)) d R s last end parts y_is.each stops
-    (λ q. never (small, subst Ends q ends)) number.each (final end ends) e)
-
-pub row_unended : (text : List ℕ) (code x at : ℕ) → HasColumn text code x at → TellsNumber (from_place at text) 65535 Unended → IsBegun text
-row_unended text code x at (first, second, code_is, x_is, same_code, same_x, form, inside) told =
-    row_begun text first second (drop at text) code_is x_is form (told_from text at 65535 Unended told)
-
-pub row_broken : (text : List ℕ) (code x at : ℕ) → HasColumn text code x at → TellsNumber (from_place at text) 65535 Broken → TellsFrame text Absent
-row_broken text code x at (first, second, code_is, x_is, same_code, same_x, form, inside) told =
-    let never = told_from text at 65535 Broken told in
-    no_row text first second (drop at text) code_is x_is form (λ d R s last number ends e. never d last R s number (final last ends) e)
+-- a text that begins with the introducer, by what follows it
+pub introduced : (text after : List ℕ) → Begins introducer text → after ≡ take (length text - 3) (drop 3 text) → introducer ++ after ≡ text
+introduced text after (rest, e) is =
+    ap (λ t. introducer ++ t) (is ∙ take_rest text 3 ∙ ap (drop 3) e) ∙ sym e
 
 -- a text that begins the introducer begins a frame
-pub introducer_begun : (text : List ℕ) → Begins text (27 ∷ 91 ∷ 60 ∷ []) → IsBegun text
+pub introducer_begun : (text : List ℕ) → Begins text introducer → IsBegun text
 introducer_begun text (rest, e) =
-    let tail : List ℕ = 48 ∷ 59 ∷ 48 ∷ 59 ∷ 48 ∷ 77 ∷ [] in
-    begun_from text (rest ++ tail) _ _ (append-some rest tail (λ h. cc (h)))
-    (frame_from (48 ∷ []) (48 ∷ []) (48 ∷ []) 77 (zero_number 95) (zero_number 65535) (zero_number 65535) (inl refl))
-    (ap (λ x. x ++ tail) e ∙ append_assoc text rest tail)
+    let frame = asks_code.given (48 ∷ []) (zero_number largest_code) in
+    let tail : List ℕ = 48 ∷ frame.0 in
+    (rest ++ tail, frame.1, append-some rest tail (λ h. cc (h)), subst (λ w. IsFrame w frame.1) (ap (λ x. x ++ tail) e ∙ append_assoc text rest tail) frame.3)
 
--- one that neither begins with it nor begins it has no frame at its front
-pub no_introducer : (text : List ℕ) → (Begins (27 ∷ 91 ∷ 60 ∷ []) text → ⊥) → (Begins text (27 ∷ 91 ∷ 60 ∷ []) → ⊥) → TellsFrame text Absent
-no_introducer text longer shorter = absent text (λ word event r s f e. go word event r s f e)
+-- one that neither begins with it nor begins it has no part in frames
+pub no_introducer : (text : List ℕ) → ¬ Begins introducer text → ¬ Begins text introducer → HasNoPartInFrames text
+no_introducer text longer shorter = no_part text go
   where
-    split : (t s : List ℕ) → Overlaps (27 ∷ 91 ∷ 60 ∷ []) t text s → ⊥
+    split : (t s : List ℕ) → ¬ Overlaps introducer t text s
     split t s (within u e f) = longer (u, e)
     split t s (past u some e f) = shorter (u, e)
 
-    go : (word : List ℕ) (event : MouseEvent) (r s : List ℕ) → IsFrame word event → word ++ r ≡ text ++ s → ⊥
-    go word event r s f e =
-        let t = (f.code ++ 59 ∷ (f.x ++ 59 ∷ (f.y ++ f.last ∷ []))) ++ r in
-        split t s (overlap (27 ∷ 91 ∷ 60 ∷ []) t text s (sym e ∙ ap (λ w. w ++ r) (layout word event f)))
+    go : (word rest more : List ℕ) (event : MouseEvent) → IsFrame word event → word ++ rest ≢ text ++ more
+    go word rest more event f e =
+        let t = (f.code ++ semicolon ∷ (f.x ++ semicolon ∷ (f.y ++ f.last ∷ []))) ++ rest in
+        split t more (overlap introducer t text more (sym e ∙ ap (λ w. w ++ rest) (layout word event f)))
 
--- a proper beginning of a frame has at most twenty bytes
-pub begun_short : (text : List ℕ) → IsBegun text → length text ≤ 20
-begun_short text (tail, event, longer, f) =
-    omega (arith, length-append text tail, length-some tail longer, frame_short (text ++ tail) event f)
+-- a frame at the front of a text, by what follows it
+pub frame_before : (text word rest : List ℕ) (event : MouseEvent) (len : ℕ) → IsFrame word event → text ≡ word ++ rest → len ≡ length text - length rest
+    → IsFrameAnswer text (Whole event len)
+frame_before text word rest event len f parts is =
+    let whole : length text ≡ length word + length rest = ap length parts ∙ length-append word rest in
+    let same : len ≡ length word = omega (arith, whole, is) in
+    (omega (arith, whole, same), subst (λ w. IsFrame w event) (sym (ap (λ t. take len t) parts ∙ ap (λ n. take n (word ++ rest)) same ∙ take-append_seam word rest)) f)

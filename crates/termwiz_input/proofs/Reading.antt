@@ -16,7 +16,7 @@ use Rattle.termwiz_input.specs.Bytes.{Begins}
 use Rattle.termwiz_input.specs.Lookup.{IsLongestKey, IsExtended, NoKeyBegins}
 use Rattle.termwiz_input.specs.Table.{table}
 use Rattle.termwiz_input.specs.Frame.{IsFrame}
-use Rattle.termwiz_input.specs.Frames.{IsBegun}
+use Rattle.termwiz_input.specs.FrameAnswers.{IsBegun}
 use Rattle.termwiz_input.specs.Known.{Meaning, IsKnown}
 use Rattle.termwiz_input.specs.Known.Meaning.{Row, Frame}
 use Rattle.termwiz_input.specs.Grammar.{Head, IsHead, IsOpen}

@@ -1,9 +1,9 @@
 -- Mouse frames: the reports of xterm's SGR mode 1006, with limits on the digits and on the code.
-use Rattle.std.specs.Prelude.{◌≡◌, ℕ, ◌+◌, ◌-◌, ◌*◌, ◌<◌, ◌≤◌, ◌⊎◌, List, [], ◌∷◌, ◌++◌, length, codes, fold}
+use Rattle.std.specs.Prelude.{◌≡◌, ℕ, ◌+◌, ◌-◌, ◌*◌, ◌<◌, ◌≤◌, List, [], ◌∷◌, ◌++◌, length, codes, fold}
 use Rattle.std.specs.List.{AllByRecursion, join_with_byte}
 use Rattle.termwiz_input.specs.declared.types.MouseEvent.{MouseEvent}
 use Rattle.termwiz_input.specs.Bytes.{ESC}
-use Rattle.termwiz_base.specs.Mouse.{button_of, modifiers_of}
+use Rattle.termwiz_base.specs.Mouse.{largest_code, IsFinal, button_of, modifiers_of}
 use Rattle.termwiz_input.specs.Buttons.{buttons_of}
 
 -- an ASCII digit
@@ -30,15 +30,27 @@ mouse_event code x y last = record {
   modifiers = modifiers_of code;
 }
 
+-- what every frame begins with
+abbrev pub introducer : List ℕ
+introducer = ESC ++ codes "[<"
+
+-- what stands between the numbers of a frame
+abbrev pub semicolon : ℕ
+semicolon = 59
+
+-- the largest column, and the largest row
+abbrev pub largest_place : ℕ
+largest_place = 65535
+
 -- A frame is ESC [<, three numbers parted by semicolons, and M or m.
 pub record IsFrame (text : List ℕ) (event : MouseEvent) : Type 0 where
   pub code : List ℕ
   pub x : List ℕ
   pub y : List ℕ
   pub last : ℕ
-  pub form : text ≡ ESC ++ codes "[<" ++ join_with_byte 59 (code ∷ x ∷ y ∷ []) ++ last ∷ []
-  pub code_is : IsNumber code 95
-  pub x_is : IsNumber x 65535
-  pub y_is : IsNumber y 65535
-  pub last_is : (last ≡ 77) ⊎ (last ≡ 109)
+  pub form : text ≡ introducer ++ join_with_byte semicolon (code ∷ x ∷ y ∷ []) ++ last ∷ []
+  pub code_is : IsNumber code largest_code
+  pub x_is : IsNumber x largest_place
+  pub y_is : IsNumber y largest_place
+  pub last_is : IsFinal last
   pub means : event ≡ mouse_event (value_of code) (value_of x) (value_of y) last

@@ -6,7 +6,9 @@ pub mod Callbacks
 pub mod Entries
 pub mod Events
 pub mod Frame
+pub mod FrameAnswers
 pub mod Frames
+pub mod Fronts
 pub mod Grammar
 pub mod Keys
 pub mod Known

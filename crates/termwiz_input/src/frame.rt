@@ -2,12 +2,10 @@
 //
 // A frame is ESC `[<`, a code up to 95, a column and a row up to 65535, parted by `;`, and `M` or `m`. Each number has
 // one to five decimal digits.
-ghost use Rattle.std.specs.Prelude.{◌∷◌, codes};
 ghost use Rattle.std.specs.Option.{SomeIff};
 ghost use Rattle.termwiz_base.specs.Mouse.{IsReport};
-ghost use Rattle.termwiz_input.specs.Bytes.{Begins};
 ghost use Rattle.termwiz_input.specs.Frame.{mouse_event};
-ghost use Rattle.termwiz_input.specs.Frames.{TellsFrame, TellsNumber, HasCode, HasColumn};
+ghost use Rattle.termwiz_input.specs.FrameAnswers.{IsFrameAnswer, IsNumberAnswer, IsEventAnswer};
 
 use crate::bytes::begins_with;
 use crate::types::{MouseButtons, MouseEvent};
@@ -24,15 +22,21 @@ pub(crate) enum FrontFrame {
     Absent,
 }
 
-// What a text begins with, as far as numbers go.
+// Why no whole number, and no whole frame, was read.
 #[derive(Drop)]
-enum Field {
-    // A number, the byte after it, and the length of both.
-    Number { value: u16, last: u8, len: usize },
-    // The whole text may be the beginning of a number.
-    Unended,
-    // No number up to the limit begins the text, whatever follows it.
-    Broken,
+enum Unread {
+    // The whole text may be the beginning of one.
+    Begun,
+    // The text begins with none, whatever follows it.
+    Absent,
+}
+
+// A number at the front of a text: its value, the byte that ends it, and what follows that byte.
+#[derive(Drop)]
+struct Number<'t> {
+    value: u16,
+    end: u8,
+    rest: &'t [u8],
 }
 
 const INTRODUCER: &[u8] = b"\x1b[<";
@@ -41,32 +45,31 @@ const LARGEST_CODE: u16 = 95;
 
 const MOST_DIGITS: usize = 5;
 
-// The number at the front of the text, and the byte that ends it.
-fn field_at(text: &[u8], limit: u16) -> Field
-    ensures { TellsNumber text.now limit result }
+// The number at the front of the text, up to a limit and with one of the bytes `ends` after it.
+fn number_at<'t>(text: &'t [u8], limit: u16, ends: &[u8]) -> Result<Number<'t>, Unread>
+    ensures { IsNumberAnswer text.now limit ends.now result }
 {
     let mut value = 0u32;
     for (count, byte) in text.iter().enumerate() {
         if !byte.is_ascii_digit() {
-            return if count == 0 {
-                Field::Broken
-            } else {
-                Field::Number {
-                    value: value as u16,
-                    last: *byte,
-                    len: count + 1,
-                }
-            };
+            if count == 0 || !ends.contains(byte) {
+                return Err(Unread::Absent);
+            }
+            return Ok(Number {
+                value: value as u16,
+                end: *byte,
+                rest: &text[count + 1..],
+            });
         }
         if count == MOST_DIGITS {
-            return Field::Broken;
+            return Err(Unread::Absent);
         }
         value = value * 10 + u32::from(*byte - b'0');
         if value > u32::from(limit) {
-            return Field::Broken;
+            return Err(Unread::Absent);
         }
     }
-    Field::Unended
+    Err(Unread::Begun)
 }
 
 // The event of a report, where its code and its last byte make one.
@@ -92,62 +95,29 @@ fn event_of(code: u16, x: u16, y: u16, last: u8) -> Option<MouseEvent>
     }
 }
 
-// The frame whose row comes next, at a place of the text, after its code and its column.
-fn row_at(text: &[u8], code: u16, x: u16, at: usize) -> FrontFrame
-    requires { HasColumn text.now code x at }
-    ensures { TellsFrame text.now result }
+// The event of a frame, from what follows its introducer, and what follows the frame.
+fn event_at(text: &[u8]) -> Result<(MouseEvent, &[u8]), Unread>
+    ensures { IsEventAnswer text.now result }
 {
-    match field_at(&text[at..], u16::MAX) {
-        Field::Number { value, last, len } => match event_of(code, x, value, last) {
-            Some(event) => FrontFrame::Whole(event, at + len),
-            None => FrontFrame::Absent,
-        },
-        Field::Unended => FrontFrame::Begun,
-        Field::Broken => FrontFrame::Absent,
-    }
-}
-
-// The frame whose column comes next, at a place of the text, after its code.
-fn column_at(text: &[u8], code: u16, at: usize) -> FrontFrame
-    requires { HasCode text.now code at }
-    ensures { TellsFrame text.now result }
-{
-    match field_at(&text[at..], u16::MAX) {
-        Field::Number {
-            value,
-            last: b';',
-            len,
-        } => row_at(text, code, value, at + len),
-        Field::Number { .. } => FrontFrame::Absent,
-        Field::Unended => FrontFrame::Begun,
-        Field::Broken => FrontFrame::Absent,
-    }
-}
-
-// The frame whose code comes next, after the introducer.
-fn code_at(text: &[u8]) -> FrontFrame
-    requires { Begins (0x1b ∷ codes "[<") text.now }
-    ensures { TellsFrame text.now result }
-{
-    let at = INTRODUCER.len();
-    match field_at(&text[at..], LARGEST_CODE) {
-        Field::Number {
-            value,
-            last: b';',
-            len,
-        } => column_at(text, value, at + len),
-        Field::Number { .. } => FrontFrame::Absent,
-        Field::Unended => FrontFrame::Begun,
-        Field::Broken => FrontFrame::Absent,
+    let code = number_at(text, LARGEST_CODE, b";")?;
+    let column = number_at(code.rest, u16::MAX, b";")?;
+    let row = number_at(column.rest, u16::MAX, b"Mm")?;
+    match event_of(code.value, column.value, row.value, row.end) {
+        Some(event) => Ok((event, row.rest)),
+        None => Err(Unread::Absent),
     }
 }
 
 // What the text begins with, as far as frames go.
 pub(crate) fn frame_at(text: &[u8]) -> FrontFrame
-    ensures { TellsFrame text.now result }
+    ensures { IsFrameAnswer text.now result }
 {
     if begins_with(text, INTRODUCER) {
-        code_at(text)
+        match event_at(&text[INTRODUCER.len()..]) {
+            Ok((event, rest)) => FrontFrame::Whole(event, text.len() - rest.len()),
+            Err(Unread::Begun) => FrontFrame::Begun,
+            Err(Unread::Absent) => FrontFrame::Absent,
+        }
     } else if begins_with(INTRODUCER, text) {
         FrontFrame::Begun
     } else {

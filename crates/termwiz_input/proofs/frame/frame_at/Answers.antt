@@ -1,6 +1,25 @@
-use Rattle.termwiz_input.proofs.FrameReading.{introducer_begun, no_introducer}
+use Rattle.std.proofs.Common.{◌∙◌, sym, ap, subst, refl, ◌++◌}
+use Rattle.termwiz_input.specs.declared.frame.Unread.TheVariants.{Begun, Absent}
+use Rattle.termwiz_input.specs.FrameAnswers.{IsFrameUnread}
+use Rattle.termwiz_input.proofs.FrameReading.{introduced, frame_before, introducer_begun, no_introducer}
 use Rattle.termwiz_input.proofs.Prefixes.{denied}
 use Rattle.termwiz_input.proofs.frame.frame_at.Goals as goal
+
+pub returns-in-Ok : goal.returns-in-Ok
+returns-in-Ok c =
+    let whole = introduced c.args.text.now _ (c.begins_with.ensures.0 c.if-begins_with.true) refl in
+    let found = c.in-Ok.ensures in
+    frame_before c.args.text.now found.0 c.in-Ok.rest.now c.in-Ok.event _ found.1 (sym whole ∙ found.2) refl
+
+pub returns-in-Err-Begun : goal.returns-in-Err-Begun
+returns-in-Err-Begun c =
+    subst (λ t. IsFrameUnread t Begun) (introduced c.args.text.now _ (c.begins_with.ensures.0 c.if-begins_with.true) refl)
+    (rw c.in-Err-Begun.field-0-is at c.in-Err-Begun.ensures)
+
+pub returns-in-Err-Absent : goal.returns-in-Err-Absent
+returns-in-Err-Absent c =
+    subst (λ t. IsFrameUnread t Absent) (introduced c.args.text.now _ (c.begins_with.ensures.0 c.if-begins_with.true) refl)
+    (rw c.in-Err-Absent.field-0-is at c.in-Err-Absent.ensures)
 
 pub returns-then-begins_with-2 : goal.returns-then-begins_with-2
 returns-then-begins_with-2 c = introducer_begun c.args.text.now (c.begins_with-else-begins_with.ensures.0 c.if-begins_with-2.true)

@@ -1,0 +1,49 @@
+-- What the recogniser of mouse frames answers.
+use Rattle.std.specs.Prelude.{◌≡◌, ◌≢◌, ℕ, ◌≤◌, List, [], ◌∷◌, ◌++◌, length, take, Contains, Result, Ok, Err}
+use Rattle.std.specs.List.{AllByRecursion}
+use denote.Ref.{Bor}
+use Rattle.termwiz_input.specs.declared.types.MouseEvent.{MouseEvent}
+use Rattle.termwiz_input.specs.declared.frame.FrontFrame.{FrontFrame}
+use Rattle.termwiz_input.specs.declared.frame.FrontFrame.TheVariants.{Whole, Begun, Absent}
+use Rattle.termwiz_input.specs.declared.frame.Unread.{Unread}
+use Rattle.termwiz_input.specs.declared.frame.Unread.TheVariants as unread
+use Rattle.termwiz_input.specs.declared.frame.Number.{Number}
+use Rattle.termwiz_input.specs.Bytes.{Begins}
+use Rattle.termwiz_input.specs.Frame.{IsDigit, IsNumber, value_of, introducer, IsFrame}
+
+-- text properly begins a frame
+abbrev pub IsBegun : List ℕ → Type 0
+IsBegun text = (tail : List ℕ) × (event : MouseEvent) × (tail ≢ []) × IsFrame (text ++ tail) event
+
+-- no frame begins the text, and it begins none
+abbrev pub HasNoPartInFrames : List ℕ → Type 0
+HasNoPartInFrames text = ((word : List ℕ) (event : MouseEvent) → IsFrame word event → ¬ Begins word text) × (¬ IsBegun text)
+
+-- what a text begins with, as far as frames go: a whole one, a proper beginning of one that is the whole text, or neither
+abbrev pub IsFrameAnswer : List ℕ → FrontFrame → Type 0
+IsFrameAnswer text (Whole event len) = (len ≤ length text) × IsFrame (take len text) event
+IsFrameAnswer text Begun = IsBegun text
+IsFrameAnswer text Absent = HasNoPartInFrames text
+
+-- why no number up to the limit, with one of the bytes ends after it, was read: the text is digits of one, or no text that
+-- begins so is a number and such an end
+abbrev pub IsNumberUnread : List ℕ → ℕ → List ℕ → Unread → Type 0
+IsNumberUnread text limit ends unread.Begun = AllByRecursion IsDigit text × (length text ≤ 5) × (value_of text ≤ limit)
+IsNumberUnread text limit ends unread.Absent =
+    (digits rest more : List ℕ) (end : ℕ) → IsNumber digits limit → Contains ends end → ¬ IsDigit end → digits ++ end ∷ rest ≢ text ++ more
+
+-- what number and end begin a text, and what follows them
+abbrev pub IsNumberAnswer : List ℕ → ℕ → List ℕ → Result Number Unread → Type 0
+IsNumberAnswer text limit ends (Ok number) =
+    (digits : List ℕ) × IsNumber digits limit × (number.value ≡ value_of digits) × Contains ends number.end × (text ≡ digits ++ number.end ∷ number.rest.now)
+IsNumberAnswer text limit ends (Err why) = IsNumberUnread text limit ends why
+
+-- why no whole frame was read
+abbrev pub IsFrameUnread : List ℕ → Unread → Type 0
+IsFrameUnread text unread.Begun = IsBegun text
+IsFrameUnread text unread.Absent = HasNoPartInFrames text
+
+-- what frame begins with the introducer and goes on with the text, and what follows it
+abbrev pub IsEventAnswer : List ℕ → Result (MouseEvent × Bor (List ℕ)) Unread → Type 0
+IsEventAnswer text (Ok found) = (word : List ℕ) × IsFrame word found.0 × (introducer ++ text ≡ word ++ found.1.now)
+IsEventAnswer text (Err why) = IsFrameUnread (introducer ++ text) why
