@@ -7,10 +7,10 @@ use std::process::Abort;
 use std::test::Fail;
 
 // Two keys, of four bytes.
-const KEYS: &[u8] = b"\x1b[Aq";
+pub(super) const KEYS: &[u8] = b"\x1b[Aq";
 
 // The events of the two keys, again and again.
-fn wanted_at(number: usize) -> InputEvent {
+pub(super) fn wanted_at(number: usize) -> InputEvent {
     let key = if number % 2 == 0 {
         KeyCode::UpArrow
     } else {
