@@ -79,7 +79,7 @@ fn waits_where_a_text_is_cut(rt: HostRuntime) -> Result<(), Fail> {
     check_all(&rt, rt.alloc(), CUTS_AFTER_ESCAPE)
 }
 
-// A text that waits, all of it, under the flag, and the shape of it.
+// Texts that wait as a whole: the text, the flag, and its shape.
 const RESTS: &[(&[u8], bool, Shape)] = &[
     (b"", MORE, Shape::Nothing),
     (b"", LAST, Shape::Nothing),
@@ -98,14 +98,14 @@ const RESTS: &[(&[u8], bool, Shape)] = &[
     (b"\xffand what follows it", MORE, Shape::BrokenCharacter),
 ];
 
-// The waiting text after a call with all of these bytes: their last ones.
+// The waiting text of a fresh parser that was given exactly these bytes: the last of them.
 pub(super) fn waiting_of<'a>(rt: &impl Abort, parser: &InputParser, text: &'a [u8]) -> &'a [u8] {
     let len = parser.waiting_len();
     assert!(rt; len <= text.len(), "{text:?}");
     &text[text.len() - len..]
 }
 
-// What waits has a shape of the page, and a paste is open if that is its shape.
+// What waits has one of the shapes of the page, and a paste is open if and only if that is its shape.
 pub(super) fn check_waiting(
     rt: &impl Abort,
     reader: &PlainReader,

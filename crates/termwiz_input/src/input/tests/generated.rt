@@ -8,7 +8,7 @@ use std::alloc::{AllocError, Global};
 use std::process::Abort;
 use std::test::Fail;
 
-// What generated texts are made of: the bytes that matter, and parts and wholes of known texts.
+// What generated texts are made of: the bytes that the grammar names, and parts and wholes of known texts.
 const SYMBOLS: &[&[u8]] = &[
     b"\x1b",
     b"\x1b",

@@ -6,11 +6,11 @@ use std::alloc::{AllocError, Global};
 use std::process::Abort;
 use std::test::Fail;
 
-// Two keys, of four bytes.
-const KEYS: &[u8] = b"\x1b[Aq";
+// Two keys in four bytes.
+pub(super) const KEYS: &[u8] = b"\x1b[Aq";
 
-// The events of the two keys, again and again.
-fn wanted_at(number: usize) -> InputEvent {
+// The event at this place of `KEYS`, repeated.
+pub(super) fn wanted_at(number: usize) -> InputEvent {
     let key = if number % 2 == 0 {
         KeyCode::UpArrow
     } else {
@@ -22,7 +22,7 @@ fn wanted_at(number: usize) -> InputEvent {
     })
 }
 
-// A text as often as this.
+// A text, repeated.
 pub(super) fn repeated(alloc: Global, text: &[u8], times: usize) -> Result<Vec<u8>, AllocError> {
     let mut whole = Vec::new(alloc);
     for _ in 0..times {
@@ -48,7 +48,7 @@ fn reads_a_thousand_keys_in_one_call(rt: HostRuntime) -> Result<(), Fail> {
     Ok(())
 }
 
-// The events of a text, as many bytes in a call as the length of a piece, and all but the last call with more to come.
+// The events of a text that is cut into pieces of this length: a call for each with more to come, and then a flush.
 fn read_in_pieces(
     alloc: Global,
     parser: &mut InputParser,
