@@ -7,8 +7,6 @@ pub mod Entries
 pub mod Events
 pub mod Frame
 pub mod FrameAnswers
-pub mod Frames
-pub mod Fronts
 pub mod Grammar
 pub mod Keys
 pub mod Known

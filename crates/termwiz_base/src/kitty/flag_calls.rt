@@ -2,7 +2,7 @@
 // the ghost member `exact`, and give each answer by the type's table of flags. Here each call stands alone in a function
 // whose contract gives the answer's bits, as the number in the field. No other code calls these functions: they are
 // there for their contracts.
-#![tactic(auto, using(std::proofs::lemmas::Nat::and_comm, crate::proofs::BitFacts::or_tests), unfolding(bitflags::proofs::OnLiterals::bitflags_on_literals))]
+#![tactic(auto, using(std::proofs::lemmas::Nat::and_comm), unfolding(bitflags::proofs::OnLiterals::bitflags_on_literals))]
 
 ghost use Rattle.std.specs.Prelude.{◌≡◌, ◌∷◌, [], ◌↔◌, IsTrue, if◌then◌else◌};
 ghost use Rattle.std.specs.Int.RustNames.{bit_and, bit_or, bit_xor};

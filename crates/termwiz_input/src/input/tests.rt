@@ -7,6 +7,7 @@ mod keys;
 mod line;
 mod long;
 mod pastes;
+mod pieces;
 mod rows;
 
 use super::{Flags, InputEvent, InputParser, KeyCode, KeyEvent, Modifiers, MouseButtons, plain};
@@ -41,7 +42,7 @@ fn check(rt: &impl Abort, alloc: Global, name: &str, steps: &[Step]) -> Result<(
         let line = line::line_of(alloc, events.as_slice(), &parser)?;
         assert_eq!(rt; line.as_str(), *wanted, "{name}, step {number}");
     }
-    Ok(())
+    pieces::check_by_parse(rt, alloc, name, steps)
 }
 
 fn check_all(rt: &impl Abort, alloc: Global, examples: &[Example]) -> Result<(), Fail> {

@@ -1,0 +1,283 @@
+// The calls with a callback: what `parse` and `parse_pieces` give, the numbers of the pieces, and the messages of errors.
+use super::cuts::{check_waiting, waiting_of};
+use super::generated::Comparison;
+use super::line::{line_of, push_comma, push_event, push_waiting};
+use super::long::{KEYS, check_events, repeated, wanted_at};
+use super::plain::PlainReader;
+use super::{InputEvent, InputParser, LAST, MORE, Step};
+use crate::input::{ParseError, PiecesError};
+use std::alloc::{AllocError, Global};
+use std::fmt::Write;
+use std::process::Abort;
+use std::test::Fail;
+
+// The events of a call of `parse`.
+pub(super) fn parsed(
+    rt: &impl Abort,
+    alloc: Global,
+    parser: &mut InputParser,
+    bytes: &[u8],
+    more: bool,
+) -> Result<Vec<InputEvent>, Fail> {
+    let mut events = Vec::new(alloc);
+    let mut is_refused = false;
+    let mut note = |event: InputEvent| {
+        if events.push(event).is_err() {
+            is_refused = true;
+        }
+    };
+    parser.parse(bytes, &mut note, more)?;
+    assert!(rt; !is_refused);
+    Ok(events)
+}
+
+// The events of a call of `parse_pieces`, each with the number of its piece.
+fn parsed_pieces(
+    rt: &impl Abort,
+    alloc: Global,
+    parser: &mut InputParser,
+    pieces: &[&[u8]],
+    more: bool,
+) -> Result<Vec<(usize, InputEvent)>, Fail> {
+    let mut events = Vec::new(alloc);
+    let mut is_refused = false;
+    let mut note = |number: usize, event: InputEvent| {
+        if events.push((number, event)).is_err() {
+            is_refused = true;
+        }
+    };
+    parser.parse_pieces(pieces, &mut note, more)?;
+    assert!(rt; !is_refused);
+    Ok(events)
+}
+
+// Makes the calls of an example with a fresh parser, by `parse`.
+pub(super) fn check_by_parse(
+    rt: &impl Abort,
+    alloc: Global,
+    name: &str,
+    steps: &[Step],
+) -> Result<(), Fail> {
+    let mut parser = InputParser::new(alloc)?;
+    for (number, (bytes, more, wanted)) in steps.iter().enumerate() {
+        let events = parsed(rt, alloc, &mut parser, bytes, *more)?;
+        let line = line_of(alloc, events.as_slice(), &parser)?;
+        assert_eq!(rt; line.as_str(), *wanted, "{name}, step {number}, by parse");
+    }
+    Ok(())
+}
+
+// The events of a call, each after the number of its piece, and what waits after it.
+fn numbered_line_of(
+    alloc: Global,
+    events: &[(usize, InputEvent)],
+    parser: &InputParser,
+) -> Result<String, AllocError> {
+    let mut line = String::new(alloc);
+    for (number, event) in events {
+        push_comma(&mut line)?;
+        write!(line, "{number}: ")?;
+        push_event(&mut line, event)?;
+    }
+    push_waiting(&mut line, parser)?;
+    Ok(line)
+}
+
+// The name of an example, the bytes that a fresh parser takes first, with more to come, the pieces, the flag, and the
+// line that they give.
+type Call = (
+    &'static str,
+    &'static [u8],
+    &'static [&'static [u8]],
+    bool,
+    &'static str,
+);
+
+const CALLS: &[Call] = &[
+    ("no-pieces", b"", &[], MORE, ""),
+    ("flush-by-no-pieces", b"\x1b", &[], LAST, "0: Escape"),
+    ("no-pieces-with-more-to-come", b"\x1b", &[], MORE, "waits 1"),
+    (
+        "empty-pieces",
+        b"",
+        &[b"", b"\x1b", b"", b"[", b"A"],
+        MORE,
+        "4: UpArrow",
+    ),
+    (
+        "mouse-in-pieces",
+        b"",
+        &[b"\x1b[", b"<0;1;2M"],
+        LAST,
+        "1: Mouse 1 2 LEFT NONE",
+    ),
+    ("alt-in-pieces", b"", &[b"\x1b", b"["], LAST, "1: [ ALT"),
+    (
+        "numbers",
+        b"",
+        &[b"a", b"\x1b", b"[Ab"],
+        LAST,
+        "0: a, 2: UpArrow, 2: b",
+    ),
+    (
+        "pieces-paste",
+        b"",
+        &[b"\x1b[2", b"00~ab\x1b[", b"201~"],
+        MORE,
+        "2: Paste(ab)",
+    ),
+    (
+        "only-the-last-piece-is-flushed",
+        b"",
+        &[b"\x1b", b"x\x1b", b"[1"],
+        LAST,
+        "1: x ALT, 2: [ ALT, 2: 1",
+    ),
+    (
+        "empty-last-piece",
+        b"",
+        &[b"\x1b[1", b""],
+        LAST,
+        "1: [ ALT, 1: 1",
+    ),
+    (
+        "held-before",
+        b"\x1b[<0;1",
+        &[b";2", b"M"],
+        MORE,
+        "1: Mouse 1 2 LEFT NONE",
+    ),
+    (
+        "pieces-of-an-open-paste",
+        b"\x1b[200~a",
+        &[b"b", b"c"],
+        LAST,
+        "waits 9 in a paste",
+    ),
+];
+
+#[test]
+fn reads_pieces(rt: HostRuntime) -> Result<(), Fail> {
+    for (name, before, pieces, more, wanted) in CALLS {
+        let mut parser = InputParser::new(rt.alloc())?;
+        let events = parsed(&rt, rt.alloc(), &mut parser, before, MORE)?;
+        assert!(rt; events.is_empty(), "{name}");
+        let events = parsed_pieces(&rt, rt.alloc(), &mut parser, pieces, *more)?;
+        let line = numbered_line_of(rt.alloc(), events.as_slice(), &parser)?;
+        assert_eq!(rt; line.as_str(), *wanted, "{name}");
+    }
+    Ok(())
+}
+
+#[test]
+fn error_messages(rt: HostRuntime) -> Result<(), Fail> {
+    let not_taken = format!(in rt.alloc(); "{}", ParseError::NotTaken)?;
+    assert_eq!(rt; not_taken.as_str(), "input not taken: out of memory");
+    let taken = format!(in rt.alloc(); "{}", ParseError::Taken)?;
+    assert_eq!(rt; taken.as_str(), "input taken: out of memory");
+    let pieces = format!(in rt.alloc(); "{}", PiecesError { taken: 3 })?;
+    assert_eq!(rt; pieces.as_str(), "out of memory after 3 pieces");
+    Ok(())
+}
+
+#[test]
+fn parse_reads_a_thousand_keys(rt: HostRuntime) -> Result<(), Fail> {
+    let text = repeated(rt.alloc(), KEYS, 500)?;
+    let mut parser = InputParser::new(rt.alloc())?;
+    let events = parsed(&rt, rt.alloc(), &mut parser, text.as_slice(), LAST)?;
+    check_events(&rt, events.as_slice(), 1000);
+    assert_eq!(rt; parser.waiting_len(), 0);
+    Ok(())
+}
+
+// The events of `KEYS` as often as this, a byte a piece: the first key ends at the third byte, and the second at the fourth.
+fn keys_by_bytes(alloc: Global, times: u16) -> Result<Vec<(usize, InputEvent)>, AllocError> {
+    let mut events = Vec::new(alloc);
+    for time in 0..times {
+        let first = time as usize * 4;
+        events.push((first + 2, wanted_at(0)))?;
+        events.push((first + 3, wanted_at(1)))?;
+    }
+    Ok(events)
+}
+
+#[test]
+fn reads_two_thousand_pieces(rt: HostRuntime) -> Result<(), Fail> {
+    let text = repeated(rt.alloc(), KEYS, 500)?;
+    let mut pieces = Vec::new(rt.alloc());
+    for piece in text.chunks(1) {
+        pieces.push(piece)?;
+    }
+    let mut parser = InputParser::new(rt.alloc())?;
+    let events = parsed_pieces(&rt, rt.alloc(), &mut parser, pieces.as_slice(), LAST)?;
+    assert_eq!(rt; events, keys_by_bytes(rt.alloc(), 500)?);
+    assert_eq!(rt; parser.waiting_len(), 0);
+    Ok(())
+}
+
+// The events of the pieces after the first, with their numbers: those that the plain reader finds in the pieces up to one,
+// and not yet in the pieces before it.
+fn numbered_events(
+    reader: &PlainReader,
+    alloc: Global,
+    first: &[u8],
+    others: &[&[u8]],
+    more: bool,
+) -> Result<Vec<(usize, InputEvent)>, Fail> {
+    let mut numbered = Vec::new(alloc);
+    let mut text = first.to_vec(alloc)?;
+    let mut count = reader.read(first, MORE)?.0.len();
+    let mut left = others.len();
+    for (number, piece) in others.iter().enumerate() {
+        left = left.saturating_sub(1);
+        text.extend_from_slice(piece)?;
+        let (events, _) = reader.read(text.as_slice(), more || 0 < left)?;
+        let new_count = events.len();
+        for event in events.into_iter().skip(count) {
+            numbered.push((number, event))?;
+        }
+        count = new_count;
+    }
+    Ok(numbered)
+}
+
+// The first piece by `parse`, with more to come, and then the others by `parse_pieces`.
+fn check_pieces(
+    rt: &impl Abort,
+    alloc: Global,
+    comparison: &Comparison,
+    first: &[u8],
+    others: &[&[u8]],
+    more: bool,
+) -> Result<(), Fail> {
+    let mut parser = InputParser::new(alloc)?;
+    let events = parsed(rt, alloc, &mut parser, first, MORE)?;
+    comparison.check_read(rt, &parser, events.as_slice(), first, MORE)?;
+    let wanted = numbered_events(&comparison.reader, alloc, first, others, more)?;
+    let found = parsed_pieces(rt, alloc, &mut parser, others, more)?;
+    assert_eq!(rt; found, wanted, "{first:?}, {others:?}, {more}");
+    let mut text = first.to_vec(alloc)?;
+    for piece in others {
+        text.extend_from_slice(piece)?;
+    }
+    let (_, rest) = comparison.reader.read(text.as_slice(), more)?;
+    assert_eq!(rt;
+        waiting_of(rt, &parser, text.as_slice()),
+        rest,
+        "{text:?}, {more}"
+    );
+    check_waiting(rt, &comparison.reader, &parser, rest, more)
+}
+
+#[test]
+fn reads_pieces_as_the_plain_reader(rt: HostRuntime) -> Result<(), Fail> {
+    let mut comparison = Comparison::new(rt.alloc())?;
+    for number in 0..2000usize {
+        let text = comparison.draws.text(rt.alloc(), 1 + number % 12, true)?;
+        let pieces = comparison.draws.pieces(rt.alloc(), text.as_slice(), 8)?;
+        if let Some((first, others)) = pieces.split_first() {
+            check_pieces(&rt, rt.alloc(), &comparison, first, others, number % 2 == 0)?;
+        }
+    }
+    Ok(())
+}
