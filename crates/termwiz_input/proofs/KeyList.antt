@@ -1,17 +1,16 @@
 -- Lookups and edits in the list of entries of a map, and in the map.
 use Rattle.std.proofs.Common.{◌+◌, ◌++◌, suc, drop, set, get_or, take-append-drop, length-append, length-drop, ◌≡◌, ◌∙◌, ◌<◌, ◌&&◌, ◌||◌, ℕ, Bool, true, false, cond, List, [], ◌∷◌, length, take, refl, sym, ap, nat_lt, nat_eq, arith}
 use Rattle.std.specs.Prelude.{Option, Some, None}
-use Rattle.std.specs.Ordering.{nat_cmp, eq_by_cmp}
-use Rattle.std.specs.Cmp.Lexicographic.{slice_cmp, pointwise, texts_ties}
+use Rattle.std.specs.Ordering.{nat_cmp}
+use Rattle.std.specs.Cmp.Lexicographic.{slice_cmp, pointwise}
 use Rattle.std.proofs.lemmas.Cmp.{nat_list_eq_equiv}
-use Rattle.std.specs.FinMap.{find}
 use Rattle.std.specs.Prelude.{IsSome, is_some}
 use Rattle.std.proofs.lemmas.Cmp.{nat_list_cmp_total}
 use Rattle.std.proofs.lemmas.Bool.{ltb-true, lt-ltb}
 use Rattle.std.specs.Cmp.{first_so, second_so}
 use Rattle.std.specs.Cmp.Derive.{both_true}
 use Rattle.std.specs.Cmp.Lexicographic.{same_text}
-use Rattle.std.specs.FinMap.{get, from_entries, get-from_entries}
+use Rattle.std.specs.FinMap.{get, from_entries}
 use Rattle.termwiz_input.specs.Entries.{Entries, some_key_extends, IsLongestEntry, NoEntryBegins}
 use Rattle.termwiz_input.specs.Lookup.{Keys, IsExtended, IsLongestKey, NoKeyBegins}
 use Rattle.std.proofs.Math.Bool.{or-true}
@@ -20,7 +19,7 @@ use Rattle.std.proofs.lemmas.List.{set_split, get_or-map, take-map, take_more, m
 use Rattle.std.specs.Global.{Vec}
 use Rattle.std.specs.Option.{option_or}
 use Rattle.std.specs.FinMap as map
-use Rattle.std.specs.FinMap.{from_entries_push, same_map, get-insert, slice_cmp-IsAntisymmetric, nat_cmp-IsAntisymmetric}
+use Rattle.std.specs.FinMap.{from_entries_push, slice_cmp-IsAntisymmetric, nat_cmp-IsAntisymmetric}
 use Rattle.termwiz_input.specs.Entries.{IsFirstPlace, entries_of}
 use Rattle.termwiz_input.proofs.KeysInEntries.{tied, tied_same, found, found-append, find_here, find_later, get-entries, key_set}
 

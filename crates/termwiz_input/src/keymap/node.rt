@@ -1,5 +1,5 @@
-//! The tree of a key map. Each node stands for a beginning of keys, and each of its children for
-//! that beginning with one more byte.
+//! The tree of a key map. Each node stands for a prefix of keys, and each of its children for that
+//! prefix with one more byte.
 ghost use Rattle.std.specs.Prelude.{◌≡◌, ◌↔◌, [], ◌∷◌, IsTrue, IfOk, IfErr, OnOk, OnErr, IfSome, IfNone, Some, None};
 ghost use Rattle.std.specs.FinMap as map;
 ghost use Rattle.termwiz_input.specs.Branch.{AreChildren, IsPlaceOf, IsBranchClone, IsGapFor, map_of, labels};
@@ -8,8 +8,8 @@ ghost use Rattle.termwiz_input.specs.Lookup.{IsExtended, IsLongestKey, NoKeyBegi
 use std::alloc::{AllocError, Global};
 use std::marker::Model;
 
-/// A node: the byte that leads to it, its children in ascending order of theirs, and the value of
-/// the key that ends here.
+/// A node: the byte that leads to it, its children in ascending order of their bytes, and the value
+/// of the key that ends here, if one does.
 #[derive(Debug, Drop)]
 pub struct Node<V> {
     label: u8,
@@ -34,7 +34,7 @@ impl<V> Model for Node<V> {
     ghost size = { λ b. b.height };
 }
 
-// The place of the child under a byte, or where it would go.
+// The place of the child under a byte, or the place at which it would be inserted.
 fn place_of<V>(children: &[Node<V>], label: u8) -> Result<usize, usize>
     requires { AreChildren children.now }
     ensures found { IfOk result (IsPlaceOf (labels children.now) label) }
@@ -64,7 +64,7 @@ impl<V> Node<V> {
 }
 
 impl<V: Drop> Node<V> {
-    // A chain of nodes with one key, which goes on from the first of them.
+    // A chain of nodes with a single key: the first node is under `label`, and `key` goes on from it.
     fn chain(alloc: Global, label: u8, key: &[u8], value: V) -> Result<Node<V>, AllocError>
         ensures label { IfOk result (λ n. n.label ≡ label) }
         ensures key { IfOk result (λ n. n.entries ≡ (key.now, value) ∷ []) }
@@ -84,7 +84,7 @@ impl<V: Drop> Node<V> {
         })
     }
 
-    /// Sets the value of one key. Where memory is refused, nothing is changed.
+    /// Sets the value of one key. If memory is refused, the node is unchanged.
     pub fn insert(&mut self, alloc: Global, key: &[u8], value: V) -> Result<(), AllocError>
         ensures label { self.new.label ≡ self.old.label }
         ensures ok { OnOk result (map_of self.new ≡ map.insert (map_of self.old) key.now value) }
@@ -106,8 +106,8 @@ impl<V: Drop> Node<V> {
 }
 
 impl<V> Node<V> {
-    /// The longest key that begins a text, as its length and its value, and whether a longer key
-    /// begins with the text.
+    /// The length and the value of the longest key that is a prefix of a text, and whether some key
+    /// begins with the whole text and is longer.
     pub fn walk(&self, text: &[u8]) -> (Option<(usize, &V)>, bool)
         ensures longest { IfSome result.0 (λ found. IsLongestKey (map_of self.now) text.now found.0 found.1.now) }
         ensures none { IfNone result.0 (NoKeyBegins (map_of self.now) text.now) }
@@ -128,7 +128,7 @@ impl<V> Node<V> {
         )
     }
 
-    // The value of the key that ends at the node, beside that key's length, which the caller knows.
+    // The value of the key that ends at the node, after that key's length, which the caller passes.
     fn own_value(&self, len: usize) -> Option<(usize, &V)>
         ensures len { IfSome result (λ own. own.0 ≡ len) }
         ensures value { IfSome result (λ own. map.get (map_of self.now) [] ≡ Some own.1.now) }
@@ -139,7 +139,7 @@ impl<V> Node<V> {
 }
 
 impl<V: Clone + Drop> Node<V> {
-    /// The node with all that is below it, in new memory.
+    /// A copy of the node and of all that is below it, in new memory, with clones of the values.
     pub fn copy(&self, alloc: Global) -> Result<Node<V>, AllocError>
         ensures { IfOk result (IsBranchClone V.is_clone self.now) }
     {

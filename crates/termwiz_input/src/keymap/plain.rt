@@ -1,5 +1,5 @@
-//! A plain key map, a list of entries in the order of first insertion, that the tests compare the
-//! tree with.
+//! A plain key map, which tests compare with the tree: a list of entries in the order in which their
+//! keys were first inserted.
 ghost use Rattle.std.specs.Prelude.{◌≡◌, None, OnOk, OnErr, IfSome, IfNone};
 ghost use Rattle.std.specs.Option.{option_copied};
 ghost use Rattle.std.specs.Ordering.{nat_cmp};
@@ -58,7 +58,7 @@ fn place_of<V>(entries: &[(Vec<u8>, V)], key: &[u8]) -> Option<usize>
     None
 }
 
-// Whether some key is longer than the text and begins with it.
+// Whether some key begins with the text and is longer.
 fn is_extended<V>(entries: &[(Vec<u8>, V)], text: &[u8]) -> bool
     ensures { result ≡ some_key_extends text.now (entries_of entries.now) }
 {
@@ -71,7 +71,7 @@ fn is_extended<V>(entries: &[(Vec<u8>, V)], text: &[u8]) -> bool
     false
 }
 
-// The longest key that begins the text: its length and its value.
+// The length and the value of the longest key that is a prefix of the text.
 fn longest_of<'a, V>(entries: &'a [(Vec<u8>, V)], text: &[u8]) -> Option<(usize, &'a V)>
     ensures found { IfSome result (λ p. IsLongestEntry (entries_of entries.now) text.now p.0 p.1.now) }
     ensures none { IfNone result (NoEntryBegins (entries_of entries.now) text.now) }
@@ -91,7 +91,7 @@ fn longest_of<'a, V>(entries: &'a [(Vec<u8>, V)], text: &[u8]) -> Option<(usize,
 impl<V: Debug + Clone + Drop> PlainMap<V> {
     ghost use Rattle.termwiz_input.specs.Lookup.{LookupGives, found_copied};
 
-    /// The empty map.
+    /// An empty map.
     pub fn new(alloc: Global) -> PlainMap<V>
         ensures { result ≡ map.empty }
     {
@@ -101,7 +101,7 @@ impl<V: Debug + Clone + Drop> PlainMap<V> {
         }
     }
 
-    /// Sets the value of one key.
+    /// Sets the value of one key. If memory is refused, the map is unchanged.
     pub fn insert(&mut self, key: &[u8], value: V) -> Result<(), AllocError>
         ensures ok { OnOk result (self.new ≡ map.insert self.old key.now value) }
         ensures err { OnErr result (self.new ≡ self.old) }
@@ -116,7 +116,7 @@ impl<V: Debug + Clone + Drop> PlainMap<V> {
         Ok(())
     }
 
-    /// What a text begins with.
+    /// As `KeyMap::lookup`.
     pub fn lookup(&self, key: &[u8], maybe_more: bool) -> Found<&V>
         ensures { LookupGives self.now key.now maybe_more (found_copied result) }
     {
