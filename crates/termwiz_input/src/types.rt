@@ -16,21 +16,21 @@ mod tests;
 
 /// A key: by the character that it types, or by its name.
 ///
-/// Terminals report only some of these keys. The rest are here for programs that have keys from elsewhere, such as a
-/// window system. Where a key's name alone doesn't say which it is, Microsoft's list of virtual-key codes does, and for
-/// Hyper, Super and Meta the X Window System's list of keysyms.
+/// Terminals report only some of these keys; the rest are for programs that have keys from elsewhere, such as a window
+/// system. Most of the names are those of Microsoft's virtual-key codes, whose list describes each key. Hyper, Super and
+/// Meta are named as in the X Window System.
 #[derive(Clone, Copy, PartialEq, Eq, Hash, Debug)]
 pub enum KeyCode {
     /// A key that types a character: `Char('A')` is what Shift-A types, and Ctrl-C is `Char('c')` with CTRL.
     Char(char),
 
-    /// Hyper, a modifier key of X11.
+    /// Hyper, a modifier key.
     Hyper,
 
-    /// Super, a modifier key of X11: on most keyboards the one with the Windows logo, or Command.
+    /// Super, a modifier key: on most keyboards the one with the Windows logo, or Command.
     Super,
 
-    /// Meta, a modifier key of X11. The key that is labelled Alt is [`KeyCode::Alt`].
+    /// Meta, a modifier key. The key that is labelled Alt is [`KeyCode::Alt`].
     Meta,
 
     /// Cancel, which on PC keyboards is Ctrl-Break.
@@ -394,8 +394,8 @@ impl From<MouseButton> for MouseButtons {
 
     ghost from_gives = { λ button buttons. buttons ≡ buttons_of button };
 
-    /// Returns the button that was pressed or dragged, or the wheel that was turned with its direction. Returns NONE for
-    /// a release, which leaves no button down that the report tells of.
+    /// Returns the button that was pressed or held, or the wheel that was turned with its direction. Returns NONE for
+    /// every release, and for [`MouseButton::None`].
     fn from(button: MouseButton) -> MouseButtons {
         match button {
             MouseButton::Button1Press | MouseButton::Button1Drag => MouseButtons::LEFT,
