@@ -2,6 +2,7 @@
 -- From xterm's control sequences ("PC-Style Function Keys", "VT220-Style Function Keys", modifyOtherKeys), from fixterms
 -- (CSI u) and from rxvt's keys ($, ^ and @ at the end). The table is the set of these pairs, whatever their order.
 use Rattle.std.specs.Prelude.{ℕ, zero, suc, ◌+◌, Bool, not, List, [], ◌∷◌, ◌++◌, map, filter, flat_map, codes, decimal, if◌then◌else◌, ◌==◌, ◌||◌}
+use Rattle.std.specs.Fmt.{digits}
 use Rattle.termwiz_input.specs.declared.types.KeyCode.{KeyCode}
 use Rattle.termwiz_input.specs.declared.types.KeyCode.TheVariants.{Char, Backspace, Tab, Enter, Escape, PageUp, PageDown, End, Home, LeftArrow, RightArrow, UpArrow, DownArrow, Insert, Delete, Function, ApplicationLeftArrow, ApplicationRightArrow, ApplicationUpArrow, ApplicationDownArrow, InternalPasteStart, InternalPasteEnd}
 use Rattle.termwiz_input.specs.declared.types.KeyEvent.{KeyEvent}
@@ -215,6 +216,11 @@ rows =
     control_letters_rows ++ backspace_bytes_rows ++ tab_byte_rows ++ enter_bytes_rows ++ escape_byte_rows ++ alt_letters_rows ++ alt_bracket_rows ++ shift_tab_rows ++ csi_u_rows ++ modify_other_keys_rows
     ++ cursor_keys_rows ++ modified_cursor_keys_rows ++ shift_arrows_rows ++ ctrl_arrows_rows ++ application_arrows_rows ++ modified_application_arrows_rows ++ ss3_function_keys_rows ++ lettered_function_keys_rows ++ numbered_function_keys_rows
     ++ edit_keys_rows ++ paste_start_rows ++ paste_end_rows
+
+-- the table, written out: to unfold this is to unfold every rule
+unfoldable pub written_out : List TableRow
+unfolding numbers rows control_letters_rows backspace_bytes_rows tab_byte_rows enter_bytes_rows escape_byte_rows alt_letters_rows alt_bracket_rows shift_tab_rows csi_u_rows modify_other_keys_rows cursor_keys_rows modified_cursor_keys_rows shift_arrows_rows ctrl_arrows_rows application_arrows_rows modified_application_arrows_rows ss3_function_keys_rows lettered_function_keys_rows numbered_function_keys_rows edit_keys_rows paste_start_rows paste_end_rows digits
+written_out = rows
 
 -- a map with these rows put into it, one after another
 abbrev pub with_rows : Keys KeyEvent → List TableRow → Keys KeyEvent
