@@ -17,10 +17,10 @@ use Rattle.termwiz_input.specs.declared.types.KeyCode.TheVariants.{Char, Backspa
 use Rattle.termwiz_input.specs.Keys.{escape, key_with, NONE, SHIFT, ALT, CTRL}
 use Rattle.termwiz_input.specs.Laws.{BeginsRow, ThreeBeginnings, HasOtherBytes, TableFacts}
 use Rattle.termwiz_input.specs.Bytes.{ESC, CSI, SS3, START}
-use Rattle.termwiz_input.specs.Table.{TableRow, rows}
+use Rattle.termwiz_input.specs.Table.{TableRow, rows, written_out}
 use Rattle.termwiz_input.proofs.Searches.{same_or_not}
 use Rattle.termwiz_input.proofs.FrameFacts.{IsPlain}
-use Rattle.termwiz_input.proofs.TableTests.{is_inner, ends_well, has_shape, is_plain, is_sequence, has_row_form, number_of_text, number_of_row, halves, all_but, all_differ, split_differ, rows_shaped, rows_differ, row_count, written_out}
+use Rattle.termwiz_input.proofs.TableTests.{is_inner, ends_well, has_shape, is_plain, is_sequence, has_row_form, number_of_text, number_of_row, halves, all_but, all_differ, split_differ, rows_shaped, rows_differ, rows_counted}
 
 -- what the first test says of a row
 pub record Shaped (text : List ℕ) : Type 0 where
@@ -250,7 +250,7 @@ longest_row = row_by_bytes (CSI ++ codes "27;8;127~") (key_with Backspace (CTRL 
 
 pub table_facts : TableFacts
 table_facts = record {
-  rows_are_2834 = row_count;
+  counted = rows_counted;
   bytes_differ = bytes_differ;
   at_most_eleven_bytes = λ i d l. (let s : length (get_or rows i d).0 < 12 = (all_shaped i d l).short in omega arith);
   one_has_eleven_bytes = (CSI ++ codes "27;8;127~", key_with Backspace (CTRL + ALT + SHIFT), longest_row, refl);

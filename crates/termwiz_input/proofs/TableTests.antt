@@ -1,8 +1,8 @@
 -- Tests that are computed over the whole table.
 use Rattle.std.proofs.Common.{◌≡◌, ℕ, zero, suc, ◌+◌, ◌*◌, ◌/◌, ◌%◌, Bool, true, false, not, cond, List, [], ◌∷◌, length, map, refl, nat_lt, ◌==◌, ◌&&◌, ◌||◌}
 use Rattle.std.specs.List.{list_all}
-use Rattle.std.specs.Fmt.{digits}
-use Rattle.termwiz_input.specs.Table.{TableRow, numbers, rows, control_letters_rows, backspace_bytes_rows, tab_byte_rows, enter_bytes_rows, escape_byte_rows, alt_letters_rows, alt_bracket_rows, shift_tab_rows, csi_u_rows, modify_other_keys_rows, cursor_keys_rows, modified_cursor_keys_rows, shift_arrows_rows, ctrl_arrows_rows, application_arrows_rows, modified_application_arrows_rows, ss3_function_keys_rows, lettered_function_keys_rows, numbered_function_keys_rows, edit_keys_rows, paste_start_rows, paste_end_rows}
+use Rattle.termwiz_input.specs.Table.{TableRow, rows, written_out}
+use Rattle.termwiz_input.specs.Laws.{row_count}
 
 -- a byte that may stand before the last of a row that begins ESC [ or ESC O: a digit or a semicolon
 abbrev pub is_inner : ℕ → Bool
@@ -65,11 +65,6 @@ abbrev pub split_differ : ℕ → List ℕ → Bool
 split_differ zero xs = all_differ xs
 split_differ (suc n) xs = split_differ n (halves 0 xs) && split_differ n (halves 1 xs)
 
--- the table, opened: to unfold this is to unfold every rule
-unfoldable pub written_out : List TableRow
-unfolding numbers rows control_letters_rows backspace_bytes_rows tab_byte_rows enter_bytes_rows escape_byte_rows alt_letters_rows alt_bracket_rows shift_tab_rows csi_u_rows modify_other_keys_rows cursor_keys_rows modified_cursor_keys_rows shift_arrows_rows ctrl_arrows_rows application_arrows_rows modified_application_arrows_rows ss3_function_keys_rows lettered_function_keys_rows numbered_function_keys_rows edit_keys_rows paste_start_rows paste_end_rows digits
-written_out = rows
-
 pub rows_shaped : list_all (λ r. has_row_form r.0) rows ≡ true
 unfolding written_out
 rows_shaped = refl
@@ -78,6 +73,6 @@ pub rows_differ : split_differ 10 (map number_of_row rows) ≡ true
 unfolding written_out
 rows_differ = refl
 
-pub row_count : length rows ≡ 2834
+pub rows_counted : length rows ≡ row_count
 unfolding written_out
-row_count = refl
+rows_counted = refl

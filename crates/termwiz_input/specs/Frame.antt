@@ -14,10 +14,14 @@ IsDigit b = (48 ≤ b) × (b ≤ 57)
 abbrev pub value_of : List ℕ → ℕ
 value_of digits = fold (λ n b. n * 10 + (b - 48)) 0 digits
 
--- from one to five digits, which write a number up to the limit
+-- how many digits a number may have
+abbrev pub most_digits : ℕ
+most_digits = 5
+
+-- at least one digit and at most five, which write a number up to the limit
 pub record IsNumber (digits : List ℕ) (limit : ℕ) : Type 0 where
   pub some : 0 < length digits
-  pub short : length digits ≤ 5
+  pub short : length digits ≤ most_digits
   pub each : AllByRecursion IsDigit digits
   pub within : value_of digits ≤ limit
 

@@ -9,7 +9,7 @@ use Rattle.termwiz_input.specs.declared.frame.Unread.{Unread}
 use Rattle.termwiz_input.specs.declared.frame.Unread.TheVariants as unread
 use Rattle.termwiz_input.specs.declared.frame.Number.{Number}
 use Rattle.termwiz_input.specs.Bytes.{Begins}
-use Rattle.termwiz_input.specs.Frame.{IsDigit, IsNumber, value_of, introducer, IsFrame}
+use Rattle.termwiz_input.specs.Frame.{IsDigit, most_digits, IsNumber, value_of, introducer, IsFrame}
 
 -- text properly begins a frame
 abbrev pub IsBegun : List ℕ → Type 0
@@ -28,7 +28,7 @@ IsFrameAnswer text Absent = HasNoPartInFrames text
 -- why no number up to the limit, with one of the bytes ends after it, was read: the text is digits of one, or no text that
 -- begins so is a number and such an end
 abbrev pub IsNumberUnread : List ℕ → ℕ → List ℕ → Unread → Type 0
-IsNumberUnread text limit ends unread.Begun = AllByRecursion IsDigit text × (length text ≤ 5) × (value_of text ≤ limit)
+IsNumberUnread text limit ends unread.Begun = AllByRecursion IsDigit text × (length text ≤ most_digits) × (value_of text ≤ limit)
 IsNumberUnread text limit ends unread.Absent =
     (digits rest more : List ℕ) (end : ℕ) → IsNumber digits limit → Contains ends end → ¬ IsDigit end → digits ++ end ∷ rest ≢ text ++ more
 

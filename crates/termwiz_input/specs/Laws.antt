@@ -64,9 +64,13 @@ ThreeBeginnings = (text : List ℕ) → BeginsRow text ↔ ((text ≡ ESC) ⊎ (
 abbrev pub HasOtherBytes : TableRow → TableRow → Type 0
 HasOtherBytes one other = one.0 ≢ other.0
 
+-- how many rows the table has
+abbrev pub row_count : ℕ
+row_count = 2834
+
 -- What is true of the table as a whole.
 pub record TableFacts : Type 0 where
-  pub rows_are_2834 : length rows ≡ 2834
+  pub counted : length rows ≡ row_count
   pub bytes_differ : AllPairs HasOtherBytes rows
   pub at_most_eleven_bytes : All (λ row. length row.0 ≤ 11) rows
   pub one_has_eleven_bytes : (bytes : List ℕ) × (key : KeyEvent) × Contains rows (bytes, key) × (length bytes ≡ 11)

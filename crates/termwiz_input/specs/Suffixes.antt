@@ -10,9 +10,9 @@ abbrev pub held_together : List Modifiers → Modifiers
 held_together modifiers = fold (λ held m. record { 0 = bit_or held.0 m.0 }) (record { 0 = 0 }) modifiers
 
 -- suffixes, each with the bits of its modifiers
-abbrev pub told : List (Bor (List ℕ) × Bor (List Modifiers)) → List Suffix
-told suffixes = map (λ s. (s.0.now, (held_together s.1.now).0)) suffixes
+abbrev pub suffixes_with_bits : List (Bor (List ℕ) × Bor (List Modifiers)) → List Suffix
+suffixes_with_bits suffixes = map (λ s. (s.0.now, (held_together s.1.now).0)) suffixes
 
 -- keys, each with its text
-abbrev pub spelled : List (Bor (List ℕ) × KeyCode) → List (List ℕ × KeyCode)
-spelled keys = map (λ k. (k.0.now, k.1)) keys
+abbrev pub keys_with_texts : List (Bor (List ℕ) × KeyCode) → List (List ℕ × KeyCode)
+keys_with_texts keys = map (λ k. (k.0.now, k.1)) keys

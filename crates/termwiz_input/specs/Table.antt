@@ -2,6 +2,7 @@
 -- From xterm's control sequences ("PC-Style Function Keys", "VT220-Style Function Keys", modifyOtherKeys), from fixterms
 -- (CSI u) and from rxvt's keys ($, ^ and @ at the end). The table is the set of these pairs, whatever their order.
 use Rattle.std.specs.Prelude.{ℕ, zero, suc, ◌+◌, Bool, not, List, [], ◌∷◌, ◌++◌, map, filter, flat_map, codes, decimal, if◌then◌else◌, ◌==◌, ◌||◌}
+use Rattle.std.specs.Fmt.{digits}
 use Rattle.termwiz_input.specs.declared.types.KeyCode.{KeyCode}
 use Rattle.termwiz_input.specs.declared.types.KeyCode.TheVariants.{Char, Backspace, Tab, Enter, Escape, PageUp, PageDown, End, Home, LeftArrow, RightArrow, UpArrow, DownArrow, Insert, Delete, Function, ApplicationLeftArrow, ApplicationRightArrow, ApplicationUpArrow, ApplicationDownArrow, InternalPasteStart, InternalPasteEnd}
 use Rattle.termwiz_input.specs.declared.types.KeyEvent.{KeyEvent}
@@ -19,7 +20,7 @@ unfoldable pub numbers : ℕ → ℕ → List ℕ
 numbers first zero = []
 numbers first (suc count) = first ∷ numbers (suc first) count
 
--- a suffix with the modifiers that it tells
+-- a suffix with the modifiers that it stands for
 abbrev pub Suffix : Type 0
 Suffix = List ℕ × ℕ
 
@@ -29,7 +30,7 @@ to_eight =
     (codes ";1", NONE) ∷ (codes ";2", SHIFT) ∷ (codes ";3", ALT) ∷ (codes ";4", ALT + SHIFT)
     ∷ (codes ";5", CTRL) ∷ (codes ";6", CTRL + SHIFT) ∷ (codes ";7", CTRL + ALT) ∷ (codes ";8", CTRL + ALT + SHIFT) ∷ []
 
--- the suffixes ;9 to ;16, which tell Meta as Alt
+-- the suffixes ;9 to ;16, in which Meta counts as Alt
 abbrev pub nine_up : List Suffix
 nine_up =
     (codes ";9", ALT) ∷ (codes ";10", ALT + SHIFT) ∷ (codes ";11", ALT) ∷ (codes ";12", ALT + SHIFT)
@@ -44,16 +45,16 @@ abbrev pub seventeen : List Suffix
 seventeen = nine ++ nine_up
 
 -- one key with each suffix, between a front and an end
-abbrev pub suffixed : List ℕ → List Suffix → List ℕ → KeyCode → List TableRow
-suffixed front suffixes end key = map (λ s. (front ++ s.0 ++ end, key_with key s.1)) suffixes
+abbrev pub key_with_each_suffix : List ℕ → List Suffix → List ℕ → KeyCode → List TableRow
+key_with_each_suffix front suffixes end key = map (λ s. (front ++ s.0 ++ end, key_with key s.1)) suffixes
 
 -- each key of a list with each suffix, where the key's own text is the end
-abbrev pub each_suffixed : List ℕ → List Suffix → List (List ℕ × KeyCode) → List TableRow
-each_suffixed front suffixes keys = flat_map (λ k. suffixed front suffixes k.0 k.1) keys
+abbrev pub keys_with_each_suffix : List ℕ → List Suffix → List (List ℕ × KeyCode) → List TableRow
+keys_with_each_suffix front suffixes keys = flat_map (λ k. key_with_each_suffix front suffixes k.0 k.1) keys
 
 -- each key of a list with these modifiers, behind a front
-abbrev pub each_with : List ℕ → List (List ℕ × KeyCode) → ℕ → List TableRow
-each_with front keys bits = map (λ k. (front ++ k.0, key_with k.1 bits)) keys
+abbrev pub keys_with_modifiers : List ℕ → List (List ℕ × KeyCode) → ℕ → List TableRow
+keys_with_modifiers front keys bits = map (λ k. (front ++ k.0, key_with k.1 bits)) keys
 
 -- the cursor keys, by their letters
 abbrev pub arrows_and_ends : List (List ℕ × KeyCode)
@@ -82,8 +83,8 @@ function_codes =
     ∷ (23, 11) ∷ (24, 12) ∷ (25, 13) ∷ (26, 14) ∷ (28, 15) ∷ (29, 16) ∷ (31, 17) ∷ (32, 18) ∷ (33, 19) ∷ (34, 20) ∷ []
 
 -- the key that a number stands for in the rule modify_other_keys
-abbrev pub named : ℕ → KeyCode
-named c = if (c == 8) || (c == 127) then Backspace else (if c == 27 then Escape else (if c == 9 then Tab else (if (c == 10) || (c == 13) then Enter else Char c)))
+abbrev pub key_of_code : ℕ → KeyCode
+key_of_code c = if (c == 8) || (c == 127) then Backspace else (if c == 27 then Escape else (if c == 9 then Tab else (if (c == 10) || (c == 13) then Enter else Char c)))
 
 -- a byte that stands for no key of its own: not 8, 9, 10 or 13
 abbrev pub is_letter : ℕ → Bool
@@ -131,7 +132,7 @@ shift_tab_rows = (CSI ++ codes "Z", key_with Tab SHIFT) ∷ []
 
 -- ESC [ c s u, c in decimal: the character c, with the modifiers of the suffix s
 abbrev pub csi_u_of : ℕ → List TableRow
-csi_u_of c = suffixed (CSI ++ decimal c) nine (codes "u") (Char c)
+csi_u_of c = key_with_each_suffix (CSI ++ decimal c) nine (codes "u") (Char c)
 
 -- the same for c from 0 to 127
 unfoldable pub csi_u_rows : List TableRow
@@ -139,7 +140,7 @@ csi_u_rows = flat_map csi_u_of (numbers 0 128)
 
 -- ESC [27 s ; c ~, c in decimal and s not empty: the key of c, with the modifiers of s
 abbrev pub modify_other_keys_of : ℕ → List TableRow
-modify_other_keys_of c = suffixed (CSI ++ codes "27") to_eight (codes ";" ++ decimal c ++ codes "~") (named c)
+modify_other_keys_of c = key_with_each_suffix (CSI ++ codes "27") to_eight (codes ";" ++ decimal c ++ codes "~") (key_of_code c)
 
 -- the same for c from 0 to 127
 unfoldable pub modify_other_keys_rows : List TableRow
@@ -147,39 +148,39 @@ modify_other_keys_rows = flat_map modify_other_keys_of (numbers 0 128)
 
 -- ESC [ and a letter: a cursor key
 unfoldable pub cursor_keys_rows : List TableRow
-cursor_keys_rows = each_with CSI arrows_and_ends NONE
+cursor_keys_rows = keys_with_modifiers CSI arrows_and_ends NONE
 
 -- ESC [1 s and a letter: a cursor key, with the modifiers of s
 unfoldable pub modified_cursor_keys_rows : List TableRow
-modified_cursor_keys_rows = each_suffixed (CSI ++ codes "1") seventeen arrows_and_ends
+modified_cursor_keys_rows = keys_with_each_suffix (CSI ++ codes "1") seventeen arrows_and_ends
 
 -- ESC [ and a lower case letter: an arrow with Shift
 unfoldable pub shift_arrows_rows : List TableRow
-shift_arrows_rows = each_with CSI small_arrows SHIFT
+shift_arrows_rows = keys_with_modifiers CSI small_arrows SHIFT
 
 -- ESC O and a lower case letter: an arrow with Ctrl
 unfoldable pub ctrl_arrows_rows : List TableRow
-ctrl_arrows_rows = each_with SS3 small_arrows CTRL
+ctrl_arrows_rows = keys_with_modifiers SS3 small_arrows CTRL
 
 -- ESC O and a letter: an arrow in application cursor mode
 unfoldable pub application_arrows_rows : List TableRow
-application_arrows_rows = each_with SS3 application_arrows NONE
+application_arrows_rows = keys_with_modifiers SS3 application_arrows NONE
 
 -- ESC O1 s and a letter: such an arrow, with the modifiers of s
 unfoldable pub modified_application_arrows_rows : List TableRow
-modified_application_arrows_rows = each_suffixed (SS3 ++ codes "1") nine application_arrows
+modified_application_arrows_rows = keys_with_each_suffix (SS3 ++ codes "1") nine application_arrows
 
 -- ESC O and P to S: F1 to F4
 unfoldable pub ss3_function_keys_rows : List TableRow
-ss3_function_keys_rows = each_with SS3 first_functions NONE
+ss3_function_keys_rows = keys_with_modifiers SS3 first_functions NONE
 
 -- ESC [1 s and P to S: F1 to F4, with the modifiers of s
 unfoldable pub lettered_function_keys_rows : List TableRow
-lettered_function_keys_rows = each_suffixed (CSI ++ codes "1") seventeen first_functions
+lettered_function_keys_rows = keys_with_each_suffix (CSI ++ codes "1") seventeen first_functions
 
 -- ESC [ code s ~: a function key by its code and its number, with the modifiers of s
 abbrev pub function_key_of : ℕ × ℕ → List TableRow
-function_key_of f = suffixed (CSI ++ decimal f.0) seventeen (codes "~") (Function f.1)
+function_key_of f = key_with_each_suffix (CSI ++ decimal f.0) seventeen (codes "~") (Function f.1)
 
 -- the same for F1 to F20
 unfoldable pub numbered_function_keys_rows : List TableRow
@@ -189,13 +190,13 @@ numbered_function_keys_rows = flat_map function_key_of function_codes
 abbrev pub digit_keys : List (ℕ × KeyCode)
 digit_keys = (2, Insert) ∷ (3, Delete) ∷ (1, Home) ∷ (7, Home) ∷ (4, End) ∷ (8, End) ∷ (5, PageUp) ∷ (6, PageDown) ∷ []
 
--- the ends, by the modifiers that they tell
+-- the ends, with the modifiers that they stand for
 abbrev pub digit_ends : List Suffix
 digit_ends = (codes "~", NONE) ∷ (codes "$", SHIFT) ∷ (codes "^", CTRL) ∷ (codes "@", SHIFT + CTRL) ∷ []
 
 -- ESC [ digit end: a key by its digit, with the modifiers of the end
 abbrev pub edit_key_of : ℕ × KeyCode → List TableRow
-edit_key_of d = suffixed (CSI ++ decimal d.0) digit_ends [] d.1
+edit_key_of d = key_with_each_suffix (CSI ++ decimal d.0) digit_ends [] d.1
 
 -- the same for the editing block
 unfoldable pub edit_keys_rows : List TableRow
@@ -215,6 +216,11 @@ rows =
     control_letters_rows ++ backspace_bytes_rows ++ tab_byte_rows ++ enter_bytes_rows ++ escape_byte_rows ++ alt_letters_rows ++ alt_bracket_rows ++ shift_tab_rows ++ csi_u_rows ++ modify_other_keys_rows
     ++ cursor_keys_rows ++ modified_cursor_keys_rows ++ shift_arrows_rows ++ ctrl_arrows_rows ++ application_arrows_rows ++ modified_application_arrows_rows ++ ss3_function_keys_rows ++ lettered_function_keys_rows ++ numbered_function_keys_rows
     ++ edit_keys_rows ++ paste_start_rows ++ paste_end_rows
+
+-- the table, written out: to unfold this is to unfold every rule
+unfoldable pub written_out : List TableRow
+unfolding numbers rows control_letters_rows backspace_bytes_rows tab_byte_rows enter_bytes_rows escape_byte_rows alt_letters_rows alt_bracket_rows shift_tab_rows csi_u_rows modify_other_keys_rows cursor_keys_rows modified_cursor_keys_rows shift_arrows_rows ctrl_arrows_rows application_arrows_rows modified_application_arrows_rows ss3_function_keys_rows lettered_function_keys_rows numbered_function_keys_rows edit_keys_rows paste_start_rows paste_end_rows digits
+written_out = rows
 
 -- a map with these rows put into it, one after another
 abbrev pub with_rows : Keys KeyEvent → List TableRow → Keys KeyEvent

@@ -116,7 +116,7 @@ impl InputParser {
         ensures exactly { (text : List ℕ) (key : KeyEvent) → (map.get table text ≡ Some key) ↔ Contains rows (text, key) }
     {
         let mut key_map = KeyMap::new(alloc);
-        add_rows(&mut key_map, alloc)?;
+        add_rows(alloc, &mut key_map)?;
         Ok(InputParser {
             key_map,
             buffer: ReadBuffer::new(alloc),

@@ -27,7 +27,7 @@ use std::alloc::{AllocError, Global};
 
 // All rows, rule by rule.
 #[tactic(auto, using(crate::proofs::Rows::joined_rows), unfolding(crate::specs::Table::rows))]
-pub(crate) fn add_rows(keys: &mut KeyMap<KeyEvent>, alloc: Global) -> Result<(), AllocError>
+pub(crate) fn add_rows(alloc: Global, keys: &mut KeyMap<KeyEvent>) -> Result<(), AllocError>
     ensures { OnOk result (keys.new ≡ with_rows keys.old rows) }
 {
     control_letters(keys)?;
@@ -38,18 +38,18 @@ pub(crate) fn add_rows(keys: &mut KeyMap<KeyEvent>, alloc: Global) -> Result<(),
     alt_letters(keys)?;
     alt_bracket(keys)?;
     shift_tab(keys)?;
-    csi_u(keys, alloc)?;
-    modify_other_keys(keys, alloc)?;
-    cursor_keys(keys, alloc)?;
-    modified_cursor_keys(keys, alloc)?;
-    shift_arrows(keys, alloc)?;
-    ctrl_arrows(keys, alloc)?;
-    application_arrows(keys, alloc)?;
-    modified_application_arrows(keys, alloc)?;
-    ss3_function_keys(keys, alloc)?;
-    lettered_function_keys(keys, alloc)?;
-    numbered_function_keys(keys, alloc)?;
-    edit_keys(keys, alloc)?;
+    csi_u(alloc, keys)?;
+    modify_other_keys(alloc, keys)?;
+    cursor_keys(alloc, keys)?;
+    modified_cursor_keys(alloc, keys)?;
+    shift_arrows(alloc, keys)?;
+    ctrl_arrows(alloc, keys)?;
+    application_arrows(alloc, keys)?;
+    modified_application_arrows(alloc, keys)?;
+    ss3_function_keys(alloc, keys)?;
+    lettered_function_keys(alloc, keys)?;
+    numbered_function_keys(alloc, keys)?;
+    edit_keys(alloc, keys)?;
     paste_start(keys)?;
     paste_end(keys)
 }

@@ -11,61 +11,61 @@ use termwiz_base::Modifiers;
 
 // ESC [ and a letter: a cursor key.
 #[tactic(auto, unfolding(crate::specs::Table::cursor_keys_rows))]
-pub(super) fn cursor_keys(keys: &mut KeyMap<KeyEvent>, alloc: Global) -> Result<(), AllocError>
+pub(super) fn cursor_keys(alloc: Global, keys: &mut KeyMap<KeyEvent>) -> Result<(), AllocError>
     ensures { OnOk result (keys.new ≡ with_rows keys.old cursor_keys_rows) }
 {
-    insert_each_with(keys, alloc, "\x1b[", CURSOR_KEYS, Modifiers::NONE)
+    insert_each_with(alloc, keys, "\x1b[", CURSOR_KEYS, Modifiers::NONE)
 }
 
 // ESC [1 s and a letter: a cursor key, with the modifiers of the suffix s.
 #[tactic(auto, unfolding(crate::specs::Table::modified_cursor_keys_rows))]
 pub(super) fn modified_cursor_keys(
-    keys: &mut KeyMap<KeyEvent>,
     alloc: Global,
+    keys: &mut KeyMap<KeyEvent>,
 ) -> Result<(), AllocError>
     ensures { OnOk result (keys.new ≡ with_rows keys.old modified_cursor_keys_rows) }
 {
-    insert_each_suffixed(keys, alloc, "\x1b[1", SUFFIXES, CURSOR_KEYS)
+    insert_each_suffixed(alloc, keys, "\x1b[1", SUFFIXES, CURSOR_KEYS)
 }
 
 // ESC [ and a lower case letter: an arrow with Shift.
 #[tactic(auto, unfolding(crate::specs::Table::shift_arrows_rows))]
-pub(super) fn shift_arrows(keys: &mut KeyMap<KeyEvent>, alloc: Global) -> Result<(), AllocError>
+pub(super) fn shift_arrows(alloc: Global, keys: &mut KeyMap<KeyEvent>) -> Result<(), AllocError>
     ensures { OnOk result (keys.new ≡ with_rows keys.old shift_arrows_rows) }
 {
-    insert_each_with(keys, alloc, "\x1b[", SMALL_ARROWS, Modifiers::SHIFT)
+    insert_each_with(alloc, keys, "\x1b[", SMALL_ARROWS, Modifiers::SHIFT)
 }
 
 // ESC O and a lower case letter: an arrow with Ctrl.
 #[tactic(auto, unfolding(crate::specs::Table::ctrl_arrows_rows))]
-pub(super) fn ctrl_arrows(keys: &mut KeyMap<KeyEvent>, alloc: Global) -> Result<(), AllocError>
+pub(super) fn ctrl_arrows(alloc: Global, keys: &mut KeyMap<KeyEvent>) -> Result<(), AllocError>
     ensures { OnOk result (keys.new ≡ with_rows keys.old ctrl_arrows_rows) }
 {
-    insert_each_with(keys, alloc, "\x1bO", SMALL_ARROWS, Modifiers::CTRL)
+    insert_each_with(alloc, keys, "\x1bO", SMALL_ARROWS, Modifiers::CTRL)
 }
 
 // ESC O and a letter: an arrow in application cursor mode.
 #[tactic(auto, unfolding(crate::specs::Table::application_arrows_rows))]
 pub(super) fn application_arrows(
-    keys: &mut KeyMap<KeyEvent>,
     alloc: Global,
+    keys: &mut KeyMap<KeyEvent>,
 ) -> Result<(), AllocError>
     ensures { OnOk result (keys.new ≡ with_rows keys.old application_arrows_rows) }
 {
-    insert_each_with(keys, alloc, "\x1bO", APPLICATION_ARROWS, Modifiers::NONE)
+    insert_each_with(alloc, keys, "\x1bO", APPLICATION_ARROWS, Modifiers::NONE)
 }
 
 // ESC O1 s and a letter: such an arrow, with the modifiers of the suffix s.
 #[tactic(auto, unfolding(crate::specs::Table::modified_application_arrows_rows))]
 pub(super) fn modified_application_arrows(
-    keys: &mut KeyMap<KeyEvent>,
     alloc: Global,
+    keys: &mut KeyMap<KeyEvent>,
 ) -> Result<(), AllocError>
     ensures { OnOk result (keys.new ≡ with_rows keys.old modified_application_arrows_rows) }
 {
     insert_each_suffixed(
-        keys,
         alloc,
+        keys,
         "\x1bO1",
         &SUFFIXES[..BEFORE_NINE],
         APPLICATION_ARROWS,

@@ -1,8 +1,8 @@
 // Puts rows into a key map that differ in their suffixes and keys alone.
 ghost use Rattle.std.specs.Prelude.{◌≡◌, OnOk};
 ghost use Rattle.termwiz_input.specs.Keys.{key_with};
-ghost use Rattle.termwiz_input.specs.Table.{with_rows, suffixed, each_suffixed, each_with};
-ghost use Rattle.termwiz_input.specs.Suffixes.{told, spelled, held_together};
+ghost use Rattle.termwiz_input.specs.Table.{with_rows, key_with_each_suffix, keys_with_each_suffix, keys_with_modifiers};
+ghost use Rattle.termwiz_input.specs.Suffixes.{suffixes_with_bits, keys_with_texts, held_together};
 
 use super::lists::Suffix;
 use crate::keymap::KeyMap;
@@ -29,14 +29,14 @@ fn together(modifiers: &[Modifiers]) -> Modifiers
 
 // One key with each suffix, between a front and an end.
 pub(super) fn insert_suffixed(
-    keys: &mut KeyMap<KeyEvent>,
     alloc: Global,
+    keys: &mut KeyMap<KeyEvent>,
     front: &str,
     suffixes: &[Suffix],
     end: &str,
     key: KeyCode,
 ) -> Result<(), AllocError>
-    ensures { OnOk result (keys.new ≡ with_rows keys.old (suffixed front.now (told suffixes.now) end.now key)) }
+    ensures { OnOk result (keys.new ≡ with_rows keys.old (key_with_each_suffix front.now (suffixes_with_bits suffixes.now) end.now key)) }
 {
     for (suffix, held) in suffixes {
         let bytes = format!(in alloc; "{front}{suffix}{end}")?;
@@ -47,29 +47,29 @@ pub(super) fn insert_suffixed(
 
 // Each key of a list with each suffix, where the key's own text is the end.
 pub(super) fn insert_each_suffixed(
-    keys: &mut KeyMap<KeyEvent>,
     alloc: Global,
+    keys: &mut KeyMap<KeyEvent>,
     front: &str,
     suffixes: &[Suffix],
     list: &[(&str, KeyCode)],
 ) -> Result<(), AllocError>
-    ensures { OnOk result (keys.new ≡ with_rows keys.old (each_suffixed front.now (told suffixes.now) (spelled list.now))) }
+    ensures { OnOk result (keys.new ≡ with_rows keys.old (keys_with_each_suffix front.now (suffixes_with_bits suffixes.now) (keys_with_texts list.now))) }
 {
     for (end, key) in list {
-        insert_suffixed(keys, alloc, front, suffixes, end, *key)?;
+        insert_suffixed(alloc, keys, front, suffixes, end, *key)?;
     }
     Ok(())
 }
 
 // Each key of a list with these modifiers, behind a front.
 pub(super) fn insert_each_with(
-    keys: &mut KeyMap<KeyEvent>,
     alloc: Global,
+    keys: &mut KeyMap<KeyEvent>,
     front: &str,
     list: &[(&str, KeyCode)],
     modifiers: Modifiers,
 ) -> Result<(), AllocError>
-    ensures { OnOk result (keys.new ≡ with_rows keys.old (each_with front.now (spelled list.now) modifiers.0)) }
+    ensures { OnOk result (keys.new ≡ with_rows keys.old (keys_with_modifiers front.now (keys_with_texts list.now) modifiers.0)) }
 {
     for (end, key) in list {
         let bytes = format!(in alloc; "{front}{end}")?;

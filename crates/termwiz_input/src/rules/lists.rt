@@ -2,10 +2,10 @@
 use crate::types::KeyCode;
 use termwiz_base::Modifiers;
 
-// What a sequence may have before its last part, and the modifiers that it tells.
+// What a sequence may have before its last part, and the modifiers that it stands for.
 pub(super) type Suffix = (&'static str, &'static [Modifiers]);
 
-// The seventeen suffixes. The number is 1, and 1 more for Shift, 2 for Alt, 4 for Ctrl and 8 for Meta, which is told as
+// The seventeen suffixes. The number is 1, and 1 more for Shift, 2 for Alt, 4 for Ctrl and 8 for Meta, which counts as
 // Alt.
 pub(super) const SUFFIXES: &[Suffix] = &[
     ("", &[]),
@@ -100,7 +100,7 @@ pub(super) const DIGIT_KEYS: &[(u8, KeyCode)] = &[
     (6, KeyCode::PageDown),
 ];
 
-// What comes after such a digit, and the modifiers that it tells.
+// What comes after such a digit, and the modifiers that it stands for.
 pub(super) const DIGIT_ENDS: &[Suffix] = &[
     ("~", &[]),
     ("$", &[Modifiers::SHIFT]),

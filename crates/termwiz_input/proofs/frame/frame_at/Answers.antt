@@ -1,4 +1,4 @@
-use Rattle.std.proofs.Common.{◌∙◌, sym, ap, subst, refl, ◌++◌}
+use Rattle.std.proofs.Common.{◌∙◌, sym, subst, refl}
 use Rattle.termwiz_input.specs.declared.frame.Unread.TheVariants.{Begun, Absent}
 use Rattle.termwiz_input.specs.FrameAnswers.{IsFrameUnread}
 use Rattle.termwiz_input.proofs.FrameReading.{introduced, frame_before, introducer_begun, no_introducer}

@@ -1,7 +1,7 @@
 use Rattle.std.proofs.Common.{◌≡◌, take}
-use Rattle.termwiz_input.specs.Table.{with_rows, suffixed}
-use Rattle.termwiz_input.specs.Suffixes.{told}
+use Rattle.termwiz_input.specs.Table.{with_rows, key_with_each_suffix}
+use Rattle.termwiz_input.specs.Suffixes.{suffixes_with_bits}
 use Rattle.termwiz_input.proofs.rules.insert.insert_suffixed.Given as goal
 
 abbrev pub invariant-loop-suffix : goal.invariant-loop-suffix
-invariant-loop-suffix l = l.keys ≡ with_rows l.initial.keys (suffixed l.front (told (take l.suffix-index l.suffixes)) l.end l.key)
+invariant-loop-suffix l = l.keys ≡ with_rows l.initial.keys (key_with_each_suffix l.front (suffixes_with_bits (take l.suffix-index l.suffixes)) l.end l.key)
