@@ -1,3 +1,4 @@
+pub mod Appended
 pub mod FlagNames
 pub mod Numerals
 pub mod Printed

@@ -1,3 +1,4 @@
+pub mod Callback
 pub mod Endings
 pub mod Lines
 pub mod Names

@@ -3,7 +3,7 @@
 ghost use Rattle.std.specs.Prelude.{◌≡◌, ◌==◌, ◌&&◌, ◌++◌, [], length, not, bit_and, codes, IfSome, OnOk, if◌then◌else◌};
 ghost use Rattle.std.specs.Fmt.{decimal};
 ghost use Rattle.keyshow.specs.Names.{key_name, code_point, joined_names, names_in_set, flags_with_a_bit};
-ghost use Rattle.keyshow.specs.Lines.{line, lines, hexadecimal, hex_digits, mouse_text, waiting_line};
+ghost use Rattle.keyshow.specs.Lines.{line, hexadecimal, hex_digits, mouse_text, waiting_line};
 
 use crate::names::variant_name;
 use bitflags::Flags;
@@ -12,16 +12,6 @@ use std::fmt::Display;
 use std::io::Write;
 use termwiz_base::Modifiers;
 use termwiz_input::types::{InputEvent, KeyCode, MouseButtons};
-
-/// Appends the lines of the events to `out`, in order.
-pub fn push_lines(out: &mut Vec<u8>, events: &[InputEvent]) -> Result<(), AllocError>
-    ensures { OnOk result (out.new.items ≡ out.old.items ++ lines events.now) }
-{
-    for event in events {
-        push_line(out, event)?;
-    }
-    Ok(())
-}
 
 /// Appends the line of an event to `out`.
 #[tactic(auto, unfolding(crate::specs::Lines::line))]

@@ -4,15 +4,18 @@ ghost use Rattle.std.specs.Prelude.{◌≡◌, ◌≤◌, ◌<◌, ◌++◌, Lis
 ghost use Rattle.std.specs.Io.KnownBytes.{Appends, Consumes, Keeps, IsAtEnd};
 ghost use Rattle.termwiz_input.specs.Bytes.{Begins};
 ghost use Rattle.termwiz_input.specs.Grammar.{Means};
+ghost use Rattle.termwiz_input.specs.Pieces.{join, texts};
 ghost use Rattle.termwiz_input.specs.declared.types.InputEvent.{InputEvent as Event};
 ghost use Rattle.keyshow.specs.Lines.{lines, all_lines};
 ghost use Rattle.keyshow.specs.Runs.{ShowsAll};
+ghost use Rattle.keyshow.specs.Callback.{AppendsLine};
 
-use crate::lines::{push_lines, push_waiting};
+use crate::lines::{push_line, push_waiting};
 use std::alloc::Global;
 use std::io::{Read, Write};
 use termwiz_input::input::InputParser;
 use termwiz_input::laws;
+use termwiz_input::types::InputEvent;
 use thiserror::Error;
 
 /// Why a run ended early.
@@ -81,7 +84,7 @@ fn show_piece<R: Read, W: Write>(
     if count == 0 {
         return Ok(false);
     }
-    let text = parsed_lines(alloc, parser, &buffer[..count], true)?;
+    let text = parsed_lines(alloc, parser, &[&buffer[..count]], true)?;
     write_whole(writer, text.as_slice())?;
     Ok(true)
 }
@@ -97,23 +100,31 @@ fn finish<W: Write>(alloc: Global, parser: &mut InputParser, writer: &mut W) -> 
     writer.flush().map_err(|_| RunError::Write)
 }
 
-// Gives the bytes to the parser, and returns the lines of the events.
+// Gives the pieces to the parser, and returns the lines of the events. After a refused growth no more is appended.
 fn parsed_lines(
     alloc: Global,
     parser: &mut InputParser,
-    bytes: &[u8],
+    pieces: &[&[u8]],
     maybe_more: bool,
 ) -> Result<Vec<u8>, RunError>
     ensures { IfOk result (λ text. (events : List Event)
-        × Means (parser.old ++ bytes.now) maybe_more events parser.new
+        × Means (parser.old ++ join (texts pieces.now)) maybe_more events parser.new
         × (text.items ≡ lines events)) }
 {
-    let events = parser
-        .parse_as_vec(bytes, maybe_more)
-        .map_err(|_| RunError::Memory)?;
     let mut text = Vec::new(alloc);
-    push_lines(&mut text, events.as_slice()).map_err(|_| RunError::Memory)?;
-    Ok(text)
+    let mut refused = false;
+    let mut append_line = |_number: usize, event: InputEvent|
+        ensures { AppendsLine text.entry.items refused.entry event text.exit.items refused.exit }
+    {
+        if !refused {
+            refused = push_line(&mut text, &event).is_err();
+        }
+    };
+    let parsed = parser.parse_pieces(pieces, &mut append_line, maybe_more);
+    match (parsed, refused) {
+        (Ok(()), false) => Ok(text),
+        _ => Err(RunError::Memory),
+    }
 }
 
 // Writes all of the bytes, by as many writes as that takes.
