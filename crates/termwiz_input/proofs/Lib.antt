@@ -1,5 +1,6 @@
 pub mod Counting
 pub mod Cutting
+pub mod Encoding
 pub mod ExactStays
 pub mod Facts
 pub mod FrameFacts

@@ -1,12 +1,14 @@
 pub mod Branch
 pub mod Buttons
 pub mod Bytes
+pub mod Enc
 pub mod Entries
 pub mod Events
 pub mod Frame
 pub mod Frames
 pub mod Fronts
 pub mod Grammar
+pub mod KeyCodes
 pub mod Keys
 pub mod Known
 pub mod Laws

@@ -11,6 +11,7 @@ mod plain;
 mod tests;
 
 use crate::bytes::begins_with;
+pub use crate::encode::{CSI, EncodeError, KeyCodeEncodeModes, KeyboardEncoding, SS3};
 use crate::item::{PASTE_START, item_at, paste_at};
 use crate::keymap::KeyMap;
 use crate::readbuf::ReadBuffer;

@@ -10,6 +10,7 @@ use std::marker::Model;
 use termwiz_base::{Modifiers, MouseButton};
 
 mod flag_calls;
+mod key_code;
 
 /// A key, by what is on it.
 #[derive(Clone, Copy, PartialEq, Eq, Hash, Debug)]
