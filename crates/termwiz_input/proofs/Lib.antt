@@ -1,6 +1,7 @@
 pub mod Calls
 pub mod Counting
 pub mod Cutting
+pub mod Encoding
 pub mod EventEquality
 pub mod ExactStays
 pub mod Facts

@@ -3,11 +3,13 @@ pub mod Branch
 pub mod Buttons
 pub mod Bytes
 pub mod Callbacks
+pub mod Enc
 pub mod Entries
 pub mod Events
 pub mod Frame
 pub mod FrameAnswers
 pub mod Grammar
+pub mod KeyCodes
 pub mod Keys
 pub mod Known
 pub mod Laws

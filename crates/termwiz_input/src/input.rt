@@ -13,6 +13,7 @@ mod plain;
 #[cfg(test)]
 mod tests;
 
+pub use crate::encode::{CSI, EncodeError, KeyCodeEncodeModes, KeyboardEncoding, SS3};
 use crate::item::{Item, item_at};
 use crate::keymap::KeyMap;
 use crate::paste::begins_paste;

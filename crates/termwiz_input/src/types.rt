@@ -11,6 +11,7 @@ use termwiz_base::{Modifiers, MouseButton};
 
 mod equality;
 mod flag_calls;
+mod key_code;
 #[cfg(test)]
 mod tests;
 
