@@ -1,6 +1,6 @@
 // Mouse frames: the reports of xterm's SGR mode 1006, recognised at the front of a text.
 //
-// A frame is ESC `[<`, a code up to 95, a column and a row up to 65535, parted by `;`, and `M` or `m`. Each number has
+// A frame is ESC `[<`, a code up to 95, a column and a row up to 65535, separated by `;`, and `M` or `m`. Each number has
 // one to five decimal digits.
 ghost use Rattle.std.specs.Option.{SomeIff};
 ghost use Rattle.termwiz_base.specs.Mouse.{IsReport};
