@@ -346,14 +346,18 @@ fn reads_many_times(rt: HostRuntime) -> Result<(), Fail> {
     Ok(())
 }
 
+// The lines of each piece are one write, which comes before the next read.
 #[test]
 fn writes_before_the_next_read(rt: HostRuntime) -> Result<(), Fail> {
-    let reads = Cell::new(0);
-    let mut source = reader(b"abc", 1, &reads);
-    let mut target = writer(rt.alloc(), 4096, &reads);
-    let result = run(rt.alloc(), &mut source, &mut target, 64);
-    assert_eq!(rt; result, Ok(()));
-    assert_eq!(rt; target.reads_at_writes.as_slice(), [1, 2, 3].as_slice());
+    let cases: [(usize, &[usize]); 3] = [(1, &[1, 2, 5, 6]), (2, &[1, 3]), (4096, &[1])];
+    for (most, wanted) in cases {
+        let reads = Cell::new(0);
+        let mut source = reader(b"ab\x1b[Ac", most, &reads);
+        let mut target = writer(rt.alloc(), 4096, &reads);
+        let result = run(rt.alloc(), &mut source, &mut target, 64);
+        assert_eq!(rt; result, Ok(()));
+        assert_eq!(rt; target.reads_at_writes.as_slice(), wanted, "{most}");
+    }
     Ok(())
 }
 
