@@ -5,14 +5,14 @@ use Rattle.std.proofs.lemmas.Bool.{cases_lt}
 use Rattle.std.proofs.Math.Seq.{take-append-add}
 use Rattle.std.specs.Prelude.{Option, Some, None, IsSome}
 use Rattle.std.specs.FinMap as map
-use Rattle.termwiz_input.specs.Lookup.{Keys, IsExtended, LookupGives}
+use Rattle.termwiz_input.specs.Lookup.{ByteMap, IsExtended, LookupGives}
 use Rattle.termwiz_input.specs.declared.keymap.Found.TheVariants.{Exact}
 
 -- a beginning that is longer than t goes on into s
 pub in_rest : (t s : List ℕ) (k : ℕ) → length t < k → take k (t ++ s) ≡ t ++ take (k - length t) s
 in_rest t s k past = ap (λ n. take n (t ++ s)) {x = k} {y = length t + (k - length t)} (omega arith) ∙ take-append-add t s (k - length t)
 
-module _ {V : Type 0} (m : Keys V) where
+module _ {V : Type 0} (m : ByteMap V) where
   -- a text that is not extended has no key beyond it
   pub none_beyond : (t r : List ℕ) → ¬ (IsExtended m t) → 0 < length r → map.get m (t ++ r) ≡ None
   none_beyond t r closed more = by (map.get m (t ++ r)) (λ there. closed (r, more, there))

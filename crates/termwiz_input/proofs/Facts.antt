@@ -13,7 +13,7 @@ use Rattle.termwiz_input.specs.Known.{Meaning, IsKnown}
 use Rattle.termwiz_input.specs.Known.Meaning.{Row, Frame}
 use Rattle.termwiz_input.specs.Grammar.{IsUnfinished}
 use Rattle.termwiz_input.proofs.Lists.{length-some}
-use Rattle.termwiz_input.proofs.Searches.{Told, both_told, told_by, lists_told}
+use Rattle.termwiz_input.proofs.Searches.{Decision, decide_both, decide_by, decide_lists}
 use Rattle.termwiz_input.proofs.TableTests.{has_shape}
 use Rattle.termwiz_input.proofs.FrameFacts.{IsPlain, frame_once, frame_alone, frame_or_not, frame_short, frame_plain}
 use Rattle.termwiz_input.proofs.RowFacts.{Bytes, row_shaped, row_once, row_or_not, escape_row, start_row, bytes_from_test, begins_another, no_frame_shape}
@@ -83,7 +83,7 @@ pub beginnings_short : (u tail : List ℕ) (m : Meaning) → tail ≢ [] → IsK
 beginnings_short u tail m n a = omega (arith, length-append u tail, length-some tail n, known_short (u ++ tail) m a)
 
 -- it can be told whether a text is known
-pub known_or_not : (text : List ℕ) → Told ((m : Meaning) × IsKnown text m)
+pub known_or_not : (text : List ℕ) → Decision ((m : Meaning) × IsKnown text m)
 unfolding IsKnown
 known_or_not text = ⊎_elim
     (λ (a : (k : KeyEvent) × Contains rows (text, k)). inl (Row a.0, a.1))
@@ -97,9 +97,9 @@ known_or_not text = ⊎_elim
     nothing none never (Row k) a = none k a
     nothing none never (Frame r) a = never r a
 
-some_told : (t : List ℕ) → Told (t ≢ [])
-some_told [] = inr (λ n. n refl)
-some_told (x ∷ t) = inl (λ h. cc (h))
+decide_some : (t : List ℕ) → Decision (t ≢ [])
+decide_some [] = inr (λ n. n refl)
+decide_some (x ∷ t) = inl (λ h. cc (h))
 
 -- the bytes of a known text, and of its end
 bytes_small : (text : List ℕ) → Bytes text → AllByRecursion (λ b. b < 128) text
@@ -116,7 +116,7 @@ end_small (x ∷ u) t a = end_small u t a.1
 
 -- it can be told whether a text properly begins a known text: few texts can complete it
 pub unfinished_or_not : (u : List ℕ) → IsUnfinished u ⊎ (IsUnfinished u → ⊥)
-unfinished_or_not u = told_by
+unfinished_or_not u = decide_by
     (λ (a : (t : List ℕ) × (length t ≤ 21) × AllByRecursion (λ b. b < 128) t × ((t ≢ []) × ((m : Meaning) × IsKnown (u ++ t) m))).
     record { tail = a.0; longer = a.3.0; meaning = a.3.1.0; known = a.3.1.1 })
     (λ (a : IsUnfinished u). (
@@ -125,7 +125,7 @@ unfinished_or_not u = told_by
       end_small u a.tail (bytes_small (u ++ a.tail) (known_bytes (u ++ a.tail) a.meaning a.known)),
       (a.longer, (a.meaning, a.known)),
     ))
-    (lists_told 128 21 (λ t. (t ≢ []) × ((m : Meaning) × IsKnown (u ++ t) m)) (λ t. both_told (some_told t) (known_or_not (u ++ t))))
+    (decide_lists 128 21 (λ t. (t ≢ []) × ((m : Meaning) × IsKnown (u ++ t) m)) (λ t. decide_both (decide_some t) (known_or_not (u ++ t))))
 
 -- no known text goes on after a frame
 pub frame_ends : (text tail : List ℕ) (r : MouseEvent) (m : Meaning) → IsKnown text (Frame r) → IsKnown (text ++ tail) m → tail ≡ []

@@ -5,7 +5,7 @@ use Rattle.termwiz_input.specs.declared.types.MouseEvent.{MouseEvent}
 use Rattle.termwiz_base.specs.Mouse.{largest_code, IsFinal}
 use Rattle.termwiz_input.specs.Frame.{IsDigit, IsNumber, introducer, semicolon, largest_place, IsFrame, value_of, mouse_event}
 use Rattle.termwiz_input.proofs.Numbers.{digits_end}
-use Rattle.termwiz_input.proofs.Searches.{Told, both_told, either_told, told_by, le_told, eq_told, all_told, parts_told}
+use Rattle.termwiz_input.proofs.Searches.{Decision, decide_both, decide_either, decide_by, decide_le, decide_eq, decide_all, decide_parts}
 
 -- the form of a frame, each part before the next
 abbrev pub laid_out : List ℕ → List ℕ → List ℕ → ℕ → List ℕ
@@ -34,55 +34,55 @@ frame_once text r s f g =
     = cc (one.0, two.0, three.0, three.1) in
     f.means ∙ same ∙ sym g.means
 
-number_told : (limit : ℕ) (t : List ℕ) → Told (IsNumber t limit)
-number_told limit t = told_by
+decide_number : (limit : ℕ) (t : List ℕ) → Decision (IsNumber t limit)
+decide_number limit t = decide_by
     (λ p. record { some = p.0; short = p.1.0; each = p.1.1.0; within = p.1.1.1 })
     (λ n. (n.some, (n.short, (n.each, n.within))))
-    (both_told (le_told 1 (length t)) (both_told (le_told (length t) 5) (both_told
-    (all_told IsDigit (λ b. both_told (le_told 48 b) (le_told b 57)) t) (le_told (value_of t) limit))))
+    (decide_both (decide_le 1 (length t)) (decide_both (decide_le (length t) 5) (decide_both
+    (decide_all IsDigit (λ b. decide_both (decide_le 48 b) (decide_le b 57)) t) (decide_le (value_of t) limit))))
 
 -- t is b and then what has P
 abbrev Next : ℕ → (List ℕ → Type 0) → List ℕ → Type 0
 Next b P t = (r : List ℕ) × (t ≡ b ∷ r) × P r
 
-next_told : (b : ℕ) (P : List ℕ → Type 0) → ((r : List ℕ) → Told (P r)) → (t : List ℕ) → Told (Next b P t)
-next_told b P told [] = inr (λ x. cc (x.1))
-next_told b P told (c ∷ t) = told_by
+decide_next : (b : ℕ) (P : List ℕ → Type 0) → ((r : List ℕ) → Decision (P r)) → (t : List ℕ) → Decision (Next b P t)
+decide_next b P decide [] = inr (λ x. cc (x.1))
+decide_next b P decide (c ∷ t) = decide_by
     (λ (p : (c ≡ b) × P t). (t, ap (λ z. z ∷ t) p.0, p.1))
     (λ x. let same : x.0 ≡ t = cc (x.1) in (cc (x.1), subst P same x.2))
-    (both_told (eq_told c b) (told t))
+    (decide_both (decide_eq c b) (decide t))
 
 -- t is a number and then what has P
 abbrev Field : ℕ → (List ℕ → List ℕ → Type 0) → List ℕ → Type 0
 Field limit P t = (a : List ℕ) × (b : List ℕ) × (t ≡ a ++ b) × (IsNumber a limit × P a b)
 
-field_told : (limit : ℕ) (P : List ℕ → List ℕ → Type 0) → ((a b : List ℕ) → Told (P a b)) → (t : List ℕ) → Told (Field limit P t)
-field_told limit P told t = parts_told (λ a b. IsNumber a limit × P a b) (λ a b. both_told (number_told limit a) (told a b)) t
+decide_field : (limit : ℕ) (P : List ℕ → List ℕ → Type 0) → ((a b : List ℕ) → Decision (P a b)) → (t : List ℕ) → Decision (Field limit P t)
+decide_field limit P decide t = decide_parts (λ a b. IsNumber a limit × P a b) (λ a b. decide_both (decide_number limit a) (decide a b)) t
 
 abbrev IsNil : List ℕ → Type 0
 IsNil t = t ≡ []
 
-nil_told : (t : List ℕ) → Told (IsNil t)
-nil_told [] = inl refl
-nil_told (x ∷ t) = inr (λ h. cc (h))
+decide_nil : (t : List ℕ) → Decision (IsNil t)
+decide_nil [] = inl refl
+decide_nil (x ∷ t) = inr (λ h. cc (h))
 
 abbrev Final : List ℕ → Type 0
 Final t = Next 77 IsNil t ⊎ Next 109 IsNil t
 
-final_told : (t : List ℕ) → Told (Final t)
-final_told t = either_told (next_told 77 IsNil nil_told t) (next_told 109 IsNil nil_told t)
+decide_final : (t : List ℕ) → Decision (Final t)
+decide_final t = decide_either (decide_next 77 IsNil decide_nil t) (decide_next 109 IsNil decide_nil t)
 
 abbrev Fields : List ℕ → Type 0
 Fields t = Field largest_code (λ code r. Next 59 (λ u. Field largest_place (λ x s. Next 59 (λ v. Field largest_place (λ y w. Final w) v) s) u) r) t
 
-fields_told : (t : List ℕ) → Told (Fields t)
-fields_told t = field_told largest_code _ (λ code r. next_told 59 _ (λ u. field_told largest_place _ (λ x s. next_told 59 _ (λ v. field_told largest_place _ (λ y w. final_told w) v) s) u) r) t
+decide_fields : (t : List ℕ) → Decision (Fields t)
+decide_fields t = decide_field largest_code _ (λ code r. decide_next 59 _ (λ u. decide_field largest_place _ (λ x s. decide_next 59 _ (λ v. decide_field largest_place _ (λ y w. decide_final w) v) s) u) r) t
 
 abbrev Whole : List ℕ → Type 0
 Whole t = Next 27 (λ u. Next 91 (λ v. Next 60 Fields v) u) t
 
-whole_told : (t : List ℕ) → Told (Whole t)
-whole_told t = next_told 27 _ (λ u. next_told 91 _ (λ v. next_told 60 Fields fields_told v) u) t
+decide_whole : (t : List ℕ) → Decision (Whole t)
+decide_whole t = decide_next 27 _ (λ u. decide_next 91 _ (λ v. decide_next 60 Fields decide_fields v) u) t
 
 whole_from : (t : List ℕ) → (r : MouseEvent) × IsFrame t r → Whole t
 whole_from t (r, f) =
@@ -157,7 +157,7 @@ pub frame_or_not : (t : List ℕ) → ((r : MouseEvent) × IsFrame t r) ⊎ ((r 
 frame_or_not t = ⊎_elim
     (λ w. inl (from_whole t w))
     (λ never. inr (λ r f. never (whole_from t (r, f))))
-    (whole_told t)
+    (decide_whole t)
 
 pub length-laid_out : (code x y : List ℕ) (last : ℕ) → length (laid_out code x y last) ≡ length code + length x + length y + 6
 length-laid_out code x y last = omega (arith, length-append code (59 ∷ (x ++ 59 ∷ (y ++ last ∷ []))), length-append x (59 ∷ (y ++ last ∷ [])), length-append y (last ∷ []))

@@ -10,7 +10,7 @@ use Rattle.termwiz_input.specs.Known.{Meaning, IsKnown}
 use Rattle.termwiz_input.specs.Grammar.{Head, IsHead, IsLongest, IsOpen}
 use Rattle.termwiz_input.specs.Grammar.Head.{Known, Character}
 use Rattle.termwiz_input.proofs.Lists.{length-Begins, same_from_length}
-use Rattle.termwiz_input.proofs.Searches.{Told}
+use Rattle.termwiz_input.proofs.Searches.{Decision}
 use Rattle.termwiz_input.proofs.Facts.{known_some, known_once, known_or_not, unfinished_or_not}
 
 pub longest_once : (u s t : List ℕ) (m n : Meaning) → IsLongest u s m → IsLongest u t n → (s ≡ t) × (m ≡ n)
@@ -51,7 +51,7 @@ find_up_to u (suc n) l = go (known_or_not (take (suc n) u)) (find_up_to u n (ome
     same : (other : List ℕ) → Begins other u → length other ≡ suc n → other ≡ take (suc n) u
     same other b e = same_from_length other (take (suc n) u) u b begins (e ∙ sym long)
 
-    go : Told ((m : Meaning) × IsKnown (take (suc n) u) m) → Found u n → Found u (suc n)
+    go : Decision ((m : Meaning) × IsKnown (take (suc n) u) m) → Found u n → Found u (suc n)
     go (inl k) below = found (take (suc n) u) k.0 k.1 begins (λ other m known b short. omega (arith, long))
     go (inr never) (found text m known b longest) = found text m known b (λ other k is c short. at_most other k is c short)
       where

@@ -3,7 +3,7 @@ use Rattle.std.proofs.Common.{◌≡◌, ℕ, Bool, true, false, cond, List, [],
 use Rattle.std.specs.Prelude.{Option, Some, None, MatchOption, IsSomeAnd}
 use Rattle.std.specs.FinMap.{get, from_entries}
 use Rattle.termwiz_input.specs.Entries.{Entries, AreClones}
-use Rattle.termwiz_input.specs.Lookup.{Keys, ClonesEqual, IsClone}
+use Rattle.termwiz_input.specs.Lookup.{ByteMap, ClonesEqual, IsClone}
 use Rattle.termwiz_input.proofs.KeysInEntries.{tied, found, get-entries, same_keys}
 
 module _ {V : Type 0} (is_clone : V → V → Type 0) where
@@ -25,7 +25,7 @@ module _ {V : Type 0} (is_clone : V → V → Type 0) where
       (first_or_later (tied k e.0) e.1 c.1 (found k es) (found k cs) these.0.1 (found-clones k es cs these.1))
 
   -- the map of the clones is a clone of the map
-  pub IsClone-from_entries : (m : Keys V) (es copies : Entries V) → from_entries es ≡ m → AreClones is_clone es copies → IsClone is_clone m (from_entries copies)
+  pub IsClone-from_entries : (m : ByteMap V) (es copies : Entries V) → from_entries es ≡ m → AreClones is_clone es copies → IsClone is_clone m (from_entries copies)
   IsClone-from_entries m es copies is these k = rw (← is, get-entries es k, get-entries copies k) (found-clones k es copies these)
 
   same_answer : (o p : Option V) → ClonesEqual is_clone → AnswersClone o p → p ≡ o
@@ -34,5 +34,5 @@ module _ {V : Type 0} (is_clone : V → V → Type 0) where
   same_answer (Some v) (Some w) equal is = ap (λ x. Some x) (equal v w is)
 
   -- where clones of values equal them, the clone of a map equals it
-  pub same_from_clone : (m n : Keys V) → ClonesEqual is_clone → IsClone is_clone m n → n ≡ m
+  pub same_from_clone : (m n : ByteMap V) → ClonesEqual is_clone → IsClone is_clone m n → n ≡ m
   same_from_clone m n equal is = same_keys n m (λ k. same_answer (get m k) (get n k) equal (is k))

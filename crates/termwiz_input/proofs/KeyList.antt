@@ -12,7 +12,7 @@ use Rattle.std.specs.Cmp.Derive.{both_true}
 use Rattle.std.specs.Cmp.Lexicographic.{same_text}
 use Rattle.std.specs.FinMap.{get, from_entries}
 use Rattle.termwiz_input.specs.Entries.{Entries, some_key_extends, IsLongestEntry, NoEntryBegins}
-use Rattle.termwiz_input.specs.Lookup.{Keys, IsExtended, IsLongestKey, NoKeyBegins}
+use Rattle.termwiz_input.specs.Lookup.{ByteMap, IsExtended, IsLongestKey, NoKeyBegins}
 use Rattle.std.proofs.Math.Bool.{or-true}
 use Rattle.std.proofs.Math.Seq.{take-append_seam, split_at}
 use Rattle.std.proofs.lemmas.List.{set_split, get_or-map, take-map, take_more, map_push, length-map, map-set}
@@ -51,7 +51,7 @@ module _ {V : Type 0} where
       ] refl
 
   -- the three words on the map, from those on the entries
-  module _ (m : Keys V) (es : Entries V) (is : from_entries es ≡ m) where
+  module _ (m : ByteMap V) (es : Entries V) (is : from_entries es ≡ m) where
     gets_same : (k : List ℕ) → get m k ≡ found k es
     gets_same k = ap (λ n. get n k) (sym is) ∙ get-entries es k
 

@@ -7,7 +7,7 @@ use Rattle.std.specs.Cmp.Lexicographic.{slice_cmp, pointwise, texts_ties, same_t
 use Rattle.std.specs.FinMap.{find, get, insert, from_entries, get-insert, get-from_entries, same_map, slice_cmp-IsAntisymmetric, nat_cmp-IsAntisymmetric}
 use Rattle.std.proofs.lemmas.Cmp.{nat_list_cmp_total, nat_list_eq_equiv}
 use Rattle.termwiz_input.specs.Entries.{Entries}
-use Rattle.termwiz_input.specs.Lookup.{Keys}
+use Rattle.termwiz_input.specs.Lookup.{ByteMap}
 
 -- whether two keys are one
 abbrev pub tied : List ℕ → List ℕ → Bool
@@ -44,12 +44,12 @@ module _ {V : Type 0} where
   pub get-entries : (es : Entries V) (k : List ℕ) → get (from_entries {R = slice_cmp nat_cmp} es) k ≡ found k es
   get-entries es k = get-from_entries nat_list_cmp_total es k
 
-  pub get-set : (m : Keys V) (key : List ℕ) (v : V) (k : List ℕ) → get (insert m key v) k ≡ cond (tied k key) (Some v) (get m k)
+  pub get-set : (m : ByteMap V) (key : List ℕ) (v : V) (k : List ℕ) → get (insert m key v) k ≡ cond (tied k key) (Some v) (get m k)
   get-set m key v k = get-insert nat_list_cmp_total m key v k
 
-  pub same_keys : (m n : Keys V) → ((k : List ℕ) → get m k ≡ get n k) → m ≡ n
+  pub same_keys : (m n : ByteMap V) → ((k : List ℕ) → get m k ≡ get n k) → m ≡ n
   same_keys m n same = same_map nat_list_cmp_total (slice_cmp-IsAntisymmetric nat_cmp-IsAntisymmetric) m n same
 
   -- entries make a map with one key set, if they have that key's value and else what the map has
-  pub key_set : (es : Entries V) (m : Keys V) (key : List ℕ) (v : V) → ((k : List ℕ) → found k es ≡ cond (tied k key) (Some v) (get m k)) → from_entries es ≡ insert m key v
+  pub key_set : (es : Entries V) (m : ByteMap V) (key : List ℕ) (v : V) → ((k : List ℕ) → found k es ≡ cond (tied k key) (Some v) (get m k)) → from_entries es ≡ insert m key v
   key_set es m key v is = same_keys _ _ (λ k. get-entries es k ∙ is k ∙ sym (get-set m key v k))

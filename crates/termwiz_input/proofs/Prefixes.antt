@@ -18,4 +18,4 @@ test_from_begins u front (rest, e) =
 
 -- what a test denies
 pub denied : {b : Bool} {P : Type 0} → (P → IsTrue b) → b ≡ false → P → ⊥
-denied {b = b} told no_such p = let yes_such : b ≡ true = told p in cc
+denied {b = b} test no_such p = let yes_such : b ≡ true = test p in cc

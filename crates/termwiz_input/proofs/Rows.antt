@@ -5,10 +5,10 @@ use Rattle.std.specs.FinMap.{insert}
 use Rattle.std.proofs.lemmas.List.{flat_map_more, map-append}
 use Rattle.std.proofs.lemmas.List.Elements.{filter-append}
 use Rattle.termwiz_input.specs.declared.types.KeyEvent.{KeyEvent}
-use Rattle.termwiz_input.specs.Lookup.{Keys}
+use Rattle.termwiz_input.specs.Lookup.{ByteMap}
 use Rattle.termwiz_input.specs.Table.{TableRow, numbers, with_rows}
 
-pub with_rows-append : (m : Keys KeyEvent) (a b : List TableRow) → with_rows m (a ++ b) ≡ with_rows (with_rows m a) b
+pub with_rows-append : (m : ByteMap KeyEvent) (a b : List TableRow) → with_rows m (a ++ b) ≡ with_rows (with_rows m a) b
 with_rows-append m [] b = refl
 with_rows-append m (r ∷ rs) b = with_rows-append (insert m r.0 r.1) rs b
 
@@ -17,7 +17,7 @@ pub ruleset joined_rows = (with_rows-append)
 
 module _ {X : Type 0} where
   -- one more row, for one more element
-  pub row_pushed : (m k : Keys KeyEvent) (row : X → TableRow) (xs more : List X) (x : X) (bytes : List ℕ) (event : KeyEvent)
+  pub row_pushed : (m k : ByteMap KeyEvent) (row : X → TableRow) (xs more : List X) (x : X) (bytes : List ℕ) (event : KeyEvent)
       → more ≡ xs ++ x ∷ [] → k ≡ with_rows m (map row xs) → bytes ≡ (row x).0 → event ≡ (row x).1
       → insert k bytes event ≡ with_rows m (map row more)
   row_pushed m k row xs more x bytes event one before same_bytes same_event =
@@ -29,7 +29,7 @@ module _ {X : Type 0} where
       ∙ ap (λ ys. with_rows m (map row ys)) (sym one)
 
   -- more rows, for one more element
-  pub rows_pushed : (m k new : Keys KeyEvent) (rows_of : X → List TableRow) (xs more : List X) (x : X)
+  pub rows_pushed : (m k new : ByteMap KeyEvent) (rows_of : X → List TableRow) (xs more : List X) (x : X)
       → more ≡ xs ++ x ∷ [] → k ≡ with_rows m (flat_map rows_of xs) → new ≡ with_rows k (rows_of x)
       → new ≡ with_rows m (flat_map rows_of more)
   rows_pushed m k new rows_of xs more x one before after =

@@ -6,7 +6,7 @@ use Rattle.std.specs.Cmp.Lexicographic.{slice_cmp, pointwise, same_text}
 use Rattle.std.proofs.lemmas.Cmp.{nat_list_cmp_total, nat_list_eq_equiv}
 use Rattle.std.specs.FinMap.{get, insert, empty, get-insert, get-empty}
 use Rattle.termwiz_input.specs.declared.types.KeyEvent.{KeyEvent}
-use Rattle.termwiz_input.specs.Lookup.{Keys}
+use Rattle.termwiz_input.specs.Lookup.{ByteMap}
 use Rattle.termwiz_input.specs.Table.{TableRow, rows, with_rows, table}
 use Rattle.termwiz_input.proofs.RowFacts.{row_once}
 use Rattle.termwiz_input.proofs.KeysInEntries.{tie}
@@ -15,11 +15,11 @@ use Rattle.termwiz_input.proofs.KeysInEntries.{tie}
 same_key : (k : List ℕ) → eq_by_cmp (slice_cmp nat_cmp) k k ≡ true
 same_key k = tie k k true (sym (nat_list_eq_equiv.refl k))
 
-get_here : (m : Keys KeyEvent) (k : List ℕ) (v : KeyEvent) → get (insert m k v) k ≡ Some v
+get_here : (m : ByteMap KeyEvent) (k : List ℕ) (v : KeyEvent) → get (insert m k v) k ≡ Some v
 get_here m k v = get-insert nat_list_cmp_total m k v k ∙ ap (λ b. cond b (Some v) (get m k)) (same_key k)
 
 -- an answer after one more row is the row's or was the answer before
-get_either : (m : Keys KeyEvent) (k : List ℕ) (v : KeyEvent) (q : List ℕ) (w : KeyEvent) → get (insert m k v) q ≡ Some w
+get_either : (m : ByteMap KeyEvent) (k : List ℕ) (v : KeyEvent) (q : List ℕ) (w : KeyEvent) → get (insert m k v) q ≡ Some w
     → ((q ≡ k) × (w ≡ v)) ⊎ (get m q ≡ Some w)
 get_either m k v q w e = go (pointwise nat_eq k q) refl (sym (get-insert nat_list_cmp_total m k v q) ∙ e)
   where
@@ -28,7 +28,7 @@ get_either m k v q w e = go (pointwise nat_eq k q) refl (sym (get-insert nat_lis
     go false is h = inr (ap (λ b. cond b (Some v) (get m q)) (sym (tie q k false is)) ∙ h)
 
 -- an answer of a map with rows is one of them, or was the answer before
-answer_from : (rs : List TableRow) (m : Keys KeyEvent) (q : List ℕ) (w : KeyEvent) → get (with_rows m rs) q ≡ Some w
+answer_from : (rs : List TableRow) (m : ByteMap KeyEvent) (q : List ℕ) (w : KeyEvent) → get (with_rows m rs) q ≡ Some w
     → Contains rs (q, w) ⊎ (get m q ≡ Some w)
 answer_from [] m q w e = inr e
 answer_from (r ∷ rs) m q w e = ⊎_elim
@@ -40,21 +40,21 @@ answer_from (r ∷ rs) m q w e = ⊎_elim
     (answer_from rs (insert m r.0 r.1) q w e)
 
 -- a key that some row or the map has keeps an answer
-abbrev Has : Keys KeyEvent → List ℕ → Type 0
+abbrev Has : ByteMap KeyEvent → List ℕ → Type 0
 Has m q = (w : KeyEvent) × (get m q ≡ Some w)
 
-has_after : (m : Keys KeyEvent) (k : List ℕ) (v : KeyEvent) (q : List ℕ) → Has m q → Has (insert m k v) q
+has_after : (m : ByteMap KeyEvent) (k : List ℕ) (v : KeyEvent) (q : List ℕ) → Has m q → Has (insert m k v) q
 has_after m k v q (w, e) = go (pointwise nat_eq k q) refl
   where
     go : (b : Bool) → b ≡ pointwise nat_eq k q → Has (insert m k v) q
     go true is = (v, get-insert nat_list_cmp_total m k v q ∙ ap (λ b. cond b (Some v) (get m q)) (tie q k true is))
     go false is = (w, get-insert nat_list_cmp_total m k v q ∙ ap (λ b. cond b (Some v) (get m q)) (tie q k false is) ∙ e)
 
-kept_by : (rs : List TableRow) (m : Keys KeyEvent) (q : List ℕ) → Has m q → Has (with_rows m rs) q
+kept_by : (rs : List TableRow) (m : ByteMap KeyEvent) (q : List ℕ) → Has m q → Has (with_rows m rs) q
 kept_by [] m q h = h
 kept_by (r ∷ rs) m q h = kept_by rs (insert m r.0 r.1) q (has_after m r.0 r.1 q h)
 
-has_row : (rs : List TableRow) (m : Keys KeyEvent) (q : List ℕ) (w : KeyEvent) → Contains rs (q, w) → Has (with_rows m rs) q
+has_row : (rs : List TableRow) (m : ByteMap KeyEvent) (q : List ℕ) (w : KeyEvent) → Contains rs (q, w) → Has (with_rows m rs) q
 has_row [] m q w (i, l, e) = absurd (omega arith)
 has_row (r ∷ rs) m q w (zero, l, e) =
     kept_by rs (insert m r.0 r.1) q (r.1, subst (λ (k : List ℕ). get (insert m r.0 r.1) k ≡ Some r.1) (ap (λ (x : TableRow). x.0) e) (get_here m r.0 r.1))

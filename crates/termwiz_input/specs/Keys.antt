@@ -1,4 +1,4 @@
--- Keys with the modifiers that are held, and how a key is told without them.
+-- Keys with modifiers, and the keys that most rules name.
 use Rattle.std.specs.Prelude.{ℕ, bit_or}
 use Rattle.termwiz_input.specs.declared.types.KeyCode.{KeyCode}
 use Rattle.termwiz_input.specs.declared.types.KeyCode.TheVariants.{Char, Escape}

@@ -5,13 +5,13 @@ use Rattle.termwiz_input.specs.declared.types.KeyEvent.{KeyEvent}
 use Rattle.termwiz_input.specs.declared.types.InputEvent.{InputEvent}
 use Rattle.termwiz_input.specs.Bytes.{Begins, Occurs, ESC, CSI, SS3, START, END}
 use Rattle.termwiz_input.specs.declared.keymap.Found.TheVariants.{Exact}
-use Rattle.termwiz_input.specs.Lookup.{Keys, LookupGives}
+use Rattle.termwiz_input.specs.Lookup.{ByteMap, LookupGives}
 use Rattle.termwiz_input.specs.Table.{TableRow, rows}
 use Rattle.termwiz_input.specs.Grammar.{Head, IsHead, IsUnfinished, Steps, IsRest, Means}
 
 -- Where a lookup answers Exact although more may come, each longer text has the same answer.
 abbrev pub ExactStays : Type 0 → Type 0
-ExactStays V = (m : Keys V) (t s : List ℕ) (n : ℕ) (v : V) (more : Bool) → LookupGives m t true (Exact n v) → LookupGives m (t ++ s) more (Exact n v)
+ExactStays V = (m : ByteMap V) (t s : List ℕ) (n : ℕ) (v : V) (more : Bool) → LookupGives m t true (Exact n v) → LookupGives m (t ++ s) more (Exact n v)
 
 -- How the bytes are cut doesn't matter.
 abbrev pub CutIndependent : Type 0

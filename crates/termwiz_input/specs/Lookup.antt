@@ -8,26 +8,26 @@ use Rattle.termwiz_input.specs.declared.keymap.Found.{Found}
 use Rattle.termwiz_input.specs.declared.keymap.Found.TheVariants.{None as Nothing, Exact, Ambiguous, NeedData}
 
 -- maps from byte lists
-abbrev pub Keys : Type 0 → Type 0
-Keys V = map.FinMap (slice_cmp nat_cmp) V
+abbrev pub ByteMap : Type 0 → Type 0
+ByteMap V = map.FinMap (slice_cmp nat_cmp) V
 
 module _ {V : Type 0} where
   -- some key begins with the text and is longer
-  abbrev pub IsExtended : Keys V → List ℕ → Type 0
+  abbrev pub IsExtended : ByteMap V → List ℕ → Type 0
   IsExtended m text = (rest : List ℕ) × (0 < length rest) × IsSome (map.get m (text ++ rest))
 
   -- the longest key that begins the text has this length and this value
-  pub record IsLongestKey (m : Keys V) (text : List ℕ) (len : ℕ) (value : V) : Type 0 where
+  pub record IsLongestKey (m : ByteMap V) (text : List ℕ) (len : ℕ) (value : V) : Type 0 where
     pub within : len ≤ length text
     pub stored : map.get m (take len text) ≡ Some value
     pub longest : (k : ℕ) → len < k → k ≤ length text → map.get m (take k text) ≡ None
 
   -- no key begins the text
-  abbrev pub NoKeyBegins : Keys V → List ℕ → Type 0
+  abbrev pub NoKeyBegins : ByteMap V → List ℕ → Type 0
   NoKeyBegins m text = (k : ℕ) → k ≤ length text → map.get m (take k text) ≡ None
 
   -- the lookup rule
-  abbrev pub LookupGives : Keys V → List ℕ → Bool → Found V → Type 0
+  abbrev pub LookupGives : ByteMap V → List ℕ → Bool → Found V → Type 0
   LookupGives m text more (Ambiguous len value) = IsLongestKey m text len value × IsExtended m text × (more ≡ true)
   LookupGives m text more (Exact len value) = IsLongestKey m text len value × (IsExtended m text → more ≡ false)
   LookupGives m text more NeedData = NoKeyBegins m text × IsExtended m text
@@ -45,5 +45,5 @@ module _ {V : Type 0} where
   ClonesEqual is_clone = (value clone : V) → is_clone value clone → clone ≡ value
 
   -- For each key, either neither map has it, or both have it and the copy's value is a clone of the original's.
-  abbrev pub IsClone : (V → V → Type 0) → Keys V → Keys V → Type 0
+  abbrev pub IsClone : (V → V → Type 0) → ByteMap V → ByteMap V → Type 0
   IsClone is_clone original copy = (key : List ℕ) → MatchOption (map.get original key) (map.get copy key ≡ None) (λ value. IsSomeAnd (map.get copy key) (is_clone value))

@@ -8,7 +8,7 @@ use Rattle.termwiz_input.specs.declared.types.KeyCode.TheVariants.{Char, Backspa
 use Rattle.termwiz_input.specs.declared.types.KeyEvent.{KeyEvent}
 use Rattle.termwiz_input.specs.Bytes.{ESC, CSI, SS3, START, END}
 use Rattle.std.specs.FinMap as map_of
-use Rattle.termwiz_input.specs.Lookup.{Keys}
+use Rattle.termwiz_input.specs.Lookup.{ByteMap}
 use Rattle.termwiz_input.specs.Keys.{key_with, NONE, SHIFT, ALT, CTRL, escape}
 
 -- the bytes of a row, and its key
@@ -223,10 +223,10 @@ unfolding numbers rows control_letters_rows backspace_bytes_rows tab_byte_rows e
 written_out = rows
 
 -- a map with these rows put into it, one after another
-abbrev pub with_rows : Keys KeyEvent → List TableRow → Keys KeyEvent
+abbrev pub with_rows : ByteMap KeyEvent → List TableRow → ByteMap KeyEvent
 with_rows m [] = m
 with_rows m (r ∷ rs) = with_rows (map_of.insert m r.0 r.1) rs
 
 -- the table as a map from bytes to keys
-unfoldable pub table : Keys KeyEvent
+unfoldable pub table : ByteMap KeyEvent
 table = with_rows map_of.empty rows

@@ -8,7 +8,7 @@ use Rattle.std.proofs.lemmas.Bool.{cases_eq}
 use Rattle.std.proofs.lemmas.List.{set_split}
 use Rattle.termwiz_input.specs.Entries.{Entries}
 use Rattle.termwiz_input.specs.Branch.{Branch, own_entry, entries_below, map_of, AreChildren, IsPlaceOf, IsGapFor, labels}
-use Rattle.termwiz_input.specs.Lookup.{Keys}
+use Rattle.termwiz_input.specs.Lookup.{ByteMap}
 use Rattle.termwiz_input.proofs.KeysInEntries.{tied, found, get-entries, get-set, key_set}
 use Rattle.termwiz_input.proofs.trie.BranchEntries.{tied_same_byte, tied_other_byte, found-nil, found-cons, found-here, found-elsewhere, Lacks}
 use Rattle.termwiz_input.proofs.trie.Children.{no_branch, inside_at, same_at, lacks_before, lacks_after, parted_at, found_at, lacks_front, lacks_back, found_gap}
@@ -66,7 +66,7 @@ module _ {V : Type 0} where
         (λ b k other. ap (λ cs. found (b ∷ k) (entries_below cs)) (sym (take-append-drop i bs)))
 
   -- a branch that holds a key has a row
-  pub inhabited_by : (n : Branch V) (m : Keys V) (key : List ℕ) (v : V) → map_of n ≡ insert_key m key v → 0 < length n.entries
+  pub inhabited_by : (n : Branch V) (m : ByteMap V) (key : List ℕ) (v : V) → map_of n ≡ insert_key m key v → 0 < length n.entries
   inhabited_by n m key v is = some n.entries (sym (get-entries n.entries key) ∙ ap (λ x. get x key) is ∙ get-set m key v key ∙ ap (λ t. cond t (Some v) (get m key)) ((eq_by_cmp_equiv nat_list_cmp_total).refl key))
     where
       some : (entries : Entries V) → found key entries ≡ Some v → 0 < length entries

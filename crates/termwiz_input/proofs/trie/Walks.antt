@@ -10,7 +10,7 @@ use Rattle.std.specs.FinMap as map
 use denote.Ref.{Bor}
 use Rattle.termwiz_input.specs.Entries.{Entries}
 use Rattle.termwiz_input.specs.Branch.{Branch, prefixed, own_entry, entries_below, map_of, AreChildren, IsPlaceOf, IsGapFor, labels}
-use Rattle.termwiz_input.specs.Lookup.{Keys, IsExtended}
+use Rattle.termwiz_input.specs.Lookup.{ByteMap, IsExtended}
 use Rattle.termwiz_input.proofs.KeysInEntries.{found, found-append, get-entries}
 use Rattle.termwiz_input.proofs.LongestSoFar.{IsLongestBelow, longest_more, NoneAfter}
 use Rattle.termwiz_input.proofs.trie.BranchEntries.{found-prefixed_same, found-nil, found-cons}
@@ -19,7 +19,7 @@ use Rattle.std.proofs.lemmas.List.Elements.{All-head}
 
 module _ {V : Type 0} where
   -- the node's branch holds what goes on from the text's first d bytes
-  abbrev pub Leads : Keys V → List ℕ → ℕ → Branch V → Type 0
+  abbrev pub Leads : ByteMap V → List ℕ → ℕ → Branch V → Type 0
   Leads m t d node = (k : List ℕ) → map.get m (take d t ++ k) ≡ found k node.entries
 
   -- the key that ends at a node
@@ -27,18 +27,18 @@ module _ {V : Type 0} where
   own_value node w bs is = get-entries node.entries [] ∙ ap (found []) (sym is) ∙ found-nil w bs
 
   -- the key of the text's first d bytes is the one that ends at the node
-  ends_here : (m : Keys V) (t : List ℕ) (d : ℕ) (node : Branch V) → Leads m t d node → map.get m (take d t) ≡ map.get (map_of node) []
+  ends_here : (m : ByteMap V) (t : List ℕ) (d : ℕ) (node : Branch V) → Leads m t d node → map.get m (take d t) ≡ map.get (map_of node) []
   ends_here m t d node leads = ap (map.get m) (sym (append-nil (take d t))) ∙ leads [] ∙ sym (get-entries node.entries [])
 
   -- the longest key so far, with the one that ends at the node
-  pub longest_here : (m : Keys V) (t : List ℕ) (d : ℕ) (node : Branch V) (own longest : Option (ℕ × Bor V)) → Leads m t d node
+  pub longest_here : (m : ByteMap V) (t : List ℕ) (d : ℕ) (node : Branch V) (own longest : Option (ℕ × Bor V)) → Leads m t d node
       → IfSome own (λ o. o.0 ≡ d) → IfSome own (λ o. map.get (map_of node) [] ≡ Some o.1.now) → IfNone own (map.get (map_of node) [] ≡ None)
       → IsLongestBelow m t d longest → IsLongestBelow m t (d + 1) (option_or own longest)
   longest_here m t d node own longest leads len value none is =
       let here = ends_here m t d node leads in
       longest_more m t d own longest len (rw here value) (rw here none) is
 
-  module _ (m : Keys V) (t : List ℕ) (d : ℕ) (node : Branch V) (w : Option V) (bs : List (Branch V)) (leads : Leads m t d node) (is : own_entry w ++ entries_below bs ≡ node.entries) where
+  module _ (m : ByteMap V) (t : List ℕ) (d : ℕ) (node : Branch V) (w : Option V) (bs : List (Branch V)) (leads : Leads m t d node) (is : own_entry w ++ entries_below bs ≡ node.entries) where
     -- a key that goes on by one byte
     goes_by : (a : ℕ) (k : List ℕ) → map.get m (take d t ++ a ∷ k) ≡ found (a ∷ k) (entries_below bs)
     goes_by a k = leads (a ∷ k) ∙ ap (found (a ∷ k)) (sym is) ∙ found-cons w bs a k
@@ -80,7 +80,7 @@ module _ {V : Type 0} where
       goes_past a k = ap (λ x. map.get m (x ++ a ∷ k)) (sym (take_all d t end)) ∙ goes_by a k
 
   -- a branch with a row holds a longer key
-  holds_one : (m : Keys V) (t : List ℕ) (b : Branch V) (bs : List (Branch V)) → ((a : ℕ) (k : List ℕ) → map.get m (t ++ a ∷ k) ≡ found (a ∷ k) (entries_below (b ∷ bs))) → 0 < length b.entries → IsExtended m t
+  holds_one : (m : ByteMap V) (t : List ℕ) (b : Branch V) (bs : List (Branch V)) → ((a : ℕ) (k : List ℕ) → map.get m (t ++ a ∷ k) ≡ found (a ∷ k) (entries_below (b ∷ bs))) → 0 < length b.entries → IsExtended m t
   holds_one m t b bs goes some = by b.entries refl some
     where
       by : (entries : Entries V) → b.entries ≡ entries → 0 < length entries → IsExtended m t
@@ -94,7 +94,7 @@ module _ {V : Type 0} where
               (found-prefixed_same b.label row.0 b.entries ∙ ap (found row.0) is ∙ ap (λ x. cond x (Some row.1) (found row.0 entries)) ((eq_by_cmp_equiv nat_list_cmp_total).refl row.0))
 
   -- at the text's end the text is extended exactly where the node has a child
-  pub extended_at_end : (m : Keys V) (t : List ℕ) (bs : List (Branch V)) → ((a : ℕ) (k : List ℕ) → map.get m (t ++ a ∷ k) ≡ found (a ∷ k) (entries_below bs)) → AreChildren bs → (0 < length bs) ↔ IsExtended m t
+  pub extended_at_end : (m : ByteMap V) (t : List ℕ) (bs : List (Branch V)) → ((a : ℕ) (k : List ℕ) → map.get m (t ++ a ∷ k) ≡ found (a ∷ k) (entries_below bs)) → AreChildren bs → (0 < length bs) ↔ IsExtended m t
   extended_at_end m t [] goes are = (λ some. absurd (omega arith), none)
     where
       none : IsExtended m t → 0 < 0
