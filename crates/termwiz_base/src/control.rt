@@ -3,12 +3,10 @@
 ghost use Rattle.std.specs.Prelude.{◌≡◌};
 ghost use Rattle.termwiz_base.specs.Control.{control_of};
 
-/// The control character that a terminal gets where `c` is typed with Ctrl held, and `None` where Ctrl makes no control
-/// character of it.
+/// The ASCII control character that a terminal sends for `c` with Ctrl held, or `None` if there is none.
 ///
-/// `@`, the letters, `[`, `\`, `]`, `^` and `_` give the ASCII character whose code is lower by 64, and a lowercase
-/// letter gives what its uppercase letter gives. `?` gives DEL. The digits `2` to `8`, the space and `/` give what
-/// they give on a VT220, and the other characters of the same keys of a US keyboard go with them.
+/// The characters from `@` to `~` give the control character with the same low five bits, and `?` gives DEL. The space,
+/// `/` and the digits from `2` to `8` give what they give in xterm.
 #[tactic(auto, unfolding(crate::specs::Control::control_of))]
 pub fn ctrl_mapping(c: char) -> Option<char>
     ensures { result ≡ control_of c }

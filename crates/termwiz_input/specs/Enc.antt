@@ -27,7 +27,7 @@ unfoldable pub shows_shift : KeyCode → Bool
 shows_shift (Char c) = is_ascii_uppercase c || is_ascii_punctuation c
 shows_shift key = false
 
--- a control character that is the text of a key stands for that key
+-- DEL stands for `Delete`, and BS for `Backspace`
 unfoldable pub named_key : KeyCode → KeyCode
 named_key (Char c) = if c == 0x7f then Delete else (if c == 8 then Backspace else Char c)
 named_key key = key

@@ -1,4 +1,4 @@
--- Facts of keys, by their codes.
+-- Facts about keys, by their codes.
 use Rattle.std.specs.Prelude.{⊤, ◌&&◌, ◌==◌, ℕ, Bool, bit_and, if◌then◌else◌}
 use Rattle.std.specs.Char.{is_ascii_lowercase, to_ascii_uppercase}
 use Rattle.termwiz_input.specs.declared.types.KeyCode.{KeyCode}

@@ -80,7 +80,7 @@ impl KeyCode {
     /// The text that a terminal in these modes sends for the key, with the modifiers that are held. It is empty for a
     /// key that sends nothing, and for every key that is up (`is_down` is false).
     ///
-    /// `Function(0)` and the function keys above F24 are refused while they are down. Any other error is want of memory.
+    /// `Function(0)` and the function keys above F24 are refused while they are down. The only other error is `Memory`.
     /// A key that is up takes no memory, and always succeeds.
     #[tactic(auto, using(crate::proofs::Encoding::normal_key_unhandled), unfolding(crate::specs::Enc::enc))]
     pub fn encode(
@@ -143,7 +143,7 @@ fn shows_shift(key: KeyCode) -> bool
     }
 }
 
-// The key itself, or the key that a control character is the text of.
+// The key that a control character stands for: `Delete` for DEL and `Backspace` for BS. Other keys are unchanged.
 #[tactic(auto, unfolding(crate::specs::Enc::named_key))]
 fn named_key(key: KeyCode) -> KeyCode
     ensures { result ≡ named_key key }

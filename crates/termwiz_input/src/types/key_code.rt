@@ -1,4 +1,4 @@
-// Questions that a key's code answers by itself.
+// What a key's code says by itself: the key with Shift, and whether it is a modifier.
 
 ghost use Rattle.std.specs.Prelude.{◌≡◌, ◌↔◌, IsTrue};
 ghost use Rattle.termwiz_input.specs.KeyCodes.{IsModifier, shifted};
