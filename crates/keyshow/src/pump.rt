@@ -1,6 +1,6 @@
 // Reads bytes in pieces, and writes the lines of their events.
 
-ghost use Rattle.std.specs.Prelude.{◌≡◌, ◌≤◌, ◌<◌, ◌++◌, List, [], ℕ, true, false, length, OnOk, OnErr, IfOk};
+ghost use Rattle.std.specs.Prelude.{◌≡◌, ◌≤◌, ◌<◌, ◌++◌, List, [], ℕ, true, false, length, ◌↔◌, IsTrue, OnOk, OnErr, IfOk};
 ghost use Rattle.std.specs.Io.KnownBytes.{Appends, Consumes, Keeps, IsAtEnd};
 ghost use Rattle.termwiz_input.specs.Bytes.{Begins};
 ghost use Rattle.termwiz_input.specs.Grammar.{Means};
@@ -142,4 +142,11 @@ fn write_whole<W: Write>(writer: &mut W, bytes: &[u8]) -> Result<(), RunError>
         }
     }
     Ok(())
+}
+
+// Two faults are equal if and only if they are the same. No other code calls this function: it is there for its contract.
+fn equal_faults(a: &RunError, b: &RunError) -> bool
+    ensures { IsTrue result ↔ (a.now ≡ b.now) }
+{
+    a == b
 }

@@ -5,7 +5,8 @@
 
 ghost use Rattle.std.specs.Prelude.{◌≡◌, ◌↔◌, IsTrue, IsOk, IfOk, fold};
 
-use crate::input::ParseVecError;
+use crate::encode::{EncodeError, KeyboardEncoding};
+use crate::input::{ParseError, ParseVecError, PiecesError};
 use crate::types::{
     InputEvent, KeyCode, KeyEvent, MouseButtons, MouseEvent, PastedText, PixelMouseEvent,
 };
@@ -49,8 +50,32 @@ fn equal_events(a: &InputEvent, b: &InputEvent) -> bool
 }
 
 // Of the events it is those in the list that count, and not where the list lies in memory or how long it may grow.
-fn equal_errors(a: &ParseVecError, b: &ParseVecError) -> bool
+fn equal_vec_errors(a: &ParseVecError, b: &ParseVecError) -> bool
     ensures { IsTrue result ↔ ((a.now.events.items ≡ b.now.events.items) × (a.now.taken ≡ b.now.taken)) }
+{
+    a == b
+}
+
+fn equal_encode_errors(a: &EncodeError, b: &EncodeError) -> bool
+    ensures { IsTrue result ↔ (a.now ≡ b.now) }
+{
+    a == b
+}
+
+fn equal_encodings(a: &KeyboardEncoding, b: &KeyboardEncoding) -> bool
+    ensures { IsTrue result ↔ (a.now ≡ b.now) }
+{
+    a == b
+}
+
+fn equal_parse_errors(a: &ParseError, b: &ParseError) -> bool
+    ensures { IsTrue result ↔ (a.now ≡ b.now) }
+{
+    a == b
+}
+
+fn equal_pieces_errors(a: &PiecesError, b: &PiecesError) -> bool
+    ensures { IsTrue result ↔ (a.now ≡ b.now) }
 {
     a == b
 }

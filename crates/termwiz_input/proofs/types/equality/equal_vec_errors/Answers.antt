@@ -2,7 +2,7 @@ use Rattle.std.proofs.Common.{refl}
 use Rattle.std.proofs.lemmas.Bool.Decides.{Decides-and}
 use Rattle.std.proofs.lemmas.Slice.Eq.{slice_eq-Decides}
 use Rattle.std.specs.Cmp.{booleans_Decides}
-use Rattle.termwiz_input.proofs.types.equality.equal_errors.Goals as goal
+use Rattle.termwiz_input.proofs.types.equality.equal_vec_errors.Goals as goal
 use Rattle.termwiz_input.proofs.EventEquality.{same_events}
 
 pub returns : goal.returns
