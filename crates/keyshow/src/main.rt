@@ -2,7 +2,7 @@
 //! bytes that are read at a time.
 #![tactic(auto)]
 
-ghost use Rattle.std.specs.Prelude.{◌≡◌, ◌≤◌, ◌↔◌, None, map, string_bytes, IfSome, OnOk};
+ghost use Rattle.std.specs.Prelude.{◌≡◌, ◌≢◌, ◌≤◌, ◌↔◌, None, map, string_bytes, IfSome, OnOk};
 ghost use Rattle.std.specs.Option.{SomeIff, option_copied};
 ghost use Rattle.std.specs.Str.Parse.{digits_value};
 ghost use Rattle.keyshow.specs.Endings.{status_of, error_line_of};
@@ -47,7 +47,7 @@ fn main(rt: HostRuntime) -> ExitCode {
 
 // Shows standard input on standard output, by the words that the program was started with.
 fn outcome(rt: &HostRuntime) -> Result<(), Failure> {
-    let words = words_given(rt).map_err(|fault| failure_of(&fault))?;
+    let words = words_given(rt).map_err(|fault| failure_of(fault.kind()))?;
     show(
         rt.alloc(),
         words.as_slice(),
@@ -63,12 +63,14 @@ fn words_given(rt: &HostRuntime) -> io::Result<Vec<String>> {
     Ok(words.collect(rt.alloc())?)
 }
 
-// Why the words could not be had.
-fn failure_of(fault: &io::Error) -> Failure {
-    if fault.kind() == ErrorKind::OutOfMemory {
-        Failure::Run(RunError::Memory)
-    } else {
-        Failure::WrongWords
+// Why the words could not be had, by the kind of the error.
+fn failure_of(kind: ErrorKind) -> Failure
+    ensures memory { kind ≡ ErrorKind.OutOfMemory → result ≡ Failure.Run RunError.Memory }
+    ensures others { kind ≢ ErrorKind.OutOfMemory → result ≡ Failure.WrongWords }
+{
+    match kind {
+        ErrorKind::OutOfMemory => Failure::Run(RunError::Memory),
+        _ => Failure::WrongWords,
     }
 }
 

@@ -1,6 +1,7 @@
 -- A text has at most one head, and it can be told which.
-use Rattle.std.proofs.Common.{◌≡◌, ◌⊎◌, inl, inr, ℕ, zero, suc, ◌≤◌, Bool, true, false, List, [], ◌∷◌, length, take, drop, refl, sym, ap, ◌∙◌, subst, ⊎_elim, arith, encode_utf8, Option, Some, None, length-take, take-append-drop, le_antisymm}
+use Rattle.std.proofs.Common.{◌<◌, ◌≡◌, ◌⊎◌, inl, inr, ℕ, zero, suc, ◌≤◌, Bool, true, false, List, [], ◌∷◌, length, take, drop, refl, sym, ap, ◌∙◌, subst, ⊎_elim, arith, encode_utf8, Option, Some, None, length-take, take-append-drop, le_antisymm}
 use Rattle.std.specs.Char.{IsScalar}
+use Rattle.std.proofs.lemmas.Bool.{cases_lt}
 use Rattle.std.proofs.lemmas.Str.{encode_same}
 use Rattle.bstr.specs.Utf8.{Decoded, decoded}
 use Rattle.bstr.proofs.lemmas.EncodeLemmas.{decoded-encode}
@@ -35,9 +36,6 @@ empty_unknown : (other : List ℕ) (k : Meaning) → IsKnown other k → length 
 empty_unknown [] k known l = known_some [] k known refl
 empty_unknown (x ∷ other) k known l = absurd (omega arith)
 
-eq_or_less : (a n : ℕ) → a ≤ suc n → (a ≡ suc n) ⊎ (a ≤ n)
-eq_or_less a n h = grind arith
-
 find_up_to : (u : List ℕ) (n : ℕ) → n ≤ length u → Found u n
 find_up_to u zero l = missing (λ other k known b short. empty_unknown other k known short)
 find_up_to u (suc n) l = go (known_or_not (take (suc n) u)) (find_up_to u n (omega arith))
@@ -57,13 +55,13 @@ find_up_to u (suc n) l = go (known_or_not (take (suc n) u)) (find_up_to u n (ome
       where
         at_most : (other : List ℕ) (k : Meaning) → IsKnown other k → Begins other u → length other ≤ suc n → length other ≤ length text
         at_most other k is c short = ⊎_elim
-            (λ (e : length other ≡ suc n). absurd (never (k, subst (λ x. IsKnown x k) (same other c e) is)))
+            (λ (past : n < length other). absurd (never (k, subst (λ x. IsKnown x k) (same other c (omega arith)) is)))
             (λ (lt : length other ≤ n). longest other k is c lt)
-            (eq_or_less (length other) n short)
+            (cases_lt n (length other))
     go (inr never) (missing none) = missing (λ other k is c short. ⊎_elim
-        (λ (e : length other ≡ suc n). never (k, subst (λ x. IsKnown x k) (same other c e) is))
+        (λ (past : n < length other). never (k, subst (λ x. IsKnown x k) (same other c (omega arith)) is))
         (λ (lt : length other ≤ n). none other k is c lt)
-        (eq_or_less (length other) n short))
+        (cases_lt n (length other)))
 
 -- whether a character begins u
 pub character_or_not : (u : List ℕ) → ((c : ℕ) × IsScalar c × Begins (encode_utf8 c) u) ⊎ ((c : ℕ) → IsScalar c → Begins (encode_utf8 c) u → ⊥)

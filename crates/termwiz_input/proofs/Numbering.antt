@@ -155,11 +155,6 @@ all_read waiting pieces more given rest some at =
       subst (λ ps. AreNumbered waiting ps given) all at.reads.are_numbered,
     )
 
--- the pieces that are read, in a row
-pub join-pieces_or_one : (pieces : List (List ℕ)) → join (pieces_or_one pieces) ≡ join pieces
-join-pieces_or_one [] = refl
-join-pieces_or_one (piece ∷ pieces) = refl
-
 -- the pieces of a slice that has some
 pub length-pieces : (pieces : List (Bor (List ℕ))) → 0 < length pieces → length (pieces_or_one (texts pieces)) ≡ length pieces
 length-pieces [] some = absurd (omega arith)

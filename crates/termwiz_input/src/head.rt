@@ -1,6 +1,6 @@
 // The head of a text: the longest known text that begins it, or else the character that does. A known text is a row of the
 // sequence table or a mouse frame.
-ghost use Rattle.std.specs.Prelude.{◌≡◌, ◌≢◌, true, IfSome, IfNone, IsSome};
+ghost use Rattle.std.specs.Prelude.{◌≡◌, true, IfSome, IfNone, IsSome};
 ghost use Rattle.termwiz_input.specs.FrameAnswers.{IsBegun};
 ghost use Rattle.termwiz_input.specs.Grammar.{IsOpen};
 ghost use Rattle.termwiz_input.specs.AtFront.{HasHead, HasNoHead, HasNoHeadYet, NoFrameBegins, character_of};

@@ -1,5 +1,5 @@
 //! The parser: bytes of a terminal to events.
-ghost use Rattle.std.specs.Prelude.{◌≡◌, ◌≢◌, ◌++◌, ◌+◌, ◌^◌, ◌<◌, ◌≤◌, ℕ, List, [], length, drop, Contains, Some, true, false, OnErr, IfOk, IfErr, IfSome, IfNone, IsTrue, ◌↔◌, ◌==◌, ◌⊎◌, if◌then◌else◌, OnOk, IsOk, IsErrOf};
+ghost use Rattle.std.specs.Prelude.{◌≡◌, ◌≢◌, ◌++◌, ◌+◌, ◌^◌, ◌<◌, ◌≤◌, ℕ, List, [], length, drop, Contains, Some, true, false, OnErr, IfOk, IfErr, IfSome, IfNone, IsTrue, ◌↔◌, ◌==◌, ◌⊎◌, slice_index_or, if◌then◌else◌, OnOk, IsOk, IsErrOf};
 ghost use Rattle.termwiz_input.specs.declared.types.KeyEvent.{KeyEvent};
 ghost use Rattle.termwiz_input.specs.Bytes.{Begins, START};
 ghost use Rattle.termwiz_input.specs.Grammar.{GivesNoPaste, HasItem, HasPaste, IsRest, Steps, Means};
@@ -169,8 +169,8 @@ impl InputParser {
     /// Appends `bytes` to the waiting text, and calls `callback` with each of its events in order. What is no event yet waits.
     ///
     /// Pass `maybe_more` as true while more bytes may come: then a text that may yet become a longer known text waits.
-    /// Pass false at the end of the input, or if a pause says that an Escape was meant alone: then only an open paste and
-    /// bytes that begin no character wait. No bytes and false flush a parser.
+    /// Pass false at the end of the input, or if a pause says that an Escape was meant alone: then only an open paste waits, or
+    /// bytes that don't start with a whole UTF-8 character, after at most one Escape. Call with no bytes and false to flush.
     pub fn parse<F: FnMut(InputEvent)>(
         &mut self,
         bytes: &[u8],
@@ -276,7 +276,10 @@ impl InputParser {
             × WasCalledOnNumbered F.step callback.old given callback.new) }
         ensures within { IfErr result (λ e. e.taken ≤ length pieces.now) }
 
-        // A paste is at its front, or the next piece wasn't taken.
+        // A paste is at its front, or the next piece wasn't taken, and then what waits is a rest.
+        ensures refused { IfErr result (λ e.
+            HasPaste self.new (flag_at (pieces_or_one (texts pieces.now)) maybe_more (taken_or_one (texts pieces.now) e.taken))
+            ⊎ (slice_index_or (texts pieces.now) e.taken [] ≢ [])) }
         ensures stops { IfErr result (λ e. 0 < taken_or_one (texts pieces.now) e.taken
             → HasPaste self.new (flag_at (pieces_or_one (texts pieces.now)) maybe_more (taken_or_one (texts pieces.now) e.taken))
             ⊎ ((e.taken < length pieces.now) × IsRest self.new true)) }
@@ -321,8 +324,8 @@ impl InputParser {
     /// Appends `bytes` to the waiting text, and returns its events in order. What is no event yet waits.
     ///
     /// Pass `maybe_more` as true while more bytes may come: then a text that may yet become a longer known text waits.
-    /// Pass false at the end of the input, or if a pause says that an Escape was meant alone: then only an open paste and
-    /// bytes that begin no character wait. No bytes and false flush a parser.
+    /// Pass false at the end of the input, or if a pause says that an Escape was meant alone: then only an open paste waits, or
+    /// bytes that don't start with a whole UTF-8 character, after at most one Escape. Call with no bytes and false to flush.
     pub fn parse_as_vec(
         &mut self,
         bytes: &[u8],

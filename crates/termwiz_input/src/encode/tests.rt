@@ -377,3 +377,49 @@ fn shifts_letters(rt: HostRuntime) {
         );
     }
 }
+
+// Keys that no example has. With memory each has a text, empty or not.
+const OTHER_KEYS: &[KeyCode] = &[
+    KeyCode::Hyper,
+    KeyCode::Clear,
+    KeyCode::Shift,
+    KeyCode::Backspace,
+    KeyCode::Escape,
+    KeyCode::DownArrow,
+    KeyCode::RightArrow,
+    KeyCode::ApplicationLeftArrow,
+    KeyCode::ApplicationRightArrow,
+    KeyCode::ApplicationUpArrow,
+    KeyCode::ApplicationDownArrow,
+    KeyCode::Insert,
+    KeyCode::Delete,
+    KeyCode::PageDown,
+    KeyCode::KeyPadHome,
+    KeyCode::KeyPadEnd,
+    KeyCode::KeyPadPageUp,
+    KeyCode::KeyPadPageDown,
+    KeyCode::KeyPadBegin,
+    KeyCode::Numpad2,
+    KeyCode::Numpad3,
+    KeyCode::Numpad4,
+    KeyCode::Numpad5,
+    KeyCode::Numpad6,
+    KeyCode::Numpad7,
+    KeyCode::Numpad8,
+    KeyCode::Decimal,
+    KeyCode::CapsLock,
+    KeyCode::VolumeUp,
+    KeyCode::InternalPasteEnd,
+];
+
+#[test]
+fn every_key_has_a_text(rt: HostRuntime) -> Result<(), Fail> {
+    let alloc = rt.alloc();
+    for key in OTHER_KEYS {
+        let _text = key.encode(alloc, SHIFT, XTERM, true)?;
+    }
+    for number in 1..25u8 {
+        let _text = KeyCode::Function(number).encode(alloc, Modifiers::NONE, XTERM, true)?;
+    }
+    Ok(())
+}

@@ -8,7 +8,7 @@ use std::collections::{BTreeMap, BTreeSet};
 use std::ops::Range;
 use termwiz_base::Modifiers;
 
-// How many rows the page counts.
+// How many rows docs/GRAMMAR.md counts.
 pub(crate) const ROWS: usize = 2834;
 
 // The modifiers of a suffix by its number; 0 stands for the empty suffix. One less than the number has the bits 1 for

@@ -105,7 +105,7 @@ pub(super) fn waiting_of<'a>(rt: &impl Abort, parser: &InputParser, text: &'a [u
     &text[text.len() - len..]
 }
 
-// What waits has one of the shapes of the page, and a paste is open if and only if that is its shape.
+// What waits has one of the shapes of docs/GRAMMAR.md, and a paste is open if and only if that is its shape.
 pub(super) fn check_waiting(
     rt: &impl Abort,
     reader: &PlainReader,

@@ -1,10 +1,11 @@
-use Rattle.std.proofs.Common.{◌≡◌, ◌++◌, ◌+◌, ◌<◌, ◌∙◌, [], Result, Err, inl, inr, refl, sym, subst, arith, length}
-use Rattle.std.proofs.lemmas.List.{nil_from_length}
+use Rattle.std.proofs.Common.{List, ℕ, ◌≡◌, ◌++◌, ◌+◌, ◌<◌, ◌∙◌, [], Result, Err, inl, inr, refl, sym, subst, arith, length}
+use Rattle.std.proofs.lemmas.List.{nil_from_length, get_or-map}
+use denote.Ref.{Bor}
 use Rattle.std.proofs.lemmas.Bool.Decides.{nat_tests}
 use Rattle.termwiz_input.specs.declared.input.ParseError.{ParseError}
 use Rattle.termwiz_input.specs.declared.input.ParseError.TheVariants.{NotTaken, Taken}
 use Rattle.termwiz_input.specs.Grammar.{HasPaste, IsRest, Means}
-use Rattle.termwiz_input.specs.Pieces.{AreNumbered, ReadsFirst, events_of, join, numbered, pieces_or_one, taken_or_one, texts}
+use Rattle.termwiz_input.specs.Pieces.{AreNumbered, ReadsFirst, events_of, flag_at, join, numbered, pieces_or_one, taken_or_one, texts}
 use Rattle.termwiz_input.proofs.Calls.{FoldsTo-append, FoldsTo-nil, may_go_on}
 use Rattle.termwiz_input.proofs.Numbering.{between_more, flag_of_slice, length-pieces, flag_before, nothing_read, one_read, one_settled, piece_at, read_more, some_taken}
 use Rattle.termwiz_input.proofs.input.InputParser.parse_pieces.Goals as goal
@@ -47,6 +48,14 @@ returns-in-Err-clause-taken g c =
           (one_read c.args.self.now c.args.maybe_more fed.0 c.feed.new.self fed.1),
       fed.2,
     ))
+
+pub returns-in-Err-clause-refused : goal.returns-in-Err-clause-refused
+returns-in-Err-clause-refused g c =
+    let none : c.args.pieces.now ≡ [] = nil_from_length c.args.pieces.now (grind (arith, nat_tests)) in
+    by_fault c.in-Err.field-0
+    (λ was is. absurd (c.in-Err.ensures.not_taken_some was refl))
+    (λ was is. inl (subst (λ ps. HasPaste c.feed.new.self (flag_at (pieces_or_one (texts ps)) c.args.maybe_more (taken_or_one (texts ps) 0))) (sym none)
+    (c.in-Err.ensures.taken_paste was)))
 
 -- the piece with this number
 pub feed-requires-in-loop-number : goal.feed-requires-in-loop-number
@@ -117,6 +126,18 @@ returns-in-Err-feed-clause-stops g c =
       rw (c.in-Err-feed.ensures.not_taken_same was)
           (subst (IsRest c.loop-number.self) (flag_before (pieces_or_one (texts c.args.pieces.now)) c.args.maybe_more number (omega arith)) (given.1.settled (omega arith))),
     ))
+    (λ was is. inl (rw (c.at.ensures.taken is)
+    (subst (HasPaste c.feed-in-loop-number.new.self) (c.more_after-more.ensures ∙ flag_of_slice c.args.pieces.now c.args.maybe_more (number + 1) (omega arith))
+    (c.in-Err-feed.ensures.taken_paste was)))))
+
+pub returns-in-Err-feed-clause-refused : goal.returns-in-Err-feed-clause-refused
+returns-in-Err-feed-clause-refused g c =
+    let number = c.loop-number.number in
+    let inside : number < length c.args.pieces.now = c.loop-number-test.true in
+    rw (some_taken c.args.pieces.now c.at.result.taken (omega arith))
+    (by_fault c.in-Err-feed.fault
+    (λ was is. inr (rw (c.at.ensures.not_taken is) (λ none. c.in-Err-feed.ensures.not_taken_some was
+    (sym (get_or-map (λ (piece : Bor (List ℕ)). piece.now) c.args.pieces.now number _ [] inside) ∙ none))))
     (λ was is. inl (rw (c.at.ensures.taken is)
     (subst (HasPaste c.feed-in-loop-number.new.self) (c.more_after-more.ensures ∙ flag_of_slice c.args.pieces.now c.args.maybe_more (number + 1) (omega arith))
     (c.in-Err-feed.ensures.taken_paste was)))))
