@@ -1,8 +1,9 @@
 -- A text has at most one head, and it can be told which.
-use Rattle.std.proofs.Common.{◌<◌, ◌≡◌, ◌⊎◌, inl, inr, ℕ, zero, suc, ◌≤◌, Bool, true, false, List, [], ◌∷◌, length, take, drop, refl, sym, ap, ◌∙◌, subst, ⊎_elim, arith, encode_utf8, Option, Some, None, length-take, take-append-drop, le_antisymm}
+use Rattle.std.proofs.Common.{◌<◌, ◌≡◌, ◌⊎◌, inl, inr, ℕ, zero, suc, ◌≤◌, Bool, true, false, List, [], ◌∷◌, ◌++◌, length, take, drop, refl, sym, ap, ◌∙◌, subst, ⊎_elim, arith, encode_utf8, Option, Some, None, append-nil, length-take, take-append-drop, le_antisymm}
 use Rattle.std.specs.Char.{IsScalar}
 use Rattle.std.proofs.lemmas.Bool.{cases_lt}
-use Rattle.std.proofs.lemmas.Str.{encode_same}
+use Rattle.std.proofs.Math.Utf8.{low_scalar}
+use Rattle.std.proofs.lemmas.Str.{encode_same, encode_ascii}
 use Rattle.bstr.specs.Utf8.{Decoded, decoded}
 use Rattle.bstr.proofs.lemmas.EncodeLemmas.{decoded-encode}
 use Rattle.bstr.proofs.lemmas.SoundLemmas.{SpellsChar-decoded}
@@ -18,6 +19,14 @@ pub longest_once : (u s t : List ℕ) (m n : Meaning) → IsLongest u s m → Is
 longest_once u s t m n a b =
     let e : s ≡ t = same_from_length s t u a.begins b.begins (le_antisymm (b.longest s m a.known a.begins) (a.longest t n b.known b.begins)) in
     (e, known_once t m n (subst (λ x. IsKnown x m) e a.known) b.known)
+
+-- a known text is the longest that begins itself
+pub longest_whole : (text : List ℕ) (m : Meaning) → IsKnown text m → IsLongest text text m
+longest_whole text m known = record {
+  known = known;
+  begins = ([], sym (append-nil text));
+  longest = λ other n is b. length-Begins other text b;
+}
 
 pub head_once : (u : List ℕ) (h k : Head) → IsHead u h → IsHead u k → h ≡ k
 head_once u (Known s m) (Known t n) a b = let e = longest_once u s t m n a b in cc (e.0, e.1)
@@ -106,3 +115,25 @@ open_or_not (x ∷ u) true = ⊎_elim
     (λ h. inl (record { more_comes = refl; some = λ e. cc; unfinished = h }))
     (λ never. inr (λ h. never h.unfinished))
     (unfinished_or_not (x ∷ u))
+
+-- a byte below 128 always begins something
+pub ascii_head : (x : ℕ) (t : List ℕ) → x < 128 → (h : Head) × IsHead (x ∷ t) h
+ascii_head x t small = go (find_up_to (x ∷ t) (length (x ∷ t)) (omega arith))
+  where
+    go : Found (x ∷ t) (length (x ∷ t)) → (h : Head) × IsHead (x ∷ t) h
+    go (found text m known b longest) = (
+      Known text m,
+      record {
+        known = known;
+        begins = b;
+        longest = λ other k is c. longest other k is c (length-Begins other (x ∷ t) c);
+      },
+    )
+    go (missing none) = (
+      Character x,
+      record {
+        unknown = λ other k is d. none other k is d (length-Begins other (x ∷ t) d);
+        scalar = low_scalar x (omega arith);
+        begins = (t, ap (λ z. z ++ t) (sym (encode_ascii x small)));
+      },
+    )

@@ -5,6 +5,7 @@ pub mod Encoding
 pub mod EventEquality
 pub mod ExactStays
 pub mod Facts
+pub mod Flushing
 pub mod FrameFacts
 pub mod FrameReading
 pub mod Heads
@@ -15,12 +16,15 @@ pub mod KeysInEntries
 pub mod Lists
 pub mod LongestSoFar
 pub mod Meaning
+pub mod Members
 pub mod Numbering
 pub mod Numbers
 pub mod Pastes
 pub mod Places
 pub mod Prefixes
+pub mod ReadBack
 pub mod Reading
+pub mod Readings
 pub mod RowFacts
 pub mod Rows
 pub mod Searches
@@ -29,4 +33,5 @@ pub mod Standing
 pub mod TableMap
 pub mod TableTests
 pub mod Variants
+pub mod WholeTexts
 pub mod trie

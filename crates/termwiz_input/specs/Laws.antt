@@ -1,5 +1,5 @@
 -- The laws of the grammar.
-use Rattle.std.specs.Prelude.{◌≡◌, ◌≢◌, ℕ, ◌+◌, ◌≤◌, ◌⊎◌, ◌↔◌, Bool, true, List, [], ◌++◌, length, codes, Contains, All}
+use Rattle.std.specs.Prelude.{◌≡◌, ◌≢◌, ℕ, ◌+◌, ◌≤◌, ◌⊎◌, ◌↔◌, Bool, true, false, List, [], ◌++◌, length, codes, Contains, All}
 use Rattle.std.specs.List.{AllPairs}
 use Rattle.termwiz_input.specs.declared.types.KeyEvent.{KeyEvent}
 use Rattle.termwiz_input.specs.declared.types.InputEvent.{InputEvent}
@@ -51,6 +51,16 @@ pub data Waits (u : List ℕ) (more : Bool) : Type 0 where
 -- Every rest waits for one of these.
 abbrev pub WaitingShape : Type 0
 WaitingShape = (u : List ℕ) (more : Bool) → IsRest u more → Waits u more
+
+-- What a text and c mean together isn't what they mean if the text is flushed before c comes.
+abbrev pub FlushMatters : List ℕ → List ℕ → Type 0
+FlushMatters text c =
+    (E E1 E2 : List InputEvent) × (W W1 W2 : List ℕ)
+    × Means (text ++ c) false E W × Means text false E1 W1 × Means (W1 ++ c) false E2 W2 × (E ≢ E1 ++ E2)
+
+-- What properly begins a known text, after at most one held Escape, may go on so that a flush before changes the events.
+abbrev pub Undecided : Type 0
+Undecided = (held p : List ℕ) → IsHeldEscape held → p ≢ [] → IsUnfinished p → (c : List ℕ) × FlushMatters (held ++ p) c
 
 -- the bytes of a row that properly begin another row
 abbrev pub BeginsRow : List ℕ → Type 0

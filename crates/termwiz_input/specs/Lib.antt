@@ -13,6 +13,7 @@ pub mod KeyCodes
 pub mod Keys
 pub mod Known
 pub mod Laws
+pub mod Listed
 pub mod Lookup
 pub mod Pieces
 pub mod Suffixes

@@ -7,8 +7,6 @@ ghost use Rattle.termwiz_input.specs.declared.encode.EncodeError.TheVariants as 
 
 mod characters;
 mod sequences;
-#[cfg(test)]
-mod tests;
 
 use crate::types::KeyCode;
 use characters::{push_backspace, push_char, push_enter, push_escape, push_tab};

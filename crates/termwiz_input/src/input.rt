@@ -8,11 +8,6 @@ ghost use Rattle.termwiz_input.specs.Callbacks.{MayBeCalledOn, MayBeCalledOnNumb
 ghost use Rattle.termwiz_input.specs.Pieces.{AreNumbered, NumberedEvent, ReadsFirst, events_of, flag_at, join, numbered, pieces_or_one, taken_or_one, texts};
 ghost use Rattle.termwiz_input.specs.declared.types.InputEvent.{InputEvent as Event};
 
-#[cfg(test)]
-mod plain;
-#[cfg(test)]
-mod tests;
-
 pub use crate::encode::{CSI, EncodeError, KeyCodeEncodeModes, KeyboardEncoding, SS3};
 use crate::item::{Item, item_at};
 use crate::keymap::KeyMap;

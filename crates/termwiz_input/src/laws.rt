@@ -1,7 +1,13 @@
 //! Laws of the grammar and of the key map, each the contract of a function without effect.
 //!
 //! They speak of the definitions alone; that the parser obeys the definitions is said by its own contracts.
-ghost use Rattle.termwiz_input.specs.Laws.{CutIndependent, EmptyIsRest, ExactStays, FewEvents, OneMeaning, Resumes, TableFacts, ThreeBeginnings, WaitingShape};
+ghost use Rattle.std.specs.Prelude.{◌≤◌};
+ghost use Rattle.termwiz_input.specs.Laws.{CutIndependent, EmptyIsRest, ExactStays, FewEvents, OneMeaning, Resumes, TableFacts, ThreeBeginnings, Undecided, WaitingShape};
+ghost use Rattle.termwiz_input.specs.Listed.{CsiUReadsBack, IsListed, ReadsBack};
+
+use crate::encode::KeyCodeEncodeModes;
+use crate::types::KeyCode;
+use termwiz_base::Modifiers;
 
 /// Each text means, under each flag, exactly one list of events and one rest.
 pub fn one_meaning()
@@ -48,6 +54,26 @@ pub fn empty_is_rest()
 /// text, after at most one Escape.
 pub fn waiting_shape()
     ensures { WaitingShape }
+{}
+
+/// What waits as the proper beginning of a known text, alone or after one Escape, isn't decided yet: there are bytes that may
+/// follow it such that a flush before them changes the events. Each of the three meanings (of the whole, of what is flushed,
+/// and of what comes after the flush) exists, and is the only one.
+pub fn undecided()
+    ensures { Undecided }
+{}
+
+/// A listed key is understood again: if the key, the modifiers and the modes are listed (`IsListed`, in xterm's encoding with
+/// application cursor keys and newline mode off), then [`KeyCode::encode`] gives it a text, and this text, read whole without
+/// more to come, means exactly that key with those modifiers.
+pub fn read_back(key: KeyCode, modifiers: Modifiers, modes: KeyCodeEncodeModes)
+    ensures { IsListed key modifiers modes → ReadsBack key modifiers modes }
+{}
+
+/// The characters of ASCII in CSI u are understood: for `c` up to 127 and `m` from 1 to 7, ESC `[` c `;` 1+m `u`, in decimal
+/// without leading zeros, means exactly `Char(c)` with the modifiers of `m` (1 for SHIFT, 2 for ALT and 4 for CTRL).
+pub fn csi_u_read_back(c: u8, m: u8)
+    ensures { c ≤ 127 → 1 ≤ m → m ≤ 7 → CsiUReadsBack c m }
 {}
 
 /// If a lookup answers `Exact` although more may come, each longer text that begins with that text has the same answer, under

@@ -2,14 +2,14 @@
 // with the parser but the types of events. A number in a comment is that of the page's sentence.
 mod rows;
 
-use crate::types::{InputEvent, KeyCode, KeyEvent, MouseButtons, MouseEvent, PastedText};
-use bitflags::Flags;
 pub(super) use rows::ROWS;
 use rows::Rows;
 use std::alloc::{AllocError, Global};
 use std::collections::BTreeMap;
 use std::str;
-use termwiz_base::Modifiers;
+use termwiz_input::input::{
+    Flags, InputEvent, KeyCode, KeyEvent, Modifiers, MouseButtons, MouseEvent, PastedText,
+};
 
 const ESC: &[u8] = b"\x1b";
 

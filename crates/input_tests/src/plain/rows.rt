@@ -1,12 +1,10 @@
 // The rows of the sequence table, rule by rule, as docs/GRAMMAR.md gives them under "The sequence table". A new row of the
 // page is added here: to the loop of its rule, and to `ROWS`.
 use super::modifiers_of;
-use crate::types::{KeyCode, KeyEvent};
-use bitflags::Flags;
 use std::alloc::{AllocError, Global};
 use std::collections::{BTreeMap, BTreeSet};
 use std::ops::Range;
-use termwiz_base::Modifiers;
+use termwiz_input::input::{Flags, KeyCode, KeyEvent, Modifiers};
 
 // How many rows docs/GRAMMAR.md counts.
 pub(crate) const ROWS: usize = 2834;

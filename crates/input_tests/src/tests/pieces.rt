@@ -5,11 +5,11 @@ use super::line::{line_of, push_comma, push_event, push_waiting};
 use super::long::{KEYS, check_events, repeated, wanted_at};
 use super::plain::PlainReader;
 use super::{InputEvent, InputParser, LAST, MORE, Step};
-use crate::input::{ParseError, PiecesError};
 use std::alloc::{AllocError, Global};
 use std::fmt::Write;
 use std::process::Abort;
 use std::test::Fail;
+use termwiz_input::input::{ParseError, PiecesError};
 
 // The events of a call of `parse`.
 pub(super) fn parsed(

@@ -1,6 +1,7 @@
 // The parser's answers on examples, on every row, on long input, and against the plain reader.
 mod carried;
 mod cuts;
+mod encode;
 mod frames;
 mod generated;
 mod keys;
@@ -10,10 +11,13 @@ mod pastes;
 mod pieces;
 mod rows;
 
-use super::{Flags, InputEvent, InputParser, KeyCode, KeyEvent, Modifiers, MouseButtons, plain};
+use crate::plain;
 use std::alloc::Global;
 use std::process::Abort;
 use std::test::Fail;
+use termwiz_input::input::{
+    Flags, InputEvent, InputParser, KeyCode, KeyEvent, Modifiers, MouseButtons,
+};
 
 const MORE: bool = true;
 

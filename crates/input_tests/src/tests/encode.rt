@@ -1,11 +1,11 @@
 // The texts of keys, on worked examples.
 
-use super::{CSI, EncodeError, KeyCodeEncodeModes, KeyboardEncoding, SS3};
-use crate::types::KeyCode;
+use super::{Flags, KeyCode, Modifiers};
 use std::alloc::Global;
 use std::process::Abort;
 use std::test::Fail;
-use termwiz_base::{Flags, KittyKeyboardFlags, Modifiers};
+use termwiz_base::KittyKeyboardFlags;
+use termwiz_input::input::{CSI, EncodeError, KeyCodeEncodeModes, KeyboardEncoding, SS3};
 
 // A key that is pressed, the modifiers that are held, and the text.
 type Example = (KeyCode, Modifiers, &'static str);

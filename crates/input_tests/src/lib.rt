@@ -1,0 +1,25 @@
+//! Tests over the public calls of `termwiz_input`: worked examples, every row of the sequence table, every key that reads back,
+//! long input, and comparisons with a plain slow reader.
+#![tactic(auto)]
+
+ghost use Rattle.std.specs.Prelude.{◌≡◌, length};
+ghost use Rattle.std.specs.List.{AllPairs};
+ghost use Rattle.termwiz_input.specs.Laws.{HasOtherBytes};
+ghost use Rattle.termwiz_input.specs.Table.{rows};
+
+#[cfg(test)]
+mod plain;
+#[cfg(test)]
+mod tests;
+
+use termwiz_input::laws::table_facts;
+
+/// How many rows the sequence table has. No two of them have the same bytes, so a list of as many rows of the table, with
+/// different bytes, has all of them.
+pub fn table_rows() -> usize
+    ensures count { result ≡ length rows }
+    ensures differ { AllPairs HasOtherBytes rows }
+{
+    table_facts();
+    2834
+}

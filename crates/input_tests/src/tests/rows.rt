@@ -1,0 +1,55 @@
+// The sequence table against the rows of the plain reader.
+use super::plain::{PlainReader, ROWS, event_of};
+use super::{Flags, InputEvent, InputParser, KeyCode, KeyEvent, LAST, Modifiers};
+use crate::table_rows;
+use std::alloc::Global;
+use std::process::Abort;
+use std::test::Fail;
+
+// The event of a row after one ESC.
+fn event_with_alt(row: &KeyEvent) -> InputEvent {
+    InputEvent::Key(KeyEvent {
+        key: row.key,
+        modifiers: row.modifiers.union(Modifiers::ALT),
+    })
+}
+
+// Alone the row is read as its key, and after one ESC as its key with Alt, each as one event after which nothing waits. So
+// the parser's table has the row: other bytes would be read as their characters, or joined to the ESC one by one.
+fn check_row(
+    rt: &impl Abort,
+    alloc: Global,
+    parser: &mut InputParser,
+    bytes: &[u8],
+    row: &KeyEvent,
+) -> Result<(), Fail> {
+    let alone = parser.parse_as_vec(bytes, LAST)?;
+    assert_eq!(rt; alone.as_slice(), [event_of(row)].as_slice(), "{bytes:?}");
+    let mut after_escape = b"\x1b".to_vec(alloc)?;
+    after_escape.extend_from_slice(bytes)?;
+    let joined = parser.parse_as_vec(&after_escape, LAST)?;
+    assert_eq!(rt;
+        joined.as_slice(),
+        [event_with_alt(row)].as_slice(),
+        "{bytes:?}"
+    );
+    assert_eq!(rt; parser.waiting_len(), 0, "{bytes:?}");
+    Ok(())
+}
+
+// Each row of the plain reader is a row of the parser's table; only the start of a paste isn't a key. Both have as many,
+// with different bytes, so the parser's table has no other row.
+#[test]
+fn has_the_rows_and_no_other(rt: HostRuntime) -> Result<(), Fail> {
+    let reader = PlainReader::new(rt.alloc())?;
+    assert_eq!(rt; reader.row_count(), ROWS);
+    assert_eq!(rt; reader.rows().len(), ROWS, "all bytes differ");
+    assert_eq!(rt; table_rows(), ROWS);
+    let mut parser = InputParser::new(rt.alloc())?;
+    for (bytes, row) in reader.rows() {
+        if row.key != KeyCode::InternalPasteStart {
+            check_row(&rt, rt.alloc(), &mut parser, bytes, row)?;
+        }
+    }
+    Ok(())
+}
