@@ -1,10 +1,13 @@
-//! Tests over the public calls of `termwiz_input`: worked examples, every row of the sequence table, every key that reads back,
-//! long input, and comparisons with a plain slow reader.
+//! Tests over the public calls of `termwiz_input`: worked examples, every row of the sequence table, every listed key encoded and
+//! read back, every beginning that waits, long input, and comparisons with a plain slow reader.
 #![tactic(auto)]
 
-ghost use Rattle.std.specs.Prelude.{◌≡◌, length};
+ghost use Rattle.std.specs.Prelude.{◌≡◌, ◌∷◌, ℕ, List, [], false, length, IfOk};
 ghost use Rattle.std.specs.List.{AllPairs};
+ghost use Rattle.termwiz_input.specs.declared.types.InputEvent.TheVariants.{Key};
+ghost use Rattle.termwiz_input.specs.Grammar.{Means};
 ghost use Rattle.termwiz_input.specs.Laws.{HasOtherBytes};
+ghost use Rattle.termwiz_input.specs.Listed.{IsListed};
 ghost use Rattle.termwiz_input.specs.Table.{rows};
 
 #[cfg(test)]
@@ -12,7 +15,11 @@ mod plain;
 #[cfg(test)]
 mod tests;
 
-use termwiz_input::laws::table_facts;
+use std::alloc::{AllocError, Global};
+use termwiz_input::input::{
+    EncodeError, InputEvent, InputParser, KeyCode, KeyCodeEncodeModes, Modifiers,
+};
+use termwiz_input::laws::{one_meaning, read_back, table_facts};
 
 /// How many rows the sequence table has. No two of them have the same bytes, so a list of as many rows of the table, with
 /// different bytes, has all of them.
@@ -22,4 +29,35 @@ pub fn table_rows() -> usize
 {
     table_facts();
     2834
+}
+
+/// The events of a whole text, read by a fresh parser with no more to come.
+pub fn read_whole(alloc: Global, text: &[u8]) -> Result<Vec<InputEvent>, AllocError>
+    ensures { IfOk result (λ events. (waiting : List ℕ) × Means text.now false events.items waiting) }
+{
+    let mut parser = InputParser::new(alloc)?;
+    match parser.parse_as_vec(text, false) {
+        Ok(events) => Ok(events),
+        Err(_) => Err(AllocError),
+    }
+}
+
+/// The events that a fresh parser reads in the text of a key that is pressed. If the key is listed, with its modifiers and
+/// modes, there is one event: that key with those modifiers.
+///
+/// Fails if the key is a function key without a text, or if memory is refused.
+pub fn read_encoded(
+    alloc: Global,
+    key: KeyCode,
+    modifiers: Modifiers,
+    modes: KeyCodeEncodeModes,
+) -> Result<Vec<InputEvent>, EncodeError>
+    ensures { IsListed key modifiers modes
+        → IfOk result (λ events. events.items ≡ Key (record { key = key; modifiers = modifiers }) ∷ []) }
+{
+    let text = key.encode(alloc, modifiers, modes, true)?;
+    let events = read_whole(alloc, text.as_bytes())?;
+    read_back(key, modifiers, modes);
+    one_meaning();
+    Ok(events)
 }

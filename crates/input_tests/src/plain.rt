@@ -28,7 +28,7 @@ pub(super) fn event_of(row: &KeyEvent) -> InputEvent {
 }
 
 // The modifiers, by which of the three are held.
-fn modifiers_of(shift: bool, alt: bool, ctrl: bool) -> Modifiers {
+pub(super) fn modifiers_of(shift: bool, alt: bool, ctrl: bool) -> Modifiers {
     let mut modifiers = Modifiers::NONE;
     modifiers.set(Modifiers::SHIFT, shift);
     modifiers.set(Modifiers::ALT, alt);

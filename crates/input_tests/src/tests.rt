@@ -9,7 +9,9 @@ mod line;
 mod long;
 mod pastes;
 mod pieces;
+mod read_back;
 mod rows;
+mod undecided;
 
 use crate::plain;
 use std::alloc::Global;

@@ -1,0 +1,183 @@
+// Every listed key is encoded and read back, as docs/GRAMMAR.md lists them under "Keys that read back".
+use super::plain::modifiers_of;
+use super::{InputEvent, KeyCode, KeyEvent};
+use crate::read_encoded;
+use std::alloc::Global;
+use std::process::Abort;
+use std::test::Fail;
+use termwiz_input::input::{KeyCodeEncodeModes, KeyboardEncoding};
+
+// Which of Shift, Alt and Ctrl are held.
+type Held = (bool, bool, bool);
+
+const NONE: &[Held] = &[(false, false, false)];
+
+const ALT: &[Held] = &[(false, true, false)];
+
+const NONE_OR_ALT: &[Held] = &[(false, false, false), (false, true, false)];
+
+const ALT_AND_SHIFT: &[Held] = &[
+    (false, false, false),
+    (false, true, false),
+    (true, false, false),
+    (true, true, false),
+];
+
+const CTRL: &[Held] = &[(false, false, true), (false, true, true)];
+
+const CTRL_AND_SHIFT: &[Held] = &[(true, false, true), (true, true, true)];
+
+const ANY: &[Held] = &[
+    (false, false, false),
+    (false, false, true),
+    (false, true, false),
+    (false, true, true),
+    (true, false, false),
+    (true, false, true),
+    (true, true, false),
+    (true, true, true),
+];
+
+// Levels of modifyOtherKeys.
+type Levels = &'static [Option<i64>];
+
+const ALL: Levels = &[None, Some(1), Some(2)];
+
+const OFF: Levels = &[None];
+
+const NOT_TWO: Levels = &[None, Some(1)];
+
+const ON: Levels = &[Some(1), Some(2)];
+
+const TWO: Levels = &[Some(2)];
+
+// Keys other than characters, with the modifiers and levels at which they are listed.
+const LINES: &[(&[KeyCode], &[Held], Levels)] = &[
+    (
+        &[
+            KeyCode::LeftArrow,
+            KeyCode::RightArrow,
+            KeyCode::UpArrow,
+            KeyCode::DownArrow,
+            KeyCode::Home,
+            KeyCode::End,
+        ],
+        ANY,
+        ALL,
+    ),
+    (
+        &[
+            KeyCode::ApplicationLeftArrow,
+            KeyCode::ApplicationRightArrow,
+            KeyCode::ApplicationUpArrow,
+            KeyCode::ApplicationDownArrow,
+            KeyCode::PageUp,
+            KeyCode::PageDown,
+            KeyCode::Insert,
+            KeyCode::Delete,
+        ],
+        NONE,
+        ALL,
+    ),
+    (
+        &[KeyCode::Enter, KeyCode::Escape, KeyCode::Backspace],
+        NONE_OR_ALT,
+        ALL,
+    ),
+    (&[KeyCode::Tab], ALT_AND_SHIFT, OFF),
+    (&[KeyCode::Tab, KeyCode::Enter], ANY, ON),
+    (&[KeyCode::Escape, KeyCode::Backspace], ANY, TWO),
+];
+
+// Characters beyond ASCII: the first and the last of each length in UTF-8, and U+FFFD.
+const BEYOND_ASCII: &[char] = &[
+    '\u{80}',
+    '\u{7ff}',
+    '\u{800}',
+    '\u{fffd}',
+    '\u{10000}',
+    '\u{10ffff}',
+];
+
+fn check_key(
+    rt: &impl Abort,
+    alloc: Global,
+    key: KeyCode,
+    (shift, alt, ctrl): Held,
+    level: Option<i64>,
+) -> Result<(), Fail> {
+    let modifiers = modifiers_of(shift, alt, ctrl);
+    let modes = KeyCodeEncodeModes {
+        encoding: KeyboardEncoding::Xterm,
+        application_cursor_keys: false,
+        newline_mode: false,
+        modify_other_keys: level,
+    };
+    let events = read_encoded(alloc, key, modifiers, modes)?;
+    let wanted = [InputEvent::Key(KeyEvent { key, modifiers })];
+    assert_eq!(rt; events.as_slice(), wanted.as_slice(), "{level:?}");
+    Ok(())
+}
+
+// A key with each of the modifiers, at each of the levels.
+fn check_listed(
+    rt: &impl Abort,
+    alloc: Global,
+    key: KeyCode,
+    held: &[Held],
+    levels: &[Option<i64>],
+) -> Result<(), Fail> {
+    for each in held {
+        for level in levels {
+            check_key(rt, alloc, key, *each, *level)?;
+        }
+    }
+    Ok(())
+}
+
+fn check_character(rt: &impl Abort, alloc: Global, c: char) -> Result<(), Fail> {
+    let key = KeyCode::Char(c);
+    check_listed(rt, alloc, key, NONE, ALL)?;
+    if c.is_ascii_alphanumeric() || c.is_ascii_punctuation() {
+        check_listed(rt, alloc, key, ALT, ALL)?;
+    }
+    if c.is_ascii_lowercase() && !matches!(c, 'h' | 'i' | 'j' | 'm') {
+        check_listed(rt, alloc, key, CTRL, NOT_TWO)?;
+    }
+    if c.is_ascii() {
+        check_listed(rt, alloc, key, CTRL, TWO)?;
+    }
+    if c.is_ascii_digit() || c == ' ' {
+        check_listed(rt, alloc, key, CTRL_AND_SHIFT, TWO)?;
+    }
+    Ok(())
+}
+
+#[test]
+fn reads_listed_keys_back(rt: HostRuntime) -> Result<(), Fail> {
+    for (keys, held, levels) in LINES {
+        for key in *keys {
+            check_listed(&rt, rt.alloc(), *key, held, levels)?;
+        }
+    }
+    Ok(())
+}
+
+#[test]
+fn reads_function_keys_back(rt: HostRuntime) -> Result<(), Fail> {
+    for number in 1..21 {
+        check_listed(&rt, rt.alloc(), KeyCode::Function(number), ANY, ALL)?;
+    }
+    Ok(())
+}
+
+#[test]
+fn reads_characters_back(rt: HostRuntime) -> Result<(), Fail> {
+    for code in 0x20..0x7f_u8 {
+        check_character(&rt, rt.alloc(), code as char)?;
+    }
+    for c in BEYOND_ASCII {
+        check_character(&rt, rt.alloc(), *c)?;
+    }
+    Ok(())
+}

@@ -1,0 +1,112 @@
+// What waits for a known text isn't decided: each beginning of a row or of a mouse frame, alone and after one ESC, waits as a
+// whole, and a flush before the rest of that text changes the events.
+use super::plain::PlainReader;
+use super::{InputEvent, InputParser, LAST, MORE};
+use std::alloc::{AllocError, Global};
+use std::process::Abort;
+use std::test::Fail;
+
+const HELD: &[&[u8]] = &[b"", b"\x1b"];
+
+// The most that waits: one ESC, and the longest proper beginning of a known text.
+const MOST: usize = 21;
+
+// The events of the text, after which nothing waits but a paste that the text begins.
+fn flushed_events(
+    rt: &impl Abort,
+    parser: &mut InputParser,
+    text: &[u8],
+) -> Result<Vec<InputEvent>, Fail> {
+    let events = parser.parse_as_vec(text, LAST)?;
+    if parser.is_paste_open() {
+        parser.parse_as_vec(b"\x1b[201~", LAST)?;
+    }
+    assert_eq!(rt; parser.waiting_len(), 0, "{text:?}");
+    Ok(events)
+}
+
+// Parts a known text in two, behind what is held. The first part waits as a whole, and the events of both parts at once aren't
+// those of the first, flushed, and of the second.
+fn check_parted(
+    rt: &impl Abort,
+    alloc: Global,
+    parser: &mut InputParser,
+    held: &[u8],
+    parts: (&[u8], &[u8]),
+) -> Result<(), Fail> {
+    let (beginning, end) = parts;
+    let mut text = held.to_vec(alloc)?;
+    text.extend_from_slice(beginning)?;
+    let events = parser.parse_as_vec(&text, MORE)?;
+    assert!(rt; events.is_empty(), "{text:?}");
+    assert_eq!(rt; parser.waiting_len(), text.len());
+    assert!(rt; text.len() <= MOST, "{text:?}");
+    let mut with_flush = flushed_events(rt, parser, b"")?;
+    for event in flushed_events(rt, parser, end)? {
+        with_flush.push(event)?;
+    }
+    text.extend_from_slice(end)?;
+    let whole = flushed_events(rt, parser, &text)?;
+    assert!(rt; whole.as_slice() != with_flush.as_slice(), "{text:?}");
+    Ok(())
+}
+
+// Every proper beginning of the text but the empty one, alone and after one ESC.
+fn check_beginnings(
+    rt: &impl Abort,
+    alloc: Global,
+    parser: &mut InputParser,
+    text: &[u8],
+) -> Result<(), Fail> {
+    for len in 1..text.len() {
+        for held in HELD {
+            check_parted(rt, alloc, parser, held, text.split_at(len))?;
+        }
+    }
+    Ok(())
+}
+
+#[test]
+fn beginnings_of_rows_are_undecided(rt: HostRuntime) -> Result<(), Fail> {
+    let reader = PlainReader::new(rt.alloc())?;
+    let mut parser = InputParser::new(rt.alloc())?;
+    for bytes in reader.rows().keys() {
+        check_beginnings(&rt, rt.alloc(), &mut parser, bytes)?;
+    }
+    Ok(())
+}
+
+// The numbers of a frame, each with one to five digits.
+const CODES: &[&str] = &["0", "64", "095", "0002", "00035"];
+
+const PLACES: &[&str] = &["7", "80", "655", "6553", "65535"];
+
+// A mouse frame of these numbers.
+fn frame_of(alloc: Global, code: &str, x: &str, y: &str) -> Result<String, AllocError> {
+    format!(in alloc; "\x1b[<{code};{x};{y}M")
+}
+
+fn check_frames_in_row(
+    rt: &impl Abort,
+    alloc: Global,
+    parser: &mut InputParser,
+    code: &str,
+    y: &str,
+) -> Result<(), Fail> {
+    for x in PLACES {
+        let frame = frame_of(alloc, code, x, y)?;
+        check_beginnings(rt, alloc, parser, frame.as_bytes())?;
+    }
+    Ok(())
+}
+
+#[test]
+fn beginnings_of_frames_are_undecided(rt: HostRuntime) -> Result<(), Fail> {
+    let mut parser = InputParser::new(rt.alloc())?;
+    for code in CODES {
+        for y in PLACES {
+            check_frames_in_row(&rt, rt.alloc(), &mut parser, code, y)?;
+        }
+    }
+    Ok(())
+}
