@@ -1,39 +1,94 @@
 #!/usr/bin/env bash
-# Measures how long keyshow takes, on this machine: on no input (so, mostly what InputParser::new costs), on 10 MB of typed
-# text, on 10 MB of arrow keys and on a 10 MB paste. Builds it first. Each line is the least of five runs, in seconds (the
-# last one of one run).
+# Measures the parser in process, on this machine, against another commit's too.
+#
+#     tools/measure.sh [--against COMMIT] [--reads LIST] [--runs N] [--keep FOLDER] [new | CORPUS[:MEGABYTES]]..
+#
+# It builds a static library over termwiz_input (tools/measure/feed.rt.txt) and a C program that times it (measure.c), from this
+# folder's files and, with --against, from those of COMMIT; all of it in a temporary folder, or in FOLDER, which is kept. Then it runs
+# the programs in turn, N times each (9 if it isn't given), one pass a process, and prints a table: the least time, the middle
+# one, and what the least makes for an event and in megabytes a second.
+#
+# `new` is InputParser::new alone, the first in its process and the least of twenty more. A corpus is a file of so many
+# megabytes (1 if it isn't given) that the parser gets in reads of each size in LIST, as 64,4096 (which it is if it isn't given): typed,
+# keys, csiu, utf8, mouse, escapes or paste (see tools/measure/corpora.py). What is left out is: new typed keys csiu paste.
+#
+# It wants rt, cc and python3.
 set -eu
-cd "$(dirname "$0")/../crates/keyshow"
-rt run > /dev/null < /dev/null
-program=out/keyshow
-work=$(mktemp -d)
-trap 'rm -rf "$work"' EXIT
-python3 - "$work" <<'P'
-import sys
-work = sys.argv[1]
-size = 10_000_000
-line = b"the quick brown fox jumps over the lazy dog\r"
-open(work + "/nothing", "wb").close()
-open(work + "/typed", "wb").write((line * (size // len(line) + 1))[:size])
-open(work + "/arrows", "wb").write((b"\x1b[A\x1b[B\x1b[C\x1b[D" * (size // 12)))
-open(work + "/paste", "wb").write(b"\x1b[200~" + (line * (size // len(line) + 1))[:size] + b"\x1b[201~")
-P
-seconds() { # input, piece, runs
-    python3 - "$program" "$work/$1" "$2" "$3" <<'P'
-import subprocess, sys, time
-program, path, piece, runs = sys.argv[1:]
-least = None
-for _ in range(int(runs)):
-    with open(path, "rb") as text:
-        start = time.monotonic()
-        subprocess.run([program, piece], stdin=text, stdout=subprocess.DEVNULL, check=True)
-        took = time.monotonic() - start
-    least = took if least is None else min(least, took)
-print(f"{least:.3f}")
-P
+top=$(cd "$(dirname "$0")/.." && pwd)
+against='' reads=64,4096 runs=9 keep=''
+while [ $# -gt 0 ]; do
+    case $1 in
+        --against) against=$2; shift 2 ;;
+        --reads) reads=$2; shift 2 ;;
+        --runs) runs=$2; shift 2 ;;
+        --keep) keep=$2; shift 2 ;;
+        -*) sed -n '2,15p' "$0" >&2; exit 2 ;;
+        *) break ;;
+    esac
+done
+[ $# -gt 0 ] || set -- new typed keys csiu paste
+if [ -n "$keep" ]; then
+    mkdir -p "$keep"
+    work=$(cd "$keep" && pwd)
+else
+    work=$(mktemp -d)
+    trap 'rm -rf "$work"' EXIT
+fi
+
+# Builds the program of the sources that lie in a folder.
+build() { # folder
+    mkdir -p "$1/crates/feed/src"
+    cp "$top/tools/measure/feed.rt.txt" "$1/crates/feed/src/lib.rt"
+    grep '^termwiz_' "$1/listed" > "$1/crates.txt"
+    echo 'feed staticlib: termwiz_input' >> "$1/crates.txt"
+    (cd "$1/crates/feed" && rt lib) > "$1/log" 2>&1 || { cat "$1/log" >&2; exit 1; }
+    cc -O2 -o "$1/measure" "$top/tools/measure/measure.c" "$1/crates/feed/out/libfeed.a" "$(dirname "$(rt doc)")/c/liblibc_c.a"
 }
-echo "no input: $(seconds nothing 64 5) s"
-echo "10 MB of typed text, pieces of 64 bytes: $(seconds typed 64 5) s"
-echo "10 MB of typed text, pieces of 4096 bytes: $(seconds typed 4096 5) s"
-echo "10 MB of arrow keys, pieces of 64 bytes: $(seconds arrows 64 5) s"
-echo "a paste of 10 MB, pieces of 4096 bytes: $(seconds paste 4096 1) s"
+
+# Puts what earlier checks kept beside the sources, so that only what differs is proved again.
+warm() { # folder
+    for crate in termwiz_base termwiz_input; do
+        [ ! -d "$top/crates/$crate/out" ] || [ -d "$1/crates/$crate/out" ] || cp -a "$top/crates/$crate/out" "$1/crates/$crate/"
+    done
+}
+
+# Empties a folder of sources, but for what checks kept there.
+emptied() { # folder
+    mkdir -p "$1/crates"
+    rm -rf "$1"/crates/*/src "$1"/crates/*/specs "$1"/crates/*/proofs
+}
+
+trees=here
+emptied "$work/here"
+(cd "$top" && tar c --exclude=out --exclude=must-fail crates/termwiz_base crates/termwiz_input) | tar x -C "$work/here"
+cp "$top/crates.txt" "$work/here/listed"
+warm "$work/here"
+build "$work/here"
+if [ -n "$against" ]; then
+    trees="here other"
+    emptied "$work/other"
+    git -C "$top" archive "$against" crates.txt crates/termwiz_base crates/termwiz_input | tar x -C "$work/other"
+    mv "$work/other/crates.txt" "$work/other/listed"
+    warm "$work/other"
+    build "$work/other"
+fi
+
+mkdir -p "$work/corpora"
+python3 "$top/tools/measure/corpora.py" "$work/corpora" $(printf '%s\n' "$@" | grep -vx new || true)
+: > "$work/results"
+for _ in $(seq "$runs"); do
+    for case in "$@"; do
+        if [ "$case" = new ]; then
+            for tree in $trees; do echo "$tree new 0 $("$work/$tree/measure" new)" >> "$work/results"; done
+            continue
+        fi
+        name=${case%:*}
+        [ "$name" = "$case" ] && file=$name-1 || file=$name-${case#*:}
+        for read in ${reads//,/ }; do
+            for tree in $trees; do
+                echo "$tree $file $read $("$work/$tree/measure" "$work/corpora/$file" "$read")" >> "$work/results"
+            done
+        done
+    done
+done
+python3 "$top/tools/measure/table.py" "$work" "${against:-}"

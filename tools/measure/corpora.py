@@ -1,0 +1,103 @@
+"""corpora.py FOLDER NAME[:MEGABYTES]..: writes each corpus to FOLDER/NAME-MEGABYTES, the same bytes on every run.
+
+typed   words, spaces, Enter, Tab, Backspace and ^C
+keys    arrow, editing and function keys, plain and with modifiers: each is a row of the sequence table
+csiu    keys in the forms ESC [ code ; modifiers u and ESC [ 27 ; modifiers ; code ~
+utf8    characters of two to four bytes, with some of one
+mouse   mouse reports
+escapes lone escapes
+paste   one bracketed paste
+
+A corpus ends with an event, so it is some bytes shorter than its name says. A megabyte is 2 ** 20 bytes."""
+import random
+import sys
+
+ESC = b"\x1b"
+WORDS = (
+    "the quick brown fox jumps over a lazy dog while editors wait for input from slow links and every key "
+    "that was typed comes out once, in order: ls -la | grep foo; git commit -m fix {x[0]} let y = 42; // done"
+).split()
+CHARACTERS = list("éßñжΩλ中文字日本語한글€“”…😀🚀") + list(" a")
+MODIFIERS = range(2, 9)
+NUMBERED = [*range(11, 16), *range(17, 22), *range(23, 27), 28, 29, *range(31, 35)]
+
+
+def typed(pick):
+    while True:
+        yield pick.choice(WORDS).encode()
+        yield pick.choice([b" "] * 8 + [b"\r", b"\t", b"\x7f", b"\x03"])
+
+
+def keys(pick):
+    while True:
+        kind = pick.random()
+        if kind < 0.25:
+            yield ESC + b"[%c" % pick.choice(b"ABCDHF")
+        elif kind < 0.35:
+            yield ESC + b"O%c" % pick.choice(b"ABCDPQRS")
+        elif kind < 0.65:
+            yield ESC + b"[1;%d%c" % (pick.choice(MODIFIERS), pick.choice(b"ABCDHFPQRS"))
+        elif kind < 0.75:
+            yield ESC + b"[%d~" % pick.choice([2, 3, 5, 6])
+        elif kind < 0.85:
+            yield ESC + b"[%d~" % pick.choice(NUMBERED)
+        else:
+            yield ESC + b"[%d;%d~" % (pick.choice(NUMBERED), pick.choice(MODIFIERS))
+
+
+def csiu(pick):
+    while True:
+        code, modifiers = pick.randint(32, 126), pick.choice(MODIFIERS)
+        yield ESC + (b"[%d;%du" % (code, modifiers) if pick.random() < 0.5 else b"[27;%d;%d~" % (modifiers, code))
+
+
+def utf8(pick):
+    while True:
+        yield pick.choice(CHARACTERS).encode()
+
+
+def mouse(pick):
+    while True:
+        code = pick.choice([0, 0, 1, 2, 32, 32, 32, 35, 35, 64, 65, 4, 16])
+        yield ESC + b"[<%d;%d;%dM" % (code, pick.randint(1, 200), pick.randint(1, 60))
+
+
+def escapes(pick):
+    while True:
+        yield ESC
+
+
+def whole_events(events, size):
+    out = bytearray()
+    for event in events:
+        if len(out) + len(event) > size:
+            return bytes(out)
+        out += event
+
+
+def paste(pick, size):
+    lines = (b" ".join(pick.choice(WORDS).encode() for _ in range(10)) + b"\n" for _ in iter(int, 1))
+    return ESC + b"[200~" + whole_events(lines, size - 12) + ESC + b"[201~"
+
+
+EVENTS = {each.__name__: each for each in (typed, keys, csiu, utf8, mouse, escapes)}
+
+
+def corpus(name, size):
+    pick = random.Random(name)
+    if name == "paste":
+        return paste(pick, size)
+    if name not in EVENTS:
+        sys.exit(f"no corpus {name}: {' '.join(EVENTS)} paste")
+    return whole_events(EVENTS[name](pick), size)
+
+
+def main():
+    folder = sys.argv[1]
+    for word in sys.argv[2:]:
+        name, _, megabytes = word.partition(":")
+        with open(f"{folder}/{name}-{megabytes or 1}", "wb") as out:
+            out.write(corpus(name, int(megabytes or 1) << 20))
+
+
+main()
