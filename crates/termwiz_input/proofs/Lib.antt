@@ -12,7 +12,9 @@ pub mod Heads
 pub mod Items
 pub mod KeyClones
 pub mod KeyList
+pub mod KeyOrder
 pub mod KeysInEntries
+pub mod KeysInRows
 pub mod Lists
 pub mod LongestSoFar
 pub mod Meaning
@@ -25,8 +27,11 @@ pub mod Prefixes
 pub mod ReadBack
 pub mod Reading
 pub mod Readings
+pub mod RowClones
 pub mod RowFacts
 pub mod Rows
+pub mod RowSearches
+pub mod RowWalks
 pub mod Searches
 pub mod Settling
 pub mod Standing
@@ -34,4 +39,3 @@ pub mod TableMap
 pub mod TableTests
 pub mod Variants
 pub mod WholeTexts
-pub mod trie

@@ -1,5 +1,4 @@
 pub mod AtFront
-pub mod Branch
 pub mod Buttons
 pub mod Bytes
 pub mod Callbacks
@@ -10,6 +9,7 @@ pub mod Frame
 pub mod FrameAnswers
 pub mod Grammar
 pub mod KeyCodes
+pub mod KeyRows
 pub mod Keys
 pub mod Known
 pub mod Laws

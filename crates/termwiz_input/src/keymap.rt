@@ -1,16 +1,16 @@
 //! A map from byte strings to values. A lookup finds the longest key that is a prefix of a text, and
 //! tells whether a longer key may still follow, as a reader of key sequences asks.
-ghost use Rattle.std.specs.Prelude.{◌≡◌, IfOk, OnOk, OnErr};
+ghost use Rattle.std.specs.Prelude.{◌≡◌, ◌↔◌, IsTrue, IfOk, IfSome, IfNone, OnOk, OnErr};
 ghost use Rattle.std.specs.FinMap as map;
 
-mod node;
 #[cfg(test)]
 mod plain;
+mod row;
 #[cfg(test)]
 mod tests;
 
 use crate::types::KeyEvent;
-use node::Node;
+use row::{Row, copied, ended, goes_past, narrowed, new_row, place_of};
 use std::alloc::{AllocError, Global};
 use std::fmt::Debug;
 use std::marker::Model;
@@ -28,10 +28,11 @@ pub enum Found<Value> {
     NeedData,
 }
 
-/// A finite map from byte strings to values.
+/// A finite map from byte strings to values: one list of rows, whose keys strictly ascend in the order of
+/// their bytes.
 #[derive(Debug, Drop)]
 pub struct KeyMap<V: Debug + Clone + Drop> {
-    root: Node<V>,
+    rows: Vec<Box<Row<V>>>,
     alloc: Global,
 }
 
@@ -40,24 +41,26 @@ impl<V: Debug + Clone + Drop> Model for KeyMap<V> {
     ghost use Rattle.std.specs.Cmp.Lexicographic.{slice_cmp};
     ghost use Rattle.std.specs.FinMap as map;
     ghost use Rattle.std.specs.Coded.{coded_ℕ, coded_list};
-    ghost use Rattle.termwiz_input.specs.Branch.{map_of};
+    ghost use Rattle.termwiz_input.specs.KeyRows.{AreAscending, row_entries};
 
     ghost Value = { map.FinMap (slice_cmp nat_cmp) V };
 
     ghost coded = { map.code (coded_list coded_ℕ) V.code };
 
-    ghost view = { λ m. map_of m.root };
+    ghost view = { λ m. map.from_entries (row_entries m.rows.items) };
+
+    ghost invariant = { λ m. AreAscending m.rows.items };
 }
 
 impl<V: Debug + Clone + Drop> KeyMap<V> {
-    ghost use Rattle.termwiz_input.specs.Lookup.{ClonesEqual, IsClone, LookupGives, found_copied};
+    ghost use Rattle.termwiz_input.specs.Lookup.{ClonesEqual, IsClone, IsExtended, IsLongestKey, LookupGives, NoKeyBegins, found_copied};
 
     /// An empty map. Takes no memory; later calls take theirs from `alloc`.
     pub fn new(alloc: Global) -> KeyMap<V>
         ensures { result ≡ map.empty }
     {
         KeyMap {
-            root: Node::new(alloc),
+            rows: Vec::new(alloc),
             alloc,
         }
     }
@@ -66,11 +69,19 @@ impl<V: Debug + Clone + Drop> KeyMap<V> {
     /// value. The empty key is a key like any other.
     ///
     /// Fails only if memory is refused; the map is then unchanged, and `value` is dropped.
+    #[tactic(auto, using(crate::proofs::KeysInRows::row_inserted, crate::proofs::KeysInRows::row_replaced))]
     pub fn insert(&mut self, key: &[u8], value: V) -> Result<(), AllocError>
         ensures ok { OnOk result (self.new ≡ map.insert self.old key.now value) }
         ensures err { OnErr result (self.new ≡ self.old) }
     {
-        self.root.insert(self.alloc, key, value)
+        match place_of(&self.rows, key) {
+            Ok(place) => self.rows[place].value = value,
+            Err(place) => {
+                let row = new_row(self.alloc, key, value)?;
+                self.rows.insert(place, row)?;
+            }
+        }
+        Ok(())
     }
 
     /// Finds the longest key that is a prefix of the text `key`. Pass true for `maybe_more` if more
@@ -83,7 +94,7 @@ impl<V: Debug + Clone + Drop> KeyMap<V> {
     pub fn lookup(&self, key: &[u8], maybe_more: bool) -> Found<&V>
         ensures { LookupGives self.now key.now maybe_more (found_copied result) }
     {
-        let (longest, extended) = self.root.walk(key);
+        let (longest, extended) = self.walk(key);
         match longest {
             Some((len, value)) if extended && maybe_more => Found::Ambiguous(len, value),
             Some((len, value)) => Found::Exact(len, value),
@@ -92,17 +103,41 @@ impl<V: Debug + Clone + Drop> KeyMap<V> {
         }
     }
 
+    // The length and the value of the longest key that is a prefix of a text, and whether some key begins
+    // with the whole text and is longer. The range is the rows whose keys begin with the bytes that the
+    // loop has passed.
+    fn walk(&self, text: &[u8]) -> (Option<(usize, &V)>, bool)
+        ensures longest { IfSome result.0 (λ found. IsLongestKey self.now text.now found.0 found.1.now) }
+        ensures none { IfNone result.0 (NoKeyBegins self.now text.now) }
+        ensures extended { IsTrue result.1 ↔ IsExtended self.now text.now }
+    {
+        let mut range = self.rows.as_slice();
+        let mut longest = None;
+        for (depth, byte) in text.iter().enumerate() {
+            longest = ended(range, depth).or(longest);
+            range = narrowed(range, depth, *byte);
+            if range.is_empty() {
+                return (longest, false);
+            }
+        }
+        (
+            ended(range, text.len()).or(longest),
+            goes_past(range, text.len()),
+        )
+    }
+
     /// A map with the same keys and with a clone of each value. If clones of the values equal them,
     /// it is the same map.
     ///
     /// Takes memory from the allocator of this map. Fails only if memory is refused or if the clone
     /// of a value fails.
+    #[tactic(auto, using(crate::proofs::RowClones::copies_ascend, crate::proofs::RowClones::map_cloned, crate::proofs::RowClones::map_same))]
     pub fn clone(&self) -> Result<KeyMap<V>, AllocError>
         ensures cloned { IfOk result (IsClone V.is_clone self.now) }
         ensures same { ClonesEqual V.is_clone → IfOk result (λ copy. copy ≡ self.now) }
     {
         Ok(KeyMap {
-            root: self.root.copy(self.alloc)?,
+            rows: copied(self.alloc, &self.rows)?,
             alloc: self.alloc,
         })
     }
