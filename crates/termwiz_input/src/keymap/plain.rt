@@ -1,4 +1,4 @@
-//! A plain key map, which tests compare with the tree: a list of entries in the order in which their
+//! A plain key map, which tests compare with the real one: a list of entries in the order in which their
 //! keys were first inserted.
 ghost use Rattle.std.specs.Prelude.{◌≡◌, None, OnOk, OnErr, IfSome, IfNone};
 ghost use Rattle.std.specs.Option.{option_copied};

@@ -1,4 +1,4 @@
-//! Lookups whose answers come from outside, and the tree against the plain map.
+//! Lookups whose answers come from outside, and the map against the plain one.
 ghost use Rattle.std.specs.Prelude.{◌<◌};
 
 use super::plain::PlainMap;
@@ -26,13 +26,25 @@ fn filled(alloc: Global, case: &Case) -> Result<KeyMap<bool>, AllocError> {
     Ok(map)
 }
 
-// Checks a case, and the same in a clone of the map.
+// A map with the entries of a case, put in from the last to the first.
+fn filled_backwards(alloc: Global, case: &Case) -> Result<KeyMap<bool>, AllocError> {
+    let mut map = KeyMap::new(alloc);
+    for (key, value) in case.entries.iter().rev() {
+        map.insert(key, *value)?;
+    }
+    Ok(map)
+}
+
+// Checks a case whose keys are all different: in a map, in a clone of it, and in a map whose keys were put
+// in in reverse order.
 fn check(rt: &impl Abort, alloc: Global, case: &Case) -> Result<(), AllocError> {
     let map = filled(alloc, case)?;
     let copy = map.clone()?;
+    let backwards = filled_backwards(alloc, case)?;
     for (text, maybe_more, answer) in case.lookups {
         assert_eq!(rt; map.lookup(text, *maybe_more), *answer);
         assert_eq!(rt; copy.lookup(text, *maybe_more), *answer);
+        assert_eq!(rt; backwards.lookup(text, *maybe_more), *answer);
     }
     Ok(())
 }
@@ -293,39 +305,41 @@ fn assert_alike(
     rt: &impl Abort,
     alloc: Global,
     numbers: &mut Numbers,
-    tree: &KeyMap<u32>,
+    map: &KeyMap<u32>,
     plain: &PlainMap<u32>,
 ) -> Result<(), AllocError> {
     for _ in 0..10 {
         let text = numbers.text(alloc)?;
         let maybe_more = numbers.below(2) == 0;
         assert_eq!(rt;
-            tree.lookup(&text, maybe_more),
+            map.lookup(&text, maybe_more),
             plain.lookup(&text, maybe_more)
         );
     }
     Ok(())
 }
 
-// Puts sixty keys into both maps, and looks texts up after each.
+// Puts the empty key and sixty others into both maps, and looks texts up after each of these.
 fn assert_grow_alike(
     rt: &impl Abort,
     alloc: Global,
     numbers: &mut Numbers,
 ) -> Result<(), AllocError> {
-    let mut tree = KeyMap::new(alloc);
+    let mut map = KeyMap::new(alloc);
     let mut plain = PlainMap::new(alloc);
+    map.insert(b"", 60)?;
+    plain.insert(b"", 60)?;
     for value in 0u32..60 {
         let key = numbers.text(alloc)?;
-        tree.insert(&key, value)?;
+        map.insert(&key, value)?;
         plain.insert(&key, value)?;
-        assert_alike(rt, alloc, numbers, &tree, &plain)?;
+        assert_alike(rt, alloc, numbers, &map, &plain)?;
     }
     Ok(())
 }
 
 #[test]
-fn tree_and_plain_map_agree(rt: HostRuntime) -> Result<(), Fail> {
+fn map_and_plain_map_agree(rt: HostRuntime) -> Result<(), Fail> {
     let mut numbers = Numbers(1);
     for _ in 0..8 {
         assert_grow_alike(&rt, rt.alloc(), &mut numbers)?;
