@@ -11,17 +11,23 @@ use std::marker::Model;
 
 /// Bytes that came and weren't used yet: append with [`ReadBuffer::extend_with`], drop from the front with
 /// [`ReadBuffer::advance`]. Contracts see a list of bytes. The buffer keeps its allocator.
+///
+/// The list is a vector from its front position on. Dropping bytes moves the front and copies nothing; the bytes that are
+/// left move to the start of the vector when what comes would have no room after them.
 #[derive(Debug, Drop)]
 pub struct ReadBuffer {
     bytes: Vec<u8>,
+    front: usize,
 }
 
 impl Model for ReadBuffer {
-    ghost use Rattle.std.specs.Prelude.{List, ℕ};
+    ghost use Rattle.std.specs.Prelude.{List, ℕ, ◌≤◌, length, drop};
 
     ghost Value = { List ℕ };
 
-    ghost view = { λ b. b.bytes.items };
+    ghost view = { λ b. drop b.front b.bytes.items };
+
+    ghost invariant = { λ b. b.front ≤ length b.bytes.items };
 }
 
 impl ReadBuffer {
@@ -31,6 +37,7 @@ impl ReadBuffer {
     {
         ReadBuffer {
             bytes: Vec::new(alloc),
+            front: 0,
         }
     }
 
@@ -38,21 +45,21 @@ impl ReadBuffer {
     pub fn as_slice(&self) -> &[u8]
         ensures { result.now ≡ self.now }
     {
-        self.bytes.as_slice()
+        &self.bytes[self.front..]
     }
 
     /// How many bytes there are.
     pub fn len(&self) -> usize
         ensures { result ≡ length self.now }
     {
-        self.bytes.len()
+        self.bytes.len() - self.front
     }
 
     /// Whether there are no bytes.
     pub fn is_empty(&self) -> bool
         ensures { IsTrue result ↔ (self.now ≡ []) }
     {
-        self.bytes.is_empty()
+        self.len() == 0
     }
 
     /// Drops the first `len` bytes.
@@ -60,7 +67,15 @@ impl ReadBuffer {
         requires { len ≤ length self.old }
         ensures { self.new ≡ drop len self.old }
     {
-        self.bytes.drain(..len);
+        self.front += len;
+    }
+
+    // Moves the bytes to the start of the vector, which keeps its memory.
+    fn close_up(&mut self)
+        ensures { self.new ≡ self.old }
+    {
+        self.bytes.drain(..self.front);
+        self.front = 0;
     }
 
     /// Appends the bytes. If memory is refused, the buffer is unchanged. No bytes need no memory.
@@ -71,6 +86,9 @@ impl ReadBuffer {
     {
         if slice.is_empty() {
             return Ok(());
+        }
+        if self.is_empty() || slice.len() > self.bytes.capacity() - self.bytes.len() {
+            self.close_up();
         }
         self.bytes.extend_from_slice(slice)
     }
