@@ -27,6 +27,7 @@ pub mod Prefixes
 pub mod ReadBack
 pub mod Reading
 pub mod Readings
+pub mod Resuming
 pub mod RowClones
 pub mod RowFacts
 pub mod Rows

@@ -15,6 +15,7 @@ pub mod Known
 pub mod Laws
 pub mod Listed
 pub mod Lookup
+pub mod PasteSearch
 pub mod Pieces
 pub mod Suffixes
 pub mod Table

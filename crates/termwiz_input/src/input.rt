@@ -1,5 +1,5 @@
 //! The parser: bytes of a terminal to events.
-ghost use Rattle.std.specs.Prelude.{◌≡◌, ◌≢◌, ◌++◌, ◌+◌, ◌^◌, ◌<◌, ◌≤◌, ℕ, List, [], length, drop, Contains, Some, true, false, OnErr, IfOk, IfErr, IfSome, IfNone, IsTrue, ◌↔◌, ◌==◌, ◌⊎◌, slice_index_or, if◌then◌else◌, OnOk, IsOk, IsErrOf};
+ghost use Rattle.std.specs.Prelude.{◌≡◌, ◌≢◌, ◌++◌, ◌+◌, ◌^◌, ◌<◌, ◌≤◌, ℕ, Bool, List, [], length, drop, Contains, Some, true, false, OnErr, IfOk, IfErr, IfSome, IfNone, IsTrue, ◌↔◌, ◌==◌, ◌⊎◌, slice_index_or, if◌then◌else◌, OnOk, IsOk, IsErrOf};
 ghost use Rattle.termwiz_input.specs.declared.types.KeyEvent.{KeyEvent};
 ghost use Rattle.termwiz_input.specs.Bytes.{Begins, START};
 ghost use Rattle.termwiz_input.specs.Grammar.{GivesNoPaste, HasItem, HasPaste, IsRest, Steps, Means};
@@ -11,7 +11,7 @@ ghost use Rattle.termwiz_input.specs.declared.types.InputEvent.{InputEvent as Ev
 pub use crate::encode::{CSI, EncodeError, KeyCodeEncodeModes, KeyboardEncoding, SS3};
 use crate::item::{Item, item_at};
 use crate::keymap::KeyMap;
-use crate::paste::begins_paste;
+use crate::paste::{begins_paste, next_search};
 use crate::readbuf::ReadBuffer;
 use crate::rules::add_rows;
 pub use crate::types::{
@@ -83,6 +83,8 @@ fn more_after(number: usize, count: usize, maybe_more: bool) -> bool
 pub struct InputParser {
     key_map: KeyMap<KeyEvent>,
     buffer: ReadBuffer,
+    // The end of a paste begins nowhere in the waiting text before this offset, so a search starts here; 0 if no paste is open.
+    searched: usize,
     alloc: Global,
 }
 
@@ -91,11 +93,12 @@ impl Model for InputParser {
 
     ghost Value = { List ℕ };
 
+    ghost use Rattle.termwiz_input.specs.PasteSearch.{NoEndBefore};
     ghost use Rattle.termwiz_input.specs.Table.{table};
 
     ghost view = { λ p. p.buffer };
 
-    ghost invariant = { λ p. p.key_map ≡ table };
+    ghost invariant = { λ p. (p.key_map ≡ table) × NoEndBefore p.buffer p.searched };
 }
 
 impl InputParser {
@@ -116,6 +119,7 @@ impl InputParser {
         Ok(InputParser {
             key_map,
             buffer: ReadBuffer::new(alloc),
+            searched: 0,
             alloc,
         })
     }
@@ -149,16 +153,41 @@ impl InputParser {
         ensures none { IfOk result (λ found. IfNone found (IsRest self.now maybe_more)) }
         ensures refused { OnErr result (HasPaste self.now maybe_more) }
     {
-        let waiting = self.buffer.as_slice();
-        item_at(self.alloc, &self.key_map, waiting, maybe_more)
+        let text = self.buffer.as_slice();
+        item_at(self.alloc, &self.key_map, text, self.searched, maybe_more)
     }
 
-    // Drops the first bytes of the waiting text.
+    // Notes of an open paste, if no item stands at the front, from where on to look for its end next.
+    fn note_search(&mut self)
+        requires { (more : Bool) × IsRest self.old more }
+        ensures { self.new ≡ self.old }
+    {
+        if self.is_paste_open() {
+            self.searched = next_search(self.buffer.as_slice());
+        }
+    }
+
+    // The same as `peek`; if there is no item, it is noted how far an open paste was searched for its end.
+    fn find_item(&mut self, maybe_more: bool) -> Result<Option<Item>, AllocError>
+        ensures same { self.new ≡ self.old }
+        ensures item { IfOk result (λ found. IfSome found (IsItemAt self.old maybe_more)) }
+        ensures none { IfOk result (λ found. IfNone found (IsRest self.old maybe_more)) }
+        ensures refused { OnErr result (HasPaste self.old maybe_more) }
+    {
+        let found = self.peek(maybe_more)?;
+        if found.is_none() {
+            self.note_search();
+        }
+        Ok(found)
+    }
+
+    // Drops the first bytes of the waiting text. What is left is searched from its start.
     fn consume(&mut self, len: usize)
         requires { len ≤ length self.old }
         ensures { self.new ≡ drop len self.old }
     {
         self.buffer.advance(len);
+        self.searched = 0;
     }
 
     /// Appends `bytes` to the waiting text, and calls `callback` with each of its events in order. What is no event yet waits.
@@ -195,7 +224,7 @@ impl InputParser {
             return Err(ParseError::NotTaken);
         }
         loop {
-            let Ok(found) = self.peek(maybe_more) else {
+            let Ok(found) = self.find_item(maybe_more) else {
                 return Err(ParseError::Taken);
             };
             let Some(Item { event, len }) = found else {
@@ -231,7 +260,7 @@ impl InputParser {
             return Err(ParseError::NotTaken);
         }
         loop {
-            let Ok(found) = self.peek(more) else {
+            let Ok(found) = self.find_item(more) else {
                 return Err(ParseError::Taken);
             };
             let Some(Item { event, len }) = found else {
@@ -309,7 +338,7 @@ impl InputParser {
         ensures item { OnErr result (HasItem self.new maybe_more) }
         ensures few { length events.new.items + length self.new ≤ length self.old }
     {
-        while let Some(Item { event, len }) = self.peek(maybe_more)? {
+        while let Some(Item { event, len }) = self.find_item(maybe_more)? {
             events.push(event)?;
             self.consume(len);
         }

@@ -5,6 +5,7 @@ ghost use Rattle.termwiz_input.specs.Keys.{plain, escape, with_alt};
 ghost use Rattle.termwiz_input.specs.Known.Meaning.{Row};
 ghost use Rattle.termwiz_input.specs.Grammar.{IsLongest, IsOpen, HasPaste, IsRest};
 ghost use Rattle.termwiz_input.specs.AtFront.{IsItemAt};
+ghost use Rattle.termwiz_input.specs.PasteSearch.{NoEndBefore};
 ghost use Rattle.termwiz_input.specs.Table.{table};
 
 use crate::head::{Head, head_at};
@@ -117,20 +118,23 @@ fn key_or_mouse_at(key_map: &KeyMap<KeyEvent>, text: &[u8], maybe_more: bool) ->
     }
 }
 
-// The item at the front of a text, and `None` if the text waits. Only the text of a paste takes memory.
+// The item at the front of a text, and `None` if the text waits. Only the text of a paste takes memory. The end of a paste
+// is looked for from `searched` on, since it begins nowhere before.
 pub(crate) fn item_at(
     alloc: Global,
     key_map: &KeyMap<KeyEvent>,
     text: &[u8],
+    searched: usize,
     maybe_more: bool,
 ) -> Result<Option<Item>, AllocError>
-    requires { key_map.now ≡ table }
+    requires rows { key_map.now ≡ table }
+    requires searched { NoEndBefore text.now searched }
     ensures item { IfOk result (λ found. IfSome found (IsItemAt text.now maybe_more)) }
     ensures none { IfOk result (λ found. IfNone found (IsRest text.now maybe_more)) }
     ensures refused { OnErr result (HasPaste text.now maybe_more) }
 {
     if begins_paste(text) {
-        return paste_at(alloc, text, maybe_more);
+        return paste_at(alloc, text, searched, maybe_more);
     }
     Ok(key_or_mouse_at(key_map, text, maybe_more))
 }

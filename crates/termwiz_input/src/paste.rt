@@ -1,9 +1,10 @@
 // Pasted texts, as a terminal sends them in xterm's bracketed paste mode: between ESC `[200~` and ESC `[201~`.
-ghost use Rattle.std.specs.Prelude.{◌≡◌, ◌↔◌, IsTrue, OnErr, IfOk, IfSome, IfNone};
+ghost use Rattle.std.specs.Prelude.{◌≡◌, ◌↔◌, Bool, IsTrue, OnErr, IfOk, IfSome, IfNone};
 ghost use Rattle.std.specs.Str.Lossy.{utf8_lossy};
 ghost use Rattle.termwiz_input.specs.Bytes.{Begins, START};
 ghost use Rattle.termwiz_input.specs.AtFront.{IsItemAt};
 ghost use Rattle.termwiz_input.specs.Grammar.{HasPaste, IsRest};
+ghost use Rattle.termwiz_input.specs.PasteSearch.{NoEndBefore};
 
 use crate::bytes::{begins_with, find_from};
 use crate::item::Item;
@@ -32,18 +33,21 @@ fn lossy_text(alloc: Global, bytes: &[u8]) -> Result<PastedText, AllocError>
     Ok(PastedText::new(text))
 }
 
-// The paste that begins the text, and `None` if its end isn't there.
+// The paste that begins the text, and `None` if its end isn't there. The end is looked for from `searched` on, since it
+// begins nowhere before.
 pub(crate) fn paste_at(
     alloc: Global,
     text: &[u8],
+    searched: usize,
     maybe_more: bool,
 ) -> Result<Option<Item>, AllocError>
-    requires { Begins START text.now }
+    requires begins { Begins START text.now }
+    requires searched { NoEndBefore text.now searched }
     ensures item { IfOk result (λ found. IfSome found (IsItemAt text.now maybe_more)) }
     ensures none { IfOk result (λ found. IfNone found (IsRest text.now maybe_more)) }
     ensures refused { OnErr result (HasPaste text.now maybe_more) }
 {
-    let Some(end) = find_from(text, PASTE_START.len(), PASTE_END) else {
+    let Some(end) = find_from(text, searched.max(PASTE_START.len()), PASTE_END) else {
         return Ok(None);
     };
     match lossy_text(alloc, &text[PASTE_START.len()..end]) {
@@ -53,4 +57,13 @@ pub(crate) fn paste_at(
         })),
         Err(fault) => Err(fault),
     }
+}
+
+// Where to look next for the end of an open paste, after it was found nowhere: it may have begun among the last five bytes.
+pub(crate) fn next_search(text: &[u8]) -> usize
+    requires begins { Begins START text.now }
+    requires waits { (more : Bool) × IsRest text.now more }
+    ensures { NoEndBefore text.now result }
+{
+    text.len().saturating_sub(PASTE_END.len() - 1)
 }

@@ -1,4 +1,4 @@
-use Rattle.std.proofs.Common.{◌++◌, ◌∷◌, [], ◌<◌, refl, sym, subst, length}
+use Rattle.std.proofs.Common.{◌++◌, ◌∷◌, [], ◌<◌, ◌∙◌, refl, sym, ap, subst, length, drop}
 use Rattle.std.specs.Prelude.{IfSome}
 use Rattle.termwiz_input.specs.AtFront.{IsItemAt}
 use Rattle.termwiz_input.specs.Grammar.{Steps}
@@ -17,7 +17,7 @@ pub loop-found-smaller : goal.loop-found-smaller
 loop-found-smaller g c =
     let found = subst (λ o. IfSome o (IsItemAt c.loop-found.self c.args.more)) c.in-Some.is c.in-Ok.ensures.item in
     let item = subst (IsItemAt c.loop-found.self c.args.more) c.in-Some.field-0-is found in
-    subst (λ u. length u < length c.loop-found.self) (sym c.consume.ensures) (item_shortens c.loop-found.self c.args.more _ item)
+    subst (λ u. length u < length c.loop-found.self) (sym (c.consume.ensures ∙ ap (drop c.in-Some.field-0.len) c.find_item.ensures.same)) (item_shortens c.loop-found.self c.args.more _ item)
 
 pub loop-found-preserved : goal.loop-found-preserved
 loop-found-preserved g c =
@@ -27,12 +27,12 @@ loop-found-preserved g c =
     record {
       given = (
         before.0 ++ c.in-Some.field-0.event ∷ [],
-        subst (Steps (c.args.self.now ++ c.args.piece.now) c.args.more (before.0 ++ c.in-Some.field-0.event ∷ [])) (sym c.consume.ensures)
+        subst (Steps (c.args.self.now ++ c.args.piece.now) c.args.more (before.0 ++ c.in-Some.field-0.event ∷ [])) (sym (c.consume.ensures ∙ ap (drop c.in-Some.field-0.len) c.find_item.ensures.same))
             (steps_more before.0 (c.args.self.now ++ c.args.piece.now) c.loop-found.self c.args.more _ before.1 item),
         rw (numbered-push c.args.number before.0 c.in-Some.field-0.event)
             (FoldsTo-push _ _ (numbered c.args.number before.0) c.loop-found.callback (c.args.number, c.in-Some.field-0.event) c.callback.new.self before.2 c.callback.ensures),
       );
       callable = λ events rest steps.
           (c.loop-found.invariant.callable (c.in-Some.field-0.event ∷ events) rest (first_step c.loop-found.self c.args.more _ events rest item
-          (subst (λ u. Steps u c.args.more events rest) c.consume.ensures steps))).1 _ _ c.callback.ensures;
+          (subst (λ u. Steps u c.args.more events rest) (c.consume.ensures ∙ ap (drop c.in-Some.field-0.len) c.find_item.ensures.same) steps))).1 _ _ c.callback.ensures;
     }
