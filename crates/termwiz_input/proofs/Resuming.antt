@@ -1,5 +1,5 @@
 -- Where a search for the end of a paste may go on.
-use Rattle.std.proofs.Common.{◌≡◌, ◌⊎◌, ℕ, ◌+◌, ◌-◌, ◌<◌, ◌≤◌, Bool, true, not, List, [], ◌∷◌, ◌++◌, length, take, drop, max, get_or, sym, ap, ◌∙◌, arith, append_assoc, append-nil, length-append, length-take-le, take-append-drop}
+use Rattle.std.proofs.Common.{◌≡◌, ℕ, ◌+◌, ◌-◌, ◌≤◌, Bool, true, not, List, [], ◌∷◌, ◌++◌, length, take, drop, max, get_or, sym, ap, ◌∙◌, arith, append_assoc, append-nil, length-append, length-take-le, take-append-drop}
 use Rattle.std.specs.Prelude.{Option, Some, None, is_some, IfNone}
 use Rattle.std.specs.Str.Lossy.{utf8_lossy}
 use Rattle.memchr.specs.Find.{OccursAt, FindsNeedle}

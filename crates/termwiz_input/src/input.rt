@@ -300,7 +300,8 @@ impl InputParser {
             × WasCalledOnNumbered F.step callback.old given callback.new) }
         ensures within { IfErr result (λ e. e.taken ≤ length pieces.now) }
 
-        // A paste is at its front, or the next piece wasn't taken, and then what waits is a rest.
+        // A paste is at its front, or the next piece wasn't taken. That piece isn't empty, and if a piece was taken before it,
+        // what waits is a rest.
         ensures refused { IfErr result (λ e.
             HasPaste self.new (flag_at (pieces_or_one (texts pieces.now)) maybe_more (taken_or_one (texts pieces.now) e.taken))
             ⊎ (slice_index_or (texts pieces.now) e.taken [] ≢ [])) }
@@ -375,5 +376,13 @@ impl InputParser {
             return Ok(events);
         }
         Err(ParseVecError { events, taken })
+    }
+}
+
+// What the test of its memory reads.
+#[cfg(test)]
+impl InputParser {
+    pub(crate) fn buffer(&self) -> &ReadBuffer {
+        &self.buffer
     }
 }

@@ -1,4 +1,6 @@
-// Pastes.
+// Pastes, whole and cut.
+use super::line::line_of;
+use super::long::repeated;
 use super::{Example, InputEvent, InputParser, LAST, MORE, check_all};
 use std::test::Fail;
 
@@ -82,5 +84,45 @@ fn gives_the_text_of_a_paste(rt: HostRuntime) -> Result<(), Fail> {
         }
     }
     assert_eq!(rt; parser.waiting_len(), 0);
+    Ok(())
+}
+
+// A paste that comes byte by byte is one event, at its last byte.
+#[test]
+fn reads_a_paste_byte_by_byte(rt: HostRuntime) -> Result<(), Fail> {
+    let body = repeated(rt.alloc(), b"a", 200)?;
+    let mut parser = InputParser::new(rt.alloc())?;
+    for part in [b"\x1b[200~".as_slice(), body.as_slice(), b"\x1b[201"] {
+        for byte in part.chunks(1) {
+            assert!(rt; parser.parse_as_vec(byte, MORE)?.is_empty());
+        }
+    }
+    match parser.parse_as_vec(b"~", MORE)?.as_slice() {
+        [InputEvent::Paste(text)] => assert!(rt; text.as_str().as_bytes() == body.as_slice()),
+        events => panic!(rt; "{events:?}"),
+    }
+    assert_eq!(rt; parser.waiting_len(), 0);
+    Ok(())
+}
+
+const CUT_PASTE: &[u8] = b"\x1b[200~a\x1b[201~";
+
+// A paste that is cut in two places comes once.
+#[test]
+fn reads_a_paste_cut_twice(rt: HostRuntime) -> Result<(), Fail> {
+    for second in 0..CUT_PASTE.len() + 1 {
+        for first in 0..second + 1 {
+            let mut parser = InputParser::new(rt.alloc())?;
+            let mut events = parser.parse_as_vec(&CUT_PASTE[..first], MORE)?;
+            for event in parser.parse_as_vec(&CUT_PASTE[first..second], MORE)? {
+                events.push(event)?;
+            }
+            for event in parser.parse_as_vec(&CUT_PASTE[second..], MORE)? {
+                events.push(event)?;
+            }
+            let line = line_of(rt.alloc(), events.as_slice(), &parser)?;
+            assert_eq!(rt; line.as_str(), "Paste(a)", "{first}, {second}");
+        }
+    }
     Ok(())
 }

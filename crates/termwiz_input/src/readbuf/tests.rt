@@ -1,7 +1,15 @@
-// What a buffer holds after each call, where it finds a needle, and that it takes 100 KB.
+// What a buffer holds after each call, where it finds a needle, that it takes 100 KB, and how much memory it keeps.
 use super::ReadBuffer;
+use crate::input::InputParser;
 use std::alloc::{AllocError, Global};
 use std::test::Fail;
+
+impl ReadBuffer {
+    // How many bytes the vector has room for.
+    pub(crate) fn capacity(&self) -> usize {
+        self.bytes.capacity()
+    }
+}
 
 #[test]
 fn appends_and_drops(rt: HostRuntime) -> Result<(), Fail> {
@@ -77,5 +85,69 @@ fn takes_100_kilobytes(rt: HostRuntime) -> Result<(), Fail> {
     assert_eq!(rt; buffer.find_subsequence(100_000, b"ab"), None);
     buffer.advance(100_000);
     assert!(rt; buffer.as_slice() == more.as_slice());
+    Ok(())
+}
+
+#[test]
+fn closes_up_for_room(rt: HostRuntime) -> Result<(), Fail> {
+    let mut buffer = ReadBuffer::new(rt.alloc());
+    buffer.extend_with(&[b'a'; 100])?;
+    let capacity = buffer.capacity();
+    buffer.advance(90);
+    buffer.extend_with(&[b'b'; 90])?;
+    assert_eq!(rt; buffer.capacity(), capacity);
+    assert_eq!(rt; buffer.len(), 100);
+    assert!(rt; buffer.as_slice().starts_with(b"aaaaaaaaaab"));
+    buffer.advance(100);
+    assert_eq!(rt; buffer.capacity(), capacity);
+    Ok(())
+}
+
+// The length of a read, and how many bytes of the buffer are left after it.
+const READS: &[(usize, usize)] = &[
+    (100, 10),
+    (90, 0),
+    (64, 64),
+    (64, 7),
+    (4096, 4096),
+    (1, 4097),
+    (64, 1),
+    (65_536, 3),
+];
+
+#[test]
+fn has_room_for_twice_the_longest(rt: HostRuntime) -> Result<(), Fail> {
+    let mut buffer = ReadBuffer::new(rt.alloc());
+    let mut longest = 0;
+    for _ in 0..20 {
+        for (read, left) in READS {
+            let bytes = filled(rt.alloc(), b'a', *read)?;
+            buffer.extend_with(bytes.as_slice())?;
+            longest = longest.max(buffer.len());
+            buffer.advance(buffer.len().saturating_sub(*left));
+            assert!(rt; buffer.capacity() / 2 <= longest);
+        }
+    }
+    Ok(())
+}
+
+// Keys of five bytes, in 1000 reads of 64: from the second read on the parser takes no more memory for them.
+#[test]
+fn keeps_its_memory(rt: HostRuntime) -> Result<(), Fail> {
+    let keys = b"\x1b[15~\x1b[17~\x1b[18~\x1b[19~";
+    let mut text = Vec::new(rt.alloc());
+    for _ in 0..3200 {
+        text.extend_from_slice(keys)?;
+    }
+    let mut parser = InputParser::new(rt.alloc())?;
+    let mut capacity = 0;
+    for (number, read) in text.as_slice().chunks(64).enumerate() {
+        parser.parse_as_vec(read, true)?;
+        if number == 1 {
+            capacity = parser.buffer().capacity();
+        }
+    }
+    assert_eq!(rt; parser.buffer().capacity(), capacity);
+    assert_eq!(rt; parser.waiting_len(), 0);
     Ok(())
 }
