@@ -1,5 +1,5 @@
 -- A walk along a text, in the range of the rows whose keys begin with the bytes that it has passed.
-use Rattle.std.proofs.Common.{⊎_elim, ◌≡◌, ◌∙◌, ◌<◌, ◌≤◌, ◌+◌, ◌-◌, ℕ, suc, zero, List, [], ◌∷◌, ◌++◌, length, take, drop, get_or, refl, sym, ap, ap₂, subst, arith, length-append, length-drop, take-append-drop}
+use Rattle.std.proofs.Common.{⊎_elim, ◌≡◌, ◌∙◌, ◌<◌, ◌≤◌, ◌+◌, ◌-◌, ℕ, suc, zero, List, [], ◌∷◌, ◌++◌, length, take, drop, get_or, refl, sym, ap, ap₂, arith, length-append, length-drop, take-append-drop}
 use Rattle.std.specs.Prelude.{Option, Some, None, is_some, IsSome, IfSome, IfNone}
 use Rattle.std.specs.Option.{option_or}
 use Rattle.std.specs.FinMap as map
