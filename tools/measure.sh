@@ -3,14 +3,14 @@
 #
 #     tools/measure.sh [--against COMMIT] [--reads LIST] [--runs N] [--keep FOLDER] [new | CORPUS[:MEGABYTES]]..
 #
-# It builds a static library over termwiz_input (tools/measure/feed.rt.txt) and a C program that times it (measure.c), from this
-# folder's files and, with --against, from those of COMMIT; all of it in a temporary folder, or in FOLDER, which is kept. Then it runs
-# the programs in turn, N times each (9 if it isn't given), one pass a process, and prints a table: the least time, the middle
-# one, and what the least makes for an event and in megabytes a second.
+# It builds a static library over termwiz_input (tools/measure/feed.rt.txt) and a C program that times it (measure.c), from the files
+# here and, with --against, from those of COMMIT; all of it in a temporary folder, or in FOLDER, which is kept. Then it runs the
+# programs in turn, N times each (9), one pass a process, and prints a table: the least time, the middle one, and what the least makes
+# for an event and in megabytes a second.
 #
-# `new` is InputParser::new alone, the first in its process and the least of twenty more. A corpus is a file of so many
-# megabytes (1 if it isn't given) that the parser gets in reads of each size in LIST, as 64,4096 (which it is if it isn't given): typed,
-# keys, csiu, utf8, mouse, escapes or paste (see tools/measure/corpora.py). What is left out is: new typed keys csiu paste.
+# `new` is InputParser::new alone: the first in its process, and the least of twenty more. A CORPUS is so many megabytes (1) of typed,
+# keys, csiu, utf8, mouse, escapes or paste (see tools/measure/corpora.py), which the parser gets in reads of each size in LIST
+# (64,4096). If nothing is named, it measures new, typed, keys, csiu and paste.
 #
 # It wants rt, cc and python3.
 set -eu
@@ -39,7 +39,7 @@ fi
 build() { # folder
     mkdir -p "$1/crates/feed/src"
     cp "$top/tools/measure/feed.rt.txt" "$1/crates/feed/src/lib.rt"
-    grep '^termwiz_' "$1/listed" > "$1/crates.txt"
+    grep -E '^termwiz_(base|input):' "$1/listed" > "$1/crates.txt"
     echo 'feed staticlib: termwiz_input' >> "$1/crates.txt"
     (cd "$1/crates/feed" && rt lib) > "$1/log" 2>&1 || { cat "$1/log" >&2; exit 1; }
     cc -O2 -o "$1/measure" "$top/tools/measure/measure.c" "$1/crates/feed/out/libfeed.a" "$(dirname "$(rt doc)")/c/liblibc_c.a"
