@@ -83,7 +83,7 @@ fn more_after(number: usize, count: usize, maybe_more: bool) -> bool
 pub struct InputParser {
     key_map: KeyMap<KeyEvent>,
     buffer: ReadBuffer,
-    // The end of a paste begins nowhere in the waiting text before this offset, so a search starts here; 0 if no paste is open.
+    // END begins nowhere in the waiting text before this offset, so a search of an open paste starts here. 0 if none is open.
     searched: usize,
     alloc: Global,
 }
@@ -157,7 +157,7 @@ impl InputParser {
         item_at(self.alloc, &self.key_map, text, self.searched, maybe_more)
     }
 
-    // Notes of an open paste, if no item stands at the front, from where on to look for its end next.
+    // Where no item stands at the front: notes from where on to look next for the end of an open paste.
     fn note_search(&mut self)
         requires { (more : Bool) × IsRest self.old more }
         ensures { self.new ≡ self.old }
@@ -167,7 +167,7 @@ impl InputParser {
         }
     }
 
-    // The same as `peek`; if there is no item, it is noted how far an open paste was searched for its end.
+    // The item at the front of the waiting text, as `peek` finds it. If there is none, notes how far an open paste was searched.
     fn find_item(&mut self, maybe_more: bool) -> Result<Option<Item>, AllocError>
         ensures same { self.new ≡ self.old }
         ensures item { IfOk result (λ found. IfSome found (IsItemAt self.old maybe_more)) }
@@ -181,7 +181,7 @@ impl InputParser {
         Ok(found)
     }
 
-    // Drops the first bytes of the waiting text. What is left is searched from its start.
+    // Drops the first bytes of the waiting text. Nothing is known of a paste in what is left.
     fn consume(&mut self, len: usize)
         requires { len ≤ length self.old }
         ensures { self.new ≡ drop len self.old }
