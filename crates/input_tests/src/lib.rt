@@ -2,9 +2,11 @@
 //! read back, every beginning that waits, long input, and comparisons with a plain slow reader.
 #![tactic(auto)]
 
-ghost use Rattle.std.specs.Prelude.{◌≡◌, ◌∷◌, ℕ, List, [], false, length, IfOk};
+ghost use Rattle.std.specs.Prelude.{◌≡◌, ◌∷◌, ℕ, List, [], Some, Err, false, length, IfOk};
 ghost use Rattle.std.specs.List.{AllPairs};
+ghost use Rattle.termwiz_input.specs.declared.encode.EncodeError.TheVariants as error;
 ghost use Rattle.termwiz_input.specs.declared.types.InputEvent.TheVariants.{Key};
+ghost use Rattle.termwiz_input.specs.Enc.{unhandled};
 ghost use Rattle.termwiz_input.specs.Grammar.{Means};
 ghost use Rattle.termwiz_input.specs.Laws.{HasOtherBytes};
 ghost use Rattle.termwiz_input.specs.Listed.{IsListed};
@@ -45,17 +47,21 @@ pub fn read_whole(alloc: Global, text: &[u8]) -> Result<Vec<InputEvent>, AllocEr
 /// The events that a fresh parser reads in the text of a key that is pressed. If the key is listed, with its modifiers and
 /// modes, there is one event: that key with those modifiers.
 ///
-/// Fails if the key is a function key without a text, or if memory is refused.
+/// Fails with the key's number if it is a function key without a text, and else only if memory is refused.
 pub fn read_encoded(
     alloc: Global,
     key: KeyCode,
     modifiers: Modifiers,
     modes: KeyCodeEncodeModes,
 ) -> Result<Vec<InputEvent>, EncodeError>
-    ensures { IsListed key modifiers modes
+    ensures events { IsListed key modifiers modes
         → IfOk result (λ events. events.items ≡ Key (record { key = key; modifiers = modifiers }) ∷ []) }
+    ensures refused { (n : ℕ) → result ≡ Err (error.UnhandledFunctionKey n) → unhandled key ≡ Some n }
 {
-    let text = key.encode(alloc, modifiers, modes, true)?;
+    let text = match key.encode(alloc, modifiers, modes, true) {
+        Ok(text) => text,
+        Err(fault) => return Err(fault),
+    };
     let events = read_whole(alloc, text.as_bytes())?;
     read_back(key, modifiers, modes);
     one_meaning();
