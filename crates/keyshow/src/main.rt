@@ -1,4 +1,4 @@
-//! Prints the events of standard input, one on a line. It is called as `keyshow [PIECE]`, where PIECE is the most
+//! Prints the events of standard input, one per line. It is called as `keyshow [PIECE]`, where PIECE is the most
 //! bytes that are read at a time.
 #![tactic(auto)]
 

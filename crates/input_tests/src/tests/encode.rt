@@ -418,6 +418,12 @@ fn every_key_has_a_text(rt: HostRuntime) -> Result<(), Fail> {
     for key in OTHER_KEYS {
         let _text = key.encode(alloc, SHIFT, XTERM, true)?;
     }
+    Ok(())
+}
+
+#[test]
+fn every_function_key_has_a_text(rt: HostRuntime) -> Result<(), Fail> {
+    let alloc = rt.alloc();
     for number in 1..25u8 {
         let _text = KeyCode::Function(number).encode(alloc, Modifiers::NONE, XTERM, true)?;
     }

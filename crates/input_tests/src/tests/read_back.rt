@@ -119,6 +119,20 @@ fn check_key(
     Ok(())
 }
 
+// A key with these modifiers, at each of the levels.
+fn check_at_levels(
+    rt: &impl Abort,
+    alloc: Global,
+    key: KeyCode,
+    held: Held,
+    levels: &[Option<i64>],
+) -> Result<(), Fail> {
+    for level in levels {
+        check_key(rt, alloc, key, held, *level)?;
+    }
+    Ok(())
+}
+
 // A key with each of the modifiers, at each of the levels.
 fn check_listed(
     rt: &impl Abort,
@@ -128,9 +142,21 @@ fn check_listed(
     levels: &[Option<i64>],
 ) -> Result<(), Fail> {
     for each in held {
-        for level in levels {
-            check_key(rt, alloc, key, *each, *level)?;
-        }
+        check_at_levels(rt, alloc, key, *each, levels)?;
+    }
+    Ok(())
+}
+
+// Each of the keys with each of the modifiers, at each of the levels.
+fn check_line(
+    rt: &impl Abort,
+    alloc: Global,
+    keys: &[KeyCode],
+    held: &[Held],
+    levels: &[Option<i64>],
+) -> Result<(), Fail> {
+    for key in keys {
+        check_listed(rt, alloc, *key, held, levels)?;
     }
     Ok(())
 }
@@ -156,9 +182,7 @@ fn check_character(rt: &impl Abort, alloc: Global, c: char) -> Result<(), Fail> 
 #[test]
 fn reads_listed_keys_back(rt: HostRuntime) -> Result<(), Fail> {
     for (keys, held, levels) in LINES {
-        for key in *keys {
-            check_listed(&rt, rt.alloc(), *key, held, levels)?;
-        }
+        check_line(&rt, rt.alloc(), keys, held, levels)?;
     }
     Ok(())
 }
@@ -172,10 +196,15 @@ fn reads_function_keys_back(rt: HostRuntime) -> Result<(), Fail> {
 }
 
 #[test]
-fn reads_characters_back(rt: HostRuntime) -> Result<(), Fail> {
+fn reads_ascii_back(rt: HostRuntime) -> Result<(), Fail> {
     for code in 0x20..0x7f_u8 {
         check_character(&rt, rt.alloc(), code as char)?;
     }
+    Ok(())
+}
+
+#[test]
+fn reads_characters_beyond_ascii_back(rt: HostRuntime) -> Result<(), Fail> {
     for c in BEYOND_ASCII {
         check_character(&rt, rt.alloc(), *c)?;
     }

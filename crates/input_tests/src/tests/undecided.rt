@@ -51,7 +51,20 @@ fn check_parted(
     Ok(())
 }
 
-// Every proper beginning of the text but the empty one, alone and after one ESC.
+// The same, alone and after one ESC.
+fn check_held(
+    rt: &impl Abort,
+    alloc: Global,
+    parser: &mut InputParser,
+    parts: (&[u8], &[u8]),
+) -> Result<(), Fail> {
+    for held in HELD {
+        check_parted(rt, alloc, parser, held, parts)?;
+    }
+    Ok(())
+}
+
+// Every proper beginning of the text but the empty one.
 fn check_beginnings(
     rt: &impl Abort,
     alloc: Global,
@@ -59,9 +72,7 @@ fn check_beginnings(
     text: &[u8],
 ) -> Result<(), Fail> {
     for len in 1..text.len() {
-        for held in HELD {
-            check_parted(rt, alloc, parser, held, text.split_at(len))?;
-        }
+        check_held(rt, alloc, parser, text.split_at(len))?;
     }
     Ok(())
 }
@@ -100,13 +111,23 @@ fn check_frames_in_row(
     Ok(())
 }
 
+fn check_frames_of_code(
+    rt: &impl Abort,
+    alloc: Global,
+    parser: &mut InputParser,
+    code: &str,
+) -> Result<(), Fail> {
+    for y in PLACES {
+        check_frames_in_row(rt, alloc, parser, code, y)?;
+    }
+    Ok(())
+}
+
 #[test]
 fn beginnings_of_frames_are_undecided(rt: HostRuntime) -> Result<(), Fail> {
     let mut parser = InputParser::new(rt.alloc())?;
     for code in CODES {
-        for y in PLACES {
-            check_frames_in_row(&rt, rt.alloc(), &mut parser, code, y)?;
-        }
+        check_frames_of_code(&rt, rt.alloc(), &mut parser, code)?;
     }
     Ok(())
 }
