@@ -1,4 +1,5 @@
-use Rattle.std.proofs.Common.{sym, subst}
+use Rattle.std.proofs.Common.{sym, subst, arith}
+use Rattle.std.specs.Prelude.{Some}
 use Rattle.memchr.specs.Find.{FindsNeedle}
 use Rattle.termwiz_input.proofs.Places.{none_from, found_from}
 use Rattle.termwiz_input.proofs.bytes.find_from.Goals as goal
@@ -9,4 +10,6 @@ returns-in_err-found-clause-first c =
     (none_from c.args.text.now c.args.needle.now c.args.offset c.requires c.in_err-found.ensures)
 
 pub returns-clause-first : goal.returns-clause-first
-returns-clause-first c = found_from c.args.text.now c.args.needle.now c.args.offset c.in_ok-found.found c.requires c.in_ok-found.ensures
+returns-clause-first c =
+    subst (λ place. FindsNeedle c.args.text.now c.args.needle.now c.args.offset (Some place)) (omega arith)
+    (found_from c.args.text.now c.args.needle.now c.args.offset c.in_ok-found.found c.requires c.in_ok-found.ensures)
