@@ -2,6 +2,8 @@
 use super::line::line_of;
 use super::long::repeated;
 use super::{Example, InputEvent, InputParser, LAST, MORE, check_all};
+use std::alloc::Global;
+use std::process::Abort;
 use std::test::Fail;
 
 const PASTES: &[Example] = &[
@@ -91,11 +93,12 @@ fn gives_the_text_of_a_paste(rt: HostRuntime) -> Result<(), Fail> {
 #[test]
 fn reads_a_paste_byte_by_byte(rt: HostRuntime) -> Result<(), Fail> {
     let body = repeated(rt.alloc(), b"a", 200)?;
+    let mut text = b"\x1b[200~".to_vec(rt.alloc())?;
+    text.extend_from_slice(&body)?;
+    text.extend_from_slice(b"\x1b[201")?;
     let mut parser = InputParser::new(rt.alloc())?;
-    for part in [b"\x1b[200~".as_slice(), body.as_slice(), b"\x1b[201"] {
-        for byte in part.chunks(1) {
-            assert!(rt; parser.parse_as_vec(byte, MORE)?.is_empty());
-        }
+    for byte in text.chunks(1) {
+        assert!(rt; parser.parse_as_vec(byte, MORE)?.is_empty());
     }
     match parser.parse_as_vec(b"~", MORE)?.as_slice() {
         [InputEvent::Paste(text)] => assert!(rt; text.as_str().as_bytes() == body.as_slice()),
@@ -107,22 +110,37 @@ fn reads_a_paste_byte_by_byte(rt: HostRuntime) -> Result<(), Fail> {
 
 const CUT_PASTE: &[u8] = b"\x1b[200~a\x1b[201~";
 
-// A paste that is cut in two places comes once.
+// The paste in three parts, by a fresh parser, comes once.
+fn check_parts(rt: &impl Abort, alloc: Global, parts: [&[u8]; 3]) -> Result<(), Fail> {
+    let mut parser = InputParser::new(alloc)?;
+    let mut given = 0_usize;
+    for part in parts {
+        let events = parser.parse_as_vec(part, MORE)?;
+        given = given.saturating_add(events.len());
+        if !events.is_empty() {
+            let line = line_of(alloc, events.as_slice(), &parser)?;
+            assert_eq!(rt; line.as_str(), "Paste(a)", "{parts:?}");
+        }
+    }
+    assert_eq!(rt; given, 1, "{parts:?}");
+    assert_eq!(rt; parser.waiting_len(), 0, "{parts:?}");
+    Ok(())
+}
+
+// Cuts the first part at every place.
+fn check_cuts(rt: &impl Abort, alloc: Global, first: &[u8], last: &[u8]) -> Result<(), Fail> {
+    for place in 0..first.len() + 1 {
+        let (start, middle) = first.split_at(place);
+        check_parts(rt, alloc, [start, middle, last])?;
+    }
+    Ok(())
+}
+
 #[test]
 fn reads_a_paste_cut_twice(rt: HostRuntime) -> Result<(), Fail> {
-    for second in 0..CUT_PASTE.len() + 1 {
-        for first in 0..second + 1 {
-            let mut parser = InputParser::new(rt.alloc())?;
-            let mut events = parser.parse_as_vec(&CUT_PASTE[..first], MORE)?;
-            for event in parser.parse_as_vec(&CUT_PASTE[first..second], MORE)? {
-                events.push(event)?;
-            }
-            for event in parser.parse_as_vec(&CUT_PASTE[second..], MORE)? {
-                events.push(event)?;
-            }
-            let line = line_of(rt.alloc(), events.as_slice(), &parser)?;
-            assert_eq!(rt; line.as_str(), "Paste(a)", "{first}, {second}");
-        }
+    for place in 0..CUT_PASTE.len() + 1 {
+        let (first, last) = CUT_PASTE.split_at(place);
+        check_cuts(&rt, rt.alloc(), first, last)?;
     }
     Ok(())
 }

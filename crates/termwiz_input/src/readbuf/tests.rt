@@ -2,6 +2,7 @@
 use super::ReadBuffer;
 use crate::input::InputParser;
 use std::alloc::{AllocError, Global};
+use std::process::Abort;
 use std::test::Fail;
 
 impl ReadBuffer {
@@ -115,30 +116,47 @@ const READS: &[(usize, usize)] = &[
     (65_536, 3),
 ];
 
+// Reads and drops as the table says. Returns the longest that the buffer's text was, or `longest` if that is more.
+fn check_reads(
+    rt: &impl Abort,
+    alloc: Global,
+    buffer: &mut ReadBuffer,
+    longest: usize,
+) -> Result<usize, Fail> {
+    let mut longest = longest;
+    for (read, left) in READS {
+        let bytes = filled(alloc, b'a', *read)?;
+        buffer.extend_with(bytes.as_slice())?;
+        longest = longest.max(buffer.len());
+        buffer.advance(buffer.len().saturating_sub(*left));
+        assert!(rt; buffer.capacity() / 2 <= longest);
+    }
+    Ok(longest)
+}
+
 #[test]
 fn has_room_for_twice_the_longest(rt: HostRuntime) -> Result<(), Fail> {
     let mut buffer = ReadBuffer::new(rt.alloc());
     let mut longest = 0;
     for _ in 0..20 {
-        for (read, left) in READS {
-            let bytes = filled(rt.alloc(), b'a', *read)?;
-            buffer.extend_with(bytes.as_slice())?;
-            longest = longest.max(buffer.len());
-            buffer.advance(buffer.len().saturating_sub(*left));
-            assert!(rt; buffer.capacity() / 2 <= longest);
-        }
+        longest = check_reads(&rt, rt.alloc(), &mut buffer, longest)?;
     }
     Ok(())
+}
+
+// So many times four keys of five bytes.
+fn function_keys(alloc: Global, times: usize) -> Result<Vec<u8>, AllocError> {
+    let mut text = Vec::new(alloc);
+    for _ in 0..times {
+        text.extend_from_slice(b"\x1b[15~\x1b[17~\x1b[18~\x1b[19~")?;
+    }
+    Ok(text)
 }
 
 // Keys of five bytes, in 1000 reads of 64: from the second read on the parser takes no more memory for them.
 #[test]
 fn keeps_its_memory(rt: HostRuntime) -> Result<(), Fail> {
-    let keys = b"\x1b[15~\x1b[17~\x1b[18~\x1b[19~";
-    let mut text = Vec::new(rt.alloc());
-    for _ in 0..3200 {
-        text.extend_from_slice(keys)?;
-    }
+    let text = function_keys(rt.alloc(), 3200)?;
     let mut parser = InputParser::new(rt.alloc())?;
     let mut capacity = 0;
     for (number, read) in text.as_slice().chunks(64).enumerate() {
