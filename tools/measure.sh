@@ -1,16 +1,16 @@
 #!/usr/bin/env bash
-# Measures the parser in process, on this machine, against another commit's too.
+# Measures the parser in process, on this machine, and another commit's beside it.
 #
 #     tools/measure.sh [--against COMMIT] [--reads LIST] [--runs N] [--keep FOLDER] [new | CORPUS[:MEGABYTES]]..
 #
 # It builds a static library over termwiz_input (tools/measure/feed.rt.txt) and a C program that times it (measure.c), from the files
 # here and, with --against, from those of COMMIT; all of it in a temporary folder, or in FOLDER, which is kept. Then it runs the
-# programs in turn, N times each (9), one pass a process, and prints a table: the least time, the middle one, and what the least makes
-# for an event and in megabytes a second.
+# programs in turn, N times each (9), one pass a process, and prints a table: the least time, the middle one, and the least per event and
+# in megabytes per second.
 #
-# `new` is InputParser::new alone: the first in its process, and the least of twenty more. A CORPUS is so many megabytes (1) of typed,
-# keys, csiu, utf8, mouse, escapes or paste (see tools/measure/corpora.py), which the parser gets in reads of each size in LIST
-# (64,4096). If nothing is named, it measures new, typed, keys, csiu and paste.
+# `new` is InputParser::new, and the drop of a parser that read nothing: the first in its process, and the least of twenty more. A CORPUS
+# is that many megabytes (1 if none are given) of typed, keys, csiu, utf8, mouse, escapes or paste (see tools/measure/corpora.py), which
+# the parser gets in reads of each size in LIST (64,4096). If nothing is named, it measures new, typed, keys, csiu and paste.
 #
 # It wants rt, cc and python3.
 set -eu

@@ -47,7 +47,7 @@ pub fn read_whole(alloc: Global, text: &[u8]) -> Result<Vec<InputEvent>, AllocEr
 /// The events that a fresh parser reads in the text of a key that is pressed. If the key is listed, with its modifiers and
 /// modes, there is one event: that key with those modifiers.
 ///
-/// Fails with the key's number if it is a function key without a text, and else only if memory is refused.
+/// An error with a number is that of a function key without a text; any other is want of memory.
 pub fn read_encoded(
     alloc: Global,
     key: KeyCode,

@@ -12,7 +12,7 @@ use Rattle.termwiz_input.specs.Frame.{IsFrame}
 use Rattle.termwiz_input.specs.Known.{Meaning, IsKnown}
 use Rattle.termwiz_input.specs.Known.Meaning.{Row, Frame}
 use Rattle.termwiz_input.specs.Grammar.{IsUnfinished}
-use Rattle.termwiz_input.proofs.Lists.{length-some}
+use Rattle.termwiz_input.proofs.Lists.{length-some, true_at_end}
 use Rattle.termwiz_input.proofs.Searches.{Decision, decide_both, decide_by, decide_lists}
 use Rattle.termwiz_input.proofs.TableTests.{has_shape}
 use Rattle.termwiz_input.proofs.FrameFacts.{IsPlain, frame_once, frame_alone, frame_or_not, frame_short, frame_plain}
@@ -101,18 +101,14 @@ decide_some : (t : List ℕ) → Decision (t ≢ [])
 decide_some [] = inr (λ n. n refl)
 decide_some (x ∷ t) = inl (λ h. cc (h))
 
--- the bytes of a known text, and of its end
+-- the bytes of a known text are below 128
+pub plain_small : (t : List ℕ) → AllByRecursion IsPlain t → AllByRecursion (λ b. b < 128) t
+plain_small [] p = tt
+plain_small (x ∷ t) p = ((let h : IsPlain x = p.0 in omega arith), plain_small t p.1)
+
 bytes_small : (text : List ℕ) → Bytes text → AllByRecursion (λ b. b < 128) text
 bytes_small text (one b l e) = subst (AllByRecursion (λ c. c < 128)) (sym e) ((let h : b < 128 = omega (arith, l) in h), tt)
 bytes_small text (more t n e p) = subst (AllByRecursion (λ c. c < 128)) (sym e) (omega arith, plain_small t p)
-  where
-    plain_small : (s : List ℕ) → AllByRecursion IsPlain s → AllByRecursion (λ c. c < 128) s
-    plain_small [] q = tt
-    plain_small (x ∷ s) q = ((let h : IsPlain x = q.0 in omega arith), plain_small s q.1)
-
-end_small : (u t : List ℕ) → AllByRecursion (λ b. b < 128) (u ++ t) → AllByRecursion (λ b. b < 128) t
-end_small [] t a = a
-end_small (x ∷ u) t a = end_small u t a.1
 
 -- it can be told whether a text properly begins a known text: few texts can complete it
 pub unfinished_or_not : (u : List ℕ) → IsUnfinished u ⊎ (IsUnfinished u → ⊥)
@@ -122,7 +118,7 @@ unfinished_or_not u = decide_by
     (λ (a : IsUnfinished u). (
       a.tail,
       omega (arith, length-append u a.tail, known_short (u ++ a.tail) a.meaning a.known),
-      end_small u a.tail (bytes_small (u ++ a.tail) (known_bytes (u ++ a.tail) a.meaning a.known)),
+      true_at_end (λ b. b < 128) u a.tail (bytes_small (u ++ a.tail) (known_bytes (u ++ a.tail) a.meaning a.known)),
       (a.longer, (a.meaning, a.known)),
     ))
     (decide_lists 128 21 (λ t. (t ≢ []) × ((m : Meaning) × IsKnown (u ++ t) m)) (λ t. decide_both (decide_some t) (known_or_not (u ++ t))))

@@ -15,11 +15,11 @@ use Rattle.termwiz_input.specs.Grammar.{Head, IsHead, IsLongest, bytes_of, IsApa
 use Rattle.termwiz_input.specs.Grammar.Head.{Known, Character}
 use Rattle.termwiz_input.specs.Laws.{Undecided, Waits, IsHeldEscape}
 use Rattle.termwiz_input.specs.Laws.Waits.{nothing, open_paste, broken, undecided}
-use Rattle.termwiz_input.proofs.Lists.{append-some, append-some_left, length-some}
+use Rattle.termwiz_input.proofs.Lists.{append-some, append-some_left, length-some, true_at_end}
 use Rattle.termwiz_input.proofs.FrameFacts.{IsPlain}
 use Rattle.termwiz_input.proofs.RowFacts.{Bytes}
 use Rattle.termwiz_input.proofs.RowFacts.Bytes.{one, more}
-use Rattle.termwiz_input.proofs.Facts.{known_bytes, start_ends, frame_ends}
+use Rattle.termwiz_input.proofs.Facts.{known_bytes, start_ends, frame_ends, plain_small}
 use Rattle.termwiz_input.proofs.Standing.{item_some}
 use Rattle.termwiz_input.proofs.Heads.{ascii_head, head_once, longest_whole}
 use Rattle.termwiz_input.proofs.Meaning.{RowGives, Gives, Read, read_of, reads}
@@ -39,26 +39,14 @@ left_ends (e ∷ E) T W f (bytes, rest, stands, splits, steps) =
     let p = left_ends E rest W f steps in
     (bytes ++ p.0, splits ∙ ap (λ x. bytes ++ x) p.1 ∙ sym (append_assoc bytes p.0 W))
 
-plain_end : (s t : List ℕ) → AllByRecursion IsPlain (s ++ t) → AllByRecursion IsPlain t
-plain_end [] t a = a
-plain_end (x ∷ s) t a = plain_end s t a.1
-
 -- plain bytes hold no ESC
 no_escape : (t : List ℕ) → AllByRecursion IsPlain (27 ∷ t) → ⊥
 no_escape t a = let h : IsPlain 27 = a.0 in omega arith
 
--- bytes below 128, each of which begins a character
-small_end : (s t : List ℕ) → AllByRecursion (λ b. b < 128) (s ++ t) → AllByRecursion (λ b. b < 128) t
-small_end [] t a = a
-small_end (x ∷ s) t a = small_end s t a.1
-
+-- a byte below 128 begins a character
 not_broken : (t : List ℕ) → t ≢ [] → AllByRecursion (λ b. b < 128) t → ((h : Head) → IsHead t h → ⊥) → ⊥
 not_broken [] n a none = n refl
 not_broken (x ∷ t) n a none = let h = ascii_head x t a.0 in none h.0 h.1
-
-small_plain : (t : List ℕ) → AllByRecursion IsPlain t → AllByRecursion (λ b. b < 128) t
-small_plain [] a = tt
-small_plain (x ∷ t) a = ((let h : IsPlain x = a.0 in omega arith), small_plain t a.1)
 
 -- no rest of small bytes waits under a flush, but an open paste
 flushed : (W : List ℕ) → AllByRecursion (λ b. b < 128) W → IsRest W false → (W ≡ []) ⊎ Begins START W
@@ -68,7 +56,7 @@ flushed W small rest = go (waiting_shape W false rest)
     go (nothing e) = inl e
     go (open_paste body e never) = inr (body, e)
     go (broken held bytes is e n none) =
-        absurd (not_broken bytes n (small_end held bytes (subst (AllByRecursion (λ b. b < 128)) e small)) none)
+        absurd (not_broken bytes n (true_at_end (λ b. b < 128) held bytes (subst (AllByRecursion (λ b. b < 128)) e small)) none)
     go (undecided held bytes is e n u short m) = absurd (cc (m))
 
 -- nothing is left of plain bytes, so some item stands there
@@ -76,7 +64,7 @@ plain_rest : (c : List ℕ) → AllByRecursion IsPlain c → IsRest c false → 
 plain_rest c a rest = ⊎_elim
     (λ (e : c ≡ []). e)
     (λ (b : Begins START c). absurd (no_escape (91 ∷ 50 ∷ 48 ∷ 48 ∷ 126 ∷ b.0) (subst (AllByRecursion IsPlain) b.1 a)))
-    (flushed c (small_plain c a) rest)
+    (flushed c (plain_small c a) rest)
 
 plain_gives : (c W : List ℕ) (E : List InputEvent) → c ≢ [] → AllByRecursion IsPlain c → Read c false E W → E ≢ []
 plain_gives c W [] n a (h, rest) e = n (plain_rest c a (subst (λ x. IsRest x false) (sym h) rest))
@@ -119,7 +107,7 @@ module _ (p c : List ℕ) (m : Meaning) (known : IsKnown (27 ∷ p ++ c) m) (lon
   no_start_in [] W e b = not_start (b.0, e ∙ b.1)
   no_start_in (x ∷ front) W e b =
       no_escape (91 ∷ 50 ∷ 48 ∷ 48 ∷ 126 ∷ b.0) (subst (AllByRecursion IsPlain) b.1
-      (plain_end front W (subst (AllByRecursion IsPlain) (let t : p ≡ front ++ W = cc (e) in t) p_plain)))
+      (true_at_end IsPlain front W (subst (AllByRecursion IsPlain) (let t : p ≡ front ++ W = cc (e) in t) p_plain)))
 
   no_start_held : (held front W : List ℕ) → IsHeldEscape held → held ++ 27 ∷ p ≡ front ++ W → Begins START W → ⊥
   no_start_held held front W (inl h) e b = no_start_in front W (ap (λ x. x ++ 27 ∷ p) (sym h) ∙ e) b
@@ -130,8 +118,8 @@ module _ (p c : List ℕ) (m : Meaning) (known : IsKnown (27 ∷ p ++ c) m) (lon
       no_start_in front W (let f : ESC ++ 27 ∷ p ≡ x ∷ front ++ W = ap (λ z. z ++ 27 ∷ p) (sym h) ∙ e in cc (f)) b
 
   held_small : (held : List ℕ) → IsHeldEscape held → AllByRecursion (λ b. b < 128) (held ++ 27 ∷ p)
-  held_small held (inl h) = subst (λ x. AllByRecursion (λ b. b < 128) (x ++ 27 ∷ p)) (sym h) (omega arith, small_plain p p_plain)
-  held_small held (inr h) = subst (λ x. AllByRecursion (λ b. b < 128) (x ++ 27 ∷ p)) (sym h) (omega arith, (omega arith, small_plain p p_plain))
+  held_small held (inl h) = subst (λ x. AllByRecursion (λ b. b < 128) (x ++ 27 ∷ p)) (sym h) (omega arith, plain_small p p_plain)
+  held_small held (inr h) = subst (λ x. AllByRecursion (λ b. b < 128) (x ++ 27 ∷ p)) (sym h) (omega arith, (omega arith, plain_small p p_plain))
 
   -- a flush leaves nothing of it
   flush_leaves : (held W : List ℕ) (E : List InputEvent) → IsHeldEscape held → Read (held ++ 27 ∷ p) false E W → W ≡ []
@@ -140,7 +128,7 @@ module _ (p c : List ℕ) (m : Meaning) (known : IsKnown (27 ∷ p ++ c) m) (lon
       ⊎_elim
       (λ (e : W ≡ []). e)
       (λ (b : Begins START W). absurd (no_start_held held end.0 W is end.1 b))
-      (flushed W (small_end end.0 W (subst (AllByRecursion (λ b. b < 128)) end.1 (held_small held is))) rest)
+      (flushed W (true_at_end (λ b. b < 128) end.0 W (subst (AllByRecursion (λ b. b < 128)) end.1 (held_small held is))) rest)
 
   flush_gives : (held W : List ℕ) (E : List InputEvent) → IsHeldEscape held → Read (held ++ 27 ∷ p) false E W → E ≢ []
   flush_gives held W [] is (h, rest) e = append-some held (27 ∷ p) (λ z. cc (z)) (h ∙ flush_leaves held W [] is (h, rest))
@@ -243,7 +231,7 @@ differ_from held (x ∷ p) c m is n longer known (more t k e a) =
     let first : x ≡ 27 = cc (e) in
     let rest : AllByRecursion IsPlain (p ++ c) = subst (AllByRecursion IsPlain) (let r : t ≡ p ++ c = cc (e) in r) a in
     subst (λ z. EventsDiffer (held ++ z ∷ p) c) (sym first)
-    (differ p c m (subst (λ z. IsKnown (z ∷ p ++ c) m) first known) longer (front_plain p c rest) (plain_end p c rest) held is)
+    (differ p c m (subst (λ z. IsKnown (z ∷ p ++ c) m) first known) longer (front_plain p c rest) (true_at_end IsPlain p c rest) held is)
 
 -- the three meanings are there, since each text has one
 pub undecided_law : Undecided

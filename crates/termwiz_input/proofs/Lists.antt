@@ -1,5 +1,6 @@
 -- Two lists that begin one list.
 use Rattle.std.proofs.Common.{◌≡◌, ◌≢◌, ℕ, ◌<◌, ◌≤◌, List, [], ◌∷◌, ◌++◌, length, refl, sym, ap, ◌∙◌, append_assoc, length-append, arith}
+use Rattle.std.specs.List.{AllByRecursion}
 use Rattle.termwiz_input.specs.Bytes.{Begins}
 
 -- Where a and u begin one list, a begins u or is longer and goes on after it.
@@ -46,3 +47,8 @@ same_from_length (x ∷ a) (y ∷ b) [] p q e = absurd (cc (p.1))
 same_from_length (x ∷ a) (y ∷ b) (z ∷ u) p q e =
     let rest : a ≡ b = same_from_length a b u (p.0, cc (p.1)) (q.0, cc (q.1)) (omega arith) in
     cc (p.1, q.1)
+
+-- what is true of each byte of a text is true of each byte of its end
+pub true_at_end : (P : ℕ → Type 0) (s t : List ℕ) → AllByRecursion P (s ++ t) → AllByRecursion P t
+true_at_end P [] t a = a
+true_at_end P (x ∷ s) t a = true_at_end P s t a.1

@@ -19,8 +19,8 @@ use Rattle.termwiz_input.specs.Keys.{NONE, SHIFT, ALT, CTRL, key_with}
 use Rattle.termwiz_input.specs.KeyCodes.{holds, shifted}
 use Rattle.termwiz_input.specs.Table.{numbers, written_out}
 use Rattle.termwiz_input.specs.Enc.{enc, key_text, normal_key, normal_held, sideless, shows_shift, named_key, char_text, plain_char_text, other_text, other_keys_form, backspace_text, enter_text, escape_text, tab_text, tab_alone, escape_if_alt, cursor_text, application_text, edit_text, lettered_function_text, numbered_function_text, function_text, is_level, stays_at_one}
-use Rattle.termwiz_input.specs.Listed.{any_of_three, cursor_and_function_keys, keys_without_modifiers, is_shared_letter, Line, IsListed, ReadsBack, csi_u, modifiers_of, CsiUReadsBack}
-use Rattle.termwiz_input.specs.Listed.Line.{any_modifiers, no_modifiers, character, alt_character, none_or_alt, ctrl_letter, tab_with_alt_and_shift, tab_or_enter, ctrl_character, ctrl_shift_character, escape_or_backspace}
+use Rattle.termwiz_input.specs.Listed.{any_of_three, cursor_and_function_keys, keys_without_modifiers, IsSharedLetter, IsListedAt, IsListed, ReadsBack, csi_u, modifiers_of, CsiUReadsBack}
+use Rattle.termwiz_input.specs.Listed.IsListedAt.{any_modifiers, no_modifiers, character, alt_character, none_or_alt, ctrl_letter, tab_with_alt_and_shift, tab_or_enter, ctrl_character, ctrl_shift_character, escape_or_backspace}
 use Rattle.termwiz_input.proofs.Members.{joined, pairs, in_map, in_pairs, in_filter, in_first, in_later, in_numbers, same_on}
 use Rattle.termwiz_input.proofs.Readings.{reading, reading_means, rows_for, rows_for_are, csi_u_rows_of, csi_u_are}
 use Rattle.termwiz_input.proofs.WholeTexts.{char_means}
@@ -209,7 +209,7 @@ not_level (Some z) n = go (int_eq z (pos 2)) refl
     go false e = e
 
 -- a lowercase letter that shares its control character with no other key
-own_letter_here : (c : ℕ) → is_ascii_lowercase c ≡ true → ¬ is_shared_letter c → Contains own_letters c
+own_letter_here : (c : ℕ) → is_ascii_lowercase c ≡ true → ¬ IsSharedLetter c → Contains own_letters c
 own_letter_here c small own =
     let h : c ≢ 104 = λ e. own (0, lit< tt, sym e) in
     let i : c ≢ 105 = λ e. own (1, lit< tt, sym e) in
@@ -270,7 +270,7 @@ space_or_digit c h = ⊎_elim
     (grind (arith, nat_tests))
 
 -- each line reads back
-line_reads : (k : KeyCode) (h : ℕ) (l : Option ℤ) → Line k h l → ReadsBack k (bits h) (xterm l)
+line_reads : (k : KeyCode) (h : ℕ) (l : Option ℤ) → IsListedAt k h l → ReadsBack k (bits h) (xterm l)
 line_reads k h l (any_modifiers key held level a b) =
     first_at_any_level key held level (in_pairs cursor_and_function_keys any_of_three key held a b)
 line_reads k h l (no_modifiers key level a) =

@@ -1,6 +1,7 @@
 -- A reader of whole texts that stand for one key, by the rows of a few rules.
 use Rattle.std.proofs.Common.{◌≡◌, ◌≢◌, ◌⊎◌, ⊎_elim, ℕ, ◌<◌, ◌≤◌, Bool, true, false, List, [], ◌∷◌, ◌++◌, filter, flat_map, Option, Some, None, refl, sym, subst, arith, Contains, nat_lt, bytes_eq, ◌==◌, ◌&&◌, ◌||◌, encode_utf8, lit<}
 use Rattle.std.specs.Map.{lookup}
+use Rattle.std.specs.Option.{option_map, option_or}
 use Rattle.std.specs.Prelude.{if◌then◌else◌}
 use Rattle.std.proofs.Math.Utf8.{low_scalar}
 use Rattle.std.proofs.lemmas.Bool.{and_parts}
@@ -24,11 +25,6 @@ use Rattle.termwiz_input.proofs.Heads.{longest_whole}
 use Rattle.termwiz_input.proofs.Members.{in_flat_map_filter, in_first, in_later, joined}
 use Rattle.termwiz_input.proofs.WholeTexts.{row_means, alt_means, char_head}
 
--- the first of two answers that is one
-abbrev pub first_of : {X : Type 0} → Option X → Option X → Option X
-first_of (Some x) y = Some x
-first_of None y = y
-
 -- the key of the row with these bytes; START has none
 abbrev pub row_key : List TableRow → List ℕ → Option KeyEvent
 row_key part text = if bytes_eq text START then None else lookup (bytes_eq text) part
@@ -43,18 +39,14 @@ abbrev pub is_apart : ℕ → Bool
 is_apart x = nat_lt x 65 || nat_lt 91 x
 
 -- the key after one ESC, with Alt
-abbrev pub with_alt_if_some : Option KeyEvent → Option KeyEvent
-with_alt_if_some (Some k) = Some (with_alt k)
-with_alt_if_some None = None
-
 abbrev pub alt_key : List TableRow → List ℕ → Option KeyEvent
 alt_key part (x ∷ y ∷ t) =
-    if (x == 27) && is_apart y then with_alt_if_some (first_of (row_key part (y ∷ t)) (ascii_key (y ∷ t))) else None
+    if (x == 27) && is_apart y then option_map with_alt (option_or (row_key part (y ∷ t)) (ascii_key (y ∷ t))) else None
 alt_key part text = None
 
 -- the one key that a whole text stands for, by these rows
 abbrev pub reading : List TableRow → List ℕ → Option KeyEvent
-reading part text = first_of (row_key part text) (alt_key part text)
+reading part text = option_or (row_key part text) (alt_key part text)
 
 -- the rows are rows of the table
 abbrev pub AreRows : List TableRow → Type 0
@@ -71,7 +63,7 @@ row_key_means part text k are e = go (bytes_eq text START) refl
     )
 
 -- ESC, and one character of ASCII that no known text has after its ESC
-ascii_means : (y : ℕ) (t : List ℕ) (k : KeyEvent) → (y ≤ 64) ⊎ (92 ≤ y) → with_alt_if_some (ascii_key (y ∷ t)) ≡ Some k
+ascii_means : (y : ℕ) (t : List ℕ) (k : KeyEvent) → (y ≤ 64) ⊎ (92 ≤ y) → option_map with_alt (ascii_key (y ∷ t)) ≡ Some k
     → Means (27 ∷ y ∷ t) false (Key k ∷ []) []
 ascii_means y (z ∷ t) k apart e = absurd (cc (e))
 ascii_means y [] k apart e = go (nat_lt 27 y && nat_lt y 127) refl
@@ -92,7 +84,7 @@ ascii_means y [] k apart e = go (nat_lt 27 y && nat_lt y 127) refl
 
 -- ESC, and the bytes of a row
 joined_means : (part : List TableRow) (y : ℕ) (t : List ℕ) (k : KeyEvent) → AreRows part → (y ≤ 64) ⊎ (92 ≤ y)
-    → with_alt_if_some (first_of (row_key part (y ∷ t)) (ascii_key (y ∷ t))) ≡ Some k → Means (27 ∷ y ∷ t) false (Key k ∷ []) []
+    → option_map with_alt (option_or (row_key part (y ∷ t)) (ascii_key (y ∷ t))) ≡ Some k → Means (27 ∷ y ∷ t) false (Key k ∷ []) []
 unfolding IsKnown
 joined_means part y t k are apart e = go (row_key part (y ∷ t)) refl
   where

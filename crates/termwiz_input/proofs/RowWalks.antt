@@ -1,9 +1,9 @@
 -- A walk along a text, in the range of the rows whose keys begin with the bytes that it has passed.
-use Rattle.std.proofs.Common.{⊎_elim, ◌≡◌, ◌∙◌, ◌<◌, ◌≤◌, ◌+◌, ◌-◌, ℕ, suc, zero, List, [], ◌∷◌, ◌++◌, length, take, drop, get_or, refl, sym, ap, ap₂, arith, length-append, length-drop, take-append-drop}
+use Rattle.std.proofs.Common.{⊎_elim, ◌≡◌, ◌∙◌, ◌<◌, ◌≤◌, ◌+◌, ◌-◌, ℕ, List, [], ◌∷◌, ◌++◌, length, take, drop, get_or, refl, sym, ap, ap₂, arith, length-append, length-drop, take-append-drop}
 use Rattle.std.specs.Prelude.{Option, Some, None, is_some, IsSome, IfSome, IfNone}
 use Rattle.std.specs.Option.{option_or}
 use Rattle.std.specs.FinMap as map
-use Rattle.std.proofs.lemmas.List.{take_all, take_more, length-take-le, get_or-take, take-append-le}
+use Rattle.std.proofs.lemmas.List.{take-take, take_all, take_more, length-take-le, get_or-take, take-append-le}
 use Rattle.std.proofs.lemmas.Bool.{cases_lt}
 use denote.Ref.{Bor}
 use Rattle.std.specs.Global.{Box}
@@ -14,13 +14,6 @@ use Rattle.termwiz_input.proofs.KeyOrder.{rank_rises, rank_end, rank_inside, lon
 use Rattle.termwiz_input.proofs.KeysInEntries.{found, get-entries}
 use Rattle.termwiz_input.proofs.KeysInRows.{found_row, stored}
 use Rattle.termwiz_input.proofs.LongestSoFar.{IsLongestBelow, NoneAfter, longest_more}
-
--- as many of the first bytes, and no more
-pub take_fewer : (d n : ℕ) (xs : List ℕ) → d ≤ n → take d (take n xs) ≡ take d xs
-take_fewer zero n xs le = refl
-take_fewer (suc d) zero xs le = absurd (omega arith)
-take_fewer (suc d) (suc n) [] le = refl
-take_fewer (suc d) (suc n) (x ∷ xs) le = ap (λ l. x ∷ l) (take_fewer d n xs (omega arith))
 
 module _ {V : Type 0} where
   -- the range is the rows whose keys begin with the text's first d bytes
@@ -69,7 +62,7 @@ module _ {V : Type 0} where
 
       ends_none : HasNoEnd range d → map.get m (take d t) ≡ None
       ends_none no_end = none_by (map.get m (take d t)) (λ some.
-          let p = leads.whole (take d t) some (take_fewer d d t (omega arith)) in
+          let p = leads.whole (take d t) some (take-take d d t (omega arith)) in
           let r = some_row range p.0 p.1 in
           let low : rank d (key_of (get_or range 0 r)) ≤ rank d (key_of (get_or range p.0 r)) = rising_at 0 p.0 r (omega arith) p.1 in
           let end : rank d (key_of (get_or range p.0 r)) ≡ 0 = ap (rank d) (p.2 r) ∙ rank_end d (take d t) (omega (arith, taken)) in
@@ -104,7 +97,7 @@ module _ {V : Type 0} where
             let same : take d k ≡ take d t = ap (λ (x : Box (Row V)). take d (key_of x)) (n.same i r within) ∙ leads.begins (n.start + i) r (omega (arith, n.inside)) in
             take_more k d 0 long ∙ ap₂ (λ p b. p ++ b ∷ []) same byte ∙ sym (take_more t d 0 inside);
         whole = λ q some same.
-            let less : take d q ≡ take d t = sym (take_fewer d (d + 1) q (omega arith)) ∙ ap (take d) same ∙ take_fewer d (d + 1) t (omega arith) in
+            let less : take d q ≡ take d t = sym (take-take d (d + 1) q (omega arith)) ∙ ap (take d) same ∙ take-take d (d + 1) t (omega arith) in
             let p = leads.whole q some less in
             let r = some_row range p.0 p.1 in
             let place = n.no_other p.0 r p.1 (ap (rank d) (p.2 r) ∙ next_byte q same) in (
@@ -124,7 +117,7 @@ module _ {V : Type 0} where
         none_on q same some = let p = leads_on.whole q some same in omega (arith, p.1)
 
         pub dead_end : NoneAfter m t d
-        dead_end k above below = none_by (map.get m (take k t)) (none_on (take k t) (take_fewer (d + 1) k t (omega arith)))
+        dead_end k above below = none_by (map.get m (take k t)) (none_on (take k t) (take-take (d + 1) k t (omega arith)))
 
         pub not_extended : IsExtended m t → ⊥
         not_extended (r, some, there) = none_on (t ++ r) (take-append-le (d + 1) t r (omega arith)) there

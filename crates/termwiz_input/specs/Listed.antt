@@ -29,34 +29,34 @@ abbrev pub keys_without_modifiers : List KeyCode
 keys_without_modifiers =
     ApplicationLeftArrow ∷ ApplicationRightArrow ∷ ApplicationUpArrow ∷ ApplicationDownArrow ∷ PageUp ∷ PageDown ∷ Insert ∷ Delete ∷ []
 
--- `h`, `i`, `j` and `m`: with Ctrl they send what Backspace, Tab and Enter send
-abbrev pub is_shared_letter : ℕ → Type 0
-is_shared_letter c = Contains (codes "hijm") c
+-- `h`, `i`, `j` and `m`: with Ctrl they send bytes that are read as Backspace, Tab and Enter
+abbrev pub IsSharedLetter : ℕ → Type 0
+IsSharedLetter c = Contains (codes "hijm") c
 
--- A key with the bits of the modifiers that are held, at a level of modifyOtherKeys.
-pub data Line : KeyCode → ℕ → Option ℤ → Type 0 where
-  -- at any level
+-- A key is listed with the bits of the modifiers that are held, at a level of modifyOtherKeys.
+pub data IsListedAt : KeyCode → ℕ → Option ℤ → Type 0 where
+  -- at every level, and with modifyOtherKeys off
   any_modifiers : (key : KeyCode) (held : ℕ) (level : Option ℤ)
-      → Contains cursor_and_function_keys key → Contains any_of_three held → Line key held level
-  no_modifiers : (key : KeyCode) (level : Option ℤ) → Contains keys_without_modifiers key → Line key NONE level
-  character : (c : ℕ) (level : Option ℤ) → IsScalar c → 0x20 ≤ c → c ≢ 0x7f → Line (Char c) NONE level
-  alt_character : (c : ℕ) (level : Option ℤ) → IsTrue (is_ascii_alphanumeric c || is_ascii_punctuation c) → Line (Char c) ALT level
+      → Contains cursor_and_function_keys key → Contains any_of_three held → IsListedAt key held level
+  no_modifiers : (key : KeyCode) (level : Option ℤ) → Contains keys_without_modifiers key → IsListedAt key NONE level
+  character : (c : ℕ) (level : Option ℤ) → IsScalar c → 0x20 ≤ c → c ≢ 0x7f → IsListedAt (Char c) NONE level
+  alt_character : (c : ℕ) (level : Option ℤ) → IsTrue (is_ascii_alphanumeric c || is_ascii_punctuation c) → IsListedAt (Char c) ALT level
   none_or_alt : (key : KeyCode) (held : ℕ) (level : Option ℤ)
-      → Contains (Enter ∷ Escape ∷ Backspace ∷ []) key → Contains (NONE ∷ ALT ∷ []) held → Line key held level
-  -- at any level but 2
-  ctrl_letter : (c held : ℕ) (level : Option ℤ) → IsTrue (is_ascii_lowercase c) → ¬ is_shared_letter c → level ≢ Some (pos 2)
-      → Contains (CTRL ∷ (CTRL + ALT) ∷ []) held → Line (Char c) held level
+      → Contains (Enter ∷ Escape ∷ Backspace ∷ []) key → Contains (NONE ∷ ALT ∷ []) held → IsListedAt key held level
+  -- at every level but 2, and off
+  ctrl_letter : (c held : ℕ) (level : Option ℤ) → IsTrue (is_ascii_lowercase c) → ¬ IsSharedLetter c → level ≢ Some (pos 2)
+      → Contains (CTRL ∷ (CTRL + ALT) ∷ []) held → IsListedAt (Char c) held level
   -- off
-  tab_with_alt_and_shift : (held : ℕ) → Contains (NONE ∷ ALT ∷ SHIFT ∷ (ALT + SHIFT) ∷ []) held → Line Tab held None
-  -- at any level, but not off
+  tab_with_alt_and_shift : (held : ℕ) → Contains (NONE ∷ ALT ∷ SHIFT ∷ (ALT + SHIFT) ∷ []) held → IsListedAt Tab held None
+  -- at every level, but not off
   tab_or_enter : (key : KeyCode) (held : ℕ) (n : ℤ)
-      → Contains (Tab ∷ Enter ∷ []) key → Contains any_of_three held → Line key held (Some n)
+      → Contains (Tab ∷ Enter ∷ []) key → Contains any_of_three held → IsListedAt key held (Some n)
   -- at level 2
-  ctrl_character : (c held : ℕ) → 0x20 ≤ c → c ≤ 0x7e → Contains (CTRL ∷ (CTRL + ALT) ∷ []) held → Line (Char c) held (Some (pos 2))
+  ctrl_character : (c held : ℕ) → 0x20 ≤ c → c ≤ 0x7e → Contains (CTRL ∷ (CTRL + ALT) ∷ []) held → IsListedAt (Char c) held (Some (pos 2))
   ctrl_shift_character : (c held : ℕ) → IsTrue (is_ascii_digit c || c == 0x20) → Contains ((CTRL + SHIFT) ∷ (CTRL + ALT + SHIFT) ∷ []) held
-      → Line (Char c) held (Some (pos 2))
+      → IsListedAt (Char c) held (Some (pos 2))
   escape_or_backspace : (key : KeyCode) (held : ℕ)
-      → Contains (Escape ∷ Backspace ∷ []) key → Contains any_of_three held → Line key held (Some (pos 2))
+      → Contains (Escape ∷ Backspace ∷ []) key → Contains any_of_three held → IsListedAt key held (Some (pos 2))
 
 -- The key, the modifiers and the modes are listed: xterm's encoding, with application cursor keys and newline mode off, and
 -- one of the lines.
@@ -64,7 +64,7 @@ pub record IsListed (key : KeyCode) (modifiers : Modifiers) (modes : KeyCodeEnco
   pub xterm : modes.encoding ≡ Xterm
   pub cursor_keys : modes.application_cursor_keys ≡ false
   pub newline : modes.newline_mode ≡ false
-  pub line : Line key modifiers.0 modes.modify_other_keys
+  pub line : IsListedAt key modifiers.0 modes.modify_other_keys
 
 -- The key has a text, which means exactly that key with those modifiers.
 abbrev pub ReadsBack : KeyCode → Modifiers → KeyCodeEncodeModes → Type 0
@@ -75,7 +75,7 @@ ReadsBack key modifiers modes =
 abbrev pub csi_u : ℕ → ℕ → List ℕ
 csi_u c m = CSI ++ decimal c ++ codes ";" ++ decimal (1 + m) ++ codes "u"
 
--- the bits of the modifiers that a number stands for: 1 for Shift, 2 for Alt and 4 for Ctrl
+-- the bits of the modifiers that a number stands for: 1 for Shift, 2 for Alt and 4 for Ctrl, which are the bits 2, 4 and 8
 abbrev pub modifiers_of : ℕ → ℕ
 modifiers_of m = 2 * m
 

@@ -83,7 +83,7 @@ fn more_after(number: usize, count: usize, maybe_more: bool) -> bool
 pub struct InputParser {
     key_map: KeyMap<KeyEvent>,
     buffer: ReadBuffer,
-    // END begins nowhere in the waiting text before this offset, so a search of an open paste starts here. 0 if none is open.
+    // END begins nowhere in the waiting text before this offset: a search of an open paste needn't start before it.
     searched: usize,
     alloc: Global,
 }
@@ -157,7 +157,7 @@ impl InputParser {
         item_at(self.alloc, &self.key_map, text, self.searched, maybe_more)
     }
 
-    // Where no item stands at the front: notes from where on to look next for the end of an open paste.
+    // If no item stands at the front, notes how far an open paste was searched for its end.
     fn note_search(&mut self)
         requires { (more : Bool) × IsRest self.old more }
         ensures { self.new ≡ self.old }
@@ -379,7 +379,7 @@ impl InputParser {
     }
 }
 
-// What the test of its memory reads.
+// For the test of how much memory the buffer keeps.
 #[cfg(test)]
 impl InputParser {
     pub(crate) fn buffer(&self) -> &ReadBuffer {

@@ -56,21 +56,21 @@ pub fn waiting_shape()
     ensures { WaitingShape }
 {}
 
-/// What waits as the proper beginning of a known text, alone or after one Escape, isn't decided yet: there are bytes that may
-/// follow it such that a flush before them changes the events. Each of the three meanings (of the whole, of what is flushed,
-/// and of what comes after the flush) exists, and is the only one.
+/// What waits as the proper beginning of a known text, alone or after one Escape, isn't decided yet: for some bytes that may
+/// follow it, a flush before them changes the events. The three meanings exist: of the whole, of what is flushed, and of what
+/// comes after the flush. By `one_meaning` each is the only one.
 pub fn undecided()
     ensures { Undecided }
 {}
 
-/// A listed key is understood again: if the key, the modifiers and the modes are listed (`IsListed`, in xterm's encoding with
+/// A listed key reads back: if the key, the modifiers and the modes are listed (`IsListed`, in xterm's encoding with
 /// application cursor keys and newline mode off), then [`KeyCode::encode`] gives it a text, and this text, read whole without
 /// more to come, means exactly that key with those modifiers.
 pub fn read_back(key: KeyCode, modifiers: Modifiers, modes: KeyCodeEncodeModes)
     ensures { IsListed key modifiers modes → ReadsBack key modifiers modes }
 {}
 
-/// The characters of ASCII in CSI u are understood: for `c` up to 127 and `m` from 1 to 7, ESC `[` c `;` 1+m `u`, in decimal
+/// ASCII characters sent as CSI u read back: for `c` up to 127 and `m` from 1 to 7, ESC `[` c `;` 1+m `u`, in decimal
 /// without leading zeros, means exactly `Char(c)` with the modifiers of `m` (1 for SHIFT, 2 for ALT and 4 for CTRL).
 pub fn csi_u_read_back(c: u8, m: u8)
     ensures { c ≤ 127 → 1 ≤ m → m ≤ 7 → CsiUReadsBack c m }

@@ -79,7 +79,7 @@ pub fn narrowed<'a, V>(range: &'a [Box<Row<V>>], depth: usize, byte: u8) -> &'a 
     &rest[..end]
 }
 
-/// The value of the first row of a range, if its key has this length, after that length.
+/// `depth` and the value of the first row of a range, if that row's key is `depth` bytes long.
 pub fn ended<V>(range: &[Box<Row<V>>], depth: usize) -> Option<(usize, &V)>
     ensures some { IfSome result (λ own. (own.0 ≡ depth) × IsEndedBy range.now depth own.1.now) }
     ensures none { IfNone result (HasNoEnd range.now depth) }

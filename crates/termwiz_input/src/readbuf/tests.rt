@@ -7,7 +7,7 @@ use std::test::Fail;
 
 impl ReadBuffer {
     // How many bytes the vector has room for.
-    pub(crate) fn capacity(&self) -> usize {
+    fn capacity(&self) -> usize {
         self.bytes.capacity()
     }
 }

@@ -9,6 +9,7 @@ returns-in_err-found-clause-first c =
     subst (FindsNeedle c.args.text.now c.args.needle.now c.args.offset) (sym c.from_residual.ensures)
     (none_from c.args.text.now c.args.needle.now c.args.offset c.requires c.in_err-found.ensures)
 
+-- the place is the offset and what was found, however that sum is written
 pub returns-clause-first : goal.returns-clause-first
 returns-clause-first c =
     subst (λ place. FindsNeedle c.args.text.now c.args.needle.now c.args.offset (Some place)) (omega arith)

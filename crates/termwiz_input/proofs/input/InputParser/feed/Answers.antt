@@ -8,6 +8,7 @@ use Rattle.termwiz_input.proofs.Calls.{FoldsTo-push, numbered-push}
 use Rattle.termwiz_input.proofs.Counting.{item_shortens, steps_more, first_step}
 use Rattle.termwiz_input.proofs.input.InputParser.feed.Goals as goal
 
+-- The number that the callback gets is the piece's, however it is written: hence `omega`, here and below.
 pub callback-requires : goal.callback-requires
 callback-requires g c =
     let found = subst (λ o. IfSome o (IsItemAt c.loop-found.self c.args.more)) c.in-Some.is c.in-Ok.ensures.item in
