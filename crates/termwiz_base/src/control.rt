@@ -28,6 +28,13 @@ pub fn ctrl_mapping(c: char) -> Option<char>
 #[cfg(test)]
 mod tests {
     use super::*;
+    use std::process::Abort;
+
+    fn check_typed(rt: &impl Abort, typed: &str, control: char) {
+        for c in typed.chars() {
+            assert_eq!(rt; ctrl_mapping(c), Some(control), "{c}");
+        }
+    }
 
     // The control characters of ASCII, by the characters that are typed for them.
     #[test]
@@ -46,9 +53,7 @@ mod tests {
             ("_7/", '\x1f'),
             ("8?", '\x7f'),
         ] {
-            for c in typed.chars() {
-                assert_eq!(rt; ctrl_mapping(c), Some(control), "{c}");
-            }
+            check_typed(&rt, typed, control);
         }
     }
 

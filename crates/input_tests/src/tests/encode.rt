@@ -96,12 +96,6 @@ fn modify_other_keys_encode(rt: HostRuntime) -> Result<(), Fail> {
     check(
         &rt,
         alloc,
-        at_level(0),
-        &[(KeyCode::Enter, CTRL, "\x1b[27;5;13~")],
-    )?;
-    check(
-        &rt,
-        alloc,
         at_level(1),
         &[
             (KeyCode::Enter, CTRL, "\x1b[27;5;13~"),
@@ -111,6 +105,18 @@ fn modify_other_keys_encode(rt: HostRuntime) -> Result<(), Fail> {
             (KeyCode::Char('c'), CTRL, "\x03"),
             (KeyCode::Backspace, CTRL, "\x08"),
         ],
+    )
+}
+
+#[test]
+fn modify_other_keys_encode_at_two_and_zero(rt: HostRuntime) -> Result<(), Fail> {
+    let alloc = rt.alloc();
+    let ctrl_shift = CTRL.union(SHIFT);
+    check(
+        &rt,
+        alloc,
+        at_level(0),
+        &[(KeyCode::Enter, CTRL, "\x1b[27;5;13~")],
     )?;
     check(
         &rt,
@@ -213,7 +219,12 @@ fn encodes_characters(rt: HostRuntime) -> Result<(), Fail> {
             (KeyCode::Char('\x7f'), NONE, "\x1b[3~"),
             (KeyCode::Char('\x08'), ALT, "\x1b\x7f"),
         ],
-    )?;
+    )
+}
+
+#[test]
+fn encodes_characters_in_other_modes(rt: HostRuntime) -> Result<(), Fail> {
+    let alloc = rt.alloc();
     check(
         &rt,
         alloc,
@@ -349,6 +360,10 @@ fn knows_modifier_keys(rt: HostRuntime) {
     ] {
         assert!(rt; key.is_modifier(), "{key:?}");
     }
+}
+
+#[test]
+fn knows_other_keys(rt: HostRuntime) {
     for key in [
         KeyCode::Char('a'),
         KeyCode::CapsLock,

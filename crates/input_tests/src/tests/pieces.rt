@@ -215,6 +215,19 @@ fn reads_two_thousand_pieces(rt: HostRuntime) -> Result<(), Fail> {
     Ok(())
 }
 
+// Appends the events from a place on, with the number of their piece.
+fn append_numbered(
+    numbered: &mut Vec<(usize, InputEvent)>,
+    number: usize,
+    events: Vec<InputEvent>,
+    place: usize,
+) -> Result<(), AllocError> {
+    for event in events.into_iter().skip(place) {
+        numbered.push((number, event))?;
+    }
+    Ok(())
+}
+
 // The events of the pieces after the first, with their numbers: those that the plain reader finds in the pieces up to one,
 // and not yet in the pieces before it.
 fn numbered_events(
@@ -233,9 +246,7 @@ fn numbered_events(
         text.extend_from_slice(piece)?;
         let (events, _) = reader.read(text.as_slice(), more || 0 < left)?;
         let new_count = events.len();
-        for event in events.into_iter().skip(count) {
-            numbered.push((number, event))?;
-        }
+        append_numbered(&mut numbered, number, events, count)?;
         count = new_count;
     }
     Ok(numbered)

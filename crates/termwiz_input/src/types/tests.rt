@@ -2,6 +2,7 @@
 use super::{InputEvent, KeyCode, KeyEvent, MouseButtons, MouseEvent, PastedText, PixelMouseEvent};
 use bitflags::Flags;
 use std::alloc::{AllocError, Global};
+use std::process::Abort;
 use std::test::Fail;
 use termwiz_base::Modifiers;
 
@@ -67,22 +68,32 @@ fn different_events(alloc: Global) -> Result<Vec<InputEvent>, AllocError> {
     Ok(events)
 }
 
-// An event equals itself and no other, and so does its clone.
+// The event at a place of the list equals itself and no other, and so does its clone.
+fn check_equality(
+    rt: &impl Abort,
+    alloc: Global,
+    events: &[InputEvent],
+    place: usize,
+    event: &InputEvent,
+) -> Result<(), Fail> {
+    let copy = event.clone(alloc)?;
+    for (other_place, other) in events.iter().enumerate() {
+        let same = place == other_place;
+        assert_eq!(rt; event == other, same, "{event:?} and {other:?}");
+        assert_eq!(rt;
+            copy == *other,
+            same,
+            "the clone of {event:?} and {other:?}"
+        );
+    }
+    Ok(())
+}
+
 #[test]
 fn equal_events_and_clones(rt: HostRuntime) -> Result<(), Fail> {
-    let alloc = rt.alloc();
-    let events = different_events(alloc)?;
+    let events = different_events(rt.alloc())?;
     for (place, event) in events.iter().enumerate() {
-        let copy = event.clone(alloc)?;
-        for (other_place, other) in events.iter().enumerate() {
-            let same = place == other_place;
-            assert_eq!(rt; event == other, same, "{event:?} and {other:?}");
-            assert_eq!(rt;
-                copy == *other,
-                same,
-                "the clone of {event:?} and {other:?}"
-            );
-        }
+        check_equality(&rt, rt.alloc(), events.as_slice(), place, event)?;
     }
     Ok(())
 }
