@@ -3,9 +3,9 @@ use Rattle.std.proofs.Common.{◌≡◌, ◌∙◌, ◌<◌, ◌≤◌, ◌+◌,
 use Rattle.std.specs.Ordering.{nat_cmp, ordering_then, ordering_reverse}
 use Rattle.std.specs.declared.cmp.Ordering.TheVariants.{Less, Equal, Greater}
 use Rattle.std.specs.Cmp.Lexicographic.{slice_cmp}
-use Rattle.std.proofs.lemmas.Cmp.{ranked, nat_list_cmp_total}
+use Rattle.std.proofs.lemmas.Cmp.{ranked, nat_list_cmp_total, tied_itself}
 use Rattle.std.proofs.lemmas.Bool.{cases_lt}
-use Rattle.termwiz_input.specs.KeyRows.{rank}
+use Rattle.termwiz_input.specs.KeyRows.{HasByteAt, rank}
 
 -- a key before another in the order of bytes
 abbrev pub Before : List ℕ → List ℕ → Type 0
@@ -44,10 +44,18 @@ rank_inside (suc d) (x ∷ xs) long = rank_inside d xs (omega arith)
 pub long_from_rank : (d : ℕ) (x : List ℕ) → 0 < rank d x → d < length x
 long_from_rank d x some = ⊎_elim (λ l. l) (λ short. absurd (omega (arith, rank_end d x short))) (cases_lt d (length x))
 
+-- the rank tells the byte, and the byte the rank
+pub byte_from_rank : (d byte : ℕ) (x : List ℕ) → rank d x ≡ byte + 1 → HasByteAt d byte x
+byte_from_rank d byte x e =
+    let long : d < length x = long_from_rank d x (omega arith) in
+    (long, omega (arith, rank_inside d x long))
+
+pub rank_from_byte : (d byte : ℕ) (x : List ℕ) → HasByteAt d byte x → rank d x ≡ byte + 1
+rank_from_byte d byte x has = rank_inside d x has.0 ∙ ap (λ b. b + 1) has.1
+
 -- no key is before itself
 pub not_itself : (x : List ℕ) → Before x x → ⊥
-not_itself [] before = absurd (cc (before))
-not_itself (x ∷ xs) before = ⊎_elim (λ less. omega arith) (λ p. not_itself xs p.1) (first_bytes x x xs xs before)
+not_itself x before = absurd (cc (before, tied_itself nat_list_cmp_total x))
 
 -- the other way round
 pub turned : (x y : List ℕ) → slice_cmp nat_cmp x y ≡ Greater → Before y x

@@ -12,7 +12,7 @@ use Rattle.std.proofs.lemmas.List.Sorted.{searchable_from_sorted}
 use Rattle.std.specs.Global.{Box}
 use Rattle.termwiz_input.specs.declared.keymap.row.Row.{Row}
 use Rattle.termwiz_input.specs.KeyRows.{rank, key_of, AreAscending, IsAt, IsGapFor, IsNarrowed}
-use Rattle.termwiz_input.proofs.KeyOrder.{turned}
+use Rattle.termwiz_input.proofs.KeyOrder.{byte_from_rank, rank_from_byte, turned}
 
 module _ {V : Type 0} where
   -- the comparisons with a key rise along the rows, as a binary search asks
@@ -69,8 +69,8 @@ module _ {V : Type 0} where
           let ge = at_least _ _ (low.1 (s + i) r (omega arith) (omega (arith, part_len, rest_len))) in
           let same : rank d (key_of (get_or (take e (drop s range)) i r)) ≡ rank d (key_of (get_or (drop s range) i r)) =
           ap (λ (row : Box (Row V)). rank d (key_of row)) (get_or-take e (drop s range) i r (omega (arith, part_len))) in
-          omega (arith, rank_at i r);
-      no_other = λ i r within is. (
+          byte_from_rank d b (key_of (get_or (take e (drop s range)) i r)) (omega (arith, rank_at i r));
+      no_other = λ i r within has. let is = rank_from_byte d b (key_of (get_or range i r)) has in (
         ⊎_elim (λ (before : i < s). absurd (let h = below _ _ (low.0 i r (omega arith) before) in omega arith)) (λ (l : s ≤ i). l) (cases_lt i s),
         ⊎_elim (λ (l : i < s + length (take e (drop s range))). l) (λ (past : s + length (take e (drop s range)) ≤ i).
             let h = above _ _ (high.1 (i - s) r (omega (arith, part_len)) (omega (arith, part_len, rest_len))) in

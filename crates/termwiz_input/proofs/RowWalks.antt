@@ -1,5 +1,5 @@
 -- A walk along a text, in the range of the rows whose keys begin with the bytes that it has passed.
-use Rattle.std.proofs.Common.{⊎_elim, ◌≡◌, ◌∙◌, ◌<◌, ◌≤◌, ◌+◌, ◌-◌, ℕ, List, [], ◌∷◌, ◌++◌, length, take, drop, get_or, refl, sym, ap, ap₂, arith, length-append, length-drop, take-append-drop}
+use Rattle.std.proofs.Common.{⊎_elim, ◌≡◌, ◌∙◌, ◌<◌, ◌≤◌, ◌+◌, ◌-◌, ℕ, List, [], ◌∷◌, ◌++◌, length, take, drop, get_or, refl, sym, ap, ap₂, subst, arith, length-append, length-drop, take-append-drop}
 use Rattle.std.specs.Prelude.{Option, Some, None, is_some, IsSome, IfSome, IfNone}
 use Rattle.std.specs.Option.{option_or}
 use Rattle.std.specs.FinMap as map
@@ -8,7 +8,7 @@ use Rattle.std.proofs.lemmas.Bool.{cases_lt}
 use denote.Ref.{Bor}
 use Rattle.std.specs.Global.{Box}
 use Rattle.termwiz_input.specs.declared.keymap.row.Row.{Row}
-use Rattle.termwiz_input.specs.KeyRows.{rank, key_of, value_of, row_entries, AreAscending, IsRisingAt, IsNarrowed, IsEndedBy, HasNoEnd, IsPast}
+use Rattle.termwiz_input.specs.KeyRows.{HasByteAt, rank, key_of, value_of, row_entries, AreAscending, IsRisingAt, IsNarrowed, IsEndedBy, HasNoEnd, IsPast}
 use Rattle.termwiz_input.specs.Lookup.{ByteMap, IsExtended}
 use Rattle.termwiz_input.proofs.KeyOrder.{rank_rises, rank_end, rank_inside, long_from_rank}
 use Rattle.termwiz_input.proofs.KeysInEntries.{found, get-entries}
@@ -78,12 +78,12 @@ module _ {V : Type 0} where
       longest_here (Some o) longest some none is = longest_more m t d (Some o) longest some.0 (ends_some o.1.now some.1) tt is
 
     module _ (inside : d < length t) (part : List (Box (Row V))) (n : IsNarrowed range d (get_or t d 0) part) where
-      next_byte : (q : List ℕ) → take (d + 1) q ≡ take (d + 1) t → rank d q ≡ get_or t d 0 + 1
+      next_byte : (q : List ℕ) → take (d + 1) q ≡ take (d + 1) t → HasByteAt d (get_or t d 0) q
       next_byte q same =
           let long : d < length q = ⊎_elim (λ (l : d < length q). l) (λ (s : length q ≤ d).
           absurd (omega (arith, ap length (sym (take_all (d + 1) q (omega arith)) ∙ same), length-take-le (d + 1) t (omega arith)))) (cases_lt d (length q)) in
           let byte : get_or q d 0 ≡ get_or t d 0 = sym (get_or-take (d + 1) q d 0 (omega arith)) ∙ ap (λ l. get_or l d 0) same ∙ get_or-take (d + 1) t d 0 (omega arith) in
-          rank_inside d q long ∙ ap (λ b. b + 1) byte
+          (long, byte)
 
       -- the walk goes on in the rows with the next byte
       pub leads_on : Leads m t (d + 1) part
@@ -91,16 +91,14 @@ module _ {V : Type 0} where
         rising = λ i j r lt within. rw (n.same i r (omega arith), n.same j r within) (leads.rising (n.start + i) (n.start + j) r (omega arith) (omega (arith, n.inside)));
         begins = λ i r within.
             let k = key_of (get_or part i r) in
-            let next : rank d k ≡ get_or t d 0 + 1 = n.next i r within in
-            let long : d < length k = long_from_rank d k (omega arith) in
-            let byte : get_or k d 0 ≡ get_or t d 0 = omega (arith, rank_inside d k long) in
+            let next = n.next i r within in
             let same : take d k ≡ take d t = ap (λ (x : Box (Row V)). take d (key_of x)) (n.same i r within) ∙ leads.begins (n.start + i) r (omega (arith, n.inside)) in
-            take_more k d 0 long ∙ ap₂ (λ p b. p ++ b ∷ []) same byte ∙ sym (take_more t d 0 inside);
+            take_more k d 0 next.0 ∙ ap₂ (λ p b. p ++ b ∷ []) same next.1 ∙ sym (take_more t d 0 inside);
         whole = λ q some same.
             let less : take d q ≡ take d t = sym (take-take d (d + 1) q (omega arith)) ∙ ap (take d) same ∙ take-take d (d + 1) t (omega arith) in
             let p = leads.whole q some less in
             let r = some_row range p.0 p.1 in
-            let place = n.no_other p.0 r p.1 (ap (rank d) (p.2 r) ∙ next_byte q same) in (
+            let place = n.no_other p.0 r p.1 (subst (HasByteAt d (get_or t d 0)) (sym (p.2 r)) (next_byte q same)) in (
               p.0 - n.start,
               omega (arith, place.0, place.1),
               λ s.

@@ -9,6 +9,10 @@ use Rattle.std.specs.Global.{Box}
 use Rattle.termwiz_input.specs.declared.keymap.row.Row.{Row}
 use Rattle.termwiz_input.specs.Entries.{Entries}
 
+-- the key goes on with this byte after its first d bytes
+abbrev pub HasByteAt : ℕ → ℕ → List ℕ → Type 0
+HasByteAt d byte key = (d < length key) × (get_or key d 0 ≡ byte)
+
 -- one more than the byte of a key at this depth, and 0 if the key ends there
 abbrev pub rank : ℕ → List ℕ → ℕ
 rank d [] = 0
@@ -64,8 +68,8 @@ module _ {V : Type 0} where
     pub start : ℕ
     pub inside : start + length part ≤ length range
     pub same : (i : ℕ) (r : Box (Row V)) → i < length part → get_or part i r ≡ get_or range (start + i) r
-    pub next : (i : ℕ) (r : Box (Row V)) → i < length part → rank d (key_of (get_or part i r)) ≡ byte + 1
-    pub no_other : (i : ℕ) (r : Box (Row V)) → i < length range → rank d (key_of (get_or range i r)) ≡ byte + 1 → (start ≤ i) × (i < start + length part)
+    pub next : (i : ℕ) (r : Box (Row V)) → i < length part → HasByteAt d byte (key_of (get_or part i r))
+    pub no_other : (i : ℕ) (r : Box (Row V)) → i < length range → HasByteAt d byte (key_of (get_or range i r)) → (start ≤ i) × (i < start + length part)
 
   -- the key of the first row has this length, and the row has this value
   pub record IsEndedBy (range : List (Box (Row V))) (d : ℕ) (v : V) : Type 0 where
