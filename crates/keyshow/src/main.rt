@@ -58,9 +58,13 @@ fn outcome(rt: &HostRuntime) -> Result<(), Failure> {
 
 // The words after the program's name. If one isn't UTF-8, or the name isn't, that is `InvalidData`.
 fn words_given(rt: &HostRuntime) -> io::Result<Vec<String>> {
-    let mut words = env::args(rt)?;
-    let _name = words.next();
-    Ok(words.collect(rt.alloc())?)
+    let mut given = env::args(rt)?;
+    let _name = given.next();
+    let mut words = Vec::new(rt.alloc());
+    for word in given {
+        words.push(word)?;
+    }
+    Ok(words)
 }
 
 // Why the words could not be had, by the kind of the error.

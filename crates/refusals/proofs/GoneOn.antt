@@ -1,0 +1,68 @@
+-- What a refused call and the call that goes on came to.
+use Rattle.std.proofs.Common.{◌≡◌, ◌≢◌, ◌∙◌, ◌≤◌, ◌-◌, ◌==◌, ◌++◌, ℕ, zero, suc, List, [], ◌∷◌, Some, true, false, length, take, drop, sym, ap, subst, arith, append-nil, append_assoc, take-append-drop, ⊎_elim}
+use Rattle.std.proofs.lemmas.Bool.Decides.{eqb_tells}
+use Rattle.std.proofs.lemmas.List.{take_all, drop_all, take_rest, drop-map, length-map}
+use Rattle.std.proofs.lemmas.List.Concat.{flat_map-append}
+use denote.Ref.{Bor}
+use Rattle.termwiz_input.specs.declared.types.InputEvent.{InputEvent}
+use Rattle.termwiz_input.specs.Grammar.{Steps, Means}
+use Rattle.termwiz_input.specs.Laws.{Resumes}
+use Rattle.termwiz_input.specs.Pieces.{NumberedEvent, ReadsFirst, events_of, flag_at, join, pieces_or_one, taken_or_one, texts}
+use Rattle.refusals.specs.declared.parses.Stop.{Stop}
+use Rattle.refusals.specs.declared.parses.PiecesStop.{PiecesStop}
+use Rattle.refusals.specs.GoingOn.{StopsAt, TellsOf, GoesOn, GoesOnWithPieces}
+
+module _ (before bytes left waiting : List ℕ) (stop : Stop) (tells : TellsOf left stop.waiting stop.is_paste_open) where
+  -- the same call again, if the bytes weren't taken
+  pub again : (given later : List InputEvent) → stop.taken ≡ false → given ≡ [] → left ≡ before → Means (left ++ bytes) false later waiting
+      → GoesOn before bytes (Some stop) given later waiting
+  again given later not_taken none same means = record {
+    means = rw none (subst (λ text. Means (text ++ bytes) false later waiting) same means);
+    at_once = tt;
+    stopped = (left, subst (λ taken. StopsAt before bytes taken given left) (sym not_taken) (none, same), tells);
+  }
+
+  -- a call without bytes, if they were
+  pub without_bytes : Resumes → (given later : List InputEvent) → stop.taken ≡ true → Steps (before ++ bytes) false given left
+      → Means (left ++ []) false later waiting → GoesOn before bytes (Some stop) given later waiting
+  without_bytes resumes given later taken steps means = record {
+    means = (resumes (before ++ bytes) [] left waiting given later false).1 steps (rw append-nil at means);
+    at_once = tt;
+    stopped = (left, subst (λ taken. StopsAt before bytes taken given left) (sym taken) steps, tells);
+  }
+
+-- the first k pieces, which were read so far, and then the others
+joined : Resumes → (before : List ℕ) (pieces : List (List ℕ)) (k : ℕ) (left waiting : List ℕ) (E D : List InputEvent) → k ≤ length pieces
+    → Steps (before ++ join (take (taken_or_one pieces k) (pieces_or_one pieces))) (flag_at (pieces_or_one pieces) false (taken_or_one pieces k)) E left
+    → Means (left ++ join (drop k pieces)) false D waiting → Means (before ++ join pieces) false (E ++ D) waiting
+joined resumes before [] zero left waiting E D within steps means = (resumes (before ++ []) [] left waiting E D false).1 steps (rw append-nil at means)
+joined resumes before [] (suc k) left waiting E D within steps means = absurd (omega (arith, within))
+joined resumes before (piece ∷ pieces) k left waiting E D within steps means = ⊎_elim last earlier (eqb_tells k (length all))
+  where
+    all : List (List ℕ)
+    all = piece ∷ pieces
+
+    last : ((k == length all) ≡ true) × (k ≡ length all) → Means (before ++ join all) false (E ++ D) waiting
+    last same =
+        let taken : take k all ≡ all = take_all k all (omega (arith, same.1)) in
+        let none : drop k all ≡ [] = drop_all k all (omega (arith, same.1)) in
+        (resumes (before ++ join all) [] left waiting E D false).1 (rw (taken, same.0) at steps) (rw (none, append-nil left) at means)
+
+    earlier : ((k == length all) ≡ false) × (k ≢ length all) → Means (before ++ join all) false (E ++ D) waiting
+    earlier other =
+        let whole : (before ++ join (take k all)) ++ join (drop k all) ≡ before ++ join all =
+        append_assoc before (join (take k all)) (join (drop k all)) ∙ ap (λ l. before ++ l) (sym (flat_map-append (λ (p : List ℕ). p) (take k all) (drop k all)) ∙ ap join (take-append-drop k all)) in
+        subst (λ text. Means text false (E ++ D) waiting) whole
+        ((resumes (before ++ join (take k all)) (join (drop k all)) left waiting E D false).0 (rw other.0 at steps) means)
+
+-- the pieces from the first on that wasn't taken
+pub others_given : Resumes → (before : List ℕ) (pieces : List (Bor (List ℕ))) (stop : PiecesStop) (given later : List NumberedEvent) (left waiting : List ℕ)
+    → stop.taken ≤ length pieces → ReadsFirst before (pieces_or_one (texts pieces)) false (taken_or_one (texts pieces) stop.taken) given left
+    → TellsOf left stop.waiting stop.is_paste_open
+    → Means (left ++ join (texts (take (length pieces - stop.taken) (drop stop.taken pieces)))) false (events_of later) waiting
+    → GoesOnWithPieces before (texts pieces) (Some stop) given later waiting
+others_given resumes before pieces stop given later left waiting within reads tells means = record {
+  means = joined resumes before (texts pieces) stop.taken left waiting (events_of given) (events_of later) (rw length-map within) reads.steps (rw (take_rest pieces stop.taken, ← drop-map (λ (p : Bor (List ℕ)). p.now) stop.taken pieces) at means);
+  at_once = tt;
+  stopped = (left, reads, tells);
+}

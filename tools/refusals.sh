@@ -1,0 +1,123 @@
+#!/usr/bin/env bash
+# Refuses each request for memory in turn, and checks what is seen.
+#
+#     tools/refusals.sh
+#
+# It builds the programs refusals and keyshow, runs each case of the first and a stream through the second again and again, and
+# refuses one more request for memory each time (tools/refusals/refuse.c, preloaded), until a run meets no refusal. Of the
+# requests of InputParser::new it refuses each of the first 300, with those that come before, and then every 50th.
+#
+# A case passes if the runs print the lines that tools/refusals/seen.txt has for it and no others, each of them at least once;
+# the first of its lines in the run that meets no refusal, and only there. keyshow passes if each run that meets a refusal says
+# so, ends with status 1 and has printed a prefix of the whole output. The last line is 'N passed, N failed', the status 1 if a
+# case failed.
+#
+# It wants rt and a C compiler, cc. Without cc it says so and checks nothing.
+set -u
+cd "$(dirname "$0")/.."
+if ! command -v cc > /dev/null; then
+    echo 'refusals: not run, no cc'
+    exit 0
+fi
+work=$(mktemp -d)
+trap 'rm -rf "$work"' EXIT
+
+# Builds a program, which proves it first.
+build() { # crate
+    (cd "crates/$1" && rt run < /dev/null) > "$work/log" 2>&1 || { cat "$work/log" >&2; exit 1; }
+}
+
+cc -O1 -shared -fPIC -o "$work/refuse.so" tools/refusals/refuse.c -ldl || exit 1
+build refusals
+build keyshow
+
+# Runs a program with one request refused. Sets `met` to 1 if it made that many, and `status`.
+refuse() { # number program words..
+    local number=$1
+    shift
+    status=0 met=0
+    REFUSE=$number LD_PRELOAD=$work/refuse.so "$@" < "$work/stream" > "$work/out" 2> "$work/err" 3> "$work/met" || status=$?
+    [ ! -s "$work/met" ] || met=1
+}
+
+# The number after this one. `new_end` is a number of requests that InputParser::new doesn't reach.
+new_end=0
+after() { # number
+    if [ "$1" -ge 300 ] && { [ "$new_end" -eq 0 ] || [ "$1" -lt $((new_end - 100)) ]; }; then
+        echo $(($1 + 50))
+    else
+        echo $(($1 + 1))
+    fi
+}
+
+passed=0 failed=0
+# Notes the outcome of a case, with what was wrong, if anything was.
+note() { # case number wrong
+    if [ -z "$3" ]; then
+        echo "$1: passed, no refusal is met from request $2 on"
+        passed=$((passed + 1))
+    else
+        echo "$1: failed at request $2: $3"
+        cat "$work/out" "$work/err"
+        failed=$((failed + 1))
+    fi
+}
+
+# Refuses each request of a case of the program refusals. Status 3 is a refusal before the case's call, which comes before any
+# other answer.
+: > "$work/stream"
+check_case() { # case
+    local wrong='' early=1 line granted
+    number=1
+    grep "^$1 /" tools/refusals/seen.txt > "$work/wanted"
+    granted=$(head -n 1 "$work/wanted")
+    : > "$work/seen"
+    while :; do
+        refuse "$number" crates/refusals/out/refusals "$1"
+        line=$(cat "$work/out")
+        if [ "$met" = 0 ]; then
+            [ "$status $line" = "0 $granted" ] || wrong='another answer without a refusal'
+            break
+        elif [ "$status" = 0 ] && [ "$line" != "$granted" ] && grep -qxF -- "$line" "$work/wanted"; then
+            early=0
+            echo "$line" >> "$work/seen"
+        elif [ "$status$early" != 31 ]; then
+            wrong="status $status, and not a line of tools/refusals/seen.txt for a refusal"
+            break
+        fi
+        number=$(after "$number")
+    done
+    echo "$granted" >> "$work/seen"
+    [ -n "$wrong" ] || sort -u "$work/seen" | cmp -s - <(sort "$work/wanted") || wrong='a line of tools/refusals/seen.txt was not seen'
+    note "$1" "$number" "$wrong"
+}
+
+# Refuses each request of keyshow on a stream, which it reads in pieces of five bytes.
+check_keyshow() {
+    local wrong=''
+    number=1
+    printf 'hello\033[A\033\033[200~ab\033[201~q\033[<0;3;4M\033' > "$work/stream"
+    refuse 0 crates/keyshow/out/keyshow 5
+    cp "$work/out" "$work/whole"
+    [ "$status" = 0 ] && [ -s "$work/whole" ] || wrong='no output without a refusal'
+    while [ -z "$wrong" ]; do
+        refuse "$number" crates/keyshow/out/keyshow 5
+        if [ "$met" = 0 ]; then
+            [ "$status" = 0 ] && cmp -s "$work/out" "$work/whole" || wrong='another output without a refusal'
+            break
+        fi
+        [ "$status $(cat "$work/err")" = '1 keyshow: out of memory' ] || wrong="status $status, and another message"
+        cmp -s "$work/out" <(head -c "$(stat -c %s "$work/out")" "$work/whole") || wrong='no prefix of the whole output'
+        [ -n "$wrong" ] || number=$(after "$number")
+    done
+    note keyshow "$number" "$wrong"
+}
+
+check_case new
+new_end=$number
+for case in extend_with insert clone-map clone-event encode parse parse_as_vec parse_pieces; do
+    check_case "$case"
+done
+check_keyshow
+echo "$passed passed, $failed failed"
+[ "$failed" = 0 ]
