@@ -59,6 +59,7 @@ note() { # case number wrong
     else
         echo "$1: failed at request $2: $3"
         cat "$work/out" "$work/err"
+        echo
         failed=$((failed + 1))
     fi
 }
