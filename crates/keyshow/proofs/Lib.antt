@@ -1,4 +1,5 @@
 pub mod Appended
+pub mod Ended
 pub mod FlagNames
 pub mod Numerals
 pub mod Printed

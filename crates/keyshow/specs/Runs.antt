@@ -1,9 +1,10 @@
--- What a whole run reads and writes.
-use Rattle.std.specs.Prelude.{ℕ, List, Option, false}
+-- What a run reads and writes.
+use Rattle.std.specs.Prelude.{ℕ, List, Option, true, false}
 use Rattle.std.specs.Io.KnownBytes.{Appends, Consumes, IsAtEnd}
 use Rattle.termwiz_input.specs.declared.types.InputEvent.{InputEvent}
+use Rattle.termwiz_input.specs.Bytes.{Begins}
 use Rattle.termwiz_input.specs.Grammar.{Means}
-use Rattle.keyshow.specs.Lines.{all_lines}
+use Rattle.keyshow.specs.Lines.{lines, all_lines}
 
 -- A reader gave all that it had, which took its bytes from `unread` to `left`, and a writer got the lines of what that text
 -- means where no more comes, which took its bytes from `before` to `after`.
@@ -15,3 +16,29 @@ pub record ShowsAll (unread left before after : Option (List ℕ)) : Type 0 wher
   pub at_end : IsAtEnd left
   pub means : Means text false events waiting
   pub written : Appends before after (all_lines events waiting)
+
+-- A reader gave some text, which took its bytes from `unread` to `left`, and a writer got exactly the lines of the events that
+-- this text decides while more may come, which took its bytes from `before` to `after`.
+pub record ShowsDecided (unread left before after : Option (List ℕ)) : Type 0 where
+  pub text : List ℕ
+  pub events : List InputEvent
+  pub waiting : List ℕ
+  pub read : Consumes unread left text
+  pub means : Means text true events waiting
+  pub written : Appends before after (lines events)
+
+-- A writer got a beginning of the lines of what the text means where no more comes, which took its bytes from `before` to `after`.
+pub record WritesPart (text : List ℕ) (before after : Option (List ℕ)) : Type 0 where
+  pub events : List InputEvent
+  pub waiting : List ℕ
+  pub part : List ℕ
+  pub means : Means text false events waiting
+  pub begins : Begins part (all_lines events waiting)
+  pub written : Appends before after part
+
+-- A reader gave some text, which took its bytes from `unread` to `left`, and a writer got a beginning of the lines of what this
+-- text means where no more comes, which took its bytes from `before` to `after`.
+pub record ShowsPart (unread left before after : Option (List ℕ)) : Type 0 where
+  pub text : List ℕ
+  pub read : Consumes unread left text
+  pub written : WritesPart text before after

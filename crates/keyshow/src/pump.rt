@@ -1,13 +1,13 @@
 // Reads bytes in pieces, and writes the lines of their events.
 
-ghost use Rattle.std.specs.Prelude.{◌≡◌, ◌≤◌, ◌<◌, ◌++◌, List, [], ℕ, true, false, length, ◌↔◌, IsTrue, OnOk, OnErr, IfOk};
+ghost use Rattle.std.specs.Prelude.{◌≡◌, ◌≤◌, ◌<◌, ◌++◌, List, [], ℕ, true, false, length, ◌↔◌, IsTrue, OnOk, OnErr, IfOk, IsErrOf};
 ghost use Rattle.std.specs.Io.KnownBytes.{Appends, Consumes, Keeps, IsAtEnd};
 ghost use Rattle.termwiz_input.specs.Bytes.{Begins};
 ghost use Rattle.termwiz_input.specs.Grammar.{Means};
 ghost use Rattle.termwiz_input.specs.Pieces.{join, texts};
 ghost use Rattle.termwiz_input.specs.declared.types.InputEvent.{InputEvent as Event};
 ghost use Rattle.keyshow.specs.Lines.{lines, all_lines};
-ghost use Rattle.keyshow.specs.Runs.{ShowsAll};
+ghost use Rattle.keyshow.specs.Runs.{ShowsAll, ShowsDecided, ShowsPart, WritesPart};
 ghost use Rattle.keyshow.specs.Callback.{AppendsLine};
 
 use crate::lines::{push_line, push_waiting};
@@ -34,8 +34,9 @@ pub enum RunError {
 
 /// Reads all that the reader gives, at most `piece` bytes at a time, and writes a line for each event. The lines of one
 /// piece are written before the next read. At the end of input it writes the lines of the bytes that were still undecided,
-/// then how many bytes wait, if any do, and flushes the writer once. The first error of a read or a write ends the run;
-/// after an error of a read nothing more is written, and nothing is flushed.
+/// then how many bytes wait, if any do, and flushes the writer once. The first error ends the run, and nothing is flushed
+/// then. After `Read` exactly the lines of the events that were decided are written, and after `Write` or `Memory` a
+/// beginning of the lines that the text that was read would have if no more came.
 pub fn run<R: Read, W: Write>(
     alloc: Global,
     reader: &mut R,
@@ -46,9 +47,15 @@ pub fn run<R: Read, W: Write>(
     requires most { piece ≤ 4096 }
     ensures ok { OnOk result (ShowsAll (R.remaining reader.old) (R.remaining reader.new)
         (W.contents writer.old) (W.contents writer.new)) }
+    ensures err { OnErr result (ShowsPart (R.remaining reader.old) (R.remaining reader.new)
+        (W.contents writer.old) (W.contents writer.new)) }
+    ensures read { IsErrOf result RunError.Read → ShowsDecided (R.remaining reader.old) (R.remaining reader.new)
+        (W.contents writer.old) (W.contents writer.new) }
 {
-    // The law by which the events of the pieces are the events of the whole.
+    // By these laws the events of the pieces are the events of the whole, and what was decided begins them.
     laws::resumes();
+    laws::one_meaning();
+    laws::empty_is_rest();
     let mut parser = InputParser::new(alloc).map_err(|_| RunError::Memory)?;
     let mut buffer = [0u8; 4096];
     for _ in 0..u64::MAX {
@@ -79,7 +86,14 @@ fn show_piece<R: Read, W: Write>(
         → Keeps (R.remaining reader.old) (R.remaining reader.new)) }
     ensures same_parser { IfOk result (λ more. more ≡ false → parser.new ≡ parser.old) }
     ensures same_writer { IfOk result (λ more. more ≡ false → writer.new ≡ writer.old) }
+    ensures err { OnErr result ((bytes : List ℕ)
+        × Consumes (R.remaining reader.old) (R.remaining reader.new) bytes
+        × WritesPart (parser.old ++ bytes) (W.contents writer.old) (W.contents writer.new)) }
+    ensures not_read { IsErrOf result RunError.Read → Keeps (R.remaining reader.old) (R.remaining reader.new) }
+    ensures not_written { IsErrOf result RunError.Read → writer.new ≡ writer.old }
 {
+    laws::resumes();
+    laws::one_meaning();
     let count = reader.read(buffer).map_err(|_| RunError::Read)?;
     if count == 0 {
         return Ok(false);
@@ -93,7 +107,10 @@ fn show_piece<R: Read, W: Write>(
 fn finish<W: Write>(alloc: Global, parser: &mut InputParser, writer: &mut W) -> Result<(), RunError>
     ensures ok { OnOk result ((events : List Event) × Means parser.old false events parser.new
         × Appends (W.contents writer.old) (W.contents writer.new) (all_lines events parser.new)) }
+    ensures err { OnErr result (WritesPart parser.old (W.contents writer.old) (W.contents writer.new)) }
+    ensures not_read { ¬ IsErrOf result RunError.Read }
 {
+    laws::one_meaning();
     let mut text = parsed_lines(alloc, parser, &[], false)?;
     push_waiting(&mut text, parser.waiting_len()).map_err(|_| RunError::Memory)?;
     write_whole(writer, text.as_slice())?;
@@ -107,9 +124,10 @@ fn parsed_lines(
     pieces: &[&[u8]],
     maybe_more: bool,
 ) -> Result<Vec<u8>, RunError>
-    ensures { IfOk result (λ text. (events : List Event)
+    ensures ok { IfOk result (λ text. (events : List Event)
         × Means (parser.old ++ join (texts pieces.now)) maybe_more events parser.new
         × (text.items ≡ lines events)) }
+    ensures kind { OnErr result (result ≡ Err RunError.Memory) }
 {
     let mut text = Vec::new(alloc);
     let mut refused = false;

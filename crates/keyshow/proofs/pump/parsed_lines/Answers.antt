@@ -7,8 +7,8 @@ use Rattle.keyshow.proofs.pump.parsed_lines.Goals as goal
 pub parse_pieces-parsed-requires : goal.parse_pieces-parsed-requires
 parse_pieces-parsed-requires c = λ taken given rest reads. (mut_total _ _ (λ s a. tt)).at _
 
-pub returns-in-Ok-false : goal.returns-in-Ok-false
-returns-in-Ok-false c =
+pub returns-in-Ok-false-clause-ok : goal.returns-in-Ok-false-clause-ok
+returns-in-Ok-false-clause-ok c =
     let (events, means, numbered, calls) = rw c.in-Ok-false.is-0 at c.parse_pieces-parsed.ensures.ok in
     let refused_name = kept (λ s. s.0.ghost_name) _ (λ p x q s. s.met.1.0.0) _ events _ calls in
     let text_name = kept (λ s. s.1.ghost_name) _ (λ p x q s. s.met.1.0.1) _ events _ calls in

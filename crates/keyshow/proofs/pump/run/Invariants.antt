@@ -1,7 +1,7 @@
 use Rattle.std.proofs.Common.{List, ℕ, true}
 use Rattle.std.specs.Io.KnownBytes.{Appends, Consumes}
 use Rattle.termwiz_input.specs.declared.types.InputEvent.{InputEvent}
-use Rattle.termwiz_input.specs.Grammar.{Steps}
+use Rattle.termwiz_input.specs.Grammar.{Means}
 use Rattle.keyshow.specs.Lines.{lines}
 use Rattle.keyshow.proofs.pump.run.Given as goal
 
@@ -10,5 +10,5 @@ abbrev pub invariant-loop : goal.invariant-loop
 invariant-loop g l =
     (text : List ℕ) × (events : List InputEvent)
     × Consumes (g.R.Read.remaining l.fn.reader) (g.R.Read.remaining l.reader) text
-    × Steps text true events l.parser
+    × Means text true events l.parser
     × Appends (g.W.Write.contents l.fn.writer) (g.W.Write.contents l.writer) (lines events)
