@@ -92,15 +92,34 @@ fn show_piece<R: Read, W: Write>(
     ensures not_read { IsErrOf result RunError.Read → Keeps (R.remaining reader.old) (R.remaining reader.new) }
     ensures not_written { IsErrOf result RunError.Read → writer.new ≡ writer.old }
 {
-    laws::resumes();
     laws::one_meaning();
     let count = reader.read(buffer).map_err(|_| RunError::Read)?;
     if count == 0 {
         return Ok(false);
     }
-    let text = parsed_lines(alloc, parser, &[&buffer[..count]], true)?;
-    write_whole(writer, text.as_slice())?;
+    show_read(alloc, parser, writer, &[&buffer[..count]])?;
     Ok(true)
+}
+
+// Writes the lines of the events that the pieces decide, after the text that waits.
+fn show_read<W: Write>(
+    alloc: Global,
+    parser: &mut InputParser,
+    writer: &mut W,
+    pieces: &[&[u8]],
+) -> Result<(), RunError>
+    ensures ok { OnOk result ((events : List Event)
+        × Means (parser.old ++ join (texts pieces.now)) true events parser.new
+        × Appends (W.contents writer.old) (W.contents writer.new) (lines events)) }
+    ensures err { OnErr result (WritesPart (parser.old ++ join (texts pieces.now))
+        (W.contents writer.old) (W.contents writer.new)) }
+    ensures kind { ¬ IsErrOf result RunError.Read }
+{
+    laws::resumes();
+    laws::one_meaning();
+    let text = parsed_lines(alloc, parser, pieces, true)?;
+    write_whole(writer, text.as_slice())?;
+    Ok(())
 }
 
 // Writes the lines of the bytes that were undecided until the end of input, and of what waits even then.
