@@ -34,9 +34,10 @@ pub enum RunError {
 
 /// Reads all that the reader gives, at most `piece` bytes at a time, and writes a line for each event. The lines of one
 /// piece are written before the next read. At the end of input it writes the lines of the bytes that were still undecided,
-/// then how many bytes wait, if any do, and flushes the writer once. The first error ends the run, and nothing is flushed
-/// then. After `Read` exactly the lines of the events that were decided are written, and after `Write` or `Memory` a
-/// beginning of the lines that the text that was read would have if no more came.
+/// then how many bytes wait, if any do, and flushes the writer once.
+///
+/// The first error ends the run. After `Read` exactly the lines of the events that were decided so far are written, and nothing
+/// is flushed. After `Write` or `Memory` a beginning is written of the lines that the text read so far has if no more comes.
 pub fn run<R: Read, W: Write>(
     alloc: Global,
     reader: &mut R,

@@ -1,8 +1,8 @@
-use Rattle.std.proofs.Common.{[], take, rules, append-nil}
-use Rattle.std.specs.Io.KnownBytes.{Keeps, Consumes}
+use Rattle.std.proofs.Common.{[], rules}
+use Rattle.std.specs.Io.KnownBytes.{Keeps}
 use Rattle.std.proofs.KnownBytes.{Consumes-nil, Consumes-kept}
 use Rattle.std.proofs.lemmas.Result.{err_from_is_err_and}
-use Rattle.keyshow.proofs.Ended.{nothing, decided}
+use Rattle.keyshow.proofs.Ended.{nothing}
 use Rattle.keyshow.proofs.pump.show_piece.Goals as goal
 
 pub returns-in_err-count-clause-err : goal.returns-in_err-count-clause-err

@@ -1,4 +1,6 @@
+use Rattle.std.proofs.Common.{◌≡◌, ◌++◌}
 use Rattle.std.proofs.lemmas.Result.{err_from_is_err_and}
+use Rattle.keyshow.specs.Lines.{lines}
 use Rattle.keyshow.proofs.Ended.{nothing, decided}
 use Rattle.keyshow.proofs.pump.show_read.Goals as goal
 
@@ -11,5 +13,6 @@ pub returns-in_err-write_whole-clause-err : goal.returns-in_err-write_whole-clau
 returns-in_err-write_whole-clause-err g c =
     let p = err_from_is_err_and c.from_residual-in_err-write_whole.result c.from_residual-in_err-write_whole.ensures.1 in
     let (events, means, text) = c.in_ok-text.ensures.ok in
-    let (part, begins, written) = c.in_err-write_whole.ensures.err in
-    rw p.1 (decided c.one_meaning.ensures c.resumes.ensures _ c.parsed_lines.new.parser events part _ _ means (rw (← text, ← c.as_slice.ensures.value) begins) written)
+    let (part, (rest, splits), written) = c.in_err-write_whole.ensures.err in
+    let begins : lines events ≡ part ++ rest = cc in
+    rw p.1 (decided c.one_meaning.ensures c.resumes.ensures _ c.parsed_lines.new.parser events part _ _ means (rest, begins) written)
