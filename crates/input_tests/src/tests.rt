@@ -1,6 +1,7 @@
 // The parser's answers on examples, on every row, on long input, and against the plain reader.
 mod carried;
 mod cuts;
+mod draws;
 mod encode;
 mod frames;
 mod generated;
@@ -14,7 +15,7 @@ mod rows;
 mod undecided;
 
 use crate::plain;
-use std::alloc::Global;
+use std::alloc::{AllocError, Global};
 use std::process::Abort;
 use std::test::Fail;
 use termwiz_input::input::{
@@ -31,6 +32,23 @@ type Step = (&'static [u8], bool, &'static str);
 // The name of an example, and its calls of a fresh parser.
 type Example = (&'static str, &'static [Step]);
 
+// Makes a fresh parser in place of one in which bytes wait.
+fn renew(alloc: Global, parser: &mut InputParser) -> Result<(), AllocError> {
+    if parser.waiting_len() != 0 {
+        *parser = InputParser::new(alloc)?;
+    }
+    Ok(())
+}
+
+// The bytes of all calls of an example.
+fn bytes_of(alloc: Global, steps: &[Step]) -> Result<Vec<u8>, AllocError> {
+    let mut text = Vec::new(alloc);
+    for (bytes, _, _) in steps {
+        text.extend_from_slice(bytes)?;
+    }
+    Ok(text)
+}
+
 // A clone of each event equals it.
 fn check_clones(rt: &impl Abort, alloc: Global, events: &[InputEvent]) -> Result<(), Fail> {
     for event in events {
@@ -39,7 +57,7 @@ fn check_clones(rt: &impl Abort, alloc: Global, events: &[InputEvent]) -> Result
     Ok(())
 }
 
-// Makes the calls of an example with a fresh parser.
+// Makes the calls of an example with a fresh parser, and reads all of its bytes in pieces.
 fn check(rt: &impl Abort, alloc: Global, name: &str, steps: &[Step]) -> Result<(), Fail> {
     let mut parser = InputParser::new(alloc)?;
     for (number, (bytes, more, wanted)) in steps.iter().enumerate() {
@@ -47,7 +65,9 @@ fn check(rt: &impl Abort, alloc: Global, name: &str, steps: &[Step]) -> Result<(
         check_clones(rt, alloc, events.as_slice())?;
         let line = line::line_of(alloc, events.as_slice(), &parser)?;
         assert_eq!(rt; line.as_str(), *wanted, "{name}, step {number}");
+        cuts::check_few_wait(rt, &parser, name);
     }
+    cuts::check_sizes(rt, alloc, name, &bytes_of(alloc, steps)?)?;
     pieces::check_by_parse(rt, alloc, name, steps)
 }
 

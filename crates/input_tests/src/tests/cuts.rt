@@ -1,6 +1,7 @@
 // Texts that are cut or flushed, and bytes that wait.
+use super::long::read_in_pieces;
 use super::plain::{PlainReader, Shape};
-use super::{Example, InputParser, LAST, MORE, check_all};
+use super::{Example, InputParser, LAST, MORE, check_all, renew};
 use std::alloc::Global;
 use std::process::Abort;
 use std::test::Fail;
@@ -29,6 +30,13 @@ const CUTS: &[Example] = &[
     (
         "character-cut",
         &[(b"\xe2\x82", MORE, "waits 2"), (b"\xac", MORE, "U+20AC")],
+    ),
+    (
+        "long-character-cut",
+        &[
+            (b"\xf0\x9f\x98", MORE, "waits 3"),
+            (b"\x80", MORE, "U+1F600"),
+        ],
     ),
     (
         "broken-byte-stops",
@@ -73,6 +81,18 @@ const CUTS_AFTER_ESCAPE: &[Example] = &[
     ),
 ];
 
+// Bytes that begin no character: they wait, and so does all that comes after them.
+const STOPS: &[Example] = &[
+    ("lone-continuation-byte", &[(b"a\x80b", LAST, "a, waits 2")]),
+    ("overlong-null", &[(b"\xc0\x80", LAST, "waits 2")]),
+    ("surrogate", &[(b"\xed\xa0\x80", LAST, "waits 3")]),
+];
+
+#[test]
+fn stops_at_broken_bytes(rt: HostRuntime) -> Result<(), Fail> {
+    check_all(&rt, rt.alloc(), STOPS)
+}
+
 #[test]
 fn waits_where_a_text_is_cut(rt: HostRuntime) -> Result<(), Fail> {
     check_all(&rt, rt.alloc(), CUTS)?;
@@ -98,15 +118,57 @@ const RESTS: &[(&[u8], bool, Shape)] = &[
     (b"\xffand what follows it", MORE, Shape::BrokenCharacter),
 ];
 
-// The waiting text of a fresh parser that was given exactly these bytes: the last of them.
-pub(super) fn waiting_of<'a>(rt: &impl Abort, parser: &InputParser, text: &'a [u8]) -> &'a [u8] {
-    let len = parser.waiting_len();
-    assert!(rt; len <= text.len(), "{text:?}");
-    &text[text.len() - len..]
+// The most that waits, but for an open paste or a broken character: one ESC, and the longest proper beginning of a known text.
+pub(super) const MOST: usize = 21;
+
+// Whether so many bytes may wait in this shape. More than `MOST` without a head are broken: no character has more than four.
+pub(super) fn may_wait(shape: Option<Shape>, len: usize) -> bool {
+    match shape {
+        Some(Shape::OpenPaste | Shape::BrokenCharacter) => true,
+        Some(Shape::Nothing | Shape::Undecided) => len <= MOST,
+        None => false,
+    }
+}
+
+// In a text without broken characters no more than `MOST` bytes wait, unless a paste is open.
+pub(super) fn check_few_wait(rt: &impl Abort, parser: &InputParser, name: &str) {
+    let waiting_len = parser.waiting_len();
+    let is_paste_open = parser.is_paste_open();
+    assert!(rt;
+        waiting_len <= MOST || is_paste_open,
+        "{name}, {waiting_len} wait"
+    );
+}
+
+// The lengths of the pieces in which the text of each example is read.
+const SIZES: &[usize] = &[1, 2, 3, 7, 64];
+
+// In pieces of each size the text has the same events as whole, and as many bytes wait.
+pub(super) fn check_sizes(
+    rt: &impl Abort,
+    alloc: Global,
+    name: &str,
+    text: &[u8],
+) -> Result<(), Fail> {
+    let mut parser = InputParser::new(alloc)?;
+    let whole = parser.parse_as_vec(text, LAST)?;
+    let waiting_len = parser.waiting_len();
+    for size in SIZES {
+        assert!(rt; 0 < *size);
+        renew(alloc, &mut parser)?;
+        let events = read_in_pieces(rt, alloc, &mut parser, text, *size)?;
+        assert!(rt; events == whole, "{name}, in pieces of {size}");
+        assert_eq!(rt;
+            parser.waiting_len(),
+            waiting_len,
+            "{name}, in pieces of {size}"
+        );
+    }
+    Ok(())
 }
 
 // What waits has one of the shapes of docs/GRAMMAR.md, and a paste is open if and only if that is its shape.
-pub(super) fn check_waiting(
+fn check_waiting(
     rt: &impl Abort,
     reader: &PlainReader,
     parser: &InputParser,
@@ -114,7 +176,7 @@ pub(super) fn check_waiting(
     more: bool,
 ) -> Result<(), Fail> {
     let shape = reader.shape_of(waiting, more)?;
-    assert!(rt; shape.is_some(), "{waiting:?} waits, {more}");
+    assert!(rt; may_wait(shape, waiting.len()), "{waiting:?} waits, {more}");
     assert_eq!(rt;
         parser.is_paste_open(),
         shape == Some(Shape::OpenPaste),

@@ -1,204 +1,320 @@
-// Generated texts, as the parser and as the plain reader read them.
-ghost use Rattle.std.specs.Prelude.{◌<◌};
-
-use super::cuts::{check_waiting, waiting_of};
-use super::plain::PlainReader;
-use super::{InputEvent, InputParser, LAST, MORE};
+// Generated texts in pieces, as the parser and as the plain reader read them.
+use super::cuts::may_wait;
+use super::draws::Draws;
+use super::pieces::{parsed, parsed_pieces};
+use super::plain::{PlainReader, Shape};
+use super::{InputEvent, InputParser, LAST, MORE, renew};
 use std::alloc::{AllocError, Global};
+use std::fmt::Write;
 use std::process::Abort;
 use std::test::Fail;
 
-// What generated texts are made of: the bytes that the grammar names, and parts and wholes of known texts.
-const SYMBOLS: &[&[u8]] = &[
-    b"\x1b",
-    b"\x1b",
-    b"[",
-    b"O",
-    b"<",
-    b";",
-    b"0",
-    b"1",
-    b"2",
-    b"5",
-    b"7",
-    b"9",
-    b"M",
-    b"m",
-    b"u",
-    b"~",
-    b"A",
-    b"Z",
-    b"a",
-    b"\xc3\xa9",
-    b"\x03",
-    b"\x1b[200~",
-    b"\x1b[201~",
-    b"\x1b[",
-    b"\x1b[<",
-    b"\x1b[1;5A",
-    b"\x1b[27;1;27~",
-    b"\x1b[<0;1;1",
-    b"\x1b[<95;65535;65535M",
-];
-
-// Bytes at which reading stops, unless the next byte completes a character.
-const BROKEN: &[&[u8]] = &[b"\xc3", b"\xa9", b"\xff"];
-
-// Numbers that look random, and are the same in each run: a linear congruential generator.
+// A text in pieces, all but the last with more to come.
 #[derive(Drop)]
-pub(super) struct Draws(u64);
+struct Case<'a> {
+    pieces: Vec<&'a [u8]>,
+    more: bool,
+    // How many of the pieces the first of two calls of `parse_pieces` takes.
+    first: usize,
+    // All of this, for messages.
+    name: String,
+}
 
-impl Draws {
-    // A number below the limit.
-    pub(super) fn below(&mut self, limit: usize) -> usize
-        requires { 0 < limit }
-        ensures { result < limit }
-    {
-        self.0 = self
-            .0
-            .wrapping_mul(6364136223846793005)
-            .wrapping_add(1442695040888963407);
-        (self.0 >> 33) as usize % limit
+// Bytes in hexadecimal.
+fn push_hex(name: &mut String, bytes: &[u8]) -> Result<(), AllocError> {
+    for byte in bytes {
+        write!(name, "{byte:02x}")?;
+    }
+    Ok(())
+}
+
+// The name of a case: the bytes in hexadecimal, with a bar at each cut, and the rest.
+fn name_of(
+    alloc: Global,
+    pieces: &[&[u8]],
+    first: usize,
+    more: bool,
+) -> Result<String, AllocError> {
+    let mut name = String::new(alloc);
+    let mut joint = "";
+    for piece in pieces {
+        name.push_str(joint)?;
+        push_hex(&mut name, piece)?;
+        joint = "|";
+    }
+    write!(
+        name,
+        ", maybe_more {more}, {first} pieces in the first call"
+    )?;
+    Ok(name)
+}
+
+// What the plain reader finds in a call with these bytes.
+#[derive(Drop)]
+struct Reading<'a> {
+    bytes: &'a [u8],
+    more: bool,
+    events: Vec<InputEvent>,
+    waiting_len: usize,
+    is_paste_open: bool,
+}
+
+// As many bytes wait in the parser as after this reading, and a paste is open if and only if it is then.
+fn check_waiting(rt: &impl Abort, parser: &InputParser, reading: &Reading, name: &str) {
+    assert_eq!(rt; parser.waiting_len(), reading.waiting_len, "{name}");
+    assert_eq!(rt; parser.is_paste_open(), reading.is_paste_open, "{name}");
+}
+
+// A call of `parse_as_vec` for each reading.
+fn check_by_list(
+    rt: &impl Abort,
+    parser: &mut InputParser,
+    readings: &[Reading],
+    name: &str,
+) -> Result<(), Fail> {
+    for (number, reading) in readings.iter().enumerate() {
+        let events = parser.parse_as_vec(reading.bytes, reading.more)?;
+        assert_eq!(rt;
+            events.as_slice(),
+            reading.events.as_slice(),
+            "call {number} of parse_as_vec, {name}"
+        );
+        check_waiting(rt, parser, reading, name);
+    }
+    Ok(())
+}
+
+// A call of `parse` for each reading.
+fn check_by_parse(
+    rt: &impl Abort,
+    alloc: Global,
+    parser: &mut InputParser,
+    readings: &[Reading],
+    name: &str,
+) -> Result<(), Fail> {
+    for (number, reading) in readings.iter().enumerate() {
+        let events = parsed(rt, alloc, parser, reading.bytes, reading.more)?;
+        assert_eq!(rt;
+            events.as_slice(),
+            reading.events.as_slice(),
+            "call {number} of parse, {name}"
+        );
+        check_waiting(rt, parser, reading, name);
+    }
+    Ok(())
+}
+
+// Appends the events, each with this number.
+fn append_numbered(
+    alloc: Global,
+    numbered: &mut Vec<(usize, InputEvent)>,
+    number: usize,
+    events: &[InputEvent],
+) -> Result<(), AllocError> {
+    for event in events {
+        numbered.push((number, event.clone(alloc)?))?;
+    }
+    Ok(())
+}
+
+// The events of the readings, each with the number of its reading.
+fn numbered_events(
+    alloc: Global,
+    readings: &[Reading],
+) -> Result<Vec<(usize, InputEvent)>, AllocError> {
+    let mut numbered = Vec::new(alloc);
+    for (number, reading) in readings.iter().enumerate() {
+        append_numbered(alloc, &mut numbered, number, reading.events.as_slice())?;
+    }
+    Ok(numbered)
+}
+
+// One call of `parse_pieces`, for a reading of each piece.
+fn check_call(
+    rt: &impl Abort,
+    alloc: Global,
+    parser: &mut InputParser,
+    (pieces, more): (&[&[u8]], bool),
+    readings: &[Reading],
+    name: &str,
+) -> Result<(), Fail> {
+    let events = parsed_pieces(rt, alloc, parser, pieces, more)?;
+    let wanted = numbered_events(alloc, readings)?;
+    assert_eq!(rt; events, wanted, "parse_pieces, {name}");
+    if let Some(reading) = readings.last() {
+        check_waiting(rt, parser, reading, name);
+    }
+    Ok(())
+}
+
+// The pieces by two calls of `parse_pieces`, and then a flush by one without pieces.
+fn check_by_pieces(
+    rt: &impl Abort,
+    alloc: Global,
+    parser: &mut InputParser,
+    case: &Case,
+    readings: &[Reading],
+) -> Result<(), Fail> {
+    let name = case.name.as_str();
+    let (first, others) = case.pieces.split_at(case.first.min(case.pieces.len()));
+    let (of_first, after) = readings.split_at(first.len().min(readings.len()));
+    let (of_others, of_flush) = after.split_at(others.len().min(after.len()));
+    check_call(rt, alloc, parser, (first, MORE), of_first, name)?;
+    check_call(rt, alloc, parser, (others, case.more), of_others, name)?;
+    check_call(rt, alloc, parser, (&[], LAST), of_flush, name)
+}
+
+// A parser for each way to call it, in which nothing waits before a text.
+#[derive(Drop)]
+struct Parsers {
+    by_list: InputParser,
+    by_parse: InputParser,
+    by_pieces: InputParser,
+}
+
+impl Parsers {
+    fn new(alloc: Global) -> Result<Parsers, AllocError> {
+        Ok(Parsers {
+            by_list: InputParser::new(alloc)?,
+            by_parse: InputParser::new(alloc)?,
+            by_pieces: InputParser::new(alloc)?,
+        })
     }
 
-    // A symbol; if the text may have broken bytes, in one of ten draws one of those.
-    fn symbol(&mut self, may_break: bool) -> &'static [u8] {
-        if may_break && self.below(10) == 0 {
-            return BROKEN[self.below(BROKEN.len())];
-        }
-        SYMBOLS[self.below(SYMBOLS.len())]
-    }
-
-    // A text of as many symbols.
-    pub(super) fn text(
-        &mut self,
-        alloc: Global,
-        symbols: usize,
-        may_break: bool,
-    ) -> Result<Vec<u8>, AllocError> {
-        let mut text = Vec::new(alloc);
-        for _ in 0..symbols {
-            text.extend_from_slice(self.symbol(may_break))?;
-        }
-        Ok(text)
-    }
-
-    // The text in pieces shorter than the limit, some of them empty.
-    pub(super) fn pieces<'a>(
-        &mut self,
-        alloc: Global,
-        text: &'a [u8],
-        limit: usize,
-    ) -> Result<Vec<&'a [u8]>, AllocError>
-        requires { 0 < limit }
-    {
-        let mut pieces = Vec::new(alloc);
-        let mut left = text;
-        for _ in 0..text.len() {
-            if left.is_empty() {
-                break;
-            }
-            let (piece, after) = left.split_at(self.below(limit).min(left.len()));
-            pieces.push(piece)?;
-            left = after;
-        }
-        pieces.push(left)?;
-        Ok(pieces)
+    fn renew(&mut self, alloc: Global) -> Result<(), AllocError> {
+        renew(alloc, &mut self.by_list)?;
+        renew(alloc, &mut self.by_parse)?;
+        renew(alloc, &mut self.by_pieces)
     }
 }
 
-// What the parser is compared with, and what draws the texts.
+// The parser, what it is compared with, and what draws the texts.
 #[derive(Drop)]
-pub(super) struct Comparison {
-    pub(super) reader: PlainReader,
-    pub(super) draws: Draws,
+struct Comparison {
+    parsers: Parsers,
+    reader: PlainReader,
+    draws: Draws,
     alloc: Global,
 }
 
 impl Comparison {
-    pub(super) fn new(alloc: Global) -> Result<Comparison, AllocError> {
+    fn new(alloc: Global, seed: u64) -> Result<Comparison, AllocError> {
+        let reader = PlainReader::new(alloc)?;
+        let draws = Draws::new(alloc, &reader, seed)?;
         Ok(Comparison {
-            reader: PlainReader::new(alloc)?,
-            draws: Draws(1),
+            parsers: Parsers::new(alloc)?,
+            reader,
+            draws,
             alloc,
         })
     }
 
-    // The plain reader finds these events in the text, and the parser's waiting text is what is left.
-    pub(super) fn check_read(
+    // Cuts the text at places that are drawn.
+    fn case<'a>(&mut self, text: &'a [u8]) -> Result<Case<'a>, AllocError> {
+        let pieces = self.draws.pieces(text)?;
+        let more = self.draws.below(2) == 0;
+        let first = self.draws.below(pieces.len().max(1));
+        let name = name_of(self.alloc, pieces.as_slice(), first, more)?;
+        Ok(Case {
+            pieces,
+            more,
+            first,
+            name,
+        })
+    }
+
+    // How the plain reader reads these bytes after a waiting text, which is then what waits after them.
+    fn reading<'a>(
         &self,
         rt: &impl Abort,
-        parser: &InputParser,
-        events: &[InputEvent],
-        text: &[u8],
+        waiting: &mut Vec<u8>,
+        bytes: &'a [u8],
         more: bool,
-    ) -> Result<(), Fail> {
-        let (wanted, rest) = self.reader.read(text, more)?;
-        assert_eq!(rt; events, wanted.as_slice(), "{text:?}, {more}");
-        assert_eq!(rt; waiting_of(rt, parser, text), rest, "{text:?}, {more}");
-        check_waiting(rt, &self.reader, parser, rest, more)
+        name: &str,
+    ) -> Result<Reading<'a>, Fail> {
+        waiting.extend_from_slice(bytes)?;
+        let (events, rest) = self.reader.read(waiting.as_slice(), more)?;
+        let shape = self.reader.shape_of(rest, more)?;
+        assert!(rt; may_wait(shape, rest.len()), "{rest:?} waits, {name}");
+        let rest = rest.to_vec(self.alloc)?;
+        let waiting_len = rest.len();
+        *waiting = rest;
+        Ok(Reading {
+            bytes,
+            more,
+            events,
+            waiting_len,
+            is_paste_open: shape == Some(Shape::OpenPaste),
+        })
     }
 
-    // A parser reads the whole text as the plain reader does.
-    fn check_whole(&self, rt: &impl Abort, text: &[u8], more: bool) -> Result<(), Fail> {
-        let mut parser = InputParser::new(self.alloc)?;
-        let events = parser.parse_as_vec(text, more)?;
-        self.check_read(rt, &parser, events.as_slice(), text, more)
-    }
-
-    // The events of the text in pieces, with more to come. After each piece, what waits has a shape.
-    fn read_pieces(
-        &mut self,
-        rt: &impl Abort,
-        parser: &mut InputParser,
-        text: &[u8],
-        limit: usize,
-    ) -> Result<Vec<InputEvent>, Fail>
-        requires { 0 < limit }
-    {
-        let mut events = Vec::new(self.alloc);
-        let mut taken = Vec::new(self.alloc);
-        for piece in self.draws.pieces(self.alloc, text, limit)? {
-            events.append(&mut parser.parse_as_vec(piece, MORE)?)?;
-            taken.extend_from_slice(piece)?;
-            let waiting = waiting_of(rt, parser, taken.as_slice());
-            check_waiting(rt, &self.reader, parser, waiting, MORE)?;
+    // The readings of the pieces, and of a flush after them.
+    fn readings<'a>(&self, rt: &impl Abort, case: &Case<'a>) -> Result<Vec<Reading<'a>>, Fail> {
+        let name = case.name.as_str();
+        let mut readings = Vec::new(self.alloc);
+        let mut waiting = Vec::new(self.alloc);
+        let mut left = case.pieces.len();
+        for piece in case.pieces.iter() {
+            left = left.saturating_sub(1);
+            let more = case.more || 0 < left;
+            readings.push(self.reading(rt, &mut waiting, piece, more, name)?)?;
         }
-        Ok(events)
+        readings.push(self.reading(rt, &mut waiting, b"", LAST, name)?)?;
+        Ok(readings)
     }
 
-    // A parser reads the text in pieces as the plain reader reads all of it, and what waits then, after a flush.
-    fn check_cut(&mut self, rt: &impl Abort, text: &[u8], limit: usize) -> Result<(), Fail>
-        requires { 0 < limit }
-    {
-        let mut parser = InputParser::new(self.alloc)?;
-        let events = self.read_pieces(rt, &mut parser, text, limit)?;
-        self.check_read(rt, &parser, events.as_slice(), text, MORE)?;
-        let waiting = waiting_of(rt, &parser, text);
-        let events = parser.parse_as_vec(b"", LAST)?;
-        self.check_read(rt, &parser, events.as_slice(), waiting, LAST)
+    // The parser reads the text in pieces as the plain reader does, by each of its calls.
+    fn check(&mut self, rt: &impl Abort, text: &[u8]) -> Result<(), Fail> {
+        let case = self.case(text)?;
+        let readings = self.readings(rt, &case)?;
+        let parsers = &mut self.parsers;
+        let name = case.name.as_str();
+        check_by_list(rt, &mut parsers.by_list, &readings, name)?;
+        check_by_parse(rt, self.alloc, &mut parsers.by_parse, &readings, name)?;
+        check_by_pieces(rt, self.alloc, &mut parsers.by_pieces, &case, &readings)?;
+        parsers.renew(self.alloc)?;
+        Ok(())
     }
 }
 
-#[test]
-fn reads_as_the_plain_reader(rt: HostRuntime) -> Result<(), Fail> {
-    let mut comparison = Comparison::new(rt.alloc())?;
-    for number in 0..2000usize {
-        let text = comparison.draws.text(rt.alloc(), 1 + number % 12, true)?;
-        comparison.check_whole(&rt, text.as_slice(), MORE)?;
-        comparison.check_whole(&rt, text.as_slice(), LAST)?;
-        comparison.check_cut(&rt, text.as_slice(), 8)?;
+// How many texts are drawn by each seed.
+const TEXTS: usize = 5000;
+
+fn check_texts(rt: &impl Abort, alloc: Global, seed: u64) -> Result<(), Fail> {
+    let mut comparison = Comparison::new(alloc, seed)?;
+    for _ in 0..TEXTS {
+        let text = comparison.draws.text()?;
+        comparison.check(rt, &text)?;
     }
     Ok(())
 }
 
 #[test]
+fn reads_as_the_plain_reader_1(rt: HostRuntime) -> Result<(), Fail> {
+    check_texts(&rt, rt.alloc(), 1)
+}
+
+#[test]
+fn reads_as_the_plain_reader_2(rt: HostRuntime) -> Result<(), Fail> {
+    check_texts(&rt, rt.alloc(), 2)
+}
+
+#[test]
+fn reads_as_the_plain_reader_3(rt: HostRuntime) -> Result<(), Fail> {
+    check_texts(&rt, rt.alloc(), 3)
+}
+
+#[test]
+fn reads_as_the_plain_reader_4(rt: HostRuntime) -> Result<(), Fail> {
+    check_texts(&rt, rt.alloc(), 4)
+}
+
+#[test]
 fn reads_long_texts_as_the_plain_reader(rt: HostRuntime) -> Result<(), Fail> {
-    let mut comparison = Comparison::new(rt.alloc())?;
+    let mut comparison = Comparison::new(rt.alloc(), 5)?;
     for _ in 0..20 {
-        let text = comparison.draws.text(rt.alloc(), 200, false)?;
-        comparison.check_whole(&rt, text.as_slice(), LAST)?;
-        comparison.check_cut(&rt, text.as_slice(), 100)?;
+        let text = comparison.draws.symbols(200)?;
+        comparison.check(&rt, &text)?;
     }
     Ok(())
 }

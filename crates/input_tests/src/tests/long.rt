@@ -1,6 +1,8 @@
-// Input far past any small bound: many keys in one call, many calls, and a long paste.
+// Input far past any small bound: many keys in one call, many calls, a long paste, and beginnings without an end.
 ghost use Rattle.std.specs.Prelude.{◌<◌};
 
+use super::cuts::{check_few_wait, check_sizes};
+use super::line::line_of;
 use super::{InputEvent, InputParser, KeyCode, KeyEvent, LAST, MORE, Modifiers};
 use std::alloc::{AllocError, Global};
 use std::process::Abort;
@@ -49,7 +51,8 @@ fn reads_a_thousand_keys_in_one_call(rt: HostRuntime) -> Result<(), Fail> {
 }
 
 // The events of a text that is cut into pieces of this length: a call for each with more to come, and then a flush.
-fn read_in_pieces(
+pub(super) fn read_in_pieces(
+    rt: &impl Abort,
     alloc: Global,
     parser: &mut InputParser,
     text: &[u8],
@@ -60,6 +63,7 @@ fn read_in_pieces(
     let mut events = Vec::new(alloc);
     for bytes in text.chunks(piece) {
         events.append(&mut parser.parse_as_vec(bytes, MORE)?)?;
+        check_few_wait(rt, parser, "a text in pieces");
     }
     events.append(&mut parser.parse_as_vec(b"", LAST)?)?;
     Ok(events)
@@ -70,7 +74,7 @@ fn reads_70000_bytes_one_at_a_time(rt: HostRuntime) -> Result<(), Fail> {
     let text = repeated(rt.alloc(), KEYS, 17500)?;
     assert_eq!(rt; text.len(), 70000);
     let mut parser = InputParser::new(rt.alloc())?;
-    let events = read_in_pieces(rt.alloc(), &mut parser, text.as_slice(), 1)?;
+    let events = read_in_pieces(&rt, rt.alloc(), &mut parser, text.as_slice(), 1)?;
     check_events(&rt, events.as_slice(), 35000);
     assert_eq!(rt; parser.waiting_len(), 0);
     Ok(())
@@ -103,8 +107,86 @@ fn reads_a_paste_of_100_kilobytes(rt: HostRuntime) -> Result<(), Fail> {
     let events = parser.parse_as_vec(paste.as_slice(), MORE)?;
     check_paste(&rt, events.as_slice(), body.as_slice());
     assert_eq!(rt; parser.waiting_len(), 0);
-    let events = read_in_pieces(rt.alloc(), &mut parser, paste.as_slice(), 999)?;
+    let events = read_in_pieces(&rt, rt.alloc(), &mut parser, paste.as_slice(), 999)?;
     check_paste(&rt, events.as_slice(), body.as_slice());
     assert_eq!(rt; parser.waiting_len(), 0);
+    Ok(())
+}
+
+// A text by its parts, each so many times.
+type Parts = &'static [(&'static [u8], usize)];
+
+// The bytes of one call, its flag, and the line that it gives.
+type LongStep = (Parts, bool, Parts);
+
+// The name of an example, and its calls of a fresh parser.
+const ENDLESS: &[(&str, &[LongStep])] = &[
+    (
+        "frame-without-end",
+        &[(
+            &[(b"\x1b[<", 1), (b"0", 100000)],
+            MORE,
+            &[(b"[ ALT, <", 1), (b", 0", 100000)],
+        )],
+    ),
+    (
+        "only-escapes",
+        &[
+            (
+                &[(b"\x1b", 1000)],
+                MORE,
+                &[(b"Escape ALT, ", 499), (b"waits 2", 1)],
+            ),
+            (&[], LAST, &[(b"Escape ALT", 1)]),
+        ],
+    ),
+    (
+        "paste-of-broken-bytes",
+        &[(
+            &[(b"\x1b[200~", 1), (b"\xff", 1000), (b"\x1b[201~z", 1)],
+            LAST,
+            &[(b"Paste(", 1), (b"\xef\xbf\xbd", 1000), (b"), z", 1)],
+        )],
+    ),
+];
+
+// The text of the parts.
+fn joined(alloc: Global, parts: Parts) -> Result<Vec<u8>, AllocError> {
+    let mut text = Vec::new(alloc);
+    for (part, times) in parts {
+        text.append(&mut repeated(alloc, part, *times)?)?;
+    }
+    Ok(text)
+}
+
+// Makes the calls of an example, and reads all of its bytes in pieces.
+fn check_endless(
+    rt: &impl Abort,
+    alloc: Global,
+    name: &str,
+    steps: &[LongStep],
+) -> Result<(), Fail> {
+    let mut parser = InputParser::new(alloc)?;
+    let mut text = Vec::new(alloc);
+    for (number, (parts, more, wanted)) in steps.iter().enumerate() {
+        let mut bytes = joined(alloc, parts)?;
+        let events = parser.parse_as_vec(&bytes, *more)?;
+        check_few_wait(rt, &parser, name);
+        let line = line_of(alloc, events.as_slice(), &parser)?;
+        let wanted = joined(alloc, wanted)?;
+        assert!(rt;
+            line.as_bytes() == wanted.as_slice(),
+            "{name}, step {number}"
+        );
+        text.append(&mut bytes)?;
+    }
+    check_sizes(rt, alloc, name, &text)
+}
+
+#[test]
+fn reads_beginnings_without_an_end(rt: HostRuntime) -> Result<(), Fail> {
+    for (name, steps) in ENDLESS {
+        check_endless(&rt, rt.alloc(), name, steps)?;
+    }
     Ok(())
 }

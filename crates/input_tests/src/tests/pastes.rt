@@ -1,4 +1,5 @@
 // Pastes, whole and cut.
+use super::cuts::check_few_wait;
 use super::line::line_of;
 use super::long::repeated;
 use super::{Example, InputEvent, InputParser, LAST, MORE, check_all};
@@ -99,6 +100,7 @@ fn reads_a_paste_byte_by_byte(rt: HostRuntime) -> Result<(), Fail> {
     let mut parser = InputParser::new(rt.alloc())?;
     for byte in text.chunks(1) {
         assert!(rt; parser.parse_as_vec(byte, MORE)?.is_empty());
+        check_few_wait(&rt, &parser, "a byte of a paste");
     }
     match parser.parse_as_vec(b"~", MORE)?.as_slice() {
         [InputEvent::Paste(text)] => assert!(rt; text.as_str().as_bytes() == body.as_slice()),
@@ -116,6 +118,7 @@ fn check_parts(rt: &impl Abort, alloc: Global, parts: [&[u8]; 3]) -> Result<(), 
     let mut given = 0_usize;
     for part in parts {
         let events = parser.parse_as_vec(part, MORE)?;
+        check_few_wait(rt, &parser, "a part of a paste");
         given = given.saturating_add(events.len());
         if !events.is_empty() {
             let line = line_of(alloc, events.as_slice(), &parser)?;

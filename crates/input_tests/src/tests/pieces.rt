@@ -1,9 +1,6 @@
 // The calls with a callback: what `parse` and `parse_pieces` give, the numbers of the pieces, and the messages of errors.
-use super::cuts::{check_waiting, waiting_of};
-use super::generated::Comparison;
 use super::line::{line_of, push_comma, push_event, push_waiting};
 use super::long::{KEYS, check_events, repeated, wanted_at};
-use super::plain::PlainReader;
 use super::{InputEvent, InputParser, LAST, MORE, Step};
 use std::alloc::{AllocError, Global};
 use std::fmt::Write;
@@ -32,7 +29,7 @@ pub(super) fn parsed(
 }
 
 // The events of a call of `parse_pieces`, each with the number of its piece.
-fn parsed_pieces(
+pub(super) fn parsed_pieces(
     rt: &impl Abort,
     alloc: Global,
     parser: &mut InputParser,
@@ -212,83 +209,5 @@ fn reads_two_thousand_pieces(rt: HostRuntime) -> Result<(), Fail> {
     let events = parsed_pieces(&rt, rt.alloc(), &mut parser, pieces.as_slice(), LAST)?;
     assert_eq!(rt; events, keys_by_bytes(rt.alloc(), 500)?);
     assert_eq!(rt; parser.waiting_len(), 0);
-    Ok(())
-}
-
-// Appends the events from a place on, with the number of their piece.
-fn append_numbered(
-    numbered: &mut Vec<(usize, InputEvent)>,
-    number: usize,
-    events: Vec<InputEvent>,
-    place: usize,
-) -> Result<(), AllocError> {
-    for event in events.into_iter().skip(place) {
-        numbered.push((number, event))?;
-    }
-    Ok(())
-}
-
-// The events of the pieces after the first, with their numbers: those that the plain reader finds in the pieces up to one,
-// and not yet in the pieces before it.
-fn numbered_events(
-    reader: &PlainReader,
-    alloc: Global,
-    first: &[u8],
-    others: &[&[u8]],
-    more: bool,
-) -> Result<Vec<(usize, InputEvent)>, Fail> {
-    let mut numbered = Vec::new(alloc);
-    let mut text = first.to_vec(alloc)?;
-    let mut count = reader.read(first, MORE)?.0.len();
-    let mut left = others.len();
-    for (number, piece) in others.iter().enumerate() {
-        left = left.saturating_sub(1);
-        text.extend_from_slice(piece)?;
-        let (events, _) = reader.read(text.as_slice(), more || 0 < left)?;
-        let new_count = events.len();
-        append_numbered(&mut numbered, number, events, count)?;
-        count = new_count;
-    }
-    Ok(numbered)
-}
-
-// The first piece by `parse`, with more to come, and then the others by `parse_pieces`.
-fn check_pieces(
-    rt: &impl Abort,
-    alloc: Global,
-    comparison: &Comparison,
-    first: &[u8],
-    others: &[&[u8]],
-    more: bool,
-) -> Result<(), Fail> {
-    let mut parser = InputParser::new(alloc)?;
-    let events = parsed(rt, alloc, &mut parser, first, MORE)?;
-    comparison.check_read(rt, &parser, events.as_slice(), first, MORE)?;
-    let wanted = numbered_events(&comparison.reader, alloc, first, others, more)?;
-    let found = parsed_pieces(rt, alloc, &mut parser, others, more)?;
-    assert_eq!(rt; found, wanted, "{first:?}, {others:?}, {more}");
-    let mut text = first.to_vec(alloc)?;
-    for piece in others {
-        text.extend_from_slice(piece)?;
-    }
-    let (_, rest) = comparison.reader.read(text.as_slice(), more)?;
-    assert_eq!(rt;
-        waiting_of(rt, &parser, text.as_slice()),
-        rest,
-        "{text:?}, {more}"
-    );
-    check_waiting(rt, &comparison.reader, &parser, rest, more)
-}
-
-#[test]
-fn reads_pieces_as_the_plain_reader(rt: HostRuntime) -> Result<(), Fail> {
-    let mut comparison = Comparison::new(rt.alloc())?;
-    for number in 0..2000usize {
-        let text = comparison.draws.text(rt.alloc(), 1 + number % 12, true)?;
-        let pieces = comparison.draws.pieces(rt.alloc(), text.as_slice(), 8)?;
-        if let Some((first, others)) = pieces.split_first() {
-            check_pieces(&rt, rt.alloc(), &comparison, first, others, number % 2 == 0)?;
-        }
-    }
     Ok(())
 }

@@ -1,6 +1,7 @@
 // The sequence table against the rows of the plain reader.
+use super::cuts::check_few_wait;
 use super::plain::{PlainReader, ROWS, event_of};
-use super::{Flags, InputEvent, InputParser, KeyCode, KeyEvent, LAST, Modifiers};
+use super::{Flags, InputEvent, InputParser, KeyCode, KeyEvent, LAST, MORE, Modifiers, renew};
 use crate::table_rows;
 use std::alloc::Global;
 use std::process::Abort;
@@ -50,6 +51,49 @@ fn has_the_rows_and_no_other(rt: HostRuntime) -> Result<(), Fail> {
         if row.key != KeyCode::InternalPasteStart {
             check_row(&rt, rt.alloc(), &mut parser, bytes, row)?;
         }
+    }
+    Ok(())
+}
+
+// The two parts, the first with more to come, have these events, and then as many bytes wait.
+fn check_parts(
+    rt: &impl Abort,
+    parser: &mut InputParser,
+    (first, second): (&[u8], &[u8]),
+    wanted: &[InputEvent],
+    waiting_len: usize,
+) -> Result<(), Fail> {
+    let mut events = parser.parse_as_vec(first, MORE)?;
+    check_few_wait(rt, parser, "a beginning of a row");
+    events.append(&mut parser.parse_as_vec(second, LAST)?)?;
+    assert_eq!(rt; events.as_slice(), wanted, "{first:?}, {second:?}");
+    assert_eq!(rt; parser.waiting_len(), waiting_len, "{first:?}, {second:?}");
+    Ok(())
+}
+
+// Cut in two at every place, the row is read as it is whole.
+fn check_cuts(
+    rt: &impl Abort,
+    alloc: Global,
+    parser: &mut InputParser,
+    bytes: &[u8],
+) -> Result<(), Fail> {
+    let wanted = parser.parse_as_vec(bytes, LAST)?;
+    let waiting_len = parser.waiting_len();
+    for place in 0..bytes.len() + 1 {
+        renew(alloc, parser)?;
+        check_parts(rt, parser, bytes.split_at(place), &wanted, waiting_len)?;
+    }
+    renew(alloc, parser)?;
+    Ok(())
+}
+
+#[test]
+fn reads_rows_cut_in_two(rt: HostRuntime) -> Result<(), Fail> {
+    let reader = PlainReader::new(rt.alloc())?;
+    let mut parser = InputParser::new(rt.alloc())?;
+    for bytes in reader.rows().keys() {
+        check_cuts(&rt, rt.alloc(), &mut parser, bytes)?;
     }
     Ok(())
 }

@@ -1,5 +1,6 @@
 // What waits for a known text isn't decided: each beginning of a row or of a mouse frame, alone and after one ESC, waits as a
 // whole, and a flush before the rest of that text changes the events.
+use super::cuts::MOST;
 use super::plain::PlainReader;
 use super::{InputEvent, InputParser, LAST, MORE};
 use std::alloc::{AllocError, Global};
@@ -7,9 +8,6 @@ use std::process::Abort;
 use std::test::Fail;
 
 const HELD: &[&[u8]] = &[b"", b"\x1b"];
-
-// The most that waits: one ESC, and the longest proper beginning of a known text.
-const MOST: usize = 21;
 
 // The events of the text, after which nothing waits but a paste that the text begins.
 fn flushed_events(

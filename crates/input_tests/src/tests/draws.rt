@@ -1,0 +1,186 @@
+// Texts that look random, and are the same in each run.
+ghost use Rattle.std.specs.Prelude.{◌<◌};
+
+use super::plain::{PlainReader, ROWS};
+use std::alloc::{AllocError, Global};
+
+// The bytes that the grammar names, and parts and wholes of known texts.
+const SYMBOLS: &[&[u8]] = &[
+    b"\x1b",
+    b"\x1b",
+    b"[",
+    b"O",
+    b"<",
+    b";",
+    b"0",
+    b"1",
+    b"2",
+    b"5",
+    b"7",
+    b"9",
+    b"M",
+    b"m",
+    b"u",
+    b"~",
+    b"A",
+    b"Z",
+    b"a",
+    b"\xc3\xa9",
+    b"\x03",
+    b"\x1b[200~",
+    b"\x1b[201~",
+    b"\x1b[",
+    b"\x1b[<",
+    b"\x1b[1;5A",
+    b"\x1b[27;1;27~",
+    b"\x1b[<0;1;1",
+    b"\x1b[<95;65535;65535M",
+];
+
+// The limits of the lengths of pieces: below 2 the pieces are bytes, and below 61 a text may be one piece.
+const LIMITS: &[usize] = &[2, 4, 8, 16, 61];
+
+// Numbers that look random, and what is made by them: a linear congruential generator, and the rows of the sequence table.
+#[derive(Drop)]
+pub(super) struct Draws {
+    state: u64,
+    rows: Vec<Vec<u8>>,
+    alloc: Global,
+}
+
+impl Draws {
+    pub(super) fn new(alloc: Global, reader: &PlainReader, seed: u64) -> Result<Draws, AllocError> {
+        let mut rows = Vec::new(alloc);
+        for bytes in reader.rows().keys() {
+            rows.push(bytes.clone()?)?;
+        }
+        Ok(Draws {
+            state: seed,
+            rows,
+            alloc,
+        })
+    }
+
+    // A number below the limit.
+    pub(super) fn below(&mut self, limit: usize) -> usize
+        requires { 0 < limit }
+        ensures { result < limit }
+    {
+        self.state = self
+            .state
+            .wrapping_mul(6364136223846793005)
+            .wrapping_add(1442695040888963407);
+        (self.state >> 33) as usize % limit
+    }
+
+    fn symbol(&mut self) -> &'static [u8] {
+        SYMBOLS[self.below(SYMBOLS.len())]
+    }
+
+    // A text of as many symbols.
+    pub(super) fn symbols(&mut self, count: usize) -> Result<Vec<u8>, AllocError> {
+        let mut text = Vec::new(self.alloc);
+        for _ in 0..count {
+            text.extend_from_slice(self.symbol())?;
+        }
+        Ok(text)
+    }
+
+    fn row(&mut self) -> Result<Vec<u8>, AllocError> {
+        let place = self.below(ROWS);
+        match self.rows.get(place) {
+            Some(bytes) => bytes.clone(),
+            None => Ok(Vec::new(self.alloc)),
+        }
+    }
+
+    // A mouse frame; in some draws a number is past its limit or has six digits, so that it is none.
+    fn frame(&mut self) -> Result<Vec<u8>, AllocError> {
+        let code = self.below(100);
+        let x = self.below(70000) >> self.below(16);
+        let y = self.below(70000) >> self.below(16);
+        let last = if self.below(2) == 0 { 'M' } else { 'm' };
+        let frame = match self.below(8) {
+            0 => format!(in self.alloc; "\x1b[<{code:05};{x:05};{y:05}{last}")?,
+            1 => format!(in self.alloc; "\x1b[<{code};{x:06};{y}{last}")?,
+            _ => format!(in self.alloc; "\x1b[<{code};{x};{y}{last}")?,
+        };
+        frame.as_bytes().to_vec(self.alloc)
+    }
+
+    // A character, of each length in UTF-8 about as often.
+    fn character(&mut self) -> Result<Vec<u8>, AllocError> {
+        let code = self.below(0x110000) >> (5 * self.below(4));
+        let character = char::from_u32(code as u32).unwrap_or('\u{fffd}');
+        let text = format!(in self.alloc; "{character}")?;
+        text.as_bytes().to_vec(self.alloc)
+    }
+
+    // A paste of symbols and of any bytes.
+    fn paste(&mut self) -> Result<Vec<u8>, AllocError> {
+        let mut text = b"\x1b[200~".to_vec(self.alloc)?;
+        for _ in 0..self.below(4) {
+            text.extend_from_slice(self.symbol())?;
+            text.push(self.below(256) as u8)?;
+        }
+        text.extend_from_slice(b"\x1b[201~")?;
+        Ok(text)
+    }
+
+    // One byte, of ASCII unless the text may break.
+    fn byte(&mut self, may_break: bool) -> Result<Vec<u8>, AllocError> {
+        let limit = if may_break { 256 } else { 128 };
+        let byte = self.below(limit) as u8;
+        [byte].to_vec(self.alloc)
+    }
+
+    // A part of a text, often only its beginning, which ends within a character only if the text may break.
+    fn part(&mut self, may_break: bool) -> Result<Vec<u8>, AllocError> {
+        let kind = self.below(8);
+        let mut part = match kind {
+            0 => self.frame()?,
+            1 => self.paste()?,
+            2 => self.character()?,
+            3 => self.byte(may_break)?,
+            4 | 5 => self.row()?,
+            _ => self.symbol().to_vec(self.alloc)?,
+        };
+        if self.below(3) == 0 && (may_break || part.is_ascii()) {
+            part.truncate(1 + self.below(part.len().max(1)));
+        }
+        Ok(part)
+    }
+
+    // A text of 1 to 60 bytes. In one of three any byte may stand outside a paste, and characters may be cut.
+    pub(super) fn text(&mut self) -> Result<Vec<u8>, AllocError> {
+        let len = 1 + self.below(60);
+        let may_break = self.below(3) == 0;
+        let mut text = Vec::new(self.alloc);
+        for _ in 0..len {
+            if self.below(4) == 0 {
+                text.push(b'\x1b')?;
+            }
+            let part = self.part(may_break)?;
+            text.extend_from_slice(&part)?;
+        }
+        text.truncate(len);
+        Ok(text)
+    }
+
+    // The text in pieces shorter than a limit, some of them empty; the last has what is left.
+    pub(super) fn pieces<'a>(&mut self, text: &'a [u8]) -> Result<Vec<&'a [u8]>, AllocError> {
+        let limit = LIMITS[self.below(LIMITS.len())];
+        let mut pieces = Vec::new(self.alloc);
+        let mut left = text;
+        for _ in 0..text.len() {
+            if left.is_empty() {
+                break;
+            }
+            let (piece, after) = left.split_at(self.below(limit.max(1)).min(left.len()));
+            pieces.push(piece)?;
+            left = after;
+        }
+        pieces.push(left)?;
+        Ok(pieces)
+    }
+}
