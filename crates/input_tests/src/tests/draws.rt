@@ -37,7 +37,7 @@ const SYMBOLS: &[&[u8]] = &[
     b"\x1b[<95;65535;65535M",
 ];
 
-// The limits of the lengths of pieces: below 2 the pieces are bytes, and below 61 a text may be one piece.
+// Limits of the lengths of pieces: below 2 a piece is a byte or empty, and below 61 most texts are one piece or two.
 const LIMITS: &[usize] = &[2, 4, 8, 16, 61];
 
 // Numbers that look random, and what is made by them: a linear congruential generator, and the rows of the sequence table.
@@ -167,16 +167,15 @@ impl Draws {
         Ok(text)
     }
 
-    // The text in pieces shorter than a limit, some of them empty; the last has what is left.
+    // The text in pieces shorter than a limit, some of them empty. The last has what is left.
     pub(super) fn pieces<'a>(&mut self, text: &'a [u8]) -> Result<Vec<&'a [u8]>, AllocError> {
         let limit = LIMITS[self.below(LIMITS.len())];
         let mut pieces = Vec::new(self.alloc);
         let mut left = text;
         for _ in 0..text.len() {
-            if left.is_empty() {
+            let Some((piece, after)) = left.split_at_checked(self.below(limit.max(1))) else {
                 break;
-            }
-            let (piece, after) = left.split_at(self.below(limit.max(1)).min(left.len()));
+            };
             pieces.push(piece)?;
             left = after;
         }

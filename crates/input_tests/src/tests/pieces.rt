@@ -1,4 +1,5 @@
 // The calls with a callback: what `parse` and `parse_pieces` give, the numbers of the pieces, and the messages of errors.
+use super::cuts::{check_few_wait, check_sizes};
 use super::line::{line_of, push_comma, push_event, push_waiting};
 use super::long::{KEYS, check_events, repeated, wanted_at};
 use super::{InputEvent, InputParser, LAST, MORE, Step};
@@ -162,6 +163,10 @@ fn reads_pieces(rt: HostRuntime) -> Result<(), Fail> {
         let events = parsed_pieces(&rt, rt.alloc(), &mut parser, pieces, *more)?;
         let line = numbered_line_of(rt.alloc(), events.as_slice(), &parser)?;
         assert_eq!(rt; line.as_str(), *wanted, "{name}");
+        check_few_wait(&rt, &parser, name);
+        let mut text = before.to_vec(rt.alloc())?;
+        text.append(&mut pieces.concat(rt.alloc())?)?;
+        check_sizes(&rt, rt.alloc(), name, &text)?;
     }
     Ok(())
 }
