@@ -111,6 +111,48 @@ fn character_at(text: &[u8]) -> Option<Head<'_>> {
     None
 }
 
+// 4: the first byte of the text, as the character U+FFFD.
+fn first_byte_of(text: &[u8]) -> Option<Head<'_>> {
+    let (bytes, rest) = text.split_at_checked(1)?;
+    let kind = Kind::Character('\u{fffd}');
+    Some(Head { kind, bytes, rest })
+}
+
+// Whether the bytes are the encoding of one character.
+fn is_character(bytes: &[u8]) -> bool {
+    match character_at(bytes) {
+        Some(head) => head.rest.is_empty(),
+        None => false,
+    }
+}
+
+// 5: whether the text, this byte and at most two more bytes are a character. These two may be any of 0x80 to 0xbf, so that
+// 0x80 stands for them.
+fn goes_on_with(alloc: Global, text: &[u8], byte: u8) -> Result<bool, AllocError> {
+    let mut whole = text.to_vec(alloc)?;
+    whole.push(byte)?;
+    for _ in 0..2 {
+        if is_character(whole.as_slice()) {
+            return Ok(true);
+        }
+        whole.push(0x80)?;
+    }
+    Ok(is_character(whole.as_slice()))
+}
+
+// 5: whether the encoding of some character is longer than the text and begins with it. It has at most four bytes.
+fn begins_character(alloc: Global, text: &[u8]) -> Result<bool, AllocError> {
+    if text.len() > 3 {
+        return Ok(false);
+    }
+    for byte in 0x80..0xc0 {
+        if goes_on_with(alloc, text, byte)? {
+            return Ok(true);
+        }
+    }
+    Ok(false)
+}
+
 // 5: whether some frame is longer than the text and begins with it. A number that has begun may end where it is, and a 0
 // stands for each number that is missing, so that one of these ends makes a frame of each text that begins one.
 fn begins_frame(alloc: Global, text: &[u8]) -> Result<bool, AllocError> {
@@ -146,7 +188,6 @@ fn paste_at(alloc: Global, text: &[u8]) -> Result<Option<(InputEvent, &[u8])>, A
 pub(super) enum Shape {
     Nothing,
     OpenPaste,
-    BrokenCharacter,
     Undecided,
 }
 
@@ -198,7 +239,7 @@ impl PlainReader {
         if longest.is_some() {
             return longest;
         }
-        character_at(text)
+        character_at(text).or_else(|| first_byte_of(text))
     }
 
     // 5: whether the text is open.
@@ -206,7 +247,11 @@ impl PlainReader {
         if !more || text.is_empty() {
             return Ok(false);
         }
-        Ok(self.rows.extend(text) || begins_frame(self.alloc, text)?)
+        Ok(
+            self.rows.extend(text)
+                || begins_frame(self.alloc, text)?
+                || begins_character(self.alloc, text)?,
+        )
     }
 
     // 6: the item at an ESC that is a head, by what follows the ESC: a lone escape or an alt.
@@ -280,9 +325,6 @@ impl PlainReader {
     fn bare_shape_of(&self, bytes: &[u8], more: bool) -> Result<Option<Shape>, AllocError> {
         if bytes.len() <= 20 && self.is_open(bytes, more)? {
             return Ok(Some(Shape::Undecided));
-        }
-        if !bytes.is_empty() && self.head_of(bytes).is_none() {
-            return Ok(Some(Shape::BrokenCharacter));
         }
         Ok(None)
     }

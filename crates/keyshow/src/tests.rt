@@ -284,7 +284,7 @@ const ARROW_AND_Q_LINES: &[u8] = b"key UpArrow NONE\nkey U+0071 NONE\n";
 const MIXED: &[u8] = b"\x1b\x1b[A\x1b[200~a\xff\x1b[201~\x1b[<0;1;2M\xc3\xa9\x03\xff";
 
 const MIXED_LINES: &[u8] =
-    b"key UpArrow ALT\npaste 4:61efbfbd\nmouse 1 2 LEFT NONE\nkey U+00E9 NONE\nkey U+0063 CTRL\nwaiting 1\n";
+    b"key UpArrow ALT\npaste 4:61efbfbd\nmouse 1 2 LEFT NONE\nkey U+00E9 NONE\nkey U+0063 CTRL\nkey U+FFFD NONE\n";
 
 // Runs over the text in pieces of several sizes, with a reader and a writer that take one byte a call or many. All lines
 // have to be written before the one flush.
@@ -316,14 +316,15 @@ fn assert_runs(alloc: Global, rt: &impl Abort, text: &[u8], wanted: &[u8]) {
 
 #[test]
 fn runs_to_the_end(rt: HostRuntime) -> Result<(), Fail> {
-    let cases: [(&[u8], &[u8]); 7] = [
+    let cases: [(&[u8], &[u8]); 8] = [
         (b"", b""),
         (MIXED, MIXED_LINES),
         (b"\x1b[200~\xe2\x82a\x1b[201~", b"paste 4:efbfbd61\n"),
         (ARROW_AND_Q, ARROW_AND_Q_LINES),
         (b"\xc3\xa9\x1b", b"key U+00E9 NONE\nkey Escape NONE\n"),
         (b"\x1b[", b"key U+005B ALT\n"),
-        (b"\x1b[B\xff", b"key DownArrow NONE\nwaiting 1\n"),
+        (b"\x1b[B\xff", b"key DownArrow NONE\nkey U+FFFD NONE\n"),
+        (b"q\x1b[200~a\xff", b"key U+0071 NONE\nwaiting 8\n"),
     ];
     for (text, wanted) in cases {
         assert_runs(rt.alloc(), &rt, text, wanted);

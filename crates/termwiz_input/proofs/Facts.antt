@@ -13,7 +13,7 @@ use Rattle.termwiz_input.specs.Known.{Meaning, IsKnown}
 use Rattle.termwiz_input.specs.Known.Meaning.{Row, Frame}
 use Rattle.termwiz_input.specs.Grammar.{IsUnfinished}
 use Rattle.termwiz_input.proofs.Lists.{length-some, true_at_end}
-use Rattle.termwiz_input.proofs.Searches.{Decision, decide_both, decide_by, decide_lists}
+use Rattle.termwiz_input.proofs.Searches.{Decision, decide_both, decide_by, decide_lists, decide_some}
 use Rattle.termwiz_input.proofs.TableTests.{has_shape}
 use Rattle.termwiz_input.proofs.FrameFacts.{IsPlain, frame_once, frame_alone, frame_or_not, frame_short, frame_plain}
 use Rattle.termwiz_input.proofs.RowFacts.{Bytes, row_shaped, row_once, row_or_not, escape_row, start_row, bytes_from_test, begins_another, no_frame_shape}
@@ -96,10 +96,6 @@ known_or_not text = ⊎_elim
     nothing : ((k : KeyEvent) → Contains rows (text, k) → ⊥) → ((r : MouseEvent) → IsFrame text r → ⊥) → (m : Meaning) → IsKnown text m → ⊥
     nothing none never (Row k) a = none k a
     nothing none never (Frame r) a = never r a
-
-decide_some : (t : List ℕ) → Decision (t ≢ [])
-decide_some [] = inr (λ n. n refl)
-decide_some (x ∷ t) = inl (λ h. cc (h))
 
 -- the bytes of a known text are below 128
 pub plain_small : (t : List ℕ) → AllByRecursion IsPlain t → AllByRecursion (λ b. b < 128) t

@@ -1,19 +1,16 @@
 -- A text has at most one head, and it can be told which.
-use Rattle.std.proofs.Common.{◌<◌, ◌≡◌, ◌⊎◌, inl, inr, ℕ, zero, suc, ◌≤◌, Bool, true, false, List, [], ◌∷◌, ◌++◌, length, take, drop, refl, sym, ap, ◌∙◌, subst, ⊎_elim, arith, encode_utf8, Option, Some, None, append-nil, length-take, take-append-drop, le_antisymm}
+use Rattle.std.proofs.Common.{◌<◌, ◌≡◌, ◌⊎◌, inl, inr, ℕ, zero, suc, ◌≤◌, Bool, true, false, List, [], ◌∷◌, length, take, drop, refl, sym, ap, ◌∙◌, subst, ⊎_elim, arith, encode_utf8, append-nil, length-take, take-append-drop, le_antisymm}
 use Rattle.std.specs.Char.{IsScalar}
 use Rattle.std.proofs.lemmas.Bool.{cases_lt}
-use Rattle.std.proofs.Math.Utf8.{low_scalar}
-use Rattle.std.proofs.lemmas.Str.{encode_same, encode_ascii}
-use Rattle.bstr.specs.Utf8.{Decoded, decoded}
-use Rattle.bstr.proofs.lemmas.EncodeLemmas.{decoded-encode}
-use Rattle.bstr.proofs.lemmas.SoundLemmas.{SpellsChar-decoded}
+use Rattle.std.proofs.lemmas.Str.{encode_same}
 use Rattle.termwiz_input.specs.Bytes.{Begins}
 use Rattle.termwiz_input.specs.Known.{Meaning, IsKnown}
 use Rattle.termwiz_input.specs.Grammar.{Head, IsHead, IsLongest, IsOpen}
-use Rattle.termwiz_input.specs.Grammar.Head.{Known, Character}
+use Rattle.termwiz_input.specs.Grammar.Head.{Known, Character, Broken}
 use Rattle.termwiz_input.proofs.Lists.{length-Begins, same_from_length}
-use Rattle.termwiz_input.proofs.Searches.{Decision}
+use Rattle.termwiz_input.proofs.Searches.{Decision, decide_either}
 use Rattle.termwiz_input.proofs.Facts.{known_some, known_once, known_or_not, unfinished_or_not}
+use Rattle.termwiz_input.proofs.Characters.{character_or_not, unfinished_character_or_not}
 
 pub longest_once : (u s t : List ℕ) (m n : Meaning) → IsLongest u s m → IsLongest u t n → (s ≡ t) × (m ≡ n)
 longest_once u s t m n a b =
@@ -31,9 +28,14 @@ longest_whole text m known = record {
 pub head_once : (u : List ℕ) (h k : Head) → IsHead u h → IsHead u k → h ≡ k
 head_once u (Known s m) (Known t n) a b = let e = longest_once u s t m n a b in cc (e.0, e.1)
 head_once u (Known s m) (Character d) a b = absurd (b.unknown s m a.known a.begins)
+head_once u (Known s m) (Broken d) a b = absurd (b.unknown s m a.known a.begins)
 head_once u (Character c) (Known t n) a b = absurd (a.unknown t n b.known b.begins)
 head_once u (Character c) (Character d) a b =
     ap (λ x. Character x) (encode_same c d a.begins.0 b.begins.0 (sym a.begins.1 ∙ b.begins.1)).0
+head_once u (Character c) (Broken d) a b = absurd (b.unspelled c a.scalar a.begins)
+head_once u (Broken c) (Known t n) a b = absurd (a.unknown t n b.known b.begins)
+head_once u (Broken c) (Character d) a b = absurd (a.unspelled d b.scalar b.begins)
+head_once u (Broken c) (Broken d) a b = let same : c ≡ d = cc (a.begins.1, b.begins.1) in ap (λ x. Broken x) same
 
 -- the longest known text of at most n bytes that begins u, or none
 pub data Found (u : List ℕ) (n : ℕ) : Type 0 where
@@ -72,56 +74,12 @@ find_up_to u (suc n) l = go (known_or_not (take (suc n) u)) (find_up_to u n (ome
         (λ (lt : length other ≤ n). none other k is c lt)
         (cases_lt n (length other)))
 
--- whether a character begins u
-pub character_or_not : (u : List ℕ) → ((c : ℕ) × IsScalar c × Begins (encode_utf8 c) u) ⊎ ((c : ℕ) → IsScalar c → Begins (encode_utf8 c) u → ⊥)
-character_or_not u = go (decoded u).char refl
+-- each text that isn't empty has a head
+pub head_of : (x : ℕ) (t : List ℕ) → (h : Head) × IsHead (x ∷ t) h
+head_of x t = go (find_up_to (x ∷ t) (length (x ∷ t)) (omega arith)) (character_or_not (x ∷ t))
   where
-    go : (o : Option ℕ) → (decoded u).char ≡ o → ((c : ℕ) × IsScalar c × Begins (encode_utf8 c) u) ⊎ ((c : ℕ) → IsScalar c → Begins (encode_utf8 c) u → ⊥)
-    go (Some c) e = let spelled = SpellsChar-decoded u c e in inl (c, spelled.scalar, (drop (decoded u).size u, spelled.bytes))
-    go None e = inr (λ c scalar b.
-        let read : (decoded u).char ≡ Some c = ap (λ x. (decoded x).char) b.1 ∙ ap (λ (p : Decoded). p.char) (decoded-encode c b.0 scalar) in
-        cc)
-
-pub head_or_none : (u : List ℕ) → ((h : Head) × IsHead u h) ⊎ ((h : Head) → IsHead u h → ⊥)
-head_or_none u = go (find_up_to u (length u) (omega arith)) (character_or_not u)
-  where
-    go : Found u (length u) → ((c : ℕ) × IsScalar c × Begins (encode_utf8 c) u) ⊎ ((c : ℕ) → IsScalar c → Begins (encode_utf8 c) u → ⊥)
-        → ((h : Head) × IsHead u h) ⊎ ((h : Head) → IsHead u h → ⊥)
-    go (found text m known b longest) char = inl (
-      Known text m,
-      record {
-        known = known;
-        begins = b;
-        longest = λ other k is c. longest other k is c (length-Begins other u c);
-      },
-    )
-    go (missing none) (inl (c, scalar, b)) = inl (
-      Character c,
-      record {
-        unknown = λ other k is d. none other k is d (length-Begins other u d);
-        scalar = scalar;
-        begins = b;
-      },
-    )
-    go (missing none) (inr never) = inr (λ h. elim h as (λ x. IsHead u x → ⊥) [
-      | Known text m ↦ λ is. none text m is.known is.begins (length-Begins text u is.begins)
-      | Character c ↦ λ is. never c is.scalar is.begins
-    ])
-
-pub open_or_not : (u : List ℕ) (f : Bool) → IsOpen u f ⊎ (IsOpen u f → ⊥)
-open_or_not [] f = inr (λ h. h.some refl)
-open_or_not (x ∷ u) false = inr (λ h. cc (h.more_comes))
-open_or_not (x ∷ u) true = ⊎_elim
-    (λ h. inl (record { more_comes = refl; some = λ e. cc; unfinished = h }))
-    (λ never. inr (λ h. never h.unfinished))
-    (unfinished_or_not (x ∷ u))
-
--- a byte below 128 always begins something
-pub ascii_head : (x : ℕ) (t : List ℕ) → x < 128 → (h : Head) × IsHead (x ∷ t) h
-ascii_head x t small = go (find_up_to (x ∷ t) (length (x ∷ t)) (omega arith))
-  where
-    go : Found (x ∷ t) (length (x ∷ t)) → (h : Head) × IsHead (x ∷ t) h
-    go (found text m known b longest) = (
+    go : Found (x ∷ t) (length (x ∷ t)) → Decision ((c : ℕ) × IsScalar c × Begins (encode_utf8 c) (x ∷ t)) → (h : Head) × IsHead (x ∷ t) h
+    go (found text m known b longest) char = (
       Known text m,
       record {
         known = known;
@@ -129,11 +87,27 @@ ascii_head x t small = go (find_up_to (x ∷ t) (length (x ∷ t)) (omega arith)
         longest = λ other k is c. longest other k is c (length-Begins other (x ∷ t) c);
       },
     )
-    go (missing none) = (
-      Character x,
+    go (missing none) (inl (c, scalar, b)) = (
+      Character c,
       record {
         unknown = λ other k is d. none other k is d (length-Begins other (x ∷ t) d);
-        scalar = low_scalar x (omega arith);
-        begins = (t, ap (λ z. z ++ t) (sym (encode_ascii x small)));
+        scalar = scalar;
+        begins = b;
       },
     )
+    go (missing none) (inr never) = (
+      Broken x,
+      record {
+        unknown = λ other k is d. none other k is d (length-Begins other (x ∷ t) d);
+        unspelled = λ c scalar b. never (c, scalar, b);
+        begins = (t, refl);
+      },
+    )
+
+pub open_or_not : (u : List ℕ) (f : Bool) → IsOpen u f ⊎ (IsOpen u f → ⊥)
+open_or_not [] f = inr (λ h. h.some refl)
+open_or_not (x ∷ u) false = inr (λ h. cc (h.more_comes))
+open_or_not (x ∷ u) true = ⊎_elim
+    (λ h. inl (record { more_comes = refl; some = λ e. cc; beginning = h }))
+    (λ never. inr (λ h. never h.beginning))
+    (decide_either (unfinished_or_not (x ∷ u)) (unfinished_character_or_not (x ∷ u)))

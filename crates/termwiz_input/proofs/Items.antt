@@ -1,5 +1,5 @@
 -- Which item stands at a text, by its head.
-use Rattle.std.proofs.Common.{◌≡◌, ◌≢◌, inl, inr, ℕ, suc, ◌+◌, ◌-◌, ◌≤◌, Bool, List, [], ◌++◌, length, take, drop, refl, sym, ap, ◌∙◌, subst, arith, append_assoc, length-append, encode_utf8}
+use Rattle.std.proofs.Common.{◌≡◌, ◌≢◌, inl, inr, ⊎_elim, ℕ, suc, ◌+◌, ◌-◌, ◌≤◌, Bool, List, [], ◌∷◌, ◌++◌, length, take, drop, refl, sym, ap, ◌∙◌, subst, arith, append_assoc, length-append, encode_utf8}
 use Rattle.std.specs.Str.Lossy.{utf8_lossy}
 use Rattle.std.proofs.Math.Seq.{take-append_seam}
 use Rattle.termwiz_input.specs.declared.types.KeyEvent.{KeyEvent}
@@ -7,18 +7,20 @@ use Rattle.termwiz_input.specs.declared.types.MouseEvent.{MouseEvent}
 use Rattle.termwiz_input.specs.declared.types.InputEvent.{InputEvent}
 use Rattle.termwiz_input.specs.declared.types.InputEvent.TheVariants.{Key, Mouse, Paste}
 use Rattle.termwiz_input.specs.declared.item.Item.{Item as FoundItem}
-use Rattle.termwiz_input.specs.declared.head.Head.TheVariants.{Row as row, Frame as frame, Character as character}
+use Rattle.termwiz_input.specs.declared.head.Head.TheVariants.{Row as row, Frame as frame, Character as character, Broken as broken}
 use Rattle.termwiz_input.specs.Bytes.{Begins, Occurs, ESC, START, END}
 use Rattle.termwiz_input.specs.Keys.{plain, escape, with_alt}
 use Rattle.termwiz_input.specs.Known.{IsKnown}
 use Rattle.termwiz_input.specs.Known.Meaning.{Row, Frame}
-use Rattle.termwiz_input.specs.Grammar.{Head, IsHead, IsLongest, IsOpen, IsAfterEscape, Item, HasPaste, IsRest}
-use Rattle.termwiz_input.specs.Grammar.Head.{Known, Character}
-use Rattle.termwiz_input.specs.Grammar.Item.{key, char, mouse, paste, lone_escape, alt}
+use Rattle.termwiz_input.specs.Grammar.{IsLongest, IsUnfinished, IsUnfinishedCharacter, IsOpen, IsAfterEscape, replacement, Item, HasPaste, IsRest, Stands}
+use Rattle.termwiz_input.specs.Grammar.Head.{Known, Character, Broken}
+use Rattle.termwiz_input.specs.Grammar.Item.{key, char, broken as broken_byte, mouse, paste, lone_escape, alt}
 use Rattle.termwiz_input.specs.AtFront.{HasHead, IsItemAt, HasNoHeadYet}
 use Rattle.termwiz_input.proofs.Lists.{append-some}
-use Rattle.termwiz_input.proofs.Facts.{known_once, escape_known, start, start_ends}
+use Rattle.termwiz_input.proofs.Facts.{known_once, escape_known, start, start_known, start_ends}
 use Rattle.termwiz_input.proofs.Heads.{head_once}
+use Rattle.termwiz_input.proofs.Settling.{empty_is_rest}
+use Rattle.termwiz_input.proofs.Characters.{known_finished}
 use Rattle.termwiz_input.proofs.Meaning.{RowGives, Gives, reads, not_alone, start_head}
 use Rattle.termwiz_input.proofs.Meaning.RowGives.{its_key, its_paste, apart, joined}
 use Rattle.termwiz_input.proofs.Places.{IsPasteTo}
@@ -27,10 +29,10 @@ use Rattle.termwiz_input.proofs.Places.{IsPasteTo}
 abbrev pub item_of : InputEvent → ℕ → FoundItem
 item_of event len = record { event = event; len = len }
 
--- no item stands where the text is open, or where it has no head
+-- no item stands where the text is open, or where it is empty
 pub waits_rest : (u : List ℕ) (more : Bool) → HasNoHeadYet u more → IsRest u more
 waits_rest u more (inl opens) bytes event stands = stands.closed opens
-waits_rest u more (inr none) bytes event stands = let r = reads u bytes event more stands.item in none r.0 r.1
+waits_rest u more (inr e) bytes event stands = empty_is_rest more bytes event (subst (λ x. Stands x more bytes event) e stands)
 
 -- what isn't START at the front of a text
 not_start : (u : List ℕ) (n : ℕ) → ¬ Begins START u → Begins (take n u) u → take n u ≢ START
@@ -55,6 +57,15 @@ pub character_stands : (u : List ℕ) (more : Bool) (c n : ℕ) → ¬ IsOpen u 
 character_stands u more c n closed front =
     let bytes = character_bytes u c n front in
     (bytes.0, record { closed = closed; item = subst (λ t. Item u more t (Key (plain c))) bytes.1 (char c front.1) })
+
+-- the first byte of a text
+first_byte : (u : List ℕ) (byte : ℕ) → Begins (byte ∷ []) u → (1 ≤ length u) × (byte ∷ [] ≡ take 1 u)
+first_byte u byte b = (omega (arith, ap length b.1), ap (take 1) (sym b.1))
+
+pub broken_stands : (u : List ℕ) (more : Bool) → ¬ IsOpen u more → HasHead u broken → IsItemAt u more (item_of (Key (plain replacement)) 1)
+broken_stands u more closed (byte, is) =
+    let first = first_byte u byte is.begins in
+    (first.0, record { closed = closed; item = subst (λ t. Item u more t (Key (plain replacement))) first.1 (broken_byte byte is) })
 
 -- after a lone Escape
 after : (rest : List ℕ) (more : Bool) → IsLongest (ESC ++ rest) ESC (Row escape) → rest ≢ [] → ¬ IsOpen rest more → IsAfterEscape (ESC ++ rest) rest more
@@ -86,6 +97,18 @@ alt_character_stands rest more c n closed head some gap front =
       },
     )
 
+pub alt_broken_stands : (rest : List ℕ) (more : Bool) → ¬ IsOpen (ESC ++ rest) more → IsLongest (ESC ++ rest) ESC (Row escape) → rest ≢ []
+    → ¬ IsOpen rest more → HasHead rest broken → IsItemAt (ESC ++ rest) more (item_of (Key (with_alt (plain replacement))) 2)
+alt_broken_stands rest more closed head some gap (byte, is) =
+    let first = first_byte rest byte is.begins in (
+      omega (arith, first.0),
+      record {
+        closed = closed;
+        item = subst (λ t. Item (ESC ++ rest) more t (Key (with_alt (plain replacement)))) (ap (λ t. ESC ++ t) first.1 ∙ take_after rest 1)
+            (alt rest (Broken byte) (plain replacement) (after rest more head some gap) is refl);
+      },
+    )
+
 pub escape_before_frame : (rest : List ℕ) (more : Bool) (event : MouseEvent) (n : ℕ) → ¬ IsOpen (ESC ++ rest) more → IsLongest (ESC ++ rest) ESC (Row escape) → rest ≢ []
     → ¬ IsOpen rest more → HasHead rest (frame event n) → IsItemAt (ESC ++ rest) more (item_of (Key escape) 1)
 escape_before_frame rest more event n closed head some gap front = (
@@ -95,11 +118,12 @@ escape_before_frame rest more event n closed head some gap front = (
 
 -- START at the front is the head, and nothing that comes changes it
 pub start_closed : (u : List ℕ) (more : Bool) → Begins START u → IsOpen u more → ⊥
-start_closed u more (rest, e) opens =
-    let tail = opens.unfinished.tail in
-    append-some rest tail opens.unfinished.longer
-    (start_ends (rest ++ tail) opens.unfinished.meaning
-    (subst (λ x. IsKnown x opens.unfinished.meaning) (ap (λ x. x ++ tail) e ∙ append_assoc START rest tail) opens.unfinished.known))
+start_closed u more (rest, e) opens = ⊎_elim
+    (λ (h : IsUnfinished u).
+    append-some rest h.tail h.longer
+    (start_ends (rest ++ h.tail) h.meaning (subst (λ x. IsKnown x h.meaning) (ap (λ x. x ++ h.tail) e ∙ append_assoc START rest h.tail) h.known)))
+    (λ (h : IsUnfinishedCharacter u). known_finished START u (Row start) start_known (rest, e) opens.some h)
+    opens.beginning
 
 pub escape_before_start : (rest : List ℕ) (more : Bool) → ¬ IsOpen (ESC ++ rest) more → IsLongest (ESC ++ rest) ESC (Row escape) → rest ≢ []
     → Begins START rest → IsItemAt (ESC ++ rest) more (item_of (Key escape) 1)
@@ -120,16 +144,16 @@ joined_rest rest more head some waits bytes event stands =
     unread : (bytes : List ℕ) (event : InputEvent) → RowGives (ESC ++ rest) more ESC escape bytes event → ⊥
     unread bytes event (its_key p q r s) = not_alone (ESC ++ rest) rest refl some (q refl)
     unread bytes event (its_paste at body tail split first r s) = cc (at)
-    unread bytes event (apart at v h split some2 gap second far r s) = decided v h (cc (split)) gap second waits
+    unread bytes event (apart at v h split some2 gap second far r s) = decided v (cc (split)) gap waits
       where
-        decided : (v : List ℕ) (h : Head) → v ≡ rest → ¬ IsOpen v more → IsHead v h → HasNoHeadYet rest more → ⊥
-        decided v h same gap second (inl opens) = gap (subst (λ z. IsOpen z more) (sym same) opens)
-        decided v h same gap second (inr none) = none h (subst (λ z. IsHead z h) same second)
-    unread bytes event (joined at v h j split some2 gap second near r s) = decided v h (cc (split)) gap second waits
+        decided : (v : List ℕ) → v ≡ rest → ¬ IsOpen v more → HasNoHeadYet rest more → ⊥
+        decided v same gap (inl opens) = gap (subst (λ z. IsOpen z more) (sym same) opens)
+        decided v same gap (inr e) = some e
+    unread bytes event (joined at v h j split some2 gap second near r s) = decided v (cc (split)) gap waits
       where
-        decided : (v : List ℕ) (h : Head) → v ≡ rest → ¬ IsOpen v more → IsHead v h → HasNoHeadYet rest more → ⊥
-        decided v h same gap second (inl opens) = gap (subst (λ z. IsOpen z more) (sym same) opens)
-        decided v h same gap second (inr none) = none h (subst (λ z. IsHead z h) same second)
+        decided : (v : List ℕ) → v ≡ rest → ¬ IsOpen v more → HasNoHeadYet rest more → ⊥
+        decided v same gap (inl opens) = gap (subst (λ z. IsOpen z more) (sym same) opens)
+        decided v same gap (inr e) = some e
 
 -- a row at the front whose bytes are ESC is the key Escape
 pub escape_row_is : (u : List ℕ) (k : KeyEvent) (n : ℕ) → HasHead u (row k n) → take n u ≡ ESC → IsLongest u ESC (Row escape)

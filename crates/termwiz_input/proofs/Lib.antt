@@ -1,4 +1,5 @@
 pub mod Calls
+pub mod Characters
 pub mod Counting
 pub mod Cutting
 pub mod Encoding
@@ -38,5 +39,6 @@ pub mod Settling
 pub mod Standing
 pub mod TableMap
 pub mod TableTests
+pub mod Unfinished
 pub mod Variants
 pub mod WholeTexts

@@ -52,3 +52,7 @@ same_from_length (x ∷ a) (y ∷ b) (z ∷ u) p q e =
 pub true_at_end : (P : ℕ → Type 0) (s t : List ℕ) → AllByRecursion P (s ++ t) → AllByRecursion P t
 true_at_end P [] t a = a
 true_at_end P (x ∷ s) t a = true_at_end P s t a.1
+
+pub true_at_front : (P : ℕ → Type 0) (s t : List ℕ) → AllByRecursion P (s ++ t) → AllByRecursion P s
+true_at_front P [] t a = tt
+true_at_front P (x ∷ s) t a = (a.0, true_at_front P s t a.1)

@@ -9,9 +9,9 @@ use Rattle.termwiz_input.specs.Keys.{plain, escape, with_alt}
 use Rattle.termwiz_input.specs.declared.types.InputEvent.TheVariants.{Key, Mouse, Paste}
 use Rattle.termwiz_input.specs.Known.{Meaning, IsKnown}
 use Rattle.termwiz_input.specs.Known.Meaning.{Row, Frame}
-use Rattle.termwiz_input.specs.Grammar.{Head, IsHead, IsLongest, IsOpen, bytes_of, IsKey, IsApart, EndsFirst, Item, Stands, Steps, Means, IsRest}
-use Rattle.termwiz_input.specs.Grammar.Head.{Known, Character}
-use Rattle.termwiz_input.specs.Grammar.Item.{key, char, mouse, paste, lone_escape, alt}
+use Rattle.termwiz_input.specs.Grammar.{Head, IsHead, IsLongest, IsOpen, replacement, bytes_of, IsKey, IsApart, EndsFirst, Item, Stands, Steps, Means, IsRest}
+use Rattle.termwiz_input.specs.Grammar.Head.{Known, Character, Broken}
+use Rattle.termwiz_input.specs.Grammar.Item.{key, char, broken, mouse, paste, lone_escape, alt}
 use Rattle.termwiz_input.proofs.Lists.{Overlaps, overlap}
 use Rattle.termwiz_input.proofs.Lists.Overlaps.{within, past}
 use Rattle.termwiz_input.proofs.Facts.{start, start_known, start_ends}
@@ -32,6 +32,7 @@ abbrev pub Gives : List ℕ → Bool → Head → List ℕ → InputEvent → Ty
 Gives u f (Known text (Row k)) bytes event = RowGives u f text k bytes event
 Gives u f (Known text (Frame report)) bytes event = (bytes ≡ text) × (event ≡ Mouse report)
 Gives u f (Character c) bytes event = (bytes ≡ encode_utf8 c) × (event ≡ Key (plain c))
+Gives u f (Broken byte) bytes event = (bytes ≡ byte ∷ []) × (event ≡ Key (plain replacement))
 
 -- START is the head of what it begins
 pub start_head : (u : List ℕ) → Begins START u → IsLongest u START (Row start)
@@ -49,6 +50,7 @@ start_head u b = record {
 pub reads : (u bytes : List ℕ) (event : InputEvent) (f : Bool) → Item u f bytes event → (h : Head) × IsHead u h × Gives u f h bytes event
 reads u bytes event f (key text k is usual alone) = (Known text (Row k), is, its_key usual alone refl refl)
 reads u bytes event f (char c is) = (Character c, is, (refl, refl))
+reads u bytes event f (broken byte is) = (Broken byte, is, (refl, refl))
 reads u bytes event f (mouse text report is) = (Known text (Frame report), is, (refl, refl))
 reads u bytes event f (paste body b first) =
     (Known START (Row start), start_head u (body ++ END ++ b.0, b.1), its_paste refl body b.0 b.1 first refl refl)
@@ -61,11 +63,13 @@ not_apart : (h : Head) (k : KeyEvent) → IsKey h k → IsApart h → ⊥
 not_apart (Known text (Row j)) k near far = near.0 far
 not_apart (Known text (Frame report)) k near far = near
 not_apart (Character c) k near far = far
+not_apart (Broken byte) k near far = far
 
 key_once : (h : Head) (j k : KeyEvent) → IsKey h j → IsKey h k → j ≡ k
 key_once (Known text (Row i)) j k a b = a.1 ∙ sym b.1
 key_once (Known text (Frame report)) j k a b = absurd a
 key_once (Character c) j k a b = a ∙ sym b
+key_once (Broken byte) j k a b = a ∙ sym b
 
 -- the text after one Escape
 after_escape : (u v w : List ℕ) → u ≡ ESC ++ v → u ≡ ESC ++ w → v ≡ w
@@ -107,6 +111,7 @@ gives_once : (u : List ℕ) (f : Bool) (h : Head) (b c : List ℕ) (d e : InputE
 gives_once u f (Known text (Row k)) b c d e x y = row_once u f text k b c d e x y
 gives_once u f (Known text (Frame report)) b c d e x y = (x.0 ∙ sym y.0, x.1 ∙ sym y.1)
 gives_once u f (Character o) b c d e x y = (x.0 ∙ sym y.0, x.1 ∙ sym y.1)
+gives_once u f (Broken byte) b c d e x y = (x.0 ∙ sym y.0, x.1 ∙ sym y.1)
 
 pub item_once : (u : List ℕ) (f : Bool) (b c : List ℕ) (d e : InputEvent) → Item u f b d → Item u f c e → (b ≡ c) × (d ≡ e)
 item_once u f b c d e x y =

@@ -1,5 +1,5 @@
 -- Pieces that are read one after another, and the numbers of their events.
-use Rattle.std.proofs.Common.{◌≡◌, ◌∙◌, ◌+◌, ◌-◌, ◌<◌, ◌≤◌, ◌==◌, ℕ, suc, Bool, true, false, cond, List, [], ◌∷◌, ◌++◌, length, take, get_or, nat_lt, refl, sym, ap, subst, arith, ⊎_elim, append_assoc, append-nil, length-append, All}
+use Rattle.std.proofs.Common.{◌≡◌, ◌⊎◌, ◌∙◌, ◌+◌, ◌-◌, ◌<◌, ◌≤◌, ◌==◌, ℕ, suc, Bool, true, false, cond, List, [], ◌∷◌, ◌++◌, length, take, get_or, nat_lt, refl, sym, ap, subst, arith, ⊎_elim, append_assoc, append-nil, length-append, All}
 use Rattle.std.specs.List.Sorted.{IsNonDecreasingBy}
 use Rattle.std.proofs.lemmas.Bool.{cases_lt}
 use Rattle.std.proofs.lemmas.Bool.Decides.{nat_tests}
@@ -10,6 +10,8 @@ use denote.Ref.{Bor}
 use Rattle.termwiz_input.specs.declared.types.InputEvent.{InputEvent}
 use Rattle.termwiz_input.specs.Grammar.{Steps, Means, IsRest}
 use Rattle.termwiz_input.specs.Pieces.{texts, join, pieces_or_one, NumberedEvent, events_of, numbered, of_first, AreNumbered, flag_at, ReadsFirst, taken_or_one}
+use Rattle.termwiz_input.specs.Bytes.{Begins, START}
+use Rattle.termwiz_input.proofs.Settling.{rest_flushed}
 use Rattle.termwiz_input.proofs.Cutting.{steps_stay, steps_join}
 
 -- the events of one more piece
@@ -154,6 +156,12 @@ all_read waiting pieces more given rest some at =
       },
       subst (λ ps. AreNumbered waiting ps given) all at.reads.are_numbered,
     )
+
+-- what waits then, without more to come
+pub all_flushed : (waiting : List ℕ) (pieces : List (List ℕ)) (more : Bool) (taken : ℕ) (given : List NumberedEvent) (rest : List ℕ) → 0 < length pieces
+    → taken ≡ length pieces → Between waiting pieces more taken given rest → more ≡ false → (rest ≡ []) ⊎ Begins START rest
+all_flushed waiting pieces more taken given rest some all at last =
+    rest_flushed rest more (subst (IsRest rest) (ap (flag_at pieces more) all ∙ flag_last pieces more) (at.settled (omega arith))) last
 
 -- the pieces of a slice that has some
 pub length-pieces : (pieces : List (Bor (List ℕ))) → 0 < length pieces → length (pieces_or_one (texts pieces)) ≡ length pieces

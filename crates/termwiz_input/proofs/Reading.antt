@@ -1,8 +1,11 @@
 -- What a lookup in the table, and a test for a frame, say of the head of a text.
-use Rattle.std.proofs.Common.{◌≡◌, ◌≢◌, inl, inr, ⊎_elim, ℕ, ◌<◌, ◌≤◌, Bool, true, false, List, [], ◌∷◌, ◌++◌, length, take, drop, refl, sym, ap, ◌∙◌, subst, arith, append_assoc, length-append, length-take-le, take-append-drop, encode_utf8}
-use Rattle.std.specs.Prelude.{Option, Some, None, is_some, IsSome}
+use Rattle.std.proofs.Common.{◌≡◌, ◌≢◌, inl, inr, ⊎_elim, ℕ, ◌<◌, ◌≤◌, Bool, true, false, List, [], ◌∷◌, ◌++◌, length, take, drop, refl, sym, ap, ◌∙◌, subst, arith, append_assoc, length-append, length-take-le, take-append-drop, append-nil, encode_utf8}
+use Rattle.std.specs.Prelude.{Option, Some, None, is_some, not, IsSome, IsTrue, ◌↔◌}
 use Rattle.std.specs.Option.{option_map}
 use Rattle.std.specs.Char.{IsScalar}
+use Rattle.std.specs.Str.{IsUtf8, IsValidUpTo}
+use Rattle.std.specs.Str.Lossy.{utf8_error_len}
+use Rattle.std.proofs.lemmas.Str.{encode_same}
 use Rattle.std.specs.FinMap.{get}
 use Rattle.std.proofs.Math.Seq.{take-append_seam}
 use Rattle.std.proofs.lemmas.Bool.{cases_lt}
@@ -11,7 +14,7 @@ use Rattle.bstr.proofs.lemmas.SoundLemmas.{SpellsChar-decoded}
 use Rattle.bstr.proofs.lemmas.EncodeLemmas.{decoded-encode}
 use Rattle.termwiz_input.specs.declared.types.KeyEvent.{KeyEvent}
 use Rattle.termwiz_input.specs.declared.types.MouseEvent.{MouseEvent}
-use Rattle.termwiz_input.specs.declared.head.Head.TheVariants.{Row as row, Frame as frame, Character as character}
+use Rattle.termwiz_input.specs.declared.head.Head.TheVariants.{Row as row, Frame as frame, Character as character, Broken as broken}
 use Rattle.termwiz_input.specs.Bytes.{Begins}
 use Rattle.termwiz_input.specs.Lookup.{IsLongestKey, IsExtended, NoKeyBegins}
 use Rattle.termwiz_input.specs.Table.{table}
@@ -19,13 +22,13 @@ use Rattle.termwiz_input.specs.Frame.{IsFrame}
 use Rattle.termwiz_input.specs.FrameAnswers.{IsBegun}
 use Rattle.termwiz_input.specs.Known.{Meaning, IsKnown}
 use Rattle.termwiz_input.specs.Known.Meaning.{Row, Frame}
-use Rattle.termwiz_input.specs.Grammar.{Head, IsHead, IsOpen}
-use Rattle.termwiz_input.specs.Grammar.Head.{Known, Character}
-use Rattle.termwiz_input.specs.AtFront.{HasHead, HasNoHead, NoFrameBegins, HasNoHeadYet, character_of}
+use Rattle.termwiz_input.specs.Grammar.{IsOpen, IsUnfinished, IsUnfinishedCharacter}
+use Rattle.termwiz_input.specs.AtFront.{HasHead, NoFrameBegins, HasNoHeadYet, character_of}
 use Rattle.termwiz_input.proofs.Lists.{append-some, length-some, length-Begins, Overlaps, overlap}
 use Rattle.termwiz_input.proofs.Lists.Overlaps.{within, past}
-use Rattle.termwiz_input.proofs.Facts.{frame_ends, known_some}
-use Rattle.termwiz_input.proofs.Standing.{encode_some as encoding_some}
+use Rattle.termwiz_input.proofs.Facts.{frame_ends}
+use Rattle.termwiz_input.proofs.Characters.{known_finished}
+use Rattle.termwiz_input.proofs.Unfinished.{unfinished_told, unfinished_from, no_utf8, valid_nowhere}
 use Rattle.termwiz_input.proofs.TableMap.{row_from_table, table_from_row}
 
 -- what a beginning of a text is
@@ -76,13 +79,13 @@ longest_from_key u n k none is = (
         (cases_lt n (length other))
     at_most other (Frame event) known b = absurd (none other event (frame_known other event known) b)
 
--- where a text is open, the map has a longer key that begins with it, or the text begins a frame
-pub extended_from_open : (u : List ℕ) (more : Bool) → IsOpen u more → (more ≡ true → IsBegun u → ⊥) → IsExtended table u
-extended_from_open u more opens never = go opens.unfinished.tail opens.unfinished.meaning opens.unfinished.longer opens.unfinished.known
+-- where a text properly begins a known text, the map has a longer key that begins with it, or the text begins a frame
+pub extended_from_unfinished : (u : List ℕ) → IsUnfinished u → ¬ IsBegun u → IsExtended table u
+extended_from_unfinished u h never = go h.tail h.meaning h.longer h.known
   where
     go : (tail : List ℕ) (m : Meaning) → tail ≢ [] → IsKnown (u ++ tail) m → IsExtended table u
     go tail (Row k) longer known = (tail, length-some tail longer, ap is_some (row_known (u ++ tail) k known))
-    go tail (Frame event) longer known = absurd (never opens.more_comes (tail, event, longer, frame_known (u ++ tail) event known))
+    go tail (Frame event) longer known = absurd (never (tail, event, longer, frame_known (u ++ tail) event known))
 
 stored_key : (o : Option KeyEvent) → IsSome o → (k : KeyEvent) × (o ≡ Some k)
 stored_key (Some k) h = (k, refl)
@@ -91,22 +94,10 @@ stored_key None h = absurd (cc)
 pub open_from_extended : (u : List ℕ) → u ≢ [] → IsExtended table u → IsOpen u true
 open_from_extended u some (tail, longer, stored) =
     let k = stored_key (get table (u ++ tail)) stored in
-    record { more_comes = refl; some = some; unfinished = record { tail = tail; longer = λ none. omega (arith, ap length none); meaning = Row k.0; known = known_row (u ++ tail) k.0 k.1 } }
-
--- nothing begins the empty text
-pub empty_headless : HasNoHead []
-empty_headless h is = go h is
-  where
-    none_begins : (text : List ℕ) → text ≢ [] → Begins text [] → ⊥
-    none_begins [] some b = some refl
-    none_begins (x ∷ text) some b = cc (b.1)
-
-    go : (h : Head) → IsHead [] h → ⊥
-    go (Known text m) is = none_begins text (known_some text m is.known) is.begins
-    go (Character c) is = none_begins (encode_utf8 c) (encoding_some c) is.begins
+    record { more_comes = refl; some = some; beginning = inl (record { tail = tail; longer = λ none. omega (arith, ap length none); meaning = Row k.0; known = known_row (u ++ tail) k.0 k.1 }) }
 
 pub extended_waits : (u : List ℕ) → IsExtended table u → HasNoHeadYet u true
-extended_waits [] ext = inr empty_headless
+extended_waits [] ext = inr refl
 extended_waits (x ∷ u) ext = inl (open_from_extended (x ∷ u) (λ h. cc) ext)
 
 -- no known text begins the text, where no key and no frame does
@@ -143,9 +134,64 @@ unspelled u e c scalar b =
     let found : option_map {U = ℕ × ℕ} (λ d. (d, (decoded u).size)) (decoded u).char ≡ Some (c, (decoded u).size) = ap (option_map {U = ℕ × ℕ} (λ d. (d, (decoded u).size))) read in
     cc (e, found)
 
-pub headless : (u : List ℕ) → NoFrameBegins u → NoKeyBegins table u → character_of u ≡ None → HasNoHead u
-headless u none no_key e (Known text m) is = nothing_known u none no_key text m is.known is.begins
-headless u none no_key e (Character c) is = unspelled u e c is.scalar is.begins
+-- what a character begins doesn't properly begin another
+character_finished : (u : List ℕ) (c : ℕ) → Begins (encode_utf8 c) u → IsUnfinishedCharacter u → ⊥
+character_finished u c b h =
+    let whole : encode_utf8 c ++ (b.0 ++ h.tail) ≡ encode_utf8 h.char ++ [] =
+    sym (append_assoc (encode_utf8 c) b.0 h.tail) ∙ ap (λ x. x ++ h.tail) (sym b.1) ∙ sym h.spells ∙ sym (append-nil (encode_utf8 h.char)) in
+    append-some b.0 h.tail h.longer (encode_same c h.char (b.0 ++ h.tail) [] whole).1
+
+-- a text isn't open that properly begins neither a known text nor a character
+closed_by : (u : List ℕ) (more : Bool) → (more ≡ true → ¬ IsUnfinished u) → (more ≡ true → ¬ IsUnfinishedCharacter u) → ¬ IsOpen u more
+closed_by u more known char opens = ⊎_elim (known opens.more_comes) (char opens.more_comes) opens.beginning
+
+pub character_closed : (u : List ℕ) (more : Bool) (c n : ℕ) → (more ≡ true → ¬ IsUnfinished u) → character_of u ≡ Some (c, n) → ¬ IsOpen u more
+character_closed u more c n finished e = closed_by u more finished (λ m. character_finished u c (spelled u c n e).2)
+
+pub broken_closed : (u : List ℕ) (more : Bool) → (more ≡ true → ¬ IsUnfinished u) → ((more ≡ true) × IsUnfinishedCharacter u → ⊥) → ¬ IsOpen u more
+broken_closed u more finished whole = closed_by u more finished (λ m h. whole (m, h))
+
+-- the first byte of a text that nothing known and no character begins
+pub broken_front : (u : List ℕ) → u ≢ [] → NoFrameBegins u → NoKeyBegins table u → character_of u ≡ None → HasHead u broken
+broken_front [] some none no_key e = absurd (some refl)
+broken_front (x ∷ u) some none no_key e =
+    (x, record { unknown = nothing_known (x ∷ u) none no_key; unspelled = unspelled (x ∷ u) e; begins = (u, refl) })
+
+pub unfinished_waits : (u : List ℕ) (more : Bool) → u ≢ [] → (more ≡ true) × IsUnfinishedCharacter u → HasNoHeadYet u more
+unfinished_waits u more some (m, h) = inl (record { more_comes = m; some = some; beginning = inr h })
+
+-- what std says of bytes that no character begins
+not_decoded : (u : List ℕ) → character_of u ≡ None → (decoded u).char ≡ None
+unfolding character_of
+not_decoded u e = go (decoded u).char refl e
+  where
+    go : (o : Option ℕ) → (decoded u).char ≡ o → option_map {U = ℕ × ℕ} (λ d. (d, (decoded u).size)) o ≡ None → (decoded u).char ≡ None
+    go (Some d) f h = absurd (cc (h))
+    go None f h = f
+
+pub too_long : (u : List ℕ) → u ≢ [] → 3 < length u → IsUnfinishedCharacter u → ⊥
+too_long u some long h = omega (arith, unfinished_told u some h)
+
+pub not_text : (u : List ℕ) → u ≢ [] → character_of u ≡ None → IsUtf8 u → ⊥
+not_text u some e is = no_utf8 u some (not_decoded u e) is
+
+-- where std finds no length of the fault, the text ends within a character
+pub fault_tells : (u : List ℕ) (n : ℕ) (len : Option ℕ) (none : Bool) → u ≢ [] → character_of u ≡ None → IsValidUpTo u n → len ≡ utf8_error_len (drop n u)
+    → is_some len ≡ not none → IsTrue none ↔ IsUnfinishedCharacter u
+fault_tells u n len none some e valid is test =
+    let missing = not_decoded u e in
+    let at : len ≡ utf8_error_len u = is ∙ ap (λ k. utf8_error_len (drop k u)) (valid_nowhere u n missing valid) in
+    (λ h. unfinished_from u some missing (sym at ∙ told len none test h), λ h. tells len none test (at ∙ (unfinished_told u some h).0))
+  where
+    told : (o : Option ℕ) (b : Bool) → is_some o ≡ not b → IsTrue b → o ≡ None
+    told None b same h = refl
+    told (Some k) true same h = absurd (cc (same))
+    told (Some k) false same h = absurd (cc (h))
+
+    tells : (o : Option ℕ) (b : Bool) → is_some o ≡ not b → o ≡ None → IsTrue b
+    tells None true same h = refl
+    tells None false same h = absurd (cc (same))
+    tells (Some k) b same h = absurd (cc (h))
 
 -- a frame at the front is the head, and nothing that comes changes it
 pub frame_front : (u : List ℕ) (n : ℕ) (event : MouseEvent) → n ≤ length u → IsFrame (take n u) event → HasHead u (frame event n)
@@ -164,16 +210,19 @@ frame_front u n event inside f = (
         absurd (longer (frame_ends (take n u) t event m (known_frame (take n u) event f) (subst (λ x. IsKnown x m) e known)))
 
 pub frame_closed : (u : List ℕ) (n : ℕ) (more : Bool) (event : MouseEvent) → IsFrame (take n u) event → IsOpen u more → ⊥
-frame_closed u n more event f opens =
-    let tail = opens.unfinished.tail in
-    let whole : u ++ tail ≡ take n u ++ (drop n u ++ tail) = ap (λ x. x ++ tail) (sym (take-append-drop n u)) ∙ append_assoc (take n u) (drop n u) tail in
-    append-some (drop n u) tail opens.unfinished.longer
-    (frame_ends (take n u) (drop n u ++ tail) event opens.unfinished.meaning (known_frame (take n u) event f) (subst (λ x. IsKnown x opens.unfinished.meaning) whole opens.unfinished.known))
+frame_closed u n more event f opens = ⊎_elim
+    (λ (h : IsUnfinished u).
+    let whole : u ++ h.tail ≡ take n u ++ (drop n u ++ h.tail) =
+    ap (λ x. x ++ h.tail) (sym (take-append-drop n u)) ∙ append_assoc (take n u) (drop n u) h.tail in
+    append-some (drop n u) h.tail h.longer
+    (frame_ends (take n u) (drop n u ++ h.tail) event h.meaning (known_frame (take n u) event f) (subst (λ x. IsKnown x h.meaning) whole h.known)))
+    (λ (h : IsUnfinishedCharacter u). known_finished (take n u) u (Frame event) (known_frame (take n u) event f) (begins_take u n) opens.some h)
+    opens.beginning
 
 pub begun_waits : (u : List ℕ) → IsBegun u → HasNoHeadYet u true
-begun_waits [] begun = inr empty_headless
+begun_waits [] begun = inr refl
 begun_waits (x ∷ u) (tail, event, longer, f) =
-    inl (record { more_comes = refl; some = λ h. cc; unfinished = record { tail = tail; longer = longer; meaning = Frame event; known = known_frame (x ∷ u ++ tail) event f } })
+    inl (record { more_comes = refl; some = λ h. cc; beginning = inl (record { tail = tail; longer = longer; meaning = Frame event; known = known_frame (x ∷ u ++ tail) event f }) })
 
 -- where a text properly begins a frame, no frame begins it
 pub begun_no_frame : (u : List ℕ) → IsBegun u → NoFrameBegins u
@@ -182,9 +231,11 @@ begun_no_frame u (tail, event, longer, f) word other g b =
     append-some b.0 tail longer
     (frame_ends word (b.0 ++ tail) other (Frame event) (known_frame word other g) (subst (λ x. IsKnown x (Frame event)) whole (known_frame (u ++ tail) event f)))
 
--- where nothing longer that is stored may come, the text isn't open
-pub exact_closed : (u : List ℕ) (more : Bool) → (more ≡ true → IsBegun u → ⊥) → (IsExtended table u → more ≡ false) → IsOpen u more → ⊥
-exact_closed u more never stops opens =
-    let one : more ≡ true = opens.more_comes in
-    let two : more ≡ false = stops (extended_from_open u more opens never) in
-    cc (one, two)
+-- where nothing longer that is stored may come, and a key begins the text, the text isn't open
+pub exact_closed : (u : List ℕ) (more : Bool) (n : ℕ) (k : KeyEvent) → (more ≡ true → IsBegun u → ⊥) → IsLongestKey table u n k
+    → (IsExtended table u → more ≡ false) → IsOpen u more → ⊥
+exact_closed u more n k never is stops opens =
+    let one : more ≡ true = opens.more_comes in ⊎_elim
+    (λ (h : IsUnfinished u). let two : more ≡ false = stops (extended_from_unfinished u h (never one)) in cc (one, two))
+    (λ (h : IsUnfinishedCharacter u). known_finished (take n u) u (Row k) (known_row (take n u) k is.stored) (begins_take u n) opens.some h)
+    opens.beginning

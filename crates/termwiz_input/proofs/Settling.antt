@@ -1,22 +1,23 @@
 -- At each text an item stands or the text waits, and it can be told which.
-use Rattle.std.proofs.Common.{◌≡◌, ◌⊎◌, inl, inr, ℕ, zero, suc, ◌<◌, ◌≤◌, Bool, List, [], ◌∷◌, ◌++◌, length, refl, sym, ap, ◌∙◌, subst, ⊎_elim, arith, encode_utf8, length-append}
+use Rattle.std.proofs.Common.{◌≡◌, ◌⊎◌, inl, inr, ℕ, zero, suc, ◌<◌, ◌≤◌, Bool, false, List, [], ◌∷◌, ◌++◌, length, refl, sym, ap, ◌∙◌, subst, ⊎_elim, arith, encode_utf8, length-append}
 use Rattle.std.specs.Str.Lossy.{utf8_lossy}
 use Rattle.termwiz_input.specs.declared.types.KeyEvent.{KeyEvent}
-use Rattle.termwiz_input.specs.Bytes.{ESC, START, END}
+use Rattle.termwiz_input.specs.Bytes.{Begins, ESC, START, END}
 use Rattle.termwiz_input.specs.declared.types.InputEvent.{InputEvent}
 use Rattle.termwiz_input.specs.Keys.{plain, escape, with_alt}
 use Rattle.termwiz_input.specs.declared.types.InputEvent.TheVariants.{Key, Mouse, Paste}
 use Rattle.termwiz_input.specs.Known.{IsKnown}
 use Rattle.termwiz_input.specs.Known.Meaning.{Row, Frame}
-use Rattle.termwiz_input.specs.Grammar.{Head, IsHead, IsLongest, IsOpen, IsAfterEscape, bytes_of, IsKey, IsApart, Item, Stands, IsRest}
-use Rattle.termwiz_input.specs.Grammar.Head.{Known, Character}
-use Rattle.termwiz_input.specs.Grammar.Item.{key, char, mouse, paste, lone_escape, alt}
+use Rattle.termwiz_input.specs.Grammar.{Head, IsHead, IsLongest, IsOpen, IsAfterEscape, replacement, bytes_of, IsKey, IsApart, Item, Stands, IsRest}
+use Rattle.termwiz_input.specs.Grammar.Head.{Known, Character, Broken}
+use Rattle.termwiz_input.specs.Grammar.Item.{key, char, broken, mouse, paste, lone_escape, alt}
 use Rattle.termwiz_input.specs.Laws.{EmptyIsRest, OneMeaning, WaitingShape, Waits}
-use Rattle.termwiz_input.specs.Laws.Waits.{nothing, open_paste, broken, undecided}
+use Rattle.termwiz_input.specs.Laws.Waits.{nothing, open_paste, undecided}
 use Rattle.termwiz_input.proofs.Lists.{append-some_left, length-some}
-use Rattle.termwiz_input.proofs.Facts.{known_once, escape_known, beginnings_short}
+use Rattle.termwiz_input.proofs.Facts.{known_once, escape_known}
+use Rattle.termwiz_input.proofs.Characters.{beginning_short}
 use Rattle.termwiz_input.proofs.Standing.{item_some, item_begins}
-use Rattle.termwiz_input.proofs.Heads.{head_once, head_or_none, open_or_not}
+use Rattle.termwiz_input.proofs.Heads.{head_once, head_of, open_or_not}
 use Rattle.termwiz_input.proofs.Searches.{same_or_not}
 use Rattle.termwiz_input.proofs.Pastes.{Ends, find_end}
 use Rattle.termwiz_input.proofs.Pastes.Ends.{ends, endless}
@@ -32,6 +33,7 @@ key_or_apart : (h : Head) → ((k : KeyEvent) × IsKey h k) ⊎ IsApart h
 key_or_apart (Known text (Row k)) = ⊎_elim (λ e. inr e) (λ other. inl (k, (other, refl))) (same_or_not text START)
 key_or_apart (Known text (Frame report)) = inr tt
 key_or_apart (Character c) = inl (plain c, refl)
+key_or_apart (Broken byte) = inl (plain replacement, refl)
 
 stand : (u bytes : List ℕ) (f : Bool) (event : InputEvent) → ¬ IsOpen u f → Item u f bytes event → Settled u f
 stand u bytes f event closed item = standing bytes event (record { closed = closed; item = item })
@@ -59,18 +61,14 @@ after_escape_head : (u : List ℕ) (f : Bool) → ¬ IsOpen u f → IsLongest u 
 after_escape_head u f closed is [] e = stand u ESC f (Key escape) closed (key ESC escape is (λ h. cc) (λ h. e))
 after_escape_head u f closed is (x ∷ v) e = ⊎_elim
     (λ (o : IsOpen (x ∷ v) f). resting (unread (λ gap. absurd (gap o)))
-    (undecided ESC (x ∷ v) (inr refl) e (λ h. cc) o.unfinished
-    (beginnings_short (x ∷ v) o.unfinished.tail o.unfinished.meaning o.unfinished.longer o.unfinished.known) o.more_comes))
-    (λ gap. ⊎_elim
-    (λ (second : (h : Head) × IsHead (x ∷ v) h).
+    (undecided ESC (x ∷ v) (inr refl) e (λ h. cc) o.beginning (beginning_short (x ∷ v) o.beginning) o.more_comes))
+    (λ gap.
+    let second = head_of x v in
     let after : IsAfterEscape u (x ∷ v) f = record { escape_head = is; splits = e; some = λ h. cc; closed = gap } in
     ⊎_elim
     (λ (near : (k : KeyEvent) × IsKey second.0 k). stand u (ESC ++ bytes_of second.0) f (Key (with_alt near.0)) closed (alt (x ∷ v) second.0 near.0 after second.1 near.1))
     (λ (far : IsApart second.0). stand u ESC f (Key escape) closed (lone_escape (x ∷ v) second.0 after second.1 far))
     (key_or_apart second.0))
-    (λ (none : (h : Head) → IsHead (x ∷ v) h → ⊥). resting (unread (λ gap2. λ h second. none h second))
-    (broken ESC (x ∷ v) (inr refl) e (λ h. cc) none))
-    (head_or_none (x ∷ v)))
     (open_or_not (x ∷ v) f)
   where
     unread_row : ((IsOpen (x ∷ v) f → ⊥) → (h : Head) → IsHead (x ∷ v) h → ⊥) → (bytes : List ℕ) (event : InputEvent) → RowGives u f ESC escape bytes event → ⊥
@@ -91,6 +89,7 @@ after_escape_head u f closed is (x ∷ v) e = ⊎_elim
 -- a text that isn't open, by its head
 by_head : (u : List ℕ) (f : Bool) → ¬ IsOpen u f → (h : Head) → IsHead u h → Settled u f
 by_head u f closed (Character c) is = stand u (encode_utf8 c) f (Key (plain c)) closed (char c is)
+by_head u f closed (Broken byte) is = stand u (byte ∷ []) f (Key (plain replacement)) closed (broken byte is)
 by_head u f closed (Known text (Frame report)) is = stand u text f (Mouse report) closed (mouse text report is)
 by_head u f closed (Known text (Row k)) is = ⊎_elim
     (λ (e : text ≡ START). after_start u f k closed (subst (λ x. IsLongest u x (Row k)) e is))
@@ -112,14 +111,8 @@ pub settle : (u : List ℕ) (f : Bool) → Settled u f
 settle [] f = resting (empty_is_rest f) (nothing refl)
 settle (x ∷ u) f = ⊎_elim
     (λ (o : IsOpen (x ∷ u) f). resting (λ bytes event stands. stands.closed o)
-    (undecided [] (x ∷ u) (inl refl) refl (λ h. cc) o.unfinished
-    (beginnings_short (x ∷ u) o.unfinished.tail o.unfinished.meaning o.unfinished.longer o.unfinished.known) o.more_comes))
-    (λ closed. ⊎_elim
-    (λ (first : (h : Head) × IsHead (x ∷ u) h). by_head (x ∷ u) f closed first.0 first.1)
-    (λ (none : (h : Head) → IsHead (x ∷ u) h → ⊥). resting
-    (λ bytes event stands. let r = reads (x ∷ u) bytes event f stands.item in none r.0 r.1)
-    (broken [] (x ∷ u) (inl refl) refl (λ h. cc) none))
-    (head_or_none (x ∷ u)))
+    (undecided [] (x ∷ u) (inl refl) refl (λ h. cc) o.beginning (beginning_short (x ∷ u) o.beginning) o.more_comes))
+    (λ closed. let first = head_of x u in by_head (x ∷ u) f closed first.0 first.1)
     (open_or_not (x ∷ u) f)
 
 pub waiting_shape : WaitingShape
@@ -128,6 +121,18 @@ waiting_shape u f rest = go (settle u f)
     go : Settled u f → Waits u f
     go (standing bytes event stands) = absurd (rest bytes event stands)
     go (resting r waits) = waits
+
+-- nothing waits under a flush but an open paste
+pub flushed : (W : List ℕ) → IsRest W false → (W ≡ []) ⊎ Begins START W
+flushed W rest = go (waiting_shape W false rest)
+  where
+    go : Waits W false → (W ≡ []) ⊎ Begins START W
+    go (nothing e) = inl e
+    go (open_paste body e never) = inr (body, e)
+    go (undecided held bytes is e n u short m) = absurd (cc (m))
+
+pub rest_flushed : (W : List ℕ) (more : Bool) → IsRest W more → more ≡ false → (W ≡ []) ⊎ Begins START W
+rest_flushed W more rest last = flushed W (subst (IsRest W) last rest)
 
 meaning_within : (n : ℕ) (T : List ℕ) (f : Bool) → length T ≤ n → (E : List InputEvent) × (W : List ℕ) × Read T f E W
 meaning_within zero [] f l = go (settle [] f)

@@ -1,14 +1,15 @@
 -- An item that stands at a text with more to come stands there whatever comes.
-use Rattle.std.proofs.Common.{◌≡◌, ◌≢◌, ℕ, Bool, true, List, [], ◌∷◌, ◌++◌, length, refl, sym, ap, ◌∙◌, subst, append_assoc, arith, encode_utf8}
+use Rattle.std.proofs.Common.{◌≡◌, ◌≢◌, inl, inr, ⊎_elim, ℕ, Bool, true, List, [], ◌∷◌, ◌++◌, length, refl, sym, ap, ◌∙◌, subst, append_assoc, arith, encode_utf8}
+use Rattle.std.specs.Char.{IsScalar}
 use Rattle.std.proofs.lemmas.Str.{length-encode, len_utf8_bounds}
 use Rattle.termwiz_input.specs.Bytes.{Begins, ESC, START, END}
 use Rattle.termwiz_input.specs.declared.types.InputEvent.{InputEvent}
 use Rattle.termwiz_input.specs.Keys.{escape}
 use Rattle.termwiz_input.specs.Known.{Meaning, IsKnown}
 use Rattle.termwiz_input.specs.Known.Meaning.{Row, Frame}
-use Rattle.termwiz_input.specs.Grammar.{IsLongest, IsCharacter, IsOpen, IsAfterEscape, Head, IsHead, bytes_of, Item, Stands}
-use Rattle.termwiz_input.specs.Grammar.Head.{Known, Character}
-use Rattle.termwiz_input.specs.Grammar.Item.{key, char, mouse, paste, lone_escape, alt}
+use Rattle.termwiz_input.specs.Grammar.{IsLongest, IsCharacter, IsBroken, IsUnfinished, IsUnfinishedCharacter, IsOpen, IsAfterEscape, Head, IsHead, bytes_of, Item, Stands}
+use Rattle.termwiz_input.specs.Grammar.Head.{Known, Character, Broken}
+use Rattle.termwiz_input.specs.Grammar.Item.{key, char, broken, mouse, paste, lone_escape, alt}
 use Rattle.termwiz_input.proofs.Lists.{Overlaps, overlap, append-some, append-some_left, Begins-append}
 use Rattle.termwiz_input.proofs.Lists.Overlaps.{within, past}
 use Rattle.termwiz_input.proofs.Facts.{known_some, start, start_known}
@@ -16,7 +17,7 @@ use Rattle.termwiz_input.proofs.Facts.{known_some, start, start_known}
 -- nothing known goes on after a text that isn't open
 not_past : (u t : List ℕ) (m : Meaning) → u ≢ [] → ¬ IsOpen u true → t ≢ [] → IsKnown (u ++ t) m → ⊥
 not_past u t m some closed longer known =
-    closed (record { more_comes = refl; some = some; unfinished = record { tail = t; longer = longer; meaning = m; known = known } })
+    closed (record { more_comes = refl; some = some; beginning = inl (record { tail = t; longer = longer; meaning = m; known = known }) })
 
 -- so a known text that begins the longer text begins the shorter one
 pub begins_shorter : (u s other : List ℕ) (m : Meaning) → u ≢ [] → ¬ IsOpen u true → IsKnown other m → Begins other (u ++ s) → Begins other u
@@ -40,15 +41,37 @@ character_stays u s c some closed is = record {
   begins = Begins-append (encode_utf8 c) u s is.begins;
 }
 
+-- nor does a character go on after it
+char_not_past : (u t : List ℕ) (c : ℕ) → u ≢ [] → ¬ IsOpen u true → t ≢ [] → IsScalar c → encode_utf8 c ≡ u ++ t → ⊥
+char_not_past u t c some closed longer scalar spells =
+    closed (record { more_comes = refl; some = some; beginning = inr (record { tail = t; longer = longer; char = c; scalar = scalar; spells = spells }) })
+
+char_begins_shorter : (u s : List ℕ) (c : ℕ) → u ≢ [] → ¬ IsOpen u true → IsScalar c → Begins (encode_utf8 c) (u ++ s) → Begins (encode_utf8 c) u
+char_begins_shorter u s c some closed scalar b = go (overlap (encode_utf8 c) b.0 u s b.1)
+  where
+    go : Overlaps (encode_utf8 c) b.0 u s → Begins (encode_utf8 c) u
+    go (within t e f) = (t, e)
+    go (past t longer e f) = absurd (char_not_past u t c some closed longer scalar e)
+
+pub broken_stays : (u s : List ℕ) (byte : ℕ) → u ≢ [] → ¬ IsOpen u true → IsBroken u byte → IsBroken (u ++ s) byte
+broken_stays u s byte some closed is = record {
+  unknown = λ other n known h. is.unknown other n known (begins_shorter u s other n some closed known h);
+  unspelled = λ c scalar h. is.unspelled c scalar (char_begins_shorter u s c some closed scalar h);
+  begins = Begins-append (byte ∷ []) u s is.begins;
+}
+
 pub head_stays : (u s : List ℕ) (h : Head) → u ≢ [] → ¬ IsOpen u true → IsHead u h → IsHead (u ++ s) h
 head_stays u s (Known text m) some closed is = longest_stays u s text m some closed is
 head_stays u s (Character c) some closed is = character_stays u s c some closed is
+head_stays u s (Broken byte) some closed is = broken_stays u s byte some closed is
 
 pub closed_stays : (u s : List ℕ) (f : Bool) → u ≢ [] → ¬ IsOpen u true → ¬ IsOpen (u ++ s) f
-closed_stays u s f some closed open' =
-    let longer : s ++ open'.unfinished.tail ≢ [] = append-some s open'.unfinished.tail open'.unfinished.longer in
-    not_past u (s ++ open'.unfinished.tail) open'.unfinished.meaning some closed longer
-    (subst (λ x. IsKnown x open'.unfinished.meaning) (append_assoc u s open'.unfinished.tail) open'.unfinished.known)
+closed_stays u s f some closed open' = ⊎_elim
+    (λ (h : IsUnfinished (u ++ s)). not_past u (s ++ h.tail) h.meaning some closed (append-some s h.tail h.longer)
+    (subst (λ x. IsKnown x h.meaning) (append_assoc u s h.tail) h.known))
+    (λ (h : IsUnfinishedCharacter (u ++ s)). char_not_past u (s ++ h.tail) h.char some closed (append-some s h.tail h.longer) h.scalar
+    (h.spells ∙ append_assoc u s h.tail))
+    open'.beginning
 
 after_escape_stays : (u v s : List ℕ) (f : Bool) → u ≢ [] → ¬ IsOpen u true → IsAfterEscape u v true → IsAfterEscape (u ++ s) (v ++ s) f
 after_escape_stays u v s f some closed is = record {
@@ -63,13 +86,14 @@ pub escape_open : (u : List ℕ) → u ≡ ESC → IsOpen u true
 escape_open u e = record {
   more_comes = refl;
   some = λ h. cc;
-  unfinished = record { tail = 91 ∷ 50 ∷ 48 ∷ 48 ∷ 126 ∷ []; longer = λ h. cc; meaning = Row start; known = subst (λ x. IsKnown (x ++ 91 ∷ 50 ∷ 48 ∷ 48 ∷ 126 ∷ []) (Row start)) (sym e) start_known };
+  beginning = inl (record { tail = 91 ∷ 50 ∷ 48 ∷ 48 ∷ 126 ∷ []; longer = λ h. cc; meaning = Row start; known = subst (λ x. IsKnown (x ++ 91 ∷ 50 ∷ 48 ∷ 48 ∷ 126 ∷ []) (Row start)) (sym e) start_known });
 }
 
 item_stays : (u s bytes : List ℕ) (event : InputEvent) (f : Bool) → u ≢ [] → ¬ IsOpen u true → Item u true bytes event → Item (u ++ s) f bytes event
 item_stays u s bytes event f some closed (key text k is plain alone) =
     key text k (longest_stays u s text (Row k) some closed is) plain (λ e. absurd (closed (escape_open u (alone e))))
 item_stays u s bytes event f some closed (char c is) = char c (character_stays u s c some closed is)
+item_stays u s bytes event f some closed (broken byte is) = broken byte (broken_stays u s byte some closed is)
 item_stays u s bytes event f some closed (mouse text report is) = mouse text report (longest_stays u s text (Frame report) some closed is)
 item_stays u s bytes event f some closed (paste body b first) = paste body (Begins-append (START ++ body ++ END) u s b) first
 item_stays u s bytes event f some closed (lone_escape v h after is apart) =
@@ -84,6 +108,7 @@ encode_some c e = absurd (omega (arith, length-encode c, len_utf8_bounds c, ap l
 pub item_some : (u bytes : List ℕ) (event : InputEvent) (f : Bool) → Item u f bytes event → bytes ≢ []
 item_some u bytes event f (key text k is plain alone) = known_some text (Row k) is.known
 item_some u bytes event f (char c is) = encode_some c
+item_some u bytes event f (broken byte is) = λ h. cc
 item_some u bytes event f (mouse text report is) = known_some text (Frame report) is.known
 item_some u bytes event f (paste body b first) = λ h. cc
 item_some u bytes event f (lone_escape v h after is apart) = λ h. cc
@@ -92,10 +117,12 @@ item_some u bytes event f (alt v h k after is is_key) = λ h. cc
 pub head_begins : (u : List ℕ) (h : Head) → IsHead u h → Begins (bytes_of h) u
 head_begins u (Known text m) is = is.begins
 head_begins u (Character c) is = is.begins
+head_begins u (Broken byte) is = is.begins
 
 pub item_begins : (u bytes : List ℕ) (event : InputEvent) (f : Bool) → Item u f bytes event → Begins bytes u
 item_begins u bytes event f (key text k is plain alone) = is.begins
 item_begins u bytes event f (char c is) = is.begins
+item_begins u bytes event f (broken byte is) = is.begins
 item_begins u bytes event f (mouse text report is) = is.begins
 item_begins u bytes event f (paste body b first) = b
 item_begins u bytes event f (lone_escape v h after is apart) = (v, after.splits)

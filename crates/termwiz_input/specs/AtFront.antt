@@ -1,29 +1,26 @@
 -- What the parser finds at the front of a text, in the words of the grammar.
-use Rattle.std.specs.Prelude.{◌≡◌, ◌⊎◌, ℕ, ◌≤◌, Bool, List, length, take, encode_utf8, Option}
+use Rattle.std.specs.Prelude.{◌≡◌, ◌⊎◌, ℕ, ◌≤◌, Bool, List, [], length, take, encode_utf8, Option}
 use Rattle.std.specs.Option.{option_map}
 use Rattle.bstr.specs.Utf8.{decoded}
 use Rattle.termwiz_input.specs.declared.item.Item.{Item}
 use Rattle.termwiz_input.specs.declared.head.Head.{Head as FoundHead}
-use Rattle.termwiz_input.specs.declared.head.Head.TheVariants.{Row as row, Frame as frame, Character as character}
+use Rattle.termwiz_input.specs.declared.head.Head.TheVariants.{Row as row, Frame as frame, Character as character, Broken as broken}
 use Rattle.termwiz_input.specs.Known.Meaning.{Row, Frame}
 use Rattle.termwiz_input.specs.declared.types.MouseEvent.{MouseEvent}
 use Rattle.termwiz_input.specs.Bytes.{Begins}
 use Rattle.termwiz_input.specs.Frame.{IsFrame}
-use Rattle.termwiz_input.specs.Grammar.{IsLongest, IsCharacter, Stands, Head, IsHead, IsOpen}
+use Rattle.termwiz_input.specs.Grammar.{IsLongest, IsCharacter, IsBroken, Stands, IsOpen}
 
 -- the head of the text is this one, and it has so many bytes
 abbrev pub HasHead : List ℕ → FoundHead → Type 0
 HasHead u (row key len) = (len ≤ length u) × IsLongest u (take len u) (Row key)
 HasHead u (frame event len) = (len ≤ length u) × IsLongest u (take len u) (Frame event)
 HasHead u (character c len) = (len ≡ length (encode_utf8 c)) × IsCharacter u c
+HasHead u broken = (byte : ℕ) × IsBroken u byte
 
--- the text has no head
-abbrev pub HasNoHead : List ℕ → Type 0
-HasNoHead u = (h : Head) → ¬ IsHead u h
-
--- the text has no head yet: it is open, or it has none
+-- the text has no head yet: it is open, or empty
 abbrev pub HasNoHeadYet : List ℕ → Bool → Type 0
-HasNoHeadYet u more = IsOpen u more ⊎ HasNoHead u
+HasNoHeadYet u more = IsOpen u more ⊎ (u ≡ [])
 
 -- no frame begins the text
 abbrev pub NoFrameBegins : List ℕ → Type 0

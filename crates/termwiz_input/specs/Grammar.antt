@@ -1,5 +1,5 @@
 -- What a text means: the events that it spells, and what waits.
-use Rattle.std.specs.Prelude.{◌≡◌, ◌≢◌, ℕ, ◌≤◌, Bool, true, List, [], ◌∷◌, ◌++◌, length, encode_utf8}
+use Rattle.std.specs.Prelude.{◌≡◌, ◌≢◌, ℕ, ◌≤◌, ◌⊎◌, Bool, true, List, [], ◌∷◌, ◌++◌, length, encode_utf8}
 use Rattle.std.specs.Char.{IsScalar}
 use Rattle.std.specs.Str.Lossy.{utf8_lossy}
 use Rattle.termwiz_input.specs.declared.types.KeyEvent.{KeyEvent}
@@ -11,10 +11,15 @@ use Rattle.termwiz_input.specs.Keys.{plain, escape, with_alt}
 use Rattle.termwiz_input.specs.Known.{Meaning, IsKnown}
 use Rattle.termwiz_input.specs.Known.Meaning.{Row, Frame}
 
--- What can begin a text: a known text with its meaning, or a character.
+-- What can begin a text: a known text with its meaning, a character, or a byte that begins no character.
 pub data Head : Type 0 where
   Known : List ℕ → Meaning → Head
   Character : ℕ → Head
+  Broken : ℕ → Head
+
+-- the character that such a byte counts as: U+FFFD
+abbrev pub replacement : ℕ
+replacement = 0xFFFD
 
 -- the longest known text that begins u is this one
 pub record IsLongest (u text : List ℕ) (meaning : Meaning) : Type 0 where
@@ -28,10 +33,18 @@ pub record IsCharacter (u : List ℕ) (c : ℕ) : Type 0 where
   pub scalar : IsScalar c
   pub begins : Begins (encode_utf8 c) u
 
--- The head of a text is the longest known text that begins it. If there is none, it is the character that begins it.
+-- no known text begins u, and no character's encoding does; the first byte of u is this one
+pub record IsBroken (u : List ℕ) (byte : ℕ) : Type 0 where
+  pub unknown : (text : List ℕ) (m : Meaning) → IsKnown text m → ¬ Begins text u
+  pub unspelled : (c : ℕ) → IsScalar c → ¬ Begins (encode_utf8 c) u
+  pub begins : Begins (byte ∷ []) u
+
+-- The head of a text is the longest known text that begins it. If there is none, it is the character that begins it, and
+-- if there is none either, the first byte.
 abbrev pub IsHead : List ℕ → Head → Type 0
 IsHead u (Known text meaning) = IsLongest u text meaning
 IsHead u (Character c) = IsCharacter u c
+IsHead u (Broken byte) = IsBroken u byte
 
 -- some known text is longer than u and begins with u
 pub record IsUnfinished (u : List ℕ) : Type 0 where
@@ -40,11 +53,23 @@ pub record IsUnfinished (u : List ℕ) : Type 0 where
   pub meaning : Meaning
   pub known : IsKnown (u ++ tail) meaning
 
--- More may come, and u may yet become another known text.
+-- the encoding of some character is longer than u and begins with u
+pub record IsUnfinishedCharacter (u : List ℕ) : Type 0 where
+  pub tail : List ℕ
+  pub longer : tail ≢ []
+  pub char : ℕ
+  pub scalar : IsScalar char
+  pub spells : encode_utf8 char ≡ u ++ tail
+
+-- u properly begins a known text or the encoding of a character
+abbrev pub IsBeginning : List ℕ → Type 0
+IsBeginning u = IsUnfinished u ⊎ IsUnfinishedCharacter u
+
+-- More may come, and u may yet become another known text or a character.
 pub record IsOpen (u : List ℕ) (more : Bool) : Type 0 where
   pub more_comes : more ≡ true
   pub some : u ≢ []
-  pub unfinished : IsUnfinished u
+  pub beginning : IsBeginning u
 
 -- ESC is the head of u, and v follows it: v isn't empty and isn't open
 pub record IsAfterEscape (u v : List ℕ) (more : Bool) : Type 0 where
@@ -57,29 +82,34 @@ pub record IsAfterEscape (u v : List ℕ) (more : Bool) : Type 0 where
 abbrev pub bytes_of : Head → List ℕ
 bytes_of (Known text meaning) = text
 bytes_of (Character c) = encode_utf8 c
+bytes_of (Broken byte) = byte ∷ []
 
--- a head that stands for a key: any row but START, or a character
+-- a head that stands for a key: any row but START, a character, or a byte that counts as one
 abbrev pub IsKey : Head → KeyEvent → Type 0
 IsKey (Known text (Row key)) event = (text ≢ START) × (event ≡ key)
 IsKey (Known text (Frame report)) event = ⊥
 IsKey (Character c) event = event ≡ plain c
+IsKey (Broken byte) event = event ≡ plain replacement
 
 -- a head that ESC isn't joined to: a frame or START
 abbrev pub IsApart : Head → Type 0
 IsApart (Known text (Row key)) = text ≡ START
 IsApart (Known text (Frame report)) = Unit {0}
 IsApart (Character c) = ⊥
+IsApart (Broken byte) = ⊥
 
 -- END occurs in body ++ END only at its end
 abbrev pub EndsFirst : List ℕ → Type 0
 EndsFirst body = (before after : List ℕ) → body ++ END ≡ before ++ END ++ after → after ≡ []
 
--- The six items: each has bytes that begin u, and one event.
+-- The items: each has bytes that begin u, and one event. A byte that begins no character stands as the character U+FFFD.
 pub data Item (u : List ℕ) (more : Bool) : List ℕ → InputEvent → Type 0 where
   key : (text : List ℕ) (k : KeyEvent) → IsLongest u text (Row k) → text ≢ START → (text ≡ ESC → u ≡ ESC)
       → Item u more text (Key k)
   char : (c : ℕ) → IsCharacter u c
       → Item u more (encode_utf8 c) (Key (plain c))
+  broken : (byte : ℕ) → IsBroken u byte
+      → Item u more (byte ∷ []) (Key (plain replacement))
   mouse : (text : List ℕ) (report : MouseEvent) → IsLongest u text (Frame report)
       → Item u more text (Mouse report)
   paste : (body : List ℕ) → Begins (START ++ body ++ END) u → EndsFirst body

@@ -7,7 +7,7 @@ use Rattle.termwiz_input.specs.Bytes.{Begins, Occurs, ESC, CSI, SS3, START, END}
 use Rattle.termwiz_input.specs.declared.keymap.Found.TheVariants.{Exact}
 use Rattle.termwiz_input.specs.Lookup.{ByteMap, LookupGives}
 use Rattle.termwiz_input.specs.Table.{TableRow, rows}
-use Rattle.termwiz_input.specs.Grammar.{Head, IsHead, IsUnfinished, Steps, IsRest, Means}
+use Rattle.termwiz_input.specs.Grammar.{IsBeginning, Steps, IsRest, Means}
 
 -- Where a lookup answers Exact although more may come, each longer text has the same answer.
 abbrev pub ExactStays : Type 0 → Type 0
@@ -45,8 +45,7 @@ IsHeldEscape held = (held ≡ []) ⊎ (held ≡ ESC)
 pub data Waits (u : List ℕ) (more : Bool) : Type 0 where
   nothing : u ≡ [] → Waits u more
   open_paste : (body : List ℕ) → u ≡ START ++ body → ¬ Occurs END body → Waits u more
-  broken : (held bytes : List ℕ) → IsHeldEscape held → u ≡ held ++ bytes → bytes ≢ [] → ((h : Head) → ¬ IsHead bytes h) → Waits u more
-  undecided : (held bytes : List ℕ) → IsHeldEscape held → u ≡ held ++ bytes → bytes ≢ [] → IsUnfinished bytes → length bytes ≤ 20 → more ≡ true → Waits u more
+  undecided : (held bytes : List ℕ) → IsHeldEscape held → u ≡ held ++ bytes → bytes ≢ [] → IsBeginning bytes → length bytes ≤ 20 → more ≡ true → Waits u more
 
 -- Every rest waits for one of these.
 abbrev pub WaitingShape : Type 0
@@ -58,9 +57,10 @@ FlushMatters text c =
     (E E1 E2 : List InputEvent) × (W W1 W2 : List ℕ)
     × Means (text ++ c) false E W × Means text false E1 W1 × Means (W1 ++ c) false E2 W2 × (E ≢ E1 ++ E2)
 
--- What properly begins a known text, after at most one held Escape, may go on so that a flush before changes the events.
+-- What properly begins a known text or a character, after at most one held Escape, may go on so that a flush before changes
+-- the events.
 abbrev pub Undecided : Type 0
-Undecided = (held p : List ℕ) → IsHeldEscape held → p ≢ [] → IsUnfinished p → (c : List ℕ) × FlushMatters (held ++ p) c
+Undecided = (held p : List ℕ) → IsHeldEscape held → p ≢ [] → IsBeginning p → (c : List ℕ) × FlushMatters (held ++ p) c
 
 -- the bytes of a row that properly begin another row
 abbrev pub BeginsRow : List ℕ → Type 0

@@ -1,9 +1,9 @@
-// The head of a text: the longest known text that begins it, or else the character that does. A known text is a row of the
-// sequence table or a mouse frame.
-ghost use Rattle.std.specs.Prelude.{◌≡◌, true, IfSome, IfNone, IsSome};
+// The head of a text: the longest known text that begins it, or else the character that does, or else its first byte. A known
+// text is a row of the sequence table or a mouse frame.
+ghost use Rattle.std.specs.Prelude.{◌≡◌, ◌≢◌, ◌↔◌, [], true, None, IfSome, IfNone, IsSome, IsTrue};
 ghost use Rattle.termwiz_input.specs.FrameAnswers.{IsBegun};
-ghost use Rattle.termwiz_input.specs.Grammar.{IsOpen};
-ghost use Rattle.termwiz_input.specs.AtFront.{HasHead, HasNoHead, HasNoHeadYet, NoFrameBegins, character_of};
+ghost use Rattle.termwiz_input.specs.Grammar.{IsOpen, IsUnfinished, IsUnfinishedCharacter};
+ghost use Rattle.termwiz_input.specs.AtFront.{HasHead, HasNoHeadYet, NoFrameBegins, character_of};
 ghost use Rattle.termwiz_input.specs.Lookup.{NoKeyBegins};
 ghost use Rattle.termwiz_input.specs.Table.{table};
 
@@ -11,13 +11,15 @@ use crate::frame::{FrontFrame, frame_at};
 use crate::keymap::{Found, KeyMap};
 use crate::types::{KeyEvent, MouseEvent};
 use bstr::decode_utf8;
+use std::str;
 
-// The head of a text, and the number of its bytes.
+// The head of a text, and the number of its bytes. `Broken` is one byte, which begins no character.
 #[derive(Drop)]
 pub(crate) enum Head {
     Row(KeyEvent, usize),
     Frame(MouseEvent, usize),
     Character(char, usize),
+    Broken,
 }
 
 // The character that begins the text, and the number of its bytes.
@@ -29,21 +31,50 @@ fn character_at(text: &[u8]) -> Option<(char, usize)>
     found.map(|character| (character, len))
 }
 
-// The head of a text that no known text begins: a character, if there is one.
-fn unknown_head_at(text: &[u8]) -> Option<Head>
-    requires no_frame { NoFrameBegins text.now }
-    requires no_row { NoKeyBegins table text.now }
-    ensures head { IfSome result (HasHead text.now) }
-    ensures headless { IfNone result (HasNoHead text.now) }
+// Whether a text that no character begins properly begins one: the text ends within it.
+fn ends_within_character(text: &[u8]) -> bool
+    requires some { text.now ≢ [] }
+    requires no_character { character_of text.now ≡ None }
+    ensures { IsTrue result ↔ IsUnfinishedCharacter text.now }
 {
-    match character_at(text) {
-        Some((character, len)) => Some(Head::Character(character, len)),
-        None => None,
+    if text.len() > 3 {
+        return false;
+    }
+    match str::from_utf8(text) {
+        Ok(_) => false,
+        Err(fault) => fault.error_len().is_none(),
     }
 }
 
-// The head of a text that no frame begins: a row, or else a character. `None` if more bytes may change it, and if there is
-// none.
+// Whether more bytes may complete a character, where none begins the text.
+fn awaits_character(text: &[u8], maybe_more: bool) -> bool
+    requires some { text.now ≢ [] }
+    requires no_character { character_of text.now ≡ None }
+    ensures { IsTrue result ↔ ((maybe_more ≡ true) × IsUnfinishedCharacter text.now) }
+{
+    maybe_more && ends_within_character(text)
+}
+
+// The head of a text that no known text begins, nor will: a character, or else a broken byte. `None` if more bytes may
+// complete a character, and if the text is empty.
+fn unknown_head_at(text: &[u8], maybe_more: bool) -> Option<Head>
+    requires no_frame { NoFrameBegins text.now }
+    requires no_row { NoKeyBegins table text.now }
+    requires finished { maybe_more ≡ true → ¬ IsUnfinished text.now }
+    ensures closed { IsSome result → ¬ IsOpen text.now maybe_more }
+    ensures head { IfSome result (HasHead text.now) }
+    ensures waits { IfNone result (HasNoHeadYet text.now maybe_more) }
+{
+    match character_at(text) {
+        Some((character, len)) => Some(Head::Character(character, len)),
+        None if text.is_empty() => None,
+        None if awaits_character(text, maybe_more) => None,
+        None => Some(Head::Broken),
+    }
+}
+
+// The head of a text that no frame begins: a row, or else a character or a broken byte. `None` if more bytes may change it,
+// and if the text is empty.
 fn unframed_head_at(key_map: &KeyMap<KeyEvent>, text: &[u8], maybe_more: bool) -> Option<Head>
     requires rows { key_map.now ≡ table }
     requires no_frame { NoFrameBegins text.now }
@@ -62,12 +93,12 @@ fn unframed_head_at(key_map: &KeyMap<KeyEvent>, text: &[u8], maybe_more: bool) -
         )),
         Found::Ambiguous(..) => None,
         Found::NeedData if maybe_more => None,
-        Found::NeedData => unknown_head_at(text),
-        Found::None => unknown_head_at(text),
+        Found::NeedData => unknown_head_at(text, maybe_more),
+        Found::None => unknown_head_at(text, maybe_more),
     }
 }
 
-// The head of a text. `None` if more bytes may change it, and if there is none.
+// The head of a text. `None` if more bytes may change it, and if the text is empty.
 pub(crate) fn head_at(key_map: &KeyMap<KeyEvent>, text: &[u8], maybe_more: bool) -> Option<Head>
     requires { key_map.now ≡ table }
     ensures closed { IsSome result → ¬ IsOpen text.now maybe_more }

@@ -192,9 +192,10 @@ impl InputParser {
 
     /// Appends `bytes` to the waiting text, and calls `callback` with each of its events in order. What is no event yet waits.
     ///
-    /// Pass `maybe_more` as true while more bytes may come: then a text that may yet become a longer known text waits.
-    /// Pass false at the end of the input, or if a pause says that an Escape was meant alone: then only an open paste waits, or
-    /// bytes that don't start with a whole UTF-8 character, after at most one Escape. Call with no bytes and false to flush.
+    /// Pass `maybe_more` as true while more bytes may come: then a text that may yet become a longer known text or a character
+    /// waits. Pass false at the end of the input, or if a pause says that an Escape was meant alone: then only an open paste
+    /// waits. Call with no bytes and false to flush.
+    #[tactic(auto, using(crate::proofs::Settling::rest_flushed))]
     pub fn parse<F: FnMut(InputEvent)>(
         &mut self,
         bytes: &[u8],
@@ -205,6 +206,9 @@ impl InputParser {
             → MayBeCalledOn F.FnMut callback.old events }
         ensures ok { OnOk result ((events : List Event) × Means (self.old ++ bytes.now) maybe_more events self.new
             × WasCalledOn F.step callback.old events callback.new) }
+
+        // Without more to come nothing waits but an open paste.
+        ensures flushed { maybe_more ≡ false → OnOk result ((self.new ≡ []) ⊎ Begins START self.new) }
 
         // If the bytes weren't taken, nothing happened.
         ensures not_taken_same { IsErrOf result ParseError.NotTaken → self.new ≡ self.old }
@@ -290,6 +294,9 @@ impl InputParser {
             × AreNumbered self.old (pieces_or_one (texts pieces.now)) given
             × WasCalledOnNumbered F.step callback.old given callback.new) }
 
+        // Without more to come nothing waits but an open paste.
+        ensures flushed { maybe_more ≡ false → OnOk result ((self.new ≡ []) ⊎ Begins START self.new) }
+
         // Nothing happened if the first of some pieces wasn't taken.
         ensures none_taken_same { IfErr result (λ e. pieces.now ≢ [] → e.taken ≡ 0 → self.new ≡ self.old) }
         ensures none_taken_quiet { IfErr result (λ e. pieces.now ≢ [] → e.taken ≡ 0 → callback.new ≡ callback.old) }
@@ -348,9 +355,10 @@ impl InputParser {
 
     /// Appends `bytes` to the waiting text, and returns its events in order. What is no event yet waits.
     ///
-    /// Pass `maybe_more` as true while more bytes may come: then a text that may yet become a longer known text waits.
-    /// Pass false at the end of the input, or if a pause says that an Escape was meant alone: then only an open paste waits, or
-    /// bytes that don't start with a whole UTF-8 character, after at most one Escape. Call with no bytes and false to flush.
+    /// Pass `maybe_more` as true while more bytes may come: then a text that may yet become a longer known text or a character
+    /// waits. Pass false at the end of the input, or if a pause says that an Escape was meant alone: then only an open paste
+    /// waits. Call with no bytes and false to flush.
+    #[tactic(auto, using(crate::proofs::Settling::rest_flushed))]
     pub fn parse_as_vec(
         &mut self,
         bytes: &[u8],
@@ -358,6 +366,9 @@ impl InputParser {
     ) -> Result<Vec<InputEvent>, ParseVecError>
         ensures ok { IfOk result (λ events. Means (self.old ++ bytes.now) maybe_more events.items self.new) }
         ensures few { IfOk result (λ events. length events.items + length self.new ≤ length self.old + length bytes.now) }
+
+        // Without more to come nothing waits but an open paste.
+        ensures flushed { maybe_more ≡ false → OnOk result ((self.new ≡ []) ⊎ Begins START self.new) }
 
         // If the bytes weren't taken, nothing happened.
         ensures not_taken_none { IfErr result (λ e. e.taken ≡ false → e.events.items ≡ []) }

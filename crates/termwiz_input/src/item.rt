@@ -13,6 +13,7 @@ use crate::keymap::KeyMap;
 use crate::paste::{begins_paste, paste_at};
 use crate::types::{InputEvent, KeyCode, KeyEvent};
 use std::alloc::{AllocError, Global};
+use std::char::REPLACEMENT_CHARACTER;
 use termwiz_base::{Flags, Modifiers};
 
 // An item: its event, and the number of its bytes.
@@ -92,6 +93,7 @@ fn escape_item_at(key_map: &KeyMap<KeyEvent>, rest: &[u8], maybe_more: bool) -> 
         Some(Head::Character(character, len)) => {
             Some(key_item(alt_key(plain_key(character)), 1 + len))
         }
+        Some(Head::Broken) => Some(key_item(alt_key(plain_key(REPLACEMENT_CHARACTER)), 2)),
         Some(Head::Frame(..)) => Some(key_item(escape_key(), 1)),
         None => None,
     }
@@ -114,6 +116,7 @@ fn key_or_mouse_at(key_map: &KeyMap<KeyEvent>, text: &[u8], maybe_more: bool) ->
             len,
         }),
         Some(Head::Character(character, len)) => Some(key_item(plain_key(character), len)),
+        Some(Head::Broken) => Some(key_item(plain_key(REPLACEMENT_CHARACTER), 1)),
         None => None,
     }
 }

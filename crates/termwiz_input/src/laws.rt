@@ -49,16 +49,15 @@ pub fn empty_is_rest()
     ensures { EmptyIsRest }
 {}
 
-/// What waits is one of four: nothing; an open paste; a broken character, which is bytes that neither a known text nor a
-/// whole character begins, after at most one Escape; or, if more may come, at most twenty bytes that properly begin a known
-/// text, after at most one Escape.
+/// What waits is one of three: nothing; an open paste; or, if more may come, at most twenty bytes that properly begin a known
+/// text or a character, after at most one Escape.
 pub fn waiting_shape()
     ensures { WaitingShape }
 {}
 
-/// What waits as the proper beginning of a known text, alone or after one Escape, isn't decided yet: for some bytes that may
-/// follow it, a flush before them changes the events. The three meanings exist: of the whole, of what is flushed, and of what
-/// comes after the flush. By `one_meaning` each is the only one.
+/// What waits as the proper beginning of a known text or of a character, alone or after one Escape, isn't decided yet: for some
+/// bytes that may follow it, a flush before them changes the events. The three meanings exist: of the whole, of what is flushed,
+/// and of what comes after the flush. By `one_meaning` each is the only one.
 pub fn undecided()
     ensures { Undecided }
 {}

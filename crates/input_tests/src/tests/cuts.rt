@@ -39,13 +39,95 @@ const CUTS: &[Example] = &[
         ],
     ),
     (
-        "broken-byte-stops",
-        &[(b"\xff", LAST, "waits 1"), (b"a", LAST, "waits 2")],
+        "character-flushed",
+        &[
+            (b"\xe2\x82", MORE, "waits 2"),
+            (b"", LAST, "U+FFFD, U+FFFD"),
+        ],
     ),
-    ("overlong-character", &[(b"\xe0\x80a", LAST, "waits 3")]),
+    (
+        "character-flushed-and-ended",
+        &[
+            (b"\xe2\x82", MORE, "waits 2"),
+            (b"", LAST, "U+FFFD, U+FFFD"),
+            (b"\xac", MORE, "U+FFFD"),
+        ],
+    ),
+];
+
+const BROKEN: &[Example] = &[
+    (
+        "broken-byte",
+        &[(b"\xff", LAST, "U+FFFD"), (b"a", LAST, "a")],
+    ),
+    (
+        "broken-byte-with-more-to-come",
+        &[(b"\xff", MORE, "U+FFFD")],
+    ),
+    ("character-broken", &[(b"\xe2A", MORE, "U+FFFD, A")]),
+    (
+        "character-broken-late",
+        &[
+            (b"\xf0\x9f\x98", MORE, "waits 3"),
+            (b"A", MORE, "U+FFFD, U+FFFD, U+FFFD, A"),
+        ],
+    ),
+    (
+        "characters-cut-short",
+        &[(b"\xe2\xe2\x82\xac\xc3", MORE, "U+FFFD, U+20AC, waits 1")],
+    ),
+    ("continuation-alone", &[(b"a\x80b", LAST, "a, U+FFFD, b")]),
+    ("overlong-nul", &[(b"\xc0\x80", LAST, "U+FFFD, U+FFFD")]),
+    (
+        "overlong-character",
+        &[(b"\xe0\x80a", LAST, "U+FFFD, U+FFFD, a")],
+    ),
+    (
+        "surrogate",
+        &[(b"\xed\xa0\x80", LAST, "U+FFFD, U+FFFD, U+FFFD")],
+    ),
     (
         "character-past-the-last",
-        &[(b"\xf4\x90\x80\x80", LAST, "waits 4")],
+        &[(b"\xf4\x90\x80\x80", LAST, "U+FFFD, U+FFFD, U+FFFD, U+FFFD")],
+    ),
+    (
+        "replacement-character",
+        &[(b"\xef\xbf\xbd", LAST, "U+FFFD")],
+    ),
+    (
+        "broken-byte-before-a-key",
+        &[(b"\xc3\x1b[A", MORE, "U+FFFD, UpArrow")],
+    ),
+    (
+        "broken-byte-before-a-paste",
+        &[(
+            b"\xe2\x82\x1b[200~\xe2\x82\x1b[201~",
+            MORE,
+            "U+FFFD, U+FFFD, Paste(\u{fffd})",
+        )],
+    ),
+];
+
+const BROKEN_AFTER_ESCAPE: &[Example] = &[
+    ("alt-broken-byte", &[(b"\x1b\xff", MORE, "U+FFFD ALT")]),
+    (
+        "alt-character-flushed",
+        &[(b"\x1b\xc3", MORE, "waits 2"), (b"", LAST, "U+FFFD ALT")],
+    ),
+    (
+        "alt-character-of-three-flushed",
+        &[(b"\x1b\xe2\x82", LAST, "U+FFFD ALT, U+FFFD")],
+    ),
+    (
+        "alt-character-broken",
+        &[(b"\x1b\xe2A", MORE, "U+FFFD ALT, A")],
+    ),
+    (
+        "two-escapes-and-a-character-cut",
+        &[
+            (b"\x1b\x1b\xc3", MORE, "Escape ALT, waits 1"),
+            (b"\xa9", MORE, "U+00E9"),
+        ],
     ),
 ];
 
@@ -81,22 +163,16 @@ const CUTS_AFTER_ESCAPE: &[Example] = &[
     ),
 ];
 
-// Bytes that begin no character: they wait, and so does all that comes after them.
-const STOPS: &[Example] = &[
-    ("lone-continuation-byte", &[(b"a\x80b", LAST, "a, waits 2")]),
-    ("overlong-null", &[(b"\xc0\x80", LAST, "waits 2")]),
-    ("surrogate", &[(b"\xed\xa0\x80", LAST, "waits 3")]),
-];
-
-#[test]
-fn stops_at_broken_bytes(rt: HostRuntime) -> Result<(), Fail> {
-    check_all(&rt, rt.alloc(), STOPS)
-}
-
 #[test]
 fn waits_where_a_text_is_cut(rt: HostRuntime) -> Result<(), Fail> {
     check_all(&rt, rt.alloc(), CUTS)?;
     check_all(&rt, rt.alloc(), CUTS_AFTER_ESCAPE)
+}
+
+#[test]
+fn reads_broken_bytes(rt: HostRuntime) -> Result<(), Fail> {
+    check_all(&rt, rt.alloc(), BROKEN)?;
+    check_all(&rt, rt.alloc(), BROKEN_AFTER_ESCAPE)
 }
 
 // Texts that wait as a whole: the text, the flag, and its shape.
@@ -112,25 +188,24 @@ const RESTS: &[(&[u8], bool, Shape)] = &[
     (b"\x1b[200~", MORE, Shape::OpenPaste),
     (b"\x1b[200~ab\x1b[201", MORE, Shape::OpenPaste),
     (b"\x1b[200~ab\x1b[201", LAST, Shape::OpenPaste),
-    (b"\xe2\x82", MORE, Shape::BrokenCharacter),
-    (b"\xe2\x82", LAST, Shape::BrokenCharacter),
-    (b"\x1b\xff", LAST, Shape::BrokenCharacter),
-    (b"\xffand what follows it", MORE, Shape::BrokenCharacter),
+    (b"\xe2\x82", MORE, Shape::Undecided),
+    (b"\x1b\xe2\x82", MORE, Shape::Undecided),
+    (b"\xf4\x8f\xbf", MORE, Shape::Undecided),
 ];
 
-// The most that waits, but for an open paste or a broken character: one ESC, and the longest proper beginning of a known text.
+// The most that waits, but for an open paste: one ESC, and the longest proper beginning of a known text.
 pub(super) const MOST: usize = 21;
 
-// Whether so many bytes may wait in this shape. More than `MOST` without a head are broken: no character has more than four.
+// Whether so many bytes may wait in this shape.
 pub(super) fn may_wait(shape: Option<Shape>, len: usize) -> bool {
     match shape {
-        Some(Shape::OpenPaste | Shape::BrokenCharacter) => true,
+        Some(Shape::OpenPaste) => true,
         Some(Shape::Nothing | Shape::Undecided) => len <= MOST,
         None => false,
     }
 }
 
-// In a text without broken characters no more than `MOST` bytes wait, unless a paste is open.
+// No more than `MOST` bytes wait, unless a paste is open.
 pub(super) fn check_few_wait(rt: &impl Abort, parser: &InputParser, name: &str) {
     let waiting_len = parser.waiting_len();
     let is_paste_open = parser.is_paste_open();

@@ -4,7 +4,7 @@ ghost use Rattle.std.specs.Prelude.{◌<◌};
 use super::plain::{PlainReader, ROWS};
 use std::alloc::{AllocError, Global};
 
-// The bytes that the grammar names, and parts and wholes of known texts.
+// The bytes that the grammar names, parts and wholes of known texts, and beginnings of characters.
 const SYMBOLS: &[&[u8]] = &[
     b"\x1b",
     b"\x1b",
@@ -26,6 +26,10 @@ const SYMBOLS: &[&[u8]] = &[
     b"Z",
     b"a",
     b"\xc3\xa9",
+    b"\xe2\x82",
+    b"\xf0\x9f",
+    b"\xed",
+    b"\xff",
     b"\x03",
     b"\x1b[200~",
     b"\x1b[201~",
@@ -127,40 +131,32 @@ impl Draws {
         Ok(text)
     }
 
-    // One byte, of ASCII unless the text may break.
-    fn byte(&mut self, may_break: bool) -> Result<Vec<u8>, AllocError> {
-        let limit = if may_break { 256 } else { 128 };
-        let byte = self.below(limit) as u8;
-        [byte].to_vec(self.alloc)
-    }
-
-    // A part of a text, often only its beginning, which ends within a character only if the text may break.
-    fn part(&mut self, may_break: bool) -> Result<Vec<u8>, AllocError> {
+    // A part of a text, often only its beginning.
+    fn part(&mut self) -> Result<Vec<u8>, AllocError> {
         let kind = self.below(8);
         let mut part = match kind {
             0 => self.frame()?,
             1 => self.paste()?,
             2 => self.character()?,
-            3 => self.byte(may_break)?,
+            3 => [self.below(256) as u8].to_vec(self.alloc)?,
             4 | 5 => self.row()?,
             _ => self.symbol().to_vec(self.alloc)?,
         };
-        if self.below(3) == 0 && (may_break || part.is_ascii()) {
+        if self.below(3) == 0 {
             part.truncate(1 + self.below(part.len().max(1)));
         }
         Ok(part)
     }
 
-    // A text of 1 to 60 bytes. In one of three any byte may stand outside a paste, and characters may be cut.
+    // A text of 1 to 60 bytes.
     pub(super) fn text(&mut self) -> Result<Vec<u8>, AllocError> {
         let len = 1 + self.below(60);
-        let may_break = self.below(3) == 0;
         let mut text = Vec::new(self.alloc);
         for _ in 0..len {
             if self.below(4) == 0 {
                 text.push(b'\x1b')?;
             }
-            let part = self.part(may_break)?;
+            let part = self.part()?;
             text.extend_from_slice(&part)?;
         }
         text.truncate(len);

@@ -1,5 +1,5 @@
-// What waits for a known text isn't decided: each beginning of a row or of a mouse frame, alone and after one ESC, waits as a
-// whole, and a flush before the rest of that text changes the events.
+// What waits for a known text or a character isn't decided: each beginning of a row, of a mouse frame or of a character, alone
+// and after one ESC, waits as a whole, and a flush before the rest of it changes the events.
 use super::cuts::MOST;
 use super::plain::PlainReader;
 use super::{InputEvent, InputParser, LAST, MORE};
@@ -23,8 +23,8 @@ fn flushed_events(
     Ok(events)
 }
 
-// Parts a known text in two, behind what is held. The first part waits as a whole, and the events of both parts at once aren't
-// those of the first, flushed, and of the second.
+// Parts a known text or a character in two, behind what is held. The first part waits as a whole, and the events of both parts at
+// once aren't those of the first, flushed, and of the second.
 fn check_parted(
     rt: &impl Abort,
     alloc: Global,
@@ -126,6 +126,31 @@ fn beginnings_of_frames_are_undecided(rt: HostRuntime) -> Result<(), Fail> {
     let mut parser = InputParser::new(rt.alloc())?;
     for code in CODES {
         check_frames_of_code(&rt, rt.alloc(), &mut parser, code)?;
+    }
+    Ok(())
+}
+
+// The first and the last character of each length, those around the surrogates, and others.
+const CHARACTERS: &[&str] = &[
+    "\u{80}",
+    "\u{e9}",
+    "\u{7ff}",
+    "\u{800}",
+    "\u{20ac}",
+    "\u{d7ff}",
+    "\u{e000}",
+    "\u{fffd}",
+    "\u{ffff}",
+    "\u{10000}",
+    "\u{1f600}",
+    "\u{10ffff}",
+];
+
+#[test]
+fn beginnings_of_characters_are_undecided(rt: HostRuntime) -> Result<(), Fail> {
+    let mut parser = InputParser::new(rt.alloc())?;
+    for character in CHARACTERS {
+        check_beginnings(&rt, rt.alloc(), &mut parser, character.as_bytes())?;
     }
     Ok(())
 }

@@ -1,12 +1,13 @@
 use Rattle.std.proofs.Common.{◌≡◌, subst}
 use Rattle.std.specs.Prelude.{false}
 use Rattle.termwiz_input.specs.Lookup.{IsLongestKey, IsExtended}
-use Rattle.termwiz_input.proofs.Reading.{longest_from_key, extended_waits, extended_from_open, exact_closed}
+use Rattle.termwiz_input.proofs.Reading.{longest_from_key, extended_waits, extended_from_unfinished, exact_closed}
 use Rattle.termwiz_input.proofs.head.unframed_head_at.Goals as goal
 
 pub returns-in-Exact-clause-closed : goal.returns-in-Exact-clause-closed
 returns-in-Exact-clause-closed c = λ some opens.
-    exact_closed c.args.text.now c.args.maybe_more c.requires.not_begun
+    exact_closed c.args.text.now c.args.maybe_more c.in-Exact.len c.in-Exact.key.now c.requires.not_begun
+    (subst (λ m. IsLongestKey m c.args.text.now c.in-Exact.len c.in-Exact.key.now) c.requires.rows c.in-Exact.ensures.0)
     (subst (λ m. IsExtended m c.args.text.now → c.args.maybe_more ≡ false) c.requires.rows c.in-Exact.ensures.1) opens
 
 pub returns-in-Exact-clause-head : goal.returns-in-Exact-clause-head
@@ -22,7 +23,7 @@ pub returns-in-NeedData-clause-waits : goal.returns-in-NeedData-clause-waits
 returns-in-NeedData-clause-waits c =
     rw c.if-maybe_more.true (extended_waits c.args.text.now (subst (λ m. IsExtended m c.args.text.now) c.requires.rows c.in-NeedData.ensures.1))
 
-pub returns-in-None-clause-closed : goal.returns-in-None-clause-closed
-returns-in-None-clause-closed c = λ some opens.
+pub unknown_head_at-requires-in-None-clause-finished : goal.unknown_head_at-requires-in-None-clause-finished
+unknown_head_at-requires-in-None-clause-finished c = λ more h.
     subst (λ m. IsExtended m c.args.text.now → ⊥) c.requires.rows c.in-None.ensures.1
-    (extended_from_open c.args.text.now c.args.maybe_more opens c.requires.not_begun)
+    (extended_from_unfinished c.args.text.now h (c.requires.not_begun more))

@@ -4,7 +4,7 @@ use Rattle.termwiz_input.specs.Bytes.{ESC}
 use Rattle.termwiz_input.specs.Keys.{with_alt}
 use Rattle.termwiz_input.specs.AtFront.{HasHead, IsItemAt}
 use Rattle.termwiz_input.proofs.Prefixes.{denied}
-use Rattle.termwiz_input.proofs.Items.{item_of, escape_before_start, escape_before_frame, alt_row_stands, alt_character_stands, joined_rest}
+use Rattle.termwiz_input.proofs.Items.{item_of, escape_before_start, escape_before_frame, alt_row_stands, alt_character_stands, alt_broken_stands, joined_rest}
 use Rattle.termwiz_input.proofs.item.escape_item_at.Goals as goal
 
 pub returns-then-begins_paste-clause-item : goal.returns-then-begins_paste-clause-item
@@ -29,6 +29,13 @@ returns-in-Some-Character-clause-item c =
     subst (IsItemAt (ESC ++ c.args.rest.now) c.args.maybe_more) (sym made)
     (alt_character_stands c.args.rest.now c.args.maybe_more c.in-Some-Character.character len c.requires.closed c.requires.head c.requires.some
     (c.in-Some-Character.ensures.closed refl) (subst (HasHead c.args.rest.now) c.in-Some-Character.field-0-is c.in-Some-Character.ensures.head))
+
+pub returns-in-Some-Broken-clause-item : goal.returns-in-Some-Broken-clause-item
+returns-in-Some-Broken-clause-item c =
+    let made = c.key_item-in-Some-Broken.ensures ∙ ap (λ k. item_of (Key k) 2) (c.alt_key-in-Some-Broken.ensures ∙ ap with_alt c.plain_key-in-Some-Broken.ensures) in
+    subst (IsItemAt (ESC ++ c.args.rest.now) c.args.maybe_more) (sym made)
+    (alt_broken_stands c.args.rest.now c.args.maybe_more c.requires.closed c.requires.head c.requires.some
+    (c.in-Some-Broken.ensures.closed refl) (subst (HasHead c.args.rest.now) c.in-Some-Broken.field-0-is c.in-Some-Broken.ensures.head))
 
 pub returns-in-Some-Frame-clause-item : goal.returns-in-Some-Frame-clause-item
 returns-in-Some-Frame-clause-item c =

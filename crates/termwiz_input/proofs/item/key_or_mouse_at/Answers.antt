@@ -5,7 +5,7 @@ use Rattle.termwiz_input.specs.Keys.{escape}
 use Rattle.termwiz_input.specs.Known.Meaning.{Row}
 use Rattle.termwiz_input.specs.Grammar.{IsLongest}
 use Rattle.termwiz_input.specs.AtFront.{HasHead, IsItemAt}
-use Rattle.termwiz_input.proofs.Items.{item_of, escape_row_is, row_stands, frame_stands, character_stands, waits_rest}
+use Rattle.termwiz_input.proofs.Items.{item_of, escape_row_is, row_stands, frame_stands, character_stands, broken_stands, waits_rest}
 use Rattle.termwiz_input.proofs.item.key_or_mouse_at.Goals as goal
 
 pub escape_item_at-requires-clause-head : goal.escape_item_at-requires-clause-head
@@ -32,6 +32,13 @@ returns-in-Some-Character-clause-item c =
     subst (IsItemAt c.args.text.now c.args.maybe_more) (sym made)
     (character_stands c.args.text.now c.args.maybe_more c.in-Some-Character.character c.in-Some-Character.len (c.in-Some-Character.ensures.closed refl)
     (subst (HasHead c.args.text.now) c.in-Some-Character.field-0-is c.in-Some-Character.ensures.head))
+
+pub returns-in-Some-Broken-clause-item : goal.returns-in-Some-Broken-clause-item
+returns-in-Some-Broken-clause-item c =
+    let made = c.key_item-in-Some-Broken.ensures ∙ ap (λ k. item_of (Key k) 1) c.plain_key-in-Some-Broken.ensures in
+    subst (IsItemAt c.args.text.now c.args.maybe_more) (sym made)
+    (broken_stands c.args.text.now c.args.maybe_more (c.in-Some-Broken.ensures.closed refl)
+    (subst (HasHead c.args.text.now) c.in-Some-Broken.field-0-is c.in-Some-Broken.ensures.head))
 
 pub returns-in-None-clause-none : goal.returns-in-None-clause-none
 returns-in-None-clause-none c = waits_rest c.args.text.now c.args.maybe_more c.in-None.ensures.waits

@@ -7,7 +7,8 @@ use Rattle.termwiz_input.specs.declared.input.ParseError.TheVariants.{NotTaken, 
 use Rattle.termwiz_input.specs.Grammar.{HasPaste, IsRest, Means}
 use Rattle.termwiz_input.specs.Pieces.{AreNumbered, ReadsFirst, events_of, flag_at, join, numbered, pieces_or_one, taken_or_one, texts}
 use Rattle.termwiz_input.proofs.Calls.{FoldsTo-append, FoldsTo-nil, may_go_on}
-use Rattle.termwiz_input.proofs.Numbering.{between_more, flag_of_slice, length-pieces, flag_before, nothing_read, one_read, one_settled, piece_at, read_more, some_taken}
+use Rattle.termwiz_input.proofs.Settling.{rest_flushed}
+use Rattle.termwiz_input.proofs.Numbering.{all_flushed, between_more, flag_of_slice, length-pieces, flag_before, nothing_read, one_read, one_settled, piece_at, read_more, some_taken}
 use Rattle.termwiz_input.proofs.input.InputParser.parse_pieces.Goals as goal
 
 -- what a refusal was
@@ -35,6 +36,9 @@ returns-in-Ok-clause-ok g c =
       subst (λ ps. AreNumbered c.args.self.now (pieces_or_one (texts ps)) (numbered 0 fed.0)) (sym none) both.1,
       fed.2,
     )
+
+pub returns-in-Ok-clause-flushed : goal.returns-in-Ok-clause-flushed
+returns-in-Ok-clause-flushed g c = λ last. rest_flushed c.feed.new.self c.args.maybe_more c.in-Ok.ensures.ok.1.rest last
 
 pub returns-in-Err-clause-taken : goal.returns-in-Err-clause-taken
 returns-in-Err-clause-taken g c =
@@ -155,3 +159,11 @@ loop-number-preserved g c =
           c.more_after-more.result (c.more_after-more.ensures ∙ flag_of_slice c.args.pieces.now c.args.maybe_more (number + 1) (omega arith)) fed.1,
       FoldsTo-append _ _ given.0 _ (numbered number fed.0) _ given.2 fed.2,
     )
+
+pub returns-clause-flushed : goal.returns-clause-flushed
+returns-clause-flushed g c = λ last.
+    let given = c.loop-number.invariant in
+    let some : 0 < length c.args.pieces.now = grind (arith, nat_tests) in
+    let count : length (pieces_or_one (texts c.args.pieces.now)) ≡ length c.args.pieces.now = length-pieces c.args.pieces.now (omega arith) in
+    all_flushed c.args.self.now (pieces_or_one (texts c.args.pieces.now)) c.args.maybe_more c.loop-number.number given.0 c.loop-number.self
+    (omega arith) (omega arith) given.1 last
