@@ -30,7 +30,7 @@ pub fn table_rows() -> usize
     ensures differ { AllPairs HasOtherBytes rows }
 {
     table_facts();
-    2834
+    2937
 }
 
 /// The events of a whole text, read by a fresh parser with no more to come.

@@ -10,7 +10,7 @@ use Rattle.std.proofs.lemmas.Bool.Decides.{Decides-int_eq}
 use Rattle.termwiz_base.specs.declared.modifiers.Modifiers.{Modifiers}
 use Rattle.termwiz_base.specs.Control.{control_of}
 use Rattle.termwiz_input.specs.declared.types.KeyCode.{KeyCode}
-use Rattle.termwiz_input.specs.declared.types.KeyCode.TheVariants.{Char, Backspace, Tab, Enter, Escape}
+use Rattle.termwiz_input.specs.declared.types.KeyCode.TheVariants.{Char, Backspace, Tab, Enter, Escape, Home, End}
 use Rattle.termwiz_input.specs.declared.types.KeyEvent.{KeyEvent}
 use Rattle.termwiz_input.specs.declared.encode.KeyboardEncoding.{KeyboardEncoding}
 use Rattle.termwiz_input.specs.declared.encode.KeyboardEncoding.TheVariants.{Xterm}
@@ -19,15 +19,23 @@ use Rattle.termwiz_input.specs.Keys.{NONE, SHIFT, ALT, CTRL, key_with}
 use Rattle.termwiz_input.specs.KeyCodes.{holds, shifted}
 use Rattle.termwiz_input.specs.Table.{numbers, written_out}
 use Rattle.termwiz_input.specs.Enc.{enc, key_text, normal_key, normal_held, sideless, shows_shift, named_key, char_text, plain_char_text, other_text, other_keys_form, backspace_text, enter_text, escape_text, tab_text, tab_alone, escape_if_alt, cursor_text, application_text, edit_text, lettered_function_text, numbered_function_text, function_text, is_level, stays_at_one}
-use Rattle.termwiz_input.specs.Listed.{any_of_three, cursor_and_function_keys, keys_without_modifiers, IsSharedLetter, IsListedAt, IsListed, ReadsBack, csi_u, modifiers_of, CsiUReadsBack}
-use Rattle.termwiz_input.specs.Listed.IsListedAt.{any_modifiers, no_modifiers, character, alt_character, none_or_alt, ctrl_letter, tab_with_alt_and_shift, tab_or_enter, ctrl_character, ctrl_shift_character, escape_or_backspace}
+use Rattle.termwiz_input.specs.Listed.{any_of_three, cursor_and_function_keys, keys_without_modifiers, edit_and_high_function_keys, IsSharedLetter, IsListedAt, IsListedWhere, IsListed, ReadsBack, csi_u, modifiers_of, CsiUReadsBack}
+use Rattle.termwiz_input.specs.Listed.IsListedAt.{any_modifiers, no_modifiers, character, alt_character, none_or_alt, ctrl_letter, tab_with_alt_and_shift, tab_with_ctrl_and_shift, edit_or_high_function, tab_or_enter, ctrl_character, ctrl_shift_character, escape_or_backspace}
 use Rattle.termwiz_input.proofs.Members.{joined, pairs, in_map, in_pairs, in_filter, in_first, in_later, in_numbers, same_on}
 use Rattle.termwiz_input.proofs.Readings.{reading, reading_means, rows_for, rows_for_are, csi_u_rows_of, csi_u_are}
 use Rattle.termwiz_input.proofs.WholeTexts.{char_means}
 
--- the modes that are listed, at a level of modifyOtherKeys
+-- the modes that are listed: whether application cursor keys are on, at a level of modifyOtherKeys
+abbrev modes_at : Bool → Option ℤ → KeyCodeEncodeModes
+modes_at cursor_keys level = record { encoding = Xterm; application_cursor_keys = cursor_keys; newline_mode = false; modify_other_keys = level }
+
+-- where they are off
 abbrev xterm : Option ℤ → KeyCodeEncodeModes
-xterm level = record { encoding = Xterm; application_cursor_keys = false; newline_mode = false; modify_other_keys = level }
+xterm level = modes_at false level
+
+-- where they are on, and modifyOtherKeys is off
+abbrev application_mode : KeyCodeEncodeModes
+application_mode = modes_at true None
 
 abbrev bits : ℕ → Modifiers
 bits held = record { 0 = held }
@@ -41,8 +49,8 @@ read_if_some key (Some text) = reading (rows_for key) text
 read_if_some key None = None
 
 -- what the reader says of the key's text
-abbrev read_back_at : Option ℤ → Held → Option KeyEvent
-read_back_at level p = read_if_some p.0 (enc p.0 (bits p.1) (xterm level))
+abbrev read_back_in : KeyCodeEncodeModes → Held → Option KeyEvent
+read_back_in modes p = read_if_some p.0 (enc p.0 (bits p.1) modes)
 
 abbrev same_key : Held → Option KeyEvent
 same_key p = Some (key_with p.0 p.1)
@@ -64,7 +72,7 @@ others_at_any_level =
 abbrev at_any_level : List Held
 at_any_level = joined keys_with_any others_at_any_level
 
-any_level_read : (level : Option ℤ) → map (read_back_at level) at_any_level ≡ map same_key at_any_level
+any_level_read : (level : Option ℤ) → map (read_back_in (xterm level)) at_any_level ≡ map same_key at_any_level
 unfolding enc_written_out written_out
 any_level_read level = refl
 
@@ -82,12 +90,29 @@ tab_at_off = pairs (Tab ∷ []) (NONE ∷ ALT ∷ SHIFT ∷ (ALT + SHIFT) ∷ []
 abbrev letters_at_off : List Held
 letters_at_off = pairs (map (λ c. Char c) own_letters) (CTRL ∷ (CTRL + ALT) ∷ [])
 
-abbrev at_off : List Held
-at_off = joined tab_at_off (letters_at_off ∷ [])
+abbrev keys_at_off : List Held
+keys_at_off = pairs edit_and_high_function_keys any_of_three
 
-off_read : map (read_back_at None) at_off ≡ map same_key at_off
+abbrev ctrl_tab_at_off : List Held
+ctrl_tab_at_off = pairs (Tab ∷ []) ((CTRL + SHIFT) ∷ (CTRL + ALT + SHIFT) ∷ [])
+
+abbrev others_at_off : List (List Held)
+others_at_off = letters_at_off ∷ keys_at_off ∷ ctrl_tab_at_off ∷ []
+
+abbrev at_off : List Held
+at_off = joined tab_at_off others_at_off
+
+off_read : map (read_back_in (xterm None)) at_off ≡ map same_key at_off
 unfolding enc_written_out written_out
 off_read = refl
+
+-- listed where application cursor keys are on
+abbrev in_application_mode : List Held
+in_application_mode = pairs (Home ∷ End ∷ []) any_of_three
+
+application_mode_read : map (read_back_in application_mode) in_application_mode ≡ map same_key in_application_mode
+unfolding enc_written_out written_out
+application_mode_read = refl
 
 -- listed at level 2, of which Tab and Enter are listed at every level
 abbrev characters_at_two : List Held
@@ -101,35 +126,38 @@ others_at_two =
 abbrev at_two : List Held
 at_two = joined characters_at_two others_at_two
 
-two_read : map (read_back_at (Some (pos 2))) at_two ≡ map same_key at_two
+two_read : map (read_back_in (xterm (Some (pos 2)))) at_two ≡ map same_key at_two
 unfolding enc_written_out written_out
 two_read = refl
 
 -- a key that the reader reads back does read back
-reads_back_in : (level : Option ℤ) (cases : List Held) (key : KeyCode) (held : ℕ) → map (read_back_at level) cases ≡ map same_key cases
-    → Contains cases (key, held) → ReadsBack key (bits held) (xterm level)
-reads_back_in level cases key held test c = go (enc key (bits held) (xterm level)) refl
+reads_back_in : (modes : KeyCodeEncodeModes) (cases : List Held) (key : KeyCode) (held : ℕ) → map (read_back_in modes) cases ≡ map same_key cases
+    → Contains cases (key, held) → ReadsBack key (bits held) modes
+reads_back_in modes cases key held test c = go (enc key (bits held) modes) refl
   where
-    read : read_back_at level (key, held) ≡ Some (key_with key held)
-    read = same_on (read_back_at level) same_key cases (key, held) test c
+    read : read_back_in modes (key, held) ≡ Some (key_with key held)
+    read = same_on (read_back_in modes) same_key cases (key, held) test c
 
-    go : (o : Option (List ℕ)) → enc key (bits held) (xterm level) ≡ o → ReadsBack key (bits held) (xterm level)
+    go : (o : Option (List ℕ)) → enc key (bits held) modes ≡ o → ReadsBack key (bits held) modes
     go (Some text) e = (text, e, reading_means (rows_for key) text (key_with key held) (rows_for_are key) (rw e at read))
     go None e = absurd (let none : None ≡ Some (key_with key held) = rw e at read in cc (none))
 
 first_at_any_level : (key : KeyCode) (held : ℕ) (level : Option ℤ) → Contains keys_with_any (key, held) → ReadsBack key (bits held) (xterm level)
 first_at_any_level key held level c =
-    reads_back_in level at_any_level key held (any_level_read level) (in_first keys_with_any others_at_any_level (key, held) c)
+    reads_back_in (xterm level) at_any_level key held (any_level_read level) (in_first keys_with_any others_at_any_level (key, held) c)
 
 other_at_any_level : (part : List Held) (key : KeyCode) (held : ℕ) (level : Option ℤ) → Contains others_at_any_level part → Contains part (key, held)
     → ReadsBack key (bits held) (xterm level)
 other_at_any_level part key held level p c =
-    reads_back_in level at_any_level key held (any_level_read level) (in_later keys_with_any others_at_any_level part (key, held) p c)
+    reads_back_in (xterm level) at_any_level key held (any_level_read level) (in_later keys_with_any others_at_any_level part (key, held) p c)
+
+other_at_off : (part : List Held) (key : KeyCode) (held : ℕ) → Contains others_at_off part → Contains part (key, held) → ReadsBack key (bits held) (xterm None)
+other_at_off part key held p c = reads_back_in (xterm None) at_off key held off_read (in_later tab_at_off others_at_off part (key, held) p c)
 
 other_at_two : (part : List Held) (key : KeyCode) (held : ℕ) → Contains others_at_two part → Contains part (key, held)
     → ReadsBack key (bits held) (xterm (Some (pos 2)))
 other_at_two part key held p c =
-    reads_back_in (Some (pos 2)) at_two key held two_read (in_later characters_at_two others_at_two part (key, held) p c)
+    reads_back_in (xterm (Some (pos 2))) at_two key held two_read (in_later characters_at_two others_at_two part (key, held) p c)
 
 -- the number of a character among those that begin with first
 at_number : (first count c : ℕ) → first ≤ c → c < first + count → Contains (numbers first count) c
@@ -256,8 +284,8 @@ letter_reads : (c held : ℕ) (level : Option ℤ) → Contains own_letters c �
     → ReadsBack (Char c) (bits held) (xterm level)
 letter_reads c held level a b other =
     reads_back_as (Char c) held None level (letter_at_level c held level (in_pairs own_letters (CTRL ∷ (CTRL + ALT) ∷ []) c held a b) other)
-    (reads_back_in None at_off (Char c) held off_read (in_later tab_at_off (letters_at_off ∷ []) letters_at_off (Char c, held) (0, lit< tt, refl)
-    (in_pairs (map (λ d. Char d) own_letters) (CTRL ∷ (CTRL + ALT) ∷ []) (Char c) held (in_map (λ d. Char d) own_letters c a) b)))
+    (other_at_off letters_at_off (Char c) held (0, lit< tt, refl)
+    (in_pairs (map (λ d. Char d) own_letters) (CTRL ∷ (CTRL + ALT) ∷ []) (Char c) held (in_map (λ d. Char d) own_letters c a) b))
 
 -- the code of printable ASCII
 printable : (c : ℕ) → (is_ascii_alphanumeric c || is_ascii_punctuation c) ≡ true → (33 ≤ c) × (c < 127)
@@ -287,12 +315,16 @@ line_reads k h l (none_or_alt key held level a b) =
 line_reads k h l (ctrl_letter c held level small own other a) =
     letter_reads c held level (own_letter_here c small own) a (not_level level other)
 line_reads k h l (tab_with_alt_and_shift held a) =
-    reads_back_in None at_off Tab held off_read (in_first tab_at_off (letters_at_off ∷ []) (Tab, held)
+    reads_back_in (xterm None) at_off Tab held off_read (in_first tab_at_off others_at_off (Tab, held)
     (in_pairs (Tab ∷ []) (NONE ∷ ALT ∷ SHIFT ∷ (ALT + SHIFT) ∷ []) Tab held (0, lit< tt, refl) a))
+line_reads k h l (tab_with_ctrl_and_shift held a) =
+    other_at_off ctrl_tab_at_off Tab held (2, lit< tt, refl) (in_pairs (Tab ∷ []) ((CTRL + SHIFT) ∷ (CTRL + ALT + SHIFT) ∷ []) Tab held (0, lit< tt, refl) a)
+line_reads k h l (edit_or_high_function key held a b) =
+    other_at_off keys_at_off key held (1, lit< tt, refl) (in_pairs edit_and_high_function_keys any_of_three key held a b)
 line_reads k h l (tab_or_enter key held n a b) =
     tab_or_enter_reads key held n a (other_at_two (pairs (Tab ∷ Enter ∷ []) any_of_three) key held (1, lit< tt, refl) (in_pairs (Tab ∷ Enter ∷ []) any_of_three key held a b))
 line_reads k h l (ctrl_character c held low high a) =
-    reads_back_in (Some (pos 2)) at_two (Char c) held two_read (in_first characters_at_two others_at_two (Char c, held)
+    reads_back_in (xterm (Some (pos 2))) at_two (Char c) held two_read (in_first characters_at_two others_at_two (Char c, held)
     (in_pairs (map (λ d. Char d) (numbers 32 95)) (CTRL ∷ (CTRL + ALT) ∷ []) (Char c) held (in_map (λ d. Char d) (numbers 32 95) c (at_number 32 95 c low (omega arith))) a))
 line_reads k h l (ctrl_shift_character c held a b) =
     other_at_two (pairs (map (λ d. Char d) (32 ∷ numbers 48 10)) ((CTRL + SHIFT) ∷ (CTRL + ALT + SHIFT) ∷ [])) (Char c) held (0, lit< tt, refl)
@@ -301,17 +333,23 @@ line_reads k h l (ctrl_shift_character c held a b) =
 line_reads k h l (escape_or_backspace key held a b) =
     other_at_two (pairs (Escape ∷ Backspace ∷ []) any_of_three) key held (2, lit< tt, refl) (in_pairs (Escape ∷ Backspace ∷ []) any_of_three key held a b)
 
+-- the same by whether application cursor keys are on
+mode_reads : (cursor_keys : Bool) (key : KeyCode) (held : ℕ) (level : Option ℤ) → IsListedWhere cursor_keys key held level → ReadsBack key (bits held) (modes_at cursor_keys level)
+mode_reads false key held level is = line_reads key held level is
+mode_reads true key held level is =
+    subst (λ l. ReadsBack key (bits held) (modes_at true l)) (sym is.off)
+    (reads_back_in application_mode in_application_mode key held application_mode_read (in_pairs (Home ∷ End ∷ []) any_of_three key held is.home_or_end is.any_modifiers))
+
 pub read_back : (key : KeyCode) (modifiers : Modifiers) (modes : KeyCodeEncodeModes) → IsListed key modifiers modes → ReadsBack key modifiers modes
 read_back key modifiers modes is =
-    subst (λ m. ReadsBack key modifiers m) (sym same) (line_reads key modifiers.0 modes.modify_other_keys is.line)
+    subst (λ m. ReadsBack key modifiers m) (sym same) (mode_reads modes.application_cursor_keys key modifiers.0 modes.modify_other_keys is.line)
   where
-    make : KeyboardEncoding → Bool → Bool → KeyCodeEncodeModes
-    make encoding cursor newline =
-        record { encoding = encoding; application_cursor_keys = cursor; newline_mode = newline; modify_other_keys = modes.modify_other_keys }
+    make : KeyboardEncoding → Bool → KeyCodeEncodeModes
+    make encoding newline =
+        record { encoding = encoding; application_cursor_keys = modes.application_cursor_keys; newline_mode = newline; modify_other_keys = modes.modify_other_keys }
 
-    same : modes ≡ xterm modes.modify_other_keys
-    same = ap (λ e. make e modes.application_cursor_keys modes.newline_mode) is.xterm
-        ∙ ap (λ a. make Xterm a modes.newline_mode) is.cursor_keys ∙ ap (λ n. make Xterm false n) is.newline
+    same : modes ≡ modes_at modes.application_cursor_keys modes.modify_other_keys
+    same = ap (λ e. make e modes.newline_mode) is.xterm ∙ ap (λ n. make Xterm n) is.newline
 
 -- characters in CSI u, with each number of modifiers
 abbrev csi_u_numbers : List (ℕ × ℕ)

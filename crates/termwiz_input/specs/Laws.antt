@@ -76,7 +76,7 @@ HasOtherBytes one other = one.0 ≢ other.0
 
 -- how many rows the table has
 abbrev pub row_count : ℕ
-row_count = 2834
+row_count = 2937
 
 -- What is true of the table as a whole.
 pub record TableFacts : Type 0 where

@@ -1,5 +1,5 @@
 -- The keys that read back: a parser reads their texts as exactly these keys.
-use Rattle.std.specs.Prelude.{◌≡◌, ◌≢◌, ℕ, ℤ, pos, ◌+◌, ◌*◌, ◌==◌, ◌≤◌, ◌||◌, false, List, [], ◌∷◌, ◌++◌, Option, Some, None, Contains, IsTrue, codes, decimal}
+use Rattle.std.specs.Prelude.{◌≡◌, ◌≢◌, ℕ, ℤ, pos, ◌+◌, ◌*◌, ◌==◌, ◌≤◌, ◌||◌, Bool, true, false, List, [], ◌∷◌, ◌++◌, Option, Some, None, Contains, IsTrue, codes, decimal}
 use Rattle.std.specs.Char.{IsScalar, is_ascii_lowercase, is_ascii_digit, is_ascii_alphanumeric, is_ascii_punctuation}
 use Rattle.termwiz_base.specs.declared.modifiers.Modifiers.{Modifiers}
 use Rattle.termwiz_input.specs.declared.types.KeyCode.{KeyCode}
@@ -29,11 +29,16 @@ abbrev pub keys_without_modifiers : List KeyCode
 keys_without_modifiers =
     ApplicationLeftArrow ∷ ApplicationRightArrow ∷ ApplicationUpArrow ∷ ApplicationDownArrow ∷ PageUp ∷ PageDown ∷ Insert ∷ Delete ∷ []
 
+-- keys of the editing block, and F21 to F24
+abbrev pub edit_and_high_function_keys : List KeyCode
+edit_and_high_function_keys =
+    Insert ∷ Delete ∷ PageUp ∷ PageDown ∷ Function 21 ∷ Function 22 ∷ Function 23 ∷ Function 24 ∷ []
+
 -- `h`, `i`, `j` and `m`: with Ctrl they send bytes that are read as Backspace, Tab and Enter
 abbrev pub IsSharedLetter : ℕ → Type 0
 IsSharedLetter c = Contains (codes "hijm") c
 
--- A key is listed with the bits of the modifiers that are held, at a level of modifyOtherKeys.
+-- A key is listed with the bits of the modifiers that are held, at a level of modifyOtherKeys, where application cursor keys are off.
 pub data IsListedAt : KeyCode → ℕ → Option ℤ → Type 0 where
   -- at every level, and with modifyOtherKeys off
   any_modifiers : (key : KeyCode) (held : ℕ) (level : Option ℤ)
@@ -48,6 +53,9 @@ pub data IsListedAt : KeyCode → ℕ → Option ℤ → Type 0 where
       → Contains (CTRL ∷ (CTRL + ALT) ∷ []) held → IsListedAt (Char c) held level
   -- off
   tab_with_alt_and_shift : (held : ℕ) → Contains (NONE ∷ ALT ∷ SHIFT ∷ (ALT + SHIFT) ∷ []) held → IsListedAt Tab held None
+  tab_with_ctrl_and_shift : (held : ℕ) → Contains ((CTRL + SHIFT) ∷ (CTRL + ALT + SHIFT) ∷ []) held → IsListedAt Tab held None
+  edit_or_high_function : (key : KeyCode) (held : ℕ)
+      → Contains edit_and_high_function_keys key → Contains any_of_three held → IsListedAt key held None
   -- at every level, but not off
   tab_or_enter : (key : KeyCode) (held : ℕ) (n : ℤ)
       → Contains (Tab ∷ Enter ∷ []) key → Contains any_of_three held → IsListedAt key held (Some n)
@@ -58,13 +66,22 @@ pub data IsListedAt : KeyCode → ℕ → Option ℤ → Type 0 where
   escape_or_backspace : (key : KeyCode) (held : ℕ)
       → Contains (Escape ∷ Backspace ∷ []) key → Contains any_of_three held → IsListedAt key held (Some (pos 2))
 
--- The key, the modifiers and the modes are listed: xterm's encoding, with application cursor keys and newline mode off, and
--- one of the lines.
+-- The same where application cursor keys are on.
+pub record IsListedInApplicationMode (key : KeyCode) (held : ℕ) (level : Option ℤ) : Type 0 where
+  pub home_or_end : Contains (Home ∷ End ∷ []) key
+  pub any_modifiers : Contains any_of_three held
+  pub off : level ≡ None
+
+-- The same, by whether application cursor keys are on.
+abbrev pub IsListedWhere : Bool → KeyCode → ℕ → Option ℤ → Type 0
+IsListedWhere false key held level = IsListedAt key held level
+IsListedWhere true key held level = IsListedInApplicationMode key held level
+
+-- The key, the modifiers and the modes are listed: xterm's encoding, with newline mode off, and one of the lines.
 pub record IsListed (key : KeyCode) (modifiers : Modifiers) (modes : KeyCodeEncodeModes) : Type 0 where
   pub xterm : modes.encoding ≡ Xterm
-  pub cursor_keys : modes.application_cursor_keys ≡ false
   pub newline : modes.newline_mode ≡ false
-  pub line : IsListedAt key modifiers.0 modes.modify_other_keys
+  pub line : IsListedWhere modes.application_cursor_keys key modifiers.0 modes.modify_other_keys
 
 -- The key has a text, which means exactly that key with those modifiers.
 abbrev pub ReadsBack : KeyCode → Modifiers → KeyCodeEncodeModes → Type 0

@@ -194,13 +194,13 @@ digit_keys = (2, Insert) ∷ (3, Delete) ∷ (1, Home) ∷ (7, Home) ∷ (4, End
 abbrev pub digit_ends : List Suffix
 digit_ends = (codes "~", NONE) ∷ (codes "$", SHIFT) ∷ (codes "^", CTRL) ∷ (codes "@", SHIFT + CTRL) ∷ []
 
--- ESC [ digit end: a key by its digit, with the modifiers of the end
-abbrev pub edit_key_of : ℕ × KeyCode → List TableRow
-edit_key_of d = key_with_each_suffix (CSI ++ decimal d.0) digit_ends [] d.1
+-- ESC [ digit s end: each key of a list by its digit, with the modifiers of the suffix s
+abbrev pub keys_by_digit : List Suffix → List ℕ → List (ℕ × KeyCode) → List TableRow
+keys_by_digit suffixes end keys = flat_map (λ d. key_with_each_suffix (CSI ++ decimal d.0) suffixes end d.1) keys
 
--- the same for the editing block
+-- ESC [ digit end: a key of the editing block, with the modifiers of the end
 unfoldable pub edit_keys_rows : List TableRow
-edit_keys_rows = flat_map edit_key_of digit_keys
+edit_keys_rows = keys_by_digit digit_ends [] digit_keys
 
 -- START
 unfoldable pub paste_start_rows : List TableRow
@@ -210,16 +210,44 @@ paste_start_rows = (START, key_with InternalPasteStart NONE) ∷ []
 unfoldable pub paste_end_rows : List TableRow
 paste_end_rows = (END, key_with InternalPasteEnd NONE) ∷ []
 
+-- the keys of the editing block that a suffix may modify, by their digits
+abbrev pub modified_digit_keys : List (ℕ × KeyCode)
+modified_digit_keys = (2, Insert) ∷ (3, Delete) ∷ (5, PageUp) ∷ (6, PageDown) ∷ []
+
+-- ESC [ digit s ~, s not empty: such a key, with the modifiers of s
+unfoldable pub modified_edit_keys_rows : List TableRow
+modified_edit_keys_rows = keys_by_digit to_eight (codes "~") modified_digit_keys
+
+-- the codes of F21 to F24, with the number of each
+abbrev pub high_function_codes : List (ℕ × ℕ)
+high_function_codes = (42, 21) ∷ (43, 22) ∷ (44, 23) ∷ (45, 24) ∷ []
+
+-- ESC [ code s ~: F21 to F24 by their codes, with the modifiers of s
+unfoldable pub high_function_keys_rows : List TableRow
+high_function_keys_rows = flat_map function_key_of high_function_codes
+
+-- Home and End, by their letters
+abbrev pub home_and_end : List (List ℕ × KeyCode)
+home_and_end = (codes "H", Home) ∷ (codes "F", End) ∷ []
+
+-- ESC O and H or F: Home or End in application cursor mode
+unfoldable pub application_home_end_rows : List TableRow
+application_home_end_rows = keys_with_modifiers SS3 home_and_end NONE
+
+-- ESC [1;5Z: Tab with Ctrl and Shift
+unfoldable pub ctrl_shift_tab_rows : List TableRow
+ctrl_shift_tab_rows = (CSI ++ codes "1;5Z", key_with Tab (CTRL + SHIFT)) ∷ []
+
 -- the whole table
 unfoldable pub rows : List TableRow
 rows =
     control_letters_rows ++ backspace_bytes_rows ++ tab_byte_rows ++ enter_bytes_rows ++ escape_byte_rows ++ alt_letters_rows ++ alt_bracket_rows ++ shift_tab_rows ++ csi_u_rows ++ modify_other_keys_rows
     ++ cursor_keys_rows ++ modified_cursor_keys_rows ++ shift_arrows_rows ++ ctrl_arrows_rows ++ application_arrows_rows ++ modified_application_arrows_rows ++ ss3_function_keys_rows ++ lettered_function_keys_rows ++ numbered_function_keys_rows
-    ++ edit_keys_rows ++ paste_start_rows ++ paste_end_rows
+    ++ edit_keys_rows ++ paste_start_rows ++ paste_end_rows ++ modified_edit_keys_rows ++ high_function_keys_rows ++ application_home_end_rows ++ ctrl_shift_tab_rows
 
 -- the table, written out: to unfold this is to unfold every rule
 unfoldable pub written_out : List TableRow
-unfolding numbers rows control_letters_rows backspace_bytes_rows tab_byte_rows enter_bytes_rows escape_byte_rows alt_letters_rows alt_bracket_rows shift_tab_rows csi_u_rows modify_other_keys_rows cursor_keys_rows modified_cursor_keys_rows shift_arrows_rows ctrl_arrows_rows application_arrows_rows modified_application_arrows_rows ss3_function_keys_rows lettered_function_keys_rows numbered_function_keys_rows edit_keys_rows paste_start_rows paste_end_rows digits
+unfolding numbers rows control_letters_rows backspace_bytes_rows tab_byte_rows enter_bytes_rows escape_byte_rows alt_letters_rows alt_bracket_rows shift_tab_rows csi_u_rows modify_other_keys_rows cursor_keys_rows modified_cursor_keys_rows shift_arrows_rows ctrl_arrows_rows application_arrows_rows modified_application_arrows_rows ss3_function_keys_rows lettered_function_keys_rows numbered_function_keys_rows edit_keys_rows paste_start_rows paste_end_rows modified_edit_keys_rows high_function_keys_rows application_home_end_rows ctrl_shift_tab_rows digits
 written_out = rows
 
 -- a map with these rows put into it, one after another

@@ -14,7 +14,7 @@ pub fn one_meaning()
     ensures { OneMeaning }
 {}
 
-/// The sequence table has 2834 rows, and no two of them have the same bytes. The longest rows have eleven bytes, and no row
+/// The sequence table has 2937 rows, and no two of them have the same bytes. The longest rows have eleven bytes, and no row
 /// begins with ESC `[<`, as mouse frames do.
 pub fn table_facts()
     ensures { TableFacts }
@@ -62,9 +62,9 @@ pub fn undecided()
     ensures { Undecided }
 {}
 
-/// A listed key reads back: if the key, the modifiers and the modes are listed (`IsListed`, in xterm's encoding with
-/// application cursor keys and newline mode off), then [`KeyCode::encode`] gives it a text, and this text, read whole without
-/// more to come, means exactly that key with those modifiers.
+/// A listed key reads back: if the key, the modifiers and the modes are listed (`IsListed`, in xterm's encoding with newline
+/// mode off, and application cursor keys off but for `Home` and `End`), then [`KeyCode::encode`] gives it a text, and this
+/// text, read whole without more to come, means exactly that key with those modifiers.
 pub fn read_back(key: KeyCode, modifiers: Modifiers, modes: KeyCodeEncodeModes)
     ensures { IsListed key modifiers modes → ReadsBack key modifiers modes }
 {}

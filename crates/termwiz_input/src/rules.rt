@@ -14,14 +14,17 @@ mod single;
 use crate::keymap::KeyMap;
 use crate::types::KeyEvent;
 use cursor::{
-    application_arrows, ctrl_arrows, cursor_keys, modified_application_arrows,
-    modified_cursor_keys, shift_arrows,
+    application_arrows, application_home_end, ctrl_arrows, cursor_keys,
+    modified_application_arrows, modified_cursor_keys, shift_arrows,
 };
-use function::{edit_keys, lettered_function_keys, numbered_function_keys, ss3_function_keys};
+use function::{
+    edit_keys, high_function_keys, lettered_function_keys, modified_edit_keys,
+    numbered_function_keys, ss3_function_keys,
+};
 use numbers::{csi_u, modify_other_keys};
 use single::{
-    alt_bracket, alt_letters, backspace_bytes, control_letters, enter_bytes, escape_byte,
-    paste_end, paste_start, shift_tab, tab_byte,
+    alt_bracket, alt_letters, backspace_bytes, control_letters, ctrl_shift_tab, enter_bytes,
+    escape_byte, paste_end, paste_start, shift_tab, tab_byte,
 };
 use std::alloc::{AllocError, Global};
 
@@ -51,5 +54,9 @@ pub(crate) fn add_rows(alloc: Global, keys: &mut KeyMap<KeyEvent>) -> Result<(),
     numbered_function_keys(alloc, keys)?;
     edit_keys(alloc, keys)?;
     paste_start(keys)?;
-    paste_end(keys)
+    paste_end(keys)?;
+    modified_edit_keys(alloc, keys)?;
+    high_function_keys(alloc, keys)?;
+    application_home_end(alloc, keys)?;
+    ctrl_shift_tab(keys)
 }

@@ -7,7 +7,7 @@ use std::ops::Range;
 use termwiz_input::input::{Flags, KeyCode, KeyEvent, Modifiers};
 
 // How many rows docs/GRAMMAR.md counts.
-pub(crate) const ROWS: usize = 2834;
+pub(crate) const ROWS: usize = 2937;
 
 // The modifiers of a suffix by its number; 0 stands for the empty suffix. One less than the number has the bits 1 for
 // SHIFT, 2 for ALT, 4 for CTRL and 8 for Meta.
@@ -27,7 +27,7 @@ fn key_of_code(code: u8) -> KeyCode {
     }
 }
 
-// The function key of a code in the rule `numbered_function_keys`.
+// The function key of a code in the rules `numbered_function_keys` and `high_function_keys`.
 fn function_of_code(code: u8) -> Option<u8> {
     match code {
         11..=15 => Some(code - 10),
@@ -35,6 +35,7 @@ fn function_of_code(code: u8) -> Option<u8> {
         23..=26 => Some(code - 12),
         28..=29 => Some(code - 13),
         31..=34 => Some(code - 14),
+        42..=45 => Some(code - 21),
         _ => None,
     }
 }
@@ -80,6 +81,15 @@ const EDIT_KEYS: &[(char, KeyCode)] = &[
     ('6', KeyCode::PageDown),
 ];
 
+const MODIFIED_EDIT_KEYS: &[(char, KeyCode)] = &[
+    ('2', KeyCode::Insert),
+    ('3', KeyCode::Delete),
+    ('5', KeyCode::PageUp),
+    ('6', KeyCode::PageDown),
+];
+
+const HOME_AND_END: &[(char, KeyCode)] = &[('H', KeyCode::Home), ('F', KeyCode::End)];
+
 // The rows by their bytes, and each text that properly begins one.
 #[derive(Drop)]
 pub(super) struct Rows {
@@ -102,6 +112,7 @@ impl Rows {
         rows.add_alt()?;
         rows.add_characters()?;
         rows.add_functions()?;
+        rows.add_modified_edit_keys()?;
         rows.add_lists()?;
         Ok(rows)
     }
@@ -219,13 +230,22 @@ impl Rows {
         Ok(())
     }
 
-    // The rule `numbered_function_keys`.
+    // The rules `numbered_function_keys` and `high_function_keys`.
     fn add_functions(&mut self) -> Result<(), AllocError> {
-        for code in 11..35u8 {
+        for code in 11..46u8 {
             if let Some(number) = function_of_code(code) {
                 let front = format!(in self.alloc; "\x1b[{code}")?;
                 self.add_suffixed(front.as_str(), 0..17, "~", KeyCode::Function(number))?;
             }
+        }
+        Ok(())
+    }
+
+    // The rule `modified_edit_keys`.
+    fn add_modified_edit_keys(&mut self) -> Result<(), AllocError> {
+        for (digit, key) in MODIFIED_EDIT_KEYS {
+            let front = format!(in self.alloc; "\x1b[{digit}")?;
+            self.add_suffixed(front.as_str(), 1..9, "~", *key)?;
         }
         Ok(())
     }
@@ -249,6 +269,8 @@ impl Rows {
         self.add_each("\x1b[", EDIT_KEYS, "^", ctrl)?;
         self.add_each("\x1b[", EDIT_KEYS, "@", shift.union(ctrl))?;
         self.add_each("\x1b[20", &[('0', KeyCode::InternalPasteStart)], "~", none)?;
-        self.add_each("\x1b[20", &[('1', KeyCode::InternalPasteEnd)], "~", none)
+        self.add_each("\x1b[20", &[('1', KeyCode::InternalPasteEnd)], "~", none)?;
+        self.add_each("\x1bO", HOME_AND_END, "", none)?;
+        self.add_each("\x1b[1;5", &[('Z', KeyCode::Tab)], "", shift.union(ctrl))
     }
 }

@@ -21,6 +21,20 @@ const KEYS: &[Example] = &[
         &[(b"\x1b[1;16S", LAST, "Function(4) SHIFT+ALT+CTRL")],
     ),
     ("edit-key-with-at", &[(b"\x1b[8@", LAST, "End SHIFT+CTRL")]),
+    ("edit-key-with-ctrl", &[(b"\x1b[3;5~", LAST, "Delete CTRL")]),
+    ("edit-key-with-suffix-1", &[(b"\x1b[2;1~", LAST, "Insert")]),
+    (
+        "edit-key-with-suffix-9",
+        &[(b"\x1b[2;9~", LAST, "[ ALT, 2, ;, 9, ~")],
+    ),
+    (
+        "home-in-application-mode",
+        &[(b"\x1bO", MORE, "waits 2"), (b"H", MORE, "Home")],
+    ),
+    (
+        "tab-with-alt-ctrl-and-shift",
+        &[(b"\x1b\x1b[1;5Z", LAST, "Tab SHIFT+ALT+CTRL")],
+    ),
     (
         "csi-u-and-modify-other-keys (i)",
         &[(b"\x1b[13;5u", LAST, "U+000D CTRL")],

@@ -85,6 +85,17 @@ const LINES: &[(&[KeyCode], &[Held], Levels)] = &[
         ALL,
     ),
     (&[KeyCode::Tab], ALT_AND_SHIFT, OFF),
+    (&[KeyCode::Tab], CTRL_AND_SHIFT, OFF),
+    (
+        &[
+            KeyCode::PageUp,
+            KeyCode::PageDown,
+            KeyCode::Insert,
+            KeyCode::Delete,
+        ],
+        ANY,
+        OFF,
+    ),
     (&[KeyCode::Tab, KeyCode::Enter], ANY, ON),
     (&[KeyCode::Escape, KeyCode::Backspace], ANY, TWO),
 ];
@@ -104,19 +115,23 @@ fn check_key(
     alloc: Global,
     key: KeyCode,
     (shift, alt, ctrl): Held,
-    level: Option<i64>,
+    modes: KeyCodeEncodeModes,
 ) -> Result<(), Fail> {
     let modifiers = modifiers_of(shift, alt, ctrl);
-    let modes = KeyCodeEncodeModes {
-        encoding: KeyboardEncoding::Xterm,
-        application_cursor_keys: false,
-        newline_mode: false,
-        modify_other_keys: level,
-    };
     let events = read_encoded(alloc, key, modifiers, modes)?;
     let wanted = [InputEvent::Key(KeyEvent { key, modifiers })];
-    assert_eq!(rt; events.as_slice(), wanted.as_slice(), "{level:?}");
+    assert_eq!(rt; events.as_slice(), wanted.as_slice(), "{modes:?}");
     Ok(())
+}
+
+// The modes that are listed: whether application cursor keys are on, at a level of modifyOtherKeys.
+fn modes_at(application_cursor_keys: bool, level: Option<i64>) -> KeyCodeEncodeModes {
+    KeyCodeEncodeModes {
+        encoding: KeyboardEncoding::Xterm,
+        application_cursor_keys,
+        newline_mode: false,
+        modify_other_keys: level,
+    }
 }
 
 // A key with these modifiers, at each of the levels.
@@ -128,7 +143,7 @@ fn check_at_levels(
     levels: &[Option<i64>],
 ) -> Result<(), Fail> {
     for level in levels {
-        check_key(rt, alloc, key, held, *level)?;
+        check_key(rt, alloc, key, held, modes_at(false, *level))?;
     }
     Ok(())
 }
@@ -191,6 +206,23 @@ fn reads_listed_keys_back(rt: HostRuntime) -> Result<(), Fail> {
 fn reads_function_keys_back(rt: HostRuntime) -> Result<(), Fail> {
     for number in 1..21 {
         check_listed(&rt, rt.alloc(), KeyCode::Function(number), ANY, ALL)?;
+    }
+    Ok(())
+}
+
+#[test]
+fn reads_high_function_keys_back(rt: HostRuntime) -> Result<(), Fail> {
+    for number in 21..25 {
+        check_listed(&rt, rt.alloc(), KeyCode::Function(number), ANY, OFF)?;
+    }
+    Ok(())
+}
+
+#[test]
+fn reads_home_and_end_back_in_application_mode(rt: HostRuntime) -> Result<(), Fail> {
+    for held in ANY {
+        check_key(&rt, rt.alloc(), KeyCode::Home, *held, modes_at(true, None))?;
+        check_key(&rt, rt.alloc(), KeyCode::End, *held, modes_at(true, None))?;
     }
     Ok(())
 }

@@ -1,9 +1,11 @@
 // Rules of the cursor keys.
 ghost use Rattle.std.specs.Prelude.{◌≡◌, OnOk};
-ghost use Rattle.termwiz_input.specs.Table.{with_rows, cursor_keys_rows, modified_cursor_keys_rows, shift_arrows_rows, ctrl_arrows_rows, application_arrows_rows, modified_application_arrows_rows};
+ghost use Rattle.termwiz_input.specs.Table.{with_rows, cursor_keys_rows, modified_cursor_keys_rows, shift_arrows_rows, ctrl_arrows_rows, application_arrows_rows, modified_application_arrows_rows, application_home_end_rows};
 
 use super::insert::{insert_each_suffixed, insert_each_with};
-use super::lists::{APPLICATION_ARROWS, BEFORE_NINE, CURSOR_KEYS, SMALL_ARROWS, SUFFIXES};
+use super::lists::{
+    APPLICATION_ARROWS, BEFORE_NINE, CURSOR_KEYS, HOME_AND_END, SMALL_ARROWS, SUFFIXES,
+};
 use crate::keymap::KeyMap;
 use crate::types::KeyEvent;
 use std::alloc::{AllocError, Global};
@@ -70,4 +72,15 @@ pub(super) fn modified_application_arrows(
         &SUFFIXES[..BEFORE_NINE],
         APPLICATION_ARROWS,
     )
+}
+
+// ESC O and H or F: Home or End in application cursor mode.
+#[tactic(auto, unfolding(crate::specs::Table::application_home_end_rows))]
+pub(super) fn application_home_end(
+    alloc: Global,
+    keys: &mut KeyMap<KeyEvent>,
+) -> Result<(), AllocError>
+    ensures { OnOk result (keys.new ≡ with_rows keys.old application_home_end_rows) }
+{
+    insert_each_with(alloc, keys, "\x1bO", HOME_AND_END, Modifiers::NONE)
 }

@@ -40,6 +40,9 @@ pub(super) const CURSOR_KEYS: &[(&str, KeyCode)] = &[
     ("F", KeyCode::End),
 ];
 
+// Home and End, by their letters.
+pub(super) const HOME_AND_END: &[(&str, KeyCode)] = &[("H", KeyCode::Home), ("F", KeyCode::End)];
+
 // The arrows, by lower case letters.
 pub(super) const SMALL_ARROWS: &[(&str, KeyCode)] = &[
     ("a", KeyCode::UpArrow),
@@ -88,6 +91,9 @@ pub(super) const FUNCTION_CODES: &[(u8, u8)] = &[
     (34, 20),
 ];
 
+// The codes of F21 to F24, with the number of each.
+pub(super) const HIGH_FUNCTION_CODES: &[(u8, u8)] = &[(42, 21), (43, 22), (44, 23), (45, 24)];
+
 // The keys of the editing block, by their digits.
 pub(super) const DIGIT_KEYS: &[(u8, KeyCode)] = &[
     (2, KeyCode::Insert),
@@ -100,7 +106,15 @@ pub(super) const DIGIT_KEYS: &[(u8, KeyCode)] = &[
     (6, KeyCode::PageDown),
 ];
 
-// What comes after such a digit, and the modifiers that it stands for.
+// Those that a suffix may modify.
+pub(super) const MODIFIED_DIGIT_KEYS: &[(u8, KeyCode)] = &[
+    (2, KeyCode::Insert),
+    (3, KeyCode::Delete),
+    (5, KeyCode::PageUp),
+    (6, KeyCode::PageDown),
+];
+
+// What comes after a digit of `DIGIT_KEYS`, and the modifiers that it stands for.
 pub(super) const DIGIT_ENDS: &[Suffix] = &[
     ("~", &[]),
     ("$", &[Modifiers::SHIFT]),

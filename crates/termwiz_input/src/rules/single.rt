@@ -1,10 +1,11 @@
 // Rules of single bytes, of ESC and a byte, and of sequences that stand alone.
 ghost use Rattle.std.specs.Prelude.{◌≡◌, OnOk};
-ghost use Rattle.termwiz_input.specs.Table.{with_rows, is_letter, control_letters_rows, backspace_bytes_rows, tab_byte_rows, enter_bytes_rows, escape_byte_rows, alt_letters_rows, alt_bracket_rows, shift_tab_rows, paste_start_rows, paste_end_rows};
+ghost use Rattle.termwiz_input.specs.Table.{with_rows, is_letter, control_letters_rows, backspace_bytes_rows, tab_byte_rows, enter_bytes_rows, escape_byte_rows, alt_letters_rows, alt_bracket_rows, shift_tab_rows, paste_start_rows, paste_end_rows, ctrl_shift_tab_rows};
 
 use super::insert::key_with;
 use crate::keymap::KeyMap;
 use crate::types::{KeyCode, KeyEvent};
+use bitflags::Flags;
 use std::alloc::AllocError;
 use termwiz_base::Modifiers;
 
@@ -112,5 +113,16 @@ pub(super) fn paste_end(keys: &mut KeyMap<KeyEvent>) -> Result<(), AllocError>
     keys.insert(
         b"\x1b[201~",
         key_with(KeyCode::InternalPasteEnd, Modifiers::NONE),
+    )
+}
+
+// ESC [1;5Z: Tab with Ctrl and Shift.
+#[tactic(auto, unfolding(crate::specs::Table::ctrl_shift_tab_rows))]
+pub(super) fn ctrl_shift_tab(keys: &mut KeyMap<KeyEvent>) -> Result<(), AllocError>
+    ensures { OnOk result (keys.new ≡ with_rows keys.old ctrl_shift_tab_rows) }
+{
+    keys.insert(
+        b"\x1b[1;5Z",
+        key_with(KeyCode::Tab, Modifiers::CTRL.union(Modifiers::SHIFT)),
     )
 }
