@@ -316,7 +316,7 @@ fn assert_runs(alloc: Global, rt: &impl Abort, text: &[u8], wanted: &[u8]) {
 
 #[test]
 fn runs_to_the_end(rt: HostRuntime) -> Result<(), Fail> {
-    let cases: [(&[u8], &[u8]); 8] = [
+    let cases: [(&[u8], &[u8]); 9] = [
         (b"", b""),
         (MIXED, MIXED_LINES),
         (b"\x1b[200~\xe2\x82a\x1b[201~", b"paste 4:efbfbd61\n"),
@@ -325,6 +325,10 @@ fn runs_to_the_end(rt: HostRuntime) -> Result<(), Fail> {
         (b"\x1b[", b"key U+005B ALT\n"),
         (b"\x1b[B\xff", b"key DownArrow NONE\nkey U+FFFD NONE\n"),
         (b"q\x1b[200~a\xff", b"key U+0071 NONE\nwaiting 8\n"),
+        (
+            b"\x1b[45;16~\x1bOF",
+            b"key F24 SHIFT+ALT+CTRL\nkey End NONE\n",
+        ),
     ];
     for (text, wanted) in cases {
         assert_runs(rt.alloc(), &rt, text, wanted);
