@@ -117,14 +117,22 @@ fn assert_write_fails(
     Ok(written.len())
 }
 
-// One write of each piece that decides an event, and one at the end.
+// There is one write for each piece that decides an event, and one at the end.
+fn assert_each_write_fails(alloc: Global, rt: &impl Abort, piece: usize) -> Result<(), Fail>
+    requires least { 1 ≤ piece }
+    requires most { piece ≤ 4096 }
+{
+    for n in 0..6 {
+        let _ = assert_write_fails(alloc, rt, piece, (4096, n, true))?;
+        let _ = assert_write_fails(alloc, rt, piece, (4096, n, false))?;
+    }
+    Ok(())
+}
+
 #[test]
 fn writes_fail(rt: HostRuntime) -> Result<(), Fail> {
     for piece in [1, 2, 3, 7, 64] {
-        for n in 0..6 {
-            let _ = assert_write_fails(rt.alloc(), &rt, piece, (4096, n, true))?;
-            let _ = assert_write_fails(rt.alloc(), &rt, piece, (4096, n, false))?;
-        }
+        assert_each_write_fails(rt.alloc(), &rt, piece)?;
     }
     Ok(())
 }
