@@ -8,15 +8,17 @@
 # requests of InputParser::new it refuses each of the first 300, with those that come before, and then every 50th.
 #
 # A case passes if the runs print the lines that tools/refusals/seen.txt has for it and no others, each of them at least once;
-# the first of its lines in the run that meets no refusal, and only there. keyshow passes if each run that meets a refusal says
-# so, ends with status 1 and has printed a prefix of the whole output. The last line is 'N passed, N failed', the status 1 if a
+# the first of its lines in the run that meets no refusal, and only there. keyshow passes if each run that meets a refusal
+# reports it, ends with status 1 and has printed a prefix of the whole output. The last line is 'N passed, N failed', the status 1 if a
 # case failed.
 #
-# It wants rt and a C compiler, cc. Without cc it says so and checks nothing.
+# It needs rt and a C compiler, the variable CC or cc. Without one it says so and checks nothing.
 set -u
+export LC_ALL=C
 cd "$(dirname "$0")/.."
-if ! command -v cc > /dev/null; then
-    echo 'refusals: not run, no cc'
+compiler=${CC:-cc}
+if ! command -v "$compiler" > /dev/null; then
+    echo "refusals: not run, no $compiler"
     exit 0
 fi
 work=$(mktemp -d)
@@ -27,9 +29,19 @@ build() { # crate
     (cd "crates/$1" && rt run < /dev/null) > "$work/log" 2>&1 || { cat "$work/log" >&2; exit 1; }
 }
 
-cc -O1 -shared -fPIC -o "$work/refuse.so" tools/refusals/refuse.c -ldl || exit 1
+"$compiler" -O1 -shared -fPIC -o "$work/refuse.so" tools/refusals/refuse.c -ldl || exit 1
 build refusals
 build keyshow
+
+# All requests have to be calls of malloc or realloc, which refuse.c replaces.
+if command -v nm > /dev/null; then
+    for program in refusals keyshow; do
+        if nm -D "crates/$program/out/$program" | grep -qE ' U (calloc|aligned_alloc|memalign|posix_memalign|reallocarray|mmap)'; then
+            echo "refusals: $program asks for memory by a call that tools/refusals/refuse.c doesn't replace" >&2
+            exit 1
+        fi
+    done
+fi
 
 # Runs a program with one request refused. Sets `met` to 1 if it made that many, and `status`.
 refuse() { # number program words..
@@ -89,7 +101,9 @@ check_case() { # case
         number=$(after "$number")
     done
     echo "$granted" >> "$work/seen"
-    [ -n "$wrong" ] || sort -u "$work/seen" | cmp -s - <(sort "$work/wanted") || wrong='a line of tools/refusals/seen.txt was not seen'
+    if [ -z "$wrong" ] && ! diff <(sort -u "$work/seen") <(sort "$work/wanted") > "$work/out"; then
+        wrong='not all lines of tools/refusals/seen.txt were seen'
+    fi
     note "$1" "$number" "$wrong"
 }
 
@@ -111,6 +125,7 @@ check_keyshow() {
         cmp -s "$work/out" <(head -c "$(stat -c %s "$work/out")" "$work/whole") || wrong='no prefix of the whole output'
         [ -n "$wrong" ] || number=$(after "$number")
     done
+    [ -n "$wrong" ] || [ "$number" -gt 1 ] || wrong='no request was refused'
     note keyshow "$number" "$wrong"
 }
 

@@ -321,12 +321,9 @@ impl PlainReader {
         Ok((events, rest))
     }
 
-    // "What waits": the shape of bytes that stand there as they are, or after one ESC.
-    fn bare_shape_of(&self, bytes: &[u8], more: bool) -> Result<Option<Shape>, AllocError> {
-        if bytes.len() <= 20 && self.is_open(bytes, more)? {
-            return Ok(Some(Shape::Undecided));
-        }
-        Ok(None)
+    // "What waits": whether bytes that stand there as they are, or after one ESC, are undecided.
+    fn are_undecided(&self, bytes: &[u8], more: bool) -> Result<bool, AllocError> {
+        Ok(bytes.len() <= 20 && self.is_open(bytes, more)?)
     }
 
     // "What waits": the shape of a rest, and `None` where it has none of them.
@@ -337,13 +334,12 @@ impl PlainReader {
         if rest.starts_with(START) && paste_at(self.alloc, rest)?.is_none() {
             return Ok(Some(Shape::OpenPaste));
         }
-        let shape = self.bare_shape_of(rest, more)?;
-        if shape.is_some() {
-            return Ok(shape);
+        if self.are_undecided(rest, more)? {
+            return Ok(Some(Shape::Undecided));
         }
         match rest.strip_prefix(ESC) {
-            Some(bytes) => self.bare_shape_of(bytes, more),
-            None => Ok(None),
+            Some(bytes) if self.are_undecided(bytes, more)? => Ok(Some(Shape::Undecided)),
+            _ => Ok(None),
         }
     }
 }

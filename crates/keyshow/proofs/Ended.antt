@@ -20,7 +20,7 @@ nothing one text contents =
     let (events, waiting, means, only) = one text false in
     record { events = events; waiting = waiting; part = []; means = means; begins = (all_lines events waiting, refl); written = Appends-nil contents }
 
--- a writer that got a beginning of the lines of the events that are decided
+-- a writer that got a prefix of the lines of the events that are decided
 pub decided : OneMeaning → Resumes → (text waiting : List ℕ) (events : List InputEvent) (part : List ℕ) (before after : Option (List ℕ)) → Means text true events waiting → Begins part (lines events)
     → Appends before after part → WritesPart text before after
 decided one resumes text waiting events part before after means (rest, e) written =
@@ -35,7 +35,7 @@ decided one resumes text waiting events part before after means (rest, e) writte
       written = written;
     }
 
--- a writer that got the lines of the events that were decided, and then a beginning of the lines of the rest
+-- a writer that got the lines of the events that were decided, and then a prefix of the lines of the rest
 pub after_lines : Resumes → (text more waiting : List ℕ) (events : List InputEvent) (first before after : Option (List ℕ)) → Means text true events waiting → Appends first before (lines events)
     → WritesPart (waiting ++ more) before after → WritesPart (text ++ more) first after
 after_lines resumes text more waiting events first before after means written p = record {

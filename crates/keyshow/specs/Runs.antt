@@ -27,7 +27,7 @@ pub record ShowsDecided (unread left before after : Option (List ℕ)) : Type 0 
   pub means : Means text true events waiting
   pub written : Appends before after (lines events)
 
--- A writer got a beginning of the lines of what the text means where no more comes, which took its bytes from `before` to `after`.
+-- A writer got a prefix of the lines of what the text means where no more comes, which took its bytes from `before` to `after`.
 pub record WritesPart (text : List ℕ) (before after : Option (List ℕ)) : Type 0 where
   pub events : List InputEvent
   pub waiting : List ℕ
@@ -36,7 +36,7 @@ pub record WritesPart (text : List ℕ) (before after : Option (List ℕ)) : Typ
   pub begins : Begins part (all_lines events waiting)
   pub written : Appends before after part
 
--- A reader gave some text, which took its bytes from `unread` to `left`, and a writer got a beginning of the lines of what this
+-- A reader gave some text, which took its bytes from `unread` to `left`, and a writer got a prefix of the lines of what this
 -- text means where no more comes, which took its bytes from `before` to `after`.
 pub record ShowsPart (unread left before after : Option (List ℕ)) : Type 0 where
   pub text : List ℕ

@@ -37,7 +37,7 @@ pub enum RunError {
 /// then how many bytes wait, if any do, and flushes the writer once.
 ///
 /// The first error ends the run. After `Read` exactly the lines of the events that were decided so far are written, and nothing
-/// is flushed. After `Write` or `Memory` a beginning is written of the lines that the text read so far has if no more comes.
+/// is flushed. After `Write` or `Memory` a prefix is written of the lines that the text read so far has if no more comes.
 pub fn run<R: Read, W: Write>(
     alloc: Global,
     reader: &mut R,
@@ -114,7 +114,7 @@ fn show_read<W: Write>(
         × Appends (W.contents writer.old) (W.contents writer.new) (lines events)) }
     ensures err { OnErr result (WritesPart (parser.old ++ join (texts pieces.now))
         (W.contents writer.old) (W.contents writer.new)) }
-    ensures kind { ¬ IsErrOf result RunError.Read }
+    ensures not_read { ¬ IsErrOf result RunError.Read }
 {
     laws::resumes();
     laws::one_meaning();

@@ -336,20 +336,11 @@ fn runs_to_the_end(rt: HostRuntime) -> Result<(), Fail> {
     Ok(())
 }
 
-// The text, `times` times over.
-fn repeated(alloc: Global, text: &[u8], times: usize) -> Result<Vec<u8>, AllocError> {
-    let mut whole = Vec::new(alloc);
-    for _ in 0..times {
-        whole.extend_from_slice(text)?;
-    }
-    Ok(whole)
-}
-
 // 70000 reads of one byte each.
 #[test]
 fn reads_many_times(rt: HostRuntime) -> Result<(), Fail> {
-    let text = repeated(rt.alloc(), ARROW_AND_Q, 17500)?;
-    let wanted = repeated(rt.alloc(), ARROW_AND_Q_LINES, 17500)?;
+    let text = ARROW_AND_Q.repeat(rt.alloc(), 17500)?;
+    let wanted = ARROW_AND_Q_LINES.repeat(rt.alloc(), 17500)?;
     let reads = Cell::new(0);
     let mut source = reader(text.as_slice(), 1, &reads);
     let mut target = writer(rt.alloc(), 4096, &reads);

@@ -7,12 +7,12 @@ use denote.Ref.{Bor}
 use Rattle.termwiz_input.specs.declared.types.InputEvent.{InputEvent}
 use Rattle.termwiz_input.specs.Grammar.{Steps, Means}
 use Rattle.termwiz_input.specs.Laws.{Resumes}
-use Rattle.termwiz_input.specs.Pieces.{NumberedEvent, ReadsFirst, events_of, flag_at, join, pieces_or_one, taken_or_one, texts}
+use Rattle.termwiz_input.specs.Pieces.{AreNumbered, NumberedEvent, ReadsFirst, events_of, flag_at, join, pieces_or_one, taken_or_one, texts}
 use Rattle.refusals.specs.declared.parses.Stop.{Stop}
 use Rattle.refusals.specs.declared.parses.PiecesStop.{PiecesStop}
-use Rattle.refusals.specs.GoingOn.{StopsAt, TellsOf, GoesOn, GoesOnWithPieces}
+use Rattle.refusals.specs.GoingOn.{StopsAt, Describes, GoesOn, GoesOnWithPieces}
 
-module _ (before bytes left waiting : List ℕ) (stop : Stop) (tells : TellsOf left stop.waiting stop.is_paste_open) where
+module _ (before bytes left waiting : List ℕ) (stop : Stop) (tells : Describes left stop.left) where
   -- the same call again, if the bytes weren't taken
   pub again : (given later : List InputEvent) → stop.taken ≡ false → given ≡ [] → left ≡ before → Means (left ++ bytes) false later waiting
       → GoesOn before bytes (Some stop) given later waiting
@@ -58,11 +58,15 @@ joined resumes before (piece ∷ pieces) k left waiting E D within steps means =
 -- the pieces from the first on that wasn't taken
 pub others_given : Resumes → (before : List ℕ) (pieces : List (Bor (List ℕ))) (stop : PiecesStop) (given later : List NumberedEvent) (left waiting : List ℕ)
     → stop.taken ≤ length pieces → ReadsFirst before (pieces_or_one (texts pieces)) false (taken_or_one (texts pieces) stop.taken) given left
-    → TellsOf left stop.waiting stop.is_paste_open
+    → Describes left stop.left
     → Means (left ++ join (texts (take (length pieces - stop.taken) (drop stop.taken pieces)))) false (events_of later) waiting
+    → AreNumbered left (pieces_or_one (texts (take (length pieces - stop.taken) (drop stop.taken pieces)))) later
     → GoesOnWithPieces before (texts pieces) (Some stop) given later waiting
-others_given resumes before pieces stop given later left waiting within reads tells means = record {
-  means = joined resumes before (texts pieces) stop.taken left waiting (events_of given) (events_of later) (rw length-map within) reads.steps (rw (take_rest pieces stop.taken, ← drop-map (λ (p : Bor (List ℕ)). p.now) stop.taken pieces) at means);
+others_given resumes before pieces stop given later left waiting within reads tells means numbered = record {
+  means = joined resumes before (texts pieces) stop.taken left waiting (events_of given) (events_of later) (rw length-map within) reads.steps (rw others at means);
   at_once = tt;
-  stopped = (left, reads, tells);
+  stopped = (left, reads, rw others at numbered, tells);
 }
+  where
+    others : texts (take (length pieces - stop.taken) (drop stop.taken pieces)) ≡ drop stop.taken (texts pieces)
+    others = ap texts (take_rest pieces stop.taken) ∙ sym (drop-map (λ (p : Bor (List ℕ)). p.now) stop.taken pieces)

@@ -1,9 +1,10 @@
 -- Calls of the parser that may be refused memory, and the calls that go on after them.
-use Rattle.std.specs.Prelude.{◌≡◌, ◌↔◌, ℕ, Bool, true, false, IsTrue, List, [], ◌++◌, length, Option, IfSome, IfNone}
+use Rattle.std.specs.Prelude.{◌≡◌, ◌↔◌, ℕ, Bool, true, false, IsTrue, List, [], ◌++◌, length, drop, Option, IfSome, IfNone}
 use Rattle.termwiz_input.specs.Bytes.{Begins, START}
 use Rattle.termwiz_input.specs.declared.types.InputEvent.{InputEvent}
 use Rattle.termwiz_input.specs.Grammar.{Steps, Means}
-use Rattle.termwiz_input.specs.Pieces.{NumberedEvent, ReadsFirst, events_of, join, pieces_or_one, taken_or_one}
+use Rattle.termwiz_input.specs.Pieces.{AreNumbered, NumberedEvent, ReadsFirst, events_of, join, pieces_or_one, taken_or_one}
+use Rattle.refusals.specs.declared.parses.Left.{Left}
 use Rattle.refusals.specs.declared.parses.Stop.{Stop}
 use Rattle.refusals.specs.declared.parses.PiecesStop.{PiecesStop}
 
@@ -14,18 +15,19 @@ StopsAt before bytes true given left = Steps (before ++ bytes) false given left
 StopsAt before bytes false given left = (given ≡ []) × (left ≡ before)
 
 -- what is told of the text that a call left
-pub record TellsOf (left : List ℕ) (waiting : ℕ) (is_paste_open : Bool) : Type 0 where
-  pub len : waiting ≡ length left
-  pub paste : IsTrue is_paste_open ↔ Begins START left
+pub record Describes (text : List ℕ) (left : Left) : Type 0 where
+  pub len : left.waiting ≡ length text
+  pub paste : IsTrue left.is_paste_open ↔ Begins START text
 
 -- A call on these bytes and, if it stopped, the call that goes on gave the events that the bytes mean, with no more to come.
 pub record GoesOn (before bytes : List ℕ) (stop : Option Stop) (first later : List InputEvent) (waiting : List ℕ) : Type 0 where
   pub means : Means (before ++ bytes) false (first ++ later) waiting
   pub at_once : IfNone stop (later ≡ [])
-  pub stopped : IfSome stop (λ s. (left : List ℕ) × StopsAt before bytes s.taken first left × TellsOf left s.waiting s.is_paste_open)
+  pub stopped : IfSome stop (λ s. (left : List ℕ) × StopsAt before bytes s.taken first left × Describes left s.left)
 
--- The same of a call on pieces.
+-- The same of a call on pieces. The events of each call have the numbers of its pieces.
 pub record GoesOnWithPieces (before : List ℕ) (pieces : List (List ℕ)) (stop : Option PiecesStop) (first later : List NumberedEvent) (waiting : List ℕ) : Type 0 where
   pub means : Means (before ++ join pieces) false (events_of first ++ events_of later) waiting
-  pub at_once : IfNone stop (later ≡ [])
-  pub stopped : IfSome stop (λ s. (left : List ℕ) × ReadsFirst before (pieces_or_one pieces) false (taken_or_one pieces s.taken) first left × TellsOf left s.waiting s.is_paste_open)
+  pub at_once : IfNone stop ((later ≡ []) × AreNumbered before (pieces_or_one pieces) first)
+  pub stopped : IfSome stop (λ s. (left : List ℕ) × ReadsFirst before (pieces_or_one pieces) false (taken_or_one pieces s.taken) first left
+      × AreNumbered left (pieces_or_one (drop s.taken pieces)) later × Describes left s.left)

@@ -11,8 +11,9 @@
 mod parses;
 mod parts;
 
-use parses::Stop;
+use parses::{Left, PiecesStop, Stop};
 use std::alloc::AllocError;
+use std::fmt::Display;
 use std::process::ExitCode;
 use std::{env, io};
 use termwiz_input::encode::KeyboardEncoding;
@@ -165,20 +166,27 @@ fn print_event(rt: &HostRuntime, event: &InputEvent) -> io::Result<()> {
     }
 }
 
-// Prints an event of the first or the later call. A callback has no error to return: what isn't printed is missed in the line.
-fn print_given(rt: &HostRuntime, call: &str, event: &InputEvent) {
+// Prints an event, after the name of its call. A callback has no error to return: what can't be printed is missing from the line.
+fn print_given<D: Display + Drop>(rt: &HostRuntime, call: D, event: &InputEvent) {
     let _ = print!(rt; " / {call} ");
     let _ = print_event(rt, event);
 }
 
-// Prints what stood after a refusal, if there was one, and what waits in the end.
+// Prints what a refused call left.
+fn print_left(rt: &HostRuntime, left: &Left) -> io::Result<()> {
+    print!(rt; ", waiting {}", left.waiting)?;
+    if left.is_paste_open {
+        print!(rt; " in a paste")?;
+    }
+    Ok(())
+}
+
+// Prints what stood after a refusal of the bytes, if there was one, and what waits in the end.
 fn print_stop(rt: &HostRuntime, stop: Option<Stop>, parser: &InputParser) -> io::Result<()> {
-    if let Some(stop) = stop {
-        let taken = if stop.taken { "Taken" } else { "NotTaken" };
-        print!(rt; " / refused {taken}, waiting {}", stop.waiting)?;
-        if stop.is_paste_open {
-            print!(rt; " in a paste")?;
-        }
+    if let Some(Stop { taken, left }) = stop {
+        let error = if taken { "Taken" } else { "NotTaken" };
+        print!(rt; " / refused {error}")?;
+        print_left(rt, &left)?;
     }
     print!(rt; " / waiting {}", parser.waiting_len())
 }
@@ -216,25 +224,18 @@ fn show_parse_as_vec(rt: &HostRuntime) -> Result<(), Failure> {
 fn show_parse_pieces(rt: &HostRuntime) -> Result<(), Failure> {
     let mut parser = InputParser::new(rt.alloc())?;
     let mut first = |number: usize, event: InputEvent| {
-        let _ = print!(rt; " / first {number} ");
-        let _ = print_event(rt, &event);
+        print_given(rt, format_args!("first {number}"), &event);
     };
     let mut later = |number: usize, event: InputEvent| {
-        let _ = print!(rt; " / later {number} ");
-        let _ = print_event(rt, &event);
+        print_given(rt, format_args!("later {number}"), &event);
     };
     let pieces: &[&[u8]] = &[b"\x1b[200~a", b"\x1b[201~", b"z"];
     let stop = parses::parse_pieces(&mut parser, pieces, &mut first, &mut later).map_err(
         |_| Failure::Failed,
     )?;
-    if let Some(stop) = stop {
-        print!(rt;
-            " / refused after {} pieces, waiting {}",
-            stop.taken, stop.waiting
-        )?;
-        if stop.is_paste_open {
-            print!(rt; " in a paste")?;
-        }
+    if let Some(PiecesStop { taken, left }) = stop {
+        print!(rt; " / refused after {taken} pieces")?;
+        print_left(rt, &left)?;
     }
     Ok(print!(rt; " / waiting {}", parser.waiting_len())?)
 }

@@ -5,35 +5,39 @@ ghost use Rattle.std.specs.Prelude.{◌≡◌, List, IfOk, IfSome};
 ghost use Rattle.termwiz_input.specs.declared.types.InputEvent.{InputEvent as Event};
 ghost use Rattle.termwiz_input.specs.Callbacks.{WasCalledOn, WasCalledOnNumbered};
 ghost use Rattle.termwiz_input.specs.Pieces.{NumberedEvent, texts};
-ghost use Rattle.refusals.specs.GoingOn.{GoesOn, GoesOnWithPieces, TellsOf};
+ghost use Rattle.refusals.specs.GoingOn.{Describes, GoesOn, GoesOnWithPieces};
 
 use std::alloc::Global;
 use termwiz_input::input::{InputEvent, InputParser, ParseError, ParseVecError, PiecesError};
 use termwiz_input::laws::resumes;
 
-/// What stood after a call was refused memory.
+/// What a call left.
 #[derive(Clone, Copy, Debug)]
-pub struct Stop {
-    /// Whether the bytes were taken.
-    pub taken: bool,
+pub struct Left {
     /// How many bytes waited.
     pub waiting: usize,
     /// Whether they began with the start of a paste.
     pub is_paste_open: bool,
 }
 
-impl Stop {
-    // What stands at a parser.
-    fn at(parser: &InputParser, taken: bool) -> Stop
-        ensures taken { result.taken ≡ taken }
-        ensures tells { TellsOf parser.now result.waiting result.is_paste_open }
+impl Left {
+    // What waits in a parser.
+    fn by(parser: &InputParser) -> Left
+        ensures { Describes parser.now result }
     {
-        Stop {
-            taken,
+        Left {
             waiting: parser.waiting_len(),
             is_paste_open: parser.is_paste_open(),
         }
     }
+}
+
+/// What stood after a call was refused memory.
+#[derive(Clone, Copy, Debug)]
+pub struct Stop {
+    /// Whether the bytes were taken.
+    pub taken: bool,
+    pub left: Left,
 }
 
 /// What stood after a call on pieces was refused memory.
@@ -41,10 +45,7 @@ impl Stop {
 pub struct PiecesStop {
     /// How many pieces were taken.
     pub taken: usize,
-    /// How many bytes waited.
-    pub waiting: usize,
-    /// Whether they began with the start of a paste.
-    pub is_paste_open: bool,
+    pub left: Left,
 }
 
 /// Gives the bytes to `parse`, and their events to `first`. After a refusal the bytes are given again if they weren't taken,
@@ -67,14 +68,14 @@ pub fn parse<F: FnMut(InputEvent), G: FnMut(InputEvent)>(
     match parser.parse(bytes, first, false) {
         Ok(()) => Ok(None),
         Err(ParseError::NotTaken) => {
-            let stop = Stop::at(parser, false);
+            let left = Left::by(parser);
             parser.parse(bytes, later, false)?;
-            Ok(Some(stop))
+            Ok(Some(Stop { taken: false, left }))
         }
         Err(ParseError::Taken) => {
-            let stop = Stop::at(parser, true);
+            let left = Left::by(parser);
             parser.parse(b"", later, false)?;
-            Ok(Some(stop))
+            Ok(Some(Stop { taken: true, left }))
         }
     }
 }
@@ -111,12 +112,14 @@ pub fn parse_as_vec(
         }
         Err(ParseVecError { events, taken }) => (events, taken),
     };
-    let stop = Some(Stop::at(parser, taken));
+    let left = Left::by(parser);
     let rest = if taken { b"" } else { bytes };
-    match parser.parse_as_vec(rest, false) {
-        Ok(later) => Ok(Lists { first, stop, later }),
-        Err(fault) => Err(fault),
-    }
+    let later = parser.parse_as_vec(rest, false)?;
+    Ok(Lists {
+        first,
+        stop: Some(Stop { taken, left }),
+        later,
+    })
 }
 
 /// Gives the pieces to `parse_pieces`, and their events to `first`. After a refusal the pieces that weren't taken are given, no
@@ -138,13 +141,9 @@ pub fn parse_pieces<F: FnMut(usize, InputEvent), G: FnMut(usize, InputEvent)>(
     match parser.parse_pieces(pieces, first, false) {
         Ok(()) => Ok(None),
         Err(PiecesError { taken }) => {
-            let stop = PiecesStop {
-                taken,
-                waiting: parser.waiting_len(),
-                is_paste_open: parser.is_paste_open(),
-            };
+            let left = Left::by(parser);
             parser.parse_pieces(&pieces[taken..], later, false)?;
-            Ok(Some(stop))
+            Ok(Some(PiecesStop { taken, left }))
         }
     }
 }

@@ -63,7 +63,7 @@ pub fn undecided()
 {}
 
 /// A listed key reads back: if the key, the modifiers and the modes are listed (`IsListed`, in xterm's encoding with newline
-/// mode off, and application cursor keys off but for `Home` and `End`), then [`KeyCode::encode`] gives it a text, and this
+/// mode off, and application cursor keys off, or on for `Home` and `End`), then [`KeyCode::encode`] gives it a text, and this
 /// text, read whole without more to come, means exactly that key with those modifiers.
 pub fn read_back(key: KeyCode, modifiers: Modifiers, modes: KeyCodeEncodeModes)
     ensures { IsListed key modifiers modes → ReadsBack key modifiers modes }

@@ -242,36 +242,25 @@ pub(super) fn check_sizes(
     Ok(())
 }
 
-// What waits has one of the shapes of docs/GRAMMAR.md, and a paste is open if and only if that is its shape.
-fn check_waiting(
-    rt: &impl Abort,
-    reader: &PlainReader,
-    parser: &InputParser,
-    waiting: &[u8],
-    more: bool,
-) -> Result<(), Fail> {
-    let shape = reader.shape_of(waiting, more)?;
-    assert!(rt; may_wait(shape, waiting.len()), "{waiting:?} waits, {more}");
-    assert_eq!(rt;
-        parser.is_paste_open(),
-        shape == Some(Shape::OpenPaste),
-        "{waiting:?}"
-    );
-    Ok(())
-}
-
+// The text waits as a whole, and a paste is open if and only if that is its shape.
 fn check_rest(
     rt: &impl Abort,
     alloc: Global,
-    reader: &PlainReader,
     text: &[u8],
     more: bool,
+    shape: Shape,
 ) -> Result<(), Fail> {
     let mut parser = InputParser::new(alloc)?;
     let events = parser.parse_as_vec(text, more)?;
     assert!(rt; events.is_empty(), "{text:?}");
     assert_eq!(rt; parser.waiting_len(), text.len(), "{text:?}");
-    check_waiting(rt, reader, &parser, text, more)
+    assert!(rt; may_wait(Some(shape), text.len()), "{text:?}");
+    assert_eq!(rt;
+        parser.is_paste_open(),
+        shape == Shape::OpenPaste,
+        "{text:?}"
+    );
+    Ok(())
 }
 
 #[test]
@@ -279,7 +268,7 @@ fn rests_have_a_shape(rt: HostRuntime) -> Result<(), Fail> {
     let reader = PlainReader::new(rt.alloc())?;
     for (text, more, shape) in RESTS {
         assert_eq!(rt; reader.shape_of(text, *more)?, Some(*shape), "{text:?}");
-        check_rest(&rt, rt.alloc(), &reader, text, *more)?;
+        check_rest(&rt, rt.alloc(), text, *more, *shape)?;
     }
     Ok(())
 }

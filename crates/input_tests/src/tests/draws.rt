@@ -4,7 +4,8 @@ ghost use Rattle.std.specs.Prelude.{◌<◌};
 use super::plain::{PlainReader, ROWS};
 use std::alloc::{AllocError, Global};
 
-// The bytes that the grammar names, parts and wholes of known texts, and beginnings of characters.
+// The bytes that the grammar names, parts and wholes of known texts, and beginnings of characters. ESC stands twice, so that it is
+// drawn more often.
 const SYMBOLS: &[&[u8]] = &[
     b"\x1b",
     b"\x1b",
@@ -44,7 +45,7 @@ const SYMBOLS: &[&[u8]] = &[
 // Limits of the lengths of pieces: below 2 a piece is a byte or empty, and below 61 most texts are one piece or two.
 const LIMITS: &[usize] = &[2, 4, 8, 16, 61];
 
-// Numbers that look random, and what is made by them: a linear congruential generator, and the rows of the sequence table.
+// A linear congruential generator, and the rows of the sequence table, from which texts are made.
 #[derive(Drop)]
 pub(super) struct Draws {
     state: u64,
@@ -81,7 +82,7 @@ impl Draws {
         SYMBOLS[self.below(SYMBOLS.len())]
     }
 
-    // A text of as many symbols.
+    // A text of `count` symbols.
     pub(super) fn symbols(&mut self, count: usize) -> Result<Vec<u8>, AllocError> {
         let mut text = Vec::new(self.alloc);
         for _ in 0..count {

@@ -62,7 +62,10 @@ const KEYS: &[Example] = &[
 const ESCAPES: &[Example] = &[
     ("alt-arrow", &[(b"\x1b\x1b[A", LAST, "UpArrow ALT")]),
     ("alt-character", &[(b"\x1bq", LAST, "q ALT")]),
-    ("alt-broken-byte", &[(b"\x1b\xff", LAST, "U+FFFD ALT")]),
+    (
+        "alt-broken-byte-flushed",
+        &[(b"\x1b\xff", LAST, "U+FFFD ALT")],
+    ),
     (
         "alt-arrow-with-alt",
         &[(b"\x1b\x1b[1;3A", LAST, "UpArrow ALT")],

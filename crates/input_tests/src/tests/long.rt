@@ -24,15 +24,6 @@ pub(super) fn wanted_at(number: usize) -> InputEvent {
     })
 }
 
-// A text, repeated.
-pub(super) fn repeated(alloc: Global, text: &[u8], times: usize) -> Result<Vec<u8>, AllocError> {
-    let mut whole = Vec::new(alloc);
-    for _ in 0..times {
-        whole.extend_from_slice(text)?;
-    }
-    Ok(whole)
-}
-
 pub(super) fn check_events(rt: &impl Abort, events: &[InputEvent], len: usize) {
     assert_eq!(rt; events.len(), len);
     for (number, event) in events.iter().enumerate() {
@@ -42,7 +33,7 @@ pub(super) fn check_events(rt: &impl Abort, events: &[InputEvent], len: usize) {
 
 #[test]
 fn reads_a_thousand_keys_in_one_call(rt: HostRuntime) -> Result<(), Fail> {
-    let text = repeated(rt.alloc(), KEYS, 500)?;
+    let text = KEYS.repeat(rt.alloc(), 500)?;
     let mut parser = InputParser::new(rt.alloc())?;
     let events = parser.parse_as_vec(text.as_slice(), LAST)?;
     check_events(&rt, events.as_slice(), 1000);
@@ -71,7 +62,7 @@ pub(super) fn read_in_pieces(
 
 #[test]
 fn reads_70000_bytes_one_at_a_time(rt: HostRuntime) -> Result<(), Fail> {
-    let text = repeated(rt.alloc(), KEYS, 17500)?;
+    let text = KEYS.repeat(rt.alloc(), 17500)?;
     assert_eq!(rt; text.len(), 70000);
     let mut parser = InputParser::new(rt.alloc())?;
     let events = read_in_pieces(&rt, rt.alloc(), &mut parser, text.as_slice(), 1)?;
@@ -82,7 +73,7 @@ fn reads_70000_bytes_one_at_a_time(rt: HostRuntime) -> Result<(), Fail> {
 
 // A text of 100 KB, and its paste.
 fn long_paste(alloc: Global) -> Result<(Vec<u8>, Vec<u8>), AllocError> {
-    let body = repeated(alloc, b"0123456789abcdef", 6400)?;
+    let body = b"0123456789abcdef".repeat(alloc, 6400)?;
     let mut paste = b"\x1b[200~".to_vec(alloc)?;
     paste.extend_from_slice(body.as_slice())?;
     paste.extend_from_slice(b"\x1b[201~")?;
@@ -154,7 +145,7 @@ const ENDLESS: &[(&str, &[LongStep])] = &[
 fn joined(alloc: Global, parts: Parts) -> Result<Vec<u8>, AllocError> {
     let mut text = Vec::new(alloc);
     for (part, times) in parts {
-        text.append(&mut repeated(alloc, part, *times)?)?;
+        text.append(&mut part.repeat(alloc, *times)?)?;
     }
     Ok(text)
 }

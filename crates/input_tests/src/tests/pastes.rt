@@ -1,7 +1,6 @@
 // Pastes, whole and cut.
 use super::cuts::check_few_wait;
 use super::line::line_of;
-use super::long::repeated;
 use super::{Example, InputEvent, InputParser, LAST, MORE, check_all};
 use std::alloc::Global;
 use std::process::Abort;
@@ -93,7 +92,7 @@ fn gives_the_text_of_a_paste(rt: HostRuntime) -> Result<(), Fail> {
 // A paste that comes byte by byte is one event, at its last byte.
 #[test]
 fn reads_a_paste_byte_by_byte(rt: HostRuntime) -> Result<(), Fail> {
-    let body = repeated(rt.alloc(), b"a", 200)?;
+    let body = b"a".repeat(rt.alloc(), 200)?;
     let mut text = b"\x1b[200~".to_vec(rt.alloc())?;
     text.extend_from_slice(&body)?;
     text.extend_from_slice(b"\x1b[201")?;

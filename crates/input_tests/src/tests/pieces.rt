@@ -1,7 +1,7 @@
 // The calls with a callback: what `parse` and `parse_pieces` give, the numbers of the pieces, and the messages of errors.
 use super::cuts::{check_few_wait, check_sizes};
 use super::line::{line_of, push_comma, push_event, push_waiting};
-use super::long::{KEYS, check_events, repeated, wanted_at};
+use super::long::{KEYS, check_events, wanted_at};
 use super::{InputEvent, InputParser, LAST, MORE, Step};
 use std::alloc::{AllocError, Global};
 use std::fmt::Write;
@@ -184,7 +184,7 @@ fn error_messages(rt: HostRuntime) -> Result<(), Fail> {
 
 #[test]
 fn parse_reads_a_thousand_keys(rt: HostRuntime) -> Result<(), Fail> {
-    let text = repeated(rt.alloc(), KEYS, 500)?;
+    let text = KEYS.repeat(rt.alloc(), 500)?;
     let mut parser = InputParser::new(rt.alloc())?;
     let events = parsed(&rt, rt.alloc(), &mut parser, text.as_slice(), LAST)?;
     check_events(&rt, events.as_slice(), 1000);
@@ -205,7 +205,7 @@ fn keys_by_bytes(alloc: Global, times: u16) -> Result<Vec<(usize, InputEvent)>, 
 
 #[test]
 fn reads_two_thousand_pieces(rt: HostRuntime) -> Result<(), Fail> {
-    let text = repeated(rt.alloc(), KEYS, 500)?;
+    let text = KEYS.repeat(rt.alloc(), 500)?;
     let mut pieces = Vec::new(rt.alloc());
     for piece in text.chunks(1) {
         pieces.push(piece)?;

@@ -86,7 +86,7 @@ fn reads_fail(rt: HostRuntime) -> Result<(), Fail> {
     Ok(())
 }
 
-// Once `n` writes of at most `most` bytes are used up, a write fails or takes no byte: a beginning of the whole text is
+// Once `n` writes of at most `most` bytes are used up, a write fails or takes no byte: a prefix of the whole text is
 // written, and nothing is flushed. If the writes suffice, the whole text is written. Returns how much is written.
 fn assert_write_fails(
     alloc: Global,
