@@ -10,7 +10,7 @@ use Rattle.bstr.proofs.lemmas.SoundLemmas.{SpellsChar-decoded}
 use Rattle.termwiz_input.specs.Bytes.{Begins}
 use Rattle.termwiz_input.specs.Known.{Meaning, IsKnown}
 use Rattle.termwiz_input.specs.Grammar.{IsUnfinishedCharacter, IsBeginning}
-use Rattle.termwiz_input.proofs.Lists.{length-some, true_at_end, true_at_front}
+use Rattle.termwiz_input.proofs.Lists.{length-some, true_at_end, true_at_front, true_from}
 use Rattle.termwiz_input.proofs.Searches.{Decision, decide_both, decide_by, decide_lists, decide_some, same_or_not}
 use Rattle.termwiz_input.proofs.RowFacts.{Bytes}
 use Rattle.termwiz_input.proofs.RowFacts.Bytes.{one, more}
@@ -53,9 +53,6 @@ parted_high c u tail scalar some longer spells = ⊎_elim
 pub unfinished_high : (u : List ℕ) → u ≢ [] → IsUnfinishedCharacter u → AllByRecursion IsHigh u
 unfinished_high u some h = true_at_front IsHigh u h.tail (parted_high h.char u h.tail h.scalar some h.longer h.spells)
 
-pub not_high : (t : List ℕ) → AllByRecursion IsHigh (27 ∷ t) → ⊥
-not_high t a = let h : IsHigh 27 = a.0 in omega arith
-
 -- no known text begins such bytes
 pub known_low : (text u : List ℕ) (m : Meaning) → IsKnown text m → AllByRecursion IsHigh u → Begins text u → ⊥
 known_low text u m known a b = go (known_bytes text m known)
@@ -63,7 +60,8 @@ known_low text u m known a b = go (known_bytes text m known)
     go : Bytes text → ⊥
     go (one x l e) =
         let h : IsHigh x = (subst (AllByRecursion IsHigh) (b.1 ∙ ap (λ z. z ++ b.0) e) a).0 in omega arith
-    go (more s n e p) = not_high (s ++ b.0) (subst (AllByRecursion IsHigh) (b.1 ∙ ap (λ z. z ++ b.0) e) a)
+    go (more s n e p) =
+        let h : IsHigh 27 = (subst (AllByRecursion IsHigh) (b.1 ∙ ap (λ z. z ++ b.0) e) a).0 in omega arith
 
 -- so what begins with a known text doesn't properly begin a character
 pub known_finished : (text u : List ℕ) (m : Meaning) → IsKnown text m → Begins text u → u ≢ [] → IsUnfinishedCharacter u → ⊥
@@ -74,15 +72,17 @@ pub beginning_short : (u : List ℕ) → IsBeginning u → length u ≤ 20
 beginning_short u (inl h) = beginnings_short u h.tail h.meaning h.longer h.known
 beginning_short u (inr h) = omega (arith, length-append u h.tail, ap length h.spells, length-encode h.char, len_utf8_bounds h.char)
 
+-- a text that a character begins decodes as this character
+pub begins_decoded : (u : List ℕ) (c : ℕ) → IsScalar c → Begins (encode_utf8 c) u → (decoded u).char ≡ Some c
+begins_decoded u c scalar b = ap (λ x. (decoded x).char) b.1 ∙ ap (λ (p : Decoded). p.char) (decoded-encode c b.0 scalar)
+
 -- whether a character begins u
 pub character_or_not : (u : List ℕ) → Decision ((c : ℕ) × IsScalar c × Begins (encode_utf8 c) u)
 character_or_not u = go (decoded u).char refl
   where
     go : (o : Option ℕ) → (decoded u).char ≡ o → Decision ((c : ℕ) × IsScalar c × Begins (encode_utf8 c) u)
     go (Some c) e = let spelled = SpellsChar-decoded u c e in inl (c, spelled.scalar, (drop (decoded u).size u, spelled.bytes))
-    go None e = inr (λ (c, scalar, b).
-        let read : (decoded u).char ≡ Some c = ap (λ x. (decoded x).char) b.1 ∙ ap (λ (p : Decoded). p.char) (decoded-encode c b.0 scalar) in
-        cc)
+    go None e = inr (λ (c, scalar, b). cc (e, begins_decoded u c scalar b))
 
 -- whether a text is the encoding of a character
 encoding_or_not : (t : List ℕ) → Decision ((c : ℕ) × IsScalar c × (encode_utf8 c ≡ t))
@@ -97,14 +97,10 @@ encoding_or_not t = ⊎_elim
     inr (λ k. never (k.0, k.1, ([], sym k.2 ∙ sym (append-nil (encode_utf8 k.0))))))
     (character_or_not t)
 
-high_bytes : (t : List ℕ) → AllByRecursion IsHigh t → AllByRecursion (λ b. b < 256) t
-high_bytes [] a = tt
-high_bytes (x ∷ t) a = (a.0.1, high_bytes t a.1)
-
 encode_bytes : (c : ℕ) → IsScalar c → AllByRecursion (λ b. b < 256) (encode_utf8 c)
 encode_bytes c scalar = ⊎_elim
     (λ (h : (c < 128) × (encode_utf8 c ≡ c ∷ [])). subst (AllByRecursion (λ b. b < 256)) (sym h.1) (let l : c < 128 = h.0 in omega arith, tt))
-    (λ (h : AllByRecursion IsHigh (encode_utf8 c)). high_bytes (encode_utf8 c) h)
+    (λ (h : AllByRecursion IsHigh (encode_utf8 c)). true_from IsHigh (λ b. b < 256) (λ b high. high.1) (encode_utf8 c) h)
     (encode_cases c scalar)
 
 -- whether a text properly begins the encoding of a character: few texts can complete it

@@ -11,8 +11,8 @@ use Rattle.termwiz_input.specs.Table.{rows}
 use Rattle.termwiz_input.specs.Frame.{IsFrame}
 use Rattle.termwiz_input.specs.Known.{Meaning, IsKnown}
 use Rattle.termwiz_input.specs.Known.Meaning.{Row, Frame}
-use Rattle.termwiz_input.specs.Grammar.{IsUnfinished}
-use Rattle.termwiz_input.proofs.Lists.{length-some, true_at_end}
+use Rattle.termwiz_input.specs.Grammar.{IsUnfinishedKnown}
+use Rattle.termwiz_input.proofs.Lists.{length-some, true_at_end, true_from}
 use Rattle.termwiz_input.proofs.Searches.{Decision, decide_both, decide_by, decide_lists, decide_some}
 use Rattle.termwiz_input.proofs.TableTests.{has_shape}
 use Rattle.termwiz_input.proofs.FrameFacts.{IsPlain, frame_once, frame_alone, frame_or_not, frame_short, frame_plain}
@@ -98,20 +98,16 @@ known_or_not text = ⊎_elim
     nothing none never (Frame r) a = never r a
 
 -- the bytes of a known text are below 128
-pub plain_small : (t : List ℕ) → AllByRecursion IsPlain t → AllByRecursion (λ b. b < 128) t
-plain_small [] p = tt
-plain_small (x ∷ t) p = ((let h : IsPlain x = p.0 in omega arith), plain_small t p.1)
-
 bytes_small : (text : List ℕ) → Bytes text → AllByRecursion (λ b. b < 128) text
 bytes_small text (one b l e) = subst (AllByRecursion (λ c. c < 128)) (sym e) ((let h : b < 128 = omega (arith, l) in h), tt)
-bytes_small text (more t n e p) = subst (AllByRecursion (λ c. c < 128)) (sym e) (omega arith, plain_small t p)
+bytes_small text (more t n e p) = subst (AllByRecursion (λ c. c < 128)) (sym e) (omega arith, true_from IsPlain (λ c. c < 128) (λ c (h : IsPlain c). omega arith) t p)
 
 -- it can be told whether a text properly begins a known text: few texts can complete it
-pub unfinished_or_not : (u : List ℕ) → IsUnfinished u ⊎ (IsUnfinished u → ⊥)
+pub unfinished_or_not : (u : List ℕ) → IsUnfinishedKnown u ⊎ (IsUnfinishedKnown u → ⊥)
 unfinished_or_not u = decide_by
     (λ (a : (t : List ℕ) × (length t ≤ 21) × AllByRecursion (λ b. b < 128) t × ((t ≢ []) × ((m : Meaning) × IsKnown (u ++ t) m))).
     record { tail = a.0; longer = a.3.0; meaning = a.3.1.0; known = a.3.1.1 })
-    (λ (a : IsUnfinished u). (
+    (λ (a : IsUnfinishedKnown u). (
       a.tail,
       omega (arith, length-append u a.tail, known_short (u ++ a.tail) a.meaning a.known),
       true_at_end (λ b. b < 128) u a.tail (bytes_small (u ++ a.tail) (known_bytes (u ++ a.tail) a.meaning a.known)),

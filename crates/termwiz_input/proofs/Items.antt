@@ -12,7 +12,7 @@ use Rattle.termwiz_input.specs.Bytes.{Begins, Occurs, ESC, START, END}
 use Rattle.termwiz_input.specs.Keys.{plain, escape, with_alt}
 use Rattle.termwiz_input.specs.Known.{IsKnown}
 use Rattle.termwiz_input.specs.Known.Meaning.{Row, Frame}
-use Rattle.termwiz_input.specs.Grammar.{IsLongest, IsUnfinished, IsUnfinishedCharacter, IsOpen, IsAfterEscape, replacement, Item, HasPaste, IsRest, Stands}
+use Rattle.termwiz_input.specs.Grammar.{IsLongest, IsUnfinishedKnown, IsUnfinishedCharacter, IsOpen, IsAfterEscape, replacement, Item, HasPaste, IsRest, Stands}
 use Rattle.termwiz_input.specs.Grammar.Head.{Known, Character, Broken}
 use Rattle.termwiz_input.specs.Grammar.Item.{key, char, broken as broken_byte, mouse, paste, lone_escape, alt}
 use Rattle.termwiz_input.specs.AtFront.{HasHead, IsItemAt, HasNoHeadYet}
@@ -119,7 +119,7 @@ escape_before_frame rest more event n closed head some gap front = (
 -- START at the front is the head, and nothing that comes changes it
 pub start_closed : (u : List ℕ) (more : Bool) → Begins START u → IsOpen u more → ⊥
 start_closed u more (rest, e) opens = ⊎_elim
-    (λ (h : IsUnfinished u).
+    (λ (h : IsUnfinishedKnown u).
     append-some rest h.tail h.longer
     (start_ends (rest ++ h.tail) h.meaning (subst (λ x. IsKnown x h.meaning) (ap (λ x. x ++ h.tail) e ∙ append_assoc START rest h.tail) h.known)))
     (λ (h : IsUnfinishedCharacter u). known_finished START u (Row start) start_known (rest, e) opens.some h)
@@ -141,19 +141,15 @@ joined_rest rest more head some waits bytes event stands =
     let r = reads (ESC ++ rest) bytes event more stands.item in
     unread bytes event (subst (λ h. Gives (ESC ++ rest) more h bytes event) (head_once (ESC ++ rest) r.0 (Known ESC (Row escape)) r.1 head) r.2)
   where
+    decided : (v : List ℕ) → v ≡ rest → ¬ IsOpen v more → HasNoHeadYet rest more → ⊥
+    decided v same gap (inl opens) = gap (subst (λ z. IsOpen z more) (sym same) opens)
+    decided v same gap (inr e) = some e
+
     unread : (bytes : List ℕ) (event : InputEvent) → RowGives (ESC ++ rest) more ESC escape bytes event → ⊥
     unread bytes event (its_key p q r s) = not_alone (ESC ++ rest) rest refl some (q refl)
     unread bytes event (its_paste at body tail split first r s) = cc (at)
     unread bytes event (apart at v h split some2 gap second far r s) = decided v (cc (split)) gap waits
-      where
-        decided : (v : List ℕ) → v ≡ rest → ¬ IsOpen v more → HasNoHeadYet rest more → ⊥
-        decided v same gap (inl opens) = gap (subst (λ z. IsOpen z more) (sym same) opens)
-        decided v same gap (inr e) = some e
     unread bytes event (joined at v h j split some2 gap second near r s) = decided v (cc (split)) gap waits
-      where
-        decided : (v : List ℕ) → v ≡ rest → ¬ IsOpen v more → HasNoHeadYet rest more → ⊥
-        decided v same gap (inl opens) = gap (subst (λ z. IsOpen z more) (sym same) opens)
-        decided v same gap (inr e) = some e
 
 -- a row at the front whose bytes are ESC is the key Escape
 pub escape_row_is : (u : List ℕ) (k : KeyEvent) (n : ℕ) → HasHead u (row k n) → take n u ≡ ESC → IsLongest u ESC (Row escape)

@@ -56,3 +56,8 @@ true_at_end P (x ∷ s) t a = true_at_end P s t a.1
 pub true_at_front : (P : ℕ → Type 0) (s t : List ℕ) → AllByRecursion P (s ++ t) → AllByRecursion P s
 true_at_front P [] t a = tt
 true_at_front P (x ∷ s) t a = (a.0, true_at_front P s t a.1)
+
+-- what follows from what is true of each byte is true of each byte
+pub true_from : (P Q : ℕ → Type 0) → ((b : ℕ) → P b → Q b) → (s : List ℕ) → AllByRecursion P s → AllByRecursion Q s
+true_from P Q follows [] a = tt
+true_from P Q follows (x ∷ s) a = (follows x a.0, true_from P Q follows s a.1)

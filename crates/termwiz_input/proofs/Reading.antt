@@ -9,9 +9,8 @@ use Rattle.std.proofs.lemmas.Str.{encode_same}
 use Rattle.std.specs.FinMap.{get}
 use Rattle.std.proofs.Math.Seq.{take-append_seam}
 use Rattle.std.proofs.lemmas.Bool.{cases_lt}
-use Rattle.bstr.specs.Utf8.{Decoded, decoded}
+use Rattle.bstr.specs.Utf8.{decoded}
 use Rattle.bstr.proofs.lemmas.SoundLemmas.{SpellsChar-decoded}
-use Rattle.bstr.proofs.lemmas.EncodeLemmas.{decoded-encode}
 use Rattle.termwiz_input.specs.declared.types.KeyEvent.{KeyEvent}
 use Rattle.termwiz_input.specs.declared.types.MouseEvent.{MouseEvent}
 use Rattle.termwiz_input.specs.declared.head.Head.TheVariants.{Row as row, Frame as frame, Character as character, Broken as broken}
@@ -22,12 +21,12 @@ use Rattle.termwiz_input.specs.Frame.{IsFrame}
 use Rattle.termwiz_input.specs.FrameAnswers.{IsBegun}
 use Rattle.termwiz_input.specs.Known.{Meaning, IsKnown}
 use Rattle.termwiz_input.specs.Known.Meaning.{Row, Frame}
-use Rattle.termwiz_input.specs.Grammar.{IsOpen, IsUnfinished, IsUnfinishedCharacter}
+use Rattle.termwiz_input.specs.Grammar.{IsOpen, IsUnfinishedKnown, IsUnfinishedCharacter}
 use Rattle.termwiz_input.specs.AtFront.{HasHead, NoFrameBegins, HasNoHeadYet, character_of}
 use Rattle.termwiz_input.proofs.Lists.{append-some, length-some, length-Begins, Overlaps, overlap}
 use Rattle.termwiz_input.proofs.Lists.Overlaps.{within, past}
 use Rattle.termwiz_input.proofs.Facts.{frame_ends}
-use Rattle.termwiz_input.proofs.Characters.{known_finished}
+use Rattle.termwiz_input.proofs.Characters.{known_finished, begins_decoded}
 use Rattle.termwiz_input.proofs.Unfinished.{unfinished_told, unfinished_from, no_utf8, valid_nowhere}
 use Rattle.termwiz_input.proofs.TableMap.{row_from_table, table_from_row}
 
@@ -80,7 +79,7 @@ longest_from_key u n k none is = (
     at_most other (Frame event) known b = absurd (none other event (frame_known other event known) b)
 
 -- where a text properly begins a known text, the map has a longer key that begins with it, or the text begins a frame
-pub extended_from_unfinished : (u : List ℕ) → IsUnfinished u → ¬ IsBegun u → IsExtended table u
+pub extended_from_unfinished : (u : List ℕ) → IsUnfinishedKnown u → ¬ IsBegun u → IsExtended table u
 extended_from_unfinished u h never = go h.tail h.meaning h.longer h.known
   where
     go : (tail : List ℕ) (m : Meaning) → tail ≢ [] → IsKnown (u ++ tail) m → IsExtended table u
@@ -130,8 +129,8 @@ character_front u c n none no_key e =
 unspelled : (u : List ℕ) → character_of u ≡ None → (c : ℕ) → IsScalar c → Begins (encode_utf8 c) u → ⊥
 unfolding character_of
 unspelled u e c scalar b =
-    let read : (decoded u).char ≡ Some c = ap (λ x. (decoded x).char) b.1 ∙ ap (λ (p : Decoded). p.char) (decoded-encode c b.0 scalar) in
-    let found : option_map {U = ℕ × ℕ} (λ d. (d, (decoded u).size)) (decoded u).char ≡ Some (c, (decoded u).size) = ap (option_map {U = ℕ × ℕ} (λ d. (d, (decoded u).size))) read in
+    let found : option_map {U = ℕ × ℕ} (λ d. (d, (decoded u).size)) (decoded u).char ≡ Some (c, (decoded u).size) =
+    ap (option_map {U = ℕ × ℕ} (λ d. (d, (decoded u).size))) (begins_decoded u c scalar b) in
     cc (e, found)
 
 -- what a character begins doesn't properly begin another
@@ -142,13 +141,13 @@ character_finished u c b h =
     append-some b.0 h.tail h.longer (encode_same c h.char (b.0 ++ h.tail) [] whole).1
 
 -- a text isn't open that properly begins neither a known text nor a character
-closed_by : (u : List ℕ) (more : Bool) → (more ≡ true → ¬ IsUnfinished u) → (more ≡ true → ¬ IsUnfinishedCharacter u) → ¬ IsOpen u more
+closed_by : (u : List ℕ) (more : Bool) → (more ≡ true → ¬ IsUnfinishedKnown u) → (more ≡ true → ¬ IsUnfinishedCharacter u) → ¬ IsOpen u more
 closed_by u more known char opens = ⊎_elim (known opens.more_comes) (char opens.more_comes) opens.beginning
 
-pub character_closed : (u : List ℕ) (more : Bool) (c n : ℕ) → (more ≡ true → ¬ IsUnfinished u) → character_of u ≡ Some (c, n) → ¬ IsOpen u more
+pub character_closed : (u : List ℕ) (more : Bool) (c n : ℕ) → (more ≡ true → ¬ IsUnfinishedKnown u) → character_of u ≡ Some (c, n) → ¬ IsOpen u more
 character_closed u more c n finished e = closed_by u more finished (λ m. character_finished u c (spelled u c n e).2)
 
-pub broken_closed : (u : List ℕ) (more : Bool) → (more ≡ true → ¬ IsUnfinished u) → ((more ≡ true) × IsUnfinishedCharacter u → ⊥) → ¬ IsOpen u more
+pub broken_closed : (u : List ℕ) (more : Bool) → (more ≡ true → ¬ IsUnfinishedKnown u) → ((more ≡ true) × IsUnfinishedCharacter u → ⊥) → ¬ IsOpen u more
 broken_closed u more finished whole = closed_by u more finished (λ m h. whole (m, h))
 
 -- the first byte of a text that nothing known and no character begins
@@ -169,9 +168,6 @@ not_decoded u e = go (decoded u).char refl e
     go (Some d) f h = absurd (cc (h))
     go None f h = f
 
-pub too_long : (u : List ℕ) → u ≢ [] → 3 < length u → IsUnfinishedCharacter u → ⊥
-too_long u some long h = omega (arith, unfinished_told u some h)
-
 pub not_text : (u : List ℕ) → u ≢ [] → character_of u ≡ None → IsUtf8 u → ⊥
 not_text u some e is = no_utf8 u some (not_decoded u e) is
 
@@ -181,7 +177,7 @@ pub fault_tells : (u : List ℕ) (n : ℕ) (len : Option ℕ) (none : Bool) → 
 fault_tells u n len none some e valid is test =
     let missing = not_decoded u e in
     let at : len ≡ utf8_error_len u = is ∙ ap (λ k. utf8_error_len (drop k u)) (valid_nowhere u n missing valid) in
-    (λ h. unfinished_from u some missing (sym at ∙ told len none test h), λ h. tells len none test (at ∙ (unfinished_told u some h).0))
+    (λ h. unfinished_from u some missing (sym at ∙ told len none test h), λ h. tells len none test (at ∙ unfinished_told u some h))
   where
     told : (o : Option ℕ) (b : Bool) → is_some o ≡ not b → IsTrue b → o ≡ None
     told None b same h = refl
@@ -211,7 +207,7 @@ frame_front u n event inside f = (
 
 pub frame_closed : (u : List ℕ) (n : ℕ) (more : Bool) (event : MouseEvent) → IsFrame (take n u) event → IsOpen u more → ⊥
 frame_closed u n more event f opens = ⊎_elim
-    (λ (h : IsUnfinished u).
+    (λ (h : IsUnfinishedKnown u).
     let whole : u ++ h.tail ≡ take n u ++ (drop n u ++ h.tail) =
     ap (λ x. x ++ h.tail) (sym (take-append-drop n u)) ∙ append_assoc (take n u) (drop n u) h.tail in
     append-some (drop n u) h.tail h.longer
@@ -236,6 +232,6 @@ pub exact_closed : (u : List ℕ) (more : Bool) (n : ℕ) (k : KeyEvent) → (mo
     → (IsExtended table u → more ≡ false) → IsOpen u more → ⊥
 exact_closed u more n k never is stops opens =
     let one : more ≡ true = opens.more_comes in ⊎_elim
-    (λ (h : IsUnfinished u). let two : more ≡ false = stops (extended_from_unfinished u h (never one)) in cc (one, two))
+    (λ (h : IsUnfinishedKnown u). let two : more ≡ false = stops (extended_from_unfinished u h (never one)) in cc (one, two))
     (λ (h : IsUnfinishedCharacter u). known_finished (take n u) u (Row k) (known_row (take n u) k is.stored) (begins_take u n) opens.some h)
     opens.beginning

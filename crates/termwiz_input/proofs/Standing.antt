@@ -7,7 +7,7 @@ use Rattle.termwiz_input.specs.declared.types.InputEvent.{InputEvent}
 use Rattle.termwiz_input.specs.Keys.{escape}
 use Rattle.termwiz_input.specs.Known.{Meaning, IsKnown}
 use Rattle.termwiz_input.specs.Known.Meaning.{Row, Frame}
-use Rattle.termwiz_input.specs.Grammar.{IsLongest, IsCharacter, IsBroken, IsUnfinished, IsUnfinishedCharacter, IsOpen, IsAfterEscape, Head, IsHead, bytes_of, Item, Stands}
+use Rattle.termwiz_input.specs.Grammar.{IsLongest, IsCharacter, IsBroken, IsUnfinishedKnown, IsUnfinishedCharacter, IsOpen, IsAfterEscape, Head, IsHead, bytes_of, Item, Stands}
 use Rattle.termwiz_input.specs.Grammar.Head.{Known, Character, Broken}
 use Rattle.termwiz_input.specs.Grammar.Item.{key, char, broken, mouse, paste, lone_escape, alt}
 use Rattle.termwiz_input.proofs.Lists.{Overlaps, overlap, append-some, append-some_left, Begins-append}
@@ -67,7 +67,7 @@ head_stays u s (Broken byte) some closed is = broken_stays u s byte some closed 
 
 pub closed_stays : (u s : List ℕ) (f : Bool) → u ≢ [] → ¬ IsOpen u true → ¬ IsOpen (u ++ s) f
 closed_stays u s f some closed open' = ⊎_elim
-    (λ (h : IsUnfinished (u ++ s)). not_past u (s ++ h.tail) h.meaning some closed (append-some s h.tail h.longer)
+    (λ (h : IsUnfinishedKnown (u ++ s)). not_past u (s ++ h.tail) h.meaning some closed (append-some s h.tail h.longer)
     (subst (λ x. IsKnown x h.meaning) (append_assoc u s h.tail) h.known))
     (λ (h : IsUnfinishedCharacter (u ++ s)). char_not_past u (s ++ h.tail) h.char some closed (append-some s h.tail h.longer) h.scalar
     (h.spells ∙ append_assoc u s h.tail))

@@ -1,5 +1,5 @@
 -- Which texts end within a character: std's `utf8_error_len` has no length for them.
-use Rattle.std.proofs.Common.{◌≡◌, ◌≢◌, ◌⊎◌, inl, inr, ⊎_elim, ℕ, zero, suc, ◌<◌, ◌≤◌, Bool, true, false, List, [], ◌∷◌, ◌++◌, length, take, drop, refl, sym, ap, ◌∙◌, subst, arith, Some, None, length-append, append-nil, take-append-drop, append_assoc, slice_index, length-take-le}
+use Rattle.std.proofs.Common.{◌≡◌, ◌≢◌, ◌⊎◌, inl, inr, ⊎_elim, ℕ, zero, suc, ◌<◌, ◌≤◌, Bool, true, false, List, [], ◌∷◌, ◌++◌, length, take, drop, refl, sym, ap, ◌∙◌, arith, None, length-append, append-nil, take-append-drop, append_assoc, slice_index, length-take-le}
 use Rattle.std.specs.Char.{encode_utf8}
 use Rattle.std.specs.Str.{IsUtf8, IsValidUpTo, encode_utf8_all}
 use Rattle.std.specs.Str.Lossy.{utf8_error_len}
@@ -8,12 +8,12 @@ use Rattle.std.proofs.lemmas.Bool.Decides.{nat_tests}
 use Rattle.std.proofs.lemmas.Bool.{and_parts, cases_lt}
 use Rattle.std.proofs.lemmas.Str.{length-encode, len_utf8_bounds}
 use Rattle.bstr.specs.Utf8.{Decoded, decoded, decoded_by, good, second, continues, code_of_2, code_of_3, code_of_4}
-use Rattle.bstr.proofs.lemmas.EncodeLemmas.{decoded-encode}
 use Rattle.bstr.proofs.lemmas.SoundLemmas.{SpellsChar-decoded}
 use Rattle.termwiz_input.specs.Bytes.{Begins}
 use Rattle.termwiz_input.specs.Grammar.{IsUnfinishedCharacter}
 use Rattle.termwiz_input.proofs.Lists.{length-some}
 use Rattle.termwiz_input.proofs.Searches.{decide_eq}
+use Rattle.termwiz_input.proofs.Characters.{begins_decoded}
 
 lead_one : (b : ℕ) → utf8_error_len (b ∷ []) ≡ None → (0xC2 ≤ b) × (b ≤ 0xF4)
 unfolding utf8_error_len
@@ -95,27 +95,27 @@ right_third b c d t long = go (continues d) refl
 -- how long the encoding of a character is that the text properly begins
 whole_size : (u : List ℕ) → (h : IsUnfinishedCharacter u) → (decoded (u ++ h.tail)).size ≡ length (u ++ h.tail)
 whole_size u h =
-    let read = ap (λ (p : Decoded). p.size) (decoded-encode h.char [] h.scalar) in
-    subst (λ w. (decoded w).size ≡ length w) h.spells (ap (λ w. (decoded w).size) (sym (append-nil (encode_utf8 h.char))) ∙ read)
+    let read = begins_decoded (u ++ h.tail) h.char h.scalar ([], sym h.spells ∙ sym (append-nil (encode_utf8 h.char))) in
+    sym (SpellsChar-decoded (u ++ h.tail) h.char read).width ∙ ap length h.spells
 
 longer_than : (u : List ℕ) (h : IsUnfinishedCharacter u) → length u < length (u ++ h.tail)
 longer_than u h = omega (arith, length-append u h.tail, length-some h.tail h.longer)
 
 -- a text that properly begins a character ends within it
-pub unfinished_told : (u : List ℕ) → u ≢ [] → IsUnfinishedCharacter u → (utf8_error_len u ≡ None) × (length u < 4)
+pub unfinished_told : (u : List ℕ) → u ≢ [] → IsUnfinishedCharacter u → utf8_error_len u ≡ None
 unfinished_told [] some h = absurd (some refl)
 unfinished_told (b ∷ []) some h =
     let long : 2 ≤ (decoded (b ∷ h.tail)).size = omega (arith, whole_size (b ∷ []) h, longer_than (b ∷ []) h) in
     let lead = right_lead b h.tail long in
-    (none_one b lead.0 lead.1, omega arith)
+    none_one b lead.0 lead.1
 unfinished_told (b ∷ c ∷ []) some h =
     let long : 3 ≤ (decoded (b ∷ c ∷ h.tail)).size = omega (arith, whole_size (b ∷ c ∷ []) h, longer_than (b ∷ c ∷ []) h) in
     let lead = right_lead b (c ∷ h.tail) (omega arith) in
-    (none_two b c lead.0 lead.1 (right_second b c h.tail (omega arith)), omega arith)
+    none_two b c lead.0 lead.1 (right_second b c h.tail (omega arith))
 unfinished_told (b ∷ c ∷ d ∷ []) some h =
     let long : 4 ≤ (decoded (b ∷ c ∷ d ∷ h.tail)).size = omega (arith, whole_size (b ∷ c ∷ d ∷ []) h, longer_than (b ∷ c ∷ d ∷ []) h) in
     let lead = right_lead b (c ∷ d ∷ h.tail) (omega arith) in
-    (none_three b c d lead.0 lead.1 (right_second b c (d ∷ h.tail) (omega arith)) (right_third b c d h.tail (omega arith)), omega arith)
+    none_three b c d lead.0 lead.1 (right_second b c (d ∷ h.tail) (omega arith)) (right_third b c d h.tail (omega arith))
 unfinished_told (b ∷ c ∷ d ∷ e ∷ u) some h =
     absurd (omega (arith, longer_than (b ∷ c ∷ d ∷ e ∷ u) h, ap length h.spells, length-encode h.char, len_utf8_bounds h.char))
 
@@ -182,8 +182,7 @@ not_utf8 u t some b ([], (scalars, e)) none = some (sym e)
 not_utf8 u t some b (c ∷ cs, (scalars, e)) none =
     let parts = and_parts _ _ scalars in
     let front : u ≡ encode_utf8 c ++ (encode_utf8_all cs ++ b.0) = b.1 ∙ ap (λ x. x ++ b.0) (sym e) ∙ append_assoc (encode_utf8 c) (encode_utf8_all cs) b.0 in
-    let read : (decoded u).char ≡ Some c = ap (λ x. (decoded x).char) front ∙ ap (λ (p : Decoded). p.char) (decoded-encode c _ parts.0) in
-    cc
+    cc (none, begins_decoded u c parts.0 (encode_utf8_all cs ++ b.0, front))
 
 pub no_utf8 : (u : List ℕ) → u ≢ [] → (decoded u).char ≡ None → IsUtf8 u → ⊥
 no_utf8 u some none is = not_utf8 u u some ([], sym (append-nil u)) is none

@@ -11,13 +11,13 @@ use Rattle.termwiz_input.specs.Keys.{plain, escape, with_alt}
 use Rattle.termwiz_input.specs.Known.{Meaning, IsKnown}
 use Rattle.termwiz_input.specs.Known.Meaning.{Row, Frame}
 
--- What can begin a text: a known text with its meaning, a character, or a byte that begins no character.
+-- What can begin a text: a known text with its meaning, a character, or else its first byte.
 pub data Head : Type 0 where
   Known : List ℕ → Meaning → Head
   Character : ℕ → Head
   Broken : ℕ → Head
 
--- the character that such a byte counts as: U+FFFD
+-- the character that such a byte counts as (`Broken`): U+FFFD
 abbrev pub replacement : ℕ
 replacement = 0xFFFD
 
@@ -47,7 +47,7 @@ IsHead u (Character c) = IsCharacter u c
 IsHead u (Broken byte) = IsBroken u byte
 
 -- some known text is longer than u and begins with u
-pub record IsUnfinished (u : List ℕ) : Type 0 where
+pub record IsUnfinishedKnown (u : List ℕ) : Type 0 where
   pub tail : List ℕ
   pub longer : tail ≢ []
   pub meaning : Meaning
@@ -63,7 +63,7 @@ pub record IsUnfinishedCharacter (u : List ℕ) : Type 0 where
 
 -- u properly begins a known text or the encoding of a character
 abbrev pub IsBeginning : List ℕ → Type 0
-IsBeginning u = IsUnfinished u ⊎ IsUnfinishedCharacter u
+IsBeginning u = IsUnfinishedKnown u ⊎ IsUnfinishedCharacter u
 
 -- More may come, and u may yet become another known text or a character.
 pub record IsOpen (u : List ℕ) (more : Bool) : Type 0 where

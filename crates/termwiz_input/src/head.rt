@@ -2,7 +2,7 @@
 // text is a row of the sequence table or a mouse frame.
 ghost use Rattle.std.specs.Prelude.{◌≡◌, ◌≢◌, ◌↔◌, [], true, None, IfSome, IfNone, IsSome, IsTrue};
 ghost use Rattle.termwiz_input.specs.FrameAnswers.{IsBegun};
-ghost use Rattle.termwiz_input.specs.Grammar.{IsOpen, IsUnfinished, IsUnfinishedCharacter};
+ghost use Rattle.termwiz_input.specs.Grammar.{IsOpen, IsUnfinishedKnown, IsUnfinishedCharacter};
 ghost use Rattle.termwiz_input.specs.AtFront.{HasHead, HasNoHeadYet, NoFrameBegins, character_of};
 ghost use Rattle.termwiz_input.specs.Lookup.{NoKeyBegins};
 ghost use Rattle.termwiz_input.specs.Table.{table};
@@ -31,15 +31,13 @@ fn character_at(text: &[u8]) -> Option<(char, usize)>
     found.map(|character| (character, len))
 }
 
-// Whether a text that no character begins properly begins one: the text ends within it.
+// Whether a text that no character begins properly begins one: the text ends within it. `from_utf8` stops at such a text's
+// first byte, however long the text is.
 fn ends_within_character(text: &[u8]) -> bool
     requires some { text.now ≢ [] }
     requires no_character { character_of text.now ≡ None }
     ensures { IsTrue result ↔ IsUnfinishedCharacter text.now }
 {
-    if text.len() > 3 {
-        return false;
-    }
     match str::from_utf8(text) {
         Ok(_) => false,
         Err(fault) => fault.error_len().is_none(),
@@ -55,12 +53,12 @@ fn awaits_character(text: &[u8], maybe_more: bool) -> bool
     maybe_more && ends_within_character(text)
 }
 
-// The head of a text that no known text begins, nor will: a character, or else a broken byte. `None` if more bytes may
-// complete a character, and if the text is empty.
+// The head of a text that no known text begins or may yet begin: a character, or else a broken byte. `None` if more bytes
+// may complete a character, and if the text is empty.
 fn unknown_head_at(text: &[u8], maybe_more: bool) -> Option<Head>
     requires no_frame { NoFrameBegins text.now }
     requires no_row { NoKeyBegins table text.now }
-    requires finished { maybe_more ≡ true → ¬ IsUnfinished text.now }
+    requires finished { maybe_more ≡ true → ¬ IsUnfinishedKnown text.now }
     ensures closed { IsSome result → ¬ IsOpen text.now maybe_more }
     ensures head { IfSome result (HasHead text.now) }
     ensures waits { IfNone result (HasNoHeadYet text.now maybe_more) }

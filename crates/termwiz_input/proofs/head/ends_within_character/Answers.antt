@@ -1,9 +1,6 @@
 use Rattle.std.proofs.Common.{◌∙◌}
-use Rattle.termwiz_input.proofs.Reading.{too_long, not_text, fault_tells}
+use Rattle.termwiz_input.proofs.Reading.{not_text, fault_tells}
 use Rattle.termwiz_input.proofs.head.ends_within_character.Goals as goal
-
-pub returns-then-text-gt3 : goal.returns-then-text-gt3
-returns-then-text-gt3 c = (λ h. cc (h), λ h. absurd (too_long c.args.text.now c.requires.some c.if-text-gt3.true h))
 
 pub returns-in-Ok : goal.returns-in-Ok
 returns-in-Ok c = absurd (not_text c.args.text.now c.requires.some c.requires.no_character c.in-Ok.ensures.cases.1)
