@@ -1,6 +1,7 @@
 // The parser's answers on examples, on every row, on long input, and against the plain reader.
 mod carried;
 mod cuts;
+mod differences;
 mod draws;
 mod encode;
 mod frames;
@@ -10,6 +11,7 @@ mod line;
 mod long;
 mod pastes;
 mod pieces;
+mod pulled;
 mod read_back;
 mod rows;
 mod undecided;
@@ -68,7 +70,8 @@ fn check(rt: &impl Abort, alloc: Global, name: &str, steps: &[Step]) -> Result<(
         cuts::check_few_wait(rt, &parser, name);
     }
     cuts::check_sizes(rt, alloc, name, &bytes_of(alloc, steps)?)?;
-    pieces::check_by_parse(rt, alloc, name, steps)
+    pieces::check_by_parse(rt, alloc, name, steps)?;
+    pulled::check_by_event(rt, alloc, name, steps)
 }
 
 fn check_all(rt: &impl Abort, alloc: Global, examples: &[Example]) -> Result<(), Fail> {

@@ -26,8 +26,3 @@ pub steps_more : (E : List InputEvent) (T U : List ℕ) (more : Bool) (item : It
     → Steps T more (E ++ item.event ∷ []) (drop item.len U)
 steps_more E T U more item steps (inside, stands) =
     steps_push E T U (drop item.len U) (drop item.len U) more (take item.len U) item.event steps stands (sym (take-append-drop item.len U))
-
--- the item at the front, and then the steps of what is left
-pub first_step : (U : List ℕ) (more : Bool) (item : Item) (E : List InputEvent) (W : List ℕ) → IsItemAt U more item → Steps (drop item.len U) more E W
-    → Steps U more (item.event ∷ E) W
-first_step U more item E W (inside, stands) steps = (take item.len U, drop item.len U, stands, sym (take-append-drop item.len U), steps)

@@ -1,3 +1,4 @@
+pub mod ApartFromKnown
 pub mod Calls
 pub mod Characters
 pub mod Counting
@@ -17,7 +18,6 @@ pub mod KeyOrder
 pub mod KeysInEntries
 pub mod KeysInRows
 pub mod Lists
-pub mod LongestSoFar
 pub mod Meaning
 pub mod Members
 pub mod Numbering
@@ -33,7 +33,7 @@ pub mod RowClones
 pub mod RowFacts
 pub mod Rows
 pub mod RowSearches
-pub mod RowWalks
+pub mod RowLookups
 pub mod Searches
 pub mod Settling
 pub mod Standing

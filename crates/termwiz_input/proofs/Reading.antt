@@ -22,7 +22,7 @@ use Rattle.termwiz_input.specs.FrameAnswers.{IsBegun}
 use Rattle.termwiz_input.specs.Known.{Meaning, IsKnown}
 use Rattle.termwiz_input.specs.Known.Meaning.{Row, Frame}
 use Rattle.termwiz_input.specs.Grammar.{IsOpen, IsUnfinishedKnown, IsUnfinishedCharacter}
-use Rattle.termwiz_input.specs.AtFront.{HasHead, NoFrameBegins, HasNoHeadYet, character_of}
+use Rattle.termwiz_input.specs.AtFront.{HasHead, NoFrameBegins, NoKnownTextBegins, HasNoHeadYet, character_of}
 use Rattle.termwiz_input.proofs.Lists.{append-some, length-some, length-Begins, Overlaps, overlap}
 use Rattle.termwiz_input.proofs.Lists.Overlaps.{within, past}
 use Rattle.termwiz_input.proofs.Facts.{frame_ends}
@@ -100,7 +100,7 @@ extended_waits [] ext = inr refl
 extended_waits (x ∷ u) ext = inl (open_from_extended (x ∷ u) (λ h. cc) ext)
 
 -- no known text begins the text, where no key and no frame does
-pub nothing_known : (u : List ℕ) → NoFrameBegins u → NoKeyBegins table u → (text : List ℕ) (m : Meaning) → IsKnown text m → Begins text u → ⊥
+pub nothing_known : (u : List ℕ) → NoFrameBegins u → NoKeyBegins table u → NoKnownTextBegins u
 nothing_known u none no_key text (Row k) known b = some_none _ k (stored_at u text k b known) (no_key (length text) (length-Begins text u b))
 nothing_known u none no_key text (Frame event) known b = none text event (frame_known text event known) b
 
@@ -121,10 +121,10 @@ spelled u c n e = go (decoded u).char refl e
         (spells.scalar, sym (spells.width ∙ same.1), (drop (decoded u).size u, spells.bytes))
     go None f h = absurd (cc (h))
 
-pub character_front : (u : List ℕ) (c n : ℕ) → NoFrameBegins u → NoKeyBegins table u → character_of u ≡ Some (c, n) → HasHead u (character c n)
-character_front u c n none no_key e =
+pub character_front : (u : List ℕ) (c n : ℕ) → NoKnownTextBegins u → character_of u ≡ Some (c, n) → HasHead u (character c n)
+character_front u c n unknown e =
     let s = spelled u c n e in
-    (s.1, record { unknown = nothing_known u none no_key; scalar = s.0; begins = s.2 })
+    (s.1, record { unknown = unknown; scalar = s.0; begins = s.2 })
 
 unspelled : (u : List ℕ) → character_of u ≡ None → (c : ℕ) → IsScalar c → Begins (encode_utf8 c) u → ⊥
 unfolding character_of
@@ -151,10 +151,10 @@ pub broken_closed : (u : List ℕ) (more : Bool) → (more ≡ true → ¬ IsUnf
 broken_closed u more finished whole = closed_by u more finished (λ m h. whole (m, h))
 
 -- the first byte of a text that nothing known and no character begins
-pub broken_front : (u : List ℕ) → u ≢ [] → NoFrameBegins u → NoKeyBegins table u → character_of u ≡ None → HasHead u broken
-broken_front [] some none no_key e = absurd (some refl)
-broken_front (x ∷ u) some none no_key e =
-    (x, record { unknown = nothing_known (x ∷ u) none no_key; unspelled = unspelled (x ∷ u) e; begins = (u, refl) })
+pub broken_front : (u : List ℕ) → u ≢ [] → NoKnownTextBegins u → character_of u ≡ None → HasHead u broken
+broken_front [] some unknown e = absurd (some refl)
+broken_front (x ∷ u) some unknown e =
+    (x, record { unknown = unknown; unspelled = unspelled (x ∷ u) e; begins = (u, refl) })
 
 pub unfinished_waits : (u : List ℕ) (more : Bool) → u ≢ [] → (more ≡ true) × IsUnfinishedCharacter u → HasNoHeadYet u more
 unfinished_waits u more some (m, h) = inl (record { more_comes = m; some = some; beginning = inr h })

@@ -7,9 +7,11 @@ use Rattle.termwiz_input.specs.declared.head.Head.{Head as FoundHead}
 use Rattle.termwiz_input.specs.declared.head.Head.TheVariants.{Row as row, Frame as frame, Character as character, Broken as broken}
 use Rattle.termwiz_input.specs.Known.Meaning.{Row, Frame}
 use Rattle.termwiz_input.specs.declared.types.MouseEvent.{MouseEvent}
-use Rattle.termwiz_input.specs.Bytes.{Begins}
+use Rattle.termwiz_input.specs.Bytes.{Begins, ESC}
+use Rattle.termwiz_input.specs.Keys.{escape}
 use Rattle.termwiz_input.specs.Frame.{IsFrame}
-use Rattle.termwiz_input.specs.Grammar.{IsLongest, IsCharacter, IsBroken, Stands, IsOpen}
+use Rattle.termwiz_input.specs.Known.{Meaning, IsKnown}
+use Rattle.termwiz_input.specs.Grammar.{IsLongest, IsCharacter, IsBroken, Stands, IsOpen, IsUnfinishedKnown}
 
 -- the head of the text is this one, and it has so many bytes
 abbrev pub HasHead : List ℕ → FoundHead → Type 0
@@ -25,6 +27,20 @@ HasNoHeadYet u more = IsOpen u more ⊎ (u ≡ [])
 -- no frame begins the text
 abbrev pub NoFrameBegins : List ℕ → Type 0
 NoFrameBegins u = (word : List ℕ) (event : MouseEvent) → IsFrame word event → ¬ Begins word u
+
+-- no known text begins the text
+abbrev pub NoKnownTextBegins : List ℕ → Type 0
+NoKnownTextBegins u = (text : List ℕ) (m : Meaning) → IsKnown text m → ¬ Begins text u
+
+-- no known text begins the text, and the text properly begins none
+pub record IsApartFromKnown (u : List ℕ) : Type 0 where
+  pub unknown : NoKnownTextBegins u
+  pub finished : ¬ IsUnfinishedKnown u
+
+-- The head of the text is ESC, and the text properly begins no known text and no character.
+pub record HasLoneEscape (u : List ℕ) : Type 0 where
+  pub head : IsLongest u ESC (Row escape)
+  pub closed : (more : Bool) → ¬ IsOpen u more
 
 -- an item with this event stands at the text, and its bytes are so many first ones
 abbrev pub IsItemAt : List ℕ → Bool → Item → Type 0

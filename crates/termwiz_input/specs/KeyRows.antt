@@ -1,23 +1,20 @@
 -- A map from byte lists as the list of its rows, in ascending order of their keys.
-use Rattle.std.specs.Prelude.{◌≡◌, ◌≢◌, ◌<◌, ◌+◌, ◌-◌, ◌≤◌, ℕ, zero, suc, List, [], ◌∷◌, get_or, length, map as each}
+use Rattle.std.specs.Prelude.{◌≡◌, ◌≢◌, ◌<◌, ◌≤◌, ℕ, List, get_or, length, take, map as each}
 use Rattle.std.specs.Ordering.{nat_cmp}
 use Rattle.std.specs.declared.cmp.Ordering.TheVariants.{Less}
 use Rattle.std.specs.Cmp.Lexicographic.{slice_cmp}
 use Rattle.std.specs.List.{AllZip}
-use Rattle.std.specs.List.Sorted.{IsNonDecreasingBy}
 use Rattle.std.specs.Global.{Box}
 use Rattle.termwiz_input.specs.declared.keymap.row.Row.{Row}
+use Rattle.termwiz_input.specs.Bytes.{Begins}
 use Rattle.termwiz_input.specs.Entries.{Entries}
 
--- the key goes on with this byte after its first d bytes
-abbrev pub HasByteAt : ℕ → ℕ → List ℕ → Type 0
-HasByteAt d byte key = (d < length key) × (get_or key d 0 ≡ byte)
-
--- one more than the byte of a key at this depth, and 0 if the key ends there
-abbrev pub rank : ℕ → List ℕ → ℕ
-rank d [] = 0
-rank zero (x ∷ key) = x + 1
-rank (suc d) (x ∷ key) = rank d key
+-- a key and a text have the same first bytes, so many of them and no more
+pub record AgreeFor (key text : List ℕ) (count : ℕ) : Type 0 where
+  pub in_key : count ≤ length key
+  pub in_text : count ≤ length text
+  pub same : (i : ℕ) → i < count → get_or key i 0 ≡ get_or text i 0
+  pub differ : count < length key → count < length text → get_or key count 0 ≢ get_or text count 0
 
 module _ {V : Type 0} where
   -- the key of a row, and its value
@@ -48,10 +45,6 @@ module _ {V : Type 0} where
   abbrev pub AreRowClones : (V → V → Type 0) → List (Box (Row V)) → List (Box (Row V)) → Type 0
   AreRowClones is_clone rows copies = AllZip (IsRowClone is_clone) rows copies
 
-  -- the keys that end at this depth come first, and then the others by their byte there
-  abbrev pub IsRisingAt : ℕ → List (Box (Row V)) → Type 0
-  IsRisingAt d rows = IsNonDecreasingBy (λ (row : Box (Row V)). rank d (key_of row)) rows
-
   -- the row at place i has this key
   pub record IsAt (rows : List (Box (Row V))) (key : List ℕ) (i : ℕ) : Type 0 where
     pub in_range : i < length rows
@@ -63,25 +56,30 @@ module _ {V : Type 0} where
     pub smaller_before : (j : ℕ) (r : Box (Row V)) → j < i → slice_cmp nat_cmp (key_of (get_or rows j r)) key ≡ Less
     pub greater_after : (j : ℕ) (r : Box (Row V)) → i ≤ j → j < length rows → slice_cmp nat_cmp key (key_of (get_or rows j r)) ≡ Less
 
-  -- the part is the rows of the range with this byte at the depth
-  pub record IsNarrowed (range : List (Box (Row V))) (d byte : ℕ) (part : List (Box (Row V))) : Type 0 where
-    pub start : ℕ
-    pub inside : start + length part ≤ length range
-    pub same : (i : ℕ) (r : Box (Row V)) → i < length part → get_or part i r ≡ get_or range (start + i) r
-    pub next : (i : ℕ) (r : Box (Row V)) → i < length part → HasByteAt d byte (key_of (get_or part i r))
-    pub no_other : (i : ℕ) (r : Box (Row V)) → i < length range → HasByteAt d byte (key_of (get_or range i r)) → (start ≤ i) × (i < start + length part)
+  -- none of the rows' keys is after this one
+  abbrev pub AreUpTo : List (Box (Row V)) → List ℕ → Type 0
+  AreUpTo rows key = (i : ℕ) (r : Box (Row V)) → i < length rows → slice_cmp nat_cmp key (key_of (get_or rows i r)) ≢ Less
 
-  -- the key of the first row has this length, and the row has this value
-  pub record IsEndedBy (range : List (Box (Row V))) (d : ℕ) (v : V) : Type 0 where
-    pub some : 0 < length range
-    pub ends : (r : Box (Row V)) → length (key_of (get_or range 0 r)) ≡ d
-    pub value : (r : Box (Row V)) → value_of (get_or range 0 r) ≡ v
+  -- the first rows, so many of them, are those whose keys aren't after this one
+  pub record IsCountUpTo (rows : List (Box (Row V))) (key : List ℕ) (count : ℕ) : Type 0 where
+    pub in_range : count ≤ length rows
+    pub up_to : AreUpTo (take count rows) key
+    pub after : (i : ℕ) (r : Box (Row V)) → count ≤ i → i < length rows → slice_cmp nat_cmp key (key_of (get_or rows i r)) ≡ Less
 
-  -- no first row has a key of this length
-  abbrev pub HasNoEnd : List (Box (Row V)) → ℕ → Type 0
-  HasNoEnd range d = (r : Box (Row V)) → 0 < length range → length (key_of (get_or range 0 r)) ≢ d
+  -- the last row whose key begins the text has so many bytes and this value
+  pub record IsLastBegins (rows : List (Box (Row V))) (text : List ℕ) (len : ℕ) (value : V) : Type 0 where
+    pub place : ℕ
+    pub in_range : place < length rows
+    pub inside : len ≤ length text
+    pub key : (r : Box (Row V)) → key_of (get_or rows place r) ≡ take len text
+    pub its_value : (r : Box (Row V)) → value_of (get_or rows place r) ≡ value
+    pub last : (i : ℕ) (r : Box (Row V)) → place < i → i < length rows → ¬ Begins (key_of (get_or rows i r)) text
 
-  -- the key of the last row is longer than this
-  pub record IsPast (range : List (Box (Row V))) (d : ℕ) : Type 0 where
-    pub some : 0 < length range
-    pub longer : (r : Box (Row V)) → d < length (key_of (get_or range (length range - 1) r))
+  -- no row's key begins the text
+  abbrev pub NoneBegins : List (Box (Row V)) → List ℕ → Type 0
+  NoneBegins rows text = (i : ℕ) (r : Box (Row V)) → i < length rows → ¬ Begins (key_of (get_or rows i r)) text
+
+  -- the first row's key begins with the text
+  pub record FirstGoesOn (rows : List (Box (Row V))) (text : List ℕ) : Type 0 where
+    pub some : 0 < length rows
+    pub begins : (r : Box (Row V)) → Begins text (key_of (get_or rows 0 r))

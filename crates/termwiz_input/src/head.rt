@@ -3,15 +3,16 @@
 ghost use Rattle.std.specs.Prelude.{◌≡◌, ◌≢◌, ◌↔◌, [], true, None, IfSome, IfNone, IsSome, IsTrue};
 ghost use Rattle.termwiz_input.specs.FrameAnswers.{IsBegun};
 ghost use Rattle.termwiz_input.specs.Grammar.{IsOpen, IsUnfinishedKnown, IsUnfinishedCharacter};
-ghost use Rattle.termwiz_input.specs.AtFront.{HasHead, HasNoHeadYet, NoFrameBegins, character_of};
-ghost use Rattle.termwiz_input.specs.Lookup.{NoKeyBegins};
+ghost use Rattle.termwiz_input.specs.AtFront.{HasHead, HasLoneEscape, HasNoHeadYet, NoFrameBegins, NoKnownTextBegins, IsApartFromKnown, character_of};
+ghost use Rattle.termwiz_input.specs.Keys.{escape};
 ghost use Rattle.termwiz_input.specs.Table.{table};
 
 use crate::frame::{FrontFrame, frame_at};
 use crate::keymap::{Found, KeyMap};
-use crate::types::{KeyEvent, MouseEvent};
+use crate::types::{KeyCode, KeyEvent, MouseEvent};
 use bstr::decode_utf8;
 use std::str;
+use termwiz_base::{Flags, Modifiers};
 
 // The head of a text, and the number of its bytes. `Broken` is one byte, which begins no character.
 #[derive(Drop)]
@@ -20,6 +21,16 @@ pub(crate) enum Head {
     Frame(MouseEvent, usize),
     Character(char, usize),
     Broken,
+}
+
+// The key Escape, alone.
+pub(crate) fn escape_key() -> KeyEvent
+    ensures { result ≡ escape }
+{
+    KeyEvent {
+        key: KeyCode::Escape,
+        modifiers: Modifiers::NONE,
+    }
 }
 
 // The character that begins the text, and the number of its bytes.
@@ -55,9 +66,9 @@ fn awaits_character(text: &[u8], maybe_more: bool) -> bool
 
 // The head of a text that no known text begins or may yet begin: a character, or else a broken byte. `None` if more bytes
 // may complete a character, and if the text is empty.
+#[inline(always)]
 fn unknown_head_at(text: &[u8], maybe_more: bool) -> Option<Head>
-    requires no_frame { NoFrameBegins text.now }
-    requires no_row { NoKeyBegins table text.now }
+    requires unknown { NoKnownTextBegins text.now }
     requires finished { maybe_more ≡ true → ¬ IsUnfinishedKnown text.now }
     ensures closed { IsSome result → ¬ IsOpen text.now maybe_more }
     ensures head { IfSome result (HasHead text.now) }
@@ -96,8 +107,33 @@ fn unframed_head_at(key_map: &KeyMap<KeyEvent>, text: &[u8], maybe_more: bool) -
     }
 }
 
-// The head of a text. `None` if more bytes may change it, and if the text is empty.
-pub(crate) fn head_at(key_map: &KeyMap<KeyEvent>, text: &[u8], maybe_more: bool) -> Option<Head>
+// A known text begins with a byte below SPACE, or with DELETE.
+const SPACE: u8 = 0x20;
+
+const DELETE: u8 = 0x7f;
+
+// Whether the first byte of the text begins no known text: it is from 0x20 to 0x7e, or from 0x80 on.
+fn begins_apart_from_known(text: &[u8]) -> bool
+    ensures { IsTrue result → IsApartFromKnown text.now }
+{
+    match text {
+        [first, ..] => *first >= SPACE && *first != DELETE,
+        [] => false,
+    }
+}
+
+// Whether the text begins with ESC and a byte that no known text has after its first: then ESC is its head.
+fn begins_with_lone_escape(text: &[u8]) -> bool
+    ensures { IsTrue result → HasLoneEscape text.now }
+{
+    match text {
+        [b'\x1b', next, ..] => *next < SPACE || *next >= DELETE,
+        _ => false,
+    }
+}
+
+// The head of any text: first a frame is looked for, then a row, then a character. `head_at` is quicker where no known text can begin.
+fn tested_head_at(key_map: &KeyMap<KeyEvent>, text: &[u8], maybe_more: bool) -> Option<Head>
     requires { key_map.now ≡ table }
     ensures closed { IsSome result → ¬ IsOpen text.now maybe_more }
     ensures head { IfSome result (HasHead text.now) }
@@ -108,5 +144,22 @@ pub(crate) fn head_at(key_map: &KeyMap<KeyEvent>, text: &[u8], maybe_more: bool)
         FrontFrame::Begun if maybe_more => None,
         FrontFrame::Begun => unframed_head_at(key_map, text, maybe_more),
         FrontFrame::Absent => unframed_head_at(key_map, text, maybe_more),
+    }
+}
+
+// The head of a text. `None` if more bytes may change it, and if the text is empty.
+#[inline(always)]
+pub(crate) fn head_at(key_map: &KeyMap<KeyEvent>, text: &[u8], maybe_more: bool) -> Option<Head>
+    requires { key_map.now ≡ table }
+    ensures closed { IsSome result → ¬ IsOpen text.now maybe_more }
+    ensures head { IfSome result (HasHead text.now) }
+    ensures waits { IfNone result (HasNoHeadYet text.now maybe_more) }
+{
+    if begins_apart_from_known(text) {
+        unknown_head_at(text, maybe_more)
+    } else if begins_with_lone_escape(text) {
+        Some(Head::Row(escape_key(), 1))
+    } else {
+        tested_head_at(key_map, text, maybe_more)
     }
 }

@@ -1,5 +1,5 @@
 //! The parser: bytes of a terminal to events.
-ghost use Rattle.std.specs.Prelude.{◌≡◌, ◌≢◌, ◌++◌, ◌+◌, ◌^◌, ◌<◌, ◌≤◌, ℕ, Bool, List, [], length, drop, Contains, Some, true, false, OnErr, IfOk, IfErr, IfSome, IfNone, IsTrue, ◌↔◌, ◌==◌, ◌⊎◌, slice_index_or, if◌then◌else◌, OnOk, IsOk, IsErrOf};
+ghost use Rattle.std.specs.Prelude.{◌≡◌, ◌≢◌, ◌++◌, ◌+◌, ◌^◌, ◌<◌, ◌≤◌, ℕ, Bool, List, [], ◌∷◌, length, drop, Contains, Some, true, false, OnErr, IfOk, IfErr, IfSome, IfNone, IsTrue, ◌↔◌, ◌==◌, ◌⊎◌, slice_index_or, if◌then◌else◌, OnOk, IsOk, IsErrOf};
 ghost use Rattle.termwiz_input.specs.declared.types.KeyEvent.{KeyEvent};
 ghost use Rattle.termwiz_input.specs.Bytes.{Begins, START};
 ghost use Rattle.termwiz_input.specs.Grammar.{GivesNoPaste, HasItem, HasPaste, IsRest, Steps, Means};
@@ -138,15 +138,6 @@ impl InputParser {
         begins_paste(self.buffer.as_slice())
     }
 
-    // Appends bytes to the waiting text. No bytes need no memory.
-    fn take_in(&mut self, bytes: &[u8]) -> Result<(), AllocError>
-        ensures ok { OnOk result (self.new ≡ self.old ++ bytes.now) }
-        ensures err { OnErr result (self.new ≡ self.old) }
-        ensures some { OnErr result (bytes.now ≢ []) }
-    {
-        self.buffer.extend_with(bytes)
-    }
-
     // The item at the front of the waiting text, where it stays.
     fn peek(&self, maybe_more: bool) -> Result<Option<Item>, AllocError>
         ensures item { IfOk result (λ found. IfSome found (IsItemAt self.now maybe_more)) }
@@ -190,6 +181,40 @@ impl InputParser {
         self.searched = 0;
     }
 
+    /// Appends bytes to the waiting text. If memory is refused, the parser is unchanged; no bytes need no memory.
+    ///
+    /// Then call [`InputParser::next_event`] until it returns `None`.
+    pub fn feed(&mut self, bytes: &[u8]) -> Result<(), AllocError>
+        ensures ok { OnOk result (self.new ≡ self.old ++ bytes.now) }
+        ensures err { OnErr result (self.new ≡ self.old) }
+        ensures some { OnErr result (bytes.now ≢ []) }
+    {
+        self.buffer.extend_with(bytes)
+    }
+
+    /// Takes the item at the front of the waiting text, and returns its event. `None` if no item stands there: what waits is
+    /// the rest, and the parser is unchanged.
+    ///
+    /// Pass `maybe_more` as for [`InputParser::parse`]. Only the text of a paste needs memory: if it is refused, the parser is
+    /// unchanged and the paste still at its front, and the same call may be made again.
+    #[tactic(auto, using(crate::proofs::Settling::rest_flushed))]
+    pub fn next_event(&mut self, maybe_more: bool) -> Result<Option<InputEvent>, AllocError>
+        ensures event { IfOk result (λ found. IfSome found (λ event. Steps self.old maybe_more (event ∷ []) self.new)) }
+        ensures none { IfOk result (λ found. IfNone found (IsRest self.old maybe_more)) }
+        ensures none_same { IfOk result (λ found. IfNone found (self.new ≡ self.old)) }
+        ensures refused { OnErr result (HasPaste self.old maybe_more) }
+        ensures refused_same { OnErr result (self.new ≡ self.old) }
+
+        // Without more to come nothing waits but an open paste.
+        ensures flushed { maybe_more ≡ false → IfOk result (λ found. IfNone found ((self.new ≡ []) ⊎ Begins START self.new)) }
+    {
+        let Some(Item { event, len }) = self.find_item(maybe_more)? else {
+            return Ok(None);
+        };
+        self.consume(len);
+        Ok(Some(event))
+    }
+
     /// Appends `bytes` to the waiting text, and calls `callback` with each of its events in order. What is no event yet waits.
     ///
     /// Pass `maybe_more` as true while more bytes may come: then a text that may yet become a longer known text or a character
@@ -224,23 +249,20 @@ impl InputParser {
         // No bytes need no memory, unless the waiting text gives a paste.
         ensures granted { bytes.now ≡ [] → GivesNoPaste self.old maybe_more → IsOk result }
     {
-        if self.take_in(bytes).is_err() {
+        if self.feed(bytes).is_err() {
             return Err(ParseError::NotTaken);
         }
         loop {
-            let Ok(found) = self.find_item(maybe_more) else {
-                return Err(ParseError::Taken);
-            };
-            let Some(Item { event, len }) = found else {
-                return Ok(());
-            };
-            self.consume(len);
-            callback(event);
+            match self.next_event(maybe_more) {
+                Ok(Some(event)) => callback(event),
+                Ok(None) => return Ok(()),
+                Err(_) => return Err(ParseError::Taken),
+            }
         }
     }
 
     // Appends a piece to the waiting text, and calls back with its number and each of its events.
-    fn feed<F: FnMut(usize, InputEvent)>(
+    fn parse_piece<F: FnMut(usize, InputEvent)>(
         &mut self,
         number: usize,
         piece: &[u8],
@@ -260,18 +282,15 @@ impl InputParser {
         ensures taken_paste { IsErrOf result ParseError.Taken → HasPaste self.new more }
         ensures granted { piece.now ≡ [] → GivesNoPaste self.old more → IsOk result }
     {
-        if self.take_in(piece).is_err() {
+        if self.feed(piece).is_err() {
             return Err(ParseError::NotTaken);
         }
         loop {
-            let Ok(found) = self.find_item(more) else {
-                return Err(ParseError::Taken);
-            };
-            let Some(Item { event, len }) = found else {
-                return Ok(());
-            };
-            self.consume(len);
-            callback(number, event);
+            match self.next_event(more) {
+                Ok(Some(event)) => callback(number, event),
+                Ok(None) => return Ok(()),
+                Err(_) => return Err(ParseError::Taken),
+            }
         }
     }
 
@@ -320,14 +339,14 @@ impl InputParser {
         ensures granted { pieces.now ≡ [] → GivesNoPaste self.old maybe_more → IsOk result }
     {
         if pieces.is_empty() {
-            return match self.feed(0, &[], callback, maybe_more) {
+            return match self.parse_piece(0, &[], callback, maybe_more) {
                 Ok(()) => Ok(()),
                 Err(_) => Err(PiecesError { taken: 0 }),
             };
         }
         for (number, piece) in pieces.iter().enumerate() {
             let more = more_after(number, pieces.len(), maybe_more);
-            if let Err(fault) = self.feed(number, piece, callback, more) {
+            if let Err(fault) = self.parse_piece(number, piece, callback, more) {
                 return Err(PiecesError::at(number, fault));
             }
         }
@@ -382,7 +401,7 @@ impl InputParser {
             → length e.events.items + length self.new ≤ length self.old + length bytes.now) }
     {
         let mut events = Vec::new(self.alloc);
-        let taken = self.take_in(bytes).is_ok();
+        let taken = self.feed(bytes).is_ok();
         if taken && self.store_events(&mut events, maybe_more).is_ok() {
             return Ok(events);
         }

@@ -8,7 +8,7 @@ ghost use Rattle.termwiz_input.specs.AtFront.{IsItemAt};
 ghost use Rattle.termwiz_input.specs.PasteSearch.{NoEndBefore};
 ghost use Rattle.termwiz_input.specs.Table.{table};
 
-use crate::head::{Head, head_at};
+use crate::head::{Head, escape_key, head_at};
 use crate::keymap::KeyMap;
 use crate::paste::{begins_paste, paste_at};
 use crate::types::{InputEvent, KeyCode, KeyEvent};
@@ -39,16 +39,6 @@ fn plain_key(character: char) -> KeyEvent
 {
     KeyEvent {
         key: KeyCode::Char(character),
-        modifiers: Modifiers::NONE,
-    }
-}
-
-// The key Escape, alone.
-fn escape_key() -> KeyEvent
-    ensures { result ≡ escape }
-{
-    KeyEvent {
-        key: KeyCode::Escape,
         modifiers: Modifiers::NONE,
     }
 }

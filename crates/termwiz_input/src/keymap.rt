@@ -10,7 +10,7 @@ mod row;
 mod tests;
 
 use crate::types::KeyEvent;
-use row::{Row, copied, ended, goes_past, narrowed, new_row, place_of};
+use row::{Row, copied, count_up_to, first_goes_on, longest_of, new_row, place_of};
 use std::alloc::{AllocError, Global};
 use std::fmt::Debug;
 use std::marker::Model;
@@ -104,25 +104,17 @@ impl<V: Debug + Clone + Drop> KeyMap<V> {
     }
 
     // The length and the value of the longest key that is a prefix of a text, and whether some key begins
-    // with the whole text and is longer. The range is the rows whose keys begin with the bytes that the
-    // loop has passed.
+    // with the whole text and is longer. The keys up to the text come first in the list: the longest is among
+    // them, and the first of the others goes on where any does.
     fn walk(&self, text: &[u8]) -> (Option<(usize, &V)>, bool)
         ensures longest { IfSome result.0 (λ found. IsLongestKey self.now text.now found.0 found.1.now) }
         ensures none { IfNone result.0 (NoKeyBegins self.now text.now) }
         ensures extended { IsTrue result.1 ↔ IsExtended self.now text.now }
     {
-        let mut range = self.rows.as_slice();
-        let mut longest = None;
-        for (depth, byte) in text.iter().enumerate() {
-            longest = ended(range, depth).or(longest);
-            range = narrowed(range, depth, *byte);
-            if range.is_empty() {
-                return (longest, false);
-            }
-        }
+        let count = count_up_to(&self.rows, text);
         (
-            ended(range, text.len()).or(longest),
-            goes_past(range, text.len()),
+            longest_of(&self.rows[..count], text),
+            first_goes_on(&self.rows[count..], text),
         )
     }
 

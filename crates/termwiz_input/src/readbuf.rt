@@ -74,8 +74,12 @@ impl ReadBuffer {
     fn close_up(&mut self)
         ensures { self.new ≡ self.old }
     {
-        self.bytes.drain(..self.front);
-        self.front = 0;
+        if self.front > 0 {
+            let left = self.len();
+            self.bytes.copy_within(self.front.., 0);
+            self.bytes.truncate(left);
+            self.front = 0;
+        }
     }
 
     /// Appends the bytes. If memory is refused, the buffer is unchanged. No bytes need no memory.

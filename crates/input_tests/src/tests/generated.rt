@@ -3,6 +3,7 @@ use super::cuts::may_wait;
 use super::draws::Draws;
 use super::pieces::{parsed, parsed_pieces};
 use super::plain::{PlainReader, Shape};
+use super::pulled::pulled;
 use super::{InputEvent, InputParser, LAST, MORE, renew};
 use std::alloc::{AllocError, Global};
 use std::fmt::Write;
@@ -104,6 +105,26 @@ fn check_by_parse(
     Ok(())
 }
 
+// A call of `feed` for each reading, and then one of `next_event` for each event.
+fn check_by_event(
+    rt: &impl Abort,
+    alloc: Global,
+    parser: &mut InputParser,
+    readings: &[Reading],
+    name: &str,
+) -> Result<(), Fail> {
+    for (number, reading) in readings.iter().enumerate() {
+        let events = pulled(alloc, parser, reading.bytes, reading.more)?;
+        assert_eq!(rt;
+            events.as_slice(),
+            reading.events.as_slice(),
+            "call {number} of feed, {name}"
+        );
+        check_waiting(rt, parser, reading, name);
+    }
+    Ok(())
+}
+
 // Appends the events, each with this number.
 fn append_numbered(
     alloc: Global,
@@ -169,6 +190,7 @@ fn check_by_pieces(
 struct Parsers {
     by_list: InputParser,
     by_parse: InputParser,
+    by_event: InputParser,
     by_pieces: InputParser,
 }
 
@@ -177,6 +199,7 @@ impl Parsers {
         Ok(Parsers {
             by_list: InputParser::new(alloc)?,
             by_parse: InputParser::new(alloc)?,
+            by_event: InputParser::new(alloc)?,
             by_pieces: InputParser::new(alloc)?,
         })
     }
@@ -184,6 +207,7 @@ impl Parsers {
     fn renew(&mut self, alloc: Global) -> Result<(), AllocError> {
         renew(alloc, &mut self.by_list)?;
         renew(alloc, &mut self.by_parse)?;
+        renew(alloc, &mut self.by_event)?;
         renew(alloc, &mut self.by_pieces)
     }
 }
@@ -271,6 +295,7 @@ impl Comparison {
         let name = case.name.as_str();
         check_by_list(rt, &mut parsers.by_list, &readings, name)?;
         check_by_parse(rt, self.alloc, &mut parsers.by_parse, &readings, name)?;
+        check_by_event(rt, self.alloc, &mut parsers.by_event, &readings, name)?;
         check_by_pieces(rt, self.alloc, &mut parsers.by_pieces, &case, &readings)?;
         parsers.renew(self.alloc)?;
         Ok(())

@@ -1,10 +1,10 @@
-//! The rows of a key map, in ascending order of their keys, and the ranges of them that a lookup
-//! narrows byte by byte.
-ghost use Rattle.std.specs.Prelude.{◌≡◌, ◌<◌, ◌↔◌, IsTrue, IfOk, IfErr, IfSome, IfNone, length};
+//! The rows of a key map, in ascending order of their keys, and the searches among them.
+ghost use Rattle.std.specs.Prelude.{◌≡◌, ◌↔◌, IsTrue, IfOk, IfErr, IfSome, IfNone};
 ghost use Rattle.std.specs.Ordering.{nat_cmp};
 ghost use Rattle.std.specs.Cmp.Lexicographic.{slice_cmp};
-ghost use Rattle.termwiz_input.specs.KeyRows.{AreAscending, AreRowClones, IsRisingAt, IsAt, IsGapFor, IsEndedBy, IsNarrowed, IsPast, IsRowOf, HasNoEnd, rank};
+ghost use Rattle.termwiz_input.specs.KeyRows.{AgreeFor, AreAscending, AreRowClones, AreUpTo, FirstGoesOn, IsAt, IsCountUpTo, IsGapFor, IsLastBegins, IsRowOf, NoneBegins};
 
+use crate::bytes::begins_with;
 use std::alloc::{AllocError, Global};
 use std::cmp::Ordering;
 
@@ -56,46 +56,55 @@ fn compared<V>(row: &Row<V>, key: &[u8]) -> Ordering
     row.key.as_slice().cmp(key)
 }
 
-// A number that sorts the rows whose keys have the same first bytes, `depth` of them: 0 if the key ends
-// there, and else one more than its next byte.
-fn rank<V>(row: &Row<V>, depth: usize) -> u16
-    ensures { result ≡ rank depth row.now.key.items }
+/// How many rows have keys that aren't after this one, in the order of bytes: they come first.
+pub fn count_up_to<V>(rows: &[Box<Row<V>>], key: &[u8]) -> usize
+    requires { AreAscending rows.now }
+    ensures { IsCountUpTo rows.now key.now result }
 {
-    match row.key.as_slice().get(depth) {
-        Some(byte) => *byte as u16 + 1,
-        None => 0,
+    match place_of(rows, key) {
+        Ok(place) => place + 1,
+        Err(place) => place,
     }
 }
 
-/// The rows of a range that have this byte after their first `depth` bytes.
-pub fn narrowed<'a, V>(range: &'a [Box<Row<V>>], depth: usize, byte: u8) -> &'a [Box<Row<V>>]
-    requires { IsRisingAt depth range.now }
-    ensures { IsNarrowed range.now depth byte result.now }
+// How many first bytes a key and a text have in common.
+fn shared_len(key: &[u8], text: &[u8]) -> usize
+    ensures { AgreeFor key.now text.now result }
 {
-    let next = byte as u16 + 1;
-    let start = range.partition_point(|row| rank(row, depth) < next);
-    let rest = &range[start..];
-    let end = rest.partition_point(|row| rank(row, depth) <= next);
-    &rest[..end]
-}
-
-/// `depth` and the value of the first row of a range, if that row's key is `depth` bytes long.
-pub fn ended<V>(range: &[Box<Row<V>>], depth: usize) -> Option<(usize, &V)>
-    ensures some { IfSome result (λ own. (own.0 ≡ depth) × IsEndedBy range.now depth own.1.now) }
-    ensures none { IfNone result (HasNoEnd range.now depth) }
-{
-    match range.first() {
-        Some(row) if row.key.len() == depth => Some((depth, &row.value)),
-        _ => None,
+    for (place, byte) in key.iter().enumerate() {
+        if text.get(place) != Some(byte) {
+            return place;
+        }
     }
+    key.len()
 }
 
-/// Whether the key of the last row of a range is longer than this.
-pub fn goes_past<V>(range: &[Box<Row<V>>], depth: usize) -> bool
-    ensures { IsTrue result ↔ IsPast range.now depth }
+/// The length and the value of the longest key that begins a text, of rows whose keys aren't after the text.
+///
+/// If the last key doesn't begin the text, those that do are no longer than what the last key and the text have in common.
+pub fn longest_of<'a, V>(rows: &'a [Box<Row<V>>], text: &[u8]) -> Option<(usize, &'a V)>
+    requires ascending { AreAscending rows.now }
+    requires up_to { AreUpTo rows.now text.now }
+    ensures some { IfSome result (λ found. IsLastBegins rows.now text.now found.0 found.1.now) }
+    ensures none { IfNone result (NoneBegins rows.now text.now) }
 {
-    match range.last() {
-        Some(row) => depth < row.key.len(),
+    let mut rest = rows;
+    while let Some((last, before)) = rest.split_last() {
+        let shared = shared_len(&last.key, text);
+        if shared == last.key.len() {
+            return Some((shared, &last.value));
+        }
+        rest = &before[..count_up_to(before, &text[..shared])];
+    }
+    None
+}
+
+/// Whether the key of the first row begins with the text.
+pub fn first_goes_on<V>(rows: &[Box<Row<V>>], text: &[u8]) -> bool
+    ensures { IsTrue result ↔ FirstGoesOn rows.now text.now }
+{
+    match rows.first() {
+        Some(row) => begins_with(&row.key, text),
         None => false,
     }
 }

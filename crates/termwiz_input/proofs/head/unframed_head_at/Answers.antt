@@ -1,7 +1,7 @@
 use Rattle.std.proofs.Common.{◌≡◌, subst}
 use Rattle.std.specs.Prelude.{false}
-use Rattle.termwiz_input.specs.Lookup.{IsLongestKey, IsExtended}
-use Rattle.termwiz_input.proofs.Reading.{longest_from_key, extended_waits, extended_from_unfinished, exact_closed}
+use Rattle.termwiz_input.specs.Lookup.{IsLongestKey, IsExtended, NoKeyBegins}
+use Rattle.termwiz_input.proofs.Reading.{longest_from_key, nothing_known, extended_waits, extended_from_unfinished, exact_closed}
 use Rattle.termwiz_input.proofs.head.unframed_head_at.Goals as goal
 
 pub returns-in-Exact-clause-closed : goal.returns-in-Exact-clause-closed
@@ -27,3 +27,11 @@ pub unknown_head_at-requires-in-None-clause-finished : goal.unknown_head_at-requ
 unknown_head_at-requires-in-None-clause-finished c = λ more h.
     subst (λ m. IsExtended m c.args.text.now → ⊥) c.requires.rows c.in-None.ensures.1
     (extended_from_unfinished c.args.text.now h (c.requires.not_begun more))
+
+pub unknown_head_at-requires-clause-unknown : goal.unknown_head_at-requires-clause-unknown
+unknown_head_at-requires-clause-unknown c =
+    nothing_known c.args.text.now c.requires.no_frame (subst (λ m. NoKeyBegins m c.args.text.now) c.requires.rows c.in-NeedData-2.ensures.0)
+
+pub unknown_head_at-requires-in-None-clause-unknown : goal.unknown_head_at-requires-in-None-clause-unknown
+unknown_head_at-requires-in-None-clause-unknown c =
+    nothing_known c.args.text.now c.requires.no_frame (subst (λ m. NoKeyBegins m c.args.text.now) c.requires.rows c.in-None.ensures.0)

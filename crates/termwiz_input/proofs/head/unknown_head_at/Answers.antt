@@ -9,8 +9,8 @@ returns-in-Some-clause-closed c = λ some.
 
 pub returns-in-Some-clause-head : goal.returns-in-Some-clause-head
 returns-in-Some-clause-head c =
-    character_front c.args.text.now c.in-Some.character c.in-Some.len c.requires.no_frame c.requires.no_row (sym c.in-Some.ensures)
+    character_front c.args.text.now c.in-Some.character c.in-Some.len c.requires.unknown (sym c.in-Some.ensures)
 
 pub returns-in-None-3-clause-head : goal.returns-in-None-3-clause-head
 returns-in-None-3-clause-head c =
-    broken_front c.args.text.now (λ e. let none = ap length e in absurd (grind (arith, nat_tests))) c.requires.no_frame c.requires.no_row (sym c.in-None.ensures)
+    broken_front c.args.text.now (λ e. let none = ap length e in absurd (grind (arith, nat_tests))) c.requires.unknown (sym c.in-None.ensures)

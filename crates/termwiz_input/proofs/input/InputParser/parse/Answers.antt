@@ -1,36 +1,33 @@
-use Rattle.std.proofs.Common.{◌++◌, ◌∷◌, [], ◌<◌, ◌∙◌, refl, sym, ap, subst, length, drop}
-use Rattle.std.specs.Prelude.{IfSome}
-use Rattle.termwiz_input.specs.AtFront.{IsItemAt}
-use Rattle.termwiz_input.specs.Grammar.{Steps}
+use Rattle.std.proofs.Common.{◌++◌, ◌∷◌, [], arith}
 use Rattle.termwiz_input.proofs.Calls.{FoldsTo-push}
-use Rattle.termwiz_input.proofs.Counting.{item_shortens, steps_more, first_step}
+use Rattle.termwiz_input.proofs.Counting.{few_events}
+use Rattle.termwiz_input.proofs.Cutting.{steps_join}
 use Rattle.termwiz_input.proofs.input.InputParser.parse.Goals as goal
 
 pub callback-requires : goal.callback-requires
 callback-requires g c =
-    let found = subst (λ o. IfSome o (IsItemAt c.loop-found.self c.args.maybe_more)) c.in-Some.is c.in-Ok.ensures.item in
-    let item = subst (IsItemAt c.loop-found.self c.args.maybe_more) c.in-Some.field-0-is found in
-    (c.loop-found.invariant.callable (c.in-Some.field-0.event ∷ []) _ (first_step c.loop-found.self c.args.maybe_more _ [] _ item refl)).0
+    let event = c.in-Ok-Some.event in
+    let step = rw c.in-Ok-Some.field-0-is at c.in-Ok-Some.ensures.event in
+    (c.loop-event.invariant.callable (event ∷ []) _ step).0
 
-pub loop-found-smaller : goal.loop-found-smaller
-loop-found-smaller g c =
-    let found = subst (λ o. IfSome o (IsItemAt c.loop-found.self c.args.maybe_more)) c.in-Some.is c.in-Ok.ensures.item in
-    let item = subst (IsItemAt c.loop-found.self c.args.maybe_more) c.in-Some.field-0-is found in
-    subst (λ u. length u < length c.loop-found.self) (sym (c.consume.ensures ∙ ap (drop c.in-Some.field-0.len) c.find_item.ensures.same)) (item_shortens c.loop-found.self c.args.maybe_more _ item)
+pub loop-event-smaller : goal.loop-event-smaller
+loop-event-smaller g c =
+    let step = rw c.in-Ok-Some.field-0-is at c.in-Ok-Some.ensures.event in
+    omega (arith, few_events c.loop-event.self c.next_event.new.self (c.in-Ok-Some.event ∷ []) c.args.maybe_more step)
 
-pub loop-found-preserved : goal.loop-found-preserved
-loop-found-preserved g c =
-    let found = subst (λ o. IfSome o (IsItemAt c.loop-found.self c.args.maybe_more)) c.in-Some.is c.in-Ok.ensures.item in
-    let item = subst (IsItemAt c.loop-found.self c.args.maybe_more) c.in-Some.field-0-is found in
-    let before = c.loop-found.invariant.given in
+pub loop-event-preserved : goal.loop-event-preserved
+loop-event-preserved g c =
+    let event = c.in-Ok-Some.event in
+    let left = c.next_event.new.self in
+    let more = c.args.maybe_more in
+    let step = rw c.in-Ok-Some.field-0-is at c.in-Ok-Some.ensures.event in
+    let before = c.loop-event.invariant.given in
     record {
       given = (
-        before.0 ++ c.in-Some.field-0.event ∷ [],
-        subst (Steps (c.args.self.now ++ c.args.bytes.now) c.args.maybe_more (before.0 ++ c.in-Some.field-0.event ∷ [])) (sym (c.consume.ensures ∙ ap (drop c.in-Some.field-0.len) c.find_item.ensures.same))
-            (steps_more before.0 (c.args.self.now ++ c.args.bytes.now) c.loop-found.self c.args.maybe_more _ before.1 item),
-        FoldsTo-push _ _ before.0 c.loop-found.callback c.in-Some.field-0.event c.callback.new.self before.2 c.callback.ensures,
+        before.0 ++ event ∷ [],
+        steps_join before.0 (event ∷ []) (c.args.self.now ++ c.args.bytes.now) c.loop-event.self left more before.1 step,
+        FoldsTo-push _ _ before.0 c.loop-event.callback event c.callback.new.self before.2 c.callback.ensures,
       );
       callable = λ events rest steps.
-          (c.loop-found.invariant.callable (c.in-Some.field-0.event ∷ events) rest (first_step c.loop-found.self c.args.maybe_more _ events rest item
-          (subst (λ u. Steps u c.args.maybe_more events rest) (c.consume.ensures ∙ ap (drop c.in-Some.field-0.len) c.find_item.ensures.same) steps))).1 _ _ c.callback.ensures;
+          (c.loop-event.invariant.callable (event ∷ events) rest (steps_join (event ∷ []) events c.loop-event.self left rest more step steps)).1 _ _ c.callback.ensures;
     }

@@ -3,10 +3,10 @@ use Rattle.termwiz_input.specs.declared.types.InputEvent.{InputEvent}
 use Rattle.termwiz_input.specs.Grammar.{Steps}
 use Rattle.termwiz_input.specs.Callbacks.{MayBeCalledOnNumbered, WasCalledOnNumbered}
 use Rattle.termwiz_input.specs.Pieces.{numbered}
-use Rattle.termwiz_input.proofs.input.InputParser.feed.Given as goal
+use Rattle.termwiz_input.proofs.input.InputParser.parse_piece.Given as goal
 
-abbrev pub invariant-loop-found : goal.invariant-loop-found
-invariant-loop-found g l = record {
+abbrev pub invariant-loop-event : goal.invariant-loop-event
+invariant-loop-event g l = record {
   given : (events : List InputEvent)
       × Steps (l.fn.self ++ l.fn.piece) l.fn.more events l.self
       × WasCalledOnNumbered (goal.F-step g) l.fn.callback (numbered l.fn.number events) l.callback;
@@ -14,5 +14,5 @@ invariant-loop-found g l = record {
       → MayBeCalledOnNumbered g.F.FnMut l.callback (numbered l.fn.number events);
 }
 
-abbrev pub decreases-loop-found : goal.decreases-loop-found
-decreases-loop-found g l = length l.self
+abbrev pub decreases-loop-event : goal.decreases-loop-event
+decreases-loop-event g l = length l.self

@@ -1,5 +1,5 @@
 use Rattle.termwiz_input.proofs.Reading.{frame_front, frame_closed, begun_waits, begun_no_frame}
-use Rattle.termwiz_input.proofs.head.head_at.Goals as goal
+use Rattle.termwiz_input.proofs.head.tested_head_at.Goals as goal
 
 pub unframed_head_at-requires-clause-no_frame : goal.unframed_head_at-requires-clause-no_frame
 unframed_head_at-requires-clause-no_frame c = begun_no_frame c.args.text.now c.in-Begun-2.ensures
