@@ -1,6 +1,5 @@
 pub mod Callback
 pub mod Endings
 pub mod Lines
-pub mod Names
 pub mod Runs
 pub mod Words

@@ -11,7 +11,6 @@ ghost use Rattle.keyshow.specs.Runs.{ShowsAll, ShowsDecided, ShowsPart};
 ghost use Rattle.keyshow.specs.Words.{IsPiece, PieceOf, fault_text};
 
 mod lines;
-mod names;
 mod pump;
 #[cfg(test)]
 mod tests;

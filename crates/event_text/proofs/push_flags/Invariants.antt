@@ -1,7 +1,7 @@
 use Rattle.std.proofs.Common.{◌≡◌, ◌++◌, take, map}
 use Rattle.std.specs.List.{join_with_byte}
-use Rattle.keyshow.proofs.FlagNames.{names, has_a_name}
-use Rattle.keyshow.proofs.lines.push_flags.Given as goal
+use Rattle.event_text.proofs.FlagNames.{names, has_a_name}
+use Rattle.event_text.proofs.push_flags.Given as goal
 
 abbrev pub invariant-loop-flag : goal.invariant-loop-flag
 invariant-loop-flag g l =

@@ -1,7 +1,7 @@
 // The names of keys.
 
 ghost use Rattle.std.specs.Prelude.{◌≡◌};
-ghost use Rattle.keyshow.specs.Names.{variant_name};
+ghost use Rattle.event_text.specs.Names.{variant_name};
 
 use termwiz_input::types::KeyCode;
 

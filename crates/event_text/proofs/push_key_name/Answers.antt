@@ -1,8 +1,8 @@
 use Rattle.std.proofs.Common.{arith}
 use Rattle.std.proofs.lemmas.Grind.{common_steps}
-use Rattle.keyshow.specs.Names.{key_name}
-use Rattle.keyshow.proofs.Printed.{key_name-named}
-use Rattle.keyshow.proofs.lines.push_key_name.Goals as goal
+use Rattle.event_text.specs.Names.{key_name}
+use Rattle.event_text.proofs.Printed.{key_name-named}
+use Rattle.event_text.proofs.push_key_name.Goals as goal
 
 pub returns-in-Char : goal.returns-in-Char
 unfolding key_name

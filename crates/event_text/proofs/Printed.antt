@@ -1,9 +1,11 @@
 -- What formats write of numbers, in the words of the lines.
-use Rattle.std.proofs.Common.{◌≡◌, ℕ, ◌-◌, ◌^◌, List, [], ◌++◌, false, length, replicate, refl, append-nil, arith}
-use Rattle.std.specs.Fmt.{padded_integral, char_count, format_spec}
+use Rattle.std.proofs.Common.{◌≡◌, ℕ, ◌-◌, ◌^◌, ◌/◌, ◌%◌, ◌<◌, ◌≤◌, List, [], ◌∷◌, ◌++◌, true, false, length, replicate, refl, append-nil, arith, codes, ⊎_elim}
+use Rattle.std.specs.Fmt.{padded_integral, char_count, format_spec, digit_glyph}
+use Rattle.std.proofs.lemmas.Fmt.{hex_one_digit, hex_two_digits}
+use Rattle.std.proofs.lemmas.Bool.{cases_lt}
 use Rattle.termwiz_input.specs.declared.types.KeyCode.{KeyCode}
 use Rattle.termwiz_input.specs.declared.types.KeyCode.TheVariants.{Char, Function}
-use Rattle.keyshow.specs.Names.{variant_name, key_name}
+use Rattle.event_text.specs.Names.{variant_name, key_name, code_point}
 
 -- digits padded with zeros to a width
 pub zero_padded : (width : ℕ) (ds : List ℕ) → padded_integral (format_spec 32 0 4 width (2 ^ 64 - 1)) false [] ds ≡ replicate (width - length ds) 48 ++ ds
@@ -18,3 +20,10 @@ unfolding key_name
 key_name-named (Char c) p q = absurd (p c refl)
 key_name-named (Function n) p q = absurd (q n refl)
 key_name-named key p q = refl
+
+-- a code point below 256 has two digits behind two zeros
+pub byte_point : (c : ℕ) → c < 256 → code_point c ≡ codes "U+00" ++ (digit_glyph true (c / 16) ∷ digit_glyph true (c % 16) ∷ [])
+byte_point c small = ⊎_elim
+    (λ (one : c < 16). let high : c / 16 ≡ 0 = omega arith in let low : c % 16 ≡ c = omega arith in rw (hex_one_digit true c one, high, low) refl)
+    (λ (two : 16 ≤ c). rw (hex_two_digits true c two small) refl)
+    (cases_lt c 16)

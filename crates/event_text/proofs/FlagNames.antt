@@ -1,9 +1,11 @@
 -- The names of the flags of a set, one flag after another.
-use Rattle.std.proofs.Common.{◌≡◌, ◌∙◌, ◌==◌, ◌&&◌, ℕ, ◌+◌, ◌<◌, ◌≤◌, List, [], ◌∷◌, ◌++◌, Bool, true, false, not, length, take, get_or, map, cond, refl, sym, ap, append_assoc, append-nil}
+use Rattle.std.proofs.Common.{◌≡◌, ◌∙◌, ◌==◌, ◌&&◌, arith, ℕ, ◌+◌, ◌<◌, ◌≤◌, List, [], ◌∷◌, ◌++◌, Bool, true, false, not, length, take, get_or, map, cond, refl, sym, ap, append_assoc, append-nil}
 use Rattle.std.specs.Prelude.{bit_and, codes}
+use Rattle.std.specs.Int.Bits.{and_zero_l}
+use Rattle.std.proofs.lemmas.Bool.Decides.{nat_tests}
 use Rattle.std.specs.List.{join_with_byte}
 use Rattle.std.proofs.lemmas.List.{take_more, take_all, map_push}
-use Rattle.keyshow.specs.Names.{NamedFlag, names_in_set, flags_with_a_bit, joined_names}
+use Rattle.event_text.specs.Names.{NamedFlag, names_in_set, flags_with_a_bit, joined_names}
 
 -- the set has the flag: the flag has a bit, and all of its bits are in the set
 abbrev pub is_in_set : ℕ → NamedFlag → Bool
@@ -108,3 +110,14 @@ module _ {X : Type 0} (flags : List X) (i : ℕ) (row : X → NamedFlag) (table 
   none_named ended whole written e none after appended =
       let empty = empty_without_name (names bits table) (sym (ap has_a_name (all_of ended whole)) ∙ sym e ∙ none) in
       appended ∙ ap (λ l. l ++ codes "NONE") (written ∙ ap (λ l. start ++ join_with_byte 43 l) (all_of ended whole ∙ empty) ∙ append-nil start) ∙ ap (λ l. start ++ joined_names l) (sym empty)
+
+-- no flag that has a bit is in the empty set
+not_in_empty : (b : ℕ) → not (b == 0) && (bit_and 0 b == b) ≡ false
+not_in_empty b = rw (and_zero_l b) (grind (arith, nat_tests))
+
+none_in_empty : (flags : List NamedFlag) → names 0 flags ≡ []
+none_in_empty [] = refl
+none_in_empty (flag ∷ flags) = names-cons 0 flag flags ∙ ap (λ b. cond b (flag.0 ∷ []) [] ++ names 0 flags) (not_in_empty flag.1) ∙ none_in_empty flags
+
+pub empty_set : (flags : List NamedFlag) (bits : ℕ) → bits ≡ 0 → joined_names (names bits flags) ≡ codes "NONE"
+empty_set flags bits zero = ap (λ b. joined_names (names b flags)) zero ∙ ap joined_names (none_in_empty flags)

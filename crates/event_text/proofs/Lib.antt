@@ -1,0 +1,2 @@
+pub mod FlagNames
+pub mod Printed
