@@ -1,0 +1,21 @@
+-- What holds of the first elements of a list, and of one more.
+use Rattle.std.proofs.Common.{◌≡◌, ◌∙◌, ◌+◌, ◌<◌, ◌≤◌, ◌∷◌, ◌++◌, [], ℕ, List, All, length, take, take_all, get_or, sym, ap, subst}
+use Rattle.std.specs.List.{FoldsTo}
+use Rattle.std.proofs.lemmas.Fn.{FoldsTo-push}
+use Rattle.std.proofs.lemmas.List.{take_more}
+use Rattle.std.proofs.lemmas.List.Elements.{All-push}
+
+pub all_more : {X : Type 0} (P : X → Type 0) (xs : List X) (i : ℕ) (d : X) → i < length xs → All P (take i xs) → P (get_or xs i d) → All P (take (i + 1) xs)
+all_more P xs i d within so_far here = subst (All P) (sym (take_more xs i d within)) (All-push P (take i xs) (get_or xs i d) so_far here)
+
+pub folds_more : {P A : Type 0} (R : P → A → P → Type 0) (first : P) (xs : List A) (i : ℕ) (before : P) (x : A) (after : P) → i < length xs → x ≡ get_or xs i x
+    → FoldsTo R first (take i xs) before → R before x after → FoldsTo R first (take (i + 1) xs) after
+folds_more R first xs i before x after within is so_far here =
+    subst (λ l. FoldsTo R first l after) (ap (λ y. take i xs ++ y ∷ []) is ∙ sym (take_more xs i x within)) (FoldsTo-push R first (take i xs) before x after so_far here)
+
+pub all_more_at : {X : Type 0} (P : X → Type 0) (xs : List X) (i : ℕ) (x : X) → i < length xs → x ≡ get_or xs i x → All P (take i xs) → P x → All P (take (i + 1) xs)
+all_more_at P xs i x within is so_far here = all_more P xs i x within so_far (subst P is here)
+
+-- what holds of the first elements, as many as there are, holds of all
+pub all_of : {X : Type 0} (P : X → Type 0) (xs : List X) (i : ℕ) → length xs ≤ i → All P (take i xs) → All P xs
+all_of P xs i ended so_far = subst (All P) (take_all i xs ended) so_far

@@ -1,0 +1,3 @@
+pub mod Alls
+pub mod Collected
+pub mod Rests

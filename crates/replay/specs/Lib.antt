@@ -1,0 +1,4 @@
+pub mod Answers
+pub mod Collecting
+pub mod Holds
+pub mod Keys

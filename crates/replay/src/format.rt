@@ -1,0 +1,213 @@
+// The form of a line: reads what it records.
+
+ghost use Rattle.std.specs.Prelude.{◌≡◌, ℕ, Ok, IfOk, length};
+ghost use Rattle.hex.specs.Hex.{decode_of};
+
+use crate::cases::{Call, Case, InModes, Keys, Row, Sent};
+use crate::names::{key_named, modifiers_named};
+use hex::FromHexError;
+use std::alloc::{AllocError, AllocFailed, Global};
+use termwiz_base::Modifiers;
+use termwiz_input::input::KeyCode;
+use thiserror::Error;
+
+/// What is wrong with a line.
+#[derive(Clone, Copy, PartialEq, Eq, Debug, Error)]
+pub enum Fault {
+    #[error("no form of a line")]
+    Form,
+    #[error("not hexadecimal")]
+    Hex,
+    #[error("not one answer for each call")]
+    Answers,
+    #[error("no such key")]
+    Key,
+    #[error("no such modifiers")]
+    Modifiers,
+    #[error("not one text for each mode")]
+    Modes,
+    #[error("out of memory")]
+    Memory,
+}
+
+impl From<AllocError> for Fault {
+    fn from(_fault: AllocError) -> Fault {
+        Fault::Memory
+    }
+}
+
+impl<T: Drop> From<AllocFailed<T>> for Fault {
+    fn from(_fault: AllocFailed<T>) -> Fault {
+        Fault::Memory
+    }
+}
+
+impl From<FromHexError> for Fault {
+    fn from(fault: FromHexError) -> Fault {
+        match fault {
+            FromHexError::OutOfMemory => Fault::Memory,
+            _ => Fault::Hex,
+        }
+    }
+}
+
+/// What a line records.
+///
+/// - `*HEX = ANSWER`: bytes.
+/// - `+HEX -HEX .. = ANSWER | ANSWER ..`: calls, `+` with more to come and `-` without.
+/// - `HEX,HEX .. = NEXT = A = B = C`: rows of the sequence table. Each gives A, ESC and the row B, the row and then NEXT C; `-` if
+///   that isn't recorded.
+/// - `KEY,KEY .. MODS,MODS .. = TEXT@MODES ..`: keys.
+pub fn case_of(alloc: Global, line: &str) -> Result<Case, Fault> {
+    let (given, recorded) = line.split_once(" = ").ok_or(Fault::Form)?;
+    if let Some(text) = given.strip_prefix("*") {
+        return Ok(Case::Text {
+            bytes: bytes_of(alloc, text)?,
+            answer: copy(alloc, recorded)?,
+        });
+    }
+    if given.starts_with("+") || given.starts_with("-") {
+        return Ok(Case::Calls(calls_of(alloc, given, recorded)?));
+    }
+    match recorded.split_once(" = ") {
+        Some((next, answers)) => Ok(Case::Rows {
+            all: rows_of(alloc, given)?,
+            row: row_of(alloc, next, answers)?,
+        }),
+        None => Ok(Case::Keys(keys_of(alloc, given, recorded)?)),
+    }
+}
+
+// Bytes by their hexadecimal digits.
+fn bytes_of(alloc: Global, digits: &str) -> Result<Vec<u8>, Fault>
+    ensures { IfOk result (λ bytes. decode_of digits.now ≡ Ok bytes.items) }
+{
+    Ok(hex::decode(alloc, digits)?)
+}
+
+// A copy of a text.
+fn copy(alloc: Global, text: &str) -> Result<Vec<u8>, AllocError>
+    ensures { IfOk result (λ copy. copy.items ≡ text.now) }
+{
+    text.as_bytes().to_vec(alloc)
+}
+
+// Calls, each with its answer.
+fn calls_of(alloc: Global, given: &str, recorded: &str) -> Result<Vec<Call>, Fault> {
+    let mut answers = recorded.split(" | ");
+    let mut calls = Vec::new(alloc);
+    for call in given.split(" ") {
+        let answer = answers.next().ok_or(Fault::Answers)?;
+        calls.push(call_of(alloc, call, answer)?)?;
+    }
+    match answers.next() {
+        Some(_) => Err(Fault::Answers),
+        None => Ok(calls),
+    }
+}
+
+// A call: `+HEX` with more to come, `-HEX` without.
+fn call_of(alloc: Global, given: &str, answer: &str) -> Result<Call, Fault> {
+    let (maybe_more, digits) = match given.strip_prefix("+") {
+        Some(digits) => (true, digits),
+        None => (false, given.strip_prefix("-").ok_or(Fault::Form)?),
+    };
+    Ok(Call {
+        bytes: bytes_of(alloc, digits)?,
+        maybe_more,
+        answer: copy(alloc, answer)?,
+    })
+}
+
+// The bytes of rows, separated by commas.
+fn rows_of(alloc: Global, given: &str) -> Result<Vec<Vec<u8>>, Fault> {
+    let mut rows = Vec::new(alloc);
+    for row in given.split(",") {
+        rows.push(bytes_of(alloc, row)?)?;
+    }
+    Ok(rows)
+}
+
+// The answers to a row.
+fn row_of(alloc: Global, next: &str, answers: &str) -> Result<Row, Fault> {
+    let (alone, others) = answers.split_once(" = ").ok_or(Fault::Form)?;
+    let (after_escape, before_next) = others.split_once(" = ").ok_or(Fault::Form)?;
+    Ok(Row {
+        next: bytes_of(alloc, next)?,
+        alone: answer_of(alloc, alone)?,
+        after_escape: answer_of(alloc, after_escape)?,
+        before_next: answer_of(alloc, before_next)?,
+    })
+}
+
+// An answer, or `-` if none is recorded.
+fn answer_of(alloc: Global, text: &str) -> Result<Option<Vec<u8>>, AllocError> {
+    match text {
+        "-" => Ok(None),
+        _ => Ok(Some(copy(alloc, text)?)),
+    }
+}
+
+// Keys, sets of modifiers, and what they send.
+fn keys_of(alloc: Global, given: &str, recorded: &str) -> Result<Keys, Fault> {
+    let (keys, modifiers) = given.split_once(" ").ok_or(Fault::Form)?;
+    Ok(Keys {
+        keys: keys_named(alloc, keys)?,
+        modifiers: sets_named(alloc, modifiers)?,
+        texts: texts_of(alloc, recorded)?,
+    })
+}
+
+// Keys by their names, separated by commas.
+fn keys_named(alloc: Global, names: &str) -> Result<Vec<KeyCode>, Fault> {
+    let mut keys = Vec::new(alloc);
+    for name in names.split(",") {
+        keys.push(key_named(alloc, name)?.ok_or(Fault::Key)?)?;
+    }
+    Ok(keys)
+}
+
+// Sets of modifiers by their names, separated by commas.
+fn sets_named(alloc: Global, names: &str) -> Result<Vec<Modifiers>, Fault> {
+    let mut sets = Vec::new(alloc);
+    for name in names.split(",") {
+        sets.push(modifiers_named(alloc, name)?.ok_or(Fault::Modifiers)?)?;
+    }
+    Ok(sets)
+}
+
+// What is sent in each of the modes: one text for each mode.
+fn texts_of(alloc: Global, recorded: &str) -> Result<Vec<InModes>, Fault> {
+    let mut texts = Vec::new(alloc);
+    let mut covered = 0u32;
+    for word in recorded.split(" ") {
+        let text = in_modes(alloc, word)?;
+        if covered & text.modes != 0 {
+            return Err(Fault::Modes);
+        }
+        covered |= text.modes;
+        texts.push(text)?;
+    }
+    if covered == u32::MAX {
+        Ok(texts)
+    } else {
+        Err(Fault::Modes)
+    }
+}
+
+// `TEXT@MODES`, or `TEXT` in all modes. The text is `-` if it is empty, and `refused` if there is none.
+fn in_modes(alloc: Global, word: &str) -> Result<InModes, Fault> {
+    let (text, modes) = match word.split_once("@") {
+        Some((text, digits)) => (
+            text,
+            u32::from_str_radix(digits, 16).map_err(|_| Fault::Modes)?,
+        ),
+        None => (word, u32::MAX),
+    };
+    let sent = match text {
+        "refused" => Sent::Refused,
+        "-" => Sent::Text(Vec::new(alloc)),
+        _ => Sent::Text(bytes_of(alloc, text)?),
+    };
+    Ok(InModes { sent, modes })
+}

@@ -1,0 +1,170 @@
+// Lines that hold, lines that were changed by hand, and lines of no form.
+
+use crate::encodings::Encoder;
+use crate::feeder::Feeder;
+use crate::format::Fault;
+use crate::replay::Replayer;
+use crate::report::{LineDifference, LineError, replay_lines};
+use std::alloc::{AllocError, Global};
+use std::process::Abort;
+use std::test::Fail;
+
+fn replayer(alloc: Global) -> Result<Replayer, AllocError> {
+    Ok(Replayer {
+        feeder: Feeder::new(alloc)?,
+        encoder: Encoder {
+            alloc,
+            encodings: 0,
+        },
+    })
+}
+
+#[test]
+fn lines_that_hold(rt: HostRuntime) -> Result<(), Fail> {
+    let text = "# a title\n\n\
+        *1b5b41 = key UpArrow NONE\n\
+        *61621b5b3230307e = key U+0061 NONE,key U+0062 NONE ; 1b5b3230307e\n\
+        * = nothing\n\
+        +1b +5b41 - = ; 1b | key UpArrow NONE | nothing\n\
+        -1b5b3c303b333b344d = mouse 3 4 LEFT NONE\n\
+        01,1b5b39373b3575 = 71 = key U+0061 CTRL = key U+0061 ALT+CTRL = key U+0061 CTRL,key U+0071 NONE\n\
+        1b5b43 = 71 = key RightArrow NONE = - = -\n\
+        UpArrow,ApplicationUpArrow SHIFT = 1b5b313b3241\n\
+        F25 NONE,ALT+CTRL = refused\n\
+        Hyper SHIFT+SUPER = -\n\
+        U+0061 ALT+CTRL = 1b01@0fff0fff 1b5b32373b373b39377e@0000f000 1b5b39373b3775@f0000000\n";
+    let mut replayer = replayer(rt.alloc())?;
+    let report = replay_lines(rt.alloc(), &mut replayer, text)?;
+    assert_eq!(rt; report.lines, 11);
+    assert_eq!(rt; report.differing, 0);
+    assert!(rt; report.shown.is_empty());
+    Ok(())
+}
+
+// The line differs, and this is what was given and what came.
+fn check_differs(
+    rt: &impl Abort,
+    replayer: &mut Replayer,
+    line: &str,
+    given: &str,
+    came: &str,
+) -> Result<(), Fail> {
+    let report = replay_lines(replayer.feeder.alloc, replayer, line)?;
+    assert_eq!(rt; report.differing, 1, "{line}");
+    let [LineDifference { number, difference }] = report.shown.as_slice() else {
+        panic!(rt; "{line}");
+    };
+    assert_eq!(rt; *number, 1);
+    assert_eq!(rt; difference.given.as_slice(), given.as_bytes(), "{line}");
+    assert_eq!(rt; difference.came.as_slice(), came.as_bytes(), "{line}");
+    Ok(())
+}
+
+#[test]
+fn changed_lines(rt: HostRuntime) -> Result<(), Fail> {
+    let mut replayer = replayer(rt.alloc())?;
+    let cases = [
+        ("*1b5b41 = key DownArrow NONE", "1b5b41", "key UpArrow NONE"),
+        ("*1b5b41 = nothing", "1b5b41", "key UpArrow NONE"),
+        (
+            "*1b5b41 = key UpArrow NONE ; 1b",
+            "1b5b41",
+            "key UpArrow NONE",
+        ),
+        (
+            "+1b -5b41 = ; 1b | key UpArrow ALT",
+            "1b5b41",
+            "key UpArrow NONE",
+        ),
+        ("+1b -5b41 = nothing | key UpArrow NONE", "1b", "; 1b"),
+        (
+            "1b5b42 = 71 = key DownArrow NONE = key DownArrow SHIFT = -",
+            "1b1b5b42",
+            "key DownArrow ALT",
+        ),
+        (
+            "1b5b42 = 71 = key DownArrow NONE = - = key DownArrow NONE",
+            "1b5b4271",
+            "key DownArrow NONE,key U+0071 NONE",
+        ),
+        (
+            "7171 = 71 = - = - = -",
+            "71",
+            "events, or not all of it waits",
+        ),
+        (
+            "UpArrow NONE = 1b5b42",
+            "UpArrow NONE down in mode 0",
+            "1b5b41",
+        ),
+        ("F25 NONE = 1b5b42", "F25 NONE down in mode 0", "refused"),
+        (
+            "F24 NONE = refused",
+            "F24 NONE down in mode 0",
+            "1b5b34357e",
+        ),
+        (
+            "U+0061 CTRL = 01",
+            "U+0061 CTRL down in mode 12",
+            "1b5b32373b353b39377e",
+        ),
+    ];
+    for (line, given, came) in cases {
+        check_differs(&rt, &mut replayer, line, given, came)?;
+    }
+    Ok(())
+}
+
+#[test]
+fn shows_twenty(rt: HostRuntime) -> Result<(), Fail> {
+    let mut replayer = replayer(rt.alloc())?;
+    let lines = "*71 = nothing\n".repeat(rt.alloc(), 30)?;
+    let report = replay_lines(rt.alloc(), &mut replayer, lines.as_str())?;
+    assert_eq!(rt; report.lines, 30);
+    assert_eq!(rt; report.differing, 30);
+    assert_eq!(rt; report.shown.len(), 20);
+    Ok(())
+}
+
+#[test]
+fn lines_of_no_form(rt: HostRuntime) -> Result<(), Fail> {
+    let mut replayer = replayer(rt.alloc())?;
+    let cases = [
+        ("*1b5b41", Fault::Form),
+        ("*1b5b4 = key UpArrow NONE", Fault::Hex),
+        ("*1b5b4g = key UpArrow NONE", Fault::Hex),
+        ("+1b 5b41 = ; 1b | key UpArrow NONE", Fault::Form),
+        ("+1b +5b41 = ; 1b", Fault::Answers),
+        ("+1b = ; 1b | nothing", Fault::Answers),
+        ("1b5b42 = 71 = key DownArrow NONE", Fault::Form),
+        ("1b5b42, = 71 = a = b", Fault::Form),
+        ("UpArrow = 1b5b41", Fault::Form),
+        ("Uparrow NONE = 1b5b41", Fault::Key),
+        ("U+71 NONE = 71", Fault::Key),
+        ("F05 NONE = 71", Fault::Key),
+        ("UpArrow CTRL+ALT = 1b5b41", Fault::Modifiers),
+        ("UpArrow NONE = 1b5b41@ffff", Fault::Modes),
+        ("UpArrow NONE = 1b5b41@ffffffff 1b5b41@1", Fault::Modes),
+        ("UpArrow NONE = 1b5b41@x", Fault::Modes),
+        ("UpArrow NONE = 1b5b4", Fault::Hex),
+    ];
+    for (line, fault) in cases {
+        let text = format!(in rt.alloc(); "# a title\n{line}\n")?;
+        let Err(error) = replay_lines(rt.alloc(), &mut replayer, text.as_str()) else {
+            panic!(rt; "{line}");
+        };
+        assert_eq!(rt; error, LineError { number: 2, fault }, "{line}");
+    }
+    Ok(())
+}
+
+#[test]
+fn messages_of_errors(rt: HostRuntime) -> Result<(), Fail> {
+    let error = LineError {
+        number: 7,
+        fault: Fault::Hex,
+    };
+    let text = format!(in rt.alloc(); "{error}")?;
+    assert_eq!(rt; text.as_str(), "line 7: not hexadecimal");
+    Ok(())
+}
