@@ -9,8 +9,9 @@
 # in megabytes per second.
 #
 # `new` is InputParser::new, and the drop of a parser that read nothing: the first in its process, and the least of twenty more. A CORPUS
-# is that many megabytes (1 if none are given) of typed, keys, csiu, utf8, mouse, escapes or paste (see tools/measure/corpora.py), which
-# the parser gets in reads of each size in LIST (64,4096). If nothing is named, it measures new, typed, keys, csiu and paste.
+# is that many megabytes (1 if none are given) of typed, utf8, keys, csiu, mouse, mixed, escapes, cut or paste (see
+# tools/measure/corpora.py), which the parser gets in reads of each size in LIST (64,4096). If nothing is named, it measures new and all
+# corpora.
 #
 # It wants rt, cc and python3.
 set -eu
@@ -22,11 +23,11 @@ while [ $# -gt 0 ]; do
         --reads) reads=$2; shift 2 ;;
         --runs) runs=$2; shift 2 ;;
         --keep) keep=$2; shift 2 ;;
-        -*) sed -n '2,15p' "$0" >&2; exit 2 ;;
+        -*) sed -n '2,16p' "$0" >&2; exit 2 ;;
         *) break ;;
     esac
 done
-[ $# -gt 0 ] || set -- new typed keys csiu paste
+[ $# -gt 0 ] || set -- new typed utf8 keys csiu mouse mixed escapes cut paste
 if [ -n "$keep" ]; then
     mkdir -p "$keep"
     work=$(cd "$keep" && pwd)

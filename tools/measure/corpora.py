@@ -5,7 +5,9 @@ keys    arrow, editing and function keys, plain and with modifiers: each is a ro
 csiu    keys in the forms ESC [ code ; modifiers u and ESC [ 27 ; modifiers ; code ~
 utf8    characters of two to four bytes, with some of one
 mouse   mouse reports
+mixed   mostly typed words, with characters, keys and a paste now and then between them
 escapes lone escapes
+cut     beginnings of keys that are cut off, and escapes
 paste   one bracketed paste
 
 A corpus ends with an event, so it is some bytes shorter than its name says. A megabyte is 2 ** 20 bytes."""
@@ -62,9 +64,27 @@ def mouse(pick):
         yield ESC + b"[<%d;%d;%dM" % (code, pick.randint(1, 200), pick.randint(1, 60))
 
 
+def mixed(pick):
+    sources = [typed(pick), utf8(pick), keys(pick), csiu(pick)]
+    while True:
+        (source,) = pick.choices(sources, [75, 10, 11, 4])
+        for _ in range(pick.randint(1, 12)):
+            yield next(source)
+        if pick.random() < 0.004:
+            yield paste(pick, pick.randint(30, 300))
+
+
 def escapes(pick):
     while True:
         yield ESC
+
+
+CUT = [ESC + front for front in (b"", b"[", b"O", b"[1;", b"[27;5;12", b"O1;", b"[20", b"[11", b"[1;1")]
+
+
+def cut(pick):
+    while True:
+        yield pick.choice(CUT)
 
 
 def whole_events(events, size):
@@ -80,7 +100,7 @@ def paste(pick, size):
     return ESC + b"[200~" + whole_events(lines, size - 12) + ESC + b"[201~"
 
 
-EVENTS = {each.__name__: each for each in (typed, keys, csiu, utf8, mouse, escapes)}
+EVENTS = {each.__name__: each for each in (typed, keys, csiu, utf8, mouse, mixed, escapes, cut)}
 
 
 def corpus(name, size):

@@ -1,0 +1,24 @@
+/* Checks of the tests: a check that fails is printed with its line, and the test's status is 1. */
+#ifndef EXPECT_H
+#define EXPECT_H
+
+#include <stdio.h>
+
+static int expectations, faults;
+
+#define EXPECT(holds) expect((holds), #holds, __FILE__, __LINE__)
+
+static void expect(int holds, const char *what, const char *file, int line) {
+  expectations++;
+  if (holds) return;
+  faults++;
+  fprintf(stderr, "%s:%d: not so: %s\n", file, line, what);
+}
+
+/* Prints how many checks there were. Returns the status. */
+static int expected(const char *test) {
+  printf("%s: %d checks, %d failed\n", test, expectations, faults);
+  return faults || !expectations;
+}
+
+#endif

@@ -1,0 +1,318 @@
+/* Key, mouse and paste events from the bytes that a terminal sends, and the bytes that it sends for a key.
+ *
+ *     tw_parser parser = TW_PARSER_NONE;
+ *     tw_event event;
+ *     if (!tw_parser_init(&parser)) ...                        // no memory
+ *     while ((n = read(0, bytes, sizeof bytes)) > 0) {
+ *       if (!tw_parser_feed(&parser, bytes, n)) ...            // no memory: none of the bytes was taken
+ *       while (tw_parser_next(&parser, true, &event) == TW_EVENT) ...
+ *     }
+ *     while (tw_parser_next(&parser, false, &event) == TW_EVENT) ...
+ *     tw_parser_free(&parser);
+ *
+ * Bytes go in by tw_parser_feed, and events come out by tw_parser_next, one at a time. However the bytes are cut into calls, the
+ * events are the same.
+ *
+ * The library is proved as far as its calls. What a caller owes, nothing checks:
+ *
+ * - No pointer is null, also if the length beside it is 0.
+ * - What two pointers of one call lead to doesn't overlap, and is of the size that the type or the length says.
+ * - A tw_parser is all zero (TW_PARSER_NONE) or as a call of this library left it.
+ * - One thread at a time uses a parser; two threads may use two parsers. No call is made in a signal handler nor, if the program has threads,
+ *   in a forked child before it calls exec: the calls ask malloc.
+ * - A bool is false or true.
+ *
+ * The caller owns all memory that it passes. The library keeps no pointer to it, and reads and writes nothing else of the caller's. What
+ * a parser owns it gets from malloc and realloc, and tw_parser_free frees it.
+ *
+ * The layouts are those of x86-64. The numbers are those of c/numbers.txt, and a number never changes its meaning. */
+#ifndef TERMWIZ_INPUT_H
+#define TERMWIZ_INPUT_H
+
+#include <stdbool.h>
+#include <stddef.h>
+#include <stdint.h>
+
+#ifdef __cplusplus
+extern "C" {
+#endif
+
+/* A parser, or none. Its fields are the library's. It may be moved, as by memcpy, and is then used at its new place alone: of two
+ * copies only one may ever be used, and only one freed. */
+typedef struct tw_parser {
+  bool live;
+  void *state;
+} tw_parser;
+
+/* The value of a tw_parser that is none. */
+#define TW_PARSER_NONE { false, NULL }
+
+/* The kinds of events. */
+enum tw_kind {
+  /* numbers.txt: kind c */
+  TW_OTHER = 0, /* None of these. No event has this kind. */
+  TW_KEY = 1, /* A key was pressed. */
+  TW_MOUSE = 2, /* The mouse was moved, one of its buttons was pressed or released, or a wheel was turned. */
+  TW_PASTE = 3 /* Text was pasted, in bracketed paste mode. */
+  /* numbers.txt: end */
+};
+
+/* An event. What its kind has no use for is 0. */
+typedef struct tw_event {
+  uint8_t kind;       /* an enum tw_kind */
+  uint8_t buttons;    /* TW_MOUSE: a set of TW_BUTTON_.., empty after a release and for a move with no button down */
+  uint16_t modifiers; /* TW_KEY, TW_MOUSE: a set of TW_MOD_.. */
+  uint16_t key;       /* TW_KEY: an enum tw_key */
+  uint16_t x;         /* TW_MOUSE: the column, as the terminal sent it: the leftmost is 1 */
+  uint16_t y;         /* TW_MOUSE: the row, as the terminal sent it: the topmost is 1 */
+  uint32_t detail;    /* TW_KEY: the code point with TW_KEY_CHAR, the number with TW_KEY_FUNCTION (1 for F1) */
+  size_t paste_len;   /* TW_PASTE: the number of bytes of the text, which tw_parser_paste copies */
+} tw_event;
+
+/* What tw_parser_next returns. */
+enum tw_next {
+  /* numbers.txt: next c */
+  TW_NONE = 0, /* No event stands at the front of what waits. */
+  TW_EVENT = 1, /* An event was taken. */
+  TW_NO_MEMORY = 2, /* Memory was refused. Nothing changed, and the call may be made again. */
+  TW_NO_PARSER = 3 /* There is no parser: it wasn't made yet, or it was freed. */
+  /* numbers.txt: end */
+};
+
+/* Makes a parser in which nothing waits. If there was one, it is freed. The caller owes a tw_parser_free.
+ *
+ * Returns false if memory is refused: then the parser is unchanged. */
+bool tw_parser_init(tw_parser *parser);
+
+/* Frees what the parser owns, and leaves TW_PARSER_NONE. If there is no parser, it does nothing, so it may be called twice. */
+void tw_parser_free(tw_parser *parser);
+
+/* Appends len bytes to those that wait. They are copied.
+ *
+ * Returns false if memory is refused: then none of them was taken, and the call may be made again. It also returns false if there is
+ * no parser. No bytes need no memory. */
+bool tw_parser_feed(tw_parser *parser, const uint8_t *bytes, size_t len);
+
+/* Takes the next event off what waits, and writes it to *event. The caller calls this until it returns TW_NONE.
+ *
+ * Pass more as true while more bytes may come: then what may still become a longer sequence or a character waits, such as a lone ESC.
+ * Pass it as false at the end of the input, or if a pause says that Escape was meant: then only an open paste waits.
+ *
+ * Returns an enum tw_next. *event is written only with TW_EVENT. With TW_NO_MEMORY, which only a paste can meet, nothing changed. */
+uint32_t tw_parser_next(tw_parser *parser, bool more, tw_event *event);
+
+/* Copies the text of the last TW_PASTE that tw_parser_next gave to out, at most len bytes of it. It is UTF-8, and no 0 ends it. The rest
+ * of out is unchanged.
+ *
+ * Returns the number of bytes of the whole text, as paste_len has it, so a caller whose room was short can call again: the parser keeps
+ * the text until it gives the next TW_PASTE. Returns 0 if there was no paste yet, or if there is no parser. */
+size_t tw_parser_paste(tw_parser *parser, uint8_t *out, size_t len);
+
+/* Returns the number of bytes that wait, 0 if there is no parser. */
+size_t tw_parser_waiting(tw_parser *parser);
+
+/* Returns whether what waits begins with the start of a paste. Such a paste waits for its end without limit: a caller that won't wait
+ * longer makes the parser anew. Returns false if there is no parser. */
+bool tw_parser_is_paste_open(tw_parser *parser);
+
+/* The modifier keys, as bits of a set. */
+enum tw_mod {
+  /* numbers.txt: modifier c */
+  TW_MOD_NONE = 0, /* No modifier. */
+  TW_MOD_SHIFT = 2, /* Shift. */
+  TW_MOD_ALT = 4, /* Alt. */
+  TW_MOD_CTRL = 8, /* Ctrl. */
+  TW_MOD_SUPER = 16, /* Super: the key with the Windows logo, or Command. */
+  TW_MOD_LEFT_ALT = 32, /* The left Alt key. */
+  TW_MOD_RIGHT_ALT = 64, /* The right Alt key. */
+  TW_MOD_LEADER = 128, /* A leader key, for programs that define one. */
+  TW_MOD_LEFT_CTRL = 256, /* The left Ctrl key. */
+  TW_MOD_RIGHT_CTRL = 512, /* The right Ctrl key. */
+  TW_MOD_LEFT_SHIFT = 1024, /* The left Shift key. */
+  TW_MOD_RIGHT_SHIFT = 2048 /* The right Shift key. */
+  /* numbers.txt: end */
+};
+
+/* The buttons and wheels of the mouse, as bits of a set. */
+enum tw_button {
+  /* numbers.txt: button c */
+  TW_BUTTON_NONE = 0, /* No button and no wheel. */
+  TW_BUTTON_LEFT = 2, /* The left button. */
+  TW_BUTTON_RIGHT = 4, /* The right button. */
+  TW_BUTTON_MIDDLE = 8, /* The middle button. */
+  TW_BUTTON_VERT_WHEEL = 16, /* The wheel that scrolls up and down. It was turned up if WHEEL_POSITIVE is set too, and down if not. */
+  TW_BUTTON_HORZ_WHEEL = 32, /* The wheel that scrolls to the sides. It was turned left if WHEEL_POSITIVE is set too, and right if not. */
+  TW_BUTTON_WHEEL_POSITIVE = 64 /* Set with a wheel that was turned up or left. */
+  /* numbers.txt: end */
+};
+
+/* The keys, in the order of termwiz's KeyCode. */
+enum tw_key {
+  /* numbers.txt: key c */
+  TW_KEY_CHAR = 1, /* A key that types a character: `A` is what Shift-A types, and Ctrl-C is `c` with CTRL. */
+  TW_KEY_HYPER = 2, /* Hyper, a modifier key. */
+  TW_KEY_SUPER = 3, /* Super, a modifier key: on most keyboards the one with the Windows logo, or Command. */
+  TW_KEY_META = 4, /* Meta, a modifier key. The key that is labelled Alt is `Alt`. */
+  TW_KEY_CANCEL = 5, /* Cancel, which on PC keyboards is Ctrl-Break. */
+  TW_KEY_BACKSPACE = 6, /* Backspace, which deletes the character before the cursor. */
+  TW_KEY_TAB = 7, /* Tab. Shift-Tab is this key with SHIFT. */
+  TW_KEY_CLEAR = 8, /* Clear, which on PC keyboards is the 5 of the keypad while Num Lock is off. */
+  TW_KEY_ENTER = 9, /* Enter, also called Return. */
+  TW_KEY_SHIFT = 10, /* Shift, where it isn't known which of the two. */
+  TW_KEY_ESCAPE = 11, /* Escape. */
+  TW_KEY_LEFT_SHIFT = 12, /* The left Shift key. */
+  TW_KEY_RIGHT_SHIFT = 13, /* The right Shift key. */
+  TW_KEY_CONTROL = 14, /* Ctrl, where it isn't known which of the two. */
+  TW_KEY_LEFT_CONTROL = 15, /* The left Ctrl key. */
+  TW_KEY_RIGHT_CONTROL = 16, /* The right Ctrl key. */
+  TW_KEY_ALT = 17, /* Alt, or Option, where it isn't known which of the two. */
+  TW_KEY_LEFT_ALT = 18, /* The left Alt key. */
+  TW_KEY_RIGHT_ALT = 19, /* The right Alt key, also called AltGr. */
+  TW_KEY_MENU = 20, /* Menu, Windows' name for Alt (`VK_MENU`). The key that opens a context menu is `Applications`. */
+  TW_KEY_LEFT_MENU = 21, /* Windows' name for the left Alt key (`VK_LMENU`). */
+  TW_KEY_RIGHT_MENU = 22, /* Windows' name for the right Alt key (`VK_RMENU`). */
+  TW_KEY_PAUSE = 23, /* Pause. */
+  TW_KEY_CAPS_LOCK = 24, /* Caps Lock. */
+  TW_KEY_PAGE_UP = 25, /* Page Up. */
+  TW_KEY_PAGE_DOWN = 26, /* Page Down. */
+  TW_KEY_END = 27, /* End. */
+  TW_KEY_HOME = 28, /* Home. */
+  TW_KEY_LEFT_ARROW = 29, /* The left arrow key. */
+  TW_KEY_RIGHT_ARROW = 30, /* The right arrow key. */
+  TW_KEY_UP_ARROW = 31, /* The up arrow key. */
+  TW_KEY_DOWN_ARROW = 32, /* The down arrow key. */
+  TW_KEY_SELECT = 33, /* Select, as on the VT220's editing keypad. */
+  TW_KEY_PRINT = 34, /* Print (`VK_PRINT`), which few keyboards have. It isn't `PrintScreen`. */
+  TW_KEY_EXECUTE = 35, /* Execute (`VK_EXECUTE`), which few keyboards have. */
+  TW_KEY_PRINT_SCREEN = 36, /* Print Screen. */
+  TW_KEY_INSERT = 37, /* Insert. */
+  TW_KEY_DELETE = 38, /* Delete, which deletes the character at the cursor. */
+  TW_KEY_HELP = 39, /* Help. */
+  TW_KEY_LEFT_WINDOWS = 40, /* The left key with the Windows logo. */
+  TW_KEY_RIGHT_WINDOWS = 41, /* The right key with the Windows logo. */
+  TW_KEY_APPLICATIONS = 42, /* The Applications key, which opens a context menu. */
+  TW_KEY_SLEEP = 43, /* Sleep, which suspends the computer. */
+  TW_KEY_NUMPAD_0 = 44, /* The 0 of the numeric keypad, while Num Lock is on. */
+  TW_KEY_NUMPAD_1 = 45, /* The 1 of the numeric keypad, while Num Lock is on. */
+  TW_KEY_NUMPAD_2 = 46, /* The 2 of the numeric keypad, while Num Lock is on. */
+  TW_KEY_NUMPAD_3 = 47, /* The 3 of the numeric keypad, while Num Lock is on. */
+  TW_KEY_NUMPAD_4 = 48, /* The 4 of the numeric keypad, while Num Lock is on. */
+  TW_KEY_NUMPAD_5 = 49, /* The 5 of the numeric keypad, while Num Lock is on. */
+  TW_KEY_NUMPAD_6 = 50, /* The 6 of the numeric keypad, while Num Lock is on. */
+  TW_KEY_NUMPAD_7 = 51, /* The 7 of the numeric keypad, while Num Lock is on. */
+  TW_KEY_NUMPAD_8 = 52, /* The 8 of the numeric keypad, while Num Lock is on. */
+  TW_KEY_NUMPAD_9 = 53, /* The 9 of the numeric keypad, while Num Lock is on. */
+  TW_KEY_MULTIPLY = 54, /* The `*` of the numeric keypad. */
+  TW_KEY_ADD = 55, /* The `+` of the numeric keypad. */
+  TW_KEY_SEPARATOR = 56, /* The thousands separator of the numeric keypad, on keyboards that have one. */
+  TW_KEY_SUBTRACT = 57, /* The `-` of the numeric keypad. */
+  TW_KEY_DECIMAL = 58, /* The decimal point of the numeric keypad. */
+  TW_KEY_DIVIDE = 59, /* The `/` of the numeric keypad. */
+  TW_KEY_FUNCTION = 60, /* A function key, by its number: F1 has the number 1. */
+  TW_KEY_NUM_LOCK = 61, /* Num Lock. */
+  TW_KEY_SCROLL_LOCK = 62, /* Scroll Lock. */
+  TW_KEY_COPY = 63, /* A key of its own for copying. */
+  TW_KEY_CUT = 64, /* A key of its own for cutting. */
+  TW_KEY_PASTE = 65, /* A key of its own for pasting. Text that was pasted comes as an event of its own kind. */
+  TW_KEY_BROWSER_BACK = 66, /* Back, for a web browser. */
+  TW_KEY_BROWSER_FORWARD = 67, /* Forward, for a web browser. */
+  TW_KEY_BROWSER_REFRESH = 68, /* Refresh, for a web browser. */
+  TW_KEY_BROWSER_STOP = 69, /* Stop loading, for a web browser. */
+  TW_KEY_BROWSER_SEARCH = 70, /* Search, for a web browser. */
+  TW_KEY_BROWSER_FAVORITES = 71, /* Favorites, for a web browser. */
+  TW_KEY_BROWSER_HOME = 72, /* Home page, for a web browser. */
+  TW_KEY_VOLUME_MUTE = 73, /* Mute the sound. */
+  TW_KEY_VOLUME_DOWN = 74, /* Turn the volume down. */
+  TW_KEY_VOLUME_UP = 75, /* Turn the volume up. */
+  TW_KEY_MEDIA_NEXT_TRACK = 76, /* Skip to the next track. */
+  TW_KEY_MEDIA_PREV_TRACK = 77, /* Skip to the previous track. */
+  TW_KEY_MEDIA_STOP = 78, /* Stop playing. */
+  TW_KEY_MEDIA_PLAY_PAUSE = 79, /* Play, or pause. */
+  TW_KEY_APPLICATION_LEFT_ARROW = 80, /* The left arrow key while the terminal is in application cursor mode (DECCKM). */
+  TW_KEY_APPLICATION_RIGHT_ARROW = 81, /* The right arrow key in application cursor mode. */
+  TW_KEY_APPLICATION_UP_ARROW = 82, /* The up arrow key in application cursor mode. */
+  TW_KEY_APPLICATION_DOWN_ARROW = 83, /* The down arrow key in application cursor mode. */
+  TW_KEY_KEY_PAD_HOME = 84, /* Home on the numeric keypad: the 7 while Num Lock is off. */
+  TW_KEY_KEY_PAD_END = 85, /* End on the numeric keypad: the 1 while Num Lock is off. */
+  TW_KEY_KEY_PAD_PAGE_UP = 86, /* Page Up on the numeric keypad: the 9 while Num Lock is off. */
+  TW_KEY_KEY_PAD_PAGE_DOWN = 87, /* Page Down on the numeric keypad: the 3 while Num Lock is off. */
+  TW_KEY_KEY_PAD_BEGIN = 88, /* Begin on the numeric keypad: the 5 while Num Lock is off. */
+  TW_KEY_INTERNAL_PASTE_START = 89, /* The start of a bracketed paste. No event carries it: the paste comes as one event. */
+  TW_KEY_INTERNAL_PASTE_END = 90 /* The end of a bracketed paste, where none was started. */
+  /* numbers.txt: end */
+};
+
+/* Copies the name of a key to out, at most len bytes of it: "LeftArrow" for TW_KEY_LEFT_ARROW, "Char" for TW_KEY_CHAR. No 0 ends it, and the
+ * rest of out is unchanged.
+ *
+ * Returns the number of bytes of the whole name, at most 21, and 0 for a number that is no key's. */
+size_t tw_key_name(uint16_t key, uint8_t *out, size_t len);
+
+/* The encodings of keys. */
+enum tw_encoding {
+  /* numbers.txt: encoding c */
+  TW_XTERM = 0, /* The characters themselves, and xterm's control sequences. */
+  TW_CSI_U = 1, /* The same, but a character with modifiers that it can't show is sent as ESC [ c ; m u (fixterms). */
+  TW_WIN32 = 2, /* Records of the Windows console. Keys are encoded as with XTERM. */
+  TW_KITTY = 3 /* kitty's keyboard protocol. Keys are encoded as with XTERM. */
+  /* numbers.txt: end */
+};
+
+/* The flags of kitty's keyboard protocol, as bits of a set. */
+enum tw_kitty {
+  /* numbers.txt: kitty c */
+  TW_KITTY_NONE = 0, /* Nothing is asked for. */
+  TW_KITTY_DISAMBIGUATE_ESCAPE_CODES = 1, /* Keys whose plain text is ambiguous, as that of Escape, are reported as escape codes. */
+  TW_KITTY_REPORT_EVENT_TYPES = 2, /* Repeats and releases of a key are reported, and not presses alone. */
+  TW_KITTY_REPORT_ALTERNATE_KEYS = 4, /* A key is reported with its shifted code and with its code on the standard layout. */
+  TW_KITTY_REPORT_ALL_KEYS_AS_ESCAPE_CODES = 8, /* Keys that make text are reported as escape codes too. */
+  TW_KITTY_REPORT_ASSOCIATED_TEXT = 16 /* A key that makes text is reported with that text. */
+  /* numbers.txt: end */
+};
+
+/* The modes of a terminal that change the text of a key. All zero is xterm with every mode off. */
+typedef struct tw_modes {
+  int64_t modify_other_keys;    /* the level of xterm's modifyOtherKeys; not read if has_modify_other_keys is false */
+  uint8_t encoding;             /* an enum tw_encoding */
+  uint8_t kitty_flags;          /* a set of TW_KITTY_..; read only with TW_KITTY */
+  bool application_cursor_keys; /* the arrows, Home and End send ESC O in place of ESC [ (DECCKM) */
+  bool newline_mode;            /* Enter sends a line feed after the carriage return (LNM) */
+  bool has_modify_other_keys;   /* modifyOtherKeys is on, at the level above */
+} tw_modes;
+
+/* What tw_encode returns. */
+enum tw_encoded {
+  /* numbers.txt: encoded c */
+  TW_TEXT = 0, /* The key's text, which may be empty. */
+  TW_REFUSED_KEY = 1, /* A function key that has no text: only F1 to F24 have one. */
+  TW_REFUSED_MEMORY = 2, /* Memory was refused. The call may be made again. */
+  TW_BAD_NUMBER = 3 /* A number stands for nothing. */
+  /* numbers.txt: end */
+};
+
+/* Writes the text that a terminal in these modes sends for a key to out, and its length to *text_len. The text is UTF-8, no 0 ends it, and
+ * it may be empty: it is for a key that sends nothing, and for every key that is up (is_down is false). A key that is up needs no memory.
+ *
+ * The key is an enum tw_key. detail is its code point if it is TW_KEY_CHAR, its number if it is TW_KEY_FUNCTION, and isn't read for other
+ * keys. modifiers is a set of TW_MOD_...
+ *
+ * Returns an enum tw_encoded. With TW_TEXT *text_len is the length of the whole text, and out has as much of it as len bytes hold: if
+ * *text_len is above len, call again with more room. The rest of out is unchanged. Otherwise *text_len is 0 and out is unchanged:
+ * TW_REFUSED_KEY for a function key, down, that isn't one of F1 to F24; TW_REFUSED_MEMORY if memory was refused; TW_BAD_NUMBER if no key has
+ * the number, if detail is no Unicode scalar value or above 255, or if modifiers, encoding or (with TW_KITTY) kitty_flags have what
+ * no name stands for. */
+uint32_t tw_encode(uint16_t key, uint32_t detail, uint16_t modifiers, bool is_down, const tw_modes *modes, uint8_t *out, size_t len,
+                   size_t *text_len);
+
+/* The layouts that the library was proved with. A line that doesn't compile says that this machine has others. */
+#define TW_IS(name, holds) typedef char tw_is_##name[(holds) ? 1 : -1]
+TW_IS(parser, sizeof(tw_parser) == 16 && offsetof(tw_parser, state) == 8);
+TW_IS(event, sizeof(tw_event) == 24 && offsetof(tw_event, modifiers) == 2 && offsetof(tw_event, y) == 8);
+TW_IS(event_end, offsetof(tw_event, detail) == 12 && offsetof(tw_event, paste_len) == 16);
+TW_IS(modes, sizeof(tw_modes) == 16 && offsetof(tw_modes, encoding) == 8 && offsetof(tw_modes, has_modify_other_keys) == 12);
+#undef TW_IS
+
+#ifdef __cplusplus
+}
+#endif
+#endif

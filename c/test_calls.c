@@ -1,0 +1,310 @@
+/* A test of every call: `test_calls NUMBERS`, NUMBERS being the list c/numbers.txt. */
+#include "expect.h"
+#include "termwiz_input.h"
+#include <stdlib.h>
+#include <string.h>
+
+static tw_event taken;
+
+/* Feeds a text and returns what the first tw_parser_next answers; its event is in `taken`. */
+static uint32_t next_of(tw_parser *parser, const char *text, size_t len, bool more) {
+  EXPECT(tw_parser_feed(parser, (const uint8_t *)text, len));
+  memset(&taken, 0xaa, sizeof taken);
+  return tw_parser_next(parser, more, &taken);
+}
+
+#define NEXT(parser, text, more) next_of(parser, text, sizeof text - 1, more)
+
+static bool is_key(uint16_t key, uint32_t detail, uint16_t modifiers) {
+  return taken.kind == TW_KEY && taken.key == key && taken.detail == detail && taken.modifiers == modifiers && taken.buttons == 0
+         && taken.x == 0 && taken.y == 0 && taken.paste_len == 0;
+}
+
+/* Nothing is there before init and after free, and each call says so. */
+static void none_answers(tw_parser *parser) {
+  tw_event event, before;
+  uint8_t byte = 'x';
+  memset(&event, 0x55, sizeof event);
+  memset(&before, 0x55, sizeof before);
+  EXPECT(!tw_parser_feed(parser, &byte, 1));
+  EXPECT(tw_parser_next(parser, true, &event) == TW_NO_PARSER);
+  EXPECT(memcmp(&event, &before, sizeof event) == 0);
+  EXPECT(tw_parser_paste(parser, &byte, 1) == 0 && byte == 'x');
+  EXPECT(tw_parser_waiting(parser) == 0);
+  EXPECT(!tw_parser_is_paste_open(parser));
+  tw_parser_free(parser);
+  EXPECT(!parser->live);
+}
+
+static void answers_before_init_and_after_free(void) {
+  tw_parser parser = TW_PARSER_NONE, zero;
+  memset(&zero, 0, sizeof zero);
+  none_answers(&parser);
+  none_answers(&zero);
+  EXPECT(tw_parser_init(&parser));
+  EXPECT(NEXT(&parser, "q", true) == TW_EVENT);
+  tw_parser_free(&parser);
+  none_answers(&parser);
+  EXPECT(tw_parser_init(&parser));
+  EXPECT(NEXT(&parser, "q", true) == TW_EVENT && is_key(TW_KEY_CHAR, 'q', TW_MOD_NONE));
+  tw_parser_free(&parser);
+  tw_parser_free(&parser);
+}
+
+/* init frees the parser that was there, with all that it had. */
+static void makes_anew(void) {
+  tw_parser parser = TW_PARSER_NONE;
+  EXPECT(tw_parser_init(&parser));
+  EXPECT(NEXT(&parser, "\033[200~text\033[201~\033[200~abc", true) == TW_EVENT);
+  EXPECT(tw_parser_init(&parser));
+  EXPECT(tw_parser_waiting(&parser) == 0 && !tw_parser_is_paste_open(&parser));
+  EXPECT(tw_parser_paste(&parser, (uint8_t *)"", 0) == 0);
+  EXPECT(NEXT(&parser, "q", true) == TW_EVENT && is_key(TW_KEY_CHAR, 'q', TW_MOD_NONE));
+  tw_parser_free(&parser);
+}
+
+/* A parser that was moved is used at its new place. */
+static void moves(void) {
+  tw_parser first = TW_PARSER_NONE, second;
+  EXPECT(tw_parser_init(&first));
+  EXPECT(NEXT(&first, "\033[", true) == TW_NONE);
+  memcpy(&second, &first, sizeof second);
+  memset(&first, 0, sizeof first);
+  EXPECT(NEXT(&second, "A", true) == TW_EVENT && is_key(TW_KEY_UP_ARROW, 0, TW_MOD_NONE));
+  tw_parser_free(&second);
+}
+
+static void gives_keys(tw_parser *parser) {
+  EXPECT(tw_parser_feed(parser, (const uint8_t *)"", 0));
+  EXPECT(NEXT(parser, "", true) == TW_NONE);
+  EXPECT(NEXT(parser, "\033[1;3A", true) == TW_EVENT && is_key(TW_KEY_UP_ARROW, 0, TW_MOD_ALT));
+  EXPECT(NEXT(parser, "\033[15;6~", true) == TW_EVENT && is_key(TW_KEY_FUNCTION, 5, TW_MOD_SHIFT | TW_MOD_CTRL));
+  EXPECT(NEXT(parser, "\303\251", true) == TW_EVENT && is_key(TW_KEY_CHAR, 0xe9, TW_MOD_NONE));
+  EXPECT(NEXT(parser, "\377", true) == TW_EVENT && is_key(TW_KEY_CHAR, 0xfffd, TW_MOD_NONE));
+  EXPECT(NEXT(parser, "ab", true) == TW_EVENT && is_key(TW_KEY_CHAR, 'a', TW_MOD_NONE));
+  EXPECT(tw_parser_waiting(parser) == 1);
+  EXPECT(NEXT(parser, "", true) == TW_EVENT && is_key(TW_KEY_CHAR, 'b', TW_MOD_NONE));
+  EXPECT(NEXT(parser, "", true) == TW_NONE && tw_parser_waiting(parser) == 0);
+}
+
+static void gives_mouse_reports(tw_parser *parser) {
+  EXPECT(NEXT(parser, "\033[<16;65535;9M", true) == TW_EVENT);
+  EXPECT(taken.kind == TW_MOUSE && taken.buttons == TW_BUTTON_LEFT && taken.x == 65535 && taken.y == 9);
+  EXPECT(taken.modifiers == TW_MOD_CTRL && taken.key == 0 && taken.detail == 0 && taken.paste_len == 0);
+  EXPECT(NEXT(parser, "\033[<66;42;12M", true) == TW_EVENT);
+  EXPECT(taken.buttons == (TW_BUTTON_HORZ_WHEEL | TW_BUTTON_WHEEL_POSITIVE) && taken.modifiers == TW_MOD_NONE);
+}
+
+/* A lone ESC waits while more may come, and is Escape if no more does. */
+static void waits(tw_parser *parser) {
+  EXPECT(NEXT(parser, "\033", true) == TW_NONE);
+  EXPECT(tw_parser_waiting(parser) == 1 && !tw_parser_is_paste_open(parser));
+  EXPECT(NEXT(parser, "[", true) == TW_NONE && tw_parser_waiting(parser) == 2);
+  EXPECT(NEXT(parser, "B", true) == TW_EVENT && is_key(TW_KEY_DOWN_ARROW, 0, TW_MOD_NONE));
+  EXPECT(NEXT(parser, "\033", false) == TW_EVENT && is_key(TW_KEY_ESCAPE, 0, TW_MOD_NONE));
+  EXPECT(NEXT(parser, "", false) == TW_NONE);
+}
+
+/* A paste is one event; its text is copied as often as it is asked for, as much as there is room for. */
+static void gives_pastes(tw_parser *parser) {
+  uint8_t room[8];
+  EXPECT(NEXT(parser, "\033[200~ab", true) == TW_NONE);
+  EXPECT(tw_parser_waiting(parser) == 8 && tw_parser_is_paste_open(parser));
+  EXPECT(NEXT(parser, "", false) == TW_NONE && tw_parser_waiting(parser) == 8);
+  EXPECT(NEXT(parser, "c\303\251\033[201~q", true) == TW_EVENT);
+  EXPECT(taken.kind == TW_PASTE && taken.paste_len == 5 && taken.key == 0 && taken.detail == 0 && taken.modifiers == 0);
+  EXPECT(!tw_parser_is_paste_open(parser));
+  memset(room, '.', sizeof room);
+  EXPECT(tw_parser_paste(parser, room, 0) == 5 && memcmp(room, "........", 8) == 0);
+  EXPECT(tw_parser_paste(parser, room, 2) == 5 && memcmp(room, "ab......", 8) == 0);
+  EXPECT(tw_parser_paste(parser, room, 8) == 5 && memcmp(room, "abc\303\251...", 8) == 0);
+  EXPECT(NEXT(parser, "", true) == TW_EVENT && is_key(TW_KEY_CHAR, 'q', TW_MOD_NONE));
+  EXPECT(tw_parser_paste(parser, room, 8) == 5);
+  EXPECT(NEXT(parser, "\033[200~\033[201~", true) == TW_EVENT && taken.kind == TW_PASTE && taken.paste_len == 0);
+  EXPECT(tw_parser_paste(parser, room, 8) == 0 && memcmp(room, "abc\303\251...", 8) == 0);
+}
+
+/* A folded copy of an event: fields one after another. */
+static size_t note(char *notes, size_t at, const tw_event *e) {
+  return at + (size_t)sprintf(notes + at, "%u %u %u %u %u %u %u %zu,", e->kind, e->buttons, e->modifiers, e->key, e->x, e->y,
+                              (unsigned)e->detail, e->paste_len);
+}
+
+static const char stream[] = "hello\033[A\033\033[200~ab\303\251cd\033[201~q\033[<0;3;4M\377\033[27;5;13~\303\251\033";
+
+/* The events of the stream in pieces. */
+static void events_in(size_t piece, char *notes) {
+  size_t len = sizeof stream - 1, end = 0;
+  tw_parser parser = TW_PARSER_NONE;
+  tw_event event;
+  EXPECT(tw_parser_init(&parser));
+  for (size_t at = 0; at < len; at += piece) {
+    size_t count = len - at < piece ? len - at : piece;
+    EXPECT(tw_parser_feed(&parser, (const uint8_t *)stream + at, count));
+    while (tw_parser_next(&parser, true, &event) == TW_EVENT) end = note(notes, end, &event);
+  }
+  while (tw_parser_next(&parser, false, &event) == TW_EVENT) end = note(notes, end, &event);
+  EXPECT(tw_parser_waiting(&parser) == 0);
+  tw_parser_free(&parser);
+}
+
+/* However a text is cut, its events are the same. */
+static void cuts_make_no_difference(void) {
+  char whole[4096], cut[4096];
+  events_in(sizeof stream, whole);
+  EXPECT(strlen(whole) > 100);
+  for (size_t piece = 1; piece < sizeof stream; piece++) {
+    events_in(piece, cut);
+    EXPECT(strcmp(whole, cut) == 0);
+  }
+}
+
+/* The name of a key, cut at any length. */
+static void check_name(uint16_t key, const char *name) {
+  uint8_t room[32];
+  size_t len = strlen(name);
+  for (size_t has = 0; has <= sizeof room; has++) {
+    size_t copied = has < len ? has : len;
+    memset(room, '.', sizeof room);
+    EXPECT(tw_key_name(key, room, has) == len);
+    EXPECT(memcmp(room, name, copied) == 0);
+    EXPECT(copied == sizeof room || room[copied] == '.');
+  }
+}
+
+/* The keys of the list have their names, and other numbers have none. */
+static void names_keys(const char *numbers) {
+  char line[512], name[64];
+  unsigned number, keys = 0;
+  uint8_t room = '.';
+  FILE *list = fopen(numbers, "r");
+  EXPECT(list != NULL);
+  if (!list) return;
+  while (fgets(line, sizeof line, list))
+    if (sscanf(line, "key %63s %u", name, &number) == 2) {
+      check_name((uint16_t)number, name);
+      keys++;
+    }
+  fclose(list);
+  EXPECT(keys == 90);
+  EXPECT(tw_key_name(0, &room, 1) == 0 && tw_key_name(91, &room, 1) == 0 && tw_key_name(65535, &room, 1) == 0 && room == '.');
+}
+
+static tw_modes modes;
+static uint8_t text[16];
+static size_t text_len;
+
+/* Encodes a key into `text`, of which there are `room` bytes. */
+static uint32_t encode(uint16_t key, uint32_t detail, uint16_t modifiers, bool is_down, size_t room) {
+  memset(text, '.', sizeof text);
+  text_len = 999;
+  return tw_encode(key, detail, modifiers, is_down, &modes, text, room, &text_len);
+}
+
+/* Whether the last text is this one, as much as there was room for, and the rest of `text` is unchanged. */
+static bool is_text(const char *want, size_t room) {
+  uint8_t all[sizeof text];
+  size_t len = strlen(want);
+  memset(all, '.', sizeof all);
+  memcpy(all, want, len < room ? len : room);
+  return text_len == len && memcmp(text, all, sizeof all) == 0;
+}
+
+/* Whether nothing was written. */
+static bool is_untouched(void) { return is_text("", 0); }
+
+static void encodes(void) {
+  memset(&modes, 0, sizeof modes);
+  for (size_t room = 0; room <= sizeof text; room++) {
+    EXPECT(encode(TW_KEY_LEFT_ARROW, 0, TW_MOD_ALT, true, room) == TW_TEXT && is_text("\033[1;3D", room));
+    EXPECT(encode(TW_KEY_CHAR, 0xe9, TW_MOD_ALT, true, room) == TW_TEXT && is_text("\033\303\251", room));
+    EXPECT(encode(TW_KEY_HYPER, 0, TW_MOD_NONE, true, room) == TW_TEXT && is_text("", room));
+    EXPECT(encode(TW_KEY_LEFT_ARROW, 0, TW_MOD_NONE, false, room) == TW_TEXT && is_text("", room));
+  }
+  EXPECT(encode(TW_KEY_FUNCTION, 24, TW_MOD_SHIFT, true, 16) == TW_TEXT && is_text("\033[45;2~", 16));
+  EXPECT(encode(TW_KEY_ENTER, 0xffffffff, TW_MOD_NONE, true, 16) == TW_TEXT && is_text("\r", 16));
+  EXPECT(encode(TW_KEY_CHAR, 0x10ffff, TW_MOD_NONE, true, 16) == TW_TEXT && is_text("\364\217\277\277", 16));
+}
+
+static void encodes_in_modes(void) {
+  memset(&modes, 0, sizeof modes);
+  modes.application_cursor_keys = true;
+  EXPECT(encode(TW_KEY_UP_ARROW, 0, TW_MOD_NONE, true, 16) == TW_TEXT && is_text("\033OA", 16));
+  modes.newline_mode = true;
+  EXPECT(encode(TW_KEY_ENTER, 0, TW_MOD_NONE, true, 16) == TW_TEXT && is_text("\r\n", 16));
+  modes.modify_other_keys = 2;
+  EXPECT(encode(TW_KEY_CHAR, 'c', TW_MOD_CTRL, true, 16) == TW_TEXT && is_text("\003", 16));
+  modes.has_modify_other_keys = true;
+  EXPECT(encode(TW_KEY_CHAR, 'c', TW_MOD_CTRL, true, 16) == TW_TEXT && is_text("\033[27;5;99~", 16));
+  modes.modify_other_keys = 0x100000002;
+  EXPECT(encode(TW_KEY_CHAR, 'c', TW_MOD_CTRL, true, 16) == TW_TEXT && is_text("\003", 16));
+  memset(&modes, 0, sizeof modes);
+  modes.encoding = TW_CSI_U;
+  modes.kitty_flags = 255;
+  EXPECT(encode(TW_KEY_CHAR, 'i', TW_MOD_CTRL, true, 16) == TW_TEXT && is_text("\033[105;5u", 16));
+  modes.encoding = TW_WIN32;
+  EXPECT(encode(TW_KEY_CHAR, 'i', TW_MOD_CTRL, true, 16) == TW_TEXT && is_text("\t", 16));
+  modes.encoding = TW_KITTY;
+  modes.kitty_flags = 31;
+  EXPECT(encode(TW_KEY_CHAR, 'i', TW_MOD_CTRL, true, 16) == TW_TEXT && is_text("\t", 16));
+}
+
+static void refuses_function_keys(void) {
+  static const uint32_t numbers[] = {0, 25, 255};
+  memset(&modes, 0, sizeof modes);
+  for (size_t i = 0; i < 3; i++) {
+    EXPECT(encode(TW_KEY_FUNCTION, numbers[i], TW_MOD_NONE, true, 16) == TW_REFUSED_KEY && is_untouched());
+    EXPECT(encode(TW_KEY_FUNCTION, numbers[i], TW_MOD_NONE, false, 16) == TW_TEXT && is_text("", 16));
+  }
+}
+
+static void refuses_numbers_that_stand_for_nothing(void) {
+  memset(&modes, 0, sizeof modes);
+  for (int is_down = 0; is_down < 2; is_down++) {
+    EXPECT(encode(0, 0, 0, is_down, 16) == TW_BAD_NUMBER && is_untouched());
+    EXPECT(encode(91, 0, 0, is_down, 16) == TW_BAD_NUMBER && is_untouched());
+    EXPECT(encode(TW_KEY_CHAR, 0xd800, 0, is_down, 16) == TW_BAD_NUMBER && is_untouched());
+    EXPECT(encode(TW_KEY_CHAR, 0xdfff, 0, is_down, 16) == TW_BAD_NUMBER && is_untouched());
+    EXPECT(encode(TW_KEY_CHAR, 0x110000, 0, is_down, 16) == TW_BAD_NUMBER && is_untouched());
+    EXPECT(encode(TW_KEY_FUNCTION, 256, 0, is_down, 16) == TW_BAD_NUMBER && is_untouched());
+    EXPECT(encode(TW_KEY_TAB, 0, 1, is_down, 16) == TW_BAD_NUMBER && is_untouched());
+    EXPECT(encode(TW_KEY_TAB, 0, 1 << 12, is_down, 16) == TW_BAD_NUMBER && is_untouched());
+    modes.encoding = 4;
+    EXPECT(encode(TW_KEY_TAB, 0, 0, is_down, 16) == TW_BAD_NUMBER && is_untouched());
+    modes.encoding = TW_KITTY;
+    modes.kitty_flags = 32;
+    EXPECT(encode(TW_KEY_TAB, 0, 0, is_down, 16) == TW_BAD_NUMBER && is_untouched());
+    memset(&modes, 0, sizeof modes);
+  }
+  for (unsigned bit = 1; bit < 12; bit++) EXPECT(encode(TW_KEY_TAB, 0, (uint16_t)(1 << bit), true, 16) == TW_TEXT);
+}
+
+/* Every key that isn't a function key has a text in every encoding, empty or not. */
+static void encodes_every_key(void) {
+  memset(&modes, 0, sizeof modes);
+  for (uint16_t key = 1; key <= 90; key++)
+    for (modes.encoding = 0; modes.encoding < 4; modes.encoding++)
+      EXPECT(encode(key, 'a', TW_MOD_SHIFT, true, 16) == (key == TW_KEY_FUNCTION ? TW_REFUSED_KEY : TW_TEXT));
+}
+
+int main(int argc, char **argv) {
+  tw_parser parser = TW_PARSER_NONE;
+  if (argc != 2) return 2;
+  answers_before_init_and_after_free();
+  makes_anew();
+  moves();
+  EXPECT(tw_parser_init(&parser));
+  gives_keys(&parser);
+  gives_mouse_reports(&parser);
+  waits(&parser);
+  gives_pastes(&parser);
+  tw_parser_free(&parser);
+  cuts_make_no_difference();
+  names_keys(argv[1]);
+  encodes();
+  encodes_in_modes();
+  refuses_function_keys();
+  refuses_numbers_that_stand_for_nothing();
+  encodes_every_key();
+  return expected("test_calls");
+}

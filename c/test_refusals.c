@@ -1,0 +1,203 @@
+/* Refuses each request for memory in turn, one in each run, and makes the refused call again: the answers must be those of a run without a
+ * refusal, and each refusal must be told once.
+ *
+ *     cc -Wl,--wrap=malloc -Wl,--wrap=realloc test_refusals.c libtermwiz_c.a && ./a.out [STEP]
+ *
+ * Of the requests of tw_parser_init it refuses each STEPth (each, if no STEP is given). */
+#include "expect.h"
+#include "termwiz_input.h"
+#include <stdlib.h>
+#include <string.h>
+
+void *__real_malloc(size_t size);
+void *__real_realloc(void *block, size_t size);
+void *__wrap_malloc(size_t size);
+void *__wrap_realloc(void *block, size_t size);
+
+/* How many requests there are to the one that is refused, or 0; and how many were refused. */
+static long to_refusal;
+static unsigned refused;
+
+static bool refuses(void) {
+  if (to_refusal == 0 || --to_refusal > 0) return false;
+  refused++;
+  return true;
+}
+
+void *__wrap_malloc(size_t size) { return refuses() ? NULL : __real_malloc(size); }
+
+void *__wrap_realloc(void *block, size_t size) { return refuses() ? NULL : __real_realloc(block, size); }
+
+static void refuse(long number) {
+  to_refusal = number;
+  refused = 0;
+}
+
+/* What a run saw: the events with their texts, and the refusals that were told. */
+static uint8_t seen[8192];
+static size_t seen_len;
+static unsigned told;
+
+static void see(const void *bytes, size_t len) {
+  EXPECT(seen_len + len <= sizeof seen);
+  memcpy(seen + seen_len, bytes, len);
+  seen_len += len;
+}
+
+/* The fields one by one, since what lies between them has no meaning. */
+static void see_event(tw_parser *parser, const tw_event *event) {
+  uint32_t fields[] = {event->kind, event->buttons, event->modifiers, event->key, event->x, event->y, event->detail,
+                       (uint32_t)event->paste_len};
+  uint8_t text[256];
+  see(fields, sizeof fields);
+  if (event->kind != TW_PASTE) return;
+  EXPECT(tw_parser_paste(parser, text, sizeof text) == event->paste_len);
+  see(text, event->paste_len);
+}
+
+/* Feeds a piece, again if it is refused. */
+static void feed(tw_parser *parser, const uint8_t *bytes, size_t len) {
+  size_t waiting = tw_parser_waiting(parser);
+  while (!tw_parser_feed(parser, bytes, len)) {
+    told++;
+    EXPECT(tw_parser_waiting(parser) == waiting);
+  }
+  EXPECT(tw_parser_waiting(parser) == waiting + len);
+}
+
+/* Takes all events, again if one is refused. */
+static void take(tw_parser *parser, bool more) {
+  for (;;) {
+    tw_event event;
+    uint8_t before[sizeof event];
+    size_t waiting = tw_parser_waiting(parser);
+    memset(&event, 0x55, sizeof event);
+    memcpy(before, &event, sizeof event);
+    uint32_t next = tw_parser_next(parser, more, &event);
+    if (next == TW_EVENT) {
+      see_event(parser, &event);
+      continue;
+    }
+    EXPECT(memcmp(&event, before, sizeof event) == 0 && tw_parser_waiting(parser) == waiting);
+    if (next == TW_NONE) return;
+    EXPECT(next == TW_NO_MEMORY && tw_parser_is_paste_open(parser));
+    told++;
+  }
+}
+
+static const char stream[] =
+    "q\033[A\033[<0;12;3M\303\251\033[200~hello w\303\266rld, and some more text that needs memory\033[201~\033[1;5Dx"
+    "\033[200~again \377\033[201~\033[200~\033[201~\033";
+
+/* Reads the stream in pieces, with one request after init refused. */
+static void read_stream(size_t piece, long number) {
+  size_t len = sizeof stream - 1;
+  tw_parser parser = TW_PARSER_NONE;
+  refuse(0);
+  EXPECT(tw_parser_init(&parser));
+  seen_len = told = 0;
+  refuse(number);
+  for (size_t at = 0; at < len; at += piece) {
+    size_t count = len - at < piece ? len - at : piece;
+    feed(&parser, (const uint8_t *)stream + at, count);
+    take(&parser, true);
+  }
+  take(&parser, false);
+  to_refusal = 0;
+  EXPECT(told == refused);
+  EXPECT(tw_parser_waiting(&parser) == 0);
+  tw_parser_free(&parser);
+}
+
+/* The stream in pieces, with each request refused in turn. */
+static void refuse_while_reading(size_t piece) {
+  static uint8_t whole[sizeof seen];
+  long number = 0;
+  read_stream(piece, 0);
+  size_t whole_len = seen_len;
+  memcpy(whole, seen, seen_len);
+  do {
+    read_stream(piece, ++number);
+    EXPECT(seen_len == whole_len && memcmp(seen, whole, seen_len) == 0);
+  } while (refused);
+  EXPECT(number > 1);
+  printf("pieces of %zu: %ld refusals\n", piece, number - 1);
+}
+
+/* A refused init leaves what was there: a parser in which two bytes wait, or none. Returns whether it was refused. */
+static bool refuse_init_of(tw_parser *parser, long number, size_t waiting) {
+  refuse(number);
+  bool made = tw_parser_init(parser);
+  unsigned met = refused;
+  refuse(0);
+  EXPECT(made == !met);
+  EXPECT(tw_parser_waiting(parser) == (made ? 0 : waiting));
+  return met;
+}
+
+/* Every STEPth request of init refused; of an init where there was no parser, fewer. */
+static void refuse_init(long step) {
+  tw_parser parser = TW_PARSER_NONE, none = TW_PARSER_NONE;
+  long number = 1;
+  EXPECT(tw_parser_init(&parser));
+  EXPECT(tw_parser_feed(&parser, (const uint8_t *)"\033[", 2));
+  while (refuse_init_of(&parser, number, 2)) number += step;
+  tw_parser_free(&parser);
+  EXPECT(number > 1);
+  for (long other = 1; other < number; other += 50 * step) {
+    EXPECT(refuse_init_of(&none, other, 0));
+    EXPECT(!none.live);
+  }
+  EXPECT(tw_parser_init(&none));
+  tw_parser_free(&none);
+  printf("init: %ld refusals\n", (number - 1) / step);
+}
+
+/* A key's text, with each request refused in turn. */
+static void refuse_while_encoding(void) {
+  static const tw_modes modes = {0, 0, 0, false, false, false};
+  uint8_t text[16];
+  size_t len;
+  long number = 0;
+  do {
+    memset(text, '.', sizeof text);
+    len = 999;
+    refuse(++number);
+    uint32_t answer = tw_encode(TW_KEY_FUNCTION, 20, TW_MOD_ALT | TW_MOD_CTRL, true, &modes, text, sizeof text, &len);
+    if (refused) {
+      EXPECT(answer == TW_REFUSED_MEMORY && len == 0 && memcmp(text, "................", 16) == 0);
+      answer = tw_encode(TW_KEY_FUNCTION, 20, TW_MOD_ALT | TW_MOD_CTRL, true, &modes, text, sizeof text, &len);
+    }
+    EXPECT(answer == TW_TEXT && len == 7 && memcmp(text, "\033[34;7~.........", 16) == 0);
+  } while (refused);
+  EXPECT(number > 1);
+  printf("encode: %ld refusals\n", number - 1);
+  refuse(1);
+  EXPECT(tw_encode(TW_KEY_TAB, 0, TW_MOD_ALT, false, &modes, text, sizeof text, &len) == TW_TEXT && len == 0 && !refused);
+  refuse(0);
+}
+
+/* No bytes need no memory, and what gives no paste is taken without any. */
+static void need_no_memory(void) {
+  tw_parser parser = TW_PARSER_NONE;
+  tw_event event;
+  EXPECT(tw_parser_init(&parser));
+  EXPECT(tw_parser_feed(&parser, (const uint8_t *)"\033[A\033", 4));
+  refuse(1);
+  EXPECT(tw_parser_feed(&parser, (const uint8_t *)"", 0));
+  EXPECT(tw_parser_next(&parser, true, &event) == TW_EVENT && tw_parser_next(&parser, true, &event) == TW_NONE);
+  EXPECT(tw_parser_next(&parser, false, &event) == TW_EVENT && tw_parser_waiting(&parser) == 0);
+  EXPECT(!refused);
+  refuse(0);
+  tw_parser_free(&parser);
+}
+
+int main(int argc, char **argv) {
+  long step = argc > 1 ? atol(argv[1]) : 1;
+  if (step < 1) return 2;
+  for (size_t piece = 1; piece < 2 * sizeof stream; piece = piece * 3 + 1) refuse_while_reading(piece);
+  refuse_while_encoding();
+  need_no_memory();
+  refuse_init(step);
+  return expected("test_refusals");
+}

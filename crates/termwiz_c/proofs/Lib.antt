@@ -1,0 +1,4 @@
+pub mod KeyNumbers
+pub mod PartsValues
+pub mod Pressed
+pub mod SlotValues

@@ -1,0 +1,5 @@
+pub mod Calls
+pub mod Events
+pub mod Keys
+pub mod Owned
+pub mod Presses

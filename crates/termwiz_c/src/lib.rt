@@ -1,0 +1,221 @@
+//! The parser of `termwiz_input` for programs in C, and in other languages that call C. Numbers stand for keys, flags and
+//! answers, as the C header lists them.
+//!
+//! The caller keeps a `tw_parser`, all zero at first, gives bytes to it by `tw_parser_feed` and takes the events, one at a time,
+//! by `tw_parser_next`.
+#![tactic(auto)]
+
+ghost use Rattle.std.specs.Prelude.{◌≡◌, ◌≢◌, ◌≤◌, ◌↔◌, [], length, true, false, None, IsTrue};
+ghost use Rattle.event_text.specs.Names.{variant_name};
+ghost use Rattle.termwiz_input.specs.declared.types.KeyCode.{KeyCode as Key};
+ghost use Rattle.termwiz_c.specs.Calls.{Gave, HasOpenPaste, HasPasteNext, IsFresh, Rests, Took, copied, pasted, waiting_len};
+ghost use Rattle.termwiz_c.specs.Keys.{IsNoKey, key_number};
+ghost use Rattle.termwiz_c.specs.Presses.{HasNoText, IsBad, Wrote};
+
+mod events;
+mod handle;
+mod keys;
+mod modes;
+mod parts;
+mod reader;
+mod slot;
+#[cfg(test)]
+mod tests;
+
+use crate::events::CEvent;
+use crate::handle::Handle;
+use crate::keys::key_at;
+use crate::modes::{CModes, press_of};
+use crate::reader::{Reader, copy_prefix};
+use event_text::variant_name;
+use std::alloc::Global;
+use termwiz_input::input::EncodeError;
+
+// The answers of `tw_parser_next`.
+const NONE: u32 = 0;
+
+const EVENT: u32 = 1;
+
+const NO_MEMORY: u32 = 2;
+
+const NO_PARSER: u32 = 3;
+
+// The answers of `tw_encode`.
+const TEXT: u32 = 0;
+
+const REFUSED_KEY: u32 = 1;
+
+const REFUSED_MEMORY: u32 = 2;
+
+const BAD_NUMBER: u32 = 3;
+
+/// Makes a parser, and frees the one that was there. If memory is refused, the answer is false and nothing changes.
+#[unsafe(no_mangle)]
+pub extern "C" fn tw_parser_init(alloc: Global, parser: &mut Handle) -> bool
+    ensures made { result ≡ true → IsFresh parser.new.slot.reader }
+    ensures refused { result ≡ false → parser.new.slot.reader ≡ parser.old.slot.reader }
+{
+    let Ok(reader) = Reader::new(alloc) else {
+        return false;
+    };
+    let Ok(block) = Box::new(alloc, reader) else {
+        return false;
+    };
+    let before = parser.take(alloc);
+    drop(before);
+    parser.put(block);
+    true
+}
+
+/// Frees the parser, if there is one, and leaves none.
+#[unsafe(no_mangle)]
+pub extern "C" fn tw_parser_free(alloc: Global, parser: &mut Handle)
+    ensures { parser.new.slot.reader ≡ None }
+{
+    drop(parser.take(alloc));
+}
+
+/// Appends bytes to the waiting text. If memory is refused, or there is no parser, the answer is false and nothing changes. No bytes
+/// need no memory.
+#[unsafe(no_mangle)]
+pub extern "C" fn tw_parser_feed(alloc: Global, parser: &mut Handle, bytes: &[u8]) -> bool
+    ensures took { result ≡ true → Took parser.old.slot.reader bytes.now parser.new.slot.reader }
+    ensures refused { result ≡ false → parser.new.slot.reader ≡ parser.old.slot.reader }
+    ensures no_bytes { bytes.now ≡ [] → parser.old.slot.reader ≢ None → result ≡ true }
+{
+    let Some(mut reader) = parser.take(alloc) else {
+        return false;
+    };
+    let taken = reader.parser.feed(bytes).is_ok();
+    parser.put(reader);
+    taken
+}
+
+/// Takes the item at the front of the waiting text. The answer is 1 if `event` is its event; 0 if no item stands there; 2 if
+/// memory for the text of a paste is refused, and the paste still stands there; and 3 if there is no parser.
+#[unsafe(no_mangle)]
+pub extern "C" fn tw_parser_next(
+    alloc: Global,
+    parser: &mut Handle,
+    more: bool,
+    event: &mut CEvent,
+) -> u32
+    ensures answers { result ≤ 3 }
+    ensures none { result ≡ NONE → Rests parser.old.slot.reader more }
+    ensures event { result ≡ EVENT → Gave parser.old.slot.reader more event.new parser.new.slot.reader }
+    ensures refused { result ≡ NO_MEMORY → HasPasteNext parser.old.slot.reader more }
+    ensures no_parser { result ≡ NO_PARSER ↔ (parser.old.slot.reader ≡ None) }
+    ensures same { result ≢ EVENT → parser.new.slot.reader ≡ parser.old.slot.reader }
+    ensures event_same { result ≢ EVENT → event.new ≡ event.old }
+{
+    let Some(mut reader) = parser.take(alloc) else {
+        return NO_PARSER;
+    };
+    let found = reader.next(more);
+    parser.put(reader);
+    match found {
+        Ok(Some(next)) => {
+            *event = next;
+            EVENT
+        }
+        Ok(None) => NONE,
+        Err(_) => NO_MEMORY,
+    }
+}
+
+/// Copies the text of the last paste that was taken, as much of it as `out` has room for, and returns its whole length.
+#[unsafe(no_mangle)]
+pub extern "C" fn tw_parser_paste(alloc: Global, parser: &mut Handle, out: &mut [u8]) -> usize
+    ensures same { parser.new.slot.reader ≡ parser.old.slot.reader }
+    ensures len { result ≡ length (pasted parser.old.slot.reader) }
+    ensures bytes { out.new ≡ copied (pasted parser.old.slot.reader) out.old }
+{
+    let Some(reader) = parser.take(alloc) else {
+        return 0;
+    };
+    let len = reader.copy_pasted(out);
+    parser.put(reader);
+    len
+}
+
+/// The length of the waiting text; 0 if there is no parser.
+#[unsafe(no_mangle)]
+pub extern "C" fn tw_parser_waiting(alloc: Global, parser: &mut Handle) -> usize
+    ensures same { parser.new.slot.reader ≡ parser.old.slot.reader }
+    ensures len { result ≡ waiting_len parser.old.slot.reader }
+{
+    let Some(reader) = parser.take(alloc) else {
+        return 0;
+    };
+    let len = reader.parser.waiting_len();
+    parser.put(reader);
+    len
+}
+
+/// Whether the waiting text begins with the start of a paste; false if there is no parser.
+#[unsafe(no_mangle)]
+pub extern "C" fn tw_parser_is_paste_open(alloc: Global, parser: &mut Handle) -> bool
+    ensures same { parser.new.slot.reader ≡ parser.old.slot.reader }
+    ensures open { IsTrue result ↔ HasOpenPaste parser.old.slot.reader }
+{
+    let Some(reader) = parser.take(alloc) else {
+        return false;
+    };
+    let is_open = reader.parser.is_paste_open();
+    parser.put(reader);
+    is_open
+}
+
+/// Encodes a key that is pressed while `modifiers` are held, or that is up. The answer is 0 if `out` has as much of the text as it
+/// has room for, and `text_len` its whole length. It is 1 for a function key that has no text, 2 if memory is refused, and 3 if a
+/// number stands for nothing; then `text_len` is 0.
+#[unsafe(no_mangle)]
+pub extern "C" fn tw_encode(
+    alloc: Global,
+    key: u16,
+    detail: u32,
+    modifiers: u16,
+    is_down: bool,
+    modes: &CModes,
+    out: &mut [u8],
+    text_len: &mut usize,
+) -> u32
+    ensures answers { result ≤ 3 }
+    ensures text { result ≡ TEXT → Wrote key detail modifiers is_down modes.now out.old out.new text_len.new }
+    ensures refused_key { result ≡ REFUSED_KEY ↔ HasNoText key detail modifiers is_down modes.now }
+    ensures bad_number { result ≡ BAD_NUMBER ↔ IsBad key detail modifiers modes.now }
+    ensures up { is_down ≡ false → result ≢ REFUSED_MEMORY }
+    ensures none { result ≢ TEXT → text_len.new ≡ 0 }
+    ensures same { result ≢ TEXT → out.new ≡ out.old }
+{
+    *text_len = 0;
+    let Some(press) = press_of(key, detail, modifiers, modes) else {
+        return BAD_NUMBER;
+    };
+    match press
+        .key
+        .encode(alloc, press.modifiers, press.modes, is_down)
+    {
+        Ok(text) => {
+            *text_len = copy_prefix(text.as_bytes(), out);
+            TEXT
+        }
+        Err(EncodeError::UnhandledFunctionKey(_)) => REFUSED_KEY,
+        Err(EncodeError::Memory) => REFUSED_MEMORY,
+    }
+}
+
+/// Copies the name of the key with this number, as much of it as `out` has room for, and returns its whole length. The length is 0 if
+/// no key has the number.
+#[unsafe(no_mangle)]
+pub extern "C" fn tw_key_name(key: u16, out: &mut [u8]) -> usize
+    ensures len { (named : Key) → key_number named ≡ key → result ≡ length (variant_name named) }
+    ensures bytes { (named : Key) → key_number named ≡ key → out.new ≡ copied (variant_name named) out.old }
+    ensures no_key { IsNoKey key → result ≡ 0 }
+    ensures no_key_same { IsNoKey key → out.new ≡ out.old }
+{
+    match key_at(key) {
+        Some(named) => copy_prefix(variant_name(named).as_bytes(), out),
+        None => 0,
+    }
+}

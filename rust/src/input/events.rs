@@ -1,0 +1,60 @@
+// What happens at a terminal.
+use super::{KeyCode, Modifiers, MouseButtons};
+
+/// A key press: which key, and the modifiers held with it.
+#[derive(Debug, Clone, PartialEq, Eq)]
+pub struct KeyEvent {
+    /// The key that was pressed.
+    pub key: KeyCode,
+    /// The modifier keys that were held.
+    pub modifiers: Modifiers,
+}
+
+/// A mouse report, with the position in cells.
+#[derive(Debug, Clone, PartialEq, Eq)]
+pub struct MouseEvent {
+    /// The column, as the terminal sent it: the leftmost is 1.
+    pub x: u16,
+    /// The row, as the terminal sent it: the topmost is 1.
+    pub y: u16,
+    /// The button that is down, or the wheel that was turned. Empty after a release, and for a move with no button down.
+    pub mouse_buttons: MouseButtons,
+    /// The modifier keys that were held.
+    pub modifiers: Modifiers,
+}
+
+/// A mouse report, with the position in pixels. The parser never makes one.
+#[derive(Debug, Clone, PartialEq, Eq)]
+pub struct PixelMouseEvent {
+    /// The distance from the left, in pixels.
+    pub x_pixels: u16,
+    /// The distance from the top, in pixels.
+    pub y_pixels: u16,
+    /// The button that is down, or the wheel that was turned. Empty after a release, and for a move with no button down.
+    pub mouse_buttons: MouseButtons,
+    /// The modifier keys that were held.
+    pub modifiers: Modifiers,
+}
+
+/// Something that happened at the terminal. The parser makes keys, mouse reports and pastes; the other events are for programs that put
+/// input from elsewhere into the same stream.
+#[derive(Debug, Clone, PartialEq, Eq)]
+pub enum InputEvent {
+    /// A key was pressed.
+    Key(KeyEvent),
+    /// The mouse was moved, one of its buttons was pressed or released, or a wheel was turned.
+    Mouse(MouseEvent),
+    /// The same, with the position in pixels.
+    PixelMouse(PixelMouseEvent),
+    /// The terminal has a new size.
+    Resized {
+        /// The number of columns.
+        cols: usize,
+        /// The number of rows.
+        rows: usize,
+    },
+    /// Text was pasted, in bracketed paste mode.
+    Paste(String),
+    /// Another part of the program woke the one that waits for input.
+    Wake,
+}

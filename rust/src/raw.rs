@@ -1,0 +1,120 @@
+// The C library, as c/termwiz_input.h declares it. This is where its proof ends: what stands here is written by hand.
+// A number that the library uses may have no use here.
+#![allow(dead_code)]
+
+use std::ffi::c_void;
+use std::mem::{offset_of, size_of};
+
+// What tw_parser_next and tw_encode answer, and the kinds and encodings.
+// numbers.txt: next const
+/// No event stands at the front of what waits.
+pub const NEXT_NONE: u32 = 0;
+/// An event was taken.
+pub const NEXT_EVENT: u32 = 1;
+/// Memory was refused. Nothing changed, and the call may be made again.
+pub const NEXT_NO_MEMORY: u32 = 2;
+/// There is no parser: it wasn't made yet, or it was freed.
+pub const NEXT_NO_PARSER: u32 = 3;
+// numbers.txt: end
+
+// numbers.txt: encoded const
+/// The key's text, which may be empty.
+pub const ENCODED_TEXT: u32 = 0;
+/// A function key that has no text: only F1 to F24 have one.
+pub const ENCODED_REFUSED_KEY: u32 = 1;
+/// Memory was refused. The call may be made again.
+pub const ENCODED_REFUSED_MEMORY: u32 = 2;
+/// A number stands for nothing.
+pub const ENCODED_BAD_NUMBER: u32 = 3;
+// numbers.txt: end
+
+// numbers.txt: kind const
+/// None of these. No event has this kind.
+pub const KIND_OTHER: u8 = 0;
+/// A key was pressed.
+pub const KIND_KEY: u8 = 1;
+/// The mouse was moved, one of its buttons was pressed or released, or a wheel was turned.
+pub const KIND_MOUSE: u8 = 2;
+/// Text was pasted, in bracketed paste mode.
+pub const KIND_PASTE: u8 = 3;
+// numbers.txt: end
+
+// numbers.txt: encoding const
+/// The characters themselves, and xterm's control sequences.
+pub const ENCODING_XTERM: u8 = 0;
+/// The same, but a character with modifiers that it can't show is sent as ESC [ c ; m u (fixterms).
+pub const ENCODING_CSI_U: u8 = 1;
+/// Records of the Windows console. Keys are encoded as with XTERM.
+pub const ENCODING_WIN32: u8 = 2;
+/// kitty's keyboard protocol. Keys are encoded as with XTERM.
+pub const ENCODING_KITTY: u8 = 3;
+// numbers.txt: end
+
+/// A parser, or none.
+#[repr(C)]
+pub struct Parser {
+    live: bool,
+    state: *mut c_void,
+}
+
+impl Parser {
+    /// No parser.
+    pub const NONE: Parser = Parser {
+        live: false,
+        state: std::ptr::null_mut(),
+    };
+}
+
+/// An event. What its kind has no use for is 0.
+#[repr(C)]
+#[derive(Clone, Copy, Default)]
+pub struct Event {
+    pub kind: u8,
+    pub buttons: u8,
+    pub modifiers: u16,
+    pub key: u16,
+    pub x: u16,
+    pub y: u16,
+    pub detail: u32,
+    pub paste_len: usize,
+}
+
+/// The modes of a terminal that change the text of a key.
+#[repr(C)]
+pub struct Modes {
+    pub modify_other_keys: i64,
+    pub encoding: u8,
+    pub kitty_flags: u8,
+    pub application_cursor_keys: bool,
+    pub newline_mode: bool,
+    pub has_modify_other_keys: bool,
+}
+
+// The layouts that the library was proved with.
+const _: () = {
+    assert!(size_of::<Parser>() == 16 && offset_of!(Parser, state) == 8);
+    assert!(size_of::<Event>() == 24 && offset_of!(Event, modifiers) == 2 && offset_of!(Event, y) == 8);
+    assert!(offset_of!(Event, detail) == 12 && offset_of!(Event, paste_len) == 16);
+    assert!(size_of::<Modes>() == 16 && offset_of!(Modes, encoding) == 8);
+    assert!(offset_of!(Modes, has_modify_other_keys) == 12);
+};
+
+extern "C" {
+    pub fn tw_parser_init(parser: *mut Parser) -> bool;
+    pub fn tw_parser_free(parser: *mut Parser);
+    pub fn tw_parser_feed(parser: *mut Parser, bytes: *const u8, len: usize) -> bool;
+    pub fn tw_parser_next(parser: *mut Parser, more: bool, event: *mut Event) -> u32;
+    pub fn tw_parser_paste(parser: *mut Parser, out: *mut u8, len: usize) -> usize;
+    pub fn tw_parser_waiting(parser: *mut Parser) -> usize;
+    pub fn tw_parser_is_paste_open(parser: *mut Parser) -> bool;
+    pub fn tw_encode(
+        key: u16,
+        detail: u32,
+        modifiers: u16,
+        is_down: bool,
+        modes: *const Modes,
+        out: *mut u8,
+        len: usize,
+        text_len: *mut usize,
+    ) -> u32;
+}

@@ -1,0 +1,9 @@
+// The parser and the text of keys, by the crate's public calls alone.
+mod draws;
+mod encode;
+mod examples;
+mod flags;
+mod lines;
+mod parser;
+mod recorded;
+mod streams;

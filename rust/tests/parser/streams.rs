@@ -1,0 +1,126 @@
+// Random streams: this crate's events against the lines that keyshow prints, both in pieces of the same sizes.
+//
+// A process for each stream would take minutes. So the streams are joined to one: after each comes the end of a paste, after which nothing
+// waits, whatever came before, and then a mouse report with the number of the stream, by which a difference is told from where it is. What a
+// flush does in the middle of a sequence is tested on some of the streams, each in a process of its own.
+use crate::draws::Draws;
+use crate::lines::{hex, line};
+use crate::recorded::data;
+use std::io::Write;
+use std::path::PathBuf;
+use std::process::{Command, Stdio};
+use std::sync::Mutex;
+use std::{env, thread};
+use termwiz::input::{InputEvent, InputParser};
+
+const PIECES: &[usize] = &[1, 7, 64];
+
+const STREAMS: usize = 20000;
+
+// One of so many streams is also read alone.
+const ALONE: usize = 100;
+
+const PASTE_END: &[u8] = b"\x1b[201~";
+
+// The program: what KEYSHOW names, or the one that rt built in this repository.
+fn keyshow() -> PathBuf {
+    let built = concat!(env!("CARGO_MANIFEST_DIR"), "/../crates/keyshow/out/keyshow");
+    let program = env::var_os("KEYSHOW").map_or_else(|| PathBuf::from(built), PathBuf::from);
+    let how = "build it by `rt run < stdin` in crates/keyshow, or name it in KEYSHOW";
+    assert!(program.is_file(), "there is no {}: {how}", program.display());
+    program
+}
+
+// The lines that keyshow prints.
+fn shown(text: &[u8], piece: usize) -> Vec<String> {
+    let mut child = Command::new(keyshow())
+        .arg(piece.to_string())
+        .stdin(Stdio::piped())
+        .stdout(Stdio::piped())
+        .spawn()
+        .expect("keyshow starts");
+    let mut input = child.stdin.take().expect("its input is a pipe");
+    let output = thread::scope(|scope| {
+        scope.spawn(move || input.write_all(text).expect("keyshow reads"));
+        child.wait_with_output().expect("keyshow ends")
+    });
+    assert!(output.status.success(), "{:?}", output.status);
+    let lines = String::from_utf8(output.stdout).expect("lines are ASCII");
+    lines.lines().map(str::to_string).collect()
+}
+
+// The lines of this crate's events, and of what waits.
+fn parsed(text: &[u8], piece: usize) -> Vec<String> {
+    let mut parser = InputParser::new();
+    let mut lines = Vec::new();
+    let mut show = |event: InputEvent| lines.push(line(&event));
+    for bytes in text.chunks(piece) {
+        parser.parse(bytes, &mut show, true);
+    }
+    parser.parse(b"", &mut show, false);
+    if parser.waiting_len() > 0 {
+        lines.push(format!("waiting {}", parser.waiting_len()));
+    }
+    lines
+}
+
+fn streams() -> Vec<Vec<u8>> {
+    let mut draws = Draws::new(22, &data("parse-rows.txt"));
+    (0..STREAMS).map(|_| draws.text()).collect()
+}
+
+// The mark after a stream.
+fn mark(number: usize) -> (String, String) {
+    (
+        format!("\x1b[<95;{number};65535M"),
+        format!("mouse {number} 65535 HORZ_WHEEL SHIFT+ALT+CTRL"),
+    )
+}
+
+// The lines of each stream, up to its mark.
+fn parted(lines: &[String]) -> Vec<&[String]> {
+    let mut rest = lines;
+    let mut parts = Vec::new();
+    for number in 0..STREAMS {
+        let (_, line) = mark(number);
+        let end = rest.iter().position(|other| *other == line);
+        let (part, after) = rest.split_at(end.unwrap_or_else(|| panic!("no mark after stream {number}")) + 1);
+        parts.push(part);
+        rest = after;
+    }
+    assert_eq!(rest, [] as [String; 0]);
+    parts
+}
+
+#[test]
+fn joined() {
+    let streams = streams();
+    let mut text = Vec::new();
+    for (number, stream) in streams.iter().enumerate() {
+        text.extend([&stream[..], PASTE_END, mark(number).0.as_bytes()].concat());
+    }
+    for piece in PIECES {
+        let (wanted, given) = (shown(&text, *piece), parsed(&text, *piece));
+        for ((stream, wanted), given) in streams.iter().zip(parted(&wanted)).zip(parted(&given)) {
+            assert_eq!(given, wanted, "pieces of {piece}: {}", hex(stream));
+        }
+    }
+}
+
+#[test]
+fn alone() {
+    let streams = streams();
+    let left = Mutex::new(streams.iter().step_by(ALONE));
+    let check = || {
+        while let Some(stream) = { left.lock().expect("no panic").next() } {
+            for piece in PIECES {
+                assert_eq!(parsed(stream, *piece), shown(stream, *piece), "pieces of {piece}: {}", hex(stream));
+            }
+        }
+    };
+    thread::scope(|scope| {
+        for _ in 0..4 {
+            scope.spawn(check);
+        }
+    });
+}

@@ -1,0 +1,188 @@
+// Refuses each request for memory in turn, the library's and this crate's, and goes on: the events must be those of a run without a refusal,
+// and each refusal must be told once.
+//
+// `malloc` and `realloc` are this program's own, over the C library's (glibc's names for them), so all requests come here. What a thread of
+// the tests asks for is refused if that thread said so.
+use std::cell::Cell;
+use std::ffi::c_void;
+use termwiz::input::{AllocError, EncodeError, InputEvent, InputParser, KeyCode, KeyCodeEncodeModes, KeyboardEncoding};
+use termwiz::input::{Modifiers, ParseError};
+
+thread_local! {
+    // How many requests there are to the one that is refused, or 0.
+    static TO_REFUSAL: Cell<usize> = const { Cell::new(0) };
+    static REFUSED: Cell<usize> = const { Cell::new(0) };
+}
+
+extern "C" {
+    fn __libc_malloc(size: usize) -> *mut c_void;
+    fn __libc_realloc(block: *mut c_void, size: usize) -> *mut c_void;
+}
+
+fn refuses() -> bool {
+    let left = TO_REFUSAL.get();
+    TO_REFUSAL.set(left.saturating_sub(1));
+    if left == 1 {
+        REFUSED.set(REFUSED.get() + 1);
+    }
+    left == 1
+}
+
+#[no_mangle]
+extern "C" fn malloc(size: usize) -> *mut c_void {
+    if refuses() {
+        return std::ptr::null_mut();
+    }
+    // SAFETY: this is what the caller asked for.
+    unsafe { __libc_malloc(size) }
+}
+
+// SAFETY for callers: as of the C library's realloc.
+#[no_mangle]
+unsafe extern "C" fn realloc(block: *mut c_void, size: usize) -> *mut c_void {
+    if refuses() {
+        return std::ptr::null_mut();
+    }
+    // SAFETY: this is what the caller asked for.
+    unsafe { __libc_realloc(block, size) }
+}
+
+// What a call returns if one request in it is refused, and how many were.
+fn refusing<T>(number: usize, call: impl FnOnce() -> T) -> (T, usize) {
+    REFUSED.set(0);
+    TO_REFUSAL.set(number);
+    let answer = call();
+    TO_REFUSAL.set(0);
+    (answer, REFUSED.get())
+}
+
+const STREAM: &[u8] =
+    b"q\x1b[A\x1b[<0;12;3M\xc3\xa9\x1b[200~hello w\xc3\xb6rld, and some more text that needs memory\x1b[201~\x1b[1;5Dx\x1b[200~again\xff\x1b[201~\x1b";
+
+// A list with room for all events, so that storing one asks for nothing.
+fn room() -> Vec<InputEvent> {
+    Vec::with_capacity(64)
+}
+
+// Gives a piece by `try_parse` until it is taken, and all its events are given. Returns the refusals that were told.
+fn give(parser: &mut InputParser, mut bytes: &[u8], events: &mut Vec<InputEvent>, more: bool) -> usize {
+    let mut told = 0;
+    while let Err(error) = parser.try_parse(bytes, |event| events.push(event), more) {
+        told += 1;
+        if error == ParseError::Taken {
+            bytes = b"";
+        }
+    }
+    told
+}
+
+// The same by `try_parse_as_vec`.
+fn give_as_vec(parser: &mut InputParser, mut bytes: &[u8], events: &mut Vec<InputEvent>, more: bool) -> usize {
+    let mut told = 0;
+    loop {
+        match parser.try_parse_as_vec(bytes, more) {
+            Ok(last) => {
+                events.extend(last);
+                return told;
+            }
+            Err(error) => {
+                assert!(error.taken || error.events.is_empty());
+                events.extend(error.events);
+                told += 1;
+                if error.taken {
+                    bytes = b"";
+                }
+            }
+        }
+    }
+}
+
+type Give = fn(&mut InputParser, &[u8], &mut Vec<InputEvent>, bool) -> usize;
+
+// Reads the stream in pieces with one request refused. Returns the events, and how many refusals were told.
+fn read(give: Give, piece: usize, number: usize) -> (Vec<InputEvent>, usize) {
+    let mut parser = InputParser::new();
+    let mut events = room();
+    let (told, refused) = refusing(number, || {
+        let mut told = 0;
+        for bytes in STREAM.chunks(piece) {
+            told += give(&mut parser, bytes, &mut events, true);
+        }
+        told + give(&mut parser, b"", &mut events, false)
+    });
+    assert_eq!(told, refused, "pieces of {piece}, request {number}");
+    (events, refused)
+}
+
+fn check(give: Give) {
+    for piece in [1, 4, 13, 40, STREAM.len()] {
+        let (whole, none) = read(give, piece, 0);
+        assert_eq!((whole.len(), none), (9, 0));
+        let mut number = 0;
+        loop {
+            number += 1;
+            let (events, refused) = read(give, piece, number);
+            assert_eq!(events, whole, "pieces of {piece}, request {number}");
+            if refused == 0 {
+                break;
+            }
+        }
+        assert!(number > 2);
+    }
+}
+
+#[test]
+fn goes_on_with_try_parse() {
+    check(give);
+}
+
+#[test]
+fn goes_on_with_try_parse_as_vec() {
+    check(give_as_vec);
+}
+
+// Each of the first requests, and then every 100th.
+#[test]
+fn makes_a_parser_after_a_refusal() {
+    let mut number = 1;
+    loop {
+        let (parser, refused) = refusing(number, InputParser::try_new);
+        if refused == 0 {
+            assert_eq!(parser.map(|parser| parser.waiting_len()), Ok(0));
+            break;
+        }
+        assert_eq!(parser.err(), Some(AllocError));
+        number += if number < 300 { 1 } else { 100 };
+    }
+    assert!(number > 300);
+}
+
+#[test]
+fn encodes_after_a_refusal() {
+    let modes = KeyCodeEncodeModes {
+        encoding: KeyboardEncoding::Xterm,
+        application_cursor_keys: false,
+        newline_mode: false,
+        modify_other_keys: None,
+    };
+    let encode = || KeyCode::LeftArrow.try_encode(Modifiers::ALT, modes, true);
+    let mut number = 1;
+    while refusing(number, encode).1 > 0 {
+        assert_eq!(refusing(number, encode).0, Err(EncodeError::Memory));
+        number += 1;
+    }
+    assert!(number > 2);
+    assert_eq!(encode().as_deref(), Ok("\x1b[1;3D"));
+}
+
+#[test]
+fn panics_if_refused() {
+    let refused = |call: fn()| {
+        std::panic::catch_unwind(|| {
+            TO_REFUSAL.set(1);
+            call();
+        })
+        .is_err()
+    };
+    assert!(refused(|| drop(InputParser::new())));
+}

@@ -1,0 +1,63 @@
+#!/bin/sh
+# Writes the numbers of c/numbers.txt into the C header and the Rust crate, at the places that are marked there.
+#
+#     tools/c_numbers.sh [--check]
+#
+# With --check it writes nothing. It compares the header, the Rust crate and the proved crates with the list, names the first line of
+# each file that differs, and ends with status 1 if one does. It needs no compiler.
+set -eu
+export LC_ALL=C
+cd "$(dirname "$0")/.."
+case "${1-}" in
+    '' | --check) check=${1-} ;;
+    *) sed -n '2,7p' "$0" >&2; exit 2 ;;
+esac
+list=c/numbers.txt
+work=$(mktemp -d)
+trap 'rm -rf "$work"' EXIT
+
+awk -f tools/c_numbers/list.awk "$list"
+
+# A file, and the places that it has to have.
+place_in() { # file places..
+    file=$1
+    shift
+    for place; do
+        if ! grep -qE "^ */[/*] numbers.txt: $place( \*/)?\$" "$file"; then
+            echo "$file: has no place 'numbers.txt: $place'" >&2
+            return 1
+        fi
+    done
+    awk -f tools/c_numbers/write.awk "$list" "$file" > "$work/file" || return 1
+    if [ -n "$check" ]; then
+        awk -v file="$file" -f tools/c_numbers/compare.awk "$work/file" "$file"
+    elif ! cmp -s "$work/file" "$file"; then
+        cat "$work/file" > "$file"
+        echo "wrote $file"
+    fi
+}
+
+failed=0
+place_in c/termwiz_input.h 'next c' 'encoded c' 'kind c' 'encoding c' 'kitty c' 'modifier c' 'button c' 'key c' || failed=1
+place_in rust/src/raw.rs 'next const' 'encoded const' 'kind const' 'encoding const' || failed=1
+place_in rust/src/input/flags.rs 'kitty flag' 'modifier flag' 'button flag' || failed=1
+place_in rust/src/input/keys.rs 'key variant' 'key number' 'key of' || failed=1
+
+# The proved crates have their own text: each number is read there and compared.
+proved_in() { # groups files..
+    groups=$1
+    shift
+    awk -v groups="$groups" -f tools/c_numbers/proved.awk "$list" "$@"
+}
+
+if [ -n "$check" ]; then
+    proved_in key crates/termwiz_c/src/keys.rt || failed=1
+    proved_in kind crates/termwiz_c/src/events.rt || failed=1
+    proved_in encoding crates/termwiz_c/src/modes.rt || failed=1
+    proved_in 'next encoded' crates/termwiz_c/src/lib.rt || failed=1
+    proved_in modifier crates/termwiz_base/src/modifiers.rt || failed=1
+    proved_in kitty crates/termwiz_base/src/kitty.rt || failed=1
+    proved_in button crates/termwiz_input/src/types.rt || failed=1
+    [ "$failed" = 1 ] || echo "numbers: $(grep -c '^[a-z]' "$list") names, and the header, the Rust crate and the proved crates agree"
+fi
+exit "$failed"
