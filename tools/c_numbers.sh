@@ -42,6 +42,7 @@ place_in c/termwiz_input.h 'next c' 'encoded c' 'kind c' 'encoding c' 'kitty c' 
 place_in rust/src/raw.rs 'next const' 'encoded const' 'kind const' 'encoding const' || failed=1
 place_in rust/src/input/flags.rs 'kitty flag' 'modifier flag' 'button flag' || failed=1
 place_in rust/src/input/keys.rs 'key variant' 'key number' 'key of' || failed=1
+place_in rust/tests/parser/names.rs 'modifier named' 'button named' 'key plain' || failed=1
 
 # The proved crates have their own text: each number is read there and compared.
 proved_in() { # groups files..

@@ -10,6 +10,8 @@ BEGIN {
     prefix["button"] = "TW_BUTTON_"
     type["next"] = type["encoded"] = "u32"
     type["kind"] = type["encoding"] = "u8"
+    type["modifier"] = "Modifiers"
+    type["button"] = "MouseButtons"
     # The two keys that carry something.
     carried["Char"] = "char"
     carried["Function"] = "u8"
@@ -53,6 +55,10 @@ function write(group, form, i,    n, what) {
         printf "%s/// %s\n%spub const %s_%s: %s = %s;\n", indent, text[group, i], indent, toupper(group), n, type[group], what
     } else if (form == "flag") {
         printf "%s/// %s\n%sconst %s = %s;\n", indent, text[group, i], indent, n, what
+    } else if (form == "named") {
+        if (what > 0) printf "%s(\"%s\", %s::%s),\n", indent, n, type[group], n
+    } else if (form == "plain") {
+        if (!(n in carried)) printf "%sKeyCode::%s,\n", indent, n
     } else if (form == "variant") {
         printf "%s/// %s\n%s%s%s,\n", indent, text[group, i], indent, n, (n in carried ? "(" carried[n] ")" : "")
     } else if (form == "number") {

@@ -4,6 +4,7 @@ mod encode;
 mod examples;
 mod flags;
 mod lines;
+mod names;
 mod parser;
 mod recorded;
 mod streams;
