@@ -2,6 +2,25 @@
 use std::fmt;
 use std::ops::{BitAnd, BitAndAssign, BitOr, BitOrAssign, BitXor, BitXorAssign, Not, Sub, SubAssign};
 
+// An operator on two sets, and its assigning form.
+macro_rules! operator {
+    ($name:ident, $method:ident: $operator:ident $call:ident, $assigning:ident $assign:ident) => {
+        impl $operator for $name {
+            type Output = $name;
+
+            fn $call(self, other: $name) -> $name {
+                self.$method(other)
+            }
+        }
+
+        impl $assigning for $name {
+            fn $assign(&mut self, other: $name) {
+                *self = self.$method(other);
+            }
+        }
+    };
+}
+
 // A type of sets, with the calls and operators that such a type has in termwiz.
 macro_rules! flags {
     ($(#[$about:meta])* $name:ident: $bits:ty { $($(#[$meaning:meta])* const $flag:ident = $value:literal;)* }) => {
@@ -135,67 +154,16 @@ macro_rules! flags {
             }
         }
 
-        impl BitOr for $name {
-            type Output = $name;
-
-            fn bitor(self, other: $name) -> $name {
-                self.union(other)
-            }
-        }
-
-        impl BitAnd for $name {
-            type Output = $name;
-
-            fn bitand(self, other: $name) -> $name {
-                self.intersection(other)
-            }
-        }
-
-        impl BitXor for $name {
-            type Output = $name;
-
-            fn bitxor(self, other: $name) -> $name {
-                self.symmetric_difference(other)
-            }
-        }
-
-        impl Sub for $name {
-            type Output = $name;
-
-            fn sub(self, other: $name) -> $name {
-                self.difference(other)
-            }
-        }
+        operator!($name, union: BitOr bitor, BitOrAssign bitor_assign);
+        operator!($name, intersection: BitAnd bitand, BitAndAssign bitand_assign);
+        operator!($name, symmetric_difference: BitXor bitxor, BitXorAssign bitxor_assign);
+        operator!($name, difference: Sub sub, SubAssign sub_assign);
 
         impl Not for $name {
             type Output = $name;
 
             fn not(self) -> $name {
                 self.complement()
-            }
-        }
-
-        impl BitOrAssign for $name {
-            fn bitor_assign(&mut self, other: $name) {
-                self.insert(other);
-            }
-        }
-
-        impl BitAndAssign for $name {
-            fn bitand_assign(&mut self, other: $name) {
-                *self = self.intersection(other);
-            }
-        }
-
-        impl BitXorAssign for $name {
-            fn bitxor_assign(&mut self, other: $name) {
-                self.toggle(other);
-            }
-        }
-
-        impl SubAssign for $name {
-            fn sub_assign(&mut self, other: $name) {
-                self.remove(other);
             }
         }
     };
@@ -241,6 +209,14 @@ impl Modifiers {
         self.difference(Modifiers::LEFT_ALT.union(Modifiers::RIGHT_ALT))
             .difference(Modifiers::LEFT_CTRL.union(Modifiers::RIGHT_CTRL))
             .difference(Modifiers::LEFT_SHIFT.union(Modifiers::RIGHT_SHIFT))
+    }
+
+    /// Returns the number by which xterm's key sequences tell these modifiers: 1 for SHIFT plus 2 for ALT plus 4 for CTRL. Other flags
+    /// don't count. The parameter in a sequence is one more than this number.
+    pub fn encode_xterm(self) -> u8 {
+        u8::from(self.contains(Modifiers::SHIFT))
+            + 2 * u8::from(self.contains(Modifiers::ALT))
+            + 4 * u8::from(self.contains(Modifiers::CTRL))
     }
 }
 

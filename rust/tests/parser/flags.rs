@@ -68,3 +68,13 @@ fn removes_positional_modifiers() {
         SHIFT | Modifiers::ALT | CTRL | Modifiers::SUPER | Modifiers::LEADER
     );
 }
+
+#[test]
+fn numbers_modifiers() {
+    assert_eq!(Modifiers::NONE.encode_xterm(), 0);
+    assert_eq!(SHIFT.encode_xterm(), 1);
+    assert_eq!(Modifiers::ALT.encode_xterm(), 2);
+    assert_eq!(CTRL.encode_xterm(), 4);
+    assert_eq!(Modifiers::all().encode_xterm(), 7);
+    assert_eq!((!(SHIFT | Modifiers::ALT | CTRL)).encode_xterm(), 0);
+}
