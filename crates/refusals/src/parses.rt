@@ -22,7 +22,7 @@ pub struct Left {
 
 impl Left {
     // What waits in a parser.
-    fn by(parser: &InputParser) -> Left
+    fn of(parser: &InputParser) -> Left
         ensures { Describes parser.now result }
     {
         Left {
@@ -68,12 +68,12 @@ pub fn parse<F: FnMut(InputEvent), G: FnMut(InputEvent)>(
     match parser.parse(bytes, first, false) {
         Ok(()) => Ok(None),
         Err(ParseError::NotTaken) => {
-            let left = Left::by(parser);
+            let left = Left::of(parser);
             parser.parse(bytes, later, false)?;
             Ok(Some(Stop { taken: false, left }))
         }
         Err(ParseError::Taken) => {
-            let left = Left::by(parser);
+            let left = Left::of(parser);
             parser.parse(b"", later, false)?;
             Ok(Some(Stop { taken: true, left }))
         }
@@ -112,7 +112,7 @@ pub fn parse_as_vec(
         }
         Err(ParseVecError { events, taken }) => (events, taken),
     };
-    let left = Left::by(parser);
+    let left = Left::of(parser);
     let rest = if taken { b"" } else { bytes };
     let later = parser.parse_as_vec(rest, false)?;
     Ok(Lists {
@@ -141,7 +141,7 @@ pub fn parse_pieces<F: FnMut(usize, InputEvent), G: FnMut(usize, InputEvent)>(
     match parser.parse_pieces(pieces, first, false) {
         Ok(()) => Ok(None),
         Err(PiecesError { taken }) => {
-            let left = Left::by(parser);
+            let left = Left::of(parser);
             parser.parse_pieces(&pieces[taken..], later, false)?;
             Ok(Some(PiecesStop { taken, left }))
         }
