@@ -59,19 +59,64 @@ fn check_clones(rt: &impl Abort, alloc: Global, events: &[InputEvent]) -> Result
     Ok(())
 }
 
-// Makes the calls of an example with a fresh parser, and reads all of its bytes in pieces.
-fn check(rt: &impl Abort, alloc: Global, name: &str, steps: &[Step]) -> Result<(), Fail> {
+// By which calls bytes are read.
+#[derive(Clone, Copy, Debug)]
+enum Calls {
+    // `parse_as_vec`.
+    List,
+    // `parse`.
+    Callback,
+    // `feed`, and then `next_event` for each event.
+    Event,
+}
+
+impl Calls {
+    // The events of the waiting text and these bytes.
+    fn events(
+        self,
+        rt: &impl Abort,
+        alloc: Global,
+        parser: &mut InputParser,
+        bytes: &[u8],
+        more: bool,
+    ) -> Result<Vec<InputEvent>, Fail> {
+        match self {
+            Calls::List => Ok(parser.parse_as_vec(bytes, more)?),
+            Calls::Callback => pieces::parsed(rt, alloc, parser, bytes, more),
+            Calls::Event => Ok(pulled::pulled(alloc, parser, bytes, more)?),
+        }
+    }
+}
+
+// Makes the calls of an example with a fresh parser.
+fn check_steps(
+    rt: &impl Abort,
+    alloc: Global,
+    calls: Calls,
+    name: &str,
+    steps: &[Step],
+) -> Result<(), Fail> {
     let mut parser = InputParser::new(alloc)?;
     for (number, (bytes, more, wanted)) in steps.iter().enumerate() {
-        let events = parser.parse_as_vec(bytes, *more)?;
+        let events = calls.events(rt, alloc, &mut parser, bytes, *more)?;
         check_clones(rt, alloc, events.as_slice())?;
         let line = line::line_of(alloc, events.as_slice(), &parser)?;
-        assert_eq!(rt; line.as_str(), *wanted, "{name}, step {number}");
+        assert_eq!(rt;
+            line.as_str(),
+            *wanted,
+            "{name}, step {number}, by {calls:?}"
+        );
         cuts::check_few_wait(rt, &parser, name);
     }
-    cuts::check_sizes(rt, alloc, name, &bytes_of(alloc, steps)?)?;
-    pieces::check_by_parse(rt, alloc, name, steps)?;
-    pulled::check_by_event(rt, alloc, name, steps)
+    Ok(())
+}
+
+// Makes the calls of an example in every way, and reads all of its bytes in pieces.
+fn check(rt: &impl Abort, alloc: Global, name: &str, steps: &[Step]) -> Result<(), Fail> {
+    check_steps(rt, alloc, Calls::List, name, steps)?;
+    check_steps(rt, alloc, Calls::Callback, name, steps)?;
+    check_steps(rt, alloc, Calls::Event, name, steps)?;
+    cuts::check_sizes(rt, alloc, name, &bytes_of(alloc, steps)?)
 }
 
 fn check_all(rt: &impl Abort, alloc: Global, examples: &[Example]) -> Result<(), Fail> {

@@ -1,10 +1,9 @@
 // Generated texts in pieces, as the parser and as the plain reader read them.
 use super::cuts::may_wait;
 use super::draws::Draws;
-use super::pieces::{parsed, parsed_pieces};
+use super::pieces::parsed_pieces;
 use super::plain::{PlainReader, Shape};
-use super::pulled::pulled;
-use super::{InputEvent, InputParser, LAST, MORE, renew};
+use super::{Calls, InputEvent, InputParser, LAST, MORE, renew};
 use std::alloc::{AllocError, Global};
 use std::fmt::Write;
 use std::process::Abort;
@@ -66,59 +65,21 @@ fn check_waiting(rt: &impl Abort, parser: &InputParser, reading: &Reading, name:
     assert_eq!(rt; parser.is_paste_open(), reading.is_paste_open, "{name}");
 }
 
-// A call of `parse_as_vec` for each reading.
-fn check_by_list(
-    rt: &impl Abort,
-    parser: &mut InputParser,
-    readings: &[Reading],
-    name: &str,
-) -> Result<(), Fail> {
-    for (number, reading) in readings.iter().enumerate() {
-        let events = parser.parse_as_vec(reading.bytes, reading.more)?;
-        assert_eq!(rt;
-            events.as_slice(),
-            reading.events.as_slice(),
-            "call {number} of parse_as_vec, {name}"
-        );
-        check_waiting(rt, parser, reading, name);
-    }
-    Ok(())
-}
-
-// A call of `parse` for each reading.
-fn check_by_parse(
+// The calls give each reading.
+fn check_readings(
     rt: &impl Abort,
     alloc: Global,
+    calls: Calls,
     parser: &mut InputParser,
     readings: &[Reading],
     name: &str,
 ) -> Result<(), Fail> {
     for (number, reading) in readings.iter().enumerate() {
-        let events = parsed(rt, alloc, parser, reading.bytes, reading.more)?;
+        let events = calls.events(rt, alloc, parser, reading.bytes, reading.more)?;
         assert_eq!(rt;
             events.as_slice(),
             reading.events.as_slice(),
-            "call {number} of parse, {name}"
-        );
-        check_waiting(rt, parser, reading, name);
-    }
-    Ok(())
-}
-
-// A call of `feed` for each reading, and then one of `next_event` for each event.
-fn check_by_event(
-    rt: &impl Abort,
-    alloc: Global,
-    parser: &mut InputParser,
-    readings: &[Reading],
-    name: &str,
-) -> Result<(), Fail> {
-    for (number, reading) in readings.iter().enumerate() {
-        let events = pulled(alloc, parser, reading.bytes, reading.more)?;
-        assert_eq!(rt;
-            events.as_slice(),
-            reading.events.as_slice(),
-            "call {number} of feed, {name}"
+            "reading {number} by {calls:?}, {name}"
         );
         check_waiting(rt, parser, reading, name);
     }
@@ -189,7 +150,7 @@ fn check_by_pieces(
 #[derive(Drop)]
 struct Parsers {
     by_list: InputParser,
-    by_parse: InputParser,
+    by_callback: InputParser,
     by_event: InputParser,
     by_pieces: InputParser,
 }
@@ -198,7 +159,7 @@ impl Parsers {
     fn new(alloc: Global) -> Result<Parsers, AllocError> {
         Ok(Parsers {
             by_list: InputParser::new(alloc)?,
-            by_parse: InputParser::new(alloc)?,
+            by_callback: InputParser::new(alloc)?,
             by_event: InputParser::new(alloc)?,
             by_pieces: InputParser::new(alloc)?,
         })
@@ -206,7 +167,7 @@ impl Parsers {
 
     fn renew(&mut self, alloc: Global) -> Result<(), AllocError> {
         renew(alloc, &mut self.by_list)?;
-        renew(alloc, &mut self.by_parse)?;
+        renew(alloc, &mut self.by_callback)?;
         renew(alloc, &mut self.by_event)?;
         renew(alloc, &mut self.by_pieces)
     }
@@ -293,11 +254,33 @@ impl Comparison {
         let readings = self.readings(rt, &case)?;
         let parsers = &mut self.parsers;
         let name = case.name.as_str();
-        check_by_list(rt, &mut parsers.by_list, &readings, name)?;
-        check_by_parse(rt, self.alloc, &mut parsers.by_parse, &readings, name)?;
-        check_by_event(rt, self.alloc, &mut parsers.by_event, &readings, name)?;
-        check_by_pieces(rt, self.alloc, &mut parsers.by_pieces, &case, &readings)?;
-        parsers.renew(self.alloc)?;
+        let alloc = self.alloc;
+        check_readings(
+            rt,
+            alloc,
+            Calls::List,
+            &mut parsers.by_list,
+            &readings,
+            name,
+        )?;
+        check_readings(
+            rt,
+            alloc,
+            Calls::Callback,
+            &mut parsers.by_callback,
+            &readings,
+            name,
+        )?;
+        check_readings(
+            rt,
+            alloc,
+            Calls::Event,
+            &mut parsers.by_event,
+            &readings,
+            name,
+        )?;
+        check_by_pieces(rt, alloc, &mut parsers.by_pieces, &case, &readings)?;
+        parsers.renew(alloc)?;
         Ok(())
     }
 }

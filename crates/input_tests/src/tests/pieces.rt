@@ -1,8 +1,8 @@
 // The calls with a callback: what `parse` and `parse_pieces` give, the numbers of the pieces, and the messages of errors.
 use super::cuts::{check_few_wait, check_sizes};
-use super::line::{line_of, push_comma, push_event, push_waiting};
+use super::line::{push_comma, push_event, push_waiting};
 use super::long::{KEYS, check_events, wanted_at};
-use super::{InputEvent, InputParser, LAST, MORE, Step};
+use super::{InputEvent, InputParser, LAST, MORE};
 use std::alloc::{AllocError, Global};
 use std::fmt::Write;
 use std::process::Abort;
@@ -47,22 +47,6 @@ pub(super) fn parsed_pieces(
     parser.parse_pieces(pieces, &mut note, more)?;
     assert!(rt; !is_refused);
     Ok(events)
-}
-
-// Makes the calls of an example with a fresh parser, by `parse`.
-pub(super) fn check_by_parse(
-    rt: &impl Abort,
-    alloc: Global,
-    name: &str,
-    steps: &[Step],
-) -> Result<(), Fail> {
-    let mut parser = InputParser::new(alloc)?;
-    for (number, (bytes, more, wanted)) in steps.iter().enumerate() {
-        let events = parsed(rt, alloc, &mut parser, bytes, *more)?;
-        let line = line_of(alloc, events.as_slice(), &parser)?;
-        assert_eq!(rt; line.as_str(), *wanted, "{name}, step {number}, by parse");
-    }
-    Ok(())
 }
 
 // The events of a call, each after the number of its piece, and what waits after it.

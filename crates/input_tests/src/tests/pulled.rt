@@ -1,6 +1,6 @@
 // The calls that give one event at a time: `feed` and `next_event`.
 use super::line::line_of;
-use super::{InputEvent, InputParser, LAST, MORE, Step};
+use super::{InputEvent, InputParser, LAST, MORE};
 use std::alloc::{AllocError, Global};
 use std::process::Abort;
 use std::test::Fail;
@@ -21,22 +21,6 @@ pub(super) fn pulled(
         events.push(event)?;
     }
     Ok(events)
-}
-
-// Makes the calls of an example with a fresh parser, one event at a time.
-pub(super) fn check_by_event(
-    rt: &impl Abort,
-    alloc: Global,
-    name: &str,
-    steps: &[Step],
-) -> Result<(), Fail> {
-    let mut parser = InputParser::new(alloc)?;
-    for (number, (bytes, more, wanted)) in steps.iter().enumerate() {
-        let events = pulled(alloc, &mut parser, bytes, *more)?;
-        let line = line_of(alloc, events.as_slice(), &parser)?;
-        assert_eq!(rt; line.as_str(), *wanted, "{name}, step {number}, by event");
-    }
-    Ok(())
 }
 
 // The next event is the one of this line, with what waits after it; none, if the line says only what waits.
