@@ -1,9 +1,9 @@
 -- What the numbers of a key say of its text.
-use Rattle.std.proofs.Common.{◌≡◌, ◌↔◌, ℕ, Bool, true, false, List, [], Option, Some, Result, Err, refl, sym, ap, subst}
+use Rattle.std.proofs.Common.{◌≡◌, ◌↔◌, ℕ, Bool, true, false, List, [], Option, Some, Result, Ok, Err, refl, sym, ap, subst}
 use Rattle.std.specs.Prelude.{IsTrue}
 use Rattle.termwiz_input.specs.Enc.{enc, unhandled}
 use Rattle.termwiz_input.specs.declared.encode.EncodeError.{EncodeError}
-use Rattle.termwiz_input.specs.declared.encode.EncodeError.TheVariants.{UnhandledFunctionKey}
+use Rattle.termwiz_input.specs.declared.encode.EncodeError.TheVariants.{Memory, UnhandledFunctionKey}
 use Rattle.termwiz_c.specs.declared.modes.CModes.{CModes}
 use Rattle.termwiz_c.specs.declared.modes.Press.{Press}
 use Rattle.termwiz_c.specs.Presses.{HasNoText, IsBad, IsPress, sent}
@@ -29,3 +29,10 @@ module _ (key detail bits : ℕ) (is_down : Bool) (modes : CModes) (found : Pres
         let e = (only press).1 pressed in
         let same : press ≡ found = cc (e) in
         (n, (refused n).1 (down, subst (λ (p : Press). unhandled p.key ≡ Some n) same none))
+
+    -- so there is a text, if it gave one or was refused memory
+    pub has_text : (text : T) → result ≡ Ok text → HasNoText key detail bits is_down modes → ⊥
+    has_text text is none = let was = was_refused none in absurd (cc (was.1, is))
+
+    pub may_have_text : result ≡ Err Memory → HasNoText key detail bits is_down modes → ⊥
+    may_have_text is none = let was = was_refused none in absurd (cc (was.1, is))

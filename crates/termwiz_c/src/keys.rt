@@ -211,6 +211,7 @@ const KEYS: &[KeyCode] = &[
 ];
 
 // The key with this number, without what it carries.
+#[tactic(auto, using(crate::proofs::KeyNumbers::number_within))]
 pub(crate) fn key_at(number: u16) -> Option<KeyCode>
     ensures number { IfSome result (λ key. key_number key ≡ number) }
     ensures every { (key : Key) → key_number key ≡ number → result ≡ Some (bare key) }

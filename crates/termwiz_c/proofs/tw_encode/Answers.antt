@@ -1,6 +1,6 @@
-use Rattle.std.proofs.Common.{◌≡◌, ◌∙◌, ℕ, Err, ap, arith, length, refl, string_bytes}
+use Rattle.std.proofs.Common.{◌∙◌, rules, Err, ap, length, refl, string_bytes}
 use Rattle.termwiz_c.specs.Calls.{copied}
-use Rattle.termwiz_c.proofs.Pressed.{has_no_text, not_bad, sent_is, was_refused}
+use Rattle.termwiz_c.proofs.Pressed.{has_no_text, has_text, may_have_text, sent_is}
 use Rattle.termwiz_c.proofs.tw_encode.Goals as goal
 
 -- the text
@@ -16,16 +16,9 @@ returns-in-Ok-clause-text c = λ is.
     )
 
 pub returns-in-Ok-clause-refused_key : goal.returns-in-Ok-clause-refused_key
-returns-in-Ok-clause-refused_key c = (
-  λ is. let e : ◌≡◌ {A = ℕ} 0 1 = is in absurd (omega arith),
-  λ none. let was = was_refused _ _ _ _ _ c.in-Some.press c.in-Some.ensures c.encode.result c.encode.ensures.refused none in absurd (cc (was.1, c.in-Ok.is)),
-)
-
-pub returns-in-Ok-clause-bad_number : goal.returns-in-Ok-clause-bad_number
-returns-in-Ok-clause-bad_number c = (
-  λ is. let e : ◌≡◌ {A = ℕ} 0 3 = is in absurd (omega arith),
-  λ bad. absurd (not_bad _ _ _ c.args.is_down _ c.in-Some.press c.in-Some.ensures bad),
-)
+returns-in-Ok-clause-refused_key c =
+    let some = has_text _ _ _ _ _ c.in-Some.press c.in-Some.ensures c.encode.result c.encode.ensures.refused c.in-Ok.text c.in-Ok.is in
+    search rules
 
 -- the refused key
 pub returns-in-Err-UnhandledFunctionKey-clause-refused_key : goal.returns-in-Err-UnhandledFunctionKey-clause-refused_key
@@ -35,22 +28,8 @@ returns-in-Err-UnhandledFunctionKey-clause-refused_key c = (
   λ none. refl,
 )
 
-pub returns-in-Err-UnhandledFunctionKey-clause-bad_number : goal.returns-in-Err-UnhandledFunctionKey-clause-bad_number
-returns-in-Err-UnhandledFunctionKey-clause-bad_number c = (
-  λ is. let e : ◌≡◌ {A = ℕ} 1 3 = is in absurd (omega arith),
-  λ bad. absurd (not_bad _ _ _ c.args.is_down _ c.in-Some.press c.in-Some.ensures bad),
-)
-
 -- want of memory
 pub returns-in-Err-Memory-clause-refused_key : goal.returns-in-Err-Memory-clause-refused_key
-returns-in-Err-Memory-clause-refused_key c = (
-  λ is. let e : ◌≡◌ {A = ℕ} 2 1 = is in absurd (omega arith),
-  λ none. let was = was_refused _ _ _ _ _ c.in-Some.press c.in-Some.ensures c.encode.result c.encode.ensures.refused none in
-      absurd (cc (was.1, c.in-Err-Memory.is, c.in-Err-Memory.field-0-is)),
-)
-
-pub returns-in-Err-Memory-clause-bad_number : goal.returns-in-Err-Memory-clause-bad_number
-returns-in-Err-Memory-clause-bad_number c = (
-  λ is. let e : ◌≡◌ {A = ℕ} 2 3 = is in absurd (omega arith),
-  λ bad. absurd (not_bad _ _ _ c.args.is_down _ c.in-Some.press c.in-Some.ensures bad),
-)
+returns-in-Err-Memory-clause-refused_key c =
+    let some = may_have_text _ _ _ _ _ c.in-Some.press c.in-Some.ensures c.encode.result c.encode.ensures.refused (c.in-Err-Memory.is ∙ ap Err c.in-Err-Memory.field-0-is) in
+    search rules

@@ -1,15 +1,9 @@
 use Rattle.std.proofs.Common.{◌-◌, ◌∙◌, Some, ap, arith, sym}
-use Rattle.termwiz_c.proofs.KeyNumbers.{number_at, number_within, place_is}
+use Rattle.termwiz_c.proofs.KeyNumbers.{number_at, place_is}
 use Rattle.termwiz_c.proofs.keys.key_at.Goals as goal
-
-pub returns-in-0-clause-every : goal.returns-in-0-clause-every
-returns-in-0-clause-every c = λ key is. absurd (omega (arith, number_within key))
 
 pub returns-in_default-clause-number : goal.returns-in_default-clause-number
 returns-in_default-clause-number c = number_at (c.from.result - 1) _ (omega arith) ∙ omega arith
 
 pub returns-in_default-clause-every : goal.returns-in_default-clause-every
 returns-in_default-clause-every c = λ key is. ap Some (place_is key c.from.result _ (is ∙ sym c.from.ensures))
-
-pub returns-in_default-2-clause-every : goal.returns-in_default-2-clause-every
-returns-in_default-2-clause-every c = λ key is. absurd (omega (arith, number_within key))
