@@ -1,5 +1,5 @@
 -- Recorded answers: the texts of the events that bytes give, and of what waits after them.
-use Rattle.std.specs.Prelude.{◌≡◌, ◌<◌, ℕ, Bool, true, false, List, [], ◌∷◌, ◌++◌, length, take, codes, Option, All, IfSome}
+use Rattle.std.specs.Prelude.{◌≡◌, ◌≢◌, ◌<◌, ℕ, Bool, true, false, List, [], ◌∷◌, ◌++◌, length, take, codes, Option, All, IfSome}
 use Rattle.std.specs.Global.{Vec}
 use Rattle.std.specs.List.{FoldsTo, flat_map}
 use Rattle.termwiz_input.specs.declared.types.InputEvent.{InputEvent}
@@ -8,6 +8,7 @@ use Rattle.termwiz_input.specs.Grammar.{IsRest, Means}
 use Rattle.event_text.specs.Texts.{event_text, hexadecimal}
 use Rattle.replay.specs.declared.cases.Call.{Call}
 use Rattle.replay.specs.declared.cases.Row.{Row}
+use Rattle.replay.specs.declared.replay.Difference.{Difference}
 
 -- the text of an event, after a comma
 abbrev pub next_text : InputEvent → List ℕ
@@ -32,6 +33,11 @@ EndsWith text rest = (front : List ℕ) × (text ≡ front ++ rest)
 -- the answer is that of the whole text, with no more to come
 abbrev pub IsAnswer : List ℕ → List ℕ → Type 0
 IsAnswer text answer = (waiting : List ℕ) × Answers text false waiting answer
+
+-- the bytes have another answer than the recorded one, and the difference shows the bytes and that answer
+abbrev pub Differs : List ℕ → List ℕ → Difference → Type 0
+Differs bytes recorded difference =
+    (difference.given.items ≡ hexadecimal bytes) × IsAnswer bytes difference.came.items × (difference.came.items ≢ recorded)
 
 -- a call of the parser, in which one text waits before it and another one after it, gives its answer
 abbrev pub AnswersCall : List ℕ → Call → List ℕ → Type 0

@@ -1,5 +1,5 @@
 -- What keys send.
-use Rattle.std.specs.Prelude.{◌≡◌, ◌<◌, ◌==◌, ◌%◌, ◌/◌, ◌^◌, ◌-◌, ℕ, ℤ, List, pos, Option, Some, None, All, if◌then◌else◌}
+use Rattle.std.specs.Prelude.{◌≡◌, ◌<◌, ◌==◌, ◌%◌, ◌/◌, ◌^◌, ◌-◌, ℕ, ℤ, List, [], pos, Option, Some, None, All, if◌then◌else◌}
 use Rattle.termwiz_base.specs.declared.modifiers.Modifiers.{Modifiers}
 use Rattle.termwiz_input.specs.declared.types.KeyCode.{KeyCode}
 use Rattle.termwiz_input.specs.declared.encode.KeyboardEncoding.TheVariants.{CsiU, Xterm}
@@ -54,3 +54,8 @@ abbrev pub IsLike : Sent → Sent → Type 0
 IsLike (Text one) (Text other) = one.items ≡ other.items
 IsLike Refused Refused = Unit {0}
 IsLike one other = ⊥
+
+-- the empty text
+abbrev pub IsEmpty : Sent → Type 0
+IsEmpty (Text text) = text.items ≡ []
+IsEmpty Refused = ⊥

@@ -2,3 +2,4 @@ pub mod Answers
 pub mod Collecting
 pub mod Holds
 pub mod Keys
+pub mod Lines

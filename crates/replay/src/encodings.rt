@@ -1,7 +1,7 @@
 // Keys given to the encoder, and what they send.
 
 ghost use Rattle.std.specs.Prelude.{◌≡◌, ◌<◌, ◌↔◌, true, IfOk, IfSome, IfNone, IsTrue};
-ghost use Rattle.replay.specs.Keys.{HasMode, IsLike, Sends, SendsAll, SendsEach, SendsInModes, SendsWithAll, level_at, modes_at};
+ghost use Rattle.replay.specs.Keys.{HasMode, IsEmpty, IsLike, Sends, SendsAll, SendsEach, SendsInModes, SendsWithAll, level_at, modes_at};
 
 use crate::cases::{InModes, Keys, Sent};
 use std::alloc::{AllocError, Global};
@@ -189,7 +189,7 @@ fn has_mode(modes: u32, number: u32) -> bool
 
 // Whether both are the same text, or both are refusals.
 fn same(one: &Sent, other: &Sent) -> bool
-    ensures { IsTrue result → IsLike one.now other.now }
+    ensures { IsTrue result ↔ IsLike one.now other.now }
 {
     match (one, other) {
         (Sent::Text(one), Sent::Text(other)) => one.as_slice() == other.as_slice(),
@@ -199,7 +199,9 @@ fn same(one: &Sent, other: &Sent) -> bool
 }
 
 // Whether this is the empty text.
-fn sends_nothing(sent: &Sent) -> bool {
+fn sends_nothing(sent: &Sent) -> bool
+    ensures { IsTrue result ↔ IsEmpty sent.now }
+{
     match sent {
         Sent::Text(text) => text.is_empty(),
         Sent::Refused => false,

@@ -98,8 +98,8 @@ impl Feeder {
         self.unlike(text, &[first, second, b""], recorded)
     }
 
-    /// Gives a text to the parser whole, cut in two at each place, and by single bytes: without more to come at its end, and (for
-    /// single bytes only so) with more to come and then a flush. Returns the first answer that isn't the recorded one.
+    /// Gives a text to the parser whole and cut in two at each place, each both with no more to come at its end and with more to come
+    /// and then a flush; and by single bytes and then a flush. Returns the first answer that isn't the recorded one.
     pub fn replay_text(
         &mut self,
         text: &[u8],

@@ -1,6 +1,7 @@
 // The form of a line: reads what it records.
 
-ghost use Rattle.std.specs.Prelude.{◌≡◌, ℕ, Ok, IfOk, length};
+ghost use Rattle.std.specs.Prelude.{◌≡◌, ◌++◌, Ok, codes, IfOk, IfSome};
+ghost use Rattle.replay.specs.Lines.{IsCallWord, IsRowText, IsSentWord, Records, answer_word};
 ghost use Rattle.hex.specs.Hex.{decode_of};
 
 use crate::cases::{Call, Case, InModes, Keys, Row, Sent};
@@ -58,8 +59,10 @@ impl From<FromHexError> for Fault {
 /// - `HEX,HEX .. = NEXT = A = B = C`: rows of the sequence table. Each gives A, ESC and the row B, the row and then NEXT C; `-` if
 ///   that isn't recorded.
 /// - `KEY,KEY .. MODS,MODS .. = TEXT@MODES ..`: keys.
-pub fn case_of(alloc: Global, line: &str) -> Result<Case, Fault> {
-    let (given, recorded) = line.split_once(" = ").ok_or(Fault::Form)?;
+pub fn case_of(alloc: Global, line: &str) -> Result<Case, Fault>
+    ensures { IfOk result (Records line.now) }
+{
+    let (given, recorded) = halves(line).ok_or(Fault::Form)?;
     if let Some(text) = given.strip_prefix("*") {
         return Ok(Case::Text {
             bytes: bytes_of(alloc, text)?,
@@ -69,13 +72,20 @@ pub fn case_of(alloc: Global, line: &str) -> Result<Case, Fault> {
     if given.starts_with("+") || given.starts_with("-") {
         return Ok(Case::Calls(calls_of(alloc, given, recorded)?));
     }
-    match recorded.split_once(" = ") {
+    match halves(recorded) {
         Some((next, answers)) => Ok(Case::Rows {
             all: rows_of(alloc, given)?,
             row: row_of(alloc, next, answers)?,
         }),
         None => Ok(Case::Keys(keys_of(alloc, given, recorded)?)),
     }
+}
+
+// What stands before the first ` = ` and after it.
+fn halves(text: &str) -> Option<(&str, &str)>
+    ensures { IfSome result (λ parts. text.now ≡ parts.0.now ++ codes " = " ++ parts.1.now) }
+{
+    text.split_once(" = ")
 }
 
 // Bytes by their hexadecimal digits.
@@ -107,7 +117,10 @@ fn calls_of(alloc: Global, given: &str, recorded: &str) -> Result<Vec<Call>, Fau
 }
 
 // A call: `+HEX` with more to come, `-HEX` without.
-fn call_of(alloc: Global, given: &str, answer: &str) -> Result<Call, Fault> {
+fn call_of(alloc: Global, given: &str, answer: &str) -> Result<Call, Fault>
+    ensures given { IfOk result (IsCallWord given.now) }
+    ensures answer { IfOk result (λ call. call.answer.items ≡ answer.now) }
+{
     let (maybe_more, digits) = match given.strip_prefix("+") {
         Some(digits) => (true, digits),
         None => (false, given.strip_prefix("-").ok_or(Fault::Form)?),
@@ -129,9 +142,11 @@ fn rows_of(alloc: Global, given: &str) -> Result<Vec<Vec<u8>>, Fault> {
 }
 
 // The answers to a row.
-fn row_of(alloc: Global, next: &str, answers: &str) -> Result<Row, Fault> {
-    let (alone, others) = answers.split_once(" = ").ok_or(Fault::Form)?;
-    let (after_escape, before_next) = others.split_once(" = ").ok_or(Fault::Form)?;
+fn row_of(alloc: Global, next: &str, answers: &str) -> Result<Row, Fault>
+    ensures { IfOk result (IsRowText next.now answers.now) }
+{
+    let (alone, others) = halves(answers).ok_or(Fault::Form)?;
+    let (after_escape, before_next) = halves(others).ok_or(Fault::Form)?;
     Ok(Row {
         next: bytes_of(alloc, next)?,
         alone: answer_of(alloc, alone)?,
@@ -141,7 +156,9 @@ fn row_of(alloc: Global, next: &str, answers: &str) -> Result<Row, Fault> {
 }
 
 // An answer, or `-` if none is recorded.
-fn answer_of(alloc: Global, text: &str) -> Result<Option<Vec<u8>>, AllocError> {
+fn answer_of(alloc: Global, text: &str) -> Result<Option<Vec<u8>>, AllocError>
+    ensures { IfOk result (λ answer. text.now ≡ answer_word answer) }
+{
     match text {
         "-" => Ok(None),
         _ => Ok(Some(copy(alloc, text)?)),
@@ -195,7 +212,18 @@ fn texts_of(alloc: Global, recorded: &str) -> Result<Vec<InModes>, Fault> {
     }
 }
 
-// `TEXT@MODES`, or `TEXT` in all modes. The text is `-` if it is empty, and `refused` if there is none.
+// What is sent: hexadecimal digits, `-` for the empty text, or `refused`.
+fn sent_of(alloc: Global, word: &str) -> Result<Sent, Fault>
+    ensures { IfOk result (IsSentWord word.now) }
+{
+    match word {
+        "refused" => Ok(Sent::Refused),
+        "-" => Ok(Sent::Text(Vec::new(alloc))),
+        _ => Ok(Sent::Text(bytes_of(alloc, word)?)),
+    }
+}
+
+// `TEXT@MODES`, or `TEXT` in all modes.
 fn in_modes(alloc: Global, word: &str) -> Result<InModes, Fault> {
     let (text, modes) = match word.split_once("@") {
         Some((text, digits)) => (
@@ -204,10 +232,6 @@ fn in_modes(alloc: Global, word: &str) -> Result<InModes, Fault> {
         ),
         None => (word, u32::MAX),
     };
-    let sent = match text {
-        "refused" => Sent::Refused,
-        "-" => Sent::Text(Vec::new(alloc)),
-        _ => Sent::Text(bytes_of(alloc, text)?),
-    };
+    let sent = sent_of(alloc, text)?;
     Ok(InModes { sent, modes })
 }

@@ -28,11 +28,7 @@ use std::{env, fs, io};
 use thiserror::Error;
 
 // The files that are replayed if none is named. They lie in the crate's folder data.
-const FILES: [&str; 3] = [
-    "parse-rows.txt",
-    "parse-cases.txt",
-    "encode.txt",
-];
+const FILES: [&str; 3] = ["parse-rows.txt", "parse-cases.txt", "encode.txt"];
 
 /// Why not all lines were replayed.
 #[derive(Debug, Drop, Error)]

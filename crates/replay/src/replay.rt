@@ -1,7 +1,8 @@
 // What a line records, given to the parser or the encoder.
 
-ghost use Rattle.std.specs.Prelude.{◌≡◌, ◌++◌, ◌≤◌, length, IfOk, IfNone, OnOk};
-ghost use Rattle.replay.specs.Answers.{AnswersCall, AnswersCalls, AnswersRow, AnswersRows, BeginningWaits, BeginningsWait, EndsWith, IsAnswer, IsAnswerIf};
+ghost use Rattle.std.specs.Prelude.{◌≡◌, ◌++◌, ◌≤◌, length, IfOk, IfSome, IfNone, OnOk};
+ghost use Rattle.event_text.specs.Texts.{hexadecimal};
+ghost use Rattle.replay.specs.Answers.{AnswersCall, AnswersCalls, AnswersRow, AnswersRows, BeginningWaits, BeginningsWait, Differs, EndsWith, IsAnswer, IsAnswerIf};
 ghost use Rattle.replay.specs.Holds.{Holds};
 
 use crate::cases::{Call, Case, Row, Sent};
@@ -20,7 +21,10 @@ pub struct Difference {
 
 impl Difference {
     // Bytes in hexadecimal digits, and the answer to them.
-    fn of_bytes(alloc: Global, bytes: &[u8], came: Vec<u8>) -> Result<Difference, AllocError> {
+    fn of_bytes(alloc: Global, bytes: &[u8], came: Vec<u8>) -> Result<Difference, AllocError>
+        ensures given { IfOk result (λ difference. difference.given.items ≡ hexadecimal bytes.now) }
+        ensures came { IfOk result (λ difference. difference.came ≡ came) }
+    {
         let mut given = Vec::new(alloc);
         push_hex(&mut given, bytes)?;
         Ok(Difference { given, came })
@@ -84,7 +88,8 @@ fn replay_bytes(
     bytes: &[u8],
     recorded: &[u8],
 ) -> Result<Option<Difference>, AllocError>
-    ensures { IfOk result (λ difference. IfNone difference (IsAnswer bytes.now recorded.now)) }
+    ensures same { IfOk result (λ difference. IfNone difference (IsAnswer bytes.now recorded.now)) }
+    ensures other { IfOk result (λ difference. IfSome difference (Differs bytes.now recorded.now)) }
 {
     match feeder.replay_text(bytes, recorded)? {
         Some(came) => Ok(Some(Difference::of_bytes(feeder.alloc, bytes, came)?)),

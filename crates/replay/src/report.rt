@@ -1,6 +1,6 @@
 // What a file's lines come to.
 
-ghost use Rattle.std.specs.Prelude.{IfOk};
+ghost use Rattle.std.specs.Prelude.{◌≡◌, ◌≤◌, ◌<◌, ◌↔◌, ◌-◌, ◌^◌, ◌⊎◌, length, None, OnOk};
 
 use crate::format::{Fault, case_of};
 use crate::replay::{Difference, Replayer};
@@ -34,11 +34,15 @@ pub struct Report {
     pub differing: usize,
     /// The first of those that differ.
     pub shown: Vec<LineDifference>,
+    ghost counts: { differing ≤ lines },
+    ghost shows: { length shown.items ≤ differing },
 }
 
 impl Report {
     /// The report on no lines.
-    pub fn new(alloc: Global) -> Report {
+    pub fn new(alloc: Global) -> Report
+        ensures { result.differing ≡ 0 }
+    {
         Report {
             lines: 0,
             differing: 0,
@@ -47,7 +51,10 @@ impl Report {
     }
 
     // Counts a line, and keeps what differs.
-    fn note(&mut self, number: usize, difference: Option<Difference>) -> Result<(), AllocError> {
+    fn note(&mut self, number: usize, difference: Option<Difference>) -> Result<(), AllocError>
+        ensures lines { OnOk result (self.old.lines < self.new.lines ⊎ (self.new.lines ≡ 2 ^ 64 - 1)) }
+        ensures differing { OnOk result ((self.new.differing ≡ 0) ↔ ((self.old.differing ≡ 0) × (difference ≡ None))) }
+    {
         self.lines = self.lines.saturating_add(1);
         let Some(difference) = difference else {
             return Ok(());

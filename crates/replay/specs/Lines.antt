@@ -1,0 +1,43 @@
+-- What the lines of a file say, and the words of a line.
+use Rattle.std.specs.Prelude.{⊤, ◌≡◌, ◌++◌, ◌⊎◌, ℕ, Bool, List, [], Option, Some, None, true, false, Ok, codes}
+use Rattle.std.specs.Global.{Vec}
+use Rattle.hex.specs.Hex.{decode_of}
+use Rattle.replay.specs.declared.cases.Call.{Call}
+use Rattle.replay.specs.declared.cases.Case.{Case}
+use Rattle.replay.specs.declared.cases.Case.TheVariants.{Rows, Text}
+use Rattle.replay.specs.declared.cases.Row.{Row}
+use Rattle.replay.specs.declared.cases.Sent.{Sent}
+use Rattle.replay.specs.declared.cases.Sent.TheVariants as sent
+
+-- a call with more to come is marked by `+`, and one without by `-`
+abbrev pub mark : Bool → List ℕ
+mark true = codes "+"
+mark false = codes "-"
+
+-- the word has the mark of the call, and then its bytes in hexadecimal digits
+abbrev pub IsCallWord : List ℕ → Call → Type 0
+IsCallWord word call = (digits : List ℕ) × (word ≡ mark call.maybe_more ++ digits) × (decode_of digits ≡ Ok call.bytes.items)
+
+-- an answer to a row, `-` if none is recorded
+abbrev pub answer_word : Option (Vec ℕ) → List ℕ
+answer_word (Some answer) = answer.items
+answer_word None = codes "-"
+
+-- the words say what comes next in the third answer, and the three answers
+abbrev pub IsRowText : List ℕ → List ℕ → Row → Type 0
+IsRowText next answers row =
+    (decode_of next ≡ Ok row.next.items)
+    × (answers ≡ answer_word row.alone ++ codes " = " ++ answer_word row.after_escape ++ codes " = " ++ answer_word row.before_next)
+
+-- the word says what is sent: hexadecimal digits, `-` for the empty text, or `refused`
+abbrev pub IsSentWord : List ℕ → Sent → Type 0
+IsSentWord word (sent.Text text) = (decode_of word ≡ Ok text.items) ⊎ ((word ≡ codes "-") × (text.items ≡ []))
+IsSentWord word sent.Refused = word ≡ codes "refused"
+
+-- The line records bytes and their answer, or what comes after rows and their answers. Of calls and keys it says nothing here.
+abbrev pub Records : List ℕ → Case → Type 0
+Records line (Text bytes answer) =
+    (digits : List ℕ) × (line ≡ codes "*" ++ digits ++ codes " = " ++ answer.items) × (decode_of digits ≡ Ok bytes.items)
+Records line (Rows all row) =
+    (rows next answers : List ℕ) × (line ≡ rows ++ codes " = " ++ (next ++ codes " = " ++ answers)) × IsRowText next answers row
+Records line case = ⊤
