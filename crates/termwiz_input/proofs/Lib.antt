@@ -39,6 +39,7 @@ pub mod Settling
 pub mod Standing
 pub mod TableMap
 pub mod TableTests
+pub mod Typed
 pub mod Unfinished
 pub mod Variants
 pub mod WholeTexts

@@ -19,3 +19,4 @@ pub mod PasteSearch
 pub mod Pieces
 pub mod Suffixes
 pub mod Table
+pub mod Typed

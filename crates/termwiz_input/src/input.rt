@@ -1,5 +1,5 @@
 //! The parser: bytes of a terminal to events.
-ghost use Rattle.std.specs.Prelude.{◌≡◌, ◌≢◌, ◌++◌, ◌+◌, ◌^◌, ◌<◌, ◌≤◌, ℕ, Bool, List, [], ◌∷◌, length, drop, Contains, Some, true, false, OnErr, IfOk, IfErr, IfSome, IfNone, IsTrue, ◌↔◌, ◌==◌, ◌⊎◌, slice_index_or, if◌then◌else◌, OnOk, IsOk, IsErrOf};
+ghost use Rattle.std.specs.Prelude.{◌≡◌, ◌≢◌, ◌++◌, ◌+◌, ◌^◌, ◌<◌, ◌≤◌, ℕ, Bool, List, [], ◌∷◌, length, drop, Contains, Some, true, false, OnErr, IfOk, IfErr, IfSome, IfNone, IsTrue, ◌↔◌, ◌==◌, ◌⊎◌, slice_index_or, if◌then◌else◌, OnOk, IsOk, IsErrOf, vec_len, vec_capacity};
 ghost use Rattle.termwiz_input.specs.declared.types.KeyEvent.{KeyEvent};
 ghost use Rattle.termwiz_input.specs.Bytes.{Begins, START};
 ghost use Rattle.termwiz_input.specs.Grammar.{GivesNoPaste, HasItem, HasPaste, IsRest, Steps, Means};
@@ -9,7 +9,7 @@ ghost use Rattle.termwiz_input.specs.Pieces.{AreNumbered, NumberedEvent, ReadsFi
 ghost use Rattle.termwiz_input.specs.declared.types.InputEvent.{InputEvent as Event};
 
 pub use crate::encode::{CSI, EncodeError, KeyCodeEncodeModes, KeyboardEncoding, SS3};
-use crate::item::{Item, item_at};
+use crate::item::{Item, append_typed, item_at, typed_front};
 use crate::keymap::KeyMap;
 use crate::paste::{begins_paste, next_search};
 use crate::readbuf::ReadBuffer;
@@ -67,6 +67,9 @@ pub struct ParseVecError {
     /// Whether the bytes of the call were taken. If not, there are no events, and the parser is unchanged.
     pub taken: bool,
 }
+
+// How many bytes a short text has: as many as a read of a keyboard seldom passes.
+const SHORT_TEXT: usize = 64;
 
 // Whether more may come after the piece with this number, of so many.
 fn more_after(number: usize, count: usize, maybe_more: bool) -> bool
@@ -353,6 +356,36 @@ impl InputParser {
         Ok(())
     }
 
+    // Makes room in the list for so many more events. An empty list gets room for as many as a short text may give, so that a
+    // short read makes one request for memory.
+    fn make_room(&self, events: &mut Vec<InputEvent>, count: usize) -> Result<(), AllocError>
+        ensures items { events.new.items ≡ events.old.items }
+        ensures room { OnOk result (vec_len events.new + count ≤ vec_capacity events.new) }
+    {
+        if events.capacity() > 0 {
+            return events.reserve(count);
+        }
+        events.reserve(self.waiting_len().min(SHORT_TEXT).max(count))
+    }
+
+    // Moves the events of the typed characters at the front of the waiting text to the list.
+    fn store_typed(&mut self, events: &mut Vec<InputEvent>) -> Result<(), AllocError>
+        ensures steps { (text : List ℕ) (more : Bool) → Steps text more events.old.items self.old → Steps text more events.new.items self.new }
+        ensures few { length events.new.items + length self.new ≤ length events.old.items + length self.old }
+        ensures left { length self.new ≤ length self.old }
+        ensures item { OnErr result ((more : Bool) → HasItem self.new more) }
+    {
+        let characters = typed_front(self.buffer.as_slice());
+        let len = characters.len();
+        if len == 0 {
+            return Ok(());
+        }
+        self.make_room(events, len)?;
+        append_typed(events, characters);
+        self.consume(len);
+        Ok(())
+    }
+
     // Moves the events of the waiting text to an empty list, in order. An event leaves the parser only after it is stored.
     fn store_events(
         &mut self,
@@ -365,11 +398,17 @@ impl InputParser {
         ensures item { OnErr result (HasItem self.new maybe_more) }
         ensures few { length events.new.items + length self.new ≤ length self.old }
     {
-        while let Some(Item { event, len }) = self.find_item(maybe_more)? {
-            events.push(event)?;
-            self.consume(len);
+        loop {
+            self.store_typed(events)?;
+            match self.find_item(maybe_more)? {
+                Some(Item { event, len }) => {
+                    self.make_room(events, 1)?;
+                    events.push_reserved(event);
+                    self.consume(len);
+                }
+                None => return Ok(()),
+            }
         }
-        Ok(())
     }
 
     /// Appends `bytes` to the waiting text, and returns its events in order. What is no event yet waits.

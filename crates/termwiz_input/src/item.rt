@@ -1,12 +1,13 @@
 // The item at the front of a text: the event that it gives, and the number of its bytes.
-ghost use Rattle.std.specs.Prelude.{◌≡◌, ◌≢◌, ◌++◌, ◌≤◌, [], length, take, OnErr, IfOk, IfSome, IfNone};
+ghost use Rattle.std.specs.Prelude.{◌≡◌, ◌≢◌, ◌+◌, ◌++◌, ◌≤◌, ◌↔◌, Bool, [], length, drop, take, OnErr, IfOk, IfSome, IfNone, IsTrue, vec_len, vec_capacity};
 ghost use Rattle.termwiz_input.specs.Bytes.{Begins, ESC, START};
 ghost use Rattle.termwiz_input.specs.Keys.{plain, escape, with_alt};
 ghost use Rattle.termwiz_input.specs.Known.Meaning.{Row};
-ghost use Rattle.termwiz_input.specs.Grammar.{IsLongest, IsOpen, HasPaste, IsRest};
+ghost use Rattle.termwiz_input.specs.Grammar.{IsLongest, IsOpen, HasPaste, IsRest, Steps};
 ghost use Rattle.termwiz_input.specs.AtFront.{IsItemAt};
 ghost use Rattle.termwiz_input.specs.PasteSearch.{NoEndBefore};
 ghost use Rattle.termwiz_input.specs.Table.{table};
+ghost use Rattle.termwiz_input.specs.Typed.{IsTyped, typed};
 
 use crate::head::{Head, escape_key, head_at};
 use crate::keymap::KeyMap;
@@ -50,6 +51,36 @@ fn alt_key(key: KeyEvent) -> KeyEvent
     KeyEvent {
         key: key.key,
         modifiers: key.modifiers.union(Modifiers::ALT),
+    }
+}
+
+// Whether a byte is a character from SPACE to `~`.
+fn is_typed(byte: u8) -> bool
+    ensures { IsTrue result ↔ IsTyped byte }
+{
+    byte >= b' ' && byte <= b'~'
+}
+
+// The characters from SPACE to `~` at the front of a text, up to the first byte that is none. Each is an item of its own.
+pub(crate) fn typed_front(text: &[u8]) -> &[u8]
+    ensures steps { (more : Bool) → Steps text.now more (typed result.now) (drop (length result.now) text.now) }
+    ensures within { length result.now ≤ length text.now }
+{
+    for (len, byte) in text.iter().enumerate() {
+        if !is_typed(*byte) {
+            return &text[..len];
+        }
+    }
+    text
+}
+
+// Appends the events of such characters, for which the list has room.
+pub(crate) fn append_typed(events: &mut Vec<InputEvent>, characters: &[u8])
+    requires room { vec_len events.old + length characters.now ≤ vec_capacity events.old }
+    ensures { events.new.items ≡ events.old.items ++ typed characters.now }
+{
+    for byte in characters {
+        events.push_reserved(InputEvent::Key(plain_key(char::from(*byte))));
     }
 }
 

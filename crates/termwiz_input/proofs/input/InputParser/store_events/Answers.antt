@@ -1,19 +1,25 @@
-use Rattle.std.proofs.Common.{◌<◌, ◌∙◌, sym, ap, subst, length, drop}
+use Rattle.std.proofs.Common.{◌≡◌, ◌++◌, ◌∷◌, [], ◌∙◌, ap, subst, drop, arith}
 use Rattle.std.specs.Prelude.{IfSome}
 use Rattle.termwiz_input.specs.AtFront.{IsItemAt}
 use Rattle.termwiz_input.proofs.Counting.{few_events, item_shortens, steps_more}
 use Rattle.termwiz_input.proofs.input.InputParser.store_events.Goals as goal
 
-pub loop-event-smaller : goal.loop-event-smaller
-loop-event-smaller c =
-    let found = subst (λ o. IfSome o (IsItemAt c.loop-event.self c.args.maybe_more)) c.in-Some.is c.in_ok-event.ensures.item in
-    let item = subst (IsItemAt c.loop-event.self c.args.maybe_more) c.in-Some.field-0-is found in
-    subst (λ u. length u < length c.loop-event.self) (sym (c.consume.ensures ∙ ap (drop c.in-Some.field-0.len) c.find_item.ensures.same)) (item_shortens c.loop-event.self c.args.maybe_more _ item)
+-- the item that was found
+found_item : (c : goal.After-consume) → IsItemAt c.store_typed.new.self c.args.maybe_more c.in-Some.field-0
+found_item c =
+    let found = subst (λ o. IfSome o (IsItemAt c.store_typed.new.self c.args.maybe_more)) c.in-Some.is c.in_ok-event.ensures.item in
+    subst (IsItemAt c.store_typed.new.self c.args.maybe_more) c.in-Some.field-0-is found
 
-pub loop-event-preserved : goal.loop-event-preserved
-loop-event-preserved c =
-    let found = subst (λ o. IfSome o (IsItemAt c.loop-event.self c.args.maybe_more)) c.in-Some.is c.in_ok-event.ensures.item in
-    let item = subst (IsItemAt c.loop-event.self c.args.maybe_more) c.in-Some.field-0-is found in
-    let steps = steps_more c.loop-event.events.items c.args.self.now c.loop-event.self c.args.maybe_more _ c.loop-event.invariant.steps item in
+left : (c : goal.After-consume) → c.consume.new.self ≡ drop c.in-Some.field-0.len c.store_typed.new.self
+left c = c.consume.ensures ∙ ap (drop c.in-Some.field-0.len) c.find_item.ensures.same
+
+pub loop-self-smaller : goal.loop-self-smaller
+loop-self-smaller c =
+    rw (left c) (omega (arith, item_shortens c.store_typed.new.self c.args.maybe_more c.in-Some.field-0 (found_item c), c.store_typed.ensures.left))
+
+pub loop-self-preserved : goal.loop-self-preserved
+loop-self-preserved c =
+    let typed = c.store_typed.ensures.steps c.args.self.now c.args.maybe_more c.loop-self.invariant.steps in
+    let steps = steps_more c.store_typed.new.events.items c.args.self.now c.store_typed.new.self c.args.maybe_more c.in-Some.field-0 typed (found_item c) in
     let few = few_events c.args.self.now _ _ c.args.maybe_more steps in
-    rw (c.in_ok-push.ensures.items, c.consume.ensures ∙ ap (drop c.in-Some.field-0.len) c.find_item.ensures.same) (record { steps = steps; few = few })
+    rw (c.push_reserved.ensures.items ∙ ap (λ l. l ++ c.in-Some.field-0.event ∷ []) c.in_ok-make_room-in-Some.ensures.items, left c) (record { steps = steps; few = few })

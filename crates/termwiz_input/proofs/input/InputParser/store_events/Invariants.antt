@@ -2,11 +2,11 @@ use Rattle.std.proofs.Common.{◌+◌, ◌≤◌, length}
 use Rattle.termwiz_input.specs.Grammar.{Steps}
 use Rattle.termwiz_input.proofs.input.InputParser.store_events.Given as goal
 
-abbrev pub invariant-loop-event : goal.invariant-loop-event
-invariant-loop-event l = record {
+abbrev pub invariant-loop-self : goal.invariant-loop-self
+invariant-loop-self l = record {
   steps : Steps l.fn.self l.maybe_more l.events.items l.self;
   few : length l.events.items + length l.self ≤ length l.fn.self;
 }
 
-abbrev pub decreases-loop-event : goal.decreases-loop-event
-decreases-loop-event l = length l.self
+abbrev pub decreases-loop-self : goal.decreases-loop-self
+decreases-loop-self l = length l.self
