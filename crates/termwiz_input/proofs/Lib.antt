@@ -13,6 +13,7 @@ pub mod FrameReading
 pub mod Heads
 pub mod Items
 pub mod KeyClones
+pub mod KeyGroups
 pub mod KeyList
 pub mod KeyOrder
 pub mod KeysInEntries

@@ -1,12 +1,12 @@
 -- Copies of rows with clones of their values.
-use Rattle.std.proofs.Common.{◌≡◌, ◌<◌, ◌+◌, ℕ, List, [], ◌∷◌, ◌++◌, length, take, get_or, arith}
+use Rattle.std.proofs.Common.{◌≡◌, ◌<◌, ◌+◌, ℕ, List, [], ◌∷◌, ◌++◌, length, take, get_or}
 use Rattle.std.specs.FinMap.{from_entries}
-use Rattle.std.proofs.lemmas.List.Elements.{AllZip-get_or, all_zip_more, length_all_zip}
+use Rattle.std.proofs.lemmas.List.Elements.{all_zip_more}
 use Rattle.std.specs.Global.{Box}
 use Rattle.termwiz_input.specs.declared.keymap.row.Row.{Row}
 use Rattle.termwiz_input.specs.Entries.{AreClones}
 use Rattle.termwiz_input.specs.Lookup.{ByteMap, ClonesEqual, IsClone}
-use Rattle.termwiz_input.specs.KeyRows.{key_of, value_of, row_entries, AreAscending, IsRowClone, AreRowClones}
+use Rattle.termwiz_input.specs.KeyRows.{key_of, value_of, row_entries, IsRowClone, AreRowClones}
 use Rattle.termwiz_input.proofs.KeyClones.{IsClone-from_entries, same_from_clone}
 
 module _ {V : Type 0} (is_clone : V → V → Type 0) where
@@ -22,15 +22,7 @@ module _ {V : Type 0} (is_clone : V → V → Type 0) where
   one_more_copied rows copies i row copy these inside is key value = all_zip_more (IsRowClone is_clone) rows copies i row copy inside is these (record { key = key; value = value })
 
   module _ (rows copies : List (Box (Row V))) (these : AreRowClones is_clone rows copies) where
-    -- the copies rise as the rows do
-    pub copies_ascend : AreAscending rows → AreAscending copies
-    copies_ascend up i j r lt inside =
-        let len : length rows ≡ length copies = length_all_zip (IsRowClone is_clone) rows copies these in
-        let first = AllZip-get_or (IsRowClone is_clone) rows copies i r r these (omega arith) in
-        let second = AllZip-get_or (IsRowClone is_clone) rows copies j r r these (omega arith) in
-        rw (first.key, second.key) (up i j r lt (omega arith))
-
-    -- and their map is a clone of the rows' map
+    -- the copies' map is a clone of the rows' map
     pub map_cloned : (m : ByteMap V) → from_entries (row_entries rows) ≡ m → IsClone is_clone m (from_entries (row_entries copies))
     map_cloned m is = IsClone-from_entries is_clone m (row_entries rows) (row_entries copies) is (entries_cloned rows copies these)
 

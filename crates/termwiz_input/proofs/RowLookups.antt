@@ -10,7 +10,7 @@ use Rattle.std.proofs.lemmas.Bool.{cases_lt}
 use Rattle.std.specs.Global.{Box}
 use Rattle.termwiz_input.specs.declared.keymap.row.Row.{Row}
 use Rattle.termwiz_input.specs.Bytes.{Begins}
-use Rattle.termwiz_input.specs.KeyRows.{AgreeFor, key_of, value_of, row_entries, AreAscending, AreUpTo, IsAt, IsGapFor, IsCountUpTo, IsLastBegins, NoneBegins, FirstGoesOn}
+use Rattle.termwiz_input.specs.KeyRows.{AgreeFor, key_of, value_of, row_entries, AreAscending, AreUpTo, IsCountUpTo, IsLastBegins, NoneBegins, FirstGoesOn}
 use Rattle.termwiz_input.specs.Lookup.{ByteMap, IsExtended, IsLongestKey, NoKeyBegins}
 use Rattle.termwiz_input.proofs.Lists.{length-some}
 use Rattle.termwiz_input.proofs.KeyOrder.{Before, not_itself, first_bytes, before_by_first, before_by_rest, not_both_ways}
@@ -41,7 +41,7 @@ between (a ∷ t) x (b ∷ r) before not_past = ⊎_elim
     (first_bytes a b t r before)
 
 -- the rest of an agreement
-agree_rest : (x y : ℕ) (key text : List ℕ) (n : ℕ) → AgreeFor (x ∷ key) (y ∷ text) (suc n) → AgreeFor key text n
+pub agree_rest : (x y : ℕ) (key text : List ℕ) (n : ℕ) → AgreeFor (x ∷ key) (y ∷ text) (suc n) → AgreeFor key text n
 agree_rest x y key text n is = record {
   in_key = omega (arith, is.in_key);
   in_text = omega (arith, is.in_text);
@@ -104,31 +104,8 @@ module _ {V : Type 0} where
   none_by (Some v) h = absurd (h refl)
 
   -- the keys of the first rows
-  key_in_front : (rows : List (Box (Row V))) (n i : ℕ) (r : Box (Row V)) → i < n → key_of (get_or (take n rows) i r) ≡ key_of (get_or rows i r)
+  pub key_in_front : (rows : List (Box (Row V))) (n i : ℕ) (r : Box (Row V)) → i < n → key_of (get_or (take n rows) i r) ≡ key_of (get_or rows i r)
   key_in_front rows n i r below = ap (λ (x : Box (Row V)). key_of x) (get_or-take n rows i r below)
-
-  -- the rows up to a key end with the key's own, or before the gap for it
-  pub counted_at : (rows : List (Box (Row V))) (key : List ℕ) (i : ℕ) → AreAscending rows → IsAt rows key i → IsCountUpTo rows key (i + 1)
-  counted_at rows key i up at = record {
-    in_range = omega (arith, at.in_range);
-    up_to = λ j r inside before.
-        let below : j < i + 1 = omega (arith, length-take-le (i + 1) rows (omega (arith, at.in_range))) in
-        let past : Before key (key_of (get_or rows j r)) = subst (λ k. Before key k) (key_in_front rows (i + 1) j r below) before in
-        ⊎_elim
-        (λ (less : j < i). not_both_ways key (key_of (get_or rows j r)) past (subst (λ k. Before (key_of (get_or rows j r)) k) (at.same r) (up j i r less at.in_range)))
-        (λ (last : i ≤ j). not_itself key (subst (λ k. Before key k) (ap (λ n. key_of (get_or rows n r)) {x = j} {y = i} (omega arith) ∙ at.same r) past))
-        (cases_lt j i);
-    after = λ j r above inside. subst (λ k. Before k (key_of (get_or rows j r))) (at.same r) (up i j r (omega arith) inside);
-  }
-
-  pub counted_gap : (rows : List (Box (Row V))) (key : List ℕ) (i : ℕ) → IsGapFor rows key i → IsCountUpTo rows key i
-  counted_gap rows key i gap = record {
-    in_range = gap.in_range;
-    up_to = λ j r inside before.
-        let below : j < i = omega (arith, length-take-le i rows gap.in_range) in
-        not_both_ways key (key_of (get_or rows j r)) (subst (λ k. Before key k) (key_in_front rows i j r below) before) (gap.smaller_before j r below);
-    after = λ j r above inside. gap.greater_after j r above inside;
-  }
 
   -- a lookup in the rows of a map
   module _ (m : ByteMap V) (rows : List (Box (Row V))) (up : AreAscending rows) (is : map.from_entries (row_entries rows) ≡ m) (t : List ℕ) (n : ℕ) (count : IsCountUpTo rows t n) where
@@ -256,7 +233,7 @@ module _ {V : Type 0} where
   -- the last of the rows that are left
   module _ (rows : List (Box (Row V))) (up : AreAscending rows) (t : List ℕ) (up_to : AreUpTo rows t) (left : List (Box (Row V))) (is : IsLeft rows t left)
       (last : Box (Row V)) (before : List (Box (Row V))) (parts : IsLastAndRest left last before) where
-    abbrev b : ℕ
+    abbrev pub b : ℕ
     b = length before
 
     one_more : b + 1 ≡ is.count
@@ -265,7 +242,7 @@ module _ {V : Type 0} where
     inside_last : b < length rows
     inside_last = omega (arith, one_more, is.in_range)
 
-    before_is : before ≡ take b rows
+    pub before_is : before ≡ take b rows
     before_is =
         sym (take-append_seam before (last ∷ [])) ∙ ap (take b) (sym parts.0 ∙ is.are) ∙ take-take b is.count rows (omega (arith, one_more))
 

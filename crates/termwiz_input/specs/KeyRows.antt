@@ -16,6 +16,12 @@ pub record AgreeFor (key text : List ℕ) (count : ℕ) : Type 0 where
   pub same : (i : ℕ) → i < count → get_or key i 0 ≡ get_or text i 0
   pub differ : count < length key → count < length text → get_or key count 0 ≢ get_or text count 0
 
+-- a key and a text have so many first bytes in common, or more
+pub record ShareFirst (key text : List ℕ) (count : ℕ) : Type 0 where
+  pub in_key : count ≤ length key
+  pub in_text : count ≤ length text
+  pub same : (i : ℕ) → i < count → get_or key i 0 ≡ get_or text i 0
+
 module _ {V : Type 0} where
   -- the key of a row, and its value
   abbrev pub key_of : Box (Row V) → List ℕ
@@ -59,6 +65,13 @@ module _ {V : Type 0} where
   -- none of the rows' keys is after this one
   abbrev pub AreUpTo : List (Box (Row V)) → List ℕ → Type 0
   AreUpTo rows key = (i : ℕ) (r : Box (Row V)) → i < length rows → slice_cmp nat_cmp key (key_of (get_or rows i r)) ≢ Less
+
+  -- none of the rows before the first place has a key after this one, and each from the second place on has
+  pub record IsBounded (rows : List (Box (Row V))) (key : List ℕ) (low high : ℕ) : Type 0 where
+    pub low_inside : low ≤ length rows
+    pub high_inside : high ≤ length rows
+    pub up_to : (i : ℕ) (r : Box (Row V)) → i < low → slice_cmp nat_cmp key (key_of (get_or rows i r)) ≢ Less
+    pub after : (i : ℕ) (r : Box (Row V)) → high ≤ i → i < length rows → slice_cmp nat_cmp key (key_of (get_or rows i r)) ≡ Less
 
   -- the first rows, so many of them, are those whose keys aren't after this one
   pub record IsCountUpTo (rows : List (Box (Row V))) (key : List ℕ) (count : ℕ) : Type 0 where

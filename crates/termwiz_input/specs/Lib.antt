@@ -9,6 +9,7 @@ pub mod Frame
 pub mod FrameAnswers
 pub mod Grammar
 pub mod KeyCodes
+pub mod KeyGroups
 pub mod KeyRows
 pub mod Keys
 pub mod Known

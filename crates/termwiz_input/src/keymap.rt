@@ -3,14 +3,18 @@
 ghost use Rattle.std.specs.Prelude.{◌≡◌, ◌↔◌, IsTrue, IfOk, IfSome, IfNone, OnOk, OnErr};
 ghost use Rattle.std.specs.FinMap as map;
 
+mod groups;
 #[cfg(test)]
 mod plain;
 mod row;
+mod search;
 #[cfg(test)]
 mod tests;
 
 use crate::types::KeyEvent;
-use row::{Row, copied, count_up_to, first_goes_on, longest_of, new_row, place_of};
+use groups::{STARTS, group_of, move_later};
+use row::{Row, copied, new_row};
+use search::{count_up_to, first_goes_on, longest_of, place_of};
 use std::alloc::{AllocError, Global};
 use std::fmt::Debug;
 use std::marker::Model;
@@ -29,10 +33,11 @@ pub enum Found<Value> {
 }
 
 /// A finite map from byte strings to values: one list of rows, whose keys strictly ascend in the order of
-/// their bytes.
+/// their bytes, and the places in it where the groups of keys start.
 #[derive(Debug, Drop)]
 pub struct KeyMap<V: Debug + Clone + Drop> {
     rows: Vec<Box<Row<V>>>,
+    starts: [usize; STARTS],
     alloc: Global,
 }
 
@@ -41,7 +46,8 @@ impl<V: Debug + Clone + Drop> Model for KeyMap<V> {
     ghost use Rattle.std.specs.Cmp.Lexicographic.{slice_cmp};
     ghost use Rattle.std.specs.FinMap as map;
     ghost use Rattle.std.specs.Coded.{coded_ℕ, coded_list};
-    ghost use Rattle.termwiz_input.specs.KeyRows.{AreAscending, row_entries};
+    ghost use Rattle.termwiz_input.specs.KeyRows.{row_entries};
+    ghost use Rattle.termwiz_input.specs.KeyGroups.{AreIndexed};
 
     ghost Value = { map.FinMap (slice_cmp nat_cmp) V };
 
@@ -49,7 +55,7 @@ impl<V: Debug + Clone + Drop> Model for KeyMap<V> {
 
     ghost view = { λ m. map.from_entries (row_entries m.rows.items) };
 
-    ghost invariant = { λ m. AreAscending m.rows.items };
+    ghost invariant = { λ m. AreIndexed m.rows.items m.starts };
 }
 
 impl<V: Debug + Clone + Drop> KeyMap<V> {
@@ -61,6 +67,7 @@ impl<V: Debug + Clone + Drop> KeyMap<V> {
     {
         KeyMap {
             rows: Vec::new(alloc),
+            starts: [0; STARTS],
             alloc,
         }
     }
@@ -69,16 +76,17 @@ impl<V: Debug + Clone + Drop> KeyMap<V> {
     /// value. The empty key is a key like any other.
     ///
     /// Fails only if memory is refused; the map is then unchanged, and `value` is dropped.
-    #[tactic(auto, using(crate::proofs::KeysInRows::row_inserted, crate::proofs::KeysInRows::row_replaced))]
+    #[tactic(auto, using(crate::proofs::KeysInRows::row_inserted, crate::proofs::KeysInRows::row_replaced, crate::proofs::KeyGroups::indexed_set))]
     pub fn insert(&mut self, key: &[u8], value: V) -> Result<(), AllocError>
         ensures ok { OnOk result (self.new ≡ map.insert self.old key.now value) }
         ensures err { OnErr result (self.new ≡ self.old) }
     {
-        match place_of(&self.rows, key) {
+        match place_of(&self.rows, &self.starts, key) {
             Ok(place) => self.rows[place].value = value,
             Err(place) => {
                 let row = new_row(self.alloc, key, value)?;
                 self.rows.insert(place, row)?;
+                move_later(&mut self.starts, group_of(key));
             }
         }
         Ok(())
@@ -111,9 +119,9 @@ impl<V: Debug + Clone + Drop> KeyMap<V> {
         ensures none { IfNone result.0 (NoKeyBegins self.now text.now) }
         ensures extended { IsTrue result.1 ↔ IsExtended self.now text.now }
     {
-        let count = count_up_to(&self.rows, text);
+        let count = count_up_to(&self.rows, &self.starts, text);
         (
-            longest_of(&self.rows[..count], text),
+            longest_of(&self.rows[..count], &self.starts, text),
             first_goes_on(&self.rows[count..], text),
         )
     }
@@ -123,13 +131,14 @@ impl<V: Debug + Clone + Drop> KeyMap<V> {
     ///
     /// Takes memory from the allocator of this map. Fails only if memory is refused or if the clone
     /// of a value fails.
-    #[tactic(auto, using(crate::proofs::RowClones::copies_ascend, crate::proofs::RowClones::map_cloned, crate::proofs::RowClones::map_same))]
+    #[tactic(auto, using(crate::proofs::RowClones::map_cloned, crate::proofs::RowClones::map_same))]
     pub fn clone(&self) -> Result<KeyMap<V>, AllocError>
         ensures cloned { IfOk result (IsClone V.is_clone self.now) }
         ensures same { ClonesEqual V.is_clone → IfOk result (λ copy. copy ≡ self.now) }
     {
         Ok(KeyMap {
             rows: copied(self.alloc, &self.rows)?,
+            starts: self.starts,
             alloc: self.alloc,
         })
     }

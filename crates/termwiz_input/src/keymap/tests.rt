@@ -1,6 +1,7 @@
 //! Lookups whose answers come from outside, and the map against the plain one.
 ghost use Rattle.std.specs.Prelude.{◌<◌};
 
+use super::groups::{STARTS, group_of};
 use super::plain::PlainMap;
 use super::{Found, KeyMap, cloned_keys};
 use crate::types::{KeyCode, KeyEvent};
@@ -298,6 +299,32 @@ impl Numbers {
         }
         Ok(text)
     }
+
+    // A text that begins as sequences do, and goes on with at most three of the bytes on both sides of a border between groups.
+    fn sequence(&mut self, alloc: Global) -> Result<Vec<u8>, AllocError> {
+        let mut text = Vec::new(alloc);
+        let len = self.below(4) as usize;
+        text.extend_from_slice(&b"\x1b[1"[..len])?;
+        for _ in 0..self.below(4) {
+            text.push(b"\x1a\x1b\x1cZ[\\/019:"[self.below(11) as usize])?;
+        }
+        Ok(text)
+    }
+
+    // A text of the kind that a test draws.
+    fn draw(&mut self, alloc: Global, kind: Kind) -> Result<Vec<u8>, AllocError> {
+        match kind {
+            Kind::Letters => self.text(alloc),
+            Kind::Sequences => self.sequence(alloc),
+        }
+    }
+}
+
+// Which texts a test draws.
+#[derive(Clone, Copy)]
+enum Kind {
+    Letters,
+    Sequences,
 }
 
 // Looks ten texts up in both maps.
@@ -305,11 +332,12 @@ fn assert_alike(
     rt: &impl Abort,
     alloc: Global,
     numbers: &mut Numbers,
+    kind: Kind,
     map: &KeyMap<u32>,
     plain: &PlainMap<u32>,
 ) -> Result<(), AllocError> {
     for _ in 0..10 {
-        let text = numbers.text(alloc)?;
+        let text = numbers.draw(alloc, kind)?;
         let maybe_more = numbers.below(2) == 0;
         assert_eq!(rt;
             map.lookup(&text, maybe_more),
@@ -324,17 +352,19 @@ fn assert_grow_alike(
     rt: &impl Abort,
     alloc: Global,
     numbers: &mut Numbers,
+    kind: Kind,
 ) -> Result<(), AllocError> {
     let mut map = KeyMap::new(alloc);
     let mut plain = PlainMap::new(alloc);
     map.insert(b"", 60)?;
     plain.insert(b"", 60)?;
     for value in 0u32..60 {
-        let key = numbers.text(alloc)?;
+        let key = numbers.draw(alloc, kind)?;
         map.insert(&key, value)?;
         plain.insert(&key, value)?;
-        assert_alike(rt, alloc, numbers, &map, &plain)?;
+        assert_alike(rt, alloc, numbers, kind, &map, &plain)?;
     }
+    assert_starts(rt, &map);
     Ok(())
 }
 
@@ -342,7 +372,36 @@ fn assert_grow_alike(
 fn map_and_plain_map_agree(rt: HostRuntime) -> Result<(), Fail> {
     let mut numbers = Numbers(1);
     for _ in 0..8 {
-        assert_grow_alike(&rt, rt.alloc(), &mut numbers)?;
+        assert_grow_alike(&rt, rt.alloc(), &mut numbers, Kind::Letters)?;
+        assert_grow_alike(&rt, rt.alloc(), &mut numbers, Kind::Sequences)?;
     }
+    Ok(())
+}
+
+// Each group starts after the rows whose groups are smaller, as counted.
+fn assert_starts(rt: &impl Abort, map: &KeyMap<u32>) {
+    for group in 0..STARTS {
+        let smaller = map
+            .rows
+            .iter()
+            .filter(|row| group_of(&row.key) < group)
+            .count();
+        assert_eq!(rt; map.starts[group], smaller);
+    }
+}
+
+#[test]
+fn groups_start_where_they_are_counted(rt: HostRuntime) -> Result<(), Fail> {
+    let mut descending = KeyMap::new(rt.alloc());
+    let mut mixed = KeyMap::new(rt.alloc());
+    for number in 0u32..256 {
+        let last = format!(in rt.alloc(); "\x1b[{}u", 255 - number)?;
+        descending.insert(last.as_bytes(), number)?;
+        let any = format!(in rt.alloc(); "\x1b[{}~", number * 37 % 256)?;
+        mixed.insert(any.as_bytes(), number)?;
+    }
+    assert_starts(&rt, &descending);
+    assert_starts(&rt, &mixed);
+    assert_starts(&rt, &mixed.clone()?);
     Ok(())
 }

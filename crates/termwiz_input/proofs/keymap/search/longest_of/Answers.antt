@@ -1,7 +1,9 @@
-use Rattle.std.proofs.Common.{◌≡◌, ◌≢◌, ◌∙◌, ap, sym, length, arith}
+use Rattle.std.proofs.Common.{◌≡◌, ◌≢◌, ◌∙◌, ap, sym, subst, length, arith}
 use Rattle.termwiz_input.specs.KeyRows.{key_of}
-use Rattle.termwiz_input.proofs.RowLookups.{found_last, before_ascend, fewer_left, none_left, none_at_end}
-use Rattle.termwiz_input.proofs.keymap.row.longest_of.Goals as goal
+use Rattle.termwiz_input.specs.KeyGroups.{AreStarts}
+use Rattle.termwiz_input.proofs.KeyGroups.{starts_of_front}
+use Rattle.termwiz_input.proofs.RowLookups.{found_last, before_ascend, before_is, fewer_left, none_left, none_at_end}
+use Rattle.termwiz_input.proofs.keymap.search.longest_of.Goals as goal
 
 pub returns-then-shared-len-clause-some : goal.returns-then-shared-len-clause-some
 returns-then-shared-len-clause-some g c =
@@ -14,9 +16,13 @@ returns-then-shared-len-clause-some g c =
     (ap (λ r. r.value) (sym c.deref-then-shared-len.ensures))
 
 pub count_up_to-requires : goal.count_up_to-requires
-count_up_to-requires g c =
-    before_ascend c.args.rows.now c.requires.ascending c.args.text.now c.requires.up_to c.loop-last.rest.now c.loop-last.invariant
-    c.in-Some.last.now c.in-Some.before.now c.in-Some.ensures.cases
+count_up_to-requires g c = record {
+  ascending = before_ascend c.args.rows.now c.requires.ascending c.args.text.now c.requires.up_to c.loop-last.rest.now c.loop-last.invariant
+      c.in-Some.last.now c.in-Some.before.now c.in-Some.ensures.cases;
+  starts =
+      let front = before_is c.args.rows.now c.requires.ascending c.args.text.now c.requires.up_to c.loop-last.rest.now c.loop-last.invariant c.in-Some.last.now c.in-Some.before.now c.in-Some.ensures.cases in
+      subst (λ l. AreStarts l c.args.starts.now) (sym front) (starts_of_front c.args.rows.now c.args.starts.now (length c.in-Some.before.now) c.requires.starts);
+}
 
 pub loop-last-preserved : goal.loop-last-preserved
 loop-last-preserved g c =

@@ -1,7 +1,7 @@
 use Rattle.std.proofs.Common.{◌≡◌, ◌∙◌, ap, sym, subst}
 use Rattle.termwiz_input.specs.Bytes.{Begins}
 use Rattle.termwiz_input.specs.KeyRows.{key_of}
-use Rattle.termwiz_input.proofs.keymap.row.first_goes_on.Goals as goal
+use Rattle.termwiz_input.proofs.keymap.search.first_goes_on.Goals as goal
 
 pub returns-in-Some : goal.returns-in-Some
 returns-in-Some g c =

@@ -1,0 +1,41 @@
+-- Groups of keys, by their first bytes. In the order of bytes the keys of a group stand together.
+use Rattle.std.specs.Prelude.{ℕ, ◌+◌, ◌-◌, ◌*◌, ◌<◌, ◌≤◌, List, [], ◌∷◌, length, get_or, if◌then◌else◌, nat_lt, ◌==◌}
+use Rattle.std.specs.Global.{Box}
+use Rattle.termwiz_input.specs.declared.keymap.row.Row.{Row}
+use Rattle.termwiz_input.specs.KeyRows.{key_of, AreAscending}
+
+-- among the twelve groups of ESC [ and a digit, that of what follows: nothing or a byte before the digits, each digit, and any other byte
+abbrev pub group_after_digit : List ℕ → ℕ
+group_after_digit [] = 0
+group_after_digit (b ∷ _) = if nat_lt b 48 then 0 else if nat_lt b 58 then b - 47 else 11
+
+-- the group of ESC [ and what follows it: nothing or a byte before the digits, a digit, and any other byte
+abbrev pub group_after_bracket : List ℕ → ℕ
+group_after_bracket [] = 2
+group_after_bracket (b ∷ rest) = if nat_lt b 48 then 2 else if nat_lt b 58 then 3 + 12 * (b - 48) + group_after_digit rest else 123
+
+-- the group of ESC and what follows it
+abbrev pub group_after_escape : List ℕ → ℕ
+group_after_escape [] = 1
+group_after_escape (b ∷ rest) = if nat_lt b 91 then 1 else if b == 91 then group_after_bracket rest else 124
+
+-- the group of a key, one of 126
+abbrev pub group_of : List ℕ → ℕ
+group_of [] = 0
+group_of (b ∷ rest) = if nat_lt b 27 then 0 else if b == 27 then group_after_escape rest else 125
+
+module _ {V : Type 0} where
+  -- the rows before this place are those whose groups are smaller
+  pub record IsStart (rows : List (Box (Row V))) (group place : ℕ) : Type 0 where
+    pub smaller_before : (i : ℕ) (r : Box (Row V)) → i < place → i < length rows → group_of (key_of (get_or rows i r)) < group
+    pub others_from : (i : ℕ) (r : Box (Row V)) → place ≤ i → i < length rows → group ≤ group_of (key_of (get_or rows i r))
+
+  -- where each group of rows starts, and where the last one ends
+  abbrev pub AreStarts : List (Box (Row V)) → List ℕ → Type 0
+  AreStarts rows starts = (group : ℕ) → group < 127 → IsStart rows group (get_or starts group 0)
+
+  -- ascending rows with their starts, each of which is a place among them or their end
+  pub record AreIndexed (rows : List (Box (Row V))) (starts : List ℕ) : Type 0 where
+    pub ascending : AreAscending rows
+    pub starts_are : AreStarts rows starts
+    pub within : (group : ℕ) → group < 127 → get_or starts group 0 ≤ length rows
