@@ -3,16 +3,20 @@ use Rattle.std.proofs.Common.{◌≡◌, ⊎_elim, ℕ, suc, ◌+◌, ◌<◌, �
 use Rattle.std.proofs.Math.Seq.{take-suc}
 use Rattle.std.proofs.lemmas.Str.{encode_ascii}
 use Rattle.std.specs.List.{AllByRecursion}
-use Rattle.std.specs.Prelude.{Result, Ok, Err, OnErr}
+use Rattle.std.specs.Prelude.{IfSome, None, Option, Some, Result, Ok, Err, OnErr}
 use Rattle.std.specs.Char.{IsScalar}
 use Rattle.termwiz_input.specs.declared.types.InputEvent.{InputEvent}
 use Rattle.termwiz_input.specs.declared.types.InputEvent.TheVariants.{Key}
 use Rattle.termwiz_input.specs.Keys.{plain}
 use Rattle.termwiz_input.specs.Grammar.{IsUnfinishedCharacter, HasItem, Item, Stands, Steps}
 use Rattle.termwiz_input.specs.Grammar.Item.{char}
+use Rattle.termwiz_input.specs.AtFront.{IsApartFromKnown, IsItemAt, character_of}
+use Rattle.termwiz_input.specs.declared.item.Item.{Item as FoundItem}
 use Rattle.termwiz_input.specs.Typed.{IsTyped, typed}
-use Rattle.termwiz_input.proofs.Counting.{few_events}
+use Rattle.termwiz_input.proofs.Counting.{few_events, steps_more}
 use Rattle.termwiz_input.proofs.Cutting.{steps_join}
+use Rattle.termwiz_input.proofs.Items.{item_of, character_stands}
+use Rattle.termwiz_input.proofs.Reading.{character_closed, character_front}
 use Rattle.termwiz_input.proofs.ApartFromKnown.{apart_from_known}
 use Rattle.termwiz_input.proofs.Characters.{IsHigh, unfinished_high}
 use Rattle.termwiz_input.proofs.FrameFacts.{plain_append}
@@ -54,6 +58,13 @@ pub typed_item : (u characters W : List ℕ) (more : Bool) → 0 < length charac
 typed_item u [] W more some steps = absurd (omega arith)
 typed_item u (b ∷ characters) W more some (bytes, rest, stands, splits, steps) = (bytes, Key (plain b), stands)
 
+-- a character with which no known text begins
+pub character_item : (u : List ℕ) (found : Option (ℕ × ℕ)) → IsApartFromKnown u → found ≡ character_of u
+    → IfSome found (λ f. (more : Bool) → IsItemAt u more (item_of (Key (plain f.0)) f.1))
+character_item u (Some (c, n)) apart e = λ more.
+    character_stands u more c n (character_closed u more c n (λ comes. apart.finished) (sym e)) (character_front u c n apart.unknown (sym e))
+character_item u None apart e = tt
+
 -- such characters that are stored and dropped from the front of the waiting text, as further steps
 pub typed_stored : (T u characters : List ℕ) (E stored : List InputEvent) (left : List ℕ) (more : Bool)
     → Steps u more (typed characters) (drop (length characters) u) → stored ≡ E ++ typed characters → left ≡ drop (length characters) u
@@ -66,6 +77,14 @@ pub typed_few : (u characters : List ℕ) (E stored : List InputEvent) (left : L
     → length stored + length left ≤ length E + length u
 typed_few u characters E stored left more steps items rest =
     omega (arith, few_events u (drop (length characters) u) (typed characters) more steps, ap length items, ap length rest, length-append E (typed characters))
+
+-- an item that is stored and dropped from the front of the waiting text, as a further step
+pub item_stored : (T U : List ℕ) (E stored : List InputEvent) (left : List ℕ) (more : Bool) (item : FoundItem) → IsItemAt U more item
+    → stored ≡ E ++ item.event ∷ [] → left ≡ drop item.len U → Steps T more E U → Steps T more stored left
+item_stored T U E stored left more item is items rest before = rw (items, rest) (steps_more E T U more item before is)
+
+pub item_there : (U : List ℕ) (more : Bool) (item : FoundItem) → IsItemAt U more item → HasItem U more
+item_there U more item is = (take item.len U, item.event, is.1)
 
 -- what holds holds of an error too
 pub on_err : {T F P : Type 0} (result : Result T F) → P → OnErr result P

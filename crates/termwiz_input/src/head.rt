@@ -35,7 +35,7 @@ pub(crate) fn escape_key() -> KeyEvent
 
 // The character that begins the text, and the number of its bytes.
 #[tactic(auto, unfolding(crate::specs::AtFront::character_of))]
-fn character_at(text: &[u8]) -> Option<(char, usize)>
+pub(crate) fn character_at(text: &[u8]) -> Option<(char, usize)>
     ensures { result ≡ character_of text.now }
 {
     let (found, len) = decode_utf8(text);
@@ -113,7 +113,7 @@ const SPACE: u8 = 0x20;
 const DELETE: u8 = 0x7f;
 
 // Whether the first byte of the text begins no known text: it is from 0x20 to 0x7e, or from 0x80 on.
-fn begins_apart_from_known(text: &[u8]) -> bool
+pub(crate) fn begins_apart_from_known(text: &[u8]) -> bool
     ensures { IsTrue result → IsApartFromKnown text.now }
 {
     match text {

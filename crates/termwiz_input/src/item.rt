@@ -9,7 +9,7 @@ ghost use Rattle.termwiz_input.specs.PasteSearch.{NoEndBefore};
 ghost use Rattle.termwiz_input.specs.Table.{table};
 ghost use Rattle.termwiz_input.specs.Typed.{IsTyped, typed};
 
-use crate::head::{Head, escape_key, head_at};
+use crate::head::{Head, begins_apart_from_known, character_at, escape_key, head_at};
 use crate::keymap::KeyMap;
 use crate::paste::{begins_paste, paste_at};
 use crate::types::{InputEvent, KeyCode, KeyEvent};
@@ -35,7 +35,7 @@ fn key_item(key: KeyEvent, len: usize) -> Item
 }
 
 // The key of a character, alone.
-fn plain_key(character: char) -> KeyEvent
+pub(crate) fn plain_key(character: char) -> KeyEvent
     ensures { result ≡ plain character }
 {
     KeyEvent {
@@ -81,6 +81,17 @@ pub(crate) fn append_typed(events: &mut Vec<InputEvent>, characters: &[u8])
 {
     for byte in characters {
         events.push_reserved(InputEvent::Key(plain_key(char::from(*byte))));
+    }
+}
+
+// The character at the front of a text with which no known text begins, and the number of its bytes: an item of its own.
+pub(crate) fn character_front(text: &[u8]) -> Option<(char, usize)>
+    ensures { IfSome result (λ found. (more : Bool) → IsItemAt text.now more (record { event = InputEvent.Key (plain found.0); len = found.1 })) }
+{
+    if begins_apart_from_known(text) {
+        character_at(text)
+    } else {
+        None
     }
 }
 
