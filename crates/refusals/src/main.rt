@@ -212,7 +212,8 @@ fn print_events(rt: &HostRuntime, call: &str, events: &[InputEvent]) {
 
 fn show_parse_as_vec(rt: &HostRuntime) -> Result<(), Failure> {
     let mut parser = InputParser::new(rt.alloc())?;
-    let lists = parses::parse_as_vec(rt.alloc(), &mut parser, b"hello").map_err(
+    let text = b"hi\x1b[200~ab\x1b[201~";
+    let lists = parses::parse_as_vec(rt.alloc(), &mut parser, text).map_err(
         |_| Failure::Failed,
     )?;
     print_events(rt, "first", lists.first.as_slice());
