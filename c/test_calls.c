@@ -124,7 +124,7 @@ static void gives_pastes(tw_parser *parser) {
   EXPECT(tw_parser_paste(parser, room, 8) == 0 && memcmp(room, "abc\303\251...", 8) == 0);
 }
 
-/* A folded copy of an event: fields one after another. */
+/* Appends the fields of an event to `notes` as text. Returns where they end. */
 static size_t note(char *notes, size_t at, const tw_event *e) {
   return at + (size_t)sprintf(notes + at, "%u %u %u %u %u %u %u %zu,", e->kind, e->buttons, e->modifiers, e->key, e->x, e->y,
                               (unsigned)e->detail, e->paste_len);

@@ -85,13 +85,13 @@ impl Feeder {
 
     // `ROW,ROW,.. = NEXT = A = B = C`.
     fn check_rows(&mut self, line: &str) {
-        let [rows, next, alone, behind_escape, before_next] = line.split(" = ").collect::<Vec<_>>()[..] else {
+        let [rows, next, alone, after_escape, before_next] = line.split(" = ").collect::<Vec<_>>()[..] else {
             panic!("{line}");
         };
         for row in rows.split(',').map(bytes) {
             let escaped = [b"\x1b", &row[..]].concat();
             let followed = [&row[..], &bytes(next)].concat();
-            for (text, wanted) in [(&row, alone), (&escaped, behind_escape), (&followed, before_next)] {
+            for (text, wanted) in [(&row, alone), (&escaped, after_escape), (&followed, before_next)] {
                 if wanted != "-" {
                     self.check_whole(text, wanted);
                 }
@@ -139,7 +139,7 @@ fn cases() {
     println!("{} lines, {} feedings", cases().count(), feeder.feedings);
 }
 
-// The modes of a number, as the file's description numbers them.
+// The modes of a number, as crates/replay/src/encodings.rt numbers them.
 fn modes(number: u32) -> KeyCodeEncodeModes {
     KeyCodeEncodeModes {
         encoding: if number & 16 == 0 {
