@@ -1,5 +1,5 @@
 // Puts rows into a key map that differ in their suffixes and keys alone.
-ghost use Rattle.std.specs.Prelude.{◌≡◌, OnOk};
+ghost use Rattle.std.specs.Prelude.{◌≡◌, ◌++◌, OnOk, string_bytes};
 ghost use Rattle.termwiz_input.specs.Keys.{key_with};
 ghost use Rattle.termwiz_input.specs.Table.{with_rows, key_with_each_suffix, keys_with_each_suffix, keys_with_modifiers};
 ghost use Rattle.termwiz_input.specs.Suffixes.{suffixes_with_bits, keys_with_texts, held_together};
@@ -27,6 +27,16 @@ fn together(modifiers: &[Modifiers]) -> Modifiers
         .fold(Modifiers::NONE, |held, modifier| held.union(*modifier))
 }
 
+// Sets a text to three others, one after another. It keeps its memory, so that one text serves many rows.
+fn join_into(text: &mut String, front: &str, middle: &str, end: &str) -> Result<(), AllocError>
+    ensures { OnOk result (string_bytes text.new ≡ front.now ++ middle.now ++ end.now) }
+{
+    text.clear();
+    text.push_str(front)?;
+    text.push_str(middle)?;
+    text.push_str(end)
+}
+
 // One key with each suffix, between a front and an end.
 pub(super) fn insert_suffixed(
     alloc: Global,
@@ -38,8 +48,9 @@ pub(super) fn insert_suffixed(
 ) -> Result<(), AllocError>
     ensures { OnOk result (keys.new ≡ with_rows keys.old (key_with_each_suffix front.now (suffixes_with_bits suffixes.now) end.now key)) }
 {
+    let mut bytes = String::new(alloc);
     for (suffix, held) in suffixes {
-        let bytes = format!(in alloc; "{front}{suffix}{end}")?;
+        join_into(&mut bytes, front, suffix, end)?;
         keys.insert(bytes.as_bytes(), key_with(key, together(held)))?;
     }
     Ok(())
@@ -71,8 +82,9 @@ pub(super) fn insert_each_with(
 ) -> Result<(), AllocError>
     ensures { OnOk result (keys.new ≡ with_rows keys.old (keys_with_modifiers front.now (keys_with_texts list.now) modifiers.0)) }
 {
+    let mut bytes = String::new(alloc);
     for (end, key) in list {
-        let bytes = format!(in alloc; "{front}{end}")?;
+        join_into(&mut bytes, front, "", end)?;
         keys.insert(bytes.as_bytes(), key_with(*key, modifiers))?;
     }
     Ok(())

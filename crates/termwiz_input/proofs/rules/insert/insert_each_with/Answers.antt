@@ -1,4 +1,4 @@
-use Rattle.std.proofs.Common.{◌∙◌, ◌++◌}
+use Rattle.std.proofs.Common.{◌∙◌, ◌++◌, append-nil}
 use Rattle.std.proofs.lemmas.List.{map_more}
 use Rattle.termwiz_input.specs.Keys.{key_with}
 use Rattle.termwiz_input.proofs.Rows.{row_pushed}
@@ -10,5 +10,5 @@ loop-end-preserved c =
     ∙ row_pushed _ _ (λ k. (c.args.front.now ++ k.0, key_with k.1 c.args.modifiers.0)) _ _ _ _ _
     (map_more (λ k. (k.0.now, k.1)) _ _ _ c.loop-end-test.true)
     c.loop-end.invariant
-    (c.as_bytes.ensures.value ∙ c.in_ok-bytes.ensures.ok)
+    (c.as_bytes.ensures.value ∙ rw (append-nil c.args.front.now) at c.in_ok-join_into.ensures)
     c.key_with.ensures

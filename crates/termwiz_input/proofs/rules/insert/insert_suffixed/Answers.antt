@@ -1,4 +1,4 @@
-use Rattle.std.proofs.Common.{◌∙◌, ◌++◌, ap, sym, append_assoc}
+use Rattle.std.proofs.Common.{◌∙◌, ◌++◌, ap}
 use Rattle.std.proofs.lemmas.List.{map_more}
 use Rattle.termwiz_input.specs.Keys.{key_with}
 use Rattle.termwiz_input.specs.Suffixes.{held_together}
@@ -11,5 +11,5 @@ loop-suffix-preserved c =
     ∙ row_pushed _ _ (λ s. (c.args.front.now ++ s.0 ++ c.args.end.now, key_with c.args.key s.1)) _ _ _ _ _
     (map_more (λ s. (s.0.now, (held_together s.1.now).0)) _ _ _ c.loop-suffix-test.true)
     c.loop-suffix.invariant
-    (c.as_bytes.ensures.value ∙ c.in_ok-bytes.ensures.ok ∙ sym (append_assoc c.args.front.now _ c.args.end.now))
+    (c.as_bytes.ensures.value ∙ c.in_ok-join_into.ensures)
     (c.key_with.ensures ∙ ap (λ m. key_with c.args.key m.0) c.together.ensures)
