@@ -28,7 +28,8 @@ use single::{
 };
 use std::alloc::{AllocError, Global};
 
-// All rows, rule by rule.
+// All rows, rule by rule: first those whose bytes come first, as far as rules go, since a row that is inserted moves all that come
+// after it.
 #[tactic(auto, using(crate::proofs::Rows::joined_rows), unfolding(crate::specs::Table::rows))]
 pub(crate) fn add_rows(alloc: Global, keys: &mut KeyMap<KeyEvent>) -> Result<(), AllocError>
     ensures { OnOk result (keys.new ≡ with_rows keys.old rows) }
@@ -40,23 +41,23 @@ pub(crate) fn add_rows(alloc: Global, keys: &mut KeyMap<KeyEvent>) -> Result<(),
     escape_byte(keys)?;
     alt_letters(keys)?;
     alt_bracket(keys)?;
-    shift_tab(keys)?;
-    csi_u(alloc, keys)?;
-    modify_other_keys(alloc, keys)?;
-    cursor_keys(alloc, keys)?;
-    modified_cursor_keys(alloc, keys)?;
-    shift_arrows(alloc, keys)?;
     ctrl_arrows(alloc, keys)?;
     application_arrows(alloc, keys)?;
     modified_application_arrows(alloc, keys)?;
     ss3_function_keys(alloc, keys)?;
+    application_home_end(alloc, keys)?;
+    modified_cursor_keys(alloc, keys)?;
     lettered_function_keys(alloc, keys)?;
-    numbered_function_keys(alloc, keys)?;
-    edit_keys(alloc, keys)?;
+    ctrl_shift_tab(keys)?;
     paste_start(keys)?;
     paste_end(keys)?;
-    modified_edit_keys(alloc, keys)?;
+    numbered_function_keys(alloc, keys)?;
+    modify_other_keys(alloc, keys)?;
+    csi_u(alloc, keys)?;
     high_function_keys(alloc, keys)?;
-    application_home_end(alloc, keys)?;
-    ctrl_shift_tab(keys)
+    modified_edit_keys(alloc, keys)?;
+    edit_keys(alloc, keys)?;
+    cursor_keys(alloc, keys)?;
+    shift_tab(keys)?;
+    shift_arrows(alloc, keys)
 }
