@@ -213,9 +213,7 @@ fn print_events(rt: &HostRuntime, call: &str, events: &[InputEvent]) {
 fn show_parse_as_vec(rt: &HostRuntime) -> Result<(), Failure> {
     let mut parser = InputParser::new(rt.alloc())?;
     let text = b"hi\x1b[200~ab\x1b[201~";
-    let lists = parses::parse_as_vec(rt.alloc(), &mut parser, text).map_err(
-        |_| Failure::Failed,
-    )?;
+    let lists = parses::parse_as_vec(rt.alloc(), &mut parser, text).map_err(|_| Failure::Failed)?;
     print_events(rt, "first", lists.first.as_slice());
     print_events(rt, "later", lists.later.as_slice());
     Ok(print_stop(rt, lists.stop, &parser)?)
