@@ -9,7 +9,9 @@ ghost use Rattle.termwiz_input.specs.Pieces.{AreNumbered, NumberedEvent, ReadsFi
 ghost use Rattle.termwiz_input.specs.declared.types.InputEvent.{InputEvent as Event};
 
 pub use crate::encode::{CSI, EncodeError, KeyCodeEncodeModes, KeyboardEncoding, SS3};
-use crate::item::{Item, append_typed, character_front, item_at, plain_key, typed_front};
+use crate::item::{
+    Item, append_typed, character_front, frame_front, item_at, plain_key, typed_front,
+};
 use crate::keymap::KeyMap;
 use crate::paste::{begins_paste, next_search};
 use crate::readbuf::ReadBuffer;
@@ -406,6 +408,21 @@ impl InputParser {
         }
     }
 
+    // Moves the events of the mouse frames at the front of the waiting text to the list.
+    fn store_frames(&mut self, events: &mut Vec<InputEvent>) -> Result<(), AllocError>
+        ensures steps { (text : List ℕ) (more : Bool) → Steps text more events.old.items self.old → Steps text more events.new.items self.new }
+        ensures few { length events.new.items + length self.new ≤ length events.old.items + length self.old }
+        ensures left { length self.new ≤ length self.old }
+        ensures item { OnErr result ((more : Bool) → HasItem self.new more) }
+    {
+        while let Some((event, len)) = frame_front(self.buffer.as_slice()) {
+            self.make_room(events, 1)?;
+            events.push_reserved(InputEvent::Mouse(event));
+            self.consume(len);
+        }
+        Ok(())
+    }
+
     // Moves the events of the waiting text to an empty list, in order. An event leaves the parser only after it is stored.
     fn store_events(
         &mut self,
@@ -420,6 +437,7 @@ impl InputParser {
     {
         loop {
             self.store_characters(events)?;
+            self.store_frames(events)?;
             match self.find_item(maybe_more)? {
                 Some(Item { event, len }) => {
                     self.make_room(events, 1)?;

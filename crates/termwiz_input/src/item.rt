@@ -9,10 +9,12 @@ ghost use Rattle.termwiz_input.specs.PasteSearch.{NoEndBefore};
 ghost use Rattle.termwiz_input.specs.Table.{table};
 ghost use Rattle.termwiz_input.specs.Typed.{IsTyped, typed};
 
+use crate::bytes::begins_with;
+use crate::frame::{FrontFrame, INTRODUCER, frame_at};
 use crate::head::{Head, begins_apart_from_known, character_at, escape_key, head_at};
 use crate::keymap::KeyMap;
 use crate::paste::{begins_paste, paste_at};
-use crate::types::{InputEvent, KeyCode, KeyEvent};
+use crate::types::{InputEvent, KeyCode, KeyEvent, MouseEvent};
 use std::alloc::{AllocError, Global};
 use std::char::REPLACEMENT_CHARACTER;
 use termwiz_base::{Flags, Modifiers};
@@ -92,6 +94,19 @@ pub(crate) fn character_front(text: &[u8]) -> Option<(char, usize)>
         character_at(text)
     } else {
         None
+    }
+}
+
+// The mouse event of the frame at the front of a text, and the number of its bytes: an item of its own.
+pub(crate) fn frame_front(text: &[u8]) -> Option<(MouseEvent, usize)>
+    ensures { IfSome result (λ found. (more : Bool) → IsItemAt text.now more (record { event = InputEvent.Mouse found.0; len = found.1 })) }
+{
+    if !begins_with(text, INTRODUCER) {
+        return None;
+    }
+    match frame_at(text) {
+        FrontFrame::Whole(event, len) => Some((event, len)),
+        FrontFrame::Begun | FrontFrame::Absent => None,
     }
 }
 
