@@ -19,7 +19,7 @@ use Rattle.termwiz_input.specs.Keys.{NONE, SHIFT, ALT, CTRL, key_with}
 use Rattle.termwiz_input.specs.KeyCodes.{holds, shifted}
 use Rattle.termwiz_input.specs.Table.{numbers, written_out}
 use Rattle.termwiz_input.specs.Enc.{enc, key_text, normal_key, normal_held, sideless, shows_shift, named_key, char_text, plain_char_text, other_text, other_keys_form, backspace_text, enter_text, escape_text, tab_text, tab_alone, escape_if_alt, cursor_text, application_text, edit_text, lettered_function_text, numbered_function_text, function_text, is_level, stays_at_one}
-use Rattle.termwiz_input.specs.Listed.{any_of_three, cursor_and_function_keys, keys_without_modifiers, edit_and_high_function_keys, IsSharedLetter, IsListedAt, IsListedWhere, IsListed, ReadsBack, csi_u, modifiers_of, CsiUReadsBack}
+use Rattle.termwiz_input.specs.Listed.{any_of_three, cursor_and_function_keys, keys_without_modifiers, edit_and_high_function_keys, IsSharedLetter, IsListedAt, IsListedInMode, IsListed, ReadsBack, csi_u, modifiers_of, CsiUReadsBack}
 use Rattle.termwiz_input.specs.Listed.IsListedAt.{any_modifiers, no_modifiers, character, alt_character, none_or_alt, ctrl_letter, tab_with_alt_and_shift, tab_with_ctrl_and_shift, edit_or_high_function, tab_or_enter, ctrl_character, ctrl_shift_character, escape_or_backspace}
 use Rattle.termwiz_input.proofs.Members.{joined, pairs, in_map, in_pairs, in_filter, in_first, in_later, in_numbers, same_on}
 use Rattle.termwiz_input.proofs.Readings.{reading, reading_means, rows_for, rows_for_are, csi_u_rows_of, csi_u_are}
@@ -334,7 +334,7 @@ line_reads k h l (escape_or_backspace key held a b) =
     other_at_two (pairs (Escape ∷ Backspace ∷ []) any_of_three) key held (2, lit< tt, refl) (in_pairs (Escape ∷ Backspace ∷ []) any_of_three key held a b)
 
 -- the same by whether application cursor keys are on
-mode_reads : (cursor_keys : Bool) (key : KeyCode) (held : ℕ) (level : Option ℤ) → IsListedWhere cursor_keys key held level → ReadsBack key (bits held) (modes_at cursor_keys level)
+mode_reads : (cursor_keys : Bool) (key : KeyCode) (held : ℕ) (level : Option ℤ) → IsListedInMode cursor_keys key held level → ReadsBack key (bits held) (modes_at cursor_keys level)
 mode_reads false key held level is = line_reads key held level is
 mode_reads true key held level is =
     subst (λ l. ReadsBack key (bits held) (modes_at true l)) (sym is.off)

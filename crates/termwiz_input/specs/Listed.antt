@@ -73,15 +73,15 @@ pub record IsListedInApplicationMode (key : KeyCode) (held : ℕ) (level : Optio
   pub off : level ≡ None
 
 -- The same, by whether application cursor keys are on.
-abbrev pub IsListedWhere : Bool → KeyCode → ℕ → Option ℤ → Type 0
-IsListedWhere false key held level = IsListedAt key held level
-IsListedWhere true key held level = IsListedInApplicationMode key held level
+abbrev pub IsListedInMode : Bool → KeyCode → ℕ → Option ℤ → Type 0
+IsListedInMode false key held level = IsListedAt key held level
+IsListedInMode true key held level = IsListedInApplicationMode key held level
 
 -- The key, the modifiers and the modes are listed: xterm's encoding, with newline mode off, and one of the lines.
 pub record IsListed (key : KeyCode) (modifiers : Modifiers) (modes : KeyCodeEncodeModes) : Type 0 where
   pub xterm : modes.encoding ≡ Xterm
   pub newline : modes.newline_mode ≡ false
-  pub line : IsListedWhere modes.application_cursor_keys key modifiers.0 modes.modify_other_keys
+  pub line : IsListedInMode modes.application_cursor_keys key modifiers.0 modes.modify_other_keys
 
 -- The key has a text, which means exactly that key with those modifiers.
 abbrev pub ReadsBack : KeyCode → Modifiers → KeyCodeEncodeModes → Type 0
