@@ -192,7 +192,7 @@ impl InputParser {
     pub fn feed(&mut self, bytes: &[u8]) -> Result<(), AllocError>
         ensures ok { OnOk result (self.new ≡ self.old ++ bytes.now) }
         ensures err { OnErr result (self.new ≡ self.old) }
-        ensures some { OnErr result (bytes.now ≢ []) }
+        ensures no_bytes { OnErr result (bytes.now ≢ []) }
     {
         self.buffer.extend_with(bytes)
     }
