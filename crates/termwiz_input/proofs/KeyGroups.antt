@@ -14,25 +14,26 @@ use Rattle.std.proofs.lemmas.List.Edits.{length-insert, get_or-insert_below, get
 use Rattle.std.proofs.lemmas.List.Elements.{AllZip-get_or, length_all_zip}
 use Rattle.std.specs.Global.{Box}
 use Rattle.termwiz_input.specs.declared.keymap.row.Row.{Row}
+use Rattle.termwiz_input.specs.declared.keymap.groups.TheConstants.{BEFORE_ESCAPE, BEFORE_BRACKET, BEFORE_DIGITS, DIGITS, PER_DIGIT, AFTER_DIGITS, AFTER_BRACKET, AFTER_ESCAPE, STARTS}
 use Rattle.termwiz_input.specs.KeyRows.{key_of, AreAscending, IsAt, IsGapFor, IsBounded, IsRowClone, AreRowClones}
-use Rattle.termwiz_input.specs.KeyGroups.{group_after_digit, group_after_bracket, group_after_escape, group_of, IsStart, AreStarts, AreIndexed}
+use Rattle.termwiz_input.specs.KeyGroups.{RisesWithKeys, group_after_digit, group_after_bracket, group_after_escape, group_of, IsStart, AreStarts, AreIndexed}
 use Rattle.termwiz_input.proofs.KeyOrder.{Before, first_bytes, turned}
 use Rattle.termwiz_input.proofs.RowLookups.{key_in_front}
 
 -- a first byte before another
-digit_less : (x y : ℕ) → x < y → (if nat_lt x 48 then 0 else if nat_lt x 58 then x - 47 else 11) ≤ (if nat_lt y 48 then 0 else if nat_lt y 58 then y - 47 else 11)
+digit_less : (x y : ℕ) → x < y → (if nat_lt x 48 then 0 else if nat_lt x 58 then x - 47 else PER_DIGIT - 1) ≤ (if nat_lt y 48 then 0 else if nat_lt y 58 then y - 47 else PER_DIGIT - 1)
 digit_less x y less = grind (arith, nat_tests)
 
-digit_bound : (b : ℕ) → (if nat_lt b 48 then 0 else if nat_lt b 58 then b - 47 else 11) ≤ 11
+digit_bound : (b : ℕ) → (if nat_lt b 48 then 0 else if nat_lt b 58 then b - 47 else PER_DIGIT - 1) < PER_DIGIT
 digit_bound b = grind (arith, nat_tests)
 
-bracket_less : (x y r s : ℕ) → x < y → r ≤ 11 → s ≤ 11 → (if nat_lt x 48 then 2 else if nat_lt x 58 then 3 + 12 * (x - 48) + r else 123) ≤ (if nat_lt y 48 then 2 else if nat_lt y 58 then 3 + 12 * (y - 48) + s else 123)
+bracket_less : (x y r s : ℕ) → x < y → r < PER_DIGIT → s < PER_DIGIT → (if nat_lt x 48 then BEFORE_DIGITS else if nat_lt x 58 then DIGITS + PER_DIGIT * (x - 48) + r else AFTER_DIGITS) ≤ (if nat_lt y 48 then BEFORE_DIGITS else if nat_lt y 58 then DIGITS + PER_DIGIT * (y - 48) + s else AFTER_DIGITS)
 bracket_less x y r s less a b = grind (arith, nat_tests)
 
-bracket_same : (x r s : ℕ) → r ≤ s → (if nat_lt x 48 then 2 else if nat_lt x 58 then 3 + 12 * (x - 48) + r else 123) ≤ (if nat_lt x 48 then 2 else if nat_lt x 58 then 3 + 12 * (x - 48) + s else 123)
+bracket_same : (x r s : ℕ) → r ≤ s → (if nat_lt x 48 then BEFORE_DIGITS else if nat_lt x 58 then DIGITS + PER_DIGIT * (x - 48) + r else AFTER_DIGITS) ≤ (if nat_lt x 48 then BEFORE_DIGITS else if nat_lt x 58 then DIGITS + PER_DIGIT * (x - 48) + s else AFTER_DIGITS)
 bracket_same x r s less = grind (arith, nat_tests)
 
-bracket_bounds : (x r : ℕ) → r ≤ 11 → (2 ≤ (if nat_lt x 48 then 2 else if nat_lt x 58 then 3 + 12 * (x - 48) + r else 123)) × ((if nat_lt x 48 then 2 else if nat_lt x 58 then 3 + 12 * (x - 48) + r else 123) ≤ 123)
+bracket_bounds : (x r : ℕ) → r < PER_DIGIT → (BEFORE_DIGITS ≤ (if nat_lt x 48 then BEFORE_DIGITS else if nat_lt x 58 then DIGITS + PER_DIGIT * (x - 48) + r else AFTER_DIGITS)) × ((if nat_lt x 48 then BEFORE_DIGITS else if nat_lt x 58 then DIGITS + PER_DIGIT * (x - 48) + r else AFTER_DIGITS) ≤ AFTER_DIGITS)
 bracket_bounds x r a = (grind (arith, nat_tests), grind (arith, nat_tests))
 
 -- a first byte against the one of which the groups are parted further
@@ -48,7 +49,7 @@ parted_low low high at x r a b = grind (arith, nat_tests)
 parted_high : (low high at x r : ℕ) → r ≤ high → low ≤ high → (if nat_lt x at then low else if x == at then r else high) ≤ high
 parted_high low high at x r a b = grind (arith, nat_tests)
 
-after_digit_small : (k : List ℕ) → group_after_digit k ≤ 11
+after_digit_small : (k : List ℕ) → group_after_digit k < PER_DIGIT
 after_digit_small [] = omega arith
 after_digit_small (b ∷ k) = digit_bound b
 
@@ -57,7 +58,7 @@ after_digit_rises [] y before = omega arith
 after_digit_rises (a ∷ x) [] before = absurd (cc (before))
 after_digit_rises (a ∷ x) (b ∷ y) before = ⊎_elim (λ (less : a < b). digit_less a b less) (λ p. rw p.0 (omega arith)) (first_bytes a b x y before)
 
-after_bracket_bounds : (k : List ℕ) → (2 ≤ group_after_bracket k) × (group_after_bracket k ≤ 123)
+after_bracket_bounds : (k : List ℕ) → (BEFORE_DIGITS ≤ group_after_bracket k) × (group_after_bracket k ≤ AFTER_DIGITS)
 after_bracket_bounds [] = (omega arith, omega arith)
 after_bracket_bounds (b ∷ k) = bracket_bounds b (group_after_digit k) (after_digit_small k)
 
@@ -69,11 +70,11 @@ after_bracket_rises (a ∷ x) (b ∷ y) before = ⊎_elim
     (λ p. rw p.0 (bracket_same b (group_after_digit x) (group_after_digit y) (after_digit_rises x y p.1)))
     (first_bytes a b x y before)
 
-after_escape_bounds : (k : List ℕ) → (1 ≤ group_after_escape k) × (group_after_escape k ≤ 124)
+after_escape_bounds : (k : List ℕ) → (BEFORE_BRACKET ≤ group_after_escape k) × (group_after_escape k ≤ AFTER_BRACKET)
 after_escape_bounds [] = (omega arith, omega arith)
 after_escape_bounds (b ∷ k) =
     let inner = after_bracket_bounds k in
-    (parted_low 1 124 91 b (group_after_bracket k) (omega (arith, inner.0)) (omega arith), parted_high 1 124 91 b (group_after_bracket k) (omega (arith, inner.1)) (omega arith))
+    (parted_low BEFORE_BRACKET AFTER_BRACKET 91 b (group_after_bracket k) (omega (arith, inner.0)) (omega arith), parted_high BEFORE_BRACKET AFTER_BRACKET 91 b (group_after_bracket k) (omega (arith, inner.1)) (omega arith))
 
 after_escape_rises : (x y : List ℕ) → Before x y → group_after_escape x ≤ group_after_escape y
 after_escape_rises [] y before = (after_escape_bounds y).0
@@ -82,20 +83,20 @@ after_escape_rises (a ∷ x) (b ∷ y) before =
     let first = after_bracket_bounds x in
     let second = after_bracket_bounds y in
     ⊎_elim
-    (λ (less : a < b). parted_less 1 124 91 a b (group_after_bracket x) (group_after_bracket y) less (omega (arith, first.0)) (omega (arith, first.1)) (omega (arith, second.0)) (omega (arith, second.1)))
-    (λ p. rw p.0 (parted_same 1 124 91 b (group_after_bracket x) (group_after_bracket y) (after_bracket_rises x y p.1)))
+    (λ (less : a < b). parted_less BEFORE_BRACKET AFTER_BRACKET 91 a b (group_after_bracket x) (group_after_bracket y) less (omega (arith, first.0)) (omega (arith, first.1)) (omega (arith, second.0)) (omega (arith, second.1)))
+    (λ p. rw p.0 (parted_same BEFORE_BRACKET AFTER_BRACKET 91 b (group_after_bracket x) (group_after_bracket y) (after_bracket_rises x y p.1)))
     (first_bytes a b x y before)
 
 -- no key is in an earlier group than a key before it
-group_rises : (x y : List ℕ) → Before x y → group_of x ≤ group_of y
+pub group_rises : RisesWithKeys group_of
 group_rises [] y before = omega arith
 group_rises (a ∷ x) [] before = absurd (cc (before))
 group_rises (a ∷ x) (b ∷ y) before =
     let first = after_escape_bounds x in
     let second = after_escape_bounds y in
     ⊎_elim
-    (λ (less : a < b). parted_less 0 125 27 a b (group_after_escape x) (group_after_escape y) less (omega arith) (omega (arith, first.1)) (omega arith) (omega (arith, second.1)))
-    (λ p. rw p.0 (parted_same 0 125 27 b (group_after_escape x) (group_after_escape y) (after_escape_rises x y p.1)))
+    (λ (less : a < b). parted_less BEFORE_ESCAPE AFTER_ESCAPE 27 a b (group_after_escape x) (group_after_escape y) less (omega arith) (omega (arith, first.1)) (omega arith) (omega (arith, second.1)))
+    (λ p. rw p.0 (parted_same BEFORE_ESCAPE AFTER_ESCAPE 27 b (group_after_escape x) (group_after_escape y) (after_escape_rises x y p.1)))
     (first_bytes a b x y before)
 
 -- a key in a later group is after one in an earlier
@@ -150,7 +151,7 @@ module _ {V : Type 0} where
       }
 
   -- where no row is, every start is the first place
-  pub indexed_none : (starts : List ℕ) → ((group : ℕ) → group < 127 → get_or starts group 0 ≡ 0) → AreIndexed {V = V} [] starts
+  pub indexed_none : (starts : List ℕ) → ((group : ℕ) → group < STARTS → get_or starts group 0 ≡ 0) → AreIndexed {V = V} [] starts
   indexed_none starts zeros = record {
     ascending = λ i j r less inside. absurd (omega arith);
     starts_are = λ group small. record { smaller_before = λ i r below inside. absurd (omega arith); others_from = λ i r from inside. absurd (omega arith) };
@@ -186,7 +187,7 @@ module _ {V : Type 0} where
       indexed_alike rows copies starts len (λ i r inside. let one = AllZip-get_or (IsRowClone is_clone) rows copies i r r these inside in one.key) is
 
   module _ (rows : List (Box (Row V))) (starts : List ℕ) (is : AreIndexed rows starts) (key : List ℕ) (place : ℕ) (gap : IsGapFor rows key place) (row : Box (Row V)) (key_is : key_of row ≡ key)
-      (moved : List ℕ) (are_moved : (other : ℕ) → other < 127 → get_or moved other 0 ≡ (if nat_lt (group_of key) other then get_or starts other 0 + 1 else get_or starts other 0)) where
+      (moved : List ℕ) (are_moved : (other : ℕ) → other < STARTS → get_or moved other 0 ≡ (if nat_lt (group_of key) other then get_or starts other 0 + 1 else get_or starts other 0)) where
     abbrev wider : List (Box (Row V))
     wider = insert rows place row
 
@@ -229,7 +230,7 @@ module _ {V : Type 0} where
         p)
         (key_at i r)
 
-    module _ (group : ℕ) (small : group < 127) where
+    module _ (group : ℕ) (small : group < STARTS) where
       abbrev start : ℕ
       start = get_or starts group 0
 
