@@ -1,6 +1,6 @@
 // Rules whose sequences give a character by its number.
-ghost use Rattle.std.specs.Prelude.{◌≡◌, OnOk};
-ghost use Rattle.termwiz_input.specs.Table.{with_rows, key_of_code, csi_u_rows, modify_other_keys_rows};
+ghost use Rattle.std.specs.Prelude.{◌≡◌, ◌≤◌, ◌-◌, flat_map, OnOk};
+ghost use Rattle.termwiz_input.specs.Table.{with_rows, numbers, key_of_code, csi_u_of, csi_u_rows, high_csi_u_rows, modify_other_keys_rows};
 
 use super::insert::insert_suffixed;
 use super::lists::{BEFORE_NINE, SUFFIXES};
@@ -8,18 +8,39 @@ use crate::keymap::KeyMap;
 use crate::types::{KeyCode, KeyEvent};
 use std::alloc::{AllocError, Global};
 
-// ESC [ c s u, c from 0 to 127 in decimal: the character c, with the modifiers of the suffix s.
-#[tactic(auto, unfolding(crate::specs::Table::csi_u_rows))]
-pub(super) fn csi_u(alloc: Global, keys: &mut KeyMap<KeyEvent>) -> Result<(), AllocError>
-    ensures { OnOk result (keys.new ≡ with_rows keys.old csi_u_rows) }
+// ESC [ c s u, for c in decimal from a first one up to a limit: the character c, with the modifiers of the suffix s.
+fn insert_csi_u(
+    alloc: Global,
+    keys: &mut KeyMap<KeyEvent>,
+    first: u8,
+    limit: u8,
+) -> Result<(), AllocError>
+    requires { first ≤ limit }
+    ensures { OnOk result (keys.new ≡ with_rows keys.old (flat_map csi_u_of (numbers first (limit - first)))) }
 {
     let suffixes = &SUFFIXES[..BEFORE_NINE];
-    for code in 0..128u8 {
+    for code in first..limit {
         let front = format!(in alloc; "\x1b[{code}")?;
         let key = character_of_code(code);
         insert_suffixed(alloc, keys, front.as_str(), suffixes, "u", key)?;
     }
     Ok(())
+}
+
+// The same for c from 0 to 99.
+#[tactic(auto, unfolding(crate::specs::Table::csi_u_rows))]
+pub(super) fn csi_u(alloc: Global, keys: &mut KeyMap<KeyEvent>) -> Result<(), AllocError>
+    ensures { OnOk result (keys.new ≡ with_rows keys.old csi_u_rows) }
+{
+    insert_csi_u(alloc, keys, 0, 100)
+}
+
+// The same for c from 100 to 127.
+#[tactic(auto, unfolding(crate::specs::Table::high_csi_u_rows))]
+pub(super) fn high_csi_u(alloc: Global, keys: &mut KeyMap<KeyEvent>) -> Result<(), AllocError>
+    ensures { OnOk result (keys.new ≡ with_rows keys.old high_csi_u_rows) }
+{
+    insert_csi_u(alloc, keys, 100, 128)
 }
 
 // ESC [27 s ; c ~, c from 0 to 127 in decimal and s not empty: the key of c, with the modifiers of s.

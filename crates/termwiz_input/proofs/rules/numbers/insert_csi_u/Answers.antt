@@ -1,0 +1,15 @@
+use Rattle.std.proofs.Common.{◌≡◌, ◌-◌, ap, sym, arith}
+use Rattle.std.specs.Prelude.{flat_map}
+use Rattle.termwiz_input.specs.Table.{with_rows, numbers, csi_u_of}
+use Rattle.termwiz_input.proofs.Rows.{rows_pushed, numbers_none, numbers_up_to}
+use Rattle.termwiz_input.proofs.rules.numbers.insert_csi_u.Goals as goal
+
+pub loop-code-init : goal.loop-code-init
+loop-code-init c =
+    let none : c.args.first - c.args.first ≡ 0 = omega arith in
+    rw none (ap (λ xs. with_rows c.args.keys.now (flat_map csi_u_of xs)) (sym (numbers_none c.args.first)))
+
+pub loop-code-preserved : goal.loop-code-preserved
+loop-code-preserved c =
+    rows_pushed _ _ _ csi_u_of _ _ _ (numbers_up_to c.args.first c.loop-code.code-counter c.loop-code.auto.code-counter) c.loop-code.invariant
+    (rw (c.as_str.ensures.value, c.in_ok-front.ensures.ok, c.character_of_code-key.ensures) at c.in_ok-insert_suffixed.ensures)
