@@ -34,6 +34,29 @@ in_flat_map_filter f p (x ∷ xs) y h = go (p x) refl (λ c. in_flat_map_filter 
         (Contains-append_cases (f x) (flat_map f (filter p xs)) y (rw e at h))
     go false e later = Contains-append_right (f x) (flat_map f xs) y (later (rw e at h))
 
+pub in_map_filter : {X Y : Type 0} (f : X → Y) (p : X → Bool) (xs : List X) (y : Y) → Contains (map f (filter p xs)) y → Contains (map f xs) y
+in_map_filter f p [] y h = h
+in_map_filter f p (x ∷ xs) y h = go (p x) refl (λ c. in_map_filter f p xs y c)
+  where
+    go : (b : Bool) → p x ≡ b → (Contains (map f (filter p xs)) y → Contains (map f xs) y) → Contains (map f (x ∷ xs)) y
+    go true e later = ⊎_elim
+        (λ (c : Contains (f x ∷ []) y). Contains-append_left (f x ∷ []) (map f xs) y c)
+        (λ (c : Contains (map f (filter p xs)) y). Contains-append_right (f x ∷ []) (map f xs) y (later c))
+        (Contains-append_cases (f x ∷ []) (map f (filter p xs)) y (rw e at h))
+    go false e later = Contains-append_right (f x ∷ []) (map f xs) y (later (rw e at h))
+
+-- the same where for each of other elements something is made for each of those that are kept
+pub in_flat_map_filtered : {X Y Z : Type 0} (f : Z → X → Y) (p : X → Bool) (xs : List X) (zs : List Z) (y : Y)
+    → Contains (flat_map (λ z. map (f z) (filter p xs)) zs) y → Contains (flat_map (λ z. map (f z) xs) zs) y
+in_flat_map_filtered f p xs [] y h = h
+in_flat_map_filtered {X} {Y} {Z} f p xs (z ∷ zs) y h =
+    let kept : Z → List Y = λ z. map (f z) (filter p xs) in
+    let all : Z → List Y = λ z. map (f z) xs in
+    ⊎_elim
+    (λ (c : Contains (kept z) y). Contains-append_left (all z) (flat_map all zs) y (in_map_filter (f z) p xs y c))
+    (λ (c : Contains (flat_map kept zs) y). Contains-append_right (all z) (flat_map all zs) y (in_flat_map_filtered f p xs zs y c))
+    (Contains-append_cases (kept z) (flat_map kept zs) y h)
+
 pub in_filter : {X : Type 0} (p : X → Bool) (xs : List X) (x : X) → Contains xs x → p x ≡ true → Contains (filter p xs) x
 in_filter p [] x (i, l, e) kept = absurd (omega arith)
 in_filter p (y ∷ xs) x (zero, l, e) kept = let first : p y ≡ true = subst (λ z. p z ≡ true) (sym e) kept in rw first (zero, omega arith, e)

@@ -1,5 +1,5 @@
 -- A reader of whole texts that stand for one key, by the rows of a few rules.
-use Rattle.std.proofs.Common.{◌≡◌, ◌≢◌, ◌⊎◌, ⊎_elim, ℕ, ◌<◌, ◌≤◌, Bool, true, false, List, [], ◌∷◌, ◌++◌, filter, flat_map, Option, Some, None, refl, sym, subst, arith, Contains, nat_lt, bytes_eq, ◌==◌, ◌&&◌, ◌||◌, encode_utf8, lit<}
+use Rattle.std.proofs.Common.{◌≡◌, ◌≢◌, ◌⊎◌, ⊎_elim, ℕ, ◌<◌, ◌≤◌, Bool, true, false, List, [], ◌∷◌, ◌++◌, map, filter, flat_map, Option, Some, None, refl, sym, subst, arith, Contains, nat_lt, bytes_eq, ◌==◌, ◌&&◌, ◌||◌, encode_utf8, lit<}
 use Rattle.std.specs.Map.{lookup}
 use Rattle.std.specs.Option.{option_map, option_or}
 use Rattle.std.specs.Prelude.{if◌then◌else◌}
@@ -16,13 +16,13 @@ use Rattle.termwiz_input.specs.declared.types.KeyEvent.{KeyEvent}
 use Rattle.termwiz_input.specs.declared.types.InputEvent.TheVariants.{Key}
 use Rattle.termwiz_input.specs.Bytes.{START}
 use Rattle.termwiz_input.specs.Keys.{plain, with_alt}
-use Rattle.termwiz_input.specs.Table.{TableRow, rows, numbers, function_codes, function_key_of, csi_u_of, modify_other_keys_of, control_letters_rows, backspace_bytes_rows, tab_byte_rows, enter_bytes_rows, escape_byte_rows, alt_letters_rows, alt_bracket_rows, shift_tab_rows, csi_u_rows, high_csi_u_rows, modify_other_keys_rows, cursor_keys_rows, modified_cursor_keys_rows, shift_arrows_rows, ctrl_arrows_rows, application_arrows_rows, modified_application_arrows_rows, ss3_function_keys_rows, lettered_function_keys_rows, numbered_function_keys_rows, edit_keys_rows, paste_start_rows, paste_end_rows, high_function_codes, modified_edit_keys_rows, high_function_keys_rows, application_home_end_rows, ctrl_shift_tab_rows}
+use Rattle.termwiz_input.specs.Table.{TableRow, rows, numbers, function_codes, function_key_of, csi_u_of, modify_other_key, to_eight, control_letters_rows, backspace_bytes_rows, tab_byte_rows, enter_bytes_rows, escape_byte_rows, alt_letters_rows, alt_bracket_rows, shift_tab_rows, csi_u_rows, high_csi_u_rows, modify_other_keys_rows, cursor_keys_rows, modified_cursor_keys_rows, shift_arrows_rows, ctrl_arrows_rows, application_arrows_rows, modified_application_arrows_rows, ss3_function_keys_rows, lettered_function_keys_rows, numbered_function_keys_rows, edit_keys_rows, paste_start_rows, paste_end_rows, high_function_codes, modified_edit_keys_rows, high_function_keys_rows, application_home_end_rows, ctrl_shift_tab_rows}
 use Rattle.termwiz_input.specs.Known.{IsKnown}
 use Rattle.termwiz_input.specs.Known.Meaning.{Row}
 use Rattle.termwiz_input.specs.Grammar.{Means, IsHead}
 use Rattle.termwiz_input.specs.Grammar.Head.{Known, Character}
 use Rattle.termwiz_input.proofs.Heads.{longest_whole}
-use Rattle.termwiz_input.proofs.Members.{in_flat_map_filter, in_first, in_later, joined}
+use Rattle.termwiz_input.proofs.Members.{in_flat_map_filter, in_flat_map_filtered, in_first, in_later, joined}
 use Rattle.termwiz_input.proofs.WholeTexts.{row_means, alt_means, char_head}
 
 -- the key of the row with these bytes; START has none
@@ -147,7 +147,7 @@ abbrev pub csi_u_rows_of : ℕ → List TableRow
 csi_u_rows_of c = flat_map csi_u_of (filter (λ d. d == c) (numbers 0 100)) ++ flat_map csi_u_of (filter (λ d. d == c) (numbers 100 28))
 
 abbrev other_keys_rows_of : ℕ → List TableRow
-other_keys_rows_of c = flat_map modify_other_keys_of (filter (λ d. d == c) (numbers 0 128))
+other_keys_rows_of c = flat_map (λ s. map (modify_other_key s) (filter (λ d. d == c) (numbers 0 128))) to_eight
 
 abbrev function_rows_of : ℕ → List TableRow
 function_rows_of n = flat_map function_key_of (filter (λ f. f.1 == n) function_codes)
@@ -162,7 +162,7 @@ csi_u_are c = both_are _ _ (λ r h. rule_rows csi_u_rows (19, lit< tt, refl) r (
 
 other_keys_are : (c : ℕ) → AreRows (other_keys_rows_of c)
 unfolding modify_other_keys_rows
-other_keys_are c r h = rule_rows modify_other_keys_rows (18, lit< tt, refl) r (in_flat_map_filter modify_other_keys_of (λ d. d == c) (numbers 0 128) r h)
+other_keys_are c r h = rule_rows modify_other_keys_rows (18, lit< tt, refl) r (in_flat_map_filtered modify_other_key (λ d. d == c) (numbers 0 128) to_eight r h)
 
 function_are : (n : ℕ) → AreRows (function_rows_of n)
 unfolding numbered_function_keys_rows

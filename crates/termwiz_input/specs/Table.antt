@@ -142,13 +142,17 @@ csi_u_rows = flat_map csi_u_of (numbers 0 100)
 unfoldable pub high_csi_u_rows : List TableRow
 high_csi_u_rows = flat_map csi_u_of (numbers 100 28)
 
--- ESC [27 s ; c ~, c in decimal and s not empty: the key of c, with the modifiers of s
-abbrev pub modify_other_keys_of : ℕ → List TableRow
-modify_other_keys_of c = key_with_each_suffix (CSI ++ codes "27") to_eight (codes ";" ++ decimal c ++ codes "~") (key_of_code c)
+-- ESC [27 s ; c ~, c in decimal: the key of c, with the modifiers of the suffix s
+abbrev pub modify_other_key : Suffix → ℕ → TableRow
+modify_other_key s c = (CSI ++ codes "27" ++ s.0 ++ codes ";" ++ decimal c ++ codes "~", key_with (key_of_code c) s.1)
 
 -- the same for c from 0 to 127
+abbrev pub modify_other_keys_of : Suffix → List TableRow
+modify_other_keys_of s = map (modify_other_key s) (numbers 0 128)
+
+-- the same for each suffix s that isn't empty
 unfoldable pub modify_other_keys_rows : List TableRow
-modify_other_keys_rows = flat_map modify_other_keys_of (numbers 0 128)
+modify_other_keys_rows = flat_map modify_other_keys_of to_eight
 
 -- ESC [ and a letter: a cursor key
 unfoldable pub cursor_keys_rows : List TableRow

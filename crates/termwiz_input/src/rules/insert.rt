@@ -19,7 +19,7 @@ pub(super) fn key_with(key: KeyCode, modifiers: Modifiers) -> KeyEvent
 }
 
 // The modifiers of a list, held together.
-fn together(modifiers: &[Modifiers]) -> Modifiers
+pub(super) fn together(modifiers: &[Modifiers]) -> Modifiers
     ensures { result ≡ held_together modifiers.now }
 {
     modifiers

@@ -1,12 +1,14 @@
 // Rules whose sequences give a character by its number.
 ghost use Rattle.std.specs.Prelude.{◌≡◌, ◌≤◌, ◌-◌, flat_map, OnOk};
-ghost use Rattle.termwiz_input.specs.Table.{with_rows, numbers, key_of_code, csi_u_of, csi_u_rows, high_csi_u_rows, modify_other_keys_rows};
+ghost use Rattle.termwiz_input.specs.Table.{with_rows, numbers, key_of_code, csi_u_of, csi_u_rows, high_csi_u_rows, modify_other_keys_of, modify_other_keys_rows};
 
-use super::insert::insert_suffixed;
+use super::insert::{insert_suffixed, key_with, together};
 use super::lists::{BEFORE_NINE, SUFFIXES};
 use crate::keymap::KeyMap;
 use crate::types::{KeyCode, KeyEvent};
 use std::alloc::{AllocError, Global};
+use std::fmt::Write;
+use termwiz_base::Modifiers;
 
 // ESC [ c s u, for c in decimal from a first one up to a limit: the character c, with the modifiers of the suffix s.
 fn insert_csi_u(
@@ -43,7 +45,7 @@ pub(super) fn high_csi_u(alloc: Global, keys: &mut KeyMap<KeyEvent>) -> Result<(
     insert_csi_u(alloc, keys, 100, 128)
 }
 
-// ESC [27 s ; c ~, c from 0 to 127 in decimal and s not empty: the key of c, with the modifiers of s.
+// ESC [27 s ; c ~, s not empty and c from 0 to 127 in decimal: the key of c, with the modifiers of the suffix s.
 #[tactic(auto, unfolding(crate::specs::Table::modify_other_keys_rows))]
 pub(super) fn modify_other_keys(
     alloc: Global,
@@ -52,10 +54,26 @@ pub(super) fn modify_other_keys(
     ensures { OnOk result (keys.new ≡ with_rows keys.old modify_other_keys_rows) }
 {
     let suffixes = &SUFFIXES[1..BEFORE_NINE];
+    for (suffix, held) in suffixes {
+        insert_other_keys(alloc, keys, suffix, together(held))?;
+    }
+    Ok(())
+}
+
+// Those of one suffix, with its modifiers.
+fn insert_other_keys(
+    alloc: Global,
+    keys: &mut KeyMap<KeyEvent>,
+    suffix: &str,
+    modifiers: Modifiers,
+) -> Result<(), AllocError>
+    ensures { OnOk result (keys.new ≡ with_rows keys.old (modify_other_keys_of (suffix.now, modifiers.0))) }
+{
+    let mut bytes = String::new(alloc);
     for code in 0..128u8 {
-        let end = format!(in alloc; ";{code}~")?;
-        let key = key_of_code(code);
-        insert_suffixed(alloc, keys, "\x1b[27", suffixes, end.as_str(), key)?;
+        bytes.clear();
+        write!(bytes, "\x1b[27{suffix};{code}~")?;
+        keys.insert(bytes.as_bytes(), key_with(key_of_code(code), modifiers))?;
     }
     Ok(())
 }

@@ -1,6 +1,6 @@
 use Rattle.std.proofs.Common.{◌≡◌, ◌-◌, ap, sym, arith}
 use Rattle.std.specs.Prelude.{flat_map}
-use Rattle.termwiz_input.specs.Table.{with_rows, numbers, csi_u_of}
+use Rattle.termwiz_input.specs.Table.{with_rows, csi_u_of}
 use Rattle.termwiz_input.proofs.Rows.{rows_pushed, numbers_none, numbers_up_to}
 use Rattle.termwiz_input.proofs.rules.numbers.insert_csi_u.Goals as goal
 

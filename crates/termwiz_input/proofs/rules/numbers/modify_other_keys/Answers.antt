@@ -1,13 +1,12 @@
-use Rattle.std.proofs.Common.{ap, sym}
-use Rattle.std.specs.Prelude.{flat_map}
-use Rattle.termwiz_input.specs.Table.{with_rows, modify_other_keys_of}
-use Rattle.termwiz_input.proofs.Rows.{rows_pushed, numbers_none, numbers_below}
+use Rattle.std.proofs.lemmas.List.{map_more}
+use Rattle.termwiz_input.specs.Table.{modify_other_keys_of}
+use Rattle.termwiz_input.specs.Suffixes.{held_together}
+use Rattle.termwiz_input.proofs.Rows.{rows_pushed}
 use Rattle.termwiz_input.proofs.rules.numbers.modify_other_keys.Goals as goal
 
-pub loop-code-init : goal.loop-code-init
-loop-code-init c = ap (λ xs. with_rows c.args.keys.now (flat_map modify_other_keys_of xs)) (sym (numbers_none 0))
-
-pub loop-code-preserved : goal.loop-code-preserved
-loop-code-preserved c =
-    rows_pushed _ _ _ modify_other_keys_of _ _ _ (numbers_below c.loop-code.code-counter) c.loop-code.invariant
-    (rw (c.as_str.ensures.value, c.in_ok-end.ensures.ok, c.key_of_code-key.ensures) at c.in_ok-insert_suffixed.ensures)
+pub loop-suffix-preserved : goal.loop-suffix-preserved
+loop-suffix-preserved c =
+    rows_pushed _ _ _ modify_other_keys_of _ _ _
+    (map_more (λ s. (s.0.now, (held_together s.1.now).0)) _ _ _ c.loop-suffix-test.true)
+    c.loop-suffix.invariant
+    (rw c.together.ensures at c.in_ok-insert_other_keys.ensures)
