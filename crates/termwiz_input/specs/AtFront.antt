@@ -1,5 +1,5 @@
 -- What the parser finds at the front of a text, in the words of the grammar.
-use Rattle.std.specs.Prelude.{◌≡◌, ◌⊎◌, ℕ, ◌≤◌, Bool, List, [], length, take, encode_utf8, Option}
+use Rattle.std.specs.Prelude.{◌≡◌, ◌≢◌, ◌⊎◌, ℕ, ◌<◌, ◌≤◌, Bool, List, [], length, slice_index_or, take, encode_utf8, Option}
 use Rattle.std.specs.Option.{option_map}
 use Rattle.bstr.specs.Utf8.{decoded}
 use Rattle.termwiz_input.specs.declared.item.Item.{Item}
@@ -10,6 +10,7 @@ use Rattle.termwiz_input.specs.declared.types.MouseEvent.{MouseEvent}
 use Rattle.termwiz_input.specs.Bytes.{Begins, ESC}
 use Rattle.termwiz_input.specs.Keys.{escape}
 use Rattle.termwiz_input.specs.Frame.{IsFrame}
+use Rattle.termwiz_input.specs.Typed.{IsTyped}
 use Rattle.termwiz_input.specs.Known.{Meaning, IsKnown}
 use Rattle.termwiz_input.specs.Grammar.{IsLongest, IsCharacter, IsBroken, Stands, IsOpen, IsUnfinishedKnown}
 
@@ -37,10 +38,18 @@ pub record IsApartFromKnown (u : List ℕ) : Type 0 where
   pub unknown : NoKnownTextBegins u
   pub finished : ¬ IsUnfinishedKnown u
 
+-- the first byte of the text is from SPACE to ~, or from 0x80 on
+abbrev pub BeginsWithNoControl : List ℕ → Type 0
+BeginsWithNoControl u = (0 < length u) × (0x20 ≤ slice_index_or u 0 0) × (slice_index_or u 0 0 ≢ 0x7f)
+
 -- The head of the text is ESC, and the text properly begins no known text and no character.
 pub record HasLoneEscape (u : List ℕ) : Type 0 where
   pub head : IsLongest u ESC (Row escape)
   pub closed : (more : Bool) → ¬ IsOpen u more
+
+-- the text begins with ESC, and a byte that isn't from SPACE to ~ follows it
+abbrev pub HasUntypedAfterEscape : List ℕ → Type 0
+HasUntypedAfterEscape u = (1 < length u) × (slice_index_or u 0 0 ≡ 0x1b) × ¬ IsTyped (slice_index_or u 1 0)
 
 -- an item with this event stands at the text, and its bytes are so many first ones
 abbrev pub IsItemAt : List ℕ → Bool → Item → Type 0

@@ -3,7 +3,7 @@
 ghost use Rattle.std.specs.Prelude.{◌≡◌, ◌≢◌, ◌↔◌, [], true, None, IfSome, IfNone, IsSome, IsTrue};
 ghost use Rattle.termwiz_input.specs.FrameAnswers.{IsBegun};
 ghost use Rattle.termwiz_input.specs.Grammar.{IsOpen, IsUnfinishedKnown, IsUnfinishedCharacter};
-ghost use Rattle.termwiz_input.specs.AtFront.{HasHead, HasLoneEscape, HasNoHeadYet, NoFrameBegins, NoKnownTextBegins, IsApartFromKnown, character_of};
+ghost use Rattle.termwiz_input.specs.AtFront.{BeginsWithNoControl, HasHead, HasLoneEscape, HasNoHeadYet, HasUntypedAfterEscape, IsApartFromKnown, NoFrameBegins, NoKnownTextBegins, character_of};
 ghost use Rattle.termwiz_input.specs.Keys.{escape};
 ghost use Rattle.termwiz_input.specs.Table.{table};
 
@@ -114,7 +114,8 @@ const DELETE: u8 = 0x7f;
 
 // Whether the first byte of the text begins no known text: it is from 0x20 to 0x7e, or from 0x80 on.
 pub(crate) fn begins_apart_from_known(text: &[u8]) -> bool
-    ensures { IsTrue result → IsApartFromKnown text.now }
+    ensures apart { IsTrue result → IsApartFromKnown text.now }
+    ensures when { IsTrue result ↔ BeginsWithNoControl text.now }
 {
     match text {
         [first, ..] => *first >= SPACE && *first != DELETE,
@@ -124,7 +125,8 @@ pub(crate) fn begins_apart_from_known(text: &[u8]) -> bool
 
 // Whether the text begins with ESC and a byte that no known text has after its first: then ESC is its head.
 fn begins_with_lone_escape(text: &[u8]) -> bool
-    ensures { IsTrue result → HasLoneEscape text.now }
+    ensures lone { IsTrue result → HasLoneEscape text.now }
+    ensures when { IsTrue result ↔ HasUntypedAfterEscape text.now }
 {
     match text {
         [b'\x1b', next, ..] => *next < SPACE || *next >= DELETE,

@@ -3,8 +3,8 @@ use Rattle.std.proofs.lemmas.Bool.Decides.{nat_tests}
 use Rattle.termwiz_input.proofs.ApartFromKnown.{apart_from_known}
 use Rattle.termwiz_input.proofs.head.begins_apart_from_known.Goals as goal
 
-pub returns-then-first-ge-SPACE : goal.returns-then-first-ge-SPACE
-returns-then-first-ge-SPACE c = λ test.
+pub returns-then-first-ge-SPACE-clause-apart : goal.returns-then-first-ge-SPACE-clause-apart
+returns-then-first-ge-SPACE-clause-apart c = λ test.
     let low : 32 ≤ slice_index_or c.args.text.now 0 0 = grind (arith, nat_tests) in
     let other : slice_index_or c.args.text.now 0 0 ≢ 127 = grind (arith, nat_tests) in
     apart_from_known c.args.text.now (omega arith) low other
