@@ -1,10 +1,11 @@
 -- The names of the flags of a set, one flag after another.
-use Rattle.std.proofs.Common.{◌≡◌, ◌∙◌, ◌==◌, ◌&&◌, arith, ℕ, ◌+◌, ◌<◌, ◌≤◌, List, [], ◌∷◌, ◌++◌, Bool, true, false, not, length, take, get_or, map, cond, refl, sym, ap, append_assoc, append-nil}
+use Rattle.std.proofs.Common.{◌≡◌, ◌∙◌, ◌==◌, ◌&&◌, arith, ℕ, zero, suc, ◌+◌, ◌<◌, ◌≤◌, List, [], ◌∷◌, ◌++◌, Bool, true, false, not, length, take, get_or, map, cond, refl, sym, ap, append_assoc, append-nil}
 use Rattle.std.specs.Prelude.{bit_and, codes}
 use Rattle.std.specs.Int.Bits.{and_zero_l}
 use Rattle.std.proofs.lemmas.Bool.Decides.{nat_tests}
 use Rattle.std.specs.List.{join_with_byte}
 use Rattle.std.proofs.lemmas.List.{take_more, take_all, map_push}
+use Rattle.std.proofs.lemmas.Nat.{and_le_l}
 use Rattle.event_text.specs.Names.{NamedFlag, names_in_set, flags_with_a_bit, joined_names}
 
 -- the set has the flag: the flag has a bit, and all of its bits are in the set
@@ -93,23 +94,61 @@ module _ {X : Type 0} (flags : List X) (i : ℕ) (flag : X) (row : X → NamedFl
       let same : next ≡ so_far = next_is within is ∙ ap (λ b. so_far ++ cond b ((row flag).0 ∷ []) []) (sym answer_is ∙ is_no) ∙ append-nil so_far in
       (written ∙ ap (λ l. start ++ join_with_byte 43 l) (sym same), e ∙ ap has_a_name (sym same))
 
--- after the last flag
-module _ {X : Type 0} (flags : List X) (i : ℕ) (row : X → NamedFlag) (table : List NamedFlag) (bits : ℕ) (start before : List ℕ) (named : Bool) where
-  all_of : length flags ≤ i → map row flags ≡ table → names bits (map row (take i flags)) ≡ names bits table
-  all_of ended whole = ap (λ l. names bits (map row l)) (take_all i flags ended) ∙ ap (names bits) whole
+-- the names after the last flag
+pub all_flags : {X : Type 0} (flags : List X) (i : ℕ) (row : X → NamedFlag) (table : List NamedFlag) (bits : ℕ) → length flags ≤ i → map row flags ≡ table
+    → names bits (map row (take i flags)) ≡ names bits table
+all_flags flags i row table bits ended whole = ap (λ l. names bits (map row l)) (take_all i flags ended) ∙ ap (names bits) whole
 
-  pub some_named : length flags ≤ i → map row flags ≡ table → before ≡ start ++ join_with_byte 43 (names bits (map row (take i flags)))
-      → named ≡ has_a_name (names bits (map row (take i flags))) → named ≡ true → before ≡ start ++ joined_names (names bits table)
-  some_named ended whole written e some =
-      let all = all_of ended whole in
-      written ∙ ap (λ l. start ++ join_with_byte 43 l) all
-      ∙ ap (λ l. start ++ l) (sym (joined_names-by_test (names bits table) ∙ ap (λ b. cond b (join_with_byte 43 (names bits table)) (codes "NONE")) (sym (ap has_a_name all) ∙ sym e ∙ some)))
+-- once the names so far are all names
+module _ (so_far all : List (List ℕ)) (start before : List ℕ) (named : Bool) where
+  pub some_named : so_far ≡ all → before ≡ start ++ join_with_byte 43 so_far → named ≡ has_a_name so_far → named ≡ true → before ≡ start ++ joined_names all
+  some_named whole written e some =
+      written ∙ ap (λ l. start ++ join_with_byte 43 l) whole
+      ∙ ap (λ l. start ++ l) (sym (joined_names-by_test all ∙ ap (λ b. cond b (join_with_byte 43 all) (codes "NONE")) (sym (ap has_a_name whole) ∙ sym e ∙ some)))
 
-  pub none_named : length flags ≤ i → map row flags ≡ table → before ≡ start ++ join_with_byte 43 (names bits (map row (take i flags)))
-      → named ≡ has_a_name (names bits (map row (take i flags))) → named ≡ false → (after : List ℕ) → after ≡ before ++ codes "NONE" → after ≡ start ++ joined_names (names bits table)
-  none_named ended whole written e none after appended =
-      let empty = empty_without_name (names bits table) (sym (ap has_a_name (all_of ended whole)) ∙ sym e ∙ none) in
-      appended ∙ ap (λ l. l ++ codes "NONE") (written ∙ ap (λ l. start ++ join_with_byte 43 l) (all_of ended whole ∙ empty) ∙ append-nil start) ∙ ap (λ l. start ++ joined_names l) (sym empty)
+  pub none_named : so_far ≡ all → before ≡ start ++ join_with_byte 43 so_far → named ≡ has_a_name so_far → named ≡ false → (after : List ℕ) → after ≡ before ++ codes "NONE"
+      → after ≡ start ++ joined_names all
+  none_named whole written e none after appended =
+      let empty = empty_without_name all (sym (ap has_a_name whole) ∙ sym e ∙ none) in
+      appended ∙ ap (λ l. l ++ codes "NONE") (written ∙ ap (λ l. start ++ join_with_byte 43 l) (whole ∙ empty) ∙ append-nil start) ∙ ap (λ l. start ++ joined_names l) (sym empty)
+
+-- each flag is above the one before it, the first above m
+abbrev pub AscendFrom : ℕ → List NamedFlag → Type 0
+AscendFrom m [] = Unit {0}
+AscendFrom m (flag ∷ flags) = (m < flag.1) × AscendFrom flag.1 flags
+
+-- each flag is above the one before it
+abbrev pub Ascend : List NamedFlag → Type 0
+Ascend [] = Unit {0}
+Ascend (flag ∷ flags) = AscendFrom flag.1 flags
+
+-- a flag above a whole set isn't in it
+not_in_less : (bits b : ℕ) → bits < b → not (b == 0) && (bit_and bits b == b) ≡ false
+not_in_less bits b above =
+    let within : bit_and bits b ≤ bits = and_le_l bits b in
+    grind (arith, nat_tests)
+
+none_above : (bits m : ℕ) (flags : List NamedFlag) → bits ≤ m → AscendFrom m flags → names bits flags ≡ []
+none_above bits m [] within up = refl
+none_above bits m (flag ∷ flags) within up =
+    let first : m < flag.1 = up.0 in
+    names-cons bits flag flags ∙ ap (λ b. cond b (flag.0 ∷ []) [] ++ names bits flags) (not_in_less bits flag.1 (omega arith)) ∙ none_above bits flag.1 flags (omega arith) up.1
+
+-- the names before the first flag that is above the set
+module _ {X : Type 0} (row : X → NamedFlag) (bits : ℕ) (d : X) where
+  all_of_some : (x : X) (flags : List X) (i : ℕ) → AscendFrom (row x).1 (map row flags) → i < length (x ∷ flags) → bits < (row (get_or (x ∷ flags) i d)).1
+      → names bits (map row (take i (x ∷ flags))) ≡ names bits (map row (x ∷ flags))
+  all_of_some x flags zero up inside above =
+      let within : bits ≤ (row x).1 = omega arith in
+      sym (names-cons bits (row x) (map row flags) ∙ ap (λ b. cond b ((row x).0 ∷ []) [] ++ names bits (map row flags)) (not_in_less bits (row x).1 above) ∙ none_above bits (row x).1 (map row flags) within up)
+  all_of_some x [] (suc i) up inside above = absurd (omega arith)
+  all_of_some x (y ∷ flags) (suc i) up inside above =
+      names-cons bits (row x) (map row (take i (y ∷ flags))) ∙ ap (λ l. name_of bits (row x) ++ l) (all_of_some y flags i up.1 (omega arith) above)
+      ∙ sym (names-cons bits (row x) (map row (y ∷ flags)))
+
+  pub all_below : (flags : List X) (i : ℕ) → Ascend (map row flags) → i < length flags → bits < (row (get_or flags i d)).1 → names bits (map row (take i flags)) ≡ names bits (map row flags)
+  all_below [] i up inside above = absurd (omega arith)
+  all_below (x ∷ flags) i up inside above = all_of_some x flags i up inside above
 
 -- no flag that has a bit is in the empty set
 not_in_empty : (b : ℕ) → not (b == 0) && (bit_and 0 b == b) ≡ false
@@ -120,4 +159,4 @@ none_in_empty [] = refl
 none_in_empty (flag ∷ flags) = names-cons 0 flag flags ∙ ap (λ b. cond b (flag.0 ∷ []) [] ++ names 0 flags) (not_in_empty flag.1) ∙ none_in_empty flags
 
 pub empty_set : (flags : List NamedFlag) (bits : ℕ) → bits ≡ 0 → joined_names (names bits flags) ≡ codes "NONE"
-empty_set flags bits zero = ap (λ b. joined_names (names b flags)) zero ∙ ap joined_names (none_in_empty flags)
+empty_set flags bits empty = ap (λ b. joined_names (names b flags)) empty ∙ ap joined_names (none_in_empty flags)

@@ -5,7 +5,7 @@ ghost use Rattle.std.specs.Prelude.{◌≡◌, ◌<◌, ◌==◌, ◌&&◌, ◌+
 ghost use Rattle.std.specs.Fmt.{decimal, digit_glyph};
 ghost use Rattle.termwiz_input.specs.declared.types.InputEvent.TheVariants.{PixelMouse};
 ghost use Rattle.event_text.specs.Names.{key_name, code_point, joined_names, names_in_set, flags_with_a_bit};
-ghost use Rattle.event_text.specs.Texts.{event_text, hexadecimal, hex_digits, key_text, mouse_text};
+ghost use Rattle.event_text.specs.Texts.{event_text, hexadecimal, hex_digits, key_text, modifiers_text, mouse_text};
 
 mod names;
 
@@ -46,7 +46,7 @@ pub fn push_key(out: &mut Vec<u8>, key: KeyCode, modifiers: Modifiers) -> Result
 {
     push_key_name(out, key)?;
     push(out, b" ")?;
-    push_flags(out, &modifiers)
+    push_modifiers(out, modifiers)
 }
 
 // Appends what `text` displays to `out`.
@@ -126,7 +126,7 @@ fn push_mouse(
     push(out, b" ")?;
     push_flags(out, buttons)?;
     push(out, b" ")?;
-    push_flags(out, &modifiers)
+    push_modifiers(out, modifiers)
 }
 
 // Appends the text of a mouse event in pixels to `out`.
@@ -203,6 +203,28 @@ fn push_hex_byte(out: &mut Vec<u8>, byte: u8) -> Result<(), AllocError>
         out,
         &[hex_digit(byte / 16, false), hex_digit(byte % 16, false)],
     )
+}
+
+/// Appends the names of modifiers to `out`, joined by `+`, or `NONE` if there are none.
+pub fn push_modifiers(out: &mut Vec<u8>, modifiers: Modifiers) -> Result<(), AllocError>
+    ensures { OnOk result (out.new.items ≡ out.old.items ++ modifiers_text modifiers) }
+{
+    if modifiers.is_empty() {
+        return push(out, b"NONE");
+    }
+    let mut named = false;
+    let flags = Modifiers::flags();
+    for flag in flags {
+        // Each flag's bit is above those of the flags before it.
+        if modifiers.bits() < flag.value().bits() {
+            break;
+        }
+        if has_flag(&modifiers, flag.value()) {
+            push_name(out, flag.name(), named)?;
+            named = true;
+        }
+    }
+    if named { Ok(()) } else { push(out, b"NONE") }
 }
 
 /// Appends the names of the flags of a set to `out`, joined by `+`, or `NONE` if there are none.

@@ -1,7 +1,7 @@
 use Rattle.std.proofs.Common.{◌≡◌, arith}
 use Rattle.std.proofs.lemmas.Bool.Decides.{nat_tests}
 use Rattle.std.proofs.lemmas.Result.{on_ok_weaker}
-use Rattle.event_text.proofs.FlagNames.{after_named_flag, after_other_flag, empty_set, none_named, some_named}
+use Rattle.event_text.proofs.FlagNames.{after_named_flag, after_other_flag, all_flags, empty_set, none_named, some_named}
 use Rattle.event_text.proofs.push_flags.Goals as goal
 use Rattle.event_text.proofs.push_flags.Goals.{then-has_flag+in_ok-push_name, else-has_flag}
 
@@ -26,17 +26,17 @@ loop-flag-preserved g c = λ exact.
 pub returns-then-named : goal.returns-then-named
 returns-then-named g c = λ exact.
     let so_far = c.loop-flag.invariant exact in
-    some_named c.flags-flags.result.now c.loop-flag.flag-index (λ f. (f.name.now, g.F.Flags.set_of f.value)) g.F.Flags.table
-    (g.F.Flags.set_of c.args.set.now) c.args.out.now.items c.loop-flag.out.items c.loop-flag.named
-    c.loop-flag-test.false (c.flags-flags.ensures exact) so_far.0 so_far.1 c.if-named.true
+    let whole = all_flags c.flags-flags.result.now c.loop-flag.flag-index (λ f. (f.name.now, g.F.Flags.set_of f.value)) g.F.Flags.table
+    (g.F.Flags.set_of c.args.set.now) c.loop-flag-test.false (c.flags-flags.ensures exact) in
+    some_named _ _ c.args.out.now.items c.loop-flag.out.items c.loop-flag.named whole so_far.0 so_far.1 c.if-named.true
 
 pub returns-else-named : goal.returns-else-named
 returns-else-named g c = λ exact.
     let so_far = c.loop-flag.invariant exact in
+    let whole = all_flags c.flags-flags.result.now c.loop-flag.flag-index (λ f. (f.name.now, g.F.Flags.set_of f.value)) g.F.Flags.table
+    (g.F.Flags.set_of c.args.set.now) c.loop-flag-test.false (c.flags-flags.ensures exact) in
     on_ok_weaker c.push-else-named.result
-    (none_named c.flags-flags.result.now c.loop-flag.flag-index (λ f. (f.name.now, g.F.Flags.set_of f.value)) g.F.Flags.table
-    (g.F.Flags.set_of c.args.set.now) c.args.out.now.items c.loop-flag.out.items c.loop-flag.named
-    c.loop-flag-test.false (c.flags-flags.ensures exact) so_far.0 so_far.1 c.if-named.false c.push-else-named.new.out.items)
+    (none_named _ _ c.args.out.now.items c.loop-flag.out.items c.loop-flag.named whole so_far.0 so_far.1 c.if-named.false c.push-else-named.new.out.items)
     c.push-else-named.ensures
 
 pub returns-then-is_empty : goal.returns-then-is_empty
