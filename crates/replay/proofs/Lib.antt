@@ -1,3 +1,5 @@
 pub mod Alls
 pub mod Collected
+pub mod LineCounts
+pub mod OneAnswer
 pub mod Rests

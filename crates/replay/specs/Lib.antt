@@ -3,3 +3,4 @@ pub mod Collecting
 pub mod Holds
 pub mod Keys
 pub mod Lines
+pub mod Reports

@@ -1,10 +1,15 @@
 -- What the lines of a file say, and the words of a line.
-use Rattle.std.specs.Prelude.{⊤, ◌≡◌, ◌++◌, ◌⊎◌, ℕ, Bool, List, [], Option, Some, None, true, false, Ok, codes}
+use Rattle.std.specs.Prelude.{⊤, ◌≡◌, ◌==◌, ◌++◌, ◌⊎◌, ℕ, Bool, List, [], map, Option, Some, None, true, false, Ok, codes}
 use Rattle.std.specs.Global.{Vec}
+use Rattle.std.specs.List.{slice_split}
+use Rattle.event_text.specs.Names.{key_name}
+use Rattle.event_text.specs.Texts.{modifiers_text}
 use Rattle.hex.specs.Hex.{decode_of}
 use Rattle.replay.specs.declared.cases.Call.{Call}
 use Rattle.replay.specs.declared.cases.Case.{Case}
+use Rattle.replay.specs.declared.cases.Case.TheVariants as kind
 use Rattle.replay.specs.declared.cases.Case.TheVariants.{Rows, Text}
+use Rattle.replay.specs.declared.cases.Keys.{Keys}
 use Rattle.replay.specs.declared.cases.Row.{Row}
 use Rattle.replay.specs.declared.cases.Sent.{Sent}
 use Rattle.replay.specs.declared.cases.Sent.TheVariants as sent
@@ -34,10 +39,22 @@ abbrev pub IsSentWord : List ℕ → Sent → Type 0
 IsSentWord word (sent.Text text) = (decode_of word ≡ Ok text.items) ⊎ ((word ≡ codes "-") × (text.items ≡ []))
 IsSentWord word sent.Refused = word ≡ codes "refused"
 
--- The line records bytes and their answer, or what comes after rows and their answers. Of calls and keys it says nothing here.
+-- the words of a text that commas separate
+abbrev pub comma_words : List ℕ → List (List ℕ)
+comma_words text = slice_split (λ byte. byte == 44) text
+
+-- the text has the names of the keys, a space, and the names of the sets of modifiers
+abbrev pub IsChords : List ℕ → Keys → Type 0
+IsChords text recorded =
+    (keys sets : List ℕ) × (text ≡ keys ++ codes " " ++ sets) × (map key_name recorded.keys.items ≡ comma_words keys)
+    × (map modifiers_text recorded.modifiers.items ≡ comma_words sets)
+
+-- The line records bytes and their answer, what comes after rows and their answers, or keys with sets of modifiers. Of calls, and of
+-- what keys send, it says nothing here.
 abbrev pub Records : List ℕ → Case → Type 0
 Records line (Text bytes answer) =
     (digits : List ℕ) × (line ≡ codes "*" ++ digits ++ codes " = " ++ answer.items) × (decode_of digits ≡ Ok bytes.items)
 Records line (Rows all row) =
     (rows next answers : List ℕ) × (line ≡ rows ++ codes " = " ++ (next ++ codes " = " ++ answers)) × IsRowText next answers row
+Records line (kind.Keys keys) = (chords sent : List ℕ) × (line ≡ chords ++ codes " = " ++ sent) × IsChords chords keys
 Records line case = ⊤

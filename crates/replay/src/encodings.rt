@@ -1,6 +1,6 @@
 // Keys given to the encoder, and what they send.
 
-ghost use Rattle.std.specs.Prelude.{◌≡◌, ◌<◌, ◌↔◌, true, IfOk, IfSome, IfNone, IsTrue};
+ghost use Rattle.std.specs.Prelude.{◌≡◌, ◌<◌, ◌↔◌, true, false, IfOk, IfSome, IfNone, IsTrue};
 ghost use Rattle.replay.specs.Keys.{HasMode, IsEmpty, IsLike, Sends, SendsAll, SendsEach, SendsInModes, SendsWithAll, level_at, modes_at};
 
 use crate::cases::{InModes, Keys, Sent};
@@ -32,7 +32,8 @@ impl Encoder {
     /// Gives each of the keys to the encoder, with each of the sets of modifiers, in each mode. Returns the first that sends
     /// something else than what is recorded.
     pub fn replay_keys(&mut self, recorded: &Keys) -> Result<Option<KeyDifference>, AllocError>
-        ensures { IfOk result (λ difference. IfNone difference (SendsAll recorded.now)) }
+        ensures same { IfOk result (λ difference. IfNone difference (SendsAll recorded.now)) }
+        ensures other { IfOk result (λ difference. IfSome difference (λ shown. ¬ SendsAll recorded.now)) }
     {
         for key in recorded.keys.as_slice() {
             if let Some(difference) = self.replay_key(*key, recorded)? {
@@ -49,7 +50,8 @@ impl Encoder {
         key: KeyCode,
         recorded: &Keys,
     ) -> Result<Option<KeyDifference>, AllocError>
-        ensures { IfOk result (λ difference. IfNone difference (SendsWithAll recorded.now key)) }
+        ensures same { IfOk result (λ difference. IfNone difference (SendsWithAll recorded.now key)) }
+        ensures other { IfOk result (λ difference. IfSome difference (λ shown. ¬ SendsWithAll recorded.now key)) }
     {
         for modifiers in recorded.modifiers.as_slice() {
             let texts = recorded.texts.as_slice();
@@ -68,7 +70,8 @@ impl Encoder {
         modifiers: Modifiers,
         texts: &[InModes],
     ) -> Result<Option<KeyDifference>, AllocError>
-        ensures { IfOk result (λ difference. IfNone difference (SendsEach key texts.now modifiers)) }
+        ensures same { IfOk result (λ difference. IfNone difference (SendsEach key texts.now modifiers)) }
+        ensures other { IfOk result (λ difference. IfSome difference (λ shown. ¬ SendsEach key texts.now modifiers)) }
     {
         for text in texts {
             if let Some(difference) = self.replay_modes(key, modifiers, text)? {
@@ -85,7 +88,8 @@ impl Encoder {
         modifiers: Modifiers,
         text: &InModes,
     ) -> Result<Option<KeyDifference>, AllocError>
-        ensures { IfOk result (λ difference. IfNone difference (SendsInModes key modifiers text.now)) }
+        ensures same { IfOk result (λ difference. IfNone difference (SendsInModes key modifiers text.now)) }
+        ensures other { IfOk result (λ difference. IfSome difference (λ shown. ¬ SendsInModes key modifiers text.now)) }
     {
         for mode in 0..32 {
             if !has_mode(text.modes, mode) {
@@ -107,7 +111,8 @@ impl Encoder {
         recorded: &Sent,
     ) -> Result<Option<KeyDifference>, AllocError>
         requires { mode < 32 }
-        ensures { IfOk result (λ difference. IfNone difference (Sends key modifiers (modes_at mode) recorded.now)) }
+        ensures same { IfOk result (λ difference. IfNone difference (Sends key modifiers (modes_at mode) recorded.now)) }
+        ensures other { IfOk result (λ difference. IfSome difference (λ shown. ¬ Sends key modifiers (modes_at mode) recorded.now)) }
     {
         let sent = self.sent_by(key, modifiers, modes_at(mode), true)?;
         if !same(&sent, recorded) {
@@ -140,7 +145,8 @@ impl Encoder {
         modes: KeyCodeEncodeModes,
         is_down: bool,
     ) -> Result<Sent, AllocError>
-        ensures { is_down ≡ true → IfOk result (λ sent. Sends key modifiers modes sent) }
+        ensures down { is_down ≡ true → IfOk result (λ sent. Sends key modifiers modes sent) }
+        ensures up { is_down ≡ false → IfOk result IsEmpty }
     {
         self.encodings = self.encodings.saturating_add(1);
         match key.encode(self.alloc, modifiers, modes, is_down) {

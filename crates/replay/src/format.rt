@@ -1,7 +1,9 @@
 // The form of a line: reads what it records.
 
-ghost use Rattle.std.specs.Prelude.{◌≡◌, ◌++◌, Ok, codes, IfOk, IfSome};
-ghost use Rattle.replay.specs.Lines.{IsCallWord, IsRowText, IsSentWord, Records, answer_word};
+ghost use Rattle.std.specs.Prelude.{◌≡◌, ◌++◌, Ok, codes, map, IfOk, IfSome};
+ghost use Rattle.event_text.specs.Names.{key_name};
+ghost use Rattle.event_text.specs.Texts.{modifiers_text};
+ghost use Rattle.replay.specs.Lines.{IsCallWord, IsChords, IsRowText, IsSentWord, Records, answer_word, comma_words};
 ghost use Rattle.hex.specs.Hex.{decode_of};
 
 use crate::cases::{Call, Case, InModes, Keys, Row, Sent};
@@ -166,8 +168,10 @@ fn answer_of(alloc: Global, text: &str) -> Result<Option<Vec<u8>>, AllocError>
 }
 
 // Keys, sets of modifiers, and what they send.
-fn keys_of(alloc: Global, given: &str, recorded: &str) -> Result<Keys, Fault> {
-    let (keys, modifiers) = given.split_once(" ").ok_or(Fault::Form)?;
+fn keys_of(alloc: Global, given: &str, recorded: &str) -> Result<Keys, Fault>
+    ensures { IfOk result (IsChords given.now) }
+{
+    let (keys, modifiers) = parted(given).ok_or(Fault::Form)?;
     Ok(Keys {
         keys: keys_named(alloc, keys)?,
         modifiers: sets_named(alloc, modifiers)?,
@@ -175,22 +179,55 @@ fn keys_of(alloc: Global, given: &str, recorded: &str) -> Result<Keys, Fault> {
     })
 }
 
+// What stands before the first space and after it.
+fn parted(text: &str) -> Option<(&str, &str)>
+    ensures { IfSome result (λ parts. text.now ≡ parts.0.now ++ codes " " ++ parts.1.now) }
+{
+    text.split_once(" ")
+}
+
 // Keys by their names, separated by commas.
-fn keys_named(alloc: Global, names: &str) -> Result<Vec<KeyCode>, Fault> {
+#[tactic(auto, using(std::proofs::lemmas::List::map_push))]
+fn keys_named(alloc: Global, names: &str) -> Result<Vec<KeyCode>, Fault>
+    ensures { IfOk result (λ keys. map key_name keys.items ≡ comma_words names.now) }
+{
     let mut keys = Vec::new(alloc);
-    for name in names.split(",") {
-        keys.push(key_named(alloc, name)?.ok_or(Fault::Key)?)?;
+    for name in names.split(',') {
+        keys.push(key_of(alloc, name)?)?;
     }
     Ok(keys)
 }
 
+// A key by its name.
+fn key_of(alloc: Global, name: &str) -> Result<KeyCode, Fault>
+    ensures { IfOk result (λ key. key_name key ≡ name.now) }
+{
+    match key_named(alloc, name)? {
+        Some(key) => Ok(key),
+        None => Err(Fault::Key),
+    }
+}
+
 // Sets of modifiers by their names, separated by commas.
-fn sets_named(alloc: Global, names: &str) -> Result<Vec<Modifiers>, Fault> {
+#[tactic(auto, using(std::proofs::lemmas::List::map_push))]
+fn sets_named(alloc: Global, names: &str) -> Result<Vec<Modifiers>, Fault>
+    ensures { IfOk result (λ sets. map modifiers_text sets.items ≡ comma_words names.now) }
+{
     let mut sets = Vec::new(alloc);
-    for name in names.split(",") {
-        sets.push(modifiers_named(alloc, name)?.ok_or(Fault::Modifiers)?)?;
+    for name in names.split(',') {
+        sets.push(set_of(alloc, name)?)?;
     }
     Ok(sets)
+}
+
+// A set of modifiers by its name.
+fn set_of(alloc: Global, name: &str) -> Result<Modifiers, Fault>
+    ensures { IfOk result (λ set. modifiers_text set ≡ name.now) }
+{
+    match modifiers_named(alloc, name)? {
+        Some(set) => Ok(set),
+        None => Err(Fault::Modifiers),
+    }
 }
 
 // What is sent in each of the modes: one text for each mode.

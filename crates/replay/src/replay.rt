@@ -1,6 +1,6 @@
 // What a line records, given to the parser or the encoder.
 
-ghost use Rattle.std.specs.Prelude.{◌≡◌, ◌++◌, ◌≤◌, length, IfOk, IfSome, IfNone, OnOk};
+ghost use Rattle.std.specs.Prelude.{◌≡◌, ◌++◌, ◌≤◌, ℕ, List, length, IfOk, IfSome, IfNone, OnOk};
 ghost use Rattle.event_text.specs.Texts.{hexadecimal};
 ghost use Rattle.replay.specs.Answers.{AnswersCall, AnswersCalls, AnswersRow, AnswersRows, BeginningWaits, BeginningsWait, Differs, EndsWith, IsAnswer, IsAnswerIf};
 ghost use Rattle.replay.specs.Holds.{Holds};
@@ -11,6 +11,7 @@ use crate::feeder::Feeder;
 use event_text::{push_hex, push_key};
 use std::alloc::{AllocError, Global};
 use std::io::Write;
+use termwiz_input::laws::one_meaning;
 
 /// What was given, and what came that isn't what is recorded. Both are texts.
 #[derive(Debug, Drop)]
@@ -64,7 +65,8 @@ pub struct Replayer {
 impl Replayer {
     /// Gives what a line records to the parser or the encoder, in every way. Returns the first answer that isn't the recorded one.
     pub fn replay(&mut self, case: &Case) -> Result<Option<Difference>, AllocError>
-        ensures { IfOk result (λ difference. IfNone difference (Holds case.now)) }
+        ensures same { IfOk result (λ difference. IfNone difference (Holds case.now)) }
+        ensures other { IfOk result (λ difference. IfSome difference (λ shown. ¬ Holds case.now)) }
     {
         match case {
             Case::Text { bytes, answer } => {
@@ -90,7 +92,10 @@ fn replay_bytes(
 ) -> Result<Option<Difference>, AllocError>
     ensures same { IfOk result (λ difference. IfNone difference (IsAnswer bytes.now recorded.now)) }
     ensures other { IfOk result (λ difference. IfSome difference (Differs bytes.now recorded.now)) }
+    ensures wrong { IfOk result (λ difference. IfSome difference (λ shown. ¬ IsAnswer bytes.now recorded.now)) }
 {
+    // By this law a text has one answer.
+    one_meaning();
     match feeder.replay_text(bytes, recorded)? {
         Some(came) => Ok(Some(Difference::of_bytes(feeder.alloc, bytes, came)?)),
         None => Ok(None),
@@ -103,7 +108,8 @@ fn replay_if_recorded(
     bytes: &[u8],
     recorded: &Option<Vec<u8>>,
 ) -> Result<Option<Difference>, AllocError>
-    ensures { IfOk result (λ difference. IfNone difference (IsAnswerIf bytes.now recorded.now)) }
+    ensures same { IfOk result (λ difference. IfNone difference (IsAnswerIf bytes.now recorded.now)) }
+    ensures other { IfOk result (λ difference. IfSome difference (λ shown. ¬ IsAnswerIf bytes.now recorded.now)) }
 {
     match recorded {
         Some(answer) => replay_bytes(feeder, bytes, answer.as_slice()),
@@ -113,8 +119,11 @@ fn replay_if_recorded(
 
 // Makes calls in turn, with a parser in which nothing waits.
 fn replay_calls(feeder: &mut Feeder, calls: &[Call]) -> Result<Option<Difference>, AllocError>
-    ensures { IfOk result (λ difference. IfNone difference (AnswersCalls calls.now)) }
+    ensures same { IfOk result (λ difference. IfNone difference (AnswersCalls calls.now)) }
+    ensures other { IfOk result (λ difference. IfSome difference (λ shown. ¬ AnswersCalls calls.now)) }
 {
+    // By this law calls have one answer each, and leave one text waiting.
+    one_meaning();
     feeder.renew()?;
     let mut fed = Vec::new(feeder.alloc);
     for call in calls {
@@ -130,8 +139,12 @@ fn replay_calls(feeder: &mut Feeder, calls: &[Call]) -> Result<Option<Difference
 fn replay_call(feeder: &mut Feeder, fed: &[u8], call: &Call) -> Result<Option<Vec<u8>>, AllocError>
     requires { EndsWith fed.now (feeder.old.parser ++ call.now.bytes.items) }
     ensures same { IfOk result (λ instead. IfNone instead (AnswersCall feeder.old.parser call.now feeder.new.parser)) }
+    ensures other { IfOk result (λ instead. IfSome instead (λ came.
+        (waiting : List ℕ) → ¬ AnswersCall feeder.old.parser call.now waiting)) }
     ensures ends { OnOk result (EndsWith fed.now feeder.new.parser) }
 {
+    // By this law a call has one answer.
+    one_meaning();
     let came = feeder.call(fed, call.bytes.as_slice(), call.maybe_more)?;
     if came.as_slice() == call.answer.as_slice() {
         Ok(None)
@@ -146,7 +159,8 @@ fn replay_rows(
     all: &[Vec<u8>],
     row: &Row,
 ) -> Result<Option<Difference>, AllocError>
-    ensures { IfOk result (λ difference. IfNone difference (AnswersRows row.now all.now)) }
+    ensures same { IfOk result (λ difference. IfNone difference (AnswersRows row.now all.now)) }
+    ensures other { IfOk result (λ difference. IfSome difference (λ shown. ¬ AnswersRows row.now all.now)) }
 {
     for bytes in all {
         if let Some(difference) = replay_row(feeder, bytes.as_slice(), row)? {
@@ -162,7 +176,8 @@ fn replay_row(
     bytes: &[u8],
     row: &Row,
 ) -> Result<Option<Difference>, AllocError>
-    ensures { IfOk result (λ difference. IfNone difference (AnswersRow row.now bytes.now)) }
+    ensures same { IfOk result (λ difference. IfNone difference (AnswersRow row.now bytes.now)) }
+    ensures other { IfOk result (λ difference. IfSome difference (λ shown. ¬ AnswersRow row.now bytes.now)) }
 {
     if let Some(difference) = replay_if_recorded(feeder, bytes, &row.alone)? {
         return Ok(Some(difference));
@@ -188,7 +203,8 @@ fn replay_row(
 
 // Gives the proper prefixes of a row to the parser, alone and after ESC, with more to come: each waits as a whole.
 fn replay_beginnings(feeder: &mut Feeder, row: &[u8]) -> Result<Option<Difference>, AllocError>
-    ensures { IfOk result (λ difference. IfNone difference (BeginningsWait row.now)) }
+    ensures same { IfOk result (λ difference. IfNone difference (BeginningsWait row.now)) }
+    ensures other { IfOk result (λ difference. IfSome difference (λ shown. ¬ BeginningsWait row.now)) }
 {
     for len in 1..row.len() {
         if let Some(difference) = replay_beginning(feeder, row, len)? {
@@ -206,7 +222,8 @@ fn replay_beginning(
     len: usize,
 ) -> Result<Option<Difference>, AllocError>
     requires { len ≤ length row.now }
-    ensures { IfOk result (λ difference. IfNone difference (BeginningWaits row.now len)) }
+    ensures same { IfOk result (λ difference. IfNone difference (BeginningWaits row.now len)) }
+    ensures other { IfOk result (λ difference. IfSome difference (λ shown. ¬ BeginningWaits row.now len)) }
 {
     let alone = &row[..len];
     if !feeder.waits(alone)? {

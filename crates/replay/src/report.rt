@@ -1,6 +1,8 @@
 // What a file's lines come to.
 
-ghost use Rattle.std.specs.Prelude.{◌≡◌, ◌≤◌, ◌<◌, ◌↔◌, ◌-◌, ◌^◌, ◌⊎◌, length, None, OnOk};
+ghost use Rattle.std.specs.Prelude.{◌≡◌, ◌+◌, ◌≤◌, ◌<◌, length, IfNone, IfOk, IfErr, IfSome, OnOk};
+ghost use Rattle.std.specs.Str.Lines.{lines as lines_of};
+ghost use Rattle.replay.specs.Reports.{CountsLine, CountsLines, EndsAt, counted, no_lines, records_nothing};
 
 use crate::format::{Fault, case_of};
 use crate::replay::{Difference, Replayer};
@@ -41,7 +43,7 @@ pub struct Report {
 impl Report {
     /// The report on no lines.
     pub fn new(alloc: Global) -> Report
-        ensures { result.differing ≡ 0 }
+        ensures { counted result.lines result.differing ≡ no_lines }
     {
         Report {
             lines: 0,
@@ -52,14 +54,16 @@ impl Report {
 
     // Counts a line, and keeps what differs.
     fn note(&mut self, number: usize, difference: Option<Difference>) -> Result<(), AllocError>
-        ensures lines { OnOk result (self.old.lines < self.new.lines ⊎ (self.new.lines ≡ 2 ^ 64 - 1)) }
-        ensures differing { OnOk result ((self.new.differing ≡ 0) ↔ ((self.old.differing ≡ 0) × (difference ≡ None))) }
+        requires { self.old.lines < usize.MAX }
+        ensures lines { OnOk result (self.new.lines ≡ self.old.lines + 1) }
+        ensures same { OnOk result (IfNone difference (self.new.differing ≡ self.old.differing)) }
+        ensures other { OnOk result (IfSome difference (λ shown. self.new.differing ≡ self.old.differing + 1)) }
     {
-        self.lines = self.lines.saturating_add(1);
+        self.lines += 1;
         let Some(difference) = difference else {
             return Ok(());
         };
-        self.differing = self.differing.saturating_add(1);
+        self.differing += 1;
         if self.shown.len() < MOST_SHOWN {
             self.shown.push(LineDifference { number, difference })?;
         }
@@ -68,17 +72,14 @@ impl Report {
 }
 
 /// Replays the lines of a text, but for empty lines and titles, which begin with `#`. The first line that can't be read ends it.
-pub fn replay_lines(
-    alloc: Global,
-    replayer: &mut Replayer,
-    text: &str,
-) -> Result<Report, LineError> {
+pub fn replay_lines(alloc: Global, replayer: &mut Replayer, text: &str) -> Result<Report, LineError>
+    ensures counts { IfOk result (λ report. CountsLines (lines_of text.now) (counted report.lines report.differing)) }
+    ensures ends { IfErr result (λ error. EndsAt (lines_of text.now) error.number) }
+{
     let mut report = Report::new(alloc);
-    for (index, line) in text.lines().enumerate() {
-        let number = index.saturating_add(1);
-        if line.is_empty() || line.starts_with("#") {
-            continue;
-        }
+    let mut number = 0usize;
+    for line in text.lines() {
+        number += 1;
         if let Err(fault) = replay_line(alloc, replayer, &mut report, number, line) {
             return Err(LineError { number, fault });
         }
@@ -86,16 +87,30 @@ pub fn replay_lines(
     Ok(report)
 }
 
-// Reads a line and replays it.
+// Reads a line and replays it, unless it records nothing.
 fn replay_line(
     alloc: Global,
     replayer: &mut Replayer,
     report: &mut Report,
     number: usize,
     line: &str,
-) -> Result<(), Fault> {
+) -> Result<(), Fault>
+    requires { report.old.lines < usize.MAX }
+    ensures counts { OnOk result (CountsLine (counted report.old.lines report.old.differing) line.now (counted report.new.lines report.new.differing)) }
+    ensures lines { OnOk result (report.new.lines ≤ report.old.lines + 1) }
+{
+    if records_nothing(line) {
+        return Ok(());
+    }
     let case = case_of(alloc, line)?;
     let difference = replayer.replay(&case)?;
     report.note(number, difference)?;
     Ok(())
+}
+
+// Whether a line is empty or a title.
+fn records_nothing(line: &str) -> bool
+    ensures { result ≡ records_nothing line.now }
+{
+    line.is_empty() || line.starts_with("#")
 }

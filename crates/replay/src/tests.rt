@@ -60,9 +60,21 @@ fn check_differs(
     Ok(())
 }
 
+// Each line differs, and this is what was given and what came.
+fn check_each_differs(
+    rt: &impl Abort,
+    alloc: Global,
+    cases: &[(&str, &str, &str)],
+) -> Result<(), Fail> {
+    let mut replayer = replayer(alloc)?;
+    for (line, given, came) in cases {
+        check_differs(rt, &mut replayer, line, given, came)?;
+    }
+    Ok(())
+}
+
 #[test]
-fn changed_lines(rt: HostRuntime) -> Result<(), Fail> {
-    let mut replayer = replayer(rt.alloc())?;
+fn changed_answers(rt: HostRuntime) -> Result<(), Fail> {
     let cases = [
         ("*1b5b41 = key DownArrow NONE", "1b5b41", "key UpArrow NONE"),
         ("*1b5b41 = nothing", "1b5b41", "key UpArrow NONE"),
@@ -77,6 +89,13 @@ fn changed_lines(rt: HostRuntime) -> Result<(), Fail> {
             "key UpArrow NONE",
         ),
         ("+1b -5b41 = nothing | key UpArrow NONE", "1b", "; 1b"),
+    ];
+    check_each_differs(&rt, rt.alloc(), &cases)
+}
+
+#[test]
+fn changed_rows(rt: HostRuntime) -> Result<(), Fail> {
+    let cases = [
         (
             "1b5b42 = 71 = key DownArrow NONE = key DownArrow SHIFT = -",
             "1b1b5b42",
@@ -92,6 +111,13 @@ fn changed_lines(rt: HostRuntime) -> Result<(), Fail> {
             "71",
             "events, or not all of it waits",
         ),
+    ];
+    check_each_differs(&rt, rt.alloc(), &cases)
+}
+
+#[test]
+fn changed_keys(rt: HostRuntime) -> Result<(), Fail> {
+    let cases = [
         (
             "UpArrow NONE = 1b5b42",
             "UpArrow NONE down in mode 0",
@@ -109,10 +135,7 @@ fn changed_lines(rt: HostRuntime) -> Result<(), Fail> {
             "1b5b32373b353b39377e",
         ),
     ];
-    for (line, given, came) in cases {
-        check_differs(&rt, &mut replayer, line, given, came)?;
-    }
-    Ok(())
+    check_each_differs(&rt, rt.alloc(), &cases)
 }
 
 #[test]
