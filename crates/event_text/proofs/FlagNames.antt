@@ -146,9 +146,10 @@ module _ {X : Type 0} (row : X → NamedFlag) (bits : ℕ) (d : X) where
       names-cons bits (row x) (map row (take i (y ∷ flags))) ∙ ap (λ l. name_of bits (row x) ++ l) (all_of_some y flags i up.1 (omega arith) above)
       ∙ sym (names-cons bits (row x) (map row (y ∷ flags)))
 
-  pub all_below : (flags : List X) (i : ℕ) → Ascend (map row flags) → i < length flags → bits < (row (get_or flags i d)).1 → names bits (map row (take i flags)) ≡ names bits (map row flags)
-  all_below [] i up inside above = absurd (omega arith)
-  all_below (x ∷ flags) i up inside above = all_of_some x flags i up inside above
+  pub all_below : (flags : List X) (i : ℕ) (b : ℕ) → Ascend (map row flags) → i < length flags → b ≡ (row (get_or flags i d)).1 → bits < b
+      → names bits (map row (take i flags)) ≡ names bits (map row flags)
+  all_below [] i b up inside is above = absurd (omega arith)
+  all_below (x ∷ flags) i b up inside is above = all_of_some x flags i up inside (rw is at above)
 
 -- no flag that has a bit is in the empty set
 not_in_empty : (b : ℕ) → not (b == 0) && (bit_and 0 b == b) ≡ false

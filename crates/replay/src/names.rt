@@ -5,7 +5,7 @@ ghost use Rattle.event_text.specs.Names.{key_name};
 ghost use Rattle.event_text.specs.Texts.{modifiers_text};
 
 use bitflags::Flags;
-use event_text::{push_flags, push_key_name, variant_name};
+use event_text::{push_key_name, push_modifiers, variant_name};
 use std::alloc::{AllocError, Global};
 use termwiz_base::Modifiers;
 use termwiz_input::input::KeyCode;
@@ -141,7 +141,7 @@ pub fn modifiers_named(alloc: Global, names: &str) -> Result<Option<Modifiers>, 
 {
     let set = likely_modifiers(names);
     let mut text = Vec::new(alloc);
-    push_flags(&mut text, &set)?;
+    push_modifiers(&mut text, set)?;
     if text.as_slice() == names.as_bytes() {
         Ok(Some(set))
     } else {

@@ -1,4 +1,4 @@
-use Rattle.std.proofs.Common.{◌∷◌, ◌∙◌, ap, map, get_or, codes, lit<}
+use Rattle.std.proofs.Common.{◌∷◌, ◌<◌, ◌∙◌, ap, map, get_or, codes, lit<, arith}
 use Rattle.std.proofs.lemmas.List.{get_or_default}
 use Rattle.std.proofs.lemmas.Result.{on_ok_weaker}
 use Rattle.event_text.specs.Names.{modifier_flags}
@@ -37,8 +37,8 @@ returns-then-named c =
           let whole = all_flags flags c.loop-flag.flag-index (λ f. (f.name.now, f.value.0)) _ c.args.modifiers.0 w.loop-flag-test.false (c.flags-flags.ensures tt) in
           some_named _ _ c.args.out.now.items c.loop-flag.out.items c.loop-flag.named whole so_far.0 so_far.1 c.if-named.true
       | then-loop-flag-test+then-bits w ↦
-          let above = rw (w.bits.ensures tt, w.bits-in-loop-flag.ensures tt, w.value.ensures) at w.if-bits.true in
-          let whole = all_below (λ f. (f.name.now, f.value.0)) c.args.modifiers.0 _ flags c.loop-flag.flag-index up w.loop-flag-test.true above in
+          let above : c.args.modifiers.0 < w.value.result.now.0 = omega (arith, w.bits.ensures tt, w.bits-in-loop-flag.ensures tt) in
+          let whole = all_below (λ f. (f.name.now, f.value.0)) c.args.modifiers.0 _ flags c.loop-flag.flag-index w.value.result.now.0 up w.loop-flag-test.true (ap (λ v. v.0) w.value.ensures) above in
           some_named _ _ c.args.out.now.items c.loop-flag.out.items c.loop-flag.named (whole ∙ ap (names c.args.modifiers.0) (c.flags-flags.ensures tt)) so_far.0 so_far.1 c.if-named.true
     ]
 
@@ -53,7 +53,7 @@ returns-else-named c =
           let whole = all_flags flags c.loop-flag.flag-index (λ f. (f.name.now, f.value.0)) _ c.args.modifiers.0 w.loop-flag-test.false (c.flags-flags.ensures tt) in
           on_ok_weaker c.push-else-named.result (none_named _ _ c.args.out.now.items c.loop-flag.out.items c.loop-flag.named whole so_far.0 so_far.1 c.if-named.false written) c.push-else-named.ensures
       | then-loop-flag-test+then-bits w ↦
-          let above = rw (w.bits.ensures tt, w.bits-in-loop-flag.ensures tt, w.value.ensures) at w.if-bits.true in
-          let whole = all_below (λ f. (f.name.now, f.value.0)) c.args.modifiers.0 _ flags c.loop-flag.flag-index up w.loop-flag-test.true above in
+          let above : c.args.modifiers.0 < w.value.result.now.0 = omega (arith, w.bits.ensures tt, w.bits-in-loop-flag.ensures tt) in
+          let whole = all_below (λ f. (f.name.now, f.value.0)) c.args.modifiers.0 _ flags c.loop-flag.flag-index w.value.result.now.0 up w.loop-flag-test.true (ap (λ v. v.0) w.value.ensures) above in
           on_ok_weaker c.push-else-named.result (none_named _ _ c.args.out.now.items c.loop-flag.out.items c.loop-flag.named (whole ∙ ap (names c.args.modifiers.0) (c.flags-flags.ensures tt)) so_far.0 so_far.1 c.if-named.false written) c.push-else-named.ensures
     ]
