@@ -1,5 +1,4 @@
 use Rattle.std.proofs.Common.{◌<◌, arith, true}
-use Rattle.std.proofs.lemmas.Grind.{common_steps}
 use Rattle.std.specs.Fmt.{digits}
 use Rattle.event_text.proofs.Printed.{zero_padded, byte_point}
 use Rattle.event_text.proofs.push_code_point.Goals as goal

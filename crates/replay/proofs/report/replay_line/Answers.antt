@@ -1,6 +1,6 @@
 use Rattle.std.proofs.Common.{rules}
 use Rattle.replay.specs.Reports.{counted}
-use Rattle.replay.proofs.LineCounts.{case_counted, not_counted}
+use Rattle.replay.proofs.LineCounts.{case_counted}
 use Rattle.replay.proofs.report.replay_line.Goals as goal
 
 pub returns-clause-counts : goal.returns-clause-counts
