@@ -215,7 +215,7 @@ pub fn push_modifiers(out: &mut Vec<u8>, modifiers: Modifiers) -> Result<(), All
     let mut named = false;
     let flags = Modifiers::flags();
     for flag in flags {
-        // Each flag's bit is above those of the flags before it.
+        // The flags ascend, so neither this one nor any later one is in the set.
         if modifiers.bits() < flag.value().bits() {
             break;
         }

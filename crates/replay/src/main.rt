@@ -1,8 +1,8 @@
 //! Replays what termwiz itself answers, as it was recorded, and says where the answers of this parser and encoder differ.
 //!
 //! It is called as `replay [FILE..]`, and without a word replays the recorded files, which it looks for where it runs. For each file
-//! it prints how many lines it has, how often the parser and the encoder were asked, and how many lines differ; then the first
-//! twenty lines that differ, with what came instead. The status is 0 if no line differs, and 1 if one does, or if a line can't be
+//! it prints how many of its lines were replayed, how often the parser and the encoder were asked, and how many lines differ; then
+//! the first twenty lines that differ, with what came instead. The status is 0 if no line differs, and 1 if one does, or if a line can't be
 //! read.
 #![tactic(auto)]
 

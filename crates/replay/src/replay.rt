@@ -63,7 +63,8 @@ pub struct Replayer {
 }
 
 impl Replayer {
-    /// Gives what a line records to the parser or the encoder, in every way. Returns the first answer that isn't the recorded one.
+    /// Gives what a line records to the parser or the encoder, in every way. Returns `None` if it is so, and otherwise the first
+    /// answer that isn't the recorded one.
     pub fn replay(&mut self, case: &Case) -> Result<Option<Difference>, AllocError>
         ensures same { IfOk result (λ difference. IfNone difference (Holds case.now)) }
         ensures other { IfOk result (λ difference. IfSome difference (λ shown. ¬ Holds case.now)) }

@@ -34,7 +34,7 @@ pub struct Report {
     pub lines: usize,
     /// How many of them differ.
     pub differing: usize,
-    /// The first of those that differ.
+    /// The first of those that differ, at most twenty.
     pub shown: Vec<LineDifference>,
     ghost counts: { differing ≤ lines },
     ghost shows: { length shown.items ≤ differing },
@@ -71,7 +71,9 @@ impl Report {
     }
 }
 
-/// Replays the lines of a text, but for empty lines and titles, which begin with `#`. The first line that can't be read ends it.
+/// Replays the lines of a text, but for empty lines and titles, which begin with `#`. Returns how many lines were replayed, how many
+/// differ, and the first that do. The first line that can't be read or replayed ends it: then only its number and what is wrong with
+/// it are returned.
 pub fn replay_lines(alloc: Global, replayer: &mut Replayer, text: &str) -> Result<Report, LineError>
     ensures counts { IfOk result (λ report. CountsLines (lines_of text.now) (counted report.lines report.differing)) }
     ensures ends { IfErr result (λ error. EndsAt (lines_of text.now) error.number) }

@@ -8,8 +8,8 @@ use Rattle.termwiz_input.specs.declared.keymap.row.Row.{Row}
 use Rattle.termwiz_input.specs.declared.keymap.groups.TheConstants.{BEFORE_ESCAPE, BEFORE_BRACKET, BEFORE_DIGITS, DIGITS, PER_DIGIT, AFTER_DIGITS, AFTER_BRACKET, AFTER_ESCAPE, STARTS}
 use Rattle.termwiz_input.specs.KeyRows.{key_of, AreAscending}
 
--- No key is in a later group than one after it, in the order of bytes. A search needs nothing else of the groups: which keys have one
--- of their own only decides how quick it is.
+-- No key is in a later group than one after it, in the order of bytes. A search needs nothing else of the groups: which keys share
+-- one only decides how quick it is.
 abbrev pub RisesWithKeys : (List ℕ → ℕ) → Type 0
 RisesWithKeys group = (key other : List ℕ) → slice_cmp nat_cmp key other ≡ Less → group key ≤ group other
 

@@ -98,7 +98,7 @@ pub(crate) fn character_front(text: &[u8]) -> Option<(char, usize)>
 }
 
 // The mouse event of the frame at the front of a text, and the number of its bytes: an item of its own. Most texts don't begin with the
-// introducer, so that is asked first, in place.
+// introducer, so that is tested here, before `frame_at` is called.
 pub(crate) fn frame_front(text: &[u8]) -> Option<(MouseEvent, usize)>
     ensures { IfSome result (λ found. (more : Bool) → IsItemAt text.now more (record { event = InputEvent.Mouse found.0; len = found.1 })) }
 {

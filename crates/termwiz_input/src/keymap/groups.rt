@@ -12,7 +12,7 @@ const BEFORE_BRACKET: usize = 1;
 // ESC `[`, alone or with a byte before the digits.
 const BEFORE_DIGITS: usize = 2;
 
-// ESC `[` and a digit: the first of so many groups for each digit.
+// ESC `[` and a digit: the first group of the digit 0. Each digit has `PER_DIGIT` groups.
 const DIGITS: usize = 3;
 
 // The groups of a digit: one if nothing or a byte before the digits follows it, one for each digit that follows it, and one if a byte

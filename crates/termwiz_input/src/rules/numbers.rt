@@ -10,7 +10,8 @@ use std::alloc::{AllocError, Global};
 use std::fmt::Write;
 use termwiz_base::Modifiers;
 
-// ESC [ c s u, for c in decimal from a first one up to a limit: the character c, with the modifiers of the suffix s.
+// ESC [ c s u, for each c from `first` up to but not including `limit`, in decimal: the character c, with the modifiers of the
+// suffix s.
 fn insert_csi_u(
     alloc: Global,
     keys: &mut KeyMap<KeyEvent>,
@@ -60,7 +61,7 @@ pub(super) fn modify_other_keys(
     Ok(())
 }
 
-// Those of one suffix, with its modifiers.
+// The rows of `modify_other_keys` with one suffix, which stands for these modifiers.
 fn insert_other_keys(
     alloc: Global,
     keys: &mut KeyMap<KeyEvent>,
