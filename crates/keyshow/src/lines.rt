@@ -8,6 +8,8 @@ use std::alloc::AllocError;
 use termwiz_input::types::InputEvent;
 
 /// Appends the line of an event to `out`.
+// Inlined into the parser's callback, it would read a copy of the event, just made: that took longer than the call.
+#[inline(never)]
 #[tactic(auto, unfolding(crate::specs::Lines::line))]
 pub fn push_line(out: &mut Vec<u8>, event: &InputEvent) -> Result<(), AllocError>
     ensures { OnOk result (out.new.items ≡ out.old.items ++ line event.now) }

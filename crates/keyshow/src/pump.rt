@@ -59,22 +59,24 @@ pub fn run<R: Read, W: Write>(
     laws::empty_is_rest();
     let mut parser = InputParser::new(alloc).map_err(|_| RunError::Memory)?;
     let mut buffer = [0u8; 4096];
+    let mut text = Vec::new(alloc);
     for _ in 0..u64::MAX {
-        let more = show_piece(alloc, &mut parser, reader, writer, &mut buffer[..piece])?;
+        let more = show_piece(&mut parser, reader, writer, &mut buffer[..piece], &mut text)?;
         if !more {
-            return finish(alloc, &mut parser, writer);
+            return finish(&mut parser, writer, &mut text);
         }
     }
     Err(RunError::Read)
 }
 
-// Reads one piece, and writes the lines of the events that it decides. Returns `false` at the end of input.
+// Reads one piece, and writes the lines of the events that it decides. Returns `false` at the end of input. The lines of each piece
+// are put together in `text`, which keeps its memory from piece to piece.
 fn show_piece<R: Read, W: Write>(
-    alloc: Global,
     parser: &mut InputParser,
     reader: &mut R,
     writer: &mut W,
     buffer: &mut [u8],
+    text: &mut Vec<u8>,
 ) -> Result<bool, RunError>
     requires { 0 < length buffer.old }
     ensures more { IfOk result (λ more. more ≡ true → (bytes : List ℕ) × (events : List Event)
@@ -98,16 +100,16 @@ fn show_piece<R: Read, W: Write>(
     if count == 0 {
         return Ok(false);
     }
-    show_read(alloc, parser, writer, &[&buffer[..count]])?;
+    show_read(parser, writer, &[&buffer[..count]], text)?;
     Ok(true)
 }
 
 // Writes the lines of the events that the pieces decide, after the text that waits.
 fn show_read<W: Write>(
-    alloc: Global,
     parser: &mut InputParser,
     writer: &mut W,
     pieces: &[&[u8]],
+    text: &mut Vec<u8>,
 ) -> Result<(), RunError>
     ensures ok { OnOk result ((events : List Event)
         × Means (parser.old ++ join (texts pieces.now)) true events parser.new
@@ -118,49 +120,54 @@ fn show_read<W: Write>(
 {
     laws::resumes();
     laws::one_meaning();
-    let text = parsed_lines(alloc, parser, pieces, true)?;
+    text.clear();
+    push_lines(text, parser, pieces, true)?;
     write_whole(writer, text.as_slice())?;
     Ok(())
 }
 
 // Writes the lines of the bytes that were undecided until the end of input, and of what waits even then.
-fn finish<W: Write>(alloc: Global, parser: &mut InputParser, writer: &mut W) -> Result<(), RunError>
+fn finish<W: Write>(
+    parser: &mut InputParser,
+    writer: &mut W,
+    text: &mut Vec<u8>,
+) -> Result<(), RunError>
     ensures ok { OnOk result ((events : List Event) × Means parser.old false events parser.new
         × Appends (W.contents writer.old) (W.contents writer.new) (all_lines events parser.new)) }
     ensures err { OnErr result (WritesPart parser.old (W.contents writer.old) (W.contents writer.new)) }
     ensures not_read { ¬ IsErrOf result RunError.Read }
 {
     laws::one_meaning();
-    let mut text = parsed_lines(alloc, parser, &[], false)?;
-    push_waiting(&mut text, parser.waiting_len()).map_err(|_| RunError::Memory)?;
+    text.clear();
+    push_lines(text, parser, &[], false)?;
+    push_waiting(text, parser.waiting_len()).map_err(|_| RunError::Memory)?;
     write_whole(writer, text.as_slice())?;
     writer.flush().map_err(|_| RunError::Write)
 }
 
-// Gives the pieces to the parser, and returns the lines of the events. After a refused growth no more is appended.
-fn parsed_lines(
-    alloc: Global,
+// Gives the pieces to the parser, and appends the lines of the events to `text`. After a refused growth no more is appended.
+fn push_lines(
+    text: &mut Vec<u8>,
     parser: &mut InputParser,
     pieces: &[&[u8]],
     maybe_more: bool,
-) -> Result<Vec<u8>, RunError>
-    ensures ok { IfOk result (λ text. (events : List Event)
+) -> Result<(), RunError>
+    ensures ok { OnOk result ((events : List Event)
         × Means (parser.old ++ join (texts pieces.now)) maybe_more events parser.new
-        × (text.items ≡ lines events)) }
+        × (text.new.items ≡ text.old.items ++ lines events)) }
     ensures kind { OnErr result (result ≡ Err RunError.Memory) }
 {
-    let mut text = Vec::new(alloc);
     let mut refused = false;
     let mut append_line = |_number: usize, event: InputEvent|
-        ensures { AppendsLine text.entry.items refused.entry event text.exit.items refused.exit }
+        ensures { AppendsLine text.entry.now.items refused.entry event text.exit.now.items refused.exit }
     {
         if !refused {
-            refused = push_line(&mut text, &event).is_err();
+            refused = push_line(text, &event).is_err();
         }
     };
     let parsed = parser.parse_pieces(pieces, &mut append_line, maybe_more);
     match (parsed, refused) {
-        (Ok(()), false) => Ok(text),
+        (Ok(()), false) => Ok(()),
         _ => Err(RunError::Memory),
     }
 }

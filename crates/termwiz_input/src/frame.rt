@@ -108,7 +108,8 @@ fn event_at(text: &[u8]) -> Result<(MouseEvent, &[u8]), Unread>
     }
 }
 
-// What the text begins with, as far as frames go.
+// What the text begins with, as far as frames go. Inlined, so that a key pays for no call.
+#[inline(always)]
 pub(crate) fn frame_at(text: &[u8]) -> FrontFrame
     ensures { IsFrameAnswer text.now result }
 {

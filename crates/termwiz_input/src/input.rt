@@ -2,6 +2,7 @@
 ghost use Rattle.std.specs.Prelude.{◌≡◌, ◌≢◌, ◌++◌, ◌+◌, ◌^◌, ◌<◌, ◌≤◌, ℕ, Bool, List, [], ◌∷◌, length, drop, Contains, Some, true, false, OnErr, IfOk, IfErr, IfSome, IfNone, IsTrue, ◌↔◌, ◌==◌, ◌⊎◌, slice_index_or, if◌then◌else◌, OnOk, IsOk, IsErrOf, vec_len, vec_capacity};
 ghost use Rattle.termwiz_input.specs.declared.types.KeyEvent.{KeyEvent};
 ghost use Rattle.termwiz_input.specs.Bytes.{Begins, START};
+ghost use Rattle.termwiz_input.specs.Keys.{plain};
 ghost use Rattle.termwiz_input.specs.Grammar.{GivesNoPaste, HasItem, HasPaste, IsRest, Steps, Means};
 ghost use Rattle.termwiz_input.specs.AtFront.{IsItemAt};
 ghost use Rattle.termwiz_input.specs.Callbacks.{MayBeCalledOn, MayBeCalledOnNumbered, WasCalledOn, WasCalledOnNumbered};
@@ -197,6 +198,27 @@ impl InputParser {
         self.buffer.extend_with(bytes)
     }
 
+    // Takes the character at the front of the waiting text. `None`, and nothing taken, if a known text may begin there or no whole
+    // character stands there.
+    fn next_character(&mut self) -> Option<char>
+        ensures event { IfSome result (λ character. (more : Bool) → Steps self.old more (Event.Key (plain character) ∷ []) self.new) }
+        ensures none { IfNone result (self.new ≡ self.old) }
+    {
+        let (character, len) = character_front(self.buffer.as_slice())?;
+        self.consume(len);
+        Some(character)
+    }
+
+    // Takes the mouse frame at the front of the waiting text. `None`, and nothing taken, if none stands there.
+    fn next_frame(&mut self) -> Option<MouseEvent>
+        ensures event { IfSome result (λ event. (more : Bool) → Steps self.old more (Event.Mouse event ∷ []) self.new) }
+        ensures none { IfNone result (self.new ≡ self.old) }
+    {
+        let (event, len) = frame_front(self.buffer.as_slice())?;
+        self.consume(len);
+        Some(event)
+    }
+
     /// Takes the item at the front of the waiting text, and returns its event. `None` if no item stands there: what waits is
     /// the rest, and the parser is unchanged.
     ///
@@ -213,6 +235,12 @@ impl InputParser {
         // Without more to come nothing waits but an open paste.
         ensures flushed { maybe_more ≡ false → IfOk result (λ found. IfNone found ((self.new ≡ []) ⊎ Begins START self.new)) }
     {
+        if let Some(character) = self.next_character() {
+            return Ok(Some(InputEvent::Key(plain_key(character))));
+        }
+        if let Some(event) = self.next_frame() {
+            return Ok(Some(InputEvent::Mouse(event)));
+        }
         let Some(Item { event, len }) = self.find_item(maybe_more)? else {
             return Ok(None);
         };
@@ -258,6 +286,10 @@ impl InputParser {
             return Err(ParseError::NotTaken);
         }
         loop {
+            if let Some(character) = self.next_character() {
+                callback(InputEvent::Key(plain_key(character)));
+                continue;
+            }
             match self.next_event(maybe_more) {
                 Ok(Some(event)) => callback(event),
                 Ok(None) => return Ok(()),
@@ -291,6 +323,10 @@ impl InputParser {
             return Err(ParseError::NotTaken);
         }
         loop {
+            if let Some(character) = self.next_character() {
+                callback(number, InputEvent::Key(plain_key(character)));
+                continue;
+            }
             match self.next_event(more) {
                 Ok(Some(event)) => callback(number, event),
                 Ok(None) => return Ok(()),

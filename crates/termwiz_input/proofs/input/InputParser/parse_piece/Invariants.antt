@@ -5,8 +5,8 @@ use Rattle.termwiz_input.specs.Callbacks.{MayBeCalledOnNumbered, WasCalledOnNumb
 use Rattle.termwiz_input.specs.Pieces.{numbered}
 use Rattle.termwiz_input.proofs.input.InputParser.parse_piece.Given as goal
 
-abbrev pub invariant-loop-event : goal.invariant-loop-event
-invariant-loop-event g l = record {
+abbrev pub invariant-loop-character : goal.invariant-loop-character
+invariant-loop-character g l = record {
   given : (events : List InputEvent)
       × Steps (l.fn.self ++ l.fn.piece) l.fn.more events l.self
       × WasCalledOnNumbered (goal.F-step g) l.fn.callback (numbered l.fn.number events) l.callback;
@@ -14,5 +14,5 @@ invariant-loop-event g l = record {
       → MayBeCalledOnNumbered g.F.FnMut l.callback (numbered l.fn.number events);
 }
 
-abbrev pub decreases-loop-event : goal.decreases-loop-event
-decreases-loop-event g l = length l.self
+abbrev pub decreases-loop-character : goal.decreases-loop-character
+decreases-loop-character g l = length l.self
