@@ -1,6 +1,6 @@
 -- What holds of the first elements of a list, and of one more.
 use Rattle.std.proofs.Common.{◌≡◌, ◌∙◌, ◌+◌, ◌<◌, ◌≤◌, ◌∷◌, ◌++◌, [], ℕ, zero, suc, List, All, length, take, take_all, get_or, sym, ap, subst, arith}
-use Rattle.std.specs.List.{FoldsTo}
+use Rattle.std.specs.List.{AllZip, FoldsTo}
 use Rattle.std.proofs.lemmas.Fn.{FoldsTo-push}
 use Rattle.std.proofs.lemmas.List.{take_more}
 use Rattle.std.proofs.lemmas.List.Elements.{All-get_or, All-push}
@@ -33,3 +33,10 @@ not_folded R one first (y ∷ ys) zero before x within is so_far fails last (aft
     fails after (subst (λ p. R p x after) so_far (subst (λ z. R first z after) (sym is) here))
 not_folded R one first (y ∷ ys) (suc i) before x within is (next, step, so_far) fails last (after, here, others) =
     not_folded R one next ys i before x (omega arith) is so_far fails last (subst (λ p. FoldsTo R p ys last) (one first y after next here step) others)
+
+-- one more pair
+pub zip_more : {X Y : Type 0} (R : X → Y → Type 0) (xs : List X) (ys : List Y) (x : X) (y : Y) → AllZip R xs ys → R x y → AllZip R (xs ++ x ∷ []) (ys ++ y ∷ [])
+zip_more R [] [] x y all here = (here, tt)
+zip_more R [] (w ∷ ws) x y all here = absurd all
+zip_more R (z ∷ zs) [] x y all here = absurd all
+zip_more R (z ∷ zs) (w ∷ ws) x y (first, others) here = (first, zip_more R zs ws x y others here)

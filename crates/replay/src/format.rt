@@ -1,10 +1,10 @@
 // The form of a line: reads what it records.
 
-ghost use Rattle.std.specs.Prelude.{◌≡◌, ◌++◌, Ok, codes, map, IfOk, IfSome};
+ghost use Rattle.std.specs.Prelude.{◌≡◌, ◌++◌, codes, map, IfOk, IfSome};
 ghost use Rattle.event_text.specs.Names.{key_name};
 ghost use Rattle.event_text.specs.Texts.{modifiers_text};
-ghost use Rattle.replay.specs.Lines.{IsCallWord, IsChords, IsRowText, IsSentWord, Records, answer_word, comma_words};
-ghost use Rattle.hex.specs.Hex.{decode_of};
+ghost use Rattle.std.specs.List.{AllZip};
+ghost use Rattle.replay.specs.Lines.{IsBytesWord, IsCallWord, IsChords, IsRowText, IsSentWord, Records, answer_word, comma_words, space_words};
 
 use crate::cases::{Call, Case, InModes, Keys, Row, Sent};
 use crate::names::{key_named, modifiers_named};
@@ -92,7 +92,7 @@ fn halves(text: &str) -> Option<(&str, &str)>
 
 // Bytes by their hexadecimal digits.
 fn bytes_of(alloc: Global, digits: &str) -> Result<Vec<u8>, Fault>
-    ensures { IfOk result (λ bytes. decode_of digits.now ≡ Ok bytes.items) }
+    ensures { IfOk result (IsBytesWord digits.now) }
 {
     Ok(hex::decode(alloc, digits)?)
 }
@@ -104,11 +104,13 @@ fn copy(alloc: Global, text: &str) -> Result<Vec<u8>, AllocError>
     text.as_bytes().to_vec(alloc)
 }
 
-// Calls, each with its answer.
-fn calls_of(alloc: Global, given: &str, recorded: &str) -> Result<Vec<Call>, Fault> {
+// Calls, separated by spaces, each with its answer.
+fn calls_of(alloc: Global, given: &str, recorded: &str) -> Result<Vec<Call>, Fault>
+    ensures { IfOk result (λ calls. AllZip IsCallWord (space_words given.now) calls.items) }
+{
     let mut answers = recorded.split(" | ");
     let mut calls = Vec::new(alloc);
-    for call in given.split(" ") {
+    for call in given.split(' ') {
         let answer = answers.next().ok_or(Fault::Answers)?;
         calls.push(call_of(alloc, call, answer)?)?;
     }
@@ -135,9 +137,11 @@ fn call_of(alloc: Global, given: &str, answer: &str) -> Result<Call, Fault>
 }
 
 // The bytes of rows, separated by commas.
-fn rows_of(alloc: Global, given: &str) -> Result<Vec<Vec<u8>>, Fault> {
+fn rows_of(alloc: Global, given: &str) -> Result<Vec<Vec<u8>>, Fault>
+    ensures { IfOk result (λ rows. AllZip IsBytesWord (comma_words given.now) rows.items) }
+{
     let mut rows = Vec::new(alloc);
-    for row in given.split(",") {
+    for row in given.split(',') {
         rows.push(bytes_of(alloc, row)?)?;
     }
     Ok(rows)
