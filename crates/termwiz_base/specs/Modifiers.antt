@@ -1,6 +1,10 @@
 -- The bits of the modifiers.
-use Rattle.std.specs.Prelude.{◌+◌, ◌==◌, ℕ, if◌then◌else◌}
+use Rattle.std.specs.Prelude.{◌+◌, ◌==◌, ℕ, List, [], ◌∷◌, if◌then◌else◌}
 use Rattle.std.specs.Int.RustNames.{bit_and}
+
+-- the bits of each flag, NONE first
+abbrev pub flag_bits : List ℕ
+flag_bits = 0 ∷ 2 ∷ 4 ∷ 8 ∷ 16 ∷ 32 ∷ 64 ∷ 128 ∷ 256 ∷ 512 ∷ 1024 ∷ 2048 ∷ []
 
 -- the bits of all flags together
 abbrev pub every_flag : ℕ

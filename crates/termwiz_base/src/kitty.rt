@@ -2,8 +2,6 @@
 
 ghost use Rattle.std.specs.Prelude.{⊤, [], ◌∷◌, codes};
 
-mod flag_calls;
-
 use bitflags::{Flag, Flags};
 
 /// What a program asks of a terminal in kitty's keyboard protocol, a set of sixteen bits. Its calls are those of the

@@ -4,6 +4,7 @@
 
 mod control;
 mod kitty;
+pub mod laws;
 mod modifiers;
 mod mouse;
 

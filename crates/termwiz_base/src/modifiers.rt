@@ -4,8 +4,6 @@ ghost use Rattle.std.specs.Prelude.{⊤, ◌≡◌, [], ◌∷◌, codes};
 ghost use Rattle.bitflags.specs.Sets.{without};
 ghost use Rattle.termwiz_base.specs.Modifiers.{positional, xterm_number};
 
-mod flag_calls;
-
 use bitflags::{Flag, Flags};
 
 /// A set of modifier keys, such as those held while another key is pressed. Its methods are those of the trait

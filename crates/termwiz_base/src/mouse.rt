@@ -4,8 +4,6 @@ ghost use Rattle.std.specs.Prelude.{◌≡◌, ◌≤◌};
 ghost use Rattle.std.specs.Option.{SomeIff};
 ghost use Rattle.termwiz_base.specs.Mouse.{HasRow, IsReport, row_of, report_of, modifiers_of};
 
-mod equality;
-
 use crate::modifiers::Modifiers;
 use bitflags::Flags;
 
