@@ -3,7 +3,8 @@ use Rattle.std.proofs.Common.{◌≡◌, ℕ, Bool, true, false, cond, List, [],
 use Rattle.std.specs.Prelude.{Option, Some, None, MatchOption, IsSomeAnd}
 use Rattle.std.specs.FinMap.{get, from_entries}
 use Rattle.termwiz_input.specs.Entries.{Entries, AreClones}
-use Rattle.termwiz_input.specs.Lookup.{ByteMap, ClonesEqual, IsClone}
+use Rattle.termwiz_base.specs.Laws.{ClonesEqual}
+use Rattle.termwiz_input.specs.Lookup.{ByteMap, IsClone}
 use Rattle.termwiz_input.proofs.KeysInEntries.{tied, found, get-entries, same_keys}
 
 module _ {V : Type 0} (is_clone : V → V → Type 0) where

@@ -5,7 +5,8 @@ use Rattle.std.proofs.lemmas.List.Elements.{all_zip_more}
 use Rattle.std.specs.Global.{Box}
 use Rattle.termwiz_input.specs.declared.keymap.row.Row.{Row}
 use Rattle.termwiz_input.specs.Entries.{AreClones}
-use Rattle.termwiz_input.specs.Lookup.{ByteMap, ClonesEqual, IsClone}
+use Rattle.termwiz_base.specs.Laws.{ClonesEqual}
+use Rattle.termwiz_input.specs.Lookup.{ByteMap, IsClone}
 use Rattle.termwiz_input.specs.KeyRows.{key_of, value_of, row_entries, IsRowClone, AreRowClones}
 use Rattle.termwiz_input.proofs.KeyClones.{IsClone-from_entries, same_from_clone}
 

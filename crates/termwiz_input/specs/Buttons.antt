@@ -1,5 +1,5 @@
 -- What the event of a mouse report says of the buttons.
-use Rattle.std.specs.Prelude.{ℕ, ◌+◌}
+use Rattle.std.specs.Prelude.{ℕ, ◌+◌, List, [], ◌∷◌}
 use Rattle.termwiz_base.specs.declared.mouse.MouseButton.{MouseButton}
 use Rattle.termwiz_base.specs.declared.mouse.MouseButton.TheVariants.{Button1Press, Button2Press, Button3Press, Button4Press, Button5Press, Button6Press, Button7Press, Button1Drag, Button2Drag, Button3Drag}
 use Rattle.termwiz_input.specs.declared.types.MouseButtons.{MouseButtons}
@@ -22,6 +22,10 @@ HORZ_WHEEL = 32
 
 abbrev pub WHEEL_POSITIVE : ℕ
 WHEEL_POSITIVE = 64
+
+-- the bits of each flag, NONE first
+abbrev pub flag_bits : List ℕ
+flag_bits = 0 ∷ LEFT ∷ RIGHT ∷ MIDDLE ∷ VERT_WHEEL ∷ HORZ_WHEEL ∷ WHEEL_POSITIVE ∷ []
 
 -- the bits of all of them together
 abbrev pub every_button : ℕ

@@ -21,3 +21,4 @@ pub mod Pieces
 pub mod Suffixes
 pub mod Table
 pub mod Typed
+pub mod Values

@@ -40,10 +40,6 @@ module _ {V : Type 0} where
   found_copied NeedData = NeedData
   found_copied Nothing = Nothing
 
-  -- a clone of a value equals it
-  abbrev pub ClonesEqual : (V → V → Type 0) → Type 0
-  ClonesEqual is_clone = (value clone : V) → is_clone value clone → clone ≡ value
-
   -- For each key, either neither map has it, or both have it and the copy's value is a clone of the original's.
   abbrev pub IsClone : (V → V → Type 0) → ByteMap V → ByteMap V → Type 0
   IsClone is_clone original copy = (key : List ℕ) → MatchOption (map.get original key) (map.get copy key ≡ None) (λ value. IsSomeAnd (map.get copy key) (is_clone value))

@@ -11,7 +11,6 @@ mod search;
 #[cfg(test)]
 mod tests;
 
-use crate::types::KeyEvent;
 use groups::{STARTS, group_of, move_later};
 use row::{Row, copied, new_row};
 use search::{count_up_to, first_goes_on, longest_of, place_of};
@@ -59,7 +58,8 @@ impl<V: Debug + Clone + Drop> Model for KeyMap<V> {
 }
 
 impl<V: Debug + Clone + Drop> KeyMap<V> {
-    ghost use Rattle.termwiz_input.specs.Lookup.{ClonesEqual, IsClone, IsExtended, IsLongestKey, LookupGives, NoKeyBegins, found_copied};
+    ghost use Rattle.termwiz_base.specs.Laws.{ClonesEqual};
+    ghost use Rattle.termwiz_input.specs.Lookup.{IsClone, IsExtended, IsLongestKey, LookupGives, NoKeyBegins, found_copied};
 
     /// An empty map. Takes no memory; later calls take theirs from `alloc`.
     pub fn new(alloc: Global) -> KeyMap<V>
@@ -142,12 +142,4 @@ impl<V: Debug + Clone + Drop> KeyMap<V> {
             alloc: self.alloc,
         })
     }
-}
-
-// A clone of a map of key events is the same map, since a clone of a key event equals it. Only tests
-// call this function: it is there for its contract.
-fn cloned_keys(keys: &KeyMap<KeyEvent>) -> Result<KeyMap<KeyEvent>, AllocError>
-    ensures { IfOk result (λ copy. copy ≡ keys.now) }
-{
-    keys.clone()
 }

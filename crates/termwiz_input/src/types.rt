@@ -9,8 +9,6 @@ use std::alloc::{AllocError, Global};
 use std::marker::Model;
 use termwiz_base::{Modifiers, MouseButton};
 
-mod equality;
-mod flag_calls;
 mod key_code;
 #[cfg(test)]
 mod tests;
