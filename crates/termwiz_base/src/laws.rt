@@ -81,7 +81,7 @@ pub fn kitty_flags()
         ≡ kitty.flag_bits }
 {}
 
-/// A set of bits has every bit of another exactly if adding those bits doesn't change it, which is how `is_all` is said.
+/// A set of bits has every bit of another exactly if their union is the first set: the contract of `is_all` speaks of the union.
 pub fn every_by_union()
     ensures { EveryByUnion }
 {}
