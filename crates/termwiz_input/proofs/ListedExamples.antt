@@ -11,7 +11,7 @@ use Rattle.termwiz_input.specs.Keys.{NONE, SHIFT, ALT, CTRL}
 use Rattle.termwiz_input.specs.Enc.{is_level}
 use Rattle.termwiz_input.specs.Listed.{any_of_three, cursor_and_function_keys as first_keys, keys_without_modifiers as plain_keys, edit_and_high_function_keys as edit_keys, IsSharedLetter, IsListedAt, IsListedInMode}
 use Rattle.termwiz_input.specs.Listed.IsListedAt.{any_modifiers, no_modifiers, character, alt_character, none_or_alt, ctrl_letter, tab_with_alt_and_shift, tab_with_ctrl_and_shift, edit_or_high_function, tab_or_enter, ctrl_character, ctrl_shift_character, escape_or_backspace}
-use Rattle.termwiz_input.specs.ListedExamples.{Press, off, level, SUPER, AllListed, NoneListed, ListedExamples, cursor_and_function_keys, keys_without_modifiers, characters, characters_with_alt, enter_escape_backspace, letters_with_ctrl, tab_with_alt_and_shift, tab_with_ctrl_and_shift, edit_and_high_function_keys, tab_and_enter, characters_with_ctrl, digits_with_ctrl_and_shift, escape_and_backspace, unlisted_near_cursor_and_function_keys, unlisted_near_keys_without_modifiers, unlisted_near_characters, unlisted_near_characters_with_alt, unlisted_near_enter_escape_backspace, unlisted_near_letters_with_ctrl, unlisted_near_tab_with_alt_and_shift, unlisted_near_edit_and_high_function_keys, unlisted_near_tab_and_enter, unlisted_near_characters_with_ctrl, unlisted_near_digits_with_ctrl_and_shift, unlisted_near_escape_and_backspace}
+use Rattle.termwiz_input.specs.ListedExamples.{Press, off, level, SUPER, AllListed, NoneListed, ListedExamples, cursor_and_function_keys, keys_without_modifiers, characters, characters_with_alt, enter_escape_backspace, letters_with_ctrl, tabs_with_alt_or_shift, tabs_with_ctrl_and_shift, edit_and_high_function_keys, tab_and_enter, characters_with_ctrl, digits_with_ctrl_and_shift, escape_and_backspace, unlisted_near_cursor_and_function_keys, unlisted_near_keys_without_modifiers, unlisted_near_characters, unlisted_near_characters_with_alt, unlisted_near_enter_escape_backspace, unlisted_near_letters_with_ctrl, unlisted_near_tabs_with_alt_or_shift, unlisted_near_edit_and_high_function_keys, unlisted_near_tab_and_enter, unlisted_near_characters_with_ctrl, unlisted_near_digits_with_ctrl_and_shift, unlisted_near_escape_and_backspace}
 use Rattle.termwiz_input.proofs.ReadBack.{not_level}
 
 -- a number for each key that a line names; the others share one
@@ -129,9 +129,11 @@ passes k h l (edit_or_high_function key held a b) =
     (8, both _ _ (both _ _ (key_found edit_keys key a) refl) (held_found any_of_three held b))
 passes k h l (tab_or_enter key held n a b) =
     (9, both _ _ (both _ _ (key_found (Tab ∷ Enter ∷ []) key a) refl) (held_found any_of_three held b))
-passes k h l (ctrl_character c held low high a) =
-    (10, both _ _ (both _ _ (let t : nat_le 0x20 c && nat_le c 0x7e ≡ true = grind (arith, nat_tests) in t) refl)
-    (held_found (CTRL ∷ (CTRL + ALT) ∷ []) held a))
+passes k h l (ctrl_character c held low high a) = (
+  10,
+  both _ _ (both _ _ (let t : nat_le 0x20 c && nat_le c 0x7e ≡ true = grind (arith, nat_tests) in t) refl)
+      (held_found (CTRL ∷ (CTRL + ALT) ∷ []) held a),
+)
 passes k h l (ctrl_shift_character c held a b) =
     (11, both _ _ (both _ _ a refl) (held_found ((CTRL + SHIFT) ∷ (CTRL + ALT + SHIFT) ∷ []) held b))
 passes k h l (escape_or_backspace key held a b) =
@@ -144,7 +146,7 @@ all_false ts = list_all not ts
 none_true : (ts : List Bool) (i : ℕ) → all_false ts ≡ true → get_or ts i false ≡ true → ⊥
 none_true [] i a b = cc (b)
 none_true (t ∷ ts) zero a b =
-    let n : not t ≡ true = (and_parts (not t) (all_false ts) a).0 in cc (n, ap (λ x. not x) b)
+    let n : not t ≡ true = (and_parts (not t) (all_false ts) a).0 in cc (n, b)
 none_true (t ∷ ts) (suc i) a b = none_true ts i (and_parts (not t) (all_false ts) a).1 b
 
 unlisted : (k : KeyCode) (h : ℕ) (l : Option ℤ) → all_false (tests k h l) ≡ true → ¬ IsListedAt k h l
@@ -159,206 +161,171 @@ none_listed (p ∷ presses) e =
 
 -- a character that isn't one of `hijm`
 own : (c : ℕ) → has_number (λ n. n) (codes "hijm") c ≡ false → ¬ IsSharedLetter c
-own c no shared = let yes : has_number (λ n. n) (codes "hijm") c ≡ true = found (λ n. n) (codes "hijm") c shared in cc (yes, no)
+own c none shared = let yes : has_number (λ n. n) (codes "hijm") c ≡ true = found (λ n. n) (codes "hijm") c shared in cc (yes, none)
+
+-- one more listed key
+also : {p : Press} {presses : List Press} → IsListedAt p.0 p.1 p.2 → AllListed presses → AllListed (p ∷ presses)
+also one others = (one, others)
 
 cursor_and_function_keys_are : AllListed cursor_and_function_keys
 cursor_and_function_keys_are =
-    (
-      any_modifiers LeftArrow NONE off (0, lit< tt, refl) (0, lit< tt, refl),
-      any_modifiers RightArrow SHIFT (level 0) (1, lit< tt, refl) (1, lit< tt, refl),
-      any_modifiers UpArrow ALT (level 1) (2, lit< tt, refl) (2, lit< tt, refl),
-      any_modifiers DownArrow (ALT + SHIFT) (level 2) (3, lit< tt, refl) (3, lit< tt, refl),
-      any_modifiers Home CTRL (level 3) (4, lit< tt, refl) (4, lit< tt, refl),
-      any_modifiers End (CTRL + SHIFT) off (5, lit< tt, refl) (5, lit< tt, refl),
-      any_modifiers (Function 1) (CTRL + ALT) (level 0) (6, lit< tt, refl) (6, lit< tt, refl),
-      any_modifiers (Function 2) (CTRL + ALT + SHIFT) (level 1) (7, lit< tt, refl) (7, lit< tt, refl),
-      any_modifiers (Function 3) NONE (level 2) (8, lit< tt, refl) (0, lit< tt, refl),
-      any_modifiers (Function 4) SHIFT (level 3) (9, lit< tt, refl) (1, lit< tt, refl),
-      any_modifiers (Function 5) ALT off (10, lit< tt, refl) (2, lit< tt, refl),
-      any_modifiers (Function 6) (ALT + SHIFT) (level 0) (11, lit< tt, refl) (3, lit< tt, refl),
-      any_modifiers (Function 7) CTRL (level 1) (12, lit< tt, refl) (4, lit< tt, refl),
-      any_modifiers (Function 8) (CTRL + SHIFT) (level 2) (13, lit< tt, refl) (5, lit< tt, refl),
-      any_modifiers (Function 9) (CTRL + ALT) (level 3) (14, lit< tt, refl) (6, lit< tt, refl),
-      any_modifiers (Function 10) (CTRL + ALT + SHIFT) off (15, lit< tt, refl) (7, lit< tt, refl),
-      any_modifiers (Function 11) NONE (level 0) (16, lit< tt, refl) (0, lit< tt, refl),
-      any_modifiers (Function 12) SHIFT (level 1) (17, lit< tt, refl) (1, lit< tt, refl),
-      any_modifiers (Function 13) ALT (level 2) (18, lit< tt, refl) (2, lit< tt, refl),
-      any_modifiers (Function 14) (ALT + SHIFT) (level 3) (19, lit< tt, refl) (3, lit< tt, refl),
-      any_modifiers (Function 15) CTRL off (20, lit< tt, refl) (4, lit< tt, refl),
-      any_modifiers (Function 16) (CTRL + SHIFT) (level 0) (21, lit< tt, refl) (5, lit< tt, refl),
-      any_modifiers (Function 17) (CTRL + ALT) (level 1) (22, lit< tt, refl) (6, lit< tt, refl),
-      any_modifiers (Function 18) (CTRL + ALT + SHIFT) (level 2) (23, lit< tt, refl) (7, lit< tt, refl),
-      any_modifiers (Function 19) NONE (level 3) (24, lit< tt, refl) (0, lit< tt, refl),
-      any_modifiers (Function 20) SHIFT off (25, lit< tt, refl) (1, lit< tt, refl),
-      tt,
-    )
+    also (any_modifiers LeftArrow NONE off (0, lit< tt, refl) (0, lit< tt, refl)) (
+    also (any_modifiers RightArrow SHIFT (level 0) (1, lit< tt, refl) (1, lit< tt, refl)) (
+    also (any_modifiers UpArrow ALT (level 1) (2, lit< tt, refl) (2, lit< tt, refl)) (
+    also (any_modifiers DownArrow (ALT + SHIFT) (level 2) (3, lit< tt, refl) (3, lit< tt, refl)) (
+    also (any_modifiers Home CTRL (level 3) (4, lit< tt, refl) (4, lit< tt, refl)) (
+    also (any_modifiers End (CTRL + SHIFT) off (5, lit< tt, refl) (5, lit< tt, refl)) (
+    also (any_modifiers (Function 1) (CTRL + ALT) (level 0) (6, lit< tt, refl) (6, lit< tt, refl)) (
+    also (any_modifiers (Function 2) (CTRL + ALT + SHIFT) (level 1) (7, lit< tt, refl) (7, lit< tt, refl)) (
+    also (any_modifiers (Function 3) NONE (level 2) (8, lit< tt, refl) (0, lit< tt, refl)) (
+    also (any_modifiers (Function 4) SHIFT (level 3) (9, lit< tt, refl) (1, lit< tt, refl)) (
+    also (any_modifiers (Function 5) ALT off (10, lit< tt, refl) (2, lit< tt, refl)) (
+    also (any_modifiers (Function 6) (ALT + SHIFT) (level 0) (11, lit< tt, refl) (3, lit< tt, refl)) (
+    also (any_modifiers (Function 7) CTRL (level 1) (12, lit< tt, refl) (4, lit< tt, refl)) (
+    also (any_modifiers (Function 8) (CTRL + SHIFT) (level 2) (13, lit< tt, refl) (5, lit< tt, refl)) (
+    also (any_modifiers (Function 9) (CTRL + ALT) (level 3) (14, lit< tt, refl) (6, lit< tt, refl)) (
+    also (any_modifiers (Function 10) (CTRL + ALT + SHIFT) off (15, lit< tt, refl) (7, lit< tt, refl)) (
+    also (any_modifiers (Function 11) NONE (level 0) (16, lit< tt, refl) (0, lit< tt, refl)) (
+    also (any_modifiers (Function 12) SHIFT (level 1) (17, lit< tt, refl) (1, lit< tt, refl)) (
+    also (any_modifiers (Function 13) ALT (level 2) (18, lit< tt, refl) (2, lit< tt, refl)) (
+    also (any_modifiers (Function 14) (ALT + SHIFT) (level 3) (19, lit< tt, refl) (3, lit< tt, refl)) (
+    also (any_modifiers (Function 15) CTRL off (20, lit< tt, refl) (4, lit< tt, refl)) (
+    also (any_modifiers (Function 16) (CTRL + SHIFT) (level 0) (21, lit< tt, refl) (5, lit< tt, refl)) (
+    also (any_modifiers (Function 17) (CTRL + ALT) (level 1) (22, lit< tt, refl) (6, lit< tt, refl)) (
+    also (any_modifiers (Function 18) (CTRL + ALT + SHIFT) (level 2) (23, lit< tt, refl) (7, lit< tt, refl)) (
+    also (any_modifiers (Function 19) NONE (level 3) (24, lit< tt, refl) (0, lit< tt, refl)) (
+    also (any_modifiers (Function 20) SHIFT off (25, lit< tt, refl) (1, lit< tt, refl)) tt)))))))))))))))))))))))))
 
 keys_without_modifiers_are : AllListed keys_without_modifiers
 keys_without_modifiers_are =
-    (
-      no_modifiers ApplicationLeftArrow off (0, lit< tt, refl),
-      no_modifiers ApplicationRightArrow (level 0) (1, lit< tt, refl),
-      no_modifiers ApplicationUpArrow (level 1) (2, lit< tt, refl),
-      no_modifiers ApplicationDownArrow (level 2) (3, lit< tt, refl),
-      no_modifiers PageUp (level 3) (4, lit< tt, refl),
-      no_modifiers PageDown off (5, lit< tt, refl),
-      no_modifiers Insert (level 0) (6, lit< tt, refl),
-      no_modifiers Delete (level 1) (7, lit< tt, refl),
-      tt,
-    )
+    also (no_modifiers ApplicationLeftArrow off (0, lit< tt, refl)) (
+    also (no_modifiers ApplicationRightArrow (level 0) (1, lit< tt, refl)) (
+    also (no_modifiers ApplicationUpArrow (level 1) (2, lit< tt, refl)) (
+    also (no_modifiers ApplicationDownArrow (level 2) (3, lit< tt, refl)) (
+    also (no_modifiers PageUp (level 3) (4, lit< tt, refl)) (
+    also (no_modifiers PageDown off (5, lit< tt, refl)) (
+    also (no_modifiers Insert (level 0) (6, lit< tt, refl)) (
+    also (no_modifiers Delete (level 1) (7, lit< tt, refl)) tt)))))))
 
 characters_are : AllListed characters
 characters_are =
-    (
-      character 0x20 off (inl (lit< tt)) (omega arith) (λ e. omega arith),
-      character 0x7e (level 0) (inl (lit< tt)) (omega arith) (λ e. omega arith),
-      character 0x80 (level 1) (inl (lit< tt)) (omega arith) (λ e. omega arith),
-      character 0x7ff (level 2) (inl (lit< tt)) (omega arith) (λ e. omega arith),
-      character 0x800 (level 3) (inl (lit< tt)) (omega arith) (λ e. omega arith),
-      character 0xfffd off (inr (lit< tt, lit< tt)) (omega arith) (λ e. omega arith),
-      character 0x10000 (level 0) (inr (lit< tt, lit< tt)) (omega arith) (λ e. omega arith),
-      character 0x10ffff (level 1) (inr (lit< tt, lit< tt)) (omega arith) (λ e. omega arith),
-      tt,
-    )
+    also (character 0x20 off (inl (lit< tt)) (omega arith) (λ e. omega arith)) (
+    also (character 0x7e (level 0) (inl (lit< tt)) (omega arith) (λ e. omega arith)) (
+    also (character 0x80 (level 1) (inl (lit< tt)) (omega arith) (λ e. omega arith)) (
+    also (character 0x7ff (level 2) (inl (lit< tt)) (omega arith) (λ e. omega arith)) (
+    also (character 0x800 (level 3) (inl (lit< tt)) (omega arith) (λ e. omega arith)) (
+    also (character 0xfffd off (inr (lit< tt, lit< tt)) (omega arith) (λ e. omega arith)) (
+    also (character 0x10000 (level 0) (inr (lit< tt, lit< tt)) (omega arith) (λ e. omega arith)) (
+    also (character 0x10ffff (level 1) (inr (lit< tt, lit< tt)) (omega arith) (λ e. omega arith)) tt)))))))
 
 characters_with_alt_are : AllListed characters_with_alt
 characters_with_alt_are =
-    (
-      alt_character 0x21 off refl,
-      alt_character 0x30 (level 0) refl,
-      alt_character 0x41 (level 1) refl,
-      alt_character 0x5b (level 2) refl,
-      alt_character 0x61 (level 3) refl,
-      alt_character 0x7e off refl,
-      tt,
-    )
+    also (alt_character 0x21 off refl) (
+    also (alt_character 0x30 (level 0) refl) (
+    also (alt_character 0x41 (level 1) refl) (
+    also (alt_character 0x5b (level 2) refl) (
+    also (alt_character 0x61 (level 3) refl) (
+    also (alt_character 0x7e off refl) tt)))))
 
 enter_escape_backspace_are : AllListed enter_escape_backspace
 enter_escape_backspace_are =
-    (
-      none_or_alt Enter NONE off (0, lit< tt, refl) (0, lit< tt, refl),
-      none_or_alt Escape ALT (level 1) (1, lit< tt, refl) (1, lit< tt, refl),
-      none_or_alt Backspace NONE (level 2) (2, lit< tt, refl) (0, lit< tt, refl),
-      none_or_alt Enter ALT (level 3) (0, lit< tt, refl) (1, lit< tt, refl),
-      none_or_alt Escape NONE (level 0) (1, lit< tt, refl) (0, lit< tt, refl),
-      none_or_alt Backspace ALT off (2, lit< tt, refl) (1, lit< tt, refl),
-      tt,
-    )
+    also (none_or_alt Enter NONE off (0, lit< tt, refl) (0, lit< tt, refl)) (
+    also (none_or_alt Escape ALT (level 1) (1, lit< tt, refl) (1, lit< tt, refl)) (
+    also (none_or_alt Backspace NONE (level 2) (2, lit< tt, refl) (0, lit< tt, refl)) (
+    also (none_or_alt Enter ALT (level 3) (0, lit< tt, refl) (1, lit< tt, refl)) (
+    also (none_or_alt Escape NONE (level 0) (1, lit< tt, refl) (0, lit< tt, refl)) (
+    also (none_or_alt Backspace ALT off (2, lit< tt, refl) (1, lit< tt, refl)) tt)))))
 
 letters_with_ctrl_are : AllListed letters_with_ctrl
 letters_with_ctrl_are =
-    (
-      ctrl_letter 0x61 CTRL off refl (own 0x61 refl) (λ e. cc (e)) (0, lit< tt, refl),
-      ctrl_letter 0x67 (CTRL + ALT) (level 0) refl (own 0x67 refl) (λ e. cc (e)) (1, lit< tt, refl),
-      ctrl_letter 0x6b CTRL (level 1) refl (own 0x6b refl) (λ e. cc (e)) (0, lit< tt, refl),
-      ctrl_letter 0x6c (CTRL + ALT) (level 3) refl (own 0x6c refl) (λ e. cc (e)) (1, lit< tt, refl),
-      ctrl_letter 0x6e CTRL off refl (own 0x6e refl) (λ e. cc (e)) (0, lit< tt, refl),
-      ctrl_letter 0x7a (CTRL + ALT) (level 0) refl (own 0x7a refl) (λ e. cc (e)) (1, lit< tt, refl),
-      tt,
-    )
+    also (ctrl_letter 0x61 CTRL off refl (own 0x61 refl) (λ e. cc (e)) (0, lit< tt, refl)) (
+    also (ctrl_letter 0x67 (CTRL + ALT) (level 0) refl (own 0x67 refl) (λ e. cc (e)) (1, lit< tt, refl)) (
+    also (ctrl_letter 0x6b CTRL (level 1) refl (own 0x6b refl) (λ e. cc (e)) (0, lit< tt, refl)) (
+    also (ctrl_letter 0x6c (CTRL + ALT) (level 3) refl (own 0x6c refl) (λ e. cc (e)) (1, lit< tt, refl)) (
+    also (ctrl_letter 0x6e CTRL off refl (own 0x6e refl) (λ e. cc (e)) (0, lit< tt, refl)) (
+    also (ctrl_letter 0x7a (CTRL + ALT) (level 0) refl (own 0x7a refl) (λ e. cc (e)) (1, lit< tt, refl)) tt)))))
 
-tab_with_alt_and_shift_are : AllListed tab_with_alt_and_shift
-tab_with_alt_and_shift_are =
-    (
-      tab_with_alt_and_shift NONE (0, lit< tt, refl),
-      tab_with_alt_and_shift ALT (1, lit< tt, refl),
-      tab_with_alt_and_shift SHIFT (2, lit< tt, refl),
-      tab_with_alt_and_shift (ALT + SHIFT) (3, lit< tt, refl),
-      tt,
-    )
+tabs_with_alt_or_shift_are : AllListed tabs_with_alt_or_shift
+tabs_with_alt_or_shift_are =
+    also (tab_with_alt_and_shift NONE (0, lit< tt, refl)) (
+    also (tab_with_alt_and_shift ALT (1, lit< tt, refl)) (
+    also (tab_with_alt_and_shift SHIFT (2, lit< tt, refl)) (
+    also (tab_with_alt_and_shift (ALT + SHIFT) (3, lit< tt, refl)) tt)))
 
-tab_with_ctrl_and_shift_are : AllListed tab_with_ctrl_and_shift
-tab_with_ctrl_and_shift_are =
-    (
-      tab_with_ctrl_and_shift (CTRL + SHIFT) (0, lit< tt, refl),
-      tab_with_ctrl_and_shift (CTRL + ALT + SHIFT) (1, lit< tt, refl),
-      tt,
-    )
+tabs_with_ctrl_and_shift_are : AllListed tabs_with_ctrl_and_shift
+tabs_with_ctrl_and_shift_are =
+    also (tab_with_ctrl_and_shift (CTRL + SHIFT) (0, lit< tt, refl)) (
+    also (tab_with_ctrl_and_shift (CTRL + ALT + SHIFT) (1, lit< tt, refl)) tt)
 
 edit_and_high_function_keys_are : AllListed edit_and_high_function_keys
 edit_and_high_function_keys_are =
-    (
-      edit_or_high_function Insert NONE (0, lit< tt, refl) (0, lit< tt, refl),
-      edit_or_high_function Delete SHIFT (1, lit< tt, refl) (1, lit< tt, refl),
-      edit_or_high_function PageUp ALT (2, lit< tt, refl) (2, lit< tt, refl),
-      edit_or_high_function PageDown (ALT + SHIFT) (3, lit< tt, refl) (3, lit< tt, refl),
-      edit_or_high_function (Function 21) CTRL (4, lit< tt, refl) (4, lit< tt, refl),
-      edit_or_high_function (Function 22) (CTRL + SHIFT) (5, lit< tt, refl) (5, lit< tt, refl),
-      edit_or_high_function (Function 23) (CTRL + ALT) (6, lit< tt, refl) (6, lit< tt, refl),
-      edit_or_high_function (Function 24) (CTRL + ALT + SHIFT) (7, lit< tt, refl) (7, lit< tt, refl),
-      edit_or_high_function Insert (CTRL + ALT + SHIFT) (0, lit< tt, refl) (7, lit< tt, refl),
-      edit_or_high_function Delete (CTRL + ALT) (1, lit< tt, refl) (6, lit< tt, refl),
-      edit_or_high_function PageUp (CTRL + SHIFT) (2, lit< tt, refl) (5, lit< tt, refl),
-      edit_or_high_function PageDown CTRL (3, lit< tt, refl) (4, lit< tt, refl),
-      edit_or_high_function (Function 21) (ALT + SHIFT) (4, lit< tt, refl) (3, lit< tt, refl),
-      edit_or_high_function (Function 22) ALT (5, lit< tt, refl) (2, lit< tt, refl),
-      edit_or_high_function (Function 23) SHIFT (6, lit< tt, refl) (1, lit< tt, refl),
-      edit_or_high_function (Function 24) NONE (7, lit< tt, refl) (0, lit< tt, refl),
-      tt,
-    )
+    also (edit_or_high_function Insert NONE (0, lit< tt, refl) (0, lit< tt, refl)) (
+    also (edit_or_high_function Delete SHIFT (1, lit< tt, refl) (1, lit< tt, refl)) (
+    also (edit_or_high_function PageUp ALT (2, lit< tt, refl) (2, lit< tt, refl)) (
+    also (edit_or_high_function PageDown (ALT + SHIFT) (3, lit< tt, refl) (3, lit< tt, refl)) (
+    also (edit_or_high_function (Function 21) CTRL (4, lit< tt, refl) (4, lit< tt, refl)) (
+    also (edit_or_high_function (Function 22) (CTRL + SHIFT) (5, lit< tt, refl) (5, lit< tt, refl)) (
+    also (edit_or_high_function (Function 23) (CTRL + ALT) (6, lit< tt, refl) (6, lit< tt, refl)) (
+    also (edit_or_high_function (Function 24) (CTRL + ALT + SHIFT) (7, lit< tt, refl) (7, lit< tt, refl)) (
+    also (edit_or_high_function Insert (CTRL + ALT + SHIFT) (0, lit< tt, refl) (7, lit< tt, refl)) (
+    also (edit_or_high_function Delete (CTRL + ALT) (1, lit< tt, refl) (6, lit< tt, refl)) (
+    also (edit_or_high_function PageUp (CTRL + SHIFT) (2, lit< tt, refl) (5, lit< tt, refl)) (
+    also (edit_or_high_function PageDown CTRL (3, lit< tt, refl) (4, lit< tt, refl)) (
+    also (edit_or_high_function (Function 21) (ALT + SHIFT) (4, lit< tt, refl) (3, lit< tt, refl)) (
+    also (edit_or_high_function (Function 22) ALT (5, lit< tt, refl) (2, lit< tt, refl)) (
+    also (edit_or_high_function (Function 23) SHIFT (6, lit< tt, refl) (1, lit< tt, refl)) (
+    also (edit_or_high_function (Function 24) NONE (7, lit< tt, refl) (0, lit< tt, refl)) tt)))))))))))))))
 
 tab_and_enter_are : AllListed tab_and_enter
 tab_and_enter_are =
-    (
-      tab_or_enter Tab NONE (pos 0) (0, lit< tt, refl) (0, lit< tt, refl),
-      tab_or_enter Enter NONE (pos 1) (1, lit< tt, refl) (0, lit< tt, refl),
-      tab_or_enter Tab SHIFT (pos 2) (0, lit< tt, refl) (1, lit< tt, refl),
-      tab_or_enter Enter SHIFT (pos 3) (1, lit< tt, refl) (1, lit< tt, refl),
-      tab_or_enter Tab ALT (pos 0) (0, lit< tt, refl) (2, lit< tt, refl),
-      tab_or_enter Enter ALT (pos 1) (1, lit< tt, refl) (2, lit< tt, refl),
-      tab_or_enter Tab (ALT + SHIFT) (pos 2) (0, lit< tt, refl) (3, lit< tt, refl),
-      tab_or_enter Enter (ALT + SHIFT) (pos 3) (1, lit< tt, refl) (3, lit< tt, refl),
-      tab_or_enter Tab CTRL (pos 0) (0, lit< tt, refl) (4, lit< tt, refl),
-      tab_or_enter Enter CTRL (pos 1) (1, lit< tt, refl) (4, lit< tt, refl),
-      tab_or_enter Tab (CTRL + SHIFT) (pos 2) (0, lit< tt, refl) (5, lit< tt, refl),
-      tab_or_enter Enter (CTRL + SHIFT) (pos 3) (1, lit< tt, refl) (5, lit< tt, refl),
-      tab_or_enter Tab (CTRL + ALT) (pos 0) (0, lit< tt, refl) (6, lit< tt, refl),
-      tab_or_enter Enter (CTRL + ALT) (pos 1) (1, lit< tt, refl) (6, lit< tt, refl),
-      tab_or_enter Tab (CTRL + ALT + SHIFT) (pos 2) (0, lit< tt, refl) (7, lit< tt, refl),
-      tab_or_enter Enter (CTRL + ALT + SHIFT) (pos 3) (1, lit< tt, refl) (7, lit< tt, refl),
-      tt,
-    )
+    also (tab_or_enter Tab NONE (pos 0) (0, lit< tt, refl) (0, lit< tt, refl)) (
+    also (tab_or_enter Enter NONE (pos 1) (1, lit< tt, refl) (0, lit< tt, refl)) (
+    also (tab_or_enter Tab SHIFT (pos 2) (0, lit< tt, refl) (1, lit< tt, refl)) (
+    also (tab_or_enter Enter SHIFT (pos 3) (1, lit< tt, refl) (1, lit< tt, refl)) (
+    also (tab_or_enter Tab ALT (pos 0) (0, lit< tt, refl) (2, lit< tt, refl)) (
+    also (tab_or_enter Enter ALT (pos 1) (1, lit< tt, refl) (2, lit< tt, refl)) (
+    also (tab_or_enter Tab (ALT + SHIFT) (pos 2) (0, lit< tt, refl) (3, lit< tt, refl)) (
+    also (tab_or_enter Enter (ALT + SHIFT) (pos 3) (1, lit< tt, refl) (3, lit< tt, refl)) (
+    also (tab_or_enter Tab CTRL (pos 0) (0, lit< tt, refl) (4, lit< tt, refl)) (
+    also (tab_or_enter Enter CTRL (pos 1) (1, lit< tt, refl) (4, lit< tt, refl)) (
+    also (tab_or_enter Tab (CTRL + SHIFT) (pos 2) (0, lit< tt, refl) (5, lit< tt, refl)) (
+    also (tab_or_enter Enter (CTRL + SHIFT) (pos 3) (1, lit< tt, refl) (5, lit< tt, refl)) (
+    also (tab_or_enter Tab (CTRL + ALT) (pos 0) (0, lit< tt, refl) (6, lit< tt, refl)) (
+    also (tab_or_enter Enter (CTRL + ALT) (pos 1) (1, lit< tt, refl) (6, lit< tt, refl)) (
+    also (tab_or_enter Tab (CTRL + ALT + SHIFT) (pos 2) (0, lit< tt, refl) (7, lit< tt, refl)) (
+    also (tab_or_enter Enter (CTRL + ALT + SHIFT) (pos 3) (1, lit< tt, refl) (7, lit< tt, refl)) tt)))))))))))))))
 
 characters_with_ctrl_are : AllListed characters_with_ctrl
 characters_with_ctrl_are =
-    (
-      ctrl_character 0x20 CTRL (omega arith) (omega arith) (0, lit< tt, refl),
-      ctrl_character 0x41 (CTRL + ALT) (omega arith) (omega arith) (1, lit< tt, refl),
-      ctrl_character 0x69 CTRL (omega arith) (omega arith) (0, lit< tt, refl),
-      ctrl_character 0x7e (CTRL + ALT) (omega arith) (omega arith) (1, lit< tt, refl),
-      tt,
-    )
+    also (ctrl_character 0x20 CTRL (omega arith) (omega arith) (0, lit< tt, refl)) (
+    also (ctrl_character 0x41 (CTRL + ALT) (omega arith) (omega arith) (1, lit< tt, refl)) (
+    also (ctrl_character 0x69 CTRL (omega arith) (omega arith) (0, lit< tt, refl)) (
+    also (ctrl_character 0x7e (CTRL + ALT) (omega arith) (omega arith) (1, lit< tt, refl)) tt)))
 
 digits_with_ctrl_and_shift_are : AllListed digits_with_ctrl_and_shift
 digits_with_ctrl_and_shift_are =
-    (
-      ctrl_shift_character 0x20 (CTRL + SHIFT) refl (0, lit< tt, refl),
-      ctrl_shift_character 0x30 (CTRL + ALT + SHIFT) refl (1, lit< tt, refl),
-      ctrl_shift_character 0x39 (CTRL + SHIFT) refl (0, lit< tt, refl),
-      tt,
-    )
+    also (ctrl_shift_character 0x20 (CTRL + SHIFT) refl (0, lit< tt, refl)) (
+    also (ctrl_shift_character 0x30 (CTRL + ALT + SHIFT) refl (1, lit< tt, refl)) (
+    also (ctrl_shift_character 0x39 (CTRL + SHIFT) refl (0, lit< tt, refl)) tt))
 
 escape_and_backspace_are : AllListed escape_and_backspace
 escape_and_backspace_are =
-    (
-      escape_or_backspace Escape NONE (0, lit< tt, refl) (0, lit< tt, refl),
-      escape_or_backspace Backspace NONE (1, lit< tt, refl) (0, lit< tt, refl),
-      escape_or_backspace Escape SHIFT (0, lit< tt, refl) (1, lit< tt, refl),
-      escape_or_backspace Backspace SHIFT (1, lit< tt, refl) (1, lit< tt, refl),
-      escape_or_backspace Escape ALT (0, lit< tt, refl) (2, lit< tt, refl),
-      escape_or_backspace Backspace ALT (1, lit< tt, refl) (2, lit< tt, refl),
-      escape_or_backspace Escape (ALT + SHIFT) (0, lit< tt, refl) (3, lit< tt, refl),
-      escape_or_backspace Backspace (ALT + SHIFT) (1, lit< tt, refl) (3, lit< tt, refl),
-      escape_or_backspace Escape CTRL (0, lit< tt, refl) (4, lit< tt, refl),
-      escape_or_backspace Backspace CTRL (1, lit< tt, refl) (4, lit< tt, refl),
-      escape_or_backspace Escape (CTRL + SHIFT) (0, lit< tt, refl) (5, lit< tt, refl),
-      escape_or_backspace Backspace (CTRL + SHIFT) (1, lit< tt, refl) (5, lit< tt, refl),
-      escape_or_backspace Escape (CTRL + ALT) (0, lit< tt, refl) (6, lit< tt, refl),
-      escape_or_backspace Backspace (CTRL + ALT) (1, lit< tt, refl) (6, lit< tt, refl),
-      escape_or_backspace Escape (CTRL + ALT + SHIFT) (0, lit< tt, refl) (7, lit< tt, refl),
-      escape_or_backspace Backspace (CTRL + ALT + SHIFT) (1, lit< tt, refl) (7, lit< tt, refl),
-      tt,
-    )
+    also (escape_or_backspace Escape NONE (0, lit< tt, refl) (0, lit< tt, refl)) (
+    also (escape_or_backspace Backspace NONE (1, lit< tt, refl) (0, lit< tt, refl)) (
+    also (escape_or_backspace Escape SHIFT (0, lit< tt, refl) (1, lit< tt, refl)) (
+    also (escape_or_backspace Backspace SHIFT (1, lit< tt, refl) (1, lit< tt, refl)) (
+    also (escape_or_backspace Escape ALT (0, lit< tt, refl) (2, lit< tt, refl)) (
+    also (escape_or_backspace Backspace ALT (1, lit< tt, refl) (2, lit< tt, refl)) (
+    also (escape_or_backspace Escape (ALT + SHIFT) (0, lit< tt, refl) (3, lit< tt, refl)) (
+    also (escape_or_backspace Backspace (ALT + SHIFT) (1, lit< tt, refl) (3, lit< tt, refl)) (
+    also (escape_or_backspace Escape CTRL (0, lit< tt, refl) (4, lit< tt, refl)) (
+    also (escape_or_backspace Backspace CTRL (1, lit< tt, refl) (4, lit< tt, refl)) (
+    also (escape_or_backspace Escape (CTRL + SHIFT) (0, lit< tt, refl) (5, lit< tt, refl)) (
+    also (escape_or_backspace Backspace (CTRL + SHIFT) (1, lit< tt, refl) (5, lit< tt, refl)) (
+    also (escape_or_backspace Escape (CTRL + ALT) (0, lit< tt, refl) (6, lit< tt, refl)) (
+    also (escape_or_backspace Backspace (CTRL + ALT) (1, lit< tt, refl) (6, lit< tt, refl)) (
+    also (escape_or_backspace Escape (CTRL + ALT + SHIFT) (0, lit< tt, refl) (7, lit< tt, refl)) (
+    also (escape_or_backspace Backspace (CTRL + ALT + SHIFT) (1, lit< tt, refl) (7, lit< tt, refl)) tt)))))))))))))))
 
 pub listed_examples : ListedExamples
 listed_examples = record {
@@ -374,9 +341,9 @@ listed_examples = record {
   near_enter_escape_backspace = none_listed unlisted_near_enter_escape_backspace refl;
   letters_with_ctrl_are = letters_with_ctrl_are;
   near_letters_with_ctrl = none_listed unlisted_near_letters_with_ctrl refl;
-  tab_with_alt_and_shift_are = tab_with_alt_and_shift_are;
-  near_tab_with_alt_and_shift = none_listed unlisted_near_tab_with_alt_and_shift refl;
-  tab_with_ctrl_and_shift_are = tab_with_ctrl_and_shift_are;
+  tabs_with_alt_or_shift_are = tabs_with_alt_or_shift_are;
+  near_tabs_with_alt_or_shift = none_listed unlisted_near_tabs_with_alt_or_shift refl;
+  tabs_with_ctrl_and_shift_are = tabs_with_ctrl_and_shift_are;
   edit_and_high_function_keys_are = edit_and_high_function_keys_are;
   near_edit_and_high_function_keys = none_listed unlisted_near_edit_and_high_function_keys refl;
   tab_and_enter_are = tab_and_enter_are;

@@ -67,5 +67,5 @@ most_wait = record {
   begins = begins;
   alone = λ bytes event stands. stands.closed open';
   after_escape = held_escape_rests (ESC ++ longest_beginning) longest_beginning true
-  (escape_alone 27 (codes "[<00095;65535;65535") (inl (omega arith))) refl (λ h. cc (h)) open';
+      (escape_alone 27 (codes "[<00095;65535;65535") (inl (omega arith))) refl (λ h. cc (h)) open';
 }

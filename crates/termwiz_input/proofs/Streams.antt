@@ -12,8 +12,15 @@ few_in_turn : (reads : List OneRead) (before W : List ℕ) (E : List InputEvent)
     → length E + length W ≤ length before + length (bytes_of_reads reads)
 few_in_turn [] before W E (none, same) = omega (arith, ap length none, ap length same)
 few_in_turn (read ∷ reads) before W E (first, later, between, parts, steps, rest) =
-    omega (arith, ap length parts, length-append first later, few_events (before ++ read.0) between first read.1 steps,
-    length-append before read.0, few_in_turn reads between W later rest, length-append read.0 (bytes_of_reads reads))
+    omega (
+      arith,
+      ap length parts,
+      length-append first later,
+      few_events (before ++ read.0) between first read.1 steps,
+      length-append before read.0,
+      few_in_turn reads between W later rest,
+      length-append read.0 (bytes_of_reads reads),
+    )
 
 -- reads that are read whole are read item by item
 steps_in_turn : (reads : List OneRead) (before W : List ℕ) (E : List InputEvent) → ReadInTurn Means before reads E W → ReadInTurn Steps before reads E W

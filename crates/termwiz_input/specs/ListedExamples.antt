@@ -100,17 +100,17 @@ unlisted_near_letters_with_ctrl =
     ∷ (Char 0x41, CTRL, off) ∷ (Char 0x60, CTRL, off) ∷ (Char 0x7b, CTRL, off) ∷ (Char 0x61, CTRL + SHIFT, off) ∷ []
 
 -- Tab, where modifyOtherKeys is off
-abbrev pub tab_with_alt_and_shift : List Press
-tab_with_alt_and_shift =
+abbrev pub tabs_with_alt_or_shift : List Press
+tabs_with_alt_or_shift =
     (Tab, NONE, off) ∷ (Tab, ALT, off) ∷ (Tab, SHIFT, off) ∷ (Tab, ALT + SHIFT, off) ∷ []
 
-abbrev pub unlisted_near_tab_with_alt_and_shift : List Press
-unlisted_near_tab_with_alt_and_shift =
+abbrev pub unlisted_near_tabs_with_alt_or_shift : List Press
+unlisted_near_tabs_with_alt_or_shift =
     (Tab, CTRL, off) ∷ (Tab, CTRL + ALT, off) ∷ []
 
 -- the same with Ctrl and Shift
-abbrev pub tab_with_ctrl_and_shift : List Press
-tab_with_ctrl_and_shift =
+abbrev pub tabs_with_ctrl_and_shift : List Press
+tabs_with_ctrl_and_shift =
     (Tab, CTRL + SHIFT, off) ∷ (Tab, CTRL + ALT + SHIFT, off) ∷ []
 
 -- the editing block and F21 to F24 with modifiers, where it is off
@@ -185,9 +185,9 @@ pub record ListedExamples : Type 0 where
   pub near_enter_escape_backspace : NoneListed unlisted_near_enter_escape_backspace
   pub letters_with_ctrl_are : AllListed letters_with_ctrl
   pub near_letters_with_ctrl : NoneListed unlisted_near_letters_with_ctrl
-  pub tab_with_alt_and_shift_are : AllListed tab_with_alt_and_shift
-  pub near_tab_with_alt_and_shift : NoneListed unlisted_near_tab_with_alt_and_shift
-  pub tab_with_ctrl_and_shift_are : AllListed tab_with_ctrl_and_shift
+  pub tabs_with_alt_or_shift_are : AllListed tabs_with_alt_or_shift
+  pub near_tabs_with_alt_or_shift : NoneListed unlisted_near_tabs_with_alt_or_shift
+  pub tabs_with_ctrl_and_shift_are : AllListed tabs_with_ctrl_and_shift
   pub edit_and_high_function_keys_are : AllListed edit_and_high_function_keys
   pub near_edit_and_high_function_keys : NoneListed unlisted_near_edit_and_high_function_keys
   pub tab_and_enter_are : AllListed tab_and_enter
