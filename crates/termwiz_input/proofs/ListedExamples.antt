@@ -1,15 +1,15 @@
 -- Which of the examples are listed: those are by their lines, and the others by tests that every line passes.
-use Rattle.std.proofs.Common.{◌≡◌, ◌≢◌, ℕ, zero, suc, ℤ, pos, ◌+◌, ◌<◌, ◌≤◌, Bool, true, false, not, List, [], ◌∷◌, Option, Some, None, refl, sym, ap, arith, inl, inr, Contains, eq-eqb, get_or, ◌==◌, ◌&&◌, ◌||◌, lit<}
+use Rattle.std.proofs.Common.{◌≡◌, ◌≢◌, ℕ, zero, suc, ℤ, pos, ◌+◌, ◌<◌, Bool, true, false, not, List, [], ◌∷◌, Option, Some, refl, sym, ap, arith, Contains, eq-eqb, get_or, ◌==◌, ◌&&◌, ◌||◌, lit<}
 use Rattle.std.specs.Prelude.{is_some, nat_le, codes}
-use Rattle.std.specs.List.{AllByRecursion, list_all}
+use Rattle.std.specs.List.{list_all}
 use Rattle.std.specs.Char.{is_ascii_lowercase, is_ascii_digit, is_ascii_alphanumeric, is_ascii_punctuation}
 use Rattle.std.proofs.lemmas.Bool.{and_parts, and_from}
 use Rattle.std.proofs.lemmas.Bool.Decides.{nat_tests}
 use Rattle.termwiz_input.specs.declared.types.KeyCode.{KeyCode}
-use Rattle.termwiz_input.specs.declared.types.KeyCode.TheVariants.{Char, Backspace, Tab, Enter, Escape, PageUp, PageDown, End, Home, LeftArrow, RightArrow, UpArrow, DownArrow, Insert, Delete, Function, ApplicationLeftArrow, ApplicationRightArrow, ApplicationUpArrow, ApplicationDownArrow, KeyPadHome, KeyPadPageUp}
+use Rattle.termwiz_input.specs.declared.types.KeyCode.TheVariants.{Char, Backspace, Tab, Enter, Escape, PageUp, PageDown, End, Home, LeftArrow, RightArrow, UpArrow, DownArrow, Insert, Delete, Function, ApplicationLeftArrow, ApplicationRightArrow, ApplicationUpArrow, ApplicationDownArrow}
 use Rattle.termwiz_input.specs.Keys.{NONE, SHIFT, ALT, CTRL}
 use Rattle.termwiz_input.specs.Enc.{is_level}
-use Rattle.termwiz_input.specs.Listed.{any_of_three, cursor_and_function_keys as first_keys, keys_without_modifiers as plain_keys, edit_and_high_function_keys as edit_keys, IsSharedLetter, IsListedAt, IsListedInMode}
+use Rattle.termwiz_input.specs.Listed.{any_of_three, cursor_and_function_keys as first_keys, keys_without_modifiers as plain_keys, edit_and_high_function_keys as edit_keys, IsSharedLetter, IsListedAt}
 use Rattle.termwiz_input.specs.Listed.IsListedAt.{any_modifiers, no_modifiers, character, alt_character, none_or_alt, ctrl_letter, tab_with_alt_and_shift, tab_with_ctrl_and_shift, edit_or_high_function, tab_or_enter, ctrl_character, ctrl_shift_character, escape_or_backspace}
 use Rattle.termwiz_input.specs.ListedExamples.{Press, off, level, SUPER, AllListed, NoneListed, ListedExamples, cursor_and_function_keys, keys_without_modifiers, characters, characters_with_alt, enter_escape_backspace, letters_with_ctrl, tabs_with_alt_or_shift, tabs_with_ctrl_and_shift, edit_and_high_function_keys, tab_and_enter, characters_with_ctrl, digits_with_ctrl_and_shift, escape_and_backspace, unlisted_near_cursor_and_function_keys, unlisted_near_keys_without_modifiers, unlisted_near_characters, unlisted_near_characters_with_alt, unlisted_near_enter_escape_backspace, unlisted_near_letters_with_ctrl, unlisted_near_tabs_with_alt_or_shift, unlisted_near_edit_and_high_function_keys, unlisted_near_tab_and_enter, unlisted_near_characters_with_ctrl, unlisted_near_digits_with_ctrl_and_shift, unlisted_near_escape_and_backspace}
 use Rattle.termwiz_input.proofs.ReadBack.{not_level}
@@ -163,8 +163,8 @@ none_listed (p ∷ presses) e =
 own : (c : ℕ) → has_number (λ n. n) (codes "hijm") c ≡ false → ¬ IsSharedLetter c
 own c none shared = let yes : has_number (λ n. n) (codes "hijm") c ≡ true = found (λ n. n) (codes "hijm") c shared in cc (yes, none)
 
--- one more listed key
-also : {p : Press} {presses : List Press} → IsListedAt p.0 p.1 p.2 → AllListed presses → AllListed (p ∷ presses)
+-- one more, and the others
+also : {A B : Type 0} → A → B → A × B
 also one others = (one, others)
 
 cursor_and_function_keys_are : AllListed cursor_and_function_keys
@@ -209,14 +209,14 @@ keys_without_modifiers_are =
 
 characters_are : AllListed characters
 characters_are =
-    also (character 0x20 off (inl (lit< tt)) (omega arith) (λ e. omega arith)) (
-    also (character 0x7e (level 0) (inl (lit< tt)) (omega arith) (λ e. omega arith)) (
-    also (character 0x80 (level 1) (inl (lit< tt)) (omega arith) (λ e. omega arith)) (
-    also (character 0x7ff (level 2) (inl (lit< tt)) (omega arith) (λ e. omega arith)) (
-    also (character 0x800 (level 3) (inl (lit< tt)) (omega arith) (λ e. omega arith)) (
-    also (character 0xfffd off (inr (lit< tt, lit< tt)) (omega arith) (λ e. omega arith)) (
-    also (character 0x10000 (level 0) (inr (lit< tt, lit< tt)) (omega arith) (λ e. omega arith)) (
-    also (character 0x10ffff (level 1) (inr (lit< tt, lit< tt)) (omega arith) (λ e. omega arith)) tt)))))))
+    also (character 0x20 off refl (omega arith) (λ e. omega arith)) (
+    also (character 0x7e (level 0) refl (omega arith) (λ e. omega arith)) (
+    also (character 0x80 (level 1) refl (omega arith) (λ e. omega arith)) (
+    also (character 0x7ff (level 2) refl (omega arith) (λ e. omega arith)) (
+    also (character 0x800 (level 3) refl (omega arith) (λ e. omega arith)) (
+    also (character 0xfffd off refl (omega arith) (λ e. omega arith)) (
+    also (character 0x10000 (level 0) refl (omega arith) (λ e. omega arith)) (
+    also (character 0x10ffff (level 1) refl (omega arith) (λ e. omega arith)) tt)))))))
 
 characters_with_alt_are : AllListed characters_with_alt
 characters_with_alt_are =

@@ -1,5 +1,5 @@
 -- The longest beginning of a mouse frame waits, alone and after one Escape.
-use Rattle.std.proofs.Common.{◌≡◌, inl, ℕ, ◌≤◌, Bool, true, List, [], ◌∷◌, ◌++◌, refl, arith, ◌&&◌, nat_lt}
+use Rattle.std.proofs.Common.{◌≡◌, inl, ℕ, Bool, true, List, [], ◌∷◌, ◌++◌, refl, arith, ◌&&◌, nat_lt}
 use Rattle.std.specs.Prelude.{codes}
 use Rattle.std.specs.List.{AllByRecursion, list_all}
 use Rattle.std.proofs.lemmas.Bool.{and_parts}
