@@ -356,7 +356,9 @@ listed_examples = record {
   near_escape_and_backspace = none_listed unlisted_near_escape_and_backspace refl;
   home_in_application_mode = record { home_or_end = (0, lit< tt, refl); any_modifiers = (4, lit< tt, refl); off = refl };
   end_in_application_mode = record { home_or_end = (1, lit< tt, refl); any_modifiers = (7, lit< tt, refl); off = refl };
-  no_arrow_in_application_mode = λ is. (let n : has_number key_number (Home ∷ End ∷ []) (key_number UpArrow) ≡ true = key_found (Home ∷ End ∷ []) UpArrow is.home_or_end in cc (n));
+  no_arrow_in_application_mode = λ is.
+      (let n : key_among (Home ∷ End ∷ []) UpArrow ≡ true = key_found (Home ∷ End ∷ []) UpArrow is.home_or_end in cc (n));
   none_beside_other_keys = λ is. cc (is.off);
-  no_other_modifier_in_application_mode = λ is. (let n : held_among any_of_three SUPER ≡ true = held_found any_of_three SUPER is.any_modifiers in cc (n));
+  no_other_modifier_in_application_mode = λ is.
+      (let n : held_among any_of_three SUPER ≡ true = held_found any_of_three SUPER is.any_modifiers in cc (n));
 }

@@ -23,7 +23,8 @@ few_in_turn (read ∷ reads) before W E (first, later, between, parts, steps, re
     )
 
 -- reads that are read whole are read item by item
-steps_in_turn : (reads : List OneRead) (before W : List ℕ) (E : List InputEvent) → ReadInTurn Means before reads E W → ReadInTurn Steps before reads E W
+steps_in_turn : (reads : List OneRead) (before W : List ℕ) (E : List InputEvent) → ReadInTurn Means before reads E W
+    → ReadInTurn Steps before reads E W
 steps_in_turn [] before W E h = h
 steps_in_turn (read ∷ reads) before W E (first, later, between, parts, means, rest) =
     (first, later, between, parts, means.steps, steps_in_turn reads between W later rest)

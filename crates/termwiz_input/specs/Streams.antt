@@ -13,7 +13,8 @@ bytes_of_reads reads = flat_map (λ r. r.0) reads
 
 -- One read after another, from the text that waits before them. What waits after a read comes before the bytes of the next one. How
 -- each is read is said by `Gives`: whole, as `Means` says, or perhaps stopped between two items, as `Steps` says.
-abbrev pub ReadInTurn : (List ℕ → Bool → List InputEvent → List ℕ → Type 0) → List ℕ → List OneRead → List InputEvent → List ℕ → Type 0
+abbrev pub ReadInTurn : (List ℕ → Bool → List InputEvent → List ℕ → Type 0)
+    → List ℕ → List OneRead → List InputEvent → List ℕ → Type 0
 ReadInTurn Gives before [] events waiting = (events ≡ []) × (before ≡ waiting)
 ReadInTurn Gives before (read ∷ reads) events waiting =
     (first later : List InputEvent) × (between : List ℕ) × (events ≡ first ++ later)
