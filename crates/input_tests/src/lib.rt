@@ -33,19 +33,32 @@ pub fn table_rows() -> usize
     2937
 }
 
-/// The events of a whole text, read by a fresh parser with no more to come.
-pub fn read_whole(alloc: Global, text: &[u8]) -> Result<Vec<InputEvent>, AllocError>
-    ensures { IfOk result (λ events. (waiting : List ℕ) × Means text.now false events.items waiting) }
+/// What a fresh parser reads in a whole text.
+#[derive(Debug, Drop)]
+pub struct WholeReading {
+    /// The events of the text.
+    pub events: Vec<InputEvent>,
+    /// How many of its bytes are left, and wait.
+    pub waiting_len: usize,
+}
+
+/// The events of a whole text, read by a fresh parser with no more to come, and how many of its bytes are left.
+pub fn read_whole(alloc: Global, text: &[u8]) -> Result<WholeReading, AllocError>
+    ensures { IfOk result (λ reading. (waiting : List ℕ) × Means text.now false reading.events.items waiting
+        × (reading.waiting_len ≡ length waiting)) }
 {
     let mut parser = InputParser::new(alloc)?;
     match parser.parse_as_vec(text, false) {
-        Ok(events) => Ok(events),
+        Ok(events) => Ok(WholeReading {
+            events,
+            waiting_len: parser.waiting_len(),
+        }),
         Err(_) => Err(AllocError),
     }
 }
 
-/// The events that a fresh parser reads in the text of a key that is pressed. If the key is listed, with its modifiers and
-/// modes, there is one event: that key with those modifiers.
+/// What a fresh parser reads in the text of a key that is pressed. If the key is listed, with its modifiers and modes, there is
+/// one event, that key with those modifiers, and nothing is left.
 ///
 /// An error with a number is that of a function key without a text; any other is want of memory.
 pub fn read_encoded(
@@ -53,17 +66,18 @@ pub fn read_encoded(
     key: KeyCode,
     modifiers: Modifiers,
     modes: KeyCodeEncodeModes,
-) -> Result<Vec<InputEvent>, EncodeError>
+) -> Result<WholeReading, EncodeError>
     ensures events { IsListed key modifiers modes
-        → IfOk result (λ events. events.items ≡ Key (record { key = key; modifiers = modifiers }) ∷ []) }
+        → IfOk result (λ reading. reading.events.items ≡ Key (record { key = key; modifiers = modifiers }) ∷ []) }
+    ensures nothing_left { IsListed key modifiers modes → IfOk result (λ reading. reading.waiting_len ≡ 0) }
     ensures refused { (n : ℕ) → result ≡ Err (error.UnhandledFunctionKey n) → unhandled key ≡ Some n }
 {
     let text = match key.encode(alloc, modifiers, modes, true) {
         Ok(text) => text,
         Err(fault) => return Err(fault),
     };
-    let events = read_whole(alloc, text.as_bytes())?;
+    let reading = read_whole(alloc, text.as_bytes())?;
     read_back(key, modifiers, modes);
     one_meaning();
-    Ok(events)
+    Ok(reading)
 }

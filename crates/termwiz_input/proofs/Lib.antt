@@ -18,7 +18,9 @@ pub mod KeyList
 pub mod KeyOrder
 pub mod KeysInEntries
 pub mod KeysInRows
+pub mod ListedExamples
 pub mod Lists
+pub mod LongestBeginning
 pub mod Meaning
 pub mod Members
 pub mod Numbering
@@ -38,6 +40,7 @@ pub mod RowLookups
 pub mod Searches
 pub mod Settling
 pub mod Standing
+pub mod Streams
 pub mod TableMap
 pub mod TableTests
 pub mod Typed

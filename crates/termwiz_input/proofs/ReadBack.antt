@@ -228,7 +228,7 @@ letter_at_level c held level here other =
     not_true true e = cc (e)
     not_true false e = refl
 
-not_level : (level : Option ℤ) → level ≢ Some (pos 2) → is_level level 2 ≡ false
+pub not_level : (level : Option ℤ) → level ≢ Some (pos 2) → is_level level 2 ≡ false
 not_level None n = refl
 not_level (Some z) n = go (int_eq z (pos 2)) refl
   where

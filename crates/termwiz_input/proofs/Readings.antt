@@ -16,7 +16,7 @@ use Rattle.termwiz_input.specs.declared.types.KeyEvent.{KeyEvent}
 use Rattle.termwiz_input.specs.declared.types.InputEvent.TheVariants.{Key}
 use Rattle.termwiz_input.specs.Bytes.{START}
 use Rattle.termwiz_input.specs.Keys.{plain, with_alt}
-use Rattle.termwiz_input.specs.Table.{TableRow, rows, numbers, function_codes, function_key_of, csi_u_of, modify_other_key, to_eight, control_letters_rows, backspace_bytes_rows, tab_byte_rows, enter_bytes_rows, escape_byte_rows, alt_letters_rows, alt_bracket_rows, shift_tab_rows, csi_u_rows, high_csi_u_rows, modify_other_keys_rows, cursor_keys_rows, modified_cursor_keys_rows, shift_arrows_rows, ctrl_arrows_rows, application_arrows_rows, modified_application_arrows_rows, ss3_function_keys_rows, lettered_function_keys_rows, numbered_function_keys_rows, edit_keys_rows, paste_start_rows, paste_end_rows, high_function_codes, modified_edit_keys_rows, high_function_keys_rows, application_home_end_rows, ctrl_shift_tab_rows}
+use Rattle.termwiz_input.specs.Table.{TableRow, rows, numbers, function_codes, function_key_of, csi_u_of, modify_other_key, to_eight, control_letters_rows, backspace_bytes_rows, tab_byte_rows, enter_bytes_rows, escape_byte_rows, alt_letters_rows, alt_bracket_rows, shift_tab_rows, csi_u_rows, modify_other_keys_rows, cursor_keys_rows, modified_cursor_keys_rows, shift_arrows_rows, ctrl_arrows_rows, application_arrows_rows, modified_application_arrows_rows, ss3_function_keys_rows, lettered_function_keys_rows, numbered_function_keys_rows, edit_keys_rows, paste_start_rows, paste_end_rows, high_function_codes, modified_edit_keys_rows, high_function_keys_rows, application_home_end_rows, ctrl_shift_tab_rows}
 use Rattle.termwiz_input.specs.Known.{IsKnown}
 use Rattle.termwiz_input.specs.Known.Meaning.{Row}
 use Rattle.termwiz_input.specs.Grammar.{Means, IsHead}
@@ -126,7 +126,7 @@ reading_means part text k are e = go (row_key part text) refl
 abbrev rules : List (List TableRow)
 rules =
     backspace_bytes_rows ∷ tab_byte_rows ∷ enter_bytes_rows ∷ escape_byte_rows ∷ alt_letters_rows ∷ alt_bracket_rows ∷ ctrl_arrows_rows ∷ application_arrows_rows ∷ modified_application_arrows_rows
-    ∷ ss3_function_keys_rows ∷ application_home_end_rows ∷ high_csi_u_rows ∷ modified_cursor_keys_rows ∷ lettered_function_keys_rows ∷ ctrl_shift_tab_rows ∷ paste_start_rows ∷ paste_end_rows ∷ numbered_function_keys_rows ∷ modify_other_keys_rows
+    ∷ ss3_function_keys_rows ∷ application_home_end_rows ∷ modified_cursor_keys_rows ∷ lettered_function_keys_rows ∷ ctrl_shift_tab_rows ∷ paste_start_rows ∷ paste_end_rows ∷ numbered_function_keys_rows ∷ modify_other_keys_rows
     ∷ csi_u_rows ∷ high_function_keys_rows ∷ modified_edit_keys_rows ∷ edit_keys_rows ∷ cursor_keys_rows ∷ shift_tab_rows ∷ shift_arrows_rows ∷ []
 
 rows_are_joined : joined control_letters_rows rules ≡ rows
@@ -144,7 +144,7 @@ both_are a b p q r h = ⊎_elim (p r) (q r) (Contains-append_cases a b r h)
 
 -- the rows of one code in the rules of all codes
 abbrev pub csi_u_rows_of : ℕ → List TableRow
-csi_u_rows_of c = flat_map csi_u_of (filter (λ d. d == c) (numbers 0 100)) ++ flat_map csi_u_of (filter (λ d. d == c) (numbers 100 28))
+csi_u_rows_of c = flat_map csi_u_of (filter (λ d. d == c) (numbers 0 128))
 
 abbrev other_keys_rows_of : ℕ → List TableRow
 other_keys_rows_of c = flat_map (λ s. map (modify_other_key s) (filter (λ d. d == c) (numbers 0 128))) to_eight
@@ -156,23 +156,22 @@ abbrev high_function_rows_of : ℕ → List TableRow
 high_function_rows_of n = flat_map function_key_of (filter (λ f. f.1 == n) high_function_codes)
 
 pub csi_u_are : (c : ℕ) → AreRows (csi_u_rows_of c)
-unfolding csi_u_rows high_csi_u_rows
-csi_u_are c = both_are _ _ (λ r h. rule_rows csi_u_rows (19, lit< tt, refl) r (in_flat_map_filter csi_u_of (λ d. d == c) (numbers 0 100) r h))
-    (λ r h. rule_rows high_csi_u_rows (11, lit< tt, refl) r (in_flat_map_filter csi_u_of (λ d. d == c) (numbers 100 28) r h))
+unfolding csi_u_rows
+csi_u_are c r h = rule_rows csi_u_rows (18, lit< tt, refl) r (in_flat_map_filter csi_u_of (λ d. d == c) (numbers 0 128) r h)
 
 other_keys_are : (c : ℕ) → AreRows (other_keys_rows_of c)
 unfolding modify_other_keys_rows
-other_keys_are c r h = rule_rows modify_other_keys_rows (18, lit< tt, refl) r (in_flat_map_filtered modify_other_key (λ d. d == c) (numbers 0 128) to_eight r h)
+other_keys_are c r h = rule_rows modify_other_keys_rows (17, lit< tt, refl) r (in_flat_map_filtered modify_other_key (λ d. d == c) (numbers 0 128) to_eight r h)
 
 function_are : (n : ℕ) → AreRows (function_rows_of n)
 unfolding numbered_function_keys_rows
 function_are n r h =
-    rule_rows numbered_function_keys_rows (17, lit< tt, refl) r (in_flat_map_filter function_key_of (λ f. f.1 == n) function_codes r h)
+    rule_rows numbered_function_keys_rows (16, lit< tt, refl) r (in_flat_map_filter function_key_of (λ f. f.1 == n) function_codes r h)
 
 high_function_are : (n : ℕ) → AreRows (high_function_rows_of n)
 unfolding high_function_keys_rows
 high_function_are n r h =
-    rule_rows high_function_keys_rows (20, lit< tt, refl) r (in_flat_map_filter function_key_of (λ f. f.1 == n) high_function_codes r h)
+    rule_rows high_function_keys_rows (19, lit< tt, refl) r (in_flat_map_filter function_key_of (λ f. f.1 == n) high_function_codes r h)
 
 -- rows among which the texts of a key are, after at most one ESC
 abbrev pub rows_for : KeyCode → List TableRow
@@ -189,12 +188,12 @@ pub rows_for_are : (key : KeyCode) → AreRows (rows_for key)
 rows_for_are (Char c) = both_are _ _ (both_are _ _ (both_are _ _ control_letters_are (rule_rows alt_letters_rows (4, lit< tt, refl)))
     (rule_rows alt_bracket_rows (5, lit< tt, refl))) (other_keys_are c)
 rows_for_are (Function n) = both_are _ _ (both_are _ _ (both_are _ _ (rule_rows ss3_function_keys_rows (9, lit< tt, refl))
-    (rule_rows lettered_function_keys_rows (13, lit< tt, refl))) (function_are n)) (high_function_are n)
-rows_for_are Tab = both_are _ _ (both_are _ _ (both_are _ _ (rule_rows tab_byte_rows (1, lit< tt, refl)) (rule_rows shift_tab_rows (24, lit< tt, refl)))
-    (rule_rows ctrl_shift_tab_rows (14, lit< tt, refl))) (other_keys_are 9)
+    (rule_rows lettered_function_keys_rows (12, lit< tt, refl))) (function_are n)) (high_function_are n)
+rows_for_are Tab = both_are _ _ (both_are _ _ (both_are _ _ (rule_rows tab_byte_rows (1, lit< tt, refl)) (rule_rows shift_tab_rows (23, lit< tt, refl)))
+    (rule_rows ctrl_shift_tab_rows (13, lit< tt, refl))) (other_keys_are 9)
 rows_for_are Enter = both_are _ _ (rule_rows enter_bytes_rows (2, lit< tt, refl)) (other_keys_are 13)
 rows_for_are Escape = both_are _ _ (rule_rows escape_byte_rows (3, lit< tt, refl)) (other_keys_are 27)
 rows_for_are Backspace = both_are _ _ (both_are _ _ (rule_rows backspace_bytes_rows (0, lit< tt, refl)) (other_keys_are 8)) (other_keys_are 127)
-rows_for_are key = both_are _ _ (both_are _ _ (both_are _ _ (both_are _ _ (both_are _ _ (rule_rows cursor_keys_rows (23, lit< tt, refl)) (rule_rows modified_cursor_keys_rows (12, lit< tt, refl)))
-    (rule_rows application_arrows_rows (7, lit< tt, refl))) (rule_rows edit_keys_rows (22, lit< tt, refl)))
-    (rule_rows modified_edit_keys_rows (21, lit< tt, refl))) (rule_rows application_home_end_rows (10, lit< tt, refl))
+rows_for_are key = both_are _ _ (both_are _ _ (both_are _ _ (both_are _ _ (both_are _ _ (rule_rows cursor_keys_rows (22, lit< tt, refl)) (rule_rows modified_cursor_keys_rows (11, lit< tt, refl)))
+    (rule_rows application_arrows_rows (7, lit< tt, refl))) (rule_rows edit_keys_rows (21, lit< tt, refl)))
+    (rule_rows modified_edit_keys_rows (20, lit< tt, refl))) (rule_rows application_home_end_rows (10, lit< tt, refl))

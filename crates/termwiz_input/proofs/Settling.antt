@@ -1,5 +1,5 @@
 -- At each text an item stands or the text waits, and it can be told which.
-use Rattle.std.proofs.Common.{◌≡◌, ◌⊎◌, inl, inr, ℕ, zero, suc, ◌<◌, ◌≤◌, Bool, false, List, [], ◌∷◌, ◌++◌, length, refl, sym, ap, ◌∙◌, subst, ⊎_elim, arith, encode_utf8, length-append}
+use Rattle.std.proofs.Common.{◌≡◌, ◌≢◌, ◌⊎◌, inl, inr, ℕ, zero, suc, ◌<◌, ◌≤◌, Bool, false, List, [], ◌∷◌, ◌++◌, length, refl, sym, ap, ◌∙◌, subst, ⊎_elim, arith, encode_utf8, length-append}
 use Rattle.std.specs.Str.Lossy.{utf8_lossy}
 use Rattle.termwiz_input.specs.declared.types.KeyEvent.{KeyEvent}
 use Rattle.termwiz_input.specs.Bytes.{Begins, ESC, START, END}
@@ -56,11 +56,25 @@ after_start u f k closed is = go (find_end is.begins.0)
         unread bytes event (apart at v h split some closed is far r s) = cc (at)
         unread bytes event (joined at v h j split some closed is near r s) = cc (at)
 
+-- where ESC is the head, nothing stands if what follows it is open
+unread_row : (u v : List ℕ) (f : Bool) → u ≡ ESC ++ v → v ≢ [] → IsOpen v f → (bytes : List ℕ) (event : InputEvent) → RowGives u f ESC escape bytes event → ⊥
+unread_row u v f e some o bytes event (its_key p q r s) = not_alone u v e some (q refl)
+unread_row u v f e some o bytes event (its_paste at body rest split first r s) = cc (at)
+unread_row u v f e some o bytes event (apart at w h split longer gap second far r s) =
+    let same : v ≡ w = cc (split, e) in gap (subst (λ z. IsOpen z f) same o)
+unread_row u v f e some o bytes event (joined at w h j split longer gap second near r s) =
+    let same : v ≡ w = cc (split, e) in gap (subst (λ z. IsOpen z f) same o)
+
+pub held_escape_rests : (u v : List ℕ) (f : Bool) → IsLongest u ESC (Row escape) → u ≡ ESC ++ v → v ≢ [] → IsOpen v f → IsRest u f
+held_escape_rests u v f is e some o bytes event stands =
+    let r = reads u bytes event f stands.item in
+    unread_row u v f e some o bytes event (subst (λ h. Gives u f h bytes event) (head_once u r.0 (Known ESC (Row escape)) r.1 is) r.2)
+
 -- a text that isn't open, whose head is ESC
 after_escape_head : (u : List ℕ) (f : Bool) → ¬ IsOpen u f → IsLongest u ESC (Row escape) → (v : List ℕ) → u ≡ ESC ++ v → Settled u f
 after_escape_head u f closed is [] e = stand u ESC f (Key escape) closed (key ESC escape is (λ h. cc) (λ h. e))
 after_escape_head u f closed is (x ∷ v) e = ⊎_elim
-    (λ (o : IsOpen (x ∷ v) f). resting (unread (λ gap. absurd (gap o)))
+    (λ (o : IsOpen (x ∷ v) f). resting (held_escape_rests u (x ∷ v) f is e (λ h. cc) o)
     (undecided ESC (x ∷ v) (inr refl) e (λ h. cc) o.beginning (beginning_short (x ∷ v) o.beginning) o.more_comes))
     (λ gap.
     let second = head_of x v in
@@ -70,21 +84,6 @@ after_escape_head u f closed is (x ∷ v) e = ⊎_elim
     (λ (far : IsApart second.0). stand u ESC f (Key escape) closed (lone_escape (x ∷ v) second.0 after second.1 far))
     (key_or_apart second.0))
     (open_or_not (x ∷ v) f)
-  where
-    unread_row : ((IsOpen (x ∷ v) f → ⊥) → (h : Head) → IsHead (x ∷ v) h → ⊥) → (bytes : List ℕ) (event : InputEvent) → RowGives u f ESC escape bytes event → ⊥
-    unread_row never bytes event (its_key p q r s) = not_alone u (x ∷ v) e (λ h. cc) (q refl)
-    unread_row never bytes event (its_paste at body rest split first r s) = cc (at)
-    unread_row never bytes event (apart at w h split some gap second far r s) =
-        let same : w ≡ x ∷ v = cc (split, e) in
-        never (subst (λ z. IsOpen z f → ⊥) same gap) h (subst (λ z. IsHead z h) same second)
-    unread_row never bytes event (joined at w h j split some gap second near r s) =
-        let same : w ≡ x ∷ v = cc (split, e) in
-        never (subst (λ z. IsOpen z f → ⊥) same gap) h (subst (λ z. IsHead z h) same second)
-
-    unread : ((IsOpen (x ∷ v) f → ⊥) → (h : Head) → IsHead (x ∷ v) h → ⊥) → IsRest u f
-    unread never bytes event stands =
-        let r = reads u bytes event f stands.item in
-        unread_row never bytes event (subst (λ h. Gives u f h bytes event) (head_once u r.0 (Known ESC (Row escape)) r.1 is) r.2)
 
 -- a text that isn't open, by its head
 by_head : (u : List ℕ) (f : Bool) → ¬ IsOpen u f → (h : Head) → IsHead u h → Settled u f

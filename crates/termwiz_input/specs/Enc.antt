@@ -16,7 +16,7 @@ use Rattle.termwiz_input.specs.declared.encode.KeyCodeEncodeModes.{KeyCodeEncode
 use Rattle.termwiz_input.specs.Bytes.{ESC, CSI, SS3}
 use Rattle.termwiz_input.specs.Keys.{SHIFT, ALT, CTRL}
 use Rattle.termwiz_input.specs.KeyCodes.{holds, shifted}
-use Rattle.termwiz_input.specs.Table.{function_codes}
+use Rattle.termwiz_input.specs.Table.{function_codes, high_function_codes}
 
 -- the bits of modifiers without the six flags that name the left or the right one
 abbrev pub sideless : ℕ → ℕ
@@ -172,11 +172,9 @@ lettered_function_text letter held =
     if held == 0 then SS3 ++ letter
     else xterm_form letter held
 
--- the code of a function key from F5 on, and its number: those of the sequence table, and four more
+-- the code of a function key from F5 on, as in the sequence table
 abbrev pub code_of : ℕ → ℕ
-code_of n =
-    let rows = function_codes ++ (42, 21) ∷ (43, 22) ∷ (44, 23) ∷ (45, 24) ∷ [] in
-    (unwrap_or (find (λ row. row.1 == n) rows) (0, n)).0
+code_of n = (unwrap_or (find (λ f. f.1 == n) (function_codes ++ high_function_codes)) (0, n)).0
 
 -- F5 to F24, by their numbers
 unfoldable pub numbered_function_text : ℕ → ℕ → List ℕ

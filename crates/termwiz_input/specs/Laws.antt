@@ -8,6 +8,7 @@ use Rattle.termwiz_input.specs.declared.keymap.Found.TheVariants.{Exact}
 use Rattle.termwiz_input.specs.Lookup.{ByteMap, LookupGives}
 use Rattle.termwiz_input.specs.Table.{TableRow, rows}
 use Rattle.termwiz_input.specs.Grammar.{IsBeginning, Steps, IsRest, Means}
+use Rattle.termwiz_input.specs.Streams.{OneRead, bytes_of_reads, ReadInTurn, OneByOne}
 
 -- Where a lookup answers Exact although more may come, each longer text has the same answer.
 abbrev pub ExactStays : Type 0 → Type 0
@@ -33,6 +34,21 @@ OneMeaning = (T : List ℕ) (f : Bool) → (E : List InputEvent) × (W : List �
 abbrev pub FewEvents : Type 0
 FewEvents = (T W : List ℕ) (E : List InputEvent) (f : Bool) → Steps T f E W → length E + length W ≤ length T
 
+-- The same of all reads of a stream together, whether each is read whole or may stop between two items. Nothing waits before the
+-- first one, and what waits after the last one counts as events do.
+abbrev pub FewEventsInStream : Type 0
+FewEventsInStream = (reads : List OneRead) (events : List InputEvent) (waiting : List ℕ)
+    → (ReadInTurn Means [] reads events waiting → length events + length waiting ≤ length (bytes_of_reads reads))
+    × (ReadInTurn Steps [] reads events waiting → length events + length waiting ≤ length (bytes_of_reads reads))
+
+-- Items after items are items of the whole.
+abbrev pub StepsJoin : Type 0
+StepsJoin = (T V W : List ℕ) (E D : List InputEvent) (f : Bool) → Steps T f E V → Steps V f D W → Steps T f (E ++ D) W
+
+-- Events taken one by one, up to a rest, are what the text means.
+abbrev pub OneByOneMeans : Type 0
+OneByOneMeans = (T W : List ℕ) (E : List InputEvent) (f : Bool) → (OneByOne T f E W × IsRest W f) ↔ Means T f E W
+
 -- The empty text waits.
 abbrev pub EmptyIsRest : Type 0
 EmptyIsRest = (f : Bool) → IsRest [] f
@@ -41,15 +57,30 @@ EmptyIsRest = (f : Bool) → IsRest [] f
 abbrev pub IsHeldEscape : List ℕ → Type 0
 IsHeldEscape held = (held ≡ []) ⊎ (held ≡ ESC)
 
+-- how many bytes can wait undecided, a held Escape not counted
+abbrev pub most_undecided : ℕ
+most_undecided = 20
+
 -- What can wait.
 pub data Waits (u : List ℕ) (more : Bool) : Type 0 where
   nothing : u ≡ [] → Waits u more
   open_paste : (body : List ℕ) → u ≡ START ++ body → ¬ Occurs END body → Waits u more
-  undecided : (held bytes : List ℕ) → IsHeldEscape held → u ≡ held ++ bytes → bytes ≢ [] → IsBeginning bytes → length bytes ≤ 20 → more ≡ true → Waits u more
+  undecided : (held bytes : List ℕ) → IsHeldEscape held → u ≡ held ++ bytes → bytes ≢ [] → IsBeginning bytes → length bytes ≤ most_undecided → more ≡ true → Waits u more
 
 -- Every rest waits for one of these.
 abbrev pub WaitingShape : Type 0
 WaitingShape = (u : List ℕ) (more : Bool) → IsRest u more → Waits u more
+
+-- the longest text that properly begins a mouse frame: all of its digits, but not the last byte
+abbrev pub longest_beginning : List ℕ
+longest_beginning = ESC ++ codes "[<00095;65535;65535"
+
+-- So many bytes do wait undecided, alone and after one held Escape.
+pub record MostWait : Type 0 where
+  pub as_many : length longest_beginning ≡ most_undecided
+  pub begins : IsBeginning longest_beginning
+  pub alone : IsRest longest_beginning true
+  pub after_escape : IsRest (ESC ++ longest_beginning) true
 
 -- What a text and c mean together isn't what they mean if the text is flushed before c comes.
 abbrev pub FlushMatters : List ℕ → List ℕ → Type 0

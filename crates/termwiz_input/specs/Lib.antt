@@ -15,9 +15,11 @@ pub mod Keys
 pub mod Known
 pub mod Laws
 pub mod Listed
+pub mod ListedExamples
 pub mod Lookup
 pub mod PasteSearch
 pub mod Pieces
+pub mod Streams
 pub mod Suffixes
 pub mod Table
 pub mod Typed

@@ -134,13 +134,9 @@ shift_tab_rows = (CSI ++ codes "Z", key_with Tab SHIFT) ∷ []
 abbrev pub csi_u_of : ℕ → List TableRow
 csi_u_of c = key_with_each_suffix (CSI ++ decimal c) nine (codes "u") (Char c)
 
--- the same for c from 0 to 99
+-- the same for c from 0 to 127
 unfoldable pub csi_u_rows : List TableRow
-csi_u_rows = flat_map csi_u_of (numbers 0 100)
-
--- the same for c from 100 to 127
-unfoldable pub high_csi_u_rows : List TableRow
-high_csi_u_rows = flat_map csi_u_of (numbers 100 28)
+csi_u_rows = flat_map csi_u_of (numbers 0 128)
 
 -- ESC [27 s ; c ~, c in decimal: the key of c, with the modifiers of the suffix s
 abbrev pub modify_other_key : Suffix → ℕ → TableRow
@@ -250,12 +246,12 @@ ctrl_shift_tab_rows = (CSI ++ codes "1;5Z", key_with Tab (CTRL + SHIFT)) ∷ []
 unfoldable pub rows : List TableRow
 rows =
     control_letters_rows ++ backspace_bytes_rows ++ tab_byte_rows ++ enter_bytes_rows ++ escape_byte_rows ++ alt_letters_rows ++ alt_bracket_rows ++ ctrl_arrows_rows ++ application_arrows_rows ++ modified_application_arrows_rows
-    ++ ss3_function_keys_rows ++ application_home_end_rows ++ high_csi_u_rows ++ modified_cursor_keys_rows ++ lettered_function_keys_rows ++ ctrl_shift_tab_rows ++ paste_start_rows ++ paste_end_rows ++ numbered_function_keys_rows ++ modify_other_keys_rows
+    ++ ss3_function_keys_rows ++ application_home_end_rows ++ modified_cursor_keys_rows ++ lettered_function_keys_rows ++ ctrl_shift_tab_rows ++ paste_start_rows ++ paste_end_rows ++ numbered_function_keys_rows ++ modify_other_keys_rows
     ++ csi_u_rows ++ high_function_keys_rows ++ modified_edit_keys_rows ++ edit_keys_rows ++ cursor_keys_rows ++ shift_tab_rows ++ shift_arrows_rows
 
 -- the table, written out: to unfold this is to unfold every rule
 unfoldable pub written_out : List TableRow
-unfolding numbers rows control_letters_rows backspace_bytes_rows tab_byte_rows enter_bytes_rows escape_byte_rows alt_letters_rows alt_bracket_rows shift_tab_rows csi_u_rows high_csi_u_rows modify_other_keys_rows cursor_keys_rows modified_cursor_keys_rows shift_arrows_rows ctrl_arrows_rows application_arrows_rows modified_application_arrows_rows ss3_function_keys_rows lettered_function_keys_rows numbered_function_keys_rows edit_keys_rows paste_start_rows paste_end_rows modified_edit_keys_rows high_function_keys_rows application_home_end_rows ctrl_shift_tab_rows digits
+unfolding numbers rows control_letters_rows backspace_bytes_rows tab_byte_rows enter_bytes_rows escape_byte_rows alt_letters_rows alt_bracket_rows shift_tab_rows csi_u_rows modify_other_keys_rows cursor_keys_rows modified_cursor_keys_rows shift_arrows_rows ctrl_arrows_rows application_arrows_rows modified_application_arrows_rows ss3_function_keys_rows lettered_function_keys_rows numbered_function_keys_rows edit_keys_rows paste_start_rows paste_end_rows modified_edit_keys_rows high_function_keys_rows application_home_end_rows ctrl_shift_tab_rows digits
 written_out = rows
 
 -- a map with these rows put into it, one after another

@@ -7,8 +7,9 @@ ghost use Rattle.std.specs.Prelude.{◌≡◌, ◌≤◌, ◌∷◌, [], map};
 ghost use Rattle.bitflags.specs.Sets.{known_bits};
 ghost use Rattle.termwiz_base.specs.Laws.{AlwaysCloned, ClonesEqual, HashesAgree, TellsEqual};
 ghost use Rattle.termwiz_input.specs.Buttons as buttons;
-ghost use Rattle.termwiz_input.specs.Laws.{CutIndependent, EmptyIsRest, ExactStays, FewEvents, OneMeaning, Resumes, TableFacts, ThreeBeginnings, Undecided, WaitingShape};
+ghost use Rattle.termwiz_input.specs.Laws.{CutIndependent, EmptyIsRest, ExactStays, FewEvents, FewEventsInStream, MostWait, OneByOneMeans, OneMeaning, Resumes, StepsJoin, TableFacts, ThreeBeginnings, Undecided, WaitingShape};
 ghost use Rattle.termwiz_input.specs.Listed.{CsiUReadsBack, IsListed, ReadsBack};
+ghost use Rattle.termwiz_input.specs.ListedExamples.{ListedExamples};
 ghost use Rattle.termwiz_input.specs.Values.{TellsEqualRefusals};
 
 use crate::encode::{EncodeError, KeyCodeEncodeModes, KeyboardEncoding};
@@ -56,6 +57,26 @@ pub fn few_events()
     ensures { FewEvents }
 {}
 
+/// A whole stream from an empty waiting text has no more events than bytes: the events of all reads, each with its own flag, and
+/// the bytes that wait after the last one are together at most as many as the bytes of all reads. So it is too where reads stop
+/// between two items, as after a refusal of memory.
+pub fn few_events_in_stream()
+    ensures { FewEventsInStream }
+{}
+
+/// Items that are read one after another are items of the whole text: if T gives the events E up to V, and V gives D up to W, then T
+/// gives E followed by D, up to W, under the same flag.
+pub fn steps_join()
+    ensures { StepsJoin }
+{}
+
+/// Events that are taken one by one, each from the text that the one before left, up to a rest, are exactly what the text means. So
+/// a loop over [`InputParser::next_event`](crate::input::InputParser::next_event) up to `None` gives the events of one call of
+/// [`InputParser::parse`](crate::input::InputParser::parse).
+pub fn one_by_one()
+    ensures { OneByOneMeans }
+{}
+
 /// The empty text gives no event, under either flag.
 pub fn empty_is_rest()
     ensures { EmptyIsRest }
@@ -65,6 +86,11 @@ pub fn empty_is_rest()
 /// text or a character, after at most one Escape.
 pub fn waiting_shape()
     ensures { WaitingShape }
+{}
+
+/// Twenty undecided bytes do wait, alone and after one Escape: the longest proper beginning of a mouse frame.
+pub fn most_wait()
+    ensures { MostWait }
 {}
 
 /// What waits as the proper beginning of a known text or of a character, alone or after one Escape, isn't decided yet: for some
@@ -79,6 +105,11 @@ pub fn undecided()
 /// text, read whole without more to come, means exactly that key with those modifiers.
 pub fn read_back(key: KeyCode, modifiers: Modifiers, modes: KeyCodeEncodeModes)
     ensures { IsListed key modifiers modes → ReadsBack key modifiers modes }
+{}
+
+/// Of each line of the list of keys that read back, examples are listed, and neighbours of them aren't.
+pub fn listed_examples()
+    ensures { ListedExamples }
 {}
 
 /// ASCII characters sent as CSI u read back: for `c` up to 127 and `m` from 1 to 7, ESC `[` c `;` 1+m `u`, in decimal

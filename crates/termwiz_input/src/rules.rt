@@ -21,7 +21,7 @@ use function::{
     edit_keys, high_function_keys, lettered_function_keys, modified_edit_keys,
     numbered_function_keys, ss3_function_keys,
 };
-use numbers::{csi_u, high_csi_u, modify_other_keys};
+use numbers::{csi_u, modify_other_keys};
 use single::{
     alt_bracket, alt_letters, backspace_bytes, control_letters, ctrl_shift_tab, enter_bytes,
     escape_byte, paste_end, paste_start, shift_tab, tab_byte,
@@ -46,7 +46,6 @@ pub(crate) fn add_rows(alloc: Global, keys: &mut KeyMap<KeyEvent>) -> Result<(),
     modified_application_arrows(alloc, keys)?;
     ss3_function_keys(alloc, keys)?;
     application_home_end(alloc, keys)?;
-    high_csi_u(alloc, keys)?;
     modified_cursor_keys(alloc, keys)?;
     lettered_function_keys(alloc, keys)?;
     ctrl_shift_tab(keys)?;

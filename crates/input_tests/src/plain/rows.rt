@@ -219,7 +219,7 @@ impl Rows {
         Ok(())
     }
 
-    // The rules `csi_u`, `high_csi_u` and `modify_other_keys`.
+    // The rules `csi_u` and `modify_other_keys`.
     fn add_characters(&mut self) -> Result<(), AllocError> {
         for code in 0..128u8 {
             let front = format!(in self.alloc; "\x1b[{code}")?;

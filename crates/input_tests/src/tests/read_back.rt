@@ -118,9 +118,10 @@ fn check_key(
     modes: KeyCodeEncodeModes,
 ) -> Result<(), Fail> {
     let modifiers = modifiers_of(shift, alt, ctrl);
-    let events = read_encoded(alloc, key, modifiers, modes)?;
+    let reading = read_encoded(alloc, key, modifiers, modes)?;
     let wanted = [InputEvent::Key(KeyEvent { key, modifiers })];
-    assert_eq!(rt; events.as_slice(), wanted.as_slice(), "{modes:?}");
+    assert_eq!(rt; reading.events.as_slice(), wanted.as_slice(), "{modes:?}");
+    assert_eq!(rt; reading.waiting_len, 0, "{modes:?}");
     Ok(())
 }
 

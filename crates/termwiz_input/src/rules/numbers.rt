@@ -1,6 +1,6 @@
 // Rules whose sequences give a character by its number.
-ghost use Rattle.std.specs.Prelude.{◌≡◌, ◌≤◌, ◌-◌, flat_map, OnOk};
-ghost use Rattle.termwiz_input.specs.Table.{with_rows, numbers, key_of_code, csi_u_of, csi_u_rows, high_csi_u_rows, modify_other_keys_of, modify_other_keys_rows};
+ghost use Rattle.std.specs.Prelude.{◌≡◌, OnOk};
+ghost use Rattle.termwiz_input.specs.Table.{with_rows, key_of_code, csi_u_rows, modify_other_keys_of, modify_other_keys_rows};
 
 use super::insert::{insert_suffixed, key_with, together};
 use super::lists::{BEFORE_NINE, SUFFIXES};
@@ -10,40 +10,18 @@ use std::alloc::{AllocError, Global};
 use std::fmt::Write;
 use termwiz_base::Modifiers;
 
-// ESC [ c s u, for each c from `first` up to but not including `limit`, in decimal: the character c, with the modifiers of the
-// suffix s.
-fn insert_csi_u(
-    alloc: Global,
-    keys: &mut KeyMap<KeyEvent>,
-    first: u8,
-    limit: u8,
-) -> Result<(), AllocError>
-    requires { first ≤ limit }
-    ensures { OnOk result (keys.new ≡ with_rows keys.old (flat_map csi_u_of (numbers first (limit - first)))) }
+// ESC [ c s u, c from 0 to 127 in decimal: the character c, with the modifiers of the suffix s.
+#[tactic(auto, unfolding(crate::specs::Table::csi_u_rows))]
+pub(super) fn csi_u(alloc: Global, keys: &mut KeyMap<KeyEvent>) -> Result<(), AllocError>
+    ensures { OnOk result (keys.new ≡ with_rows keys.old csi_u_rows) }
 {
     let suffixes = &SUFFIXES[..BEFORE_NINE];
-    for code in first..limit {
+    for code in 0..128u8 {
         let front = format!(in alloc; "\x1b[{code}")?;
         let key = character_of_code(code);
         insert_suffixed(alloc, keys, front.as_str(), suffixes, "u", key)?;
     }
     Ok(())
-}
-
-// The same for c from 0 to 99.
-#[tactic(auto, unfolding(crate::specs::Table::csi_u_rows))]
-pub(super) fn csi_u(alloc: Global, keys: &mut KeyMap<KeyEvent>) -> Result<(), AllocError>
-    ensures { OnOk result (keys.new ≡ with_rows keys.old csi_u_rows) }
-{
-    insert_csi_u(alloc, keys, 0, 100)
-}
-
-// The same for c from 100 to 127.
-#[tactic(auto, unfolding(crate::specs::Table::high_csi_u_rows))]
-pub(super) fn high_csi_u(alloc: Global, keys: &mut KeyMap<KeyEvent>) -> Result<(), AllocError>
-    ensures { OnOk result (keys.new ≡ with_rows keys.old high_csi_u_rows) }
-{
-    insert_csi_u(alloc, keys, 100, 128)
 }
 
 // ESC [27 s ; c ~, s not empty and c from 0 to 127 in decimal: the key of c, with the modifiers of the suffix s.
