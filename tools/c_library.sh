@@ -18,7 +18,7 @@ while [ $# -gt 0 ]; do
         --help) show_help; exit ;;
         --over) [ $# -gt 1 ] || refuse_word "$1"; rlibs=$(realpath "$2"); shift ;;
         -*) refuse_word "$1" ;;
-        *) [ -z "$out" ] || refuse_word "$1"; mkdir -p "$1"; out=$(realpath "$1") ;;
+        *) [ -z "$out" ] || refuse_word "$1"; out=$1 ;;
     esac
     shift
 done
@@ -27,6 +27,8 @@ need rt 'the Rattle kit'
 need cc gcc
 for tool in ar objcopy; do need $tool binutils; done
 stop_if_missing
+mkdir -p "$out"
+out=$(realpath "$out")
 cd "$(dirname "$0")/.."
 work=$(mktemp -d)
 trap 'rm -rf "$work"' EXIT

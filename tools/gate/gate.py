@@ -240,6 +240,8 @@ def main():
         gate = Gate(room)
         try:
             gate.run()
+        except KeyboardInterrupt:
+            return 130
         finally:
             for part in gate.parts:
                 part.stop()
