@@ -3,8 +3,8 @@
     tools/gate.sh
 
 It runs `rt ci`, which proves every crate from nothing, tries each must-fail edit, and runs the tests and the programs. Beside it run the
-scripts of this folder that test what it built: as soon as the programs and the libraries that they need are proved, over those, so that
-nothing is proved for them but the two static libraries.
+scripts of this folder, one after another: each starts once the programs and libraries that it tests are proved, and runs over those, so
+that nothing is proved for the scripts but two static libraries.
 
 At the end it prints a table: when each part began and ended, and how much processor time it took. The parts of `rt ci` are found by
 looking at its processes once a second. The last line is 'N passed, N failed' over all parts, the status 1 if one failed.
@@ -21,7 +21,6 @@ import threading
 import time
 
 ROOT = os.path.dirname(os.path.dirname(os.path.dirname(os.path.realpath(__file__))))
-PROGRAMS = ["refusals", "keyshow"]
 COUNTS = re.compile(r"^(\d+) passed, (\d+) failed$")
 TICKS = os.sysconf("SC_CLK_TCK")
 STARTED = time.monotonic()
@@ -62,10 +61,10 @@ def libraries_below(name):
 
 
 class Part:
-    """A command of the gate: what it printed, when it ran, and how it ended."""
+    """A command of the gate: the crates and parts that it needs, what it printed, when it ran, and how it ended."""
 
-    def __init__(self, name, *words):
-        self.name, self.words = name, words
+    def __init__(self, name, needs, *words):
+        self.name, self.needs, self.words = name, {*needs}, words
         self.passed, self.failed = 0, 1
         self.began = self.ended = self.processor = 0
         self.process, self.lines = None, []
@@ -93,6 +92,7 @@ class Part:
         with printing:
             print("\n".join([f"== {self.name}", *self.lines]))
             print(f"gate: {self.name}: {'FAILED' if self.failed else 'passed'}, {clock(self.ended - self.began)}", flush=True)
+        return not self.failed
 
     def stop(self):
         if self.process and self.process.returncode is None:
@@ -162,55 +162,64 @@ def link_or_copy(source, target):
 class Gate:
     def __init__(self, room):
         self.library, self.rlibs = f"{room}/library", f"{room}/rlibs"
-        self.numbers = Part("c_numbers", "tools/c_numbers.sh", "--check")
-        self.ci = Part("rt ci", "rt", "ci")
+        self.libraries = libraries_below("termwiz_c")
+        self.ci = Part("rt ci", [], "rt", "ci")
         over = ["--library", self.library]
         self.scripts = [
-            Part("refusals", "tools/refusals.sh", "--built"),
-            Part("keyshow_test", "tools/keyshow_test.sh", "--built"),
-            Part("c_library", "tools/c_library.sh", "--over", self.rlibs, self.library),
-            Part("c_test", "tools/c_test.sh", "--built", *over),
-            Part("growth", "tools/growth.sh", *over, "--over", self.rlibs),
-            Part("docs", "tools/docs.sh", "--built", *over),
+            Part("c_numbers", [], "tools/c_numbers.sh", "--check"),
+            Part("c_library", self.libraries, "tools/c_library.sh", "--over", self.rlibs, self.library),
+            Part("growth", ["c_library"], "tools/growth.sh", *over, "--over", self.rlibs),
+            Part("c_test", ["c_library", "keyshow"], "tools/c_test.sh", "--built", *over),
+            Part("docs", ["c_library", "keyshow"], "tools/docs.sh", "--built", *over),
+            Part("keyshow_test", ["keyshow"], "tools/keyshow_test.sh", "--built"),
+            Part("refusals", ["refusals", "keyshow"], "tools/refusals.sh", "--built"),
         ]
-        self.parts = [self.numbers, self.ci, *self.scripts]
-        self.watch, self.wanted = Watch(), {*libraries_below("termwiz_c"), *PROGRAMS}
-        self.runner = threading.Thread(target=self.run_scripts, daemon=True)
+        self.parts = [self.ci, *self.scripts]
+        self.watch, self.well, self.is_over = Watch(), set(), False
 
     def run_scripts(self):
-        for part in self.scripts:
-            part.run_quietly()
-
-    def keep(self, crate):
-        """Keeps a library as `rt ci` proved it. At its end rt puts back what earlier runs left."""
-        made = f"{ROOT}/crates/{crate}/out/rlib/{crate}.rlib"
-        if crate not in PROGRAMS:
-            shutil.copytree(made, f"{self.rlibs}/{crate}.rlib", copy_function=link_or_copy)
+        """Runs the scripts in turn, each once what it needs is proved or has passed. When rt ci is over, the others aren't run."""
+        left = [*self.scripts]
+        while left:
+            is_over = self.is_over
+            ready = next((it for it in left if it.needs <= self.well), None)
+            if ready:
+                left.remove(ready)
+                if ready.run_quietly():
+                    self.well.add(ready.name)
+            elif is_over:
+                break
+            else:
+                time.sleep(1)
+        for it in left:
+            say(f"gate: {it.name}: NOT RUN, since {', '.join(sorted(it.needs - self.well))} failed")
 
     def note(self, line):
-        """Shows a line of `rt ci`, and starts the scripts once all that they need is proved."""
+        """Shows a line of `rt ci`, and notes what is proved."""
         say(line)
         proved = re.match(r"rt: (\w+) proved$", line)
-        if proved and proved[1] in self.wanted:
+        if proved:
             self.keep(proved[1])
-            self.wanted.remove(proved[1])
-            if not self.wanted:
-                say(f"gate: at {clock(now())} what the scripts need is proved: they run beside rt ci")
-                self.runner.start()
+            self.well.add(proved[1])
+
+    def keep(self, crate):
+        """Keeps a library that the scripts need, as `rt ci` proved it: at its end rt puts back what earlier runs left."""
+        if crate in self.libraries:
+            made = f"{ROOT}/crates/{crate}/out/rlib/{crate}.rlib"
+            shutil.copytree(made, f"{self.rlibs}/{crate}.rlib", copy_function=link_or_copy)
 
     def run(self):
-        self.numbers.run_quietly()
         ci = threading.Thread(target=self.ci.run, args=[self.note], daemon=True)
+        scripts = threading.Thread(target=self.run_scripts, daemon=True)
         ci.start()
+        scripts.start()
         while ci.is_alive():
             ci.join(1)
             if self.ci.process:
                 self.watch.look(self.ci.process.pid)
-        if self.wanted:
-            say(f"gate: the scripts were not run, since {', '.join(sorted(self.wanted))} isn't proved")
-        else:
-            while self.runner.is_alive():
-                self.runner.join(1)
+        self.is_over = True
+        while scripts.is_alive():
+            scripts.join(1)
 
     def table(self):
         yield f"{'part':32} {'from':>7} {'to':>7} {'takes':>7} {'processor':>10}  result"
