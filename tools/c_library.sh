@@ -1,35 +1,54 @@
 #!/usr/bin/env bash
 # Builds the parser for C programs, and for whatever calls C, and writes it to a folder:
 #
-#     tools/c_library.sh DIR
+#     tools/c_library.sh [--over RLIBS] DIR
 #
 # libtermwiz_c.a and libtermwiz_c.so, each of which needs the C library alone; termwiz_input.h; and termwiz_c.pc for pkg-config, by which
 # the folder may be moved. What it builds is proved first.
 #
+# With --over it proves the crate termwiz_c alone, over the libraries below it that lie as NAME.rlib in the folder RLIBS, where the gate
+# puts those that `rt ci` proved.
+#
 # It needs rt, a C compiler (cc), and ar and objcopy of binutils.
 set -eu
-cd "$(dirname "$0")/.."
-if [ $# -ne 1 ]; then
-    sed -n '2,9p' "$0" >&2
-    exit 2
-fi
-for tool in rt cc ar objcopy; do
-    if ! command -v "$tool" > /dev/null; then
-        echo "c_library: not built, no $tool" >&2
-        exit 1
-    fi
+. "$(dirname "$0")/common.sh"
+rlibs='' out=''
+while [ $# -gt 0 ]; do
+    case $1 in
+        --help) show_help; exit ;;
+        --over) [ $# -gt 1 ] || refuse_word "$1"; rlibs=$(realpath "$2"); shift ;;
+        -*) refuse_word "$1" ;;
+        *) [ -z "$out" ] || refuse_word "$1"; out=$1 ;;
+    esac
+    shift
 done
-mkdir -p "$1"
-out=$(cd "$1" && pwd)
+[ -n "$out" ] || { echo 'c_library: wants a folder; --help says more' >&2; exit 2; }
+need rt 'the Rattle kit'
+need cc gcc
+for tool in ar objcopy; do need $tool binutils; done
+stop_if_missing
+mkdir -p "$out"
+out=$(realpath "$out")
+cd "$(dirname "$0")/.."
 work=$(mktemp -d)
 trap 'rm -rf "$work"' EXIT
 
-(cd crates/termwiz_c && rt lib) > "$work/log" 2>&1 || { cat "$work/log" >&2; exit 1; }
+# Builds the archive of the crate.
+build() {
+    if [ -z "$rlibs" ]; then
+        (cd crates/termwiz_c && rt lib) && cp crates/termwiz_c/out/libtermwiz_c.a "$work/"
+    else
+        local libraries
+        libraries=$(sed -n 's/^termwiz_c staticlib://p' crates.txt)
+        tools/static_library.sh "$rlibs" termwiz_c crates/termwiz_c "$work/libtermwiz_c.a" $libraries
+    fi
+}
+build > "$work/log" 2>&1 || { cat "$work/log" >&2; exit 1; }
 
 # The library stands on the kit's heap, three functions over malloc, realloc and free. The two become one object, in which only the calls
 # of the header keep their names, so that no other library meets them.
 mkdir "$work/objects"
-(cd "$work/objects" && ar x "$OLDPWD/crates/termwiz_c/out/libtermwiz_c.a" && ar x "$(dirname "$(rt doc)")/c/liblibc_c.a")
+(cd "$work/objects" && ar x "$work/libtermwiz_c.a" && ar x "$(dirname "$(rt doc)")/c/liblibc_c.a")
 cc -nostdlib -r -o "$work/termwiz_c.o" "$work"/objects/*.o
 objcopy --wildcard --keep-global-symbol='tw_*' "$work/termwiz_c.o"
 

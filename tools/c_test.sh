@@ -1,25 +1,58 @@
 #!/usr/bin/env bash
 # Builds the C library, and tests it from C and from Rust.
 #
-#     tools/c_test.sh
+#     tools/c_test.sh [--built] [--library DIR] [--without-cc] [--without-c++] [--without-pkg-config] [--without-cargo] [--without-valgrind]
 #
 # The example and the tests in c/ are built as C99, the example also as C++, and linked with the archive and with the shared library; the
 # crate in rust/ is built with its tests. The tests also run under valgrind (of those in Rust all but the longest), which has to find no
 # error and no leak. A test in C and one in Rust refuse every request for memory in turn. The last line is 'N passed, N failed', the
 # status 1 if a case failed.
 #
-# It needs rt and a C compiler, cc, and uses c++, pkg-config, cargo and valgrind. Without cc it says so and tests nothing; of the others it
-# says what it left out. All that is built lies in a temporary folder, but for what rt keeps in out/.
+# DIR is a folder that tools/c_library.sh wrote; without --library the library is built. With --built the keyshow that `rt ci` left in
+# crates/keyshow/out is run; otherwise it is built.
+#
+# It needs rt, cc, binutils, c++, pkg-config, cargo and valgrind, and fails if one isn't there. A word --without-PROGRAM leaves out the
+# tests that need that program; without cc there are none. All that is built lies in a temporary folder, but for what rt keeps in out/.
 set -u
 export LC_ALL=C
-cd "$(dirname "$0")/.."
-if ! command -v cc > /dev/null; then
-    echo 'c_test: not run, no cc'
-    exit 0
+. "$(dirname "$0")/common.sh"
+is_built=no library='' left_out=''
+while [ $# -gt 0 ]; do
+    case $1 in
+        --help) show_help; exit ;;
+        --built) is_built=yes ;;
+        --library) [ $# -gt 1 ] || refuse_word "$1"; library=$(realpath "$2"); shift ;;
+        --without-cc | --without-c++ | --without-pkg-config | --without-cargo | --without-valgrind)
+            left_out="$left_out ${1#--without-}" ;;
+        *) refuse_word "$1" ;;
+    esac
+    shift
+done
+# Whether the tests that need a program are wanted.
+wants() { # program
+    [[ "$left_out " != *" $1 "* ]]
+}
+if ! wants cc; then
+    echo 'c_test: left out by --without-cc: the library for C and the Rust crate are not tested'
+    echo '0 passed, 0 failed'
+    exit
 fi
+need rt 'the Rattle kit'
+need cc gcc --without-cc
+for tool in ar objcopy nm; do need $tool binutils; done
+! wants c++ || need c++ g++ --without-c++
+! wants pkg-config || need pkg-config pkg-config --without-pkg-config
+! wants cargo || need cargo cargo --without-cargo
+! wants valgrind || need valgrind valgrind --without-valgrind
+stop_if_missing
+cd "$(dirname "$0")/.." || exit
 work=$(mktemp -d)
 trap 'rm -rf "$work"' EXIT
-tools/c_library.sh "$work/lib" > "$work/log" 2>&1 || { cat "$work/log" >&2; exit 1; }
+if [ -n "$library" ]; then
+    cp -a "$library" "$work/lib" || exit 1
+else
+    tools/c_library.sh "$work/lib" > "$work/log" 2>&1 || { cat "$work/log" >&2; exit 1; }
+fi
 
 passed=0 failed=0
 # Runs a case. What it prints is shown only if it fails. None may take longer than five minutes.
@@ -34,14 +67,6 @@ check() { # name words..
         echo "$name: failed"
         failed=$((failed + 1))
     fi
-}
-
-left_out=
-# Whether there is a program. If not, notes what is left out.
-has() { # program what
-    command -v "$1" > /dev/null && return
-    left_out="$left_out${left_out:+, }$2 (no $1)"
-    return 1
 }
 
 strict='-O1 -g -Wall -Wextra -pedantic -Werror'
@@ -93,11 +118,11 @@ export archive work memcheck
 check 'names in the archive' bash -c check_names
 check 'example as C99' cc -std=c99 $strict -I"$work/lib" c/events.c "$archive" -o "$work/events"
 check 'example' bash -c 'check_example "$work/events"'
-if has c++ 'C++'; then
+if wants c++; then
     check 'example as C++' c++ -std=c++11 $strict -I"$work/lib" -xc++ c/events.c -xnone $shared -o "$work/events_cpp"
     check 'example with the shared library' bash -c 'check_example "$work/events_cpp"'
 fi
-if has pkg-config 'pkg-config'; then
+if wants pkg-config; then
     check 'example by pkg-config' bash -c \
         'cc c/events.c $(PKG_CONFIG_PATH=$work/lib pkg-config --cflags --libs termwiz_c) -o "$work/events_by_pkg_config"'
 fi
@@ -110,19 +135,20 @@ check 'calls' "$work/calls" c/numbers.txt
 check 'calls of the shared library' "$work/calls_shared" c/numbers.txt
 check 'refusals' "$work/refusals"
 
-if has valgrind 'valgrind'; then
+if wants valgrind; then
     check 'calls under valgrind' $memcheck --errors-for-leak-kinds=all "$work/calls" c/numbers.txt
     check 'refusals under valgrind' $memcheck --errors-for-leak-kinds=all "$work/refusals" 1000
 fi
 
-if has cargo 'the Rust crate'; then
-    (cd crates/keyshow && rt run < stdin) > "$work/log" 2>&1 || { cat "$work/log" >&2; exit 1; }
+if wants cargo; then
+    # The streams of the Rust crate's tests are compared with what keyshow prints.
+    [ "$is_built" = yes ] || (cd crates/keyshow && rt run < stdin) > "$work/log" 2>&1 || { cat "$work/log" >&2; exit 1; }
     check "README's example in Rust" bash -c check_readme_rust
     check 'Rust crate' bash -c 'rust_tests env'
-    if command -v valgrind > /dev/null; then
+    if wants valgrind; then
         check 'Rust crate under valgrind' bash -c 'rust_tests "$memcheck --errors-for-leak-kinds=definite" --test parser -- --skip streams --skip recorded'
     fi
 fi
-[ -z "$left_out" ] || echo "c_test: left out: $left_out"
+[ -z "$left_out" ] || echo "c_test: left out by name: what needs$left_out"
 echo "$passed passed, $failed failed"
 [ "$failed" = 0 ]

@@ -1,7 +1,7 @@
 #!/usr/bin/env bash
 # Refuses each request for memory in turn, and checks what is seen.
 #
-#     tools/refusals.sh
+#     tools/refusals.sh [--built] [--without-cc]
 #
 # It builds the programs refusals and keyshow, runs each case of the first and a stream through the second again and again, and
 # refuses one more request for memory each time (tools/refusals/refuse.c, preloaded), until a run meets no refusal. Of the
@@ -12,20 +12,39 @@
 # reports it, ends with status 1 and has printed a prefix of the whole output. The last line is 'N passed, N failed', the status 1 if a
 # case failed.
 #
-# It needs rt and a C compiler, cc. Without cc it says so and checks nothing.
+# With --built it builds nothing, and runs the programs that `rt ci` left in crates/refusals/out and crates/keyshow/out. A run of a
+# program has a minute.
+#
+# It needs rt, a C compiler (cc) and nm of binutils, and fails if one isn't there. With --without-cc it checks nothing and says so.
 set -u
 export LC_ALL=C
-cd "$(dirname "$0")/.."
-if ! command -v cc > /dev/null; then
-    echo 'refusals: not run, no cc'
-    exit 0
+. "$(dirname "$0")/common.sh"
+is_built=no left_out=''
+for word; do
+    case $word in
+        --help) show_help; exit ;;
+        --built) is_built=yes ;;
+        --without-cc) left_out=cc ;;
+        *) refuse_word "$word" ;;
+    esac
+done
+if [ -n "$left_out" ]; then
+    echo 'refusals: left out by --without-cc: no request for memory is refused'
+    echo '0 passed, 0 failed'
+    exit
 fi
+need rt 'the Rattle kit'
+need cc gcc --without-cc
+need nm binutils
+stop_if_missing
+cd "$(dirname "$0")/.." || exit
 work=$(mktemp -d)
 trap 'rm -rf "$work"' EXIT
 
-# Builds a program, which proves it first.
+# Builds a program, which proves it first, unless it is built.
 build() { # crate
-    (cd "crates/$1" && rt run < /dev/null) > "$work/log" 2>&1 || { cat "$work/log" >&2; exit 1; }
+    [ "$is_built" = yes ] || (cd "crates/$1" && rt run < /dev/null) > "$work/log" 2>&1 || { cat "$work/log" >&2; exit 1; }
+    [ -x "crates/$1/out/$1" ] || { echo "refusals: there is no crates/$1/out/$1: leave --built out" >&2; exit 1; }
 }
 
 cc -O1 -shared -fPIC -o "$work/refuse.so" tools/refusals/refuse.c -ldl || exit 1
@@ -33,21 +52,20 @@ build refusals
 build keyshow
 
 # All requests have to be calls of malloc or realloc, which refuse.c replaces.
-if command -v nm > /dev/null; then
-    for program in refusals keyshow; do
-        if nm -D "crates/$program/out/$program" | grep -qE ' U (calloc|aligned_alloc|memalign|posix_memalign|reallocarray|mmap)'; then
-            echo "refusals: $program asks for memory by a call that tools/refusals/refuse.c doesn't replace" >&2
-            exit 1
-        fi
-    done
-fi
+for program in refusals keyshow; do
+    if nm -D "crates/$program/out/$program" | grep -qE ' U (calloc|aligned_alloc|memalign|posix_memalign|reallocarray|mmap)'; then
+        echo "refusals: $program asks for memory by a call that tools/refusals/refuse.c doesn't replace" >&2
+        exit 1
+    fi
+done
 
-# Runs a program with one request refused. Sets `met` to 1 if it made that many, and `status`.
+# Runs a program with one request refused. Sets `met` to 1 if it made that many, and `status`: 124 if it didn't end in time.
 refuse() { # number program words..
     local number=$1
     shift
     status=0 met=0
-    REFUSE=$number LD_PRELOAD=$work/refuse.so "$@" < "$work/stream" > "$work/out" 2> "$work/err" 3> "$work/met" || status=$?
+    timeout -k 5 60 env REFUSE="$number" LD_PRELOAD="$work/refuse.so" "$@" \
+        < "$work/stream" > "$work/out" 2> "$work/err" 3> "$work/met" || status=$?
     [ ! -s "$work/met" ] || met=1
 }
 

@@ -1,5 +1,72 @@
 // The sets of flags.
+use std::collections::BTreeSet;
 use termwiz::input::{KittyKeyboardFlags, Modifiers, MouseButtons};
+
+// Tries the operations of a type on every pair of sets of at most two flags. A model of a set is the set of its bits' places.
+macro_rules! tries_pairs {
+    ($test:ident, $name:ident: $bits:ty, $places:expr) => {
+        #[test]
+        fn $test() {
+            let flags: Vec<u32> = $places.collect();
+            let set_of = |model: &BTreeSet<u32>| {
+                let bits = model.iter().map(|place| (1 as $bits) << place).sum();
+                $name::from_bits(bits).expect("each place has a flag")
+            };
+            let changed = |before: &BTreeSet<u32>, change: &dyn Fn(&mut $name)| {
+                let mut set = set_of(before);
+                change(&mut set);
+                set
+            };
+            let whole: BTreeSet<u32> = flags.iter().copied().collect();
+            assert_eq!(set_of(&whole), $name::all());
+            let models = small_sets(&flags);
+            for a in &models {
+                let x = set_of(a);
+                let complement = set_of(&(&whole - a));
+                assert_eq!(x.complement(), complement, "complement of {a:?}");
+                assert_eq!(!x, complement, "! of {a:?}");
+                assert_eq!(x.is_empty(), a.is_empty(), "is_empty of {a:?}");
+                assert_eq!(x.is_all(), *a == whole, "is_all of {a:?}");
+                assert_eq!($name::from_bits_truncate(x.bits()), x, "from_bits_truncate of {a:?}");
+                for b in &models {
+                    let (y, pair) = (set_of(b), format!("{a:?} and {b:?}"));
+                    let (either, both) = (set_of(&(a | b)), set_of(&(a & b)));
+                    let (first_alone, one_alone) = (set_of(&(a - b)), set_of(&(a ^ b)));
+                    assert_eq!(x == y, a == b, "== on {pair}");
+                    assert_eq!(x.intersects(y), !a.is_disjoint(b), "intersects on {pair}");
+                    assert_eq!(x.contains(y), a.is_superset(b), "contains on {pair}");
+                    assert_eq!(x.union(y), either, "union on {pair}");
+                    assert_eq!(x.intersection(y), both, "intersection on {pair}");
+                    assert_eq!(x.difference(y), first_alone, "difference on {pair}");
+                    assert_eq!(x.symmetric_difference(y), one_alone, "symmetric_difference on {pair}");
+                    assert_eq!(x | y, either, "| on {pair}");
+                    assert_eq!(x & y, both, "& on {pair}");
+                    assert_eq!(x - y, first_alone, "- on {pair}");
+                    assert_eq!(x ^ y, one_alone, "^ on {pair}");
+                    assert_eq!(changed(a, &|set| *set |= y), either, "|= on {pair}");
+                    assert_eq!(changed(a, &|set| *set &= y), both, "&= on {pair}");
+                    assert_eq!(changed(a, &|set| *set -= y), first_alone, "-= on {pair}");
+                    assert_eq!(changed(a, &|set| *set ^= y), one_alone, "^= on {pair}");
+                    assert_eq!(changed(a, &|set| set.insert(y)), either, "insert on {pair}");
+                    assert_eq!(changed(a, &|set| set.remove(y)), first_alone, "remove on {pair}");
+                    assert_eq!(changed(a, &|set| set.toggle(y)), one_alone, "toggle on {pair}");
+                    assert_eq!(changed(a, &|set| set.set(y, true)), either, "set to true on {pair}");
+                    assert_eq!(changed(a, &|set| set.set(y, false)), first_alone, "set to false on {pair}");
+                }
+            }
+        }
+    };
+}
+
+tries_pairs!(computes_as_sets_of_modifiers, Modifiers: u16, 1..=11);
+tries_pairs!(computes_as_sets_of_buttons, MouseButtons: u8, 1..=6);
+tries_pairs!(computes_as_sets_of_kitty_flags, KittyKeyboardFlags: u16, 0..=4);
+
+// The sets of none, one and two of these.
+fn small_sets(flags: &[u32]) -> BTreeSet<BTreeSet<u32>> {
+    let pairs = flags.iter().flat_map(|a| flags.iter().map(move |b| BTreeSet::from([*a, *b])));
+    pairs.chain([BTreeSet::new()]).collect()
+}
 
 const SHIFT: Modifiers = Modifiers::SHIFT;
 

@@ -1,0 +1,224 @@
+/* What tools/growth.sh counts: passes of a parser over texts of two lengths.
+ *
+ *     growth             makes each pass once, within `counted`, and prints its name and the number of its bytes
+ *     growth heap        makes each pass once, and prints its name, the number of its bytes, the length of the longest text that waited,
+ *                        the most bytes of memory in use, and the largest request for memory
+ *
+ * A pass makes a parser, gives it a text in reads of one size, takes the events, and ends the parser. It goes through parse_as_vec
+ * (parser_pass of tools/measure/feed.rt.txt) or through feed and next_event (the calls of c/termwiz_input.h). A pass of no bytes shows
+ * what making a parser takes. */
+#include "termwiz_input.h"
+#include <stdbool.h>
+#include <stdint.h>
+#include <stdio.h>
+#include <stdlib.h>
+#include <string.h>
+
+bool parser_pass(const uint8_t *bytes, size_t length, size_t read, uint64_t *events, size_t *waiting);
+
+enum { LONGEST = 1 << 18 };
+
+/* Memory: blocks of an arena, one after another, so that a request takes the same instructions whatever came before. Each pass begins with
+ * an empty arena. In front of each block stands its size. */
+enum { FRONT = 16, ARENA = 1 << 27 };
+static struct {
+    _Alignas(FRONT) char bytes[ARENA];
+    size_t end, in_use, most_in_use, largest;
+} memory;
+
+/* Notes that a block of one size took the place of another. */
+static void note(size_t before, size_t size) {
+    memory.in_use = memory.in_use - before + size;
+    if (memory.in_use > memory.most_in_use)
+        memory.most_in_use = memory.in_use;
+}
+
+static size_t size_of(const char *block) {
+    size_t size;
+    memcpy(&size, block - FRONT, sizeof size);
+    return size;
+}
+
+/* A new block, or NULL if the arena has no room for it. */
+static char *new_block(size_t size) {
+    if (size > memory.largest)
+        memory.largest = size;
+    size_t room = ARENA - memory.end;
+    if (size > room || room - size < 2 * FRONT)
+        return NULL;
+    char *block = memory.bytes + memory.end + FRONT;
+    memcpy(block - FRONT, &size, sizeof size);
+    memory.end += FRONT + (size + FRONT - 1) / FRONT * FRONT;
+    return block;
+}
+
+void *__wrap_malloc(size_t size) {
+    char *block = new_block(size);
+    if (block)
+        note(0, size);
+    return block;
+}
+
+void *__wrap_realloc(void *block, size_t size) {
+    if (!block)
+        return __wrap_malloc(size);
+    size_t before = size_of(block);
+    char *moved = new_block(size);
+    if (!moved)
+        return NULL;
+    memcpy(moved, block, before < size ? before : size);
+    note(before, size);
+    return moved;
+}
+
+void __wrap_free(void *block) {
+    if (block)
+        note(size_of(block), 0);
+}
+
+/* Copies, which the C library makes in other ways for other lengths: here each byte takes the same instructions. */
+void *__wrap_memcpy(void *to, const void *from, size_t length) {
+    char *out = to;
+    const char *in = from;
+    for (size_t i = 0; i < length; i++)
+        out[i] = in[i];
+    return to;
+}
+
+void *__wrap_memmove(void *to, const void *from, size_t length) {
+    char *out = to;
+    const char *in = from;
+    if (out <= in)
+        return __wrap_memcpy(to, from, length);
+    for (size_t i = length; i > 0; i--)
+        out[i - 1] = in[i - 1];
+    return to;
+}
+
+void *__wrap_memset(void *to, int byte, size_t length) {
+    char *out = to;
+    for (size_t i = 0; i < length; i++)
+        out[i] = (char)byte;
+    return to;
+}
+
+/* The texts. */
+static uint8_t text[LONGEST];
+
+/* Fills the text with parts, in turn, from a place on. */
+static void fill(size_t from, const char *const *parts, size_t count) {
+    for (size_t at = from, i = 0; at < LONGEST; i++) {
+        size_t length = strlen(parts[i % count]);
+        if (length > LONGEST - at)
+            length = LONGEST - at;
+        memcpy(text + at, parts[i % count], length);
+        at += length;
+    }
+}
+
+static void fill_typed(void) {
+    static const char *const words[] = {"the ", "quick ", "brown ", "fox\r", "jumps\t", "over\x7f ", "\x03", "a lazy dog "};
+    fill(0, words, sizeof words / sizeof *words);
+}
+
+static void fill_keys(void) {
+    static const char *const keys[] = {"\x1b[A", "\x1b[1;5C", "\x1bOP", "\x1b[15~", "\x1b[3;5~", "\x1b[97;5u", "\x1b[Z", "\x1bx", "\x1b[27;6;65~"};
+    fill(0, keys, sizeof keys / sizeof *keys);
+}
+
+static void fill_paste(void) {
+    static const char *const lines[] = {"a pasted line\n", "and another, with a cut end \x1b[20\n", "\x1b[201\n"};
+    static const char start[] = "\x1b[200~";
+    memcpy(text, start, sizeof start - 1);
+    fill(sizeof start - 1, lines, sizeof lines / sizeof *lines);
+}
+
+/* A pass: its bytes, the size of its reads, and how it takes events. */
+struct pass {
+    size_t length, read;
+    bool is_vec;
+    size_t longest;
+};
+
+static void stop(const char *why) {
+    fprintf(stderr, "growth: %s; the largest request was of %zu bytes\n", why, memory.largest);
+    exit(1);
+}
+
+static void pass_as_vec(struct pass *pass) {
+    uint64_t events;
+    size_t waiting;
+    if (!parser_pass(text, pass->length, pass->length ? pass->read : 0, &events, &waiting))
+        stop("memory was refused");
+    size_t length = pass->length < pass->read ? pass->length : pass->read;
+    pass->longest = waiting > length ? waiting : length;
+}
+
+/* Takes the events that are decided. */
+static void take_events(tw_parser *parser, bool more) {
+    tw_event event;
+    uint32_t answer;
+    while ((answer = tw_parser_next(parser, more, &event)) == TW_EVENT)
+        ;
+    if (answer != TW_NONE)
+        stop("memory was refused");
+}
+
+static void pass_by_steps(struct pass *pass) {
+    tw_parser parser = {0};
+    if (!tw_parser_init(&parser))
+        stop("memory was refused");
+    for (size_t at = 0; at < pass->length; at += pass->read) {
+        size_t length = pass->length - at < pass->read ? pass->length - at : pass->read;
+        if (!tw_parser_feed(&parser, text + at, length))
+            stop("memory was refused");
+        if (tw_parser_waiting(&parser) > pass->longest)
+            pass->longest = tw_parser_waiting(&parser);
+        take_events(&parser, true);
+    }
+    take_events(&parser, false);
+    tw_parser_free(&parser);
+}
+
+/* What is counted. */
+__attribute__((noinline)) void counted(struct pass *pass) {
+    if (pass->is_vec)
+        pass_as_vec(pass);
+    else
+        pass_by_steps(pass);
+}
+
+static void show(const char *name, bool is_vec, size_t read, size_t length, bool is_heap) {
+    struct pass pass = {length, read, is_vec, 0};
+    memory.end = memory.in_use = memory.most_in_use = memory.largest = 0;
+    counted(&pass);
+    printf("%s %s %zu %zu", is_vec ? "parse_as_vec" : "next_event", name, read, length);
+    if (is_heap)
+        printf(" %zu %zu %zu", pass.longest, memory.most_in_use, memory.largest);
+    printf("\n");
+}
+
+int main(int argc, char **argv) {
+    static const struct {
+        const char *name;
+        void (*fill)(void);
+    } texts[] = {{"typed", fill_typed}, {"keys", fill_keys}, {"paste", fill_paste}};
+    /* The sizes of reads, and the lengths of the shorter texts: each has enough reads for the buffer to grow as it does in the long run. */
+    static const struct {
+        size_t size, length;
+    } reads[] = {{1, 8192}, {64, 8192}, {4096, LONGEST / 4}, {LONGEST, 8192}};
+    bool is_heap = argc == 2 && !strcmp(argv[1], "heap");
+    static char line[BUFSIZ];
+    setvbuf(stdout, line, _IOFBF, sizeof line);
+    for (int is_vec = 0; is_vec < 2; is_vec++) {
+        show("new", is_vec, 1, 0, is_heap);
+        for (size_t i = 0; i < sizeof texts / sizeof *texts; i++) {
+            texts[i].fill();
+            for (size_t j = 0; j < sizeof reads / sizeof *reads; j++) {
+                show(texts[i].name, is_vec, reads[j].size, reads[j].length, is_heap);
+                show(texts[i].name, is_vec, reads[j].size, 4 * reads[j].length, is_heap);
+            }
+        }
+    }
+    return 0;
+}
