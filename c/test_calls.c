@@ -124,6 +124,31 @@ static void gives_pastes(tw_parser *parser) {
   EXPECT(tw_parser_paste(parser, room, 8) == 0 && memcmp(room, "abc\303\251...", 8) == 0);
 }
 
+/* A paste of 100 KB is one event, and its whole text is copied. */
+static void gives_a_long_paste(tw_parser *parser) {
+  static uint8_t body[102400], room[102400];
+  for (size_t at = 0; at < sizeof body; at++) body[at] = (uint8_t)"0123456789abcdef"[at % 16];
+  EXPECT(NEXT(parser, "\033[200~", true) == TW_NONE);
+  EXPECT(tw_parser_feed(parser, body, sizeof body));
+  EXPECT(NEXT(parser, "\033[201~", true) == TW_EVENT && taken.kind == TW_PASTE && taken.paste_len == sizeof body);
+  EXPECT(tw_parser_paste(parser, room, sizeof room) == sizeof body && memcmp(room, body, sizeof body) == 0);
+  EXPECT(NEXT(parser, "", true) == TW_NONE && tw_parser_waiting(parser) == 0);
+}
+
+/* A text of 70,000 keys in one call, an arrow and a letter in turn. */
+static void gives_many_keys(tw_parser *parser) {
+  static uint8_t keys[140000];
+  size_t right = 0;
+  for (size_t at = 0; at < sizeof keys; at++) keys[at] = (uint8_t)"\033[Aq"[at % 4];
+  EXPECT(tw_parser_feed(parser, keys, sizeof keys));
+  for (size_t pair = 0; pair < 35000; pair++) {
+    right += NEXT(parser, "", true) == TW_EVENT && is_key(TW_KEY_UP_ARROW, 0, TW_MOD_NONE);
+    right += NEXT(parser, "", true) == TW_EVENT && is_key(TW_KEY_CHAR, 'q', TW_MOD_NONE);
+  }
+  EXPECT(right == 70000);
+  EXPECT(NEXT(parser, "", true) == TW_NONE && tw_parser_waiting(parser) == 0);
+}
+
 /* Appends the fields of an event to `notes` as text. Returns where they end. */
 static size_t note(char *notes, size_t at, const tw_event *e) {
   return at + (size_t)sprintf(notes + at, "%u %u %u %u %u %u %u %zu,", e->kind, e->buttons, e->modifiers, e->key, e->x, e->y,
@@ -298,6 +323,8 @@ int main(int argc, char **argv) {
   gives_mouse_reports(&parser);
   waits(&parser);
   gives_pastes(&parser);
+  gives_a_long_paste(&parser);
+  gives_many_keys(&parser);
   tw_parser_free(&parser);
   cuts_make_no_difference();
   names_keys(argv[1]);

@@ -68,7 +68,11 @@ enum Calls {
     Callback,
     // `feed`, and then `next_event` for each event.
     Event,
+    // `parse_pieces`, with the two halves of the bytes.
+    Pieces,
 }
+
+const EVERY_CALL: [Calls; 4] = [Calls::List, Calls::Callback, Calls::Event, Calls::Pieces];
 
 impl Calls {
     // The events of the waiting text and these bytes.
@@ -84,6 +88,7 @@ impl Calls {
             Calls::List => Ok(parser.parse_as_vec(bytes, more)?),
             Calls::Callback => pieces::parsed(rt, alloc, parser, bytes, more),
             Calls::Event => Ok(pulled::pulled(alloc, parser, bytes, more)?),
+            Calls::Pieces => pieces::parsed_halves(rt, alloc, parser, bytes, more),
         }
     }
 }
@@ -113,9 +118,9 @@ fn check_steps(
 
 // Makes the calls of an example in every way, and reads all of its bytes in pieces.
 fn check(rt: &impl Abort, alloc: Global, name: &str, steps: &[Step]) -> Result<(), Fail> {
-    check_steps(rt, alloc, Calls::List, name, steps)?;
-    check_steps(rt, alloc, Calls::Callback, name, steps)?;
-    check_steps(rt, alloc, Calls::Event, name, steps)?;
+    for calls in EVERY_CALL {
+        check_steps(rt, alloc, calls, name, steps)?;
+    }
     cuts::check_sizes(rt, alloc, name, &bytes_of(alloc, steps)?)
 }
 

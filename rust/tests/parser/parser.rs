@@ -103,14 +103,36 @@ fn cuts() {
 #[test]
 fn gives_the_text_of_a_long_paste() {
     let text = "täxt ".repeat(20000);
+    let paste = format!("\x1b[200~{text}\x1b[201~");
+    let wanted = [InputEvent::Paste(text.clone())];
     let mut parser = InputParser::new();
-    assert_eq!(parser.parse_as_vec(b"\x1b[200~", true), []);
-    for bytes in text.as_bytes().chunks(4096) {
-        assert_eq!(parser.parse_as_vec(bytes, true), []);
+    for call in 0..4 {
+        assert!(parsed(call, &mut parser, paste.as_bytes(), true) == wanted, "call {call}");
+        assert_eq!(parsed(call, &mut parser, b"\x1b[200~", true), []);
+        for bytes in text.as_bytes().chunks(4096) {
+            assert_eq!(parsed(call, &mut parser, bytes, true), []);
+        }
+        assert!(parser.is_paste_open());
+        assert!(parsed(call, &mut parser, b"\x1b[201~", true) == wanted, "call {call}");
+        assert_eq!(parser.waiting_len(), 0);
     }
-    assert!(parser.is_paste_open());
-    assert_eq!(parser.parse_as_vec(b"\x1b[201~", true), [InputEvent::Paste(text)]);
-    assert_eq!(parser.waiting_len(), 0);
+}
+
+#[test]
+fn gives_70000_keys_at_once() {
+    let text = b"\x1b[Aq".repeat(35000);
+    let plain = |number| {
+        InputEvent::Key(KeyEvent {
+            key: if number % 2 == 0 { KeyCode::UpArrow } else { KeyCode::Char('q') },
+            modifiers: Modifiers::NONE,
+        })
+    };
+    let wanted: Vec<InputEvent> = (0..70000).map(plain).collect();
+    let mut parser = InputParser::new();
+    for call in 0..4 {
+        assert!(parsed(call, &mut parser, &text, true) == wanted, "call {call}");
+        assert_eq!(parser.waiting_len(), 0);
+    }
 }
 
 // A callback that panics loses no later event.

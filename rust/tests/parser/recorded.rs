@@ -139,6 +139,22 @@ fn cases() {
     println!("{} lines, {} feedings", cases().count(), feeder.feedings);
 }
 
+// Answers that were written down from docs/GRAMMAR.md, in the forms of both files.
+#[test]
+fn rules() {
+    let mut feeder = Feeder::new();
+    let file = data("rules.txt");
+    let lines = || file.lines().filter(|line| !line.starts_with('#'));
+    for line in lines() {
+        if line.starts_with(['*', '+', '-']) {
+            feeder.check_case(line);
+        } else {
+            feeder.check_rows(line);
+        }
+    }
+    println!("{} lines, {} feedings", lines().count(), feeder.feedings);
+}
+
 // The modes of a number, as crates/replay/src/encodings.rt numbers them.
 fn modes(number: u32) -> KeyCodeEncodeModes {
     KeyCodeEncodeModes {

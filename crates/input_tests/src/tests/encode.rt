@@ -393,54 +393,57 @@ fn shifts_letters(rt: HostRuntime) {
     }
 }
 
-// Keys that no example has. With memory each has a text, empty or not.
-const OTHER_KEYS: &[KeyCode] = &[
-    KeyCode::Hyper,
-    KeyCode::Clear,
-    KeyCode::Shift,
-    KeyCode::Backspace,
-    KeyCode::Escape,
-    KeyCode::DownArrow,
-    KeyCode::RightArrow,
-    KeyCode::ApplicationLeftArrow,
-    KeyCode::ApplicationRightArrow,
-    KeyCode::ApplicationUpArrow,
-    KeyCode::ApplicationDownArrow,
-    KeyCode::Insert,
-    KeyCode::Delete,
-    KeyCode::PageDown,
-    KeyCode::KeyPadHome,
-    KeyCode::KeyPadEnd,
-    KeyCode::KeyPadPageUp,
-    KeyCode::KeyPadPageDown,
-    KeyCode::KeyPadBegin,
-    KeyCode::Numpad2,
-    KeyCode::Numpad3,
-    KeyCode::Numpad4,
-    KeyCode::Numpad5,
-    KeyCode::Numpad6,
-    KeyCode::Numpad7,
-    KeyCode::Numpad8,
-    KeyCode::Decimal,
-    KeyCode::CapsLock,
-    KeyCode::VolumeUp,
-    KeyCode::InternalPasteEnd,
+// Keys that no example has, with SHIFT.
+const SHIFTED: &[Example] = &[
+    (KeyCode::Hyper, SHIFT, ""),
+    (KeyCode::Clear, SHIFT, ""),
+    (KeyCode::Shift, SHIFT, ""),
+    (KeyCode::Backspace, SHIFT, "\x7f"),
+    (KeyCode::Escape, SHIFT, "\x1b"),
+    (KeyCode::DownArrow, SHIFT, "\x1b[1;2B"),
+    (KeyCode::RightArrow, SHIFT, "\x1b[1;2C"),
+    (KeyCode::ApplicationLeftArrow, SHIFT, "\x1b[1;2D"),
+    (KeyCode::ApplicationRightArrow, SHIFT, "\x1b[1;2C"),
+    (KeyCode::ApplicationUpArrow, SHIFT, "\x1b[1;2A"),
+    (KeyCode::ApplicationDownArrow, SHIFT, "\x1b[1;2B"),
+    (KeyCode::Insert, SHIFT, "\x1b[2;2~"),
+    (KeyCode::Delete, SHIFT, "\x1b[3;2~"),
+    (KeyCode::PageDown, SHIFT, "\x1b[6;2~"),
+    (KeyCode::KeyPadHome, SHIFT, "\x1b[1;2H"),
+    (KeyCode::KeyPadEnd, SHIFT, "\x1b[1;2F"),
+    (KeyCode::KeyPadPageUp, SHIFT, "\x1b[5;2~"),
+    (KeyCode::KeyPadPageDown, SHIFT, "\x1b[6;2~"),
+    (KeyCode::KeyPadBegin, SHIFT, "\x1b[1;2E"),
+    (KeyCode::Numpad2, SHIFT, "\x1b[1;2B"),
+    (KeyCode::Numpad3, SHIFT, "\x1b[6;2~"),
+    (KeyCode::Numpad4, SHIFT, "\x1b[1;2D"),
+    (KeyCode::Numpad5, SHIFT, "\x1b[1;2E"),
+    (KeyCode::Numpad6, SHIFT, "\x1b[1;2C"),
+    (KeyCode::Numpad7, SHIFT, "\x1b[1;2H"),
+    (KeyCode::Numpad8, SHIFT, "\x1b[1;2A"),
+    (KeyCode::Decimal, SHIFT, "\x1b[3;2~"),
+    (KeyCode::CapsLock, SHIFT, ""),
+    (KeyCode::VolumeUp, SHIFT, ""),
+    (KeyCode::InternalPasteEnd, SHIFT, ""),
 ];
 
 #[test]
-fn every_key_has_a_text(rt: HostRuntime) -> Result<(), Fail> {
-    let alloc = rt.alloc();
-    for key in OTHER_KEYS {
-        let _text = key.encode(alloc, SHIFT, XTERM, true)?;
-    }
-    Ok(())
+fn encodes_keys_with_shift(rt: HostRuntime) -> Result<(), Fail> {
+    check(&rt, rt.alloc(), XTERM, SHIFTED)
 }
 
+// The texts of F1 to F24.
+const FUNCTION_KEYS: [&str; 24] = [
+    "\x1bOP", "\x1bOQ", "\x1bOR", "\x1bOS", "\x1b[15~", "\x1b[17~", "\x1b[18~", "\x1b[19~",
+    "\x1b[20~", "\x1b[21~", "\x1b[23~", "\x1b[24~", "\x1b[25~", "\x1b[26~", "\x1b[28~", "\x1b[29~",
+    "\x1b[31~", "\x1b[32~", "\x1b[33~", "\x1b[34~", "\x1b[42~", "\x1b[43~", "\x1b[44~", "\x1b[45~",
+];
+
 #[test]
-fn every_function_key_has_a_text(rt: HostRuntime) -> Result<(), Fail> {
-    let alloc = rt.alloc();
-    for number in 1..25u8 {
-        let _text = KeyCode::Function(number).encode(alloc, Modifiers::NONE, XTERM, true)?;
+fn encodes_every_function_key(rt: HostRuntime) -> Result<(), Fail> {
+    for (number, want) in (1..25u8).zip(FUNCTION_KEYS) {
+        let text = KeyCode::Function(number).encode(rt.alloc(), NONE, XTERM, true)?;
+        assert_eq!(rt; text.as_str(), want, "F{number}");
     }
     Ok(())
 }

@@ -3,7 +3,7 @@ ghost use Rattle.std.specs.Prelude.{◌<◌};
 
 use super::cuts::{check_few_wait, check_sizes};
 use super::line::line_of;
-use super::{InputEvent, InputParser, KeyCode, KeyEvent, LAST, MORE, Modifiers};
+use super::{Calls, EVERY_CALL, InputEvent, InputParser, KeyCode, KeyEvent, LAST, MORE, Modifiers};
 use std::alloc::{AllocError, Global};
 use std::process::Abort;
 use std::test::Fail;
@@ -24,20 +24,23 @@ pub(super) fn wanted_at(number: usize) -> InputEvent {
     })
 }
 
-pub(super) fn check_events(rt: &impl Abort, events: &[InputEvent], len: usize) {
+fn check_events(rt: &impl Abort, events: &[InputEvent], len: usize) {
     assert_eq!(rt; events.len(), len);
     for (number, event) in events.iter().enumerate() {
         assert_eq!(rt; *event, wanted_at(number), "event {number}");
     }
 }
 
+// Each way to call the parser reads many keys at once.
 #[test]
-fn reads_a_thousand_keys_in_one_call(rt: HostRuntime) -> Result<(), Fail> {
-    let text = KEYS.repeat(rt.alloc(), 500)?;
+fn reads_70000_keys_at_once(rt: HostRuntime) -> Result<(), Fail> {
+    let text = KEYS.repeat(rt.alloc(), 35000)?;
     let mut parser = InputParser::new(rt.alloc())?;
-    let events = parser.parse_as_vec(text.as_slice(), LAST)?;
-    check_events(&rt, events.as_slice(), 1000);
-    assert_eq!(rt; parser.waiting_len(), 0);
+    for calls in EVERY_CALL {
+        let events = calls.events(&rt, rt.alloc(), &mut parser, &text, LAST)?;
+        check_events(&rt, events.as_slice(), 70000);
+        assert_eq!(rt; parser.waiting_len(), 0, "{calls:?}");
+    }
     Ok(())
 }
 
@@ -51,12 +54,26 @@ pub(super) fn read_in_pieces(
 ) -> Result<Vec<InputEvent>, Fail>
     requires { 0 < piece }
 {
+    read_in_pieces_by(rt, alloc, Calls::List, parser, text, piece)
+}
+
+// The same by these calls.
+fn read_in_pieces_by(
+    rt: &impl Abort,
+    alloc: Global,
+    calls: Calls,
+    parser: &mut InputParser,
+    text: &[u8],
+    piece: usize,
+) -> Result<Vec<InputEvent>, Fail>
+    requires { 0 < piece }
+{
     let mut events = Vec::new(alloc);
     for bytes in text.chunks(piece) {
-        events.append(&mut parser.parse_as_vec(bytes, MORE)?)?;
+        events.append(&mut calls.events(rt, alloc, parser, bytes, MORE)?)?;
         check_few_wait(rt, parser, "a text in pieces");
     }
-    events.append(&mut parser.parse_as_vec(b"", LAST)?)?;
+    events.append(&mut calls.events(rt, alloc, parser, b"", LAST)?)?;
     Ok(events)
 }
 
@@ -91,16 +108,19 @@ fn check_paste(rt: &impl Abort, events: &[InputEvent], body: &[u8]) {
     }
 }
 
+// Each way to call the parser reads a long paste, whole and in pieces.
 #[test]
 fn reads_a_paste_of_100_kilobytes(rt: HostRuntime) -> Result<(), Fail> {
     let (body, paste) = long_paste(rt.alloc())?;
     let mut parser = InputParser::new(rt.alloc())?;
-    let events = parser.parse_as_vec(paste.as_slice(), MORE)?;
-    check_paste(&rt, events.as_slice(), body.as_slice());
-    assert_eq!(rt; parser.waiting_len(), 0);
-    let events = read_in_pieces(&rt, rt.alloc(), &mut parser, paste.as_slice(), 999)?;
-    check_paste(&rt, events.as_slice(), body.as_slice());
-    assert_eq!(rt; parser.waiting_len(), 0);
+    for calls in EVERY_CALL {
+        let events = calls.events(&rt, rt.alloc(), &mut parser, &paste, MORE)?;
+        check_paste(&rt, events.as_slice(), body.as_slice());
+        assert_eq!(rt; parser.waiting_len(), 0, "{calls:?}");
+        let events = read_in_pieces_by(&rt, rt.alloc(), calls, &mut parser, &paste, 999)?;
+        check_paste(&rt, events.as_slice(), body.as_slice());
+        assert_eq!(rt; parser.waiting_len(), 0, "{calls:?}");
+    }
     Ok(())
 }
 

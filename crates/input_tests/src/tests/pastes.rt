@@ -79,12 +79,12 @@ fn reads_pastes(rt: HostRuntime) -> Result<(), Fail> {
 #[test]
 fn gives_the_text_of_a_paste(rt: HostRuntime) -> Result<(), Fail> {
     let mut parser = InputParser::new(rt.alloc())?;
-    for event in parser.parse_as_vec(b"\x1b[200~caf\xc3\xa9\x1b[201~", LAST)? {
-        match event {
-            InputEvent::Paste(text) => assert_eq!(rt; text.into_string().as_str(), "café"),
-            event => panic!(rt; "{event:?}"),
-        }
+    let mut events = parser.parse_as_vec(b"\x1b[200~caf\xc3\xa9\x1b[201~", LAST)?;
+    match events.pop() {
+        Some(InputEvent::Paste(text)) => assert_eq!(rt; text.into_string().as_str(), "café"),
+        event => panic!(rt; "{event:?}"),
     }
+    assert!(rt; events.is_empty());
     assert_eq!(rt; parser.waiting_len(), 0);
     Ok(())
 }

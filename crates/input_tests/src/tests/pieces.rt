@@ -1,7 +1,7 @@
 // The calls with a callback: what `parse` and `parse_pieces` give, the numbers of the pieces, and the messages of errors.
 use super::cuts::{check_few_wait, check_sizes};
 use super::line::{push_comma, push_event, push_waiting};
-use super::long::{KEYS, check_events, wanted_at};
+use super::long::{KEYS, wanted_at};
 use super::{InputEvent, InputParser, LAST, MORE};
 use std::alloc::{AllocError, Global};
 use std::fmt::Write;
@@ -46,6 +46,22 @@ pub(super) fn parsed_pieces(
     };
     parser.parse_pieces(pieces, &mut note, more)?;
     assert!(rt; !is_refused);
+    Ok(events)
+}
+
+// The events of a call of `parse_pieces` with the two halves of the bytes.
+pub(super) fn parsed_halves(
+    rt: &impl Abort,
+    alloc: Global,
+    parser: &mut InputParser,
+    bytes: &[u8],
+    more: bool,
+) -> Result<Vec<InputEvent>, Fail> {
+    let (first, second) = bytes.split_at(bytes.len() / 2);
+    let mut events = Vec::new(alloc);
+    for (_, event) in parsed_pieces(rt, alloc, parser, &[first, second], more)? {
+        events.push(event)?;
+    }
     Ok(events)
 }
 
@@ -166,16 +182,6 @@ fn error_messages(rt: HostRuntime) -> Result<(), Fail> {
     Ok(())
 }
 
-#[test]
-fn parse_reads_a_thousand_keys(rt: HostRuntime) -> Result<(), Fail> {
-    let text = KEYS.repeat(rt.alloc(), 500)?;
-    let mut parser = InputParser::new(rt.alloc())?;
-    let events = parsed(&rt, rt.alloc(), &mut parser, text.as_slice(), LAST)?;
-    check_events(&rt, events.as_slice(), 1000);
-    assert_eq!(rt; parser.waiting_len(), 0);
-    Ok(())
-}
-
 // The events of `KEYS` as often as this, a byte a piece: the first key ends at the third byte, and the second at the fourth.
 fn keys_by_bytes(alloc: Global, times: u16) -> Result<Vec<(usize, InputEvent)>, AllocError> {
     let mut events = Vec::new(alloc);
@@ -188,15 +194,15 @@ fn keys_by_bytes(alloc: Global, times: u16) -> Result<Vec<(usize, InputEvent)>, 
 }
 
 #[test]
-fn reads_two_thousand_pieces(rt: HostRuntime) -> Result<(), Fail> {
-    let text = KEYS.repeat(rt.alloc(), 500)?;
+fn reads_70000_pieces(rt: HostRuntime) -> Result<(), Fail> {
+    let text = KEYS.repeat(rt.alloc(), 17500)?;
     let mut pieces = Vec::new(rt.alloc());
     for piece in text.chunks(1) {
         pieces.push(piece)?;
     }
     let mut parser = InputParser::new(rt.alloc())?;
     let events = parsed_pieces(&rt, rt.alloc(), &mut parser, pieces.as_slice(), LAST)?;
-    assert_eq!(rt; events, keys_by_bytes(rt.alloc(), 500)?);
+    assert!(rt; events == keys_by_bytes(rt.alloc(), 17500)?);
     assert_eq!(rt; parser.waiting_len(), 0);
     Ok(())
 }
