@@ -31,13 +31,18 @@ fi
 passed=0
 failed=0
 
+# A file in one line.
+shown() { # file
+    cat -v "$1" | tr '\n' '|'
+}
+
 # Compares what a run left in the files out and err, and its status, with what is wanted.
 check() { # name status
     if [ "$status" = "$2" ] && cmp -s "$work/out" "$work/wanted_out" && cmp -s "$work/err" "$work/wanted_err"; then
         passed=$((passed + 1))
     else
         failed=$((failed + 1))
-        echo "$1: status $status, standard output '$(cat -v "$work/out")', standard error '$(cat -v "$work/err")'"
+        echo "$1: status $status, standard output '$(shown "$work/out")', standard error '$(shown "$work/err")'"
     fi
 }
 
