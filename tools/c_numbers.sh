@@ -3,8 +3,8 @@
 #
 #     tools/c_numbers.sh [--check]
 #
-# With --check it writes nothing. It compares the header, the Rust crate and the proved crates with the list, names the first line of
-# each file that differs, and ends with status 1 if one does. It needs no compiler.
+# With --check it writes nothing. It compares the header, the Rust crate and the proved crates with the list: their numbers, and the
+# names of keys and flags that they print. It says which lines differ, and ends with status 1 if one does. It needs no compiler.
 set -eu
 export LC_ALL=C
 cd "$(dirname "$0")/.."
@@ -51,6 +51,15 @@ proved_in() { # groups files..
     awk -v groups="$groups" -f tools/c_numbers/proved.awk "$list" "$@"
 }
 
+# So are the names that they print.
+names_in() { # group files..
+    group=$1
+    shift
+    for file; do
+        awk -v group="$group" -f tools/c_numbers/names.awk "$list" "$file" || return 1
+    done
+}
+
 if [ -n "$check" ]; then
     proved_in key crates/termwiz_c/src/keys.rt || failed=1
     proved_in kind crates/termwiz_c/src/events.rt || failed=1
@@ -59,6 +68,10 @@ if [ -n "$check" ]; then
     proved_in modifier crates/termwiz_base/src/modifiers.rt || failed=1
     proved_in kitty crates/termwiz_base/src/kitty.rt || failed=1
     proved_in button crates/termwiz_input/src/types.rt || failed=1
+    names_in key crates/event_text/src/names.rt crates/event_text/specs/Names.antt || failed=1
+    names_in modifier crates/termwiz_base/src/modifiers.rt crates/event_text/specs/Names.antt || failed=1
+    names_in button crates/termwiz_input/src/types.rt crates/event_text/specs/Names.antt || failed=1
+    names_in kitty crates/termwiz_base/src/kitty.rt || failed=1
     [ "$failed" = 1 ] || echo "numbers: $(grep -c '^[a-z]' "$list") names, and the header, the Rust crate and the proved crates agree"
 fi
 exit "$failed"
