@@ -16,6 +16,7 @@ ghost use Rattle.termwiz_input.specs.Table.{rows};
 mod plain;
 #[cfg(test)]
 mod tests;
+pub mod values;
 
 use std::alloc::{AllocError, Global};
 use termwiz_input::input::{
