@@ -1,7 +1,7 @@
 #!/usr/bin/env bash
 # Checks the documents: runs their listings, and follows their links.
 #
-#     tools/docs.sh [--library DIR] [--only KINDS] [--without-cc] [--help]
+#     tools/docs.sh [--library DIR] [--built] [--only KINDS] [--without-cc] [--help]
 #
 # The documents are README.md, CONTRIBUTING.md, CHANGELOG.md, docs/*.md and crates/*/README.md. The script checks that
 #
@@ -24,9 +24,10 @@
 # TEXT goes to the program's standard input. With `typed` it is a pseudo terminal's, and each further TEXT is typed once the program has
 # printed something for the one before; after a text that prints nothing comes the word pause.
 #
-# --library takes a folder that tools/c_library.sh wrote; otherwise the library is built. --only takes some of links, c, rust, rattle,
-# sh, keyshow, separated by commas. --without-cc leaves out what needs the library. The script prints one line for each check that failed, and
-# at the end 'N passed, N failed'. It needs python3, rt, cc and cargo.
+# --library names a folder that tools/c_library.sh wrote; otherwise the library is built. With --built, `rt run` in a listing is the program
+# that lies in the crate's out/; otherwise it proves and builds it. --only names some of links, c, rust, rattle, sh, lines, keyshow,
+# separated by commas. --without-cc leaves out what needs the library. The script prints one line for each check that failed, and at the
+# end 'N passed, N failed'. It needs python3, rt, cc and cargo.
 set -eu
 export LC_ALL=C.UTF-8
 cd "$(dirname "$0")/.."

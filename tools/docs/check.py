@@ -203,11 +203,22 @@ def run_typed(words, texts):
 class Runner:
     """Runs listings, over a library that is built when the first of them needs it."""
 
-    def __init__(self, library):
+    def __init__(self, library, built):
         self.library = os.path.abspath(library) if library else None
         self.work = tempfile.mkdtemp()
         self.count = 0
         self.keyshow = None
+        if built:
+            self.run_built()
+
+    def run_built(self):
+        """Puts a command before rt for which `rt run` is the program that was built, once it is there."""
+        folder = os.path.join(self.work, 'bin')
+        os.mkdir(folder)
+        with open(os.path.join(folder, 'rt'), 'w', encoding='utf-8') as opened:
+            opened.write(BUILT.format(rt=shutil.which('rt')))
+        os.chmod(opened.name, 0o755)
+        os.environ['PATH'] = f'{folder}:{os.environ["PATH"]}'
 
     def folder(self):
         self.count += 1
@@ -300,6 +311,18 @@ class Runner:
             raise Failed(f'it prints {printed!r}')
 
 
+BUILT = '''#!/usr/bin/env bash
+[ "${{1-}}" = run ] || exec {rt} "$@"
+program=$PWD/out/$(basename "$PWD")
+for _ in $(seq 1200); do
+    [ -x "$program" ] && break
+    sleep 1
+done
+shift
+[ "${{1-}}" != -- ] || shift
+exec "$program" "$@"
+'''
+
 NAMED = {'ESC': 0x1b, 'TAB': 9, 'CR': 13, 'LF': 10, 'DEL': 0x7f, 'SPACE': 0x20}
 
 
@@ -327,7 +350,7 @@ def without_contracts(text):
 
 
 def options(words):
-    chosen = {'library': None, 'only': KINDS, 'cc': True}
+    chosen = {'library': None, 'only': KINDS, 'cc': True, 'built': False}
     while words:
         word = words.pop(0)
         if word == '--library' and words:
@@ -336,8 +359,10 @@ def options(words):
             chosen['only'] = words.pop(0).split(',')
         elif word == '--without-cc':
             chosen['cc'] = False
+        elif word == '--built':
+            chosen['built'] = True
         else:
-            sys.exit('usage: tools/docs.sh [--library DIR] [--only KINDS] [--without-cc] [--help]')
+            sys.exit('usage: tools/docs.sh [--library DIR] [--built] [--only KINDS] [--without-cc] [--help]')
     if not set(chosen['only']) <= set(KINDS):
         sys.exit(f'docs: the kinds are {", ".join(KINDS)}')
     return chosen
@@ -381,7 +406,7 @@ def main():
     missing = missing_tool(to_run)
     if missing:
         sys.exit(missing)
-    runner, failed = Runner(chosen['library']), len(faults)
+    runner, failed = Runner(chosen['library'], chosen['built']), len(faults)
     try:
         for listing in to_run:
             try:
