@@ -414,7 +414,8 @@ def main():
                 passed += 1
             except (Failed, OSError, subprocess.TimeoutExpired) as fault:
                 failed += 1
-                print(f'{listing.name}: {str(fault).splitlines()[-1] if str(fault) else fault!r}', flush=True)
+                reason = (str(fault) or repr(fault)).splitlines()[-1]
+                print(f'{listing.name}: {reason}', flush=True)
     finally:
         shutil.rmtree(runner.work, ignore_errors=True)
     if left_out:
