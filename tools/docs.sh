@@ -18,7 +18,7 @@
 #     <!-- run: sh -->                                       commands, run at the top of the repository; DIR is the library's folder
 #     <!-- run: lines FILE except WORD -->                   each line stands in the file, but for those that begin with WORD
 #     <!-- run: keyshow -->                                  a table: keyshow prints the last column for the bytes of the first
-#     <!-- prints -->                                        what the listing before has to print
+#     <!-- prints -->                                        what the listing before has to print: a block, or the second cells of a table
 #     <!-- not run: REASON -->
 #
 # TEXT goes to the program's standard input. With `typed` it is a pseudo terminal's, and each further TEXT is typed once the program has

@@ -78,15 +78,28 @@ def listings_of(file):
             if not block or lines[number - 2][:1] != '|':
                 block, start = [], number
             block.append(line)
-            if not lines[number].startswith('|'):
+            if lines[number].startswith('|'):
+                continue
+            if marker == 'prints' and found:
+                found[-1].prints = second_cells(block[2:])
+            else:
                 found.append(Listing(file, start, marker, '\n'.join(block) + '\n'))
-                marker, block = None, []
+            marker, block = None, []
         elif marker and line.strip():
             faults.append(f'{file}:{number}: a marker without a listing')
             marker = None
         elif re.match(r'^    \S', line) and not lines[number - 2].strip():
             faults.append(f'{file}:{number}: an indented listing; write a fenced one')
     return found, faults
+
+
+def cells_of(row):
+    return [cell.strip() for cell in re.split(r'(?<!\\)\|', row)[1:-1]]
+
+
+def second_cells(rows):
+    """What stands in backticks in the second cell of each row, a line each."""
+    return ''.join(f'{line}\n' for row in rows for line in re.findall(r'`([^`]+)`', cells_of(row)[1]))
 
 
 def slug(heading):
@@ -197,7 +210,8 @@ def run_typed(words, texts):
         raise Failed(f'it did not end after: {bytes(seen)!r}')
     if status:
         raise Failed(f'wait status {status} after: {bytes(seen)!r}')
-    return seen.decode('utf-8', 'replace').replace('\r\n', '\n')
+    # Modes that the program switches on and off aren't seen on a terminal.
+    return re.sub(r'\x1b\[\?\d+[hl]', '', seen.decode('utf-8', 'replace')).replace('\r\n', '\n')
 
 
 class Runner:
@@ -294,7 +308,7 @@ class Runner:
         """Each row: its first cell is a sequence, such as `ESC O P`, and its last the lines that keyshow prints for it."""
         program, rows = self.keyshow_program(), listing.text.split('\n')[2:]
         for row in rows:
-            cells = [cell.strip() for cell in re.split(r'(?<!\\)\|', row)[1:-1]]
+            cells = cells_of(row)
             if not cells:
                 continue
             sequence = re.findall(r'`([^`]+)`', cells[0])[0]
