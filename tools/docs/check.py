@@ -46,51 +46,69 @@ def read(file):
         return opened.read()
 
 
-def listings_of(file):
-    """The listings of a document. A block without a marker, or a marker without a block, is a failure."""
-    found, faults = [], []
-    marker, block, fence, start = None, [], None, 0
-    lines = read(file).split('\n') + ['']
-    for number, line in enumerate(lines, 1):
-        if fence:
-            if line.strip() == fence:
+class Document:
+    """The listings of a document, and the faults in its markers."""
+
+    def __init__(self, file):
+        self.file, self.listings, self.faults = file, [], []
+        self.marker, self.block, self.start = None, [], 0
+        self.lines = read(file).split('\n') + ['']
+        self.read_lines()
+
+    def fault(self, number, reason):
+        self.faults.append(f'{self.file}:{number}: {reason}')
+
+    def read_lines(self):
+        fence = None
+        for number, line in enumerate(self.lines, 1):
+            opened = re.match(r'^\s*(```+)', line)
+            if fence and line.strip() != fence:
+                self.block.append(line)
+            elif fence:
                 fence = None
-                text = '\n'.join(block) + '\n'
-                if marker == 'prints' and found:
-                    found[-1].prints = text
-                elif marker:
-                    found.append(Listing(file, start, marker, text))
-                else:
-                    faults.append(f'{file}:{start}: a listing without a marker')
-                marker = None
+                self.end_block()
+            elif opened:
+                fence, self.block, self.start = opened.group(1), [], number
             else:
-                block.append(line)
-            continue
-        opened = re.match(r'^\s*(```+)', line)
+                self.read_line(number, line)
+
+    def read_line(self, number, line):
         comment = re.match(r'^<!-- ((?:run|not run):.*|prints) -->$', line.strip())
-        if opened:
-            fence, block, start = opened.group(1), [], number
-        elif comment:
-            if marker:
-                faults.append(f'{file}:{number}: a marker without a listing')
-            marker = comment.group(1).strip()
-        elif marker and line.startswith('|'):
-            if not block or lines[number - 2][:1] != '|':
-                block, start = [], number
-            block.append(line)
-            if lines[number].startswith('|'):
-                continue
-            if marker == 'prints' and found:
-                found[-1].prints = second_cells(block[2:])
-            else:
-                found.append(Listing(file, start, marker, '\n'.join(block) + '\n'))
-            marker, block = None, []
-        elif marker and line.strip():
-            faults.append(f'{file}:{number}: a marker without a listing')
-            marker = None
-        elif re.match(r'^    \S', line) and not lines[number - 2].strip():
-            faults.append(f'{file}:{number}: an indented listing; write a fenced one')
-    return found, faults
+        if comment:
+            if self.marker:
+                self.fault(number, 'a marker without a listing')
+            self.marker = comment.group(1).strip()
+        elif self.marker and line.startswith('|'):
+            self.read_row(number, line)
+        elif self.marker and line.strip():
+            self.fault(number, 'a marker without a listing')
+            self.marker = None
+        elif re.match(r'^    \S', line) and not self.lines[number - 2].strip():
+            self.fault(number, 'an indented listing; write a fenced one')
+
+    def read_row(self, number, line):
+        if not self.lines[number - 2].startswith('|'):
+            self.block, self.start = [], number
+        self.block.append(line)
+        if not self.lines[number].startswith('|'):
+            self.end_table()
+
+    def end_block(self):
+        text = '\n'.join(self.block) + '\n'
+        if self.marker == 'prints' and self.listings:
+            self.listings[-1].prints = text
+        elif self.marker:
+            self.listings.append(Listing(self.file, self.start, self.marker, text))
+        else:
+            self.fault(self.start, 'a listing without a marker')
+        self.marker = None
+
+    def end_table(self):
+        if self.marker == 'prints' and self.listings:
+            self.listings[-1].prints = second_cells(self.block[2:])
+        else:
+            self.listings.append(Listing(self.file, self.start, self.marker, '\n'.join(self.block) + '\n'))
+        self.marker = None
 
 
 def cells_of(row):
@@ -397,44 +415,52 @@ def missing_tool(listings):
     return None
 
 
+def check_links(found):
+    """Checks links, paths and markers of all documents. Returns how many held and the faults."""
+    passed, faults = 0, []
+    for document in found:
+        held, broken = follow(document.file)
+        passed += held
+        faults += document.faults + broken
+    if read('README.md').count('\n') > 150:
+        faults.append('README.md: more than 150 lines')
+    return passed, faults
+
+
+def run_listings(runner, listings):
+    """Runs listings, and prints each that fails. Returns how many passed."""
+    passed = 0
+    for listing in listings:
+        try:
+            runner.check(listing)
+            passed += 1
+        except (Failed, OSError, subprocess.TimeoutExpired) as fault:
+            reason = (str(fault) or repr(fault)).splitlines()[-1]
+            print(f'{listing.name}: {reason}', flush=True)
+    return passed
+
+
 def main():
     chosen = options(sys.argv[1:])
-    passed, faults, found = 0, [], []
-    for file in documents():
-        listings, unmarked = listings_of(file)
-        found += listings
-        if 'links' in chosen['only']:
-            held, broken = follow(file)
-            passed += held
-            faults += unmarked + broken
-    if 'links' in chosen['only']:
-        if read('README.md').count('\n') > 150:
-            faults.append('README.md: more than 150 lines')
-        else:
-            passed += 1
-    for listing in faults:
-        print(listing)
-    to_run = [listing for listing in found if listing.marker.startswith('run:') and listing.words[0] in chosen['only']]
-    left_out = [] if chosen['cc'] else [listing for listing in to_run if needs_library(listing)]
-    to_run = [listing for listing in to_run if listing not in left_out]
-    missing = missing_tool(to_run)
+    found = [Document(file) for file in documents()]
+    passed, faults = check_links(found) if 'links' in chosen['only'] else (0, [])
+    for fault in faults:
+        print(fault)
+    listings = [it for document in found for it in document.listings if it.marker.startswith('run:')]
+    listings = [it for it in listings if it.words[0] in chosen['only']]
+    wanted = [it for it in listings if chosen['cc'] or not needs_library(it)]
+    missing = missing_tool(wanted)
     if missing:
         sys.exit(missing)
-    runner, failed = Runner(chosen['library'], chosen['built']), len(faults)
+    runner = Runner(chosen['library'], chosen['built'])
     try:
-        for listing in to_run:
-            try:
-                runner.check(listing)
-                passed += 1
-            except (Failed, OSError, subprocess.TimeoutExpired) as fault:
-                failed += 1
-                reason = (str(fault) or repr(fault)).splitlines()[-1]
-                print(f'{listing.name}: {reason}', flush=True)
+        ran = run_listings(runner, wanted)
     finally:
         shutil.rmtree(runner.work, ignore_errors=True)
-    if left_out:
-        print(f'docs: left out {len(left_out)} listings that need the library (no cc)')
-    print(f'{passed} passed, {failed} failed')
+    if len(wanted) < len(listings):
+        print(f'docs: left out {len(listings) - len(wanted)} listings that need the library')
+    failed = len(faults) + len(wanted) - ran
+    print(f'{passed + ran} passed, {failed} failed')
     sys.exit(1 if failed else 0)
 
 
