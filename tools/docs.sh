@@ -7,7 +7,8 @@
 #
 # - each listing (a fenced block) has a marker before it, an HTML comment that says how it is run or why it isn't;
 # - each listing that is run is accepted and prints what the document says;
-# - each link leads to a file, and to a heading of it if it names one; each path in backticks exists;
+# - each link leads to a file, and to a heading of it if it names one; each path in backticks exists, and a script knows the options
+#   with which it is named;
 # - README.md has at most 150 lines.
 #
 # Markers:

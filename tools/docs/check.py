@@ -170,10 +170,12 @@ def follow(file):
             word = code.split()[0] if code.split() else ''
             if not is_path(word) or 'out' in word.split('/') or word.startswith('target/'):
                 continue
-            if exists(word, bases):
-                held += 1
-            else:
+            if not exists(word, bases):
                 faults.append(f'{file}: no path {word}')
+            elif not all(option in read(word) for option in re.findall(r' (--[a-z-]+)', code)):
+                faults.append(f'{file}: no such option: {code}')
+            else:
+                held += 1
     return held, faults
 
 
