@@ -4,19 +4,19 @@
  *     tw_event event;
  *     if (!tw_parser_init(&parser)) ...                        // no memory
  *     while ((n = read(0, bytes, sizeof bytes)) > 0) {
- *       if (!tw_parser_feed(&parser, bytes, n)) ...            // no memory: none of the bytes was taken
+ *       if (!tw_parser_feed(&parser, bytes, n)) ...            // no memory: none of the bytes is buffered
  *       while (tw_parser_next(&parser, true, &event) == TW_EVENT) ...
  *     }
  *     while (tw_parser_next(&parser, false, &event) == TW_EVENT) ...
  *     tw_parser_free(&parser);
  *
- * Bytes go in by tw_parser_feed, and events come out by tw_parser_next, one at a time. However the bytes are cut into calls, the
- * events are the same.
+ * tw_parser_feed buffers bytes, and tw_parser_next emits events, one at a time. However the bytes are cut into calls, the events are
+ * the same.
  *
- * The library is proved as far as its calls. What a caller owes, nothing checks:
+ * The bodies of the calls are proved. The duties of a caller are not checked:
  *
- * - No pointer is null, also if the length beside it is 0.
- * - What two pointers of one call lead to doesn't overlap, and is of the size that the type or the length says.
+ * - Pointers must be non-null, even for length 0.
+ * - Two pointers of one call must not lead to the same memory, and each leads to as much as its type or length says.
  * - A tw_parser is all zero (TW_PARSER_NONE) or as a call of this library left it.
  * - One thread at a time uses a parser; two threads may use two parsers. No call is made in a signal handler nor, if the program has threads,
  *   in a forked child before it calls exec: the calls ask malloc.
@@ -72,14 +72,14 @@ typedef struct tw_event {
 /* What tw_parser_next returns. */
 enum tw_next {
   /* numbers.txt: next c */
-  TW_NONE = 0, /* No event stands at the front of what waits. */
-  TW_EVENT = 1, /* An event was taken. */
+  TW_NONE = 0, /* No event is at the front of the buffer. */
+  TW_EVENT = 1, /* An event was consumed and written. */
   TW_NO_MEMORY = 2, /* Memory was refused. Nothing changed, and the call may be made again. */
   TW_NO_PARSER = 3 /* There is no parser: it wasn't made yet, or it was freed. */
   /* numbers.txt: end */
 };
 
-/* Makes a parser in which nothing waits. If there was one, it is freed. The caller owes a tw_parser_free.
+/* Makes a parser with an empty buffer. If there was one, it is freed. The caller owes a tw_parser_free.
  *
  * Returns false if memory is refused: then the parser is unchanged. */
 bool tw_parser_init(tw_parser *parser);
@@ -87,32 +87,32 @@ bool tw_parser_init(tw_parser *parser);
 /* Frees what the parser owns, and leaves TW_PARSER_NONE. If there is no parser, it does nothing, so it may be called twice. */
 void tw_parser_free(tw_parser *parser);
 
-/* Appends len bytes to those that wait. They are copied.
+/* Appends len bytes to the buffer. They are copied.
  *
- * Returns false if memory is refused: then none of them was taken, and the call may be made again. It also returns false if there is
- * no parser. No bytes need no memory. */
+ * Returns false if memory is refused: then none of them is buffered, and the call may be made again. It also returns false if there is
+ * no parser. A call without bytes needs no memory. */
 bool tw_parser_feed(tw_parser *parser, const uint8_t *bytes, size_t len);
 
-/* Takes the next event off what waits, and writes it to *event. The caller calls this until it returns TW_NONE.
+/* Consumes the item at the front of the buffer, and writes its event to *event. The caller calls this until it returns TW_NONE.
  *
- * Pass more as true while more bytes may come: then what may still become a longer sequence or a character waits, such as a lone ESC.
- * Pass it as false at the end of the input, or if a pause says that Escape was meant: then only an open paste waits.
+ * Pass more as true while more bytes may come: then bytes that may still become a longer sequence or a character, such as a lone ESC,
+ * stay buffered. Pass it as false at the end of the input, or if a pause says that Escape was meant: then only an open paste stays.
  *
  * Returns an enum tw_next. *event is written only with TW_EVENT. With TW_NO_MEMORY, which only a paste can meet, nothing changed. */
 uint32_t tw_parser_next(tw_parser *parser, bool more, tw_event *event);
 
-/* Copies the text of the last TW_PASTE that tw_parser_next gave to out, at most len bytes of it. It is UTF-8, and no 0 ends it. The rest
- * of out is unchanged.
+/* Copies the text of the last TW_PASTE to out, at most len bytes of it. The text is UTF-8 without a final 0. The rest of out is
+ * unchanged.
  *
  * Returns the number of bytes of the whole text, as paste_len has it, so a caller whose room was short can call again: the parser keeps
- * the text until it gives the next TW_PASTE. Returns 0 if there was no paste yet, or if there is no parser. */
+ * the text until the next TW_PASTE. Returns 0 if there was no paste yet, or if there is no parser. */
 size_t tw_parser_paste(tw_parser *parser, uint8_t *out, size_t len);
 
-/* Returns the number of bytes that wait, 0 if there is no parser. */
+/* Returns the number of bytes that are buffered, 0 if there is no parser. */
 size_t tw_parser_waiting(tw_parser *parser);
 
-/* Returns whether what waits begins with the start of a paste. Such a paste waits for its end without limit: a caller that won't wait
- * longer makes the parser anew. Returns false if there is no parser. */
+/* Returns whether the buffer begins with the start of a paste. Such a paste is buffered without limit until its end arrives: a caller
+ * that accepts no more makes the parser anew. Returns false if there is no parser. */
 bool tw_parser_is_paste_open(tw_parser *parser);
 
 /* The modifier keys, as bits of a set. */
@@ -242,8 +242,8 @@ enum tw_key {
   /* numbers.txt: end */
 };
 
-/* Copies the name of a key to out, at most len bytes of it: "LeftArrow" for TW_KEY_LEFT_ARROW, "Char" for TW_KEY_CHAR. No 0 ends it, and the
- * rest of out is unchanged.
+/* Copies the name of a key to out, at most len bytes of it: "LeftArrow" for TW_KEY_LEFT_ARROW, "Char" for TW_KEY_CHAR, without a
+ * final 0. The rest of out is unchanged.
  *
  * Returns the number of bytes of the whole name, at most 21, and 0 for a number that is no key's. */
 size_t tw_key_name(uint16_t key, uint8_t *out, size_t len);
@@ -286,12 +286,12 @@ enum tw_encoded {
   TW_TEXT = 0, /* The key's text, which may be empty. */
   TW_REFUSED_KEY = 1, /* A function key that has no text: only F1 to F24 have one. */
   TW_REFUSED_MEMORY = 2, /* Memory was refused. The call may be made again. */
-  TW_BAD_NUMBER = 3 /* A number stands for nothing. */
+  TW_BAD_NUMBER = 3 /* A number names nothing. */
   /* numbers.txt: end */
 };
 
-/* Writes the text that a terminal in these modes sends for a key to out, and its length to *text_len. The text is UTF-8, no 0 ends it, and
- * it may be empty: it is for a key that sends nothing, and for every key that is up (is_down is false). A key that is up needs no memory.
+/* Writes the text that a terminal in these modes sends for a key to out, and its length to *text_len. The text is UTF-8
+ * without a final 0. It is empty for a key that sends nothing, and for every key that is up (is_down is false), which needs no memory.
  *
  * The key is an enum tw_key. detail is its code point if it is TW_KEY_CHAR, its number if it is TW_KEY_FUNCTION, and isn't read for other
  * keys. modifiers is a set of TW_MOD_...
@@ -299,8 +299,8 @@ enum tw_encoded {
  * Returns an enum tw_encoded. With TW_TEXT *text_len is the length of the whole text, and out has as much of it as len bytes hold: if
  * *text_len is above len, call again with more room. The rest of out is unchanged. Otherwise *text_len is 0 and out is unchanged:
  * TW_REFUSED_KEY for a function key, down, that isn't one of F1 to F24; TW_REFUSED_MEMORY if memory was refused; TW_BAD_NUMBER if no key has
- * the number, if detail is no Unicode scalar value or above 255, or if modifiers, encoding or (with TW_KITTY) kitty_flags have what
- * no name stands for. */
+ * the number, if detail is no Unicode scalar value or above 255, or if modifiers, encoding or (with TW_KITTY) kitty_flags have a value
+ * or a bit without a name. */
 uint32_t tw_encode(uint16_t key, uint32_t detail, uint16_t modifiers, bool is_down, const tw_modes *modes, uint8_t *out, size_t len,
                    size_t *text_len);
 

@@ -86,22 +86,9 @@ check_example() { # program
         diff - <(printf '%s\n' 'UpArrow ctrl' 'Char U+0071' 'Function 1' 'mouse at 3, 4, buttons 2' 'paste of 2 bytes: ab' 'Escape')
 }
 
-# The README's first listing in C, and what it prints.
-check_readme() {
-    awk '/^```c$/ { on = 1; next } /^```/ { on = 0 } on' README.md > "$work/readme.c"
-    cc -std=c99 -Wall -Wextra -Werror -I"$work/lib" "$work/readme.c" "$archive" -o "$work/readme" || return 1
-    printf 'a\033[Ab\033[A' | "$work/readme" | diff - <(printf 'up\nup\n')
-}
-
-# The README's listing over the Rust crate, as a program of its own, and what it prints.
-check_readme_rust() {
-    mkdir -p "$work/readme_rust/src"
-    awk '/^```rust$/ { on = 1; text = ""; next } /^```/ { if (on && text ~ /use termwiz::/) printf "%s", text; on = 0 } on { text = text $0 "\n" }' \
-        README.md > "$work/readme_rust/src/main.rs"
-    printf '%s\n' '[package]' 'name = "readme"' 'edition = "2021"' '[dependencies]' "termwiz = { path = \"$PWD/rust\" }" \
-        > "$work/readme_rust/Cargo.toml"
-    TERMWIZ_C_DIR="$work/lib" CARGO_TARGET_DIR="$work/target" \
-        cargo run --quiet --offline --manifest-path "$work/readme_rust/Cargo.toml" | diff - <(printf '%s\n' "Char('q') NONE" 'UpArrow NONE')
+# The listings of the documents, in C or in Rust, and what they print.
+check_listings() { # c or rust
+    tools/docs.sh --library "$work/lib" --only "$1"
 }
 
 # The Rust crate's tests, each program by a runner. The lock file stays as it is, and no registry is asked.
@@ -111,7 +98,7 @@ rust_tests() { # runner words..
     env "CARGO_TARGET_${host}_RUNNER=$1" TERMWIZ_C_DIR="$work/lib" CARGO_TARGET_DIR="$work/target" \
         cargo test --quiet --locked --offline --manifest-path rust/Cargo.toml "${@:2}"
 }
-export -f check_names check_example check_readme check_readme_rust rust_tests
+export -f check_names check_example check_listings rust_tests
 memcheck='valgrind --quiet --error-exitcode=9 --leak-check=full'
 export archive work memcheck
 
@@ -126,7 +113,7 @@ if wants pkg-config; then
     check 'example by pkg-config' bash -c \
         'cc c/events.c $(PKG_CONFIG_PATH=$work/lib pkg-config --cflags --libs termwiz_c) -o "$work/events_by_pkg_config"'
 fi
-check "README's example in C" bash -c check_readme
+check 'listings in C' bash -c 'check_listings c'
 check 'build of the calls' cc -std=c99 $strict -I"$work/lib" c/test_calls.c "$archive" -o "$work/calls"
 check 'build with the shared library' cc -std=c99 $strict -I"$work/lib" c/test_calls.c $shared -o "$work/calls_shared"
 check 'build of the refusals' cc -std=c99 $strict -I"$work/lib" -Wl,--wrap=malloc -Wl,--wrap=realloc c/test_refusals.c "$archive" \
@@ -143,7 +130,7 @@ fi
 if wants cargo; then
     # The streams of the Rust crate's tests are compared with what keyshow prints.
     [ "$is_built" = yes ] || (cd crates/keyshow && rt run < stdin) > "$work/log" 2>&1 || { cat "$work/log" >&2; exit 1; }
-    check "README's example in Rust" bash -c check_readme_rust
+    check 'listings in Rust' bash -c 'check_listings rust'
     check 'Rust crate' bash -c 'rust_tests env'
     if wants valgrind; then
         check 'Rust crate under valgrind' bash -c 'rust_tests "$memcheck --errors-for-leak-kinds=definite" --test parser -- --skip streams --skip recorded'

@@ -1,7 +1,7 @@
 //! Key, mouse and paste events from the bytes that a terminal sends, and the bytes that it sends for a key.
 //!
-//! This crate stands in for the parser of termwiz 0.23.3: the items of [`input`] have the crate's names and paths. What they do is done
-//! by a static library whose calls are proved against their contracts. The proof ends at those calls; this crate is what calls them.
+//! This crate stands in for the parser of termwiz 0.23.3: the items of [`input`] have the crate's names and paths. Behind
+//! them is a static library whose calls are proved against their contracts. The proof ends at those calls; this crate is tested.
 //!
 //! ```
 //! use termwiz::input::{InputEvent, InputParser, KeyCode, KeyEvent, Modifiers};

@@ -1,4 +1,4 @@
-// The C library, as c/termwiz_input.h declares it. This is where its proof ends: what stands here is written by hand.
+// The C library, as c/termwiz_input.h declares it. This is where its proof ends: these lines are written by hand.
 // A number that the library uses may have no use here.
 #![allow(dead_code)]
 
@@ -7,9 +7,9 @@ use std::mem::{offset_of, size_of};
 
 // What tw_parser_next and tw_encode answer, and the kinds and encodings.
 // numbers.txt: next const
-/// No event stands at the front of what waits.
+/// No event is at the front of the buffer.
 pub const NEXT_NONE: u32 = 0;
-/// An event was taken.
+/// An event was consumed and written.
 pub const NEXT_EVENT: u32 = 1;
 /// Memory was refused. Nothing changed, and the call may be made again.
 pub const NEXT_NO_MEMORY: u32 = 2;
@@ -24,7 +24,7 @@ pub const ENCODED_TEXT: u32 = 0;
 pub const ENCODED_REFUSED_KEY: u32 = 1;
 /// Memory was refused. The call may be made again.
 pub const ENCODED_REFUSED_MEMORY: u32 = 2;
-/// A number stands for nothing.
+/// A number names nothing.
 pub const ENCODED_BAD_NUMBER: u32 = 3;
 // numbers.txt: end
 

@@ -16,9 +16,9 @@ pub enum KeyboardEncoding {
     Xterm,
     /// The same, but a character with modifiers that it can't show is sent as ESC `[` c `;` m `u` (fixterms).
     CsiU,
-    /// Records of the Windows console. [`KeyCode::encode`] takes it for `Xterm`.
+    /// Records of the Windows console. [`KeyCode::encode`] treats it as `Xterm`.
     Win32,
-    /// kitty's keyboard protocol, with the flags that the program asked for. [`KeyCode::encode`] takes it for `Xterm`.
+    /// kitty's keyboard protocol, with the flags that the program asked for. [`KeyCode::encode`] treats it as `Xterm`.
     Kitty(KittyKeyboardFlags),
 }
 

@@ -92,12 +92,12 @@ macro_rules! flags {
                 self.0 &= !other.0;
             }
 
-            /// Adds the flags of `other` that the set doesn't have, and takes the others away.
+            /// Adds the flags of `other` that the set doesn't have, and removes the others.
             pub fn toggle(&mut self, other: $name) {
                 self.0 ^= other.0;
             }
 
-            /// Adds the flags of `other` if `value` is true, and takes them away if not.
+            /// Adds the flags of `other` if `value` is true, and removes them if not.
             pub fn set(&mut self, other: $name, value: bool) {
                 if value {
                     self.insert(other);

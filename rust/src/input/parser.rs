@@ -69,7 +69,7 @@ pub struct InputParser {
 unsafe impl Send for InputParser {}
 
 impl InputParser {
-    /// Makes a parser in which nothing waits.
+    /// Makes a parser with an empty buffer.
     ///
     /// # Panics
     ///
@@ -78,7 +78,7 @@ impl InputParser {
         InputParser::try_new().expect("a parser is made")
     }
 
-    /// Makes a parser in which nothing waits.
+    /// Makes a parser with an empty buffer.
     ///
     /// # Errors
     ///
@@ -96,11 +96,11 @@ impl InputParser {
         })
     }
 
-    /// Appends `bytes` to the waiting text, and calls `callback` with each of its events in order. What is no event yet waits.
+    /// Appends `bytes` to the buffer, and calls `callback` with each event in order. Bytes that are no event yet stay buffered.
     ///
-    /// Pass `maybe_more` as true while more bytes may come: then a text that may yet become a longer known text or a character waits.
-    /// Pass false at the end of the input, or if a pause says that an Escape was meant alone: then only an open paste waits. Call with no
-    /// bytes and false to flush.
+    /// Pass `maybe_more` as true while more bytes may come: then bytes that may still become a longer sequence or a character stay
+    /// buffered. Pass false at the end of the input, or if a pause says that an Escape was meant alone: then only an open paste stays.
+    /// Call with no bytes and false to flush.
     ///
     /// # Panics
     ///
@@ -124,7 +124,7 @@ impl InputParser {
         Ok(())
     }
 
-    /// Returns the events that [`InputParser::parse`] gives its callback.
+    /// Returns the events with which [`InputParser::parse`] calls its callback.
     ///
     /// # Panics
     ///
@@ -133,7 +133,7 @@ impl InputParser {
         self.try_parse_as_vec(bytes, maybe_more).expect("the input is parsed")
     }
 
-    /// Returns the events that [`InputParser::parse`] gives its callback.
+    /// Returns the events with which [`InputParser::parse`] calls its callback.
     ///
     /// # Errors
     ///

@@ -1,0 +1,469 @@
+"""Runs the listings of the documents and follows their links. tools/docs.sh says how it is called."""
+import glob
+import os
+import pty
+import re
+import select
+import shlex
+import shutil
+import subprocess
+import sys
+import tempfile
+import time
+
+KINDS = ['links', 'c', 'rust', 'rattle', 'sh', 'keyshow', 'lines']
+SUFFIXES = 'md rt rs c h sh txt antt edit toml py awk'.split()
+SECONDS = 1800
+
+
+class Failed(Exception):
+    """A check that failed, with its reason."""
+
+
+class Listing:
+    """A fenced block or a table with the marker before it."""
+
+    def __init__(self, file, line, marker, text):
+        self.file, self.line, self.marker, self.text = file, line, marker, text
+        self.prints = None
+
+    @property
+    def words(self):
+        return shlex.split(self.marker.removeprefix('run:'))
+
+    @property
+    def name(self):
+        return f'{self.file}:{self.line}'
+
+
+def documents():
+    patterns = ['README.md', 'CONTRIBUTING.md', 'CHANGELOG.md', 'docs/*.md', 'crates/*/README.md']
+    return [file for pattern in patterns for file in sorted(glob.glob(pattern))]
+
+
+def read(file):
+    with open(file, encoding='utf-8') as opened:
+        return opened.read()
+
+
+class Document:
+    """The listings of a document, and the faults in its markers."""
+
+    def __init__(self, file):
+        self.file, self.listings, self.faults = file, [], []
+        self.marker, self.block, self.start = None, [], 0
+        self.lines = read(file).split('\n') + ['']
+        self.read_lines()
+
+    def fault(self, number, reason):
+        self.faults.append(f'{self.file}:{number}: {reason}')
+
+    def read_lines(self):
+        fence = None
+        for number, line in enumerate(self.lines, 1):
+            opened = re.match(r'^\s*(```+)', line)
+            if fence and line.strip() != fence:
+                self.block.append(line)
+            elif fence:
+                fence = None
+                self.end_block()
+            elif opened:
+                fence, self.block, self.start = opened.group(1), [], number
+            else:
+                self.read_line(number, line)
+
+    def read_line(self, number, line):
+        comment = re.match(r'^<!-- ((?:run|not run):.*|prints) -->$', line.strip())
+        if comment:
+            if self.marker:
+                self.fault(number, 'a marker without a listing')
+            self.marker = comment.group(1).strip()
+        elif self.marker and line.startswith('|'):
+            self.read_row(number, line)
+        elif self.marker and line.strip():
+            self.fault(number, 'a marker without a listing')
+            self.marker = None
+        elif re.match(r'^    \S', line) and not self.lines[number - 2].strip():
+            self.fault(number, 'an indented listing; write a fenced one')
+
+    def read_row(self, number, line):
+        if not self.lines[number - 2].startswith('|'):
+            self.block, self.start = [], number
+        self.block.append(line)
+        if not self.lines[number].startswith('|'):
+            self.end_table()
+
+    def end_block(self):
+        text = '\n'.join(self.block) + '\n'
+        if self.marker == 'prints' and self.listings:
+            self.listings[-1].prints = text
+        elif self.marker:
+            self.listings.append(Listing(self.file, self.start, self.marker, text))
+        else:
+            self.fault(self.start, 'a listing without a marker')
+        self.marker = None
+
+    def end_table(self):
+        if self.marker == 'prints' and self.listings:
+            self.listings[-1].prints = second_cells(self.block[2:])
+        else:
+            self.listings.append(Listing(self.file, self.start, self.marker, '\n'.join(self.block) + '\n'))
+        self.marker = None
+
+
+def cells_of(row):
+    return [cell.strip() for cell in re.split(r'(?<!\\)\|', row)[1:-1]]
+
+
+def second_cells(rows):
+    """What stands in backticks in the second cell of each row, a line each."""
+    return ''.join(f'{line}\n' for row in rows for line in re.findall(r'`([^`]+)`', cells_of(row)[1]))
+
+
+def slug(heading):
+    """The anchor that a heading has."""
+    text = re.sub(r'[`*]', '', re.sub(r'\[([^]]*)\]\([^)]*\)', r'\1', heading)).strip().lower()
+    return re.sub(r' ', '-', re.sub(r'[^\w\- ]', '', text))
+
+
+def without_blocks(text):
+    return re.sub(r'^\s*(```+)[^\n]*\n.*?^\s*\1\s*$', '', text, flags=re.M | re.S)
+
+
+def anchors(file):
+    text = without_blocks(read(file))
+    return {slug(heading) for heading in re.findall(r'^#+ (.*)$', text, flags=re.M)}
+
+
+def is_path(word):
+    if not re.match(r'^\.?[\w][\w.\-]*(/[\w.\-*]+)*/?$', word) or '..' in word:
+        return False
+    return '/' in word or word.rsplit('.', 1)[-1] in SUFFIXES and '.' in word.strip('.')
+
+
+def exists(word, bases):
+    pattern = re.sub(r'\bNAME\b', '*', word)
+    return any(glob.glob(os.path.join(base, pattern)) for base in bases)
+
+
+def follow(file):
+    """Checks the links and the paths of a document, and returns how many held and the faults."""
+    folder = os.path.dirname(file)
+    held, faults = 0, []
+    bases = ['.', folder or '.']
+    for line in without_blocks(read(file)).split('\n'):
+        base = re.match(r'^<!-- paths from: (.*) -->$', line)
+        if base:
+            bases = ['.', folder or '.'] + base.group(1).split()
+        for target in re.findall(r'\]\(([^)\s]+)\)', line):
+            if re.match(r'^[a-z]+:', target):
+                continue
+            path, _, anchor = target.partition('#')
+            path = os.path.normpath(os.path.join(folder, path)) if path else file
+            if not os.path.exists(path):
+                faults.append(f'{file}: no file {target}')
+            elif anchor and anchor not in anchors(path):
+                faults.append(f'{file}: no heading {target}')
+            else:
+                held += 1
+        for code in re.findall(r'`([^`]+)`', line):
+            word = code.split()[0] if code.split() else ''
+            if not is_path(word) or 'out' in word.split('/') or word.startswith('target/'):
+                continue
+            if not exists(word, bases):
+                faults.append(f'{file}: no path {word}')
+            elif not all(option in read(word) for option in re.findall(r' (--[a-z-]+)', code)):
+                faults.append(f'{file}: no such option: {code}')
+            else:
+                held += 1
+    return held, faults
+
+
+def decoded(text):
+    """The bytes of a text with escapes such as \\033."""
+    return text.encode('latin-1').decode('unicode_escape').encode('latin-1')
+
+
+def run(words, folder='.', given=b'', env=None):
+    done = subprocess.run(words, cwd=folder, input=given, capture_output=True, timeout=SECONDS, env=env, check=False)
+    if done.returncode:
+        raise Failed((done.stderr + done.stdout).decode('utf-8', 'replace').strip()[-2000:] or f'status {done.returncode}')
+    return done.stdout.decode('utf-8', 'replace')
+
+
+def wait_for_output(terminal, seen, size, seconds=20):
+    """Reads what a program prints until it has printed more than `size` bytes and is quiet. Returns false at its end."""
+    end = time.time() + seconds
+    while time.time() < end:
+        quiet = 0.2 if len(seen) > size else 1
+        if select.select([terminal], [], [], quiet)[0]:
+            try:
+                seen += os.read(terminal, 4096)
+            except OSError:
+                return False
+        elif len(seen) > size:
+            return True
+    raise Failed(f'nothing printed in {seconds} seconds after: {bytes(seen)!r}')
+
+
+def run_typed(words, texts):
+    """Runs a program on a pseudo terminal. Each text is typed once something was printed for the one before."""
+    child, terminal = pty.fork()
+    if child == 0:
+        os.execvp(words[0], words)
+    seen = bytearray()
+    running = wait_for_output(terminal, seen, 0)
+    for text, following in zip(texts, texts[1:] + ['']):
+        if not running or text == 'pause':
+            continue
+        size = len(seen)
+        os.write(terminal, decoded(text))
+        if following == 'pause':
+            time.sleep(0.5)
+        else:
+            running = wait_for_output(terminal, seen, size)
+    if running:
+        os.kill(child, 9)
+    _, status = os.waitpid(child, 0)
+    os.close(terminal)
+    if running:
+        raise Failed(f'it did not end after: {bytes(seen)!r}')
+    if status:
+        raise Failed(f'wait status {status} after: {bytes(seen)!r}')
+    # Modes that the program switches on and off aren't seen on a terminal.
+    return re.sub(r'\x1b\[\?\d+[hl]', '', seen.decode('utf-8', 'replace')).replace('\r\n', '\n')
+
+
+class Runner:
+    """Runs listings, over a library that is built when the first of them needs it."""
+
+    def __init__(self, library, built):
+        self.library = os.path.abspath(library) if library else None
+        self.work = tempfile.mkdtemp()
+        self.count = 0
+        self.keyshow = None
+        if built:
+            self.run_built()
+
+    def run_built(self):
+        """Puts a command before rt for which `rt run` is the program that was built, once it is there."""
+        folder = os.path.join(self.work, 'bin')
+        os.mkdir(folder)
+        with open(os.path.join(folder, 'rt'), 'w', encoding='utf-8') as opened:
+            opened.write(BUILT.format(rt=shutil.which('rt')))
+        os.chmod(opened.name, 0o755)
+        os.environ['PATH'] = f'{folder}:{os.environ["PATH"]}'
+
+    def folder(self):
+        self.count += 1
+        folder = os.path.join(self.work, f'listing{self.count}')
+        os.mkdir(folder)
+        return folder
+
+    def library_folder(self):
+        if self.library is None:
+            self.library = os.path.join(self.work, 'library')
+            run(['tools/c_library.sh', self.library])
+        return self.library
+
+    def run_program(self, words, arguments):
+        if arguments[:1] == ['typed']:
+            return run_typed(words, arguments[1:])
+        given = decoded(arguments[1]) if arguments[:1] == ['input'] else b''
+        return run(words, given=given)
+
+    def c(self, listing):
+        library, folder = self.library_folder(), self.folder()
+        source, program = os.path.join(folder, 'listing.c'), os.path.join(folder, 'listing')
+        with open(source, 'w', encoding='utf-8') as opened:
+            opened.write(listing.text)
+        run(['cc', '-std=c99', '-Wall', '-Wextra', '-pedantic', '-Werror', f'-I{library}', source, f'{library}/libtermwiz_c.a', '-o', program])
+        return self.run_program([program], listing.words[1:])
+
+    def rust(self, listing):
+        library, folder = self.library_folder(), self.folder()
+        os.mkdir(os.path.join(folder, 'src'))
+        with open(os.path.join(folder, 'src/main.rs'), 'w', encoding='utf-8') as opened:
+            opened.write(listing.text)
+        with open(os.path.join(folder, 'Cargo.toml'), 'w', encoding='utf-8') as opened:
+            opened.write('[package]\nname = "listing"\nedition = "2021"\n[dependencies]\n' f'termwiz = {{ path = "{os.getcwd()}/rust" }}\n')
+        target = os.path.join(self.work, 'target')
+        env = dict(os.environ, TERMWIZ_C_DIR=library, CARGO_TARGET_DIR=target, RUSTFLAGS='-D warnings')
+        run(['cargo', 'build', '--quiet', '--offline', '--manifest-path', os.path.join(folder, 'Cargo.toml')], env=env)
+        return self.run_program([os.path.join(target, 'debug/listing')], listing.words[1:])
+
+    def rattle(self, listing):
+        wanted = [line.strip() for line in without_contracts(read(listing.words[1])) if line.strip()]
+        there = [line.strip() for line in listing.text.split('\n') if line.strip()]
+        for one, other in zip(there + [''], wanted + ['']):
+            if one != other:
+                raise Failed(f'{listing.words[1]} has "{other}" in place of "{one}"')
+        return None
+
+    def lines(self, listing):
+        _, file, *rest = listing.words
+        there = {line.strip() for line in read(file).split('\n')}
+        for line in listing.text.split('\n'):
+            if line.strip() and line.strip() not in there and line.split()[0].rstrip(':') not in rest:
+                raise Failed(f'{file} has no line "{line.strip()}"')
+        return None
+
+    def sh(self, listing):
+        env = dict(os.environ)
+        if 'DIR' in listing.text:
+            env['DIR'] = self.library_folder()
+            env['TMPDIR'] = self.work
+        words = ['bash', '-e', '-c', listing.text]
+        if listing.words[1:2] == ['typed']:
+            return run_typed(words, listing.words[2:])
+        return run(words, env=env)
+
+    def keyshow_program(self):
+        if self.keyshow is None:
+            run(['rt', 'run'], folder='crates/keyshow', given=b'')
+            self.keyshow = os.path.abspath('crates/keyshow/out/keyshow')
+        return self.keyshow
+
+    def table(self, listing):
+        """Each row: its first cell is a sequence, such as `ESC O P`, and its last the lines that keyshow prints for it."""
+        program, rows = self.keyshow_program(), listing.text.split('\n')[2:]
+        for row in rows:
+            cells = cells_of(row)
+            if not cells:
+                continue
+            sequence = re.findall(r'`([^`]+)`', cells[0])[0]
+            printed = run([program], given=bytes_of(sequence)).strip().split('\n')
+            wanted = re.findall(r'`([^`]+)`', cells[-1])
+            if printed != wanted:
+                raise Failed(f'{sequence}: keyshow prints {printed}')
+        return None
+
+    def check(self, listing):
+        kind = listing.words[0]
+        printed = self.table(listing) if kind == 'keyshow' else getattr(self, kind)(listing)
+        if listing.prints is not None and printed != listing.prints:
+            raise Failed(f'it prints {printed!r}')
+
+
+BUILT = '''#!/usr/bin/env bash
+[ "${{1-}}" = run ] || exec {rt} "$@"
+program=$PWD/out/$(basename "$PWD")
+for _ in $(seq 1200); do
+    [ -x "$program" ] && break
+    sleep 1
+done
+shift
+[ "${{1-}}" != -- ] || shift
+exec "$program" "$@"
+'''
+
+NAMED = {'ESC': 0x1b, 'TAB': 9, 'CR': 13, 'LF': 10, 'DEL': 0x7f, 'SPACE': 0x20}
+
+
+def bytes_of(sequence):
+    """The bytes of a sequence such as `ESC [ 1 ; 5 A` or `0x08`."""
+    text = bytearray()
+    for word in sequence.split(' '):
+        if word in NAMED:
+            text.append(NAMED[word])
+        elif word.startswith('0x'):
+            text.append(int(word, 16))
+        else:
+            text += word.encode('utf-8')
+    return bytes(text)
+
+
+def without_contracts(text):
+    """The lines of a program, without contracts, what they cite, comments on items, and attributes of the file."""
+    depth = 0
+    for line in text.split('\n'):
+        if depth or re.match(r'^\s*(requires|ensures)\b', line):
+            depth += line.count('{') - line.count('}')
+        elif not re.match(r'^\s*(//!|///|#!\[|ghost use\b)', line):
+            yield line
+
+
+def options(words):
+    chosen = {'library': None, 'only': KINDS, 'cc': True, 'built': False}
+    while words:
+        word = words.pop(0)
+        if word == '--library' and words:
+            chosen['library'] = words.pop(0)
+        elif word == '--only' and words:
+            chosen['only'] = words.pop(0).split(',')
+        elif word == '--without-cc':
+            chosen['cc'] = False
+        elif word == '--built':
+            chosen['built'] = True
+        else:
+            sys.exit('usage: tools/docs.sh [--library DIR] [--built] [--only KINDS] [--without-cc] [--help]')
+    if not set(chosen['only']) <= set(KINDS):
+        sys.exit(f'docs: the kinds are {", ".join(KINDS)}')
+    return chosen
+
+
+def needs_library(listing):
+    return listing.words[0] in ('c', 'rust') or listing.words[0] == 'sh' and 'DIR' in listing.text
+
+
+def missing_tool(listings):
+    """Says what a listing needs and isn't there."""
+    tools = {'c': ['cc'], 'rust': ['cc', 'cargo'], 'sh': ['cc', 'rt'], 'keyshow': ['rt']}
+    install = {'cc': 'apt-get install gcc', 'cargo': 'https://rustup.rs', 'rt': 'put the kit\'s rt on the path'}
+    for listing in listings:
+        for tool in tools.get(listing.words[0], []):
+            if not shutil.which(tool):
+                return f'docs: needs {tool} ({install[tool]})'
+    return None
+
+
+def check_links(found):
+    """Checks links, paths and markers of all documents. Returns how many held and the faults."""
+    passed, faults = 0, []
+    for document in found:
+        held, broken = follow(document.file)
+        passed += held
+        faults += document.faults + broken
+    if read('README.md').count('\n') > 150:
+        faults.append('README.md: more than 150 lines')
+    return passed, faults
+
+
+def run_listings(runner, listings):
+    """Runs listings, and prints each that fails. Returns how many passed."""
+    passed = 0
+    for listing in listings:
+        try:
+            runner.check(listing)
+            passed += 1
+        except (Failed, OSError, subprocess.TimeoutExpired) as fault:
+            reason = (str(fault) or repr(fault)).splitlines()[-1]
+            print(f'{listing.name}: {reason}', flush=True)
+    return passed
+
+
+def main():
+    chosen = options(sys.argv[1:])
+    found = [Document(file) for file in documents()]
+    passed, faults = check_links(found) if 'links' in chosen['only'] else (0, [])
+    for fault in faults:
+        print(fault)
+    listings = [it for document in found for it in document.listings if it.marker.startswith('run:')]
+    listings = [it for it in listings if it.words[0] in chosen['only']]
+    wanted = [it for it in listings if chosen['cc'] or not needs_library(it)]
+    missing = missing_tool(wanted)
+    if missing:
+        sys.exit(missing)
+    runner = Runner(chosen['library'], chosen['built'])
+    try:
+        ran = run_listings(runner, wanted)
+    finally:
+        shutil.rmtree(runner.work, ignore_errors=True)
+    if len(wanted) < len(listings):
+        print(f'docs: left out {len(listings) - len(wanted)} listings that need the library')
+    failed = len(faults) + len(wanted) - ran
+    print(f'{passed + ran} passed, {failed} failed')
+    sys.exit(1 if failed else 0)
+
+
+main()
