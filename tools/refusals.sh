@@ -148,7 +148,7 @@ check_keyshow() {
 
 check_case new
 new_end=$number
-for case in extend_with insert clone-map clone-event encode parse parse_as_vec parse_pieces; do
+for case in extend_with insert clone-map clone-event encode parse parse_as_vec parse_as_vec-paste parse_as_vec-long parse_pieces; do
     check_case "$case"
 done
 check_keyshow

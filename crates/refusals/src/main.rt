@@ -77,7 +77,9 @@ fn show(rt: &HostRuntime, case: &str) -> Result<(), Failure> {
         "clone-event" => show_event_clone(rt),
         "encode" => show_encode(rt),
         "parse" => show_parse(rt),
-        "parse_as_vec" => show_parse_as_vec(rt),
+        "parse_as_vec" => show_parse_as_vec(rt, b"hello"),
+        "parse_as_vec-paste" => show_parse_as_vec(rt, HELD_AND_PASTE),
+        "parse_as_vec-long" => show_long_parse_as_vec(rt),
         "parse_pieces" => show_parse_pieces(rt),
         _ => Err(Failure::NoSuchCase),
     }
@@ -191,13 +193,14 @@ fn print_stop(rt: &HostRuntime, stop: Option<Stop>, parser: &InputParser) -> io:
     print!(rt; " / waiting {}", parser.waiting_len())
 }
 
-// An Escape that is held, a paste and a key.
+// An ESC that is held, a paste and a key.
+const HELD_AND_PASTE: &[u8] = b"\x1b\x1b[200~ab\x1b[201~q";
+
 fn show_parse(rt: &HostRuntime) -> Result<(), Failure> {
     let mut parser = InputParser::new(rt.alloc())?;
     let mut first = |event: InputEvent| print_given(rt, "first", &event);
     let mut later = |event: InputEvent| print_given(rt, "later", &event);
-    let text = b"\x1b\x1b[200~ab\x1b[201~q";
-    let stop = parses::parse(&mut parser, text, &mut first, &mut later).map_err(
+    let stop = parses::parse(&mut parser, HELD_AND_PASTE, &mut first, &mut later).map_err(
         |_| Failure::Failed,
     )?;
     Ok(print_stop(rt, stop, &parser)?)
@@ -210,16 +213,22 @@ fn print_events(rt: &HostRuntime, call: &str, events: &[InputEvent]) {
     }
 }
 
-fn show_parse_as_vec(rt: &HostRuntime) -> Result<(), Failure> {
+fn show_parse_as_vec(rt: &HostRuntime, text: &[u8]) -> Result<(), Failure> {
     let mut parser = InputParser::new(rt.alloc())?;
-    let text = b"hi\x1b[200~ab\x1b[201~";
     let lists = parses::parse_as_vec(rt.alloc(), &mut parser, text).map_err(|_| Failure::Failed)?;
     print_events(rt, "first", lists.first.as_slice());
     print_events(rt, "later", lists.later.as_slice());
     Ok(print_stop(rt, lists.stop, &parser)?)
 }
 
-// A paste whose end is a piece of its own, and a key.
+// More keys than the list of events has room for at first: it grows after 64 of them are stored.
+fn show_long_parse_as_vec(rt: &HostRuntime) -> Result<(), Failure> {
+    let mut text = b"\t".repeat(rt.alloc(), 64)?;
+    text.extend_from_slice(b"ab")?;
+    show_parse_as_vec(rt, text.as_slice())
+}
+
+// An ESC that is held, a paste whose end is a piece of its own, and a key.
 fn show_parse_pieces(rt: &HostRuntime) -> Result<(), Failure> {
     let mut parser = InputParser::new(rt.alloc())?;
     let mut first = |number: usize, event: InputEvent| {
@@ -228,7 +237,7 @@ fn show_parse_pieces(rt: &HostRuntime) -> Result<(), Failure> {
     let mut later = |number: usize, event: InputEvent| {
         print_given(rt, format_args!("later {number}"), &event);
     };
-    let pieces: &[&[u8]] = &[b"\x1b[200~a", b"\x1b[201~", b"z"];
+    let pieces: &[&[u8]] = &[b"\x1b\x1b[200~a", b"\x1b[201~", b"z"];
     let stop = parses::parse_pieces(&mut parser, pieces, &mut first, &mut later).map_err(
         |_| Failure::Failed,
     )?;
