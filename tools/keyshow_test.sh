@@ -1,27 +1,37 @@
 #!/usr/bin/env bash
 # Starts keyshow with each kind of words, and checks its standard output, its standard error and its exit status.
 #
-#     tools/keyshow_test.sh [--help]
+#     tools/keyshow_test.sh [--built]
 #
 # With right words it also checks how many bytes the program reads at a time: standard output refuses the first line, and the bytes
-# that are still unread afterwards are counted. The program is built by rt if it isn't there yet (crates/keyshow/out/keyshow).
+# that are still unread afterwards are counted. The program is proved and built by rt first, or with --built taken as it is there
+# (crates/keyshow/out/keyshow).
 #
 # It prints a line for each check that fails. The last line is 'N passed, N failed', and the status is 1 if a check failed.
 # It needs rt, and /dev/full.
 set -u
 export LC_ALL=C
-cd "$(dirname "$0")/.."
-case "${1-}" in
-    '') ;;
-    --help) sed -n '2,10s/^# \{0,1\}//p' "$0"; exit 0 ;;
-    *) echo 'usage: tools/keyshow_test.sh [--help]' >&2; exit 2 ;;
-esac
+is_built=no
+. "$(dirname "$0")/common.sh"
+for word; do
+    case $word in
+        --help) show_help; exit ;;
+        --built) is_built=yes ;;
+        *) refuse_word "$word" ;;
+    esac
+done
+[ "$is_built" = yes ] || need rt 'the Rattle kit'
+stop_if_missing
+cd "$(dirname "$0")/.." || exit
 work=$(mktemp -d)
 trap 'rm -rf "$work"' EXIT
 
 program=crates/keyshow/out/keyshow
-if [ ! -x "$program" ]; then
+if [ "$is_built" = no ]; then
     (cd crates/keyshow && rt run < stdin) > "$work/log" 2>&1 || { cat "$work/log" >&2; exit 1; }
+elif [ ! -x "$program" ]; then
+    echo "keyshow_test: $program isn't built" >&2
+    exit 1
 fi
 if [ ! -c /dev/full ]; then
     echo 'keyshow_test: there is no /dev/full' >&2
