@@ -1,5 +1,5 @@
 use Rattle.std.proofs.Common.{◌∙◌, lit<, map, sym, subst}
-use Rattle.std.specs.Str.Iter.{split_has_more, split_pattern, split_text}
+use Rattle.std.specs.Str.Iter.{split_has_more, split_text}
 use Rattle.std.specs.Str.Pattern.{FindsText, IsSplitAtFirstMatch}
 use Rattle.std.proofs.lemmas.Iterator.Consumers.{YieldsList-end}
 use Rattle.std.proofs.lemmas.Iterator.Splits.{YieldsList-from_str_split}
