@@ -1,5 +1,3 @@
-use Rattle.std.proofs.Common.{◌≡◌, Some}
-use Rattle.keyshow.specs.Runs.{ReadsAhead}
 use Rattle.keyshow.proofs.Numerals.{one_piece}
 use Rattle.keyshow.proofs.show.Goals as goal
 
