@@ -1,7 +1,7 @@
 -- What a run that ended early has written.
 use Rattle.std.proofs.Common.{◌≡◌, ◌∙◌, ℕ, Result, Ok, Err, Option, List, [], ◌++◌, true, false, length, refl, sym, ap, append_assoc, append-nil}
 use Rattle.std.specs.Io.KnownBytes.{Appends, Keeps}
-use Rattle.std.specs.Result.{OnErr}
+use Rattle.std.specs.Result.{OnErr, OnOk}
 use Rattle.std.proofs.KnownBytes.{Appends-nil, Appends-trans, Appends-kept}
 use Rattle.termwiz_input.specs.declared.types.InputEvent.{InputEvent}
 use Rattle.termwiz_input.specs.Bytes.{Begins}
@@ -64,6 +64,12 @@ unflushed text waiting events first before after means written kept = record {
   begins = ([], sym (append-nil (all_lines events waiting)));
   written = Appends-kept first before after (all_lines events waiting) written kept;
 }
+
+-- some bytes were written, whatever the outcome
+pub any_part : {E : Type 0} (P : List InputEvent → Type 0) (shown : List InputEvent → List ℕ) (text : List ℕ) (before after : Option (List ℕ)) (result : Result (Unit {0}) E)
+    → OnOk result ((events : List InputEvent) × P events × Appends before after (shown events)) → OnErr result (WritesPart text before after) → (part : List ℕ) × Appends before after part
+any_part P shown text before after (Ok done) ok err = (shown ok.0, ok.2)
+any_part P shown text before after (Err fault) ok err = (err.part, err.written)
 
 -- a fact of any error
 pub on_err : {T E P : Type 0} (result : Result T E) → P → OnErr result P

@@ -1,5 +1,5 @@
 -- What a run reads and writes.
-use Rattle.std.specs.Prelude.{ℕ, List, Option, true, false}
+use Rattle.std.specs.Prelude.{◌≤◌, ◌++◌, ℕ, List, Option, true, false, length}
 use Rattle.std.specs.Io.KnownBytes.{Appends, Consumes, IsAtEnd}
 use Rattle.termwiz_input.specs.declared.types.InputEvent.{InputEvent}
 use Rattle.termwiz_input.specs.Bytes.{Begins}
@@ -42,3 +42,16 @@ pub record ShowsPart (unread left before after : Option (List ℕ)) : Type 0 whe
   pub text : List ℕ
   pub read : Consumes unread left text
   pub written : WritesPart text before after
+
+-- A reader gave a text and then at most so many bytes, which took its bytes from `unread` to `left`. A writer got all lines of the
+-- events that the first text decides while more may come, and then some more bytes, which took its bytes from `before` to `after`.
+pub record ReadsAhead (most : ℕ) (unread left before after : Option (List ℕ)) : Type 0 where
+  pub text : List ℕ
+  pub ahead : List ℕ
+  pub events : List InputEvent
+  pub waiting : List ℕ
+  pub part : List ℕ
+  pub few : length ahead ≤ most
+  pub read : Consumes unread left (text ++ ahead)
+  pub means : Means text true events waiting
+  pub written : Appends before after (lines events ++ part)

@@ -2,12 +2,12 @@
 //! bytes that are read at a time.
 #![tactic(auto)]
 
-ghost use Rattle.std.specs.Prelude.{◌≡◌, ◌≢◌, ◌≤◌, ◌↔◌, None, map, string_bytes, IfSome, IsErrOf, OnOk};
+ghost use Rattle.std.specs.Prelude.{◌≡◌, ◌≢◌, ◌≤◌, ◌↔◌, ℕ, Some, None, map, string_bytes, IfSome, IsErrOf, OnOk};
 ghost use Rattle.std.specs.Option.{SomeIff, option_copied};
 ghost use Rattle.std.specs.Str.Parse.{digits_value};
 ghost use Rattle.keyshow.specs.declared.pump.RunError.{RunError as Fault};
 ghost use Rattle.keyshow.specs.Endings.{status_of, error_line_of};
-ghost use Rattle.keyshow.specs.Runs.{ShowsAll, ShowsDecided, ShowsPart};
+ghost use Rattle.keyshow.specs.Runs.{ReadsAhead, ShowsAll, ShowsDecided, ShowsPart};
 ghost use Rattle.keyshow.specs.Words.{IsPiece, PieceOf, fault_text};
 
 mod lines;
@@ -94,6 +94,8 @@ pub fn show<R: Read, W: Write>(
         → ShowsPart (R.remaining reader.old) (R.remaining reader.new) (W.contents writer.old) (W.contents writer.new) }
     ensures read { IsErrOf result (Failure.Run RunError.Read)
         → ShowsDecided (R.remaining reader.old) (R.remaining reader.new) (W.contents writer.old) (W.contents writer.new) }
+    ensures ahead { (piece : ℕ) → PieceOf (map string_bytes words.now) (Some piece)
+        → ReadsAhead piece (R.remaining reader.old) (R.remaining reader.new) (W.contents writer.old) (W.contents writer.new) }
 {
     let Some(piece) = piece_of(words) else {
         return Err(Failure::WrongWords);

@@ -7,7 +7,7 @@ ghost use Rattle.termwiz_input.specs.Grammar.{Means};
 ghost use Rattle.termwiz_input.specs.Pieces.{join, texts};
 ghost use Rattle.termwiz_input.specs.declared.types.InputEvent.{InputEvent as Event};
 ghost use Rattle.keyshow.specs.Lines.{lines, all_lines};
-ghost use Rattle.keyshow.specs.Runs.{ShowsAll, ShowsDecided, ShowsPart, WritesPart};
+ghost use Rattle.keyshow.specs.Runs.{ReadsAhead, ShowsAll, ShowsDecided, ShowsPart, WritesPart};
 ghost use Rattle.keyshow.specs.Callback.{AppendsLine};
 
 use crate::lines::{push_line, push_waiting};
@@ -37,7 +37,8 @@ pub enum RunError {
 /// then how many bytes wait, if any do, and flushes the writer once.
 ///
 /// The first error ends the run. After `Read` exactly the lines of the events that were decided so far are written, and nothing
-/// is flushed. After `Write` or `Memory` a prefix is written of the lines that the text read so far has if no more comes.
+/// is flushed. After `Write` or `Memory` a prefix is written of the lines that the text read so far has if no more comes. However
+/// the run ends, at most `piece` bytes were read that come after a text whose decided lines are all written.
 pub fn run<R: Read, W: Write>(
     alloc: Global,
     reader: &mut R,
@@ -51,6 +52,8 @@ pub fn run<R: Read, W: Write>(
     ensures err { OnErr result (ShowsPart (R.remaining reader.old) (R.remaining reader.new)
         (W.contents writer.old) (W.contents writer.new)) }
     ensures read { IsErrOf result RunError.Read → ShowsDecided (R.remaining reader.old) (R.remaining reader.new)
+        (W.contents writer.old) (W.contents writer.new) }
+    ensures ahead { ReadsAhead piece (R.remaining reader.old) (R.remaining reader.new)
         (W.contents writer.old) (W.contents writer.new) }
 {
     // By these laws the events of the pieces are the events of the whole, and what was decided begins them.
@@ -89,7 +92,7 @@ fn show_piece<R: Read, W: Write>(
         → Keeps (R.remaining reader.old) (R.remaining reader.new)) }
     ensures same_parser { IfOk result (λ more. more ≡ false → parser.new ≡ parser.old) }
     ensures same_writer { IfOk result (λ more. more ≡ false → writer.new ≡ writer.old) }
-    ensures err { OnErr result ((bytes : List ℕ)
+    ensures err { OnErr result ((bytes : List ℕ) × (length bytes ≤ length buffer.old)
         × Consumes (R.remaining reader.old) (R.remaining reader.new) bytes
         × WritesPart (parser.old ++ bytes) (W.contents writer.old) (W.contents writer.new)) }
     ensures not_read { IsErrOf result RunError.Read → Keeps (R.remaining reader.old) (R.remaining reader.new) }

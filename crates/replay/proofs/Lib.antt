@@ -3,3 +3,4 @@ pub mod Collected
 pub mod LineCounts
 pub mod OneAnswer
 pub mod Rests
+pub mod SeparatedAnswers

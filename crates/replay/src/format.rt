@@ -4,7 +4,7 @@ ghost use Rattle.std.specs.Prelude.{◌≡◌, ◌++◌, codes, map, IfOk, IfSom
 ghost use Rattle.event_text.specs.Names.{key_name};
 ghost use Rattle.event_text.specs.Texts.{modifiers_text};
 ghost use Rattle.std.specs.List.{AllZip};
-ghost use Rattle.replay.specs.Lines.{IsBytesWord, IsCallWord, IsChords, IsRowText, IsSentWord, Records, answer_word, comma_words, space_words};
+ghost use Rattle.replay.specs.Lines.{AreAnswers, IsBytesWord, IsCallWord, IsChords, IsModesNumber, IsModesWord, IsRowText, IsSentWord, Records, answer_word, comma_words, space_words};
 
 use crate::cases::{Call, Case, InModes, Keys, Row, Sent};
 use crate::names::{key_named, modifiers_named};
@@ -106,7 +106,8 @@ fn copy(alloc: Global, text: &str) -> Result<Vec<u8>, AllocError>
 
 // Calls, separated by spaces, each with its answer.
 fn calls_of(alloc: Global, given: &str, recorded: &str) -> Result<Vec<Call>, Fault>
-    ensures { IfOk result (λ calls. AllZip IsCallWord (space_words given.now) calls.items) }
+    ensures calls { IfOk result (λ calls. AllZip IsCallWord (space_words given.now) calls.items) }
+    ensures answers { IfOk result (λ calls. AreAnswers recorded.now (map (λ call. call.answer.items) calls.items)) }
 {
     let mut answers = recorded.split(" | ");
     let mut calls = Vec::new(alloc);
@@ -173,7 +174,8 @@ fn answer_of(alloc: Global, text: &str) -> Result<Option<Vec<u8>>, AllocError>
 
 // Keys, sets of modifiers, and what they send.
 fn keys_of(alloc: Global, given: &str, recorded: &str) -> Result<Keys, Fault>
-    ensures { IfOk result (IsChords given.now) }
+    ensures chords { IfOk result (IsChords given.now) }
+    ensures texts { IfOk result (λ keys. AllZip IsModesWord (space_words recorded.now) keys.texts.items) }
 {
     let (keys, modifiers) = parted(given).ok_or(Fault::Form)?;
     Ok(Keys {
@@ -235,10 +237,12 @@ fn set_of(alloc: Global, name: &str) -> Result<Modifiers, Fault>
 }
 
 // What is sent in each of the modes: one text for each mode.
-fn texts_of(alloc: Global, recorded: &str) -> Result<Vec<InModes>, Fault> {
+fn texts_of(alloc: Global, recorded: &str) -> Result<Vec<InModes>, Fault>
+    ensures { IfOk result (λ texts. AllZip IsModesWord (space_words recorded.now) texts.items) }
+{
     let mut texts = Vec::new(alloc);
     let mut covered = 0u32;
-    for word in recorded.split(" ") {
+    for word in recorded.split(' ') {
         let text = in_modes(alloc, word)?;
         if covered & text.modes != 0 {
             return Err(Fault::Modes);
@@ -265,14 +269,31 @@ fn sent_of(alloc: Global, word: &str) -> Result<Sent, Fault>
 }
 
 // `TEXT@MODES`, or `TEXT` in all modes.
-fn in_modes(alloc: Global, word: &str) -> Result<InModes, Fault> {
-    let (text, modes) = match word.split_once("@") {
-        Some((text, digits)) => (
-            text,
-            u32::from_str_radix(digits, 16).map_err(|_| Fault::Modes)?,
-        ),
-        None => (word, u32::MAX),
-    };
-    let sent = sent_of(alloc, text)?;
-    Ok(InModes { sent, modes })
+fn in_modes(alloc: Global, word: &str) -> Result<InModes, Fault>
+    ensures { IfOk result (IsModesWord word.now) }
+{
+    match sent_and_digits(word) {
+        Some((text, digits)) => Ok(InModes {
+            modes: modes_of(digits)?,
+            sent: sent_of(alloc, text)?,
+        }),
+        None => Ok(InModes {
+            sent: sent_of(alloc, word)?,
+            modes: u32::MAX,
+        }),
+    }
+}
+
+// What stands before the first `@` and after it.
+fn sent_and_digits(word: &str) -> Option<(&str, &str)>
+    ensures { IfSome result (λ parts. word.now ≡ parts.0.now ++ codes "@" ++ parts.1.now) }
+{
+    word.split_once("@")
+}
+
+// A set of modes by its hexadecimal digits: bit N is mode N.
+fn modes_of(digits: &str) -> Result<u32, Fault>
+    ensures { IfOk result (IsModesNumber digits.now) }
+{
+    u32::from_str_radix(digits, 16).map_err(|_| Fault::Modes)
 }

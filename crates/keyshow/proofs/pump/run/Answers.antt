@@ -1,9 +1,9 @@
-use Rattle.std.proofs.Common.{◌≡◌, ◌++◌, [], Err, length, refl, ap, append_assoc, append-nil, true, false, rules}
+use Rattle.std.proofs.Common.{◌≡◌, ◌++◌, [], Err, length, refl, ap, append_assoc, append-nil, arith, true, false, rules}
 use Rattle.std.proofs.KnownBytes.{Appends-nil, Appends-trans, Consumes-nil, Consumes-trans, Consumes-kept}
 use Rattle.std.proofs.lemmas.Result.{err_from_is_err_and, on_ok_weaker, on_err_weaker}
 use Rattle.keyshow.specs.declared.pump.RunError.TheVariants.{Read}
 use Rattle.keyshow.specs.Lines.{lines, waiting_line, all_lines}
-use Rattle.keyshow.proofs.Ended.{nothing, after_lines, after_all}
+use Rattle.keyshow.proofs.Ended.{nothing, after_lines, after_all, any_part}
 use Rattle.keyshow.proofs.Written.{lines-append}
 use Rattle.keyshow.proofs.pump.run.Goals as goal
 
@@ -48,7 +48,7 @@ pub returns-in_err-more-clause-err : goal.returns-in_err-more-clause-err
 returns-in_err-more-clause-err g c =
     let p = err_from_is_err_and c.from_residual-in_err-more.result c.from_residual-in_err-more.ensures.1 in
     let (text, events, read, means, written) = c.loop.invariant in
-    let (piece, read_more, part) = c.in_err-more.ensures.err in
+    let (piece, few, read_more, part) = c.in_err-more.ensures.err in
     rw p.1 (record {
       text = text ++ piece;
       read = Consumes-trans _ _ _ text piece read read_more;
@@ -89,3 +89,65 @@ returns-then-not-more-clause-err g c =
       read = Consumes-kept _ _ _ text read (end.none_read is_end);
       written = after_all c.resumes.ensures text c.loop.parser events _ _ _ means written (rw (end.same_parser is_end, end.same_writer is_end) at p);
     }) c.finish.ensures.err
+
+pub returns-in_err-parser-clause-ahead : goal.returns-in_err-parser-clause-ahead
+returns-in_err-parser-clause-ahead g c = record {
+  text = [];
+  ahead = [];
+  events = [];
+  waiting = [];
+  part = [];
+  few = omega arith;
+  read = Consumes-nil _;
+  means = record { steps = refl; rest = c.empty_is_rest.ensures true };
+  written = Appends-nil _;
+}
+
+pub returns-in_err-more-clause-ahead : goal.returns-in_err-more-clause-ahead
+returns-in_err-more-clause-ahead g c =
+    let (text, events, read, means, written) = c.loop.invariant in
+    let (bytes, few, read_more, part) = c.in_err-more.ensures.err in
+    record {
+      text = text;
+      ahead = bytes;
+      events = events;
+      waiting = c.loop.parser;
+      part = part.part;
+      few = search (rules, few);
+      read = Consumes-trans _ _ _ text bytes read read_more;
+      means = means;
+      written = Appends-trans _ _ _ (lines events) part.part written part.written;
+    }
+
+pub returns-clause-ahead : goal.returns-clause-ahead
+returns-clause-ahead g c =
+    let (text, events, read, means, written) = c.loop.invariant in
+    record {
+      text = text;
+      ahead = [];
+      events = events;
+      waiting = c.loop.parser;
+      part = [];
+      few = omega arith;
+      read = rw append-nil read;
+      means = means;
+      written = rw append-nil written;
+    }
+
+pub returns-then-not-more-clause-ahead : goal.returns-then-not-more-clause-ahead
+returns-then-not-more-clause-ahead g c =
+    let (text, events, read, means, written) = c.loop.invariant in
+    let end = c.in_ok-more.ensures in
+    let is_end = c.if-not-more.true in
+    let (part, written_more) = any_part _ _ _ _ _ c.finish.result c.finish.ensures.ok c.finish.ensures.err in
+    record {
+      text = text;
+      ahead = [];
+      events = events;
+      waiting = c.loop.parser;
+      part = part;
+      few = omega arith;
+      read = rw append-nil (Consumes-kept _ _ _ text read (end.none_read is_end));
+      means = means;
+      written = Appends-trans _ _ _ (lines events) part written (rw (← end.same_writer is_end) written_more);
+    }
