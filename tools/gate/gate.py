@@ -170,9 +170,9 @@ class Gate:
             Part("c_library", self.libraries, "tools/c_library.sh", "--over", self.rlibs, self.library),
             Part("growth", ["c_library"], "tools/growth.sh", *over, "--over", self.rlibs),
             Part("c_test", ["c_library", "keyshow"], "tools/c_test.sh", "--built", *over),
-            Part("docs", ["c_library", "keyshow"], "tools/docs.sh", "--built", *over),
             Part("keyshow_test", ["keyshow"], "tools/keyshow_test.sh", "--built"),
             Part("refusals", ["refusals", "keyshow"], "tools/refusals.sh", "--built"),
+            Part("docs", ["c_library", "keyshow", "example"], "tools/docs.sh", "--built", *over),
         ]
         self.parts = [self.ci, *self.scripts]
         self.watch, self.well, self.is_over = Watch(), set(), False
