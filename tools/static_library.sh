@@ -7,11 +7,14 @@
 # has its src/lib.rt, ARCHIVE is the file to write. Each LIBRARY is one that the crate names, of this repository or of the kit.
 #
 # `rt lib` proves those libraries first unless its own earlier runs built them. `rt ci` builds each from nothing and leaves it without
-# the stamp by which `rt lib` would know it; so the gate, which runs after `rt ci`, calls this script. It needs rt and rattle.
+# the stamp by which `rt lib` would know it; so the gate, which runs beside `rt ci`, calls this script. It needs rt and rattle.
 set -eu
+if [ "${1-}" = --help ]; then
+    sed -n '2,11s/^# \{0,1\}//p' "$0"
+    exit
+fi
 if [ $# -lt 4 ]; then
     echo 'static_library: wants RLIBS NAME FOLDER ARCHIVE LIBRARY..; --help says more' >&2
-    [ "${1-}" != --help ] || { sed -n '2,11p' "$0"; exit 0; }
     exit 2
 fi
 rlibs=$(cd "$1" && pwd) name=$2 folder=$3 archive=$(cd "$(dirname "$4")" && pwd)/$(basename "$4")

@@ -57,21 +57,21 @@ pub fn few_events()
     ensures { FewEvents }
 {}
 
-/// A whole stream from an empty waiting text has no more events than bytes: the events of all reads, each with its own flag, and
-/// the bytes that wait after the last one are together at most as many as the bytes of all reads. So it is too where reads stop
-/// between two items, as after a refusal of memory.
+/// A whole stream, read from an empty waiting text, has no more events than bytes. The events of all reads, each with its own
+/// flag, and the bytes left at the end are together at most as many as the bytes of all reads. Reads may also stop between two
+/// items, as after a refusal of memory.
 pub fn few_events_in_stream()
     ensures { FewEventsInStream }
 {}
 
-/// Items that are read one after another are items of the whole text: if T gives the events E up to V, and V gives D up to W, then T
-/// gives E followed by D, up to W, under the same flag.
+/// Items that are read one after another are items of the whole text. If T has the events E and leaves V, and V has the events D
+/// and leaves W, then T has E followed by D and leaves W, under the same flag.
 pub fn steps_join()
     ensures { StepsJoin }
 {}
 
-/// Events that are taken one by one, each from the text that the one before left, up to a rest, are exactly what the text means. So
-/// a loop over [`InputParser::next_event`](crate::input::InputParser::next_event) up to `None` gives the events of one call of
+/// Events that are read one by one, up to a rest, are exactly what the text means. So a loop over
+/// [`InputParser::next_event`](crate::input::InputParser::next_event) up to `None` returns the events of one call of
 /// [`InputParser::parse`](crate::input::InputParser::parse).
 pub fn one_by_one()
     ensures { OneByOneMeans }
@@ -88,7 +88,7 @@ pub fn waiting_shape()
     ensures { WaitingShape }
 {}
 
-/// Twenty undecided bytes do wait, alone and after one Escape: the longest proper beginning of a mouse frame.
+/// Twenty undecided bytes can stay buffered, alone and after one Escape: the longest proper beginning of a mouse frame.
 pub fn most_wait()
     ensures { MostWait }
 {}
