@@ -67,10 +67,10 @@ if [ -n "$check" ]; then
     proved_in 'next encoded' crates/termwiz_c/src/lib.rt || failed=1
     proved_in modifier crates/termwiz_base/src/modifiers.rt || failed=1
     proved_in kitty crates/termwiz_base/src/kitty.rt || failed=1
-    proved_in button crates/termwiz_input/src/types.rt || failed=1
+    proved_in button crates/termwiz_keys/src/types.rt || failed=1
     names_in key crates/event_text/src/names.rt crates/event_text/specs/Names.antt || failed=1
     names_in modifier crates/termwiz_base/src/modifiers.rt crates/event_text/specs/Names.antt || failed=1
-    names_in button crates/termwiz_input/src/types.rt crates/event_text/specs/Names.antt || failed=1
+    names_in button crates/termwiz_keys/src/types.rt crates/event_text/specs/Names.antt || failed=1
     names_in kitty crates/termwiz_base/src/kitty.rt || failed=1
     [ "$failed" = 1 ] || echo "numbers: $(grep -c '^[a-z]' "$list") names, and the header, the Rust crate and the proved crates agree"
 fi

@@ -3,8 +3,8 @@ use Rattle.std.proofs.Common.{◌≡◌, ℕ, ◌-◌, ◌^◌, ◌/◌, ◌%◌
 use Rattle.std.specs.Fmt.{padded_integral, char_count, format_spec, digit_glyph}
 use Rattle.std.proofs.lemmas.Fmt.{hex_one_digit, hex_two_digits}
 use Rattle.std.proofs.lemmas.Bool.{cases_lt}
-use Rattle.termwiz_input.specs.declared.types.KeyCode.{KeyCode}
-use Rattle.termwiz_input.specs.declared.types.KeyCode.TheVariants.{Char, Function}
+use Rattle.termwiz_input.specs.KeyCode.{KeyCode}
+use Rattle.termwiz_input.specs.KeyCode.TheVariants.{Char, Function}
 use Rattle.event_text.specs.Names.{variant_name, key_name, code_point}
 
 -- digits padded with zeros to a width

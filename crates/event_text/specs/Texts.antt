@@ -3,10 +3,10 @@ use Rattle.std.specs.Prelude.{ℕ, List, [], ◌∷◌, ◌++◌, ◌/◌, ◌%�
 use Rattle.std.specs.List.{flat_map}
 use Rattle.std.specs.Fmt.{decimal, digit_glyph}
 use Rattle.termwiz_base.specs.declared.modifiers.Modifiers.{Modifiers}
-use Rattle.termwiz_input.specs.declared.types.KeyCode.{KeyCode}
-use Rattle.termwiz_input.specs.declared.types.MouseButtons.{MouseButtons}
-use Rattle.termwiz_input.specs.declared.types.InputEvent.{InputEvent}
-use Rattle.termwiz_input.specs.declared.types.InputEvent.TheVariants.{Key, Mouse, PixelMouse, Resized, Paste, Wake}
+use Rattle.termwiz_input.specs.KeyCode.{KeyCode}
+use Rattle.termwiz_input.specs.MouseButtons.{MouseButtons}
+use Rattle.termwiz_input.specs.InputEvent.{InputEvent}
+use Rattle.termwiz_input.specs.InputEvent.TheVariants.{Key, Mouse, PixelMouse, Resized, Paste, Wake}
 use Rattle.event_text.specs.Names.{key_name, joined_names, names_in_set, modifier_flags, button_flags}
 
 -- a space

@@ -3,7 +3,7 @@
 
 ghost use Rattle.std.specs.Prelude.{◌≡◌, ◌<◌, ◌==◌, ◌&&◌, ◌++◌, [], length, not, bit_and, codes, IfSome, OnOk, if◌then◌else◌};
 ghost use Rattle.std.specs.Fmt.{decimal, digit_glyph};
-ghost use Rattle.termwiz_input.specs.declared.types.InputEvent.TheVariants.{PixelMouse};
+ghost use Rattle.termwiz_input.specs.InputEvent.TheVariants.{PixelMouse};
 ghost use Rattle.event_text.specs.Names.{key_name, code_point, joined_names, names_in_set, flags_with_a_bit};
 ghost use Rattle.event_text.specs.Texts.{event_text, hexadecimal, hex_digits, key_text, modifiers_text, mouse_text};
 

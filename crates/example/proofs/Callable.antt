@@ -4,7 +4,7 @@ use Rattle.std.specs.List.{FoldsTo}
 use Rattle.std.specs.Fn.{Mut}
 use denote.Param.Members.{Called}
 use denote.Param.Always.{always_mut, mut_next}
-use Rattle.termwiz_input.specs.declared.types.InputEvent.{InputEvent}
+use Rattle.termwiz_input.specs.InputEvent.{InputEvent}
 
 module _ {F : Type 0} (callback : Mut F (InputEvent × Unit {0}) (Unit {0})) where
   abbrev pub Calls : F → List InputEvent → F → Type 0

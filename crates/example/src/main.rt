@@ -2,7 +2,7 @@
 #![tactic(auto)]
 
 ghost use Rattle.std.specs.Prelude.{◌++◌, List, false, OnOk};
-ghost use Rattle.termwiz_input.specs.declared.types.InputEvent.{InputEvent as Event};
+ghost use Rattle.termwiz_input.specs.InputEvent.{InputEvent as Event};
 ghost use Rattle.termwiz_input.specs.Callbacks.{WasCalledOn};
 ghost use Rattle.termwiz_input.specs.Grammar.{Means};
 

@@ -4,8 +4,8 @@
 
 ghost use Rattle.std.specs.Prelude.{◌≡◌, ◌∷◌, ℕ, List, [], Some, Err, false, length, IfOk};
 ghost use Rattle.std.specs.List.{AllPairs};
-ghost use Rattle.termwiz_input.specs.declared.encode.EncodeError.TheVariants as error;
-ghost use Rattle.termwiz_input.specs.declared.types.InputEvent.TheVariants.{Key};
+ghost use Rattle.termwiz_input.specs.EncodeError.TheVariants as error;
+ghost use Rattle.termwiz_input.specs.InputEvent.TheVariants.{Key};
 ghost use Rattle.termwiz_input.specs.Enc.{unhandled};
 ghost use Rattle.termwiz_input.specs.Grammar.{Means};
 ghost use Rattle.termwiz_input.specs.Laws.{HasOtherBytes};

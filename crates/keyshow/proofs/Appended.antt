@@ -1,7 +1,7 @@
 -- The calls of a callback that appends lines.
 use Rattle.std.proofs.Common.{◌≡◌, ◌∙◌, ℕ, List, [], ◌∷◌, ◌++◌, Bool, false, map, sym, ap, append_assoc, append-nil}
 use Rattle.std.specs.List.{FoldsTo}
-use Rattle.termwiz_input.specs.declared.types.InputEvent.{InputEvent}
+use Rattle.termwiz_input.specs.InputEvent.{InputEvent}
 use Rattle.keyshow.specs.Lines.{line, lines}
 use Rattle.keyshow.specs.Callback.{AppendsLine}
 

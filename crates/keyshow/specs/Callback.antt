@@ -1,6 +1,6 @@
 -- A callback that appends the lines of events to a buffer.
 use Rattle.std.specs.Prelude.{◌≡◌, ◌++◌, ℕ, List, Bool, false}
-use Rattle.termwiz_input.specs.declared.types.InputEvent.{InputEvent}
+use Rattle.termwiz_input.specs.InputEvent.{InputEvent}
 use Rattle.keyshow.specs.Lines.{line}
 
 -- a call that leaves no refusal met none before, and appended the line of the event

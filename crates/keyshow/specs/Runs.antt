@@ -1,7 +1,7 @@
 -- What a run reads and writes.
 use Rattle.std.specs.Prelude.{◌≤◌, ◌++◌, ℕ, List, Option, true, false, length}
 use Rattle.std.specs.Io.KnownBytes.{Appends, Consumes, IsAtEnd}
-use Rattle.termwiz_input.specs.declared.types.InputEvent.{InputEvent}
+use Rattle.termwiz_input.specs.InputEvent.{InputEvent}
 use Rattle.termwiz_input.specs.Bytes.{Begins}
 use Rattle.termwiz_input.specs.Grammar.{Means}
 use Rattle.keyshow.specs.Lines.{lines, all_lines}

@@ -5,7 +5,7 @@ ghost use Rattle.std.specs.Io.KnownBytes.{Appends, Consumes, Keeps, IsAtEnd};
 ghost use Rattle.termwiz_input.specs.Bytes.{Begins};
 ghost use Rattle.termwiz_input.specs.Grammar.{Means};
 ghost use Rattle.termwiz_input.specs.Pieces.{join, texts};
-ghost use Rattle.termwiz_input.specs.declared.types.InputEvent.{InputEvent as Event};
+ghost use Rattle.termwiz_input.specs.InputEvent.{InputEvent as Event};
 ghost use Rattle.keyshow.specs.Lines.{lines, all_lines};
 ghost use Rattle.keyshow.specs.Runs.{ReadsAhead, ShowsAll, ShowsDecided, ShowsPart, WritesPart};
 ghost use Rattle.keyshow.specs.Callback.{AppendsLine};

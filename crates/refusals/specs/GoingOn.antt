@@ -1,7 +1,7 @@
 -- Calls of the parser that may be refused memory, and the calls that go on after them.
 use Rattle.std.specs.Prelude.{◌≡◌, ◌↔◌, ℕ, Bool, true, false, IsTrue, List, [], ◌++◌, length, drop, Option, IfSome, IfNone}
 use Rattle.termwiz_input.specs.Bytes.{Begins, START}
-use Rattle.termwiz_input.specs.declared.types.InputEvent.{InputEvent}
+use Rattle.termwiz_input.specs.InputEvent.{InputEvent}
 use Rattle.termwiz_input.specs.Grammar.{Steps, Means}
 use Rattle.termwiz_input.specs.Pieces.{AreNumbered, NumberedEvent, ReadsFirst, events_of, join, pieces_or_one, taken_or_one}
 use Rattle.refusals.specs.declared.parses.Left.{Left}

@@ -2,7 +2,7 @@
 // what the bytes mean.
 
 ghost use Rattle.std.specs.Prelude.{◌≡◌, List, IfOk, IfSome};
-ghost use Rattle.termwiz_input.specs.declared.types.InputEvent.{InputEvent as Event};
+ghost use Rattle.termwiz_input.specs.InputEvent.{InputEvent as Event};
 ghost use Rattle.termwiz_input.specs.Callbacks.{WasCalledOn, WasCalledOnNumbered};
 ghost use Rattle.termwiz_input.specs.Pieces.{NumberedEvent, texts};
 ghost use Rattle.refusals.specs.GoingOn.{Describes, GoesOn, GoesOnWithPieces};

@@ -5,7 +5,7 @@ ghost use Rattle.std.specs.Prelude.{◌≡◌, ◌++◌, ℕ, [], Err, Some, tru
 ghost use Rattle.std.specs.FinMap as map;
 ghost use Rattle.termwiz_input.specs.Enc.{enc, unhandled};
 ghost use Rattle.termwiz_input.specs.Lookup.{LookupGives};
-ghost use Rattle.termwiz_input.specs.declared.encode.EncodeError.TheVariants as error;
+ghost use Rattle.termwiz_input.specs.EncodeError.TheVariants as error;
 
 use std::alloc::{AllocError, Global};
 use termwiz_input::input::{

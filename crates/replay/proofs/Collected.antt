@@ -1,7 +1,7 @@
 -- The calls of a callback that collects events.
 use Rattle.std.proofs.Common.{◌≡◌, ◌∙◌, List, [], ◌∷◌, ◌++◌, Bool, false, map, sym, ap, append_assoc, append-nil}
 use Rattle.std.specs.List.{FoldsTo}
-use Rattle.termwiz_input.specs.declared.types.InputEvent.{InputEvent}
+use Rattle.termwiz_input.specs.InputEvent.{InputEvent}
 use Rattle.replay.specs.Collecting.{Collects}
 
 -- calls that end without a refusal collected all the events

@@ -1,8 +1,8 @@
 -- Each text has one answer, and each key in each mode sends one text or is refused.
 use Rattle.std.proofs.Common.{◌≡◌, ◌≢◌, ◌∙◌, ℕ, List, Bool, false, Some, None, refl, sym, ap}
 use Rattle.termwiz_base.specs.declared.modifiers.Modifiers.{Modifiers}
-use Rattle.termwiz_input.specs.declared.types.KeyCode.{KeyCode}
-use Rattle.termwiz_input.specs.declared.encode.KeyCodeEncodeModes.{KeyCodeEncodeModes}
+use Rattle.termwiz_input.specs.KeyCode.{KeyCode}
+use Rattle.termwiz_input.specs.KeyCodeEncodeModes.{KeyCodeEncodeModes}
 use Rattle.termwiz_input.specs.Enc.{enc, unhandled}
 use Rattle.termwiz_input.specs.Laws.{OneMeaning}
 use Rattle.replay.specs.declared.cases.Call.{Call}

@@ -2,7 +2,7 @@
 use Rattle.std.proofs.Common.{◌≡◌, ◌∙◌, ◌-◌, ◌≤◌, ◌↔◌, ℕ, List, [], ◌∷◌, ◌++◌, Bool, true, false, ◌+◌, length, take, take-add, drop, append-nil, Bor, sym, ap, subst, append_assoc, arith, refl}
 use Rattle.std.specs.Prelude.{Result, Ok, Err, OnOk}
 use Rattle.std.proofs.lemmas.List.{length-append, drop_at, nil_from_length}
-use Rattle.termwiz_input.specs.declared.types.InputEvent.{InputEvent}
+use Rattle.termwiz_input.specs.InputEvent.{InputEvent}
 use Rattle.termwiz_input.specs.Grammar.{Steps, IsRest, Means}
 use Rattle.termwiz_input.specs.Laws.{FewEvents, OneMeaning}
 use Rattle.termwiz_input.specs.Pieces.{join, texts}

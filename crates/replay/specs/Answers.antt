@@ -2,7 +2,7 @@
 use Rattle.std.specs.Prelude.{◌≡◌, ◌≢◌, ◌<◌, ℕ, Bool, true, false, List, [], ◌∷◌, ◌++◌, length, take, codes, Option, All, IfSome}
 use Rattle.std.specs.Global.{Vec}
 use Rattle.std.specs.List.{FoldsTo, flat_map}
-use Rattle.termwiz_input.specs.declared.types.InputEvent.{InputEvent}
+use Rattle.termwiz_input.specs.InputEvent.{InputEvent}
 use Rattle.termwiz_input.specs.Bytes.{ESC}
 use Rattle.termwiz_input.specs.Grammar.{IsRest, Means}
 use Rattle.event_text.specs.Texts.{event_text, hexadecimal}

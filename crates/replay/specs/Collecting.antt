@@ -1,6 +1,6 @@
 -- A callback that collects events.
 use Rattle.std.specs.Prelude.{◌≡◌, ◌++◌, ◌∷◌, [], List, Bool, false}
-use Rattle.termwiz_input.specs.declared.types.InputEvent.{InputEvent}
+use Rattle.termwiz_input.specs.InputEvent.{InputEvent}
 
 -- a call that leaves no refusal met none before, and appended the event
 abbrev pub Collects : List InputEvent → Bool → InputEvent → List InputEvent → Bool → Type 0

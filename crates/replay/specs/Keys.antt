@@ -1,9 +1,9 @@
 -- What keys send.
 use Rattle.std.specs.Prelude.{◌≡◌, ◌<◌, ◌==◌, ◌%◌, ◌/◌, ◌^◌, ◌-◌, ℕ, ℤ, List, [], pos, Option, Some, None, All, if◌then◌else◌}
 use Rattle.termwiz_base.specs.declared.modifiers.Modifiers.{Modifiers}
-use Rattle.termwiz_input.specs.declared.types.KeyCode.{KeyCode}
-use Rattle.termwiz_input.specs.declared.encode.KeyboardEncoding.TheVariants.{CsiU, Xterm}
-use Rattle.termwiz_input.specs.declared.encode.KeyCodeEncodeModes.{KeyCodeEncodeModes}
+use Rattle.termwiz_input.specs.KeyCode.{KeyCode}
+use Rattle.termwiz_input.specs.KeyboardEncoding.TheVariants.{CsiU, Xterm}
+use Rattle.termwiz_input.specs.KeyCodeEncodeModes.{KeyCodeEncodeModes}
 use Rattle.termwiz_input.specs.Enc.{enc, unhandled}
 use Rattle.replay.specs.declared.cases.InModes.{InModes}
 use Rattle.replay.specs.declared.cases.Keys.{Keys}

@@ -3,8 +3,8 @@ use Rattle.std.proofs.Common.{◌≡◌, ◌↔◌, ℕ, ◌+◌, ◌-◌, ◌<�
 use Rattle.std.proofs.lemmas.List.{get_or-map}
 use Rattle.std.specs.List.{range_with_len}
 use Rattle.std.proofs.lemmas.List.FromFn.{get_or-range_with_len}
-use Rattle.termwiz_input.specs.declared.types.KeyCode.{KeyCode}
-use Rattle.termwiz_input.specs.declared.types.KeyCode.TheVariants.{Char, Function}
+use Rattle.termwiz_input.specs.KeyCode.{KeyCode}
+use Rattle.termwiz_input.specs.KeyCode.TheVariants.{Char, Function}
 use Rattle.event_text.specs.Names.{variant_name}
 use Rattle.termwiz_c.specs.declared.keys.TheConstants.{KEYS}
 use Rattle.termwiz_c.specs.Keys.{Carries, StandFor, bare, key_number}

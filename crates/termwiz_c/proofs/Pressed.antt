@@ -2,8 +2,8 @@
 use Rattle.std.proofs.Common.{◌≡◌, ◌↔◌, ℕ, Bool, true, false, List, [], Option, Some, Result, Ok, Err, refl, sym, ap, subst}
 use Rattle.std.specs.Prelude.{IsTrue}
 use Rattle.termwiz_input.specs.Enc.{enc, unhandled}
-use Rattle.termwiz_input.specs.declared.encode.EncodeError.{EncodeError}
-use Rattle.termwiz_input.specs.declared.encode.EncodeError.TheVariants.{Memory, UnhandledFunctionKey}
+use Rattle.termwiz_input.specs.EncodeError.{EncodeError}
+use Rattle.termwiz_input.specs.EncodeError.TheVariants.{Memory, UnhandledFunctionKey}
 use Rattle.termwiz_c.specs.declared.modes.CModes.{CModes}
 use Rattle.termwiz_c.specs.declared.modes.Press.{Press}
 use Rattle.termwiz_c.specs.Presses.{HasNoText, IsBad, IsPress, sent}

@@ -1,7 +1,7 @@
 -- What the calls do to a parser that C holds: to the reader that its handle leads to, if there is one.
 use Rattle.std.specs.Prelude.{◌≡◌, ℕ, Bool, List, [], ◌∷◌, ◌++◌, take, drop, length, Option, Some, None, string_bytes}
-use Rattle.termwiz_input.specs.declared.types.InputEvent.{InputEvent}
-use Rattle.termwiz_input.specs.declared.types.InputEvent.TheVariants.{Paste}
+use Rattle.termwiz_input.specs.InputEvent.{InputEvent}
+use Rattle.termwiz_input.specs.InputEvent.TheVariants.{Paste}
 use Rattle.termwiz_input.specs.Grammar.{HasPaste, IsRest, Steps}
 use Rattle.termwiz_input.specs.Bytes.{Begins, START}
 use Rattle.termwiz_c.specs.declared.reader.Reader.{Reader}

@@ -1,7 +1,7 @@
 -- Events as C has them.
 use Rattle.std.specs.Prelude.{length}
-use Rattle.termwiz_input.specs.declared.types.InputEvent.{InputEvent}
-use Rattle.termwiz_input.specs.declared.types.InputEvent.TheVariants.{Key, Mouse, Paste}
+use Rattle.termwiz_input.specs.InputEvent.{InputEvent}
+use Rattle.termwiz_input.specs.InputEvent.TheVariants.{Key, Mouse, Paste}
 use Rattle.termwiz_c.specs.declared.events.CEvent.{CEvent}
 use Rattle.termwiz_c.specs.Keys.{key_number, key_detail}
 

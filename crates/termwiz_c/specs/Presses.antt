@@ -4,9 +4,9 @@ use Rattle.termwiz_base.specs.declared.modifiers.Modifiers.{Modifiers}
 use Rattle.termwiz_base.specs.Bits.{HasEvery}
 use Rattle.termwiz_base.specs.Kitty as kitty
 use Rattle.termwiz_base.specs.Modifiers as modifiers
-use Rattle.termwiz_input.specs.declared.encode.KeyboardEncoding.{KeyboardEncoding}
-use Rattle.termwiz_input.specs.declared.encode.KeyboardEncoding.TheVariants.{Xterm, CsiU, Win32, Kitty}
-use Rattle.termwiz_input.specs.declared.encode.KeyCodeEncodeModes.{KeyCodeEncodeModes}
+use Rattle.termwiz_input.specs.KeyboardEncoding.{KeyboardEncoding}
+use Rattle.termwiz_input.specs.KeyboardEncoding.TheVariants.{Xterm, CsiU, Win32, Kitty}
+use Rattle.termwiz_input.specs.KeyCodeEncodeModes.{KeyCodeEncodeModes}
 use Rattle.termwiz_input.specs.Enc.{enc, unhandled}
 use Rattle.termwiz_c.specs.declared.modes.CModes.{CModes}
 use Rattle.termwiz_c.specs.declared.modes.Press.{Press}

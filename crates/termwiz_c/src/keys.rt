@@ -1,6 +1,6 @@
 // Keys in numbers, as the C header lists them.
 ghost use Rattle.std.specs.Prelude.{◌≡◌, ◌↔◌, Some, IfSome};
-ghost use Rattle.termwiz_input.specs.declared.types.KeyCode.{KeyCode as Key};
+ghost use Rattle.termwiz_input.specs.KeyCode.{KeyCode as Key};
 ghost use Rattle.termwiz_c.specs.Keys.{Carries, StandFor, bare, key_detail, key_number};
 
 use termwiz_input::types::KeyCode;

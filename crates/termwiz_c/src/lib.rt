@@ -7,7 +7,7 @@
 
 ghost use Rattle.std.specs.Prelude.{◌≡◌, ◌≢◌, ◌≤◌, ◌↔◌, [], length, true, false, None, IsTrue};
 ghost use Rattle.event_text.specs.Names.{variant_name};
-ghost use Rattle.termwiz_input.specs.declared.types.KeyCode.{KeyCode as Key};
+ghost use Rattle.termwiz_input.specs.KeyCode.{KeyCode as Key};
 ghost use Rattle.termwiz_c.specs.Calls.{Gave, HasOpenPaste, HasPasteNext, IsFresh, Rests, Took, copied, pasted, waiting_len};
 ghost use Rattle.termwiz_c.specs.Keys.{IsNoKey, key_number};
 ghost use Rattle.termwiz_c.specs.Presses.{HasNoText, IsBad, Wrote};

@@ -1,8 +1,8 @@
 // What the numbers of a key that is to be encoded stand for.
 ghost use Rattle.std.specs.Prelude.{◌≡◌, ◌↔◌, Some};
 ghost use Rattle.termwiz_base.specs.declared.modifiers.Modifiers.{Modifiers as Held};
-ghost use Rattle.termwiz_input.specs.declared.encode.KeyboardEncoding.{KeyboardEncoding as Encoding};
-ghost use Rattle.termwiz_input.specs.declared.encode.KeyCodeEncodeModes.{KeyCodeEncodeModes as Modes};
+ghost use Rattle.termwiz_input.specs.KeyboardEncoding.{KeyboardEncoding as Encoding};
+ghost use Rattle.termwiz_input.specs.KeyCodeEncodeModes.{KeyCodeEncodeModes as Modes};
 ghost use Rattle.termwiz_c.specs.declared.modes.Press.{Press as Pressed};
 ghost use Rattle.termwiz_c.specs.Presses.{AreModes, AreModifiers, IsEncoding, IsPress};
 

@@ -1,6 +1,6 @@
 // What a handle leads to.
 ghost use Rattle.std.specs.Prelude.{◌≡◌, [], ◌∷◌, length, string_bytes, IfOk, IfSome, IfNone, OnErr};
-ghost use Rattle.termwiz_input.specs.declared.types.InputEvent.{InputEvent as Event};
+ghost use Rattle.termwiz_input.specs.InputEvent.{InputEvent as Event};
 ghost use Rattle.termwiz_input.specs.Grammar.{HasPaste, IsRest, Steps};
 ghost use Rattle.termwiz_c.specs.Calls.{copied, text_after};
 ghost use Rattle.termwiz_c.specs.Events.{c_event};

@@ -5,14 +5,15 @@ use Rattle.bstr.specs.Utf8.{decoded}
 use Rattle.termwiz_input.specs.declared.item.Item.{Item}
 use Rattle.termwiz_input.specs.declared.head.Head.{Head as FoundHead}
 use Rattle.termwiz_input.specs.declared.head.Head.TheVariants.{Row as row, Frame as frame, Character as character, Broken as broken}
-use Rattle.termwiz_input.specs.Known.Meaning.{Row, Frame}
-use Rattle.termwiz_input.specs.declared.types.MouseEvent.{MouseEvent}
-use Rattle.termwiz_input.specs.Bytes.{Begins, ESC}
-use Rattle.termwiz_input.specs.Keys.{escape}
-use Rattle.termwiz_input.specs.Frame.{IsFrame}
+use Rattle.termwiz_grammar.specs.Known.Meaning.{Row, Frame}
+use Rattle.termwiz_keys.specs.declared.types.MouseEvent.{MouseEvent}
+use Rattle.termwiz_keymap.specs.Bytes.{Begins}
+use Rattle.termwiz_keys.specs.Sequences.{ESC}
+use Rattle.termwiz_keys.specs.Keys.{escape}
+use Rattle.termwiz_grammar.specs.Frame.{IsFrame}
 use Rattle.termwiz_input.specs.Typed.{IsTyped}
-use Rattle.termwiz_input.specs.Known.{Meaning, IsKnown}
-use Rattle.termwiz_input.specs.Grammar.{IsLongest, IsCharacter, IsBroken, Stands, IsOpen, IsUnfinishedKnown}
+use Rattle.termwiz_grammar.specs.Known.{Meaning, IsKnown}
+use Rattle.termwiz_grammar.specs.Grammar.{IsLongest, IsCharacter, IsBroken, Stands, IsOpen, IsUnfinishedKnown}
 
 -- the head of the text is this one, and it has so many bytes
 abbrev pub HasHead : List ℕ → FoundHead → Type 0

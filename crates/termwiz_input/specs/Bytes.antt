@@ -1,28 +1,3 @@
--- Words on texts. A text is a list of bytes.
-use Rattle.std.specs.Prelude.{◌≡◌, ℕ, List, [], ◌∷◌, ◌++◌, codes}
-
--- text begins u
-abbrev pub Begins : List ℕ → List ℕ → Type 0
-Begins text u = (rest : List ℕ) × (u ≡ text ++ rest)
-
--- text stands somewhere in u
-abbrev pub Occurs : List ℕ → List ℕ → Type 0
-Occurs text u = (before after : List ℕ) × (u ≡ before ++ text ++ after)
-
--- the byte of the Escape key
-abbrev pub ESC : List ℕ
-ESC = 0x1b ∷ []
-
--- what control sequences begin with: the control sequence introducer, and single shift three
-abbrev pub CSI : List ℕ
-CSI = ESC ++ codes "["
-
-abbrev pub SS3 : List ℕ
-SS3 = ESC ++ codes "O"
-
--- what comes before a pasted text, and after it, in xterm's bracketed paste mode
-abbrev pub START : List ℕ
-START = 0x1b ∷ codes "[200~"
-
-abbrev pub END : List ℕ
-END = 0x1b ∷ codes "[201~"
+-- Words on texts, and the bytes that sequences and pastes begin and end with.
+pub use Rattle.termwiz_keymap.specs.Bytes.{Begins, Occurs}
+pub use Rattle.termwiz_keys.specs.Sequences.{ESC, CSI, SS3, START, END}

@@ -3,7 +3,7 @@ use Rattle.std.specs.Prelude.{ℕ, List, map}
 use Rattle.std.specs.List.{FoldsTo}
 use Rattle.std.specs.Fn.{Mut}
 use denote.Param.Always.{ready}
-use Rattle.termwiz_input.specs.declared.types.InputEvent.{InputEvent}
+use Rattle.termwiz_keys.specs.declared.types.InputEvent.{InputEvent}
 
 module _ {F : Type 0} where
   -- the callback was called on each of these events in turn, which took its state from first to last

@@ -2,14 +2,14 @@
 use Rattle.std.specs.Prelude.{◌≡◌, ◌≢◌, ℕ, ◌≤◌, List, [], ◌∷◌, ◌++◌, length, take, Contains, Result, Ok, Err}
 use Rattle.std.specs.List.{AllByRecursion}
 use denote.Ref.{Bor}
-use Rattle.termwiz_input.specs.declared.types.MouseEvent.{MouseEvent}
+use Rattle.termwiz_keys.specs.declared.types.MouseEvent.{MouseEvent}
 use Rattle.termwiz_input.specs.declared.frame.FrontFrame.{FrontFrame}
 use Rattle.termwiz_input.specs.declared.frame.FrontFrame.TheVariants.{Whole, Begun, Absent}
 use Rattle.termwiz_input.specs.declared.frame.Unread.{Unread}
 use Rattle.termwiz_input.specs.declared.frame.Unread.TheVariants as unread
 use Rattle.termwiz_input.specs.declared.frame.Number.{Number}
-use Rattle.termwiz_input.specs.Bytes.{Begins}
-use Rattle.termwiz_input.specs.Frame.{IsDigit, most_digits, IsNumber, value_of, introducer, IsFrame}
+use Rattle.termwiz_keymap.specs.Bytes.{Begins}
+use Rattle.termwiz_grammar.specs.Frame.{IsDigit, most_digits, IsNumber, value_of, introducer, IsFrame}
 
 -- text properly begins a frame
 abbrev pub IsBegun : List ℕ → Type 0

@@ -3,8 +3,8 @@ use Rattle.std.specs.Prelude.{◌<◌, ◌≤◌, ◌==◌, ℕ, Bool, true, Lis
 use Rattle.std.specs.List.{flat_map}
 use Rattle.std.specs.List.Sorted.{IsNonDecreasingBy}
 use denote.Ref.{Bor}
-use Rattle.termwiz_input.specs.declared.types.InputEvent.{InputEvent}
-use Rattle.termwiz_input.specs.Grammar.{Steps, Means}
+use Rattle.termwiz_keys.specs.declared.types.InputEvent.{InputEvent}
+use Rattle.termwiz_grammar.specs.Grammar.{Steps, Means}
 
 -- the pieces of a slice
 abbrev pub texts : List (Bor (List ℕ)) → List (List ℕ)

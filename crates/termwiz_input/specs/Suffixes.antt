@@ -2,8 +2,8 @@
 use Rattle.std.specs.Prelude.{ℕ, List, map, fold, bit_or}
 use denote.Ref.{Bor}
 use Rattle.termwiz_base.specs.declared.modifiers.Modifiers.{Modifiers}
-use Rattle.termwiz_input.specs.declared.types.KeyCode.{KeyCode}
-use Rattle.termwiz_input.specs.Table.{Suffix}
+use Rattle.termwiz_keys.specs.declared.types.KeyCode.{KeyCode}
+use Rattle.termwiz_grammar.specs.Table.{Suffix}
 
 -- modifiers that are held together
 abbrev pub held_together : List Modifiers → Modifiers

@@ -1,8 +1,8 @@
 -- Typed characters: those of ASCII from SPACE to ~, with which no known text begins.
 use Rattle.std.specs.Prelude.{ℕ, ◌<◌, ◌≤◌, List, map}
-use Rattle.termwiz_input.specs.declared.types.InputEvent.{InputEvent}
-use Rattle.termwiz_input.specs.declared.types.InputEvent.TheVariants.{Key}
-use Rattle.termwiz_input.specs.Keys.{plain}
+use Rattle.termwiz_keys.specs.declared.types.InputEvent.{InputEvent}
+use Rattle.termwiz_keys.specs.declared.types.InputEvent.TheVariants.{Key}
+use Rattle.termwiz_keys.specs.Keys.{plain}
 
 -- a byte that is such a character
 abbrev pub IsTyped : ℕ → Type 0

@@ -4,12 +4,12 @@
 // one to five decimal digits.
 ghost use Rattle.std.specs.Option.{SomeIff};
 ghost use Rattle.termwiz_base.specs.Mouse.{IsReport};
-ghost use Rattle.termwiz_input.specs.Frame.{mouse_event};
+ghost use Rattle.termwiz_grammar.specs.Frame.{mouse_event};
 ghost use Rattle.termwiz_input.specs.FrameAnswers.{IsFrameAnswer, IsNumberAnswer, IsEventAnswer};
 
-use crate::bytes::begins_with;
-use crate::types::{MouseButtons, MouseEvent};
 use termwiz_base::{MouseReport, sgr_mouse};
+use termwiz_keymap::bytes::begins_with;
+use termwiz_keys::types::{MouseButtons, MouseEvent};
 
 // What a text begins with, as far as frames go.
 #[derive(Drop)]
@@ -73,7 +73,7 @@ fn number_at<'t>(text: &'t [u8], limit: u16, ends: &[u8]) -> Result<Number<'t>, 
 }
 
 // The event of a report, where its code and its last byte make one.
-#[tactic(auto, unfolding(crate::specs::Frame::mouse_event))]
+#[tactic(auto, unfolding(termwiz_grammar::specs::Frame::mouse_event))]
 fn event_of(code: u16, x: u16, y: u16, last: u8) -> Option<MouseEvent>
     ensures { SomeIff result (IsReport code last) (mouse_event code x y last) }
 {

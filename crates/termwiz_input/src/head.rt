@@ -2,17 +2,17 @@
 // text is a row of the sequence table or a mouse frame.
 ghost use Rattle.std.specs.Prelude.{◌≡◌, ◌≢◌, ◌↔◌, [], true, None, IfSome, IfNone, IsSome, IsTrue};
 ghost use Rattle.termwiz_input.specs.FrameAnswers.{IsBegun};
-ghost use Rattle.termwiz_input.specs.Grammar.{IsOpen, IsUnfinishedKnown, IsUnfinishedCharacter};
+ghost use Rattle.termwiz_grammar.specs.Grammar.{IsOpen, IsUnfinishedKnown, IsUnfinishedCharacter};
 ghost use Rattle.termwiz_input.specs.AtFront.{BeginsWithNoControl, HasHead, HasLoneEscape, HasNoHeadYet, HasUntypedAfterEscape, IsApartFromKnown, NoFrameBegins, NoKnownTextBegins, character_of};
-ghost use Rattle.termwiz_input.specs.Keys.{escape};
-ghost use Rattle.termwiz_input.specs.Table.{table};
+ghost use Rattle.termwiz_keys.specs.Keys.{escape};
+ghost use Rattle.termwiz_grammar.specs.Table.{table};
 
 use crate::frame::{FrontFrame, frame_at};
-use crate::keymap::{Found, KeyMap};
-use crate::types::{KeyCode, KeyEvent, MouseEvent};
 use bstr::decode_utf8;
 use std::str;
 use termwiz_base::{Flags, Modifiers};
+use termwiz_keymap::keymap::{Found, KeyMap};
+use termwiz_keys::types::{KeyCode, KeyEvent, MouseEvent};
 
 // The head of a text, and the number of its bytes. `Broken` is one byte, which begins no character.
 #[derive(Drop)]

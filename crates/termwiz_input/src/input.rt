@@ -1,28 +1,29 @@
 //! The parser: bytes of a terminal to events.
 ghost use Rattle.std.specs.Prelude.{◌≡◌, ◌≢◌, ◌++◌, ◌+◌, ◌^◌, ◌<◌, ◌≤◌, ℕ, Bool, List, [], ◌∷◌, length, drop, Contains, Some, true, false, OnErr, IfOk, IfErr, IfSome, IfNone, IsTrue, ◌↔◌, ◌==◌, ◌⊎◌, slice_index_or, if◌then◌else◌, OnOk, IsOk, IsErrOf, vec_len, vec_capacity};
-ghost use Rattle.termwiz_input.specs.declared.types.KeyEvent.{KeyEvent};
-ghost use Rattle.termwiz_input.specs.Bytes.{Begins, START};
-ghost use Rattle.termwiz_input.specs.Keys.{plain};
-ghost use Rattle.termwiz_input.specs.Grammar.{GivesNoPaste, HasItem, HasPaste, IsRest, Steps, Means};
+ghost use Rattle.termwiz_keys.specs.declared.types.KeyEvent.{KeyEvent};
+ghost use Rattle.termwiz_keymap.specs.Bytes.{Begins};
+ghost use Rattle.termwiz_keys.specs.Sequences.{START};
+ghost use Rattle.termwiz_keys.specs.Keys.{plain};
+ghost use Rattle.termwiz_grammar.specs.Grammar.{GivesNoPaste, HasItem, HasPaste, IsRest, Steps, Means};
 ghost use Rattle.termwiz_input.specs.AtFront.{IsItemAt};
 ghost use Rattle.termwiz_input.specs.Callbacks.{MayBeCalledOn, MayBeCalledOnNumbered, WasCalledOn, WasCalledOnNumbered};
 ghost use Rattle.termwiz_input.specs.Pieces.{AreNumbered, NumberedEvent, ReadsFirst, events_of, flag_at, join, numbered, pieces_or_one, taken_or_one, texts};
-ghost use Rattle.termwiz_input.specs.declared.types.InputEvent.{InputEvent as Event};
+ghost use Rattle.termwiz_keys.specs.declared.types.InputEvent.{InputEvent as Event};
 
-pub use crate::encode::{CSI, EncodeError, KeyCodeEncodeModes, KeyboardEncoding, SS3};
 use crate::item::{
     Item, append_typed, character_front, frame_front, item_at, plain_key, typed_front,
 };
-use crate::keymap::KeyMap;
 use crate::paste::{begins_paste, next_search};
-use crate::readbuf::ReadBuffer;
 use crate::rules::add_rows;
-pub use crate::types::{
-    InputEvent, KeyCode, KeyEvent, MouseButtons, MouseEvent, PastedText, PixelMouseEvent,
-};
 use std::alloc::{AllocError, Global};
 use std::marker::Model;
 pub use termwiz_base::{Flags, Modifiers};
+use termwiz_keymap::keymap::KeyMap;
+use termwiz_keymap::readbuf::ReadBuffer;
+pub use termwiz_keys::encode::{CSI, EncodeError, KeyCodeEncodeModes, KeyboardEncoding, SS3};
+pub use termwiz_keys::types::{
+    InputEvent, KeyCode, KeyEvent, MouseButtons, MouseEvent, PastedText, PixelMouseEvent,
+};
 use thiserror::Error;
 
 /// A call of [`InputParser::parse`] was refused memory. The parser may be used again.
@@ -100,7 +101,7 @@ impl Model for InputParser {
     ghost Value = { List ℕ };
 
     ghost use Rattle.termwiz_input.specs.PasteSearch.{NoEndBefore};
-    ghost use Rattle.termwiz_input.specs.Table.{table};
+    ghost use Rattle.termwiz_grammar.specs.Table.{table};
 
     ghost view = { λ p. p.buffer };
 
@@ -109,13 +110,13 @@ impl Model for InputParser {
 
 impl InputParser {
     ghost use Rattle.std.specs.FinMap as map;
-    ghost use Rattle.termwiz_input.specs.Table.{rows, table};
+    ghost use Rattle.termwiz_grammar.specs.Table.{rows, table};
 
     /// A parser whose key map is exactly the sequence table, and whose waiting text is empty.
     ///
     /// The clause `exactly` speaks of the table alone: that the parser's key map is this table, now and in every later
     /// state, is the invariant of the type.
-    #[tactic(auto, unfolding(crate::specs::Table::table))]
+    #[tactic(auto, unfolding(termwiz_grammar::specs::Table::table))]
     pub fn new(alloc: Global) -> Result<InputParser, AllocError>
         ensures empty { IfOk result (λ parser. parser ≡ []) }
         ensures exactly { (text : List ℕ) (key : KeyEvent) → (map.get table text ≡ Some key) ↔ Contains rows (text, key) }
@@ -224,7 +225,7 @@ impl InputParser {
     ///
     /// Pass `maybe_more` as for [`InputParser::parse`]. Only the text of a paste needs memory: if it is refused, the parser is
     /// unchanged and the paste still at its front, and the same call may be made again.
-    #[tactic(auto, using(crate::proofs::Settling::rest_flushed))]
+    #[tactic(auto, using(termwiz_grammar::proofs::lemmas::waiting::RestShape::rest_flushed))]
     pub fn next_event(&mut self, maybe_more: bool) -> Result<Option<InputEvent>, AllocError>
         ensures event { IfOk result (λ found. IfSome found (λ event. Steps self.old maybe_more (event ∷ []) self.new)) }
         ensures none { IfOk result (λ found. IfNone found (IsRest self.old maybe_more)) }
@@ -253,7 +254,7 @@ impl InputParser {
     /// Pass `maybe_more` as true while more bytes may come: then a text that may yet become a longer known text or a character
     /// waits. Pass false at the end of the input, or if a pause says that an Escape was meant alone: then only an open paste
     /// waits. Call with no bytes and false to flush.
-    #[tactic(auto, using(crate::proofs::Settling::rest_flushed))]
+    #[tactic(auto, using(termwiz_grammar::proofs::lemmas::waiting::RestShape::rest_flushed))]
     pub fn parse<F: FnMut(InputEvent)>(
         &mut self,
         bytes: &[u8],
@@ -490,7 +491,7 @@ impl InputParser {
     /// Pass `maybe_more` as true while more bytes may come: then a text that may yet become a longer known text or a character
     /// waits. Pass false at the end of the input, or if a pause says that an Escape was meant alone: then only an open paste
     /// waits. Call with no bytes and false to flush.
-    #[tactic(auto, using(crate::proofs::Settling::rest_flushed))]
+    #[tactic(auto, using(termwiz_grammar::proofs::lemmas::waiting::RestShape::rest_flushed))]
     pub fn parse_as_vec(
         &mut self,
         bytes: &[u8],

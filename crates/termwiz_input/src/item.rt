@@ -1,23 +1,24 @@
 // The item at the front of a text: the event that it gives, and the number of its bytes.
 ghost use Rattle.std.specs.Prelude.{◌≡◌, ◌≢◌, ◌+◌, ◌++◌, ◌≤◌, ◌↔◌, Bool, [], length, drop, take, OnErr, IfOk, IfSome, IfNone, IsTrue, vec_len, vec_capacity};
-ghost use Rattle.termwiz_input.specs.Bytes.{Begins, ESC, START};
-ghost use Rattle.termwiz_input.specs.Keys.{plain, escape, with_alt};
-ghost use Rattle.termwiz_input.specs.Known.Meaning.{Row};
-ghost use Rattle.termwiz_input.specs.Grammar.{IsLongest, IsOpen, HasPaste, IsRest, Steps};
+ghost use Rattle.termwiz_keymap.specs.Bytes.{Begins};
+ghost use Rattle.termwiz_keys.specs.Sequences.{ESC, START};
+ghost use Rattle.termwiz_keys.specs.Keys.{plain, escape, with_alt};
+ghost use Rattle.termwiz_grammar.specs.Known.Meaning.{Row};
+ghost use Rattle.termwiz_grammar.specs.Grammar.{IsLongest, IsOpen, HasPaste, IsRest, Steps};
 ghost use Rattle.termwiz_input.specs.AtFront.{IsItemAt};
 ghost use Rattle.termwiz_input.specs.PasteSearch.{NoEndBefore};
-ghost use Rattle.termwiz_input.specs.Table.{table};
+ghost use Rattle.termwiz_grammar.specs.Table.{table};
 ghost use Rattle.termwiz_input.specs.Typed.{IsTyped, typed};
 
-use crate::bytes::begins_with;
 use crate::frame::{FrontFrame, INTRODUCER, frame_at};
 use crate::head::{Head, begins_apart_from_known, character_at, escape_key, head_at};
-use crate::keymap::KeyMap;
 use crate::paste::{begins_paste, paste_at};
-use crate::types::{InputEvent, KeyCode, KeyEvent, MouseEvent};
 use std::alloc::{AllocError, Global};
 use std::char::REPLACEMENT_CHARACTER;
 use termwiz_base::{Flags, Modifiers};
+use termwiz_keymap::bytes::begins_with;
+use termwiz_keymap::keymap::KeyMap;
+use termwiz_keys::types::{InputEvent, KeyCode, KeyEvent, MouseEvent};
 
 // An item: its event, and the number of its bytes.
 #[derive(Drop)]

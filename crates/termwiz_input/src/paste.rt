@@ -1,16 +1,17 @@
 // Pasted texts, as a terminal sends them in xterm's bracketed paste mode: between ESC `[200~` and ESC `[201~`.
 ghost use Rattle.std.specs.Prelude.{◌≡◌, ◌↔◌, Bool, IsTrue, OnErr, IfOk, IfSome, IfNone};
 ghost use Rattle.std.specs.Str.Lossy.{utf8_lossy};
-ghost use Rattle.termwiz_input.specs.Bytes.{Begins, START};
+ghost use Rattle.termwiz_keymap.specs.Bytes.{Begins};
+ghost use Rattle.termwiz_keys.specs.Sequences.{START};
 ghost use Rattle.termwiz_input.specs.AtFront.{IsItemAt};
-ghost use Rattle.termwiz_input.specs.Grammar.{HasPaste, IsRest};
+ghost use Rattle.termwiz_grammar.specs.Grammar.{HasPaste, IsRest};
 ghost use Rattle.termwiz_input.specs.PasteSearch.{NoEndBefore};
 
-use crate::bytes::{begins_with, find_from};
 use crate::item::Item;
-use crate::types::{InputEvent, PastedText};
 use bstr::ByteSlice;
 use std::alloc::{AllocError, Global};
+use termwiz_keymap::bytes::{begins_with, find_from};
+use termwiz_keys::types::{InputEvent, PastedText};
 
 // What comes before a pasted text, and after it.
 const PASTE_START: &[u8] = b"\x1b[200~";

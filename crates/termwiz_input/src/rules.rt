@@ -2,7 +2,7 @@
 // ("PC-Style Function Keys", "VT220-Style Function Keys" and modifyOtherKeys in its "Control Sequences"), of fixterms
 // (CSI u) and of rxvt (`$`, `^` and `@` at the end).
 ghost use Rattle.std.specs.Prelude.{◌≡◌, OnOk};
-ghost use Rattle.termwiz_input.specs.Table.{rows, with_rows};
+ghost use Rattle.termwiz_grammar.specs.Table.{rows, with_rows};
 
 mod cursor;
 mod function;
@@ -11,8 +11,6 @@ mod lists;
 mod numbers;
 mod single;
 
-use crate::keymap::KeyMap;
-use crate::types::KeyEvent;
 use cursor::{
     application_arrows, application_home_end, ctrl_arrows, cursor_keys,
     modified_application_arrows, modified_cursor_keys, shift_arrows,
@@ -27,10 +25,12 @@ use single::{
     escape_byte, paste_end, paste_start, shift_tab, tab_byte,
 };
 use std::alloc::{AllocError, Global};
+use termwiz_keymap::keymap::KeyMap;
+use termwiz_keys::types::KeyEvent;
 
 // All rows, rule by rule: first those whose bytes come first, as far as rules go, since a row that is inserted moves all that come
 // after it.
-#[tactic(auto, using(crate::proofs::Rows::joined_rows), unfolding(crate::specs::Table::rows))]
+#[tactic(auto, using(crate::proofs::lemmas::table::InsertedRows::joined_rows), unfolding(termwiz_grammar::specs::Table::rows))]
 pub(crate) fn add_rows(alloc: Global, keys: &mut KeyMap<KeyEvent>) -> Result<(), AllocError>
     ensures { OnOk result (keys.new ≡ with_rows keys.old rows) }
 {

@@ -1,5 +1,5 @@
 use Rattle.std.proofs.Common.{◌≡◌, ◌∙◌, ap, sym, subst, false, length, List, ℕ, Option, Some, refl}
-use Rattle.termwiz_input.specs.declared.types.InputEvent.{InputEvent}
+use Rattle.termwiz_input.specs.InputEvent.{InputEvent}
 use Rattle.termwiz_input.specs.Grammar.{Means}
 use Rattle.termwiz_input.specs.Laws.{OneMeaning}
 use Rattle.input_tests.proofs.read_encoded.Goals as goal

@@ -1,18 +1,18 @@
 // Rules of the cursor keys.
 ghost use Rattle.std.specs.Prelude.{◌≡◌, OnOk};
-ghost use Rattle.termwiz_input.specs.Table.{with_rows, cursor_keys_rows, modified_cursor_keys_rows, shift_arrows_rows, ctrl_arrows_rows, application_arrows_rows, modified_application_arrows_rows, application_home_end_rows};
+ghost use Rattle.termwiz_grammar.specs.Table.{with_rows, cursor_keys_rows, modified_cursor_keys_rows, shift_arrows_rows, ctrl_arrows_rows, application_arrows_rows, modified_application_arrows_rows, application_home_end_rows};
 
 use super::insert::{insert_each_suffixed, insert_each_with};
 use super::lists::{
     APPLICATION_ARROWS, BEFORE_NINE, CURSOR_KEYS, HOME_AND_END, SMALL_ARROWS, SUFFIXES,
 };
-use crate::keymap::KeyMap;
-use crate::types::KeyEvent;
 use std::alloc::{AllocError, Global};
 use termwiz_base::Modifiers;
+use termwiz_keymap::keymap::KeyMap;
+use termwiz_keys::types::KeyEvent;
 
 // ESC [ and a letter: a cursor key.
-#[tactic(auto, unfolding(crate::specs::Table::cursor_keys_rows))]
+#[tactic(auto, unfolding(termwiz_grammar::specs::Table::cursor_keys_rows))]
 pub(super) fn cursor_keys(alloc: Global, keys: &mut KeyMap<KeyEvent>) -> Result<(), AllocError>
     ensures { OnOk result (keys.new ≡ with_rows keys.old cursor_keys_rows) }
 {
@@ -20,7 +20,7 @@ pub(super) fn cursor_keys(alloc: Global, keys: &mut KeyMap<KeyEvent>) -> Result<
 }
 
 // ESC [1 s and a letter: a cursor key, with the modifiers of the suffix s.
-#[tactic(auto, unfolding(crate::specs::Table::modified_cursor_keys_rows))]
+#[tactic(auto, unfolding(termwiz_grammar::specs::Table::modified_cursor_keys_rows))]
 pub(super) fn modified_cursor_keys(
     alloc: Global,
     keys: &mut KeyMap<KeyEvent>,
@@ -31,7 +31,7 @@ pub(super) fn modified_cursor_keys(
 }
 
 // ESC [ and a lower case letter: an arrow with Shift.
-#[tactic(auto, unfolding(crate::specs::Table::shift_arrows_rows))]
+#[tactic(auto, unfolding(termwiz_grammar::specs::Table::shift_arrows_rows))]
 pub(super) fn shift_arrows(alloc: Global, keys: &mut KeyMap<KeyEvent>) -> Result<(), AllocError>
     ensures { OnOk result (keys.new ≡ with_rows keys.old shift_arrows_rows) }
 {
@@ -39,7 +39,7 @@ pub(super) fn shift_arrows(alloc: Global, keys: &mut KeyMap<KeyEvent>) -> Result
 }
 
 // ESC O and a lower case letter: an arrow with Ctrl.
-#[tactic(auto, unfolding(crate::specs::Table::ctrl_arrows_rows))]
+#[tactic(auto, unfolding(termwiz_grammar::specs::Table::ctrl_arrows_rows))]
 pub(super) fn ctrl_arrows(alloc: Global, keys: &mut KeyMap<KeyEvent>) -> Result<(), AllocError>
     ensures { OnOk result (keys.new ≡ with_rows keys.old ctrl_arrows_rows) }
 {
@@ -47,7 +47,7 @@ pub(super) fn ctrl_arrows(alloc: Global, keys: &mut KeyMap<KeyEvent>) -> Result<
 }
 
 // ESC O and a letter: an arrow in application cursor mode.
-#[tactic(auto, unfolding(crate::specs::Table::application_arrows_rows))]
+#[tactic(auto, unfolding(termwiz_grammar::specs::Table::application_arrows_rows))]
 pub(super) fn application_arrows(
     alloc: Global,
     keys: &mut KeyMap<KeyEvent>,
@@ -58,7 +58,7 @@ pub(super) fn application_arrows(
 }
 
 // ESC O1 s and a letter: such an arrow, with the modifiers of the suffix s.
-#[tactic(auto, unfolding(crate::specs::Table::modified_application_arrows_rows))]
+#[tactic(auto, unfolding(termwiz_grammar::specs::Table::modified_application_arrows_rows))]
 pub(super) fn modified_application_arrows(
     alloc: Global,
     keys: &mut KeyMap<KeyEvent>,
@@ -75,7 +75,7 @@ pub(super) fn modified_application_arrows(
 }
 
 // ESC O and H or F: Home or End in application cursor mode.
-#[tactic(auto, unfolding(crate::specs::Table::application_home_end_rows))]
+#[tactic(auto, unfolding(termwiz_grammar::specs::Table::application_home_end_rows))]
 pub(super) fn application_home_end(
     alloc: Global,
     keys: &mut KeyMap<KeyEvent>,

@@ -1,20 +1,20 @@
 // Rules of the function keys and of the editing block.
 ghost use Rattle.std.specs.Prelude.{◌≡◌, flat_map, OnOk};
 ghost use Rattle.termwiz_input.specs.Suffixes.{suffixes_with_bits};
-ghost use Rattle.termwiz_input.specs.Table.{with_rows, function_key_of, keys_by_digit, ss3_function_keys_rows, lettered_function_keys_rows, numbered_function_keys_rows, edit_keys_rows, modified_edit_keys_rows, high_function_keys_rows};
+ghost use Rattle.termwiz_grammar.specs.Table.{with_rows, function_key_of, keys_by_digit, ss3_function_keys_rows, lettered_function_keys_rows, numbered_function_keys_rows, edit_keys_rows, modified_edit_keys_rows, high_function_keys_rows};
 
 use super::insert::{insert_each_suffixed, insert_each_with, insert_suffixed};
 use super::lists::{
     BEFORE_NINE, DIGIT_ENDS, DIGIT_KEYS, FIRST_FUNCTIONS, FUNCTION_CODES, HIGH_FUNCTION_CODES,
     MODIFIED_DIGIT_KEYS, SUFFIXES, Suffix,
 };
-use crate::keymap::KeyMap;
-use crate::types::{KeyCode, KeyEvent};
 use std::alloc::{AllocError, Global};
 use termwiz_base::Modifiers;
+use termwiz_keymap::keymap::KeyMap;
+use termwiz_keys::types::{KeyCode, KeyEvent};
 
 // ESC O and P to S: F1 to F4.
-#[tactic(auto, unfolding(crate::specs::Table::ss3_function_keys_rows))]
+#[tactic(auto, unfolding(termwiz_grammar::specs::Table::ss3_function_keys_rows))]
 pub(super) fn ss3_function_keys(
     alloc: Global,
     keys: &mut KeyMap<KeyEvent>,
@@ -25,7 +25,7 @@ pub(super) fn ss3_function_keys(
 }
 
 // ESC [1 s and P to S: F1 to F4, with the modifiers of the suffix s.
-#[tactic(auto, unfolding(crate::specs::Table::lettered_function_keys_rows))]
+#[tactic(auto, unfolding(termwiz_grammar::specs::Table::lettered_function_keys_rows))]
 pub(super) fn lettered_function_keys(
     alloc: Global,
     keys: &mut KeyMap<KeyEvent>,
@@ -52,7 +52,7 @@ fn insert_function_keys(
 }
 
 // The same for F1 to F20.
-#[tactic(auto, unfolding(crate::specs::Table::numbered_function_keys_rows))]
+#[tactic(auto, unfolding(termwiz_grammar::specs::Table::numbered_function_keys_rows))]
 pub(super) fn numbered_function_keys(
     alloc: Global,
     keys: &mut KeyMap<KeyEvent>,
@@ -63,7 +63,7 @@ pub(super) fn numbered_function_keys(
 }
 
 // The same for F21 to F24.
-#[tactic(auto, unfolding(crate::specs::Table::high_function_keys_rows))]
+#[tactic(auto, unfolding(termwiz_grammar::specs::Table::high_function_keys_rows))]
 pub(super) fn high_function_keys(
     alloc: Global,
     keys: &mut KeyMap<KeyEvent>,
@@ -91,7 +91,7 @@ fn insert_by_digit(
 }
 
 // ESC [ digit end: a key of the editing block, with the modifiers of the end.
-#[tactic(auto, unfolding(crate::specs::Table::edit_keys_rows))]
+#[tactic(auto, unfolding(termwiz_grammar::specs::Table::edit_keys_rows))]
 pub(super) fn edit_keys(alloc: Global, keys: &mut KeyMap<KeyEvent>) -> Result<(), AllocError>
     ensures { OnOk result (keys.new ≡ with_rows keys.old edit_keys_rows) }
 {
@@ -99,7 +99,7 @@ pub(super) fn edit_keys(alloc: Global, keys: &mut KeyMap<KeyEvent>) -> Result<()
 }
 
 // ESC [ digit s ~, s not empty: Insert, Delete, PageUp and PageDown, with the modifiers of the suffix s.
-#[tactic(auto, unfolding(crate::specs::Table::modified_edit_keys_rows))]
+#[tactic(auto, unfolding(termwiz_grammar::specs::Table::modified_edit_keys_rows))]
 pub(super) fn modified_edit_keys(
     alloc: Global,
     keys: &mut KeyMap<KeyEvent>,

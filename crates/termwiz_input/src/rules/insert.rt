@@ -1,15 +1,15 @@
 // Puts rows into a key map that differ in their suffixes and keys alone.
 ghost use Rattle.std.specs.Prelude.{◌≡◌, ◌++◌, OnOk, string_bytes};
-ghost use Rattle.termwiz_input.specs.Keys.{key_with};
-ghost use Rattle.termwiz_input.specs.Table.{with_rows, key_with_each_suffix, keys_with_each_suffix, keys_with_modifiers};
+ghost use Rattle.termwiz_keys.specs.Keys.{key_with};
+ghost use Rattle.termwiz_grammar.specs.Table.{with_rows, key_with_each_suffix, keys_with_each_suffix, keys_with_modifiers};
 ghost use Rattle.termwiz_input.specs.Suffixes.{suffixes_with_bits, keys_with_texts, held_together};
 
 use super::lists::Suffix;
-use crate::keymap::KeyMap;
-use crate::types::{KeyCode, KeyEvent};
 use bitflags::Flags;
 use std::alloc::{AllocError, Global};
 use termwiz_base::Modifiers;
+use termwiz_keymap::keymap::KeyMap;
+use termwiz_keys::types::{KeyCode, KeyEvent};
 
 // A key with these modifiers.
 pub(super) fn key_with(key: KeyCode, modifiers: Modifiers) -> KeyEvent

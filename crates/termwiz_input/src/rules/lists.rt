@@ -1,6 +1,6 @@
 // The suffixes of sequences and the keys of the rules, each list once.
-use crate::types::KeyCode;
 use termwiz_base::Modifiers;
+use termwiz_keys::types::KeyCode;
 
 // What a sequence may have before its last part, and the modifiers that it stands for.
 pub(super) type Suffix = (&'static str, &'static [Modifiers]);

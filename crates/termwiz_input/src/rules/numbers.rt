@@ -1,17 +1,17 @@
 // Rules whose sequences give a character by its number.
 ghost use Rattle.std.specs.Prelude.{◌≡◌, OnOk};
-ghost use Rattle.termwiz_input.specs.Table.{with_rows, key_of_code, csi_u_rows, modify_other_keys_of, modify_other_keys_rows};
+ghost use Rattle.termwiz_grammar.specs.Table.{with_rows, key_of_code, csi_u_rows, modify_other_keys_of, modify_other_keys_rows};
 
 use super::insert::{insert_suffixed, key_with, together};
 use super::lists::{BEFORE_NINE, SUFFIXES};
-use crate::keymap::KeyMap;
-use crate::types::{KeyCode, KeyEvent};
 use std::alloc::{AllocError, Global};
 use std::fmt::Write;
 use termwiz_base::Modifiers;
+use termwiz_keymap::keymap::KeyMap;
+use termwiz_keys::types::{KeyCode, KeyEvent};
 
 // ESC [ c s u, c from 0 to 127 in decimal: the character c, with the modifiers of the suffix s.
-#[tactic(auto, unfolding(crate::specs::Table::csi_u_rows))]
+#[tactic(auto, unfolding(termwiz_grammar::specs::Table::csi_u_rows))]
 pub(super) fn csi_u(alloc: Global, keys: &mut KeyMap<KeyEvent>) -> Result<(), AllocError>
     ensures { OnOk result (keys.new ≡ with_rows keys.old csi_u_rows) }
 {
@@ -25,7 +25,7 @@ pub(super) fn csi_u(alloc: Global, keys: &mut KeyMap<KeyEvent>) -> Result<(), Al
 }
 
 // ESC [27 s ; c ~, s not empty and c from 0 to 127 in decimal: the key of c, with the modifiers of the suffix s.
-#[tactic(auto, unfolding(crate::specs::Table::modify_other_keys_rows))]
+#[tactic(auto, unfolding(termwiz_grammar::specs::Table::modify_other_keys_rows))]
 pub(super) fn modify_other_keys(
     alloc: Global,
     keys: &mut KeyMap<KeyEvent>,

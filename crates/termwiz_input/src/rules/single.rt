@@ -1,16 +1,16 @@
 // Rules of single bytes, of ESC and a byte, and of sequences that stand alone.
 ghost use Rattle.std.specs.Prelude.{◌≡◌, OnOk};
-ghost use Rattle.termwiz_input.specs.Table.{with_rows, is_letter, control_letters_rows, backspace_bytes_rows, tab_byte_rows, enter_bytes_rows, escape_byte_rows, alt_letters_rows, alt_bracket_rows, shift_tab_rows, paste_start_rows, paste_end_rows, ctrl_shift_tab_rows};
+ghost use Rattle.termwiz_grammar.specs.Table.{with_rows, is_letter, control_letters_rows, backspace_bytes_rows, tab_byte_rows, enter_bytes_rows, escape_byte_rows, alt_letters_rows, alt_bracket_rows, shift_tab_rows, paste_start_rows, paste_end_rows, ctrl_shift_tab_rows};
 
 use super::insert::key_with;
-use crate::keymap::KeyMap;
-use crate::types::{KeyCode, KeyEvent};
 use bitflags::Flags;
 use std::alloc::AllocError;
 use termwiz_base::Modifiers;
+use termwiz_keymap::keymap::KeyMap;
+use termwiz_keys::types::{KeyCode, KeyEvent};
 
 // The bytes 1 to 26 but 8, 9, 10 and 13: Ctrl and the letter at that place in the alphabet.
-#[tactic(auto, unfolding(crate::specs::Table::control_letters_rows))]
+#[tactic(auto, unfolding(termwiz_grammar::specs::Table::control_letters_rows))]
 pub(super) fn control_letters(keys: &mut KeyMap<KeyEvent>) -> Result<(), AllocError>
     ensures { OnOk result (keys.new ≡ with_rows keys.old control_letters_rows) }
 {
@@ -31,7 +31,7 @@ fn is_letter(byte: u8) -> bool
 }
 
 // 8 and 0x7f: Backspace.
-#[tactic(auto, unfolding(crate::specs::Table::backspace_bytes_rows))]
+#[tactic(auto, unfolding(termwiz_grammar::specs::Table::backspace_bytes_rows))]
 pub(super) fn backspace_bytes(keys: &mut KeyMap<KeyEvent>) -> Result<(), AllocError>
     ensures { OnOk result (keys.new ≡ with_rows keys.old backspace_bytes_rows) }
 {
@@ -40,7 +40,7 @@ pub(super) fn backspace_bytes(keys: &mut KeyMap<KeyEvent>) -> Result<(), AllocEr
 }
 
 // 9: Tab.
-#[tactic(auto, unfolding(crate::specs::Table::tab_byte_rows))]
+#[tactic(auto, unfolding(termwiz_grammar::specs::Table::tab_byte_rows))]
 pub(super) fn tab_byte(keys: &mut KeyMap<KeyEvent>) -> Result<(), AllocError>
     ensures { OnOk result (keys.new ≡ with_rows keys.old tab_byte_rows) }
 {
@@ -48,7 +48,7 @@ pub(super) fn tab_byte(keys: &mut KeyMap<KeyEvent>) -> Result<(), AllocError>
 }
 
 // 10 and 13: Enter.
-#[tactic(auto, unfolding(crate::specs::Table::enter_bytes_rows))]
+#[tactic(auto, unfolding(termwiz_grammar::specs::Table::enter_bytes_rows))]
 pub(super) fn enter_bytes(keys: &mut KeyMap<KeyEvent>) -> Result<(), AllocError>
     ensures { OnOk result (keys.new ≡ with_rows keys.old enter_bytes_rows) }
 {
@@ -57,7 +57,7 @@ pub(super) fn enter_bytes(keys: &mut KeyMap<KeyEvent>) -> Result<(), AllocError>
 }
 
 // ESC: Escape.
-#[tactic(auto, unfolding(crate::specs::Table::escape_byte_rows))]
+#[tactic(auto, unfolding(termwiz_grammar::specs::Table::escape_byte_rows))]
 pub(super) fn escape_byte(keys: &mut KeyMap<KeyEvent>) -> Result<(), AllocError>
     ensures { OnOk result (keys.new ≡ with_rows keys.old escape_byte_rows) }
 {
@@ -65,7 +65,7 @@ pub(super) fn escape_byte(keys: &mut KeyMap<KeyEvent>) -> Result<(), AllocError>
 }
 
 // ESC and an upper case letter: that letter with Alt.
-#[tactic(auto, unfolding(crate::specs::Table::alt_letters_rows))]
+#[tactic(auto, unfolding(termwiz_grammar::specs::Table::alt_letters_rows))]
 pub(super) fn alt_letters(keys: &mut KeyMap<KeyEvent>) -> Result<(), AllocError>
     ensures { OnOk result (keys.new ≡ with_rows keys.old alt_letters_rows) }
 {
@@ -79,7 +79,7 @@ pub(super) fn alt_letters(keys: &mut KeyMap<KeyEvent>) -> Result<(), AllocError>
 }
 
 // ESC [: the bracket with Alt.
-#[tactic(auto, unfolding(crate::specs::Table::alt_bracket_rows))]
+#[tactic(auto, unfolding(termwiz_grammar::specs::Table::alt_bracket_rows))]
 pub(super) fn alt_bracket(keys: &mut KeyMap<KeyEvent>) -> Result<(), AllocError>
     ensures { OnOk result (keys.new ≡ with_rows keys.old alt_bracket_rows) }
 {
@@ -87,7 +87,7 @@ pub(super) fn alt_bracket(keys: &mut KeyMap<KeyEvent>) -> Result<(), AllocError>
 }
 
 // ESC [Z: Tab with Shift.
-#[tactic(auto, unfolding(crate::specs::Table::shift_tab_rows))]
+#[tactic(auto, unfolding(termwiz_grammar::specs::Table::shift_tab_rows))]
 pub(super) fn shift_tab(keys: &mut KeyMap<KeyEvent>) -> Result<(), AllocError>
     ensures { OnOk result (keys.new ≡ with_rows keys.old shift_tab_rows) }
 {
@@ -95,7 +95,7 @@ pub(super) fn shift_tab(keys: &mut KeyMap<KeyEvent>) -> Result<(), AllocError>
 }
 
 // ESC [200~: a pasted text begins.
-#[tactic(auto, unfolding(crate::specs::Table::paste_start_rows))]
+#[tactic(auto, unfolding(termwiz_grammar::specs::Table::paste_start_rows))]
 pub(super) fn paste_start(keys: &mut KeyMap<KeyEvent>) -> Result<(), AllocError>
     ensures { OnOk result (keys.new ≡ with_rows keys.old paste_start_rows) }
 {
@@ -106,7 +106,7 @@ pub(super) fn paste_start(keys: &mut KeyMap<KeyEvent>) -> Result<(), AllocError>
 }
 
 // ESC [201~: it ends.
-#[tactic(auto, unfolding(crate::specs::Table::paste_end_rows))]
+#[tactic(auto, unfolding(termwiz_grammar::specs::Table::paste_end_rows))]
 pub(super) fn paste_end(keys: &mut KeyMap<KeyEvent>) -> Result<(), AllocError>
     ensures { OnOk result (keys.new ≡ with_rows keys.old paste_end_rows) }
 {
@@ -117,7 +117,7 @@ pub(super) fn paste_end(keys: &mut KeyMap<KeyEvent>) -> Result<(), AllocError>
 }
 
 // ESC [1;5Z: Tab with Ctrl and Shift.
-#[tactic(auto, unfolding(crate::specs::Table::ctrl_shift_tab_rows))]
+#[tactic(auto, unfolding(termwiz_grammar::specs::Table::ctrl_shift_tab_rows))]
 pub(super) fn ctrl_shift_tab(keys: &mut KeyMap<KeyEvent>) -> Result<(), AllocError>
     ensures { OnOk result (keys.new ≡ with_rows keys.old ctrl_shift_tab_rows) }
 {

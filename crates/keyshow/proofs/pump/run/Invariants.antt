@@ -1,6 +1,6 @@
 use Rattle.std.proofs.Common.{List, ℕ, true}
 use Rattle.std.specs.Io.KnownBytes.{Appends, Consumes}
-use Rattle.termwiz_input.specs.declared.types.InputEvent.{InputEvent}
+use Rattle.termwiz_input.specs.InputEvent.{InputEvent}
 use Rattle.termwiz_input.specs.Grammar.{Means}
 use Rattle.keyshow.specs.Lines.{lines}
 use Rattle.keyshow.proofs.pump.run.Given as goal

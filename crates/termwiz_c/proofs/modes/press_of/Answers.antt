@@ -1,6 +1,6 @@
 use Rattle.std.proofs.Common.{◌≡◌, Some, ap}
-use Rattle.termwiz_input.specs.declared.encode.KeyCodeEncodeModes.{KeyCodeEncodeModes}
-use Rattle.termwiz_input.specs.declared.types.KeyCode.{KeyCode}
+use Rattle.termwiz_input.specs.KeyCodeEncodeModes.{KeyCodeEncodeModes}
+use Rattle.termwiz_input.specs.KeyCode.{KeyCode}
 use Rattle.termwiz_base.specs.declared.modifiers.Modifiers.{Modifiers}
 use Rattle.termwiz_c.specs.declared.modes.Press.{Press}
 use Rattle.termwiz_c.proofs.modes.press_of.Goals as goal

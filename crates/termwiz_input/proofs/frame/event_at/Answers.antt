@@ -1,8 +1,8 @@
 use Rattle.std.proofs.Common.{List, ℕ, refl}
 use Rattle.std.proofs.lemmas.Result.{err_from_is_err_and}
 use denote.Ref.{Bor}
-use Rattle.termwiz_input.specs.declared.types.MouseEvent.{MouseEvent}
-use Rattle.termwiz_input.proofs.FrameReading.{code_unread, column_unread, row_unread, frame_read, report_read}
+use Rattle.termwiz_keys.specs.declared.types.MouseEvent.{MouseEvent}
+use Rattle.termwiz_input.proofs.lemmas.mouse.ReportReading.{code_unread, column_unread, row_unread, frame_read, report_read}
 use Rattle.termwiz_input.proofs.frame.event_at.Goals as goal
 
 pub returns-in_err-code : goal.returns-in_err-code

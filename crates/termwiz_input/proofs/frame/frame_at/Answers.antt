@@ -1,8 +1,8 @@
 use Rattle.std.proofs.Common.{◌∙◌, sym, subst, refl}
 use Rattle.termwiz_input.specs.declared.frame.Unread.TheVariants.{Begun, Absent}
 use Rattle.termwiz_input.specs.FrameAnswers.{IsFrameUnread}
-use Rattle.termwiz_input.proofs.FrameReading.{introduced, frame_before, introducer_begun, no_introducer}
-use Rattle.termwiz_input.proofs.Prefixes.{denied}
+use Rattle.termwiz_input.proofs.lemmas.mouse.ReportReading.{introduced, frame_before, introducer_begun, no_introducer}
+use Rattle.termwiz_keymap.proofs.lemmas.lists.PrefixTest.{denied}
 use Rattle.termwiz_input.proofs.frame.frame_at.Goals as goal
 
 pub returns-in-Ok : goal.returns-in-Ok

@@ -1,7 +1,7 @@
 use Rattle.std.proofs.Common.{◌≡◌, ◌<◌, ◌==◌, ℕ, List, length, get_or, true, false, Contains, arith, ap, sym, subst, eq-eqb, ◌∙◌}
 use Rattle.std.proofs.lemmas.Bool.{MatchBool-at_false}
 use Rattle.std.proofs.lemmas.List.{length-take-le}
-use Rattle.termwiz_input.proofs.Numbers.{number_past, number_stops, digit_from_test, no_digit_from_test}
+use Rattle.termwiz_grammar.proofs.lemmas.mouse.ReportNumbers.{number_past, number_stops, digit_from_test, no_digit_from_test}
 use Rattle.termwiz_input.proofs.frame.number_at.Goals as goal
 use Rattle.termwiz_input.proofs.frame.number_at.Goals.{then-count-eq0-via-then-count-eq0, then-count-eq0-via-else-count-eq0+then-not-contains}
 

@@ -1,6 +1,6 @@
 use Rattle.std.proofs.Common.{◌≡◌, ◌≤◌, take}
 use Rattle.std.specs.List.{AllByRecursion}
-use Rattle.termwiz_input.specs.Frame.{IsDigit, value_of}
+use Rattle.termwiz_grammar.specs.Frame.{IsDigit, value_of}
 use Rattle.termwiz_input.proofs.frame.number_at.Given as goal
 
 abbrev pub invariant-loop-count : goal.invariant-loop-count

@@ -1,6 +1,6 @@
 use Rattle.std.proofs.Common.{◌≢◌, ◌≤◌, slice_index_or, arith}
 use Rattle.std.proofs.lemmas.Bool.Decides.{nat_tests}
-use Rattle.termwiz_input.proofs.ApartFromKnown.{apart_from_known}
+use Rattle.termwiz_input.proofs.lemmas.heads.StartsNoSequence.{apart_from_known}
 use Rattle.termwiz_input.proofs.head.begins_apart_from_known.Goals as goal
 
 pub returns-then-first-ge-SPACE-clause-apart : goal.returns-then-first-ge-SPACE-clause-apart

@@ -1,7 +1,7 @@
 use Rattle.std.proofs.Common.{◌<◌, ◌≤◌, slice_index_or, arith}
 use Rattle.std.proofs.lemmas.Bool.Decides.{nat_tests}
-use Rattle.termwiz_input.proofs.ApartFromKnown.{lone_escape_at}
-use Rattle.termwiz_input.proofs.FrameFacts.{IsPlain}
+use Rattle.termwiz_input.proofs.lemmas.heads.StartsNoSequence.{lone_escape_at}
+use Rattle.termwiz_grammar.proofs.lemmas.mouse.OneReport.{IsPlain}
 use Rattle.termwiz_input.proofs.head.begins_with_lone_escape.Goals as goal
 
 pub returns-then-next-lt-SPACE-clause-lone : goal.returns-then-next-lt-SPACE-clause-lone

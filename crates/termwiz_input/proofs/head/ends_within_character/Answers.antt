@@ -1,5 +1,5 @@
 use Rattle.std.proofs.Common.{◌∙◌}
-use Rattle.termwiz_input.proofs.Reading.{not_text, fault_tells}
+use Rattle.termwiz_input.proofs.lemmas.heads.HeadLookup.{not_text, fault_tells}
 use Rattle.termwiz_input.proofs.head.ends_within_character.Goals as goal
 
 pub returns-in-Ok : goal.returns-in-Ok

@@ -1,4 +1,4 @@
-use Rattle.termwiz_input.proofs.Reading.{frame_front, frame_closed, begun_waits, begun_no_frame}
+use Rattle.termwiz_input.proofs.lemmas.heads.HeadLookup.{frame_front, frame_closed, begun_waits, begun_no_frame}
 use Rattle.termwiz_input.proofs.head.tested_head_at.Goals as goal
 
 pub unframed_head_at-requires-clause-no_frame : goal.unframed_head_at-requires-clause-no_frame

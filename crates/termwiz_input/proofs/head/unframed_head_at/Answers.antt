@@ -1,7 +1,7 @@
 use Rattle.std.proofs.Common.{◌≡◌, subst}
 use Rattle.std.specs.Prelude.{false}
-use Rattle.termwiz_input.specs.Lookup.{IsLongestKey, IsExtended, NoKeyBegins}
-use Rattle.termwiz_input.proofs.Reading.{longest_from_key, nothing_known, extended_waits, extended_from_unfinished, exact_closed}
+use Rattle.termwiz_keymap.specs.Lookup.{IsLongestKey, IsExtended, NoKeyBegins}
+use Rattle.termwiz_input.proofs.lemmas.heads.HeadLookup.{longest_from_key, nothing_known, extended_waits, extended_from_unfinished, exact_closed}
 use Rattle.termwiz_input.proofs.head.unframed_head_at.Goals as goal
 
 pub returns-in-Exact-clause-closed : goal.returns-in-Exact-clause-closed

@@ -1,6 +1,6 @@
 use Rattle.std.proofs.Common.{length, sym, ap, arith}
 use Rattle.std.proofs.lemmas.Bool.Decides.{nat_tests}
-use Rattle.termwiz_input.proofs.Reading.{character_front, character_closed, broken_front}
+use Rattle.termwiz_input.proofs.lemmas.heads.HeadLookup.{character_front, character_closed, broken_front}
 use Rattle.termwiz_input.proofs.head.unknown_head_at.Goals as goal
 
 pub returns-in-Some-clause-closed : goal.returns-in-Some-clause-closed

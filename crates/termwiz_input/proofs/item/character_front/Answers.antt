@@ -1,4 +1,4 @@
-use Rattle.termwiz_input.proofs.Typed.{character_item}
+use Rattle.termwiz_input.proofs.lemmas.items.PrintableAscii.{character_item}
 use Rattle.termwiz_input.proofs.item.character_front.Goals as goal
 
 pub returns-then-begins_apart_from_known : goal.returns-then-begins_apart_from_known

@@ -1,10 +1,10 @@
 use Rattle.std.proofs.Common.{◌++◌, ◌+◌, ◌∙◌, sym, ap, subst, refl}
-use Rattle.termwiz_input.specs.declared.types.InputEvent.TheVariants.{Key}
-use Rattle.termwiz_input.specs.Bytes.{ESC}
-use Rattle.termwiz_input.specs.Keys.{with_alt}
+use Rattle.termwiz_keys.specs.declared.types.InputEvent.TheVariants.{Key}
+use Rattle.termwiz_keys.specs.Sequences.{ESC}
+use Rattle.termwiz_keys.specs.Keys.{with_alt}
 use Rattle.termwiz_input.specs.AtFront.{HasHead, IsItemAt}
-use Rattle.termwiz_input.proofs.Prefixes.{denied}
-use Rattle.termwiz_input.proofs.Items.{item_of, escape_before_start, escape_before_frame, alt_row_stands, alt_character_stands, alt_broken_stands, joined_rest}
+use Rattle.termwiz_keymap.proofs.lemmas.lists.PrefixTest.{denied}
+use Rattle.termwiz_input.proofs.lemmas.items.ItemByHead.{item_of, escape_before_start, escape_before_frame, alt_row_stands, alt_character_stands, alt_broken_stands, joined_rest}
 use Rattle.termwiz_input.proofs.item.escape_item_at.Goals as goal
 
 pub returns-then-begins_paste-clause-item : goal.returns-then-begins_paste-clause-item

@@ -1,5 +1,5 @@
-use Rattle.termwiz_input.proofs.Items.{frame_stands}
-use Rattle.termwiz_input.proofs.Reading.{frame_front, frame_closed}
+use Rattle.termwiz_input.proofs.lemmas.items.ItemByHead.{frame_stands}
+use Rattle.termwiz_input.proofs.lemmas.heads.HeadLookup.{frame_front, frame_closed}
 use Rattle.termwiz_input.proofs.item.frame_front.Goals as goal
 
 pub returns-in-Whole : goal.returns-in-Whole

@@ -1,11 +1,11 @@
 use Rattle.std.proofs.Common.{◌∙◌, refl, sym, ap, subst, take}
-use Rattle.termwiz_input.specs.declared.types.InputEvent.TheVariants.{Key}
-use Rattle.termwiz_input.specs.Bytes.{ESC}
-use Rattle.termwiz_input.specs.Keys.{escape}
-use Rattle.termwiz_input.specs.Known.Meaning.{Row}
-use Rattle.termwiz_input.specs.Grammar.{IsLongest}
+use Rattle.termwiz_keys.specs.declared.types.InputEvent.TheVariants.{Key}
+use Rattle.termwiz_keys.specs.Sequences.{ESC}
+use Rattle.termwiz_keys.specs.Keys.{escape}
+use Rattle.termwiz_grammar.specs.Known.Meaning.{Row}
+use Rattle.termwiz_grammar.specs.Grammar.{IsLongest}
 use Rattle.termwiz_input.specs.AtFront.{HasHead, IsItemAt}
-use Rattle.termwiz_input.proofs.Items.{item_of, escape_row_is, row_stands, frame_stands, character_stands, broken_stands, waits_rest}
+use Rattle.termwiz_input.proofs.lemmas.items.ItemByHead.{item_of, escape_row_is, row_stands, frame_stands, character_stands, broken_stands, waits_rest}
 use Rattle.termwiz_input.proofs.item.key_or_mouse_at.Goals as goal
 
 pub escape_item_at-requires-clause-head : goal.escape_item_at-requires-clause-head

@@ -1,8 +1,8 @@
 use Rattle.std.proofs.Common.{◌≡◌, ℕ, List, length, take, drop, subst, arith}
 use Rattle.std.proofs.lemmas.List.{take_all}
-use Rattle.termwiz_input.specs.Grammar.{Steps}
+use Rattle.termwiz_grammar.specs.Grammar.{Steps}
 use Rattle.termwiz_input.specs.Typed.{typed}
-use Rattle.termwiz_input.proofs.Typed.{typed_first, typed_more}
+use Rattle.termwiz_input.proofs.lemmas.items.PrintableAscii.{typed_first, typed_more}
 use Rattle.termwiz_input.proofs.item.typed_front.Goals as goal
 
 pub loop-len-preserved : goal.loop-len-preserved

@@ -2,7 +2,7 @@ use Rattle.std.proofs.Common.{refl}
 use Rattle.std.proofs.lemmas.Bool.Decides.{Decides-and}
 use Rattle.std.proofs.lemmas.Slice.Eq.{slice_eq-Decides}
 use Rattle.std.specs.Cmp.{booleans_Decides}
-use Rattle.termwiz_input.proofs.EventEquality.{same_events}
+use Rattle.termwiz_keys.proofs.lemmas.equality.EventEquality.{same_events}
 use Rattle.termwiz_input.proofs.laws.error_equality.Goals as goal
 
 pub returns-clause-vec : goal.returns-clause-vec

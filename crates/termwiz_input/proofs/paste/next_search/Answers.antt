@@ -1,5 +1,5 @@
 use Rattle.std.proofs.Common.{arith}
-use Rattle.termwiz_input.proofs.Resuming.{waits_place}
+use Rattle.termwiz_input.proofs.lemmas.pastes.SearchResumes.{waits_place}
 use Rattle.termwiz_input.proofs.paste.next_search.Goals as goal
 
 pub returns : goal.returns

@@ -1,5 +1,5 @@
 use Rattle.std.proofs.Common.{refl, sym, subst}
-use Rattle.termwiz_input.specs.declared.encode.KeyCodeEncodeModes.{KeyCodeEncodeModes}
+use Rattle.termwiz_input.specs.KeyCodeEncodeModes.{KeyCodeEncodeModes}
 use Rattle.replay.specs.Keys.{Sends}
 use Rattle.replay.proofs.OneAnswer.{one_sent}
 use Rattle.replay.proofs.encodings.Encoder.replay_mode.Goals as goal

@@ -1,4 +1,4 @@
-use Rattle.termwiz_input.proofs.Resuming.{nothing_found}
+use Rattle.termwiz_input.proofs.lemmas.pastes.SearchResumes.{nothing_found}
 use Rattle.termwiz_input.proofs.input.InputParser.find_item.Goals as goal
 
 pub note_search-requires : goal.note_search-requires

@@ -1,4 +1,4 @@
-use Rattle.termwiz_input.proofs.TableMap.{table_exact}
+use Rattle.termwiz_grammar.proofs.lemmas.table.TableAsMap.{table_exact}
 use Rattle.termwiz_input.proofs.input.InputParser.new.Goals as goal
 
 pub returns-clause-exactly : goal.returns-clause-exactly

@@ -1,11 +1,11 @@
 use Rattle.std.proofs.Common.{◌≤◌, refl, ◌∙◌, [], subst, length}
 use Rattle.std.specs.Prelude.{false}
-use Rattle.termwiz_input.specs.declared.types.InputEvent.TheVariants.{Key}
+use Rattle.termwiz_keys.specs.declared.types.InputEvent.TheVariants.{Key}
 use Rattle.termwiz_input.specs.declared.item.Item.{Item}
-use Rattle.termwiz_input.specs.Keys.{plain}
+use Rattle.termwiz_keys.specs.Keys.{plain}
 use Rattle.termwiz_input.specs.AtFront.{IsItemAt}
-use Rattle.termwiz_input.proofs.Items.{item_of}
-use Rattle.termwiz_input.proofs.Typed.{item_stored}
+use Rattle.termwiz_input.proofs.lemmas.items.ItemByHead.{item_of}
+use Rattle.termwiz_input.proofs.lemmas.items.PrintableAscii.{item_stored}
 use Rattle.termwiz_input.proofs.input.InputParser.next_character.Goals as goal
 
 pub consume-requires : goal.consume-requires

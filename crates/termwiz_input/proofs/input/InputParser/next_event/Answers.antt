@@ -1,6 +1,6 @@
 use Rattle.std.proofs.Common.{◌∷◌, [], subst, sym}
-use Rattle.termwiz_input.specs.declared.types.InputEvent.TheVariants.{Key, Mouse}
-use Rattle.termwiz_input.specs.Grammar.{Steps}
+use Rattle.termwiz_keys.specs.declared.types.InputEvent.TheVariants.{Key, Mouse}
+use Rattle.termwiz_grammar.specs.Grammar.{Steps}
 use Rattle.termwiz_input.proofs.input.InputParser.next_event.Goals as goal
 
 pub returns-in-Some-clause-event : goal.returns-in-Some-clause-event

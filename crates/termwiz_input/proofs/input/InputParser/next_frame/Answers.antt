@@ -1,10 +1,10 @@
 use Rattle.std.proofs.Common.{◌≤◌, refl, ◌∙◌, [], subst, length}
 use Rattle.std.specs.Prelude.{false}
-use Rattle.termwiz_input.specs.declared.types.InputEvent.TheVariants.{Mouse}
+use Rattle.termwiz_keys.specs.declared.types.InputEvent.TheVariants.{Mouse}
 use Rattle.termwiz_input.specs.declared.item.Item.{Item}
 use Rattle.termwiz_input.specs.AtFront.{IsItemAt}
-use Rattle.termwiz_input.proofs.Items.{item_of}
-use Rattle.termwiz_input.proofs.Typed.{item_stored}
+use Rattle.termwiz_input.proofs.lemmas.items.ItemByHead.{item_of}
+use Rattle.termwiz_input.proofs.lemmas.items.PrintableAscii.{item_stored}
 use Rattle.termwiz_input.proofs.input.InputParser.next_frame.Goals as goal
 
 pub consume-requires : goal.consume-requires

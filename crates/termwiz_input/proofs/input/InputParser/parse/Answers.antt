@@ -1,9 +1,9 @@
 use Rattle.std.proofs.Common.{◌∷◌, [], sym, subst, arith}
-use Rattle.termwiz_input.specs.declared.types.InputEvent.TheVariants.{Key}
-use Rattle.termwiz_input.specs.Keys.{plain}
-use Rattle.termwiz_input.specs.Grammar.{Steps}
-use Rattle.termwiz_input.proofs.Calls.{given_one_more, may_give_more}
-use Rattle.termwiz_input.proofs.Counting.{few_events}
+use Rattle.termwiz_keys.specs.declared.types.InputEvent.TheVariants.{Key}
+use Rattle.termwiz_keys.specs.Keys.{plain}
+use Rattle.termwiz_grammar.specs.Grammar.{Steps}
+use Rattle.termwiz_input.proofs.lemmas.pieces.CallSequence.{given_one_more, may_give_more}
+use Rattle.termwiz_grammar.proofs.lemmas.cuts.FewEvents.{few_events}
 use Rattle.termwiz_input.proofs.input.InputParser.parse.Goals as goal
 
 -- a character

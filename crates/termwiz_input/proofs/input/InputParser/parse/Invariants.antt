@@ -1,6 +1,6 @@
 use Rattle.std.proofs.Common.{◌++◌, List, ℕ, length}
-use Rattle.termwiz_input.specs.declared.types.InputEvent.{InputEvent}
-use Rattle.termwiz_input.specs.Grammar.{Steps}
+use Rattle.termwiz_keys.specs.declared.types.InputEvent.{InputEvent}
+use Rattle.termwiz_grammar.specs.Grammar.{Steps}
 use Rattle.termwiz_input.specs.Callbacks.{MayBeCalledOn, WasCalledOn}
 use Rattle.termwiz_input.proofs.input.InputParser.parse.Given as goal
 

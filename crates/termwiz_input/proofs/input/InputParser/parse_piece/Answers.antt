@@ -1,10 +1,10 @@
 use Rattle.std.proofs.Common.{◌∷◌, [], sym, subst, arith}
 use denote.Param.Members.{Called}
-use Rattle.termwiz_input.specs.declared.types.InputEvent.TheVariants.{Key}
-use Rattle.termwiz_input.specs.Keys.{plain}
-use Rattle.termwiz_input.specs.Grammar.{Steps}
-use Rattle.termwiz_input.proofs.Calls.{given_one_more_numbered, may_give_more_numbered}
-use Rattle.termwiz_input.proofs.Counting.{few_events}
+use Rattle.termwiz_keys.specs.declared.types.InputEvent.TheVariants.{Key}
+use Rattle.termwiz_keys.specs.Keys.{plain}
+use Rattle.termwiz_grammar.specs.Grammar.{Steps}
+use Rattle.termwiz_input.proofs.lemmas.pieces.CallSequence.{given_one_more_numbered, may_give_more_numbered}
+use Rattle.termwiz_grammar.proofs.lemmas.cuts.FewEvents.{few_events}
 use Rattle.termwiz_input.proofs.input.InputParser.parse_piece.Goals as goal
 
 -- The number that the callback gets is the piece's, however it is written: hence `omega`, here and below.

@@ -1,6 +1,6 @@
 use Rattle.std.proofs.Common.{◌++◌, List, ℕ, length}
-use Rattle.termwiz_input.specs.declared.types.InputEvent.{InputEvent}
-use Rattle.termwiz_input.specs.Grammar.{Steps}
+use Rattle.termwiz_keys.specs.declared.types.InputEvent.{InputEvent}
+use Rattle.termwiz_grammar.specs.Grammar.{Steps}
 use Rattle.termwiz_input.specs.Callbacks.{MayBeCalledOnNumbered, WasCalledOnNumbered}
 use Rattle.termwiz_input.specs.Pieces.{numbered}
 use Rattle.termwiz_input.proofs.input.InputParser.parse_piece.Given as goal

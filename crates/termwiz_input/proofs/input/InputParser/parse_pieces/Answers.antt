@@ -4,11 +4,11 @@ use denote.Ref.{Bor}
 use Rattle.std.proofs.lemmas.Bool.Decides.{nat_tests}
 use Rattle.termwiz_input.specs.declared.input.ParseError.{ParseError}
 use Rattle.termwiz_input.specs.declared.input.ParseError.TheVariants.{NotTaken, Taken}
-use Rattle.termwiz_input.specs.Grammar.{HasPaste, IsRest, Means}
+use Rattle.termwiz_grammar.specs.Grammar.{HasPaste, IsRest, Means}
 use Rattle.termwiz_input.specs.Pieces.{AreNumbered, ReadsFirst, events_of, flag_at, join, numbered, pieces_or_one, taken_or_one, texts}
-use Rattle.termwiz_input.proofs.Calls.{FoldsTo-append, FoldsTo-nil, may_go_on}
-use Rattle.termwiz_input.proofs.Settling.{rest_flushed}
-use Rattle.termwiz_input.proofs.Numbering.{all_flushed, between_more, flag_of_slice, length-pieces, flag_before, nothing_read, one_read, one_settled, piece_at, read_more, some_taken}
+use Rattle.termwiz_input.proofs.lemmas.pieces.CallSequence.{FoldsTo-append, FoldsTo-nil, may_go_on}
+use Rattle.termwiz_grammar.proofs.lemmas.waiting.RestShape.{rest_flushed}
+use Rattle.termwiz_input.proofs.lemmas.pieces.NumberedEvents.{all_flushed, between_more, flag_of_slice, length-pieces, flag_before, nothing_read, one_read, one_settled, piece_at, read_more, some_taken}
 use Rattle.termwiz_input.proofs.input.InputParser.parse_pieces.Goals as goal
 
 -- what a refusal was

@@ -1,7 +1,7 @@
 use Rattle.std.proofs.Common.{List}
 use Rattle.termwiz_input.specs.Callbacks.{WasCalledOnNumbered}
 use Rattle.termwiz_input.specs.Pieces.{NumberedEvent, pieces_or_one, texts}
-use Rattle.termwiz_input.proofs.Numbering.{Between}
+use Rattle.termwiz_input.proofs.lemmas.pieces.NumberedEvents.{Between}
 use Rattle.termwiz_input.proofs.input.InputParser.parse_pieces.Given as goal
 
 abbrev pub invariant-loop-number : goal.invariant-loop-number

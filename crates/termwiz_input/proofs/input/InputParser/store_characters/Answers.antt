@@ -1,12 +1,12 @@
 use Rattle.std.proofs.Common.{◌≡◌, ◌≤◌, ◌++◌, ◌∷◌, [], ◌∙◌, Bool, ap, subst, length, length-append, arith}
 use Rattle.std.specs.Prelude.{false}
-use Rattle.termwiz_input.specs.declared.types.InputEvent.TheVariants.{Key}
+use Rattle.termwiz_keys.specs.declared.types.InputEvent.TheVariants.{Key}
 use Rattle.termwiz_input.specs.declared.item.Item.{Item}
-use Rattle.termwiz_input.specs.Keys.{plain}
+use Rattle.termwiz_keys.specs.Keys.{plain}
 use Rattle.termwiz_input.specs.AtFront.{IsItemAt}
-use Rattle.termwiz_input.proofs.Counting.{item_shortens}
-use Rattle.termwiz_input.proofs.Items.{item_of}
-use Rattle.termwiz_input.proofs.Typed.{item_stored, item_there, on_err}
+use Rattle.termwiz_input.proofs.lemmas.items.ItemShortens.{item_shortens}
+use Rattle.termwiz_input.proofs.lemmas.items.ItemByHead.{item_of}
+use Rattle.termwiz_input.proofs.lemmas.items.PrintableAscii.{item_stored, item_there, on_err}
 use Rattle.termwiz_input.proofs.input.InputParser.store_characters.Goals as goal
 
 pub returns-in_err-make_room-in-Some-clause-item : goal.returns-in_err-make_room-in-Some-clause-item

@@ -1,7 +1,8 @@
 use Rattle.std.proofs.Common.{◌≡◌, ◌++◌, ◌∷◌, [], ◌∙◌, ap, subst, drop, arith}
 use Rattle.std.specs.Prelude.{IfSome}
 use Rattle.termwiz_input.specs.AtFront.{IsItemAt}
-use Rattle.termwiz_input.proofs.Counting.{few_events, item_shortens, steps_more}
+use Rattle.termwiz_grammar.proofs.lemmas.cuts.FewEvents.{few_events}
+use Rattle.termwiz_input.proofs.lemmas.items.ItemShortens.{item_shortens, steps_more}
 use Rattle.termwiz_input.proofs.input.InputParser.store_events.Goals as goal
 
 -- the item that was found

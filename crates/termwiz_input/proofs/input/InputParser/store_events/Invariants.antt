@@ -1,5 +1,5 @@
 use Rattle.std.proofs.Common.{◌+◌, ◌≤◌, length}
-use Rattle.termwiz_input.specs.Grammar.{Steps}
+use Rattle.termwiz_grammar.specs.Grammar.{Steps}
 use Rattle.termwiz_input.proofs.input.InputParser.store_events.Given as goal
 
 abbrev pub invariant-loop-self : goal.invariant-loop-self

@@ -1,8 +1,8 @@
 use Rattle.std.proofs.Common.{◌≡◌, ◌++◌, ◌∙◌, Bool, arith, ap, subst, length, drop, length-drop}
 use Rattle.std.specs.Prelude.{false}
-use Rattle.termwiz_input.specs.Grammar.{HasItem, Steps}
+use Rattle.termwiz_grammar.specs.Grammar.{HasItem, Steps}
 use Rattle.termwiz_input.specs.Typed.{typed}
-use Rattle.termwiz_input.proofs.Typed.{on_err, typed_few, typed_item, typed_stored}
+use Rattle.termwiz_input.proofs.lemmas.items.PrintableAscii.{on_err, typed_few, typed_item, typed_stored}
 use Rattle.termwiz_input.proofs.input.InputParser.store_typed.Goals as goal
 
 -- what the characters at the front of the waiting text are, and the list with their events

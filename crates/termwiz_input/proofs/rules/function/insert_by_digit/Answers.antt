@@ -1,10 +1,10 @@
 use Rattle.std.proofs.Common.{◌++◌}
 use Rattle.std.specs.Prelude.{decimal}
 use Rattle.std.proofs.lemmas.List.{take_more}
-use Rattle.termwiz_input.specs.Bytes.{CSI}
+use Rattle.termwiz_keys.specs.Sequences.{CSI}
 use Rattle.termwiz_input.specs.Suffixes.{suffixes_with_bits}
-use Rattle.termwiz_input.specs.Table.{key_with_each_suffix}
-use Rattle.termwiz_input.proofs.Rows.{rows_pushed}
+use Rattle.termwiz_grammar.specs.Table.{key_with_each_suffix}
+use Rattle.termwiz_input.proofs.lemmas.table.InsertedRows.{rows_pushed}
 use Rattle.termwiz_input.proofs.rules.function.insert_by_digit.Goals as goal
 
 pub loop-digit-preserved : goal.loop-digit-preserved

@@ -1,5 +1,5 @@
 use Rattle.std.proofs.Common.{◌≡◌, take}
-use Rattle.termwiz_input.specs.Table.{with_rows, keys_by_digit}
+use Rattle.termwiz_grammar.specs.Table.{with_rows, keys_by_digit}
 use Rattle.termwiz_input.specs.Suffixes.{suffixes_with_bits}
 use Rattle.termwiz_input.proofs.rules.function.insert_by_digit.Given as goal
 

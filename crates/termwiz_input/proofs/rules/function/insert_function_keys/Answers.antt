@@ -1,6 +1,6 @@
 use Rattle.std.proofs.lemmas.List.{take_more}
-use Rattle.termwiz_input.specs.Table.{function_key_of}
-use Rattle.termwiz_input.proofs.Rows.{rows_pushed}
+use Rattle.termwiz_grammar.specs.Table.{function_key_of}
+use Rattle.termwiz_input.proofs.lemmas.table.InsertedRows.{rows_pushed}
 use Rattle.termwiz_input.proofs.rules.function.insert_function_keys.Goals as goal
 
 pub loop-code-preserved : goal.loop-code-preserved

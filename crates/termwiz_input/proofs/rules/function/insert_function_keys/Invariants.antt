@@ -1,6 +1,6 @@
 use Rattle.std.proofs.Common.{◌≡◌, take}
 use Rattle.std.specs.Prelude.{flat_map}
-use Rattle.termwiz_input.specs.Table.{with_rows, function_key_of}
+use Rattle.termwiz_grammar.specs.Table.{with_rows, function_key_of}
 use Rattle.termwiz_input.proofs.rules.function.insert_function_keys.Given as goal
 
 abbrev pub invariant-loop-code : goal.invariant-loop-code

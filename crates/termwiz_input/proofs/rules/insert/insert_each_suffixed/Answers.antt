@@ -1,7 +1,7 @@
 use Rattle.std.proofs.lemmas.List.{map_more}
-use Rattle.termwiz_input.specs.Table.{key_with_each_suffix}
+use Rattle.termwiz_grammar.specs.Table.{key_with_each_suffix}
 use Rattle.termwiz_input.specs.Suffixes.{suffixes_with_bits}
-use Rattle.termwiz_input.proofs.Rows.{rows_pushed}
+use Rattle.termwiz_input.proofs.lemmas.table.InsertedRows.{rows_pushed}
 use Rattle.termwiz_input.proofs.rules.insert.insert_each_suffixed.Goals as goal
 
 pub loop-end-preserved : goal.loop-end-preserved

@@ -1,7 +1,7 @@
 use Rattle.std.proofs.Common.{◌∙◌, ◌++◌, append-nil}
 use Rattle.std.proofs.lemmas.List.{map_more}
-use Rattle.termwiz_input.specs.Keys.{key_with}
-use Rattle.termwiz_input.proofs.Rows.{row_pushed}
+use Rattle.termwiz_keys.specs.Keys.{key_with}
+use Rattle.termwiz_input.proofs.lemmas.table.InsertedRows.{row_pushed}
 use Rattle.termwiz_input.proofs.rules.insert.insert_each_with.Goals as goal
 
 pub loop-end-preserved : goal.loop-end-preserved

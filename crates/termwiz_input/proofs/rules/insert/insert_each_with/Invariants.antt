@@ -1,5 +1,5 @@
 use Rattle.std.proofs.Common.{◌≡◌, take}
-use Rattle.termwiz_input.specs.Table.{with_rows, keys_with_modifiers}
+use Rattle.termwiz_grammar.specs.Table.{with_rows, keys_with_modifiers}
 use Rattle.termwiz_input.specs.Suffixes.{keys_with_texts}
 use Rattle.termwiz_input.proofs.rules.insert.insert_each_with.Given as goal
 

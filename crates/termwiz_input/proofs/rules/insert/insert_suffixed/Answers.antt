@@ -1,8 +1,8 @@
 use Rattle.std.proofs.Common.{◌∙◌, ◌++◌, ap}
 use Rattle.std.proofs.lemmas.List.{map_more}
-use Rattle.termwiz_input.specs.Keys.{key_with}
+use Rattle.termwiz_keys.specs.Keys.{key_with}
 use Rattle.termwiz_input.specs.Suffixes.{held_together}
-use Rattle.termwiz_input.proofs.Rows.{row_pushed}
+use Rattle.termwiz_input.proofs.lemmas.table.InsertedRows.{row_pushed}
 use Rattle.termwiz_input.proofs.rules.insert.insert_suffixed.Goals as goal
 
 pub loop-suffix-preserved : goal.loop-suffix-preserved

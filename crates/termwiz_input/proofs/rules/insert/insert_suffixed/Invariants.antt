@@ -1,5 +1,5 @@
 use Rattle.std.proofs.Common.{◌≡◌, take}
-use Rattle.termwiz_input.specs.Table.{with_rows, key_with_each_suffix}
+use Rattle.termwiz_grammar.specs.Table.{with_rows, key_with_each_suffix}
 use Rattle.termwiz_input.specs.Suffixes.{suffixes_with_bits}
 use Rattle.termwiz_input.proofs.rules.insert.insert_suffixed.Given as goal
 

@@ -1,7 +1,7 @@
 use Rattle.std.proofs.Common.{ap, sym}
 use Rattle.std.specs.Prelude.{flat_map}
-use Rattle.termwiz_input.specs.Table.{with_rows, csi_u_of}
-use Rattle.termwiz_input.proofs.Rows.{rows_pushed, numbers_none, numbers_below}
+use Rattle.termwiz_grammar.specs.Table.{with_rows, csi_u_of}
+use Rattle.termwiz_input.proofs.lemmas.table.InsertedRows.{rows_pushed, numbers_none, numbers_below}
 use Rattle.termwiz_input.proofs.rules.numbers.csi_u.Goals as goal
 
 pub loop-code-init : goal.loop-code-init

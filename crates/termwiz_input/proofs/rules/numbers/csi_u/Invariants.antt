@@ -1,6 +1,6 @@
 use Rattle.std.proofs.Common.{◌≡◌}
 use Rattle.std.specs.Prelude.{flat_map}
-use Rattle.termwiz_input.specs.Table.{with_rows, numbers, csi_u_of}
+use Rattle.termwiz_grammar.specs.Table.{with_rows, numbers, csi_u_of}
 use Rattle.termwiz_input.proofs.rules.numbers.csi_u.Given as goal
 
 abbrev pub invariant-loop-code : goal.invariant-loop-code

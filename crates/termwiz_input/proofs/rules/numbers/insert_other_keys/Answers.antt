@@ -1,9 +1,9 @@
 use Rattle.std.proofs.Common.{◌≡◌, ◌∙◌, ℕ, List, ◌++◌, ap, sym, map, append_assoc}
 use Rattle.std.specs.Prelude.{codes, decimal}
-use Rattle.termwiz_input.specs.Bytes.{CSI}
-use Rattle.termwiz_input.specs.Keys.{key_with}
-use Rattle.termwiz_input.specs.Table.{with_rows, modify_other_key}
-use Rattle.termwiz_input.proofs.Rows.{row_pushed, numbers_none, numbers_below}
+use Rattle.termwiz_keys.specs.Sequences.{CSI}
+use Rattle.termwiz_keys.specs.Keys.{key_with}
+use Rattle.termwiz_grammar.specs.Table.{with_rows, modify_other_key}
+use Rattle.termwiz_input.proofs.lemmas.table.InsertedRows.{row_pushed, numbers_none, numbers_below}
 use Rattle.termwiz_input.proofs.rules.numbers.insert_other_keys.Goals as goal
 
 -- the bytes of a row, joined from the right

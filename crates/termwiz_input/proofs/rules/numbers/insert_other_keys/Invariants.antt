@@ -1,5 +1,5 @@
 use Rattle.std.proofs.Common.{◌≡◌, map}
-use Rattle.termwiz_input.specs.Table.{with_rows, numbers, modify_other_key}
+use Rattle.termwiz_grammar.specs.Table.{with_rows, numbers, modify_other_key}
 use Rattle.termwiz_input.proofs.rules.numbers.insert_other_keys.Given as goal
 
 abbrev pub invariant-loop-code : goal.invariant-loop-code

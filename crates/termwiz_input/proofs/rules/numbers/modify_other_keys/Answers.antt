@@ -1,7 +1,7 @@
 use Rattle.std.proofs.lemmas.List.{map_more}
-use Rattle.termwiz_input.specs.Table.{modify_other_keys_of}
+use Rattle.termwiz_grammar.specs.Table.{modify_other_keys_of}
 use Rattle.termwiz_input.specs.Suffixes.{held_together}
-use Rattle.termwiz_input.proofs.Rows.{rows_pushed}
+use Rattle.termwiz_input.proofs.lemmas.table.InsertedRows.{rows_pushed}
 use Rattle.termwiz_input.proofs.rules.numbers.modify_other_keys.Goals as goal
 
 pub loop-suffix-preserved : goal.loop-suffix-preserved

@@ -1,6 +1,6 @@
 use Rattle.std.proofs.Common.{◌≡◌, take}
 use Rattle.std.specs.Prelude.{flat_map}
-use Rattle.termwiz_input.specs.Table.{with_rows, modify_other_keys_of}
+use Rattle.termwiz_grammar.specs.Table.{with_rows, modify_other_keys_of}
 use Rattle.termwiz_input.specs.Suffixes.{suffixes_with_bits}
 use Rattle.termwiz_input.proofs.rules.numbers.modify_other_keys.Given as goal
 

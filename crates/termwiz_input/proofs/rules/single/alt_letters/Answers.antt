@@ -1,6 +1,6 @@
 use Rattle.std.proofs.Common.{◌∙◌, ap, sym, map, refl}
-use Rattle.termwiz_input.specs.Table.{with_rows, alt_letter}
-use Rattle.termwiz_input.proofs.Rows.{row_pushed, numbers_none, numbers_up_to}
+use Rattle.termwiz_grammar.specs.Table.{with_rows, alt_letter}
+use Rattle.termwiz_input.proofs.lemmas.table.InsertedRows.{row_pushed, numbers_none, numbers_up_to}
 use Rattle.termwiz_input.proofs.rules.single.alt_letters.Goals as goal
 
 pub loop-letter-init : goal.loop-letter-init

@@ -1,5 +1,5 @@
 use Rattle.std.proofs.Common.{◌≡◌, ◌-◌, map}
-use Rattle.termwiz_input.specs.Table.{with_rows, numbers, alt_letter}
+use Rattle.termwiz_grammar.specs.Table.{with_rows, numbers, alt_letter}
 use Rattle.termwiz_input.proofs.rules.single.alt_letters.Given as goal
 
 abbrev pub invariant-loop-letter : goal.invariant-loop-letter

@@ -1,7 +1,7 @@
 use Rattle.std.proofs.Common.{◌∙◌, ◌-◌, ap, sym, map, refl}
 use Rattle.std.specs.Prelude.{filter}
-use Rattle.termwiz_input.specs.Table.{with_rows, numbers, is_letter, control_letter}
-use Rattle.termwiz_input.proofs.Rows.{row_pushed, numbers_none, numbers_up_to, filter_kept, filter_dropped}
+use Rattle.termwiz_grammar.specs.Table.{with_rows, numbers, is_letter, control_letter}
+use Rattle.termwiz_input.proofs.lemmas.table.InsertedRows.{row_pushed, numbers_none, numbers_up_to, filter_kept, filter_dropped}
 use Rattle.termwiz_input.proofs.rules.single.control_letters.Goals as goal
 use Rattle.termwiz_input.proofs.rules.single.control_letters.Goals.{then-is_letter+in_ok-insert, else-is_letter}
 

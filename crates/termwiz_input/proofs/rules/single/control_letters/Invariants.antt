@@ -1,6 +1,6 @@
 use Rattle.std.proofs.Common.{◌≡◌, ◌-◌, map}
 use Rattle.std.specs.Prelude.{filter}
-use Rattle.termwiz_input.specs.Table.{with_rows, numbers, control_letter, is_letter}
+use Rattle.termwiz_grammar.specs.Table.{with_rows, numbers, control_letter, is_letter}
 use Rattle.termwiz_input.proofs.rules.single.control_letters.Given as goal
 
 abbrev pub invariant-loop-byte : goal.invariant-loop-byte

@@ -1,0 +1,9 @@
+pub mod characters
+pub mod cuts
+pub mod items
+pub mod lists
+pub mod mouse
+pub mod pastes
+pub mod read_back
+pub mod table
+pub mod waiting

@@ -1,0 +1,2 @@
+pub mod CharacterPrefixes
+pub mod EndsWithinCharacter

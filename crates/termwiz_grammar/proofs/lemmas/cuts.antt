@@ -1,0 +1,3 @@
+pub mod ChunkInvariance
+pub mod FewEvents
+pub mod Streams

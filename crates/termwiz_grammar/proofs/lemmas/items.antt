@@ -1,0 +1,3 @@
+pub mod ItemStable
+pub mod OneHead
+pub mod OneItem

@@ -1,0 +1,2 @@
+pub mod Decidable
+pub mod ListMembers

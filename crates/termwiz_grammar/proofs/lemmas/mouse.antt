@@ -1,0 +1,2 @@
+pub mod OneReport
+pub mod ReportNumbers

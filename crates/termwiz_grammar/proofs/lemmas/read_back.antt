@@ -1,0 +1,4 @@
+pub mod KeysReadBack
+pub mod ListedExamples
+pub mod RuleReader
+pub mod WholeTexts

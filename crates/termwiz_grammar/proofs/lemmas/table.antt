@@ -1,0 +1,5 @@
+pub mod ComputedTests
+pub mod ExactStays
+pub mod KnownSequences
+pub mod RowShape
+pub mod TableAsMap

@@ -1,0 +1,3 @@
+pub mod LongestBeginning
+pub mod RestShape
+pub mod UndecidedBytes

@@ -1,6 +1,0 @@
-use Rattle.std.proofs.Common.{take}
-use Rattle.termwiz_input.specs.KeyRows.{AreRowClones}
-use Rattle.termwiz_input.proofs.keymap.row.copied.Given as goal
-
-abbrev pub invariant-loop-row : goal.invariant-loop-row
-invariant-loop-row g l = AreRowClones g.V.Clone.is_clone (take l.row-index l.rows) l.copies.items

@@ -1,5 +1,0 @@
-use Rattle.termwiz_input.proofs.Streams as lemmas
-use Rattle.termwiz_input.proofs.laws.few_events_in_stream.Goals as goal
-
-pub returns : goal.returns
-returns c = lemmas.few_events_in_stream

@@ -1,5 +1,0 @@
-use Rattle.termwiz_input.proofs.laws.hashes.Goals as goal
-use Rattle.termwiz_input.specs.contracts.types.KeyCodeHash.TheImpl.Laws.{respects_eq-law}
-
-pub returns : goal.returns
-returns c = respects_eq-law

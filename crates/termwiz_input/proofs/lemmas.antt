@@ -1,0 +1,6 @@
+pub mod heads
+pub mod items
+pub mod mouse
+pub mod pastes
+pub mod pieces
+pub mod table

@@ -1,0 +1,2 @@
+pub mod HeadLookup
+pub mod StartsNoSequence

@@ -1,0 +1,237 @@
+-- What a lookup in the table, and a test for a frame, say of the head of a text.
+use Rattle.std.proofs.Common.{◌≡◌, ◌≢◌, inl, inr, ⊎_elim, ℕ, ◌<◌, ◌≤◌, Bool, true, false, List, [], ◌∷◌, ◌++◌, length, take, drop, refl, sym, ap, ◌∙◌, subst, arith, append_assoc, length-append, length-take-le, take-append-drop, append-nil, encode_utf8}
+use Rattle.std.specs.Prelude.{Option, Some, None, is_some, not, IsSome, IsTrue, ◌↔◌}
+use Rattle.std.specs.Option.{option_map}
+use Rattle.std.specs.Char.{IsScalar}
+use Rattle.std.specs.Str.{IsUtf8, IsValidUpTo}
+use Rattle.std.specs.Str.Lossy.{utf8_error_len}
+use Rattle.std.proofs.lemmas.Str.{encode_same}
+use Rattle.std.specs.FinMap.{get}
+use Rattle.std.proofs.Math.Seq.{take-append_seam}
+use Rattle.std.proofs.lemmas.Bool.{cases_lt}
+use Rattle.bstr.specs.Utf8.{decoded}
+use Rattle.bstr.proofs.lemmas.SoundLemmas.{SpellsChar-decoded}
+use Rattle.termwiz_keys.specs.declared.types.KeyEvent.{KeyEvent}
+use Rattle.termwiz_keys.specs.declared.types.MouseEvent.{MouseEvent}
+use Rattle.termwiz_input.specs.declared.head.Head.TheVariants.{Row as row, Frame as frame, Character as character, Broken as broken}
+use Rattle.termwiz_keymap.specs.Bytes.{Begins}
+use Rattle.termwiz_keymap.specs.Lookup.{IsLongestKey, IsExtended, NoKeyBegins}
+use Rattle.termwiz_grammar.specs.Table.{table}
+use Rattle.termwiz_grammar.specs.Frame.{IsFrame}
+use Rattle.termwiz_input.specs.FrameAnswers.{IsBegun}
+use Rattle.termwiz_grammar.specs.Known.{Meaning, IsKnown}
+use Rattle.termwiz_grammar.specs.Known.Meaning.{Row, Frame}
+use Rattle.termwiz_grammar.specs.Grammar.{IsOpen, IsUnfinishedKnown, IsUnfinishedCharacter}
+use Rattle.termwiz_input.specs.AtFront.{HasHead, NoFrameBegins, NoKnownTextBegins, HasNoHeadYet, character_of}
+use Rattle.termwiz_keymap.proofs.lemmas.lists.CommonPrefixes.{append-some, length-some, length-Begins, Overlaps, overlap}
+use Rattle.termwiz_keymap.proofs.lemmas.lists.CommonPrefixes.Overlaps.{within, past}
+use Rattle.termwiz_grammar.proofs.lemmas.table.KnownSequences.{frame_ends}
+use Rattle.termwiz_grammar.proofs.lemmas.characters.CharacterPrefixes.{known_finished, begins_decoded}
+use Rattle.termwiz_grammar.proofs.lemmas.characters.EndsWithinCharacter.{unfinished_told, unfinished_from, no_utf8, valid_nowhere}
+use Rattle.termwiz_grammar.proofs.lemmas.table.TableAsMap.{row_from_table, table_from_row}
+
+-- what a beginning of a text is
+begins_take : (u : List ℕ) (n : ℕ) → Begins (take n u) u
+begins_take u n = (drop n u, sym (take-append-drop n u))
+
+begins_is : (other u : List ℕ) → Begins other u → take (length other) u ≡ other
+begins_is other u b = ap (take (length other)) b.1 ∙ take-append_seam other b.0
+
+known_row : (text : List ℕ) (k : KeyEvent) → get table text ≡ Some k → IsKnown text (Row k)
+unfolding IsKnown
+known_row text k e = row_from_table text k e
+
+row_known : (text : List ℕ) (k : KeyEvent) → IsKnown text (Row k) → get table text ≡ Some k
+unfolding IsKnown
+row_known text k c = table_from_row text k c
+
+known_frame : (text : List ℕ) (event : MouseEvent) → IsFrame text event → IsKnown text (Frame event)
+unfolding IsKnown
+known_frame text event f = f
+
+frame_known : (text : List ℕ) (event : MouseEvent) → IsKnown text (Frame event) → IsFrame text event
+unfolding IsKnown
+frame_known text event f = f
+
+-- the key that the map answers for a beginning of the text
+stored_at : (u other : List ℕ) (k : KeyEvent) → Begins other u → IsKnown other (Row k) → get table (take (length other) u) ≡ Some k
+stored_at u other k b known = ap (get table) (begins_is other u b) ∙ row_known other k known
+
+some_none : (o : Option KeyEvent) (k : KeyEvent) → o ≡ Some k → o ≡ None → ⊥
+some_none o k e f = cc
+
+-- the longest key of the map is the longest known text, where no frame begins the text
+pub longest_from_key : (u : List ℕ) (n : ℕ) (k : KeyEvent) → NoFrameBegins u → IsLongestKey table u n k → HasHead u (row k n)
+longest_from_key u n k none is = (
+  is.within,
+  record {
+    known = known_row (take n u) k is.stored;
+    begins = begins_take u n;
+    longest = λ other m known b. at_most other m known b;
+  },
+)
+  where
+    at_most : (other : List ℕ) (m : Meaning) → IsKnown other m → Begins other u → length other ≤ length (take n u)
+    at_most other (Row j) known b = ⊎_elim
+        (λ (l : n < length other). absurd (some_none _ j (stored_at u other j b known) (is.longest (length other) l (length-Begins other u b))))
+        (λ (l : length other ≤ n). omega (arith, length-take-le n u is.within))
+        (cases_lt n (length other))
+    at_most other (Frame event) known b = absurd (none other event (frame_known other event known) b)
+
+-- where a text properly begins a known text, the map has a longer key that begins with it, or the text begins a frame
+pub extended_from_unfinished : (u : List ℕ) → IsUnfinishedKnown u → ¬ IsBegun u → IsExtended table u
+extended_from_unfinished u h never = go h.tail h.meaning h.longer h.known
+  where
+    go : (tail : List ℕ) (m : Meaning) → tail ≢ [] → IsKnown (u ++ tail) m → IsExtended table u
+    go tail (Row k) longer known = (tail, length-some tail longer, ap is_some (row_known (u ++ tail) k known))
+    go tail (Frame event) longer known = absurd (never (tail, event, longer, frame_known (u ++ tail) event known))
+
+stored_key : (o : Option KeyEvent) → IsSome o → (k : KeyEvent) × (o ≡ Some k)
+stored_key (Some k) h = (k, refl)
+stored_key None h = absurd (cc)
+
+pub open_from_extended : (u : List ℕ) → u ≢ [] → IsExtended table u → IsOpen u true
+open_from_extended u some (tail, longer, stored) =
+    let k = stored_key (get table (u ++ tail)) stored in
+    record { more_comes = refl; some = some; beginning = inl (record { tail = tail; longer = λ none. omega (arith, ap length none); meaning = Row k.0; known = known_row (u ++ tail) k.0 k.1 }) }
+
+pub extended_waits : (u : List ℕ) → IsExtended table u → HasNoHeadYet u true
+extended_waits [] ext = inr refl
+extended_waits (x ∷ u) ext = inl (open_from_extended (x ∷ u) (λ h. cc) ext)
+
+-- no known text begins the text, where no key and no frame does
+pub nothing_known : (u : List ℕ) → NoFrameBegins u → NoKeyBegins table u → NoKnownTextBegins u
+nothing_known u none no_key text (Row k) known b = some_none _ k (stored_at u text k b known) (no_key (length text) (length-Begins text u b))
+nothing_known u none no_key text (Frame event) known b = none text event (frame_known text event known) b
+
+same_pair : (d s c n : ℕ) → ◌≡◌ {A = Option (ℕ × ℕ)} (Some (d, s)) (Some (c, n)) → (d ≡ c) × (s ≡ n)
+same_pair d s c n e =
+    let pair : ◌≡◌ {A = ℕ × ℕ} (d, s) (c, n) = cc (e) in
+    (ap (λ (p : ℕ × ℕ). p.0) pair, ap (λ (p : ℕ × ℕ). p.1) pair)
+
+spelled : (u : List ℕ) (c n : ℕ) → character_of u ≡ Some (c, n) → IsScalar c × (n ≡ length (encode_utf8 c)) × Begins (encode_utf8 c) u
+unfolding character_of
+spelled u c n e = go (decoded u).char refl e
+  where
+    go : (o : Option ℕ) → (decoded u).char ≡ o → option_map {U = ℕ × ℕ} (λ d. (d, (decoded u).size)) o ≡ Some (c, n) → IsScalar c × (n ≡ length (encode_utf8 c)) × Begins (encode_utf8 c) u
+    go (Some d) f h =
+        let same = same_pair d (decoded u).size c n h in
+        let spells = SpellsChar-decoded u d f in
+        subst (λ x. IsScalar x × (n ≡ length (encode_utf8 x)) × Begins (encode_utf8 x) u) same.0
+        (spells.scalar, sym (spells.width ∙ same.1), (drop (decoded u).size u, spells.bytes))
+    go None f h = absurd (cc (h))
+
+pub character_front : (u : List ℕ) (c n : ℕ) → NoKnownTextBegins u → character_of u ≡ Some (c, n) → HasHead u (character c n)
+character_front u c n unknown e =
+    let s = spelled u c n e in
+    (s.1, record { unknown = unknown; scalar = s.0; begins = s.2 })
+
+unspelled : (u : List ℕ) → character_of u ≡ None → (c : ℕ) → IsScalar c → Begins (encode_utf8 c) u → ⊥
+unfolding character_of
+unspelled u e c scalar b =
+    let found : option_map {U = ℕ × ℕ} (λ d. (d, (decoded u).size)) (decoded u).char ≡ Some (c, (decoded u).size) =
+    ap (option_map {U = ℕ × ℕ} (λ d. (d, (decoded u).size))) (begins_decoded u c scalar b) in
+    cc (e, found)
+
+-- what a character begins doesn't properly begin another
+character_finished : (u : List ℕ) (c : ℕ) → Begins (encode_utf8 c) u → IsUnfinishedCharacter u → ⊥
+character_finished u c b h =
+    let whole : encode_utf8 c ++ (b.0 ++ h.tail) ≡ encode_utf8 h.char ++ [] =
+    sym (append_assoc (encode_utf8 c) b.0 h.tail) ∙ ap (λ x. x ++ h.tail) (sym b.1) ∙ sym h.spells ∙ sym (append-nil (encode_utf8 h.char)) in
+    append-some b.0 h.tail h.longer (encode_same c h.char (b.0 ++ h.tail) [] whole).1
+
+-- a text isn't open that properly begins neither a known text nor a character
+closed_by : (u : List ℕ) (more : Bool) → (more ≡ true → ¬ IsUnfinishedKnown u) → (more ≡ true → ¬ IsUnfinishedCharacter u) → ¬ IsOpen u more
+closed_by u more known char opens = ⊎_elim (known opens.more_comes) (char opens.more_comes) opens.beginning
+
+pub character_closed : (u : List ℕ) (more : Bool) (c n : ℕ) → (more ≡ true → ¬ IsUnfinishedKnown u) → character_of u ≡ Some (c, n) → ¬ IsOpen u more
+character_closed u more c n finished e = closed_by u more finished (λ m. character_finished u c (spelled u c n e).2)
+
+pub broken_closed : (u : List ℕ) (more : Bool) → (more ≡ true → ¬ IsUnfinishedKnown u) → ((more ≡ true) × IsUnfinishedCharacter u → ⊥) → ¬ IsOpen u more
+broken_closed u more finished whole = closed_by u more finished (λ m h. whole (m, h))
+
+-- the first byte of a text that nothing known and no character begins
+pub broken_front : (u : List ℕ) → u ≢ [] → NoKnownTextBegins u → character_of u ≡ None → HasHead u broken
+broken_front [] some unknown e = absurd (some refl)
+broken_front (x ∷ u) some unknown e =
+    (x, record { unknown = unknown; unspelled = unspelled (x ∷ u) e; begins = (u, refl) })
+
+pub unfinished_waits : (u : List ℕ) (more : Bool) → u ≢ [] → (more ≡ true) × IsUnfinishedCharacter u → HasNoHeadYet u more
+unfinished_waits u more some (m, h) = inl (record { more_comes = m; some = some; beginning = inr h })
+
+-- what std says of bytes that no character begins
+not_decoded : (u : List ℕ) → character_of u ≡ None → (decoded u).char ≡ None
+unfolding character_of
+not_decoded u e = go (decoded u).char refl e
+  where
+    go : (o : Option ℕ) → (decoded u).char ≡ o → option_map {U = ℕ × ℕ} (λ d. (d, (decoded u).size)) o ≡ None → (decoded u).char ≡ None
+    go (Some d) f h = absurd (cc (h))
+    go None f h = f
+
+pub not_text : (u : List ℕ) → u ≢ [] → character_of u ≡ None → IsUtf8 u → ⊥
+not_text u some e is = no_utf8 u some (not_decoded u e) is
+
+-- where std finds no length of the fault, the text ends within a character
+pub fault_tells : (u : List ℕ) (n : ℕ) (len : Option ℕ) (none : Bool) → u ≢ [] → character_of u ≡ None → IsValidUpTo u n → len ≡ utf8_error_len (drop n u)
+    → is_some len ≡ not none → IsTrue none ↔ IsUnfinishedCharacter u
+fault_tells u n len none some e valid is test =
+    let missing = not_decoded u e in
+    let at : len ≡ utf8_error_len u = is ∙ ap (λ k. utf8_error_len (drop k u)) (valid_nowhere u n missing valid) in
+    (λ h. unfinished_from u some missing (sym at ∙ told len none test h), λ h. tells len none test (at ∙ unfinished_told u some h))
+  where
+    told : (o : Option ℕ) (b : Bool) → is_some o ≡ not b → IsTrue b → o ≡ None
+    told None b same h = refl
+    told (Some k) true same h = absurd (cc (same))
+    told (Some k) false same h = absurd (cc (h))
+
+    tells : (o : Option ℕ) (b : Bool) → is_some o ≡ not b → o ≡ None → IsTrue b
+    tells None true same h = refl
+    tells None false same h = absurd (cc (same))
+    tells (Some k) b same h = absurd (cc (h))
+
+-- a frame at the front is the head, and nothing that comes changes it
+pub frame_front : (u : List ℕ) (n : ℕ) (event : MouseEvent) → n ≤ length u → IsFrame (take n u) event → HasHead u (frame event n)
+frame_front u n event inside f = (
+  inside,
+  record {
+    known = known_frame (take n u) event f;
+    begins = begins_take u n;
+    longest = λ other m known b. at_most other m known (overlap other b.0 (take n u) (drop n u) (take-append-drop n u ∙ b.1));
+  },
+)
+  where
+    at_most : {r s : List ℕ} (other : List ℕ) (m : Meaning) → IsKnown other m → Overlaps other r (take n u) s → length other ≤ length (take n u)
+    at_most other m known (within t e g) = omega (arith, length-append other t, ap length e)
+    at_most other m known (past t longer e g) =
+        absurd (longer (frame_ends (take n u) t event m (known_frame (take n u) event f) (subst (λ x. IsKnown x m) e known)))
+
+pub frame_closed : (u : List ℕ) (n : ℕ) (more : Bool) (event : MouseEvent) → IsFrame (take n u) event → IsOpen u more → ⊥
+frame_closed u n more event f opens = ⊎_elim
+    (λ (h : IsUnfinishedKnown u).
+    let whole : u ++ h.tail ≡ take n u ++ (drop n u ++ h.tail) =
+    ap (λ x. x ++ h.tail) (sym (take-append-drop n u)) ∙ append_assoc (take n u) (drop n u) h.tail in
+    append-some (drop n u) h.tail h.longer
+    (frame_ends (take n u) (drop n u ++ h.tail) event h.meaning (known_frame (take n u) event f) (subst (λ x. IsKnown x h.meaning) whole h.known)))
+    (λ (h : IsUnfinishedCharacter u). known_finished (take n u) u (Frame event) (known_frame (take n u) event f) (begins_take u n) opens.some h)
+    opens.beginning
+
+pub begun_waits : (u : List ℕ) → IsBegun u → HasNoHeadYet u true
+begun_waits [] begun = inr refl
+begun_waits (x ∷ u) (tail, event, longer, f) =
+    inl (record { more_comes = refl; some = λ h. cc; beginning = inl (record { tail = tail; longer = longer; meaning = Frame event; known = known_frame (x ∷ u ++ tail) event f }) })
+
+-- where a text properly begins a frame, no frame begins it
+pub begun_no_frame : (u : List ℕ) → IsBegun u → NoFrameBegins u
+begun_no_frame u (tail, event, longer, f) word other g b =
+    let whole : u ++ tail ≡ word ++ (b.0 ++ tail) = ap (λ x. x ++ tail) b.1 ∙ append_assoc word b.0 tail in
+    append-some b.0 tail longer
+    (frame_ends word (b.0 ++ tail) other (Frame event) (known_frame word other g) (subst (λ x. IsKnown x (Frame event)) whole (known_frame (u ++ tail) event f)))
+
+-- where nothing longer that is stored may come, and a key begins the text, the text isn't open
+pub exact_closed : (u : List ℕ) (more : Bool) (n : ℕ) (k : KeyEvent) → (more ≡ true → IsBegun u → ⊥) → IsLongestKey table u n k
+    → (IsExtended table u → more ≡ false) → IsOpen u more → ⊥
+exact_closed u more n k never is stops opens =
+    let one : more ≡ true = opens.more_comes in ⊎_elim
+    (λ (h : IsUnfinishedKnown u). let two : more ≡ false = stops (extended_from_unfinished u h (never one)) in cc (one, two))
+    (λ (h : IsUnfinishedCharacter u). known_finished (take n u) u (Row k) (known_row (take n u) k is.stored) (begins_take u n) opens.some h)
+    opens.beginning

@@ -1,0 +1,3 @@
+pub mod ItemByHead
+pub mod ItemShortens
+pub mod PrintableAscii

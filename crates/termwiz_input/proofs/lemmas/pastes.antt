@@ -1,0 +1,2 @@
+pub mod EndSearch
+pub mod SearchResumes

@@ -1,0 +1,2 @@
+pub mod CallSequence
+pub mod NumberedEvents

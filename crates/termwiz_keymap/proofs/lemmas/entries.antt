@@ -1,0 +1,3 @@
+pub mod ClonedEntries
+pub mod EntryLookups
+pub mod KeysInEntries

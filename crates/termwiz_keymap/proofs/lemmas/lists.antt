@@ -1,0 +1,3 @@
+pub mod CommonPrefixes
+pub mod FindFromOffset
+pub mod PrefixTest

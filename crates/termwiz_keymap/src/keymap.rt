@@ -1,0 +1,144 @@
+//! A map from byte strings to values. A lookup finds the longest key that is a prefix of a text, and
+//! tells whether a longer key may still follow, as a reader of key sequences asks.
+ghost use Rattle.std.specs.Prelude.{◌≡◌, ◌↔◌, IsTrue, IfOk, IfSome, IfNone, OnOk, OnErr};
+ghost use Rattle.std.specs.FinMap as map;
+
+mod groups;
+#[cfg(test)]
+mod plain;
+mod row;
+mod search;
+#[cfg(test)]
+mod tests;
+
+use groups::{STARTS, group_of, move_later};
+use row::{Row, copied, new_row};
+use search::{count_up_to, first_goes_on, longest_of, place_of};
+use std::alloc::{AllocError, Global};
+use std::fmt::Debug;
+use std::marker::Model;
+
+/// The answer of [`KeyMap::lookup`].
+#[derive(Clone, PartialEq, Eq, Debug, Drop)]
+pub enum Found<Value> {
+    /// No key is a prefix of the text, and the text is a prefix of no key.
+    None,
+    /// The length in bytes and the value of the longest key that is a prefix of the text.
+    Exact(usize, Value),
+    /// As `Exact`, but more of the text may follow, and the text is a prefix of a longer key too.
+    Ambiguous(usize, Value),
+    /// No key is a prefix of the text, but the text is a prefix of some key.
+    NeedData,
+}
+
+/// A finite map from byte strings to values: one list of rows, whose keys strictly ascend in the order of
+/// their bytes, and the places in it where the groups of keys start.
+#[derive(Debug, Drop)]
+pub struct KeyMap<V: Debug + Clone + Drop> {
+    rows: Vec<Box<Row<V>>>,
+    starts: [usize; STARTS],
+    alloc: Global,
+}
+
+impl<V: Debug + Clone + Drop> Model for KeyMap<V> {
+    ghost use Rattle.std.specs.Ordering.{nat_cmp};
+    ghost use Rattle.std.specs.Cmp.Lexicographic.{slice_cmp};
+    ghost use Rattle.std.specs.FinMap as map;
+    ghost use Rattle.std.specs.Coded.{coded_ℕ, coded_list};
+    ghost use Rattle.termwiz_keymap.specs.KeyRows.{row_entries};
+    ghost use Rattle.termwiz_keymap.specs.KeyGroups.{AreIndexed};
+
+    ghost Value = { map.FinMap (slice_cmp nat_cmp) V };
+
+    ghost coded = { map.code (coded_list coded_ℕ) V.code };
+
+    ghost view = { λ m. map.from_entries (row_entries m.rows.items) };
+
+    ghost invariant = { λ m. AreIndexed m.rows.items m.starts };
+}
+
+impl<V: Debug + Clone + Drop> KeyMap<V> {
+    ghost use Rattle.termwiz_keymap.specs.Lookup.{ClonesEqual, IsClone, IsExtended, IsLongestKey, LookupGives, NoKeyBegins, found_copied};
+
+    /// An empty map. Takes no memory; later calls take theirs from `alloc`.
+    pub fn new(alloc: Global) -> KeyMap<V>
+        ensures { result ≡ map.empty }
+    {
+        KeyMap {
+            rows: Vec::new(alloc),
+            starts: [0; STARTS],
+            alloc,
+        }
+    }
+
+    /// Sets the value of a key, in place of the one that it has, if any. Every other key keeps its
+    /// value. The empty key is a key like any other.
+    ///
+    /// Fails only if memory is refused; the map is then unchanged, and `value` is dropped.
+    #[tactic(auto, using(crate::proofs::lemmas::rows::KeysInRows::row_inserted, crate::proofs::lemmas::rows::KeysInRows::row_replaced, crate::proofs::lemmas::rows::GroupsRise::indexed_set))]
+    pub fn insert(&mut self, key: &[u8], value: V) -> Result<(), AllocError>
+        ensures ok { OnOk result (self.new ≡ map.insert self.old key.now value) }
+        ensures err { OnErr result (self.new ≡ self.old) }
+    {
+        match place_of(&self.rows, &self.starts, key) {
+            Ok(place) => self.rows[place].value = value,
+            Err(place) => {
+                let row = new_row(self.alloc, key, value)?;
+                self.rows.insert(place, row)?;
+                move_later(&mut self.starts, group_of(key));
+            }
+        }
+        Ok(())
+    }
+
+    /// Finds the longest key that is a prefix of the text `key`. Pass true for `maybe_more` if more
+    /// of the text may follow: the answer is then `Ambiguous` if a longer key is still possible, and
+    /// an `Exact` answer holds however the text goes on. Takes no memory.
+    ///
+    /// This is the rule in the documentation of termwiz's `KeyMap::lookup`, with all keys taken into
+    /// account: `NeedData` and `Ambiguous` are given only if some key begins with the whole text and
+    /// is longer.
+    pub fn lookup(&self, key: &[u8], maybe_more: bool) -> Found<&V>
+        ensures { LookupGives self.now key.now maybe_more (found_copied result) }
+    {
+        let (longest, extended) = self.walk(key);
+        match longest {
+            Some((len, value)) if extended && maybe_more => Found::Ambiguous(len, value),
+            Some((len, value)) => Found::Exact(len, value),
+            None if extended => Found::NeedData,
+            None => Found::None,
+        }
+    }
+
+    // The length and the value of the longest key that is a prefix of a text, and whether some key begins
+    // with the whole text and is longer. The keys up to the text come first in the list: the longest is among
+    // them, and the first of the others goes on where any does.
+    fn walk(&self, text: &[u8]) -> (Option<(usize, &V)>, bool)
+        ensures longest { IfSome result.0 (λ found. IsLongestKey self.now text.now found.0 found.1.now) }
+        ensures none { IfNone result.0 (NoKeyBegins self.now text.now) }
+        ensures extended { IsTrue result.1 ↔ IsExtended self.now text.now }
+    {
+        let count = count_up_to(&self.rows, &self.starts, text);
+        (
+            longest_of(&self.rows[..count], &self.starts, text),
+            first_goes_on(&self.rows[count..], text),
+        )
+    }
+
+    /// A map with the same keys and with a clone of each value. If clones of the values equal them,
+    /// it is the same map.
+    ///
+    /// Takes memory from the allocator of this map. Fails only if memory is refused or if the clone
+    /// of a value fails.
+    #[tactic(auto, using(crate::proofs::lemmas::rows::ClonedRows::map_cloned, crate::proofs::lemmas::rows::ClonedRows::map_same))]
+    pub fn clone(&self) -> Result<KeyMap<V>, AllocError>
+        ensures cloned { IfOk result (IsClone V.is_clone self.now) }
+        ensures same { ClonesEqual V.is_clone → IfOk result (λ copy. copy ≡ self.now) }
+    {
+        Ok(KeyMap {
+            rows: copied(self.alloc, &self.rows)?,
+            starts: self.starts,
+            alloc: self.alloc,
+        })
+    }
+}

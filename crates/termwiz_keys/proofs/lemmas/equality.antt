@@ -1,0 +1,2 @@
+pub mod EventEquality
+pub mod VariantEquality

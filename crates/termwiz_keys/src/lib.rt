@@ -1,0 +1,5 @@
+//! Keys, mouse reports and pastes as events, and keys written as the bytes that a terminal sends.
+#![tactic(auto)]
+
+pub mod encode;
+pub mod types;
