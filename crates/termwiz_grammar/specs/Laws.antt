@@ -5,15 +5,9 @@ use Rattle.termwiz_keys.specs.declared.types.KeyEvent.{KeyEvent}
 use Rattle.termwiz_keys.specs.declared.types.InputEvent.{InputEvent}
 use Rattle.termwiz_keymap.specs.Bytes.{Begins, Occurs}
 use Rattle.termwiz_keys.specs.Sequences.{ESC, CSI, SS3, START, END}
-use Rattle.termwiz_keymap.specs.declared.keymap.Found.TheVariants.{Exact}
-use Rattle.termwiz_keymap.specs.Lookup.{ByteMap, LookupGives}
 use Rattle.termwiz_grammar.specs.Table.{TableRow, rows}
 use Rattle.termwiz_grammar.specs.Grammar.{IsBeginning, Steps, IsRest, Means}
 use Rattle.termwiz_grammar.specs.Streams.{OneRead, bytes_of_reads, ReadInTurn, OneByOne}
-
--- Where a lookup answers Exact although more may come, each longer text has the same answer.
-abbrev pub ExactStays : Type 0 → Type 0
-ExactStays V = (m : ByteMap V) (t s : List ℕ) (n : ℕ) (v : V) (more : Bool) → LookupGives m t true (Exact n v) → LookupGives m (t ++ s) more (Exact n v)
 
 -- How the bytes are cut doesn't matter.
 abbrev pub CutIndependent : Type 0

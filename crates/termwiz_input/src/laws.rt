@@ -1,14 +1,15 @@
-//! The laws of the grammar, of the key map and of the types' values, and those of the parser's errors.
+//! The laws of the parser's errors, and by `pub use` those of the layers below: of the grammar, of the key map and of the types' values.
 ghost use Rattle.termwiz_base.specs.Laws.{AlwaysCloned, ClonesEqual, TellsEqual};
 ghost use Rattle.termwiz_input.specs.Values.{TellsEqualRefusals};
 
 use crate::input::{ParseError, ParseVecError, PiecesError};
 pub use termwiz_grammar::laws::{
-    clones, csi_u_read_back, cut_independent, empty_is_rest, equality, exact_stays, few_events,
-    few_events_in_stream, found_values, hashes, listed_examples, most_wait, mouse_button_flags,
-    one_by_one, one_meaning, read_back, resumes, steps_join, table_facts, three_beginnings,
-    undecided, waiting_shape,
+    csi_u_read_back, cut_independent, empty_is_rest, few_events, few_events_in_stream,
+    listed_examples, most_wait, one_by_one, one_meaning, read_back, resumes, steps_join,
+    table_facts, three_beginnings, undecided, waiting_shape,
 };
+pub use termwiz_keymap::laws::{exact_stays, found_values};
+pub use termwiz_keys::laws::{clones, equality, hashes, mouse_button_flags};
 
 /// Two errors of the parser are equal by `==` exactly if they are the same error. Of the events in a [`ParseVecError`] those in
 /// the list count, and not where the list lies in memory or how long it may grow.

@@ -1,5 +1,5 @@
 -- What a lookup in a map from byte lists answers, and what a clone of such a map is.
-use Rattle.std.specs.Prelude.{◌≡◌, ◌<◌, ◌≤◌, ℕ, Bool, true, false, List, ◌++◌, length, take, None, Some, IsSome, IsSomeAnd, MatchOption}
+use Rattle.std.specs.Prelude.{◌≡◌, ◌<◌, ◌≤◌, ℕ, Bool, true, false, List, ◌++◌, length, take, None, Some, IsSome, IsSomeAnd, IsTrue, MatchOption, ◌↔◌}
 use Rattle.std.specs.Ordering.{nat_cmp}
 use Rattle.std.specs.Cmp.Lexicographic.{slice_cmp}
 use Rattle.std.specs.FinMap as map
@@ -40,6 +40,10 @@ module _ {V : Type 0} where
   found_copied NeedData = NeedData
   found_copied Nothing = Nothing
 
+  -- the test answers whether two values are the same value
+  abbrev pub TellsEqual : (V → V → Bool) → Type 0
+  TellsEqual test = (a b : V) → IsTrue (test a b) ↔ (a ≡ b)
+
   -- a clone of a value equals it
   abbrev pub ClonesEqual : (V → V → Type 0) → Type 0
   ClonesEqual is_clone = (value clone : V) → is_clone value clone → clone ≡ value
@@ -47,3 +51,7 @@ module _ {V : Type 0} where
   -- For each key, either neither map has it, or both have it and the copy's value is a clone of the original's.
   abbrev pub IsClone : (V → V → Type 0) → ByteMap V → ByteMap V → Type 0
   IsClone is_clone original copy = (key : List ℕ) → MatchOption (map.get original key) (map.get copy key ≡ None) (λ value. IsSomeAnd (map.get copy key) (is_clone value))
+
+-- Where a lookup answers Exact although more may come, each longer text has the same answer.
+abbrev pub ExactStays : Type 0 → Type 0
+ExactStays V = (m : ByteMap V) (t s : List ℕ) (n : ℕ) (v : V) (more : Bool) → LookupGives m t true (Exact n v) → LookupGives m (t ++ s) more (Exact n v)

@@ -3,4 +3,5 @@
 
 pub mod bytes;
 pub mod keymap;
+pub mod laws;
 pub mod readbuf;

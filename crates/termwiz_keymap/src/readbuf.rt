@@ -62,8 +62,10 @@ impl ReadBuffer {
         self.len() == 0
     }
 
-    /// How many bytes there is room for before the buffer needs more memory.
-    pub fn capacity(&self) -> usize {
+    /// How many bytes the buffer's memory has room for, those that it holds included.
+    pub fn capacity(&self) -> usize
+        ensures { length self.now ≤ result }
+    {
         self.bytes.capacity()
     }
 

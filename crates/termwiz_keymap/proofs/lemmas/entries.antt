@@ -1,3 +1,4 @@
 pub mod ClonedEntries
 pub mod EntryLookups
+pub mod ExactStays
 pub mod KeysInEntries

@@ -1,5 +1,5 @@
 -- Which of the examples are listed: those are by their lines, and the others by tests that every line passes.
-use Rattle.std.proofs.Common.{◌≡◌, ◌≢◌, ℕ, zero, suc, ℤ, pos, ◌+◌, ◌<◌, Bool, true, false, not, List, [], ◌∷◌, Option, Some, refl, sym, ap, arith, Contains, eq-eqb, get_or, ◌==◌, ◌&&◌, ◌||◌, lit<}
+use Rattle.std.proofs.Common.{◌≡◌, ◌≢◌, ℕ, zero, suc, ℤ, pos, ◌+◌, Bool, true, false, not, List, [], ◌∷◌, Option, Some, refl, sym, ap, arith, Contains, eq-eqb, get_or, ◌==◌, ◌&&◌, ◌||◌, lit<}
 use Rattle.std.specs.Prelude.{is_some, nat_le, codes}
 use Rattle.std.specs.List.{list_all}
 use Rattle.std.specs.Char.{is_ascii_lowercase, is_ascii_digit, is_ascii_alphanumeric, is_ascii_punctuation}

@@ -1,4 +1,4 @@
-use Rattle.termwiz_grammar.proofs.laws.hashes.Goals as goal
+use Rattle.termwiz_keys.proofs.laws.hashes.Goals as goal
 use Rattle.termwiz_keys.specs.contracts.types.KeyCodeHash.TheImpl.Laws.{respects_eq-law}
 
 pub returns : goal.returns

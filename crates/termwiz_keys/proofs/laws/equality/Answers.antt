@@ -1,5 +1,5 @@
 use Rattle.termwiz_keys.proofs.lemmas.equality.EventEquality.{same_keys, same_key_events, same_events}
-use Rattle.termwiz_grammar.proofs.laws.equality.Goals as goal
+use Rattle.termwiz_keys.proofs.laws.equality.Goals as goal
 
 pub returns-clause-key_code : goal.returns-clause-key_code
 returns-clause-key_code c = same_keys
