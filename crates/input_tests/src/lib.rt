@@ -6,7 +6,7 @@ ghost use Rattle.std.specs.Prelude.{◌≡◌, ◌∷◌, ℕ, List, [], Some, E
 ghost use Rattle.std.specs.List.{AllPairs};
 ghost use Rattle.termwiz_input.specs.EncodeError.TheVariants as error;
 ghost use Rattle.termwiz_input.specs.InputEvent.TheVariants.{Key};
-ghost use Rattle.termwiz_input.specs.Enc.{unhandled};
+ghost use Rattle.termwiz_input.specs.Encoding.{unhandled};
 ghost use Rattle.termwiz_input.specs.Grammar.{Means};
 ghost use Rattle.termwiz_input.specs.Laws.{HasOtherBytes};
 ghost use Rattle.termwiz_input.specs.Listed.{IsListed};

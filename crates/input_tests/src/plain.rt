@@ -59,8 +59,8 @@ fn number_of(text: &[u8], limit: u16) -> Option<u16> {
     if number <= limit { Some(number) } else { None }
 }
 
-// 2 and 3: the mouse event of a text that is a frame.
-fn frame_of(text: &[u8]) -> Option<MouseEvent> {
+// 2 and 3: the mouse event of a text that is a mouse report.
+fn report_of(text: &[u8]) -> Option<MouseEvent> {
     let (last, front) = text.split_last()?;
     let mut numbers = front.strip_prefix(b"\x1b[<")?.split(|byte| *byte == b';');
     let code = number_of(numbers.next()?, 95)?;
@@ -87,7 +87,7 @@ fn frame_of(text: &[u8]) -> Option<MouseEvent> {
 #[derive(Drop)]
 enum Kind {
     Row(KeyEvent),
-    Frame(MouseEvent),
+    Report(MouseEvent),
     Character(char),
 }
 
@@ -153,15 +153,15 @@ fn begins_character(alloc: Global, text: &[u8]) -> Result<bool, AllocError> {
     Ok(false)
 }
 
-// 5: whether some frame is longer than the text and begins with it. A number that has begun may end where it is, and a 0
-// stands for each number that is missing, so that one of these ends makes a frame of each text that begins one.
-fn begins_frame(alloc: Global, text: &[u8]) -> Result<bool, AllocError> {
+// 5: whether some mouse report is longer than the text and begins with it. A number that has begun may end where it is, and a 0
+// stands for each number that is missing, so that one of these ends makes a mouse report of each text that begins one.
+fn begins_report(alloc: Global, text: &[u8]) -> Result<bool, AllocError> {
     for end in [
         "[<0;0;0M", "<0;0;0M", "0;0;0M", ";0;0M", "0;0M", ";0M", "0M", "M",
     ] {
         let mut whole = text.to_vec(alloc)?;
         whole.extend_from_slice(end.as_bytes())?;
-        if frame_of(whole.as_slice()).is_some() {
+        if report_of(whole.as_slice()).is_some() {
             return Ok(true);
         }
     }
@@ -216,7 +216,7 @@ impl PlainReader {
         self.rows.by_bytes()
     }
 
-    // 3: what a known text stands for.
+    // 3: what a sequence stands for.
     fn known(&self, text: &[u8]) -> Option<Kind> {
         if let Some(row) = self.rows.by_bytes().get(text) {
             return Some(Kind::Row(KeyEvent {
@@ -224,10 +224,10 @@ impl PlainReader {
                 modifiers: row.modifiers,
             }));
         }
-        frame_of(text).map(|event| Kind::Frame(event))
+        report_of(text).map(|event| Kind::Report(event))
     }
 
-    // 4: the head of a text. The longest known text is the last one that is found.
+    // 4: the head of a text. The longest sequence is the last one that is found.
     fn head_of<'a>(&self, text: &'a [u8]) -> Option<Head<'a>> {
         let mut longest = None;
         for len in 0..text.len() + 1 {
@@ -249,7 +249,7 @@ impl PlainReader {
         }
         Ok(
             self.rows.extend(text)
-                || begins_frame(self.alloc, text)?
+                || begins_report(self.alloc, text)?
                 || begins_character(self.alloc, text)?,
         )
     }
@@ -269,7 +269,7 @@ impl PlainReader {
         let (key, modifiers) = match head.kind {
             Kind::Row(row) if head.bytes != START => (row.key, row.modifiers),
             Kind::Character(character) => (KeyCode::Char(character), Modifiers::NONE),
-            Kind::Row(_) | Kind::Frame(_) => {
+            Kind::Row(_) | Kind::Report(_) => {
                 return Ok(Some((key_event(KeyCode::Escape, Modifiers::NONE), rest)));
             }
         };
@@ -297,7 +297,7 @@ impl PlainReader {
         }
         let event = match head.kind {
             Kind::Row(row) => InputEvent::Key(row),
-            Kind::Frame(event) => InputEvent::Mouse(event),
+            Kind::Report(event) => InputEvent::Mouse(event),
             Kind::Character(character) => key_event(KeyCode::Char(character), Modifiers::NONE),
         };
         Ok(Some((event, head.rest)))

@@ -4,7 +4,7 @@ mod cuts;
 mod differences;
 mod draws;
 mod encode;
-mod frames;
+mod mouse_reports;
 mod generated;
 mod keys;
 mod line;

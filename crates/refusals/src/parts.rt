@@ -3,7 +3,7 @@
 
 ghost use Rattle.std.specs.Prelude.{◌≡◌, ◌++◌, ℕ, [], Err, Some, true, length, string_bytes, IfOk, IfSome, OnErr, OnOk};
 ghost use Rattle.std.specs.FinMap as map;
-ghost use Rattle.termwiz_input.specs.Enc.{enc, unhandled};
+ghost use Rattle.termwiz_input.specs.Encoding.{enc, unhandled};
 ghost use Rattle.termwiz_input.specs.Lookup.{LookupGives};
 ghost use Rattle.termwiz_input.specs.EncodeError.TheVariants as error;
 

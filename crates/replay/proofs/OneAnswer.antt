@@ -3,7 +3,7 @@ use Rattle.std.proofs.Common.{◌≡◌, ◌≢◌, ◌∙◌, ℕ, List, Bool, 
 use Rattle.termwiz_base.specs.declared.modifiers.Modifiers.{Modifiers}
 use Rattle.termwiz_input.specs.KeyCode.{KeyCode}
 use Rattle.termwiz_input.specs.KeyCodeEncodeModes.{KeyCodeEncodeModes}
-use Rattle.termwiz_input.specs.Enc.{enc, unhandled}
+use Rattle.termwiz_input.specs.Encoding.{enc, unhandled}
 use Rattle.termwiz_input.specs.Laws.{OneMeaning}
 use Rattle.replay.specs.declared.cases.Call.{Call}
 use Rattle.replay.specs.declared.cases.Sent.{Sent}

@@ -4,7 +4,7 @@ use Rattle.termwiz_base.specs.declared.modifiers.Modifiers.{Modifiers}
 use Rattle.termwiz_input.specs.KeyCode.{KeyCode}
 use Rattle.termwiz_input.specs.KeyboardEncoding.TheVariants.{CsiU, Xterm}
 use Rattle.termwiz_input.specs.KeyCodeEncodeModes.{KeyCodeEncodeModes}
-use Rattle.termwiz_input.specs.Enc.{enc, unhandled}
+use Rattle.termwiz_input.specs.Encoding.{enc, unhandled}
 use Rattle.replay.specs.declared.cases.InModes.{InModes}
 use Rattle.replay.specs.declared.cases.Keys.{Keys}
 use Rattle.replay.specs.declared.cases.Sent.{Sent}

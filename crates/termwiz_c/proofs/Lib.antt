@@ -1,4 +1,4 @@
 pub mod KeyNumbers
-pub mod PartsValues
+pub mod RawBoxValues
 pub mod Pressed
-pub mod SlotValues
+pub mod OwnedPointerValues

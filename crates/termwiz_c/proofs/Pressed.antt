@@ -1,7 +1,7 @@
 -- What the numbers of a key say of its text.
 use Rattle.std.proofs.Common.{◌≡◌, ◌↔◌, ℕ, Bool, true, false, List, [], Option, Some, Result, Ok, Err, refl, sym, ap, subst}
 use Rattle.std.specs.Prelude.{IsTrue}
-use Rattle.termwiz_input.specs.Enc.{enc, unhandled}
+use Rattle.termwiz_input.specs.Encoding.{enc, unhandled}
 use Rattle.termwiz_input.specs.EncodeError.{EncodeError}
 use Rattle.termwiz_input.specs.EncodeError.TheVariants.{Memory, UnhandledFunctionKey}
 use Rattle.termwiz_c.specs.declared.modes.CModes.{CModes}

@@ -7,7 +7,7 @@ use Rattle.termwiz_base.specs.Modifiers as modifiers
 use Rattle.termwiz_input.specs.KeyboardEncoding.{KeyboardEncoding}
 use Rattle.termwiz_input.specs.KeyboardEncoding.TheVariants.{Xterm, CsiU, Win32, Kitty}
 use Rattle.termwiz_input.specs.KeyCodeEncodeModes.{KeyCodeEncodeModes}
-use Rattle.termwiz_input.specs.Enc.{enc, unhandled}
+use Rattle.termwiz_input.specs.Encoding.{enc, unhandled}
 use Rattle.termwiz_c.specs.declared.modes.CModes.{CModes}
 use Rattle.termwiz_c.specs.declared.modes.Press.{Press}
 use Rattle.termwiz_c.specs.Calls.{copied}

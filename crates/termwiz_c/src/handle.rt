@@ -1,64 +1,64 @@
 // A parser as C holds it.
 ghost use Rattle.std.specs.Prelude.{◌≡◌, Some, None, IfSome, IfNone, is_some};
 
-use crate::parts::Parts;
-use crate::reader::Reader;
-use crate::slot::Slot;
+use crate::owned_pointer::OwnedPointer;
+use crate::parser_and_paste::ParserAndPaste;
+use crate::raw_box::RawBox;
 use std::alloc::Global;
 
 /// `tw_parser`: a parser, or none, which is all zero. It may be moved; then only its new place counts.
 #[repr(C)]
 pub struct Handle {
     live: bool,
-    pub slot: Slot,
-    ghost agrees: { live ≡ is_some slot.reader },
+    pub owned: OwnedPointer,
+    ghost agrees: { live ≡ is_some owned.held },
 }
 
 impl Handle {
     pub(crate) fn empty() -> Handle
-        ensures { result.slot.reader ≡ None }
+        ensures { result.owned.held ≡ None }
     {
         Handle {
             live: false,
-            slot: Slot::empty(),
+            owned: OwnedPointer::empty(),
         }
     }
 
-    pub(crate) fn of(reader: Box<Reader, Global>) -> Handle
-        ensures { result.slot.reader ≡ Some reader.value }
+    pub(crate) fn of(held: Box<ParserAndPaste, Global>) -> Handle
+        ensures { result.owned.held ≡ Some held.value }
     {
         Handle {
             live: true,
-            slot: Slot::of_parts(Parts::of_box(reader)),
+            owned: OwnedPointer::of_raw_box(RawBox::of_box(held)),
         }
     }
 
-    // Lets go of a handle that has no reader.
+    // Lets go of a handle that has no parser.
     pub(crate) fn close(self)
-        requires { self.slot.reader ≡ None }
+        requires { self.owned.held ≡ None }
     {
-        let Handle { live: _, slot } = self;
-        slot.close();
+        let Handle { live: _, owned } = self;
+        owned.close();
     }
 
-    // Puts a reader into a handle that has none.
-    pub(crate) fn put(&mut self, reader: Box<Reader, Global>)
-        requires { self.old.slot.reader ≡ None }
-        ensures { self.new.slot.reader ≡ Some reader.value }
+    // Puts a parser into a handle that has none.
+    pub(crate) fn put(&mut self, held: Box<ParserAndPaste, Global>)
+        requires { self.old.owned.held ≡ None }
+        ensures { self.new.owned.held ≡ Some held.value }
     {
-        std::mem::replace(self, Handle::of(reader)).close();
+        std::mem::replace(self, Handle::of(held)).close();
     }
 
-    // Takes the reader out, if there is one, and leaves none.
-    pub(crate) fn take(&mut self, alloc: Global) -> Option<Box<Reader, Global>>
-        ensures some { IfSome result (λ reader. self.old.slot.reader ≡ Some reader.value) }
-        ensures none { IfNone result (self.old.slot.reader ≡ None) }
-        ensures after { self.new.slot.reader ≡ None }
+    // Takes the parser out, if there is one, and leaves none.
+    pub(crate) fn take(&mut self, alloc: Global) -> Option<Box<ParserAndPaste, Global>>
+        ensures some { IfSome result (λ held. self.old.owned.held ≡ Some held.value) }
+        ensures none { IfNone result (self.old.owned.held ≡ None) }
+        ensures after { self.new.owned.held ≡ None }
     {
         if !self.live {
             return None;
         }
-        let Handle { live: _, slot } = std::mem::replace(self, Handle::empty());
-        Some(slot.into_parts(alloc).into_box())
+        let Handle { live: _, owned } = std::mem::replace(self, Handle::empty());
+        Some(owned.into_raw_box(alloc).into_box())
     }
 }

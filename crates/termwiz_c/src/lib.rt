@@ -16,9 +16,9 @@ mod events;
 mod handle;
 mod keys;
 mod modes;
-mod parts;
-mod reader;
-mod slot;
+mod owned_pointer;
+mod parser_and_paste;
+mod raw_box;
 #[cfg(test)]
 mod tests;
 
@@ -26,7 +26,7 @@ use crate::events::CEvent;
 use crate::handle::Handle;
 use crate::keys::key_at;
 use crate::modes::{CModes, press_of};
-use crate::reader::{Reader, copy_prefix};
+use crate::parser_and_paste::{ParserAndPaste, copy_prefix};
 use event_text::variant_name;
 use std::alloc::Global;
 use termwiz_input::input::EncodeError;
@@ -52,13 +52,13 @@ const BAD_NUMBER: u32 = 3;
 /// Makes a parser, and frees the one that was there. If memory is refused, the answer is false and nothing changes.
 #[unsafe(no_mangle)]
 pub extern "C" fn tw_parser_init(alloc: Global, parser: &mut Handle) -> bool
-    ensures made { result ≡ true → IsFresh parser.new.slot.reader }
-    ensures refused { result ≡ false → parser.new.slot.reader ≡ parser.old.slot.reader }
+    ensures made { result ≡ true → IsFresh parser.new.owned.held }
+    ensures refused { result ≡ false → parser.new.owned.held ≡ parser.old.owned.held }
 {
-    let Ok(reader) = Reader::new(alloc) else {
+    let Ok(held) = ParserAndPaste::new(alloc) else {
         return false;
     };
-    let Ok(block) = Box::new(alloc, reader) else {
+    let Ok(block) = Box::new(alloc, held) else {
         return false;
     };
     let before = parser.take(alloc);
@@ -70,7 +70,7 @@ pub extern "C" fn tw_parser_init(alloc: Global, parser: &mut Handle) -> bool
 /// Frees the parser, if there is one, and leaves none.
 #[unsafe(no_mangle)]
 pub extern "C" fn tw_parser_free(alloc: Global, parser: &mut Handle)
-    ensures { parser.new.slot.reader ≡ None }
+    ensures { parser.new.owned.held ≡ None }
 {
     drop(parser.take(alloc));
 }
@@ -79,15 +79,15 @@ pub extern "C" fn tw_parser_free(alloc: Global, parser: &mut Handle)
 /// need no memory.
 #[unsafe(no_mangle)]
 pub extern "C" fn tw_parser_feed(alloc: Global, parser: &mut Handle, bytes: &[u8]) -> bool
-    ensures took { result ≡ true → Took parser.old.slot.reader bytes.now parser.new.slot.reader }
-    ensures refused { result ≡ false → parser.new.slot.reader ≡ parser.old.slot.reader }
-    ensures no_bytes { bytes.now ≡ [] → parser.old.slot.reader ≢ None → result ≡ true }
+    ensures took { result ≡ true → Took parser.old.owned.held bytes.now parser.new.owned.held }
+    ensures refused { result ≡ false → parser.new.owned.held ≡ parser.old.owned.held }
+    ensures no_bytes { bytes.now ≡ [] → parser.old.owned.held ≢ None → result ≡ true }
 {
-    let Some(mut reader) = parser.take(alloc) else {
+    let Some(mut held) = parser.take(alloc) else {
         return false;
     };
-    let taken = reader.parser.feed(bytes).is_ok();
-    parser.put(reader);
+    let taken = held.parser.feed(bytes).is_ok();
+    parser.put(held);
     taken
 }
 
@@ -101,18 +101,18 @@ pub extern "C" fn tw_parser_next(
     event: &mut CEvent,
 ) -> u32
     ensures answers { result ≤ 3 }
-    ensures none { result ≡ NONE → Rests parser.old.slot.reader more }
-    ensures event { result ≡ EVENT → Gave parser.old.slot.reader more event.new parser.new.slot.reader }
-    ensures refused { result ≡ NO_MEMORY → HasPasteNext parser.old.slot.reader more }
-    ensures no_parser { result ≡ NO_PARSER ↔ (parser.old.slot.reader ≡ None) }
-    ensures same { result ≢ EVENT → parser.new.slot.reader ≡ parser.old.slot.reader }
+    ensures none { result ≡ NONE → Rests parser.old.owned.held more }
+    ensures event { result ≡ EVENT → Gave parser.old.owned.held more event.new parser.new.owned.held }
+    ensures refused { result ≡ NO_MEMORY → HasPasteNext parser.old.owned.held more }
+    ensures no_parser { result ≡ NO_PARSER ↔ (parser.old.owned.held ≡ None) }
+    ensures same { result ≢ EVENT → parser.new.owned.held ≡ parser.old.owned.held }
     ensures event_same { result ≢ EVENT → event.new ≡ event.old }
 {
-    let Some(mut reader) = parser.take(alloc) else {
+    let Some(mut held) = parser.take(alloc) else {
         return NO_PARSER;
     };
-    let found = reader.next(more);
-    parser.put(reader);
+    let found = held.next(more);
+    parser.put(held);
     match found {
         Ok(Some(next)) => {
             *event = next;
@@ -126,43 +126,43 @@ pub extern "C" fn tw_parser_next(
 /// Copies the text of the last paste that was taken, as much of it as `out` has room for, and returns its whole length.
 #[unsafe(no_mangle)]
 pub extern "C" fn tw_parser_paste(alloc: Global, parser: &mut Handle, out: &mut [u8]) -> usize
-    ensures same { parser.new.slot.reader ≡ parser.old.slot.reader }
-    ensures len { result ≡ length (pasted parser.old.slot.reader) }
-    ensures bytes { out.new ≡ copied (pasted parser.old.slot.reader) out.old }
+    ensures same { parser.new.owned.held ≡ parser.old.owned.held }
+    ensures len { result ≡ length (pasted parser.old.owned.held) }
+    ensures bytes { out.new ≡ copied (pasted parser.old.owned.held) out.old }
 {
-    let Some(reader) = parser.take(alloc) else {
+    let Some(held) = parser.take(alloc) else {
         return 0;
     };
-    let len = reader.copy_pasted(out);
-    parser.put(reader);
+    let len = held.copy_pasted(out);
+    parser.put(held);
     len
 }
 
 /// The length of the waiting text; 0 if there is no parser.
 #[unsafe(no_mangle)]
 pub extern "C" fn tw_parser_waiting(alloc: Global, parser: &mut Handle) -> usize
-    ensures same { parser.new.slot.reader ≡ parser.old.slot.reader }
-    ensures len { result ≡ waiting_len parser.old.slot.reader }
+    ensures same { parser.new.owned.held ≡ parser.old.owned.held }
+    ensures len { result ≡ waiting_len parser.old.owned.held }
 {
-    let Some(reader) = parser.take(alloc) else {
+    let Some(held) = parser.take(alloc) else {
         return 0;
     };
-    let len = reader.parser.waiting_len();
-    parser.put(reader);
+    let len = held.parser.waiting_len();
+    parser.put(held);
     len
 }
 
 /// Whether the waiting text begins with the start of a paste; false if there is no parser.
 #[unsafe(no_mangle)]
 pub extern "C" fn tw_parser_is_paste_open(alloc: Global, parser: &mut Handle) -> bool
-    ensures same { parser.new.slot.reader ≡ parser.old.slot.reader }
-    ensures open { IsTrue result ↔ HasOpenPaste parser.old.slot.reader }
+    ensures same { parser.new.owned.held ≡ parser.old.owned.held }
+    ensures open { IsTrue result ↔ HasOpenPaste parser.old.owned.held }
 {
-    let Some(reader) = parser.take(alloc) else {
+    let Some(held) = parser.take(alloc) else {
         return false;
     };
-    let is_open = reader.parser.is_paste_open();
-    parser.put(reader);
+    let is_open = held.parser.is_paste_open();
+    parser.put(held);
     is_open
 }
 

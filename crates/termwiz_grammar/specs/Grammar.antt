@@ -5,16 +5,16 @@ use Rattle.std.specs.Str.Lossy.{utf8_lossy}
 use Rattle.termwiz_keys.specs.declared.types.KeyEvent.{KeyEvent}
 use Rattle.termwiz_keys.specs.declared.types.MouseEvent.{MouseEvent}
 use Rattle.termwiz_keymap.specs.Bytes.{Begins}
-use Rattle.termwiz_keys.specs.Sequences.{ESC, START, END}
+use Rattle.termwiz_keys.specs.Introducers.{ESC, START, END}
 use Rattle.termwiz_keys.specs.declared.types.InputEvent.{InputEvent}
 use Rattle.termwiz_keys.specs.declared.types.InputEvent.TheVariants.{Key, Mouse, Paste}
 use Rattle.termwiz_keys.specs.Keys.{plain, escape, with_alt}
-use Rattle.termwiz_grammar.specs.Known.{Meaning, IsKnown}
-use Rattle.termwiz_grammar.specs.Known.Meaning.{Row, Frame}
+use Rattle.termwiz_grammar.specs.Sequences.{Meaning, IsSequence}
+use Rattle.termwiz_grammar.specs.Sequences.Meaning.{Row, Report}
 
--- What can begin a text: a known text with its meaning, a character, or else its first byte.
+-- What can begin a text: a sequence with its meaning, a character, or else its first byte.
 pub data Head : Type 0 where
-  Known : List ℕ → Meaning → Head
+  Sequence : List ℕ → Meaning → Head
   Character : ℕ → Head
   Broken : ℕ → Head
 
@@ -22,37 +22,37 @@ pub data Head : Type 0 where
 abbrev pub replacement : ℕ
 replacement = 0xFFFD
 
--- the longest known text that begins u is this one
+-- the longest sequence that begins u is this one
 pub record IsLongest (u text : List ℕ) (meaning : Meaning) : Type 0 where
-  pub known : IsKnown text meaning
+  pub is_sequence : IsSequence text meaning
   pub begins : Begins text u
-  pub longest : (other : List ℕ) (m : Meaning) → IsKnown other m → Begins other u → length other ≤ length text
+  pub longest : (other : List ℕ) (m : Meaning) → IsSequence other m → Begins other u → length other ≤ length text
 
--- no known text begins u, and the UTF-8 encoding of the character c does (Unicode, Table 3-7)
+-- no sequence begins u, and the UTF-8 encoding of the character c does (Unicode, Table 3-7)
 pub record IsCharacter (u : List ℕ) (c : ℕ) : Type 0 where
-  pub unknown : (text : List ℕ) (m : Meaning) → IsKnown text m → ¬ Begins text u
+  pub no_sequence : (text : List ℕ) (m : Meaning) → IsSequence text m → ¬ Begins text u
   pub scalar : IsScalar c
   pub begins : Begins (encode_utf8 c) u
 
--- no known text begins u, and no character's encoding does; the first byte of u is this one
+-- no sequence begins u, and no character's encoding does; the first byte of u is this one
 pub record IsBroken (u : List ℕ) (byte : ℕ) : Type 0 where
-  pub unknown : (text : List ℕ) (m : Meaning) → IsKnown text m → ¬ Begins text u
+  pub no_sequence : (text : List ℕ) (m : Meaning) → IsSequence text m → ¬ Begins text u
   pub unspelled : (c : ℕ) → IsScalar c → ¬ Begins (encode_utf8 c) u
   pub begins : Begins (byte ∷ []) u
 
--- The head of a text is the longest known text that begins it. If there is none, it is the character that begins it, and
+-- The head of a text is the longest sequence that begins it. If there is none, it is the character that begins it, and
 -- if there is none either, the first byte.
 abbrev pub IsHead : List ℕ → Head → Type 0
-IsHead u (Known text meaning) = IsLongest u text meaning
+IsHead u (Sequence text meaning) = IsLongest u text meaning
 IsHead u (Character c) = IsCharacter u c
 IsHead u (Broken byte) = IsBroken u byte
 
--- some known text is longer than u and begins with u
-pub record IsUnfinishedKnown (u : List ℕ) : Type 0 where
+-- some sequence is longer than u and begins with u
+pub record IsUnfinishedSequence (u : List ℕ) : Type 0 where
   pub tail : List ℕ
   pub longer : tail ≢ []
   pub meaning : Meaning
-  pub known : IsKnown (u ++ tail) meaning
+  pub is_sequence : IsSequence (u ++ tail) meaning
 
 -- the encoding of some character is longer than u and begins with u
 pub record IsUnfinishedCharacter (u : List ℕ) : Type 0 where
@@ -62,11 +62,11 @@ pub record IsUnfinishedCharacter (u : List ℕ) : Type 0 where
   pub scalar : IsScalar char
   pub spells : encode_utf8 char ≡ u ++ tail
 
--- u properly begins a known text or the encoding of a character
+-- u properly begins a sequence or the encoding of a character
 abbrev pub IsBeginning : List ℕ → Type 0
-IsBeginning u = IsUnfinishedKnown u ⊎ IsUnfinishedCharacter u
+IsBeginning u = IsUnfinishedSequence u ⊎ IsUnfinishedCharacter u
 
--- More may come, and u may yet become another known text or a character.
+-- More may come, and u may yet become another sequence or a character.
 pub record IsOpen (u : List ℕ) (more : Bool) : Type 0 where
   pub more_comes : more ≡ true
   pub some : u ≢ []
@@ -81,21 +81,21 @@ pub record IsAfterEscape (u v : List ℕ) (more : Bool) : Type 0 where
 
 -- the bytes of a head
 abbrev pub bytes_of : Head → List ℕ
-bytes_of (Known text meaning) = text
+bytes_of (Sequence text meaning) = text
 bytes_of (Character c) = encode_utf8 c
 bytes_of (Broken byte) = byte ∷ []
 
 -- a head that stands for a key: any row but START, a character, or a byte that counts as one
 abbrev pub IsKey : Head → KeyEvent → Type 0
-IsKey (Known text (Row key)) event = (text ≢ START) × (event ≡ key)
-IsKey (Known text (Frame report)) event = ⊥
+IsKey (Sequence text (Row key)) event = (text ≢ START) × (event ≡ key)
+IsKey (Sequence text (Report report)) event = ⊥
 IsKey (Character c) event = event ≡ plain c
 IsKey (Broken byte) event = event ≡ plain replacement
 
--- a head that ESC isn't joined to: a frame or START
+-- a head that ESC isn't joined to: a mouse report or START
 abbrev pub IsApart : Head → Type 0
-IsApart (Known text (Row key)) = text ≡ START
-IsApart (Known text (Frame report)) = Unit {0}
+IsApart (Sequence text (Row key)) = text ≡ START
+IsApart (Sequence text (Report report)) = Unit {0}
 IsApart (Character c) = ⊥
 IsApart (Broken byte) = ⊥
 
@@ -111,7 +111,7 @@ pub data Item (u : List ℕ) (more : Bool) : List ℕ → InputEvent → Type 0 
       → Item u more (encode_utf8 c) (Key (plain c))
   broken : (byte : ℕ) → IsBroken u byte
       → Item u more (byte ∷ []) (Key (plain replacement))
-  mouse : (text : List ℕ) (report : MouseEvent) → IsLongest u text (Frame report)
+  mouse : (text : List ℕ) (report : MouseEvent) → IsLongest u text (Report report)
       → Item u more text (Mouse report)
   paste : (body : List ℕ) → Begins (START ++ body ++ END) u → EndsFirst body
       → Item u more (START ++ body ++ END) (Paste (utf8_lossy body))

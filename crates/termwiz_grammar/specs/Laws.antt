@@ -4,7 +4,7 @@ use Rattle.std.specs.List.{AllPairs}
 use Rattle.termwiz_keys.specs.declared.types.KeyEvent.{KeyEvent}
 use Rattle.termwiz_keys.specs.declared.types.InputEvent.{InputEvent}
 use Rattle.termwiz_keymap.specs.Bytes.{Begins, Occurs}
-use Rattle.termwiz_keys.specs.Sequences.{ESC, CSI, SS3, START, END}
+use Rattle.termwiz_keys.specs.Introducers.{ESC, CSI, SS3, START, END}
 use Rattle.termwiz_grammar.specs.Table.{TableRow, rows}
 use Rattle.termwiz_grammar.specs.Grammar.{IsBeginning, Steps, IsRest, Means}
 use Rattle.termwiz_grammar.specs.Streams.{OneRead, bytes_of_reads, ReadInTurn, OneByOne}
@@ -66,7 +66,7 @@ pub data Waits (u : List ℕ) (more : Bool) : Type 0 where
 abbrev pub WaitingShape : Type 0
 WaitingShape = (u : List ℕ) (more : Bool) → IsRest u more → Waits u more
 
--- the longest text that properly begins a mouse frame: all of its digits, but not the last byte
+-- the longest text that properly begins a mouse report: all of its digits, but not the last byte
 abbrev pub longest_beginning : List ℕ
 longest_beginning = ESC ++ codes "[<00095;65535;65535"
 
@@ -83,7 +83,7 @@ FlushMatters text c =
     (E E1 E2 : List InputEvent) × (W W1 W2 : List ℕ)
     × Means (text ++ c) false E W × Means text false E1 W1 × Means (W1 ++ c) false E2 W2 × (E ≢ E1 ++ E2)
 
--- What properly begins a known text or a character, after at most one held Escape, may go on so that a flush before changes
+-- What properly begins a sequence or a character, after at most one held Escape, may go on so that a flush before changes
 -- the events.
 abbrev pub Undecided : Type 0
 Undecided = (held p : List ℕ) → IsHeldEscape held → p ≢ [] → IsBeginning p → (c : List ℕ) × FlushMatters (held ++ p) c
@@ -110,4 +110,4 @@ pub record TableFacts : Type 0 where
   pub bytes_differ : AllPairs HasOtherBytes rows
   pub at_most_eleven_bytes : All (λ row. length row.0 ≤ 11) rows
   pub one_has_eleven_bytes : (bytes : List ℕ) × (key : KeyEvent) × Contains rows (bytes, key) × (length bytes ≡ 11)
-  pub none_begins_like_a_frame : All (λ row. ¬ Begins (ESC ++ codes "[<") row.0) rows
+  pub none_begins_like_a_report : All (λ row. ¬ Begins (ESC ++ codes "[<") row.0) rows

@@ -1,6 +1,6 @@
-pub mod Frame
+pub mod MouseReports
 pub mod Grammar
-pub mod Known
+pub mod Sequences
 pub mod Laws
 pub mod Listed
 pub mod ListedExamples

@@ -7,10 +7,10 @@ use Rattle.termwiz_keys.specs.declared.types.KeyCode.TheVariants.{Char, Backspac
 use Rattle.termwiz_keys.specs.declared.types.InputEvent.TheVariants.{Key}
 use Rattle.termwiz_keys.specs.declared.encode.KeyboardEncoding.TheVariants.{Xterm}
 use Rattle.termwiz_keys.specs.declared.encode.KeyCodeEncodeModes.{KeyCodeEncodeModes}
-use Rattle.termwiz_keys.specs.Sequences.{CSI}
+use Rattle.termwiz_keys.specs.Introducers.{CSI}
 use Rattle.termwiz_keys.specs.Keys.{NONE, SHIFT, ALT, CTRL, key_with}
 use Rattle.termwiz_grammar.specs.Grammar.{Means}
-use Rattle.termwiz_keys.specs.Enc.{enc}
+use Rattle.termwiz_keys.specs.Encoding.{enc}
 
 -- the sets of Shift, Alt and Ctrl
 abbrev pub any_of_three : List ℕ

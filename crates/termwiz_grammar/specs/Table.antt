@@ -6,7 +6,7 @@ use Rattle.std.specs.Fmt.{digits}
 use Rattle.termwiz_keys.specs.declared.types.KeyCode.{KeyCode}
 use Rattle.termwiz_keys.specs.declared.types.KeyCode.TheVariants.{Char, Backspace, Tab, Enter, Escape, PageUp, PageDown, End, Home, LeftArrow, RightArrow, UpArrow, DownArrow, Insert, Delete, Function, ApplicationLeftArrow, ApplicationRightArrow, ApplicationUpArrow, ApplicationDownArrow, InternalPasteStart, InternalPasteEnd}
 use Rattle.termwiz_keys.specs.declared.types.KeyEvent.{KeyEvent}
-use Rattle.termwiz_keys.specs.Sequences.{ESC, CSI, SS3, START, END}
+use Rattle.termwiz_keys.specs.Introducers.{ESC, CSI, SS3, START, END}
 use Rattle.std.specs.FinMap as map_of
 use Rattle.termwiz_keymap.specs.Lookup.{ByteMap}
 use Rattle.termwiz_keys.specs.Keys.{key_with, NONE, SHIFT, ALT, CTRL, escape}

@@ -16,7 +16,7 @@ pub fn one_meaning()
 {}
 
 /// The sequence table has 2937 rows, and no two of them have the same bytes. The longest rows have eleven bytes, and no row
-/// begins with ESC `[<`, as mouse frames do.
+/// begins with ESC `[<`, as mouse reports do.
 pub fn table_facts()
     ensures { TableFacts }
 {}
@@ -70,18 +70,18 @@ pub fn empty_is_rest()
     ensures { EmptyIsRest }
 {}
 
-/// What waits is one of three: nothing; an open paste; or, if more may come, at most twenty bytes that properly begin a known
-/// text or a character, after at most one Escape.
+/// What waits is one of three: nothing; an open paste; or, if more may come, at most twenty bytes that properly begin a
+/// sequence or a character, after at most one Escape.
 pub fn waiting_shape()
     ensures { WaitingShape }
 {}
 
-/// Twenty undecided bytes can stay buffered, alone and after one Escape: the longest proper beginning of a mouse frame.
+/// Twenty undecided bytes can stay buffered, alone and after one Escape: the longest proper beginning of a mouse report.
 pub fn most_wait()
     ensures { MostWait }
 {}
 
-/// What waits as the proper beginning of a known text or of a character, alone or after one Escape, isn't decided yet: for some
+/// What waits as the proper beginning of a sequence or of a character, alone or after one Escape, isn't decided yet: for some
 /// bytes that may follow it, a flush before them changes the events. The three meanings exist: of the whole, of what is flushed,
 /// and of what comes after the flush. By `one_meaning` each is the only one.
 pub fn undecided()

@@ -1,34 +1,34 @@
-pub mod AtFront
+pub mod Matches
 pub mod Bytes
 pub mod Callbacks
-pub mod FrameAnswers
+pub mod MouseReportAnswers
 pub mod PasteSearch
 pub mod Pieces
 pub mod Suffixes
-pub mod Typed
+pub mod PrintableAscii
 pub mod Values
-pub use Rattle.termwiz_grammar.specs.Frame as Frame
+pub use Rattle.termwiz_grammar.specs.MouseReports as MouseReports
 pub use Rattle.termwiz_grammar.specs.Grammar as Grammar
-pub use Rattle.termwiz_grammar.specs.Known as Known
+pub use Rattle.termwiz_grammar.specs.Sequences as Sequences
 pub use Rattle.termwiz_grammar.specs.Laws as Laws
 pub use Rattle.termwiz_grammar.specs.Listed as Listed
 pub use Rattle.termwiz_grammar.specs.ListedExamples as ListedExamples
 pub use Rattle.termwiz_grammar.specs.Streams as Streams
 pub use Rattle.termwiz_grammar.specs.Table as Table
 pub use Rattle.termwiz_keymap.specs.Entries as Entries
-pub use Rattle.termwiz_keymap.specs.KeyGroups as KeyGroups
+pub use Rattle.termwiz_keymap.specs.KeyBuckets as KeyBuckets
 pub use Rattle.termwiz_keymap.specs.KeyRows as KeyRows
 pub use Rattle.termwiz_keymap.specs.Lookup as Lookup
 pub use Rattle.termwiz_keymap.specs.declared.keymap.Found as Found
 pub use Rattle.termwiz_keymap.specs.declared.keymap.KeyMap as KeyMap
 pub use Rattle.termwiz_keymap.specs.declared.readbuf.ReadBuffer as ReadBuffer
 pub use Rattle.termwiz_keys.specs.Buttons as Buttons
-pub use Rattle.termwiz_keys.specs.Enc as Enc
+pub use Rattle.termwiz_keys.specs.Encoding as Encoding
 pub use Rattle.termwiz_keys.specs.Events as Events
 pub use Rattle.termwiz_keys.specs.FunctionCodes as FunctionCodes
 pub use Rattle.termwiz_keys.specs.KeyCodes as KeyCodes
 pub use Rattle.termwiz_keys.specs.Keys as Keys
-pub use Rattle.termwiz_keys.specs.Sequences as Sequences
+pub use Rattle.termwiz_keys.specs.Introducers as Introducers
 pub use Rattle.termwiz_keys.specs.declared.encode.EncodeError as EncodeError
 pub use Rattle.termwiz_keys.specs.declared.encode.KeyCodeEncodeModes as KeyCodeEncodeModes
 pub use Rattle.termwiz_keys.specs.declared.encode.KeyboardEncoding as KeyboardEncoding

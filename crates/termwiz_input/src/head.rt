@@ -1,13 +1,13 @@
-// The head of a text: the longest known text that begins it, or else the character that does, or else its first byte. A known
-// text is a row of the sequence table or a mouse frame.
+// The head of a text: the longest sequence that begins it, or else the character that does, or else its first byte.
+// A sequence is a row of the sequence table or an SGR mouse report.
 ghost use Rattle.std.specs.Prelude.{◌≡◌, ◌≢◌, ◌↔◌, [], true, None, IfSome, IfNone, IsSome, IsTrue};
-ghost use Rattle.termwiz_input.specs.FrameAnswers.{IsBegun};
-ghost use Rattle.termwiz_grammar.specs.Grammar.{IsOpen, IsUnfinishedKnown, IsUnfinishedCharacter};
-ghost use Rattle.termwiz_input.specs.AtFront.{BeginsWithNoControl, HasHead, HasLoneEscape, HasNoHeadYet, HasUntypedAfterEscape, IsApartFromKnown, NoFrameBegins, NoKnownTextBegins, character_of};
+ghost use Rattle.termwiz_input.specs.MouseReportAnswers.{IsBegun};
+ghost use Rattle.termwiz_grammar.specs.Grammar.{IsOpen, IsUnfinishedSequence, IsUnfinishedCharacter};
+ghost use Rattle.termwiz_input.specs.Matches.{BeginsWithNoControl, HasHead, HasLoneEscape, HasNoHeadYet, HasNonPrintableAfterEscape, CannotStartSequence, NoMouseReportBegins, NoSequenceBegins, character_of};
 ghost use Rattle.termwiz_keys.specs.Keys.{escape};
 ghost use Rattle.termwiz_grammar.specs.Table.{table};
 
-use crate::frame::{FrontFrame, frame_at};
+use crate::mouse_report::{FrontReport, mouse_report_at};
 use bstr::decode_utf8;
 use std::str;
 use termwiz_base::{Flags, Modifiers};
@@ -16,9 +16,9 @@ use termwiz_keys::types::{KeyCode, KeyEvent, MouseEvent};
 
 // The head of a text, and the number of its bytes. `Broken` is one byte, which begins no character.
 #[derive(Drop)]
-pub(crate) enum Head {
+pub(crate) enum MatchedHead {
     Row(KeyEvent, usize),
-    Frame(MouseEvent, usize),
+    Report(MouseEvent, usize),
     Character(char, usize),
     Broken,
 }
@@ -34,7 +34,7 @@ pub(crate) fn escape_key() -> KeyEvent
 }
 
 // The character that begins the text, and the number of its bytes.
-#[tactic(auto, unfolding(crate::specs::AtFront::character_of))]
+#[tactic(auto, unfolding(crate::specs::Matches::character_of))]
 pub(crate) fn character_at(text: &[u8]) -> Option<(char, usize)>
     ensures { result ≡ character_of text.now }
 {
@@ -64,36 +64,40 @@ fn awaits_character(text: &[u8], maybe_more: bool) -> bool
     maybe_more && ends_within_character(text)
 }
 
-// The head of a text that no known text begins or may yet begin: a character, or else a broken byte. `None` if more bytes
+// The head of a text that no sequence begins or may yet begin: a character, or else a broken byte. `None` if more bytes
 // may complete a character, and if the text is empty.
 #[inline(always)]
-fn unknown_head_at(text: &[u8], maybe_more: bool) -> Option<Head>
-    requires unknown { NoKnownTextBegins text.now }
-    requires finished { maybe_more ≡ true → ¬ IsUnfinishedKnown text.now }
+fn character_or_byte_at(text: &[u8], maybe_more: bool) -> Option<MatchedHead>
+    requires no_sequence { NoSequenceBegins text.now }
+    requires finished { maybe_more ≡ true → ¬ IsUnfinishedSequence text.now }
     ensures closed { IsSome result → ¬ IsOpen text.now maybe_more }
     ensures head { IfSome result (HasHead text.now) }
     ensures waits { IfNone result (HasNoHeadYet text.now maybe_more) }
 {
     match character_at(text) {
-        Some((character, len)) => Some(Head::Character(character, len)),
+        Some((character, len)) => Some(MatchedHead::Character(character, len)),
         None if text.is_empty() => None,
         None if awaits_character(text, maybe_more) => None,
-        None => Some(Head::Broken),
+        None => Some(MatchedHead::Broken),
     }
 }
 
-// The head of a text that no frame begins: a row, or else a character or a broken byte. `None` if more bytes may change it,
+// The head of a text that no mouse report begins: a row, or else a character or a broken byte. `None` if more bytes may change it,
 // and if the text is empty.
-fn unframed_head_at(key_map: &KeyMap<KeyEvent>, text: &[u8], maybe_more: bool) -> Option<Head>
+fn row_or_character_at(
+    key_map: &KeyMap<KeyEvent>,
+    text: &[u8],
+    maybe_more: bool,
+) -> Option<MatchedHead>
     requires rows { key_map.now ≡ table }
-    requires no_frame { NoFrameBegins text.now }
+    requires no_report { NoMouseReportBegins text.now }
     requires not_begun { maybe_more ≡ true → ¬ IsBegun text.now }
     ensures closed { IsSome result → ¬ IsOpen text.now maybe_more }
     ensures head { IfSome result (HasHead text.now) }
     ensures waits { IfNone result (HasNoHeadYet text.now maybe_more) }
 {
     match key_map.lookup(text, maybe_more) {
-        Found::Exact(len, key) => Some(Head::Row(
+        Found::Exact(len, key) => Some(MatchedHead::Row(
             KeyEvent {
                 key: key.key,
                 modifiers: key.modifiers,
@@ -102,19 +106,19 @@ fn unframed_head_at(key_map: &KeyMap<KeyEvent>, text: &[u8], maybe_more: bool) -
         )),
         Found::Ambiguous(..) => None,
         Found::NeedData if maybe_more => None,
-        Found::NeedData => unknown_head_at(text, maybe_more),
-        Found::None => unknown_head_at(text, maybe_more),
+        Found::NeedData => character_or_byte_at(text, maybe_more),
+        Found::None => character_or_byte_at(text, maybe_more),
     }
 }
 
-// A known text begins with a byte below SPACE, or with DELETE.
+// A sequence begins with a byte below SPACE, or with DELETE.
 const SPACE: u8 = 0x20;
 
 const DELETE: u8 = 0x7f;
 
-// Whether the first byte of the text begins no known text: it is from 0x20 to 0x7e, or from 0x80 on.
-pub(crate) fn begins_apart_from_known(text: &[u8]) -> bool
-    ensures apart { IsTrue result → IsApartFromKnown text.now }
+// Whether the first byte of the text begins no sequence: it is from 0x20 to 0x7e, or from 0x80 on.
+pub(crate) fn cannot_start_sequence(text: &[u8]) -> bool
+    ensures apart { IsTrue result → CannotStartSequence text.now }
     ensures when { IsTrue result ↔ BeginsWithNoControl text.now }
 {
     match text {
@@ -123,10 +127,10 @@ pub(crate) fn begins_apart_from_known(text: &[u8]) -> bool
     }
 }
 
-// Whether the text begins with ESC and a byte that no known text has after its first: then ESC is its head.
+// Whether the text begins with ESC and a byte that no sequence has after its first: then ESC is its head.
 fn begins_with_lone_escape(text: &[u8]) -> bool
     ensures lone { IsTrue result → HasLoneEscape text.now }
-    ensures when { IsTrue result ↔ HasUntypedAfterEscape text.now }
+    ensures when { IsTrue result ↔ HasNonPrintableAfterEscape text.now }
 {
     match text {
         [b'\x1b', next, ..] => *next < SPACE || *next >= DELETE,
@@ -134,34 +138,42 @@ fn begins_with_lone_escape(text: &[u8]) -> bool
     }
 }
 
-// The head of any text: first a frame is looked for, then a row, then a character. `head_at` is quicker where no known text can begin.
-fn tested_head_at(key_map: &KeyMap<KeyEvent>, text: &[u8], maybe_more: bool) -> Option<Head>
+// The head of any text: first a mouse report is looked for, then a row, then a character. `head_at` is quicker where no sequence can begin.
+fn sequence_or_character_at(
+    key_map: &KeyMap<KeyEvent>,
+    text: &[u8],
+    maybe_more: bool,
+) -> Option<MatchedHead>
     requires { key_map.now ≡ table }
     ensures closed { IsSome result → ¬ IsOpen text.now maybe_more }
     ensures head { IfSome result (HasHead text.now) }
     ensures waits { IfNone result (HasNoHeadYet text.now maybe_more) }
 {
-    match frame_at(text) {
-        FrontFrame::Whole(event, len) => Some(Head::Frame(event, len)),
-        FrontFrame::Begun if maybe_more => None,
-        FrontFrame::Begun => unframed_head_at(key_map, text, maybe_more),
-        FrontFrame::Absent => unframed_head_at(key_map, text, maybe_more),
+    match mouse_report_at(text) {
+        FrontReport::Whole(event, len) => Some(MatchedHead::Report(event, len)),
+        FrontReport::Begun if maybe_more => None,
+        FrontReport::Begun => row_or_character_at(key_map, text, maybe_more),
+        FrontReport::Absent => row_or_character_at(key_map, text, maybe_more),
     }
 }
 
 // The head of a text. `None` if more bytes may change it, and if the text is empty.
 #[inline(always)]
-pub(crate) fn head_at(key_map: &KeyMap<KeyEvent>, text: &[u8], maybe_more: bool) -> Option<Head>
+pub(crate) fn head_at(
+    key_map: &KeyMap<KeyEvent>,
+    text: &[u8],
+    maybe_more: bool,
+) -> Option<MatchedHead>
     requires { key_map.now ≡ table }
     ensures closed { IsSome result → ¬ IsOpen text.now maybe_more }
     ensures head { IfSome result (HasHead text.now) }
     ensures waits { IfNone result (HasNoHeadYet text.now maybe_more) }
 {
-    if begins_apart_from_known(text) {
-        unknown_head_at(text, maybe_more)
+    if cannot_start_sequence(text) {
+        character_or_byte_at(text, maybe_more)
     } else if begins_with_lone_escape(text) {
-        Some(Head::Row(escape_key(), 1))
+        Some(MatchedHead::Row(escape_key(), 1))
     } else {
-        tested_head_at(key_map, text, maybe_more)
+        sequence_or_character_at(key_map, text, maybe_more)
     }
 }

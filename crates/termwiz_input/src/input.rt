@@ -2,16 +2,17 @@
 ghost use Rattle.std.specs.Prelude.{◌≡◌, ◌≢◌, ◌++◌, ◌+◌, ◌^◌, ◌<◌, ◌≤◌, ℕ, Bool, List, [], ◌∷◌, length, drop, Contains, Some, true, false, OnErr, IfOk, IfErr, IfSome, IfNone, IsTrue, ◌↔◌, ◌==◌, ◌⊎◌, slice_index_or, if◌then◌else◌, OnOk, IsOk, IsErrOf, vec_len, vec_capacity};
 ghost use Rattle.termwiz_keys.specs.declared.types.KeyEvent.{KeyEvent};
 ghost use Rattle.termwiz_keymap.specs.Bytes.{Begins};
-ghost use Rattle.termwiz_keys.specs.Sequences.{START};
+ghost use Rattle.termwiz_keys.specs.Introducers.{START};
 ghost use Rattle.termwiz_keys.specs.Keys.{plain};
 ghost use Rattle.termwiz_grammar.specs.Grammar.{GivesNoPaste, HasItem, HasPaste, IsRest, Steps, Means};
-ghost use Rattle.termwiz_input.specs.AtFront.{IsItemAt};
+ghost use Rattle.termwiz_input.specs.Matches.{IsItemAt};
 ghost use Rattle.termwiz_input.specs.Callbacks.{MayBeCalledOn, MayBeCalledOnNumbered, WasCalledOn, WasCalledOnNumbered};
 ghost use Rattle.termwiz_input.specs.Pieces.{AreNumbered, NumberedEvent, ReadsFirst, events_of, flag_at, join, numbered, pieces_or_one, taken_or_one, texts};
 ghost use Rattle.termwiz_keys.specs.declared.types.InputEvent.{InputEvent as Event};
 
 use crate::item::{
-    Item, append_typed, character_front, frame_front, item_at, plain_key, typed_front,
+    MatchedItem, append_printable_ascii, character_front, item_at, mouse_report_front, plain_key,
+    printable_ascii_front,
 };
 use crate::paste::{begins_paste, next_search};
 use crate::rules::add_rows;
@@ -146,7 +147,7 @@ impl InputParser {
     }
 
     // The item at the front of the waiting text, where it stays.
-    fn peek(&self, maybe_more: bool) -> Result<Option<Item>, AllocError>
+    fn peek(&self, maybe_more: bool) -> Result<Option<MatchedItem>, AllocError>
         ensures item { IfOk result (λ found. IfSome found (IsItemAt self.now maybe_more)) }
         ensures none { IfOk result (λ found. IfNone found (IsRest self.now maybe_more)) }
         ensures refused { OnErr result (HasPaste self.now maybe_more) }
@@ -166,7 +167,7 @@ impl InputParser {
     }
 
     // The item at the front of the waiting text, as `peek` finds it. If there is none, notes how far an open paste was searched.
-    fn find_item(&mut self, maybe_more: bool) -> Result<Option<Item>, AllocError>
+    fn find_item(&mut self, maybe_more: bool) -> Result<Option<MatchedItem>, AllocError>
         ensures same { self.new ≡ self.old }
         ensures item { IfOk result (λ found. IfSome found (IsItemAt self.old maybe_more)) }
         ensures none { IfOk result (λ found. IfNone found (IsRest self.old maybe_more)) }
@@ -199,7 +200,7 @@ impl InputParser {
         self.buffer.extend_with(bytes)
     }
 
-    // Takes the character at the front of the waiting text. `None`, and nothing taken, if a known text may begin there or no whole
+    // Takes the character at the front of the waiting text. `None`, and nothing taken, if a sequence may begin there or no whole
     // character stands there.
     fn next_character(&mut self) -> Option<char>
         ensures event { IfSome result (λ character. (more : Bool) → Steps self.old more (Event.Key (plain character) ∷ []) self.new) }
@@ -210,12 +211,12 @@ impl InputParser {
         Some(character)
     }
 
-    // Takes the mouse frame at the front of the waiting text. `None`, and nothing taken, if none stands there.
-    fn next_frame(&mut self) -> Option<MouseEvent>
+    // Takes the mouse report at the front of the waiting text. `None`, and nothing taken, if none stands there.
+    fn next_mouse_report(&mut self) -> Option<MouseEvent>
         ensures event { IfSome result (λ event. (more : Bool) → Steps self.old more (Event.Mouse event ∷ []) self.new) }
         ensures none { IfNone result (self.new ≡ self.old) }
     {
-        let (event, len) = frame_front(self.buffer.as_slice())?;
+        let (event, len) = mouse_report_front(self.buffer.as_slice())?;
         self.consume(len);
         Some(event)
     }
@@ -239,10 +240,10 @@ impl InputParser {
         if let Some(character) = self.next_character() {
             return Ok(Some(InputEvent::Key(plain_key(character))));
         }
-        if let Some(event) = self.next_frame() {
+        if let Some(event) = self.next_mouse_report() {
             return Ok(Some(InputEvent::Mouse(event)));
         }
-        let Some(Item { event, len }) = self.find_item(maybe_more)? else {
+        let Some(MatchedItem { event, len }) = self.find_item(maybe_more)? else {
             return Ok(None);
         };
         self.consume(len);
@@ -251,7 +252,7 @@ impl InputParser {
 
     /// Appends `bytes` to the waiting text, and calls `callback` with each of its events in order. What is no event yet waits.
     ///
-    /// Pass `maybe_more` as true while more bytes may come: then a text that may yet become a longer known text or a character
+    /// Pass `maybe_more` as true while more bytes may come: then a text that may yet become a longer sequence or a character
     /// waits. Pass false at the end of the input, or if a pause says that an Escape was meant alone: then only an open paste
     /// waits. Call with no bytes and false to flush.
     #[tactic(auto, using(termwiz_grammar::proofs::lemmas::waiting::RestShape::rest_flushed))]
@@ -407,25 +408,25 @@ impl InputParser {
         events.reserve(self.waiting_len().min(SHORT_TEXT).max(count))
     }
 
-    // Moves the events of the typed characters at the front of the waiting text to the list.
-    fn store_typed(&mut self, events: &mut Vec<InputEvent>) -> Result<(), AllocError>
+    // Moves the events of the printable ASCII characters at the front of the waiting text to the list.
+    fn store_printable_ascii(&mut self, events: &mut Vec<InputEvent>) -> Result<(), AllocError>
         ensures steps { (text : List ℕ) (more : Bool) → Steps text more events.old.items self.old → Steps text more events.new.items self.new }
         ensures few { length events.new.items + length self.new ≤ length events.old.items + length self.old }
         ensures left { length self.new ≤ length self.old }
         ensures item { OnErr result ((more : Bool) → HasItem self.new more) }
     {
-        let characters = typed_front(self.buffer.as_slice());
+        let characters = printable_ascii_front(self.buffer.as_slice());
         let len = characters.len();
         if len == 0 {
             return Ok(());
         }
         self.make_room(events, len)?;
-        append_typed(events, characters);
+        append_printable_ascii(events, characters);
         self.consume(len);
         Ok(())
     }
 
-    // Moves the events of the characters at the front of the waiting text to the list, up to where a known text may begin.
+    // Moves the events of the characters at the front of the waiting text to the list, up to where a sequence may begin.
     fn store_characters(&mut self, events: &mut Vec<InputEvent>) -> Result<(), AllocError>
         ensures steps { (text : List ℕ) (more : Bool) → Steps text more events.old.items self.old → Steps text more events.new.items self.new }
         ensures few { length events.new.items + length self.new ≤ length events.old.items + length self.old }
@@ -433,7 +434,7 @@ impl InputParser {
         ensures item { OnErr result ((more : Bool) → HasItem self.new more) }
     {
         loop {
-            self.store_typed(events)?;
+            self.store_printable_ascii(events)?;
             match character_front(self.buffer.as_slice()) {
                 Some((character, len)) => {
                     self.make_room(events, 1)?;
@@ -445,14 +446,14 @@ impl InputParser {
         }
     }
 
-    // Moves the events of the mouse frames at the front of the waiting text to the list.
-    fn store_frames(&mut self, events: &mut Vec<InputEvent>) -> Result<(), AllocError>
+    // Moves the events of the mouse reports at the front of the waiting text to the list.
+    fn store_mouse_reports(&mut self, events: &mut Vec<InputEvent>) -> Result<(), AllocError>
         ensures steps { (text : List ℕ) (more : Bool) → Steps text more events.old.items self.old → Steps text more events.new.items self.new }
         ensures few { length events.new.items + length self.new ≤ length events.old.items + length self.old }
         ensures left { length self.new ≤ length self.old }
         ensures item { OnErr result ((more : Bool) → HasItem self.new more) }
     {
-        while let Some((event, len)) = frame_front(self.buffer.as_slice()) {
+        while let Some((event, len)) = mouse_report_front(self.buffer.as_slice()) {
             self.make_room(events, 1)?;
             events.push_reserved(InputEvent::Mouse(event));
             self.consume(len);
@@ -474,9 +475,9 @@ impl InputParser {
     {
         loop {
             self.store_characters(events)?;
-            self.store_frames(events)?;
+            self.store_mouse_reports(events)?;
             match self.find_item(maybe_more)? {
-                Some(Item { event, len }) => {
+                Some(MatchedItem { event, len }) => {
                     self.make_room(events, 1)?;
                     events.push_reserved(event);
                     self.consume(len);
@@ -488,7 +489,7 @@ impl InputParser {
 
     /// Appends `bytes` to the waiting text, and returns its events in order. What is no event yet waits.
     ///
-    /// Pass `maybe_more` as true while more bytes may come: then a text that may yet become a longer known text or a character
+    /// Pass `maybe_more` as true while more bytes may come: then a text that may yet become a longer sequence or a character
     /// waits. Pass false at the end of the input, or if a pause says that an Escape was meant alone: then only an open paste
     /// waits. Call with no bytes and false to flush.
     #[tactic(auto, using(termwiz_grammar::proofs::lemmas::waiting::RestShape::rest_flushed))]

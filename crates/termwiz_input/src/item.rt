@@ -1,17 +1,17 @@
 // The item at the front of a text: the event that it gives, and the number of its bytes.
 ghost use Rattle.std.specs.Prelude.{◌≡◌, ◌≢◌, ◌+◌, ◌++◌, ◌≤◌, ◌↔◌, Bool, [], length, drop, take, OnErr, IfOk, IfSome, IfNone, IsTrue, vec_len, vec_capacity};
 ghost use Rattle.termwiz_keymap.specs.Bytes.{Begins};
-ghost use Rattle.termwiz_keys.specs.Sequences.{ESC, START};
+ghost use Rattle.termwiz_keys.specs.Introducers.{ESC, START};
 ghost use Rattle.termwiz_keys.specs.Keys.{plain, escape, with_alt};
-ghost use Rattle.termwiz_grammar.specs.Known.Meaning.{Row};
+ghost use Rattle.termwiz_grammar.specs.Sequences.Meaning.{Row};
 ghost use Rattle.termwiz_grammar.specs.Grammar.{IsLongest, IsOpen, HasPaste, IsRest, Steps};
-ghost use Rattle.termwiz_input.specs.AtFront.{IsItemAt};
+ghost use Rattle.termwiz_input.specs.Matches.{IsItemAt};
 ghost use Rattle.termwiz_input.specs.PasteSearch.{NoEndBefore};
 ghost use Rattle.termwiz_grammar.specs.Table.{table};
-ghost use Rattle.termwiz_input.specs.Typed.{IsTyped, typed};
+ghost use Rattle.termwiz_input.specs.PrintableAscii.{IsPrintableAscii, printable_events};
 
-use crate::frame::{FrontFrame, INTRODUCER, frame_at};
-use crate::head::{Head, begins_apart_from_known, character_at, escape_key, head_at};
+use crate::head::{MatchedHead, cannot_start_sequence, character_at, escape_key, head_at};
+use crate::mouse_report::{FrontReport, INTRODUCER, mouse_report_at};
 use crate::paste::{begins_paste, paste_at};
 use std::alloc::{AllocError, Global};
 use std::char::REPLACEMENT_CHARACTER;
@@ -22,16 +22,16 @@ use termwiz_keys::types::{InputEvent, KeyCode, KeyEvent, MouseEvent};
 
 // An item: its event, and the number of its bytes.
 #[derive(Drop)]
-pub(crate) struct Item {
+pub(crate) struct MatchedItem {
     pub(crate) event: InputEvent,
     pub(crate) len: usize,
 }
 
 // An item that is a key.
-fn key_item(key: KeyEvent, len: usize) -> Item
+fn key_item(key: KeyEvent, len: usize) -> MatchedItem
     ensures { result ≡ record { event = InputEvent.Key key; len = len } }
 {
-    Item {
+    MatchedItem {
         event: InputEvent::Key(key),
         len,
     }
@@ -58,19 +58,19 @@ fn alt_key(key: KeyEvent) -> KeyEvent
 }
 
 // Whether a byte is a character from SPACE to `~`.
-fn is_typed(byte: u8) -> bool
-    ensures { IsTrue result ↔ IsTyped byte }
+fn is_printable_ascii(byte: u8) -> bool
+    ensures { IsTrue result ↔ IsPrintableAscii byte }
 {
     byte >= b' ' && byte <= b'~'
 }
 
 // The characters from SPACE to `~` at the front of a text, up to the first byte that is none. Each is an item of its own.
-pub(crate) fn typed_front(text: &[u8]) -> &[u8]
-    ensures steps { (more : Bool) → Steps text.now more (typed result.now) (drop (length result.now) text.now) }
+pub(crate) fn printable_ascii_front(text: &[u8]) -> &[u8]
+    ensures steps { (more : Bool) → Steps text.now more (printable_events result.now) (drop (length result.now) text.now) }
     ensures within { length result.now ≤ length text.now }
 {
     for (len, byte) in text.iter().enumerate() {
-        if !is_typed(*byte) {
+        if !is_printable_ascii(*byte) {
             return &text[..len];
         }
     }
@@ -78,37 +78,37 @@ pub(crate) fn typed_front(text: &[u8]) -> &[u8]
 }
 
 // Appends the events of such characters, for which the list has room.
-pub(crate) fn append_typed(events: &mut Vec<InputEvent>, characters: &[u8])
+pub(crate) fn append_printable_ascii(events: &mut Vec<InputEvent>, characters: &[u8])
     requires room { vec_len events.old + length characters.now ≤ vec_capacity events.old }
-    ensures { events.new.items ≡ events.old.items ++ typed characters.now }
+    ensures { events.new.items ≡ events.old.items ++ printable_events characters.now }
 {
     for byte in characters {
         events.push_reserved(InputEvent::Key(plain_key(char::from(*byte))));
     }
 }
 
-// The character at the front of a text with which no known text begins, and the number of its bytes: an item of its own.
+// The character at the front of a text with which no sequence begins, and the number of its bytes: an item of its own.
 pub(crate) fn character_front(text: &[u8]) -> Option<(char, usize)>
     ensures { IfSome result (λ found. (more : Bool) → IsItemAt text.now more (record { event = InputEvent.Key (plain found.0); len = found.1 })) }
 {
-    if begins_apart_from_known(text) {
+    if cannot_start_sequence(text) {
         character_at(text)
     } else {
         None
     }
 }
 
-// The mouse event of the frame at the front of a text, and the number of its bytes: an item of its own. Most texts don't begin with the
-// introducer, so that is tested here, before `frame_at` is called.
-pub(crate) fn frame_front(text: &[u8]) -> Option<(MouseEvent, usize)>
+// The mouse event of the mouse report at the front of a text, and the number of its bytes: an item of its own. Most texts don't begin with the
+// introducer, so that is tested here, before `mouse_report_at` is called.
+pub(crate) fn mouse_report_front(text: &[u8]) -> Option<(MouseEvent, usize)>
     ensures { IfSome result (λ found. (more : Bool) → IsItemAt text.now more (record { event = InputEvent.Mouse found.0; len = found.1 })) }
 {
     if !begins_with(text, INTRODUCER) {
         return None;
     }
-    match frame_at(text) {
-        FrontFrame::Whole(event, len) => Some((event, len)),
-        FrontFrame::Begun | FrontFrame::Absent => None,
+    match mouse_report_at(text) {
+        FrontReport::Whole(event, len) => Some((event, len)),
+        FrontReport::Begun | FrontReport::Absent => None,
     }
 }
 
@@ -124,9 +124,9 @@ fn after_escape(text: &[u8], len: usize) -> Option<&[u8]>
     }
 }
 
-// The item at an Escape that `rest` follows: the Escape adds ALT to the key after it, and stands alone before a frame and
+// The item at an Escape that `rest` follows: the Escape adds ALT to the key after it, and stands alone before a mouse report and
 // before a paste.
-fn escape_item_at(key_map: &KeyMap<KeyEvent>, rest: &[u8], maybe_more: bool) -> Option<Item>
+fn escape_item_at(key_map: &KeyMap<KeyEvent>, rest: &[u8], maybe_more: bool) -> Option<MatchedItem>
     requires rows { key_map.now ≡ table }
     requires closed { ¬ IsOpen (ESC ++ rest.now) maybe_more }
     requires head { IsLongest (ESC ++ rest.now) ESC (Row escape) }
@@ -138,34 +138,34 @@ fn escape_item_at(key_map: &KeyMap<KeyEvent>, rest: &[u8], maybe_more: bool) -> 
         return Some(key_item(escape_key(), 1));
     }
     match head_at(key_map, rest, maybe_more) {
-        Some(Head::Row(key, len)) => Some(key_item(alt_key(key), 1 + len)),
-        Some(Head::Character(character, len)) => {
+        Some(MatchedHead::Row(key, len)) => Some(key_item(alt_key(key), 1 + len)),
+        Some(MatchedHead::Character(character, len)) => {
             Some(key_item(alt_key(plain_key(character)), 1 + len))
         }
-        Some(Head::Broken) => Some(key_item(alt_key(plain_key(REPLACEMENT_CHARACTER)), 2)),
-        Some(Head::Frame(..)) => Some(key_item(escape_key(), 1)),
+        Some(MatchedHead::Broken) => Some(key_item(alt_key(plain_key(REPLACEMENT_CHARACTER)), 2)),
+        Some(MatchedHead::Report(..)) => Some(key_item(escape_key(), 1)),
         None => None,
     }
 }
 
 // The item at a text that doesn't begin with the start of a paste.
-fn key_or_mouse_at(key_map: &KeyMap<KeyEvent>, text: &[u8], maybe_more: bool) -> Option<Item>
+fn key_or_mouse_at(key_map: &KeyMap<KeyEvent>, text: &[u8], maybe_more: bool) -> Option<MatchedItem>
     requires rows { key_map.now ≡ table }
     requires no_paste { ¬ Begins START text.now }
     ensures item { IfSome result (IsItemAt text.now maybe_more) }
     ensures none { IfNone result (IsRest text.now maybe_more) }
 {
     match head_at(key_map, text, maybe_more) {
-        Some(Head::Row(key, len)) => match after_escape(text, len) {
+        Some(MatchedHead::Row(key, len)) => match after_escape(text, len) {
             Some(rest) => escape_item_at(key_map, rest, maybe_more),
             None => Some(key_item(key, len)),
         },
-        Some(Head::Frame(event, len)) => Some(Item {
+        Some(MatchedHead::Report(event, len)) => Some(MatchedItem {
             event: InputEvent::Mouse(event),
             len,
         }),
-        Some(Head::Character(character, len)) => Some(key_item(plain_key(character), len)),
-        Some(Head::Broken) => Some(key_item(plain_key(REPLACEMENT_CHARACTER), 1)),
+        Some(MatchedHead::Character(character, len)) => Some(key_item(plain_key(character), len)),
+        Some(MatchedHead::Broken) => Some(key_item(plain_key(REPLACEMENT_CHARACTER), 1)),
         None => None,
     }
 }
@@ -178,7 +178,7 @@ pub(crate) fn item_at(
     text: &[u8],
     searched: usize,
     maybe_more: bool,
-) -> Result<Option<Item>, AllocError>
+) -> Result<Option<MatchedItem>, AllocError>
     requires rows { key_map.now ≡ table }
     requires searched { NoEndBefore text.now searched }
     ensures item { IfOk result (λ found. IfSome found (IsItemAt text.now maybe_more)) }

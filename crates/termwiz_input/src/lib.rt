@@ -1,11 +1,11 @@
 //! Bytes of a terminal, read as key, mouse and paste events, and keys written as the bytes that a terminal sends.
 #![tactic(auto)]
 
-mod frame;
 mod head;
 pub mod input;
 mod item;
 pub mod laws;
+mod mouse_report;
 mod paste;
 mod rules;
 #[cfg(test)]

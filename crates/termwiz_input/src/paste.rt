@@ -2,12 +2,12 @@
 ghost use Rattle.std.specs.Prelude.{◌≡◌, ◌↔◌, Bool, IsTrue, OnErr, IfOk, IfSome, IfNone};
 ghost use Rattle.std.specs.Str.Lossy.{utf8_lossy};
 ghost use Rattle.termwiz_keymap.specs.Bytes.{Begins};
-ghost use Rattle.termwiz_keys.specs.Sequences.{START};
-ghost use Rattle.termwiz_input.specs.AtFront.{IsItemAt};
+ghost use Rattle.termwiz_keys.specs.Introducers.{START};
+ghost use Rattle.termwiz_input.specs.Matches.{IsItemAt};
 ghost use Rattle.termwiz_grammar.specs.Grammar.{HasPaste, IsRest};
 ghost use Rattle.termwiz_input.specs.PasteSearch.{NoEndBefore};
 
-use crate::item::Item;
+use crate::item::MatchedItem;
 use bstr::ByteSlice;
 use std::alloc::{AllocError, Global};
 use termwiz_keymap::bytes::{begins_with, find_from};
@@ -41,7 +41,7 @@ pub(crate) fn paste_at(
     text: &[u8],
     searched: usize,
     maybe_more: bool,
-) -> Result<Option<Item>, AllocError>
+) -> Result<Option<MatchedItem>, AllocError>
     requires begins { Begins START text.now }
     requires searched { NoEndBefore text.now searched }
     ensures item { IfOk result (λ found. IfSome found (IsItemAt text.now maybe_more)) }
@@ -52,7 +52,7 @@ pub(crate) fn paste_at(
         return Ok(None);
     };
     match lossy_text(alloc, &text[PASTE_START.len()..end]) {
-        Ok(pasted) => Ok(Some(Item {
+        Ok(pasted) => Ok(Some(MatchedItem {
             event: InputEvent::Paste(pasted),
             len: end + PASTE_END.len(),
         })),

@@ -1,5 +1,5 @@
 pub mod Bytes
 pub mod Entries
-pub mod KeyGroups
+pub mod KeyBuckets
 pub mod KeyRows
 pub mod Lookup

@@ -3,7 +3,7 @@
 ghost use Rattle.std.specs.Prelude.{◌≡◌, ◌↔◌, IsTrue, IfOk, IfSome, IfNone, OnOk, OnErr};
 ghost use Rattle.std.specs.FinMap as map;
 
-mod groups;
+mod buckets;
 #[cfg(test)]
 mod plain;
 mod row;
@@ -11,7 +11,7 @@ mod search;
 #[cfg(test)]
 mod tests;
 
-use groups::{STARTS, group_of, move_later};
+use buckets::{BUCKET_STARTS, bucket_of, move_later};
 use row::{Row, copied, new_row};
 use search::{count_up_to, first_goes_on, longest_of, place_of};
 use std::alloc::{AllocError, Global};
@@ -32,11 +32,11 @@ pub enum Found<Value> {
 }
 
 /// A finite map from byte strings to values: one list of rows, whose keys strictly ascend in the order of
-/// their bytes, and the places in it where the groups of keys start.
+/// their bytes, and the places in it where the buckets of keys start.
 #[derive(Debug, Drop)]
 pub struct KeyMap<V: Debug + Clone + Drop> {
     rows: Vec<Box<Row<V>>>,
-    starts: [usize; STARTS],
+    starts: [usize; BUCKET_STARTS],
     alloc: Global,
 }
 
@@ -46,7 +46,7 @@ impl<V: Debug + Clone + Drop> Model for KeyMap<V> {
     ghost use Rattle.std.specs.FinMap as map;
     ghost use Rattle.std.specs.Coded.{coded_ℕ, coded_list};
     ghost use Rattle.termwiz_keymap.specs.KeyRows.{row_entries};
-    ghost use Rattle.termwiz_keymap.specs.KeyGroups.{AreIndexed};
+    ghost use Rattle.termwiz_keymap.specs.KeyBuckets.{AreIndexed};
 
     ghost Value = { map.FinMap (slice_cmp nat_cmp) V };
 
@@ -66,7 +66,7 @@ impl<V: Debug + Clone + Drop> KeyMap<V> {
     {
         KeyMap {
             rows: Vec::new(alloc),
-            starts: [0; STARTS],
+            starts: [0; BUCKET_STARTS],
             alloc,
         }
     }
@@ -75,7 +75,7 @@ impl<V: Debug + Clone + Drop> KeyMap<V> {
     /// value. The empty key is a key like any other.
     ///
     /// Fails only if memory is refused; the map is then unchanged, and `value` is dropped.
-    #[tactic(auto, using(crate::proofs::lemmas::rows::KeysInRows::row_inserted, crate::proofs::lemmas::rows::KeysInRows::row_replaced, crate::proofs::lemmas::rows::GroupsRise::indexed_set))]
+    #[tactic(auto, using(crate::proofs::lemmas::rows::KeysInRows::row_inserted, crate::proofs::lemmas::rows::KeysInRows::row_replaced, crate::proofs::lemmas::rows::BucketsRise::indexed_set))]
     pub fn insert(&mut self, key: &[u8], value: V) -> Result<(), AllocError>
         ensures ok { OnOk result (self.new ≡ map.insert self.old key.now value) }
         ensures err { OnErr result (self.new ≡ self.old) }
@@ -85,7 +85,7 @@ impl<V: Debug + Clone + Drop> KeyMap<V> {
             Err(place) => {
                 let row = new_row(self.alloc, key, value)?;
                 self.rows.insert(place, row)?;
-                move_later(&mut self.starts, group_of(key));
+                move_later(&mut self.starts, bucket_of(key));
             }
         }
         Ok(())

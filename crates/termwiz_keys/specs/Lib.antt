@@ -1,7 +1,7 @@
 pub mod Buttons
-pub mod Enc
+pub mod Encoding
 pub mod Events
 pub mod FunctionCodes
 pub mod KeyCodes
 pub mod Keys
-pub mod Sequences
+pub mod Introducers

@@ -1,8 +1,8 @@
 //! Keys to the text that a terminal sends for them.
 
 ghost use Rattle.std.specs.Prelude.{◌≡◌, ◌++◌, ◌↔◌, ℕ, [], Some, None, Err, false, IfOk, IsOkAnd, OnOk, IsTrue, string_bytes};
-ghost use Rattle.termwiz_keys.specs.Sequences as bytes;
-ghost use Rattle.termwiz_keys.specs.Enc.{enc, key_text, normal_key, normal_held, shows_shift, named_key, unhandled};
+ghost use Rattle.termwiz_keys.specs.Introducers as bytes;
+ghost use Rattle.termwiz_keys.specs.Encoding.{enc, key_text, normal_key, normal_held, shows_shift, named_key, unhandled};
 ghost use Rattle.termwiz_keys.specs.declared.encode.EncodeError.TheVariants as error;
 
 mod characters;
@@ -80,7 +80,7 @@ impl KeyCode {
     ///
     /// `Function(0)` and the function keys above F24 are refused while they are down. The only other error is `Memory`.
     /// A key that is up takes no memory, and always succeeds.
-    #[tactic(auto, using(crate::proofs::lemmas::encoding::NormalForm::normal_key_unhandled), unfolding(crate::specs::Enc::enc))]
+    #[tactic(auto, using(crate::proofs::lemmas::encoding::NormalForm::normal_key_unhandled), unfolding(crate::specs::Encoding::enc))]
     pub fn encode(
         &self,
         alloc: Global,
@@ -117,7 +117,7 @@ fn unhandled(key: KeyCode) -> Option<u8>
 }
 
 // The normal form of a key and the modifiers that are held with it.
-#[tactic(auto, unfolding(crate::specs::Enc::normal_key, crate::specs::Enc::normal_held))]
+#[tactic(auto, unfolding(crate::specs::Encoding::normal_key, crate::specs::Encoding::normal_held))]
 fn normalized(key: KeyCode, mods: Modifiers) -> (KeyCode, Modifiers)
     ensures key { result.0 ≡ normal_key key mods.0 }
     ensures held { result.1.0 ≡ normal_held key mods.0 }
@@ -131,7 +131,7 @@ fn normalized(key: KeyCode, mods: Modifiers) -> (KeyCode, Modifiers)
 }
 
 // Whether the key shows by itself that Shift is held: an uppercase letter or punctuation of ASCII.
-#[tactic(auto, unfolding(crate::specs::Enc::shows_shift))]
+#[tactic(auto, unfolding(crate::specs::Encoding::shows_shift))]
 fn shows_shift(key: KeyCode) -> bool
     ensures { result ≡ shows_shift key }
 {
@@ -142,7 +142,7 @@ fn shows_shift(key: KeyCode) -> bool
 }
 
 // The key that a control character stands for: `Delete` for DEL and `Backspace` for BS. Other keys are unchanged.
-#[tactic(auto, unfolding(crate::specs::Enc::named_key))]
+#[tactic(auto, unfolding(crate::specs::Encoding::named_key))]
 fn named_key(key: KeyCode) -> KeyCode
     ensures { result ≡ named_key key }
 {
@@ -154,7 +154,7 @@ fn named_key(key: KeyCode) -> KeyCode
 }
 
 // Appends the text of a key in its normal form.
-#[tactic(auto, unfolding(crate::specs::Enc::key_text))]
+#[tactic(auto, unfolding(crate::specs::Encoding::key_text))]
 fn push_key(
     text: &mut String,
     key: KeyCode,

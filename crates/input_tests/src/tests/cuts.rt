@@ -193,7 +193,7 @@ const RESTS: &[(&[u8], bool, Shape)] = &[
     (b"\xf4\x8f\xbf", MORE, Shape::Undecided),
 ];
 
-// The most that waits, but for an open paste: one ESC, and the longest proper beginning of a known text.
+// The most that waits, but for an open paste: one ESC, and the longest proper beginning of a sequence.
 pub(super) const MOST: usize = 21;
 
 // Whether so many bytes may wait in this shape.

@@ -4,7 +4,7 @@ ghost use Rattle.std.specs.Prelude.{◌<◌};
 use super::plain::{PlainReader, ROWS};
 use std::alloc::{AllocError, Global};
 
-// The bytes that the grammar names, parts and wholes of known texts, and beginnings of characters. ESC stands twice, so that it is
+// The bytes that the grammar names, parts and wholes of sequences, and beginnings of characters. ESC stands twice, so that it is
 // drawn more often.
 const SYMBOLS: &[&[u8]] = &[
     b"\x1b",
@@ -99,18 +99,18 @@ impl Draws {
         }
     }
 
-    // A mouse frame; in some draws a number is past its limit or has six digits, so that it is none.
-    fn frame(&mut self) -> Result<Vec<u8>, AllocError> {
+    // A mouse report; in some draws a number is past its limit or has six digits, so that it is none.
+    fn report(&mut self) -> Result<Vec<u8>, AllocError> {
         let code = self.below(100);
         let x = self.below(70000) >> self.below(16);
         let y = self.below(70000) >> self.below(16);
         let last = if self.below(2) == 0 { 'M' } else { 'm' };
-        let frame = match self.below(8) {
+        let report = match self.below(8) {
             0 => format!(in self.alloc; "\x1b[<{code:05};{x:05};{y:05}{last}")?,
             1 => format!(in self.alloc; "\x1b[<{code};{x:06};{y}{last}")?,
             _ => format!(in self.alloc; "\x1b[<{code};{x};{y}{last}")?,
         };
-        frame.as_bytes().to_vec(self.alloc)
+        report.as_bytes().to_vec(self.alloc)
     }
 
     // A character, of each length in UTF-8 about as often.
@@ -136,7 +136,7 @@ impl Draws {
     fn part(&mut self) -> Result<Vec<u8>, AllocError> {
         let kind = self.below(8);
         let mut part = match kind {
-            0 => self.frame()?,
+            0 => self.report()?,
             1 => self.paste()?,
             2 => self.character()?,
             3 => [self.below(256) as u8].to_vec(self.alloc)?,

@@ -133,7 +133,7 @@ type LongStep = (Parts, bool, Parts);
 // The name of an example, and its calls of a fresh parser.
 const ENDLESS: &[(&str, &[LongStep])] = &[
     (
-        "frame-without-end",
+        "report-without-end",
         &[(
             &[(b"\x1b[<", 1), (b"0", 100000)],
             MORE,

@@ -1,4 +1,4 @@
-// What waits for a known text or a character isn't decided: each beginning of a row, of a mouse frame or of a character, alone
+// What waits for a sequence or a character isn't decided: each beginning of a row, of a mouse report or of a character, alone
 // and after one ESC, waits as a whole, and a flush before the rest of it changes the events.
 use super::cuts::MOST;
 use super::plain::PlainReader;
@@ -23,7 +23,7 @@ fn flushed_events(
     Ok(events)
 }
 
-// Parts a known text or a character in two, behind what is held. The first part waits as a whole, and the events of both parts at
+// Parts a sequence or a character in two, behind what is held. The first part waits as a whole, and the events of both parts at
 // once aren't those of the first, flushed, and of the second.
 fn check_parted(
     rt: &impl Abort,
@@ -85,17 +85,17 @@ fn beginnings_of_rows_are_undecided(rt: HostRuntime) -> Result<(), Fail> {
     Ok(())
 }
 
-// The numbers of a frame, each with one to five digits.
+// The numbers of a mouse report, each with one to five digits.
 const CODES: &[&str] = &["0", "64", "095", "0002", "00035"];
 
 const PLACES: &[&str] = &["7", "80", "655", "6553", "65535"];
 
-// A mouse frame of these numbers.
-fn frame_of(alloc: Global, code: &str, x: &str, y: &str) -> Result<String, AllocError> {
+// A mouse report of these numbers.
+fn report_of(alloc: Global, code: &str, x: &str, y: &str) -> Result<String, AllocError> {
     format!(in alloc; "\x1b[<{code};{x};{y}M")
 }
 
-fn check_frames_in_row(
+fn check_reports_in_row(
     rt: &impl Abort,
     alloc: Global,
     parser: &mut InputParser,
@@ -103,29 +103,29 @@ fn check_frames_in_row(
     y: &str,
 ) -> Result<(), Fail> {
     for x in PLACES {
-        let frame = frame_of(alloc, code, x, y)?;
-        check_beginnings(rt, alloc, parser, frame.as_bytes())?;
+        let report = report_of(alloc, code, x, y)?;
+        check_beginnings(rt, alloc, parser, report.as_bytes())?;
     }
     Ok(())
 }
 
-fn check_frames_of_code(
+fn check_reports_of_code(
     rt: &impl Abort,
     alloc: Global,
     parser: &mut InputParser,
     code: &str,
 ) -> Result<(), Fail> {
     for y in PLACES {
-        check_frames_in_row(rt, alloc, parser, code, y)?;
+        check_reports_in_row(rt, alloc, parser, code, y)?;
     }
     Ok(())
 }
 
 #[test]
-fn beginnings_of_frames_are_undecided(rt: HostRuntime) -> Result<(), Fail> {
+fn beginnings_of_reports_are_undecided(rt: HostRuntime) -> Result<(), Fail> {
     let mut parser = InputParser::new(rt.alloc())?;
     for code in CODES {
-        check_frames_of_code(&rt, rt.alloc(), &mut parser, code)?;
+        check_reports_of_code(&rt, rt.alloc(), &mut parser, code)?;
     }
     Ok(())
 }

@@ -1,4 +1,4 @@
 pub mod ComputedTests
-pub mod KnownSequences
+pub mod SequenceFacts
 pub mod RowShape
 pub mod TableAsMap

@@ -1,6 +1,6 @@
 pub mod BinarySearch
 pub mod ClonedRows
-pub mod GroupsRise
+pub mod BucketsRise
 pub mod KeyOrder
 pub mod KeysInRows
 pub mod LongestKey

@@ -4,16 +4,16 @@ ghost use Rattle.std.specs.Ordering.{nat_cmp};
 ghost use Rattle.std.specs.Cmp.Lexicographic.{slice_cmp};
 ghost use Rattle.std.specs.declared.cmp.Ordering.TheVariants.{Less};
 ghost use Rattle.termwiz_keymap.specs.KeyRows.{AgreeFor, AreAscending, AreUpTo, FirstGoesOn, IsAt, IsBounded, IsCountUpTo, IsGapFor, IsLastBegins, NoneBegins, ShareFirst};
-ghost use Rattle.termwiz_keymap.specs.KeyGroups.{AreStarts};
+ghost use Rattle.termwiz_keymap.specs.KeyBuckets.{AreStarts};
 
-use super::groups::{STARTS, group_of};
+use super::buckets::{BUCKET_STARTS, bucket_of};
 use super::row::Row;
 use crate::bytes::begins_with;
 
 /// The place of the row with a key, or the place at which it would be inserted.
 pub fn place_of<V>(
     rows: &[Box<Row<V>>],
-    starts: &[usize; STARTS],
+    starts: &[usize; BUCKET_STARTS],
     key: &[u8],
 ) -> Result<usize, usize>
     requires ascending { AreAscending rows.now }
@@ -30,14 +30,14 @@ pub fn place_of<V>(
 
 /// How many rows have keys that aren't after this one, in the order of bytes: they come first. `starts` may be those of more rows,
 /// of which these are the first.
-pub fn count_up_to<V>(rows: &[Box<Row<V>>], starts: &[usize; STARTS], key: &[u8]) -> usize
+pub fn count_up_to<V>(rows: &[Box<Row<V>>], starts: &[usize; BUCKET_STARTS], key: &[u8]) -> usize
     requires ascending { AreAscending rows.now }
     requires starts { AreStarts rows.now starts.now }
     ensures { IsCountUpTo rows.now key.now result }
 {
-    let group = group_of(key);
-    let low = starts[group].min(rows.len());
-    let high = starts[group + 1].min(rows.len());
+    let bucket = bucket_of(key);
+    let low = starts[bucket].min(rows.len());
+    let high = starts[bucket + 1].min(rows.len());
     count_between(rows, key, low, high)
 }
 
@@ -92,7 +92,7 @@ fn is_after(key: &[u8], text: &[u8], shared: usize) -> bool
 /// If the last key doesn't begin the text, those that do are no longer than what the last key and the text have in common.
 pub fn longest_of<'a, V>(
     rows: &'a [Box<Row<V>>],
-    starts: &[usize; STARTS],
+    starts: &[usize; BUCKET_STARTS],
     text: &[u8],
 ) -> Option<(usize, &'a V)>
     requires ascending { AreAscending rows.now }

@@ -1,7 +1,7 @@
 //! Lookups whose answers come from outside, and the map against the plain one.
 ghost use Rattle.std.specs.Prelude.{◌<◌};
 
-use super::groups::{STARTS, group_of};
+use super::buckets::{BUCKET_STARTS, bucket_of};
 use super::plain::PlainMap;
 use super::{Found, KeyMap};
 use std::alloc::{AllocError, Global};
@@ -283,7 +283,7 @@ impl Numbers {
         Ok(text)
     }
 
-    // A text that begins as sequences do, and goes on with at most three of the bytes on both sides of a border between groups.
+    // A text that begins as sequences do, and goes on with at most three of the bytes on both sides of a border between buckets.
     fn sequence(&mut self, alloc: Global) -> Result<Vec<u8>, AllocError> {
         let mut text = Vec::new(alloc);
         let len = self.below(4) as usize;
@@ -361,20 +361,20 @@ fn map_and_plain_map_agree(rt: HostRuntime) -> Result<(), Fail> {
     Ok(())
 }
 
-// Each group starts after the rows whose groups are smaller, as counted.
+// Each bucket starts after the rows whose buckets are smaller, as counted.
 fn assert_starts(rt: &impl Abort, map: &KeyMap<u32>) {
-    for group in 0..STARTS {
+    for bucket in 0..BUCKET_STARTS {
         let smaller = map
             .rows
             .iter()
-            .filter(|row| group_of(&row.key) < group)
+            .filter(|row| bucket_of(&row.key) < bucket)
             .count();
-        assert_eq!(rt; map.starts[group], smaller);
+        assert_eq!(rt; map.starts[bucket], smaller);
     }
 }
 
 #[test]
-fn groups_start_where_they_are_counted(rt: HostRuntime) -> Result<(), Fail> {
+fn buckets_start_where_they_are_counted(rt: HostRuntime) -> Result<(), Fail> {
     let mut descending = KeyMap::new(rt.alloc());
     let mut mixed = KeyMap::new(rt.alloc());
     for number in 0u32..256 {

@@ -2,7 +2,7 @@
 
 ghost use Rattle.std.specs.Prelude.{◌≡◌, ◌++◌, ◌&&◌, ◌||◌, OnOk, encode_utf8, string_bytes};
 ghost use Rattle.std.specs.Char.{is_ascii_uppercase, is_ascii_alphanumeric, is_ascii_punctuation};
-ghost use Rattle.termwiz_keys.specs.Enc.{other_text, char_text, plain_char_text, backspace_text, enter_text, escape_text, tab_text, tab_alone, escape_if_alt, is_csi_u, is_level, sends_code, is_ambiguous};
+ghost use Rattle.termwiz_keys.specs.Encoding.{other_text, char_text, plain_char_text, backspace_text, enter_text, escape_text, tab_text, tab_alone, escape_if_alt, is_csi_u, is_level, sends_code, is_ambiguous};
 
 use super::sequences::modifier_number;
 use super::{CSI, KeyCodeEncodeModes, KeyboardEncoding};
@@ -47,7 +47,7 @@ fn sends_code(c: char, modes: KeyCodeEncodeModes) -> bool
 }
 
 // Appends the text of a character that the rules of its key leave open.
-#[tactic(auto, unfolding(crate::specs::Enc::other_text))]
+#[tactic(auto, unfolding(crate::specs::Encoding::other_text))]
 pub(super) fn push_other(
     text: &mut String,
     c: char,
@@ -84,7 +84,7 @@ fn is_other_with_ctrl(c: char, modes: KeyCodeEncodeModes) -> bool
 }
 
 // Appends the text of a character.
-#[tactic(auto, unfolding(crate::specs::Enc::char_text))]
+#[tactic(auto, unfolding(crate::specs::Encoding::char_text))]
 pub(super) fn push_char(
     text: &mut String,
     c: char,
@@ -105,7 +105,7 @@ pub(super) fn push_char(
 }
 
 // Appends the text of a character that Ctrl doesn't change.
-#[tactic(auto, unfolding(crate::specs::Enc::plain_char_text))]
+#[tactic(auto, unfolding(crate::specs::Encoding::plain_char_text))]
 fn push_plain_char(
     text: &mut String,
     c: char,
@@ -131,7 +131,7 @@ fn is_ascii_key(c: char) -> bool
 }
 
 // Appends the text of Backspace.
-#[tactic(auto, unfolding(crate::specs::Enc::backspace_text))]
+#[tactic(auto, unfolding(crate::specs::Encoding::backspace_text))]
 pub(super) fn push_backspace(
     text: &mut String,
     mods: Modifiers,
@@ -150,7 +150,7 @@ pub(super) fn push_backspace(
 }
 
 // Appends the text of Enter.
-#[tactic(auto, unfolding(crate::specs::Enc::enter_text))]
+#[tactic(auto, unfolding(crate::specs::Encoding::enter_text))]
 pub(super) fn push_enter(
     text: &mut String,
     mods: Modifiers,
@@ -166,7 +166,7 @@ pub(super) fn push_enter(
 }
 
 // Appends the text of Escape.
-#[tactic(auto, unfolding(crate::specs::Enc::escape_text))]
+#[tactic(auto, unfolding(crate::specs::Encoding::escape_text))]
 pub(super) fn push_escape(
     text: &mut String,
     mods: Modifiers,
@@ -182,7 +182,7 @@ pub(super) fn push_escape(
 }
 
 // Appends the text of Tab.
-#[tactic(auto, unfolding(crate::specs::Enc::tab_text))]
+#[tactic(auto, unfolding(crate::specs::Encoding::tab_text))]
 pub(super) fn push_tab(
     text: &mut String,
     mods: Modifiers,

@@ -2,7 +2,7 @@
 
 ghost use Rattle.std.specs.Prelude.{◌≡◌, ◌==◌, ◌++◌, ◌+◌, ◌≤◌, not, OnOk, string_bytes};
 ghost use Rattle.termwiz_base.specs.Modifiers.{xterm_number};
-ghost use Rattle.termwiz_keys.specs.Enc.{is_modified, cursor_text, application_text, edit_text, lettered_function_text, numbered_function_text, function_text, code_of, keypad_number_text, keypad_letter_text, keypad_text, xterm_form, xterm_number_form};
+ghost use Rattle.termwiz_keys.specs.Encoding.{is_modified, cursor_text, application_text, edit_text, lettered_function_text, numbered_function_text, function_text, code_of, keypad_number_text, keypad_letter_text, keypad_text, xterm_form, xterm_number_form};
 
 use super::{CSI, KeyCodeEncodeModes, SS3};
 use crate::types::KeyCode;
@@ -43,7 +43,7 @@ fn push_xterm_number_form(text: &mut String, key: u8, mods: Modifiers) -> Result
 }
 
 // Appends the text of an arrow, or of a key to an end, by its letter.
-#[tactic(auto, unfolding(crate::specs::Enc::cursor_text, crate::specs::Enc::application_text, crate::specs::Enc::keypad_letter_text))]
+#[tactic(auto, unfolding(crate::specs::Encoding::cursor_text, crate::specs::Encoding::application_text, crate::specs::Encoding::keypad_letter_text))]
 pub(super) fn push_cursor_key(
     text: &mut String,
     letter: &str,
@@ -55,12 +55,12 @@ pub(super) fn push_cursor_key(
     if modes.application_cursor_keys {
         push_application_arrow(text, letter, mods)
     } else {
-        push_keypad_letter(text, letter, mods)
+        push_csi_letter(text, letter, mods)
     }
 }
 
 // Appends the text of an application arrow, by its letter.
-#[tactic(auto, unfolding(crate::specs::Enc::application_text))]
+#[tactic(auto, unfolding(crate::specs::Encoding::application_text))]
 pub(super) fn push_application_arrow(
     text: &mut String,
     letter: &str,
@@ -75,7 +75,7 @@ pub(super) fn push_application_arrow(
 }
 
 // Appends the text of a key of the editing block, by its number.
-#[tactic(auto, unfolding(crate::specs::Enc::edit_text, crate::specs::Enc::keypad_number_text))]
+#[tactic(auto, unfolding(crate::specs::Encoding::edit_text, crate::specs::Encoding::keypad_number_text))]
 pub(super) fn push_edit_key(
     text: &mut String,
     number: u8,
@@ -87,7 +87,7 @@ pub(super) fn push_edit_key(
 }
 
 // Appends the text of a function key from F1 to F24, by its number.
-#[tactic(auto, unfolding(crate::specs::Enc::function_text))]
+#[tactic(auto, unfolding(crate::specs::Encoding::function_text))]
 pub(super) fn push_function_key(
     text: &mut String,
     number: u8,
@@ -107,7 +107,7 @@ pub(super) fn push_function_key(
 }
 
 // Appends the text of one of F1 to F4, by its letter.
-#[tactic(auto, unfolding(crate::specs::Enc::lettered_function_text))]
+#[tactic(auto, unfolding(crate::specs::Encoding::lettered_function_text))]
 fn push_lettered_function_key(
     text: &mut String,
     letter: &str,
@@ -122,7 +122,7 @@ fn push_lettered_function_key(
 }
 
 // Appends the text of a function key from F5 to F24.
-#[tactic(auto, unfolding(crate::specs::Enc::numbered_function_text, crate::specs::Enc::keypad_number_text))]
+#[tactic(auto, unfolding(crate::specs::Encoding::numbered_function_text, crate::specs::Encoding::keypad_number_text))]
 fn push_numbered_function_key(
     text: &mut String,
     number: u8,
@@ -152,7 +152,7 @@ fn function_code(number: u8) -> u8
 }
 
 // Appends the text of a key of the keypad that has a number.
-#[tactic(auto, unfolding(crate::specs::Enc::keypad_number_text))]
+#[tactic(auto, unfolding(crate::specs::Encoding::keypad_number_text))]
 fn push_keypad_number(text: &mut String, number: u8, mods: Modifiers) -> Result<(), AllocError>
     ensures { OnOk result (string_bytes text.new ≡ string_bytes text.old ++ keypad_number_text number mods.0) }
 {
@@ -163,8 +163,8 @@ fn push_keypad_number(text: &mut String, number: u8, mods: Modifiers) -> Result<
 }
 
 // Appends the text of a key of the keypad that has a letter.
-#[tactic(auto, unfolding(crate::specs::Enc::keypad_letter_text))]
-fn push_keypad_letter(text: &mut String, letter: &str, mods: Modifiers) -> Result<(), AllocError>
+#[tactic(auto, unfolding(crate::specs::Encoding::keypad_letter_text))]
+fn push_csi_letter(text: &mut String, letter: &str, mods: Modifiers) -> Result<(), AllocError>
     ensures { OnOk result (string_bytes text.new ≡ string_bytes text.old ++ keypad_letter_text letter.now mods.0) }
 {
     if is_modified(mods) {
@@ -174,7 +174,7 @@ fn push_keypad_letter(text: &mut String, letter: &str, mods: Modifiers) -> Resul
 }
 
 // Appends the text of a key of the keypad, and nothing for any other key.
-#[tactic(auto, unfolding(crate::specs::Enc::keypad_text))]
+#[tactic(auto, unfolding(crate::specs::Encoding::keypad_text))]
 pub(super) fn push_keypad_key(
     text: &mut String,
     key: KeyCode,
@@ -186,13 +186,13 @@ pub(super) fn push_keypad_key(
         KeyCode::Numpad0 => push_keypad_number(text, 2, mods),
         KeyCode::Numpad3 | KeyCode::Numpad9 => push_keypad_number(text, 6, mods),
         KeyCode::Decimal => push_keypad_number(text, 3, mods),
-        KeyCode::Numpad1 => push_keypad_letter(text, "F", mods),
-        KeyCode::Numpad2 => push_keypad_letter(text, "B", mods),
-        KeyCode::Numpad4 => push_keypad_letter(text, "D", mods),
-        KeyCode::Numpad5 | KeyCode::KeyPadBegin => push_keypad_letter(text, "E", mods),
-        KeyCode::Numpad6 => push_keypad_letter(text, "C", mods),
-        KeyCode::Numpad7 => push_keypad_letter(text, "H", mods),
-        KeyCode::Numpad8 => push_keypad_letter(text, "A", mods),
+        KeyCode::Numpad1 => push_csi_letter(text, "F", mods),
+        KeyCode::Numpad2 => push_csi_letter(text, "B", mods),
+        KeyCode::Numpad4 => push_csi_letter(text, "D", mods),
+        KeyCode::Numpad5 | KeyCode::KeyPadBegin => push_csi_letter(text, "E", mods),
+        KeyCode::Numpad6 => push_csi_letter(text, "C", mods),
+        KeyCode::Numpad7 => push_csi_letter(text, "H", mods),
+        KeyCode::Numpad8 => push_csi_letter(text, "A", mods),
         _ => Ok(()),
     }
 }

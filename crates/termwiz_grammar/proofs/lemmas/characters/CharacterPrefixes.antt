@@ -8,13 +8,13 @@ use Rattle.bstr.specs.Utf8.{Decoded, decoded}
 use Rattle.bstr.proofs.lemmas.EncodeLemmas.{decoded-encode}
 use Rattle.bstr.proofs.lemmas.SoundLemmas.{SpellsChar-decoded}
 use Rattle.termwiz_keymap.specs.Bytes.{Begins}
-use Rattle.termwiz_grammar.specs.Known.{Meaning, IsKnown}
+use Rattle.termwiz_grammar.specs.Sequences.{Meaning, IsSequence}
 use Rattle.termwiz_grammar.specs.Grammar.{IsUnfinishedCharacter, IsBeginning}
 use Rattle.termwiz_keymap.proofs.lemmas.lists.CommonPrefixes.{length-some, true_at_end, true_at_front, true_from}
 use Rattle.termwiz_grammar.proofs.lemmas.lists.Decidable.{Decision, decide_both, decide_by, decide_lists, decide_some, same_or_not}
 use Rattle.termwiz_grammar.proofs.lemmas.table.RowShape.{Bytes}
 use Rattle.termwiz_grammar.proofs.lemmas.table.RowShape.Bytes.{one, more}
-use Rattle.termwiz_grammar.proofs.lemmas.table.KnownSequences.{known_bytes, beginnings_short}
+use Rattle.termwiz_grammar.proofs.lemmas.table.SequenceFacts.{known_bytes, beginnings_short}
 
 -- a byte of a character that takes several
 abbrev pub IsHigh : ℕ → Type 0
@@ -53,9 +53,9 @@ parted_high c u tail scalar some longer spells = ⊎_elim
 pub unfinished_high : (u : List ℕ) → u ≢ [] → IsUnfinishedCharacter u → AllByRecursion IsHigh u
 unfinished_high u some h = true_at_front IsHigh u h.tail (parted_high h.char u h.tail h.scalar some h.longer h.spells)
 
--- no known text begins such bytes
-pub known_low : (text u : List ℕ) (m : Meaning) → IsKnown text m → AllByRecursion IsHigh u → Begins text u → ⊥
-known_low text u m known a b = go (known_bytes text m known)
+-- no sequence begins such bytes
+pub sequence_low : (text u : List ℕ) (m : Meaning) → IsSequence text m → AllByRecursion IsHigh u → Begins text u → ⊥
+sequence_low text u m is_sequence a b = go (known_bytes text m is_sequence)
   where
     go : Bytes text → ⊥
     go (one x l e) =
@@ -63,13 +63,13 @@ known_low text u m known a b = go (known_bytes text m known)
     go (more s n e p) =
         let h : IsHigh 27 = (subst (AllByRecursion IsHigh) (b.1 ∙ ap (λ z. z ++ b.0) e) a).0 in omega arith
 
--- so what begins with a known text doesn't properly begin a character
-pub known_finished : (text u : List ℕ) (m : Meaning) → IsKnown text m → Begins text u → u ≢ [] → IsUnfinishedCharacter u → ⊥
-known_finished text u m known b some h = known_low text u m known (unfinished_high u some h) b
+-- so what begins with a sequence doesn't properly begin a character
+pub sequence_finished : (text u : List ℕ) (m : Meaning) → IsSequence text m → Begins text u → u ≢ [] → IsUnfinishedCharacter u → ⊥
+sequence_finished text u m is_sequence b some h = sequence_low text u m is_sequence (unfinished_high u some h) b
 
--- what properly begins a known text or a character has at most 20 bytes
+-- what properly begins a sequence or a character has at most 20 bytes
 pub beginning_short : (u : List ℕ) → IsBeginning u → length u ≤ 20
-beginning_short u (inl h) = beginnings_short u h.tail h.meaning h.longer h.known
+beginning_short u (inl h) = beginnings_short u h.tail h.meaning h.longer h.is_sequence
 beginning_short u (inr h) = omega (arith, length-append u h.tail, ap length h.spells, length-encode h.char, len_utf8_bounds h.char)
 
 -- a text that a character begins decodes as this character

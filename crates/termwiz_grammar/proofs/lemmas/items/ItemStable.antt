@@ -3,41 +3,41 @@ use Rattle.std.proofs.Common.{◌≡◌, ◌≢◌, inl, inr, ⊎_elim, ℕ, Boo
 use Rattle.std.specs.Char.{IsScalar}
 use Rattle.std.proofs.lemmas.Str.{length-encode, len_utf8_bounds}
 use Rattle.termwiz_keymap.specs.Bytes.{Begins}
-use Rattle.termwiz_keys.specs.Sequences.{ESC, START, END}
+use Rattle.termwiz_keys.specs.Introducers.{ESC, START, END}
 use Rattle.termwiz_keys.specs.declared.types.InputEvent.{InputEvent}
 use Rattle.termwiz_keys.specs.Keys.{escape}
-use Rattle.termwiz_grammar.specs.Known.{Meaning, IsKnown}
-use Rattle.termwiz_grammar.specs.Known.Meaning.{Row, Frame}
-use Rattle.termwiz_grammar.specs.Grammar.{IsLongest, IsCharacter, IsBroken, IsUnfinishedKnown, IsUnfinishedCharacter, IsOpen, IsAfterEscape, Head, IsHead, bytes_of, Item, Stands}
-use Rattle.termwiz_grammar.specs.Grammar.Head.{Known, Character, Broken}
+use Rattle.termwiz_grammar.specs.Sequences.{Meaning, IsSequence}
+use Rattle.termwiz_grammar.specs.Sequences.Meaning.{Row, Report}
+use Rattle.termwiz_grammar.specs.Grammar.{IsLongest, IsCharacter, IsBroken, IsUnfinishedSequence, IsUnfinishedCharacter, IsOpen, IsAfterEscape, Head, IsHead, bytes_of, Item, Stands}
+use Rattle.termwiz_grammar.specs.Grammar.Head.{Sequence, Character, Broken}
 use Rattle.termwiz_grammar.specs.Grammar.Item.{key, char, broken, mouse, paste, lone_escape, alt}
 use Rattle.termwiz_keymap.proofs.lemmas.lists.CommonPrefixes.{Overlaps, overlap, append-some, append-some_left, Begins-append}
 use Rattle.termwiz_keymap.proofs.lemmas.lists.CommonPrefixes.Overlaps.{within, past}
-use Rattle.termwiz_grammar.proofs.lemmas.table.KnownSequences.{known_some, start, start_known}
+use Rattle.termwiz_grammar.proofs.lemmas.table.SequenceFacts.{sequence_some, start, start_is_sequence}
 
--- nothing known goes on after a text that isn't open
-not_past : (u t : List ℕ) (m : Meaning) → u ≢ [] → ¬ IsOpen u true → t ≢ [] → IsKnown (u ++ t) m → ⊥
-not_past u t m some closed longer known =
-    closed (record { more_comes = refl; some = some; beginning = inl (record { tail = t; longer = longer; meaning = m; known = known }) })
+-- no sequence goes on after a text that isn't open
+not_past : (u t : List ℕ) (m : Meaning) → u ≢ [] → ¬ IsOpen u true → t ≢ [] → IsSequence (u ++ t) m → ⊥
+not_past u t m some closed longer is_sequence =
+    closed (record { more_comes = refl; some = some; beginning = inl (record { tail = t; longer = longer; meaning = m; is_sequence = is_sequence }) })
 
--- so a known text that begins the longer text begins the shorter one
-pub begins_shorter : (u s other : List ℕ) (m : Meaning) → u ≢ [] → ¬ IsOpen u true → IsKnown other m → Begins other (u ++ s) → Begins other u
-begins_shorter u s other m some closed known b = go (overlap other b.0 u s b.1)
+-- so a sequence that begins the longer text begins the shorter one
+pub begins_shorter : (u s other : List ℕ) (m : Meaning) → u ≢ [] → ¬ IsOpen u true → IsSequence other m → Begins other (u ++ s) → Begins other u
+begins_shorter u s other m some closed is_sequence b = go (overlap other b.0 u s b.1)
   where
     go : Overlaps other b.0 u s → Begins other u
     go (within t e f) = (t, e)
-    go (past t longer e f) = absurd (not_past u t m some closed longer (subst (λ x. IsKnown x m) e known))
+    go (past t longer e f) = absurd (not_past u t m some closed longer (subst (λ x. IsSequence x m) e is_sequence))
 
 pub longest_stays : (u s text : List ℕ) (m : Meaning) → u ≢ [] → ¬ IsOpen u true → IsLongest u text m → IsLongest (u ++ s) text m
 longest_stays u s text m some closed is = record {
-  known = is.known;
+  is_sequence = is.is_sequence;
   begins = Begins-append text u s is.begins;
-  longest = λ other n known b. is.longest other n known (begins_shorter u s other n some closed known b);
+  longest = λ other n is_sequence b. is.longest other n is_sequence (begins_shorter u s other n some closed is_sequence b);
 }
 
 pub character_stays : (u s : List ℕ) (c : ℕ) → u ≢ [] → ¬ IsOpen u true → IsCharacter u c → IsCharacter (u ++ s) c
 character_stays u s c some closed is = record {
-  unknown = λ other n known b. is.unknown other n known (begins_shorter u s other n some closed known b);
+  no_sequence = λ other n is_sequence b. is.no_sequence other n is_sequence (begins_shorter u s other n some closed is_sequence b);
   scalar = is.scalar;
   begins = Begins-append (encode_utf8 c) u s is.begins;
 }
@@ -56,20 +56,20 @@ char_begins_shorter u s c some closed scalar b = go (overlap (encode_utf8 c) b.0
 
 pub broken_stays : (u s : List ℕ) (byte : ℕ) → u ≢ [] → ¬ IsOpen u true → IsBroken u byte → IsBroken (u ++ s) byte
 broken_stays u s byte some closed is = record {
-  unknown = λ other n known h. is.unknown other n known (begins_shorter u s other n some closed known h);
+  no_sequence = λ other n is_sequence h. is.no_sequence other n is_sequence (begins_shorter u s other n some closed is_sequence h);
   unspelled = λ c scalar h. is.unspelled c scalar (char_begins_shorter u s c some closed scalar h);
   begins = Begins-append (byte ∷ []) u s is.begins;
 }
 
 pub head_stays : (u s : List ℕ) (h : Head) → u ≢ [] → ¬ IsOpen u true → IsHead u h → IsHead (u ++ s) h
-head_stays u s (Known text m) some closed is = longest_stays u s text m some closed is
+head_stays u s (Sequence text m) some closed is = longest_stays u s text m some closed is
 head_stays u s (Character c) some closed is = character_stays u s c some closed is
 head_stays u s (Broken byte) some closed is = broken_stays u s byte some closed is
 
 pub closed_stays : (u s : List ℕ) (f : Bool) → u ≢ [] → ¬ IsOpen u true → ¬ IsOpen (u ++ s) f
 closed_stays u s f some closed open' = ⊎_elim
-    (λ (h : IsUnfinishedKnown (u ++ s)). not_past u (s ++ h.tail) h.meaning some closed (append-some s h.tail h.longer)
-    (subst (λ x. IsKnown x h.meaning) (append_assoc u s h.tail) h.known))
+    (λ (h : IsUnfinishedSequence (u ++ s)). not_past u (s ++ h.tail) h.meaning some closed (append-some s h.tail h.longer)
+    (subst (λ x. IsSequence x h.meaning) (append_assoc u s h.tail) h.is_sequence))
     (λ (h : IsUnfinishedCharacter (u ++ s)). char_not_past u (s ++ h.tail) h.char some closed (append-some s h.tail h.longer) h.scalar
     (h.spells ∙ append_assoc u s h.tail))
     open'.beginning
@@ -87,7 +87,7 @@ pub escape_open : (u : List ℕ) → u ≡ ESC → IsOpen u true
 escape_open u e = record {
   more_comes = refl;
   some = λ h. cc;
-  beginning = inl (record { tail = 91 ∷ 50 ∷ 48 ∷ 48 ∷ 126 ∷ []; longer = λ h. cc; meaning = Row start; known = subst (λ x. IsKnown (x ++ 91 ∷ 50 ∷ 48 ∷ 48 ∷ 126 ∷ []) (Row start)) (sym e) start_known });
+  beginning = inl (record { tail = 91 ∷ 50 ∷ 48 ∷ 48 ∷ 126 ∷ []; longer = λ h. cc; meaning = Row start; is_sequence = subst (λ x. IsSequence (x ++ 91 ∷ 50 ∷ 48 ∷ 48 ∷ 126 ∷ []) (Row start)) (sym e) start_is_sequence });
 }
 
 item_stays : (u s bytes : List ℕ) (event : InputEvent) (f : Bool) → u ≢ [] → ¬ IsOpen u true → Item u true bytes event → Item (u ++ s) f bytes event
@@ -95,7 +95,7 @@ item_stays u s bytes event f some closed (key text k is plain alone) =
     key text k (longest_stays u s text (Row k) some closed is) plain (λ e. absurd (closed (escape_open u (alone e))))
 item_stays u s bytes event f some closed (char c is) = char c (character_stays u s c some closed is)
 item_stays u s bytes event f some closed (broken byte is) = broken byte (broken_stays u s byte some closed is)
-item_stays u s bytes event f some closed (mouse text report is) = mouse text report (longest_stays u s text (Frame report) some closed is)
+item_stays u s bytes event f some closed (mouse text report is) = mouse text report (longest_stays u s text (Report report) some closed is)
 item_stays u s bytes event f some closed (paste body b first) = paste body (Begins-append (START ++ body ++ END) u s b) first
 item_stays u s bytes event f some closed (lone_escape v h after is apart) =
     lone_escape (v ++ s) h (after_escape_stays u v s f some closed after) (head_stays v s h after.some after.closed is) apart
@@ -107,16 +107,16 @@ encode_some c e = absurd (omega (arith, length-encode c, len_utf8_bounds c, ap l
 
 -- an item's bytes aren't empty
 pub item_some : (u bytes : List ℕ) (event : InputEvent) (f : Bool) → Item u f bytes event → bytes ≢ []
-item_some u bytes event f (key text k is plain alone) = known_some text (Row k) is.known
+item_some u bytes event f (key text k is plain alone) = sequence_some text (Row k) is.is_sequence
 item_some u bytes event f (char c is) = encode_some c
 item_some u bytes event f (broken byte is) = λ h. cc
-item_some u bytes event f (mouse text report is) = known_some text (Frame report) is.known
+item_some u bytes event f (mouse text report is) = sequence_some text (Report report) is.is_sequence
 item_some u bytes event f (paste body b first) = λ h. cc
 item_some u bytes event f (lone_escape v h after is apart) = λ h. cc
 item_some u bytes event f (alt v h k after is is_key) = λ h. cc
 
 pub head_begins : (u : List ℕ) (h : Head) → IsHead u h → Begins (bytes_of h) u
-head_begins u (Known text m) is = is.begins
+head_begins u (Sequence text m) is = is.begins
 head_begins u (Character c) is = is.begins
 head_begins u (Broken byte) is = is.begins
 

@@ -4,18 +4,18 @@ use Rattle.std.specs.Str.Lossy.{utf8_lossy}
 use Rattle.std.proofs.lemmas.List.{append_cancel_left}
 use Rattle.termwiz_keys.specs.declared.types.KeyEvent.{KeyEvent}
 use Rattle.termwiz_keymap.specs.Bytes.{Begins}
-use Rattle.termwiz_keys.specs.Sequences.{ESC, START, END}
+use Rattle.termwiz_keys.specs.Introducers.{ESC, START, END}
 use Rattle.termwiz_keys.specs.declared.types.InputEvent.{InputEvent}
 use Rattle.termwiz_keys.specs.Keys.{plain, escape, with_alt}
 use Rattle.termwiz_keys.specs.declared.types.InputEvent.TheVariants.{Key, Mouse, Paste}
-use Rattle.termwiz_grammar.specs.Known.{Meaning, IsKnown}
-use Rattle.termwiz_grammar.specs.Known.Meaning.{Row, Frame}
+use Rattle.termwiz_grammar.specs.Sequences.{Meaning, IsSequence}
+use Rattle.termwiz_grammar.specs.Sequences.Meaning.{Row, Report}
 use Rattle.termwiz_grammar.specs.Grammar.{Head, IsHead, IsLongest, IsOpen, replacement, bytes_of, IsKey, IsApart, EndsFirst, Item, Stands, Steps, Means, IsRest}
-use Rattle.termwiz_grammar.specs.Grammar.Head.{Known, Character, Broken}
+use Rattle.termwiz_grammar.specs.Grammar.Head.{Sequence, Character, Broken}
 use Rattle.termwiz_grammar.specs.Grammar.Item.{key, char, broken, mouse, paste, lone_escape, alt}
 use Rattle.termwiz_keymap.proofs.lemmas.lists.CommonPrefixes.{Overlaps, overlap}
 use Rattle.termwiz_keymap.proofs.lemmas.lists.CommonPrefixes.Overlaps.{within, past}
-use Rattle.termwiz_grammar.proofs.lemmas.table.KnownSequences.{start, start_known, start_ends}
+use Rattle.termwiz_grammar.proofs.lemmas.table.SequenceFacts.{start, start_is_sequence, start_ends}
 use Rattle.termwiz_grammar.proofs.lemmas.items.OneHead.{head_once}
 use Rattle.termwiz_grammar.proofs.lemmas.pastes.FirstEnd.{ends_once}
 
@@ -30,45 +30,45 @@ pub data RowGives (u : List ℕ) (f : Bool) (text : List ℕ) (k : KeyEvent) (by
       → bytes ≡ ESC ++ bytes_of h → event ≡ Key (with_alt j) → RowGives u f text k bytes event
 
 abbrev pub Gives : List ℕ → Bool → Head → List ℕ → InputEvent → Type 0
-Gives u f (Known text (Row k)) bytes event = RowGives u f text k bytes event
-Gives u f (Known text (Frame report)) bytes event = (bytes ≡ text) × (event ≡ Mouse report)
+Gives u f (Sequence text (Row k)) bytes event = RowGives u f text k bytes event
+Gives u f (Sequence text (Report report)) bytes event = (bytes ≡ text) × (event ≡ Mouse report)
 Gives u f (Character c) bytes event = (bytes ≡ encode_utf8 c) × (event ≡ Key (plain c))
 Gives u f (Broken byte) bytes event = (bytes ≡ byte ∷ []) × (event ≡ Key (plain replacement))
 
 -- START is the head of what it begins
 pub start_head : (u : List ℕ) → Begins START u → IsLongest u START (Row start)
 start_head u b = record {
-  known = start_known;
+  is_sequence = start_is_sequence;
   begins = b;
-  longest = λ other m known c. no_longer other m known (overlap other c.0 START b.0 (sym b.1 ∙ c.1));
+  longest = λ other m is_sequence c. no_longer other m is_sequence (overlap other c.0 START b.0 (sym b.1 ∙ c.1));
 }
   where
-    no_longer : {r s : List ℕ} (other : List ℕ) (m : Meaning) → IsKnown other m → Overlaps other r START s → length other ≤ length START
-    no_longer other m known (within t e f) = omega (arith, length-append other t, ap length e)
-    no_longer other m known (past t longer e f) = absurd (longer (start_ends t m (subst (λ x. IsKnown x m) e known)))
+    no_longer : {r s : List ℕ} (other : List ℕ) (m : Meaning) → IsSequence other m → Overlaps other r START s → length other ≤ length START
+    no_longer other m is_sequence (within t e f) = omega (arith, length-append other t, ap length e)
+    no_longer other m is_sequence (past t longer e f) = absurd (longer (start_ends t m (subst (λ x. IsSequence x m) e is_sequence)))
 
 -- what stands is what the head gives
 pub reads : (u bytes : List ℕ) (event : InputEvent) (f : Bool) → Item u f bytes event → (h : Head) × IsHead u h × Gives u f h bytes event
-reads u bytes event f (key text k is usual alone) = (Known text (Row k), is, its_key usual alone refl refl)
+reads u bytes event f (key text k is usual alone) = (Sequence text (Row k), is, its_key usual alone refl refl)
 reads u bytes event f (char c is) = (Character c, is, (refl, refl))
 reads u bytes event f (broken byte is) = (Broken byte, is, (refl, refl))
-reads u bytes event f (mouse text report is) = (Known text (Frame report), is, (refl, refl))
+reads u bytes event f (mouse text report is) = (Sequence text (Report report), is, (refl, refl))
 reads u bytes event f (paste body b first) =
-    (Known START (Row start), start_head u (body ++ END ++ b.0, b.1), its_paste refl body b.0 b.1 first refl refl)
+    (Sequence START (Row start), start_head u (body ++ END ++ b.0, b.1), its_paste refl body b.0 b.1 first refl refl)
 reads u bytes event f (lone_escape v h after is far) =
-    (Known ESC (Row escape), after.escape_head, apart refl v h after.splits after.some after.closed is far refl refl)
+    (Sequence ESC (Row escape), after.escape_head, apart refl v h after.splits after.some after.closed is far refl refl)
 reads u bytes event f (alt v h k after is near) =
-    (Known ESC (Row escape), after.escape_head, joined refl v h k after.splits after.some after.closed is near refl refl)
+    (Sequence ESC (Row escape), after.escape_head, joined refl v h k after.splits after.some after.closed is near refl refl)
 
 not_apart : (h : Head) (k : KeyEvent) → IsKey h k → IsApart h → ⊥
-not_apart (Known text (Row j)) k near far = near.0 far
-not_apart (Known text (Frame report)) k near far = near
+not_apart (Sequence text (Row j)) k near far = near.0 far
+not_apart (Sequence text (Report report)) k near far = near
 not_apart (Character c) k near far = far
 not_apart (Broken byte) k near far = far
 
 key_once : (h : Head) (j k : KeyEvent) → IsKey h j → IsKey h k → j ≡ k
-key_once (Known text (Row i)) j k a b = a.1 ∙ sym b.1
-key_once (Known text (Frame report)) j k a b = absurd a
+key_once (Sequence text (Row i)) j k a b = a.1 ∙ sym b.1
+key_once (Sequence text (Report report)) j k a b = absurd a
 key_once (Character c) j k a b = a ∙ sym b
 key_once (Broken byte) j k a b = a ∙ sym b
 
@@ -109,8 +109,8 @@ row_once u f text k b c d e (joined at v h j split some closed is near r s) (joi
     (r ∙ ap (λ x. ESC ++ bytes_of x) same ∙ sym r2, s ∙ ap (λ x. Key (with_alt x)) same_key ∙ sym s2)
 
 gives_once : (u : List ℕ) (f : Bool) (h : Head) (b c : List ℕ) (d e : InputEvent) → Gives u f h b d → Gives u f h c e → (b ≡ c) × (d ≡ e)
-gives_once u f (Known text (Row k)) b c d e x y = row_once u f text k b c d e x y
-gives_once u f (Known text (Frame report)) b c d e x y = (x.0 ∙ sym y.0, x.1 ∙ sym y.1)
+gives_once u f (Sequence text (Row k)) b c d e x y = row_once u f text k b c d e x y
+gives_once u f (Sequence text (Report report)) b c d e x y = (x.0 ∙ sym y.0, x.1 ∙ sym y.1)
 gives_once u f (Character o) b c d e x y = (x.0 ∙ sym y.0, x.1 ∙ sym y.1)
 gives_once u f (Broken byte) b c d e x y = (x.0 ∙ sym y.0, x.1 ∙ sym y.1)
 

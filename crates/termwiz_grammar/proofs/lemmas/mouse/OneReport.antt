@@ -1,20 +1,20 @@
--- Frames: each has one report, and it can be told whether a text is one.
+-- Mouse reports: each has one report, and it can be told whether a text is one.
 use Rattle.std.proofs.Common.{◌≡◌, ◌⊎◌, inl, inr, ⊎_elim, ℕ, ◌+◌, ◌<◌, ◌≤◌, List, [], ◌∷◌, ◌++◌, length, drop, refl, sym, ap, ◌∙◌, subst, arith, append_assoc, length-append}
 use Rattle.std.specs.List.{AllByRecursion, join_with_byte}
 use Rattle.termwiz_keys.specs.declared.types.MouseEvent.{MouseEvent}
 use Rattle.termwiz_base.specs.Mouse.{largest_code, IsFinal}
-use Rattle.termwiz_grammar.specs.Frame.{IsDigit, IsNumber, introducer, semicolon, largest_place, IsFrame, value_of, mouse_event}
+use Rattle.termwiz_grammar.specs.MouseReports.{IsDigit, IsNumber, introducer, semicolon, largest_place, IsMouseReport, value_of, mouse_event}
 use Rattle.termwiz_grammar.proofs.lemmas.mouse.ReportNumbers.{digits_end}
 use Rattle.termwiz_grammar.proofs.lemmas.lists.Decidable.{Decision, decide_both, decide_either, decide_by, decide_le, decide_eq, decide_all, decide_parts}
 
--- the form of a frame, each part before the next
+-- the form of a mouse report, each part before the next
 abbrev pub laid_out : List ℕ → List ℕ → List ℕ → ℕ → List ℕ
 laid_out code x y last = 27 ∷ 91 ∷ 60 ∷ (code ++ 59 ∷ (x ++ 59 ∷ (y ++ last ∷ [])))
 
 regroup : (code x y : List ℕ) (last : ℕ) → introducer ++ join_with_byte semicolon (code ∷ x ∷ y ∷ []) ++ last ∷ [] ≡ laid_out code x y last
 regroup code x y last = ap (λ t. 27 ∷ 91 ∷ 60 ∷ t) (simp append_assoc)
 
-pub layout : (text : List ℕ) (report : MouseEvent) (f : IsFrame text report) → text ≡ laid_out f.code f.x f.y f.last
+pub layout : (text : List ℕ) (report : MouseEvent) (f : IsMouseReport text report) → text ≡ laid_out f.code f.x f.y f.last
 layout text report f = f.form ∙ regroup f.code f.x f.y f.last
 
 pub semicolon_no_digit : ¬ IsDigit semicolon
@@ -23,8 +23,8 @@ semicolon_no_digit d = omega arith
 pub final_no_digit : (last : ℕ) → IsFinal last → ¬ IsDigit last
 final_no_digit last h d = omega arith
 
-pub frame_once : (text : List ℕ) (r s : MouseEvent) → IsFrame text r → IsFrame text s → r ≡ s
-frame_once text r s f g =
+pub report_once : (text : List ℕ) (r s : MouseEvent) → IsMouseReport text r → IsMouseReport text s → r ≡ s
+report_once text r s f g =
     let e : laid_out f.code f.x f.y f.last ≡ laid_out g.code g.x g.y g.last = sym (layout text r f) ∙ layout text s g in
     let one = digits_end f.code g.code (f.x ++ 59 ∷ (f.y ++ f.last ∷ [])) (g.x ++ 59 ∷ (g.y ++ g.last ∷ [])) 59 59
     f.code_is.each g.code_is.each semicolon_no_digit semicolon_no_digit (cc (e)) in
@@ -84,7 +84,7 @@ Whole t = Next 27 (λ u. Next 91 (λ v. Next 60 Fields v) u) t
 decide_whole : (t : List ℕ) → Decision (Whole t)
 decide_whole t = decide_next 27 _ (λ u. decide_next 91 _ (λ v. decide_next 60 Fields decide_fields v) u) t
 
-whole_from : (t : List ℕ) → (r : MouseEvent) × IsFrame t r → Whole t
+whole_from : (t : List ℕ) → (r : MouseEvent) × IsMouseReport t r → Whole t
 whole_from t (r, f) =
     let e = layout t r f in (
       91 ∷ 60 ∷ (f.code ++ 59 ∷ (f.x ++ 59 ∷ (f.y ++ f.last ∷ []))),
@@ -128,10 +128,10 @@ whole_from t (r, f) =
     last_from last (inl h) = inl ([], ap (λ z. z ∷ []) h, refl)
     last_from last (inr h) = inr ([], ap (λ z. z ∷ []) h, refl)
 
--- the frame that three numbers and a last byte make
-pub frame_from : (text code x y : List ℕ) (last : ℕ) → text ≡ laid_out code x y last → IsNumber code largest_code → IsNumber x largest_place → IsNumber y largest_place
-    → IsFinal last → IsFrame text (mouse_event (value_of code) (value_of x) (value_of y) last)
-frame_from text code x y last form code_is x_is y_is last_is = record {
+-- the mouse report that three numbers and a last byte make
+pub report_from : (text code x y : List ℕ) (last : ℕ) → text ≡ laid_out code x y last → IsNumber code largest_code → IsNumber x largest_place → IsNumber y largest_place
+    → IsFinal last → IsMouseReport text (mouse_event (value_of code) (value_of x) (value_of y) last)
+report_from text code x y last form code_is x_is y_is last_is = record {
   code = code;
   x = x;
   y = y;
@@ -144,17 +144,17 @@ frame_from text code x y last form code_is x_is y_is last_is = record {
   means = refl;
 }
 
-from_whole : (t : List ℕ) → Whole t → (r : MouseEvent) × IsFrame t r
+from_whole : (t : List ℕ) → Whole t → (r : MouseEvent) × IsMouseReport t r
 from_whole t (u, e1, (v, e2, (w, e3, (code, r, e4, (c, (r2, e5, (x, s, e6, (n, (s2, e7, (y, z, e8, (m, l))))))))))) =
-    let frame = λ (last : ℕ) (final : IsFinal last) (q : z ≡ last ∷ []).
-    frame_from t code x y last (cc (e1, e2, e3, e4, e5, e6, e7, e8, q)) c n m final in
+    let mouse_report = λ (last : ℕ) (final : IsFinal last) (q : z ≡ last ∷ []).
+    report_from t code x y last (cc (e1, e2, e3, e4, e5, e6, e7, e8, q)) c n m final in
     ⊎_elim
-    (λ (a : Next 77 IsNil z). (_, frame 77 (inl refl) (a.1 ∙ ap (λ i. 77 ∷ i) a.2)))
-    (λ (a : Next 109 IsNil z). (_, frame 109 (inr refl) (a.1 ∙ ap (λ i. 109 ∷ i) a.2)))
+    (λ (a : Next 77 IsNil z). (_, mouse_report 77 (inl refl) (a.1 ∙ ap (λ i. 77 ∷ i) a.2)))
+    (λ (a : Next 109 IsNil z). (_, mouse_report 109 (inr refl) (a.1 ∙ ap (λ i. 109 ∷ i) a.2)))
     l
 
-pub frame_or_not : (t : List ℕ) → ((r : MouseEvent) × IsFrame t r) ⊎ ((r : MouseEvent) → ¬ IsFrame t r)
-frame_or_not t = ⊎_elim
+pub report_or_not : (t : List ℕ) → ((r : MouseEvent) × IsMouseReport t r) ⊎ ((r : MouseEvent) → ¬ IsMouseReport t r)
+report_or_not t = ⊎_elim
     (λ w. inl (from_whole t w))
     (λ never. inr (λ r f. never (whole_from t (r, f))))
     (decide_whole t)
@@ -162,10 +162,10 @@ frame_or_not t = ⊎_elim
 pub length-laid_out : (code x y : List ℕ) (last : ℕ) → length (laid_out code x y last) ≡ length code + length x + length y + 6
 length-laid_out code x y last = omega (arith, length-append code (59 ∷ (x ++ 59 ∷ (y ++ last ∷ []))), length-append x (59 ∷ (y ++ last ∷ [])), length-append y (last ∷ []))
 
-pub frame_short : (t : List ℕ) (r : MouseEvent) → IsFrame t r → length t < 22
-frame_short t r f = omega (arith, ap length (layout t r f), length-laid_out f.code f.x f.y f.last, f.code_is.short, f.x_is.short, f.y_is.short)
+pub report_short : (t : List ℕ) (r : MouseEvent) → IsMouseReport t r → length t < 22
+report_short t r f = omega (arith, ap length (layout t r f), length-laid_out f.code f.x f.y f.last, f.code_is.short, f.x_is.short, f.y_is.short)
 
--- a byte of a row or a frame after the first
+-- a byte of a row or a mouse report after the first
 abbrev pub IsPlain : ℕ → Type 0
 IsPlain b = (32 ≤ b) × (b < 127)
 
@@ -180,8 +180,8 @@ digits_plain (x ∷ t) a = ((let d : IsDigit x = a.0 in (omega arith, omega arit
 final_plain : (last : ℕ) → IsFinal last → IsPlain last
 final_plain last h = (omega arith, omega arith)
 
-pub frame_plain : (t : List ℕ) (r : MouseEvent) → IsFrame t r → (rest : List ℕ) × (t ≡ 27 ∷ 91 ∷ 60 ∷ rest) × AllByRecursion IsPlain rest
-frame_plain t r f = (
+pub report_plain : (t : List ℕ) (r : MouseEvent) → IsMouseReport t r → (rest : List ℕ) × (t ≡ 27 ∷ 91 ∷ 60 ∷ rest) × AllByRecursion IsPlain rest
+report_plain t r f = (
   f.code ++ 59 ∷ (f.x ++ 59 ∷ (f.y ++ f.last ∷ [])),
   layout t r f,
   plain_append f.code (59 ∷ (f.x ++ 59 ∷ (f.y ++ f.last ∷ []))) (digits_plain f.code f.code_is.each) (
@@ -191,9 +191,9 @@ frame_plain t r f = (
   ),
 )
 
--- no frame begins another
-pub frame_alone : (t tail : List ℕ) (r s : MouseEvent) → IsFrame t r → IsFrame (t ++ tail) s → tail ≡ []
-frame_alone t tail r s f g =
+-- no mouse report begins another
+pub report_alone : (t tail : List ℕ) (r s : MouseEvent) → IsMouseReport t r → IsMouseReport (t ++ tail) s → tail ≡ []
+report_alone t tail r s f g =
     let e : laid_out f.code f.x f.y f.last ++ tail ≡ laid_out g.code g.x g.y g.last = ap (λ z. z ++ tail) (sym (layout t r f)) ∙ layout (t ++ tail) s g in
     let d : f.code ++ 59 ∷ (f.x ++ 59 ∷ (f.y ++ f.last ∷ tail)) ≡ g.code ++ 59 ∷ (g.x ++ 59 ∷ (g.y ++ g.last ∷ []))
     = sym (simp append_assoc) ∙ drop_three (laid_out f.code f.x f.y f.last ++ tail) (laid_out g.code g.x g.y g.last) e in

@@ -6,7 +6,7 @@ use Rattle.std.proofs.lemmas.Bool.Decides.{nat_tests}
 use Rattle.std.proofs.lemmas.List.{take_more, length-take-le}
 use Rattle.std.proofs.lemmas.List.Sums.{fold-append}
 use Rattle.termwiz_keymap.specs.Bytes.{Begins}
-use Rattle.termwiz_grammar.specs.Frame.{IsDigit, IsNumber, value_of}
+use Rattle.termwiz_grammar.specs.MouseReports.{IsDigit, IsNumber, value_of}
 
 -- digits end where something else comes
 pub digits_end : (a b r s : List ℕ) (v w : ℕ) → AllByRecursion IsDigit a → AllByRecursion IsDigit b → ¬ IsDigit v → ¬ IsDigit w
@@ -55,10 +55,10 @@ pub number_past : (text : List ℕ) (i d : ℕ) (digits r s : List ℕ) (limit l
 number_past text i d digits r s limit last there all is number ends e =
     let more = take_more text i d there in
     let all2 : AllByRecursion IsDigit (take (i + 1) text) = rw more (all_push (take i text) (get_or text i d) all is) in
-    let known = number_from (take (i + 1) text) (drop (i + 1) text) digits r s limit last all2 number ends (e ∙ ap (λ t. t ++ s) (sym (take-append-drop (i + 1) text))) in
+    let is_sequence = number_from (take (i + 1) text) (drop (i + 1) text) digits r s limit last all2 number ends (e ∙ ap (λ t. t ++ s) (sym (take-append-drop (i + 1) text))) in
     let value : value_of (take (i + 1) text) ≡ value_of (take i text) * 10 + (get_or text i d - 48)
     = ap value_of more ∙ fold-append (λ (m b : ℕ). m * 10 + (b - 48)) 0 (take i text) (get_or text i d ∷ []) in
-    (omega (arith, length-take-le (i + 1) text (omega arith), known.0), omega (arith, value, known.1))
+    (omega (arith, length-take-le (i + 1) text (omega arith), is_sequence.0), omega (arith, value, is_sequence.1))
 
 -- where the digits of a text end, so does each number that the text may begin with
 pub number_stops : (text : List ℕ) (i d : ℕ) (digits r s : List ℕ) (last : ℕ) → i < length text → AllByRecursion IsDigit (take i text) → ¬ IsDigit (get_or text i d)

@@ -2,7 +2,7 @@
 use Rattle.std.proofs.Common.{◌≡◌, ◌⊎◌, inl, inr, ℕ, List, [], ◌∷◌, ◌++◌, length, take, drop, refl, sym, ap, ◌∙◌, subst, ⊎_elim, append_assoc, append-nil, arith, length-append, take-append-drop}
 use Rattle.std.proofs.lemmas.List.{append_cancel_right}
 use Rattle.termwiz_keymap.specs.Bytes.{Begins, Occurs}
-use Rattle.termwiz_keys.specs.Sequences.{END}
+use Rattle.termwiz_keys.specs.Introducers.{END}
 use Rattle.termwiz_grammar.specs.Grammar.{EndsFirst}
 use Rattle.termwiz_keymap.proofs.lemmas.lists.CommonPrefixes.{Overlaps, overlap}
 use Rattle.termwiz_keymap.proofs.lemmas.lists.CommonPrefixes.Overlaps.{within, past}

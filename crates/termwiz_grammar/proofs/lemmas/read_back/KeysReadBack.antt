@@ -18,7 +18,7 @@ use Rattle.termwiz_keys.specs.declared.encode.KeyCodeEncodeModes.{KeyCodeEncodeM
 use Rattle.termwiz_keys.specs.Keys.{NONE, SHIFT, ALT, CTRL, key_with}
 use Rattle.termwiz_keys.specs.KeyCodes.{holds, shifted}
 use Rattle.termwiz_grammar.specs.Table.{numbers, written_out}
-use Rattle.termwiz_keys.specs.Enc.{enc, key_text, normal_key, normal_held, sideless, shows_shift, named_key, char_text, plain_char_text, other_text, other_keys_form, backspace_text, enter_text, escape_text, tab_text, tab_alone, escape_if_alt, cursor_text, application_text, edit_text, lettered_function_text, numbered_function_text, function_text, is_level, stays_at_one}
+use Rattle.termwiz_keys.specs.Encoding.{enc, key_text, normal_key, normal_held, sideless, shows_shift, named_key, char_text, plain_char_text, other_text, other_keys_form, backspace_text, enter_text, escape_text, tab_text, tab_alone, escape_if_alt, cursor_text, application_text, edit_text, lettered_function_text, numbered_function_text, function_text, is_level, stays_at_one}
 use Rattle.termwiz_grammar.specs.Listed.{any_of_three, cursor_and_function_keys, keys_without_modifiers, edit_and_high_function_keys, IsSharedLetter, IsListedAt, IsListedInMode, IsListed, ReadsBack, csi_u, modifiers_of, CsiUReadsBack}
 use Rattle.termwiz_grammar.specs.Listed.IsListedAt.{any_modifiers, no_modifiers, character, alt_character, none_or_alt, ctrl_letter, tab_with_alt_and_shift, tab_with_ctrl_and_shift, edit_or_high_function, tab_or_enter, ctrl_character, ctrl_shift_character, escape_or_backspace}
 use Rattle.termwiz_grammar.proofs.lemmas.lists.ListMembers.{joined, pairs, in_map, in_pairs, in_filter, in_first, in_later, in_numbers, same_on}

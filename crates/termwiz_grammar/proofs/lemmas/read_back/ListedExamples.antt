@@ -8,7 +8,7 @@ use Rattle.std.proofs.lemmas.Bool.Decides.{nat_tests}
 use Rattle.termwiz_keys.specs.declared.types.KeyCode.{KeyCode}
 use Rattle.termwiz_keys.specs.declared.types.KeyCode.TheVariants.{Char, Backspace, Tab, Enter, Escape, PageUp, PageDown, End, Home, LeftArrow, RightArrow, UpArrow, DownArrow, Insert, Delete, Function, ApplicationLeftArrow, ApplicationRightArrow, ApplicationUpArrow, ApplicationDownArrow}
 use Rattle.termwiz_keys.specs.Keys.{NONE, SHIFT, ALT, CTRL}
-use Rattle.termwiz_keys.specs.Enc.{is_level}
+use Rattle.termwiz_keys.specs.Encoding.{is_level}
 use Rattle.termwiz_grammar.specs.Listed.{any_of_three, cursor_and_function_keys as first_keys, keys_without_modifiers as plain_keys, edit_and_high_function_keys as edit_keys, IsSharedLetter, IsListedAt}
 use Rattle.termwiz_grammar.specs.Listed.IsListedAt.{any_modifiers, no_modifiers, character, alt_character, none_or_alt, ctrl_letter, tab_with_alt_and_shift, tab_with_ctrl_and_shift, edit_or_high_function, tab_or_enter, ctrl_character, ctrl_shift_character, escape_or_backspace}
 use Rattle.termwiz_grammar.specs.ListedExamples.{Press, off, level, SUPER, AllListed, NoneListed, ListedExamples, cursor_and_function_keys, keys_without_modifiers, characters, characters_with_alt, enter_escape_backspace, letters_with_ctrl, tabs_with_alt_or_shift, tabs_with_ctrl_and_shift, edit_and_high_function_keys, tab_and_enter, characters_with_ctrl, digits_with_ctrl_and_shift, escape_and_backspace, unlisted_near_cursor_and_function_keys, unlisted_near_keys_without_modifiers, unlisted_near_characters, unlisted_near_characters_with_alt, unlisted_near_enter_escape_backspace, unlisted_near_letters_with_ctrl, unlisted_near_tabs_with_alt_or_shift, unlisted_near_edit_and_high_function_keys, unlisted_near_tab_and_enter, unlisted_near_characters_with_ctrl, unlisted_near_digits_with_ctrl_and_shift, unlisted_near_escape_and_backspace}

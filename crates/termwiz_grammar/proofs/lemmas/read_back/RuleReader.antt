@@ -14,14 +14,14 @@ use Rattle.termwiz_keys.specs.declared.types.KeyCode.{KeyCode}
 use Rattle.termwiz_keys.specs.declared.types.KeyCode.TheVariants.{Char, Backspace, Tab, Enter, Escape, Function}
 use Rattle.termwiz_keys.specs.declared.types.KeyEvent.{KeyEvent}
 use Rattle.termwiz_keys.specs.declared.types.InputEvent.TheVariants.{Key}
-use Rattle.termwiz_keys.specs.Sequences.{START}
+use Rattle.termwiz_keys.specs.Introducers.{START}
 use Rattle.termwiz_keys.specs.Keys.{plain, with_alt}
 use Rattle.termwiz_keys.specs.FunctionCodes.{function_codes, high_function_codes}
 use Rattle.termwiz_grammar.specs.Table.{TableRow, rows, numbers, function_key_of, csi_u_of, modify_other_key, to_eight, control_letters_rows, backspace_bytes_rows, tab_byte_rows, enter_bytes_rows, escape_byte_rows, alt_letters_rows, alt_bracket_rows, shift_tab_rows, csi_u_rows, modify_other_keys_rows, cursor_keys_rows, modified_cursor_keys_rows, shift_arrows_rows, ctrl_arrows_rows, application_arrows_rows, modified_application_arrows_rows, ss3_function_keys_rows, lettered_function_keys_rows, numbered_function_keys_rows, edit_keys_rows, paste_start_rows, paste_end_rows, modified_edit_keys_rows, high_function_keys_rows, application_home_end_rows, ctrl_shift_tab_rows}
-use Rattle.termwiz_grammar.specs.Known.{IsKnown}
-use Rattle.termwiz_grammar.specs.Known.Meaning.{Row}
+use Rattle.termwiz_grammar.specs.Sequences.{IsSequence}
+use Rattle.termwiz_grammar.specs.Sequences.Meaning.{Row}
 use Rattle.termwiz_grammar.specs.Grammar.{Means, IsHead}
-use Rattle.termwiz_grammar.specs.Grammar.Head.{Known, Character}
+use Rattle.termwiz_grammar.specs.Grammar.Head.{Sequence, Character}
 use Rattle.termwiz_grammar.proofs.lemmas.items.OneHead.{longest_whole}
 use Rattle.termwiz_grammar.proofs.lemmas.lists.ListMembers.{in_flat_map_filter, in_flat_map_filtered, in_first, in_later, joined}
 use Rattle.termwiz_grammar.proofs.lemmas.read_back.WholeTexts.{row_means, alt_means, char_head}
@@ -35,7 +35,7 @@ abbrev pub ascii_key : List ℕ → Option KeyEvent
 ascii_key (x ∷ []) = if nat_lt 27 x && nat_lt x 127 then Some (plain x) else None
 ascii_key text = None
 
--- a byte that no known text has after its ESC
+-- a byte that no sequence has after its ESC
 abbrev pub is_apart : ℕ → Bool
 is_apart x = nat_lt x 65 || nat_lt 91 x
 
@@ -63,7 +63,7 @@ row_key_means part text k are e = go (bytes_eq text START) refl
       λ same. let h : bytes_eq text START ≡ true = (bytes_eq-Decides text START).1 same in cc (h, other),
     )
 
--- ESC, and one character of ASCII that no known text has after its ESC
+-- ESC, and one character of ASCII that no sequence has after its ESC
 ascii_means : (y : ℕ) (t : List ℕ) (k : KeyEvent) → (y ≤ 64) ⊎ (92 ≤ y) → option_map with_alt (ascii_key (y ∷ t)) ≡ Some k
     → Means (27 ∷ y ∷ t) false (Key k ∷ []) []
 ascii_means y (z ∷ t) k apart e = absurd (cc (e))
@@ -86,7 +86,7 @@ ascii_means y [] k apart e = go (nat_lt 27 y && nat_lt y 127) refl
 -- ESC, and the bytes of a row
 joined_means : (part : List TableRow) (y : ℕ) (t : List ℕ) (k : KeyEvent) → AreRows part → (y ≤ 64) ⊎ (92 ≤ y)
     → option_map with_alt (option_or (row_key part (y ∷ t)) (ascii_key (y ∷ t))) ≡ Some k → Means (27 ∷ y ∷ t) false (Key k ∷ []) []
-unfolding IsKnown
+unfolding IsSequence
 joined_means part y t k are apart e = go (row_key part (y ∷ t)) refl
   where
     go : (o : Option KeyEvent) → row_key part (y ∷ t) ≡ o → Means (27 ∷ y ∷ t) false (Key k ∷ []) []
@@ -94,7 +94,7 @@ joined_means part y t k are apart e = go (row_key part (y ∷ t)) refl
         let row = row_key_means part (y ∷ t) j are found in
         let same : with_alt j ≡ k = (let s : Some (with_alt j) ≡ Some k = rw found at e in cc (s)) in
         subst (λ i. Means (27 ∷ y ∷ t) false (Key i ∷ []) []) same
-        (alt_means y t (Known (y ∷ t) (Row j)) j apart (longest_whole (y ∷ t) (Row j) row.0) (row.1, refl) refl)
+        (alt_means y t (Sequence (y ∷ t) (Row j)) j apart (longest_whole (y ∷ t) (Row j) row.0) (row.1, refl) refl)
     go None missing = ascii_means y t k apart (rw missing at e)
 
 alt_key_means : (part : List TableRow) (text : List ℕ) (k : KeyEvent) → AreRows part → alt_key part text ≡ Some k → Means text false (Key k ∷ []) []

@@ -16,7 +16,7 @@ use Rattle.termwiz_keys.specs.declared.types.KeyEvent.{KeyEvent}
 use Rattle.termwiz_keys.specs.declared.types.KeyCode.TheVariants.{Char, Backspace, Tab, UpArrow, InternalPasteStart}
 use Rattle.termwiz_keys.specs.Keys.{escape, key_with, NONE, SHIFT, ALT, CTRL}
 use Rattle.termwiz_grammar.specs.Laws.{BeginsRow, ThreeBeginnings, HasOtherBytes, TableFacts}
-use Rattle.termwiz_keys.specs.Sequences.{ESC, CSI, SS3, START}
+use Rattle.termwiz_keys.specs.Introducers.{ESC, CSI, SS3, START}
 use Rattle.termwiz_grammar.specs.Table.{TableRow, rows, written_out}
 use Rattle.termwiz_grammar.proofs.lemmas.lists.Decidable.{same_or_not}
 use Rattle.termwiz_grammar.proofs.lemmas.mouse.OneReport.{IsPlain}
@@ -156,7 +156,7 @@ plain_from_test (x ∷ t) e =
     let first : is_plain x ≡ true = parts.0 in
     ((grind (arith, nat_tests), grind (arith, nat_tests)), plain_from_test t parts.1)
 
--- a known text is one byte, or ESC and then plain bytes
+-- a sequence is one byte, or ESC and then plain bytes
 pub data Bytes (text : List ℕ) : Type 0 where
   one : (b : ℕ) → (b < 28) ⊎ (b ≡ 127) → text ≡ b ∷ [] → Bytes text
   more : (t : List ℕ) → t ≢ [] → text ≡ 27 ∷ t → AllByRecursion IsPlain t → Bytes text
@@ -203,13 +203,13 @@ begins_another (x ∷ y ∷ z ∷ s) t a b c n =
     (and_parts ((x == 27) && ((y == 91) || (y == 79))) (ends_well (z ∷ s)) a).1
     (and_parts ((x == 27) && ((y == 91) || (y == 79))) (ends_well (z ∷ s ++ t)) b).1))
 
--- no row begins as a frame does
+-- no row begins as a mouse report does
 not_inner : (s : List ℕ) → ends_well (60 ∷ s) ≡ true → ⊥
 not_inner [] e = cc (e)
 not_inner (x ∷ s) e = cc (e)
 
-pub no_frame_shape : (rest : List ℕ) → has_shape (27 ∷ 91 ∷ 60 ∷ rest) ≡ true → ⊥
-no_frame_shape rest a = not_inner rest a
+pub no_report_shape : (rest : List ℕ) → has_shape (27 ∷ 91 ∷ 60 ∷ rest) ≡ true → ⊥
+no_report_shape rest a = not_inner rest a
 
 bracket_row : Contains rows (CSI, key_with (Char 91) ALT)
 unfolding written_out
@@ -254,5 +254,5 @@ table_facts = record {
   bytes_differ = bytes_differ;
   at_most_eleven_bytes = λ i d l. (let s : length (get_or rows i d).0 < 12 = (all_shaped i d l).short in omega arith);
   one_has_eleven_bytes = (CSI ++ codes "27;8;127~", key_with Backspace (CTRL + ALT + SHIFT), longest_row, refl);
-  none_begins_like_a_frame = λ i d l b. no_frame_shape b.0 (subst (λ t. has_shape t ≡ true) b.1 (all_shaped i d l).shape);
+  none_begins_like_a_report = λ i d l b. no_report_shape b.0 (subst (λ t. has_shape t ≡ true) b.1 (all_shaped i d l).shape);
 }

@@ -1,14 +1,14 @@
--- The longest beginning of a mouse frame waits, alone and after one Escape.
+-- The longest beginning of a mouse report waits, alone and after one Escape.
 use Rattle.std.proofs.Common.{◌≡◌, inl, ℕ, Bool, true, List, [], ◌∷◌, ◌++◌, refl, arith, ◌&&◌, nat_lt}
 use Rattle.std.specs.Prelude.{codes}
 use Rattle.std.specs.List.{AllByRecursion, list_all}
 use Rattle.std.proofs.lemmas.Bool.{and_parts}
 use Rattle.std.proofs.lemmas.Bool.Decides.{nat_tests}
 use Rattle.termwiz_base.specs.Mouse.{largest_code}
-use Rattle.termwiz_keys.specs.Sequences.{ESC}
-use Rattle.termwiz_grammar.specs.Frame.{IsDigit, IsNumber, IsFrame, value_of, largest_place, mouse_event}
-use Rattle.termwiz_grammar.specs.Known.{IsKnown}
-use Rattle.termwiz_grammar.specs.Known.Meaning.{Frame}
+use Rattle.termwiz_keys.specs.Introducers.{ESC}
+use Rattle.termwiz_grammar.specs.MouseReports.{IsDigit, IsNumber, IsMouseReport, value_of, largest_place, mouse_event}
+use Rattle.termwiz_grammar.specs.Sequences.{IsSequence}
+use Rattle.termwiz_grammar.specs.Sequences.Meaning.{Report}
 use Rattle.termwiz_grammar.specs.Grammar.{IsBeginning, IsOpen}
 use Rattle.termwiz_grammar.specs.Laws.{longest_beginning, MostWait}
 use Rattle.termwiz_grammar.proofs.lemmas.waiting.RestShape.{held_escape_rests}
@@ -40,8 +40,8 @@ place_number = record {
   within = (let e : value_of (codes "65535") ≡ 65535 = refl in omega (arith, e));
 }
 
-longest_frame : IsFrame (longest_beginning ++ codes "M") (mouse_event 95 65535 65535 77)
-longest_frame = record {
+longest_report : IsMouseReport (longest_beginning ++ codes "M") (mouse_event 95 65535 65535 77)
+longest_report = record {
   code = codes "00095";
   x = codes "65535";
   y = codes "65535";
@@ -55,8 +55,8 @@ longest_frame = record {
 }
 
 begins : IsBeginning longest_beginning
-unfolding IsKnown
-begins = inl (record { tail = codes "M"; longer = λ h. cc (h); meaning = Frame (mouse_event 95 65535 65535 77); known = longest_frame })
+unfolding IsSequence
+begins = inl (record { tail = codes "M"; longer = λ h. cc (h); meaning = Report (mouse_event 95 65535 65535 77); is_sequence = longest_report })
 
 open' : IsOpen longest_beginning true
 open' = record { more_comes = refl; some = λ h. cc (h); beginning = begins }

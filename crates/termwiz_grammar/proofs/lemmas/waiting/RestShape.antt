@@ -3,19 +3,19 @@ use Rattle.std.proofs.Common.{◌≡◌, ◌≢◌, ◌⊎◌, inl, inr, ℕ, ze
 use Rattle.std.specs.Str.Lossy.{utf8_lossy}
 use Rattle.termwiz_keys.specs.declared.types.KeyEvent.{KeyEvent}
 use Rattle.termwiz_keymap.specs.Bytes.{Begins}
-use Rattle.termwiz_keys.specs.Sequences.{ESC, START, END}
+use Rattle.termwiz_keys.specs.Introducers.{ESC, START, END}
 use Rattle.termwiz_keys.specs.declared.types.InputEvent.{InputEvent}
 use Rattle.termwiz_keys.specs.Keys.{plain, escape, with_alt}
 use Rattle.termwiz_keys.specs.declared.types.InputEvent.TheVariants.{Key, Mouse, Paste}
-use Rattle.termwiz_grammar.specs.Known.{IsKnown}
-use Rattle.termwiz_grammar.specs.Known.Meaning.{Row, Frame}
+use Rattle.termwiz_grammar.specs.Sequences.{IsSequence}
+use Rattle.termwiz_grammar.specs.Sequences.Meaning.{Row, Report}
 use Rattle.termwiz_grammar.specs.Grammar.{Head, IsHead, IsLongest, IsOpen, IsAfterEscape, replacement, bytes_of, IsKey, IsApart, Item, Stands, IsRest}
-use Rattle.termwiz_grammar.specs.Grammar.Head.{Known, Character, Broken}
+use Rattle.termwiz_grammar.specs.Grammar.Head.{Sequence, Character, Broken}
 use Rattle.termwiz_grammar.specs.Grammar.Item.{key, char, broken, mouse, paste, lone_escape, alt}
 use Rattle.termwiz_grammar.specs.Laws.{EmptyIsRest, OneMeaning, WaitingShape, Waits}
 use Rattle.termwiz_grammar.specs.Laws.Waits.{nothing, open_paste, undecided}
 use Rattle.termwiz_keymap.proofs.lemmas.lists.CommonPrefixes.{append-some_left, length-some}
-use Rattle.termwiz_grammar.proofs.lemmas.table.KnownSequences.{known_once, escape_known}
+use Rattle.termwiz_grammar.proofs.lemmas.table.SequenceFacts.{sequence_once, escape_is_sequence}
 use Rattle.termwiz_grammar.proofs.lemmas.characters.CharacterPrefixes.{beginning_short}
 use Rattle.termwiz_grammar.proofs.lemmas.items.ItemStable.{item_some, item_begins}
 use Rattle.termwiz_grammar.proofs.lemmas.items.OneHead.{head_once, head_of, open_or_not}
@@ -31,8 +31,8 @@ pub data Settled (u : List ℕ) (f : Bool) : Type 0 where
 
 -- the head's key, or the key that ESC joins to: each head has one, or stands apart
 key_or_apart : (h : Head) → ((k : KeyEvent) × IsKey h k) ⊎ IsApart h
-key_or_apart (Known text (Row k)) = ⊎_elim (λ e. inr e) (λ other. inl (k, (other, refl))) (same_or_not text START)
-key_or_apart (Known text (Frame report)) = inr tt
+key_or_apart (Sequence text (Row k)) = ⊎_elim (λ e. inr e) (λ other. inl (k, (other, refl))) (same_or_not text START)
+key_or_apart (Sequence text (Report report)) = inr tt
 key_or_apart (Character c) = inl (plain c, refl)
 key_or_apart (Broken byte) = inl (plain replacement, refl)
 
@@ -48,7 +48,7 @@ after_start u f k closed is = go (find_end is.begins.0)
         (paste body (rest, is.begins.1 ∙ ap (λ x. START ++ x) e) first)
     go (endless none) = resting
         (λ bytes event stands. let r = reads u bytes event f stands.item in
-        unread bytes event (subst (λ h. Gives u f h bytes event) (head_once u r.0 (Known START (Row k)) r.1 is) r.2))
+        unread bytes event (subst (λ h. Gives u f h bytes event) (head_once u r.0 (Sequence START (Row k)) r.1 is) r.2))
         (open_paste is.begins.0 is.begins.1 none)
       where
         unread : (bytes : List ℕ) (event : InputEvent) → RowGives u f START k bytes event → ⊥
@@ -69,7 +69,7 @@ unread_row u v f e some o bytes event (joined at w h j split longer gap second n
 pub held_escape_rests : (u v : List ℕ) (f : Bool) → IsLongest u ESC (Row escape) → u ≡ ESC ++ v → v ≢ [] → IsOpen v f → IsRest u f
 held_escape_rests u v f is e some o bytes event stands =
     let r = reads u bytes event f stands.item in
-    unread_row u v f e some o bytes event (subst (λ h. Gives u f h bytes event) (head_once u r.0 (Known ESC (Row escape)) r.1 is) r.2)
+    unread_row u v f e some o bytes event (subst (λ h. Gives u f h bytes event) (head_once u r.0 (Sequence ESC (Row escape)) r.1 is) r.2)
 
 -- a text that isn't open, whose head is ESC
 after_escape_head : (u : List ℕ) (f : Bool) → ¬ IsOpen u f → IsLongest u ESC (Row escape) → (v : List ℕ) → u ≡ ESC ++ v → Settled u f
@@ -90,12 +90,12 @@ after_escape_head u f closed is (x ∷ v) e = ⊎_elim
 by_head : (u : List ℕ) (f : Bool) → ¬ IsOpen u f → (h : Head) → IsHead u h → Settled u f
 by_head u f closed (Character c) is = stand u (encode_utf8 c) f (Key (plain c)) closed (char c is)
 by_head u f closed (Broken byte) is = stand u (byte ∷ []) f (Key (plain replacement)) closed (broken byte is)
-by_head u f closed (Known text (Frame report)) is = stand u text f (Mouse report) closed (mouse text report is)
-by_head u f closed (Known text (Row k)) is = ⊎_elim
+by_head u f closed (Sequence text (Report report)) is = stand u text f (Mouse report) closed (mouse text report is)
+by_head u f closed (Sequence text (Row k)) is = ⊎_elim
     (λ (e : text ≡ START). after_start u f k closed (subst (λ x. IsLongest u x (Row k)) e is))
     (λ (usual : text ≡ START → ⊥). ⊎_elim
     (λ (e : text ≡ ESC).
-    let same : Row k ≡ Row escape = known_once ESC (Row k) (Row escape) (subst (λ x. IsKnown x (Row k)) e is.known) escape_known in
+    let same : Row k ≡ Row escape = sequence_once ESC (Row k) (Row escape) (subst (λ x. IsSequence x (Row k)) e is.is_sequence) escape_is_sequence in
     let here : IsLongest u ESC (Row escape) = subst (λ m. IsLongest u ESC m) same (subst (λ x. IsLongest u x (Row k)) e is) in
     after_escape_head u f closed here here.begins.0 here.begins.1)
     (λ (other : text ≡ ESC → ⊥). stand u text f (Key k) closed (key text k is usual (λ h. absurd (other h))))

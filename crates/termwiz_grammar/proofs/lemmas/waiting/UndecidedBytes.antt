@@ -1,4 +1,4 @@
--- What waits as the beginning of a known text or of a character may go on so that a flush before changes the events.
+-- What waits as the beginning of a sequence or of a character may go on so that a flush before changes the events.
 use Rattle.std.proofs.Common.{◌≡◌, ◌≢◌, ◌⊎◌, inl, inr, ⊎_elim, ℕ, ◌≤◌, Bool, false, List, [], ◌∷◌, ◌++◌, length, refl, sym, ap, ◌∙◌, subst, append_assoc, append-nil, arith, length-append, bit_or}
 use Rattle.std.specs.List.{AllByRecursion}
 use Rattle.std.specs.Char.{encode_utf8}
@@ -9,19 +9,19 @@ use Rattle.termwiz_keys.specs.declared.types.MouseEvent.{MouseEvent}
 use Rattle.termwiz_keys.specs.declared.types.InputEvent.{InputEvent}
 use Rattle.termwiz_keys.specs.declared.types.InputEvent.TheVariants.{Key}
 use Rattle.termwiz_keymap.specs.Bytes.{Begins}
-use Rattle.termwiz_keys.specs.Sequences.{ESC, START, END}
+use Rattle.termwiz_keys.specs.Introducers.{ESC, START, END}
 use Rattle.termwiz_keys.specs.Keys.{escape, with_alt}
-use Rattle.termwiz_grammar.specs.Known.{Meaning, IsKnown}
-use Rattle.termwiz_grammar.specs.Known.Meaning.{Row, Frame}
+use Rattle.termwiz_grammar.specs.Sequences.{Meaning, IsSequence}
+use Rattle.termwiz_grammar.specs.Sequences.Meaning.{Row, Report}
 use Rattle.termwiz_grammar.specs.Grammar.{Head, IsHead, IsLongest, IsUnfinishedCharacter, bytes_of, IsApart, Item, Steps, Means}
-use Rattle.termwiz_grammar.specs.Grammar.Head.{Known, Character, Broken}
+use Rattle.termwiz_grammar.specs.Grammar.Head.{Sequence, Character, Broken}
 use Rattle.termwiz_grammar.specs.Laws.{FlushMatters, Undecided, IsHeldEscape}
 use Rattle.termwiz_keymap.proofs.lemmas.lists.CommonPrefixes.{append-some, append-some_left, length-some, true_at_end, true_at_front}
 use Rattle.termwiz_grammar.proofs.lemmas.mouse.OneReport.{IsPlain}
 use Rattle.termwiz_grammar.proofs.lemmas.table.RowShape.{Bytes}
 use Rattle.termwiz_grammar.proofs.lemmas.table.RowShape.Bytes.{one, more}
-use Rattle.termwiz_grammar.proofs.lemmas.table.KnownSequences.{known_bytes, start, start_known, start_ends, frame_ends}
-use Rattle.termwiz_grammar.proofs.lemmas.characters.CharacterPrefixes.{IsHigh, parted_high, known_low}
+use Rattle.termwiz_grammar.proofs.lemmas.table.SequenceFacts.{known_bytes, start, start_is_sequence, start_ends, report_ends}
+use Rattle.termwiz_grammar.proofs.lemmas.characters.CharacterPrefixes.{IsHigh, parted_high, sequence_low}
 use Rattle.termwiz_grammar.proofs.lemmas.items.ItemStable.{item_some}
 use Rattle.termwiz_grammar.proofs.lemmas.items.OneHead.{head_once, longest_whole}
 use Rattle.termwiz_grammar.proofs.lemmas.items.OneItem.{RowGives, Gives, Read, read_of, reads}
@@ -81,12 +81,12 @@ nothing_after q bytes rest W E all splits steps =
 
 -- a head that is a text of two bytes or more is one item's bytes
 takes_all : (q bytes : List ℕ) (h : Head) (e : InputEvent) → 2 ≤ length q → bytes_of h ≡ q → Gives q false h bytes e → bytes ≡ q
-takes_all q bytes (Known text (Frame r)) e l same g = g.0 ∙ same
-takes_all q bytes (Known text (Row k)) e l same (its_key a b c d) = c ∙ same
-takes_all q bytes (Known text (Row k)) e l same (its_paste at body rest split first c d) =
+takes_all q bytes (Sequence text (Report r)) e l same g = g.0 ∙ same
+takes_all q bytes (Sequence text (Row k)) e l same (its_key a b c d) = c ∙ same
+takes_all q bytes (Sequence text (Row k)) e l same (its_paste at body rest split first c d) =
     absurd (omega (arith, ap length same, ap length at, ap length split, length-append (START ++ body ++ END) rest, length-append (START ++ body) END, length-append START body))
-takes_all q bytes (Known text (Row k)) e l same (apart at v h split some closed is far c d) = absurd (omega (arith, ap length same, ap length at))
-takes_all q bytes (Known text (Row k)) e l same (joined at v h j split some closed is near c d) = absurd (omega (arith, ap length same, ap length at))
+takes_all q bytes (Sequence text (Row k)) e l same (apart at v h split some closed is far c d) = absurd (omega (arith, ap length same, ap length at))
+takes_all q bytes (Sequence text (Row k)) e l same (joined at v h j split some closed is near c d) = absurd (omega (arith, ap length same, ap length at))
 takes_all q bytes (Character c) e l same g = g.0 ∙ same
 takes_all q bytes (Broken b) e l same g = g.0 ∙ same
 
@@ -129,7 +129,7 @@ module _ (x : ℕ) (p c : List ℕ) (on : GoesOn x p c) where
   escape_gives : (t bytes : List ℕ) (e : InputEvent) → Item (27 ∷ x ∷ t) false bytes e → RowGives (27 ∷ x ∷ t) false ESC escape bytes e
   escape_gives t bytes e item =
       let g = reads (27 ∷ x ∷ t) bytes e false item in
-      let same : g.0 ≡ Known ESC (Row escape) = head_once (27 ∷ x ∷ t) g.0 (Known ESC (Row escape)) g.1 (escape_alone x t on.alone) in
+      let same : g.0 ≡ Sequence ESC (Row escape) = head_once (27 ∷ x ∷ t) g.0 (Sequence ESC (Row escape)) g.1 (escape_alone x t on.alone) in
       subst (λ h. Gives (27 ∷ x ∷ t) false h bytes e) same g.2
 
   -- after an Escape it gives an Escape first, or one event
@@ -176,7 +176,7 @@ module _ (x : ℕ) (p c : List ℕ) (on : GoesOn x p c) where
   no_start_held held (inr h) = subst HasNoStart (ap (λ z. z ++ x ∷ p) (sym h)) (no_start_cons 27 (x ∷ p) not_here on.no_start)
     where
       not_here : Begins START (27 ∷ x ∷ p) → ⊥
-      not_here b = omega (arith, (escape_alone x p on.alone).longest START (Row start) start_known b)
+      not_here b = omega (arith, (escape_alone x p on.alone).longest START (Row start) start_is_sequence b)
 
   differ : (held : List ℕ) → IsHeldEscape held → EventsDiffer (held ++ x ∷ p) c
   differ held is E E1 E2 W W1 W2 mw m1 m2 e =
@@ -191,12 +191,12 @@ module _ (x : ℕ) (p c : List ℕ) (on : GoesOn x p c) where
       (subst (λ z. Read (z ++ x ∷ p) false E1 W1) h (read_of m1)) some last e)
       is
 
--- a known text of several bytes: all but its ESC are plain
-known_goes_on : (p c : List ℕ) (m : Meaning) → IsKnown (27 ∷ p ++ c) m → c ≢ [] → AllByRecursion IsPlain (p ++ c) → GoesOn 27 p c
-known_goes_on p c m known longer plain = record {
+-- a sequence of several bytes: all but its ESC are plain
+sequence_goes_on : (p c : List ℕ) (m : Meaning) → IsSequence (27 ∷ p ++ c) m → c ≢ [] → AllByRecursion IsPlain (p ++ c) → GoesOn 27 p c
+sequence_goes_on p c m is_sequence longer plain = record {
   longer = longer;
-  head = Known (27 ∷ p ++ c) m;
-  whole = longest_whole (27 ∷ p ++ c) m known;
+  head = Sequence (27 ∷ p ++ c) m;
+  whole = longest_whole (27 ∷ p ++ c) m is_sequence;
   spells = refl;
   no_start = no_start_cons 27 p not_start (no_start_among IsPlain (λ h. omega arith) p (true_at_front IsPlain p c plain));
   no_start_after = no_start_among IsPlain (λ h. omega arith) c (true_at_end IsPlain p c plain);
@@ -207,26 +207,26 @@ known_goes_on p c m known longer plain = record {
     not_start : Begins START (27 ∷ p) → ⊥
     not_start b =
         let e : 27 ∷ p ++ c ≡ START ++ (b.0 ++ c) = ap (λ x. x ++ c) b.1 in
-        append-some b.0 c longer (start_ends (b.0 ++ c) m (subst (λ x. IsKnown x m) e known))
+        append-some b.0 c longer (start_ends (b.0 ++ c) m (subst (λ x. IsSequence x m) e is_sequence))
 
-    not_frame : (text : List ℕ) (r : MouseEvent) → IsLongest (27 ∷ p) text (Frame r) → ⊥
-    not_frame text r is =
+    not_report : (text : List ℕ) (r : MouseEvent) → IsLongest (27 ∷ p) text (Report r) → ⊥
+    not_report text r is =
         let e : 27 ∷ p ++ c ≡ text ++ (is.begins.0 ++ c) = ap (λ x. x ++ c) is.begins.1 ∙ append_assoc text is.begins.0 c in
-        append-some is.begins.0 c longer (frame_ends text (is.begins.0 ++ c) r m is.known (subst (λ x. IsKnown x m) e known))
+        append-some is.begins.0 c longer (report_ends text (is.begins.0 ++ c) r m is.is_sequence (subst (λ x. IsSequence x m) e is_sequence))
 
     not_far : (h : Head) → IsHead (27 ∷ p) h → IsApart h → ⊥
-    not_far (Known text (Row k)) is far = not_start (subst (λ x. Begins x (27 ∷ p)) far is.begins)
-    not_far (Known text (Frame r)) is far = not_frame text r is
+    not_far (Sequence text (Row k)) is far = not_start (subst (λ x. Begins x (27 ∷ p)) far is.begins)
+    not_far (Sequence text (Report r)) is far = not_report text r is
     not_far (Character d) is far = far
     not_far (Broken d) is far = far
 
-known_from : (x : ℕ) (p c : List ℕ) (m : Meaning) → c ≢ [] → IsKnown (x ∷ p ++ c) m → Bytes (x ∷ p ++ c) → GoesOn x p c
-known_from x p c m longer known (one b l e) = absurd (omega (arith, ap length e, length-append p c, length-some c longer))
-known_from x p c m longer known (more t n e a) =
+sequence_from : (x : ℕ) (p c : List ℕ) (m : Meaning) → c ≢ [] → IsSequence (x ∷ p ++ c) m → Bytes (x ∷ p ++ c) → GoesOn x p c
+sequence_from x p c m longer is_sequence (one b l e) = absurd (omega (arith, ap length e, length-append p c, length-some c longer))
+sequence_from x p c m longer is_sequence (more t n e a) =
     let first : x ≡ 27 = cc (e) in
     let rest : t ≡ p ++ c = cc (e) in
     subst (λ z. GoesOn z p c) (sym first)
-    (known_goes_on p c m (subst (λ z. IsKnown (z ∷ p ++ c) m) first known) longer (subst (AllByRecursion IsPlain) rest a))
+    (sequence_goes_on p c m (subst (λ z. IsSequence (z ∷ p ++ c) m) first is_sequence) longer (subst (AllByRecursion IsPlain) rest a))
 
 -- a character of several bytes: all are high
 character_from : (x : ℕ) (p : List ℕ) (u : IsUnfinishedCharacter (x ∷ p)) → GoesOn x p u.tail
@@ -234,7 +234,7 @@ character_from x p u = record {
   longer = u.longer;
   head = Character u.char;
   whole = record {
-    unknown = λ text m known b. known_low text (x ∷ p ++ u.tail) m known high b;
+    no_sequence = λ text m is_sequence b. sequence_low text (x ∷ p ++ u.tail) m is_sequence high b;
     scalar = u.scalar;
     begins = ([], sym u.spells ∙ sym (append-nil (encode_utf8 u.char)));
   };
@@ -252,7 +252,7 @@ character_from x p u = record {
     front = true_at_front IsHigh (x ∷ p) u.tail high
 
     not_far : (h : Head) → IsHead (x ∷ p) h → IsApart h → ⊥
-    not_far (Known text m) is far = known_low text (x ∷ p) m is.known front is.begins
+    not_far (Sequence text m) is far = sequence_low text (x ∷ p) m is.is_sequence front is.begins
     not_far (Character d) is far = far
     not_far (Broken d) is far = far
 
@@ -268,7 +268,7 @@ flush_matters text c differ =
 pub undecided_law : Undecided
 undecided_law held [] is n u = absurd (n refl)
 undecided_law held (x ∷ p) is n (inl u) =
-    let on = known_from x p u.tail u.meaning u.longer u.known (known_bytes (x ∷ p ++ u.tail) u.meaning u.known) in
+    let on = sequence_from x p u.tail u.meaning u.longer u.is_sequence (known_bytes (x ∷ p ++ u.tail) u.meaning u.is_sequence) in
     (u.tail, flush_matters (held ++ x ∷ p) u.tail (differ x p u.tail on held is))
 undecided_law held (x ∷ p) is n (inr u) =
     (u.tail, flush_matters (held ++ x ∷ p) u.tail (differ x p u.tail (character_from x p u) held is))

@@ -1,10 +1,10 @@
 use Rattle.std.proofs.Common.{◌++◌, ◌+◌, ◌∙◌, sym, ap, subst, refl}
 use Rattle.termwiz_keys.specs.declared.types.InputEvent.TheVariants.{Key}
-use Rattle.termwiz_keys.specs.Sequences.{ESC}
+use Rattle.termwiz_keys.specs.Introducers.{ESC}
 use Rattle.termwiz_keys.specs.Keys.{with_alt}
-use Rattle.termwiz_input.specs.AtFront.{HasHead, IsItemAt}
+use Rattle.termwiz_input.specs.Matches.{HasHead, IsItemAt}
 use Rattle.termwiz_keymap.proofs.lemmas.lists.PrefixTest.{denied}
-use Rattle.termwiz_input.proofs.lemmas.items.ItemByHead.{item_of, escape_before_start, escape_before_frame, alt_row_stands, alt_character_stands, alt_broken_stands, joined_rest}
+use Rattle.termwiz_input.proofs.lemmas.items.ItemByHead.{item_of, escape_before_start, escape_before_report, alt_row_stands, alt_character_stands, alt_broken_stands, joined_rest}
 use Rattle.termwiz_input.proofs.item.escape_item_at.Goals as goal
 
 pub returns-then-begins_paste-clause-item : goal.returns-then-begins_paste-clause-item
@@ -37,12 +37,12 @@ returns-in-Some-Broken-clause-item c =
     (alt_broken_stands c.args.rest.now c.args.maybe_more c.requires.closed c.requires.head c.requires.some
     (c.in-Some-Broken.ensures.closed refl) (subst (HasHead c.args.rest.now) c.in-Some-Broken.field-0-is c.in-Some-Broken.ensures.head))
 
-pub returns-in-Some-Frame-clause-item : goal.returns-in-Some-Frame-clause-item
-returns-in-Some-Frame-clause-item c =
-    let made = c.key_item-in-Some-Frame.ensures ∙ ap (λ k. item_of (Key k) 1) c.escape_key-in-Some-Frame.ensures in
+pub returns-in-Some-Report-clause-item : goal.returns-in-Some-Report-clause-item
+returns-in-Some-Report-clause-item c =
+    let made = c.key_item-in-Some-Report.ensures ∙ ap (λ k. item_of (Key k) 1) c.escape_key-in-Some-Report.ensures in
     subst (IsItemAt (ESC ++ c.args.rest.now) c.args.maybe_more) (sym made)
-    (escape_before_frame c.args.rest.now c.args.maybe_more c.in-Some-Frame.field-0-0 c.in-Some-Frame.field-0-1 c.requires.closed c.requires.head c.requires.some
-    (c.in-Some-Frame.ensures.closed refl) (subst (HasHead c.args.rest.now) c.in-Some-Frame.field-0-is c.in-Some-Frame.ensures.head))
+    (escape_before_report c.args.rest.now c.args.maybe_more c.in-Some-Report.field-0-0 c.in-Some-Report.field-0-1 c.requires.closed c.requires.head c.requires.some
+    (c.in-Some-Report.ensures.closed refl) (subst (HasHead c.args.rest.now) c.in-Some-Report.field-0-is c.in-Some-Report.ensures.head))
 
 pub returns-in-None-clause-none : goal.returns-in-None-clause-none
 returns-in-None-clause-none c = joined_rest c.args.rest.now c.args.maybe_more c.requires.head c.requires.some c.in-None.ensures.waits

@@ -1,11 +1,11 @@
 use Rattle.std.proofs.Common.{◌∙◌, refl, sym, ap, subst, take}
 use Rattle.termwiz_keys.specs.declared.types.InputEvent.TheVariants.{Key}
-use Rattle.termwiz_keys.specs.Sequences.{ESC}
+use Rattle.termwiz_keys.specs.Introducers.{ESC}
 use Rattle.termwiz_keys.specs.Keys.{escape}
-use Rattle.termwiz_grammar.specs.Known.Meaning.{Row}
+use Rattle.termwiz_grammar.specs.Sequences.Meaning.{Row}
 use Rattle.termwiz_grammar.specs.Grammar.{IsLongest}
-use Rattle.termwiz_input.specs.AtFront.{HasHead, IsItemAt}
-use Rattle.termwiz_input.proofs.lemmas.items.ItemByHead.{item_of, escape_row_is, row_stands, frame_stands, character_stands, broken_stands, waits_rest}
+use Rattle.termwiz_input.specs.Matches.{HasHead, IsItemAt}
+use Rattle.termwiz_input.proofs.lemmas.items.ItemByHead.{item_of, escape_row_is, row_stands, report_stands, character_stands, broken_stands, waits_rest}
 use Rattle.termwiz_input.proofs.item.key_or_mouse_at.Goals as goal
 
 pub escape_item_at-requires-clause-head : goal.escape_item_at-requires-clause-head
@@ -21,10 +21,10 @@ returns-in-None-after_escape-clause-item c =
     (row_stands c.args.text.now c.args.maybe_more c.in-Some-Row.key c.in-Some-Row.len (c.in-Some-Row.ensures.closed refl)
     (subst (HasHead c.args.text.now) c.in-Some-Row.field-0-is c.in-Some-Row.ensures.head) c.requires.no_paste c.in-None-after_escape.ensures.none)
 
-pub returns-in-Some-Frame-clause-item : goal.returns-in-Some-Frame-clause-item
-returns-in-Some-Frame-clause-item c =
-    frame_stands c.args.text.now c.args.maybe_more c.in-Some-Frame.event c.in-Some-Frame.len (c.in-Some-Frame.ensures.closed refl)
-    (subst (HasHead c.args.text.now) c.in-Some-Frame.field-0-is c.in-Some-Frame.ensures.head)
+pub returns-in-Some-Report-clause-item : goal.returns-in-Some-Report-clause-item
+returns-in-Some-Report-clause-item c =
+    report_stands c.args.text.now c.args.maybe_more c.in-Some-Report.event c.in-Some-Report.len (c.in-Some-Report.ensures.closed refl)
+    (subst (HasHead c.args.text.now) c.in-Some-Report.field-0-is c.in-Some-Report.ensures.head)
 
 pub returns-in-Some-Character-clause-item : goal.returns-in-Some-Character-clause-item
 returns-in-Some-Character-clause-item c =

@@ -1,4 +1,4 @@
--- What a lookup in the table, and a test for a frame, say of the head of a text.
+-- What a lookup in the table, and a test for a mouse report, say of the head of a text.
 use Rattle.std.proofs.Common.{◌≡◌, ◌≢◌, inl, inr, ⊎_elim, ℕ, ◌<◌, ◌≤◌, Bool, true, false, List, [], ◌∷◌, ◌++◌, length, take, drop, refl, sym, ap, ◌∙◌, subst, arith, append_assoc, length-append, length-take-le, take-append-drop, append-nil, encode_utf8}
 use Rattle.std.specs.Prelude.{Option, Some, None, is_some, not, IsSome, IsTrue, ◌↔◌}
 use Rattle.std.specs.Option.{option_map}
@@ -13,20 +13,20 @@ use Rattle.bstr.specs.Utf8.{decoded}
 use Rattle.bstr.proofs.lemmas.SoundLemmas.{SpellsChar-decoded}
 use Rattle.termwiz_keys.specs.declared.types.KeyEvent.{KeyEvent}
 use Rattle.termwiz_keys.specs.declared.types.MouseEvent.{MouseEvent}
-use Rattle.termwiz_input.specs.declared.head.Head.TheVariants.{Row as row, Frame as frame, Character as character, Broken as broken}
+use Rattle.termwiz_input.specs.declared.head.MatchedHead.TheVariants.{Row as row, Report as mouse_report, Character as character, Broken as broken}
 use Rattle.termwiz_keymap.specs.Bytes.{Begins}
 use Rattle.termwiz_keymap.specs.Lookup.{IsLongestKey, IsExtended, NoKeyBegins}
 use Rattle.termwiz_grammar.specs.Table.{table}
-use Rattle.termwiz_grammar.specs.Frame.{IsFrame}
-use Rattle.termwiz_input.specs.FrameAnswers.{IsBegun}
-use Rattle.termwiz_grammar.specs.Known.{Meaning, IsKnown}
-use Rattle.termwiz_grammar.specs.Known.Meaning.{Row, Frame}
-use Rattle.termwiz_grammar.specs.Grammar.{IsOpen, IsUnfinishedKnown, IsUnfinishedCharacter}
-use Rattle.termwiz_input.specs.AtFront.{HasHead, NoFrameBegins, NoKnownTextBegins, HasNoHeadYet, character_of}
+use Rattle.termwiz_grammar.specs.MouseReports.{IsMouseReport}
+use Rattle.termwiz_input.specs.MouseReportAnswers.{IsBegun}
+use Rattle.termwiz_grammar.specs.Sequences.{Meaning, IsSequence}
+use Rattle.termwiz_grammar.specs.Sequences.Meaning.{Row, Report}
+use Rattle.termwiz_grammar.specs.Grammar.{IsOpen, IsUnfinishedSequence, IsUnfinishedCharacter}
+use Rattle.termwiz_input.specs.Matches.{HasHead, NoMouseReportBegins, NoSequenceBegins, HasNoHeadYet, character_of}
 use Rattle.termwiz_keymap.proofs.lemmas.lists.CommonPrefixes.{append-some, length-some, length-Begins, Overlaps, overlap}
 use Rattle.termwiz_keymap.proofs.lemmas.lists.CommonPrefixes.Overlaps.{within, past}
-use Rattle.termwiz_grammar.proofs.lemmas.table.KnownSequences.{frame_ends}
-use Rattle.termwiz_grammar.proofs.lemmas.characters.CharacterPrefixes.{known_finished, begins_decoded}
+use Rattle.termwiz_grammar.proofs.lemmas.table.SequenceFacts.{report_ends}
+use Rattle.termwiz_grammar.proofs.lemmas.characters.CharacterPrefixes.{sequence_finished, begins_decoded}
 use Rattle.termwiz_grammar.proofs.lemmas.characters.EndsWithinCharacter.{unfinished_told, unfinished_from, no_utf8, valid_nowhere}
 use Rattle.termwiz_grammar.proofs.lemmas.table.TableAsMap.{row_from_table, table_from_row}
 
@@ -37,54 +37,54 @@ begins_take u n = (drop n u, sym (take-append-drop n u))
 begins_is : (other u : List ℕ) → Begins other u → take (length other) u ≡ other
 begins_is other u b = ap (take (length other)) b.1 ∙ take-append_seam other b.0
 
-known_row : (text : List ℕ) (k : KeyEvent) → get table text ≡ Some k → IsKnown text (Row k)
-unfolding IsKnown
-known_row text k e = row_from_table text k e
+row_is_sequence : (text : List ℕ) (k : KeyEvent) → get table text ≡ Some k → IsSequence text (Row k)
+unfolding IsSequence
+row_is_sequence text k e = row_from_table text k e
 
-row_known : (text : List ℕ) (k : KeyEvent) → IsKnown text (Row k) → get table text ≡ Some k
-unfolding IsKnown
+row_known : (text : List ℕ) (k : KeyEvent) → IsSequence text (Row k) → get table text ≡ Some k
+unfolding IsSequence
 row_known text k c = table_from_row text k c
 
-known_frame : (text : List ℕ) (event : MouseEvent) → IsFrame text event → IsKnown text (Frame event)
-unfolding IsKnown
-known_frame text event f = f
+report_is_sequence : (text : List ℕ) (event : MouseEvent) → IsMouseReport text event → IsSequence text (Report event)
+unfolding IsSequence
+report_is_sequence text event f = f
 
-frame_known : (text : List ℕ) (event : MouseEvent) → IsKnown text (Frame event) → IsFrame text event
-unfolding IsKnown
-frame_known text event f = f
+report_known : (text : List ℕ) (event : MouseEvent) → IsSequence text (Report event) → IsMouseReport text event
+unfolding IsSequence
+report_known text event f = f
 
 -- the key that the map answers for a beginning of the text
-stored_at : (u other : List ℕ) (k : KeyEvent) → Begins other u → IsKnown other (Row k) → get table (take (length other) u) ≡ Some k
-stored_at u other k b known = ap (get table) (begins_is other u b) ∙ row_known other k known
+stored_at : (u other : List ℕ) (k : KeyEvent) → Begins other u → IsSequence other (Row k) → get table (take (length other) u) ≡ Some k
+stored_at u other k b is_sequence = ap (get table) (begins_is other u b) ∙ row_known other k is_sequence
 
 some_none : (o : Option KeyEvent) (k : KeyEvent) → o ≡ Some k → o ≡ None → ⊥
 some_none o k e f = cc
 
--- the longest key of the map is the longest known text, where no frame begins the text
-pub longest_from_key : (u : List ℕ) (n : ℕ) (k : KeyEvent) → NoFrameBegins u → IsLongestKey table u n k → HasHead u (row k n)
+-- the longest key of the map is the longest sequence, where no mouse report begins the text
+pub longest_from_key : (u : List ℕ) (n : ℕ) (k : KeyEvent) → NoMouseReportBegins u → IsLongestKey table u n k → HasHead u (row k n)
 longest_from_key u n k none is = (
   is.within,
   record {
-    known = known_row (take n u) k is.stored;
+    is_sequence = row_is_sequence (take n u) k is.stored;
     begins = begins_take u n;
-    longest = λ other m known b. at_most other m known b;
+    longest = λ other m is_sequence b. at_most other m is_sequence b;
   },
 )
   where
-    at_most : (other : List ℕ) (m : Meaning) → IsKnown other m → Begins other u → length other ≤ length (take n u)
-    at_most other (Row j) known b = ⊎_elim
-        (λ (l : n < length other). absurd (some_none _ j (stored_at u other j b known) (is.longest (length other) l (length-Begins other u b))))
+    at_most : (other : List ℕ) (m : Meaning) → IsSequence other m → Begins other u → length other ≤ length (take n u)
+    at_most other (Row j) is_sequence b = ⊎_elim
+        (λ (l : n < length other). absurd (some_none _ j (stored_at u other j b is_sequence) (is.longest (length other) l (length-Begins other u b))))
         (λ (l : length other ≤ n). omega (arith, length-take-le n u is.within))
         (cases_lt n (length other))
-    at_most other (Frame event) known b = absurd (none other event (frame_known other event known) b)
+    at_most other (Report event) is_sequence b = absurd (none other event (report_known other event is_sequence) b)
 
--- where a text properly begins a known text, the map has a longer key that begins with it, or the text begins a frame
-pub extended_from_unfinished : (u : List ℕ) → IsUnfinishedKnown u → ¬ IsBegun u → IsExtended table u
-extended_from_unfinished u h never = go h.tail h.meaning h.longer h.known
+-- where a text properly begins a sequence, the map has a longer key that begins with it, or the text begins a mouse report
+pub extended_from_unfinished : (u : List ℕ) → IsUnfinishedSequence u → ¬ IsBegun u → IsExtended table u
+extended_from_unfinished u h never = go h.tail h.meaning h.longer h.is_sequence
   where
-    go : (tail : List ℕ) (m : Meaning) → tail ≢ [] → IsKnown (u ++ tail) m → IsExtended table u
-    go tail (Row k) longer known = (tail, length-some tail longer, ap is_some (row_known (u ++ tail) k known))
-    go tail (Frame event) longer known = absurd (never (tail, event, longer, frame_known (u ++ tail) event known))
+    go : (tail : List ℕ) (m : Meaning) → tail ≢ [] → IsSequence (u ++ tail) m → IsExtended table u
+    go tail (Row k) longer is_sequence = (tail, length-some tail longer, ap is_some (row_known (u ++ tail) k is_sequence))
+    go tail (Report event) longer is_sequence = absurd (never (tail, event, longer, report_known (u ++ tail) event is_sequence))
 
 stored_key : (o : Option KeyEvent) → IsSome o → (k : KeyEvent) × (o ≡ Some k)
 stored_key (Some k) h = (k, refl)
@@ -93,16 +93,16 @@ stored_key None h = absurd (cc)
 pub open_from_extended : (u : List ℕ) → u ≢ [] → IsExtended table u → IsOpen u true
 open_from_extended u some (tail, longer, stored) =
     let k = stored_key (get table (u ++ tail)) stored in
-    record { more_comes = refl; some = some; beginning = inl (record { tail = tail; longer = λ none. omega (arith, ap length none); meaning = Row k.0; known = known_row (u ++ tail) k.0 k.1 }) }
+    record { more_comes = refl; some = some; beginning = inl (record { tail = tail; longer = λ none. omega (arith, ap length none); meaning = Row k.0; is_sequence = row_is_sequence (u ++ tail) k.0 k.1 }) }
 
 pub extended_waits : (u : List ℕ) → IsExtended table u → HasNoHeadYet u true
 extended_waits [] ext = inr refl
 extended_waits (x ∷ u) ext = inl (open_from_extended (x ∷ u) (λ h. cc) ext)
 
--- no known text begins the text, where no key and no frame does
-pub nothing_known : (u : List ℕ) → NoFrameBegins u → NoKeyBegins table u → NoKnownTextBegins u
-nothing_known u none no_key text (Row k) known b = some_none _ k (stored_at u text k b known) (no_key (length text) (length-Begins text u b))
-nothing_known u none no_key text (Frame event) known b = none text event (frame_known text event known) b
+-- no sequence begins the text, where no key and no mouse report does
+pub no_sequence : (u : List ℕ) → NoMouseReportBegins u → NoKeyBegins table u → NoSequenceBegins u
+no_sequence u none no_key text (Row k) is_sequence b = some_none _ k (stored_at u text k b is_sequence) (no_key (length text) (length-Begins text u b))
+no_sequence u none no_key text (Report event) is_sequence b = none text event (report_known text event is_sequence) b
 
 same_pair : (d s c n : ℕ) → ◌≡◌ {A = Option (ℕ × ℕ)} (Some (d, s)) (Some (c, n)) → (d ≡ c) × (s ≡ n)
 same_pair d s c n e =
@@ -121,10 +121,10 @@ spelled u c n e = go (decoded u).char refl e
         (spells.scalar, sym (spells.width ∙ same.1), (drop (decoded u).size u, spells.bytes))
     go None f h = absurd (cc (h))
 
-pub character_front : (u : List ℕ) (c n : ℕ) → NoKnownTextBegins u → character_of u ≡ Some (c, n) → HasHead u (character c n)
-character_front u c n unknown e =
+pub character_front : (u : List ℕ) (c n : ℕ) → NoSequenceBegins u → character_of u ≡ Some (c, n) → HasHead u (character c n)
+character_front u c n no_sequence e =
     let s = spelled u c n e in
-    (s.1, record { unknown = unknown; scalar = s.0; begins = s.2 })
+    (s.1, record { no_sequence = no_sequence; scalar = s.0; begins = s.2 })
 
 unspelled : (u : List ℕ) → character_of u ≡ None → (c : ℕ) → IsScalar c → Begins (encode_utf8 c) u → ⊥
 unfolding character_of
@@ -140,21 +140,21 @@ character_finished u c b h =
     sym (append_assoc (encode_utf8 c) b.0 h.tail) ∙ ap (λ x. x ++ h.tail) (sym b.1) ∙ sym h.spells ∙ sym (append-nil (encode_utf8 h.char)) in
     append-some b.0 h.tail h.longer (encode_same c h.char (b.0 ++ h.tail) [] whole).1
 
--- a text isn't open that properly begins neither a known text nor a character
-closed_by : (u : List ℕ) (more : Bool) → (more ≡ true → ¬ IsUnfinishedKnown u) → (more ≡ true → ¬ IsUnfinishedCharacter u) → ¬ IsOpen u more
-closed_by u more known char opens = ⊎_elim (known opens.more_comes) (char opens.more_comes) opens.beginning
+-- a text isn't open that properly begins neither a sequence nor a character
+closed_by : (u : List ℕ) (more : Bool) → (more ≡ true → ¬ IsUnfinishedSequence u) → (more ≡ true → ¬ IsUnfinishedCharacter u) → ¬ IsOpen u more
+closed_by u more is_sequence char opens = ⊎_elim (is_sequence opens.more_comes) (char opens.more_comes) opens.beginning
 
-pub character_closed : (u : List ℕ) (more : Bool) (c n : ℕ) → (more ≡ true → ¬ IsUnfinishedKnown u) → character_of u ≡ Some (c, n) → ¬ IsOpen u more
+pub character_closed : (u : List ℕ) (more : Bool) (c n : ℕ) → (more ≡ true → ¬ IsUnfinishedSequence u) → character_of u ≡ Some (c, n) → ¬ IsOpen u more
 character_closed u more c n finished e = closed_by u more finished (λ m. character_finished u c (spelled u c n e).2)
 
-pub broken_closed : (u : List ℕ) (more : Bool) → (more ≡ true → ¬ IsUnfinishedKnown u) → ((more ≡ true) × IsUnfinishedCharacter u → ⊥) → ¬ IsOpen u more
+pub broken_closed : (u : List ℕ) (more : Bool) → (more ≡ true → ¬ IsUnfinishedSequence u) → ((more ≡ true) × IsUnfinishedCharacter u → ⊥) → ¬ IsOpen u more
 broken_closed u more finished whole = closed_by u more finished (λ m h. whole (m, h))
 
--- the first byte of a text that nothing known and no character begins
-pub broken_front : (u : List ℕ) → u ≢ [] → NoKnownTextBegins u → character_of u ≡ None → HasHead u broken
-broken_front [] some unknown e = absurd (some refl)
-broken_front (x ∷ u) some unknown e =
-    (x, record { unknown = unknown; unspelled = unspelled (x ∷ u) e; begins = (u, refl) })
+-- the first byte of a text that no sequence and no character begins
+pub broken_front : (u : List ℕ) → u ≢ [] → NoSequenceBegins u → character_of u ≡ None → HasHead u broken
+broken_front [] some no_sequence e = absurd (some refl)
+broken_front (x ∷ u) some no_sequence e =
+    (x, record { no_sequence = no_sequence; unspelled = unspelled (x ∷ u) e; begins = (u, refl) })
 
 pub unfinished_waits : (u : List ℕ) (more : Bool) → u ≢ [] → (more ≡ true) × IsUnfinishedCharacter u → HasNoHeadYet u more
 unfinished_waits u more some (m, h) = inl (record { more_comes = m; some = some; beginning = inr h })
@@ -189,49 +189,49 @@ fault_tells u n len none some e valid is test =
     tells None false same h = absurd (cc (same))
     tells (Some k) b same h = absurd (cc (h))
 
--- a frame at the front is the head, and nothing that comes changes it
-pub frame_front : (u : List ℕ) (n : ℕ) (event : MouseEvent) → n ≤ length u → IsFrame (take n u) event → HasHead u (frame event n)
-frame_front u n event inside f = (
+-- a mouse report at the front is the head, and nothing that comes changes it
+pub mouse_report_front : (u : List ℕ) (n : ℕ) (event : MouseEvent) → n ≤ length u → IsMouseReport (take n u) event → HasHead u (mouse_report event n)
+mouse_report_front u n event inside f = (
   inside,
   record {
-    known = known_frame (take n u) event f;
+    is_sequence = report_is_sequence (take n u) event f;
     begins = begins_take u n;
-    longest = λ other m known b. at_most other m known (overlap other b.0 (take n u) (drop n u) (take-append-drop n u ∙ b.1));
+    longest = λ other m is_sequence b. at_most other m is_sequence (overlap other b.0 (take n u) (drop n u) (take-append-drop n u ∙ b.1));
   },
 )
   where
-    at_most : {r s : List ℕ} (other : List ℕ) (m : Meaning) → IsKnown other m → Overlaps other r (take n u) s → length other ≤ length (take n u)
-    at_most other m known (within t e g) = omega (arith, length-append other t, ap length e)
-    at_most other m known (past t longer e g) =
-        absurd (longer (frame_ends (take n u) t event m (known_frame (take n u) event f) (subst (λ x. IsKnown x m) e known)))
+    at_most : {r s : List ℕ} (other : List ℕ) (m : Meaning) → IsSequence other m → Overlaps other r (take n u) s → length other ≤ length (take n u)
+    at_most other m is_sequence (within t e g) = omega (arith, length-append other t, ap length e)
+    at_most other m is_sequence (past t longer e g) =
+        absurd (longer (report_ends (take n u) t event m (report_is_sequence (take n u) event f) (subst (λ x. IsSequence x m) e is_sequence)))
 
-pub frame_closed : (u : List ℕ) (n : ℕ) (more : Bool) (event : MouseEvent) → IsFrame (take n u) event → IsOpen u more → ⊥
-frame_closed u n more event f opens = ⊎_elim
-    (λ (h : IsUnfinishedKnown u).
+pub report_closed : (u : List ℕ) (n : ℕ) (more : Bool) (event : MouseEvent) → IsMouseReport (take n u) event → IsOpen u more → ⊥
+report_closed u n more event f opens = ⊎_elim
+    (λ (h : IsUnfinishedSequence u).
     let whole : u ++ h.tail ≡ take n u ++ (drop n u ++ h.tail) =
     ap (λ x. x ++ h.tail) (sym (take-append-drop n u)) ∙ append_assoc (take n u) (drop n u) h.tail in
     append-some (drop n u) h.tail h.longer
-    (frame_ends (take n u) (drop n u ++ h.tail) event h.meaning (known_frame (take n u) event f) (subst (λ x. IsKnown x h.meaning) whole h.known)))
-    (λ (h : IsUnfinishedCharacter u). known_finished (take n u) u (Frame event) (known_frame (take n u) event f) (begins_take u n) opens.some h)
+    (report_ends (take n u) (drop n u ++ h.tail) event h.meaning (report_is_sequence (take n u) event f) (subst (λ x. IsSequence x h.meaning) whole h.is_sequence)))
+    (λ (h : IsUnfinishedCharacter u). sequence_finished (take n u) u (Report event) (report_is_sequence (take n u) event f) (begins_take u n) opens.some h)
     opens.beginning
 
 pub begun_waits : (u : List ℕ) → IsBegun u → HasNoHeadYet u true
 begun_waits [] begun = inr refl
 begun_waits (x ∷ u) (tail, event, longer, f) =
-    inl (record { more_comes = refl; some = λ h. cc; beginning = inl (record { tail = tail; longer = longer; meaning = Frame event; known = known_frame (x ∷ u ++ tail) event f }) })
+    inl (record { more_comes = refl; some = λ h. cc; beginning = inl (record { tail = tail; longer = longer; meaning = Report event; is_sequence = report_is_sequence (x ∷ u ++ tail) event f }) })
 
--- where a text properly begins a frame, no frame begins it
-pub begun_no_frame : (u : List ℕ) → IsBegun u → NoFrameBegins u
-begun_no_frame u (tail, event, longer, f) word other g b =
+-- where a text properly begins a mouse report, no mouse report begins it
+pub begun_no_report : (u : List ℕ) → IsBegun u → NoMouseReportBegins u
+begun_no_report u (tail, event, longer, f) word other g b =
     let whole : u ++ tail ≡ word ++ (b.0 ++ tail) = ap (λ x. x ++ tail) b.1 ∙ append_assoc word b.0 tail in
     append-some b.0 tail longer
-    (frame_ends word (b.0 ++ tail) other (Frame event) (known_frame word other g) (subst (λ x. IsKnown x (Frame event)) whole (known_frame (u ++ tail) event f)))
+    (report_ends word (b.0 ++ tail) other (Report event) (report_is_sequence word other g) (subst (λ x. IsSequence x (Report event)) whole (report_is_sequence (u ++ tail) event f)))
 
 -- where nothing longer that is stored may come, and a key begins the text, the text isn't open
 pub exact_closed : (u : List ℕ) (more : Bool) (n : ℕ) (k : KeyEvent) → (more ≡ true → IsBegun u → ⊥) → IsLongestKey table u n k
     → (IsExtended table u → more ≡ false) → IsOpen u more → ⊥
 exact_closed u more n k never is stops opens =
     let one : more ≡ true = opens.more_comes in ⊎_elim
-    (λ (h : IsUnfinishedKnown u). let two : more ≡ false = stops (extended_from_unfinished u h (never one)) in cc (one, two))
-    (λ (h : IsUnfinishedCharacter u). known_finished (take n u) u (Row k) (known_row (take n u) k is.stored) (begins_take u n) opens.some h)
+    (λ (h : IsUnfinishedSequence u). let two : more ≡ false = stops (extended_from_unfinished u h (never one)) in cc (one, two))
+    (λ (h : IsUnfinishedCharacter u). sequence_finished (take n u) u (Row k) (row_is_sequence (take n u) k is.stored) (begins_take u n) opens.some h)
     opens.beginning

@@ -6,28 +6,28 @@ use Rattle.termwiz_keys.specs.declared.types.KeyEvent.{KeyEvent}
 use Rattle.termwiz_keys.specs.declared.types.MouseEvent.{MouseEvent}
 use Rattle.termwiz_keys.specs.declared.types.InputEvent.{InputEvent}
 use Rattle.termwiz_keys.specs.declared.types.InputEvent.TheVariants.{Key, Mouse, Paste}
-use Rattle.termwiz_input.specs.declared.item.Item.{Item as FoundItem}
-use Rattle.termwiz_input.specs.declared.head.Head.TheVariants.{Row as row, Frame as frame, Character as character, Broken as broken}
+use Rattle.termwiz_input.specs.declared.item.MatchedItem.{MatchedItem}
+use Rattle.termwiz_input.specs.declared.head.MatchedHead.TheVariants.{Row as row, Report as mouse_report, Character as character, Broken as broken}
 use Rattle.termwiz_keymap.specs.Bytes.{Begins, Occurs}
-use Rattle.termwiz_keys.specs.Sequences.{ESC, START, END}
+use Rattle.termwiz_keys.specs.Introducers.{ESC, START, END}
 use Rattle.termwiz_keys.specs.Keys.{plain, escape, with_alt}
-use Rattle.termwiz_grammar.specs.Known.{IsKnown}
-use Rattle.termwiz_grammar.specs.Known.Meaning.{Row, Frame}
-use Rattle.termwiz_grammar.specs.Grammar.{IsLongest, IsUnfinishedKnown, IsUnfinishedCharacter, IsOpen, IsAfterEscape, replacement, Item, HasPaste, IsRest, Stands}
-use Rattle.termwiz_grammar.specs.Grammar.Head.{Known, Character, Broken}
+use Rattle.termwiz_grammar.specs.Sequences.{IsSequence}
+use Rattle.termwiz_grammar.specs.Sequences.Meaning.{Row, Report}
+use Rattle.termwiz_grammar.specs.Grammar.{IsLongest, IsUnfinishedSequence, IsUnfinishedCharacter, IsOpen, IsAfterEscape, replacement, Item, HasPaste, IsRest, Stands}
+use Rattle.termwiz_grammar.specs.Grammar.Head.{Sequence, Character, Broken}
 use Rattle.termwiz_grammar.specs.Grammar.Item.{key, char, broken as broken_byte, mouse, paste, lone_escape, alt}
-use Rattle.termwiz_input.specs.AtFront.{HasHead, IsItemAt, HasNoHeadYet}
+use Rattle.termwiz_input.specs.Matches.{HasHead, IsItemAt, HasNoHeadYet}
 use Rattle.termwiz_keymap.proofs.lemmas.lists.CommonPrefixes.{append-some}
-use Rattle.termwiz_grammar.proofs.lemmas.table.KnownSequences.{known_once, escape_known, start, start_known, start_ends}
+use Rattle.termwiz_grammar.proofs.lemmas.table.SequenceFacts.{sequence_once, escape_is_sequence, start, start_is_sequence, start_ends}
 use Rattle.termwiz_grammar.proofs.lemmas.items.OneHead.{head_once}
 use Rattle.termwiz_grammar.proofs.lemmas.waiting.RestShape.{empty_is_rest}
-use Rattle.termwiz_grammar.proofs.lemmas.characters.CharacterPrefixes.{known_finished}
+use Rattle.termwiz_grammar.proofs.lemmas.characters.CharacterPrefixes.{sequence_finished}
 use Rattle.termwiz_grammar.proofs.lemmas.items.OneItem.{RowGives, Gives, reads, not_alone, start_head}
 use Rattle.termwiz_grammar.proofs.lemmas.items.OneItem.RowGives.{its_key, its_paste, apart, joined}
 use Rattle.termwiz_input.proofs.lemmas.pastes.EndSearch.{IsPasteTo}
 
 -- an item of this event and so many bytes
-abbrev pub item_of : InputEvent → ℕ → FoundItem
+abbrev pub item_of : InputEvent → ℕ → MatchedItem
 item_of event len = record { event = event; len = len }
 
 -- no item stands where the text is open, or where it is empty
@@ -44,8 +44,8 @@ pub row_stands : (u : List ℕ) (more : Bool) (k : KeyEvent) (n : ℕ) → ¬ Is
 row_stands u more k n closed front never alone =
     (front.0, record { closed = closed; item = key (take n u) k front.1 (not_start u n never front.1.begins) alone })
 
-pub frame_stands : (u : List ℕ) (more : Bool) (event : MouseEvent) (n : ℕ) → ¬ IsOpen u more → HasHead u (frame event n) → IsItemAt u more (item_of (Mouse event) n)
-frame_stands u more event n closed front = (front.0, record { closed = closed; item = mouse (take n u) event front.1 })
+pub report_stands : (u : List ℕ) (more : Bool) (event : MouseEvent) (n : ℕ) → ¬ IsOpen u more → HasHead u (mouse_report event n) → IsItemAt u more (item_of (Mouse event) n)
+report_stands u more event n closed front = (front.0, record { closed = closed; item = mouse (take n u) event front.1 })
 
 -- the bytes of a character at the front
 character_bytes : (u : List ℕ) (c n : ℕ) → HasHead u (character c n) → (n ≤ length u) × (encode_utf8 c ≡ take n u)
@@ -82,7 +82,7 @@ alt_row_stands rest more k n closed head some gap front never = (
   record {
     closed = closed;
     item = subst (λ t. Item (ESC ++ rest) more t (Key (with_alt k))) (take_after rest n)
-        (alt rest (Known (take n rest) (Row k)) k (after rest more head some gap) front.1 (not_start rest n never front.1.begins, refl));
+        (alt rest (Sequence (take n rest) (Row k)) k (after rest more head some gap) front.1 (not_start rest n never front.1.begins, refl));
   },
 )
 
@@ -110,20 +110,20 @@ alt_broken_stands rest more closed head some gap (byte, is) =
       },
     )
 
-pub escape_before_frame : (rest : List ℕ) (more : Bool) (event : MouseEvent) (n : ℕ) → ¬ IsOpen (ESC ++ rest) more → IsLongest (ESC ++ rest) ESC (Row escape) → rest ≢ []
-    → ¬ IsOpen rest more → HasHead rest (frame event n) → IsItemAt (ESC ++ rest) more (item_of (Key escape) 1)
-escape_before_frame rest more event n closed head some gap front = (
+pub escape_before_report : (rest : List ℕ) (more : Bool) (event : MouseEvent) (n : ℕ) → ¬ IsOpen (ESC ++ rest) more → IsLongest (ESC ++ rest) ESC (Row escape) → rest ≢ []
+    → ¬ IsOpen rest more → HasHead rest (mouse_report event n) → IsItemAt (ESC ++ rest) more (item_of (Key escape) 1)
+escape_before_report rest more event n closed head some gap front = (
   omega arith,
-  record { closed = closed; item = lone_escape rest (Known (take n rest) (Frame event)) (after rest more head some gap) front.1 tt },
+  record { closed = closed; item = lone_escape rest (Sequence (take n rest) (Report event)) (after rest more head some gap) front.1 tt },
 )
 
 -- START at the front is the head, and nothing that comes changes it
 pub start_closed : (u : List ℕ) (more : Bool) → Begins START u → IsOpen u more → ⊥
 start_closed u more (rest, e) opens = ⊎_elim
-    (λ (h : IsUnfinishedKnown u).
+    (λ (h : IsUnfinishedSequence u).
     append-some rest h.tail h.longer
-    (start_ends (rest ++ h.tail) h.meaning (subst (λ x. IsKnown x h.meaning) (ap (λ x. x ++ h.tail) e ∙ append_assoc START rest h.tail) h.known)))
-    (λ (h : IsUnfinishedCharacter u). known_finished START u (Row start) start_known (rest, e) opens.some h)
+    (start_ends (rest ++ h.tail) h.meaning (subst (λ x. IsSequence x h.meaning) (ap (λ x. x ++ h.tail) e ∙ append_assoc START rest h.tail) h.is_sequence)))
+    (λ (h : IsUnfinishedCharacter u). sequence_finished START u (Row start) start_is_sequence (rest, e) opens.some h)
     opens.beginning
 
 pub escape_before_start : (rest : List ℕ) (more : Bool) → ¬ IsOpen (ESC ++ rest) more → IsLongest (ESC ++ rest) ESC (Row escape) → rest ≢ []
@@ -132,7 +132,7 @@ escape_before_start rest more closed head some b = (
   omega arith,
   record {
     closed = closed;
-    item = lone_escape rest (Known START (Row start)) (after rest more head some (start_closed rest more b)) (start_head rest b) refl;
+    item = lone_escape rest (Sequence START (Row start)) (after rest more head some (start_closed rest more b)) (start_head rest b) refl;
   },
 )
 
@@ -140,7 +140,7 @@ escape_before_start rest more closed head some b = (
 pub joined_rest : (rest : List ℕ) (more : Bool) → IsLongest (ESC ++ rest) ESC (Row escape) → rest ≢ [] → HasNoHeadYet rest more → IsRest (ESC ++ rest) more
 joined_rest rest more head some waits bytes event stands =
     let r = reads (ESC ++ rest) bytes event more stands.item in
-    unread bytes event (subst (λ h. Gives (ESC ++ rest) more h bytes event) (head_once (ESC ++ rest) r.0 (Known ESC (Row escape)) r.1 head) r.2)
+    unread bytes event (subst (λ h. Gives (ESC ++ rest) more h bytes event) (head_once (ESC ++ rest) r.0 (Sequence ESC (Row escape)) r.1 head) r.2)
   where
     decided : (v : List ℕ) → v ≡ rest → ¬ IsOpen v more → HasNoHeadYet rest more → ⊥
     decided v same gap (inl opens) = gap (subst (λ z. IsOpen z more) (sym same) opens)
@@ -156,7 +156,7 @@ joined_rest rest more head some waits bytes event stands =
 pub escape_row_is : (u : List ℕ) (k : KeyEvent) (n : ℕ) → HasHead u (row k n) → take n u ≡ ESC → IsLongest u ESC (Row escape)
 escape_row_is u k n front e =
     let here : IsLongest u ESC (Row k) = subst (λ t. IsLongest u t (Row k)) e front.1 in
-    subst (λ m. IsLongest u ESC m) (known_once ESC (Row k) (Row escape) here.known escape_known) here
+    subst (λ m. IsLongest u ESC m) (sequence_once ESC (Row k) (Row escape) here.is_sequence escape_is_sequence) here
 
 -- pastes
 pub paste_stands : (u : List ℕ) (more : Bool) (k : ℕ) → Begins START u → IsPasteTo u k
@@ -172,7 +172,7 @@ paste_stands u more k b is = (
 pub paste_rest : (u : List ℕ) (more : Bool) → Begins START u → ((body : List ℕ) → u ≡ START ++ body → ¬ Occurs END body) → IsRest u more
 paste_rest u more b never bytes event stands =
     let r = reads u bytes event more stands.item in
-    unread bytes event (subst (λ h. Gives u more h bytes event) (head_once u r.0 (Known START (Row start)) r.1 (start_head u b)) r.2)
+    unread bytes event (subst (λ h. Gives u more h bytes event) (head_once u r.0 (Sequence START (Row start)) r.1 (start_head u b)) r.2)
   where
     unread : (bytes : List ℕ) (event : InputEvent) → RowGives u more START start bytes event → ⊥
     unread bytes event (its_key p q r s) = p refl

@@ -1,24 +1,24 @@
--- What the numbers that are read say of the frames that a text may begin.
+-- What the numbers that are read say of the mouse reports that a text may begin.
 use Rattle.std.proofs.Common.{◌≡◌, ◌≢◌, ℕ, ◌+◌, ◌-◌, List, [], ◌∷◌, ◌++◌, length, take, drop, inl, inr, refl, sym, ap, ◌∙◌, subst, arith, append_assoc, append-nil, length-append, Contains, zero, suc}
 use Rattle.std.specs.Prelude.{Ok}
 use denote.Ref.{Bor}
 use Rattle.std.proofs.lemmas.List.{take_rest}
 use Rattle.std.proofs.Math.Seq.{take-append_seam}
 use Rattle.termwiz_keys.specs.declared.types.MouseEvent.{MouseEvent}
-use Rattle.termwiz_input.specs.declared.frame.FrontFrame.TheVariants.{Whole}
-use Rattle.termwiz_input.specs.declared.frame.Unread.{Unread}
-use Rattle.termwiz_input.specs.declared.frame.Unread.TheVariants.{Begun, Absent}
-use Rattle.termwiz_input.specs.declared.frame.Number.{Number}
+use Rattle.termwiz_input.specs.declared.mouse_report.FrontReport.TheVariants.{Whole}
+use Rattle.termwiz_input.specs.declared.mouse_report.Unread.{Unread}
+use Rattle.termwiz_input.specs.declared.mouse_report.Unread.TheVariants.{Begun, Absent}
+use Rattle.termwiz_input.specs.declared.mouse_report.Number.{Number}
 use Rattle.termwiz_base.specs.Mouse.{largest_code, final_press, final_release, IsFinal, IsReport}
 use Rattle.termwiz_keymap.specs.Bytes.{Begins}
-use Rattle.termwiz_grammar.specs.Frame.{IsDigit, IsNumber, value_of, introducer, semicolon, largest_place, IsFrame, mouse_event}
-use Rattle.termwiz_input.specs.FrameAnswers.{IsBegun, HasNoPartInFrames, IsFrameAnswer, IsNumberUnread, IsNumberAnswer, IsFrameUnread, IsEventAnswer}
+use Rattle.termwiz_grammar.specs.MouseReports.{IsDigit, IsNumber, value_of, introducer, semicolon, largest_place, IsMouseReport, mouse_event}
+use Rattle.termwiz_input.specs.MouseReportAnswers.{IsBegun, HasNoPartInMouseReports, IsMouseReportAnswer, IsNumberUnread, IsNumberAnswer, IsMouseReportUnread, IsEventAnswer}
 use Rattle.termwiz_keymap.proofs.lemmas.lists.CommonPrefixes.{append-some, Overlaps, overlap}
 use Rattle.termwiz_keymap.proofs.lemmas.lists.CommonPrefixes.Overlaps.{within, past}
 use Rattle.termwiz_grammar.proofs.lemmas.mouse.ReportNumbers.{completes, digits_end}
-use Rattle.termwiz_grammar.proofs.lemmas.mouse.OneReport.{frame_from, laid_out, layout, semicolon_no_digit, final_no_digit}
+use Rattle.termwiz_grammar.proofs.lemmas.mouse.OneReport.{report_from, laid_out, layout, semicolon_no_digit, final_no_digit}
 
--- the bytes that may end a frame
+-- the bytes that may end a mouse report
 abbrev pub finals : List ℕ
 finals = final_press ∷ final_release ∷ []
 
@@ -38,33 +38,33 @@ final_in b (inr e) = (1, omega arith, sym e)
 until : (text digits : List ℕ) (number : Number) → Contains (semicolon ∷ []) number.end → text ≡ digits ++ number.end ∷ number.rest.now → text ≡ digits ++ semicolon ∷ number.rest.now
 until text digits number ends parts = parts ∙ ap (λ b. digits ++ b ∷ number.rest.now) (is_semicolon number.end ends)
 
--- where no frame and the text begin one text, the text has no part in frames
-no_part : (text : List ℕ) → ((word rest more : List ℕ) (event : MouseEvent) → IsFrame word event → word ++ rest ≢ text ++ more) → HasNoPartInFrames text
+-- where no mouse report and the text begin one text, the text has no part in mouse reports
+no_part : (text : List ℕ) → ((word rest more : List ℕ) (event : MouseEvent) → IsMouseReport word event → word ++ rest ≢ text ++ more) → HasNoPartInMouseReports text
 no_part text never = (
   λ word event f b. never word b.0 [] event f (sym b.1 ∙ sym (append-nil text)),
   λ begun. never (text ++ begun.0) [] begun.0 begun.1 begun.3 (append-nil (text ++ begun.0)),
 )
 
--- after front a frame has a number up to the limit and one of the bytes ends, and may have each such number
+-- after front a mouse report has a number up to the limit and one of the bytes ends, and may have each such number
 record AsksNumber (front : List ℕ) (limit : ℕ) (ends : List ℕ) : Type 0 where
   stops : (end : ℕ) → Contains ends end → ¬ IsDigit end
-  asked : (word rest more : List ℕ) (event : MouseEvent) → IsFrame word event → word ++ rest ≡ front ++ more
+  asked : (word rest more : List ℕ) (event : MouseEvent) → IsMouseReport word event → word ++ rest ≡ front ++ more
       → (digits after : List ℕ) × (end : ℕ) × IsNumber digits limit × Contains ends end × (digits ++ end ∷ after ≡ more)
-  given : (digits : List ℕ) → IsNumber digits limit → (tail : List ℕ) × (event : MouseEvent) × (tail ≢ []) × IsFrame (front ++ (digits ++ tail)) event
+  given : (digits : List ℕ) → IsNumber digits limit → (tail : List ℕ) × (event : MouseEvent) × (tail ≢ []) × IsMouseReport (front ++ (digits ++ tail)) event
 
--- where no number is read after front, no frame is
-unread : (front text : List ℕ) (limit : ℕ) (ends : List ℕ) (why : Unread) → AsksNumber front limit ends → IsNumberUnread text limit ends why → IsFrameUnread (front ++ text) why
+-- where no number is read after front, no mouse report is
+unread : (front text : List ℕ) (limit : ℕ) (ends : List ℕ) (why : Unread) → AsksNumber front limit ends → IsNumberUnread text limit ends why → IsMouseReportUnread (front ++ text) why
 unread front text limit ends Begun asks digits =
     let more = completes text limit digits.0 digits.1 digits.2 in
-    let frame = asks.given (text ++ more.0) more.1 in
-    let parts : front ++ ((text ++ more.0) ++ frame.0) ≡ (front ++ text) ++ (more.0 ++ frame.0) = simp append_assoc in
-    (more.0 ++ frame.0, frame.1, append-some more.0 frame.0 frame.2, subst (λ w. IsFrame w frame.1) parts frame.3)
+    let mouse_report = asks.given (text ++ more.0) more.1 in
+    let parts : front ++ ((text ++ more.0) ++ mouse_report.0) ≡ (front ++ text) ++ (more.0 ++ mouse_report.0) = simp append_assoc in
+    (more.0 ++ mouse_report.0, mouse_report.1, append-some more.0 mouse_report.0 mouse_report.2, subst (λ w. IsMouseReport w mouse_report.1) parts mouse_report.3)
 unread front text limit ends Absent asks never = no_part (front ++ text) (λ word rest more event f e.
     let number = asks.asked word rest (text ++ more) event f (e ∙ append_assoc front text more) in
     never number.0 number.1 more number.2 number.3 number.4 (asks.stops number.2 number.4) number.5)
 
--- the parts of a frame, each after the one before
-after_introducer : (word rest more : List ℕ) (event : MouseEvent) (f : IsFrame word event) → word ++ rest ≡ introducer ++ more
+-- the parts of a mouse report, each after the one before
+after_introducer : (word rest more : List ℕ) (event : MouseEvent) (f : IsMouseReport word event) → word ++ rest ≡ introducer ++ more
     → f.code ++ semicolon ∷ (f.x ++ semicolon ∷ (f.y ++ f.last ∷ rest)) ≡ more
 after_introducer word rest more event f e =
     let whole : laid_out f.code f.x f.y f.last ++ rest ≡ introducer ++ more = ap (λ w. w ++ rest) (sym (layout word event f)) ∙ e in
@@ -89,7 +89,7 @@ asks_code = record {
     semicolon ∷ 48 ∷ semicolon ∷ 48 ∷ final_press ∷ [],
     _,
     (λ h. cc (h)),
-    frame_from _ code (48 ∷ []) (48 ∷ []) final_press refl is (zero_number largest_place) (zero_number largest_place) (inl refl),
+    report_from _ code (48 ∷ []) (48 ∷ []) final_press refl is (zero_number largest_place) (zero_number largest_place) (inl refl),
   );
 }
 
@@ -108,7 +108,7 @@ asks_column code code_is = record {
     semicolon ∷ 48 ∷ final_press ∷ [],
     _,
     (λ h. cc (h)),
-    frame_from _ code x (48 ∷ []) final_press (parted code x) code_is is (zero_number largest_place) (inl refl),
+    report_from _ code x (48 ∷ []) final_press (parted code x) code_is is (zero_number largest_place) (inl refl),
   );
 }
   where
@@ -133,7 +133,7 @@ asks_row code x code_is x_is = record {
     final_press ∷ [],
     _,
     (λ h. cc (h)),
-    frame_from _ code x y final_press (parted code x y) code_is x_is is (inl refl),
+    report_from _ code x y final_press (parted code x y) code_is x_is is (inl refl),
   );
 }
   where
@@ -141,38 +141,38 @@ asks_row code x code_is x_is = record {
     parted a b c = simp append_assoc
 
 -- the answers of the reader, by what it read before
-pub code_unread : (text : List ℕ) (why : Unread) → IsNumberUnread text largest_code (semicolon ∷ []) why → IsFrameUnread (introducer ++ text) why
+pub code_unread : (text : List ℕ) (why : Unread) → IsNumberUnread text largest_code (semicolon ∷ []) why → IsMouseReportUnread (introducer ++ text) why
 code_unread text why = unread introducer text largest_code (semicolon ∷ []) why asks_code
 
 pub column_unread : (text : List ℕ) (code : Number) (why : Unread) → IsNumberAnswer text largest_code (semicolon ∷ []) (Ok code)
-    → IsNumberUnread code.rest.now largest_place (semicolon ∷ []) why → IsFrameUnread (introducer ++ text) why
+    → IsNumberUnread code.rest.now largest_place (semicolon ∷ []) why → IsMouseReportUnread (introducer ++ text) why
 column_unread text code why (digits, is, value, ends, parts) number =
-    subst (λ t. IsFrameUnread t why) (regroup digits code.rest.now ∙ ap (λ t. introducer ++ t) (sym (until text digits code ends parts)))
+    subst (λ t. IsMouseReportUnread t why) (regroup digits code.rest.now ∙ ap (λ t. introducer ++ t) (sym (until text digits code ends parts)))
     (unread (introducer ++ (digits ++ semicolon ∷ [])) code.rest.now largest_place (semicolon ∷ []) why (asks_column digits is) number)
   where
     regroup : (a b : List ℕ) → (introducer ++ (a ++ semicolon ∷ [])) ++ b ≡ introducer ++ (a ++ semicolon ∷ b)
     regroup a b = simp append_assoc
 
 pub row_unread : (text : List ℕ) (code x : Number) (why : Unread) → IsNumberAnswer text largest_code (semicolon ∷ []) (Ok code)
-    → IsNumberAnswer code.rest.now largest_place (semicolon ∷ []) (Ok x) → IsNumberUnread x.rest.now largest_place finals why → IsFrameUnread (introducer ++ text) why
+    → IsNumberAnswer code.rest.now largest_place (semicolon ∷ []) (Ok x) → IsNumberUnread x.rest.now largest_place finals why → IsMouseReportUnread (introducer ++ text) why
 row_unread text code x why (first, is, value, ends, parts) (second, is2, value2, ends2, parts2) number =
-    subst (λ t. IsFrameUnread t why)
+    subst (λ t. IsMouseReportUnread t why)
     (regroup first second x.rest.now ∙ ap (λ t. introducer ++ (first ++ semicolon ∷ t)) (sym (until code.rest.now second x ends2 parts2)) ∙ ap (λ t. introducer ++ t) (sym (until text first code ends parts)))
     (unread (introducer ++ (first ++ semicolon ∷ (second ++ semicolon ∷ []))) x.rest.now largest_place finals why (asks_row first second is is2) number)
   where
     regroup : (a b c : List ℕ) → (introducer ++ (a ++ semicolon ∷ (b ++ semicolon ∷ []))) ++ c ≡ introducer ++ (a ++ semicolon ∷ (b ++ semicolon ∷ c))
     regroup a b c = simp append_assoc
 
-pub frame_read : (text : List ℕ) (code x y : Number) (found : MouseEvent × Bor (List ℕ)) → IsNumberAnswer text largest_code (semicolon ∷ []) (Ok code)
+pub whole_report_read : (text : List ℕ) (code x y : Number) (found : MouseEvent × Bor (List ℕ)) → IsNumberAnswer text largest_code (semicolon ∷ []) (Ok code)
     → IsNumberAnswer code.rest.now largest_place (semicolon ∷ []) (Ok x) → IsNumberAnswer x.rest.now largest_place finals (Ok y)
     → found.0 ≡ mouse_event code.value x.value y.value y.end → found.1.now ≡ y.rest.now → IsEventAnswer text (Ok found)
-frame_read text code x y found (first, is, value, ends, parts) (second, is2, value2, ends2, parts2) (third, is3, value3, ends3, parts3) event rest =
+whole_report_read text code x y found (first, is, value, ends, parts) (second, is2, value2, ends2, parts2) (third, is3, value3, ends3, parts3) event rest =
     let same : mouse_event (value_of first) (value_of second) (value_of third) y.end ≡ found.0 = cc in
     let whole : text ≡ first ++ semicolon ∷ (second ++ semicolon ∷ (third ++ y.end ∷ y.rest.now))
     = until text first code ends parts ∙ ap (λ t. first ++ semicolon ∷ t) (until code.rest.now second x ends2 parts2 ∙ ap (λ t. second ++ semicolon ∷ t) parts3) in (
       laid_out first second third y.end,
-      subst (λ e. IsFrame (laid_out first second third y.end) e) same
-          (frame_from _ first second third y.end refl is is2 is3 (is_final y.end ends3)),
+      subst (λ e. IsMouseReport (laid_out first second third y.end) e) same
+          (report_from _ first second third y.end refl is is2 is3 (is_final y.end ends3)),
       ap (λ t. introducer ++ t) whole ∙ regroup first second third y.end y.rest.now ∙ ap (λ t. laid_out first second third y.end ++ t) (sym rest),
     )
   where
@@ -190,30 +190,30 @@ pub introduced : (text after : List ℕ) → Begins introducer text → after �
 introduced text after (rest, e) is =
     ap (λ t. introducer ++ t) (is ∙ take_rest text 3 ∙ ap (drop 3) e) ∙ sym e
 
--- a text that begins the introducer begins a frame
+-- a text that begins the introducer begins a mouse report
 pub introducer_begun : (text : List ℕ) → Begins text introducer → IsBegun text
 introducer_begun text (rest, e) =
-    let frame = asks_code.given (48 ∷ []) (zero_number largest_code) in
-    let tail : List ℕ = 48 ∷ frame.0 in
-    (rest ++ tail, frame.1, append-some rest tail (λ h. cc (h)), subst (λ w. IsFrame w frame.1) (ap (λ x. x ++ tail) e ∙ append_assoc text rest tail) frame.3)
+    let mouse_report = asks_code.given (48 ∷ []) (zero_number largest_code) in
+    let tail : List ℕ = 48 ∷ mouse_report.0 in
+    (rest ++ tail, mouse_report.1, append-some rest tail (λ h. cc (h)), subst (λ w. IsMouseReport w mouse_report.1) (ap (λ x. x ++ tail) e ∙ append_assoc text rest tail) mouse_report.3)
 
--- one that neither begins with it nor begins it has no part in frames
-pub no_introducer : (text : List ℕ) → ¬ Begins introducer text → ¬ Begins text introducer → HasNoPartInFrames text
+-- one that neither begins with it nor begins it has no part in mouse reports
+pub no_introducer : (text : List ℕ) → ¬ Begins introducer text → ¬ Begins text introducer → HasNoPartInMouseReports text
 no_introducer text longer shorter = no_part text go
   where
     split : (t s : List ℕ) → ¬ Overlaps introducer t text s
     split t s (within u e f) = longer (u, e)
     split t s (past u some e f) = shorter (u, e)
 
-    go : (word rest more : List ℕ) (event : MouseEvent) → IsFrame word event → word ++ rest ≢ text ++ more
+    go : (word rest more : List ℕ) (event : MouseEvent) → IsMouseReport word event → word ++ rest ≢ text ++ more
     go word rest more event f e =
         let t = (f.code ++ semicolon ∷ (f.x ++ semicolon ∷ (f.y ++ f.last ∷ []))) ++ rest in
         split t more (overlap introducer t text more (sym e ∙ ap (λ w. w ++ rest) (layout word event f)))
 
--- a frame at the front of a text, by what follows it
-pub frame_before : (text word rest : List ℕ) (event : MouseEvent) (len : ℕ) → IsFrame word event → text ≡ word ++ rest → len ≡ length text - length rest
-    → IsFrameAnswer text (Whole event len)
-frame_before text word rest event len f parts is =
+-- a mouse report at the front of a text, by what follows it
+pub report_before : (text word rest : List ℕ) (event : MouseEvent) (len : ℕ) → IsMouseReport word event → text ≡ word ++ rest → len ≡ length text - length rest
+    → IsMouseReportAnswer text (Whole event len)
+report_before text word rest event len f parts is =
     let whole : length text ≡ length word + length rest = ap length parts ∙ length-append word rest in
     let same : len ≡ length word = omega (arith, whole, is) in
-    (omega (arith, whole, same), subst (λ w. IsFrame w event) (sym (ap (λ t. take len t) parts ∙ ap (λ n. take n (word ++ rest)) same ∙ take-append_seam word rest)) f)
+    (omega (arith, whole, same), subst (λ w. IsMouseReport w event) (sym (ap (λ t. take len t) parts ∙ ap (λ n. take n (word ++ rest)) same ∙ take-append_seam word rest)) f)

@@ -6,7 +6,7 @@ use Rattle.std.proofs.Math.Seq.{take-append_seam, drop-append_seam}
 use Rattle.memchr.specs.Find.{OccursAt, FindsNeedle}
 use Rattle.memchr.proofs.lemmas.MatchLemmas.{OccursAt-split, OccursAt-from_part}
 use Rattle.termwiz_keymap.specs.Bytes.{Begins, Occurs}
-use Rattle.termwiz_keys.specs.Sequences.{START, END}
+use Rattle.termwiz_keys.specs.Introducers.{START, END}
 use Rattle.termwiz_grammar.specs.Grammar.{EndsFirst}
 
 -- an occurrence that is written out

@@ -6,7 +6,7 @@ use Rattle.memchr.specs.Find.{OccursAt, FindsNeedle}
 use Rattle.memchr.proofs.lemmas.MatchLemmas.{OccursAt-split}
 use Rattle.termwiz_keys.specs.declared.types.InputEvent.TheVariants.{Paste}
 use Rattle.termwiz_keymap.specs.Bytes.{Begins, Occurs}
-use Rattle.termwiz_keys.specs.Sequences.{START, END}
+use Rattle.termwiz_keys.specs.Introducers.{START, END}
 use Rattle.termwiz_grammar.specs.Grammar.{IsRest}
 use Rattle.termwiz_grammar.specs.Grammar.Item.{paste}
 use Rattle.termwiz_input.specs.PasteSearch.{NoEndBefore}

@@ -11,7 +11,7 @@ use Rattle.termwiz_keys.specs.declared.types.InputEvent.{InputEvent}
 use Rattle.termwiz_grammar.specs.Grammar.{Steps, Means, IsRest}
 use Rattle.termwiz_input.specs.Pieces.{texts, join, pieces_or_one, NumberedEvent, events_of, numbered, of_first, AreNumbered, flag_at, ReadsFirst, taken_or_one}
 use Rattle.termwiz_keymap.specs.Bytes.{Begins}
-use Rattle.termwiz_keys.specs.Sequences.{START}
+use Rattle.termwiz_keys.specs.Introducers.{START}
 use Rattle.termwiz_grammar.proofs.lemmas.waiting.RestShape.{rest_flushed}
 use Rattle.termwiz_grammar.proofs.lemmas.cuts.ChunkInvariance.{steps_stay, steps_join}
 

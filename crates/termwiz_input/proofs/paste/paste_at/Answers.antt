@@ -1,7 +1,7 @@
 use Rattle.std.proofs.Common.{◌+◌, sym, subst}
 use Rattle.std.specs.Prelude.{Some, None}
 use Rattle.termwiz_keys.specs.declared.types.InputEvent.TheVariants.{Paste}
-use Rattle.termwiz_input.specs.AtFront.{IsItemAt}
+use Rattle.termwiz_input.specs.Matches.{IsItemAt}
 use Rattle.termwiz_input.proofs.lemmas.pastes.EndSearch.{endless, paste_to}
 use Rattle.termwiz_input.proofs.lemmas.pastes.SearchResumes.{search_within, from_place}
 use Rattle.termwiz_input.proofs.lemmas.items.ItemByHead.{item_of, paste_stands, paste_rest, paste_there}

@@ -7,7 +7,7 @@ use Rattle.termwiz_keys.specs.declared.types.KeyCode.{KeyCode}
 use Rattle.termwiz_keys.specs.declared.types.KeyCode.TheVariants.{Char, Delete, Backspace}
 use Rattle.termwiz_keys.specs.Keys.{SHIFT, ALT, CTRL}
 use Rattle.termwiz_keys.specs.KeyCodes.{holds, shifted}
-use Rattle.termwiz_keys.specs.Enc.{is_modified, sideless, named_key, normal_key, unhandled}
+use Rattle.termwiz_keys.specs.Encoding.{is_modified, sideless, named_key, normal_key, unhandled}
 
 sum_of_bits : (shift alt ctrl : Bool)
     → (shift || alt || ctrl) ≡ not ((if shift then 1 else 0) + (if alt then 2 else 0) + (if ctrl then 4 else 0) == 0)

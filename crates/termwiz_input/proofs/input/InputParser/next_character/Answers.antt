@@ -1,9 +1,9 @@
 use Rattle.std.proofs.Common.{◌≤◌, refl, ◌∙◌, [], subst, length}
 use Rattle.std.specs.Prelude.{false}
 use Rattle.termwiz_keys.specs.declared.types.InputEvent.TheVariants.{Key}
-use Rattle.termwiz_input.specs.declared.item.Item.{Item}
+use Rattle.termwiz_input.specs.declared.item.MatchedItem.{MatchedItem}
 use Rattle.termwiz_keys.specs.Keys.{plain}
-use Rattle.termwiz_input.specs.AtFront.{IsItemAt}
+use Rattle.termwiz_input.specs.Matches.{IsItemAt}
 use Rattle.termwiz_input.proofs.lemmas.items.ItemByHead.{item_of}
 use Rattle.termwiz_input.proofs.lemmas.items.PrintableAscii.{item_stored}
 use Rattle.termwiz_input.proofs.input.InputParser.next_character.Goals as goal
@@ -13,6 +13,6 @@ consume-requires c = subst (λ u. c.in_ok-character.len ≤ length u) (c.as_slic
 
 pub returns-clause-event : goal.returns-clause-event
 returns-clause-event c = λ more.
-    let item : Item = item_of (Key (plain c.in_ok-character.character)) c.in_ok-character.len in
+    let item : MatchedItem = item_of (Key (plain c.in_ok-character.character)) c.in_ok-character.len in
     let stands = subst (λ u. IsItemAt u more item) (c.as_slice.ensures ∙ c.self.view_is) (c.in_ok-character.ensures more) in
     item_stored c.args.self.now c.args.self.now [] _ _ more item stands refl c.consume.ensures refl

@@ -1,7 +1,7 @@
 use Rattle.std.proofs.Common.{◌++◌}
 use Rattle.std.specs.Prelude.{decimal}
 use Rattle.std.proofs.lemmas.List.{take_more}
-use Rattle.termwiz_keys.specs.Sequences.{CSI}
+use Rattle.termwiz_keys.specs.Introducers.{CSI}
 use Rattle.termwiz_input.specs.Suffixes.{suffixes_with_bits}
 use Rattle.termwiz_grammar.specs.Table.{key_with_each_suffix}
 use Rattle.termwiz_input.proofs.lemmas.table.InsertedRows.{rows_pushed}

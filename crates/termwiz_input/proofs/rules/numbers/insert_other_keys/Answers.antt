@@ -1,6 +1,6 @@
 use Rattle.std.proofs.Common.{◌≡◌, ◌∙◌, ℕ, List, ◌++◌, ap, sym, map, append_assoc}
 use Rattle.std.specs.Prelude.{codes, decimal}
-use Rattle.termwiz_keys.specs.Sequences.{CSI}
+use Rattle.termwiz_keys.specs.Introducers.{CSI}
 use Rattle.termwiz_keys.specs.Keys.{key_with}
 use Rattle.termwiz_grammar.specs.Table.{with_rows, modify_other_key}
 use Rattle.termwiz_input.proofs.lemmas.table.InsertedRows.{row_pushed, numbers_none, numbers_below}

@@ -1,4 +1,4 @@
-use Rattle.termwiz_keymap.proofs.lemmas.rows.GroupsRise.{indexed_clones}
+use Rattle.termwiz_keymap.proofs.lemmas.rows.BucketsRise.{indexed_clones}
 use Rattle.termwiz_keymap.proofs.keymap.KeyMap.clone.Goals as goal
 
 pub invariant_of-result : goal.invariant_of-result

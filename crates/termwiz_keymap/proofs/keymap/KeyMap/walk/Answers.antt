@@ -1,6 +1,6 @@
 use Rattle.std.proofs.Common.{◌≡◌, ◌-◌, take, drop, length, arith, length-drop}
 use Rattle.std.proofs.lemmas.List.{take_all}
-use Rattle.termwiz_keymap.proofs.lemmas.rows.GroupsRise.{starts_of_front}
+use Rattle.termwiz_keymap.proofs.lemmas.rows.BucketsRise.{starts_of_front}
 use Rattle.termwiz_keymap.proofs.lemmas.rows.LongestKey.{longest_found, none_found, extended_from, goes_on_from}
 use Rattle.termwiz_keymap.proofs.keymap.KeyMap.walk.Goals as goal
 

@@ -1,7 +1,7 @@
 use Rattle.std.proofs.Common.{◌≡◌, ◌≢◌, ◌∙◌, ap, sym, subst, length, arith}
 use Rattle.termwiz_keymap.specs.KeyRows.{key_of}
-use Rattle.termwiz_keymap.specs.KeyGroups.{AreStarts}
-use Rattle.termwiz_keymap.proofs.lemmas.rows.GroupsRise.{starts_of_front}
+use Rattle.termwiz_keymap.specs.KeyBuckets.{AreStarts}
+use Rattle.termwiz_keymap.proofs.lemmas.rows.BucketsRise.{starts_of_front}
 use Rattle.termwiz_keymap.proofs.lemmas.rows.LongestKey.{found_last, before_ascend, before_is, fewer_left, none_left, none_at_end}
 use Rattle.termwiz_keymap.proofs.keymap.search.longest_of.Goals as goal
 

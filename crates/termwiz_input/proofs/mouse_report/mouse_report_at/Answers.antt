@@ -1,0 +1,29 @@
+use Rattle.std.proofs.Common.{◌∙◌, sym, subst, refl}
+use Rattle.termwiz_input.specs.declared.mouse_report.Unread.TheVariants.{Begun, Absent}
+use Rattle.termwiz_input.specs.MouseReportAnswers.{IsMouseReportUnread}
+use Rattle.termwiz_input.proofs.lemmas.mouse.ReportReading.{introduced, report_before, introducer_begun, no_introducer}
+use Rattle.termwiz_keymap.proofs.lemmas.lists.PrefixTest.{denied}
+use Rattle.termwiz_input.proofs.mouse_report.mouse_report_at.Goals as goal
+
+pub returns-in-Ok : goal.returns-in-Ok
+returns-in-Ok c =
+    let whole = introduced c.args.text.now _ (c.begins_with.ensures.0 c.if-begins_with.true) refl in
+    let found = c.in-Ok.ensures in
+    report_before c.args.text.now found.0 c.in-Ok.rest.now c.in-Ok.event _ found.1 (sym whole ∙ found.2) refl
+
+pub returns-in-Err-Begun : goal.returns-in-Err-Begun
+returns-in-Err-Begun c =
+    subst (λ t. IsMouseReportUnread t Begun) (introduced c.args.text.now _ (c.begins_with.ensures.0 c.if-begins_with.true) refl)
+    (rw c.in-Err-Begun.field-0-is at c.in-Err-Begun.ensures)
+
+pub returns-in-Err-Absent : goal.returns-in-Err-Absent
+returns-in-Err-Absent c =
+    subst (λ t. IsMouseReportUnread t Absent) (introduced c.args.text.now _ (c.begins_with.ensures.0 c.if-begins_with.true) refl)
+    (rw c.in-Err-Absent.field-0-is at c.in-Err-Absent.ensures)
+
+pub returns-then-begins_with-2 : goal.returns-then-begins_with-2
+returns-then-begins_with-2 c = introducer_begun c.args.text.now (c.begins_with-else-begins_with.ensures.0 c.if-begins_with-2.true)
+
+pub returns-else-begins_with-2 : goal.returns-else-begins_with-2
+returns-else-begins_with-2 c =
+    no_introducer c.args.text.now (denied c.begins_with.ensures.1 c.if-begins_with.false) (denied c.begins_with-else-begins_with.ensures.1 c.if-begins_with-2.false)
