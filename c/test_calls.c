@@ -211,8 +211,8 @@ static void names_keys(const char *numbers) {
       keys++;
     }
   fclose(list);
-  EXPECT(keys == 90);
-  EXPECT(tw_key_name(0, &room, 1) == 0 && tw_key_name(91, &room, 1) == 0 && tw_key_name(65535, &room, 1) == 0 && room == '.');
+  EXPECT(keys > 0 && tw_key_name((uint16_t)(keys + 1), &room, 1) == 0);
+  EXPECT(tw_key_name(0, &room, 1) == 0 && tw_key_name(65535, &room, 1) == 0 && room == '.');
 }
 
 static tw_modes modes;
@@ -306,8 +306,9 @@ static void refuses_numbers_that_stand_for_nothing(void) {
 
 /* Every key that isn't a function key has a text in every encoding, empty or not. */
 static void encodes_every_key(void) {
+  uint8_t room;
   memset(&modes, 0, sizeof modes);
-  for (uint16_t key = 1; key <= 90; key++)
+  for (uint16_t key = 1; tw_key_name(key, &room, 0) > 0; key++)
     for (modes.encoding = 0; modes.encoding < 4; modes.encoding++)
       EXPECT(encode(key, 'a', TW_MOD_SHIFT, true, 16) == (key == TW_KEY_FUNCTION ? TW_REFUSED_KEY : TW_TEXT));
 }

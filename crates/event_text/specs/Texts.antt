@@ -42,7 +42,8 @@ hexadecimal text = flat_map hex_digits text
 abbrev pub event_text : InputEvent → List ℕ
 event_text (Key event) = codes "key " ++ key_text event.key event.modifiers
 event_text (Mouse event) = codes "mouse " ++ mouse_text event.x event.y event.mouse_buttons event.modifiers
-event_text (PixelMouse event) = codes "pixelmouse " ++ mouse_text event.x_pixels event.y_pixels event.mouse_buttons event.modifiers
+event_text (PixelMouse event) =
+    codes "pixelmouse " ++ mouse_text event.x_pixels event.y_pixels event.mouse_buttons event.modifiers
 event_text (Resized cols rows) = codes "resized " ++ decimal cols ++ SPACE ++ decimal rows
 event_text (Paste text) = codes "paste " ++ decimal (length text) ++ codes ":" ++ hexadecimal text
 event_text Wake = codes "wake"

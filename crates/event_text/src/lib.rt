@@ -13,7 +13,7 @@ mod tests;
 
 use bitflags::Flags;
 use itoa::Buffer;
-pub use names::variant_name;
+pub use names::{KEYS, variant_name};
 use std::alloc::AllocError;
 use std::fmt::Display;
 use std::io::Write;

@@ -12,6 +12,7 @@ ghost use Rattle.termwiz_input.specs.Laws.{HasOtherBytes};
 ghost use Rattle.termwiz_input.specs.Listed.{IsListed};
 ghost use Rattle.termwiz_input.specs.Table.{rows};
 
+pub mod listed;
 #[cfg(test)]
 mod plain;
 #[cfg(test)]
@@ -24,6 +25,9 @@ use termwiz_input::input::{
 };
 use termwiz_input::laws::{one_meaning, read_back, table_facts};
 
+// How many rows the sequence table has, as docs/GRAMMAR.md lists them.
+const ROW_COUNT: usize = 2937;
+
 /// How many rows the sequence table has. No two of them have the same bytes, so a list of as many rows of the table, with
 /// different bytes, has all of them.
 pub fn table_rows() -> usize
@@ -31,7 +35,7 @@ pub fn table_rows() -> usize
     ensures differ { AllPairs HasOtherBytes rows }
 {
     table_facts();
-    2937
+    ROW_COUNT
 }
 
 /// What a fresh parser reads in a whole text.

@@ -2,7 +2,6 @@
 // with the parser but the types of events. A number in a comment is that of the page's sentence.
 mod rows;
 
-pub(super) use rows::ROWS;
 use rows::Rows;
 use std::alloc::{AllocError, Global};
 use std::collections::BTreeMap;

@@ -11,17 +11,28 @@ use Rattle.keyshow.specs.Lines.{lines, waiting_line, all_lines}
 use Rattle.keyshow.specs.Runs.{WritesPart}
 use Rattle.keyshow.proofs.Written.{lines-append}
 
-all_lines-append : (events more : List InputEvent) (waiting : List ℕ) → all_lines (events ++ more) waiting ≡ lines events ++ all_lines more waiting
-all_lines-append events more waiting = ap (λ l. l ++ waiting_line (length waiting)) (lines-append events more) ∙ append_assoc (lines events) (lines more) (waiting_line (length waiting))
+all_lines-append : (events more : List InputEvent) (waiting : List ℕ)
+    → all_lines (events ++ more) waiting ≡ lines events ++ all_lines more waiting
+all_lines-append events more waiting = ap (λ l. l ++ waiting_line (length waiting)) (lines-append events more)
+    ∙ append_assoc (lines events) (lines more) (waiting_line (length waiting))
 
 -- a writer that got nothing
 pub nothing : OneMeaning → (text : List ℕ) (contents : Option (List ℕ)) → WritesPart text contents contents
 nothing one text contents =
     let (events, waiting, means, only) = one text false in
-    record { events = events; waiting = waiting; part = []; means = means; begins = (all_lines events waiting, refl); written = Appends-nil contents }
+    record {
+      events = events;
+      waiting = waiting;
+      part = [];
+      means = means;
+      begins = (all_lines events waiting, refl);
+      written = Appends-nil contents;
+    }
 
 -- a writer that got a prefix of the lines of the events that are decided
-pub decided : OneMeaning → Resumes → (text waiting : List ℕ) (events : List InputEvent) (part : List ℕ) (before after : Option (List ℕ)) → Means text true events waiting → Begins part (lines events)
+pub decided : OneMeaning → Resumes
+    → (text waiting : List ℕ) (events : List InputEvent) (part : List ℕ) (before after : Option (List ℕ))
+    → Means text true events waiting → Begins part (lines events)
     → Appends before after part → WritesPart text before after
 decided one resumes text waiting events part before after means (rest, e) written =
     let (more, left, ends, only) = one waiting false in
@@ -31,30 +42,42 @@ decided one resumes text waiting events part before after means (rest, e) writte
       waiting = left;
       part = part;
       means = rw append-nil at whole;
-      begins = (rest ++ all_lines more left, all_lines-append events more left ∙ ap (λ l. l ++ all_lines more left) e ∙ append_assoc part rest (all_lines more left));
+      begins = (
+        rest ++ all_lines more left,
+        all_lines-append events more left ∙ ap (λ l. l ++ all_lines more left) e
+            ∙ append_assoc part rest (all_lines more left),
+      );
       written = written;
     }
 
 -- a writer that got the lines of the events that were decided, and then a prefix of the lines of the rest
-pub after_lines : Resumes → (text more waiting : List ℕ) (events : List InputEvent) (first before after : Option (List ℕ)) → Means text true events waiting → Appends first before (lines events)
+pub after_lines : Resumes
+    → (text more waiting : List ℕ) (events : List InputEvent) (first before after : Option (List ℕ))
+    → Means text true events waiting → Appends first before (lines events)
     → WritesPart (waiting ++ more) before after → WritesPart (text ++ more) first after
 after_lines resumes text more waiting events first before after means written p = record {
   events = events ++ p.events;
   waiting = p.waiting;
   part = lines events ++ p.part;
   means = (resumes text more waiting p.waiting events p.events false).0 means.steps p.means;
-  begins = (p.begins.0, all_lines-append events p.events p.waiting ∙ ap (λ l. lines events ++ l) p.begins.1 ∙ sym (append_assoc (lines events) p.part p.begins.0));
+  begins = (
+    p.begins.0,
+    all_lines-append events p.events p.waiting ∙ ap (λ l. lines events ++ l) p.begins.1
+        ∙ sym (append_assoc (lines events) p.part p.begins.0),
+  );
   written = Appends-trans first before after (lines events) p.part written p.written;
 }
 
 -- the same where no more was read
-pub after_all : Resumes → (text waiting : List ℕ) (events : List InputEvent) (first before after : Option (List ℕ)) → Means text true events waiting → Appends first before (lines events)
+pub after_all : Resumes → (text waiting : List ℕ) (events : List InputEvent) (first before after : Option (List ℕ))
+    → Means text true events waiting → Appends first before (lines events)
     → WritesPart waiting before after → WritesPart text first after
 after_all resumes text waiting events first before after means written p =
     rw append-nil at (after_lines resumes text [] waiting events first before after means written (rw append-nil p))
 
 -- a writer that got all of the lines, and could not be flushed
-pub unflushed : (text waiting : List ℕ) (events : List InputEvent) (first before after : Option (List ℕ)) → Means text false events waiting → Appends first before (all_lines events waiting)
+pub unflushed : (text waiting : List ℕ) (events : List InputEvent) (first before after : Option (List ℕ))
+    → Means text false events waiting → Appends first before (all_lines events waiting)
     → Keeps before after → WritesPart text first after
 unflushed text waiting events first before after means written kept = record {
   events = events;
@@ -66,8 +89,10 @@ unflushed text waiting events first before after means written kept = record {
 }
 
 -- some bytes were written, whatever the outcome
-pub any_part : {E : Type 0} (P : List InputEvent → Type 0) (shown : List InputEvent → List ℕ) (text : List ℕ) (before after : Option (List ℕ)) (result : Result (Unit {0}) E)
-    → OnOk result ((events : List InputEvent) × P events × Appends before after (shown events)) → OnErr result (WritesPart text before after) → (part : List ℕ) × Appends before after part
+pub any_part : {E : Type 0} (P : List InputEvent → Type 0) (shown : List InputEvent → List ℕ) (text : List ℕ)
+    (before after : Option (List ℕ)) (result : Result (Unit {0}) E)
+    → OnOk result ((events : List InputEvent) × P events × Appends before after (shown events))
+    → OnErr result (WritesPart text before after) → (part : List ℕ) × Appends before after part
 any_part P shown text before after (Ok done) ok err = (shown ok.0, ok.2)
 any_part P shown text before after (Err fault) ok err = (err.part, err.written)
 

@@ -10,7 +10,8 @@ digits_numeral : IsNumeralModel (λ ds. (i : ℕ) → i < length ds → IsInRang
 digits_numeral = numerals_by_value (λ ds. (i : ℕ) → i < length ds → IsInRange 48 57 (get_or ds i 0)) tells_by_index
 
 -- no word that is a piece is refused
-pub piece-parses : {E : Type 0} (word : List ℕ) (r : Result ℕ E) (e : E) → ParsesUnsigned 64 10 word r → r ≡ Err e → ¬ IsPiece word
+pub piece-parses : {E : Type 0} (word : List ℕ) (r : Result ℕ E) (e : E) → ParsesUnsigned 64 10 word r → r ≡ Err e
+    → ¬ IsPiece word
 piece-parses word r e parses refused piece =
     let small : digits_value 10 word < 2 ^ 64 = omega (arith, piece.most) in
     let parsed = parse_gives digits_numeral 64 word r parses (λ i l. piece.digits i 0 l) piece.some small in

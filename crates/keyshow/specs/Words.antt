@@ -14,7 +14,8 @@ pub record IsPiece (word : List ℕ) : Type 0 where
   pub least : 1 ≤ digits_value 10 word
   pub most : digits_value 10 word ≤ 4096
 
--- the piece that the words give: 64 if there are none, the value of a single word that is a piece, and nothing for other words
+-- the piece that the words give: 64 if there are none, the value of a single word that is a piece,
+-- and nothing for other words
 abbrev pub PieceOf : List (List ℕ) → Option ℕ → Type 0
 PieceOf [] piece = piece ≡ Some 64
 PieceOf (word ∷ []) piece = SomeIff piece (IsPiece word) (digits_value 10 word)

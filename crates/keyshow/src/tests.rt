@@ -336,19 +336,49 @@ fn runs_to_the_end(rt: HostRuntime) -> Result<(), Fail> {
     Ok(())
 }
 
-// 70000 reads of one byte each.
+// Returns the bytes `q` one at a time, so many times, and then the end.
+#[derive(Drop)]
+struct QReader {
+    left: usize,
+}
+
+impl Read for QReader {
+    fn read(&mut self, buf: &mut [u8]) -> io::Result<usize> {
+        if self.left == 0 || buf.is_empty() {
+            return Ok(0);
+        }
+        self.left -= 1;
+        buf[0] = b'q';
+        Ok(1)
+    }
+}
+
+// Counts the bytes that are written to it.
+#[derive(Drop)]
+struct CountingWriter {
+    written: usize,
+}
+
+impl Write for CountingWriter {
+    fn write(&mut self, buf: &[u8]) -> io::Result<usize> {
+        self.written = self.written.saturating_add(buf.len());
+        Ok(buf.len())
+    }
+
+    fn flush(&mut self) -> io::Result<()> {
+        Ok(())
+    }
+}
+
+// A million reads of one byte each, with a line of 16 bytes for each of them.
 #[test]
-fn reads_many_times(rt: HostRuntime) -> Result<(), Fail> {
-    let text = ARROW_AND_Q.repeat(rt.alloc(), 17500)?;
-    let wanted = ARROW_AND_Q_LINES.repeat(rt.alloc(), 17500)?;
-    let reads = Cell::new(0);
-    let mut source = reader(text.as_slice(), 1, &reads);
-    let mut target = writer(rt.alloc(), 4096, &reads);
+fn reads_a_million_times(rt: HostRuntime) {
+    let mut source = QReader { left: 1_000_000 };
+    let mut target = CountingWriter { written: 0 };
     let result = run(rt.alloc(), &mut source, &mut target, 64);
     assert_eq!(rt; result, Ok(()));
-    assert_eq!(rt; reads.get(), 70001);
-    assert!(rt; target.written.as_slice() == wanted.as_slice());
-    Ok(())
+    assert_eq!(rt; source.left, 0);
+    assert_eq!(rt; target.written, 16_000_000);
 }
 
 // The lines of each piece are one write, which comes before the next read.
@@ -362,6 +392,42 @@ fn writes_before_the_next_read(rt: HostRuntime) -> Result<(), Fail> {
         let result = run(rt.alloc(), &mut source, &mut target, 64);
         assert_eq!(rt; result, Ok(()));
         assert_eq!(rt; target.reads_at_writes.as_slice(), wanted, "{most}");
+    }
+    Ok(())
+}
+
+// Gives its text, and records how many bytes each read asked for.
+#[derive(Drop)]
+struct AskedReader<'a> {
+    text: &'a [u8],
+    asked: Vec<usize>,
+}
+
+impl<'a> Read for AskedReader<'a> {
+    fn read(&mut self, buf: &mut [u8]) -> io::Result<usize> {
+        self.asked.push(buf.len())?;
+        self.text.read(buf)
+    }
+}
+
+// Each read asks for a whole piece: single bytes where the piece is 1, and never more than 7 where it is 7.
+#[test]
+fn asks_for_a_piece(rt: HostRuntime) -> Result<(), Fail> {
+    let cases: [(usize, &[usize]); 3] = [
+        (1, &[1, 1, 1, 1, 1, 1, 1, 1, 1, 1]),
+        (7, &[7, 7, 7]),
+        (4096, &[4096, 4096]),
+    ];
+    for (piece, wanted) in cases {
+        let reads = Cell::new(0);
+        let mut source = AskedReader {
+            text: b"\x1b[Aqwerty",
+            asked: Vec::new(rt.alloc()),
+        };
+        let mut target = writer(rt.alloc(), 4096, &reads);
+        let result = run(rt.alloc(), &mut source, &mut target, piece);
+        assert_eq!(rt; result, Ok(()));
+        assert_eq!(rt; source.asked.as_slice(), wanted, "piece {piece}");
     }
     Ok(())
 }

@@ -14,7 +14,8 @@ use Rattle.refusals.specs.GoingOn.{StopsAt, Describes, GoesOn, GoesOnWithPieces}
 
 module _ (before bytes left waiting : List ℕ) (stop : Stop) (tells : Describes left stop.left) where
   -- the same call again, if the bytes weren't taken
-  pub again : (given later : List InputEvent) → stop.taken ≡ false → given ≡ [] → left ≡ before → Means (left ++ bytes) false later waiting
+  pub again : (given later : List InputEvent) → stop.taken ≡ false → given ≡ [] → left ≡ before
+      → Means (left ++ bytes) false later waiting
       → GoesOn before bytes (Some stop) given later waiting
   again given later not_taken none same means = record {
     means = rw none (subst (λ text. Means (text ++ bytes) false later waiting) same means);
@@ -23,7 +24,8 @@ module _ (before bytes left waiting : List ℕ) (stop : Stop) (tells : Describes
   }
 
   -- a call without bytes, if they were
-  pub without_bytes : Resumes → (given later : List InputEvent) → stop.taken ≡ true → Steps (before ++ bytes) false given left
+  pub without_bytes : Resumes → (given later : List InputEvent) → stop.taken ≡ true
+      → Steps (before ++ bytes) false given left
       → Means (left ++ []) false later waiting → GoesOn before bytes (Some stop) given later waiting
   without_bytes resumes given later taken steps means = record {
     means = (resumes (before ++ bytes) [] left waiting given later false).1 steps (rw append-nil at means);
@@ -32,12 +34,16 @@ module _ (before bytes left waiting : List ℕ) (stop : Stop) (tells : Describes
   }
 
 -- the first k pieces, which were read so far, and then the others
-joined : Resumes → (before : List ℕ) (pieces : List (List ℕ)) (k : ℕ) (left waiting : List ℕ) (E D : List InputEvent) → k ≤ length pieces
-    → Steps (before ++ join (take (taken_or_one pieces k) (pieces_or_one pieces))) (flag_at (pieces_or_one pieces) false (taken_or_one pieces k)) E left
+joined : Resumes → (before : List ℕ) (pieces : List (List ℕ)) (k : ℕ) (left waiting : List ℕ) (E D : List InputEvent)
+    → k ≤ length pieces
+    → Steps (before ++ join (take (taken_or_one pieces k) (pieces_or_one pieces)))
+    (flag_at (pieces_or_one pieces) false (taken_or_one pieces k)) E left
     → Means (left ++ join (drop k pieces)) false D waiting → Means (before ++ join pieces) false (E ++ D) waiting
-joined resumes before [] zero left waiting E D within steps means = (resumes (before ++ []) [] left waiting E D false).1 steps (rw append-nil at means)
+joined resumes before [] zero left waiting E D within steps means =
+    (resumes (before ++ []) [] left waiting E D false).1 steps (rw append-nil at means)
 joined resumes before [] (suc k) left waiting E D within steps means = absurd (omega (arith, within))
-joined resumes before (piece ∷ pieces) k left waiting E D within steps means = ⊎_elim last earlier (eqb_tells k (length all))
+joined resumes before (piece ∷ pieces) k left waiting E D within steps means =
+    ⊎_elim last earlier (eqb_tells k (length all))
   where
     all : List (List ℕ)
     all = piece ∷ pieces
@@ -46,24 +52,31 @@ joined resumes before (piece ∷ pieces) k left waiting E D within steps means =
     last same =
         let taken : take k all ≡ all = take_all k all (omega (arith, same.1)) in
         let none : drop k all ≡ [] = drop_all k all (omega (arith, same.1)) in
-        (resumes (before ++ join all) [] left waiting E D false).1 (rw (taken, same.0) at steps) (rw (none, append-nil left) at means)
+        (resumes (before ++ join all) [] left waiting E D false).1 (rw (taken, same.0) at steps)
+        (rw (none, append-nil left) at means)
 
     earlier : ((k == length all) ≡ false) × (k ≢ length all) → Means (before ++ join all) false (E ++ D) waiting
     earlier other =
         let whole : (before ++ join (take k all)) ++ join (drop k all) ≡ before ++ join all =
-        append_assoc before (join (take k all)) (join (drop k all)) ∙ ap (λ l. before ++ l) (sym (flat_map-append (λ (p : List ℕ). p) (take k all) (drop k all)) ∙ ap join (take-append-drop k all)) in
+        append_assoc before (join (take k all)) (join (drop k all)) ∙ ap (λ l. before ++ l)
+        (sym (flat_map-append (λ (p : List ℕ). p) (take k all) (drop k all)) ∙ ap join (take-append-drop k all)) in
         subst (λ text. Means text false (E ++ D) waiting) whole
-        ((resumes (before ++ join (take k all)) (join (drop k all)) left waiting E D false).0 (rw other.0 at steps) means)
+        ((resumes (before ++ join (take k all)) (join (drop k all)) left waiting E D false).0
+        (rw other.0 at steps) means)
 
 -- the pieces from the first on that wasn't taken
-pub others_given : Resumes → (before : List ℕ) (pieces : List (Bor (List ℕ))) (stop : PiecesStop) (given later : List NumberedEvent) (left waiting : List ℕ)
-    → stop.taken ≤ length pieces → ReadsFirst before (pieces_or_one (texts pieces)) false (taken_or_one (texts pieces) stop.taken) given left
+pub others_given : Resumes → (before : List ℕ) (pieces : List (Bor (List ℕ))) (stop : PiecesStop)
+    (given later : List NumberedEvent) (left waiting : List ℕ)
+    → stop.taken ≤ length pieces
+    → ReadsFirst before (pieces_or_one (texts pieces)) false (taken_or_one (texts pieces) stop.taken) given left
     → Describes left stop.left
-    → Means (left ++ join (texts (take (length pieces - stop.taken) (drop stop.taken pieces)))) false (events_of later) waiting
+    → Means (left ++ join (texts (take (length pieces - stop.taken) (drop stop.taken pieces)))) false
+    (events_of later) waiting
     → AreNumbered left (pieces_or_one (texts (take (length pieces - stop.taken) (drop stop.taken pieces)))) later
     → GoesOnWithPieces before (texts pieces) (Some stop) given later waiting
 others_given resumes before pieces stop given later left waiting within reads tells means numbered = record {
-  means = joined resumes before (texts pieces) stop.taken left waiting (events_of given) (events_of later) (rw length-map within) reads.steps (rw others at means);
+  means = joined resumes before (texts pieces) stop.taken left waiting (events_of given) (events_of later)
+      (rw length-map within) reads.steps (rw others at means);
   at_once = tt;
   stopped = (left, reads, rw others at numbered, tells);
 }

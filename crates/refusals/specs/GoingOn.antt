@@ -8,8 +8,8 @@ use Rattle.refusals.specs.declared.parses.Left.{Left}
 use Rattle.refusals.specs.declared.parses.Stop.{Stop}
 use Rattle.refusals.specs.declared.parses.PiecesStop.{PiecesStop}
 
--- A call on these bytes, with no more to come, stopped: it gave these events and left this text. If the bytes weren't taken,
--- there are no events, and the text that waited is left.
+-- A call on these bytes, with no more to come, stopped: it gave these events and left this text. If the bytes weren't
+-- taken, there are no events, and the text that waited is left.
 abbrev pub StopsAt : List ℕ → List ℕ → Bool → List InputEvent → List ℕ → Type 0
 StopsAt before bytes true given left = Steps (before ++ bytes) false given left
 StopsAt before bytes false given left = (given ≡ []) × (left ≡ before)
@@ -19,15 +19,19 @@ pub record Describes (text : List ℕ) (left : Left) : Type 0 where
   pub len : left.waiting ≡ length text
   pub paste : IsTrue left.is_paste_open ↔ Begins START text
 
--- A call on these bytes and, if it stopped, the call that goes on gave the events that the bytes mean, with no more to come.
-pub record GoesOn (before bytes : List ℕ) (stop : Option Stop) (first later : List InputEvent) (waiting : List ℕ) : Type 0 where
+-- A call on these bytes and, if it stopped, the call that goes on gave the events that the bytes mean,
+-- with no more to come.
+pub record GoesOn (before bytes : List ℕ) (stop : Option Stop) (first later : List InputEvent)
+    (waiting : List ℕ) : Type 0 where
   pub means : Means (before ++ bytes) false (first ++ later) waiting
   pub at_once : IfNone stop (later ≡ [])
   pub stopped : IfSome stop (λ s. (left : List ℕ) × StopsAt before bytes s.taken first left × Describes left s.left)
 
 -- The same of a call on pieces. The events of each call have the numbers of its pieces.
-pub record GoesOnWithPieces (before : List ℕ) (pieces : List (List ℕ)) (stop : Option PiecesStop) (first later : List NumberedEvent) (waiting : List ℕ) : Type 0 where
+pub record GoesOnWithPieces (before : List ℕ) (pieces : List (List ℕ)) (stop : Option PiecesStop)
+    (first later : List NumberedEvent) (waiting : List ℕ) : Type 0 where
   pub means : Means (before ++ join pieces) false (events_of first ++ events_of later) waiting
   pub at_once : IfNone stop ((later ≡ []) × AreNumbered before (pieces_or_one pieces) first)
-  pub stopped : IfSome stop (λ s. (left : List ℕ) × ReadsFirst before (pieces_or_one pieces) false (taken_or_one pieces s.taken) first left
+  pub stopped : IfSome stop
+      (λ s. (left : List ℕ) × ReadsFirst before (pieces_or_one pieces) false (taken_or_one pieces s.taken) first left
       × AreNumbered left (pieces_or_one (drop s.taken pieces)) later × Describes left s.left)

@@ -13,12 +13,20 @@ use Rattle.replay.specs.Reports.{Counts, CountsCase, CountsLine, records_nothing
 
 parts_fit : (parts : List (List ℕ)) → length (lines_of_parts parts) ≤ length parts
 parts_fit [] = omega arith
-parts_fit (part ∷ []) = elim (eqb (length part) 0) as (λ (none : Bool). length (cond none [] (part ∷ [])) ≤ 1) [ true ↦ omega arith | false ↦ omega arith ]
+parts_fit (part ∷ []) = elim (eqb (length part) 0) as (λ (none : Bool). length (cond none [] (part ∷ [])) ≤ 1) [
+  | true ↦ omega arith
+  | false ↦ omega arith
+]
 parts_fit (part ∷ next ∷ parts) = omega (arith, parts_fit (next ∷ parts))
 
 -- a text has at most one line more than bytes
 pub lines_fit : (text : List ℕ) → length (lines text) ≤ length text + 1
-lines_fit text = omega (arith, parts_fit (slice_split (λ b. eqb b 10) text), length-slice_split (λ b. eqb b 10) text, count_by-le-length (λ b. eqb b 10) text)
+lines_fit text = omega (
+  arith,
+  parts_fit (slice_split (λ b. eqb b 10) text),
+  length-slice_split (λ b. eqb b 10) text,
+  count_by-le-length (λ b. eqb b 10) text,
+)
 
 if_true : (b : Bool) (P Q : Type 0) → b ≡ true → P → MatchBool b P Q
 if_true true P Q is p = p
@@ -33,10 +41,14 @@ pub not_counted : (line : List ℕ) (before : Counts) → records_nothing line �
 not_counted line before is = if_true (records_nothing line) (before ≡ before) (CountsCase line before before) is refl
 
 -- what a line records is counted, and so is the difference, if there is one
-pub case_counted : (line : List ℕ) (before after : Counts) (case : Case) (difference : Option Difference) → records_nothing line ≡ false → Records line case
+pub case_counted : (line : List ℕ) (before after : Counts) (case : Case) (difference : Option Difference)
+    → records_nothing line ≡ false → Records line case
     → IfNone difference (Holds case) → IfSome difference (λ shown. ¬ Holds case) → after.lines ≡ before.lines + 1
-    → IfNone difference (after.differing ≡ before.differing) → IfSome difference (λ shown. after.differing ≡ before.differing + 1) → CountsLine before line after
+    → IfNone difference (after.differing ≡ before.differing)
+    → IfSome difference (λ shown. after.differing ≡ before.differing + 1) → CountsLine before line after
 case_counted line before after case None something recorded holds fails one same more =
-    if_false (records_nothing line) (after ≡ before) (CountsCase line before after) something (record { case = case; recorded = recorded; lines = one; differing = inl (holds, same) })
+    if_false (records_nothing line) (after ≡ before) (CountsCase line before after) something
+    (record { case = case; recorded = recorded; lines = one; differing = inl (holds, same) })
 case_counted line before after case (Some difference) something recorded holds fails one same more =
-    if_false (records_nothing line) (after ≡ before) (CountsCase line before after) something (record { case = case; recorded = recorded; lines = one; differing = inr (fails, more) })
+    if_false (records_nothing line) (after ≡ before) (CountsCase line before after) something
+    (record { case = case; recorded = recorded; lines = one; differing = inr (fails, more) })

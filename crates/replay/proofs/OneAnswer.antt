@@ -23,21 +23,28 @@ one_answer one text more waiting answer others recorded (events, means, is) (mea
     (same_rest, is ∙ ap (λ l. answer_text l waiting) same_events ∙ ap (answer_text meant) same_rest ∙ sym was)
 
 -- where one text is the answer, another isn't
-pub other_answer : OneMeaning → (text came recorded : List ℕ) → IsAnswer text came → came ≢ recorded → ¬ IsAnswer text recorded
-other_answer one text came recorded (waiting, is) differ (others, was) = differ ((one_answer one text false waiting came others recorded is was).1)
+pub other_answer : OneMeaning → (text came recorded : List ℕ) → IsAnswer text came → came ≢ recorded
+    → ¬ IsAnswer text recorded
+other_answer one text came recorded (waiting, is) differ (others, was) =
+    differ ((one_answer one text false waiting came others recorded is was).1)
 
 -- a call leaves one text waiting
-pub one_rest : OneMeaning → (before : List ℕ) (call : Call) (after others : List ℕ) → AnswersCall before call after → AnswersCall before call others → after ≡ others
+pub one_rest : OneMeaning → (before : List ℕ) (call : Call) (after others : List ℕ) → AnswersCall before call after
+    → AnswersCall before call others → after ≡ others
 one_rest one before call after others is was = (one_answer one _ _ _ _ _ _ is was).0
 
 -- a key that is refused sends no text
-refused_sends_none : (key : KeyCode) (modifiers : Modifiers) (modes : KeyCodeEncodeModes) (number : ℕ) → unhandled key ≡ Some number → enc key modifiers modes ≡ None
+refused_sends_none : (key : KeyCode) (modifiers : Modifiers) (modes : KeyCodeEncodeModes) (number : ℕ)
+    → unhandled key ≡ Some number → enc key modifiers modes ≡ None
 unfolding enc
 refused_sends_none key modifiers modes number refused = rw refused refl
 
 -- what a key sends in one mode is alike
-pub one_sent : (key : KeyCode) (modifiers : Modifiers) (modes : KeyCodeEncodeModes) (one other : Sent) → Sends key modifiers modes one → Sends key modifiers modes other → IsLike one other
+pub one_sent : (key : KeyCode) (modifiers : Modifiers) (modes : KeyCodeEncodeModes) (one other : Sent)
+    → Sends key modifiers modes one → Sends key modifiers modes other → IsLike one other
 one_sent key modifiers modes (Text one) (Text other) is was = cc
-one_sent key modifiers modes (Text one) Refused is (number, refused) = let none = refused_sends_none key modifiers modes number refused in absurd (cc)
-one_sent key modifiers modes Refused (Text other) (number, refused) was = let none = refused_sends_none key modifiers modes number refused in absurd (cc)
+one_sent key modifiers modes (Text one) Refused is (number, refused) = let none =
+    refused_sends_none key modifiers modes number refused in absurd (cc)
+one_sent key modifiers modes Refused (Text other) (number, refused) was = let none =
+    refused_sends_none key modifiers modes number refused in absurd (cc)
 one_sent key modifiers modes Refused Refused is was = tt

@@ -8,7 +8,8 @@ use Rattle.termwiz_input.specs.Laws.{FewEvents, OneMeaning}
 use Rattle.termwiz_input.specs.Pieces.{join, texts}
 use Rattle.replay.specs.Answers.{EndsWith}
 
-pub rest-ends : (text : List ℕ) (more : Bool) (events : List InputEvent) (rest : List ℕ) → Steps text more events rest → EndsWith text rest
+pub rest-ends : (text : List ℕ) (more : Bool) (events : List InputEvent) (rest : List ℕ) → Steps text more events rest
+    → EndsWith text rest
 rest-ends text more [] rest same = ([], same)
 rest-ends text more (event ∷ events) rest steps =
     let (bytes, after, stands, splits, others) = steps in
@@ -28,10 +29,12 @@ end-is_rest text rest (front, is) =
 -- what pieces mean that make up a text, if nothing waited before them
 pub as_whole : (before joined text : List ℕ) (events : List InputEvent) (rest : List ℕ) → before ≡ [] → joined ≡ text
     → Means (before ++ joined) false events rest → Means text false events rest
-as_whole before joined text events rest none same means = subst (λ t. Means t false events rest) (ap (λ l. l ++ joined) none ∙ same) means
+as_whole before joined text events rest none same means =
+    subst (λ t. Means t false events rest) (ap (λ l. l ++ joined) none ∙ same) means
 
 -- the end of a text that means this, and its length
-module _ (text : List ℕ) (more : Bool) (events : List InputEvent) (rest : List ℕ) (means : Means text more events rest) where
+module _ (text : List ℕ) (more : Bool) (events : List InputEvent) (rest : List ℕ)
+    (means : Means text more events rest) where
   pub rest-fits : length rest ≤ length text
   rest-fits = end-fits text rest (rest-ends text more events rest means.steps)
 
@@ -40,10 +43,12 @@ module _ (text : List ℕ) (more : Bool) (events : List InputEvent) (rest : List
 
 -- the end of an end
 pub ends-trans : (text middle rest : List ℕ) → EndsWith text middle → EndsWith middle rest → EndsWith text rest
-ends-trans text middle rest (front, is) (more, e) = (front ++ more, is ∙ ap (λ l. front ++ l) e ∙ sym (append_assoc front more rest))
+ends-trans text middle rest (front, is) (more, e) =
+    (front ++ more, is ∙ ap (λ l. front ++ l) e ∙ sym (append_assoc front more rest))
 
 -- what waits after a call, of all that was given to the parser
-module _ (fed text : List ℕ) (more : Bool) (events : List InputEvent) (rest : List ℕ) (ends : EndsWith fed text) (means : Means text more events rest) where
+module _ (fed text : List ℕ) (more : Bool) (events : List InputEvent) (rest : List ℕ) (ends : EndsWith fed text)
+    (means : Means text more events rest) where
   pub still-ends : EndsWith fed rest
   still-ends = ends-trans fed text rest ends (rest-ends text more events rest means.steps)
 
@@ -54,7 +59,8 @@ module _ (fed text : List ℕ) (more : Bool) (events : List InputEvent) (rest : 
   rest-is_end_of_fed = end-is_rest fed rest still-ends
 
 -- A text waits as a whole if and only if as many bytes wait as it has.
-pub whole_waits : OneMeaning → FewEvents → (text : List ℕ) (events : List InputEvent) (rest : List ℕ) → Means text true events rest
+pub whole_waits : OneMeaning → FewEvents → (text : List ℕ) (events : List InputEvent) (rest : List ℕ)
+    → Means text true events rest
     → (length rest ≡ length text) ↔ IsRest text true
 whole_waits one few text events rest means = (
   (λ same.
@@ -70,11 +76,15 @@ pub on_ok : {T E : Type 0} (r : Result T E) {P : Type 0} → P → OnOk r P
 on_ok (Ok x) p = p
 on_ok (Err e) p = tt
 
-join-push : (pieces : List (Bor (List ℕ))) (piece : Bor (List ℕ)) → join (texts (pieces ++ piece ∷ [])) ≡ join (texts pieces) ++ piece.now
+join-push : (pieces : List (Bor (List ℕ))) (piece : Bor (List ℕ))
+    → join (texts (pieces ++ piece ∷ [])) ≡ join (texts pieces) ++ piece.now
 join-push [] piece = append-nil piece.now
-join-push (first ∷ others) piece = ap (λ l. first.now ++ l) (join-push others piece) ∙ sym (append_assoc first.now (join (texts others)) piece.now)
+join-push (first ∷ others) piece = ap (λ l. first.now ++ l) (join-push others piece)
+    ∙ sym (append_assoc first.now (join (texts others)) piece.now)
 
 -- one more byte of a text, as a piece of its own
-pub joined_more : (text : List ℕ) (place : ℕ) (pieces : List (Bor (List ℕ))) (piece : Bor (List ℕ)) → join (texts pieces) ≡ take place text
+pub joined_more : (text : List ℕ) (place : ℕ) (pieces : List (Bor (List ℕ))) (piece : Bor (List ℕ))
+    → join (texts pieces) ≡ take place text
     → piece.now ≡ take 1 (drop place text) → join (texts (pieces ++ piece ∷ [])) ≡ take (place + 1) text
-joined_more text place pieces piece so_far is = join-push pieces piece ∙ ap (λ l. l ++ piece.now) so_far ∙ ap (λ l. take place text ++ l) is ∙ sym (take-add place 1 text)
+joined_more text place pieces piece so_far is = join-push pieces piece ∙ ap (λ l. l ++ piece.now) so_far
+    ∙ ap (λ l. take place text ++ l) is ∙ sym (take-add place 1 text)

@@ -20,11 +20,13 @@ abbrev pub answer_text : List InputEvent → List ℕ → List ℕ
 answer_text [] [] = codes "nothing"
 answer_text [] (byte ∷ bytes) = codes "; " ++ hexadecimal (byte ∷ bytes)
 answer_text (event ∷ events) [] = event_text event ++ flat_map next_text events
-answer_text (event ∷ events) (byte ∷ bytes) = event_text event ++ flat_map next_text events ++ codes " ; " ++ hexadecimal (byte ∷ bytes)
+answer_text (event ∷ events) (byte ∷ bytes) =
+    event_text event ++ flat_map next_text events ++ codes " ; " ++ hexadecimal (byte ∷ bytes)
 
 -- the answer is that of the events that the text means under this flag, and of what it leaves waiting
 abbrev pub Answers : List ℕ → Bool → List ℕ → List ℕ → Type 0
-Answers text more waiting answer = (events : List InputEvent) × Means text more events waiting × (answer ≡ answer_text events waiting)
+Answers text more waiting answer =
+    (events : List InputEvent) × Means text more events waiting × (answer ≡ answer_text events waiting)
 
 -- one text ends with the other
 abbrev pub EndsWith : List ℕ → List ℕ → Type 0
@@ -37,7 +39,8 @@ IsAnswer text answer = (waiting : List ℕ) × Answers text false waiting answer
 -- the bytes have another answer than the recorded one, and the difference shows the bytes and that answer
 abbrev pub Differs : List ℕ → List ℕ → Difference → Type 0
 Differs bytes recorded difference =
-    (difference.given.items ≡ hexadecimal bytes) × IsAnswer bytes difference.came.items × (difference.came.items ≢ recorded)
+    (difference.given.items ≡ hexadecimal bytes) × IsAnswer bytes difference.came.items
+    × (difference.came.items ≢ recorded)
 
 -- a call of the parser, in which one text waits before it and another one after it, gives its answer
 abbrev pub AnswersCall : List ℕ → Call → List ℕ → Type 0

@@ -19,8 +19,8 @@ Sends key modifiers modes Refused = (number : ℕ) × (unhandled key ≡ Some nu
 abbrev pub level_at : ℕ → Option ℤ
 level_at number = if number == 0 then None else Some (pos (number - 1))
 
--- The 32 modes by their numbers: bit 0 is application cursor keys, bit 1 newline mode, bits 2 and 3 the level of modifyOtherKeys,
--- and bit 4 the encoding of CSI u.
+-- The 32 modes by their numbers: bit 0 is application cursor keys, bit 1 newline mode, bits 2 and 3 the level of
+-- modifyOtherKeys, and bit 4 the encoding of CSI u.
 abbrev pub modes_at : ℕ → KeyCodeEncodeModes
 modes_at number = record {
   encoding = if number / 16 == 1 then CsiU else Xterm;
@@ -35,7 +35,8 @@ HasMode modes number = modes / 2 ^ number % 2 ≡ 1
 
 -- in each mode of the set the key sends this
 abbrev pub SendsInModes : KeyCode → Modifiers → InModes → Type 0
-SendsInModes key modifiers text = (number : ℕ) → number < 32 → HasMode text.modes number → Sends key modifiers (modes_at number) text.sent
+SendsInModes key modifiers text = (number : ℕ) → number < 32 → HasMode text.modes number
+    → Sends key modifiers (modes_at number) text.sent
 
 -- with a set of modifiers the key sends each of these texts in its modes
 unfoldable pub SendsEach : KeyCode → List InModes → Modifiers → Type 0

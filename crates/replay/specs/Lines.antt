@@ -35,7 +35,8 @@ abbrev pub AreAnswers : List ℕ → List (List ℕ) → Type 0
 AreAnswers text [] = ⊥
 AreAnswers text (answer ∷ []) = FindsText (codes " | ") text None × (answer ≡ text)
 AreAnswers text (answer ∷ next ∷ others) =
-    (start end : ℕ) × FindsText (codes " | ") text (Some (start, end)) × (answer ≡ take start text) × AreAnswers (drop end text) (next ∷ others)
+    (start end : ℕ) × FindsText (codes " | ") text (Some (start, end)) × (answer ≡ take start text)
+    × AreAnswers (drop end text) (next ∷ others)
 
 -- an answer to a row, `-` if none is recorded
 abbrev pub answer_word : Option (Vec ℕ) → List ℕ
@@ -46,7 +47,8 @@ answer_word None = codes "-"
 abbrev pub IsRowText : List ℕ → List ℕ → Row → Type 0
 IsRowText next answers row =
     IsBytesWord next row.next
-    × (answers ≡ answer_word row.alone ++ codes " = " ++ answer_word row.after_escape ++ codes " = " ++ answer_word row.before_next)
+    × (answers ≡ answer_word row.alone ++ codes " = " ++ answer_word row.after_escape ++ codes " = "
+    ++ answer_word row.before_next)
 
 -- the word says what is sent: hexadecimal digits, `-` for the empty text, or `refused`
 abbrev pub IsSentWord : List ℕ → Sent → Type 0
@@ -55,13 +57,15 @@ IsSentWord word sent.Refused = word ≡ codes "refused"
 
 -- the hexadecimal digits of a set of modes, before which a plus may stand
 abbrev pub IsModesNumber : List ℕ → ℕ → Type 0
-IsModesNumber digits modes = IsNumeral 16 (without_leading_plus digits) × (modes ≡ digits_value 16 (without_leading_plus digits))
+IsModesNumber digits modes =
+    IsNumeral 16 (without_leading_plus digits) × (modes ≡ digits_value 16 (without_leading_plus digits))
 
 -- the word says what is sent, and after an `@` in which modes; without an `@` it is sent in all modes
 abbrev pub IsModesWord : List ℕ → InModes → Type 0
 IsModesWord word text =
     (IsSentWord word text.sent × (text.modes ≡ 2 ^ 32 - 1))
-    ⊎ ((sent digits : List ℕ) × (word ≡ sent ++ codes "@" ++ digits) × IsSentWord sent text.sent × IsModesNumber digits text.modes)
+    ⊎ ((sent digits : List ℕ) × (word ≡ sent ++ codes "@" ++ digits) × IsSentWord sent text.sent
+    × IsModesNumber digits text.modes)
 
 -- the words of a text that commas separate, and those that spaces do
 abbrev pub comma_words : List ℕ → List (List ℕ)
@@ -76,13 +80,14 @@ IsChords text recorded =
     (keys sets : List ℕ) × (text ≡ keys ++ codes " " ++ sets) × (map key_name recorded.keys.items ≡ comma_words keys)
     × (map modifiers_text recorded.modifiers.items ≡ comma_words sets)
 
--- The line records bytes and their answer, calls and an answer to each, rows with what comes after them and their answers, or keys with
--- sets of modifiers and what is sent in which modes.
+-- The line records bytes and their answer, calls and an answer to each, rows with what comes after them and their
+-- answers, or keys with sets of modifiers and what is sent in which modes.
 abbrev pub Records : List ℕ → Case → Type 0
 Records line (Text bytes answer) =
     (digits : List ℕ) × (line ≡ codes "*" ++ digits ++ codes " = " ++ answer.items) × IsBytesWord digits bytes
 Records line (Calls calls) =
-    (words answers : List ℕ) × (line ≡ words ++ codes " = " ++ answers) × AllZip IsCallWord (space_words words) calls.items
+    (words answers : List ℕ) × (line ≡ words ++ codes " = " ++ answers)
+    × AllZip IsCallWord (space_words words) calls.items
     × AreAnswers answers (map (λ call. call.answer.items) calls.items)
 Records line (Rows all row) =
     (rows next answers : List ℕ) × (line ≡ rows ++ codes " = " ++ (next ++ codes " = " ++ answers))

@@ -43,4 +43,5 @@ CountsLines lines counts = FoldsTo CountsLine no_lines lines counts
 
 -- the lines before the one with this number, from 1, are counted
 abbrev pub EndsAt : List (List ℕ) → ℕ → Type 0
-EndsAt lines number = (0 < number) × (number ≤ length lines) × (counts : Counts) × CountsLines (take (number - 1) lines) counts
+EndsAt lines number =
+    (0 < number) × (number ≤ length lines) × (counts : Counts) × CountsLines (take (number - 1) lines) counts

@@ -14,5 +14,6 @@ all_listed (suc n) = is_listed n && all_listed n
 pub has_row : (code : ℕ) → code ≤ 95 → HasRow code
 unfolding HasRow
 has_row code h =
-    let all = Decides-below_and is_listed (λ n. is_listed n ≡ true) all_listed (λ n. (λ e. e, λ e. e)) refl (λ _. refl) 96 in
+    let all =
+    Decides-below_and is_listed (λ n. is_listed n ≡ true) all_listed (λ n. (λ e. e, λ e. e)) refl (λ _. refl) 96 in
     all.0 refl code (omega arith)

@@ -17,4 +17,5 @@ positional = 32 + 64 + 256 + 512 + 1024 + 2048
 -- xterm's number for the modifiers: 1 for Shift plus 2 for Alt plus 4 for Ctrl, whose flags are 2, 4 and 8
 abbrev pub xterm_number : ℕ → ℕ
 xterm_number held =
-    (if bit_and held 2 == 2 then 1 else 0) + (if bit_and held 4 == 4 then 2 else 0) + (if bit_and held 8 == 8 then 4 else 0)
+    (if bit_and held 2 == 2 then 1 else 0) + (if bit_and held 4 == 4 then 2 else 0)
+    + (if bit_and held 8 == 8 then 4 else 0)

@@ -63,7 +63,8 @@ button_of code last = if last == final_press then (row_of (base_of code)).1 else
 -- the modifiers of a code: its bit 4 is Shift, 8 is Alt and 16 is Ctrl, which are the flags 2, 4 and 8
 unfoldable pub modifiers_of : ℕ → Modifiers
 modifiers_of code = record {
-  0 = (if bit_and code 4 == 0 then 0 else 2) + (if bit_and code 8 == 0 then 0 else 4) + (if bit_and code 16 == 0 then 0 else 8);
+  0 = (if bit_and code 4 == 0 then 0 else 2) + (if bit_and code 8 == 0 then 0 else 4)
+      + (if bit_and code 16 == 0 then 0 else 8);
 }
 
 -- a code up to the largest and a final byte make a report

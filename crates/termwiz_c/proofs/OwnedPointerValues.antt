@@ -1,4 +1,5 @@
--- The machine value of a `OwnedPointer`: a struct of one word, the pointer. Steps of walks that take such a value apart and make it.
+-- The machine value of a `OwnedPointer`: a struct of one word, the pointer.
+-- Steps of walks that take such a value apart and make it.
 use Rattle.std.proofs.Common.{◌≡◌, List, [], ◌∷◌, ◌++◌, refl, ap, ◌∙◌}
 use Rattle.std.specs.Prelude.{Option, Some, None, is_some, true}
 use seplogic.Ra.Ura.{Ura}
@@ -26,7 +27,8 @@ value_of None e = absurd (cc (e))
 
 module _ {M : Type 1} {𝓤 : Ura M} {𝓛 : Logic 𝓤} {K : Type 0} {Γ : List (Item 𝓤)} {G : Goal 𝓤 𝓛.H} where
   -- takes the value apart: what its pointer owns
-  pub open_owned : K → (s : owned.the_row.Denot) (vs : List Val) → (vs ≡ one_word s.pointer ∷ [] → Seq K 𝓛 (‵ (owned ParserAndPasteType s.pointer s.held) ∷ Γ) G)
+  pub open_owned : K → (s : owned.the_row.Denot) (vs : List Val)
+      → (vs ≡ one_word s.pointer ∷ [] → Seq K 𝓛 (‵ (owned ParserAndPasteType s.pointer s.held) ∷ Γ) G)
       → Seq K 𝓛 (‵ (owned.the_row.own_val s vs) ∷ Γ) G
   open_owned t s vs next =
       fsplit t $ fpick t (λ words. fsplit t $ feq_l t (λ is. fsplit t $ feq_l t (λ pointer_is. drop t $
@@ -34,7 +36,10 @@ module _ {M : Type 1} {𝓤 : Ura M} {𝓛 : Logic 𝓤} {K : Type 0} {Γ : List
 
   -- makes it again
   pub close_owned : K → (pointer : Ptr) (held : Option ParserAndPasteType.Denot)
-      → Step K 𝓛 (‵ (owned.the_row.own_val (record { pointer = pointer; held = held }) (one_word pointer ∷ [])) ∷ Γ) G (‵ (owned ParserAndPasteType pointer held) ∷ Γ) G
+      → Step K 𝓛 (‵ (owned.the_row.own_val (record { pointer = pointer; held = held }) (one_word pointer ∷ [])) ∷ Γ) G
+      (‵ (owned ParserAndPasteType pointer held) ∷ Γ) G
   close_owned t pointer held = step (λ next. let whole : Val = one_word pointer in
-      nothing t $ feq_i t (List Val) (ptr_val pointer ∷ []) (ptr_val pointer ∷ []) refl $ fjoin t $ feq_i t (List Val) (whole ∷ []) (whole ∷ []) refl $ fjoin t $
-      fpack t (Valss (RawPtr ∷ [])) (within (shape owned.the_type) (pointer, tt) (whole ∷ [])) (ptr_val pointer ∷ [], tt) $ fjoin t $ next)
+      nothing t $ feq_i t (List Val) (ptr_val pointer ∷ []) (ptr_val pointer ∷ []) refl $ fjoin t $
+      feq_i t (List Val) (whole ∷ []) (whole ∷ []) refl $ fjoin t $
+      fpack t (Valss (RawPtr ∷ [])) (within (shape owned.the_type) (pointer, tt) (whole ∷ []))
+      (ptr_val pointer ∷ [], tt) $ fjoin t $ next)

@@ -9,17 +9,20 @@ use Rattle.termwiz_c.specs.declared.modes.Press.{Press}
 use Rattle.termwiz_c.specs.Presses.{HasNoText, IsBad, IsPress, sent}
 
 -- what is sent, by what `encode` says of a key that is down and of one that is up
-pub sent_is : (press : Press) (is_down : Bool) (text : List ℕ) → (IsTrue is_down → enc press.key press.modifiers press.modes ≡ Some text) → (is_down ≡ false → text ≡ [])
+pub sent_is : (press : Press) (is_down : Bool) (text : List ℕ)
+    → (IsTrue is_down → enc press.key press.modifiers press.modes ≡ Some text) → (is_down ≡ false → text ≡ [])
     → sent press is_down ≡ Some text
 sent_is press true text down up = down refl
 sent_is press false text down up = ap Some (sym (up refl))
 
-module _ (key detail bits : ℕ) (is_down : Bool) (modes : CModes) (found : Press) (only : (press : Press) → (◌≡◌ {A = Option Press} (Some found) (Some press)) ↔ IsPress press key detail bits modes) where
+module _ (key detail bits : ℕ) (is_down : Bool) (modes : CModes) (found : Press) (only : (press : Press)
+    → (◌≡◌ {A = Option Press} (Some found) (Some press)) ↔ IsPress press key detail bits modes) where
   -- the numbers stand for something
   pub not_bad : IsBad key detail bits modes → ⊥
   not_bad bad = bad found ((only found).0 refl)
 
-  module _ {T : Type 0} (result : Result T EncodeError) (refused : (n : ℕ) → (result ≡ Err (UnhandledFunctionKey n)) ↔ (IsTrue is_down × (unhandled found.key ≡ Some n))) where
+  module _ {T : Type 0} (result : Result T EncodeError) (refused : (n : ℕ)
+      → (result ≡ Err (UnhandledFunctionKey n)) ↔ (IsTrue is_down × (unhandled found.key ≡ Some n))) where
     -- `encode` refused the key
     pub has_no_text : (n : ℕ) → result ≡ Err (UnhandledFunctionKey n) → HasNoText key detail bits is_down modes
     has_no_text n is = (found, n, (only found).0 refl, ((refused n).0 is).0, ((refused n).0 is).1)

@@ -30,7 +30,8 @@ pasted None = []
 
 -- the bytes were appended to the waiting text, and the text of the last paste stays
 abbrev pub Took : Option ParserAndPaste → List ℕ → Option ParserAndPaste → Type 0
-Took (Some before) bytes (Some after) = (after.parser ≡ before.parser ++ bytes) × (string_bytes after.pasted ≡ string_bytes before.pasted)
+Took (Some before) bytes (Some after) =
+    (after.parser ≡ before.parser ++ bytes) × (string_bytes after.pasted ≡ string_bytes before.pasted)
 Took _ bytes _ = ⊥
 
 -- the text of the last paste, after this event

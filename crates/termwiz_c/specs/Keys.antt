@@ -1,4 +1,4 @@
--- The numbers of keys: 1 to 90, in the order of `KeyCode`. A number is given once: a new key gets the next one.
+-- The numbers of keys: from 1 on, in the order of `KeyCode`. A number is given once: a new key gets the next one.
 use Rattle.std.specs.Prelude.{⊤, ◌≡◌, ◌≢◌, ◌≤◌, ℕ}
 use Rattle.std.specs.Char.{IsScalar}
 use Rattle.termwiz_input.specs.KeyCode.{KeyCode}
@@ -109,8 +109,8 @@ bare (Char character) = Char 0
 bare (Function number) = Function 0
 bare key = key
 
--- The key may stand with this detail: it carries it, if it carries anything. A character is a Unicode scalar value, and the number
--- of a function key is at most 255.
+-- The key may stand with this detail: it carries it, if it carries anything. A character is a Unicode scalar value, and
+-- the number of a function key is at most 255.
 unfoldable pub Carries : KeyCode → ℕ → Type 0
 Carries (Char character) detail = (character ≡ detail) × IsScalar detail
 Carries (Function number) detail = (number ≡ detail) × (detail ≤ 255)

@@ -34,21 +34,25 @@ AreModes modes numbers =
 
 -- this is the key, with modifiers and modes, that the numbers stand for
 abbrev pub IsPress : Press → ℕ → ℕ → ℕ → CModes → Type 0
-IsPress press key detail bits modes = StandFor key detail press.key × AreModifiers press.modifiers bits × AreModes press.modes modes
+IsPress press key detail bits modes =
+    StandFor key detail press.key × AreModifiers press.modifiers bits × AreModes press.modes modes
 
--- the text that a terminal sends for a key; none for a function key without one, and the empty text for a key that is up
+-- the text that a terminal sends for a key; none for a function key without one,
+-- and the empty text for a key that is up
 abbrev pub sent : Press → Bool → Option (List ℕ)
 sent press is_down = if is_down then enc press.key press.modifiers press.modes else Some []
 
 -- the numbers stand for a key that has a text: `out` has as much of it as it has room for, and `len` is its length
 abbrev pub Wrote : ℕ → ℕ → ℕ → Bool → CModes → List ℕ → List ℕ → ℕ → Type 0
 Wrote key detail bits is_down modes before after len =
-    (press : Press) × (text : List ℕ) × IsPress press key detail bits modes × (sent press is_down ≡ Some text) × (len ≡ length text) × (after ≡ copied text before)
+    (press : Press) × (text : List ℕ) × IsPress press key detail bits modes × (sent press is_down ≡ Some text)
+    × (len ≡ length text) × (after ≡ copied text before)
 
 -- the numbers stand for a function key that is down and has no text
 abbrev pub HasNoText : ℕ → ℕ → ℕ → Bool → CModes → Type 0
 HasNoText key detail bits is_down modes =
-    (press : Press) × (number : ℕ) × IsPress press key detail bits modes × (is_down ≡ true) × (unhandled press.key ≡ Some number)
+    (press : Press) × (number : ℕ) × IsPress press key detail bits modes × (is_down ≡ true)
+    × (unhandled press.key ≡ Some number)
 
 -- one of the numbers stands for nothing
 abbrev pub IsBad : ℕ → ℕ → ℕ → CModes → Type 0

@@ -164,3 +164,40 @@ fn names_keys(rt: HostRuntime) -> Result<(), Fail> {
     assert!(rt; name == *b"Intern");
     Ok(())
 }
+
+// A paste of 100 KB, and then 70,000 keys.
+#[test]
+fn takes_much_input(rt: HostRuntime) -> Result<(), Fail> {
+    let alloc = rt.alloc();
+    let body = b"0123456789abcdef".repeat(alloc, 6400)?;
+    let mut paste = b"\x1b[200~".to_vec(alloc)?;
+    paste.extend_from_slice(body.as_slice())?;
+    paste.extend_from_slice(b"\x1b[201~")?;
+    let keys = b"\x1b[Aq".repeat(alloc, 35000)?;
+    let mut text = b".".repeat(alloc, 102400)?;
+    let mut parser = Handle::empty();
+    let mut event = NO_EVENT;
+    assert!(rt; tw_parser_init(alloc, &mut parser));
+    assert!(rt; tw_parser_feed(alloc, &mut parser, paste.as_slice()));
+    assert_eq!(rt; tw_parser_next(alloc, &mut parser, MORE, &mut event), EVENT);
+    assert!(rt; event.kind == 3 && event.paste_len == 102400);
+    assert_eq!(rt;
+        tw_parser_paste(alloc, &mut parser, text.as_mut_slice()),
+        102400
+    );
+    assert!(rt; text == body);
+    assert!(rt; tw_parser_feed(alloc, &mut parser, keys.as_slice()));
+    for number in 0..35000 {
+        assert_eq!(rt; tw_parser_next(alloc, &mut parser, MORE, &mut event), EVENT);
+        assert!(rt; event.kind == 1 && event.key == 31, "arrow {number}");
+        assert_eq!(rt; tw_parser_next(alloc, &mut parser, MORE, &mut event), EVENT);
+        assert!(rt;
+            event.kind == 1 && event.key == 1 && event.detail == 0x71,
+            "letter {number}"
+        );
+    }
+    assert_eq!(rt; tw_parser_next(alloc, &mut parser, MORE, &mut event), NONE);
+    tw_parser_free(alloc, &mut parser);
+    parser.close();
+    Ok(())
+}

@@ -103,7 +103,8 @@ IsApart (Broken byte) = ⊥
 abbrev pub EndsFirst : List ℕ → Type 0
 EndsFirst body = (before after : List ℕ) → body ++ END ≡ before ++ END ++ after → after ≡ []
 
--- The items: each has bytes that begin u, and one event. A byte that begins no character stands as the character U+FFFD.
+-- The items: each has bytes that begin u, and one event. A byte that begins no character stands as the character
+-- U+FFFD.
 pub data Item (u : List ℕ) (more : Bool) : List ℕ → InputEvent → Type 0 where
   key : (text : List ℕ) (k : KeyEvent) → IsLongest u text (Row k) → text ≢ START → (text ≡ ESC → u ≡ ESC)
       → Item u more text (Key k)

@@ -29,8 +29,8 @@ OneMeaning = (T : List ℕ) (f : Bool) → (E : List InputEvent) × (W : List �
 abbrev pub FewEvents : Type 0
 FewEvents = (T W : List ℕ) (E : List InputEvent) (f : Bool) → Steps T f E W → length E + length W ≤ length T
 
--- The same of all reads of a stream together, whether each is read whole or may stop between two items. Nothing waits before the
--- first one, and what waits after the last one counts as events do.
+-- The same of all reads of a stream together, whether each is read whole or may stop between two items. Nothing waits
+-- before the first one, and what waits after the last one counts as events do.
 abbrev pub FewEventsInStream : Type 0
 FewEventsInStream = (reads : List OneRead) (events : List InputEvent) (waiting : List ℕ)
     → (ReadInTurn Means [] reads events waiting → length events + length waiting ≤ length (bytes_of_reads reads))
@@ -60,7 +60,8 @@ most_undecided = 20
 pub data Waits (u : List ℕ) (more : Bool) : Type 0 where
   nothing : u ≡ [] → Waits u more
   open_paste : (body : List ℕ) → u ≡ START ++ body → ¬ Occurs END body → Waits u more
-  undecided : (held bytes : List ℕ) → IsHeldEscape held → u ≡ held ++ bytes → bytes ≢ [] → IsBeginning bytes → length bytes ≤ most_undecided → more ≡ true → Waits u more
+  undecided : (held bytes : List ℕ) → IsHeldEscape held → u ≡ held ++ bytes → bytes ≢ [] → IsBeginning bytes
+      → length bytes ≤ most_undecided → more ≡ true → Waits u more
 
 -- Every rest waits for one of these.
 abbrev pub WaitingShape : Type 0
@@ -83,14 +84,15 @@ FlushMatters text c =
     (E E1 E2 : List InputEvent) × (W W1 W2 : List ℕ)
     × Means (text ++ c) false E W × Means text false E1 W1 × Means (W1 ++ c) false E2 W2 × (E ≢ E1 ++ E2)
 
--- What properly begins a sequence or a character, after at most one held Escape, may go on so that a flush before changes
--- the events.
+-- What properly begins a sequence or a character, after at most one held Escape, may go on so that a flush before
+-- changes the events.
 abbrev pub Undecided : Type 0
 Undecided = (held p : List ℕ) → IsHeldEscape held → p ≢ [] → IsBeginning p → (c : List ℕ) × FlushMatters (held ++ p) c
 
 -- the bytes of a row that properly begin another row
 abbrev pub BeginsRow : List ℕ → Type 0
-BeginsRow text = (key longer : KeyEvent) × (tail : List ℕ) × Contains rows (text, key) × (tail ≢ []) × Contains rows (text ++ tail, longer)
+BeginsRow text = (key longer : KeyEvent) × (tail : List ℕ) × Contains rows (text, key) × (tail ≢ [])
+    × Contains rows (text ++ tail, longer)
 
 -- Of the rows exactly three properly begin another row.
 abbrev pub ThreeBeginnings : Type 0

@@ -55,7 +55,8 @@ keys_without_modifiers =
 
 abbrev pub unlisted_near_keys_without_modifiers : List Press
 unlisted_near_keys_without_modifiers =
-    (ApplicationUpArrow, SHIFT, off) ∷ (PageUp, CTRL, level 1) ∷ (Delete, SHIFT, level 2) ∷ (KeyPadPageUp, NONE, off) ∷ []
+    (ApplicationUpArrow, SHIFT, off) ∷ (PageUp, CTRL, level 1) ∷ (Delete, SHIFT, level 2)
+    ∷ (KeyPadPageUp, NONE, off) ∷ []
 
 -- characters alone, of each length in UTF-8: from the space on, but not DEL
 abbrev pub characters : List Press
@@ -129,9 +130,11 @@ unlisted_near_edit_and_high_function_keys =
 -- Tab and Enter, where it is on
 abbrev pub tab_and_enter : List Press
 tab_and_enter =
-    (Tab, NONE, level 0) ∷ (Enter, NONE, level 1) ∷ (Tab, SHIFT, level 2) ∷ (Enter, SHIFT, level 3) ∷ (Tab, ALT, level 0)
+    (Tab, NONE, level 0) ∷ (Enter, NONE, level 1) ∷ (Tab, SHIFT, level 2) ∷ (Enter, SHIFT, level 3)
+    ∷ (Tab, ALT, level 0)
     ∷ (Enter, ALT, level 1) ∷ (Tab, ALT + SHIFT, level 2) ∷ (Enter, ALT + SHIFT, level 3) ∷ (Tab, CTRL, level 0)
-    ∷ (Enter, CTRL, level 1) ∷ (Tab, CTRL + SHIFT, level 2) ∷ (Enter, CTRL + SHIFT, level 3) ∷ (Tab, CTRL + ALT, level 0)
+    ∷ (Enter, CTRL, level 1) ∷ (Tab, CTRL + SHIFT, level 2) ∷ (Enter, CTRL + SHIFT, level 3)
+    ∷ (Tab, CTRL + ALT, level 0)
     ∷ (Enter, CTRL + ALT, level 1) ∷ (Tab, CTRL + ALT + SHIFT, level 2) ∷ (Enter, CTRL + ALT + SHIFT, level 3) ∷ []
 
 abbrev pub unlisted_near_tab_and_enter : List Press
@@ -146,12 +149,14 @@ characters_with_ctrl =
 
 abbrev pub unlisted_near_characters_with_ctrl : List Press
 unlisted_near_characters_with_ctrl =
-    (Char 0x7f, CTRL, level 2) ∷ (Char 0x20, CTRL, level 1) ∷ (Char 0x20, CTRL + ALT, off) ∷ (Char 0x1f, CTRL, level 2) ∷ []
+    (Char 0x7f, CTRL, level 2) ∷ (Char 0x20, CTRL, level 1) ∷ (Char 0x20, CTRL + ALT, off)
+    ∷ (Char 0x1f, CTRL, level 2) ∷ []
 
 -- digits and the space with Ctrl and Shift at level 2
 abbrev pub digits_with_ctrl_and_shift : List Press
 digits_with_ctrl_and_shift =
-    (Char 0x20, CTRL + SHIFT, level 2) ∷ (Char 0x30, CTRL + ALT + SHIFT, level 2) ∷ (Char 0x39, CTRL + SHIFT, level 2) ∷ []
+    (Char 0x20, CTRL + SHIFT, level 2) ∷ (Char 0x30, CTRL + ALT + SHIFT, level 2)
+    ∷ (Char 0x39, CTRL + SHIFT, level 2) ∷ []
 
 abbrev pub unlisted_near_digits_with_ctrl_and_shift : List Press
 unlisted_near_digits_with_ctrl_and_shift =
@@ -165,7 +170,8 @@ escape_and_backspace =
     ∷ (Escape, ALT, level 2) ∷ (Backspace, ALT, level 2) ∷ (Escape, ALT + SHIFT, level 2)
     ∷ (Backspace, ALT + SHIFT, level 2) ∷ (Escape, CTRL, level 2) ∷ (Backspace, CTRL, level 2)
     ∷ (Escape, CTRL + SHIFT, level 2) ∷ (Backspace, CTRL + SHIFT, level 2) ∷ (Escape, CTRL + ALT, level 2)
-    ∷ (Backspace, CTRL + ALT, level 2) ∷ (Escape, CTRL + ALT + SHIFT, level 2) ∷ (Backspace, CTRL + ALT + SHIFT, level 2) ∷ []
+    ∷ (Backspace, CTRL + ALT, level 2) ∷ (Escape, CTRL + ALT + SHIFT, level 2)
+    ∷ (Backspace, CTRL + ALT + SHIFT, level 2) ∷ []
 
 abbrev pub unlisted_near_escape_and_backspace : List Press
 unlisted_near_escape_and_backspace =

@@ -11,8 +11,9 @@ OneRead = List ℕ × Bool
 abbrev pub bytes_of_reads : List OneRead → List ℕ
 bytes_of_reads reads = flat_map (λ r. r.0) reads
 
--- One read after another, from the text that waits before them. What waits after a read comes before the bytes of the next one. How
--- each is read is said by `Gives`: whole, as `Means` says, or perhaps stopped between two items, as `Steps` says.
+-- One read after another, from the text that waits before them. What waits after a read comes before the bytes of the
+-- next one. How each is read is said by `Gives`: whole, as `Means` says, or perhaps stopped between two items,
+-- as `Steps` says.
 abbrev pub ReadInTurn : (List ℕ → Bool → List InputEvent → List ℕ → Type 0)
     → List ℕ → List OneRead → List InputEvent → List ℕ → Type 0
 ReadInTurn Gives before [] events waiting = (events ≡ []) × (before ≡ waiting)

@@ -1,6 +1,7 @@
 -- The sequence table, rule by rule: each rule gives pairs of bytes and the key that they spell.
--- From xterm's control sequences ("PC-Style Function Keys", "VT220-Style Function Keys", modifyOtherKeys), from fixterms
--- (CSI u) and from rxvt's keys ($, ^ and @ at the end). The table is the set of these pairs, whatever their order.
+-- From xterm's control sequences ("PC-Style Function Keys", "VT220-Style Function Keys", modifyOtherKeys), from
+-- fixterms (CSI u) and from rxvt's keys ($, ^ and @ at the end). The table is the set of these pairs,
+-- whatever their order.
 use Rattle.std.specs.Prelude.{ℕ, zero, suc, ◌+◌, Bool, not, List, [], ◌∷◌, ◌++◌, map, filter, flat_map, codes, decimal, if◌then◌else◌, ◌==◌, ◌||◌}
 use Rattle.std.specs.Fmt.{digits}
 use Rattle.termwiz_keys.specs.declared.types.KeyCode.{KeyCode}
@@ -35,7 +36,8 @@ to_eight =
 abbrev pub nine_up : List Suffix
 nine_up =
     (codes ";9", ALT) ∷ (codes ";10", ALT + SHIFT) ∷ (codes ";11", ALT) ∷ (codes ";12", ALT + SHIFT)
-    ∷ (codes ";13", ALT + CTRL) ∷ (codes ";14", ALT + CTRL + SHIFT) ∷ (codes ";15", ALT + CTRL) ∷ (codes ";16", ALT + CTRL + SHIFT) ∷ []
+    ∷ (codes ";13", ALT + CTRL) ∷ (codes ";14", ALT + CTRL + SHIFT) ∷ (codes ";15", ALT + CTRL)
+    ∷ (codes ";16", ALT + CTRL + SHIFT) ∷ []
 
 -- the empty suffix, and those up to ;8
 abbrev pub nine : List Suffix
@@ -75,11 +77,13 @@ application_arrows =
 
 -- F1 to F4, by their letters
 abbrev pub first_functions : List (List ℕ × KeyCode)
-first_functions = (codes "P", Function 1) ∷ (codes "Q", Function 2) ∷ (codes "R", Function 3) ∷ (codes "S", Function 4) ∷ []
+first_functions =
+    (codes "P", Function 1) ∷ (codes "Q", Function 2) ∷ (codes "R", Function 3) ∷ (codes "S", Function 4) ∷ []
 
 -- the key that a number stands for in the rule modify_other_keys
 abbrev pub key_of_code : ℕ → KeyCode
-key_of_code c = if (c == 8) || (c == 127) then Backspace else (if c == 27 then Escape else (if c == 9 then Tab else (if (c == 10) || (c == 13) then Enter else Char c)))
+key_of_code c = if (c == 8) || (c == 127) then Backspace
+    else (if c == 27 then Escape else (if c == 9 then Tab else (if (c == 10) || (c == 13) then Enter else Char c)))
 
 -- a byte that stands for no key of its own: not 8, 9, 10 or 13
 abbrev pub is_letter : ℕ → Bool
@@ -233,16 +237,25 @@ application_home_end_rows = keys_with_modifiers SS3 home_and_end NONE
 unfoldable pub ctrl_shift_tab_rows : List TableRow
 ctrl_shift_tab_rows = (CSI ++ codes "1;5Z", key_with Tab (CTRL + SHIFT)) ∷ []
 
--- the whole table. Its rows are all different, so the order of the rules says nothing: those whose bytes come first stand first, as far as rules go.
+-- the whole table. Its rows are all different, so the order of the rules says nothing:
+-- those whose bytes come first stand first, as far as rules go.
 unfoldable pub rows : List TableRow
 rows =
-    control_letters_rows ++ backspace_bytes_rows ++ tab_byte_rows ++ enter_bytes_rows ++ escape_byte_rows ++ alt_letters_rows ++ alt_bracket_rows ++ ctrl_arrows_rows ++ application_arrows_rows ++ modified_application_arrows_rows
-    ++ ss3_function_keys_rows ++ application_home_end_rows ++ modified_cursor_keys_rows ++ lettered_function_keys_rows ++ ctrl_shift_tab_rows ++ paste_start_rows ++ paste_end_rows ++ numbered_function_keys_rows ++ modify_other_keys_rows
-    ++ csi_u_rows ++ high_function_keys_rows ++ modified_edit_keys_rows ++ edit_keys_rows ++ cursor_keys_rows ++ shift_tab_rows ++ shift_arrows_rows
+    control_letters_rows ++ backspace_bytes_rows ++ tab_byte_rows ++ enter_bytes_rows ++ escape_byte_rows
+    ++ alt_letters_rows ++ alt_bracket_rows ++ ctrl_arrows_rows ++ application_arrows_rows
+    ++ modified_application_arrows_rows ++ ss3_function_keys_rows ++ application_home_end_rows
+    ++ modified_cursor_keys_rows ++ lettered_function_keys_rows ++ ctrl_shift_tab_rows ++ paste_start_rows
+    ++ paste_end_rows ++ numbered_function_keys_rows ++ modify_other_keys_rows ++ csi_u_rows ++ high_function_keys_rows
+    ++ modified_edit_keys_rows ++ edit_keys_rows ++ cursor_keys_rows ++ shift_tab_rows ++ shift_arrows_rows
 
 -- the table, written out: to unfold this is to unfold every rule
 unfoldable pub written_out : List TableRow
-unfolding numbers rows control_letters_rows backspace_bytes_rows tab_byte_rows enter_bytes_rows escape_byte_rows alt_letters_rows alt_bracket_rows shift_tab_rows csi_u_rows modify_other_keys_rows cursor_keys_rows modified_cursor_keys_rows shift_arrows_rows ctrl_arrows_rows application_arrows_rows modified_application_arrows_rows ss3_function_keys_rows lettered_function_keys_rows numbered_function_keys_rows edit_keys_rows paste_start_rows paste_end_rows modified_edit_keys_rows high_function_keys_rows application_home_end_rows ctrl_shift_tab_rows digits
+unfolding numbers rows control_letters_rows backspace_bytes_rows tab_byte_rows enter_bytes_rows escape_byte_rows
+    alt_letters_rows alt_bracket_rows shift_tab_rows csi_u_rows modify_other_keys_rows cursor_keys_rows
+    modified_cursor_keys_rows shift_arrows_rows ctrl_arrows_rows application_arrows_rows
+    modified_application_arrows_rows ss3_function_keys_rows lettered_function_keys_rows numbered_function_keys_rows
+    edit_keys_rows paste_start_rows paste_end_rows modified_edit_keys_rows high_function_keys_rows
+    application_home_end_rows ctrl_shift_tab_rows digits
 written_out = rows
 
 -- a map with these rows put into it, one after another

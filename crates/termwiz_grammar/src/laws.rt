@@ -15,7 +15,7 @@ pub fn one_meaning()
     ensures { OneMeaning }
 {}
 
-/// The sequence table has 2937 rows, and no two of them have the same bytes. The longest rows have eleven bytes, and no row
+/// The number of rows of the sequence table, no two of which have the same bytes. The longest rows have eleven bytes, and no row
 /// begins with ESC `[<`, as mouse reports do.
 pub fn table_facts()
     ensures { TableFacts }

@@ -16,7 +16,8 @@ module _ {F : Type 0} where
 
   -- the same for events with numbers
   abbrev pub WasCalledOnNumbered : (F → ℕ → InputEvent → Unit {0} → F → Type 0) → F → List (ℕ × InputEvent) → F → Type 0
-  WasCalledOnNumbered step first given last = FoldsTo (λ before event after. step before event.0 event.1 tt after) first given last
+  WasCalledOnNumbered step first given last =
+      FoldsTo (λ before event after. step before event.0 event.1 tt after) first given last
 
   abbrev pub MayBeCalledOnNumbered : Mut F (ℕ × (InputEvent × Unit {0})) (Unit {0}) → F → List (ℕ × InputEvent) → Type 0
   MayBeCalledOnNumbered callback first given = ready callback first (map (λ event. (event.0, (event.1, tt))) given)

@@ -50,7 +50,8 @@ pub record HasLoneEscape (u : List ℕ) : Type 0 where
 
 -- the text begins with ESC, and a byte that isn't from SPACE to ~ follows it
 abbrev pub HasNonPrintableAfterEscape : List ℕ → Type 0
-HasNonPrintableAfterEscape u = (1 < length u) × (slice_index_or u 0 0 ≡ 0x1b) × ¬ IsPrintableAscii (slice_index_or u 1 0)
+HasNonPrintableAfterEscape u =
+    (1 < length u) × (slice_index_or u 0 0 ≡ 0x1b) × ¬ IsPrintableAscii (slice_index_or u 1 0)
 
 -- an item with this event stands at the text, and its bytes are so many first ones
 abbrev pub IsItemAt : List ℕ → Bool → MatchedItem → Type 0

@@ -1,4 +1,5 @@
--- Pieces of a text that are read one after another, all but the last with more to come. Each event has its piece's number.
+-- Pieces of a text that are read one after another, all but the last with more to come.
+-- Each event has its piece's number.
 use Rattle.std.specs.Prelude.{◌<◌, ◌≤◌, ◌==◌, ℕ, Bool, true, List, [], ◌∷◌, ◌++◌, All, length, take, map, filter, nat_lt, if◌then◌else◌}
 use Rattle.std.specs.List.{flat_map}
 use Rattle.std.specs.List.Sorted.{IsNonDecreasingBy}
@@ -35,20 +36,22 @@ numbered number events = map (λ event. (number, event)) events
 abbrev pub of_first : ℕ → List NumberedEvent → List NumberedEvent
 of_first k given = filter (λ event. nat_lt event.0 k) given
 
--- Each event has the number of its piece: numbers never fall, and for each k below the number of pieces the waiting text and
--- the first k pieces, with more to come, mean the events that are numbered below k.
+-- Each event has the number of its piece: numbers never fall, and for each k below the number of pieces the waiting
+-- text and the first k pieces, with more to come, mean the events that are numbered below k.
 pub record AreNumbered (waiting : List ℕ) (pieces : List (List ℕ)) (given : List NumberedEvent) : Type 0 where
   pub in_range : All (λ event. event.0 < length pieces) given
   pub in_order : IsNonDecreasingBy (λ event. event.0) given
-  pub by_piece : (k : ℕ) → 0 < k → k < length pieces → (rest : List ℕ) × Means (waiting ++ join (take k pieces)) true (events_of (of_first k given)) rest
+  pub by_piece : (k : ℕ) → 0 < k → k < length pieces
+      → (rest : List ℕ) × Means (waiting ++ join (take k pieces)) true (events_of (of_first k given)) rest
 
 -- the flag under which the last of so many first pieces is read
 abbrev pub flag_at : List (List ℕ) → Bool → ℕ → Bool
 flag_at pieces more taken = if taken == length pieces then more else true
 
--- So many first pieces were taken, after the waiting text, and these events were given: each with its piece's number. The
--- last piece may have been read in part.
-pub record ReadsFirst (waiting : List ℕ) (pieces : List (List ℕ)) (more : Bool) (taken : ℕ) (given : List NumberedEvent) (rest : List ℕ) : Type 0 where
+-- So many first pieces were taken, after the waiting text, and these events were given: each with its piece's number.
+-- The last piece may have been read in part.
+pub record ReadsFirst (waiting : List ℕ) (pieces : List (List ℕ)) (more : Bool) (taken : ℕ) (given : List NumberedEvent)
+    (rest : List ℕ) : Type 0 where
   pub within : taken ≤ length pieces
   pub steps : Steps (waiting ++ join (take taken pieces)) (flag_at pieces more taken) (events_of given) rest
   pub are_numbered : AreNumbered waiting (take taken pieces) given

@@ -2,6 +2,8 @@
 use Rattle.std.specs.Prelude.{◌≡◌, ◌↔◌, Bool, IsTrue}
 use Rattle.termwiz_input.specs.declared.input.ParseVecError.{ParseVecError}
 
--- The test answers whether two refused calls gave the same events and whether the bytes of both were taken, or of neither.
+-- The test answers whether two refused calls gave the same events and whether the bytes of both were taken,
+-- or of neither.
 abbrev pub TellsEqualRefusals : (ParseVecError → ParseVecError → Bool) → Type 0
-TellsEqualRefusals test = (a b : ParseVecError) → IsTrue (test a b) ↔ ((a.events.items ≡ b.events.items) × (a.taken ≡ b.taken))
+TellsEqualRefusals test = (a b : ParseVecError)
+    → IsTrue (test a b) ↔ ((a.events.items ≡ b.events.items) × (a.taken ≡ b.taken))

@@ -523,11 +523,3 @@ impl InputParser {
         Err(ParseVecError { events, taken })
     }
 }
-
-// For the test of how much memory the buffer keeps.
-#[cfg(test)]
-impl InputParser {
-    pub(crate) fn buffer(&self) -> &ReadBuffer {
-        &self.buffer
-    }
-}

@@ -8,8 +8,6 @@ pub mod laws;
 mod mouse_report;
 mod paste;
 mod rules;
-#[cfg(test)]
-mod tests;
 
 pub use termwiz_keymap::{keymap, readbuf};
 pub use termwiz_keys::{encode, types};

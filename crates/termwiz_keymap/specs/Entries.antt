@@ -21,7 +21,8 @@ module _ {V : Type 0} where
 
   -- whether some key begins with the text and is longer
   abbrev pub some_key_extends : List ℕ → Entries V → Bool
-  some_key_extends text es = list_any (λ e. nat_lt (length text) (length e.0) && pointwise nat_eq (take (length text) e.0) text) es
+  some_key_extends text es =
+      list_any (λ e. nat_lt (length text) (length e.0) && pointwise nat_eq (take (length text) e.0) text) es
 
   -- the longest key that begins the text has this length and this value
   pub record IsLongestEntry (es : Entries V) (text : List ℕ) (len : ℕ) (value : V) : Type 0 where

@@ -36,7 +36,8 @@ module _ {V : Type 0} where
 
   -- each key is before those after it, in the order of bytes
   abbrev pub AreAscending : List (Box (Row V)) → Type 0
-  AreAscending rows = (i j : ℕ) (r : Box (Row V)) → i < j → j < length rows → slice_cmp nat_cmp (key_of (get_or rows i r)) (key_of (get_or rows j r)) ≡ Less
+  AreAscending rows = (i j : ℕ) (r : Box (Row V)) → i < j → j < length rows
+      → slice_cmp nat_cmp (key_of (get_or rows i r)) (key_of (get_or rows j r)) ≡ Less
 
   -- the row has this key and this value
   pub record IsRowOf (k : List ℕ) (v : V) (row : Box (Row V)) : Type 0 where
@@ -60,24 +61,28 @@ module _ {V : Type 0} where
   pub record IsGapFor (rows : List (Box (Row V))) (key : List ℕ) (i : ℕ) : Type 0 where
     pub in_range : i ≤ length rows
     pub smaller_before : (j : ℕ) (r : Box (Row V)) → j < i → slice_cmp nat_cmp (key_of (get_or rows j r)) key ≡ Less
-    pub greater_after : (j : ℕ) (r : Box (Row V)) → i ≤ j → j < length rows → slice_cmp nat_cmp key (key_of (get_or rows j r)) ≡ Less
+    pub greater_after : (j : ℕ) (r : Box (Row V)) → i ≤ j → j < length rows
+        → slice_cmp nat_cmp key (key_of (get_or rows j r)) ≡ Less
 
   -- none of the rows' keys is after this one
   abbrev pub AreUpTo : List (Box (Row V)) → List ℕ → Type 0
-  AreUpTo rows key = (i : ℕ) (r : Box (Row V)) → i < length rows → slice_cmp nat_cmp key (key_of (get_or rows i r)) ≢ Less
+  AreUpTo rows key = (i : ℕ) (r : Box (Row V)) → i < length rows
+      → slice_cmp nat_cmp key (key_of (get_or rows i r)) ≢ Less
 
   -- none of the rows before the first place has a key after this one, and each from the second place on has
   pub record IsBounded (rows : List (Box (Row V))) (key : List ℕ) (low high : ℕ) : Type 0 where
     pub low_inside : low ≤ length rows
     pub high_inside : high ≤ length rows
     pub up_to : (i : ℕ) (r : Box (Row V)) → i < low → slice_cmp nat_cmp key (key_of (get_or rows i r)) ≢ Less
-    pub after : (i : ℕ) (r : Box (Row V)) → high ≤ i → i < length rows → slice_cmp nat_cmp key (key_of (get_or rows i r)) ≡ Less
+    pub after : (i : ℕ) (r : Box (Row V)) → high ≤ i → i < length rows
+        → slice_cmp nat_cmp key (key_of (get_or rows i r)) ≡ Less
 
   -- the first rows, so many of them, are those whose keys aren't after this one
   pub record IsCountUpTo (rows : List (Box (Row V))) (key : List ℕ) (count : ℕ) : Type 0 where
     pub in_range : count ≤ length rows
     pub up_to : AreUpTo (take count rows) key
-    pub after : (i : ℕ) (r : Box (Row V)) → count ≤ i → i < length rows → slice_cmp nat_cmp key (key_of (get_or rows i r)) ≡ Less
+    pub after : (i : ℕ) (r : Box (Row V)) → count ≤ i → i < length rows
+        → slice_cmp nat_cmp key (key_of (get_or rows i r)) ≡ Less
 
   -- the last row whose key begins the text has so many bytes and this value
   pub record IsLastBegins (rows : List (Box (Row V))) (text : List ℕ) (len : ℕ) (value : V) : Type 0 where

@@ -50,8 +50,10 @@ module _ {V : Type 0} where
 
   -- For each key, either neither map has it, or both have it and the copy's value is a clone of the original's.
   abbrev pub IsClone : (V → V → Type 0) → ByteMap V → ByteMap V → Type 0
-  IsClone is_clone original copy = (key : List ℕ) → MatchOption (map.get original key) (map.get copy key ≡ None) (λ value. IsSomeAnd (map.get copy key) (is_clone value))
+  IsClone is_clone original copy = (key : List ℕ) → MatchOption (map.get original key) (map.get copy key ≡ None)
+      (λ value. IsSomeAnd (map.get copy key) (is_clone value))
 
 -- Where a lookup answers Exact although more may come, each longer text has the same answer.
 abbrev pub ExactStays : Type 0 → Type 0
-ExactStays V = (m : ByteMap V) (t s : List ℕ) (n : ℕ) (v : V) (more : Bool) → LookupGives m t true (Exact n v) → LookupGives m (t ++ s) more (Exact n v)
+ExactStays V = (m : ByteMap V) (t s : List ℕ) (n : ℕ) (v : V) (more : Bool) → LookupGives m t true (Exact n v)
+    → LookupGives m (t ++ s) more (Exact n v)

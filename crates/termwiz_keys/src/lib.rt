@@ -2,5 +2,6 @@
 #![tactic(auto)]
 
 pub mod encode;
+pub mod function_codes;
 pub mod laws;
 pub mod types;

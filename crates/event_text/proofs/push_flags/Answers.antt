@@ -12,13 +12,18 @@ loop-flag-preserved g c = λ exact.
     let flag = c.flag-item.result in
     elim c.if-has_flag.branch [
       | then-has_flag+in_ok-push_name w ↦ rw (w.out-is, w.named-is) (
-          after_named_flag c.flags-flags.result.now c.loop-flag.flag-index flag (λ f. (f.name.now, g.F.Flags.set_of f.value))
-          (g.F.Flags.set_of c.args.set.now) c.args.out.now.items c.loop-flag.out.items w.push_name.new.out.items c.loop-flag.named
-          c.loop-flag-test.true c.flag-item.is c.has_flag.result test w.if-has_flag.true so_far.0 so_far.1 (rw w.name.ensures at w.in_ok-push_name.ensures)
+          after_named_flag c.flags-flags.result.now c.loop-flag.flag-index flag
+          (λ f. (f.name.now, g.F.Flags.set_of f.value))
+          (g.F.Flags.set_of c.args.set.now) c.args.out.now.items c.loop-flag.out.items w.push_name.new.out.items
+          c.loop-flag.named
+          c.loop-flag-test.true c.flag-item.is c.has_flag.result test w.if-has_flag.true so_far.0 so_far.1
+          (rw w.name.ensures at w.in_ok-push_name.ensures)
           )
       | else-has_flag w ↦ rw (w.out-is, w.named-is) (
-          after_other_flag c.flags-flags.result.now c.loop-flag.flag-index flag (λ f. (f.name.now, g.F.Flags.set_of f.value))
-          (g.F.Flags.set_of c.args.set.now) c.args.out.now.items c.loop-flag.out.items c.loop-flag.out.items c.loop-flag.named
+          after_other_flag c.flags-flags.result.now c.loop-flag.flag-index flag
+          (λ f. (f.name.now, g.F.Flags.set_of f.value))
+          (g.F.Flags.set_of c.args.set.now) c.args.out.now.items c.loop-flag.out.items c.loop-flag.out.items
+          c.loop-flag.named
           c.loop-flag-test.true c.flag-item.is c.has_flag.result test w.if-has_flag.false so_far.0 so_far.1
           )
     ]
@@ -26,17 +31,20 @@ loop-flag-preserved g c = λ exact.
 pub returns-then-named : goal.returns-then-named
 returns-then-named g c = λ exact.
     let so_far = c.loop-flag.invariant exact in
-    let whole = all_flags c.flags-flags.result.now c.loop-flag.flag-index (λ f. (f.name.now, g.F.Flags.set_of f.value)) g.F.Flags.table
+    let whole = all_flags c.flags-flags.result.now c.loop-flag.flag-index
+    (λ f. (f.name.now, g.F.Flags.set_of f.value)) g.F.Flags.table
     (g.F.Flags.set_of c.args.set.now) c.loop-flag-test.false (c.flags-flags.ensures exact) in
     some_named _ _ c.args.out.now.items c.loop-flag.out.items c.loop-flag.named whole so_far.0 so_far.1 c.if-named.true
 
 pub returns-else-named : goal.returns-else-named
 returns-else-named g c = λ exact.
     let so_far = c.loop-flag.invariant exact in
-    let whole = all_flags c.flags-flags.result.now c.loop-flag.flag-index (λ f. (f.name.now, g.F.Flags.set_of f.value)) g.F.Flags.table
+    let whole = all_flags c.flags-flags.result.now c.loop-flag.flag-index
+    (λ f. (f.name.now, g.F.Flags.set_of f.value)) g.F.Flags.table
     (g.F.Flags.set_of c.args.set.now) c.loop-flag-test.false (c.flags-flags.ensures exact) in
     on_ok_weaker c.push-else-named.result
-    (none_named _ _ c.args.out.now.items c.loop-flag.out.items c.loop-flag.named whole so_far.0 so_far.1 c.if-named.false c.push-else-named.new.out.items)
+    (none_named _ _ c.args.out.now.items c.loop-flag.out.items c.loop-flag.named whole so_far.0 so_far.1
+    c.if-named.false c.push-else-named.new.out.items)
     c.push-else-named.ensures
 
 pub returns-then-is_empty : goal.returns-then-is_empty

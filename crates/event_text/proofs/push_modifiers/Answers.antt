@@ -8,7 +8,10 @@ use Rattle.event_text.proofs.push_modifiers.Goals.{then-has_flag+in_ok-push_name
 
 -- the modifiers' flags, with NONE
 modifiers_ascend : Ascend ((codes "NONE", 0) ∷ modifier_flags)
-modifiers_ascend = (lit< tt, (lit< tt, (lit< tt, (lit< tt, (lit< tt, (lit< tt, (lit< tt, (lit< tt, (lit< tt, (lit< tt, (lit< tt, tt)))))))))))
+modifiers_ascend = (
+  lit< tt,
+  (lit< tt, (lit< tt, (lit< tt, (lit< tt, (lit< tt, (lit< tt, (lit< tt, (lit< tt, (lit< tt, (lit< tt, tt)))))))))),
+)
 
 pub loop-flag-preserved : goal.loop-flag-preserved
 loop-flag-preserved c =
@@ -16,14 +19,20 @@ loop-flag-preserved c =
     let test = rw c.value-in-loop-flag.ensures at (c.has_flag.ensures tt) in
     elim c.if-has_flag.branch [
       | then-has_flag+in_ok-push_name w ↦ rw (w.out-is, w.named-is) (
-          after_named_flag c.flags-flags.result.now c.loop-flag.flag-index (get_or c.flags-flags.result.now c.loop-flag.flag-index _) (λ f. (f.name.now, f.value.0))
+          after_named_flag c.flags-flags.result.now c.loop-flag.flag-index
+          (get_or c.flags-flags.result.now c.loop-flag.flag-index _) (λ f. (f.name.now, f.value.0))
           c.args.modifiers.0 c.args.out.now.items c.loop-flag.out.items w.push_name.new.out.items c.loop-flag.named
-          c.loop-flag-test.true (get_or_default c.flags-flags.result.now c.loop-flag.flag-index _ _ c.loop-flag-test.true) c.has_flag.result test w.if-has_flag.true so_far.0 so_far.1 (rw w.name.ensures at w.in_ok-push_name.ensures)
+          c.loop-flag-test.true
+          (get_or_default c.flags-flags.result.now c.loop-flag.flag-index _ _ c.loop-flag-test.true) c.has_flag.result
+          test w.if-has_flag.true so_far.0 so_far.1 (rw w.name.ensures at w.in_ok-push_name.ensures)
           )
       | else-has_flag w ↦ rw (w.out-is, w.named-is) (
-          after_other_flag c.flags-flags.result.now c.loop-flag.flag-index (get_or c.flags-flags.result.now c.loop-flag.flag-index _) (λ f. (f.name.now, f.value.0))
+          after_other_flag c.flags-flags.result.now c.loop-flag.flag-index
+          (get_or c.flags-flags.result.now c.loop-flag.flag-index _) (λ f. (f.name.now, f.value.0))
           c.args.modifiers.0 c.args.out.now.items c.loop-flag.out.items c.loop-flag.out.items c.loop-flag.named
-          c.loop-flag-test.true (get_or_default c.flags-flags.result.now c.loop-flag.flag-index _ _ c.loop-flag-test.true) c.has_flag.result test w.if-has_flag.false so_far.0 so_far.1
+          c.loop-flag-test.true
+          (get_or_default c.flags-flags.result.now c.loop-flag.flag-index _ _ c.loop-flag-test.true) c.has_flag.result
+          test w.if-has_flag.false so_far.0 so_far.1
           )
     ]
 
@@ -34,12 +43,17 @@ returns-then-named c =
     let up : Ascend (map (λ f. (f.name.now, f.value.0)) flags) = rw (c.flags-flags.ensures tt) modifiers_ascend in
     elim c.loop-flag-test.branch [
       | else-loop-flag-test w ↦
-          let whole = all_flags flags c.loop-flag.flag-index (λ f. (f.name.now, f.value.0)) _ c.args.modifiers.0 w.loop-flag-test.false (c.flags-flags.ensures tt) in
-          some_named _ _ c.args.out.now.items c.loop-flag.out.items c.loop-flag.named whole so_far.0 so_far.1 c.if-named.true
+          let whole = all_flags flags c.loop-flag.flag-index
+          (λ f. (f.name.now, f.value.0)) _ c.args.modifiers.0 w.loop-flag-test.false (c.flags-flags.ensures tt) in
+          some_named _ _ c.args.out.now.items c.loop-flag.out.items c.loop-flag.named whole so_far.0 so_far.1
+          c.if-named.true
       | then-loop-flag-test+then-bits w ↦
-          let above : c.args.modifiers.0 < w.value.result.now.0 = omega (arith, w.bits.ensures tt, w.bits-in-loop-flag.ensures tt) in
-          let whole = all_below (λ f. (f.name.now, f.value.0)) c.args.modifiers.0 _ flags c.loop-flag.flag-index w.value.result.now.0 up w.loop-flag-test.true (ap (λ v. v.0) w.value.ensures) above in
-          some_named _ _ c.args.out.now.items c.loop-flag.out.items c.loop-flag.named (whole ∙ ap (names c.args.modifiers.0) (c.flags-flags.ensures tt)) so_far.0 so_far.1 c.if-named.true
+          let above : c.args.modifiers.0 < w.value.result.now.0 =
+          omega (arith, w.bits.ensures tt, w.bits-in-loop-flag.ensures tt) in
+          let whole = all_below (λ f. (f.name.now, f.value.0)) c.args.modifiers.0 _ flags c.loop-flag.flag-index
+          w.value.result.now.0 up w.loop-flag-test.true (ap (λ v. v.0) w.value.ensures) above in
+          some_named _ _ c.args.out.now.items c.loop-flag.out.items c.loop-flag.named
+          (whole ∙ ap (names c.args.modifiers.0) (c.flags-flags.ensures tt)) so_far.0 so_far.1 c.if-named.true
     ]
 
 pub returns-else-named : goal.returns-else-named
@@ -50,10 +64,17 @@ returns-else-named c =
     let written = c.push-else-named.new.out.items in
     elim c.loop-flag-test.branch [
       | else-loop-flag-test w ↦
-          let whole = all_flags flags c.loop-flag.flag-index (λ f. (f.name.now, f.value.0)) _ c.args.modifiers.0 w.loop-flag-test.false (c.flags-flags.ensures tt) in
-          on_ok_weaker c.push-else-named.result (none_named _ _ c.args.out.now.items c.loop-flag.out.items c.loop-flag.named whole so_far.0 so_far.1 c.if-named.false written) c.push-else-named.ensures
+          let whole = all_flags flags c.loop-flag.flag-index
+          (λ f. (f.name.now, f.value.0)) _ c.args.modifiers.0 w.loop-flag-test.false (c.flags-flags.ensures tt) in
+          on_ok_weaker c.push-else-named.result (none_named _ _ c.args.out.now.items c.loop-flag.out.items
+          c.loop-flag.named whole so_far.0 so_far.1 c.if-named.false written) c.push-else-named.ensures
       | then-loop-flag-test+then-bits w ↦
-          let above : c.args.modifiers.0 < w.value.result.now.0 = omega (arith, w.bits.ensures tt, w.bits-in-loop-flag.ensures tt) in
-          let whole = all_below (λ f. (f.name.now, f.value.0)) c.args.modifiers.0 _ flags c.loop-flag.flag-index w.value.result.now.0 up w.loop-flag-test.true (ap (λ v. v.0) w.value.ensures) above in
-          on_ok_weaker c.push-else-named.result (none_named _ _ c.args.out.now.items c.loop-flag.out.items c.loop-flag.named (whole ∙ ap (names c.args.modifiers.0) (c.flags-flags.ensures tt)) so_far.0 so_far.1 c.if-named.false written) c.push-else-named.ensures
+          let above : c.args.modifiers.0 < w.value.result.now.0 =
+          omega (arith, w.bits.ensures tt, w.bits-in-loop-flag.ensures tt) in
+          let whole = all_below (λ f. (f.name.now, f.value.0)) c.args.modifiers.0 _ flags c.loop-flag.flag-index
+          w.value.result.now.0 up w.loop-flag-test.true (ap (λ v. v.0) w.value.ensures) above in
+          on_ok_weaker c.push-else-named.result
+          (none_named _ _ c.args.out.now.items c.loop-flag.out.items c.loop-flag.named
+          (whole ∙ ap (names c.args.modifiers.0) (c.flags-flags.ensures tt)) so_far.0 so_far.1 c.if-named.false written)
+          c.push-else-named.ensures
     ]

@@ -10,7 +10,8 @@ parse-requires-2 g c = λ events rest steps. (still_callable g.F.FnMut _ _ _ c.r
 
 pub parse-requires-3 : goal.parse-requires-3
 parse-requires-3 g c = λ events rest steps.
-    (still_callable g.F.FnMut _ _ _ (still_callable g.F.FnMut _ _ _ c.requires c.in_ok-parse.ensures.ok.2) c.in_ok-parse-2.ensures.ok.2).at _
+    (still_callable g.F.FnMut _ _ _
+    (still_callable g.F.FnMut _ _ _ c.requires c.in_ok-parse.ensures.ok.2) c.in_ok-parse-2.ensures.ok.2).at _
 
 pub returns : goal.returns
 returns g c =

@@ -5,7 +5,8 @@ use Rattle.termwiz_input.specs.Laws.{OneMeaning}
 use Rattle.input_tests.proofs.read_encoded.Goals as goal
 
 -- two meanings of the text that a key has are the same
-same_meaning : (text : Option (List ℕ)) (s t : List ℕ) (D E : List InputEvent) (V W : List ℕ) → OneMeaning → text ≡ Some s → text ≡ Some t
+same_meaning : (text : Option (List ℕ)) (s t : List ℕ) (D E : List InputEvent) (V W : List ℕ) → OneMeaning
+    → text ≡ Some s → text ≡ Some t
     → Means s false D V → Means t false E W → (E ≡ D) × (W ≡ V)
 same_meaning text s t D E V W one a b means read =
     let m = one t false in
@@ -18,13 +19,15 @@ pub returns-clause-events : goal.returns-clause-events
 returns-clause-events c = λ listed.
     let back = c.read_back.ensures listed in
     (same_meaning _ _ _ _ _ _ _ c.one_meaning.ensures back.1 (c.in-Ok.ensures.text refl) back.2
-    (subst (λ u. Means u false c.in_ok-reading.reading.events.items c.in_ok-reading.ensures.0) c.as_bytes.ensures.value c.in_ok-reading.ensures.1)).0
+    (subst (λ u. Means u false c.in_ok-reading.reading.events.items c.in_ok-reading.ensures.0) c.as_bytes.ensures.value
+    c.in_ok-reading.ensures.1)).0
 
 pub returns-clause-nothing_left : goal.returns-clause-nothing_left
 returns-clause-nothing_left c = λ listed.
     let back = c.read_back.ensures listed in
     let same = same_meaning _ _ _ _ _ _ _ c.one_meaning.ensures back.1 (c.in-Ok.ensures.text refl) back.2
-    (subst (λ u. Means u false c.in_ok-reading.reading.events.items c.in_ok-reading.ensures.0) c.as_bytes.ensures.value c.in_ok-reading.ensures.1) in
+    (subst (λ u. Means u false c.in_ok-reading.reading.events.items c.in_ok-reading.ensures.0) c.as_bytes.ensures.value
+    c.in_ok-reading.ensures.1) in
     c.in_ok-reading.ensures.2 ∙ ap length same.1
 
 pub returns-in-Err-clause-refused : goal.returns-in-Err-clause-refused

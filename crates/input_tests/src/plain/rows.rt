@@ -1,13 +1,10 @@
 // The rows of the sequence table, rule by rule, as docs/GRAMMAR.md gives them under "The sequence table". A new row of the
-// page is added here: to the loop of its rule, and to `ROWS`.
+// page is added here, to the list or the loop of its rule.
 use super::modifiers_of;
 use std::alloc::{AllocError, Global};
 use std::collections::{BTreeMap, BTreeSet};
 use std::ops::Range;
 use termwiz_input::input::{Flags, KeyCode, KeyEvent, Modifiers};
-
-// How many rows docs/GRAMMAR.md counts.
-pub(crate) const ROWS: usize = 2937;
 
 // The modifiers of a suffix by its number; 0 stands for the empty suffix. One less than the number has the bits 1 for
 // SHIFT, 2 for ALT, 4 for CTRL and 8 for Meta.
@@ -27,18 +24,10 @@ fn key_of_code(code: u8) -> KeyCode {
     }
 }
 
-// The function key of a code in the rules `numbered_function_keys` and `high_function_keys`.
-fn function_of_code(code: u8) -> Option<u8> {
-    match code {
-        11..=15 => Some(code - 10),
-        17..=21 => Some(code - 11),
-        23..=26 => Some(code - 12),
-        28..=29 => Some(code - 13),
-        31..=34 => Some(code - 14),
-        42..=45 => Some(code - 21),
-        _ => None,
-    }
-}
+// The codes of the rules `numbered_function_keys` and `high_function_keys`, in the order of their keys from F1 on.
+const FUNCTION_CODES: &[u8] = &[
+    11, 12, 13, 14, 15, 17, 18, 19, 20, 21, 23, 24, 25, 26, 28, 29, 31, 32, 33, 34, 42, 43, 44, 45,
+];
 
 const CURSOR_KEYS: &[(char, KeyCode)] = &[
     ('A', KeyCode::UpArrow),
@@ -232,11 +221,9 @@ impl Rows {
 
     // The rules `numbered_function_keys` and `high_function_keys`.
     fn add_functions(&mut self) -> Result<(), AllocError> {
-        for code in 11..46u8 {
-            if let Some(number) = function_of_code(code) {
-                let front = format!(in self.alloc; "\x1b[{code}")?;
-                self.add_suffixed(front.as_str(), 0..17, "~", KeyCode::Function(number))?;
-            }
+        for (code, number) in FUNCTION_CODES.iter().zip(1..) {
+            let front = format!(in self.alloc; "\x1b[{code}")?;
+            self.add_suffixed(front.as_str(), 0..17, "~", KeyCode::Function(number))?;
         }
         Ok(())
     }

@@ -1,7 +1,7 @@
 // Texts that look random, and are the same in each run.
 ghost use Rattle.std.specs.Prelude.{◌<◌};
 
-use super::plain::{PlainReader, ROWS};
+use super::plain::PlainReader;
 use std::alloc::{AllocError, Global};
 
 // The bytes that the grammar names, parts and wholes of sequences, and beginnings of characters. ESC stands twice, so that it is
@@ -92,7 +92,8 @@ impl Draws {
     }
 
     fn row(&mut self) -> Result<Vec<u8>, AllocError> {
-        let place = self.below(ROWS);
+        let count = self.rows.len().max(1);
+        let place = self.below(count);
         match self.rows.get(place) {
             Some(bytes) => bytes.clone(),
             None => Ok(Vec::new(self.alloc)),

@@ -1,6 +1,8 @@
-// Every listed key is encoded and read back, as docs/GRAMMAR.md lists them under "Keys that read back".
+// Every listed key is encoded and read back, as docs/GRAMMAR.md lists them under "Keys that read back". Each case is
+// asserted to be listed: a yes of `is_listed` is proved.
 use super::plain::modifiers_of;
 use super::{InputEvent, KeyCode, KeyEvent};
+use crate::listed::is_listed;
 use crate::read_encoded;
 use std::alloc::Global;
 use std::process::Abort;
@@ -118,6 +120,10 @@ fn check_key(
     modes: KeyCodeEncodeModes,
 ) -> Result<(), Fail> {
     let modifiers = modifiers_of(shift, alt, ctrl);
+    assert!(rt;
+        is_listed(key, modifiers, modes),
+        "{key:?} {modifiers:?} {modes:?}"
+    );
     let reading = read_encoded(alloc, key, modifiers, modes)?;
     let wanted = [InputEvent::Key(KeyEvent { key, modifiers })];
     assert_eq!(rt; reading.events.as_slice(), wanted.as_slice(), "{modes:?}");

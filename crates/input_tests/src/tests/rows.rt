@@ -1,11 +1,12 @@
 // The sequence table against the rows of the plain reader.
 use super::cuts::check_few_wait;
-use super::plain::{PlainReader, ROWS, event_of};
+use super::plain::{PlainReader, event_of};
 use super::{Flags, InputEvent, InputParser, KeyCode, KeyEvent, LAST, MORE, Modifiers, renew};
 use crate::table_rows;
 use std::alloc::Global;
 use std::process::Abort;
 use std::test::Fail;
+use termwiz_input::keymap::{Found, KeyMap};
 
 // The event of a row after one ESC.
 fn event_with_alt(row: &KeyEvent) -> InputEvent {
@@ -43,9 +44,8 @@ fn check_row(
 #[test]
 fn has_the_rows_and_no_other(rt: HostRuntime) -> Result<(), Fail> {
     let reader = PlainReader::new(rt.alloc())?;
-    assert_eq!(rt; reader.row_count(), ROWS);
-    assert_eq!(rt; reader.rows().len(), ROWS, "all bytes differ");
-    assert_eq!(rt; table_rows(), ROWS);
+    assert_eq!(rt; reader.row_count(), table_rows());
+    assert_eq!(rt; reader.rows().len(), table_rows(), "all bytes differ");
     let mut parser = InputParser::new(rt.alloc())?;
     for (bytes, row) in reader.rows() {
         if row.key != KeyCode::InternalPasteStart {
@@ -95,5 +95,18 @@ fn reads_rows_cut_in_two(rt: HostRuntime) -> Result<(), Fail> {
     for bytes in reader.rows().keys() {
         check_cuts(&rt, rt.alloc(), &mut parser, bytes)?;
     }
+    Ok(())
+}
+
+// A map of key events is cloned with its keys.
+#[test]
+fn clones_key_events(rt: HostRuntime) -> Result<(), Fail> {
+    let enter = KeyEvent {
+        key: KeyCode::Enter,
+        modifiers: Modifiers::CTRL,
+    };
+    let mut keys = KeyMap::new(rt.alloc());
+    keys.insert(b"\r", enter.clone()?)?;
+    assert_eq!(rt; keys.clone()?.lookup(b"\r", true), Found::Exact(1, &enter));
     Ok(())
 }

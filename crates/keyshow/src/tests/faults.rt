@@ -86,64 +86,101 @@ fn reads_fail(rt: HostRuntime) -> Result<(), Fail> {
     Ok(())
 }
 
-// Once `n` writes of at most `most` bytes are used up, a write fails or takes no byte: a prefix of the whole text is
-// written, and nothing is flushed. If the writes suffice, the whole text is written. Returns how much is written.
-fn assert_write_fails(
+// How many bytes all lines of `TYPED` have.
+const ALL_WRITTEN: usize = 101;
+
+// A writer that takes at most `most` bytes a write. Once its `count` writes are used up, a write fails or takes no byte.
+#[derive(Clone, Copy)]
+struct Writes {
+    most: usize,
+    count: usize,
+    fails: bool,
+}
+
+// So many bytes are written, which begin the whole text. If that is less than all, the run ends with `Write`, and nothing is
+// flushed.
+fn assert_writes(
     alloc: Global,
     rt: &impl Abort,
     piece: usize,
-    writes: (usize, usize, bool),
-) -> Result<usize, Fail>
+    writes: Writes,
+    wanted: usize,
+) -> Result<(), Fail>
     requires least { 1 ≤ piece }
     requires most { piece ≤ 4096 }
 {
-    let (most, n, fails) = writes;
+    let Writes { most, count, fails } = writes;
     let lines = whole(alloc)?;
     let reads = Cell::new(0);
     let mut source = reader(TYPED, 4096, &reads);
     let mut target = writer(alloc, most, &reads);
-    target.writes_left = n;
+    target.writes_left = count;
     target.fails = fails;
     let result = run(alloc, &mut source, &mut target, piece);
     let written = target.written.as_slice();
+    assert_eq!(rt; written.len(), wanted, "piece {piece}, {count} writes");
     assert!(rt;
         lines.as_slice().starts_with(written),
-        "piece {piece}, write {n}"
+        "piece {piece}, {count} writes"
     );
-    let ended = written.len() == lines.len();
-    let wanted = if ended { Ok(()) } else { Err(RunError::Write) };
-    assert_eq!(rt; result, wanted, "piece {piece}, write {n}");
-    assert_eq!(rt; target.length_at_flushes.is_empty(), !ended);
-    Ok(written.len())
+    let ends = wanted == ALL_WRITTEN;
+    let outcome = if ends { Ok(()) } else { Err(RunError::Write) };
+    assert_eq!(rt; result, outcome, "piece {piece}, {count} writes");
+    assert_eq!(rt; target.length_at_flushes.is_empty(), !ends);
+    Ok(())
 }
 
-// There is one write for each piece that decides an event, and one at the end.
-fn assert_each_write_fails(alloc: Global, rt: &impl Abort, piece: usize) -> Result<(), Fail>
+// Each write fails in turn, and then none.
+fn assert_each_write_fails(
+    alloc: Global,
+    rt: &impl Abort,
+    piece: usize,
+    written: &[usize],
+) -> Result<(), Fail>
     requires least { 1 ≤ piece }
     requires most { piece ≤ 4096 }
 {
-    for n in 0..6 {
-        let _ = assert_write_fails(alloc, rt, piece, (4096, n, true))?;
-        let _ = assert_write_fails(alloc, rt, piece, (4096, n, false))?;
+    for (count, wanted) in written.iter().enumerate() {
+        for fails in [true, false] {
+            let writes = Writes {
+                most: 4096,
+                count,
+                fails,
+            };
+            assert_writes(alloc, rt, piece, writes, *wanted)?;
+        }
     }
     Ok(())
 }
 
+// How many bytes are written after no write, after one write and so on, for each piece. There is one write for each piece that
+// decides an event, and one at the end.
 #[test]
 fn writes_fail(rt: HostRuntime) -> Result<(), Fail> {
-    for piece in [1, 2, 3, 7, 64] {
-        assert_each_write_fails(rt.alloc(), &rt, piece)?;
+    let cases: [(usize, &[usize]); 5] = [
+        (1, &[0, 16, 33, 53, 69, 85, ALL_WRITTEN]),
+        (2, &[0, 16, 33, 53, 85, ALL_WRITTEN]),
+        (3, &[0, 16, 33, 53, 85, ALL_WRITTEN]),
+        (7, &[0, 16, 33, 53, 85, ALL_WRITTEN]),
+        (64, &[0, 85, ALL_WRITTEN]),
+    ];
+    for (piece, written) in cases {
+        assert_each_write_fails(rt.alloc(), &rt, piece, written)?;
     }
     Ok(())
 }
 
 #[test]
 fn writes_of_one_byte_fail(rt: HostRuntime) -> Result<(), Fail> {
-    for n in 0..=whole(rt.alloc())?.len() {
-        let failed = assert_write_fails(rt.alloc(), &rt, 7, (1, n, true))?;
-        assert_eq!(rt; failed, n);
-        let refused = assert_write_fails(rt.alloc(), &rt, 7, (1, n, false))?;
-        assert_eq!(rt; refused, n);
+    for count in 0..=ALL_WRITTEN {
+        for fails in [true, false] {
+            let writes = Writes {
+                most: 1,
+                count,
+                fails,
+            };
+            assert_writes(rt.alloc(), &rt, 7, writes, count)?;
+        }
     }
     Ok(())
 }

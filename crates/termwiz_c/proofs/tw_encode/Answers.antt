@@ -17,13 +17,15 @@ returns-in-Ok-clause-text c = λ is.
 
 pub returns-in-Ok-clause-refused_key : goal.returns-in-Ok-clause-refused_key
 returns-in-Ok-clause-refused_key c =
-    let some = has_text _ _ _ _ _ c.in-Some.press c.in-Some.ensures c.encode.result c.encode.ensures.refused c.in-Ok.text c.in-Ok.is in
+    let some = has_text _ _ _ _ _ c.in-Some.press c.in-Some.ensures c.encode.result c.encode.ensures.refused
+    c.in-Ok.text c.in-Ok.is in
     search rules
 
 -- the refused key
 pub returns-in-Err-UnhandledFunctionKey-clause-refused_key : goal.returns-in-Err-UnhandledFunctionKey-clause-refused_key
 returns-in-Err-UnhandledFunctionKey-clause-refused_key c = (
-  λ is. has_no_text _ _ _ _ _ c.in-Some.press c.in-Some.ensures c.encode.result c.encode.ensures.refused c.in-Err-UnhandledFunctionKey.field-0-0
+  λ is. has_no_text _ _ _ _ _ c.in-Some.press c.in-Some.ensures c.encode.result c.encode.ensures.refused
+      c.in-Err-UnhandledFunctionKey.field-0-0
       (c.in-Err-UnhandledFunctionKey.is ∙ ap Err c.in-Err-UnhandledFunctionKey.field-0-is),
   λ none. refl,
 )
@@ -31,5 +33,6 @@ returns-in-Err-UnhandledFunctionKey-clause-refused_key c = (
 -- want of memory
 pub returns-in-Err-Memory-clause-refused_key : goal.returns-in-Err-Memory-clause-refused_key
 returns-in-Err-Memory-clause-refused_key c =
-    let some = may_have_text _ _ _ _ _ c.in-Some.press c.in-Some.ensures c.encode.result c.encode.ensures.refused (c.in-Err-Memory.is ∙ ap Err c.in-Err-Memory.field-0-is) in
+    let some = may_have_text _ _ _ _ _ c.in-Some.press c.in-Some.ensures c.encode.result c.encode.ensures.refused
+    (c.in-Err-Memory.is ∙ ap Err c.in-Err-Memory.field-0-is) in
     search rules

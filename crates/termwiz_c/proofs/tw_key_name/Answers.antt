@@ -5,9 +5,11 @@ use Rattle.termwiz_c.proofs.tw_key_name.Goals as goal
 
 pub returns-in-Some-clause-len : goal.returns-in-Some-clause-len
 returns-in-Some-clause-len c = λ key is.
-    c.copy_prefix.ensures.len ∙ ap length (c.as_bytes.ensures.value ∙ c.variant_name.ensures ∙ name_of c.in-Some.named key (c.in-Some.ensures.every key is))
+    c.copy_prefix.ensures.len ∙ ap length (c.as_bytes.ensures.value ∙ c.variant_name.ensures
+    ∙ name_of c.in-Some.named key (c.in-Some.ensures.every key is))
 
 pub returns-in-Some-clause-bytes : goal.returns-in-Some-clause-bytes
 returns-in-Some-clause-bytes c = λ key is.
     c.copy_prefix.ensures.bytes
-    ∙ ap (λ text. copied text c.args.out.now) (c.as_bytes.ensures.value ∙ c.variant_name.ensures ∙ name_of c.in-Some.named key (c.in-Some.ensures.every key is))
+    ∙ ap (λ text. copied text c.args.out.now) (c.as_bytes.ensures.value ∙ c.variant_name.ensures
+    ∙ name_of c.in-Some.named key (c.in-Some.ensures.every key is))

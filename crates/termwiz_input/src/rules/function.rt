@@ -5,12 +5,12 @@ ghost use Rattle.termwiz_grammar.specs.Table.{with_rows, function_key_of, keys_b
 
 use super::insert::{insert_each_suffixed, insert_each_with, insert_suffixed};
 use super::lists::{
-    BEFORE_NINE, DIGIT_ENDS, DIGIT_KEYS, FIRST_FUNCTIONS, FUNCTION_CODES, HIGH_FUNCTION_CODES,
-    MODIFIED_DIGIT_KEYS, SUFFIXES, Suffix,
+    BEFORE_NINE, DIGIT_ENDS, DIGIT_KEYS, FIRST_FUNCTIONS, MODIFIED_DIGIT_KEYS, SUFFIXES, Suffix,
 };
 use std::alloc::{AllocError, Global};
 use termwiz_base::Modifiers;
 use termwiz_keymap::keymap::KeyMap;
+use termwiz_keys::function_codes::{FUNCTION_CODES, HIGH_FUNCTION_CODES};
 use termwiz_keys::types::{KeyCode, KeyEvent};
 
 // ESC O and P to S: F1 to F4.

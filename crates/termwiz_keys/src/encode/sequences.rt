@@ -2,9 +2,10 @@
 
 ghost use Rattle.std.specs.Prelude.{◌≡◌, ◌==◌, ◌++◌, ◌+◌, ◌≤◌, not, OnOk, string_bytes};
 ghost use Rattle.termwiz_base.specs.Modifiers.{xterm_number};
-ghost use Rattle.termwiz_keys.specs.Encoding.{is_modified, cursor_text, application_text, edit_text, lettered_function_text, numbered_function_text, function_text, code_of, keypad_number_text, keypad_letter_text, keypad_text, xterm_form, xterm_number_form};
+ghost use Rattle.termwiz_keys.specs.Encoding.{is_modified, cursor_text, application_text, edit_text, lettered_function_text, numbered_function_text, function_text, code_in, code_of, keypad_number_text, keypad_letter_text, keypad_text, xterm_form, xterm_number_form};
 
 use super::{CSI, KeyCodeEncodeModes, SS3};
+use crate::function_codes::{FUNCTION_CODES, HIGH_FUNCTION_CODES};
 use crate::types::KeyCode;
 use std::alloc::AllocError;
 use std::fmt::Write;
@@ -135,20 +136,27 @@ fn push_numbered_function_key(
     push_keypad_number(text, function_code(number), mods)
 }
 
-// The code of a function key from F5 to F24. The gaps are those of the VT220, whose keys stand in groups.
+// The code of the function key with this number, if the list of codes and numbers has it.
+fn code_in(codes: &[(u8, u8)], number: u8) -> Option<u8>
+    ensures { result ≡ code_in codes.now number }
+{
+    for (code, named) in codes {
+        if *named == number {
+            return Some(*code);
+        }
+    }
+    None
+}
+
+// The code of a function key from F5 to F24.
 fn function_code(number: u8) -> u8
     requires first { 5 ≤ number }
     requires last { number ≤ 24 }
     ensures { result ≡ code_of number }
 {
-    match number {
-        0..=5 => number + 10,
-        6..=10 => number + 11,
-        11..=14 => number + 12,
-        15..=16 => number + 13,
-        17..=20 => number + 14,
-        _ => number + 21,
-    }
+    code_in(FUNCTION_CODES, number)
+        .or(code_in(HIGH_FUNCTION_CODES, number))
+        .unwrap_or(0)
 }
 
 // Appends the text of a key of the keypad that has a number.

@@ -13,5 +13,6 @@ returns-in-Ok-false-clause-ok c =
     let text_name = kept (λ s. s.1.ghost_name) _ (λ p x q s. s.met.1.0.1) _ events _ calls in
     let refused_is = c.refused-2-1.given.1 (sym refused_name) in
     let text_is = c.text-1.given.1 (sym text_name) in
-    let written = appended (λ s. s.1.now.items) (λ s. s.0.now) _ (λ p x q s. s.met.1.1) _ events _ calls (sym refused_is ∙ c.in-Ok-false.is-1) in
+    let written = appended (λ s. s.1.now.items) (λ s. s.0.now) _ (λ p x q s. s.met.1.1) _ events _ calls
+    (sym refused_is ∙ c.in-Ok-false.is-1) in
     (map (λ e. e.1) events, means, rw text_is written.1)

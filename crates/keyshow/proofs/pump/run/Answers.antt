@@ -35,8 +35,13 @@ returns-then-not-more-clause-ok g c =
       waiting = c.finish.new.parser;
       read = Consumes-kept _ _ _ text read (end.none_read is_end);
       at_end = end.at_end is_end;
-      means = rw append-nil at ((c.resumes.ensures text [] c.loop.parser c.finish.new.parser events p.0 false).0 means.steps (rw (append-nil, ← end.same_parser is_end) p.1));
-      written = rw (lines-append events p.0, append_assoc (lines events) (lines p.0) (waiting_line (length c.finish.new.parser))) (Appends-trans (contents c.args.writer.now) (contents c.loop.writer) (contents c.finish.new.writer) (lines events) (all_lines p.0 c.finish.new.parser) written (rw (← end.same_writer is_end) p.2));
+      means = rw append-nil at ((c.resumes.ensures text [] c.loop.parser c.finish.new.parser events p.0 false).0
+          means.steps (rw (append-nil, ← end.same_parser is_end) p.1));
+      written = rw (
+        lines-append events p.0,
+        append_assoc (lines events) (lines p.0) (waiting_line (length c.finish.new.parser)),
+      ) (Appends-trans (contents c.args.writer.now) (contents c.loop.writer) (contents c.finish.new.writer)
+          (lines events) (all_lines p.0 c.finish.new.parser) written (rw (← end.same_writer is_end) p.2));
     }) c.finish.ensures.ok
 
 pub returns-in_err-parser-clause-err : goal.returns-in_err-parser-clause-err
@@ -72,7 +77,12 @@ returns-in_err-more-clause-read g c = λ is.
 pub returns-clause-err : goal.returns-clause-err
 returns-clause-err g c =
     let (text, events, read, means, written) = c.loop.invariant in
-    record { text = text; read = read; written = after_all c.resumes.ensures text c.loop.parser events _ _ _ means written (nothing c.one_meaning.ensures _ _) }
+    record {
+      text = text;
+      read = read;
+      written =
+          after_all c.resumes.ensures text c.loop.parser events _ _ _ means written (nothing c.one_meaning.ensures _ _);
+    }
 
 pub returns-clause-read : goal.returns-clause-read
 returns-clause-read g c = λ is.
@@ -87,7 +97,8 @@ returns-then-not-more-clause-err g c =
     on_err_weaker c.finish.result (λ p. record {
       text = text;
       read = Consumes-kept _ _ _ text read (end.none_read is_end);
-      written = after_all c.resumes.ensures text c.loop.parser events _ _ _ means written (rw (end.same_parser is_end, end.same_writer is_end) at p);
+      written = after_all c.resumes.ensures text c.loop.parser events _ _ _ means written
+          (rw (end.same_parser is_end, end.same_writer is_end) at p);
     }) c.finish.ensures.err
 
 pub returns-in_err-parser-clause-ahead : goal.returns-in_err-parser-clause-ahead

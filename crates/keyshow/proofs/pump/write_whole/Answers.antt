@@ -7,5 +7,8 @@ pub loop-rest-preserved : goal.loop-rest-preserved
 loop-rest-preserved g c =
     let (done, split, written) = c.loop-rest.invariant in
     let rest = c.loop-rest.rest.now in
-    let count = c.in-Ok.n in
-    (done ++ take count rest, written_further c.args.bytes.now done rest count split, Appends-trans _ _ _ done (take count rest) written c.in-Ok.ensures.bytes)
+    let count = c.in-Ok.n in (
+      done ++ take count rest,
+      written_further c.args.bytes.now done rest count split,
+      Appends-trans _ _ _ done (take count rest) written c.in-Ok.ensures.bytes,
+    )

@@ -4,7 +4,8 @@ use Rattle.keyshow.proofs.pump.write_whole.Given as goal
 
 -- what is written so far, and what is left
 abbrev pub invariant-loop-rest : goal.invariant-loop-rest
-invariant-loop-rest g l = (done : List ℕ) × (l.fn.bytes ≡ done ++ l.rest) × Appends (g.W.Write.contents l.fn.writer) (g.W.Write.contents l.writer) done
+invariant-loop-rest g l = (done : List ℕ) × (l.fn.bytes ≡ done ++ l.rest)
+    × Appends (g.W.Write.contents l.fn.writer) (g.W.Write.contents l.writer) done
 
 abbrev pub decreases-loop-rest : goal.decreases-loop-rest
 decreases-loop-rest g l = length l.rest

@@ -15,11 +15,21 @@ pub returns-in_ok-parse-in-Err-NotTaken : goal.returns-in_ok-parse-in-Err-NotTak
 returns-in_ok-parse-in-Err-NotTaken g c =
     let is = c.in-Err-NotTaken.field-0-is in
     let refused = c.in-Err-NotTaken.ensures in
-    let (events, means, calls) = c.in_ok-parse-in-Err-NotTaken.ensures.ok in
-    ([], events, sym (refused.not_taken_quiet (cc (is))), calls, again _ _ _ _ _ c.of-left.ensures [] events refl refl (refused.not_taken_same (cc (is))) means)
+    let (events, means, calls) = c.in_ok-parse-in-Err-NotTaken.ensures.ok in (
+      [],
+      events,
+      sym (refused.not_taken_quiet (cc (is))),
+      calls,
+      again _ _ _ _ _ c.of-left.ensures [] events refl refl (refused.not_taken_same (cc (is))) means,
+    )
 
 pub returns-in_ok-parse-in-Err-Taken : goal.returns-in_ok-parse-in-Err-Taken
 returns-in_ok-parse-in-Err-Taken g c =
     let (given, steps, first) = c.in-Err-Taken.ensures.taken (cc (c.in-Err-Taken.field-0-is)) in
-    let (events, means, calls) = c.in_ok-parse-in-Err-Taken.ensures.ok in
-    (given, events, first, calls, without_bytes _ _ _ _ _ c.of-left-in-Err-Taken.ensures c.resumes.ensures given events refl steps means)
+    let (events, means, calls) = c.in_ok-parse-in-Err-Taken.ensures.ok in (
+      given,
+      events,
+      first,
+      calls,
+      without_bytes _ _ _ _ _ c.of-left-in-Err-Taken.ensures c.resumes.ensures given events refl steps means,
+    )

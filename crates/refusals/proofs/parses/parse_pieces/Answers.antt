@@ -11,5 +11,11 @@ pub returns-in_ok-parse_pieces-in-Err : goal.returns-in_ok-parse_pieces-in-Err
 returns-in_ok-parse_pieces-in-Err g c =
     let refused = c.in-Err.ensures in
     let (given, reads, first) = refused.taken in
-    let (events, means, numbered, calls) = c.in_ok-parse_pieces-in-Err.ensures.ok in
-    (given, events, first, calls, others_given c.resumes.ensures _ c.args.pieces.now _ given events _ _ refused.within reads c.of-left.ensures means numbered)
+    let (events, means, numbered, calls) = c.in_ok-parse_pieces-in-Err.ensures.ok in (
+      given,
+      events,
+      first,
+      calls,
+      others_given c.resumes.ensures _ c.args.pieces.now _ given events _ _ refused.within reads c.of-left.ensures
+          means numbered,
+    )

@@ -14,6 +14,8 @@ returns-in-Ok-false c =
     let events_name = kept (λ s. s.1.ghost_name) _ (λ p x q s. s.met.1.0.1) _ given _ calls in
     let refused_is = c.refused-2-1.given.1 (sym refused_name) in
     let events_is = c.events-2-1.given.1 (sym events_name) in
-    let all = collected (λ x. x) (λ s. s.1.now.items) (λ s. s.0.now) _ (λ p x q s. s.met.1.1) _ given _ calls (sym refused_is ∙ c.in-Ok-false.is-1) in
-    rw events_is (subst (λ events. Means (c.args.parser.now ++ c.args.bytes.now) c.args.maybe_more events c.parse-parsed.new.self)
+    let all = collected (λ x. x) (λ s. s.1.now.items) (λ s. s.0.now) _ (λ p x q s. s.met.1.1) _ given _ calls
+    (sym refused_is ∙ c.in-Ok-false.is-1) in
+    rw events_is
+    (subst (λ events. Means (c.args.parser.now ++ c.args.bytes.now) c.args.maybe_more events c.parse-parsed.new.self)
     (sym (all.1 ∙ ap (λ l. l ++ map (λ x. x) given) c.new-events.ensures.items ∙ map-id given)) means)

@@ -10,4 +10,5 @@ abbrev pub invariant-loop-call : goal.invariant-loop-call
 invariant-loop-call l =
     AllZip IsCallWord (map (λ word. word.now) l.yielded) l.calls.items
     × ((split_pattern l.answers).now ≡ codes " | ")
-    × Leaves l.fn.recorded (map (λ call. call.answer.items) l.calls.items) (split_has_more l.answers) (split_text l.answers)
+    × Leaves l.fn.recorded (map (λ call. call.answer.items) l.calls.items) (split_has_more l.answers)
+    (split_text l.answers)

@@ -4,4 +4,5 @@ use Rattle.replay.specs.Answers.{AnswersCall, EndsWith}
 use Rattle.replay.proofs.replay.replay_calls.Given as goal
 
 abbrev pub invariant-loop-call : goal.invariant-loop-call
-invariant-loop-call l = FoldsTo AnswersCall [] (take l.call-index l.calls) l.feeder.parser × EndsWith l.fed.items l.feeder.parser
+invariant-loop-call l =
+    FoldsTo AnswersCall [] (take l.call-index l.calls) l.feeder.parser × EndsWith l.fed.items l.feeder.parser

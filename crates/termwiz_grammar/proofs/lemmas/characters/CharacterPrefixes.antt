@@ -27,25 +27,31 @@ below_or_not a b = grind arith
 encode_cases : (c : ℕ) → IsScalar c → ((c < 128) × (encode_utf8 c ≡ c ∷ [])) ⊎ AllByRecursion IsHigh (encode_utf8 c)
 unfolding encode_utf8
 encode_cases c scalar =
-    let top : c < 1114112 = ⊎_elim (λ (l : c < 55296). omega arith) (λ (h : (57344 ≤ c) × (c < 1114112)). h.1) (scalar_cases c scalar) in
+    let top : c < 1114112 =
+    ⊎_elim (λ (l : c < 55296). omega arith) (λ (h : (57344 ≤ c) × (c < 1114112)). h.1) (scalar_cases c scalar) in
     ⊎_elim
     (λ (first : c < 128). inl (first, encode_ascii c first))
     (λ (a : 128 ≤ c). inr (⊎_elim
-    (λ (two : c < 2048). rw (le-ltb c 128 a, lt-ltb c 2048 two) ((omega arith, omega arith), ((omega arith, omega arith), tt)))
+    (λ (two : c < 2048). rw (le-ltb c 128 a, lt-ltb c 2048 two)
+    ((omega arith, omega arith), ((omega arith, omega arith), tt)))
     (λ (b : 2048 ≤ c). ⊎_elim
     (λ (three : c < 65536). rw (le-ltb c 128 a, le-ltb c 2048 b, lt-ltb c 65536 three)
     ((omega arith, omega arith), ((omega arith, omega arith), ((omega arith, omega arith), tt))))
-    (λ (four : 65536 ≤ c). rw (le-ltb c 128 a, le-ltb c 2048 b, le-ltb c 65536 four)
-    ((omega arith, omega arith), ((omega arith, omega arith), ((omega arith, omega arith), ((omega arith, omega arith), tt)))))
+    (λ (four : 65536 ≤ c). rw (le-ltb c 128 a, le-ltb c 2048 b, le-ltb c 65536 four) (
+      (omega arith, omega arith),
+      ((omega arith, omega arith), ((omega arith, omega arith), ((omega arith, omega arith), tt))),
+    ))
     (below_or_not c 65536))
     (below_or_not c 2048)))
     (below_or_not c 128)
 
 -- a character whose encoding is parted in two takes several bytes
-pub parted_high : (c : ℕ) (u tail : List ℕ) → IsScalar c → u ≢ [] → tail ≢ [] → encode_utf8 c ≡ u ++ tail → AllByRecursion IsHigh (u ++ tail)
+pub parted_high : (c : ℕ) (u tail : List ℕ) → IsScalar c → u ≢ [] → tail ≢ [] → encode_utf8 c ≡ u ++ tail
+    → AllByRecursion IsHigh (u ++ tail)
 parted_high c u tail scalar some longer spells = ⊎_elim
     (λ (h : (c < 128) × (encode_utf8 c ≡ c ∷ [])).
-    absurd (omega (arith, ap length h.1, ap length spells, length-append u tail, length-some u some, length-some tail longer)))
+    absurd
+    (omega (arith, ap length h.1, ap length spells, length-append u tail, length-some u some, length-some tail longer)))
     (λ (h : AllByRecursion IsHigh (encode_utf8 c)). subst (AllByRecursion IsHigh) spells h)
     (encode_cases c scalar)
 
@@ -64,24 +70,28 @@ sequence_low text u m is_sequence a b = go (known_bytes text m is_sequence)
         let h : IsHigh 27 = (subst (AllByRecursion IsHigh) (b.1 ∙ ap (λ z. z ++ b.0) e) a).0 in omega arith
 
 -- so what begins with a sequence doesn't properly begin a character
-pub sequence_finished : (text u : List ℕ) (m : Meaning) → IsSequence text m → Begins text u → u ≢ [] → IsUnfinishedCharacter u → ⊥
+pub sequence_finished : (text u : List ℕ) (m : Meaning) → IsSequence text m → Begins text u → u ≢ []
+    → IsUnfinishedCharacter u → ⊥
 sequence_finished text u m is_sequence b some h = sequence_low text u m is_sequence (unfinished_high u some h) b
 
 -- what properly begins a sequence or a character has at most 20 bytes
 pub beginning_short : (u : List ℕ) → IsBeginning u → length u ≤ 20
 beginning_short u (inl h) = beginnings_short u h.tail h.meaning h.longer h.is_sequence
-beginning_short u (inr h) = omega (arith, length-append u h.tail, ap length h.spells, length-encode h.char, len_utf8_bounds h.char)
+beginning_short u (inr h) =
+    omega (arith, length-append u h.tail, ap length h.spells, length-encode h.char, len_utf8_bounds h.char)
 
 -- a text that a character begins decodes as this character
 pub begins_decoded : (u : List ℕ) (c : ℕ) → IsScalar c → Begins (encode_utf8 c) u → (decoded u).char ≡ Some c
-begins_decoded u c scalar b = ap (λ x. (decoded x).char) b.1 ∙ ap (λ (p : Decoded). p.char) (decoded-encode c b.0 scalar)
+begins_decoded u c scalar b = ap (λ x. (decoded x).char) b.1
+    ∙ ap (λ (p : Decoded). p.char) (decoded-encode c b.0 scalar)
 
 -- whether a character begins u
 pub character_or_not : (u : List ℕ) → Decision ((c : ℕ) × IsScalar c × Begins (encode_utf8 c) u)
 character_or_not u = go (decoded u).char refl
   where
     go : (o : Option ℕ) → (decoded u).char ≡ o → Decision ((c : ℕ) × IsScalar c × Begins (encode_utf8 c) u)
-    go (Some c) e = let spelled = SpellsChar-decoded u c e in inl (c, spelled.scalar, (drop (decoded u).size u, spelled.bytes))
+    go (Some c) e = let spelled = SpellsChar-decoded u c e in
+        inl (c, spelled.scalar, (drop (decoded u).size u, spelled.bytes))
     go None e = inr (λ (c, scalar, b). cc (e, begins_decoded u c scalar b))
 
 -- whether a text is the encoding of a character
@@ -90,7 +100,8 @@ encoding_or_not t = ⊎_elim
     (λ (h : (c : ℕ) × IsScalar c × Begins (encode_utf8 c) t). ⊎_elim
     (λ (e : encode_utf8 h.0 ≡ t). inl (h.0, h.1, e))
     (λ (never : encode_utf8 h.0 ≡ t → ⊥). inr (λ k.
-    let same : h.0 ≡ k.0 = (encode_same h.0 k.0 h.2.0 [] (sym h.2.1 ∙ sym k.2 ∙ sym (append-nil (encode_utf8 k.0)))).0 in
+    let same : h.0 ≡ k.0 =
+    (encode_same h.0 k.0 h.2.0 [] (sym h.2.1 ∙ sym k.2 ∙ sym (append-nil (encode_utf8 k.0)))).0 in
     never (ap (λ x. encode_utf8 x) same ∙ k.2)))
     (same_or_not (encode_utf8 h.0) t))
     (λ (never : ((c : ℕ) × IsScalar c × Begins (encode_utf8 c) t) → ⊥).
@@ -99,8 +110,10 @@ encoding_or_not t = ⊎_elim
 
 encode_bytes : (c : ℕ) → IsScalar c → AllByRecursion (λ b. b < 256) (encode_utf8 c)
 encode_bytes c scalar = ⊎_elim
-    (λ (h : (c < 128) × (encode_utf8 c ≡ c ∷ [])). subst (AllByRecursion (λ b. b < 256)) (sym h.1) (let l : c < 128 = h.0 in omega arith, tt))
-    (λ (h : AllByRecursion IsHigh (encode_utf8 c)). true_from IsHigh (λ b. b < 256) (λ b high. high.1) (encode_utf8 c) h)
+    (λ (h : (c < 128) × (encode_utf8 c ≡ c ∷ [])). subst (AllByRecursion (λ b. b < 256)) (sym h.1)
+    (let l : c < 128 = h.0 in omega arith, tt))
+    (λ (h : AllByRecursion IsHigh (encode_utf8 c)). true_from IsHigh (λ b. b < 256) (λ b high. high.1)
+    (encode_utf8 c) h)
     (encode_cases c scalar)
 
 -- whether a text properly begins the encoding of a character: few texts can complete it
@@ -111,7 +124,9 @@ unfinished_character_or_not u = decide_by
     (λ (a : IsUnfinishedCharacter u). (
       a.tail,
       omega (arith, length-append u a.tail, ap length a.spells, length-encode a.char, len_utf8_bounds a.char),
-      true_at_end (λ b. b < 256) u a.tail (subst (AllByRecursion (λ b. b < 256)) a.spells (encode_bytes a.char a.scalar)),
+      true_at_end (λ b. b < 256) u a.tail
+          (subst (AllByRecursion (λ b. b < 256)) a.spells (encode_bytes a.char a.scalar)),
       (a.longer, (a.char, a.scalar, a.spells)),
     ))
-    (decide_lists 256 4 (λ t. (t ≢ []) × ((c : ℕ) × IsScalar c × (encode_utf8 c ≡ u ++ t))) (λ t. decide_both (decide_some t) (encoding_or_not (u ++ t))))
+    (decide_lists 256 4 (λ t. (t ≢ []) × ((c : ℕ) × IsScalar c × (encode_utf8 c ≡ u ++ t)))
+    (λ t. decide_both (decide_some t) (encoding_or_not (u ++ t))))

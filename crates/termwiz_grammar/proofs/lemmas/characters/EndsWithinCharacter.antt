@@ -23,9 +23,11 @@ lead_two : (b c : ℕ) → utf8_error_len (b ∷ c ∷ []) ≡ None → (0xC2 �
 unfolding utf8_error_len
 lead_two b c e = (grind (arith, nat_tests), grind (arith, nat_tests), grind (arith, nat_tests))
 
-lead_three : (b c d : ℕ) → utf8_error_len (b ∷ c ∷ d ∷ []) ≡ None → (0xC2 ≤ b) × (b ≤ 0xF4) × (second b c ≡ true) × (continues d ≡ true)
+lead_three : (b c d : ℕ) → utf8_error_len (b ∷ c ∷ d ∷ []) ≡ None
+    → (0xC2 ≤ b) × (b ≤ 0xF4) × (second b c ≡ true) × (continues d ≡ true)
 unfolding utf8_error_len
-lead_three b c d e = (grind (arith, nat_tests), grind (arith, nat_tests), grind (arith, nat_tests), grind (arith, nat_tests))
+lead_three b c d e =
+    (grind (arith, nat_tests), grind (arith, nat_tests), grind (arith, nat_tests), grind (arith, nat_tests))
 
 lead_four : (b c d f : ℕ) (t : List ℕ) → utf8_error_len (b ∷ c ∷ d ∷ f ∷ t) ≡ None → ⊥
 unfolding utf8_error_len
@@ -39,18 +41,21 @@ none_two : (b c : ℕ) → 0xC2 ≤ b → b ≤ 0xF4 → second b c ≡ true →
 unfolding utf8_error_len
 none_two b c low high s = grind (arith, nat_tests)
 
-none_three : (b c d : ℕ) → 0xC2 ≤ b → b ≤ 0xF4 → second b c ≡ true → continues d ≡ true → utf8_error_len (b ∷ c ∷ d ∷ []) ≡ None
+none_three : (b c d : ℕ) → 0xC2 ≤ b → b ≤ 0xF4 → second b c ≡ true → continues d ≡ true
+    → utf8_error_len (b ∷ c ∷ d ∷ []) ≡ None
 unfolding utf8_error_len
 none_three b c d low high s t = grind (arith, nat_tests)
 
 -- what decodes as a character
-decoded_two_more : (b c d : ℕ) → 0xC2 ≤ b → b < 0xE0 → second b c ≡ true → decoded (b ∷ c ∷ d ∷ []) ≡ good (code_of_2 b c) 2
+decoded_two_more : (b c d : ℕ) → 0xC2 ≤ b → b < 0xE0 → second b c ≡ true
+    → decoded (b ∷ c ∷ d ∷ []) ≡ good (code_of_2 b c) 2
 decoded_two_more b c d low high s = grind (arith, nat_tests)
 
 decoded_two : (b c : ℕ) → 0xC2 ≤ b → b < 0xE0 → second b c ≡ true → decoded (b ∷ c ∷ []) ≡ good (code_of_2 b c) 2
 decoded_two b c low high s = grind (arith, nat_tests)
 
-decoded_three : (b c d : ℕ) → 0xE0 ≤ b → b < 0xF0 → second b c ≡ true → continues d ≡ true → decoded (b ∷ c ∷ d ∷ []) ≡ good (code_of_3 b c d) 3
+decoded_three : (b c d : ℕ) → 0xE0 ≤ b → b < 0xF0 → second b c ≡ true → continues d ≡ true
+    → decoded (b ∷ c ∷ d ∷ []) ≡ good (code_of_3 b c d) 3
 decoded_three b c d low high s t = grind (arith, nat_tests)
 
 decoded_four : (b c d e : ℕ) → 0xF0 ≤ b → b ≤ 0xF4 → second b c ≡ true → continues d ≡ true → continues e ≡ true
@@ -83,19 +88,24 @@ right_second b c t long = go (second b c) refl
   where
     go : (s : Bool) → second b c ≡ s → second b c ≡ true
     go true same = same
-    go false other = absurd (omega (arith, bad_second (length (b ∷ c ∷ t)) b c (slice_index (b ∷ c ∷ t) 2) (slice_index (b ∷ c ∷ t) 3) other))
+    go false other = absurd (omega (
+      arith,
+      bad_second (length (b ∷ c ∷ t)) b c (slice_index (b ∷ c ∷ t) 2) (slice_index (b ∷ c ∷ t) 3) other,
+    ))
 
 right_third : (b c d : ℕ) (t : List ℕ) → 3 ≤ (decoded (b ∷ c ∷ d ∷ t)).size → continues d ≡ true
 right_third b c d t long = go (continues d) refl
   where
     go : (s : Bool) → continues d ≡ s → continues d ≡ true
     go true same = same
-    go false other = absurd (omega (arith, bad_third (length (b ∷ c ∷ d ∷ t)) b c d (slice_index (b ∷ c ∷ d ∷ t) 3) other))
+    go false other =
+        absurd (omega (arith, bad_third (length (b ∷ c ∷ d ∷ t)) b c d (slice_index (b ∷ c ∷ d ∷ t) 3) other))
 
 -- how long the encoding of a character is that the text properly begins
 whole_size : (u : List ℕ) → (h : IsUnfinishedCharacter u) → (decoded (u ++ h.tail)).size ≡ length (u ++ h.tail)
 whole_size u h =
-    let read = begins_decoded (u ++ h.tail) h.char h.scalar ([], sym h.spells ∙ sym (append-nil (encode_utf8 h.char))) in
+    let read =
+    begins_decoded (u ++ h.tail) h.char h.scalar ([], sym h.spells ∙ sym (append-nil (encode_utf8 h.char))) in
     sym (SpellsChar-decoded (u ++ h.tail) h.char read).width ∙ ap length h.spells
 
 longer_than : (u : List ℕ) (h : IsUnfinishedCharacter u) → length u < length (u ++ h.tail)
@@ -109,22 +119,28 @@ unfinished_told (b ∷ []) some h =
     let lead = right_lead b h.tail long in
     none_one b lead.0 lead.1
 unfinished_told (b ∷ c ∷ []) some h =
-    let long : 3 ≤ (decoded (b ∷ c ∷ h.tail)).size = omega (arith, whole_size (b ∷ c ∷ []) h, longer_than (b ∷ c ∷ []) h) in
+    let long : 3 ≤ (decoded (b ∷ c ∷ h.tail)).size =
+    omega (arith, whole_size (b ∷ c ∷ []) h, longer_than (b ∷ c ∷ []) h) in
     let lead = right_lead b (c ∷ h.tail) (omega arith) in
     none_two b c lead.0 lead.1 (right_second b c h.tail (omega arith))
 unfinished_told (b ∷ c ∷ d ∷ []) some h =
-    let long : 4 ≤ (decoded (b ∷ c ∷ d ∷ h.tail)).size = omega (arith, whole_size (b ∷ c ∷ d ∷ []) h, longer_than (b ∷ c ∷ d ∷ []) h) in
+    let long : 4 ≤ (decoded (b ∷ c ∷ d ∷ h.tail)).size =
+    omega (arith, whole_size (b ∷ c ∷ d ∷ []) h, longer_than (b ∷ c ∷ d ∷ []) h) in
     let lead = right_lead b (c ∷ d ∷ h.tail) (omega arith) in
-    none_three b c d lead.0 lead.1 (right_second b c (d ∷ h.tail) (omega arith)) (right_third b c d h.tail (omega arith))
+    none_three b c d lead.0 lead.1 (right_second b c (d ∷ h.tail) (omega arith))
+    (right_third b c d h.tail (omega arith))
 unfinished_told (b ∷ c ∷ d ∷ e ∷ u) some h =
-    absurd (omega (arith, longer_than (b ∷ c ∷ d ∷ e ∷ u) h, ap length h.spells, length-encode h.char, len_utf8_bounds h.char))
+    absurd
+    (omega (arith, longer_than (b ∷ c ∷ d ∷ e ∷ u) h, ap length h.spells, length-encode h.char, len_utf8_bounds h.char))
 
 -- a text that goes on to what decodes as one character
-completed : (u tail : List ℕ) (y n : ℕ) → tail ≢ [] → decoded (u ++ tail) ≡ good y n → n ≡ length (u ++ tail) → IsUnfinishedCharacter u
+completed : (u tail : List ℕ) (y n : ℕ) → tail ≢ [] → decoded (u ++ tail) ≡ good y n → n ≡ length (u ++ tail)
+    → IsUnfinishedCharacter u
 completed u tail y n longer is whole =
     let spelled = SpellsChar-decoded (u ++ tail) y (ap (λ (p : Decoded). p.char) is) in
     let size : (decoded (u ++ tail)).size ≡ length (u ++ tail) = ap (λ (p : Decoded). p.size) is ∙ whole in
-    let none : drop (decoded (u ++ tail)).size (u ++ tail) ≡ [] = ap (λ k. drop k (u ++ tail)) size ∙ drop-length (u ++ tail) in
+    let none : drop (decoded (u ++ tail)).size (u ++ tail) ≡ [] =
+    ap (λ k. drop k (u ++ tail)) size ∙ drop-length (u ++ tail) in
     record {
       tail = tail;
       longer = longer;
@@ -136,40 +152,51 @@ completed u tail y n longer is whole =
 -- the bytes that complete a first byte
 from_one : (b : ℕ) → (0xC2 ≤ b) × (b ≤ 0xF4) → IsUnfinishedCharacter (b ∷ [])
 from_one b (low, high) = ⊎_elim
-    (λ (two : b < 0xE0). completed (b ∷ []) (0x80 ∷ []) _ _ (λ h. cc (h)) (decoded_two b 0x80 low two (grind (arith, nat_tests))) refl)
+    (λ (two : b < 0xE0). completed (b ∷ []) (0x80 ∷ []) _ _ (λ h. cc (h))
+    (decoded_two b 0x80 low two (grind (arith, nat_tests))) refl)
     (λ (above : 0xE0 ≤ b). ⊎_elim
     (λ (three : b < 0xF0). ⊎_elim
-    (λ (narrow : b ≡ 0xED). completed (b ∷ []) (0x80 ∷ 0x80 ∷ []) _ _ (λ h. cc (h)) (decoded_three b 0x80 0x80 above three (grind (arith, nat_tests)) refl) refl)
-    (λ (other : b ≡ 0xED → ⊥). completed (b ∷ []) (0xA0 ∷ 0x80 ∷ []) _ _ (λ h. cc (h)) (decoded_three b 0xA0 0x80 above three (grind (arith, nat_tests)) refl) refl)
+    (λ (narrow : b ≡ 0xED). completed (b ∷ []) (0x80 ∷ 0x80 ∷ []) _ _ (λ h. cc (h))
+    (decoded_three b 0x80 0x80 above three (grind (arith, nat_tests)) refl) refl)
+    (λ (other : b ≡ 0xED → ⊥). completed (b ∷ []) (0xA0 ∷ 0x80 ∷ []) _ _ (λ h. cc (h))
+    (decoded_three b 0xA0 0x80 above three (grind (arith, nat_tests)) refl) refl)
     (decide_eq b 0xED))
     (λ (four : 0xF0 ≤ b). ⊎_elim
-    (λ (narrow : b ≡ 0xF4). completed (b ∷ []) (0x80 ∷ 0x80 ∷ 0x80 ∷ []) _ _ (λ h. cc (h)) (decoded_four b 0x80 0x80 0x80 four high (grind (arith, nat_tests)) refl refl) refl)
-    (λ (other : b ≡ 0xF4 → ⊥). completed (b ∷ []) (0x90 ∷ 0x80 ∷ 0x80 ∷ []) _ _ (λ h. cc (h)) (decoded_four b 0x90 0x80 0x80 four high (grind (arith, nat_tests)) refl refl) refl)
+    (λ (narrow : b ≡ 0xF4). completed (b ∷ []) (0x80 ∷ 0x80 ∷ 0x80 ∷ []) _ _ (λ h. cc (h))
+    (decoded_four b 0x80 0x80 0x80 four high (grind (arith, nat_tests)) refl refl) refl)
+    (λ (other : b ≡ 0xF4 → ⊥). completed (b ∷ []) (0x90 ∷ 0x80 ∷ 0x80 ∷ []) _ _ (λ h. cc (h))
+    (decoded_four b 0x90 0x80 0x80 four high (grind (arith, nat_tests)) refl refl) refl)
     (decide_eq b 0xF4))
     (cases_lt b 0xF0))
     (cases_lt b 0xE0)
 
-from_two : (b c : ℕ) → (decoded (b ∷ c ∷ [])).char ≡ None → (0xC2 ≤ b) × (b ≤ 0xF4) × (second b c ≡ true) → IsUnfinishedCharacter (b ∷ c ∷ [])
+from_two : (b c : ℕ) → (decoded (b ∷ c ∷ [])).char ≡ None → (0xC2 ≤ b) × (b ≤ 0xF4) × (second b c ≡ true)
+    → IsUnfinishedCharacter (b ∷ c ∷ [])
 from_two b c none (low, high, s) = ⊎_elim
     (λ (two : b < 0xE0). let read = ap (λ (p : Decoded). p.char) (decoded_two b c low two s) in absurd (cc))
     (λ (above : 0xE0 ≤ b). ⊎_elim
-    (λ (three : b < 0xF0). completed (b ∷ c ∷ []) (0x80 ∷ []) _ _ (λ h. cc (h)) (decoded_three b c 0x80 above three s refl) refl)
-    (λ (four : 0xF0 ≤ b). completed (b ∷ c ∷ []) (0x80 ∷ 0x80 ∷ []) _ _ (λ h. cc (h)) (decoded_four b c 0x80 0x80 four high s refl refl) refl)
+    (λ (three : b < 0xF0). completed (b ∷ c ∷ []) (0x80 ∷ []) _ _ (λ h. cc (h))
+    (decoded_three b c 0x80 above three s refl) refl)
+    (λ (four : 0xF0 ≤ b). completed (b ∷ c ∷ []) (0x80 ∷ 0x80 ∷ []) _ _ (λ h. cc (h))
+    (decoded_four b c 0x80 0x80 four high s refl refl) refl)
     (cases_lt b 0xF0))
     (cases_lt b 0xE0)
 
-from_three : (b c d : ℕ) → (decoded (b ∷ c ∷ d ∷ [])).char ≡ None → (0xC2 ≤ b) × (b ≤ 0xF4) × (second b c ≡ true) × (continues d ≡ true)
+from_three : (b c d : ℕ) → (decoded (b ∷ c ∷ d ∷ [])).char ≡ None
+    → (0xC2 ≤ b) × (b ≤ 0xF4) × (second b c ≡ true) × (continues d ≡ true)
     → IsUnfinishedCharacter (b ∷ c ∷ d ∷ [])
 from_three b c d none (low, high, s, t) = ⊎_elim
     (λ (two : b < 0xE0). let read = ap (λ (p : Decoded). p.char) (decoded_two_more b c d low two s) in absurd (cc))
     (λ (above : 0xE0 ≤ b). ⊎_elim
     (λ (three : b < 0xF0). let read = ap (λ (p : Decoded). p.char) (decoded_three b c d above three s t) in absurd (cc))
-    (λ (four : 0xF0 ≤ b). completed (b ∷ c ∷ d ∷ []) (0x80 ∷ []) _ _ (λ h. cc (h)) (decoded_four b c d 0x80 four high s t refl) refl)
+    (λ (four : 0xF0 ≤ b). completed (b ∷ c ∷ d ∷ []) (0x80 ∷ []) _ _ (λ h. cc (h))
+    (decoded_four b c d 0x80 four high s t refl) refl)
     (cases_lt b 0xF0))
     (cases_lt b 0xE0)
 
 -- a text that ends within a character, and that no character begins, properly begins one
-pub unfinished_from : (u : List ℕ) → u ≢ [] → (decoded u).char ≡ None → utf8_error_len u ≡ None → IsUnfinishedCharacter u
+pub unfinished_from : (u : List ℕ) → u ≢ [] → (decoded u).char ≡ None → utf8_error_len u ≡ None
+    → IsUnfinishedCharacter u
 unfinished_from [] some none e = absurd (some refl)
 unfinished_from (b ∷ []) some none e = from_one b (lead_one b e)
 unfinished_from (b ∷ c ∷ []) some none e = from_two b c none (lead_two b c e)
@@ -181,7 +208,8 @@ not_utf8 : (u t : List ℕ) → t ≢ [] → Begins t u → IsUtf8 t → (decode
 not_utf8 u t some b ([], (scalars, e)) none = some (sym e)
 not_utf8 u t some b (c ∷ cs, (scalars, e)) none =
     let parts = and_parts _ _ scalars in
-    let front : u ≡ encode_utf8 c ++ (encode_utf8_all cs ++ b.0) = b.1 ∙ ap (λ x. x ++ b.0) (sym e) ∙ append_assoc (encode_utf8 c) (encode_utf8_all cs) b.0 in
+    let front : u ≡ encode_utf8 c ++ (encode_utf8_all cs ++ b.0) =
+    b.1 ∙ ap (λ x. x ++ b.0) (sym e) ∙ append_assoc (encode_utf8 c) (encode_utf8_all cs) b.0 in
     cc (none, begins_decoded u c parts.0 (encode_utf8_all cs ++ b.0, front))
 
 pub no_utf8 : (u : List ℕ) → u ≢ [] → (decoded u).char ≡ None → IsUtf8 u → ⊥
@@ -190,5 +218,6 @@ no_utf8 u some none is = not_utf8 u u some ([], sym (append-nil u)) is none
 pub valid_nowhere : (u : List ℕ) (n : ℕ) → (decoded u).char ≡ None → IsValidUpTo u n → n ≡ 0
 valid_nowhere u zero none is = refl
 valid_nowhere u (suc n) none is =
-    absurd (not_utf8 u (take (suc n) u) (λ e. omega (arith, ap length e, length-take-le (suc n) u (omega (arith, is.short))))
+    absurd
+    (not_utf8 u (take (suc n) u) (λ e. omega (arith, ap length e, length-take-le (suc n) u (omega (arith, is.short))))
     (drop (suc n) u, sym (take-append-drop (suc n) u)) is.front none)

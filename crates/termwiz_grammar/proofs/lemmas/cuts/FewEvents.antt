@@ -7,4 +7,10 @@ use Rattle.termwiz_grammar.proofs.lemmas.items.ItemStable.{item_some}
 pub few_events : FewEvents
 few_events T W [] f h = omega (arith, ap length h)
 few_events T W (e ∷ E) f (bytes, rest, stands, splits, steps) =
-    omega (arith, ap length splits, length-append bytes rest, length-some bytes (item_some T bytes e f stands.item), few_events rest W E f steps)
+    omega (
+      arith,
+      ap length splits,
+      length-append bytes rest,
+      length-some bytes (item_some T bytes e f stands.item),
+      few_events rest W E f steps,
+    )

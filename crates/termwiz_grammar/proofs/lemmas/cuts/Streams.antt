@@ -40,7 +40,8 @@ steps_join T V W E D f h k = cutting.steps_join E D T V W f h k
 
 joined_steps : (E : List InputEvent) (T W : List ℕ) (f : Bool) → OneByOne T f E W → Steps T f E W
 joined_steps [] T W f h = h
-joined_steps (e ∷ E) T W f (left, step, rest) = cutting.steps_join (e ∷ []) E T left W f step (joined_steps E left W f rest)
+joined_steps (e ∷ E) T W f (left, step, rest) =
+    cutting.steps_join (e ∷ []) E T left W f step (joined_steps E left W f rest)
 
 single_steps : (E : List InputEvent) (T W : List ℕ) (f : Bool) → Steps T f E W → OneByOne T f E W
 single_steps [] T W f h = h

@@ -14,7 +14,8 @@ use Rattle.termwiz_grammar.proofs.lemmas.characters.CharacterPrefixes.{character
 
 pub longest_once : (u s t : List ℕ) (m n : Meaning) → IsLongest u s m → IsLongest u t n → (s ≡ t) × (m ≡ n)
 longest_once u s t m n a b =
-    let e : s ≡ t = same_from_length s t u a.begins b.begins (le_antisymm (b.longest s m a.is_sequence a.begins) (a.longest t n b.is_sequence b.begins)) in
+    let e : s ≡ t = same_from_length s t u a.begins b.begins
+    (le_antisymm (b.longest s m a.is_sequence a.begins) (a.longest t n b.is_sequence b.begins)) in
     (e, sequence_once t m n (subst (λ x. IsSequence x m) e a.is_sequence) b.is_sequence)
 
 -- a sequence is the longest that begins itself
@@ -40,7 +41,8 @@ head_once u (Broken c) (Broken d) a b = let same : c ≡ d = cc (a.begins.1, b.b
 -- the longest sequence of at most n bytes that begins u, or none
 pub data Found (u : List ℕ) (n : ℕ) : Type 0 where
   found : (text : List ℕ) (m : Meaning) → IsSequence text m → Begins text u
-      → ((other : List ℕ) (k : Meaning) → IsSequence other k → Begins other u → length other ≤ n → length other ≤ length text) → Found u n
+      → ((other : List ℕ) (k : Meaning) → IsSequence other k → Begins other u → length other ≤ n
+      → length other ≤ length text) → Found u n
   missing : ((other : List ℕ) (k : Meaning) → IsSequence other k → Begins other u → length other ≤ n → ⊥) → Found u n
 
 empty_is_no_sequence : (other : List ℕ) (k : Meaning) → IsSequence other k → length other ≤ 0 → ⊥
@@ -62,11 +64,14 @@ find_up_to u (suc n) l = go (sequence_or_not (take (suc n) u)) (find_up_to u n (
 
     go : Decision ((m : Meaning) × IsSequence (take (suc n) u) m) → Found u n → Found u (suc n)
     go (inl k) below = found (take (suc n) u) k.0 k.1 begins (λ other m is_sequence b short. omega (arith, long))
-    go (inr never) (found text m is_sequence b longest) = found text m is_sequence b (λ other k is c short. at_most other k is c short)
+    go (inr never) (found text m is_sequence b longest) =
+        found text m is_sequence b (λ other k is c short. at_most other k is c short)
       where
-        at_most : (other : List ℕ) (k : Meaning) → IsSequence other k → Begins other u → length other ≤ suc n → length other ≤ length text
+        at_most : (other : List ℕ) (k : Meaning) → IsSequence other k → Begins other u → length other ≤ suc n
+            → length other ≤ length text
         at_most other k is c short = ⊎_elim
-            (λ (past : n < length other). absurd (never (k, subst (λ x. IsSequence x k) (same other c (omega arith)) is)))
+            (λ (past : n < length other).
+            absurd (never (k, subst (λ x. IsSequence x k) (same other c (omega arith)) is)))
             (λ (lt : length other ≤ n). longest other k is c lt)
             (cases_lt n (length other))
     go (inr never) (missing none) = missing (λ other k is c short. ⊎_elim
@@ -78,7 +83,8 @@ find_up_to u (suc n) l = go (sequence_or_not (take (suc n) u)) (find_up_to u n (
 pub head_of : (x : ℕ) (t : List ℕ) → (h : Head) × IsHead (x ∷ t) h
 head_of x t = go (find_up_to (x ∷ t) (length (x ∷ t)) (omega arith)) (character_or_not (x ∷ t))
   where
-    go : Found (x ∷ t) (length (x ∷ t)) → Decision ((c : ℕ) × IsScalar c × Begins (encode_utf8 c) (x ∷ t)) → (h : Head) × IsHead (x ∷ t) h
+    go : Found (x ∷ t) (length (x ∷ t)) → Decision ((c : ℕ) × IsScalar c × Begins (encode_utf8 c) (x ∷ t))
+        → (h : Head) × IsHead (x ∷ t) h
     go (found text m is_sequence b longest) char = (
       Sequence text m,
       record {

@@ -20,13 +20,15 @@ use Rattle.termwiz_grammar.proofs.lemmas.items.OneHead.{head_once}
 use Rattle.termwiz_grammar.proofs.lemmas.pastes.FirstEnd.{ends_once}
 
 -- what a row that is the head gives: its key, a paste, or what its Escape gives with what follows
-pub data RowGives (u : List ℕ) (f : Bool) (text : List ℕ) (k : KeyEvent) (bytes : List ℕ) (event : InputEvent) : Type 0 where
+pub data RowGives (u : List ℕ) (f : Bool) (text : List ℕ) (k : KeyEvent) (bytes : List ℕ)
+    (event : InputEvent) : Type 0 where
   its_key : text ≢ START → (text ≡ ESC → u ≡ ESC) → bytes ≡ text → event ≡ Key k → RowGives u f text k bytes event
   its_paste : text ≡ START → (body rest : List ℕ) → u ≡ START ++ body ++ END ++ rest → EndsFirst body
       → bytes ≡ START ++ body ++ END → event ≡ Paste (utf8_lossy body) → RowGives u f text k bytes event
   apart : text ≡ ESC → (v : List ℕ) (h : Head) → u ≡ ESC ++ v → v ≢ [] → (IsOpen v f → ⊥) → IsHead v h → IsApart h
       → bytes ≡ ESC → event ≡ Key escape → RowGives u f text k bytes event
-  joined : text ≡ ESC → (v : List ℕ) (h : Head) (j : KeyEvent) → u ≡ ESC ++ v → v ≢ [] → (IsOpen v f → ⊥) → IsHead v h → IsKey h j
+  joined : text ≡ ESC → (v : List ℕ) (h : Head) (j : KeyEvent) → u ≡ ESC ++ v → v ≢ [] → (IsOpen v f → ⊥)
+      → IsHead v h → IsKey h j
       → bytes ≡ ESC ++ bytes_of h → event ≡ Key (with_alt j) → RowGives u f text k bytes event
 
 abbrev pub Gives : List ℕ → Bool → Head → List ℕ → InputEvent → Type 0
@@ -43,12 +45,15 @@ start_head u b = record {
   longest = λ other m is_sequence c. no_longer other m is_sequence (overlap other c.0 START b.0 (sym b.1 ∙ c.1));
 }
   where
-    no_longer : {r s : List ℕ} (other : List ℕ) (m : Meaning) → IsSequence other m → Overlaps other r START s → length other ≤ length START
+    no_longer : {r s : List ℕ} (other : List ℕ) (m : Meaning) → IsSequence other m → Overlaps other r START s
+        → length other ≤ length START
     no_longer other m is_sequence (within t e f) = omega (arith, length-append other t, ap length e)
-    no_longer other m is_sequence (past t longer e f) = absurd (longer (start_ends t m (subst (λ x. IsSequence x m) e is_sequence)))
+    no_longer other m is_sequence (past t longer e f) =
+        absurd (longer (start_ends t m (subst (λ x. IsSequence x m) e is_sequence)))
 
 -- what stands is what the head gives
-pub reads : (u bytes : List ℕ) (event : InputEvent) (f : Bool) → Item u f bytes event → (h : Head) × IsHead u h × Gives u f h bytes event
+pub reads : (u bytes : List ℕ) (event : InputEvent) (f : Bool) → Item u f bytes event
+    → (h : Head) × IsHead u h × Gives u f h bytes event
 reads u bytes event f (key text k is usual alone) = (Sequence text (Row k), is, its_key usual alone refl refl)
 reads u bytes event f (char c is) = (Character c, is, (refl, refl))
 reads u bytes event f (broken byte is) = (Broken byte, is, (refl, refl))
@@ -57,8 +62,11 @@ reads u bytes event f (paste body b first) =
     (Sequence START (Row start), start_head u (body ++ END ++ b.0, b.1), its_paste refl body b.0 b.1 first refl refl)
 reads u bytes event f (lone_escape v h after is far) =
     (Sequence ESC (Row escape), after.escape_head, apart refl v h after.splits after.some after.closed is far refl refl)
-reads u bytes event f (alt v h k after is near) =
-    (Sequence ESC (Row escape), after.escape_head, joined refl v h k after.splits after.some after.closed is near refl refl)
+reads u bytes event f (alt v h k after is near) = (
+  Sequence ESC (Row escape),
+  after.escape_head,
+  joined refl v h k after.splits after.some after.closed is near refl refl,
+)
 
 not_apart : (h : Head) (k : KeyEvent) → IsKey h k → IsApart h → ⊥
 not_apart (Sequence text (Row j)) k near far = near.0 far
@@ -86,35 +94,50 @@ row_once : (u : List ℕ) (f : Bool) (text : List ℕ) (k : KeyEvent) (b c : Lis
     → RowGives u f text k b d → RowGives u f text k c e → (b ≡ c) × (d ≡ e)
 row_once u f text k b c d e (its_key p q r s) (its_key p2 q2 r2 s2) = (cc (r, r2), cc (s, s2))
 row_once u f text k b c d e (its_key p q r s) (its_paste at body rest split first r2 s2) = absurd (p at)
-row_once u f text k b c d e (its_key p q r s) (apart at v h split some closed is far r2 s2) = absurd (not_alone u v split some (q at))
-row_once u f text k b c d e (its_key p q r s) (joined at v h j split some closed is near r2 s2) = absurd (not_alone u v split some (q at))
+row_once u f text k b c d e (its_key p q r s) (apart at v h split some closed is far r2 s2) =
+    absurd (not_alone u v split some (q at))
+row_once u f text k b c d e (its_key p q r s) (joined at v h j split some closed is near r2 s2) =
+    absurd (not_alone u v split some (q at))
 row_once u f text k b c d e (its_paste at body rest split first r s) (its_key p q r2 s2) = absurd (p at)
 row_once u f text k b c d e (its_paste at body rest split first r s) (its_paste at2 body2 rest2 split2 first2 r2 s2) =
-    let same : body ≡ body2 = ends_once body body2 rest rest2 (append_cancel_left START (body ++ END ++ rest) (body2 ++ END ++ rest2) (sym split ∙ split2)) first first2 in
+    let same : body ≡ body2 = ends_once body body2 rest rest2
+    (append_cancel_left START (body ++ END ++ rest) (body2 ++ END ++ rest2) (sym split ∙ split2)) first first2 in
     (r ∙ ap (λ x. START ++ x ++ END) same ∙ sym r2, s ∙ ap (λ x. Paste (utf8_lossy x)) same ∙ sym s2)
-row_once u f text k b c d e (its_paste at body rest split first r s) (apart at2 v h split2 some closed is far r2 s2) = absurd (cc (at, at2))
-row_once u f text k b c d e (its_paste at body rest split first r s) (joined at2 v h j split2 some closed is near r2 s2) = absurd (cc (at, at2))
-row_once u f text k b c d e (apart at v h split some closed is far r s) (its_key p q r2 s2) = absurd (not_alone u v split some (q at))
-row_once u f text k b c d e (apart at v h split some closed is far r s) (its_paste at2 body rest split2 first r2 s2) = absurd (cc (at, at2))
-row_once u f text k b c d e (apart at v h split some closed is far r s) (apart at2 v2 h2 split2 some2 closed2 is2 far2 r2 s2) = (cc (r, r2), cc (s, s2))
-row_once u f text k b c d e (apart at v h split some closed is far r s) (joined at2 v2 h2 j split2 some2 closed2 is2 near r2 s2) =
+row_once u f text k b c d e (its_paste at body rest split first r s) (apart at2 v h split2 some closed is far r2 s2) =
+    absurd (cc (at, at2))
+row_once u f text k b c d e (its_paste at body rest split first r s)
+    (joined at2 v h j split2 some closed is near r2 s2) = absurd (cc (at, at2))
+row_once u f text k b c d e (apart at v h split some closed is far r s) (its_key p q r2 s2) =
+    absurd (not_alone u v split some (q at))
+row_once u f text k b c d e (apart at v h split some closed is far r s) (its_paste at2 body rest split2 first r2 s2) =
+    absurd (cc (at, at2))
+row_once u f text k b c d e (apart at v h split some closed is far r s)
+    (apart at2 v2 h2 split2 some2 closed2 is2 far2 r2 s2) = (cc (r, r2), cc (s, s2))
+row_once u f text k b c d e (apart at v h split some closed is far r s)
+    (joined at2 v2 h2 j split2 some2 closed2 is2 near r2 s2) =
     absurd (not_apart h2 j near (subst IsApart (second_head u v v2 h h2 split split2 is is2) far))
-row_once u f text k b c d e (joined at v h j split some closed is near r s) (its_key p q r2 s2) = absurd (not_alone u v split some (q at))
-row_once u f text k b c d e (joined at v h j split some closed is near r s) (its_paste at2 body rest split2 first r2 s2) = absurd (cc (at, at2))
-row_once u f text k b c d e (joined at v h j split some closed is near r s) (apart at2 v2 h2 split2 some2 closed2 is2 far r2 s2) =
+row_once u f text k b c d e (joined at v h j split some closed is near r s) (its_key p q r2 s2) =
+    absurd (not_alone u v split some (q at))
+row_once u f text k b c d e (joined at v h j split some closed is near r s)
+    (its_paste at2 body rest split2 first r2 s2) = absurd (cc (at, at2))
+row_once u f text k b c d e (joined at v h j split some closed is near r s)
+    (apart at2 v2 h2 split2 some2 closed2 is2 far r2 s2) =
     absurd (not_apart h j near (subst IsApart (second_head u v2 v h2 h split2 split is2 is) far))
-row_once u f text k b c d e (joined at v h j split some closed is near r s) (joined at2 v2 h2 j2 split2 some2 closed2 is2 near2 r2 s2) =
+row_once u f text k b c d e (joined at v h j split some closed is near r s)
+    (joined at2 v2 h2 j2 split2 some2 closed2 is2 near2 r2 s2) =
     let same : h ≡ h2 = second_head u v v2 h h2 split split2 is is2 in
     let same_key : j ≡ j2 = key_once h2 j j2 (subst (λ x. IsKey x j) same near) near2 in
     (r ∙ ap (λ x. ESC ++ bytes_of x) same ∙ sym r2, s ∙ ap (λ x. Key (with_alt x)) same_key ∙ sym s2)
 
-gives_once : (u : List ℕ) (f : Bool) (h : Head) (b c : List ℕ) (d e : InputEvent) → Gives u f h b d → Gives u f h c e → (b ≡ c) × (d ≡ e)
+gives_once : (u : List ℕ) (f : Bool) (h : Head) (b c : List ℕ) (d e : InputEvent) → Gives u f h b d → Gives u f h c e
+    → (b ≡ c) × (d ≡ e)
 gives_once u f (Sequence text (Row k)) b c d e x y = row_once u f text k b c d e x y
 gives_once u f (Sequence text (Report report)) b c d e x y = (x.0 ∙ sym y.0, x.1 ∙ sym y.1)
 gives_once u f (Character o) b c d e x y = (x.0 ∙ sym y.0, x.1 ∙ sym y.1)
 gives_once u f (Broken byte) b c d e x y = (x.0 ∙ sym y.0, x.1 ∙ sym y.1)
 
-pub item_once : (u : List ℕ) (f : Bool) (b c : List ℕ) (d e : InputEvent) → Item u f b d → Item u f c e → (b ≡ c) × (d ≡ e)
+pub item_once : (u : List ℕ) (f : Bool) (b c : List ℕ) (d e : InputEvent) → Item u f b d → Item u f c e
+    → (b ≡ c) × (d ≡ e)
 item_once u f b c d e x y =
     let r = reads u b d f x in
     let s = reads u c e f y in
@@ -130,10 +153,13 @@ read_of m = (m.steps, m.rest)
 -- what is left after an item's bytes
 pub steps_once : (E D : List InputEvent) (T V W : List ℕ) (f : Bool) → Read T f E V → Read T f D W → (E ≡ D) × (V ≡ W)
 steps_once [] [] T V W f (s, r) (t, q) = (refl, sym s ∙ t)
-steps_once [] (d ∷ D) T V W f (s, r) ((bytes, rest, stands, splits, steps), q) = absurd (r bytes d (subst (λ x. Stands x f bytes d) s stands))
-steps_once (e ∷ E) [] T V W f ((bytes, rest, stands, splits, steps), r) (t, q) = absurd (q bytes e (subst (λ x. Stands x f bytes e) t stands))
+steps_once [] (d ∷ D) T V W f (s, r) ((bytes, rest, stands, splits, steps), q) =
+    absurd (r bytes d (subst (λ x. Stands x f bytes d) s stands))
+steps_once (e ∷ E) [] T V W f ((bytes, rest, stands, splits, steps), r) (t, q) =
+    absurd (q bytes e (subst (λ x. Stands x f bytes e) t stands))
 steps_once (e ∷ E) (d ∷ D) T V W f ((b, rest, stands, splits, steps), r) ((c, rest2, stands2, splits2, steps2), q) =
     let one = item_once T f b c e d stands.item stands2.item in
-    let left : rest ≡ rest2 = append_cancel_left c rest rest2 (sym (ap (λ x. x ++ rest) one.0) ∙ sym splits ∙ splits2) in
+    let left : rest ≡ rest2 =
+    append_cancel_left c rest rest2 (sym (ap (λ x. x ++ rest) one.0) ∙ sym splits ∙ splits2) in
     let more = steps_once E D rest2 V W f (subst (λ x. Steps x f E V) left steps, r) (steps2, q) in
     (ap₂ (λ x y. x ∷ y) one.1 more.0, more.1)

@@ -11,10 +11,12 @@ use Rattle.termwiz_grammar.proofs.lemmas.lists.Decidable.{Decision, decide_both,
 abbrev pub laid_out : List ℕ → List ℕ → List ℕ → ℕ → List ℕ
 laid_out code x y last = 27 ∷ 91 ∷ 60 ∷ (code ++ 59 ∷ (x ++ 59 ∷ (y ++ last ∷ [])))
 
-regroup : (code x y : List ℕ) (last : ℕ) → introducer ++ join_with_byte semicolon (code ∷ x ∷ y ∷ []) ++ last ∷ [] ≡ laid_out code x y last
+regroup : (code x y : List ℕ) (last : ℕ)
+    → introducer ++ join_with_byte semicolon (code ∷ x ∷ y ∷ []) ++ last ∷ [] ≡ laid_out code x y last
 regroup code x y last = ap (λ t. 27 ∷ 91 ∷ 60 ∷ t) (simp append_assoc)
 
-pub layout : (text : List ℕ) (report : MouseEvent) (f : IsMouseReport text report) → text ≡ laid_out f.code f.x f.y f.last
+pub layout : (text : List ℕ) (report : MouseEvent) (f : IsMouseReport text report)
+    → text ≡ laid_out f.code f.x f.y f.last
 layout text report f = f.form ∙ regroup f.code f.x f.y f.last
 
 pub semicolon_no_digit : ¬ IsDigit semicolon
@@ -28,9 +30,12 @@ report_once text r s f g =
     let e : laid_out f.code f.x f.y f.last ≡ laid_out g.code g.x g.y g.last = sym (layout text r f) ∙ layout text s g in
     let one = digits_end f.code g.code (f.x ++ 59 ∷ (f.y ++ f.last ∷ [])) (g.x ++ 59 ∷ (g.y ++ g.last ∷ [])) 59 59
     f.code_is.each g.code_is.each semicolon_no_digit semicolon_no_digit (cc (e)) in
-    let two = digits_end f.x g.x (f.y ++ f.last ∷ []) (g.y ++ g.last ∷ []) 59 59 f.x_is.each g.x_is.each semicolon_no_digit semicolon_no_digit one.2 in
-    let three = digits_end f.y g.y [] [] f.last g.last f.y_is.each g.y_is.each (final_no_digit f.last f.last_is) (final_no_digit g.last g.last_is) two.2 in
-    let same : mouse_event (value_of f.code) (value_of f.x) (value_of f.y) f.last ≡ mouse_event (value_of g.code) (value_of g.x) (value_of g.y) g.last
+    let two = digits_end f.x g.x (f.y ++ f.last ∷ [])
+    (g.y ++ g.last ∷ []) 59 59 f.x_is.each g.x_is.each semicolon_no_digit semicolon_no_digit one.2 in
+    let three = digits_end f.y g.y [] [] f.last g.last f.y_is.each g.y_is.each (final_no_digit f.last f.last_is)
+    (final_no_digit g.last g.last_is) two.2 in
+    let same : mouse_event (value_of f.code) (value_of f.x) (value_of f.y) f.last
+    ≡ mouse_event (value_of g.code) (value_of g.x) (value_of g.y) g.last
     = cc (one.0, two.0, three.0, three.1) in
     f.means ∙ same ∙ sym g.means
 
@@ -56,8 +61,10 @@ decide_next b P decide (c ∷ t) = decide_by
 abbrev Field : ℕ → (List ℕ → List ℕ → Type 0) → List ℕ → Type 0
 Field limit P t = (a : List ℕ) × (b : List ℕ) × (t ≡ a ++ b) × (IsNumber a limit × P a b)
 
-decide_field : (limit : ℕ) (P : List ℕ → List ℕ → Type 0) → ((a b : List ℕ) → Decision (P a b)) → (t : List ℕ) → Decision (Field limit P t)
-decide_field limit P decide t = decide_parts (λ a b. IsNumber a limit × P a b) (λ a b. decide_both (decide_number limit a) (decide a b)) t
+decide_field : (limit : ℕ) (P : List ℕ → List ℕ → Type 0) → ((a b : List ℕ) → Decision (P a b)) → (t : List ℕ)
+    → Decision (Field limit P t)
+decide_field limit P decide t =
+    decide_parts (λ a b. IsNumber a limit × P a b) (λ a b. decide_both (decide_number limit a) (decide a b)) t
 
 abbrev IsNil : List ℕ → Type 0
 IsNil t = t ≡ []
@@ -73,10 +80,12 @@ decide_final : (t : List ℕ) → Decision (Final t)
 decide_final t = decide_either (decide_next 77 IsNil decide_nil t) (decide_next 109 IsNil decide_nil t)
 
 abbrev Fields : List ℕ → Type 0
-Fields t = Field largest_code (λ code r. Next 59 (λ u. Field largest_place (λ x s. Next 59 (λ v. Field largest_place (λ y w. Final w) v) s) u) r) t
+Fields t = Field largest_code (λ code r. Next 59
+    (λ u. Field largest_place (λ x s. Next 59 (λ v. Field largest_place (λ y w. Final w) v) s) u) r) t
 
 decide_fields : (t : List ℕ) → Decision (Fields t)
-decide_fields t = decide_field largest_code _ (λ code r. decide_next 59 _ (λ u. decide_field largest_place _ (λ x s. decide_next 59 _ (λ v. decide_field largest_place _ (λ y w. decide_final w) v) s) u) r) t
+decide_fields t = decide_field largest_code _ (λ code r. decide_next 59 _ (λ u. decide_field largest_place _
+    (λ x s. decide_next 59 _ (λ v. decide_field largest_place _ (λ y w. decide_final w) v) s) u) r) t
 
 abbrev Whole : List ℕ → Type 0
 Whole t = Next 27 (λ u. Next 91 (λ v. Next 60 Fields v) u) t
@@ -129,7 +138,8 @@ whole_from t (r, f) =
     last_from last (inr h) = inr ([], ap (λ z. z ∷ []) h, refl)
 
 -- the mouse report that three numbers and a last byte make
-pub report_from : (text code x y : List ℕ) (last : ℕ) → text ≡ laid_out code x y last → IsNumber code largest_code → IsNumber x largest_place → IsNumber y largest_place
+pub report_from : (text code x y : List ℕ) (last : ℕ) → text ≡ laid_out code x y last → IsNumber code largest_code
+    → IsNumber x largest_place → IsNumber y largest_place
     → IsFinal last → IsMouseReport text (mouse_event (value_of code) (value_of x) (value_of y) last)
 report_from text code x y last form code_is x_is y_is last_is = record {
   code = code;
@@ -159,17 +169,31 @@ report_or_not t = ⊎_elim
     (λ never. inr (λ r f. never (whole_from t (r, f))))
     (decide_whole t)
 
-pub length-laid_out : (code x y : List ℕ) (last : ℕ) → length (laid_out code x y last) ≡ length code + length x + length y + 6
-length-laid_out code x y last = omega (arith, length-append code (59 ∷ (x ++ 59 ∷ (y ++ last ∷ []))), length-append x (59 ∷ (y ++ last ∷ [])), length-append y (last ∷ []))
+pub length-laid_out : (code x y : List ℕ) (last : ℕ)
+    → length (laid_out code x y last) ≡ length code + length x + length y + 6
+length-laid_out code x y last = omega (
+  arith,
+  length-append code (59 ∷ (x ++ 59 ∷ (y ++ last ∷ []))),
+  length-append x (59 ∷ (y ++ last ∷ [])),
+  length-append y (last ∷ []),
+)
 
 pub report_short : (t : List ℕ) (r : MouseEvent) → IsMouseReport t r → length t < 22
-report_short t r f = omega (arith, ap length (layout t r f), length-laid_out f.code f.x f.y f.last, f.code_is.short, f.x_is.short, f.y_is.short)
+report_short t r f = omega (
+  arith,
+  ap length (layout t r f),
+  length-laid_out f.code f.x f.y f.last,
+  f.code_is.short,
+  f.x_is.short,
+  f.y_is.short,
+)
 
 -- a byte of a row or a mouse report after the first
 abbrev pub IsPlain : ℕ → Type 0
 IsPlain b = (32 ≤ b) × (b < 127)
 
-pub plain_append : (s t : List ℕ) → AllByRecursion IsPlain s → AllByRecursion IsPlain t → AllByRecursion IsPlain (s ++ t)
+pub plain_append : (s t : List ℕ) → AllByRecursion IsPlain s → AllByRecursion IsPlain t
+    → AllByRecursion IsPlain (s ++ t)
 plain_append [] t a b = b
 plain_append (x ∷ s) t a b = (a.0, plain_append s t a.1 b)
 
@@ -180,27 +204,34 @@ digits_plain (x ∷ t) a = ((let d : IsDigit x = a.0 in (omega arith, omega arit
 final_plain : (last : ℕ) → IsFinal last → IsPlain last
 final_plain last h = (omega arith, omega arith)
 
-pub report_plain : (t : List ℕ) (r : MouseEvent) → IsMouseReport t r → (rest : List ℕ) × (t ≡ 27 ∷ 91 ∷ 60 ∷ rest) × AllByRecursion IsPlain rest
+pub report_plain : (t : List ℕ) (r : MouseEvent) → IsMouseReport t r
+    → (rest : List ℕ) × (t ≡ 27 ∷ 91 ∷ 60 ∷ rest) × AllByRecursion IsPlain rest
 report_plain t r f = (
   f.code ++ 59 ∷ (f.x ++ 59 ∷ (f.y ++ f.last ∷ [])),
   layout t r f,
   plain_append f.code (59 ∷ (f.x ++ 59 ∷ (f.y ++ f.last ∷ []))) (digits_plain f.code f.code_is.each) (
     (omega arith, omega arith),
-    plain_append f.x (59 ∷ (f.y ++ f.last ∷ [])) (digits_plain f.x f.x_is.each)
-        ((omega arith, omega arith), plain_append f.y (f.last ∷ []) (digits_plain f.y f.y_is.each) (final_plain f.last f.last_is, tt)),
+    plain_append f.x (59 ∷ (f.y ++ f.last ∷ [])) (digits_plain f.x f.x_is.each) (
+      (omega arith, omega arith),
+      plain_append f.y (f.last ∷ []) (digits_plain f.y f.y_is.each) (final_plain f.last f.last_is, tt),
+    ),
   ),
 )
 
 -- no mouse report begins another
 pub report_alone : (t tail : List ℕ) (r s : MouseEvent) → IsMouseReport t r → IsMouseReport (t ++ tail) s → tail ≡ []
 report_alone t tail r s f g =
-    let e : laid_out f.code f.x f.y f.last ++ tail ≡ laid_out g.code g.x g.y g.last = ap (λ z. z ++ tail) (sym (layout t r f)) ∙ layout (t ++ tail) s g in
+    let e : laid_out f.code f.x f.y f.last ++ tail ≡ laid_out g.code g.x g.y g.last =
+    ap (λ z. z ++ tail) (sym (layout t r f)) ∙ layout (t ++ tail) s g in
     let d : f.code ++ 59 ∷ (f.x ++ 59 ∷ (f.y ++ f.last ∷ tail)) ≡ g.code ++ 59 ∷ (g.x ++ 59 ∷ (g.y ++ g.last ∷ []))
-    = sym (simp append_assoc) ∙ drop_three (laid_out f.code f.x f.y f.last ++ tail) (laid_out g.code g.x g.y g.last) e in
+    = sym (simp append_assoc)
+    ∙ drop_three (laid_out f.code f.x f.y f.last ++ tail) (laid_out g.code g.x g.y g.last) e in
     let one = digits_end f.code g.code (f.x ++ 59 ∷ (f.y ++ f.last ∷ tail)) (g.x ++ 59 ∷ (g.y ++ g.last ∷ [])) 59 59
     f.code_is.each g.code_is.each semicolon_no_digit semicolon_no_digit d in
-    let two = digits_end f.x g.x (f.y ++ f.last ∷ tail) (g.y ++ g.last ∷ []) 59 59 f.x_is.each g.x_is.each semicolon_no_digit semicolon_no_digit one.2 in
-    (digits_end f.y g.y tail [] f.last g.last f.y_is.each g.y_is.each (final_no_digit f.last f.last_is) (final_no_digit g.last g.last_is) two.2).2
+    let two = digits_end f.x g.x (f.y ++ f.last ∷ tail)
+    (g.y ++ g.last ∷ []) 59 59 f.x_is.each g.x_is.each semicolon_no_digit semicolon_no_digit one.2 in
+    (digits_end f.y g.y tail [] f.last g.last f.y_is.each g.y_is.each (final_no_digit f.last f.last_is)
+    (final_no_digit g.last g.last_is) two.2).2
   where
     drop_three : (a b : List ℕ) → a ≡ b → drop 3 a ≡ drop 3 b
     drop_three a b h = ap (drop 3) h

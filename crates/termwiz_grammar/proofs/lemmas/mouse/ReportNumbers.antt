@@ -9,7 +9,8 @@ use Rattle.termwiz_keymap.specs.Bytes.{Begins}
 use Rattle.termwiz_grammar.specs.MouseReports.{IsDigit, IsNumber, value_of}
 
 -- digits end where something else comes
-pub digits_end : (a b r s : List ℕ) (v w : ℕ) → AllByRecursion IsDigit a → AllByRecursion IsDigit b → ¬ IsDigit v → ¬ IsDigit w
+pub digits_end : (a b r s : List ℕ) (v w : ℕ) → AllByRecursion IsDigit a → AllByRecursion IsDigit b
+    → ¬ IsDigit v → ¬ IsDigit w
     → a ++ v ∷ r ≡ b ++ w ∷ s → (a ≡ b) × (v ≡ w) × (r ≡ s)
 digits_end [] [] r s v w da db nv nw e = (refl, cc (e), cc (e))
 digits_end [] (x ∷ b) r s v w da db nv nw e = absurd (nv (subst IsDigit (let q : x ≡ v = cc (e) in q) db.0))
@@ -36,7 +37,8 @@ value_grows : (p t : List ℕ) → value_of p ≤ value_of (p ++ t)
 value_grows p t = rw (fold-append (λ (m b : ℕ). m * 10 + (b - 48)) 0 p t) (more_from (value_of p) t)
 
 -- so a number goes on after the digits of a text that begins with it
-number_from : (p rest digits r s : List ℕ) (limit last : ℕ) → AllByRecursion IsDigit p → IsNumber digits limit → ¬ IsDigit last
+number_from : (p rest digits r s : List ℕ) (limit last : ℕ) → AllByRecursion IsDigit p → IsNumber digits limit
+    → ¬ IsDigit last
     → digits ++ last ∷ r ≡ (p ++ rest) ++ s → (length p ≤ 5) × (value_of p ≤ limit)
 number_from p rest digits r s limit last all is ends e =
     let begins = digits_begin p digits r (rest ++ s) last all ends (e ∙ append_assoc p rest s) in
@@ -55,16 +57,20 @@ pub number_past : (text : List ℕ) (i d : ℕ) (digits r s : List ℕ) (limit l
 number_past text i d digits r s limit last there all is number ends e =
     let more = take_more text i d there in
     let all2 : AllByRecursion IsDigit (take (i + 1) text) = rw more (all_push (take i text) (get_or text i d) all is) in
-    let is_sequence = number_from (take (i + 1) text) (drop (i + 1) text) digits r s limit last all2 number ends (e ∙ ap (λ t. t ++ s) (sym (take-append-drop (i + 1) text))) in
+    let is_sequence = number_from (take (i + 1) text) (drop (i + 1) text) digits r s limit last all2 number ends
+    (e ∙ ap (λ t. t ++ s) (sym (take-append-drop (i + 1) text))) in
     let value : value_of (take (i + 1) text) ≡ value_of (take i text) * 10 + (get_or text i d - 48)
     = ap value_of more ∙ fold-append (λ (m b : ℕ). m * 10 + (b - 48)) 0 (take i text) (get_or text i d ∷ []) in
     (omega (arith, length-take-le (i + 1) text (omega arith), is_sequence.0), omega (arith, value, is_sequence.1))
 
 -- where the digits of a text end, so does each number that the text may begin with
-pub number_stops : (text : List ℕ) (i d : ℕ) (digits r s : List ℕ) (last : ℕ) → i < length text → AllByRecursion IsDigit (take i text) → ¬ IsDigit (get_or text i d)
-    → AllByRecursion IsDigit digits → ¬ IsDigit last → digits ++ last ∷ r ≡ text ++ s → (digits ≡ take i text) × (last ≡ get_or text i d)
+pub number_stops : (text : List ℕ) (i d : ℕ) (digits r s : List ℕ) (last : ℕ) → i < length text
+    → AllByRecursion IsDigit (take i text) → ¬ IsDigit (get_or text i d)
+    → AllByRecursion IsDigit digits → ¬ IsDigit last → digits ++ last ∷ r ≡ text ++ s
+    → (digits ≡ take i text) × (last ≡ get_or text i d)
 number_stops text i d digits r s last there before stop all ends e =
-    let parts : text ≡ take i text ++ get_or text i d ∷ drop (suc i) text = sym (take-append-drop i text) ∙ ap (λ t. take i text ++ t) (drop-cons text i d there) in
+    let parts : text ≡ take i text ++ get_or text i d ∷ drop (suc i) text =
+    sym (take-append-drop i text) ∙ ap (λ t. take i text ++ t) (drop-cons text i d there) in
     let both = digits_end digits (take i text) r (drop (suc i) text ++ s) last (get_or text i d) all before ends stop
     (e ∙ ap (λ t. t ++ s) parts ∙ append_assoc (take i text) (get_or text i d ∷ drop (suc i) text) s) in
     (both.0, both.1)
@@ -76,7 +82,11 @@ pub digit_from_test : (b : ℕ) → is_ascii_digit b ≡ true → IsDigit b
 digit_from_test b e = (grind (arith, nat_tests), grind (arith, nat_tests))
 
 -- few digits of a number up to a limit can go on to a number up to it
-pub completes : (t : List ℕ) (limit : ℕ) → AllByRecursion IsDigit t → length t ≤ 5 → value_of t ≤ limit → (more : List ℕ) × IsNumber (t ++ more) limit
-completes [] limit all short within = (48 ∷ [], record { some = omega arith; short = omega arith; each = ((omega arith, omega arith), tt); within = omega arith })
+pub completes : (t : List ℕ) (limit : ℕ) → AllByRecursion IsDigit t → length t ≤ 5 → value_of t ≤ limit
+    → (more : List ℕ) × IsNumber (t ++ more) limit
+completes [] limit all short within = (
+  48 ∷ [],
+  record { some = omega arith; short = omega arith; each = ((omega arith, omega arith), tt); within = omega arith },
+)
 completes (b ∷ t) limit all short within =
     ([], rw append-nil (record { some = omega arith; short = short; each = all; within = within }))

@@ -20,9 +20,11 @@ begins_or_not t = ⊎_elim
 
 first_at_once : EndsFirst []
 first_at_once before [] e = refl
-first_at_once before (x ∷ after) e = absurd (omega (arith, length-append (before ++ END) (x ∷ after), length-append before END, ap length e))
+first_at_once before (x ∷ after) e =
+    absurd (omega (arith, length-append (before ++ END) (x ∷ after), length-append before END, ap length e))
 
-later : (x : ℕ) (body rest : List ℕ) → (Begins END (x ∷ body ++ END ++ rest) → ⊥) → EndsFirst body → EndsFirst (x ∷ body)
+later : (x : ℕ) (body rest : List ℕ) → (Begins END (x ∷ body ++ END ++ rest) → ⊥) → EndsFirst body
+    → EndsFirst (x ∷ body)
 later x body rest never first [] after e =
     absurd (never (after ++ rest, ap (λ z. z ++ rest) e ∙ append_assoc END after rest))
 later x body rest never first (y ∷ before) after e = first before after (cc (e))
@@ -46,5 +48,6 @@ pub ends_once : (b c r s : List ℕ) → b ++ END ++ r ≡ c ++ END ++ s → End
 ends_once b c r s e first second = go (overlap (b ++ END) r (c ++ END) s (sym e))
   where
     go : Overlaps (b ++ END) r (c ++ END) s → b ≡ c
-    go (within t f g) = sym (append_cancel_right c b END (f ∙ ap (λ z. b ++ END ++ z) (second b t f) ∙ append-nil (b ++ END)))
+    go (within t f g) =
+        sym (append_cancel_right c b END (f ∙ ap (λ z. b ++ END ++ z) (second b t f) ∙ append-nil (b ++ END)))
     go (past t longer f g) = absurd (longer (first c t f))

@@ -70,11 +70,14 @@ tests key held level =
     ∷ (key_among (Enter ∷ Escape ∷ Backspace ∷ []) key && held_among (NONE ∷ ALT ∷ []) held)
     ∷ ((is_char is_own_letter key && not (is_level level 2)) && held_among (CTRL ∷ (CTRL + ALT) ∷ []) held)
     ∷ ((key_among (Tab ∷ []) key && not (is_some level)) && held_among (NONE ∷ ALT ∷ SHIFT ∷ (ALT + SHIFT) ∷ []) held)
-    ∷ ((key_among (Tab ∷ []) key && not (is_some level)) && held_among ((CTRL + SHIFT) ∷ (CTRL + ALT + SHIFT) ∷ []) held)
+    ∷ ((key_among (Tab ∷ []) key && not (is_some level))
+    && held_among ((CTRL + SHIFT) ∷ (CTRL + ALT + SHIFT) ∷ []) held)
     ∷ ((key_among edit_keys key && not (is_some level)) && held_among any_of_three held)
     ∷ ((key_among (Tab ∷ Enter ∷ []) key && is_some level) && held_among any_of_three held)
-    ∷ ((is_char (λ c. nat_le 0x20 c && nat_le c 0x7e) key && is_level level 2) && held_among (CTRL ∷ (CTRL + ALT) ∷ []) held)
-    ∷ ((is_char (λ c. is_ascii_digit c || c == 0x20) key && is_level level 2) && held_among ((CTRL + SHIFT) ∷ (CTRL + ALT + SHIFT) ∷ []) held)
+    ∷ ((is_char (λ c. nat_le 0x20 c && nat_le c 0x7e) key && is_level level 2)
+    && held_among (CTRL ∷ (CTRL + ALT) ∷ []) held)
+    ∷ ((is_char (λ c. is_ascii_digit c || c == 0x20) key && is_level level 2)
+    && held_among ((CTRL + SHIFT) ∷ (CTRL + ALT + SHIFT) ∷ []) held)
     ∷ ((key_among (Escape ∷ Backspace ∷ []) key && is_level level 2) && held_among any_of_three held)
     ∷ []
 
@@ -114,17 +117,22 @@ not_two level n = ap (λ b. not b) (not_level level n)
 
 -- A listed key passes the test of its line.
 passes : (k : KeyCode) (h : ℕ) (l : Option ℤ) → IsListedAt k h l → (i : ℕ) × (get_or (tests k h l) i false ≡ true)
-passes k h l (any_modifiers key held level a b) = (0, both _ _ (key_found first_keys key a) (held_found any_of_three held b))
+passes k h l (any_modifiers key held level a b) =
+    (0, both _ _ (key_found first_keys key a) (held_found any_of_three held b))
 passes k h l (no_modifiers key level a) = (1, both _ _ (key_found plain_keys key a) refl)
 passes k h l (character c level scalar low other) =
     (2, both _ _ (let t : nat_le 0x20 c && not (c == 0x7f) ≡ true = grind (arith, nat_tests) in t) refl)
 passes k h l (alt_character c level a) = (3, both _ _ a refl)
 passes k h l (none_or_alt key held level a b) =
     (4, both _ _ (key_found (Enter ∷ Escape ∷ Backspace ∷ []) key a) (held_found (NONE ∷ ALT ∷ []) held b))
-passes k h l (ctrl_letter c held level small own other a) =
-    (5, both _ _ (both _ _ (own_passes c small own) (not_two level other)) (held_found (CTRL ∷ (CTRL + ALT) ∷ []) held a))
-passes k h l (tab_with_alt_and_shift held a) = (6, both _ _ refl (held_found (NONE ∷ ALT ∷ SHIFT ∷ (ALT + SHIFT) ∷ []) held a))
-passes k h l (tab_with_ctrl_and_shift held a) = (7, both _ _ refl (held_found ((CTRL + SHIFT) ∷ (CTRL + ALT + SHIFT) ∷ []) held a))
+passes k h l (ctrl_letter c held level small own other a) = (
+  5,
+  both _ _ (both _ _ (own_passes c small own) (not_two level other)) (held_found (CTRL ∷ (CTRL + ALT) ∷ []) held a),
+)
+passes k h l (tab_with_alt_and_shift held a) =
+    (6, both _ _ refl (held_found (NONE ∷ ALT ∷ SHIFT ∷ (ALT + SHIFT) ∷ []) held a))
+passes k h l (tab_with_ctrl_and_shift held a) =
+    (7, both _ _ refl (held_found ((CTRL + SHIFT) ∷ (CTRL + ALT + SHIFT) ∷ []) held a))
 passes k h l (edit_or_high_function key held a b) =
     (8, both _ _ (both _ _ (key_found edit_keys key a) refl) (held_found any_of_three held b))
 passes k h l (tab_or_enter key held n a b) =
@@ -161,7 +169,8 @@ none_listed (p ∷ presses) e =
 
 -- a character that isn't one of `hijm`
 own : (c : ℕ) → has_number (λ n. n) (codes "hijm") c ≡ false → ¬ IsSharedLetter c
-own c none shared = let yes : has_number (λ n. n) (codes "hijm") c ≡ true = found (λ n. n) (codes "hijm") c shared in cc (yes, none)
+own c none shared = let yes : has_number (λ n. n) (codes "hijm") c ≡ true = found (λ n. n) (codes "hijm") c shared in
+    cc (yes, none)
 
 -- one more, and the others
 also : {A B : Type 0} → A → B → A × B
@@ -354,10 +363,12 @@ listed_examples = record {
   near_digits_with_ctrl_and_shift = none_listed unlisted_near_digits_with_ctrl_and_shift refl;
   escape_and_backspace_are = escape_and_backspace_are;
   near_escape_and_backspace = none_listed unlisted_near_escape_and_backspace refl;
-  home_in_application_mode = record { home_or_end = (0, lit< tt, refl); any_modifiers = (4, lit< tt, refl); off = refl };
+  home_in_application_mode =
+      record { home_or_end = (0, lit< tt, refl); any_modifiers = (4, lit< tt, refl); off = refl };
   end_in_application_mode = record { home_or_end = (1, lit< tt, refl); any_modifiers = (7, lit< tt, refl); off = refl };
   no_arrow_in_application_mode = λ is.
-      (let n : key_among (Home ∷ End ∷ []) UpArrow ≡ true = key_found (Home ∷ End ∷ []) UpArrow is.home_or_end in cc (n));
+      (let n : key_among (Home ∷ End ∷ []) UpArrow ≡ true = key_found (Home ∷ End ∷ []) UpArrow is.home_or_end in
+      cc (n));
   none_beside_other_keys = λ is. cc (is.off);
   no_other_modifier_in_application_mode = λ is.
       (let n : held_among any_of_three SUPER ≡ true = held_found any_of_three SUPER is.any_modifiers in cc (n));

@@ -1,5 +1,5 @@
 -- A reader of whole texts that stand for one key, by the rows of a few rules.
-use Rattle.std.proofs.Common.{◌≡◌, ◌≢◌, ◌⊎◌, ⊎_elim, ℕ, ◌<◌, ◌≤◌, Bool, true, false, List, [], ◌∷◌, ◌++◌, map, filter, flat_map, Option, Some, None, refl, sym, subst, arith, Contains, nat_lt, bytes_eq, ◌==◌, ◌&&◌, ◌||◌, encode_utf8, lit<}
+use Rattle.std.proofs.Common.{◌≡◌, ◌≢◌, ◌⊎◌, ⊎_elim, ℕ, suc, ◌<◌, ◌≤◌, Bool, true, false, List, [], ◌∷◌, ◌++◌, map, filter, flat_map, Option, Some, None, refl, sym, subst, arith, Contains, nat_lt, bytes_eq, ◌==◌, ◌&&◌, ◌||◌, encode_utf8, lit<}
 use Rattle.std.specs.Map.{lookup}
 use Rattle.std.specs.Option.{option_map, option_or}
 use Rattle.std.specs.Prelude.{if◌then◌else◌}
@@ -53,18 +53,21 @@ reading part text = option_or (row_key part text) (alt_key part text)
 abbrev pub AreRows : List TableRow → Type 0
 AreRows part = (r : TableRow) → Contains part r → Contains rows r
 
-row_key_means : (part : List TableRow) (text : List ℕ) (k : KeyEvent) → AreRows part → row_key part text ≡ Some k → Contains rows (text, k) × (text ≢ START)
+row_key_means : (part : List TableRow) (text : List ℕ) (k : KeyEvent) → AreRows part → row_key part text ≡ Some k
+    → Contains rows (text, k) × (text ≢ START)
 row_key_means part text k are e = go (bytes_eq text START) refl
   where
     go : (b : Bool) → bytes_eq text START ≡ b → Contains rows (text, k) × (text ≢ START)
     go true same = absurd (let none : None ≡ Some k = rw same at e in cc (none))
     go false other = (
-      are (text, k) (Contains-from_lookup (λ (s t : List ℕ) (h : bytes_eq s t ≡ true). (bytes_eq-Decides s t).0 h) text k part (rw other at e)),
+      are (text, k) (Contains-from_lookup (λ (s t : List ℕ) (h : bytes_eq s t ≡ true). (bytes_eq-Decides s t).0 h) text
+          k part (rw other at e)),
       λ same. let h : bytes_eq text START ≡ true = (bytes_eq-Decides text START).1 same in cc (h, other),
     )
 
 -- ESC, and one character of ASCII that no sequence has after its ESC
-ascii_means : (y : ℕ) (t : List ℕ) (k : KeyEvent) → (y ≤ 64) ⊎ (92 ≤ y) → option_map with_alt (ascii_key (y ∷ t)) ≡ Some k
+ascii_means : (y : ℕ) (t : List ℕ) (k : KeyEvent) → (y ≤ 64) ⊎ (92 ≤ y)
+    → option_map with_alt (ascii_key (y ∷ t)) ≡ Some k
     → Means (27 ∷ y ∷ t) false (Key k ∷ []) []
 ascii_means y (z ∷ t) k apart e = absurd (cc (e))
 ascii_means y [] k apart e = go (nat_lt 27 y && nat_lt y 127) refl
@@ -77,7 +80,8 @@ ascii_means y [] k apart e = go (nat_lt 27 y && nat_lt y 127) refl
         let above : 27 < y = grind (arith, nat_tests) in
         let below : y < 127 = grind (arith, nat_tests) in
         let bytes : encode_utf8 y ≡ y ∷ [] = encode_ascii y (omega arith) in
-        let head : IsHead (encode_utf8 y) (Character y) = char_head y (low_scalar y (omega arith)) (omega arith) (λ d. omega arith) in
+        let head : IsHead (encode_utf8 y) (Character y) =
+        char_head y (low_scalar y (omega arith)) (omega arith) (λ d. omega arith) in
         let same : with_alt (plain y) ≡ k = (let s : Some (with_alt (plain y)) ≡ Some k = rw inside at e in cc (s)) in
         subst (λ j. Means (27 ∷ y ∷ []) false (Key j ∷ []) []) same
         (alt_means y [] (Character y) (plain y) apart (subst (λ u. IsHead u (Character y)) bytes head) refl bytes)
@@ -85,7 +89,8 @@ ascii_means y [] k apart e = go (nat_lt 27 y && nat_lt y 127) refl
 
 -- ESC, and the bytes of a row
 joined_means : (part : List TableRow) (y : ℕ) (t : List ℕ) (k : KeyEvent) → AreRows part → (y ≤ 64) ⊎ (92 ≤ y)
-    → option_map with_alt (option_or (row_key part (y ∷ t)) (ascii_key (y ∷ t))) ≡ Some k → Means (27 ∷ y ∷ t) false (Key k ∷ []) []
+    → option_map with_alt (option_or (row_key part (y ∷ t)) (ascii_key (y ∷ t))) ≡ Some k
+    → Means (27 ∷ y ∷ t) false (Key k ∷ []) []
 unfolding IsSequence
 joined_means part y t k are apart e = go (row_key part (y ∷ t)) refl
   where
@@ -97,7 +102,8 @@ joined_means part y t k are apart e = go (row_key part (y ∷ t)) refl
         (alt_means y t (Sequence (y ∷ t) (Row j)) j apart (longest_whole (y ∷ t) (Row j) row.0) (row.1, refl) refl)
     go None missing = ascii_means y t k apart (rw missing at e)
 
-alt_key_means : (part : List TableRow) (text : List ℕ) (k : KeyEvent) → AreRows part → alt_key part text ≡ Some k → Means text false (Key k ∷ []) []
+alt_key_means : (part : List TableRow) (text : List ℕ) (k : KeyEvent) → AreRows part → alt_key part text ≡ Some k
+    → Means text false (Key k ∷ []) []
 alt_key_means part [] k are e = absurd (cc (e))
 alt_key_means part (x ∷ []) k are e = absurd (cc (e))
 alt_key_means part (x ∷ y ∷ t) k are e = go ((x == 27) && is_apart y) refl
@@ -109,11 +115,13 @@ alt_key_means part (x ∷ y ∷ t) k are e = go ((x == 27) && is_apart y) refl
         let same : x ≡ 27 = grind (arith, nat_tests) in
         let second : nat_lt y 65 || nat_lt 91 y ≡ true = parts.1 in
         let apart : (y ≤ 64) ⊎ (92 ≤ y) = grind (arith, nat_tests) in
-        subst (λ z. Means (z ∷ y ∷ t) false (Key k ∷ []) []) (sym same) (joined_means part y t k are apart (rw both at e))
+        subst (λ z. Means (z ∷ y ∷ t) false (Key k ∷ []) []) (sym same)
+        (joined_means part y t k are apart (rw both at e))
     go false other = absurd (let none : None ≡ Some k = rw other at e in cc (none))
 
 -- what the reader says is what the text means
-pub reading_means : (part : List TableRow) (text : List ℕ) (k : KeyEvent) → AreRows part → reading part text ≡ Some k → Means text false (Key k ∷ []) []
+pub reading_means : (part : List TableRow) (text : List ℕ) (k : KeyEvent) → AreRows part → reading part text ≡ Some k
+    → Means text false (Key k ∷ []) []
 reading_means part text k are e = go (row_key part text) refl
   where
     go : (o : Option KeyEvent) → row_key part text ≡ o → Means text false (Key k ∷ []) []
@@ -126,13 +134,24 @@ reading_means part text k are e = go (row_key part text) refl
 -- the rules after the first
 abbrev rules : List (List TableRow)
 rules =
-    backspace_bytes_rows ∷ tab_byte_rows ∷ enter_bytes_rows ∷ escape_byte_rows ∷ alt_letters_rows ∷ alt_bracket_rows ∷ ctrl_arrows_rows ∷ application_arrows_rows ∷ modified_application_arrows_rows
-    ∷ ss3_function_keys_rows ∷ application_home_end_rows ∷ modified_cursor_keys_rows ∷ lettered_function_keys_rows ∷ ctrl_shift_tab_rows ∷ paste_start_rows ∷ paste_end_rows ∷ numbered_function_keys_rows ∷ modify_other_keys_rows
-    ∷ csi_u_rows ∷ high_function_keys_rows ∷ modified_edit_keys_rows ∷ edit_keys_rows ∷ cursor_keys_rows ∷ shift_tab_rows ∷ shift_arrows_rows ∷ []
+    backspace_bytes_rows ∷ tab_byte_rows ∷ enter_bytes_rows ∷ escape_byte_rows ∷ alt_letters_rows ∷ alt_bracket_rows
+    ∷ ctrl_arrows_rows ∷ application_arrows_rows ∷ modified_application_arrows_rows
+    ∷ ss3_function_keys_rows ∷ application_home_end_rows ∷ modified_cursor_keys_rows ∷ lettered_function_keys_rows
+    ∷ ctrl_shift_tab_rows ∷ paste_start_rows ∷ paste_end_rows ∷ numbered_function_keys_rows ∷ modify_other_keys_rows
+    ∷ csi_u_rows ∷ high_function_keys_rows ∷ modified_edit_keys_rows ∷ edit_keys_rows ∷ cursor_keys_rows
+    ∷ shift_tab_rows ∷ shift_arrows_rows ∷ []
 
 rows_are_joined : joined control_letters_rows rules ≡ rows
 unfolding rows
 rows_are_joined = refl
+
+-- the rule at the front of a list, and one of those behind it
+first_rule : (rule : List TableRow) (others : List (List TableRow)) → Contains (rule ∷ others) rule
+first_rule rule others = (0, omega arith, refl)
+
+later_rule : (first rule : List TableRow) (others : List (List TableRow)) → Contains others rule
+    → Contains (first ∷ others) rule
+later_rule first rule others (i, l, e) = (suc i, omega arith, e)
 
 rule_rows : (rule : List TableRow) → Contains rules rule → AreRows rule
 rule_rows rule c r h = subst (λ all. Contains all r) rows_are_joined (in_later control_letters_rows rules rule r c h)
@@ -158,43 +177,62 @@ high_function_rows_of n = flat_map function_key_of (filter (λ f. f.1 == n) high
 
 pub csi_u_are : (c : ℕ) → AreRows (csi_u_rows_of c)
 unfolding csi_u_rows
-csi_u_are c r h = rule_rows csi_u_rows (18, lit< tt, refl) r (in_flat_map_filter csi_u_of (λ d. d == c) (numbers 0 128) r h)
+csi_u_are c r h = rule_rows csi_u_rows (search (first_rule, later_rule) depth 30) r
+    (in_flat_map_filter csi_u_of (λ d. d == c) (numbers 0 128) r h)
 
 other_keys_are : (c : ℕ) → AreRows (other_keys_rows_of c)
 unfolding modify_other_keys_rows
-other_keys_are c r h = rule_rows modify_other_keys_rows (17, lit< tt, refl) r (in_flat_map_filtered modify_other_key (λ d. d == c) (numbers 0 128) to_eight r h)
+other_keys_are c r h = rule_rows modify_other_keys_rows (search (first_rule, later_rule) depth 30) r
+    (in_flat_map_filtered modify_other_key (λ d. d == c) (numbers 0 128) to_eight r h)
 
 function_are : (n : ℕ) → AreRows (function_rows_of n)
 unfolding numbered_function_keys_rows
 function_are n r h =
-    rule_rows numbered_function_keys_rows (16, lit< tt, refl) r (in_flat_map_filter function_key_of (λ f. f.1 == n) function_codes r h)
+    rule_rows numbered_function_keys_rows (search (first_rule, later_rule) depth 30) r
+    (in_flat_map_filter function_key_of (λ f. f.1 == n) function_codes r h)
 
 high_function_are : (n : ℕ) → AreRows (high_function_rows_of n)
 unfolding high_function_keys_rows
 high_function_are n r h =
-    rule_rows high_function_keys_rows (19, lit< tt, refl) r (in_flat_map_filter function_key_of (λ f. f.1 == n) high_function_codes r h)
+    rule_rows high_function_keys_rows (search (first_rule, later_rule) depth 30) r
+    (in_flat_map_filter function_key_of (λ f. f.1 == n) high_function_codes r h)
 
 -- rows among which the texts of a key are, after at most one ESC
 abbrev pub rows_for : KeyCode → List TableRow
 rows_for (Char c) = control_letters_rows ++ alt_letters_rows ++ alt_bracket_rows ++ other_keys_rows_of c
-rows_for (Function n) = ss3_function_keys_rows ++ lettered_function_keys_rows ++ function_rows_of n ++ high_function_rows_of n
+rows_for (Function n) =
+    ss3_function_keys_rows ++ lettered_function_keys_rows ++ function_rows_of n ++ high_function_rows_of n
 rows_for Tab = tab_byte_rows ++ shift_tab_rows ++ ctrl_shift_tab_rows ++ other_keys_rows_of 9
 rows_for Enter = enter_bytes_rows ++ other_keys_rows_of 13
 rows_for Escape = escape_byte_rows ++ other_keys_rows_of 27
 rows_for Backspace = backspace_bytes_rows ++ other_keys_rows_of 8 ++ other_keys_rows_of 127
 rows_for key =
-    cursor_keys_rows ++ modified_cursor_keys_rows ++ application_arrows_rows ++ edit_keys_rows ++ modified_edit_keys_rows ++ application_home_end_rows
+    cursor_keys_rows ++ modified_cursor_keys_rows ++ application_arrows_rows ++ edit_keys_rows
+    ++ modified_edit_keys_rows ++ application_home_end_rows
 
 pub rows_for_are : (key : KeyCode) → AreRows (rows_for key)
-rows_for_are (Char c) = both_are _ _ (both_are _ _ (both_are _ _ control_letters_are (rule_rows alt_letters_rows (4, lit< tt, refl)))
-    (rule_rows alt_bracket_rows (5, lit< tt, refl))) (other_keys_are c)
-rows_for_are (Function n) = both_are _ _ (both_are _ _ (both_are _ _ (rule_rows ss3_function_keys_rows (9, lit< tt, refl))
-    (rule_rows lettered_function_keys_rows (12, lit< tt, refl))) (function_are n)) (high_function_are n)
-rows_for_are Tab = both_are _ _ (both_are _ _ (both_are _ _ (rule_rows tab_byte_rows (1, lit< tt, refl)) (rule_rows shift_tab_rows (23, lit< tt, refl)))
-    (rule_rows ctrl_shift_tab_rows (13, lit< tt, refl))) (other_keys_are 9)
-rows_for_are Enter = both_are _ _ (rule_rows enter_bytes_rows (2, lit< tt, refl)) (other_keys_are 13)
-rows_for_are Escape = both_are _ _ (rule_rows escape_byte_rows (3, lit< tt, refl)) (other_keys_are 27)
-rows_for_are Backspace = both_are _ _ (both_are _ _ (rule_rows backspace_bytes_rows (0, lit< tt, refl)) (other_keys_are 8)) (other_keys_are 127)
-rows_for_are key = both_are _ _ (both_are _ _ (both_are _ _ (both_are _ _ (both_are _ _ (rule_rows cursor_keys_rows (22, lit< tt, refl)) (rule_rows modified_cursor_keys_rows (11, lit< tt, refl)))
-    (rule_rows application_arrows_rows (7, lit< tt, refl))) (rule_rows edit_keys_rows (21, lit< tt, refl)))
-    (rule_rows modified_edit_keys_rows (20, lit< tt, refl))) (rule_rows application_home_end_rows (10, lit< tt, refl))
+rows_for_are (Char c) = both_are _ _ (both_are _ _
+    (both_are _ _ control_letters_are (rule_rows alt_letters_rows (search (first_rule, later_rule) depth 30)))
+    (rule_rows alt_bracket_rows (search (first_rule, later_rule) depth 30))) (other_keys_are c)
+rows_for_are (Function n) = both_are _ _
+    (both_are _ _ (both_are _ _ (rule_rows ss3_function_keys_rows (search (first_rule, later_rule) depth 30))
+    (rule_rows lettered_function_keys_rows (search (first_rule, later_rule) depth 30))) (function_are n))
+    (high_function_are n)
+rows_for_are Tab =
+    both_are _ _ (both_are _ _ (both_are _ _ (rule_rows tab_byte_rows (search (first_rule, later_rule) depth 30))
+    (rule_rows shift_tab_rows (search (first_rule, later_rule) depth 30)))
+    (rule_rows ctrl_shift_tab_rows (search (first_rule, later_rule) depth 30))) (other_keys_are 9)
+rows_for_are Enter =
+    both_are _ _ (rule_rows enter_bytes_rows (search (first_rule, later_rule) depth 30)) (other_keys_are 13)
+rows_for_are Escape =
+    both_are _ _ (rule_rows escape_byte_rows (search (first_rule, later_rule) depth 30)) (other_keys_are 27)
+rows_for_are Backspace = both_are _ _
+    (both_are _ _ (rule_rows backspace_bytes_rows (search (first_rule, later_rule) depth 30)) (other_keys_are 8))
+    (other_keys_are 127)
+rows_for_are key = both_are _ _ (both_are _ _
+    (both_are _ _ (both_are _ _ (both_are _ _ (rule_rows cursor_keys_rows (search (first_rule, later_rule) depth 30))
+    (rule_rows modified_cursor_keys_rows (search (first_rule, later_rule) depth 30)))
+    (rule_rows application_arrows_rows (search (first_rule, later_rule) depth 30)))
+    (rule_rows edit_keys_rows (search (first_rule, later_rule) depth 30)))
+    (rule_rows modified_edit_keys_rows (search (first_rule, later_rule) depth 30)))
+    (rule_rows application_home_end_rows (search (first_rule, later_rule) depth 30))

@@ -30,7 +30,13 @@ never_open u h = cc (h.more_comes)
 pub row_means : (q : List ℕ) (k : KeyEvent) → Contains rows (q, k) → q ≢ START → Means q false (Key k ∷ []) []
 unfolding IsSequence
 row_means q k row other = record {
-  steps = (q, [], record { closed = never_open q; item = key q k (longest_whole q (Row k) row) other (λ e. e) }, sym (append-nil q), refl);
+  steps = (
+    q,
+    [],
+    record { closed = never_open q; item = key q k (longest_whole q (Row k) row) other (λ e. e) },
+    sym (append-nil q),
+    refl,
+  );
   rest = empty_is_rest false;
 }
 
@@ -63,11 +69,13 @@ escape_alone x t apart = record {
     at_most (y ∷ z ∷ s) n k b =
         let first : y ≡ 27 = cc (b.1) in
         let second : z ≡ x = cc (b.1) in
-        let range = sequence_second x s n (subst (λ c. IsSequence (27 ∷ c ∷ s) n) second (subst (λ c. IsSequence (c ∷ z ∷ s) n) first k)) in
+        let range = sequence_second x s n
+        (subst (λ c. IsSequence (27 ∷ c ∷ s) n) second (subst (λ c. IsSequence (c ∷ z ∷ s) n) first k)) in
         absurd (omega arith)
 
 -- ESC and then the bytes of a key mean that key with Alt
-pub alt_means : (x : ℕ) (t : List ℕ) (h : Head) (k : KeyEvent) → (x ≤ 64) ⊎ (92 ≤ x) → IsHead (x ∷ t) h → IsKey h k → bytes_of h ≡ x ∷ t
+pub alt_means : (x : ℕ) (t : List ℕ) (h : Head) (k : KeyEvent) → (x ≤ 64) ⊎ (92 ≤ x) → IsHead (x ∷ t) h → IsKey h k
+    → bytes_of h ≡ x ∷ t
     → Means (27 ∷ x ∷ t) false (Key (with_alt k) ∷ []) []
 alt_means x t h k apart is near whole = record {
   steps = (
@@ -75,7 +83,12 @@ alt_means x t h k apart is near whole = record {
     [],
     record {
       closed = never_open (27 ∷ x ∷ t);
-      item = alt (x ∷ t) h k (record { escape_head = escape_alone x t apart; splits = refl; some = λ e. cc (e); closed = never_open (x ∷ t) }) is near;
+      item = alt (x ∷ t) h k (record {
+        escape_head = escape_alone x t apart;
+        splits = refl;
+        some = λ e. cc (e);
+        closed = never_open (x ∷ t);
+      }) is near;
     },
     ap (λ z. 27 ∷ z) (sym whole ∙ sym (append-nil (bytes_of h))),
     refl,
@@ -106,6 +119,12 @@ char_head c scalar low other = record {
 
 pub char_means : (c : ℕ) → IsScalar c → 28 ≤ c → c ≢ 127 → Means (encode_utf8 c) false (Key (plain c) ∷ []) []
 char_means c scalar low other = record {
-  steps = (encode_utf8 c, [], record { closed = never_open (encode_utf8 c); item = char c (char_head c scalar low other) }, sym (append-nil (encode_utf8 c)), refl);
+  steps = (
+    encode_utf8 c,
+    [],
+    record { closed = never_open (encode_utf8 c); item = char c (char_head c scalar low other) },
+    sym (append-nil (encode_utf8 c)),
+    refl,
+  );
   rest = empty_is_rest false;
 }

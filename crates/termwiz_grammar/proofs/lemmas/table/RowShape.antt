@@ -32,10 +32,15 @@ shaped_from_test : (text : List ℕ) → has_row_form text ≡ true → Shaped t
 shaped_from_test text h =
     let parts = and_parts (has_shape text && nat_lt (length text) 12) (is_sequence text) h in
     let first = and_parts (has_shape text) (nat_lt (length text) 12) parts.0 in
-    record { shape = first.0; short = (let e : nat_lt (length text) 12 ≡ true = first.1 in grind (arith, nat_tests)); sequence = parts.1 }
+    record {
+      shape = first.0;
+      short = (let e : nat_lt (length text) 12 ≡ true = first.1 in grind (arith, nat_tests));
+      sequence = parts.1;
+    }
 
 all_shaped : All (λ (r : TableRow). Shaped r.0) rows
-all_shaped = All-weaker (λ (r : TableRow). has_row_form r.0 ≡ true) (λ r. Shaped r.0) (λ r h. shaped_from_test r.0 h) rows
+all_shaped =
+    All-weaker (λ (r : TableRow). has_row_form r.0 ≡ true) (λ r. Shaped r.0) (λ r h. shaped_from_test r.0 h) rows
     (AllPass-from_list_all (λ (r : TableRow). has_row_form r.0) rows rows_shaped)
 
 pub row_shaped : (text : List ℕ) (k : KeyEvent) → Contains rows (text, k) → Shaped text
@@ -49,12 +54,16 @@ all_but_from_half : (x r : ℕ) (xs : List ℕ) → x % 2 ≡ r → all_but (x /
 all_but_from_half x r [] e h = refl
 all_but_from_half x r (y ∷ xs) e h = go (λ k. all_but_from_half x r xs e k) (y == x) (y % 2 == r) refl refl
   where
-    go : (all_but (x / 2) (halves r xs) ≡ true → all_but x xs ≡ true) → (b c : Bool) → (y == x) ≡ b → (y % 2 == r) ≡ c → all_but x (y ∷ xs) ≡ true
+    go : (all_but (x / 2) (halves r xs) ≡ true → all_but x xs ≡ true) → (b c : Bool) → (y == x) ≡ b → (y % 2 == r) ≡ c
+        → all_but x (y ∷ xs) ≡ true
     go below true true f g =
-        let same : (y / 2 == x / 2) ≡ true = (let s : y ≡ x = grind (arith, nat_tests) in rw s (eq-eqb (x / 2) (x / 2) refl)) in
+        let same : (y / 2 == x / 2) ≡ true =
+        (let s : y ≡ x = grind (arith, nat_tests) in rw s (eq-eqb (x / 2) (x / 2) refl)) in
         absurd (let none : false ≡ true = rw (g, same) at h in cc)
-    go below true false f g = absurd (let s : y ≡ x = grind (arith, nat_tests) in let t : (y % 2 == r) ≡ true = rw s (eq-eqb (x % 2) r e) in cc)
-    go below false true f g = rw f (below (and_parts (not (y / 2 == x / 2)) (all_but (x / 2) (halves r xs)) (rw g at h)).1)
+    go below true false f g = absurd
+        (let s : y ≡ x = grind (arith, nat_tests) in let t : (y % 2 == r) ≡ true = rw s (eq-eqb (x % 2) r e) in cc)
+    go below false true f g =
+        rw f (below (and_parts (not (y / 2 == x / 2)) (all_but (x / 2) (halves r xs)) (rw g at h)).1)
     go below false false f g = rw f (below (rw g at h))
 
 -- the head of a list is in one of the halves, and not in the other
@@ -72,10 +81,12 @@ one_side x r q xs e n a b =
     let parts = and_parts (all_but (x / 2) (halves r xs)) (all_differ (halves r xs)) c in
     (all_but_from_half x r xs e parts.0, parts.1, subst (λ l. all_differ l ≡ true) (halves_not x q xs n) b)
 
-differ_from_halves : (xs : List ℕ) → all_differ (halves 0 xs) ≡ true → all_differ (halves 1 xs) ≡ true → all_differ xs ≡ true
+differ_from_halves : (xs : List ℕ) → all_differ (halves 0 xs) ≡ true → all_differ (halves 1 xs) ≡ true
+    → all_differ xs ≡ true
 differ_from_halves [] a b = refl
 differ_from_halves (x ∷ xs) a b =
-    let together = λ (u : all_but x xs ≡ true) (v : all_differ (halves 0 xs) ≡ true) (w : all_differ (halves 1 xs) ≡ true).
+    let together =
+    λ (u : all_but x xs ≡ true) (v : all_differ (halves 0 xs) ≡ true) (w : all_differ (halves 1 xs) ≡ true).
     and_from (all_but x xs) (all_differ xs) u (differ_from_halves xs v w) in
     ⊎_elim
     (λ (e : x % 2 ≡ 0). let p = one_side x 0 1 xs e (omega arith) a b in together p.0 p.1 p.2)
@@ -98,9 +109,11 @@ differ_from_numbers [] h = λ i j d l m. absurd (omega arith)
 differ_from_numbers (r ∷ rs) h =
     let parts = and_parts (all_but (number_of_row r) (map number_of_row rs)) (all_differ (map number_of_row rs)) h in
     let test = λ (s : TableRow). not (number_of_row s == number_of_row r) in
-    let others : list_all test rs ≡ true = sym (list_all-map (λ y. not (y == number_of_row r)) number_of_row rs) ∙ parts.0 in
+    let others : list_all test rs ≡ true =
+    sym (list_all-map (λ y. not (y == number_of_row r)) number_of_row rs) ∙ parts.0 in
     AllPairs-cons HasOtherBytes r rs
-    (All-weaker (λ s. test s ≡ true) (HasOtherBytes r) (λ s k. other_bytes r s k) rs (AllPass-from_list_all test rs others))
+    (All-weaker (λ s. test s ≡ true) (HasOtherBytes r) (λ s k. other_bytes r s k) rs
+    (AllPass-from_list_all test rs others))
     (differ_from_numbers rs parts.1)
 
 bytes_differ : AllPairs HasOtherBytes rows
@@ -118,12 +131,15 @@ row_once text j k (m, l, e) (n, i, f) = go (cases_order m n)
 
     go : (m ≡ n) ⊎ ((m < n) ⊎ (n < m)) → j ≡ k
     go (inl same) = ap (λ (r : TableRow). r.1) (sym e ∙ ap (λ i. get_or rows i d) same ∙ there)
-    go (inr (inl before)) = absurd (bytes_differ m n d before i (ap (λ (r : TableRow). r.0) e ∙ sym (ap (λ (r : TableRow). r.0) there)))
-    go (inr (inr after)) = absurd (bytes_differ n m d after l (ap (λ (r : TableRow). r.0) there ∙ sym (ap (λ (r : TableRow). r.0) e)))
+    go (inr (inl before)) =
+        absurd (bytes_differ m n d before i (ap (λ (r : TableRow). r.0) e ∙ sym (ap (λ (r : TableRow). r.0) there)))
+    go (inr (inr after)) =
+        absurd (bytes_differ n m d after l (ap (λ (r : TableRow). r.0) there ∙ sym (ap (λ (r : TableRow). r.0) e)))
 
 -- a row is found by its bytes, wherever it stands
 row_by_bytes : (text : List ℕ) (key : KeyEvent) → lookup (bytes_eq text) rows ≡ Some key → Contains rows (text, key)
-row_by_bytes text key found = Contains-from_lookup (λ (s t : List ℕ) (e : bytes_eq s t ≡ true). (bytes_eq-Decides s t).0 e) text key rows found
+row_by_bytes text key found =
+    Contains-from_lookup (λ (s t : List ℕ) (e : bytes_eq s t ≡ true). (bytes_eq-Decides s t).0 e) text key rows found
 
 pub escape_row : Contains rows (ESC, escape)
 unfolding written_out
@@ -134,7 +150,8 @@ unfolding written_out
 start_row = row_by_bytes START (key_with InternalPasteStart NONE) refl
 
 -- whether a text is a row's
-pub row_or_not : (rs : List TableRow) (text : List ℕ) → ((k : KeyEvent) × Contains rs (text, k)) ⊎ ((k : KeyEvent) → Contains rs (text, k) → ⊥)
+pub row_or_not : (rs : List TableRow) (text : List ℕ)
+    → ((k : KeyEvent) × Contains rs (text, k)) ⊎ ((k : KeyEvent) → Contains rs (text, k) → ⊥)
 row_or_not [] text = inr (λ k c. let l : c.0 < 0 = c.1 in omega arith)
 row_or_not (r ∷ rs) text = ⊎_elim
     (λ (e : r.0 ≡ text). inl (r.1, (zero, omega arith, ap {B = TableRow} (λ t. (t, r.1)) e)))
@@ -144,7 +161,8 @@ row_or_not (r ∷ rs) text = ⊎_elim
     (row_or_not rs text))
     (same_or_not r.0 text)
   where
-    nowhere : (r.0 ≡ text → ⊥) → ((k : KeyEvent) → Contains rs (text, k) → ⊥) → (k : KeyEvent) → Contains (r ∷ rs) (text, k) → ⊥
+    nowhere : (r.0 ≡ text → ⊥) → ((k : KeyEvent) → Contains rs (text, k) → ⊥) → (k : KeyEvent)
+        → Contains (r ∷ rs) (text, k) → ⊥
     nowhere other none k (zero, l, e) = other (ap (λ (x : TableRow). x.0) e)
     nowhere other none k (suc i, l, e) = none k (i, omega arith, e)
 
@@ -175,10 +193,12 @@ ends_here : (x : ℕ) (s t : List ℕ) → ends_well (x ∷ s) ≡ true → ends
 ends_here x [] [] a b = refl
 ends_here x [] (y ∷ t) a b = absurd (grind (arith, nat_tests, (and_parts (is_inner x) (ends_well (y ∷ t)) b).0, a))
 ends_here x (y ∷ s) t a b =
-    ends_here y s t (and_parts (is_inner x) (ends_well (y ∷ s)) a).1 (and_parts (is_inner x) (ends_well (y ∷ s ++ t)) b).1
+    ends_here y s t (and_parts (is_inner x) (ends_well (y ∷ s)) a).1
+    (and_parts (is_inner x) (ends_well (y ∷ s ++ t)) b).1
 
 -- Of the texts with the shape of a row, only three properly begin another.
-pub begins_another : (s t : List ℕ) → has_shape s ≡ true → has_shape (s ++ t) ≡ true → is_sequence (s ++ t) ≡ true → t ≢ []
+pub begins_another : (s t : List ℕ) → has_shape s ≡ true → has_shape (s ++ t) ≡ true
+    → is_sequence (s ++ t) ≡ true → t ≢ []
     → (s ≡ ESC) ⊎ (s ≡ CSI) ⊎ (s ≡ SS3)
 begins_another [] t a b c n = absurd (cc (a))
 begins_another (x ∷ []) [] a b c n = absurd (n refl)
@@ -224,11 +244,25 @@ esc_begins = (escape, key_with (Char 91) ALT, codes "[", escape_row, (λ h. cc (
 
 csi_begins : BeginsRow CSI
 unfolding written_out
-csi_begins = (key_with (Char 91) ALT, key_with Tab SHIFT, codes "Z", bracket_row, (λ h. cc (h)), row_by_bytes (CSI ++ codes "Z") (key_with Tab SHIFT) refl)
+csi_begins = (
+  key_with (Char 91) ALT,
+  key_with Tab SHIFT,
+  codes "Z",
+  bracket_row,
+  (λ h. cc (h)),
+  row_by_bytes (CSI ++ codes "Z") (key_with Tab SHIFT) refl,
+)
 
 ss3_begins : BeginsRow SS3
 unfolding written_out
-ss3_begins = (key_with (Char 79) ALT, key_with UpArrow CTRL, codes "a", capital_o_row, (λ h. cc (h)), row_by_bytes (SS3 ++ codes "a") (key_with UpArrow CTRL) refl)
+ss3_begins = (
+  key_with (Char 79) ALT,
+  key_with UpArrow CTRL,
+  codes "a",
+  capital_o_row,
+  (λ h. cc (h)),
+  row_by_bytes (SS3 ++ codes "a") (key_with UpArrow CTRL) refl,
+)
 
 pub three_beginnings : ThreeBeginnings
 three_beginnings text = (
@@ -254,5 +288,6 @@ table_facts = record {
   bytes_differ = bytes_differ;
   at_most_eleven_bytes = λ i d l. (let s : length (get_or rows i d).0 < 12 = (all_shaped i d l).short in omega arith);
   one_has_eleven_bytes = (CSI ++ codes "27;8;127~", key_with Backspace (CTRL + ALT + SHIFT), longest_row, refl);
-  none_begins_like_a_report = λ i d l b. no_report_shape b.0 (subst (λ t. has_shape t ≡ true) b.1 (all_shaped i d l).shape);
+  none_begins_like_a_report =
+      λ i d l b. no_report_shape b.0 (subst (λ t. has_shape t ≡ true) b.1 (all_shaped i d l).shape);
 }

@@ -68,7 +68,8 @@ start_is_sequence = start_row
 start_shape : (tail : List ℕ) (k : KeyEvent) → Contains rows (START ++ tail, k) → tail ≢ [] → ⊥
 start_shape tail k a n =
     let s = row_shaped (START ++ tail) k a in
-    ⊎_elim (λ (e : START ≡ ESC). cc (e)) (λ (e : (START ≡ CSI) ⊎ (START ≡ SS3)). ⊎_elim (λ (d : START ≡ CSI). cc (d)) (λ (d : START ≡ SS3). cc (d)) e)
+    ⊎_elim (λ (e : START ≡ ESC). cc (e))
+    (λ (e : (START ≡ CSI) ⊎ (START ≡ SS3)). ⊎_elim (λ (d : START ≡ CSI). cc (d)) (λ (d : START ≡ SS3). cc (d)) e)
     (begins_another START tail refl s.shape s.sequence n)
 
 -- no longer sequence begins with START
@@ -76,7 +77,8 @@ pub start_ends : (tail : List ℕ) (m : Meaning) → IsSequence (START ++ tail) 
 unfolding IsSequence
 start_ends [] m a = refl
 start_ends (x ∷ tail) (Row k) a = absurd (start_shape (x ∷ tail) k a (λ h. cc (h)))
-start_ends (x ∷ tail) (Report r) a = absurd (let e : 50 ≡ 60 = ap (λ t. get_or t 2 0) (report_plain (START ++ x ∷ tail) r a).1 in omega arith)
+start_ends (x ∷ tail) (Report r) a =
+    absurd (let e : 50 ≡ 60 = ap (λ t. get_or t 2 0) (report_plain (START ++ x ∷ tail) r a).1 in omega arith)
 
 -- what properly begins a sequence has at most 20 bytes
 pub beginnings_short : (u tail : List ℕ) (m : Meaning) → tail ≢ [] → IsSequence (u ++ tail) m → length u ≤ 20
@@ -93,14 +95,17 @@ sequence_or_not text = ⊎_elim
     (report_or_not text))
     (row_or_not rows text)
   where
-    nothing : ((k : KeyEvent) → Contains rows (text, k) → ⊥) → ((r : MouseEvent) → IsMouseReport text r → ⊥) → (m : Meaning) → IsSequence text m → ⊥
+    nothing : ((k : KeyEvent) → Contains rows (text, k) → ⊥) → ((r : MouseEvent) → IsMouseReport text r → ⊥)
+        → (m : Meaning) → IsSequence text m → ⊥
     nothing none never (Row k) a = none k a
     nothing none never (Report r) a = never r a
 
 -- the bytes of a sequence are below 128
 bytes_small : (text : List ℕ) → Bytes text → AllByRecursion (λ b. b < 128) text
-bytes_small text (one b l e) = subst (AllByRecursion (λ c. c < 128)) (sym e) ((let h : b < 128 = omega (arith, l) in h), tt)
-bytes_small text (more t n e p) = subst (AllByRecursion (λ c. c < 128)) (sym e) (omega arith, true_from IsPlain (λ c. c < 128) (λ c (h : IsPlain c). omega arith) t p)
+bytes_small text (one b l e) =
+    subst (AllByRecursion (λ c. c < 128)) (sym e) ((let h : b < 128 = omega (arith, l) in h), tt)
+bytes_small text (more t n e p) = subst (AllByRecursion (λ c. c < 128)) (sym e)
+    (omega arith, true_from IsPlain (λ c. c < 128) (λ c (h : IsPlain c). omega arith) t p)
 
 -- it can be told whether a text properly begins a sequence: few texts can complete it
 pub unfinished_or_not : (u : List ℕ) → IsUnfinishedSequence u ⊎ (IsUnfinishedSequence u → ⊥)
@@ -110,15 +115,19 @@ unfinished_or_not u = decide_by
     (λ (a : IsUnfinishedSequence u). (
       a.tail,
       omega (arith, length-append u a.tail, sequence_short (u ++ a.tail) a.meaning a.is_sequence),
-      true_at_end (λ b. b < 128) u a.tail (bytes_small (u ++ a.tail) (known_bytes (u ++ a.tail) a.meaning a.is_sequence)),
+      true_at_end (λ b. b < 128) u a.tail
+          (bytes_small (u ++ a.tail) (known_bytes (u ++ a.tail) a.meaning a.is_sequence)),
       (a.longer, (a.meaning, a.is_sequence)),
     ))
-    (decide_lists 128 21 (λ t. (t ≢ []) × ((m : Meaning) × IsSequence (u ++ t) m)) (λ t. decide_both (decide_some t) (sequence_or_not (u ++ t))))
+    (decide_lists 128 21 (λ t. (t ≢ []) × ((m : Meaning) × IsSequence (u ++ t) m))
+    (λ t. decide_both (decide_some t) (sequence_or_not (u ++ t))))
 
 -- no sequence goes on after a mouse report
-pub report_ends : (text tail : List ℕ) (r : MouseEvent) (m : Meaning) → IsSequence text (Report r) → IsSequence (text ++ tail) m → tail ≡ []
+pub report_ends : (text tail : List ℕ) (r : MouseEvent) (m : Meaning) → IsSequence text (Report r)
+    → IsSequence (text ++ tail) m → tail ≡ []
 unfolding IsSequence
 report_ends text tail r (Report s) f k = report_alone text tail r s f k
 report_ends text tail r (Row key) f k =
     let p = report_plain text r f in
-    absurd (no_report_shape (p.0 ++ tail) (subst (λ t. has_shape t ≡ true) (ap (λ t. t ++ tail) p.1) (row_shaped (text ++ tail) key k).shape))
+    absurd (no_report_shape (p.0 ++ tail)
+    (subst (λ t. has_shape t ≡ true) (ap (λ t. t ++ tail) p.1) (row_shaped (text ++ tail) key k).shape))

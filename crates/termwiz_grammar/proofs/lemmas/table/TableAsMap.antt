@@ -19,12 +19,17 @@ get_here : (m : ByteMap KeyEvent) (k : List ℕ) (v : KeyEvent) → get (insert 
 get_here m k v = get-insert nat_list_cmp_total m k v k ∙ ap (λ b. cond b (Some v) (get m k)) (same_key k)
 
 -- an answer after one more row is the row's or was the answer before
-get_either : (m : ByteMap KeyEvent) (k : List ℕ) (v : KeyEvent) (q : List ℕ) (w : KeyEvent) → get (insert m k v) q ≡ Some w
+get_either : (m : ByteMap KeyEvent) (k : List ℕ) (v : KeyEvent) (q : List ℕ) (w : KeyEvent)
+    → get (insert m k v) q ≡ Some w
     → ((q ≡ k) × (w ≡ v)) ⊎ (get m q ≡ Some w)
 get_either m k v q w e = go (pointwise nat_eq k q) refl (sym (get-insert nat_list_cmp_total m k v q) ∙ e)
   where
-    go : (b : Bool) → b ≡ pointwise nat_eq k q → cond (eq_by_cmp (slice_cmp nat_cmp) q k) (Some v) (get m q) ≡ Some w → ((q ≡ k) × (w ≡ v)) ⊎ (get m q ≡ Some w)
-    go true is h = inl (sym (same_text k q is), (let s : Some v ≡ Some w = ap (λ b. cond b (Some v) (get m q)) (sym (tie q k true is)) ∙ h in cc))
+    go : (b : Bool) → b ≡ pointwise nat_eq k q → cond (eq_by_cmp (slice_cmp nat_cmp) q k) (Some v) (get m q) ≡ Some w
+        → ((q ≡ k) × (w ≡ v)) ⊎ (get m q ≡ Some w)
+    go true is h = inl (
+      sym (same_text k q is),
+      (let s : Some v ≡ Some w = ap (λ b. cond b (Some v) (get m q)) (sym (tie q k true is)) ∙ h in cc),
+    )
     go false is h = inr (ap (λ b. cond b (Some v) (get m q)) (sym (tie q k false is)) ∙ h)
 
 -- an answer of a map with rows is one of them, or was the answer before
@@ -34,7 +39,11 @@ answer_from [] m q w e = inr e
 answer_from (r ∷ rs) m q w e = ⊎_elim
     (λ (c : Contains rs (q, w)). inl (suc c.0, omega (arith, c.1), c.2))
     (λ (h : get (insert m r.0 r.1) q ≡ Some w). ⊎_elim
-    (λ (same : (q ≡ r.0) × (w ≡ r.1)). inl (zero, omega arith, (let pair : List ℕ → KeyEvent → TableRow = λ a b. (a, b) in ap₂ pair (sym same.0) (sym same.1))))
+    (λ (same : (q ≡ r.0) × (w ≡ r.1)). inl (
+      zero,
+      omega arith,
+      (let pair : List ℕ → KeyEvent → TableRow = λ a b. (a, b) in ap₂ pair (sym same.0) (sym same.1)),
+    ))
     (λ (before : get m q ≡ Some w). inr before)
     (get_either m r.0 r.1 q w h))
     (answer_from rs (insert m r.0 r.1) q w e)
@@ -48,16 +57,21 @@ has_after m k v q (w, e) = go (pointwise nat_eq k q) refl
   where
     go : (b : Bool) → b ≡ pointwise nat_eq k q → Has (insert m k v) q
     go true is = (v, get-insert nat_list_cmp_total m k v q ∙ ap (λ b. cond b (Some v) (get m q)) (tie q k true is))
-    go false is = (w, get-insert nat_list_cmp_total m k v q ∙ ap (λ b. cond b (Some v) (get m q)) (tie q k false is) ∙ e)
+    go false is =
+        (w, get-insert nat_list_cmp_total m k v q ∙ ap (λ b. cond b (Some v) (get m q)) (tie q k false is) ∙ e)
 
 kept_by : (rs : List TableRow) (m : ByteMap KeyEvent) (q : List ℕ) → Has m q → Has (with_rows m rs) q
 kept_by [] m q h = h
 kept_by (r ∷ rs) m q h = kept_by rs (insert m r.0 r.1) q (has_after m r.0 r.1 q h)
 
-has_row : (rs : List TableRow) (m : ByteMap KeyEvent) (q : List ℕ) (w : KeyEvent) → Contains rs (q, w) → Has (with_rows m rs) q
+has_row : (rs : List TableRow) (m : ByteMap KeyEvent) (q : List ℕ) (w : KeyEvent) → Contains rs (q, w)
+    → Has (with_rows m rs) q
 has_row [] m q w (i, l, e) = absurd (omega arith)
 has_row (r ∷ rs) m q w (zero, l, e) =
-    kept_by rs (insert m r.0 r.1) q (r.1, subst (λ (k : List ℕ). get (insert m r.0 r.1) k ≡ Some r.1) (ap (λ (x : TableRow). x.0) e) (get_here m r.0 r.1))
+    kept_by rs (insert m r.0 r.1) q (
+      r.1,
+      subst (λ (k : List ℕ). get (insert m r.0 r.1) k ≡ Some r.1) (ap (λ (x : TableRow). x.0) e) (get_here m r.0 r.1),
+    )
 has_row (r ∷ rs) m q w (suc i, l, e) = has_row rs (insert m r.0 r.1) q w (i, omega arith, e)
 
 -- the table answers exactly the rows
@@ -65,7 +79,8 @@ pub row_from_table : (text : List ℕ) (k : KeyEvent) → get table text ≡ Som
 unfolding table
 row_from_table text k e = ⊎_elim
     (λ (c : Contains rows (text, k)). c)
-    (λ (h : get empty text ≡ Some k). absurd (let none = get-empty {X = KeyEvent} (slice_cmp nat_cmp) text in cc (none, h)))
+    (λ (h : get empty text ≡ Some k). absurd (let none = get-empty {X = KeyEvent} (slice_cmp nat_cmp) text in
+    cc (none, h)))
     (answer_from rows empty text k e)
 
 pub table_from_row : (text : List ℕ) (k : KeyEvent) → Contains rows (text, k) → get table text ≡ Some k

@@ -56,7 +56,12 @@ longest_report = record {
 
 begins : IsBeginning longest_beginning
 unfolding IsSequence
-begins = inl (record { tail = codes "M"; longer = λ h. cc (h); meaning = Report (mouse_event 95 65535 65535 77); is_sequence = longest_report })
+begins = inl (record {
+  tail = codes "M";
+  longer = λ h. cc (h);
+  meaning = Report (mouse_event 95 65535 65535 77);
+  is_sequence = longest_report;
+})
 
 open' : IsOpen longest_beginning true
 open' = record { more_comes = refl; some = λ h. cc (h); beginning = begins }

@@ -58,7 +58,8 @@ after_start u f k closed is = go (find_end is.begins.0)
         unread bytes event (joined at v h j split some closed is near r s) = cc (at)
 
 -- where ESC is the head, nothing stands if what follows it is open
-unread_row : (u v : List ℕ) (f : Bool) → u ≡ ESC ++ v → v ≢ [] → IsOpen v f → (bytes : List ℕ) (event : InputEvent) → RowGives u f ESC escape bytes event → ⊥
+unread_row : (u v : List ℕ) (f : Bool) → u ≡ ESC ++ v → v ≢ [] → IsOpen v f → (bytes : List ℕ) (event : InputEvent)
+    → RowGives u f ESC escape bytes event → ⊥
 unread_row u v f e some o bytes event (its_key p q r s) = not_alone u v e some (q refl)
 unread_row u v f e some o bytes event (its_paste at body rest split first r s) = cc (at)
 unread_row u v f e some o bytes event (apart at w h split longer gap second far r s) =
@@ -66,13 +67,16 @@ unread_row u v f e some o bytes event (apart at w h split longer gap second far 
 unread_row u v f e some o bytes event (joined at w h j split longer gap second near r s) =
     let same : v ≡ w = cc (split, e) in gap (subst (λ z. IsOpen z f) same o)
 
-pub held_escape_rests : (u v : List ℕ) (f : Bool) → IsLongest u ESC (Row escape) → u ≡ ESC ++ v → v ≢ [] → IsOpen v f → IsRest u f
+pub held_escape_rests : (u v : List ℕ) (f : Bool) → IsLongest u ESC (Row escape) → u ≡ ESC ++ v → v ≢ []
+    → IsOpen v f → IsRest u f
 held_escape_rests u v f is e some o bytes event stands =
     let r = reads u bytes event f stands.item in
-    unread_row u v f e some o bytes event (subst (λ h. Gives u f h bytes event) (head_once u r.0 (Sequence ESC (Row escape)) r.1 is) r.2)
+    unread_row u v f e some o bytes event
+    (subst (λ h. Gives u f h bytes event) (head_once u r.0 (Sequence ESC (Row escape)) r.1 is) r.2)
 
 -- a text that isn't open, whose head is ESC
-after_escape_head : (u : List ℕ) (f : Bool) → ¬ IsOpen u f → IsLongest u ESC (Row escape) → (v : List ℕ) → u ≡ ESC ++ v → Settled u f
+after_escape_head : (u : List ℕ) (f : Bool) → ¬ IsOpen u f → IsLongest u ESC (Row escape) → (v : List ℕ)
+    → u ≡ ESC ++ v → Settled u f
 after_escape_head u f closed is [] e = stand u ESC f (Key escape) closed (key ESC escape is (λ h. cc) (λ h. e))
 after_escape_head u f closed is (x ∷ v) e = ⊎_elim
     (λ (o : IsOpen (x ∷ v) f). resting (held_escape_rests u (x ∷ v) f is e (λ h. cc) o)
@@ -81,7 +85,8 @@ after_escape_head u f closed is (x ∷ v) e = ⊎_elim
     let second = head_of x v in
     let after : IsAfterEscape u (x ∷ v) f = record { escape_head = is; splits = e; some = λ h. cc; closed = gap } in
     ⊎_elim
-    (λ (near : (k : KeyEvent) × IsKey second.0 k). stand u (ESC ++ bytes_of second.0) f (Key (with_alt near.0)) closed (alt (x ∷ v) second.0 near.0 after second.1 near.1))
+    (λ (near : (k : KeyEvent) × IsKey second.0 k). stand u (ESC ++ bytes_of second.0) f (Key (with_alt near.0)) closed
+    (alt (x ∷ v) second.0 near.0 after second.1 near.1))
     (λ (far : IsApart second.0). stand u ESC f (Key escape) closed (lone_escape (x ∷ v) second.0 after second.1 far))
     (key_or_apart second.0))
     (open_or_not (x ∷ v) f)
@@ -95,8 +100,10 @@ by_head u f closed (Sequence text (Row k)) is = ⊎_elim
     (λ (e : text ≡ START). after_start u f k closed (subst (λ x. IsLongest u x (Row k)) e is))
     (λ (usual : text ≡ START → ⊥). ⊎_elim
     (λ (e : text ≡ ESC).
-    let same : Row k ≡ Row escape = sequence_once ESC (Row k) (Row escape) (subst (λ x. IsSequence x (Row k)) e is.is_sequence) escape_is_sequence in
-    let here : IsLongest u ESC (Row escape) = subst (λ m. IsLongest u ESC m) same (subst (λ x. IsLongest u x (Row k)) e is) in
+    let same : Row k ≡ Row escape =
+    sequence_once ESC (Row k) (Row escape) (subst (λ x. IsSequence x (Row k)) e is.is_sequence) escape_is_sequence in
+    let here : IsLongest u ESC (Row escape) =
+    subst (λ m. IsLongest u ESC m) same (subst (λ x. IsLongest u x (Row k)) e is) in
     after_escape_head u f closed here here.begins.0 here.begins.1)
     (λ (other : text ≡ ESC → ⊥). stand u text f (Key k) closed (key text k is usual (λ h. absurd (other h))))
     (same_or_not text ESC))
@@ -143,7 +150,8 @@ meaning_within zero [] f l = go (settle [] f)
 meaning_within zero (x ∷ T) f l = absurd (omega arith)
 meaning_within (suc n) T f l = go (settle T f) (λ rest lt. meaning_within n rest f lt)
   where
-    go : Settled T f → ((rest : List ℕ) → length rest ≤ n → (E : List InputEvent) × (W : List ℕ) × Read rest f E W) → (E : List InputEvent) × (W : List ℕ) × Read T f E W
+    go : Settled T f → ((rest : List ℕ) → length rest ≤ n → (E : List InputEvent) × (W : List ℕ) × Read rest f E W)
+        → (E : List InputEvent) × (W : List ℕ) × Read T f E W
     go (resting r waits) below = ([], T, (refl, r))
     go (standing bytes event stands) below =
         let b = item_begins T bytes event f stands.item in

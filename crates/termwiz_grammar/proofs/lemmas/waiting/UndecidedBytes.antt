@@ -52,7 +52,8 @@ no_start_cons x T here after (y ∷ front) W e b = after front W (cc (e)) b
 -- it begins nowhere among bytes of which none is ESC
 no_start_among : (P : ℕ → Type 0) → (P 27 → ⊥) → (T : List ℕ) → AllByRecursion P T → HasNoStart T
 no_start_among P no_escape T a front W e b =
-    let rest : AllByRecursion P (START ++ b.0) = subst (AllByRecursion P) b.1 (true_at_end P front W (subst (AllByRecursion P) e a)) in
+    let rest : AllByRecursion P (START ++ b.0) =
+    subst (AllByRecursion P) b.1 (true_at_end P front W (subst (AllByRecursion P) e a)) in
     no_escape rest.0
 
 -- a flush leaves nothing of such a text, so it gives an event
@@ -74,19 +75,32 @@ nothing_steps (e ∷ E) W f (bytes, rest, stands, splits, steps) =
     absurd (append-some_left bytes rest (item_some [] bytes e f stands.item) (sym splits))
 
 -- an item that takes a whole text is its last
-nothing_after : (q bytes rest W : List ℕ) (E : List InputEvent) → bytes ≡ q → q ≡ bytes ++ rest → Steps rest false E W → E ≡ []
+nothing_after : (q bytes rest W : List ℕ) (E : List InputEvent) → bytes ≡ q → q ≡ bytes ++ rest
+    → Steps rest false E W → E ≡ []
 nothing_after q bytes rest W E all splits steps =
-    let none : rest ≡ [] = append_cancel_left q rest [] (sym (ap (λ x. x ++ rest) all) ∙ sym splits ∙ sym (append-nil q)) in
+    let none : rest ≡ [] =
+    append_cancel_left q rest [] (sym (ap (λ x. x ++ rest) all) ∙ sym splits ∙ sym (append-nil q)) in
     nothing_steps E W false (subst (λ x. Steps x false E W) none steps)
 
 -- a head that is a text of two bytes or more is one item's bytes
-takes_all : (q bytes : List ℕ) (h : Head) (e : InputEvent) → 2 ≤ length q → bytes_of h ≡ q → Gives q false h bytes e → bytes ≡ q
+takes_all : (q bytes : List ℕ) (h : Head) (e : InputEvent) → 2 ≤ length q → bytes_of h ≡ q
+    → Gives q false h bytes e → bytes ≡ q
 takes_all q bytes (Sequence text (Report r)) e l same g = g.0 ∙ same
 takes_all q bytes (Sequence text (Row k)) e l same (its_key a b c d) = c ∙ same
 takes_all q bytes (Sequence text (Row k)) e l same (its_paste at body rest split first c d) =
-    absurd (omega (arith, ap length same, ap length at, ap length split, length-append (START ++ body ++ END) rest, length-append (START ++ body) END, length-append START body))
-takes_all q bytes (Sequence text (Row k)) e l same (apart at v h split some closed is far c d) = absurd (omega (arith, ap length same, ap length at))
-takes_all q bytes (Sequence text (Row k)) e l same (joined at v h j split some closed is near c d) = absurd (omega (arith, ap length same, ap length at))
+    absurd (omega (
+      arith,
+      ap length same,
+      ap length at,
+      ap length split,
+      length-append (START ++ body ++ END) rest,
+      length-append (START ++ body) END,
+      length-append START body,
+    ))
+takes_all q bytes (Sequence text (Row k)) e l same (apart at v h split some closed is far c d) =
+    absurd (omega (arith, ap length same, ap length at))
+takes_all q bytes (Sequence text (Row k)) e l same (joined at v h j split some closed is near c d) =
+    absurd (omega (arith, ap length same, ap length at))
 takes_all q bytes (Character c) e l same g = g.0 ∙ same
 takes_all q bytes (Broken b) e l same g = g.0 ∙ same
 
@@ -126,14 +140,17 @@ module _ (x : ℕ) (p c : List ℕ) (on : GoesOn x p c) where
       omega (arith, ap length (nothing_after (x ∷ p ++ c) bytes rest W E all splits steps))
 
   -- before x the head is ESC
-  escape_gives : (t bytes : List ℕ) (e : InputEvent) → Item (27 ∷ x ∷ t) false bytes e → RowGives (27 ∷ x ∷ t) false ESC escape bytes e
+  escape_gives : (t bytes : List ℕ) (e : InputEvent) → Item (27 ∷ x ∷ t) false bytes e
+      → RowGives (27 ∷ x ∷ t) false ESC escape bytes e
   escape_gives t bytes e item =
       let g = reads (27 ∷ x ∷ t) bytes e false item in
-      let same : g.0 ≡ Sequence ESC (Row escape) = head_once (27 ∷ x ∷ t) g.0 (Sequence ESC (Row escape)) g.1 (escape_alone x t on.alone) in
+      let same : g.0 ≡ Sequence ESC (Row escape) =
+      head_once (27 ∷ x ∷ t) g.0 (Sequence ESC (Row escape)) g.1 (escape_alone x t on.alone) in
       subst (λ h. Gives (27 ∷ x ∷ t) false h bytes e) same g.2
 
   -- after an Escape it gives an Escape first, or one event
-  whole_row : (bytes rest : List ℕ) (e : InputEvent) (E : List InputEvent) (W : List ℕ) → RowGives (27 ∷ x ∷ p ++ c) false ESC escape bytes e
+  whole_row : (bytes rest : List ℕ) (e : InputEvent) (E : List InputEvent) (W : List ℕ)
+      → RowGives (27 ∷ x ∷ p ++ c) false ESC escape bytes e
       → 27 ∷ x ∷ p ++ c ≡ bytes ++ rest → Steps rest false E W → (e ≡ Key escape) ⊎ (E ≡ [])
   whole_row bytes rest e E W (its_key a b d f) splits steps = absurd (let h : 27 ∷ x ∷ p ++ c ≡ ESC = b refl in cc (h))
   whole_row bytes rest e E W (its_paste at body left first g d f) splits steps = absurd (cc (at))
@@ -144,22 +161,26 @@ module _ (x : ℕ) (p c : List ℕ) (on : GoesOn x p c) where
       let all : bytes ≡ 27 ∷ x ∷ p ++ c = d ∙ ap (λ k. ESC ++ bytes_of k) same ∙ ap (λ z. 27 ∷ z) on.spells in
       inr (nothing_after (27 ∷ x ∷ p ++ c) bytes rest W E all splits steps)
 
-  whole_second : (e : InputEvent) (E : List InputEvent) (W : List ℕ) → Read (27 ∷ x ∷ p ++ c) false (e ∷ E) W → (e ≡ Key escape) ⊎ (E ≡ [])
+  whole_second : (e : InputEvent) (E : List InputEvent) (W : List ℕ) → Read (27 ∷ x ∷ p ++ c) false (e ∷ E) W
+      → (e ≡ Key escape) ⊎ (E ≡ [])
   whole_second e E W ((bytes, rest, stands, splits, steps), r) =
       whole_row bytes rest e E W (escape_gives (p ++ c) bytes e stands.item) splits steps
 
   -- flushed after an Escape, it gives a key with ALT first
-  flush_row : (bytes : List ℕ) (e : InputEvent) → RowGives (27 ∷ x ∷ p) false ESC escape bytes e → (j : KeyEvent) × (e ≡ Key (with_alt j))
+  flush_row : (bytes : List ℕ) (e : InputEvent) → RowGives (27 ∷ x ∷ p) false ESC escape bytes e
+      → (j : KeyEvent) × (e ≡ Key (with_alt j))
   flush_row bytes e (its_key a b d f) = absurd (let h : 27 ∷ x ∷ p ≡ ESC = b refl in cc (h))
   flush_row bytes e (its_paste at body left first g d f) = absurd (cc (at))
   flush_row bytes e (apart at v h split some closed is far d f) =
       let after : v ≡ x ∷ p = cc (split) in absurd (on.near h (subst (λ z. IsHead z h) after is) far)
   flush_row bytes e (joined at v h j split some closed is near d f) = (j, f)
 
-  flush_first : (e : InputEvent) (E : List InputEvent) (W : List ℕ) → Read (27 ∷ x ∷ p) false (e ∷ E) W → (j : KeyEvent) × (e ≡ Key (with_alt j))
+  flush_first : (e : InputEvent) (E : List InputEvent) (W : List ℕ) → Read (27 ∷ x ∷ p) false (e ∷ E) W
+      → (j : KeyEvent) × (e ≡ Key (with_alt j))
   flush_first e E W ((bytes, rest, stands, splits, steps), r) = flush_row bytes e (escape_gives p bytes e stands.item)
 
-  apart_events : (E D : List InputEvent) (V W : List ℕ) (F : List InputEvent) → Read (27 ∷ x ∷ p ++ c) false E W → Read (27 ∷ x ∷ p) false D V
+  apart_events : (E D : List InputEvent) (V W : List ℕ) (F : List InputEvent) → Read (27 ∷ x ∷ p ++ c) false E W
+      → Read (27 ∷ x ∷ p) false D V
       → D ≢ [] → F ≢ [] → E ≡ D ++ F → ⊥
   apart_events [] D V W F mw md nd nf e = let two = two_long D F nd nf in omega (arith, ap length e)
   apart_events (y ∷ E) [] V W F mw md nd nf e = nd refl
@@ -173,7 +194,8 @@ module _ (x : ℕ) (p c : List ℕ) (on : GoesOn x p c) where
 
   no_start_held : (held : List ℕ) → IsHeldEscape held → HasNoStart (held ++ x ∷ p)
   no_start_held held (inl h) = subst HasNoStart (ap (λ z. z ++ x ∷ p) (sym h)) on.no_start
-  no_start_held held (inr h) = subst HasNoStart (ap (λ z. z ++ x ∷ p) (sym h)) (no_start_cons 27 (x ∷ p) not_here on.no_start)
+  no_start_held held (inr h) =
+      subst HasNoStart (ap (λ z. z ++ x ∷ p) (sym h)) (no_start_cons 27 (x ∷ p) not_here on.no_start)
     where
       not_here : Begins START (27 ∷ x ∷ p) → ⊥
       not_here b = omega (arith, (escape_alone x p on.alone).longest START (Row start) start_is_sequence b)
@@ -182,8 +204,10 @@ module _ (x : ℕ) (p c : List ℕ) (on : GoesOn x p c) where
   differ held is E E1 E2 W W1 W2 mw m1 m2 e =
       let none = no_start_held held is in
       let gone : W1 ≡ [] = flush_leaves (held ++ x ∷ p) W1 E1 none (read_of m1) in
-      let some : E1 ≢ [] = flush_gives (held ++ x ∷ p) W1 E1 (append-some held (x ∷ p) (λ z. cc (z))) none (read_of m1) in
-      let last : E2 ≢ [] = flush_gives c W2 E2 on.longer on.no_start_after (subst (λ z. Read (z ++ c) false E2 W2) gone (read_of m2)) in
+      let some : E1 ≢ [] =
+      flush_gives (held ++ x ∷ p) W1 E1 (append-some held (x ∷ p) (λ z. cc (z))) none (read_of m1) in
+      let last : E2 ≢ [] =
+      flush_gives c W2 E2 on.longer on.no_start_after (subst (λ z. Read (z ++ c) false E2 W2) gone (read_of m2)) in
       ⊎_elim
       (λ (h : held ≡ []). let short = whole_short E W (subst (λ z. Read (z ++ x ∷ p ++ c) false E W) h (read_of mw)) in
       let two = two_long E1 E2 some last in omega (arith, ap length e))
@@ -192,13 +216,15 @@ module _ (x : ℕ) (p c : List ℕ) (on : GoesOn x p c) where
       is
 
 -- a sequence of several bytes: all but its ESC are plain
-sequence_goes_on : (p c : List ℕ) (m : Meaning) → IsSequence (27 ∷ p ++ c) m → c ≢ [] → AllByRecursion IsPlain (p ++ c) → GoesOn 27 p c
+sequence_goes_on : (p c : List ℕ) (m : Meaning) → IsSequence (27 ∷ p ++ c) m → c ≢ [] → AllByRecursion IsPlain (p ++ c)
+    → GoesOn 27 p c
 sequence_goes_on p c m is_sequence longer plain = record {
   longer = longer;
   head = Sequence (27 ∷ p ++ c) m;
   whole = longest_whole (27 ∷ p ++ c) m is_sequence;
   spells = refl;
-  no_start = no_start_cons 27 p not_start (no_start_among IsPlain (λ h. omega arith) p (true_at_front IsPlain p c plain));
+  no_start =
+      no_start_cons 27 p not_start (no_start_among IsPlain (λ h. omega arith) p (true_at_front IsPlain p c plain));
   no_start_after = no_start_among IsPlain (λ h. omega arith) c (true_at_end IsPlain p c plain);
   alone = inl (omega arith);
   near = not_far;
@@ -211,8 +237,10 @@ sequence_goes_on p c m is_sequence longer plain = record {
 
     not_report : (text : List ℕ) (r : MouseEvent) → IsLongest (27 ∷ p) text (Report r) → ⊥
     not_report text r is =
-        let e : 27 ∷ p ++ c ≡ text ++ (is.begins.0 ++ c) = ap (λ x. x ++ c) is.begins.1 ∙ append_assoc text is.begins.0 c in
-        append-some is.begins.0 c longer (report_ends text (is.begins.0 ++ c) r m is.is_sequence (subst (λ x. IsSequence x m) e is_sequence))
+        let e : 27 ∷ p ++ c ≡ text ++ (is.begins.0 ++ c) =
+        ap (λ x. x ++ c) is.begins.1 ∙ append_assoc text is.begins.0 c in
+        append-some is.begins.0 c longer
+        (report_ends text (is.begins.0 ++ c) r m is.is_sequence (subst (λ x. IsSequence x m) e is_sequence))
 
     not_far : (h : Head) → IsHead (27 ∷ p) h → IsApart h → ⊥
     not_far (Sequence text (Row k)) is far = not_start (subst (λ x. Begins x (27 ∷ p)) far is.begins)
@@ -220,13 +248,16 @@ sequence_goes_on p c m is_sequence longer plain = record {
     not_far (Character d) is far = far
     not_far (Broken d) is far = far
 
-sequence_from : (x : ℕ) (p c : List ℕ) (m : Meaning) → c ≢ [] → IsSequence (x ∷ p ++ c) m → Bytes (x ∷ p ++ c) → GoesOn x p c
-sequence_from x p c m longer is_sequence (one b l e) = absurd (omega (arith, ap length e, length-append p c, length-some c longer))
+sequence_from : (x : ℕ) (p c : List ℕ) (m : Meaning) → c ≢ [] → IsSequence (x ∷ p ++ c) m → Bytes (x ∷ p ++ c)
+    → GoesOn x p c
+sequence_from x p c m longer is_sequence (one b l e) =
+    absurd (omega (arith, ap length e, length-append p c, length-some c longer))
 sequence_from x p c m longer is_sequence (more t n e a) =
     let first : x ≡ 27 = cc (e) in
     let rest : t ≡ p ++ c = cc (e) in
     subst (λ z. GoesOn z p c) (sym first)
-    (sequence_goes_on p c m (subst (λ z. IsSequence (z ∷ p ++ c) m) first is_sequence) longer (subst (AllByRecursion IsPlain) rest a))
+    (sequence_goes_on p c m (subst (λ z. IsSequence (z ∷ p ++ c) m) first is_sequence) longer
+    (subst (AllByRecursion IsPlain) rest a))
 
 -- a character of several bytes: all are high
 character_from : (x : ℕ) (p : List ℕ) (u : IsUnfinishedCharacter (x ∷ p)) → GoesOn x p u.tail
@@ -268,7 +299,8 @@ flush_matters text c differ =
 pub undecided_law : Undecided
 undecided_law held [] is n u = absurd (n refl)
 undecided_law held (x ∷ p) is n (inl u) =
-    let on = sequence_from x p u.tail u.meaning u.longer u.is_sequence (known_bytes (x ∷ p ++ u.tail) u.meaning u.is_sequence) in
+    let on =
+    sequence_from x p u.tail u.meaning u.longer u.is_sequence (known_bytes (x ∷ p ++ u.tail) u.meaning u.is_sequence) in
     (u.tail, flush_matters (held ++ x ∷ p) u.tail (differ x p u.tail on held is))
 undecided_law held (x ∷ p) is n (inr u) =
     (u.tail, flush_matters (held ++ x ∷ p) u.tail (differ x p u.tail (character_from x p u) held is))

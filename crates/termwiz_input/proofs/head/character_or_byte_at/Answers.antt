@@ -5,7 +5,8 @@ use Rattle.termwiz_input.proofs.head.character_or_byte_at.Goals as goal
 
 pub returns-in-Some-clause-closed : goal.returns-in-Some-clause-closed
 returns-in-Some-clause-closed c = λ some.
-    character_closed c.args.text.now c.args.maybe_more c.in-Some.character c.in-Some.len c.requires.finished (sym c.in-Some.ensures)
+    character_closed c.args.text.now c.args.maybe_more c.in-Some.character c.in-Some.len c.requires.finished
+    (sym c.in-Some.ensures)
 
 pub returns-in-Some-clause-head : goal.returns-in-Some-clause-head
 returns-in-Some-clause-head c =
@@ -13,4 +14,5 @@ returns-in-Some-clause-head c =
 
 pub returns-in-None-3-clause-head : goal.returns-in-None-3-clause-head
 returns-in-None-3-clause-head c =
-    broken_front c.args.text.now (λ e. let none = ap length e in absurd (grind (arith, nat_tests))) c.requires.no_sequence (sym c.in-None.ensures)
+    broken_front c.args.text.now (λ e. let none = ap length e in
+    absurd (grind (arith, nat_tests))) c.requires.no_sequence (sym c.in-None.ensures)

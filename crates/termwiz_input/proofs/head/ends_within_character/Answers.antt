@@ -7,5 +7,6 @@ returns-in-Ok c = absurd (not_text c.args.text.now c.requires.some c.requires.no
 
 pub returns-in-Err : goal.returns-in-Err
 returns-in-Err c =
-    fault_tells c.args.text.now _ c.error_len.result c.is_none.result c.requires.some c.requires.no_character c.in-Err.ensures.cases.1
+    fault_tells c.args.text.now _ c.error_len.result c.is_none.result c.requires.some c.requires.no_character
+    c.in-Err.ensures.cases.1
     (c.error_len.ensures ∙ c.in-Err.ensures.fault) c.is_none.ensures

@@ -17,11 +17,13 @@ returns-in-Exact-clause-head c =
 
 pub returns-in-Ambiguous-clause-waits : goal.returns-in-Ambiguous-clause-waits
 returns-in-Ambiguous-clause-waits c =
-    rw c.in-Ambiguous.ensures.2 (extended_waits c.args.text.now (subst (λ m. IsExtended m c.args.text.now) c.requires.rows c.in-Ambiguous.ensures.1))
+    rw c.in-Ambiguous.ensures.2 (extended_waits c.args.text.now
+    (subst (λ m. IsExtended m c.args.text.now) c.requires.rows c.in-Ambiguous.ensures.1))
 
 pub returns-in-NeedData-clause-waits : goal.returns-in-NeedData-clause-waits
 returns-in-NeedData-clause-waits c =
-    rw c.if-maybe_more.true (extended_waits c.args.text.now (subst (λ m. IsExtended m c.args.text.now) c.requires.rows c.in-NeedData.ensures.1))
+    rw c.if-maybe_more.true
+    (extended_waits c.args.text.now (subst (λ m. IsExtended m c.args.text.now) c.requires.rows c.in-NeedData.ensures.1))
 
 pub character_or_byte_at-requires-in-None-clause-finished : goal.character_or_byte_at-requires-in-None-clause-finished
 character_or_byte_at-requires-in-None-clause-finished c = λ more h.
@@ -30,8 +32,10 @@ character_or_byte_at-requires-in-None-clause-finished c = λ more h.
 
 pub character_or_byte_at-requires-clause-no_sequence : goal.character_or_byte_at-requires-clause-no_sequence
 character_or_byte_at-requires-clause-no_sequence c =
-    no_sequence c.args.text.now c.requires.no_report (subst (λ m. NoKeyBegins m c.args.text.now) c.requires.rows c.in-NeedData-2.ensures.0)
+    no_sequence c.args.text.now c.requires.no_report
+    (subst (λ m. NoKeyBegins m c.args.text.now) c.requires.rows c.in-NeedData-2.ensures.0)
 
 pub character_or_byte_at-requires-in-None-clause-no_sequence : goal.character_or_byte_at-requires-in-None-clause-no_sequence
 character_or_byte_at-requires-in-None-clause-no_sequence c =
-    no_sequence c.args.text.now c.requires.no_report (subst (λ m. NoKeyBegins m c.args.text.now) c.requires.rows c.in-None.ensures.0)
+    no_sequence c.args.text.now c.requires.no_report
+    (subst (λ m. NoKeyBegins m c.args.text.now) c.requires.rows c.in-None.ensures.0)

@@ -12,25 +12,31 @@ pub escape_item_at-requires-clause-head : goal.escape_item_at-requires-clause-he
 escape_item_at-requires-clause-head c =
     let found = c.in-Some.ensures.some in
     subst (λ u. IsLongest u ESC (Row escape)) found.1
-    (escape_row_is c.args.text.now c.in-Some-Row.key c.in-Some-Row.len (subst (HasHead c.args.text.now) c.in-Some-Row.field-0-is c.in-Some-Row.ensures.head)
+    (escape_row_is c.args.text.now c.in-Some-Row.key c.in-Some-Row.len
+    (subst (HasHead c.args.text.now) c.in-Some-Row.field-0-is c.in-Some-Row.ensures.head)
     (ap (λ n. take n c.args.text.now) found.0 ∙ ap (take 1) found.1))
 
 pub returns-in-None-after_escape-clause-item : goal.returns-in-None-after_escape-clause-item
 returns-in-None-after_escape-clause-item c =
     subst (IsItemAt c.args.text.now c.args.maybe_more) (sym c.key_item.ensures)
-    (row_stands c.args.text.now c.args.maybe_more c.in-Some-Row.key c.in-Some-Row.len (c.in-Some-Row.ensures.closed refl)
-    (subst (HasHead c.args.text.now) c.in-Some-Row.field-0-is c.in-Some-Row.ensures.head) c.requires.no_paste c.in-None-after_escape.ensures.none)
+    (row_stands c.args.text.now c.args.maybe_more c.in-Some-Row.key c.in-Some-Row.len
+    (c.in-Some-Row.ensures.closed refl)
+    (subst (HasHead c.args.text.now) c.in-Some-Row.field-0-is c.in-Some-Row.ensures.head) c.requires.no_paste
+    c.in-None-after_escape.ensures.none)
 
 pub returns-in-Some-Report-clause-item : goal.returns-in-Some-Report-clause-item
 returns-in-Some-Report-clause-item c =
-    report_stands c.args.text.now c.args.maybe_more c.in-Some-Report.event c.in-Some-Report.len (c.in-Some-Report.ensures.closed refl)
+    report_stands c.args.text.now c.args.maybe_more c.in-Some-Report.event c.in-Some-Report.len
+    (c.in-Some-Report.ensures.closed refl)
     (subst (HasHead c.args.text.now) c.in-Some-Report.field-0-is c.in-Some-Report.ensures.head)
 
 pub returns-in-Some-Character-clause-item : goal.returns-in-Some-Character-clause-item
 returns-in-Some-Character-clause-item c =
-    let made = c.key_item-in-Some-Character.ensures ∙ ap (λ k. item_of (Key k) c.in-Some-Character.len) c.plain_key.ensures in
+    let made =
+    c.key_item-in-Some-Character.ensures ∙ ap (λ k. item_of (Key k) c.in-Some-Character.len) c.plain_key.ensures in
     subst (IsItemAt c.args.text.now c.args.maybe_more) (sym made)
-    (character_stands c.args.text.now c.args.maybe_more c.in-Some-Character.character c.in-Some-Character.len (c.in-Some-Character.ensures.closed refl)
+    (character_stands c.args.text.now c.args.maybe_more c.in-Some-Character.character c.in-Some-Character.len
+    (c.in-Some-Character.ensures.closed refl)
     (subst (HasHead c.args.text.now) c.in-Some-Character.field-0-is c.in-Some-Character.ensures.head))
 
 pub returns-in-Some-Broken-clause-item : goal.returns-in-Some-Broken-clause-item

@@ -7,4 +7,5 @@ use Rattle.termwiz_input.proofs.laws.error_equality.Goals as goal
 
 pub returns-clause-vec : goal.returns-clause-vec
 returns-clause-vec c = λ a b.
-    Decides-and _ _ (slice_eq-Decides same_events a.events.items b.events.items _ refl) (booleans_Decides a.taken b.taken)
+    Decides-and _ _ (slice_eq-Decides same_events a.events.items b.events.items _ refl)
+    (booleans_Decides a.taken b.taken)

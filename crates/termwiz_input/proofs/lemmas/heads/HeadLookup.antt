@@ -54,14 +54,16 @@ unfolding IsSequence
 report_known text event f = f
 
 -- the key that the map answers for a beginning of the text
-stored_at : (u other : List ℕ) (k : KeyEvent) → Begins other u → IsSequence other (Row k) → get table (take (length other) u) ≡ Some k
+stored_at : (u other : List ℕ) (k : KeyEvent) → Begins other u → IsSequence other (Row k)
+    → get table (take (length other) u) ≡ Some k
 stored_at u other k b is_sequence = ap (get table) (begins_is other u b) ∙ row_known other k is_sequence
 
 some_none : (o : Option KeyEvent) (k : KeyEvent) → o ≡ Some k → o ≡ None → ⊥
 some_none o k e f = cc
 
 -- the longest key of the map is the longest sequence, where no mouse report begins the text
-pub longest_from_key : (u : List ℕ) (n : ℕ) (k : KeyEvent) → NoMouseReportBegins u → IsLongestKey table u n k → HasHead u (row k n)
+pub longest_from_key : (u : List ℕ) (n : ℕ) (k : KeyEvent) → NoMouseReportBegins u → IsLongestKey table u n k
+    → HasHead u (row k n)
 longest_from_key u n k none is = (
   is.within,
   record {
@@ -73,18 +75,22 @@ longest_from_key u n k none is = (
   where
     at_most : (other : List ℕ) (m : Meaning) → IsSequence other m → Begins other u → length other ≤ length (take n u)
     at_most other (Row j) is_sequence b = ⊎_elim
-        (λ (l : n < length other). absurd (some_none _ j (stored_at u other j b is_sequence) (is.longest (length other) l (length-Begins other u b))))
+        (λ (l : n < length other). absurd
+        (some_none _ j (stored_at u other j b is_sequence) (is.longest (length other) l (length-Begins other u b))))
         (λ (l : length other ≤ n). omega (arith, length-take-le n u is.within))
         (cases_lt n (length other))
     at_most other (Report event) is_sequence b = absurd (none other event (report_known other event is_sequence) b)
 
--- where a text properly begins a sequence, the map has a longer key that begins with it, or the text begins a mouse report
+-- where a text properly begins a sequence, the map has a longer key that begins with it,
+-- or the text begins a mouse report
 pub extended_from_unfinished : (u : List ℕ) → IsUnfinishedSequence u → ¬ IsBegun u → IsExtended table u
 extended_from_unfinished u h never = go h.tail h.meaning h.longer h.is_sequence
   where
     go : (tail : List ℕ) (m : Meaning) → tail ≢ [] → IsSequence (u ++ tail) m → IsExtended table u
-    go tail (Row k) longer is_sequence = (tail, length-some tail longer, ap is_some (row_known (u ++ tail) k is_sequence))
-    go tail (Report event) longer is_sequence = absurd (never (tail, event, longer, report_known (u ++ tail) event is_sequence))
+    go tail (Row k) longer is_sequence =
+        (tail, length-some tail longer, ap is_some (row_known (u ++ tail) k is_sequence))
+    go tail (Report event) longer is_sequence =
+        absurd (never (tail, event, longer, report_known (u ++ tail) event is_sequence))
 
 stored_key : (o : Option KeyEvent) → IsSome o → (k : KeyEvent) × (o ≡ Some k)
 stored_key (Some k) h = (k, refl)
@@ -93,7 +99,16 @@ stored_key None h = absurd (cc)
 pub open_from_extended : (u : List ℕ) → u ≢ [] → IsExtended table u → IsOpen u true
 open_from_extended u some (tail, longer, stored) =
     let k = stored_key (get table (u ++ tail)) stored in
-    record { more_comes = refl; some = some; beginning = inl (record { tail = tail; longer = λ none. omega (arith, ap length none); meaning = Row k.0; is_sequence = row_is_sequence (u ++ tail) k.0 k.1 }) }
+    record {
+      more_comes = refl;
+      some = some;
+      beginning = inl (record {
+        tail = tail;
+        longer = λ none. omega (arith, ap length none);
+        meaning = Row k.0;
+        is_sequence = row_is_sequence (u ++ tail) k.0 k.1;
+      });
+    }
 
 pub extended_waits : (u : List ℕ) → IsExtended table u → HasNoHeadYet u true
 extended_waits [] ext = inr refl
@@ -101,7 +116,8 @@ extended_waits (x ∷ u) ext = inl (open_from_extended (x ∷ u) (λ h. cc) ext)
 
 -- no sequence begins the text, where no key and no mouse report does
 pub no_sequence : (u : List ℕ) → NoMouseReportBegins u → NoKeyBegins table u → NoSequenceBegins u
-no_sequence u none no_key text (Row k) is_sequence b = some_none _ k (stored_at u text k b is_sequence) (no_key (length text) (length-Begins text u b))
+no_sequence u none no_key text (Row k) is_sequence b =
+    some_none _ k (stored_at u text k b is_sequence) (no_key (length text) (length-Begins text u b))
 no_sequence u none no_key text (Report event) is_sequence b = none text event (report_known text event is_sequence) b
 
 same_pair : (d s c n : ℕ) → ◌≡◌ {A = Option (ℕ × ℕ)} (Some (d, s)) (Some (c, n)) → (d ≡ c) × (s ≡ n)
@@ -109,11 +125,13 @@ same_pair d s c n e =
     let pair : ◌≡◌ {A = ℕ × ℕ} (d, s) (c, n) = cc (e) in
     (ap (λ (p : ℕ × ℕ). p.0) pair, ap (λ (p : ℕ × ℕ). p.1) pair)
 
-spelled : (u : List ℕ) (c n : ℕ) → character_of u ≡ Some (c, n) → IsScalar c × (n ≡ length (encode_utf8 c)) × Begins (encode_utf8 c) u
+spelled : (u : List ℕ) (c n : ℕ) → character_of u ≡ Some (c, n)
+    → IsScalar c × (n ≡ length (encode_utf8 c)) × Begins (encode_utf8 c) u
 unfolding character_of
 spelled u c n e = go (decoded u).char refl e
   where
-    go : (o : Option ℕ) → (decoded u).char ≡ o → option_map {U = ℕ × ℕ} (λ d. (d, (decoded u).size)) o ≡ Some (c, n) → IsScalar c × (n ≡ length (encode_utf8 c)) × Begins (encode_utf8 c) u
+    go : (o : Option ℕ) → (decoded u).char ≡ o → option_map {U = ℕ × ℕ} (λ d. (d, (decoded u).size)) o ≡ Some (c, n)
+        → IsScalar c × (n ≡ length (encode_utf8 c)) × Begins (encode_utf8 c) u
     go (Some d) f h =
         let same = same_pair d (decoded u).size c n h in
         let spells = SpellsChar-decoded u d f in
@@ -121,7 +139,8 @@ spelled u c n e = go (decoded u).char refl e
         (spells.scalar, sym (spells.width ∙ same.1), (drop (decoded u).size u, spells.bytes))
     go None f h = absurd (cc (h))
 
-pub character_front : (u : List ℕ) (c n : ℕ) → NoSequenceBegins u → character_of u ≡ Some (c, n) → HasHead u (character c n)
+pub character_front : (u : List ℕ) (c n : ℕ) → NoSequenceBegins u → character_of u ≡ Some (c, n)
+    → HasHead u (character c n)
 character_front u c n no_sequence e =
     let s = spelled u c n e in
     (s.1, record { no_sequence = no_sequence; scalar = s.0; begins = s.2 })
@@ -137,17 +156,21 @@ unspelled u e c scalar b =
 character_finished : (u : List ℕ) (c : ℕ) → Begins (encode_utf8 c) u → IsUnfinishedCharacter u → ⊥
 character_finished u c b h =
     let whole : encode_utf8 c ++ (b.0 ++ h.tail) ≡ encode_utf8 h.char ++ [] =
-    sym (append_assoc (encode_utf8 c) b.0 h.tail) ∙ ap (λ x. x ++ h.tail) (sym b.1) ∙ sym h.spells ∙ sym (append-nil (encode_utf8 h.char)) in
+    sym (append_assoc (encode_utf8 c) b.0 h.tail) ∙ ap (λ x. x ++ h.tail) (sym b.1) ∙ sym h.spells
+    ∙ sym (append-nil (encode_utf8 h.char)) in
     append-some b.0 h.tail h.longer (encode_same c h.char (b.0 ++ h.tail) [] whole).1
 
 -- a text isn't open that properly begins neither a sequence nor a character
-closed_by : (u : List ℕ) (more : Bool) → (more ≡ true → ¬ IsUnfinishedSequence u) → (more ≡ true → ¬ IsUnfinishedCharacter u) → ¬ IsOpen u more
+closed_by : (u : List ℕ) (more : Bool) → (more ≡ true → ¬ IsUnfinishedSequence u)
+    → (more ≡ true → ¬ IsUnfinishedCharacter u) → ¬ IsOpen u more
 closed_by u more is_sequence char opens = ⊎_elim (is_sequence opens.more_comes) (char opens.more_comes) opens.beginning
 
-pub character_closed : (u : List ℕ) (more : Bool) (c n : ℕ) → (more ≡ true → ¬ IsUnfinishedSequence u) → character_of u ≡ Some (c, n) → ¬ IsOpen u more
+pub character_closed : (u : List ℕ) (more : Bool) (c n : ℕ) → (more ≡ true → ¬ IsUnfinishedSequence u)
+    → character_of u ≡ Some (c, n) → ¬ IsOpen u more
 character_closed u more c n finished e = closed_by u more finished (λ m. character_finished u c (spelled u c n e).2)
 
-pub broken_closed : (u : List ℕ) (more : Bool) → (more ≡ true → ¬ IsUnfinishedSequence u) → ((more ≡ true) × IsUnfinishedCharacter u → ⊥) → ¬ IsOpen u more
+pub broken_closed : (u : List ℕ) (more : Bool) → (more ≡ true → ¬ IsUnfinishedSequence u)
+    → ((more ≡ true) × IsUnfinishedCharacter u → ⊥) → ¬ IsOpen u more
 broken_closed u more finished whole = closed_by u more finished (λ m h. whole (m, h))
 
 -- the first byte of a text that no sequence and no character begins
@@ -156,7 +179,8 @@ broken_front [] some no_sequence e = absurd (some refl)
 broken_front (x ∷ u) some no_sequence e =
     (x, record { no_sequence = no_sequence; unspelled = unspelled (x ∷ u) e; begins = (u, refl) })
 
-pub unfinished_waits : (u : List ℕ) (more : Bool) → u ≢ [] → (more ≡ true) × IsUnfinishedCharacter u → HasNoHeadYet u more
+pub unfinished_waits : (u : List ℕ) (more : Bool) → u ≢ [] → (more ≡ true) × IsUnfinishedCharacter u
+    → HasNoHeadYet u more
 unfinished_waits u more some (m, h) = inl (record { more_comes = m; some = some; beginning = inr h })
 
 -- what std says of bytes that no character begins
@@ -164,7 +188,8 @@ not_decoded : (u : List ℕ) → character_of u ≡ None → (decoded u).char �
 unfolding character_of
 not_decoded u e = go (decoded u).char refl e
   where
-    go : (o : Option ℕ) → (decoded u).char ≡ o → option_map {U = ℕ × ℕ} (λ d. (d, (decoded u).size)) o ≡ None → (decoded u).char ≡ None
+    go : (o : Option ℕ) → (decoded u).char ≡ o → option_map {U = ℕ × ℕ} (λ d. (d, (decoded u).size)) o ≡ None
+        → (decoded u).char ≡ None
     go (Some d) f h = absurd (cc (h))
     go None f h = f
 
@@ -172,12 +197,15 @@ pub not_text : (u : List ℕ) → u ≢ [] → character_of u ≡ None → IsUtf
 not_text u some e is = no_utf8 u some (not_decoded u e) is
 
 -- where std finds no length of the fault, the text ends within a character
-pub fault_tells : (u : List ℕ) (n : ℕ) (len : Option ℕ) (none : Bool) → u ≢ [] → character_of u ≡ None → IsValidUpTo u n → len ≡ utf8_error_len (drop n u)
+pub fault_tells : (u : List ℕ) (n : ℕ) (len : Option ℕ) (none : Bool) → u ≢ [] → character_of u ≡ None → IsValidUpTo u n
+    → len ≡ utf8_error_len (drop n u)
     → is_some len ≡ not none → IsTrue none ↔ IsUnfinishedCharacter u
 fault_tells u n len none some e valid is test =
     let missing = not_decoded u e in
-    let at : len ≡ utf8_error_len u = is ∙ ap (λ k. utf8_error_len (drop k u)) (valid_nowhere u n missing valid) in
-    (λ h. unfinished_from u some missing (sym at ∙ told len none test h), λ h. tells len none test (at ∙ unfinished_told u some h))
+    let at : len ≡ utf8_error_len u = is ∙ ap (λ k. utf8_error_len (drop k u)) (valid_nowhere u n missing valid) in (
+      λ h. unfinished_from u some missing (sym at ∙ told len none test h),
+      λ h. tells len none test (at ∙ unfinished_told u some h),
+    )
   where
     told : (o : Option ℕ) (b : Bool) → is_some o ≡ not b → IsTrue b → o ≡ None
     told None b same h = refl
@@ -190,48 +218,68 @@ fault_tells u n len none some e valid is test =
     tells (Some k) b same h = absurd (cc (h))
 
 -- a mouse report at the front is the head, and nothing that comes changes it
-pub mouse_report_front : (u : List ℕ) (n : ℕ) (event : MouseEvent) → n ≤ length u → IsMouseReport (take n u) event → HasHead u (mouse_report event n)
+pub mouse_report_front : (u : List ℕ) (n : ℕ) (event : MouseEvent) → n ≤ length u → IsMouseReport (take n u) event
+    → HasHead u (mouse_report event n)
 mouse_report_front u n event inside f = (
   inside,
   record {
     is_sequence = report_is_sequence (take n u) event f;
     begins = begins_take u n;
-    longest = λ other m is_sequence b. at_most other m is_sequence (overlap other b.0 (take n u) (drop n u) (take-append-drop n u ∙ b.1));
+    longest = λ other m is_sequence b. at_most other m is_sequence
+        (overlap other b.0 (take n u) (drop n u) (take-append-drop n u ∙ b.1));
   },
 )
   where
-    at_most : {r s : List ℕ} (other : List ℕ) (m : Meaning) → IsSequence other m → Overlaps other r (take n u) s → length other ≤ length (take n u)
+    at_most : {r s : List ℕ} (other : List ℕ) (m : Meaning) → IsSequence other m → Overlaps other r (take n u) s
+        → length other ≤ length (take n u)
     at_most other m is_sequence (within t e g) = omega (arith, length-append other t, ap length e)
     at_most other m is_sequence (past t longer e g) =
-        absurd (longer (report_ends (take n u) t event m (report_is_sequence (take n u) event f) (subst (λ x. IsSequence x m) e is_sequence)))
+        absurd (longer (report_ends (take n u) t event m (report_is_sequence (take n u) event f)
+        (subst (λ x. IsSequence x m) e is_sequence)))
 
-pub report_closed : (u : List ℕ) (n : ℕ) (more : Bool) (event : MouseEvent) → IsMouseReport (take n u) event → IsOpen u more → ⊥
+pub report_closed : (u : List ℕ) (n : ℕ) (more : Bool) (event : MouseEvent) → IsMouseReport (take n u) event
+    → IsOpen u more → ⊥
 report_closed u n more event f opens = ⊎_elim
     (λ (h : IsUnfinishedSequence u).
     let whole : u ++ h.tail ≡ take n u ++ (drop n u ++ h.tail) =
     ap (λ x. x ++ h.tail) (sym (take-append-drop n u)) ∙ append_assoc (take n u) (drop n u) h.tail in
     append-some (drop n u) h.tail h.longer
-    (report_ends (take n u) (drop n u ++ h.tail) event h.meaning (report_is_sequence (take n u) event f) (subst (λ x. IsSequence x h.meaning) whole h.is_sequence)))
-    (λ (h : IsUnfinishedCharacter u). sequence_finished (take n u) u (Report event) (report_is_sequence (take n u) event f) (begins_take u n) opens.some h)
+    (report_ends (take n u) (drop n u ++ h.tail) event h.meaning (report_is_sequence (take n u) event f)
+    (subst (λ x. IsSequence x h.meaning) whole h.is_sequence)))
+    (λ (h : IsUnfinishedCharacter u). sequence_finished (take n u) u (Report event)
+    (report_is_sequence (take n u) event f) (begins_take u n) opens.some h)
     opens.beginning
 
 pub begun_waits : (u : List ℕ) → IsBegun u → HasNoHeadYet u true
 begun_waits [] begun = inr refl
 begun_waits (x ∷ u) (tail, event, longer, f) =
-    inl (record { more_comes = refl; some = λ h. cc; beginning = inl (record { tail = tail; longer = longer; meaning = Report event; is_sequence = report_is_sequence (x ∷ u ++ tail) event f }) })
+    inl (record {
+      more_comes = refl;
+      some = λ h. cc;
+      beginning = inl (record {
+        tail = tail;
+        longer = longer;
+        meaning = Report event;
+        is_sequence = report_is_sequence (x ∷ u ++ tail) event f;
+      });
+    })
 
 -- where a text properly begins a mouse report, no mouse report begins it
 pub begun_no_report : (u : List ℕ) → IsBegun u → NoMouseReportBegins u
 begun_no_report u (tail, event, longer, f) word other g b =
     let whole : u ++ tail ≡ word ++ (b.0 ++ tail) = ap (λ x. x ++ tail) b.1 ∙ append_assoc word b.0 tail in
     append-some b.0 tail longer
-    (report_ends word (b.0 ++ tail) other (Report event) (report_is_sequence word other g) (subst (λ x. IsSequence x (Report event)) whole (report_is_sequence (u ++ tail) event f)))
+    (report_ends word (b.0 ++ tail) other (Report event) (report_is_sequence word other g)
+    (subst (λ x. IsSequence x (Report event)) whole (report_is_sequence (u ++ tail) event f)))
 
 -- where nothing longer that is stored may come, and a key begins the text, the text isn't open
-pub exact_closed : (u : List ℕ) (more : Bool) (n : ℕ) (k : KeyEvent) → (more ≡ true → IsBegun u → ⊥) → IsLongestKey table u n k
+pub exact_closed : (u : List ℕ) (more : Bool) (n : ℕ) (k : KeyEvent) → (more ≡ true → IsBegun u → ⊥)
+    → IsLongestKey table u n k
     → (IsExtended table u → more ≡ false) → IsOpen u more → ⊥
 exact_closed u more n k never is stops opens =
     let one : more ≡ true = opens.more_comes in ⊎_elim
-    (λ (h : IsUnfinishedSequence u). let two : more ≡ false = stops (extended_from_unfinished u h (never one)) in cc (one, two))
-    (λ (h : IsUnfinishedCharacter u). sequence_finished (take n u) u (Row k) (row_is_sequence (take n u) k is.stored) (begins_take u n) opens.some h)
+    (λ (h : IsUnfinishedSequence u). let two : more ≡ false = stops (extended_from_unfinished u h (never one)) in
+    cc (one, two))
+    (λ (h : IsUnfinishedCharacter u). sequence_finished (take n u) u (Row k) (row_is_sequence (take n u) k is.stored)
+    (begins_take u n) opens.some h)
     opens.beginning

@@ -31,7 +31,8 @@ no_sequence b u low other (x ∷ text) m is_sequence begins =
     let same : b ≡ x = ap (λ t. get_or t 0 0) begins.1 in
     not_sequence x text m (omega (arith, same)) (omega (arith, same)) is_sequence
 
-pub apart_from_sequences : (u : List ℕ) → 0 < length u → 32 ≤ slice_index_or u 0 0 → slice_index_or u 0 0 ≢ 127 → CannotStartSequence u
+pub apart_from_sequences : (u : List ℕ) → 0 < length u → 32 ≤ slice_index_or u 0 0 → slice_index_or u 0 0 ≢ 127
+    → CannotStartSequence u
 apart_from_sequences [] some low other = absurd (omega arith)
 apart_from_sequences (b ∷ u) some low other = record {
   no_sequence = no_sequence b u low other;
@@ -51,27 +52,34 @@ not_after_escape : (b : ℕ) (t : List ℕ) (m : Meaning) → ¬ IsPlain b → I
 not_after_escape b t m other is_sequence = other (second_plain b t (known_bytes (27 ∷ b ∷ t) m is_sequence))
 
 -- of the texts that begin such a text only ESC is a sequence
-at_most_escape : (b : ℕ) (u other : List ℕ) (m : Meaning) → ¬ IsPlain b → IsSequence other m → Begins other (27 ∷ b ∷ u) → length other ≤ 1
+at_most_escape : (b : ℕ) (u other : List ℕ) (m : Meaning) → ¬ IsPlain b → IsSequence other m → Begins other (27 ∷ b ∷ u)
+    → length other ≤ 1
 at_most_escape b u [] m not_plain is_sequence begins = omega arith
 at_most_escape b u (x ∷ []) m not_plain is_sequence begins = omega arith
 at_most_escape b u (x ∷ y ∷ text) m not_plain is_sequence begins =
     let first : 27 ≡ x = ap (λ t. get_or t 0 0) begins.1 in
     let second : b ≡ y = ap (λ t. get_or t 1 0) begins.1 in
-    absurd (not_after_escape b text m not_plain (subst (λ z. IsSequence (z ∷ b ∷ text) m) (sym first) (subst (λ z. IsSequence (x ∷ z ∷ text) m) (sym second) is_sequence)))
+    absurd (not_after_escape b text m not_plain (subst (λ z. IsSequence (z ∷ b ∷ text) m) (sym first)
+    (subst (λ z. IsSequence (x ∷ z ∷ text) m) (sym second) is_sequence)))
 
 escape_ends : (b : ℕ) (u : List ℕ) → IsUnfinishedCharacter (27 ∷ b ∷ u) → ⊥
 escape_ends b u h = sequence_finished ESC (27 ∷ b ∷ u) (Row escape) escape_is_sequence (b ∷ u, refl) (λ e. cc (e)) h
 
 pub lone_escape : (b : ℕ) (u : List ℕ) → ¬ IsPlain b → HasLoneEscape (27 ∷ b ∷ u)
 lone_escape b u other = record {
-  head = record { is_sequence = escape_is_sequence; begins = (b ∷ u, refl); longest = λ text m is_sequence begins. at_most_escape b u text m other is_sequence begins };
+  head = record {
+    is_sequence = escape_is_sequence;
+    begins = (b ∷ u, refl);
+    longest = λ text m is_sequence begins. at_most_escape b u text m other is_sequence begins;
+  };
   closed = λ more opens. ⊎_elim
       (λ (h : IsUnfinishedSequence (27 ∷ b ∷ u)). not_after_escape b (u ++ h.tail) h.meaning other h.is_sequence)
       (λ (h : IsUnfinishedCharacter (27 ∷ b ∷ u)). escape_ends b u h)
       opens.beginning;
 }
 
-pub lone_escape_at : (u : List ℕ) → 1 < length u → slice_index_or u 0 0 ≡ 27 → ¬ IsPlain (slice_index_or u 1 0) → HasLoneEscape u
+pub lone_escape_at : (u : List ℕ) → 1 < length u → slice_index_or u 0 0 ≡ 27 → ¬ IsPlain (slice_index_or u 1 0)
+    → HasLoneEscape u
 lone_escape_at [] long first other = absurd (omega arith)
 lone_escape_at (x ∷ []) long first other = absurd (omega arith)
 lone_escape_at (x ∷ b ∷ u) long first other = subst (λ z. HasLoneEscape (z ∷ b ∷ u)) (sym first) (lone_escape b u other)

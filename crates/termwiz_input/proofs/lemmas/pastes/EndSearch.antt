@@ -12,13 +12,15 @@ use Rattle.termwiz_grammar.specs.Grammar.{EndsFirst}
 -- an occurrence that is written out
 occurs_between : (u before needle after : List ℕ) → u ≡ before ++ needle ++ after → OccursAt u needle (length before)
 occurs_between u before needle after e =
-    let rest : drop (length before) u ≡ needle ++ after = ap (drop (length before)) (e ∙ append_assoc before needle after) ∙ drop-append_seam before (needle ++ after) in
+    let rest : drop (length before) u ≡ needle ++ after =
+    ap (drop (length before)) (e ∙ append_assoc before needle after) ∙ drop-append_seam before (needle ++ after) in
     OccursAt-from_part u needle (length before)
     (omega (arith, ap length e, length-append (before ++ needle) after, length-append before needle))
     (ap (take (length needle)) rest ∙ take-append_seam needle after)
 
 -- what a search for the end marker says of a paste
-pub endless : (u : List ℕ) → Begins START u → FindsNeedle u END 6 None → (body : List ℕ) → u ≡ START ++ body → ¬ Occurs END body
+pub endless : (u : List ℕ) → Begins START u → FindsNeedle u END 6 None → (body : List ℕ) → u ≡ START ++ body
+    → ¬ Occurs END body
 endless u begins never body e (before, after, o) =
     let here = occurs_between u (START ++ before) END after (e ∙ ap (λ x. START ++ x) o) in
     never (length (START ++ before)) (omega arith) (omega (arith, here.fits)) here
@@ -36,7 +38,8 @@ paste_to u k begins found = record {
   parts = parts;
   first = λ before after e. only_once before after e;
   within = inside;
-  bytes = sym (take-append_seam (START ++ body ++ END) rest) ∙ ap (take (length (START ++ body ++ END))) (sym parts) ∙ ap (λ n. take n u) long;
+  bytes = sym (take-append_seam (START ++ body ++ END) rest) ∙ ap (take (length (START ++ body ++ END))) (sym parts)
+      ∙ ap (λ n. take n u) long;
 }
   where
     body : List ℕ
@@ -55,10 +58,12 @@ paste_to u k begins found = record {
     from_start = begins.1 ∙ ap (λ t. START ++ t) (sym (ap (drop 6) begins.1))
 
     from_end : drop (k - 6) (drop 6 u) ≡ END ++ rest
-    from_end = drop-drop (k - 6) 6 u ∙ (let e : 6 + (k - 6) ≡ k = omega (arith, low) in ap (λ n. drop n u) e) ∙ OccursAt-split u END k found.1
+    from_end = drop-drop (k - 6) 6 u ∙ (let e : 6 + (k - 6) ≡ k = omega (arith, low) in ap (λ n. drop n u) e)
+        ∙ OccursAt-split u END k found.1
 
     parts : u ≡ START ++ body ++ END ++ rest
-    parts = from_start ∙ ap (λ t. START ++ t) (sym (take-append-drop (k - 6) (drop 6 u)) ∙ ap (λ t. body ++ t) from_end) ∙ ap (λ t. START ++ t) (sym (append_assoc body END rest))
+    parts = from_start ∙ ap (λ t. START ++ t) (sym (take-append-drop (k - 6) (drop 6 u)) ∙ ap (λ t. body ++ t) from_end)
+        ∙ ap (λ t. START ++ t) (sym (append_assoc body END rest))
 
     long_body : length body ≡ k - 6
     long_body = length-take-le (k - 6) (drop 6 u) (omega (arith, length-drop 6 u, inside, low))
@@ -71,7 +76,16 @@ paste_to u k begins found = record {
         let here = occurs_between u (START ++ before) END (after ++ rest)
         (parts ∙ ap (λ t. START ++ t ++ rest) e ∙ ap (λ t. START ++ t) (append_assoc (before ++ END) after rest)) in
         let least : k ≤ length (START ++ before) = not_before (length (START ++ before)) (omega arith) here in
-        none_left after (omega (arith, ap length e, length-append body END, length-append (before ++ END) after, length-append before END, long_body, low, least))
+        none_left after (omega (
+          arith,
+          ap length e,
+          length-append body END,
+          length-append (before ++ END) after,
+          length-append before END,
+          long_body,
+          low,
+          least,
+        ))
       where
         not_before : (j : ℕ) → 6 ≤ j → OccursAt u END j → k ≤ j
         not_before j l o = ⊎_elim (λ (h : j < k). absurd (found.0.before j l h o)) (λ (h : k ≤ j). h) (cases_lt j k)

@@ -21,18 +21,22 @@ place_within : (u : List ℕ) (place : ℕ) → NoEndBefore u place → place �
 place_within u place is = is END u [] (sym (append-nil (u ++ END)))
 
 -- a search of an open paste, from the place on but after START, begins in the text
-pub search_within : (u : List ℕ) (place from : ℕ) → Begins START u → NoEndBefore u place → from ≡ max place 6 → from ≤ length u
-search_within u place from begins is e = omega (arith, place_within u place is, ap length begins.1, length-append START begins.0)
+pub search_within : (u : List ℕ) (place from : ℕ) → Begins START u → NoEndBefore u place → from ≡ max place 6
+    → from ≤ length u
+search_within u place from begins is e =
+    omega (arith, place_within u place is, ap length begins.1, length-append START begins.0)
 
 too_soon : (u : List ℕ) (place k : ℕ) → NoEndBefore u place → OccursAt u END k → place ≤ k
 too_soon u place k is here =
     let long : length (take k u) ≡ k = length-take-le k u (omega (arith, here.fits)) in
-    let parts = sym (take-append-drop k u) ∙ ap (λ t. take k u ++ t) (OccursAt-split u END k here) ∙ sym (append_assoc (take k u) END (drop (k + 6) u)) in
+    let parts = sym (take-append-drop k u) ∙ ap (λ t. take k u ++ t) (OccursAt-split u END k here)
+    ∙ sym (append_assoc (take k u) END (drop (k + 6) u)) in
     let least : place ≤ length (take k u) = is [] (take k u) (drop (k + 6) u) (append-nil u ∙ parts) in
     omega arith
 
 -- it finds what a search from the end of START on does
-pub from_place : (u : List ℕ) (place from : ℕ) (r : Option ℕ) → NoEndBefore u place → from ≡ max place 6 → FindsNeedle u END from r → FindsNeedle u END 6 r
+pub from_place : (u : List ℕ) (place from : ℕ) (r : Option ℕ) → NoEndBefore u place → from ≡ max place 6
+    → FindsNeedle u END from r → FindsNeedle u END 6 r
 from_place u place from None is e never = λ k low high here.
     (let least = too_soon u place k is here in never k (omega arith) high here)
 from_place u place from (Some j) is e found = (
@@ -61,18 +65,24 @@ paste_ends u rest more waits begins there = go (find_end rest)
     go : Ends rest → ⊥
     go (ends body after e first) =
         waits (START ++ body ++ END) (Paste (utf8_lossy body))
-        (record { closed = start_closed u more (rest, begins); item = paste body (after, begins ∙ ap (λ t. START ++ t) e) first })
+        (record {
+          closed = start_closed u more (rest, begins);
+          item = paste body (after, begins ∙ ap (λ t. START ++ t) e) first;
+        })
     go (endless none) = none there
 
 -- where an open paste waits, END begins in none but its last five bytes
-pub waits_place : (u : List ℕ) (more : Bool) (place : ℕ) → IsRest u more → Begins START u → place ≤ length u - 5 → NoEndBefore u place
+pub waits_place : (u : List ℕ) (more : Bool) (place : ℕ) → IsRest u more → Begins START u → place ≤ length u - 5
+    → NoEndBefore u place
 waits_place u more place waits (rest, begins) low s before after e = go (overlap (before ++ END) after u s e)
   where
     go : Overlaps (before ++ END) after u s → place ≤ length before
     go (within t f g) = absurd (paste_ends u rest more waits begins (past_start before t rest (sym begins ∙ f)))
-    go (past t longer f g) = omega (arith, low, ap length f, length-append u t, length-append before END, length-some t longer)
+    go (past t longer f g) =
+        omega (arith, low, ap length f, length-append u t, length-append before END, length-some t longer)
 
 -- nothing was found
-pub nothing_found : {A : Type 0} {P : Type 0} (found : Option A) {b : Bool} → is_some found ≡ not b → b ≡ true → IfNone found P → P
+pub nothing_found : {A : Type 0} {P : Type 0} (found : Option A) {b : Bool} → is_some found ≡ not b → b ≡ true
+    → IfNone found P → P
 nothing_found None e is p = p
 nothing_found (Some item) e is p = absurd (cc (e, is))

@@ -12,12 +12,14 @@ use Rattle.termwiz_grammar.proofs.lemmas.cuts.ChunkInvariance.{steps_join}
 
 module _ {P A : Type 0} (R : P → A → P → Type 0) where
   -- runs one after another
-  pub FoldsTo-append : (a : P) (xs : List A) (b : P) (ys : List A) (c : P) → FoldsTo R a xs b → FoldsTo R b ys c → FoldsTo R a (xs ++ ys) c
+  pub FoldsTo-append : (a : P) (xs : List A) (b : P) (ys : List A) (c : P) → FoldsTo R a xs b → FoldsTo R b ys c
+      → FoldsTo R a (xs ++ ys) c
   FoldsTo-append a [] b ys c h k = let Q : P → Type 0 = λ v. FoldsTo R v ys c in subst Q (sym h) k
   FoldsTo-append a (x ∷ xs) b ys c h k = (h.0, h.1, FoldsTo-append h.0 xs b ys c h.2 k)
 
   -- one more step at the end
-  pub FoldsTo-push : (a : P) (xs : List A) (b : P) (x : A) (c : P) → FoldsTo R a xs b → R b x c → FoldsTo R a (xs ++ x ∷ []) c
+  pub FoldsTo-push : (a : P) (xs : List A) (b : P) (x : A) (c : P) → FoldsTo R a xs b → R b x c
+      → FoldsTo R a (xs ++ x ∷ []) c
   FoldsTo-push a xs b x c h k = FoldsTo-append a xs b (x ∷ []) c h (c, k, refl)
 
   -- no step changes nothing
@@ -26,13 +28,15 @@ module _ {P A : Type 0} (R : P → A → P → Type 0) where
   FoldsTo-nil a (x ∷ xs) b none h = absurd (cc (none))
 
 -- one more event of a piece
-pub numbered-push : (number : ℕ) (events : List InputEvent) (event : InputEvent) → numbered number (events ++ event ∷ []) ≡ numbered number events ++ (number, event) ∷ []
+pub numbered-push : (number : ℕ) (events : List InputEvent) (event : InputEvent)
+    → numbered number (events ++ event ∷ []) ≡ numbered number events ++ (number, event) ∷ []
 numbered-push number events event = map-append (λ e. (number, e)) events (event ∷ [])
 
 -- what may be called on a list may, after its first part, be called on the rest
 module _ {F : Type 0} (g : Mut F (ℕ × (InputEvent × Unit {0})) (Unit {0})) where
   pub may_go_on : (first : F) (xs ys : List NumberedEvent) (now : F) → MayBeCalledOnNumbered g first (xs ++ ys)
-      → FoldsTo (λ before event after. Called g before (event.0, (event.1, tt)) tt after) first xs now → MayBeCalledOnNumbered g now ys
+      → FoldsTo (λ before event after. Called g before (event.0, (event.1, tt)) tt after) first xs now
+      → MayBeCalledOnNumbered g now ys
   may_go_on first [] ys now may is = subst (λ f. MayBeCalledOnNumbered g f ys) is may
   may_go_on first (x ∷ xs) ys now may (next, called, later) = may_go_on next xs ys now (may.1 tt next called) later
 
@@ -48,7 +52,8 @@ module _ {F : Type 0} (g : Mut F (InputEvent × Unit {0}) (Unit {0})) (more : Bo
   MayBeGiven U now = (events : List InputEvent) (rest : List ℕ) → Steps U more events rest → MayBeCalledOn g now events
 
   pub given_one_more : (T : List ℕ) (first : F) (U : List ℕ) (now : F) (event : InputEvent) (V : List ℕ) (next : F)
-      → WasGiven T first U now → Steps U more (event ∷ []) V → Called g now (event, tt) tt next → WasGiven T first V next
+      → WasGiven T first U now → Steps U more (event ∷ []) V → Called g now (event, tt) tt next
+      → WasGiven T first V next
   given_one_more T first U now event V next (events, steps, calls) step called = (
     events ++ event ∷ [],
     steps_join events (event ∷ []) T U V more steps step,
@@ -64,20 +69,26 @@ module _ {F : Type 0} (g : Mut F (InputEvent × Unit {0}) (Unit {0})) (more : Bo
 module _ {F : Type 0} (g : Mut F (ℕ × (InputEvent × Unit {0})) (Unit {0})) (number : ℕ) (more : Bool) where
   abbrev pub WasGivenNumbered : List ℕ → F → List ℕ → F → Type 0
   WasGivenNumbered T first U now = (events : List InputEvent) × Steps T more events U
-      × WasCalledOnNumbered (λ before n event done after. Called g before (n, (event, done)) tt after) first (numbered number events) now
+      × WasCalledOnNumbered (λ before n event done after. Called g before (n, (event, done)) tt after) first
+      (numbered number events) now
 
   abbrev pub MayBeGivenNumbered : List ℕ → F → Type 0
-  MayBeGivenNumbered U now = (events : List InputEvent) (rest : List ℕ) → Steps U more events rest → MayBeCalledOnNumbered g now (numbered number events)
+  MayBeGivenNumbered U now = (events : List InputEvent) (rest : List ℕ) → Steps U more events rest
+      → MayBeCalledOnNumbered g now (numbered number events)
 
-  pub given_one_more_numbered : (T : List ℕ) (first : F) (U : List ℕ) (now : F) (event : InputEvent) (V : List ℕ) (next : F)
-      → WasGivenNumbered T first U now → Steps U more (event ∷ []) V → Called g now (number, (event, tt)) tt next → WasGivenNumbered T first V next
+  pub given_one_more_numbered : (T : List ℕ) (first : F) (U : List ℕ) (now : F) (event : InputEvent)
+      (V : List ℕ) (next : F)
+      → WasGivenNumbered T first U now → Steps U more (event ∷ []) V → Called g now (number, (event, tt)) tt next
+      → WasGivenNumbered T first V next
   given_one_more_numbered T first U now event V next (events, steps, calls) step called = (
     events ++ event ∷ [],
     steps_join events (event ∷ []) T U V more steps step,
-    rw (numbered-push number events event) (FoldsTo-push _ first (numbered number events) now (number, event) next calls called),
+    rw (numbered-push number events event)
+        (FoldsTo-push _ first (numbered number events) now (number, event) next calls called),
   )
 
   pub may_give_more_numbered : (U : List ℕ) (now : F) (event : InputEvent) (V : List ℕ) (next : F)
-      → MayBeGivenNumbered U now → Steps U more (event ∷ []) V → Called g now (number, (event, tt)) tt next → MayBeGivenNumbered V next
+      → MayBeGivenNumbered U now → Steps U more (event ∷ []) V → Called g now (number, (event, tt)) tt next
+      → MayBeGivenNumbered V next
   may_give_more_numbered U now event V next may step called events rest steps =
       (may (event ∷ events) rest (steps_join (event ∷ []) events U V rest more step steps)).1 tt next called

@@ -17,7 +17,8 @@ pub ruleset joined_rows = (with_rows-append)
 
 module _ {X : Type 0} where
   -- one more row, for one more element
-  pub row_pushed : (m k : ByteMap KeyEvent) (row : X → TableRow) (xs more : List X) (x : X) (bytes : List ℕ) (event : KeyEvent)
+  pub row_pushed : (m k : ByteMap KeyEvent) (row : X → TableRow) (xs more : List X) (x : X) (bytes : List ℕ)
+      (event : KeyEvent)
       → more ≡ xs ++ x ∷ [] → k ≡ with_rows m (map row xs) → bytes ≡ (row x).0 → event ≡ (row x).1
       → insert k bytes event ≡ with_rows m (map row more)
   row_pushed m k row xs more x bytes event one before same_bytes same_event =

@@ -13,17 +13,21 @@ returns-in_err-code c =
 pub returns-in_err-column : goal.returns-in_err-column
 returns-in_err-column c =
     let p = err_from_is_err_and c.from_residual-in_err-column.result c.from_residual-in_err-column.ensures.1 in
-    rw (p.1, p.2) (column_unread c.args.text.now c.in_ok-code.code c.in_err-column.field-0.0 c.in_ok-code.ensures c.in_err-column.ensures)
+    rw (p.1, p.2) (column_unread c.args.text.now c.in_ok-code.code c.in_err-column.field-0.0 c.in_ok-code.ensures
+    c.in_err-column.ensures)
 
 pub returns-in_err-row : goal.returns-in_err-row
 returns-in_err-row c =
     let p = err_from_is_err_and c.from_residual-in_err-row.result c.from_residual-in_err-row.ensures.1 in
-    rw (p.1, p.2) (row_unread c.args.text.now c.in_ok-code.code c.in_ok-column.column c.in_err-row.field-0.0 c.in_ok-code.ensures c.in_ok-column.ensures c.in_err-row.ensures)
+    rw (p.1, p.2) (row_unread c.args.text.now c.in_ok-code.code c.in_ok-column.column c.in_err-row.field-0.0
+    c.in_ok-code.ensures c.in_ok-column.ensures c.in_err-row.ensures)
 
 pub returns-in-Some : goal.returns-in-Some
 returns-in-Some c =
     let found : MouseEvent × Bor (List ℕ) = (c.in-Some.event, c.in_ok-row.row.rest) in
-    whole_report_read c.args.text.now c.in_ok-code.code c.in_ok-column.column c.in_ok-row.row found c.in_ok-code.ensures c.in_ok-column.ensures c.in_ok-row.ensures c.in-Some.ensures.1 refl
+    whole_report_read c.args.text.now c.in_ok-code.code c.in_ok-column.column c.in_ok-row.row found c.in_ok-code.ensures
+    c.in_ok-column.ensures c.in_ok-row.ensures c.in-Some.ensures.1 refl
 
 pub returns-in-None : goal.returns-in-None
-returns-in-None c = absurd (c.in-None.ensures (report_read c.args.text.now _ c.in_ok-code.code c.in_ok-row.row c.in_ok-code.ensures c.in_ok-row.ensures))
+returns-in-None c = absurd (c.in-None.ensures
+    (report_read c.args.text.now _ c.in_ok-code.code c.in_ok-row.row c.in_ok-code.ensures c.in_ok-row.ensures))

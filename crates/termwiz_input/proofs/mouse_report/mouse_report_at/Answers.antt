@@ -13,17 +13,21 @@ returns-in-Ok c =
 
 pub returns-in-Err-Begun : goal.returns-in-Err-Begun
 returns-in-Err-Begun c =
-    subst (λ t. IsMouseReportUnread t Begun) (introduced c.args.text.now _ (c.begins_with.ensures.0 c.if-begins_with.true) refl)
+    subst (λ t. IsMouseReportUnread t Begun)
+    (introduced c.args.text.now _ (c.begins_with.ensures.0 c.if-begins_with.true) refl)
     (rw c.in-Err-Begun.field-0-is at c.in-Err-Begun.ensures)
 
 pub returns-in-Err-Absent : goal.returns-in-Err-Absent
 returns-in-Err-Absent c =
-    subst (λ t. IsMouseReportUnread t Absent) (introduced c.args.text.now _ (c.begins_with.ensures.0 c.if-begins_with.true) refl)
+    subst (λ t. IsMouseReportUnread t Absent)
+    (introduced c.args.text.now _ (c.begins_with.ensures.0 c.if-begins_with.true) refl)
     (rw c.in-Err-Absent.field-0-is at c.in-Err-Absent.ensures)
 
 pub returns-then-begins_with-2 : goal.returns-then-begins_with-2
-returns-then-begins_with-2 c = introducer_begun c.args.text.now (c.begins_with-else-begins_with.ensures.0 c.if-begins_with-2.true)
+returns-then-begins_with-2 c =
+    introducer_begun c.args.text.now (c.begins_with-else-begins_with.ensures.0 c.if-begins_with-2.true)
 
 pub returns-else-begins_with-2 : goal.returns-else-begins_with-2
 returns-else-begins_with-2 c =
-    no_introducer c.args.text.now (denied c.begins_with.ensures.1 c.if-begins_with.false) (denied c.begins_with-else-begins_with.ensures.1 c.if-begins_with-2.false)
+    no_introducer c.args.text.now (denied c.begins_with.ensures.1 c.if-begins_with.false)
+    (denied c.begins_with-else-begins_with.ensures.1 c.if-begins_with-2.false)

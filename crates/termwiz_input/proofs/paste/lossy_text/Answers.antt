@@ -6,5 +6,6 @@ use Rattle.termwiz_input.proofs.paste.lossy_text.Goals as goal
 
 pub returns : goal.returns
 returns c =
-    c.new.ensures ∙ c.in_ok-to_str_lossy_into.ensures.ok refl ∙ ap (λ t. t ++ encode_utf8_all (lossy_chars c.args.bytes.now)) c.new-text.ensures.bytes
+    c.new.ensures ∙ c.in_ok-to_str_lossy_into.ensures.ok refl
+    ∙ ap (λ t. t ++ encode_utf8_all (lossy_chars c.args.bytes.now)) c.new-text.ensures.bytes
     ∙ lossy_chars-utf8_lossy c.args.bytes.now

@@ -17,17 +17,31 @@ pub share_none : (key text : List ℕ) → ShareFirst key text 0
 share_none key text = record { in_key = omega arith; in_text = omega arith; same = λ i below. absurd (omega arith) }
 
 share_fewer : (key text : List ℕ) (n m : ℕ) → m ≤ n → ShareFirst key text n → ShareFirst key text m
-share_fewer key text n m fewer s = record { in_key = omega (arith, s.in_key); in_text = omega (arith, s.in_text); same = λ i below. s.same i (omega arith) }
+share_fewer key text n m fewer s = record {
+  in_key = omega (arith, s.in_key);
+  in_text = omega (arith, s.in_text);
+  same = λ i below. s.same i (omega arith);
+}
 
 share_rest : (x y : ℕ) (key text : List ℕ) (n : ℕ) → ShareFirst (x ∷ key) (y ∷ text) (suc n) → ShareFirst key text n
-share_rest x y key text n s = record { in_key = omega (arith, s.in_key); in_text = omega (arith, s.in_text); same = λ i below. s.same (suc i) (omega arith) }
+share_rest x y key text n s = record {
+  in_key = omega (arith, s.in_key);
+  in_text = omega (arith, s.in_text);
+  same = λ i below. s.same (suc i) (omega arith);
+}
 
-same_more : (x y : ℕ) (key text : List ℕ) (n : ℕ) → x ≡ y → ((i : ℕ) → i < n → get_or key i 0 ≡ get_or text i 0) → (i : ℕ) → i < suc n → get_or (x ∷ key) i 0 ≡ get_or (y ∷ text) i 0
+same_more : (x y : ℕ) (key text : List ℕ) (n : ℕ) → x ≡ y → ((i : ℕ) → i < n → get_or key i 0 ≡ get_or text i 0)
+    → (i : ℕ) → i < suc n → get_or (x ∷ key) i 0 ≡ get_or (y ∷ text) i 0
 same_more x y key text n e s zero below = e
 same_more x y key text n e s (suc i) below = s i (omega arith)
 
-share_more : (x y : ℕ) (key text : List ℕ) (n : ℕ) → x ≡ y → ShareFirst key text n → ShareFirst (x ∷ key) (y ∷ text) (suc n)
-share_more x y key text n e s = record { in_key = omega (arith, s.in_key); in_text = omega (arith, s.in_text); same = same_more x y key text n e s.same }
+share_more : (x y : ℕ) (key text : List ℕ) (n : ℕ) → x ≡ y → ShareFirst key text n
+    → ShareFirst (x ∷ key) (y ∷ text) (suc n)
+share_more x y key text n e s = record {
+  in_key = omega (arith, s.in_key);
+  in_text = omega (arith, s.in_text);
+  same = same_more x y key text n e s.same;
+}
 
 agree_share : (key text : List ℕ) (n : ℕ) → AgreeFor key text n → ShareFirst key text n
 agree_share key text n is = record { in_key = is.in_key; in_text = is.in_text; same = is.same }
@@ -44,7 +58,8 @@ squeezed_below (a ∷ x) (b ∷ y) (c ∷ t) (suc n) xy ty s =
     (λ (less : a < b). absurd (ty (before_by_first c b t y (omega (arith, same, less)))))
     (λ p.
     let bc : b ≡ c = sym p.0 ∙ same in
-    share_more b c y t n bc (squeezed_below x y t n p.1 (λ past. ty (subst (λ d. Before (d ∷ t) (b ∷ y)) bc (before_by_rest b t y past))) (share_rest a c x t n s)))
+    share_more b c y t n bc (squeezed_below x y t n p.1
+    (λ past. ty (subst (λ d. Before (d ∷ t) (b ∷ y)) bc (before_by_rest b t y past))) (share_rest a c x t n s)))
     (first_bytes a b x y xy)
 
 -- what is before x, and after a text, shares with the text what x does
@@ -67,27 +82,34 @@ squeezed_above (a ∷ x) (b ∷ y) (c ∷ t) (suc n) ty yx s =
     (first_bytes c b t y ty)
 
 -- a key is after a text if the text ends where they part, or goes on with a smaller byte
-pub after_agreed : (key text : List ℕ) (n : ℕ) → AgreeFor key text n → n < length key → (n ≡ length text) ⊎ (get_or text n 0 < get_or key n 0) → Before text key
+pub after_agreed : (key text : List ℕ) (n : ℕ) → AgreeFor key text n → n < length key
+    → (n ≡ length text) ⊎ (get_or text n 0 < get_or key n 0) → Before text key
 after_agreed [] text n is inside how = absurd (omega arith)
 after_agreed (b ∷ key) [] zero is inside how = refl
 after_agreed (b ∷ key) [] (suc n) is inside how = absurd (omega (arith, is.in_text))
-after_agreed (b ∷ key) (c ∷ text) zero is inside how = before_by_first c b text key (⊎_elim (λ (e : 0 ≡ length (c ∷ text)). absurd (omega arith)) (λ (l : c < b). l) how)
+after_agreed (b ∷ key) (c ∷ text) zero is inside how =
+    before_by_first c b text key (⊎_elim (λ (e : 0 ≡ length (c ∷ text)). absurd (omega arith)) (λ (l : c < b). l) how)
 after_agreed (b ∷ key) (c ∷ text) (suc n) is inside how =
-    subst (λ d. Before (c ∷ text) (d ∷ key)) (sym (is.same 0 (omega arith))) (before_by_rest c text key (after_agreed key text n (agree_rest b c key text n is) (omega arith)
-    (⊎_elim (λ (e : suc n ≡ length (c ∷ text)). inl (omega arith)) (λ (l : get_or text n 0 < get_or key n 0). inr l) how)))
+    subst (λ d. Before (c ∷ text) (d ∷ key)) (sym (is.same 0 (omega arith)))
+    (before_by_rest c text key (after_agreed key text n (agree_rest b c key text n is) (omega arith)
+    (⊎_elim (λ (e : suc n ≡ length (c ∷ text)). inl (omega arith))
+    (λ (l : get_or text n 0 < get_or key n 0). inr l) how)))
 
 -- and isn't otherwise
-pub not_after_agreed : (key text : List ℕ) (n : ℕ) → AgreeFor key text n → (n < length key → (n < length text) × (get_or key n 0 ≤ get_or text n 0)) → Before text key → ⊥
+pub not_after_agreed : (key text : List ℕ) (n : ℕ) → AgreeFor key text n
+    → (n < length key → (n < length text) × (get_or key n 0 ≤ get_or text n 0)) → Before text key → ⊥
 not_after_agreed [] [] n is how before = cc (before)
 not_after_agreed [] (c ∷ text) n is how before = cc (before)
-not_after_agreed (b ∷ key) [] n is how before = absurd (let h : n < 0 = (how (omega (arith, is.in_text))).0 in omega arith)
+not_after_agreed (b ∷ key) [] n is how before =
+    absurd (let h : n < 0 = (how (omega (arith, is.in_text))).0 in omega arith)
 not_after_agreed (b ∷ key) (c ∷ text) zero is how before = ⊎_elim
     (λ (less : c < b). absurd (let h : b ≤ c = (how (omega arith)).1 in omega arith))
     (λ p. is.differ (omega arith) (omega arith) (sym p.0))
     (first_bytes c b text key before)
 not_after_agreed (b ∷ key) (c ∷ text) (suc n) is how before = ⊎_elim
     (λ (less : c < b). absurd (let e : b ≡ c = is.same 0 (omega arith) in omega arith))
-    (λ p. not_after_agreed key text n (agree_rest b c key text n is) (λ inside. let h = how (omega arith) in (omega (arith, h.0), h.1)) p.1)
+    (λ p. not_after_agreed key text n (agree_rest b c key text n is) (λ inside. let h = how (omega arith) in
+    (omega (arith, h.0), h.1)) p.1)
     (first_bytes c b text key before)
 
 pub decided : (t k : List ℕ) → (Before t k) ⊎ (Before t k → ⊥)
@@ -99,20 +121,29 @@ decided t k = elim (slice_cmp nat_cmp t k) as (λ o. (o ≡ Less) ⊎ (o ≡ Les
 
 module _ {V : Type 0} where
   -- the key of a row, whatever stands where no row is
-  pub key_any : (rows : List (Box (Row V))) (i : ℕ) (row r : Box (Row V)) → i < length rows → row ≡ get_or rows i row → key_of row ≡ key_of (get_or rows i r)
+  pub key_any : (rows : List (Box (Row V))) (i : ℕ) (row r : Box (Row V)) → i < length rows → row ≡ get_or rows i row
+      → key_of row ≡ key_of (get_or rows i r)
   key_any rows i row r inside is = ap (λ (x : Box (Row V)). key_of x) (is ∙ get_or_default rows i row r inside)
 
-  -- Where the search has come to: the rows between the bounds share so many first bytes with the key if they aren't after it, and so
-  -- many if they are.
+  -- Where the search has come to: the rows between the bounds share so many first bytes with the key if they aren't
+  -- after it, and so many if they are.
   pub record IsNarrowed (rows : List (Box (Row V))) (key : List ℕ) (low high low_shared high_shared : ℕ) : Type 0 where
     pub bounded : IsBounded rows key low high
-    pub below : (i : ℕ) (r : Box (Row V)) → low ≤ i → i < length rows → (Before key (key_of (get_or rows i r)) → ⊥) → ShareFirst (key_of (get_or rows i r)) key low_shared
-    pub above : (i : ℕ) (r : Box (Row V)) → i < high → Before key (key_of (get_or rows i r)) → ShareFirst (key_of (get_or rows i r)) key high_shared
+    pub below : (i : ℕ) (r : Box (Row V)) → low ≤ i → i < length rows → (Before key (key_of (get_or rows i r)) → ⊥)
+        → ShareFirst (key_of (get_or rows i r)) key low_shared
+    pub above : (i : ℕ) (r : Box (Row V)) → i < high → Before key (key_of (get_or rows i r))
+        → ShareFirst (key_of (get_or rows i r)) key high_shared
 
-  pub narrowed_none : (rows : List (Box (Row V))) (key : List ℕ) (low high : ℕ) → IsBounded rows key low high → IsNarrowed rows key low high 0 0
-  narrowed_none rows key low high is = record { bounded = is; below = λ i r _ _ _. share_none (key_of (get_or rows i r)) key; above = λ i r _ _. share_none (key_of (get_or rows i r)) key }
+  pub narrowed_none : (rows : List (Box (Row V))) (key : List ℕ) (low high : ℕ) → IsBounded rows key low high
+      → IsNarrowed rows key low high 0 0
+  narrowed_none rows key low high is = record {
+    bounded = is;
+    below = λ i r _ _ _. share_none (key_of (get_or rows i r)) key;
+    above = λ i r _ _. share_none (key_of (get_or rows i r)) key;
+  }
 
-  module _ (rows : List (Box (Row V))) (up : AreAscending rows) (key : List ℕ) (low high low_shared high_shared : ℕ) (is : IsNarrowed rows key low high low_shared high_shared) where
+  module _ (rows : List (Box (Row V))) (up : AreAscending rows) (key : List ℕ) (low high low_shared high_shared : ℕ)
+      (is : IsNarrowed rows key low high low_shared high_shared) where
     pub counted : high ≤ low → IsCountUpTo rows key low
     counted met = record {
       in_range = is.bounded.low_inside;
@@ -122,7 +153,8 @@ module _ {V : Type 0} where
       after = λ i r past inside. is.bounded.after i r (omega arith) inside;
     }
 
-    module _ (middle : ℕ) (row : Box (Row V)) (from : low ≤ middle) (to : middle < high) (there : row ≡ get_or rows middle row) where
+    module _ (middle : ℕ) (row : Box (Row V)) (from : low ≤ middle) (to : middle < high)
+        (there : row ≡ get_or rows middle row) where
       inside : middle < length rows
       inside = omega (arith, is.bounded.high_inside)
 
@@ -135,7 +167,8 @@ module _ {V : Type 0} where
           subst (λ x. ShareFirst x key n) (sym (key_is row))
           (⊎_elim
           (λ (past : Before key k). share_fewer k key high_shared n (omega arith) (is.above middle row to past))
-          (λ (up_to : Before key k → ⊥). share_fewer k key low_shared n (omega arith) (is.below middle row from inside up_to))
+          (λ (up_to : Before key k → ⊥). share_fewer k key low_shared n (omega arith)
+          (is.below middle row from inside up_to))
           (decided key k))
 
       module _ (n : ℕ) (agree : AgreeFor (key_of row) key n) where
@@ -148,12 +181,15 @@ module _ {V : Type 0} where
             low_inside = omega (arith, inside);
             high_inside = is.bounded.high_inside;
             up_to = λ i r under past. not (subst (λ x. Before key x) (sym (key_is r)) (⊎_elim
-                (λ (less : i < middle). nat_list_cmp_total.trans key (key_of (get_or rows i r)) (key_of (get_or rows middle r)) past (up i middle r less inside))
-                (λ (same : middle ≤ i). subst (λ k. Before key (key_of (get_or rows k r))) {x = i} {y = middle} (omega arith) past)
+                (λ (less : i < middle). nat_list_cmp_total.trans key (key_of (get_or rows i r))
+                (key_of (get_or rows middle r)) past (up i middle r less inside))
+                (λ (same : middle ≤ i). subst (λ k. Before key (key_of (get_or rows k r))) {x = i} {y = middle}
+                (omega arith) past)
                 (cases_lt i middle)));
             after = is.bounded.after;
           };
-          below = λ i r past within up_to. squeezed_below (key_of (get_or rows middle r)) (key_of (get_or rows i r)) key n (up middle i r (omega arith) within) up_to (shares r);
+          below = λ i r past within up_to. squeezed_below (key_of (get_or rows middle r))
+              (key_of (get_or rows i r)) key n (up middle i r (omega arith) within) up_to (shares r);
           above = is.above;
         }
 
@@ -166,26 +202,34 @@ module _ {V : Type 0} where
             after = λ i r over within.
                 let here : Before key (key_of (get_or rows middle r)) = subst (λ x. Before key x) (key_is r) past in
                 ⊎_elim
-                (λ (more : middle < i). nat_list_cmp_total.trans key (key_of (get_or rows middle r)) (key_of (get_or rows i r)) here (up middle i r more within))
-                (λ (same : i ≤ middle). subst (λ k. Before key (key_of (get_or rows k r))) {x = middle} {y = i} (omega arith) here)
+                (λ (more : middle < i). nat_list_cmp_total.trans key (key_of (get_or rows middle r))
+                (key_of (get_or rows i r)) here (up middle i r more within))
+                (λ (same : i ≤ middle). subst (λ k. Before key (key_of (get_or rows k r))) {x = middle} {y = i}
+                (omega arith) here)
                 (cases_lt middle i);
           };
           below = is.below;
-          above = λ i r under over. squeezed_above (key_of (get_or rows middle r)) (key_of (get_or rows i r)) key n over (up i middle r under inside) (shares r);
+          above = λ i r under over. squeezed_above (key_of (get_or rows middle r)) (key_of (get_or rows i r)) key n over
+              (up i middle r under inside) (shares r);
         }
 
   -- of the rows that aren't after a key the last has the key, or none has
-  module _ (rows : List (Box (Row V))) (up : AreAscending rows) (key : List ℕ) (n : ℕ) (count : IsCountUpTo rows key n) where
+  module _ (rows : List (Box (Row V))) (up : AreAscending rows) (key : List ℕ) (n : ℕ)
+      (count : IsCountUpTo rows key n) where
     not_past : (i : ℕ) (r : Box (Row V)) → i < n → Before key (key_of (get_or rows i r)) → ⊥
-    not_past i r under before = count.up_to i r (omega (arith, length-take-le n rows count.in_range)) (subst (λ k. Before key k) (sym (key_in_front rows n i r under)) before)
+    not_past i r under before = count.up_to i r (omega (arith, length-take-le n rows count.in_range))
+        (subst (λ k. Before key k) (sym (key_in_front rows n i r under)) before)
 
-    pub at_last : (row : Box (Row V)) → 0 < n → row ≡ get_or (take n rows) (n - 1) row → key_of row ≡ key → IsAt rows key (n - 1)
+    pub at_last : (row : Box (Row V)) → 0 < n → row ≡ get_or (take n rows) (n - 1) row → key_of row ≡ key
+        → IsAt rows key (n - 1)
     at_last row some last same = record {
       in_range = omega (arith, count.in_range);
-      same = λ r. sym (key_in_front rows n (n - 1) r (omega arith)) ∙ sym (key_any (take n rows) (n - 1) row r (omega (arith, length-take-le n rows count.in_range)) last) ∙ same;
+      same = λ r. sym (key_in_front rows n (n - 1) r (omega arith))
+          ∙ sym (key_any (take n rows) (n - 1) row r (omega (arith, length-take-le n rows count.in_range)) last) ∙ same;
     }
 
-    pub gap_after_last : (0 < n → (r : Box (Row V)) → key_of (get_or (take n rows) (n - 1) r) ≢ key) → IsGapFor rows key n
+    pub gap_after_last : (0 < n → (r : Box (Row V)) → key_of (get_or (take n rows) (n - 1) r) ≢ key)
+        → IsGapFor rows key n
     gap_after_last apart = record {
       in_range = count.in_range;
       smaller_before = λ j r under.
@@ -195,8 +239,10 @@ module _ {V : Type 0} where
             | Equal ↦ λ e.
                 let equal : key ≡ k = slice_cmp-IsAntisymmetric nat_cmp-IsAntisymmetric _ _ e in
                 absurd (⊎_elim
-                (λ (less : j < n - 1). not_past (n - 1) r (omega arith) (subst (λ x. Before x (key_of (get_or rows (n - 1) r))) (sym equal) (up j (n - 1) r less (omega (arith, count.in_range)))))
-                (λ (last : n - 1 ≤ j). apart (omega arith) r (key_in_front rows n (n - 1) r (omega arith) ∙ ap (λ i. key_of (get_or rows i r)) {x = n - 1} {y = j} (omega arith) ∙ sym equal))
+                (λ (less : j < n - 1). not_past (n - 1) r (omega arith) (subst (λ x. Before x
+                (key_of (get_or rows (n - 1) r))) (sym equal) (up j (n - 1) r less (omega (arith, count.in_range)))))
+                (λ (last : n - 1 ≤ j). apart (omega arith) r (key_in_front rows n (n - 1) r (omega arith)
+                ∙ ap (λ i. key_of (get_or rows i r)) {x = n - 1} {y = j} (omega arith) ∙ sym equal))
                 (cases_lt j (n - 1)))
             | Greater ↦ λ e. turned key k e
           ] refl;

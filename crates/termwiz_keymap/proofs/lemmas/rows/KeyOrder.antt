@@ -12,7 +12,8 @@ Before x y = slice_cmp nat_cmp x y ≡ Less
 -- of two keys that are in order, the first bytes are, and where they are one the rests are
 pub first_bytes : (x y : ℕ) (xs ys : List ℕ) → Before (x ∷ xs) (y ∷ ys) → (x < y) ⊎ ((x ≡ y) × Before xs ys)
 first_bytes x y xs ys before =
-    elim (nat_cmp x y) as (λ o. o ≡ nat_cmp x y → ordering_then o (slice_cmp nat_cmp xs ys) ≡ Less → (x < y) ⊎ ((x ≡ y) × Before xs ys)) [
+    elim (nat_cmp x y) as (λ o. o ≡ nat_cmp x y → ordering_then o (slice_cmp nat_cmp xs ys) ≡ Less
+    → (x < y) ⊎ ((x ≡ y) × Before xs ys)) [
       | Less ↦ λ is _. inl (ranked x y Less is)
       | Equal ↦ λ is rest. inr (ranked x y Equal is, rest)
       | Greater ↦ λ is rest. absurd (cc (rest))

@@ -19,35 +19,48 @@ use Rattle.termwiz_keymap.proofs.lemmas.rows.KeyOrder.{Before, not_itself}
 
 module _ {V : Type 0} where
   -- a key that is found is a row's
-  pub found_row : (rows : List (Box (Row V))) (q : List ℕ) → IsSome (found q (row_entries rows)) → (i : ℕ) × (i < length rows) × ((r : Box (Row V)) → key_of (get_or rows i r) ≡ q)
+  pub found_row : (rows : List (Box (Row V))) (q : List ℕ) → IsSome (found q (row_entries rows))
+      → (i : ℕ) × (i < length rows) × ((r : Box (Row V)) → key_of (get_or rows i r) ≡ q)
   found_row [] q h = absurd (cc)
   found_row (x ∷ rows) q h =
-      elim (pointwise nat_eq (key_of x) q) as (λ b. b ≡ pointwise nat_eq (key_of x) q → (i : ℕ) × (i < length (x ∷ rows)) × ((r : Box (Row V)) → key_of (get_or (x ∷ rows) i r) ≡ q)) [
+      elim (pointwise nat_eq (key_of x) q) as (λ b. b ≡ pointwise nat_eq (key_of x) q
+      → (i : ℕ) × (i < length (x ∷ rows)) × ((r : Box (Row V)) → key_of (get_or (x ∷ rows) i r) ≡ q)) [
         | true ↦ λ is. (0, omega arith, λ r. same_text (key_of x) q is)
-        | false ↦ λ other. let p = found_row rows q (ap is_some (sym (find_later q (key_of x) (value_of x) (row_entries rows) other)) ∙ h) in (suc p.0, omega (arith, p.1), λ r. p.2 r)
+        | false ↦ λ other. let p =
+            found_row rows q (ap is_some (sym (find_later q (key_of x) (value_of x) (row_entries rows) other)) ∙ h) in
+            (suc p.0, omega (arith, p.1), λ r. p.2 r)
       ] refl
 
   -- a key that no row has isn't found
-  absent : (rows : List (Box (Row V))) (q : List ℕ) → ((i : ℕ) (r : Box (Row V)) → i < length rows → key_of (get_or rows i r) ≢ q) → found q (row_entries rows) ≡ None
+  absent : (rows : List (Box (Row V))) (q : List ℕ)
+      → ((i : ℕ) (r : Box (Row V)) → i < length rows → key_of (get_or rows i r) ≢ q) → found q (row_entries rows) ≡ None
   absent [] q apart = refl
   absent (x ∷ rows) q apart =
-      elim (pointwise nat_eq (key_of x) q) as (λ b. b ≡ pointwise nat_eq (key_of x) q → found q (row_entries (x ∷ rows)) ≡ None) [
+      elim (pointwise nat_eq (key_of x) q) as (λ b. b ≡ pointwise nat_eq (key_of x) q
+      → found q (row_entries (x ∷ rows)) ≡ None) [
         | true ↦ λ is. absurd (apart 0 x (omega arith) (same_text (key_of x) q is))
-        | false ↦ λ other. find_later q (key_of x) (value_of x) (row_entries rows) other ∙ absent rows q (λ i r inside. apart (suc i) r (omega arith))
+        | false ↦ λ other. find_later q (key_of x) (value_of x) (row_entries rows) other
+            ∙ absent rows q (λ i r inside. apart (suc i) r (omega arith))
       ] refl
 
   -- each row's key has its value
-  pub stored : (rows : List (Box (Row V))) → AreAscending rows → (i : ℕ) (r : Box (Row V)) → i < length rows → found (key_of (get_or rows i r)) (row_entries rows) ≡ Some (value_of (get_or rows i r))
+  pub stored : (rows : List (Box (Row V))) → AreAscending rows → (i : ℕ) (r : Box (Row V)) → i < length rows
+      → found (key_of (get_or rows i r)) (row_entries rows) ≡ Some (value_of (get_or rows i r))
   stored [] up i r inside = absurd (omega arith)
-  stored (x ∷ rows) up zero r inside = find_here (key_of x) (key_of x) (value_of x) (row_entries rows) (sym (nat_list_eq_equiv.refl (key_of x)))
+  stored (x ∷ rows) up zero r inside =
+      find_here (key_of x) (key_of x) (value_of x) (row_entries rows) (sym (nat_list_eq_equiv.refl (key_of x)))
   stored (x ∷ rows) up (suc i) r inside =
       let k = key_of (get_or rows i r) in
-      elim (pointwise nat_eq (key_of x) k) as (λ b. b ≡ pointwise nat_eq (key_of x) k → found k (row_entries (x ∷ rows)) ≡ Some (value_of (get_or rows i r))) [
-        | true ↦ λ is. absurd (not_itself k (subst (λ (y : List ℕ). Before y k) (same_text (key_of x) k is) (up 0 (suc i) r (omega arith) inside)))
-        | false ↦ λ other. find_later k (key_of x) (value_of x) (row_entries rows) other ∙ stored rows (λ a b s lt within. up (suc a) (suc b) s (omega arith) (omega arith)) i r (omega arith)
+      elim (pointwise nat_eq (key_of x) k) as (λ b. b ≡ pointwise nat_eq (key_of x) k
+      → found k (row_entries (x ∷ rows)) ≡ Some (value_of (get_or rows i r))) [
+        | true ↦ λ is. absurd (not_itself k
+            (subst (λ (y : List ℕ). Before y k) (same_text (key_of x) k is) (up 0 (suc i) r (omega arith) inside)))
+        | false ↦ λ other. find_later k (key_of x) (value_of x) (row_entries rows) other
+            ∙ stored rows (λ a b s lt within. up (suc a) (suc b) s (omega arith) (omega arith)) i r (omega arith)
       ] refl
 
-  put_in : (b : Bool) (v : V) (o p : Option V) → (b ≡ true → o ≡ None) → option_or o (cond b (Some v) p) ≡ cond b (Some v) (option_or o p)
+  put_in : (b : Bool) (v : V) (o p : Option V) → (b ≡ true → o ≡ None)
+      → option_or o (cond b (Some v) p) ≡ cond b (Some v) (option_or o p)
   put_in true v o p none = ap (λ x. option_or x (Some v)) (none refl)
   put_in false v o p none = refl
 
@@ -56,8 +69,10 @@ module _ {V : Type 0} where
   front_none (Some v) p e = absurd (cc (e))
 
   -- one more entry, with a key that isn't there
-  added : (es : Entries V) (key : List ℕ) (i : ℕ) (v : V) → found key es ≡ None → map.from_entries {R = slice_cmp nat_cmp} (insert es i (key, v)) ≡ map.insert (map.from_entries es) key v
-  added es key i v new = key_set (insert es i (key, v)) (map.from_entries es) key v (λ q. at q ∙ sym (ap (cond (tied q key) (Some v)) (get-entries es q)))
+  added : (es : Entries V) (key : List ℕ) (i : ℕ) (v : V) → found key es ≡ None
+      → map.from_entries {R = slice_cmp nat_cmp} (insert es i (key, v)) ≡ map.insert (map.from_entries es) key v
+  added es key i v new = key_set (insert es i (key, v)) (map.from_entries es) key v
+      (λ q. at q ∙ sym (ap (cond (tied q key) (Some v)) (get-entries es q)))
     where
       parted : (q : List ℕ) → option_or (found q (take i es)) (found q (drop i es)) ≡ found q es
       parted q = sym (found-append q (take i es) (drop i es)) ∙ ap (found q) (take-append-drop i es)
@@ -65,13 +80,15 @@ module _ {V : Type 0} where
       at : (q : List ℕ) → found q (insert es i (key, v)) ≡ cond (tied q key) (Some v) (found q es)
       at q =
           found-append q (take i es) ((key, v) ∷ drop i es)
-          ∙ put_in (tied q key) v (found q (take i es)) (found q (drop i es)) (λ is. front_none _ _ (parted q ∙ ap (λ k. found k es) (tied_same q key is) ∙ new))
+          ∙ put_in (tied q key) v (found q (take i es)) (found q (drop i es))
+          (λ is. front_none _ _ (parted q ∙ ap (λ k. found k es) (tied_same q key is) ∙ new))
           ∙ ap (cond (tied q key) (Some v)) (parted q)
 
   abbrev entry : Box (Row V) → List ℕ × V
   entry row = (key_of row, value_of row)
 
-  module _ (rows : List (Box (Row V))) (key : List ℕ) (i : ℕ) (value : V) (row : Box (Row V)) (is : IsRowOf key value row) (up : AreAscending rows) where
+  module _ (rows : List (Box (Row V))) (key : List ℕ) (i : ℕ) (value : V) (row : Box (Row V))
+      (is : IsRowOf key value row) (up : AreAscending rows) where
     -- the entry of the row
     entry_is : entry row ≡ (key, value)
     entry_is = ap₂ (λ k v. (k, v)) is.key is.value
@@ -80,20 +97,25 @@ module _ {V : Type 0} where
       -- no row has a key with a gap
       none_in_gap : found key (row_entries rows) ≡ None
       none_in_gap = absent rows key (λ j r inside same. ⊎_elim
-          (λ (before : j < i). not_itself key (subst (λ (k : List ℕ). Before k key) same (gap.smaller_before j r before)))
-          (λ (after : i ≤ j). not_itself key (subst (λ (k : List ℕ). Before key k) same (gap.greater_after j r after inside)))
+          (λ (before : j < i). not_itself key
+          (subst (λ (k : List ℕ). Before k key) same (gap.smaller_before j r before)))
+          (λ (after : i ≤ j). not_itself key
+          (subst (λ (k : List ℕ). Before key k) same (gap.greater_after j r after inside)))
           (cases_lt j i))
 
       two_parts : (e : List ℕ × V) {xs ys us vs : Entries V} → xs ≡ us → ys ≡ vs → xs ++ e ∷ ys ≡ us ++ e ∷ vs
       two_parts e p q n = p n ++ e ∷ q n
 
       entries-insert : row_entries (insert rows i row) ≡ insert (row_entries rows) i (entry row)
-      entries-insert = map-append entry (take i rows) (row ∷ drop i rows) ∙ two_parts (entry row) (sym (take-map entry i rows)) (sym (drop-map entry i rows))
+      entries-insert = map-append entry (take i rows) (row ∷ drop i rows)
+          ∙ two_parts (entry row) (sym (take-map entry i rows)) (sym (drop-map entry i rows))
 
       -- a new row in the gap sets the key
-      pub row_inserted : map.from_entries {R = slice_cmp nat_cmp} (row_entries (insert rows i row)) ≡ map.insert (map.from_entries (row_entries rows)) key value
+      pub row_inserted : map.from_entries {R = slice_cmp nat_cmp} (row_entries (insert rows i row))
+          ≡ map.insert (map.from_entries (row_entries rows)) key value
       row_inserted =
-          ap (λ es. map.from_entries {R = slice_cmp nat_cmp} es) (entries-insert ∙ ap (insert (row_entries rows) i) entry_is)
+          ap (λ es. map.from_entries {R = slice_cmp nat_cmp} es)
+          (entries-insert ∙ ap (insert (row_entries rows) i) entry_is)
           ∙ added (row_entries rows) key i value none_in_gap
 
     module _ (at : IsAt rows key i) where
@@ -102,16 +124,20 @@ module _ {V : Type 0} where
         in_range = omega (arith, at.in_range, length-map rows entry);
         none_before = ap (found key) (take-map entry i rows) ∙ absent (take i rows) key (λ j r inside same.
             let len : length (take i rows) ≡ i = length-take-le i rows (omega (arith, at.in_range)) in
-            let there : key_of (get_or rows j r) ≡ key = ap (λ (x : Box (Row V)). key_of x) (sym (get_or-take i rows j r (omega arith))) ∙ same in
+            let there : key_of (get_or rows j r) ≡ key =
+            ap (λ (x : Box (Row V)). key_of x) (sym (get_or-take i rows j r (omega arith))) ∙ same in
             not_itself key (rw (there, at.same r) at (up j i r (omega arith) at.in_range)));
         here =
-            get_or-map (λ (x : List ℕ × V). x.0) (row_entries rows) i (entry row) [] (omega (arith, at.in_range, length-map rows entry))
+            get_or-map (λ (x : List ℕ × V). x.0) (row_entries rows) i (entry row) []
+            (omega (arith, at.in_range, length-map rows entry))
             ∙ ap (λ (x : List ℕ × V). x.0) (get_or-map entry rows i row (entry row) at.in_range)
             ∙ at.same row;
       }
 
       -- a row in the place of the one with its key sets the key
-      pub row_replaced : map.from_entries {R = slice_cmp nat_cmp} (row_entries (set rows i row)) ≡ map.insert (map.from_entries (row_entries rows)) key value
+      pub row_replaced : map.from_entries {R = slice_cmp nat_cmp} (row_entries (set rows i row))
+          ≡ map.insert (map.from_entries (row_entries rows)) key value
       row_replaced =
-          ap (λ es. map.from_entries {R = slice_cmp nat_cmp} es) (map-set entry rows i row ∙ ap (set (row_entries rows) i) entry_is)
+          ap (λ es. map.from_entries {R = slice_cmp nat_cmp} es)
+          (map-set entry rows i row ∙ ap (set (row_entries rows) i) entry_is)
           ∙ replaced (row_entries rows) key i value first

@@ -24,7 +24,8 @@ sum_of_bits false false false = refl
 pub modified_by_number : (held : ℕ) → is_modified held ≡ not (xterm_number held == 0)
 modified_by_number held = sum_of_bits (holds held SHIFT) (holds held ALT) (holds held CTRL)
 
-handled_either : (b : Bool) (k l : KeyCode) → unhandled k ≡ None → unhandled l ≡ None → unhandled (if b then k else l) ≡ None
+handled_either : (b : Bool) (k l : KeyCode) → unhandled k ≡ None → unhandled l ≡ None
+    → unhandled (if b then k else l) ≡ None
 handled_either true k l p q = p
 handled_either false k l p q = q
 

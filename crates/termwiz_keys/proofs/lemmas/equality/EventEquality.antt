@@ -27,7 +27,8 @@ same_keys a b = same_keys_by a b (key.eq a b) refl
 
 pub same_key_events : (a b : KeyEvent) → IsTrue (key_event.eq a b) ↔ (a ≡ b)
 same_key_events a b =
-    let tests = Decides-and (key.eq a.key b.key) (a.modifiers.0 == b.modifiers.0) (same_keys a.key b.key) (Decides-eqb a.modifiers.0 b.modifiers.0) in (
+    let tests = Decides-and (key.eq a.key b.key) (a.modifiers.0 == b.modifiers.0) (same_keys a.key b.key)
+    (Decides-eqb a.modifiers.0 b.modifiers.0) in (
       λ h. let fields = tests.0 h in λ i. record { key = fields.0 i; modifiers = record { 0 = fields.1 i } },
       λ e. tests.1 (ap (λ (x : KeyEvent). x.key) e, ap (λ (x : KeyEvent). x.modifiers.0) e),
     )
@@ -53,7 +54,10 @@ same_events_by : (a b : InputEvent) (r : Bool) → r ≡ event.eq a b → IsTrue
 same_events_by a b r is =
     tells_same events _ a b r is (
       one_field _ same_key_events,
-      (one_field _ same_mouse_events, (one_field _ same_pixel_mouse_events, (same_sizes, (one_field _ same_pasted_texts, tt)))),
+      (
+        one_field _ same_mouse_events,
+        (one_field _ same_pixel_mouse_events, (same_sizes, (one_field _ same_pasted_texts, tt))),
+      ),
     )
 
 pub same_events : (a b : InputEvent) → IsTrue (event.eq a b) ↔ (a ≡ b)

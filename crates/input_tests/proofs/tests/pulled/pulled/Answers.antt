@@ -4,4 +4,7 @@ use Rattle.input_tests.proofs.tests.pulled.pulled.Goals as goal
 pub loop-events-smaller : goal.loop-events-smaller
 loop-events-smaller c =
     let step = rw c.in-Some.is at c.in_ok-event.ensures.event in
-    omega (arith, c.few_events.ensures c.loop-events.parser c.next_event.new.self (c.in-Some.event ∷ []) c.args.more step)
+    omega (
+      arith,
+      c.few_events.ensures c.loop-events.parser c.next_event.new.self (c.in-Some.event ∷ []) c.args.more step,
+    )

@@ -13,5 +13,14 @@ last-waiting-requires c =
 pub returns : goal.returns
 returns c =
     let means = as_whole _ _ c.args.text.now _ _ c.in_ok-renew.ensures c.requires c.in_ok-events.ensures in
-    let end = c.last-waiting.ensures ∙ ap (λ n. drop (length c.args.text.now - n) c.args.text.now) c.waiting_len.ensures ∙ rest-is_end _ _ _ _ means in
-    IfOk-weaker c.answer_of.result _ _ (λ answer is. (c.events_of_pieces.new.parser, (c.in_ok-events.events.items, means, is ∙ ap (λ events. answer_text events c.last-waiting.result.now) c.as_slice.ensures.value ∙ ap (answer_text c.in_ok-events.events.items) end))) c.answer_of.ensures
+    let end = c.last-waiting.ensures ∙ ap (λ n. drop (length c.args.text.now - n) c.args.text.now) c.waiting_len.ensures
+    ∙ rest-is_end _ _ _ _ means in
+    IfOk-weaker c.answer_of.result _ _ (λ answer is. (
+      c.events_of_pieces.new.parser,
+      (
+        c.in_ok-events.events.items,
+        means,
+        is ∙ ap (λ events. answer_text events c.last-waiting.result.now) c.as_slice.ensures.value
+            ∙ ap (answer_text c.in_ok-events.events.items) end,
+      ),
+    )) c.answer_of.ensures

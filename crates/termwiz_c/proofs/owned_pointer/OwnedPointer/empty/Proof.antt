@@ -30,7 +30,8 @@ empty_spec 𝓤 𝓛 𝓜 𝓡 wired =
     proved_at 𝓛 it.ended stays clauses 𝓜 𝓡 tt it.Key.name code.function (code.unfolded 𝓤 𝓛.H 𝓜 𝓡 wired) (λ z are.
     let post : Val → SProp 𝓤 = (walk_of 𝓛 it.ended stays clauses).post z in
     -- there is no parameter
-    qed 𝓛 ((‵ ftrue ⊛ ‵ (owns (types_at it.ended.signature.params z.0.0) z.0.3 z.0.4)) ∷ raw ((clauses z.0.0 z.0.3).requires z.1) ∷ []) ∵ drop ! $ drop ! $
+    qed 𝓛 ((‵ ftrue ⊛ ‵ (owns (types_at it.ended.signature.params z.0.0) z.0.3 z.0.4))
+    ∷ raw ((clauses z.0.0 z.0.3).requires z.1) ∷ []) ∵ drop ! $ drop ! $
     enter ! 𝓣.C 𝓣.Λ code.function [] post $ alloc_all ! (λ l. pass_all ! refl tt $
     -- the result is the struct of the null pointer
     sets ! (agg ! (and_then ! (lit ! tt) (no_more !))) refl (tt, ((Ptr-Good null_ptr).1, tt)) $

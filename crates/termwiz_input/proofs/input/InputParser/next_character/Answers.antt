@@ -9,10 +9,12 @@ use Rattle.termwiz_input.proofs.lemmas.items.PrintableAscii.{item_stored}
 use Rattle.termwiz_input.proofs.input.InputParser.next_character.Goals as goal
 
 pub consume-requires : goal.consume-requires
-consume-requires c = subst (λ u. c.in_ok-character.len ≤ length u) (c.as_slice.ensures ∙ c.self.view_is) (c.in_ok-character.ensures false).0
+consume-requires c = subst (λ u. c.in_ok-character.len ≤ length u) (c.as_slice.ensures ∙ c.self.view_is)
+    (c.in_ok-character.ensures false).0
 
 pub returns-clause-event : goal.returns-clause-event
 returns-clause-event c = λ more.
     let item : MatchedItem = item_of (Key (plain c.in_ok-character.character)) c.in_ok-character.len in
-    let stands = subst (λ u. IsItemAt u more item) (c.as_slice.ensures ∙ c.self.view_is) (c.in_ok-character.ensures more) in
+    let stands =
+    subst (λ u. IsItemAt u more item) (c.as_slice.ensures ∙ c.self.view_is) (c.in_ok-character.ensures more) in
     item_stored c.args.self.now c.args.self.now [] _ _ more item stands refl c.consume.ensures refl

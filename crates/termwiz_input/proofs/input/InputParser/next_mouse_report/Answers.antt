@@ -8,7 +8,8 @@ use Rattle.termwiz_input.proofs.lemmas.items.PrintableAscii.{item_stored}
 use Rattle.termwiz_input.proofs.input.InputParser.next_mouse_report.Goals as goal
 
 pub consume-requires : goal.consume-requires
-consume-requires c = subst (λ u. c.in_ok-event.len ≤ length u) (c.as_slice.ensures ∙ c.self.view_is) (c.in_ok-event.ensures false).0
+consume-requires c =
+    subst (λ u. c.in_ok-event.len ≤ length u) (c.as_slice.ensures ∙ c.self.view_is) (c.in_ok-event.ensures false).0
 
 pub returns-clause-event : goal.returns-clause-event
 returns-clause-event c = λ more.

@@ -9,7 +9,8 @@ invariant-loop-character g l = record {
   given : (events : List InputEvent)
       × Steps (l.fn.self ++ l.fn.bytes) l.fn.maybe_more events l.self
       × WasCalledOn (goal.F-step g) l.fn.callback events l.callback;
-  callable : (events : List InputEvent) (rest : List ℕ) → Steps l.self l.fn.maybe_more events rest → MayBeCalledOn g.F.FnMut l.callback events;
+  callable : (events : List InputEvent) (rest : List ℕ) → Steps l.self l.fn.maybe_more events rest
+      → MayBeCalledOn g.F.FnMut l.callback events;
 }
 
 abbrev pub decreases-loop-character : goal.decreases-loop-character

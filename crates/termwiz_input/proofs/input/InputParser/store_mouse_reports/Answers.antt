@@ -12,7 +12,8 @@ pub returns-in_err-make_room-clause-item : goal.returns-in_err-make_room-clause-
 returns-in_err-make_room-clause-item c =
     let item : MatchedItem = item_of (Mouse c.in-Some.event) c.in-Some.len in
     on_err c.from_residual.result (λ more.
-    item_there c.loop-event.self more item (subst (λ u. IsItemAt u more item) (c.as_slice.ensures ∙ c.self.view_is) (c.in-Some.ensures more)))
+    item_there c.loop-event.self more item
+    (subst (λ u. IsItemAt u more item) (c.as_slice.ensures ∙ c.self.view_is) (c.in-Some.ensures more)))
 
 -- the mouse report's item, and the list with its event
 abbrev the_item : (c : goal.After-consume) → MatchedItem
@@ -21,11 +22,13 @@ the_item c = item_of (Mouse c.in-Some.event) c.in-Some.len
 stands : (c : goal.After-consume) (more : Bool) → IsItemAt c.loop-event.self more (the_item c)
 stands c more = subst (λ u. IsItemAt u more (the_item c)) (c.as_slice.ensures ∙ c.self.view_is) (c.in-Some.ensures more)
 
-stored : (c : goal.After-consume) → c.push_reserved.new.self.items ≡ c.loop-event.events.items ++ (the_item c).event ∷ []
+stored : (c : goal.After-consume)
+    → c.push_reserved.new.self.items ≡ c.loop-event.events.items ++ (the_item c).event ∷ []
 stored c = c.push_reserved.ensures.items ∙ ap (λ l. l ++ (the_item c).event ∷ []) c.in_ok-make_room.ensures.items
 
 pub consume-requires : goal.consume-requires
-consume-requires c = subst (λ u. c.in-Some.len ≤ length u) (c.as_slice.ensures ∙ c.self.view_is) (c.in-Some.ensures false).0
+consume-requires c =
+    subst (λ u. c.in-Some.len ≤ length u) (c.as_slice.ensures ∙ c.self.view_is) (c.in-Some.ensures false).0
 
 pub loop-event-smaller : goal.loop-event-smaller
 loop-event-smaller c = rw c.consume.ensures (item_shortens c.loop-event.self false (the_item c) (stands c false))
@@ -37,7 +40,8 @@ loop-event-preserved c =
     let long = ap length (stored c) ∙ length-append c.loop-event.events.items ((the_item c).event ∷ []) in
     record {
       steps = λ text more before.
-          item_stored text c.loop-event.self c.loop-event.events.items _ _ more (the_item c) (stands c more) (stored c) c.consume.ensures
+          item_stored text c.loop-event.self c.loop-event.events.items _ _ more (the_item c) (stands c more)
+          (stored c) c.consume.ensures
           (c.loop-event.invariant.steps text more before);
       few = omega (arith, shorter, rest, long, c.loop-event.invariant.few);
       left = omega (arith, shorter, rest, c.loop-event.invariant.left);

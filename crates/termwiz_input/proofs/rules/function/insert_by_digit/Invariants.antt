@@ -4,4 +4,5 @@ use Rattle.termwiz_input.specs.Suffixes.{suffixes_with_bits}
 use Rattle.termwiz_input.proofs.rules.function.insert_by_digit.Given as goal
 
 abbrev pub invariant-loop-digit : goal.invariant-loop-digit
-invariant-loop-digit l = l.keys ≡ with_rows l.initial.keys (keys_by_digit (suffixes_with_bits l.suffixes) l.end (take l.digit-index l.list))
+invariant-loop-digit l =
+    l.keys ≡ with_rows l.initial.keys (keys_by_digit (suffixes_with_bits l.suffixes) l.end (take l.digit-index l.list))

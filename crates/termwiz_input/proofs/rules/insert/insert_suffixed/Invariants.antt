@@ -4,4 +4,5 @@ use Rattle.termwiz_input.specs.Suffixes.{suffixes_with_bits}
 use Rattle.termwiz_input.proofs.rules.insert.insert_suffixed.Given as goal
 
 abbrev pub invariant-loop-suffix : goal.invariant-loop-suffix
-invariant-loop-suffix l = l.keys ≡ with_rows l.initial.keys (key_with_each_suffix l.front (suffixes_with_bits (take l.suffix-index l.suffixes)) l.end l.key)
+invariant-loop-suffix l = l.keys ≡ with_rows l.initial.keys
+    (key_with_each_suffix l.front (suffixes_with_bits (take l.suffix-index l.suffixes)) l.end l.key)

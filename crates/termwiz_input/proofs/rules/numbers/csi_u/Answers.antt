@@ -10,4 +10,5 @@ loop-code-init c = ap (λ xs. with_rows c.args.keys.now (flat_map csi_u_of xs)) 
 pub loop-code-preserved : goal.loop-code-preserved
 loop-code-preserved c =
     rows_pushed _ _ _ csi_u_of _ _ _ (numbers_below c.loop-code.code-counter) c.loop-code.invariant
-    (rw (c.as_str.ensures.value, c.in_ok-front.ensures.ok, c.character_of_code-key.ensures) at c.in_ok-insert_suffixed.ensures)
+    (rw (c.as_str.ensures.value, c.in_ok-front.ensures.ok, c.character_of_code-key.ensures)
+    at c.in_ok-insert_suffixed.ensures)

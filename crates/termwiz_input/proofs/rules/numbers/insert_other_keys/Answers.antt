@@ -7,17 +7,21 @@ use Rattle.termwiz_input.proofs.lemmas.table.InsertedRows.{row_pushed, numbers_n
 use Rattle.termwiz_input.proofs.rules.numbers.insert_other_keys.Goals as goal
 
 -- the bytes of a row, joined from the right
-from_right : (s d : List ℕ) → CSI ++ codes "27" ++ s ++ codes ";" ++ d ++ codes "~" ≡ (CSI ++ codes "27") ++ (s ++ (codes ";" ++ (d ++ codes "~")))
+from_right : (s d : List ℕ) → CSI ++ codes "27" ++ s ++ codes ";" ++ d ++ codes "~"
+    ≡ (CSI ++ codes "27") ++ (s ++ (codes ";" ++ (d ++ codes "~")))
 from_right s d = simp append_assoc
 
 pub loop-code-init : goal.loop-code-init
-loop-code-init c = ap (λ xs. with_rows c.args.keys.now (map (modify_other_key (c.args.suffix.now, c.args.modifiers.0)) xs)) (sym (numbers_none 0))
+loop-code-init c =
+    ap (λ xs. with_rows c.args.keys.now (map (modify_other_key (c.args.suffix.now, c.args.modifiers.0)) xs))
+    (sym (numbers_none 0))
 
 pub loop-code-preserved : goal.loop-code-preserved
 loop-code-preserved c =
     let written = rw c.clear.ensures.bytes at c.in_ok-write.ensures.bytes in
     c.in_ok-insert.ensures.ok
-    ∙ row_pushed _ _ (modify_other_key (c.args.suffix.now, c.args.modifiers.0)) _ _ _ _ _ (numbers_below c.loop-code.code-counter)
+    ∙ row_pushed _ _ (modify_other_key (c.args.suffix.now, c.args.modifiers.0)) _ _ _ _ _
+    (numbers_below c.loop-code.code-counter)
     c.loop-code.invariant
     (c.as_bytes.ensures.value ∙ (written ∙ sym (from_right c.args.suffix.now (decimal c.loop-code.code-counter))))
     (c.key_with.ensures ∙ ap (λ k. key_with k c.args.modifiers.0) c.key_of_code.ensures)

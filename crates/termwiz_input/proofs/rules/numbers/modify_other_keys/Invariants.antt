@@ -5,4 +5,5 @@ use Rattle.termwiz_input.specs.Suffixes.{suffixes_with_bits}
 use Rattle.termwiz_input.proofs.rules.numbers.modify_other_keys.Given as goal
 
 abbrev pub invariant-loop-suffix : goal.invariant-loop-suffix
-invariant-loop-suffix l = l.keys ≡ with_rows l.initial.keys (flat_map modify_other_keys_of (suffixes_with_bits (take l.suffix-index l.suffixes)))
+invariant-loop-suffix l = l.keys
+    ≡ with_rows l.initial.keys (flat_map modify_other_keys_of (suffixes_with_bits (take l.suffix-index l.suffixes)))

@@ -4,4 +4,5 @@ use Rattle.termwiz_keymap.proofs.lemmas.rows.BucketsRise.{indexed_none}
 use Rattle.termwiz_keymap.proofs.keymap.KeyMap.new.Goals as goal
 
 pub invariant_of-result : goal.invariant_of-result
-invariant_of-result g c = rw c.new.ensures.items (indexed_none _ (λ bucket small. get_or-replicate BUCKET_STARTS bucket 0 0 small))
+invariant_of-result g c =
+    rw c.new.ensures.items (indexed_none _ (λ bucket small. get_or-replicate BUCKET_STARTS bucket 0 0 small))

@@ -8,10 +8,12 @@ pub returns-then-eq : goal.returns-then-eq
 returns-then-eq g c =
     sym (c.loop-entry.invariant
     ∙ rw (drop_more _ _ c.entry-item.result c.loop-entry-test.true, ← c.entry-item.is)
-    (find_here c.args.key.now c.entry-item.result.0.items c.entry-item.result.1 (entries_of (drop (c.loop-entry.entry-index + 1) c.args.entries.now)) (rw c.as_slice.ensures.value at c.if-eq.ensures)))
+    (find_here c.args.key.now c.entry-item.result.0.items c.entry-item.result.1 (entries_of
+    (drop (c.loop-entry.entry-index + 1) c.args.entries.now)) (rw c.as_slice.ensures.value at c.if-eq.ensures)))
 
 pub loop-entry-preserved : goal.loop-entry-preserved
 loop-entry-preserved g c =
     c.loop-entry.invariant
     ∙ rw (drop_more _ _ c.entry-item.result c.loop-entry-test.true, ← c.entry-item.is)
-    (find_later c.args.key.now c.entry-item.result.0.items c.entry-item.result.1 (entries_of (drop (c.loop-entry.entry-index + 1) c.args.entries.now)) (rw c.as_slice.ensures.value at c.if-eq.ensures))
+    (find_later c.args.key.now c.entry-item.result.0.items c.entry-item.result.1 (entries_of
+    (drop (c.loop-entry.entry-index + 1) c.args.entries.now)) (rw c.as_slice.ensures.value at c.if-eq.ensures))

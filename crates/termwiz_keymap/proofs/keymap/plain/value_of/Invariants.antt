@@ -6,4 +6,5 @@ use Rattle.termwiz_keymap.specs.Entries.{entries_of}
 use Rattle.termwiz_keymap.proofs.keymap.plain.value_of.Given as goal
 
 abbrev pub invariant-loop-entry : goal.invariant-loop-entry
-invariant-loop-entry g l = find (slice_cmp nat_cmp) l.key (entries_of l.entries) ≡ find (slice_cmp nat_cmp) l.key (entries_of (drop l.entry-index l.entries))
+invariant-loop-entry g l = find (slice_cmp nat_cmp) l.key (entries_of l.entries)
+    ≡ find (slice_cmp nat_cmp) l.key (entries_of (drop l.entry-index l.entries))

@@ -21,7 +21,8 @@ returns-in-Some-2 g c =
     let found = rw c.as_slice-2.ensures.value at c.in-Some.ensures.found in
     let exact : IsExtended c.args.self.now c.args.key.now → c.args.maybe_more ≡ false = elim c.if-extended.branch [
       | then-extended+else-maybe_more w ↦ λ _. w.if-maybe_more.false
-      | else-extended w ↦ λ p. absurd (not_extended_of c.args.self.now es c.self.view_is c.args.key.now (sym (rw c.as_slice.ensures.value at w.if-extended.ensures)) p)
+      | else-extended w ↦ λ p. absurd (not_extended_of c.args.self.now es c.self.view_is c.args.key.now
+          (sym (rw c.as_slice.ensures.value at w.if-extended.ensures)) p)
     ] in
     (longest_of c.args.self.now es c.self.view_is c.args.key.now c.in-Some.len c.in-Some.value.now found, exact)
 
