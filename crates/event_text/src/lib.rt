@@ -8,8 +8,6 @@ ghost use Rattle.event_text.specs.Names.{key_name, code_point, joined_names, nam
 ghost use Rattle.event_text.specs.Texts.{event_text, hexadecimal, hex_digits, key_text, modifiers_text, mouse_text};
 
 mod names;
-#[cfg(test)]
-mod tests;
 
 use bitflags::Flags;
 use itoa::Buffer;

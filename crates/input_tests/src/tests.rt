@@ -3,7 +3,6 @@ mod carried;
 mod cuts;
 mod differences;
 mod draws;
-mod encode;
 mod generated;
 mod keys;
 mod line;
@@ -12,7 +11,6 @@ mod mouse_reports;
 mod pastes;
 mod pieces;
 mod pulled;
-mod read_back;
 mod rows;
 mod undecided;
 

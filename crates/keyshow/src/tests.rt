@@ -1,6 +1,7 @@
 // The texts of lines, the words of the program, and runs over readers and writers in memory.
 
 mod faults;
+mod texts;
 
 use crate::lines::push_line;
 use crate::pump::{RunError, run};

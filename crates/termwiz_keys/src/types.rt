@@ -10,8 +10,6 @@ use std::marker::Model;
 use termwiz_base::{Modifiers, MouseButton};
 
 mod key_code;
-#[cfg(test)]
-mod tests;
 
 /// A key: by the character that it types, or by its name.
 ///

@@ -1,13 +1,13 @@
 // Every listed key is encoded and read back, as docs/GRAMMAR.md lists them under "Keys that read back". Each case is
 // asserted to be listed: a yes of `is_listed` is proved.
-use super::plain::modifiers_of;
-use super::{InputEvent, KeyCode, KeyEvent};
 use crate::listed::is_listed;
 use crate::read_encoded;
 use std::alloc::Global;
 use std::process::Abort;
 use std::test::Fail;
-use termwiz_input::input::{KeyCodeEncodeModes, KeyboardEncoding};
+use termwiz_input::input::{
+    Flags, InputEvent, KeyCode, KeyCodeEncodeModes, KeyEvent, KeyboardEncoding, Modifiers,
+};
 
 // Which of Shift, Alt and Ctrl are held.
 type Held = (bool, bool, bool);
@@ -112,14 +112,23 @@ const BEYOND_ASCII: &[char] = &[
     '\u{10ffff}',
 ];
 
+// The modifiers, by which of the three are held.
+fn modifiers_of((shift, alt, ctrl): Held) -> Modifiers {
+    let mut modifiers = Modifiers::NONE;
+    modifiers.set(Modifiers::SHIFT, shift);
+    modifiers.set(Modifiers::ALT, alt);
+    modifiers.set(Modifiers::CTRL, ctrl);
+    modifiers
+}
+
 fn check_key(
     rt: &impl Abort,
     alloc: Global,
     key: KeyCode,
-    (shift, alt, ctrl): Held,
+    held: Held,
     modes: KeyCodeEncodeModes,
 ) -> Result<(), Fail> {
-    let modifiers = modifiers_of(shift, alt, ctrl);
+    let modifiers = modifiers_of(held);
     assert!(rt;
         is_listed(key, modifiers, modes),
         "{key:?} {modifiers:?} {modes:?}"

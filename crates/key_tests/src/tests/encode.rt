@@ -1,11 +1,12 @@
 // The texts of keys, on worked examples.
 
-use super::{Flags, KeyCode, Modifiers};
 use std::alloc::Global;
 use std::process::Abort;
 use std::test::Fail;
 use termwiz_base::KittyKeyboardFlags;
-use termwiz_input::input::{CSI, EncodeError, KeyCodeEncodeModes, KeyboardEncoding, SS3};
+use termwiz_input::input::{
+    CSI, EncodeError, Flags, KeyCode, KeyCodeEncodeModes, KeyboardEncoding, Modifiers, SS3,
+};
 
 // A key that is pressed, the modifiers that are held, and the text.
 type Example = (KeyCode, Modifiers, &'static str);

@@ -1,5 +1,5 @@
 // Long texts: a paste of 100 KB, and 70,000 events.
-use super::push_event;
+use event_text::push_event;
 use std::test::Fail;
 use termwiz_base::Modifiers;
 use termwiz_input::types::{InputEvent, KeyCode, KeyEvent, PastedText};

@@ -1,10 +1,10 @@
 // Events compared, cloned and taken apart.
-use super::{InputEvent, KeyCode, KeyEvent, MouseButtons, MouseEvent, PastedText, PixelMouseEvent};
-use bitflags::Flags;
 use std::alloc::{AllocError, Global};
 use std::process::Abort;
 use std::test::Fail;
-use termwiz_base::Modifiers;
+use termwiz_input::input::{
+    InputEvent, KeyCode, KeyEvent, Modifiers, MouseButtons, MouseEvent, PastedText, PixelMouseEvent,
+};
 
 fn pasted(alloc: Global, text: &str) -> Result<InputEvent, AllocError> {
     Ok(InputEvent::Paste(PastedText::new(String::from_str(alloc, text)?)))

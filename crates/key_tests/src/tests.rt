@@ -1,0 +1,7 @@
+// The encoder, keys that are read back, and values compared, cloned and taken apart.
+mod control;
+mod encode;
+mod modifiers;
+mod mouse_meaning;
+mod read_back;
+mod values;
