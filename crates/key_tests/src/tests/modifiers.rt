@@ -1,5 +1,5 @@
 // Modifiers as numbers, and without left and right.
-use termwiz_input::input::Modifiers;
+use termwiz_input::input::{Flags, Modifiers};
 
 // The number is one less than what follows the `;` in xterm's key sequences.
 #[test]

@@ -1,5 +1,5 @@
 // What the numbers of a mouse report say.
-use termwiz_base::{Modifiers, MouseButton, MouseReport, sgr_mouse};
+use termwiz_base::{Flags, Modifiers, MouseButton, MouseReport, sgr_mouse};
 
 // The report of a button at column 42 and row 12, without modifiers.
 fn report(button: MouseButton) -> Option<MouseReport> {
