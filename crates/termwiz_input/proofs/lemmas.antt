@@ -3,4 +3,3 @@ pub mod items
 pub mod mouse
 pub mod pastes
 pub mod pieces
-pub mod table

@@ -4,7 +4,6 @@ pub mod Callbacks
 pub mod MouseReportAnswers
 pub mod PasteSearch
 pub mod Pieces
-pub mod Suffixes
 pub mod PrintableAscii
 pub mod Values
 pub use Rattle.termwiz_grammar.specs.MouseReports as MouseReports

@@ -15,7 +15,6 @@ use crate::item::{
     printable_ascii_front,
 };
 use crate::paste::{begins_paste, next_search};
-use crate::rules::add_rows;
 use std::alloc::{AllocError, Global};
 use std::marker::Model;
 pub use termwiz_base::{Flags, Modifiers};
@@ -25,6 +24,7 @@ pub use termwiz_keys::encode::{CSI, EncodeError, KeyCodeEncodeModes, KeyboardEnc
 pub use termwiz_keys::types::{
     InputEvent, KeyCode, KeyEvent, MouseButtons, MouseEvent, PastedText, PixelMouseEvent,
 };
+use termwiz_table::add_rows;
 use thiserror::Error;
 
 /// A call of [`InputParser::parse`] was refused memory. The parser may be used again.

@@ -7,7 +7,6 @@ mod item;
 pub mod laws;
 mod mouse_report;
 mod paste;
-mod rules;
 
 pub use termwiz_keymap::{keymap, readbuf};
 pub use termwiz_keys::{encode, types};
