@@ -36,11 +36,14 @@ else
     trap 'rm -rf "$work"' EXIT
 fi
 
+# The crates of the parser; an older commit may have fewer of them.
+crates='termwiz_base termwiz_keymap termwiz_keys termwiz_grammar termwiz_table termwiz_input'
+
 # Builds the program of the sources that lie in a folder.
 build() { # folder
     mkdir -p "$1/crates/feed/src"
     cp "$top/tools/measure/feed.rt.txt" "$1/crates/feed/src/lib.rt"
-    grep -E '^termwiz_(base|keymap|keys|grammar|input):' "$1/listed" > "$1/crates.txt"
+    grep -E "^(${crates// /|}):" "$1/listed" > "$1/crates.txt"
     echo 'feed staticlib: termwiz_input' >> "$1/crates.txt"
     (cd "$1/crates/feed" && rt lib) > "$1/log" 2>&1 || { cat "$1/log" >&2; exit 1; }
     cc -O2 -o "$1/measure" "$top/tools/measure/measure.c" "$1/crates/feed/out/libfeed.a" "$(dirname "$(rt doc)")/c/liblibc_c.a"
@@ -48,7 +51,7 @@ build() { # folder
 
 # Puts what earlier checks kept beside the sources, so that only what differs is proved again.
 warm() { # folder
-    for crate in termwiz_base termwiz_keymap termwiz_keys termwiz_grammar termwiz_input; do
+    for crate in $crates; do
         [ ! -d "$top/crates/$crate/out" ] || [ ! -d "$1/crates/$crate" ] || [ -d "$1/crates/$crate/out" ] || cp -a "$top/crates/$crate/out" "$1/crates/$crate/"
     done
 }
@@ -61,7 +64,7 @@ emptied() { # folder
 
 trees=here
 emptied "$work/here"
-(cd "$top" && tar c --exclude=out --exclude=must-fail crates/termwiz_base crates/termwiz_keymap crates/termwiz_keys crates/termwiz_grammar crates/termwiz_input) | tar x -C "$work/here"
+(cd "$top/crates" && tar c --exclude=out --exclude=must-fail $crates) | tar x -C "$work/here/crates"
 cp "$top/crates.txt" "$work/here/listed"
 warm "$work/here"
 build "$work/here"
@@ -69,7 +72,7 @@ if [ -n "$against" ]; then
     trees="here other"
     emptied "$work/other"
     git -C "$top" archive "$against" crates.txt $(git -C "$top" ls-tree --name-only "$against" crates/ |
-        grep -E '/termwiz_(base|keymap|keys|grammar|input)$') | tar x -C "$work/other"
+        grep -E "/(${crates// /|})$") | tar x -C "$work/other"
     mv "$work/other/crates.txt" "$work/other/listed"
     warm "$work/other"
     build "$work/other"
