@@ -6,21 +6,13 @@
 //! read.
 #![tactic(auto)]
 
-mod answers;
-mod cases;
-mod encodings;
-mod feeder;
-mod format;
-mod names;
-mod replay;
-mod report;
 #[cfg(test)]
 mod tests;
 
-use encodings::Encoder;
-use feeder::Feeder;
-use replay::Replayer;
-use report::{LineDifference, LineError, Report, replay_lines};
+use recorded::encodings::Encoder;
+use recorded::feeder::Feeder;
+use recorded::replay::Replayer;
+use recorded::report::{LineDifference, LineError, Report, replay_lines};
 use std::alloc::AllocError;
 use std::io::Write;
 use std::process::ExitCode;

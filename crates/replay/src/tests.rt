@@ -1,10 +1,10 @@
 // Lines that hold, lines that were changed by hand, and lines of no form.
 
-use crate::encodings::Encoder;
-use crate::feeder::Feeder;
-use crate::format::Fault;
-use crate::replay::Replayer;
-use crate::report::{LineDifference, LineError, replay_lines};
+use recorded::encodings::Encoder;
+use recorded::feeder::Feeder;
+use recorded::format::Fault;
+use recorded::replay::Replayer;
+use recorded::report::{LineDifference, LineError, replay_lines};
 use std::alloc::{AllocError, Global};
 use std::process::Abort;
 use std::test::Fail;

@@ -155,7 +155,7 @@ fn rules() {
     println!("{} lines, {} feedings", lines().count(), feeder.feedings);
 }
 
-// The modes of a number, as crates/replay/src/encodings.rt numbers them.
+// The modes of a number, as crates/recorded/src/encodings.rt numbers them.
 fn modes(number: u32) -> KeyCodeEncodeModes {
     KeyCodeEncodeModes {
         encoding: if number & 16 == 0 {

@@ -1,7 +1,0 @@
-use Rattle.std.proofs.Common.{◌≡◌, ◌≤◌, length, map}
-use Rattle.replay.specs.Reports.{CountsLines, counted}
-use Rattle.replay.proofs.report.replay_lines.Given as goal
-
-abbrev pub invariant-loop-line : goal.invariant-loop-line
-invariant-loop-line l = CountsLines (map (λ line. line.now) l.yielded) (counted l.report.lines l.report.differing)
-    × (l.number ≡ length l.yielded) × (l.report.lines ≤ l.number)
