@@ -20,6 +20,9 @@ const KEYS: &[Example] = &[
         "suffix-16",
         &[(b"\x1b[1;16S", LAST, "Function(4) SHIFT+ALT+CTRL")],
     ),
+];
+
+const EDIT_KEYS: &[Example] = &[
     ("edit-key-with-at", &[(b"\x1b[8@", LAST, "End SHIFT+CTRL")]),
     ("edit-key-with-ctrl", &[(b"\x1b[3;5~", LAST, "Delete CTRL")]),
     ("edit-key-with-suffix-1", &[(b"\x1b[2;1~", LAST, "Insert")]),
@@ -35,6 +38,9 @@ const KEYS: &[Example] = &[
         "tab-with-alt-ctrl-and-shift",
         &[(b"\x1b\x1b[1;5Z", LAST, "Tab SHIFT+ALT+CTRL")],
     ),
+];
+
+const CHARACTERS: &[Example] = &[
     (
         "csi-u-and-modify-other-keys (i)",
         &[(b"\x1b[13;5u", LAST, "U+000D CTRL")],
@@ -98,6 +104,20 @@ const ESCAPES: &[Example] = &[
 
 #[test]
 fn reads_keys(rt: HostRuntime) -> Result<(), Fail> {
-    check_all(&rt, rt.alloc(), KEYS)?;
+    check_all(&rt, rt.alloc(), KEYS)
+}
+
+#[test]
+fn reads_edit_keys(rt: HostRuntime) -> Result<(), Fail> {
+    check_all(&rt, rt.alloc(), EDIT_KEYS)
+}
+
+#[test]
+fn reads_characters_by_their_codes(rt: HostRuntime) -> Result<(), Fail> {
+    check_all(&rt, rt.alloc(), CHARACTERS)
+}
+
+#[test]
+fn reads_escapes(rt: HostRuntime) -> Result<(), Fail> {
     check_all(&rt, rt.alloc(), ESCAPES)
 }

@@ -31,15 +31,27 @@ fn check_events(rt: &impl Abort, events: &[InputEvent], len: usize) {
     }
 }
 
+// The parser reads many keys by one call.
+fn check_keys_at_once(
+    rt: &impl Abort,
+    alloc: Global,
+    parser: &mut InputParser,
+    calls: Calls,
+    text: &[u8],
+) -> Result<(), Fail> {
+    let events = calls.events(rt, alloc, parser, text, LAST)?;
+    check_events(rt, events.as_slice(), 70000);
+    assert_eq!(rt; parser.waiting_len(), 0, "{calls:?}");
+    Ok(())
+}
+
 // Each way to call the parser reads many keys at once.
 #[test]
 fn reads_70000_keys_at_once(rt: HostRuntime) -> Result<(), Fail> {
     let text = KEYS.repeat(rt.alloc(), 35000)?;
     let mut parser = InputParser::new(rt.alloc())?;
     for calls in EVERY_CALL {
-        let events = calls.events(&rt, rt.alloc(), &mut parser, &text, LAST)?;
-        check_events(&rt, events.as_slice(), 70000);
-        assert_eq!(rt; parser.waiting_len(), 0, "{calls:?}");
+        check_keys_at_once(&rt, rt.alloc(), &mut parser, calls, &text)?;
     }
     Ok(())
 }
@@ -108,18 +120,30 @@ fn check_paste(rt: &impl Abort, events: &[InputEvent], body: &[u8]) {
     }
 }
 
-// Each way to call the parser reads a long paste, whole and in pieces.
+// The parser reads a long paste, whole and in pieces.
+fn check_long_paste(
+    rt: &impl Abort,
+    alloc: Global,
+    parser: &mut InputParser,
+    calls: Calls,
+    (body, paste): (&[u8], &[u8]),
+) -> Result<(), Fail> {
+    let events = calls.events(rt, alloc, parser, paste, MORE)?;
+    check_paste(rt, events.as_slice(), body);
+    assert_eq!(rt; parser.waiting_len(), 0, "{calls:?}");
+    let events = read_in_pieces_by(rt, alloc, calls, parser, paste, 999)?;
+    check_paste(rt, events.as_slice(), body);
+    assert_eq!(rt; parser.waiting_len(), 0, "{calls:?}");
+    Ok(())
+}
+
+// Each way to call the parser reads a long paste.
 #[test]
 fn reads_a_paste_of_100_kilobytes(rt: HostRuntime) -> Result<(), Fail> {
     let (body, paste) = long_paste(rt.alloc())?;
     let mut parser = InputParser::new(rt.alloc())?;
     for calls in EVERY_CALL {
-        let events = calls.events(&rt, rt.alloc(), &mut parser, &paste, MORE)?;
-        check_paste(&rt, events.as_slice(), body.as_slice());
-        assert_eq!(rt; parser.waiting_len(), 0, "{calls:?}");
-        let events = read_in_pieces_by(&rt, rt.alloc(), calls, &mut parser, &paste, 999)?;
-        check_paste(&rt, events.as_slice(), body.as_slice());
-        assert_eq!(rt; parser.waiting_len(), 0, "{calls:?}");
+        check_long_paste(&rt, rt.alloc(), &mut parser, calls, (&body, &paste))?;
     }
     Ok(())
 }
@@ -170,6 +194,23 @@ fn joined(alloc: Global, parts: Parts) -> Result<Vec<u8>, AllocError> {
     Ok(text)
 }
 
+// Makes a call of an example. Returns its bytes.
+fn check_long_step(
+    rt: &impl Abort,
+    alloc: Global,
+    parser: &mut InputParser,
+    name: &str,
+    (parts, more, wanted): &LongStep,
+) -> Result<Vec<u8>, Fail> {
+    let bytes = joined(alloc, parts)?;
+    let events = parser.parse_as_vec(&bytes, *more)?;
+    check_few_wait(rt, parser, name);
+    let line = line_of(alloc, events.as_slice(), parser)?;
+    let wanted = joined(alloc, wanted)?;
+    assert!(rt; line.as_bytes() == wanted.as_slice(), "{name}");
+    Ok(bytes)
+}
+
 // Makes the calls of an example, and reads all of its bytes in pieces.
 fn check_endless(
     rt: &impl Abort,
@@ -179,17 +220,8 @@ fn check_endless(
 ) -> Result<(), Fail> {
     let mut parser = InputParser::new(alloc)?;
     let mut text = Vec::new(alloc);
-    for (number, (parts, more, wanted)) in steps.iter().enumerate() {
-        let mut bytes = joined(alloc, parts)?;
-        let events = parser.parse_as_vec(&bytes, *more)?;
-        check_few_wait(rt, &parser, name);
-        let line = line_of(alloc, events.as_slice(), &parser)?;
-        let wanted = joined(alloc, wanted)?;
-        assert!(rt;
-            line.as_bytes() == wanted.as_slice(),
-            "{name}, step {number}"
-        );
-        text.append(&mut bytes)?;
+    for step in steps {
+        text.append(&mut check_long_step(rt, alloc, &mut parser, name, step)?)?;
     }
     check_sizes(rt, alloc, name, &text)
 }
