@@ -7,30 +7,43 @@
 # `parse_as_vec`; one in C, which takes the events one by one; and one over the Rust crate's `parse`. It prints the least nanoseconds per
 # event of each. The reads and the corpora are those of tools/measure.sh; if no corpus is named, typed, keys, csiu, mouse and paste.
 #
-# It wants rt, cc, ar, objcopy, cargo and python3.
+# It needs rt, cc, ar, objcopy, cargo and python3. It says on standard error what it does.
 set -eu
+. "$(dirname "$0")/common.sh"
 top=$(cd "$(dirname "$0")/.." && pwd)
 reads=64,4096 runs=9
 while [ $# -gt 0 ]; do
     case $1 in
-        --reads) reads=$2; shift 2 ;;
-        --runs) runs=$2; shift 2 ;;
-        -*) sed -n '2,10p' "$0" >&2; exit 2 ;;
+        --help) show_help; exit ;;
+        --reads) want_next "$@"; reads=$2; shift 2 ;;
+        --runs) want_next "$@"; runs=$2; shift 2 ;;
+        -*) refuse_word "$1" ;;
         *) break ;;
     esac
 done
+want_number "$runs" --runs
+for case in "$@"; do [ "${case%:*}" != new ] || refuse_word "$case"; done
+need rt 'the Rattle kit'
+need cc gcc
+for tool in ar objcopy; do need $tool binutils; done
+need cargo cargo
+need python3 python3
+stop_if_missing
 [ $# -gt 0 ] || set -- typed keys csiu mouse paste
 work=$(mktemp -d)
 trap 'rm -rf "$work"' EXIT
 
 # The program that calls parse_as_vec, and the corpora.
-"$top/tools/measure.sh" --keep "$work" --runs 0 "$@" > /dev/null
+"$top/tools/measure.sh" --keep "$work" --reads "$reads" --runs 0 "$@"
+progress 'building the libraries of C and Rust'
 "$top/tools/c_library.sh" "$work/lib"
 cc -O2 -I"$work/lib" -o "$work/in_c" "$top/tools/measure/measure.c" "$top/tools/measure/c_pass.c" "$work/lib/libtermwiz_c.a"
 TERMWIZ_C_DIR=$work/lib CARGO_TARGET_DIR=$work/target \
     cargo build --quiet --locked --offline --release --example measure --manifest-path "$top/rust/Cargo.toml"
 
-for _ in $(seq "$runs"); do
+note_load
+for run in $(seq "$runs"); do
+    progress "run $run of $runs"
     for case in "$@"; do
         name=${case%:*}
         [ "$name" = "$case" ] && file=$name-1 || file=$name-${case#*:}

@@ -13,6 +13,35 @@ refuse_word() { # word
     exit 2
 }
 
+# Ends the script over what is wrong with its words.
+refuse() { # message
+    echo "$script: $1; --help says more" >&2
+    exit 2
+}
+
+# Ends the script unless the text is a number, which has to be at least 1.
+want_number() { # text name
+    [[ $1 =~ ^[1-9][0-9]{0,8}$ ]] || refuse "$2 wants a number from 1 on, and not '$1'"
+}
+
+# Ends the script over a word that nothing follows.
+want_next() { # word, and those that follow it
+    [ $# -gt 1 ] || refuse "$1 wants a value after it"
+}
+
+# Says what is being done, on standard error.
+progress() { # text
+    echo "$script: $1" >&2
+}
+
+# Says that times will be too long if the machine has other work.
+note_load() {
+    local load
+    read -r load _ < /proc/loadavg
+    awk -v load="$load" 'BEGIN { exit load < 0.5 }' && progress "note: other work runs on this machine (load $load), so times will be too long"
+    return 0
+}
+
 missing='' packages=''
 # Notes that the script can't run if there is no such program. The package is what has it in Debian; the word leaves out what needs it.
 need() { # program package [word]

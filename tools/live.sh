@@ -14,17 +14,19 @@ while :; do
     case ${1-} in
         --mouse) mouse=yes ;;
         --paste) paste=yes ;;
+        --help) sed -n '2,7s/^# \{0,1\}//p' "$0"; exit ;;
+        -*) echo "live: what is '$1'? --help lists the words" >&2; exit 2 ;;
         *) break ;;
     esac
     shift
 done
 
 if [ ! -x "$program" ]; then
-    echo "live.sh: keyshow isn't built; build it by: cd crates/keyshow && rt run < stdin" >&2
+    echo "live: keyshow isn't built; build it by: cd crates/keyshow && rt run < stdin" >&2
     exit 1
 fi
 if [ ! -t 0 ] || [ ! -t 1 ]; then
-    echo "live.sh: standard input and output have to be a terminal" >&2
+    echo "live: standard input and output have to be a terminal" >&2
     exit 1
 fi
 

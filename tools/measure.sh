@@ -13,21 +13,37 @@
 # tools/measure/corpora.py), which the parser gets in reads of each size in LIST (64,4096). If nothing is named, it measures new and all
 # corpora.
 #
-# It wants rt, cc and python3.
+# It needs rt, cc and python3. It says on standard error what it does.
 set -eu
+. "$(dirname "$0")/common.sh"
 top=$(cd "$(dirname "$0")/.." && pwd)
 against='' reads=64,4096 runs=9 keep=''
 while [ $# -gt 0 ]; do
     case $1 in
-        --against) against=$2; shift 2 ;;
-        --reads) reads=$2; shift 2 ;;
-        --runs) runs=$2; shift 2 ;;
-        --keep) keep=$2; shift 2 ;;
-        -*) sed -n '2,16p' "$0" >&2; exit 2 ;;
+        --help) show_help; exit ;;
+        --against) want_next "$@"; against=$2; shift 2 ;;
+        --reads) want_next "$@"; reads=$2; shift 2 ;;
+        --runs) want_next "$@"; runs=$2; shift 2 ;;
+        --keep) want_next "$@"; keep=$2; shift 2 ;;
+        -*) refuse_word "$1" ;;
         *) break ;;
     esac
 done
+[ "$runs" = 0 ] || want_number "$runs" --runs
+for read in ${reads//,/ }; do want_number "$read" --reads; done
 [ $# -gt 0 ] || set -- new typed utf8 keys csiu mouse mixed escapes cut paste
+for case in "$@"; do
+    case ${case%:*} in
+        new) [ "$case" = new ] || refuse_word "$case" ;;
+        typed | utf8 | keys | csiu | mouse | mixed | escapes | cut | paste) [[ $case != *:* ]] || want_number "${case#*:}" "$case" ;;
+        *) refuse_word "$case" ;;
+    esac
+done
+[ -z "$against" ] || git -C "$top" rev-parse --quiet --verify "$against^{commit}" > /dev/null || refuse "there is no commit $against"
+need rt 'the Rattle kit'
+need cc gcc
+need python3 python3
+stop_if_missing
 if [ -n "$keep" ]; then
     mkdir -p "$keep"
     work=$(cd "$keep" && pwd)
@@ -67,6 +83,7 @@ emptied "$work/here"
 (cd "$top/crates" && tar c --exclude=out --exclude=must-fail $crates) | tar x -C "$work/here/crates"
 cp "$top/crates.txt" "$work/here/listed"
 warm "$work/here"
+progress 'proving and building what is here, which takes some seconds after a first build, and else minutes'
 build "$work/here"
 if [ -n "$against" ]; then
     trees="here other"
@@ -75,13 +92,16 @@ if [ -n "$against" ]; then
         grep -E "/(${crates// /|})$") | tar x -C "$work/other"
     mv "$work/other/crates.txt" "$work/other/listed"
     warm "$work/other"
+    progress "proving and building $against"
     build "$work/other"
 fi
 
 mkdir -p "$work/corpora"
 python3 "$top/tools/measure/corpora.py" "$work/corpora" $(printf '%s\n' "$@" | grep -vx new || true)
 : > "$work/results"
-for _ in $(seq "$runs"); do
+[ "$runs" = 0 ] || note_load
+for run in $(seq "$runs"); do
+    progress "run $run of $runs"
     for case in "$@"; do
         if [ "$case" = new ]; then
             for tree in $trees; do echo "$tree new 0 $("$work/$tree/measure" new)" >> "$work/results"; done
@@ -96,4 +116,4 @@ for _ in $(seq "$runs"); do
         done
     done
 done
-python3 "$top/tools/measure/table.py" "$work" "${against:-}"
+[ "$runs" = 0 ] || python3 "$top/tools/measure/table.py" "$work" "${against:-}"
