@@ -30,10 +30,10 @@ impl OwnedPointer {
         }
     }
 
-    pub(crate) fn of_raw_box(parts: RawBox<ParserAndPaste, Global>) -> OwnedPointer
-        ensures { result.held ≡ Some parts.value }
+    pub(crate) fn of_raw_box(raw: RawBox<ParserAndPaste, Global>) -> OwnedPointer
+        ensures { result.held ≡ Some raw.value }
     {
-        let RawBox { pointer, alloc: _ } = parts;
+        let RawBox { pointer, alloc: _ } = raw;
         OwnedPointer {
             pointer: pointer as *mut u8,
         }

@@ -5,7 +5,7 @@ pub mod MouseReportAnswers
 pub mod PasteSearch
 pub mod Pieces
 pub mod PrintableAscii
-pub mod Values
+pub mod RefusalEquality
 pub use Rattle.termwiz_grammar.specs.MouseReports as MouseReports
 pub use Rattle.termwiz_grammar.specs.Grammar as Grammar
 pub use Rattle.termwiz_grammar.specs.Sequences as Sequences
@@ -14,9 +14,6 @@ pub use Rattle.termwiz_grammar.specs.Listed as Listed
 pub use Rattle.termwiz_grammar.specs.ListedExamples as ListedExamples
 pub use Rattle.termwiz_grammar.specs.Streams as Streams
 pub use Rattle.termwiz_grammar.specs.Table as Table
-pub use Rattle.termwiz_keymap.specs.Entries as Entries
-pub use Rattle.termwiz_keymap.specs.KeyBuckets as KeyBuckets
-pub use Rattle.termwiz_keymap.specs.KeyRows as KeyRows
 pub use Rattle.termwiz_keymap.specs.Lookup as Lookup
 pub use Rattle.termwiz_keymap.specs.declared.keymap.Found as Found
 pub use Rattle.termwiz_keymap.specs.declared.keymap.KeyMap as KeyMap
@@ -27,7 +24,6 @@ pub use Rattle.termwiz_keys.specs.Events as Events
 pub use Rattle.termwiz_keys.specs.FunctionCodes as FunctionCodes
 pub use Rattle.termwiz_keys.specs.KeyCodes as KeyCodes
 pub use Rattle.termwiz_keys.specs.Keys as Keys
-pub use Rattle.termwiz_keys.specs.Introducers as Introducers
 pub use Rattle.termwiz_keys.specs.declared.encode.EncodeError as EncodeError
 pub use Rattle.termwiz_keys.specs.declared.encode.KeyCodeEncodeModes as KeyCodeEncodeModes
 pub use Rattle.termwiz_keys.specs.declared.encode.KeyboardEncoding as KeyboardEncoding

@@ -1,6 +1,6 @@
 //! The laws of the parser's errors, and by `pub use` those of the layers below: of the grammar, of the key map and of the types' values.
 ghost use Rattle.termwiz_base.specs.Laws.{AlwaysCloned, ClonesEqual, TellsEqual};
-ghost use Rattle.termwiz_input.specs.Values.{TellsEqualRefusals};
+ghost use Rattle.termwiz_input.specs.RefusalEquality.{TellsEqualRefusals};
 
 use crate::input::{ParseError, ParseVecError, PiecesError};
 pub use termwiz_grammar::laws::{

@@ -1,4 +1,5 @@
-//! The numbers of the function keys in sequences, in the table and in the encoder: those of xterm and, from F21 on, of rxvt.
+//! The numbers of the function keys in sequences, which the table and the encoder share: up to F20 those of xterm, and 42 to 45
+//! for F21 to F24, as termwiz encodes them.
 
 /// The codes of F1 to F20, with the number of each.
 pub const FUNCTION_CODES: &[(u8, u8)] = &[

@@ -1,1 +1,1 @@
-pub mod Suffixes
+pub mod CodeLists

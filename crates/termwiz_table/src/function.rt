@@ -1,6 +1,6 @@
 // Rules of the function keys and of the editing block.
 ghost use Rattle.std.specs.Prelude.{◌≡◌, flat_map, OnOk};
-ghost use Rattle.termwiz_table.specs.Suffixes.{suffixes_with_bits};
+ghost use Rattle.termwiz_table.specs.CodeLists.{suffixes_with_bits};
 ghost use Rattle.termwiz_grammar.specs.Table.{with_rows, function_key_of, keys_by_digit, ss3_function_keys_rows, lettered_function_keys_rows, numbered_function_keys_rows, edit_keys_rows, modified_edit_keys_rows, high_function_keys_rows};
 
 use crate::insert::{insert_each_suffixed, insert_each_with, insert_suffixed};

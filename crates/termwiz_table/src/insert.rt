@@ -2,7 +2,7 @@
 ghost use Rattle.std.specs.Prelude.{◌≡◌, ◌++◌, OnOk, string_bytes};
 ghost use Rattle.termwiz_keys.specs.Keys.{key_with};
 ghost use Rattle.termwiz_grammar.specs.Table.{with_rows, key_with_each_suffix, keys_with_each_suffix, keys_with_modifiers};
-ghost use Rattle.termwiz_table.specs.Suffixes.{suffixes_with_bits, keys_with_texts, held_together};
+ghost use Rattle.termwiz_table.specs.CodeLists.{suffixes_with_bits, keys_with_texts, held_together};
 
 use crate::lists::Suffix;
 use bitflags::Flags;

@@ -1,7 +1,7 @@
 // Texts that look random, and are the same in each run.
 use crate::lines::bytes;
 
-// The bytes that the grammar names, parts and wholes of known texts, and beginnings of characters. ESC stands twice, so that it is drawn
+// The bytes that the grammar names, parts and wholes of sequences, and beginnings of characters. ESC stands twice, so that it is drawn
 // more often.
 const SYMBOLS: &[&[u8]] = &[
     b"\x1b",
@@ -70,8 +70,8 @@ impl Draws {
         self.rows[place].clone()
     }
 
-    // A mouse frame; in some draws a number is past its limit or has six digits, so that it is none.
-    fn frame(&mut self) -> Vec<u8> {
+    // A mouse report; in some draws a number is past its limit or has six digits, so that it is none.
+    fn mouse_report(&mut self) -> Vec<u8> {
         let code = self.below(100);
         let x = self.below(70000) >> self.below(16);
         let y = self.below(70000) >> self.below(16);
@@ -105,7 +105,7 @@ impl Draws {
     // A part of a text, often only its beginning.
     fn part(&mut self) -> Vec<u8> {
         let mut part = match self.below(8) {
-            0 => self.frame(),
+            0 => self.mouse_report(),
             1 => self.paste(),
             2 => self.character(),
             3 => vec![self.below(256) as u8],

@@ -151,8 +151,8 @@ pub const KEYS: &[Example] = &[
     ("alt-long-escape", &[(b"\x1b\x1b[27;1;27~", LAST, "key Escape ALT")]),
 ];
 
-// Mouse frames, and bytes that begin like one.
-pub const FRAMES: &[Example] = &[
+// Mouse reports, and bytes that begin like one.
+pub const MOUSE_REPORTS: &[Example] = &[
     ("mouse-cut", &[
         (b"\x1b[<66;42", MORE, "; 8"),
         (b";12M", MORE, "mouse 42 12 HORZ_WHEEL+WHEEL_POSITIVE NONE"),

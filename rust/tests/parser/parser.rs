@@ -1,5 +1,5 @@
 // The parser on worked examples.
-use crate::examples::{Example, Step, CARRIED, CUTS, FRAMES, KEYS, PASTES};
+use crate::examples::{Example, Step, CARRIED, CUTS, KEYS, MOUSE_REPORTS, PASTES};
 use crate::lines::lines;
 use termwiz::input::{InputEvent, InputParser, KeyCode, KeyEvent, Modifiers};
 
@@ -86,8 +86,8 @@ fn keys() {
 }
 
 #[test]
-fn frames() {
-    check_all(FRAMES);
+fn mouse_reports() {
+    check_all(MOUSE_REPORTS);
 }
 
 #[test]

@@ -130,6 +130,25 @@ fn assert_writes(
     Ok(())
 }
 
+// After `count` writes of at most `most` bytes the next fails, or accepts nothing.
+fn assert_write_fails(
+    alloc: Global,
+    rt: &impl Abort,
+    piece: usize,
+    most: usize,
+    count: usize,
+    wanted: usize,
+) -> Result<(), Fail>
+    requires least { 1 ≤ piece }
+    requires most_piece { piece ≤ 4096 }
+{
+    for fails in [true, false] {
+        let writes = Writes { most, count, fails };
+        assert_writes(alloc, rt, piece, writes, wanted)?;
+    }
+    Ok(())
+}
+
 // Each write fails in turn, and then none.
 fn assert_each_write_fails(
     alloc: Global,
@@ -141,14 +160,7 @@ fn assert_each_write_fails(
     requires most { piece ≤ 4096 }
 {
     for (count, wanted) in written.iter().enumerate() {
-        for fails in [true, false] {
-            let writes = Writes {
-                most: 4096,
-                count,
-                fails,
-            };
-            assert_writes(alloc, rt, piece, writes, *wanted)?;
-        }
+        assert_write_fails(alloc, rt, piece, 4096, count, *wanted)?;
     }
     Ok(())
 }
@@ -173,14 +185,7 @@ fn writes_fail(rt: HostRuntime) -> Result<(), Fail> {
 #[test]
 fn writes_of_one_byte_fail(rt: HostRuntime) -> Result<(), Fail> {
     for count in 0..=ALL_WRITTEN {
-        for fails in [true, false] {
-            let writes = Writes {
-                most: 1,
-                count,
-                fails,
-            };
-            assert_writes(rt.alloc(), &rt, 7, writes, count)?;
-        }
+        assert_write_fails(rt.alloc(), &rt, 7, 1, count, count)?;
     }
     Ok(())
 }

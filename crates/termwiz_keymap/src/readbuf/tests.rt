@@ -96,6 +96,22 @@ fn closes_up_for_room(rt: HostRuntime) -> Result<(), Fail> {
     Ok(())
 }
 
+// 1000 reads of 64 bytes, of which less than five are left each time: from the second on the buffer takes no more memory.
+#[test]
+fn keeps_its_memory(rt: HostRuntime) -> Result<(), Fail> {
+    let mut buffer = ReadBuffer::new(rt.alloc());
+    let mut capacity = 0;
+    for number in 0..1000u32 {
+        buffer.extend_with(&[b'a'; 64])?;
+        buffer.advance(buffer.len().saturating_sub(buffer.len() % 5));
+        if number == 1 {
+            capacity = buffer.capacity();
+        }
+    }
+    assert_eq!(rt; buffer.capacity(), capacity);
+    Ok(())
+}
+
 // The length of a read, and how many bytes of the buffer are left after it.
 const READS: &[(usize, usize)] = &[
     (100, 10),

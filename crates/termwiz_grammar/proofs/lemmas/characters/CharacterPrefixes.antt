@@ -14,7 +14,7 @@ use Rattle.termwiz_keymap.proofs.lemmas.lists.CommonPrefixes.{length-some, true_
 use Rattle.termwiz_grammar.proofs.lemmas.lists.Decidable.{Decision, decide_both, decide_by, decide_lists, decide_some, same_or_not}
 use Rattle.termwiz_grammar.proofs.lemmas.table.RowShape.{Bytes}
 use Rattle.termwiz_grammar.proofs.lemmas.table.RowShape.Bytes.{one, more}
-use Rattle.termwiz_grammar.proofs.lemmas.table.SequenceFacts.{known_bytes, beginnings_short}
+use Rattle.termwiz_grammar.proofs.lemmas.table.SequenceFacts.{sequence_bytes, beginnings_short}
 
 -- a byte of a character that takes several
 abbrev pub IsHigh : ℕ → Type 0
@@ -61,7 +61,7 @@ unfinished_high u some h = true_at_front IsHigh u h.tail (parted_high h.char u h
 
 -- no sequence begins such bytes
 pub sequence_low : (text u : List ℕ) (m : Meaning) → IsSequence text m → AllByRecursion IsHigh u → Begins text u → ⊥
-sequence_low text u m is_sequence a b = go (known_bytes text m is_sequence)
+sequence_low text u m is_sequence a b = go (sequence_bytes text m is_sequence)
   where
     go : Bytes text → ⊥
     go (one x l e) =

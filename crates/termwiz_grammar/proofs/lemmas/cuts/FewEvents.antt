@@ -1,4 +1,4 @@
--- No more events come than bytes, and what one more item adds.
+-- No more events come than bytes.
 use Rattle.std.proofs.Common.{[], ◌∷◌, length, ap, arith, length-append}
 use Rattle.termwiz_grammar.specs.Laws.{FewEvents}
 use Rattle.termwiz_keymap.proofs.lemmas.lists.CommonPrefixes.{length-some}

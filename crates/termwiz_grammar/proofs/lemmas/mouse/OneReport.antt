@@ -1,4 +1,4 @@
--- Mouse reports: each has one report, and it can be told whether a text is one.
+-- Mouse reports: each has one event, and it can be told whether a text is one.
 use Rattle.std.proofs.Common.{◌≡◌, ◌⊎◌, inl, inr, ⊎_elim, ℕ, ◌+◌, ◌<◌, ◌≤◌, List, [], ◌∷◌, ◌++◌, length, drop, refl, sym, ap, ◌∙◌, subst, arith, append_assoc, length-append}
 use Rattle.std.specs.List.{AllByRecursion, join_with_byte}
 use Rattle.termwiz_keys.specs.declared.types.MouseEvent.{MouseEvent}

@@ -57,11 +57,11 @@ pub number_past : (text : List ℕ) (i d : ℕ) (digits r s : List ℕ) (limit l
 number_past text i d digits r s limit last there all is number ends e =
     let more = take_more text i d there in
     let all2 : AllByRecursion IsDigit (take (i + 1) text) = rw more (all_push (take i text) (get_or text i d) all is) in
-    let is_sequence = number_from (take (i + 1) text) (drop (i + 1) text) digits r s limit last all2 number ends
+    let bounds = number_from (take (i + 1) text) (drop (i + 1) text) digits r s limit last all2 number ends
     (e ∙ ap (λ t. t ++ s) (sym (take-append-drop (i + 1) text))) in
     let value : value_of (take (i + 1) text) ≡ value_of (take i text) * 10 + (get_or text i d - 48)
     = ap value_of more ∙ fold-append (λ (m b : ℕ). m * 10 + (b - 48)) 0 (take i text) (get_or text i d ∷ []) in
-    (omega (arith, length-take-le (i + 1) text (omega arith), is_sequence.0), omega (arith, value, is_sequence.1))
+    (omega (arith, length-take-le (i + 1) text (omega arith), bounds.0), omega (arith, value, bounds.1))
 
 -- where the digits of a text end, so does each number that the text may begin with
 pub number_stops : (text : List ℕ) (i d : ℕ) (digits r s : List ℕ) (last : ℕ) → i < length text

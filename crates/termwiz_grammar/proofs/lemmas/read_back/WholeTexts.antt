@@ -19,7 +19,7 @@ use Rattle.termwiz_grammar.proofs.lemmas.table.ComputedTests.{ends_well}
 use Rattle.termwiz_grammar.proofs.lemmas.mouse.OneReport.{report_plain}
 use Rattle.termwiz_grammar.proofs.lemmas.table.RowShape.{Bytes, row_shaped}
 use Rattle.termwiz_grammar.proofs.lemmas.table.RowShape.Bytes.{one, more}
-use Rattle.termwiz_grammar.proofs.lemmas.table.SequenceFacts.{known_bytes, escape_is_sequence}
+use Rattle.termwiz_grammar.proofs.lemmas.table.SequenceFacts.{sequence_bytes, escape_is_sequence}
 use Rattle.termwiz_grammar.proofs.lemmas.items.OneHead.{longest_whole}
 use Rattle.termwiz_grammar.proofs.lemmas.waiting.RestShape.{empty_is_rest}
 
@@ -104,7 +104,7 @@ small_first c x rest small e =
 -- a character that isn't a control is a head
 pub char_head : (c : ℕ) → IsScalar c → 28 ≤ c → c ≢ 127 → IsHead (encode_utf8 c) (Character c)
 char_head c scalar low other = record {
-  no_sequence = λ text m k b. none text b (known_bytes text m k);
+  no_sequence = λ text m k b. none text b (sequence_bytes text m k);
   scalar = scalar;
   begins = ([], sym (append-nil (encode_utf8 c)));
 }

@@ -29,14 +29,14 @@ abbrev pub is_plain : ℕ → Bool
 is_plain x = nat_lt 31 x && nat_lt x 127
 
 -- one byte that is a control or 0x7f, or ESC and plain bytes
-abbrev pub is_sequence : List ℕ → Bool
-is_sequence [] = false
-is_sequence (b ∷ []) = nat_lt b 28 || (b == 127)
-is_sequence (b ∷ c ∷ t) = (b == 27) && list_all is_plain (c ∷ t)
+abbrev pub has_sequence_bytes : List ℕ → Bool
+has_sequence_bytes [] = false
+has_sequence_bytes (b ∷ []) = nat_lt b 28 || (b == 127)
+has_sequence_bytes (b ∷ c ∷ t) = (b == 27) && list_all is_plain (c ∷ t)
 
 -- the form that all rows have, with at most eleven bytes
 abbrev pub has_row_form : List ℕ → Bool
-has_row_form t = has_shape t && nat_lt (length t) 12 && is_sequence t
+has_row_form t = has_shape t && nat_lt (length t) 12 && has_sequence_bytes t
 
 -- a number for a text, from a number for what comes before it
 abbrev pub number_of_text : ℕ → List ℕ → ℕ

@@ -20,17 +20,17 @@ use Rattle.termwiz_keys.specs.Introducers.{ESC, CSI, SS3, START}
 use Rattle.termwiz_grammar.specs.Table.{TableRow, rows, written_out}
 use Rattle.termwiz_grammar.proofs.lemmas.lists.Decidable.{same_or_not}
 use Rattle.termwiz_grammar.proofs.lemmas.mouse.OneReport.{IsPlain}
-use Rattle.termwiz_grammar.proofs.lemmas.table.ComputedTests.{is_inner, ends_well, has_shape, is_plain, is_sequence, has_row_form, number_of_text, number_of_row, halves, all_but, all_differ, split_differ, rows_shaped, rows_differ, rows_counted}
+use Rattle.termwiz_grammar.proofs.lemmas.table.ComputedTests.{is_inner, ends_well, has_shape, is_plain, has_sequence_bytes, has_row_form, number_of_text, number_of_row, halves, all_but, all_differ, split_differ, rows_shaped, rows_differ, rows_counted}
 
 -- what the first test says of a row
 pub record Shaped (text : List ℕ) : Type 0 where
   pub shape : has_shape text ≡ true
   pub short : length text < 12
-  pub sequence : is_sequence text ≡ true
+  pub sequence : has_sequence_bytes text ≡ true
 
 shaped_from_test : (text : List ℕ) → has_row_form text ≡ true → Shaped text
 shaped_from_test text h =
-    let parts = and_parts (has_shape text && nat_lt (length text) 12) (is_sequence text) h in
+    let parts = and_parts (has_shape text && nat_lt (length text) 12) (has_sequence_bytes text) h in
     let first = and_parts (has_shape text) (nat_lt (length text) 12) parts.0 in
     record {
       shape = first.0;
@@ -179,7 +179,7 @@ pub data Bytes (text : List ℕ) : Type 0 where
   one : (b : ℕ) → (b < 28) ⊎ (b ≡ 127) → text ≡ b ∷ [] → Bytes text
   more : (t : List ℕ) → t ≢ [] → text ≡ 27 ∷ t → AllByRecursion IsPlain t → Bytes text
 
-pub bytes_from_test : (text : List ℕ) → is_sequence text ≡ true → Bytes text
+pub bytes_from_test : (text : List ℕ) → has_sequence_bytes text ≡ true → Bytes text
 bytes_from_test [] e = absurd (cc (e))
 bytes_from_test (b ∷ []) e = one b (grind (arith, nat_tests)) refl
 bytes_from_test (b ∷ c ∷ t) e =
@@ -198,7 +198,7 @@ ends_here x (y ∷ s) t a b =
 
 -- Of the texts with the shape of a row, only three properly begin another.
 pub begins_another : (s t : List ℕ) → has_shape s ≡ true → has_shape (s ++ t) ≡ true
-    → is_sequence (s ++ t) ≡ true → t ≢ []
+    → has_sequence_bytes (s ++ t) ≡ true → t ≢ []
     → (s ≡ ESC) ⊎ (s ≡ CSI) ⊎ (s ≡ SS3)
 begins_another [] t a b c n = absurd (cc (a))
 begins_another (x ∷ []) [] a b c n = absurd (n refl)

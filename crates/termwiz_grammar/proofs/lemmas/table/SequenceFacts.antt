@@ -34,10 +34,10 @@ sequence_once text (Report r) (Row k) a b = absurd (not_both text k r b a)
 sequence_once text (Report r) (Report s) a b = ap (λ x. Report x) (report_once text r s a b)
 
 -- a sequence is one byte, or ESC and plain bytes
-pub known_bytes : (text : List ℕ) (m : Meaning) → IsSequence text m → Bytes text
+pub sequence_bytes : (text : List ℕ) (m : Meaning) → IsSequence text m → Bytes text
 unfolding IsSequence
-known_bytes text (Row k) a = bytes_from_test text (row_shaped text k a).sequence
-known_bytes text (Report r) a =
+sequence_bytes text (Row k) a = bytes_from_test text (row_shaped text k a).sequence
+sequence_bytes text (Report r) a =
     let f = report_plain text r a in
     more (91 ∷ 60 ∷ f.0) (λ h. cc (h)) f.1 ((omega arith, omega arith), ((omega arith, omega arith), f.2))
 
@@ -48,7 +48,7 @@ sequence_short text (Report r) a = report_short text r a
 
 -- a sequence isn't empty
 pub sequence_some : (text : List ℕ) (m : Meaning) → IsSequence text m → text ≢ []
-sequence_some text m a = go (known_bytes text m a)
+sequence_some text m a = go (sequence_bytes text m a)
   where
     go : Bytes text → text ≢ []
     go (one b l e) = λ h. cc (e, h)
@@ -116,7 +116,7 @@ unfinished_or_not u = decide_by
       a.tail,
       omega (arith, length-append u a.tail, sequence_short (u ++ a.tail) a.meaning a.is_sequence),
       true_at_end (λ b. b < 128) u a.tail
-          (bytes_small (u ++ a.tail) (known_bytes (u ++ a.tail) a.meaning a.is_sequence)),
+          (bytes_small (u ++ a.tail) (sequence_bytes (u ++ a.tail) a.meaning a.is_sequence)),
       (a.longer, (a.meaning, a.is_sequence)),
     ))
     (decide_lists 128 21 (λ t. (t ≢ []) × ((m : Meaning) × IsSequence (u ++ t) m))

@@ -20,7 +20,7 @@ use Rattle.termwiz_keymap.proofs.lemmas.lists.CommonPrefixes.{append-some, appen
 use Rattle.termwiz_grammar.proofs.lemmas.mouse.OneReport.{IsPlain}
 use Rattle.termwiz_grammar.proofs.lemmas.table.RowShape.{Bytes}
 use Rattle.termwiz_grammar.proofs.lemmas.table.RowShape.Bytes.{one, more}
-use Rattle.termwiz_grammar.proofs.lemmas.table.SequenceFacts.{known_bytes, start, start_is_sequence, start_ends, report_ends}
+use Rattle.termwiz_grammar.proofs.lemmas.table.SequenceFacts.{sequence_bytes, start, start_is_sequence, start_ends, report_ends}
 use Rattle.termwiz_grammar.proofs.lemmas.characters.CharacterPrefixes.{IsHigh, parted_high, sequence_low}
 use Rattle.termwiz_grammar.proofs.lemmas.items.ItemStable.{item_some}
 use Rattle.termwiz_grammar.proofs.lemmas.items.OneHead.{head_once, longest_whole}
@@ -300,7 +300,7 @@ pub undecided_law : Undecided
 undecided_law held [] is n u = absurd (n refl)
 undecided_law held (x ∷ p) is n (inl u) =
     let on =
-    sequence_from x p u.tail u.meaning u.longer u.is_sequence (known_bytes (x ∷ p ++ u.tail) u.meaning u.is_sequence) in
+    sequence_from x p u.tail u.meaning u.longer u.is_sequence (sequence_bytes (x ∷ p ++ u.tail) u.meaning u.is_sequence) in
     (u.tail, flush_matters (held ++ x ∷ p) u.tail (differ x p u.tail on held is))
 undecided_law held (x ∷ p) is n (inr u) =
     (u.tail, flush_matters (held ++ x ∷ p) u.tail (differ x p u.tail (character_from x p u) held is))

@@ -41,22 +41,22 @@ row_is_sequence : (text : List ℕ) (k : KeyEvent) → get table text ≡ Some k
 unfolding IsSequence
 row_is_sequence text k e = row_from_table text k e
 
-row_known : (text : List ℕ) (k : KeyEvent) → IsSequence text (Row k) → get table text ≡ Some k
+row_in_table : (text : List ℕ) (k : KeyEvent) → IsSequence text (Row k) → get table text ≡ Some k
 unfolding IsSequence
-row_known text k c = table_from_row text k c
+row_in_table text k c = table_from_row text k c
 
 report_is_sequence : (text : List ℕ) (event : MouseEvent) → IsMouseReport text event → IsSequence text (Report event)
 unfolding IsSequence
 report_is_sequence text event f = f
 
-report_known : (text : List ℕ) (event : MouseEvent) → IsSequence text (Report event) → IsMouseReport text event
+report_of_sequence : (text : List ℕ) (event : MouseEvent) → IsSequence text (Report event) → IsMouseReport text event
 unfolding IsSequence
-report_known text event f = f
+report_of_sequence text event f = f
 
 -- the key that the map answers for a beginning of the text
 stored_at : (u other : List ℕ) (k : KeyEvent) → Begins other u → IsSequence other (Row k)
     → get table (take (length other) u) ≡ Some k
-stored_at u other k b is_sequence = ap (get table) (begins_is other u b) ∙ row_known other k is_sequence
+stored_at u other k b is_sequence = ap (get table) (begins_is other u b) ∙ row_in_table other k is_sequence
 
 some_none : (o : Option KeyEvent) (k : KeyEvent) → o ≡ Some k → o ≡ None → ⊥
 some_none o k e f = cc
@@ -79,7 +79,7 @@ longest_from_key u n k none is = (
         (some_none _ j (stored_at u other j b is_sequence) (is.longest (length other) l (length-Begins other u b))))
         (λ (l : length other ≤ n). omega (arith, length-take-le n u is.within))
         (cases_lt n (length other))
-    at_most other (Report event) is_sequence b = absurd (none other event (report_known other event is_sequence) b)
+    at_most other (Report event) is_sequence b = absurd (none other event (report_of_sequence other event is_sequence) b)
 
 -- where a text properly begins a sequence, the map has a longer key that begins with it,
 -- or the text begins a mouse report
@@ -88,9 +88,9 @@ extended_from_unfinished u h never = go h.tail h.meaning h.longer h.is_sequence
   where
     go : (tail : List ℕ) (m : Meaning) → tail ≢ [] → IsSequence (u ++ tail) m → IsExtended table u
     go tail (Row k) longer is_sequence =
-        (tail, length-some tail longer, ap is_some (row_known (u ++ tail) k is_sequence))
+        (tail, length-some tail longer, ap is_some (row_in_table (u ++ tail) k is_sequence))
     go tail (Report event) longer is_sequence =
-        absurd (never (tail, event, longer, report_known (u ++ tail) event is_sequence))
+        absurd (never (tail, event, longer, report_of_sequence (u ++ tail) event is_sequence))
 
 stored_key : (o : Option KeyEvent) → IsSome o → (k : KeyEvent) × (o ≡ Some k)
 stored_key (Some k) h = (k, refl)
@@ -118,7 +118,7 @@ extended_waits (x ∷ u) ext = inl (open_from_extended (x ∷ u) (λ h. cc) ext)
 pub no_sequence : (u : List ℕ) → NoMouseReportBegins u → NoKeyBegins table u → NoSequenceBegins u
 no_sequence u none no_key text (Row k) is_sequence b =
     some_none _ k (stored_at u text k b is_sequence) (no_key (length text) (length-Begins text u b))
-no_sequence u none no_key text (Report event) is_sequence b = none text event (report_known text event is_sequence) b
+no_sequence u none no_key text (Report event) is_sequence b = none text event (report_of_sequence text event is_sequence) b
 
 same_pair : (d s c n : ℕ) → ◌≡◌ {A = Option (ℕ × ℕ)} (Some (d, s)) (Some (c, n)) → (d ≡ c) × (s ≡ n)
 same_pair d s c n e =

@@ -8,7 +8,7 @@ use Rattle.termwiz_grammar.specs.Sequences.{Meaning, IsSequence}
 use Rattle.termwiz_grammar.specs.Sequences.Meaning.{Row}
 use Rattle.termwiz_grammar.specs.Grammar.{IsUnfinishedSequence, IsUnfinishedCharacter}
 use Rattle.termwiz_input.specs.Matches.{NoSequenceBegins, CannotStartSequence, HasLoneEscape}
-use Rattle.termwiz_grammar.proofs.lemmas.table.SequenceFacts.{known_bytes, sequence_some, escape_is_sequence}
+use Rattle.termwiz_grammar.proofs.lemmas.table.SequenceFacts.{sequence_bytes, sequence_some, escape_is_sequence}
 use Rattle.termwiz_grammar.proofs.lemmas.characters.CharacterPrefixes.{sequence_finished}
 use Rattle.termwiz_grammar.proofs.lemmas.mouse.OneReport.{IsPlain}
 use Rattle.termwiz_grammar.proofs.lemmas.table.RowShape.{Bytes}
@@ -22,7 +22,7 @@ first_byte b t (more s n e plain) = let same : b ≡ 27 = ap (λ x. get_or x 0 0
 -- a sequence begins with no other byte
 not_sequence : (b : ℕ) (t : List ℕ) (m : Meaning) → 32 ≤ b → b ≢ 127 → IsSequence (b ∷ t) m → ⊥
 not_sequence b t m low other is_sequence =
-    let first = first_byte b t (known_bytes (b ∷ t) m is_sequence) in
+    let first = first_byte b t (sequence_bytes (b ∷ t) m is_sequence) in
     grind arith
 
 no_sequence : (b : ℕ) (u : List ℕ) → 32 ≤ b → b ≢ 127 → NoSequenceBegins (b ∷ u)
@@ -49,7 +49,7 @@ second_plain b t (more s n e plain) = go s plain (ap (drop 1) e)
     go (x ∷ s) plain e = subst IsPlain (ap (λ l. get_or l 0 0) (sym e)) plain.0
 
 not_after_escape : (b : ℕ) (t : List ℕ) (m : Meaning) → ¬ IsPlain b → IsSequence (27 ∷ b ∷ t) m → ⊥
-not_after_escape b t m other is_sequence = other (second_plain b t (known_bytes (27 ∷ b ∷ t) m is_sequence))
+not_after_escape b t m other is_sequence = other (second_plain b t (sequence_bytes (27 ∷ b ∷ t) m is_sequence))
 
 -- of the texts that begin such a text only ESC is a sequence
 at_most_escape : (b : ℕ) (u other : List ℕ) (m : Meaning) → ¬ IsPlain b → IsSequence other m → Begins other (27 ∷ b ∷ u)

@@ -2,7 +2,7 @@ use Rattle.std.proofs.Common.{◌++◌}
 use Rattle.std.specs.Prelude.{decimal}
 use Rattle.std.proofs.lemmas.List.{take_more}
 use Rattle.termwiz_keys.specs.Introducers.{CSI}
-use Rattle.termwiz_table.specs.Suffixes.{suffixes_with_bits}
+use Rattle.termwiz_table.specs.CodeLists.{suffixes_with_bits}
 use Rattle.termwiz_grammar.specs.Table.{key_with_each_suffix}
 use Rattle.termwiz_table.proofs.lemmas.InsertedRows.{rows_pushed}
 use Rattle.termwiz_table.proofs.function.insert_by_digit.Goals as goal

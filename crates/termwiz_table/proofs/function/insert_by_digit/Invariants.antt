@@ -1,6 +1,6 @@
 use Rattle.std.proofs.Common.{◌≡◌, take}
 use Rattle.termwiz_grammar.specs.Table.{with_rows, keys_by_digit}
-use Rattle.termwiz_table.specs.Suffixes.{suffixes_with_bits}
+use Rattle.termwiz_table.specs.CodeLists.{suffixes_with_bits}
 use Rattle.termwiz_table.proofs.function.insert_by_digit.Given as goal
 
 abbrev pub invariant-loop-digit : goal.invariant-loop-digit

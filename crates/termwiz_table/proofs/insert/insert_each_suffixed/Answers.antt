@@ -1,6 +1,6 @@
 use Rattle.std.proofs.lemmas.List.{map_more}
 use Rattle.termwiz_grammar.specs.Table.{key_with_each_suffix}
-use Rattle.termwiz_table.specs.Suffixes.{suffixes_with_bits}
+use Rattle.termwiz_table.specs.CodeLists.{suffixes_with_bits}
 use Rattle.termwiz_table.proofs.lemmas.InsertedRows.{rows_pushed}
 use Rattle.termwiz_table.proofs.insert.insert_each_suffixed.Goals as goal
 

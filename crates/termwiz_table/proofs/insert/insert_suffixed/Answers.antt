@@ -1,7 +1,7 @@
 use Rattle.std.proofs.Common.{◌∙◌, ◌++◌, ap}
 use Rattle.std.proofs.lemmas.List.{map_more}
 use Rattle.termwiz_keys.specs.Keys.{key_with}
-use Rattle.termwiz_table.specs.Suffixes.{held_together}
+use Rattle.termwiz_table.specs.CodeLists.{held_together}
 use Rattle.termwiz_table.proofs.lemmas.InsertedRows.{row_pushed}
 use Rattle.termwiz_table.proofs.insert.insert_suffixed.Goals as goal
 

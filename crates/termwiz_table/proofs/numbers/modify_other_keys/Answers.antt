@@ -1,6 +1,6 @@
 use Rattle.std.proofs.lemmas.List.{map_more}
 use Rattle.termwiz_grammar.specs.Table.{modify_other_keys_of}
-use Rattle.termwiz_table.specs.Suffixes.{held_together}
+use Rattle.termwiz_table.specs.CodeLists.{held_together}
 use Rattle.termwiz_table.proofs.lemmas.InsertedRows.{rows_pushed}
 use Rattle.termwiz_table.proofs.numbers.modify_other_keys.Goals as goal
 
