@@ -34,12 +34,11 @@ progress() { # text
     echo "$script: $1" >&2
 }
 
-# Says that times will be too long if the machine has other work.
+# Says that times will be too long if other programs run just now.
 note_load() {
-    local load
-    read -r load _ < /proc/loadavg
-    awk -v load="$load" 'BEGIN { exit load < 0.5 }' && progress "note: other work runs on this machine (load $load), so times will be too long"
-    return 0
+    local running
+    read -r _ _ _ running _ < /proc/loadavg
+    [ "${running%/*}" -le 1 ] || progress 'note: other programs run on this machine, so times will be too long'
 }
 
 missing='' packages=''

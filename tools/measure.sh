@@ -29,6 +29,7 @@ while [ $# -gt 0 ]; do
         *) break ;;
     esac
 done
+# (--runs 0 only builds and writes the corpora, for c_measure.sh.)
 [ "$runs" = 0 ] || want_number "$runs" --runs
 for read in ${reads//,/ }; do want_number "$read" --reads; done
 [ $# -gt 0 ] || set -- new typed utf8 keys csiu mouse mixed escapes cut paste
