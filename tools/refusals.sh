@@ -4,8 +4,7 @@
 #     tools/refusals.sh [--built] [--without-cc]
 #
 # It builds the programs refusals and keyshow, runs each case of the first and a stream through the second again and again, and
-# refuses one more request for memory each time (tools/refusals/refuse.c, preloaded), until a run meets no refusal. Of the
-# requests of InputParser::new it refuses each of the first 300, with those that come before, and then every 50th.
+# refuses one more request for memory each time (tools/refusals/refuse.c, preloaded), until a run meets no refusal.
 #
 # A case passes if the runs print the lines that tools/refusals/seen.txt has for it and no others, each of them at least once;
 # the first of its lines in the run that meets no refusal, and only there. keyshow passes if each run that meets a refusal
@@ -69,16 +68,6 @@ refuse() { # number program words..
     [ ! -s "$work/met" ] || met=1
 }
 
-# The number after this one. `new_end` is a number of requests that InputParser::new doesn't reach.
-new_end=0
-after() { # number
-    if [ "$1" -ge 300 ] && { [ "$new_end" -eq 0 ] || [ "$1" -lt $((new_end - 100)) ]; }; then
-        echo $(($1 + 50))
-    else
-        echo $(($1 + 1))
-    fi
-}
-
 passed=0 failed=0
 # Notes the outcome of a case, with what was wrong, if anything was.
 note() { # case number wrong
@@ -115,7 +104,7 @@ check_case() { # case
             wrong="status $status, and not a line of tools/refusals/seen.txt for a refusal"
             break
         fi
-        number=$(after "$number")
+        number=$((number + 1))
     done
     echo "$granted" >> "$work/seen"
     if [ -z "$wrong" ] && ! diff <(sort -u "$work/seen") <(sort "$work/wanted") > "$work/out"; then
@@ -140,15 +129,13 @@ check_keyshow() {
         fi
         [ "$status $(cat "$work/err")" = '1 keyshow: out of memory' ] || wrong="status $status, and another message"
         cmp -s "$work/out" <(head -c "$(stat -c %s "$work/out")" "$work/whole") || wrong='no prefix of the whole output'
-        [ -n "$wrong" ] || number=$(after "$number")
+        [ -n "$wrong" ] || number=$((number + 1))
     done
     [ -n "$wrong" ] || [ "$number" -gt 1 ] || wrong='no request was refused'
     note keyshow "$number" "$wrong"
 }
 
-check_case new
-new_end=$number
-for case in extend_with insert clone-map clone-event encode parse parse_as_vec parse_as_vec-paste parse_as_vec-long parse_pieces; do
+for case in new extend_with insert clone-map clone-event encode parse parse_as_vec parse_as_vec-paste parse_as_vec-long parse_pieces; do
     check_case "$case"
 done
 check_keyshow

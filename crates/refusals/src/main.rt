@@ -112,11 +112,13 @@ fn show_extend(rt: &HostRuntime) -> Result<(), Failure> {
     Ok(print!(rt; " / length {}", buffer.len())?)
 }
 
-// Sets `boom` beside `boo`, and looks `boo` up.
+// Sets a key beside `boo` that goes on after it, and looks `boo` up. The key is so long that it takes memory of its own.
 fn show_insert(rt: &HostRuntime) -> Result<(), Failure> {
     let mut keys = KeyMap::new(rt.alloc());
     keys.insert(b"boo", 1u8)?;
-    let refused = parts::insert(&mut keys, b"boom", 2, b"boo").map_err(|_| Failure::Failed)?;
+    let refused = parts::insert(&mut keys, b"boomerang thrower", 2, b"boo").map_err(
+        |_| Failure::Failed,
+    )?;
     if let Some(found) = refused {
         print!(rt; " / refused, boo {found:?}")?;
     }

@@ -237,16 +237,15 @@ application_home_end_rows = keys_with_modifiers SS3 home_and_end NONE
 unfoldable pub ctrl_shift_tab_rows : List TableRow
 ctrl_shift_tab_rows = (CSI ++ codes "1;5Z", key_with Tab (CTRL + SHIFT)) ∷ []
 
--- the whole table. Its rows are all different, so the order of the rules says nothing:
--- those whose bytes come first stand first, as far as rules go.
+-- the whole table. Its rows are all different, so the order of the rules says nothing.
 unfoldable pub rows : List TableRow
 rows =
     control_letters_rows ++ backspace_bytes_rows ++ tab_byte_rows ++ enter_bytes_rows ++ escape_byte_rows
     ++ alt_letters_rows ++ alt_bracket_rows ++ ctrl_arrows_rows ++ application_arrows_rows
-    ++ modified_application_arrows_rows ++ ss3_function_keys_rows ++ application_home_end_rows
-    ++ modified_cursor_keys_rows ++ lettered_function_keys_rows ++ ctrl_shift_tab_rows ++ paste_start_rows
-    ++ paste_end_rows ++ numbered_function_keys_rows ++ modify_other_keys_rows ++ csi_u_rows ++ high_function_keys_rows
-    ++ modified_edit_keys_rows ++ edit_keys_rows ++ cursor_keys_rows ++ shift_tab_rows ++ shift_arrows_rows
+    ++ modified_application_arrows_rows ++ ss3_function_keys_rows ++ application_home_end_rows ++ cursor_keys_rows
+    ++ shift_tab_rows ++ shift_arrows_rows ++ edit_keys_rows ++ modified_edit_keys_rows ++ paste_start_rows
+    ++ paste_end_rows ++ modified_cursor_keys_rows ++ lettered_function_keys_rows ++ ctrl_shift_tab_rows
+    ++ numbered_function_keys_rows ++ high_function_keys_rows ++ csi_u_rows ++ modify_other_keys_rows
 
 -- the table, written out: to unfold this is to unfold every rule
 unfoldable pub written_out : List TableRow

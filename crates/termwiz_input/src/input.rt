@@ -124,6 +124,7 @@ impl InputParser {
     {
         let mut key_map = KeyMap::new(alloc);
         add_rows(alloc, &mut key_map)?;
+        key_map.remember()?;
         Ok(InputParser {
             key_map,
             buffer: ReadBuffer::new(alloc),

@@ -1,12 +1,11 @@
 -- A map from byte lists as the list of its rows, in ascending order of their keys.
-use Rattle.std.specs.Prelude.{◌≡◌, ◌≢◌, ◌<◌, ◌≤◌, ℕ, List, get_or, length, take, map as each}
+use Rattle.std.specs.Prelude.{◌≡◌, ◌≢◌, ◌<◌, ◌≤◌, ℕ, List, get_or, length, take, map as each, nat_le, if◌then◌else◌}
 use Rattle.std.specs.Ordering.{nat_cmp}
 use Rattle.std.specs.declared.cmp.Ordering.TheVariants.{Less}
 use Rattle.std.specs.Cmp.Lexicographic.{slice_cmp}
 use Rattle.std.specs.List.{AllZip}
-use Rattle.std.specs.Global.{Box}
 use Rattle.termwiz_keymap.specs.declared.keymap.row.Row.{Row}
-use Rattle.termwiz_keymap.specs.Bytes.{Begins}
+use Rattle.termwiz_keymap.specs.declared.keymap.row.TheConstants.{SHORT}
 use Rattle.termwiz_keymap.specs.Entries.{Entries}
 
 -- a key and a text have the same first bytes, so many of them and no more
@@ -23,81 +22,55 @@ pub record ShareFirst (key text : List ℕ) (count : ℕ) : Type 0 where
   pub same : (i : ℕ) → i < count → get_or key i 0 ≡ get_or text i 0
 
 module _ {V : Type 0} where
-  -- the key of a row, and its value
-  abbrev pub key_of : Box (Row V) → List ℕ
-  key_of row = row.value.key.items
+  -- the key of a row: a short one stands in the row itself, a long one in a vector
+  unfoldable pub key_of : Row V → List ℕ
+  key_of row = if nat_le row.len SHORT then take row.len row.short else row.long.items
 
-  abbrev pub value_of : Box (Row V) → V
-  value_of row = row.value.value
+  -- the value of a row
+  abbrev pub value_of : Row V → V
+  value_of row = row.value
 
   -- the rows as entries
-  abbrev pub row_entries : List (Box (Row V)) → Entries V
+  abbrev pub row_entries : List (Row V) → Entries V
   row_entries rows = each (λ row. (key_of row, value_of row)) rows
 
   -- each key is before those after it, in the order of bytes
-  abbrev pub AreAscending : List (Box (Row V)) → Type 0
-  AreAscending rows = (i j : ℕ) (r : Box (Row V)) → i < j → j < length rows
+  abbrev pub AreAscending : List (Row V) → Type 0
+  AreAscending rows = (i j : ℕ) (r : Row V) → i < j → j < length rows
       → slice_cmp nat_cmp (key_of (get_or rows i r)) (key_of (get_or rows j r)) ≡ Less
 
   -- the row has this key and this value
-  pub record IsRowOf (k : List ℕ) (v : V) (row : Box (Row V)) : Type 0 where
+  pub record IsRowOf (k : List ℕ) (v : V) (row : Row V) : Type 0 where
     pub key : key_of row ≡ k
     pub value : value_of row ≡ v
 
   -- the copy has the row's key, and a clone of its value
-  pub record IsRowClone (is_clone : V → V → Type 0) (row copy : Box (Row V)) : Type 0 where
+  pub record IsRowClone (is_clone : V → V → Type 0) (row copy : Row V) : Type 0 where
     pub key : key_of copy ≡ key_of row
     pub value : is_clone (value_of row) (value_of copy)
 
-  abbrev pub AreRowClones : (V → V → Type 0) → List (Box (Row V)) → List (Box (Row V)) → Type 0
+  abbrev pub AreRowClones : (V → V → Type 0) → List (Row V) → List (Row V) → Type 0
   AreRowClones is_clone rows copies = AllZip (IsRowClone is_clone) rows copies
 
   -- the row at place i has this key
-  pub record IsAt (rows : List (Box (Row V))) (key : List ℕ) (i : ℕ) : Type 0 where
+  pub record IsAt (rows : List (Row V)) (key : List ℕ) (i : ℕ) : Type 0 where
     pub in_range : i < length rows
-    pub same : (r : Box (Row V)) → key_of (get_or rows i r) ≡ key
+    pub same : (r : Row V) → key_of (get_or rows i r) ≡ key
 
   -- a row with this key would stand at place i
-  pub record IsGapFor (rows : List (Box (Row V))) (key : List ℕ) (i : ℕ) : Type 0 where
+  pub record IsGapFor (rows : List (Row V)) (key : List ℕ) (i : ℕ) : Type 0 where
     pub in_range : i ≤ length rows
-    pub smaller_before : (j : ℕ) (r : Box (Row V)) → j < i → slice_cmp nat_cmp (key_of (get_or rows j r)) key ≡ Less
-    pub greater_after : (j : ℕ) (r : Box (Row V)) → i ≤ j → j < length rows
+    pub smaller_before : (j : ℕ) (r : Row V) → j < i → slice_cmp nat_cmp (key_of (get_or rows j r)) key ≡ Less
+    pub greater_after : (j : ℕ) (r : Row V) → i ≤ j → j < length rows
         → slice_cmp nat_cmp key (key_of (get_or rows j r)) ≡ Less
 
-  -- none of the rows' keys is after this one
-  abbrev pub AreUpTo : List (Box (Row V)) → List ℕ → Type 0
-  AreUpTo rows key = (i : ℕ) (r : Box (Row V)) → i < length rows
-      → slice_cmp nat_cmp key (key_of (get_or rows i r)) ≢ Less
-
   -- none of the rows before the first place has a key after this one, and each from the second place on has
-  pub record IsBounded (rows : List (Box (Row V))) (key : List ℕ) (low high : ℕ) : Type 0 where
+  pub record IsBounded (rows : List (Row V)) (key : List ℕ) (low high : ℕ) : Type 0 where
     pub low_inside : low ≤ length rows
     pub high_inside : high ≤ length rows
-    pub up_to : (i : ℕ) (r : Box (Row V)) → i < low → slice_cmp nat_cmp key (key_of (get_or rows i r)) ≢ Less
-    pub after : (i : ℕ) (r : Box (Row V)) → high ≤ i → i < length rows
-        → slice_cmp nat_cmp key (key_of (get_or rows i r)) ≡ Less
+    pub up_to : (i : ℕ) (r : Row V) → i < low → slice_cmp nat_cmp key (key_of (get_or rows i r)) ≢ Less
+    pub after : (i : ℕ) (r : Row V) → high ≤ i → i < length rows → slice_cmp nat_cmp key (key_of (get_or rows i r)) ≡ Less
 
   -- the first rows, so many of them, are those whose keys aren't after this one
-  pub record IsCountUpTo (rows : List (Box (Row V))) (key : List ℕ) (count : ℕ) : Type 0 where
-    pub in_range : count ≤ length rows
-    pub up_to : AreUpTo (take count rows) key
-    pub after : (i : ℕ) (r : Box (Row V)) → count ≤ i → i < length rows
-        → slice_cmp nat_cmp key (key_of (get_or rows i r)) ≡ Less
-
-  -- the last row whose key begins the text has so many bytes and this value
-  pub record IsLastBegins (rows : List (Box (Row V))) (text : List ℕ) (len : ℕ) (value : V) : Type 0 where
-    pub place : ℕ
-    pub in_range : place < length rows
-    pub inside : len ≤ length text
-    pub key : (r : Box (Row V)) → key_of (get_or rows place r) ≡ take len text
-    pub its_value : (r : Box (Row V)) → value_of (get_or rows place r) ≡ value
-    pub last : (i : ℕ) (r : Box (Row V)) → place < i → i < length rows → ¬ Begins (key_of (get_or rows i r)) text
-
-  -- no row's key begins the text
-  abbrev pub NoneBegins : List (Box (Row V)) → List ℕ → Type 0
-  NoneBegins rows text = (i : ℕ) (r : Box (Row V)) → i < length rows → ¬ Begins (key_of (get_or rows i r)) text
-
-  -- the first row's key begins with the text
-  pub record FirstGoesOn (rows : List (Box (Row V))) (text : List ℕ) : Type 0 where
-    pub some : 0 < length rows
-    pub begins : (r : Box (Row V)) → Begins text (key_of (get_or rows 0 r))
+  abbrev pub IsCountUpTo : List (Row V) → List ℕ → ℕ → Type 0
+  IsCountUpTo rows key count = IsBounded rows key count count

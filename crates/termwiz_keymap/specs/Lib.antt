@@ -1,5 +1,6 @@
 pub mod Bytes
 pub mod Entries
-pub mod KeyBuckets
+pub mod KeyRanges
 pub mod KeyRows
 pub mod Lookup
+pub mod Remembering

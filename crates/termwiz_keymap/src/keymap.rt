@@ -3,20 +3,25 @@
 ghost use Rattle.std.specs.Prelude.{◌≡◌, ◌↔◌, IsTrue, IfOk, IfSome, IfNone, OnOk, OnErr};
 ghost use Rattle.std.specs.FinMap as map;
 
-mod buckets;
+mod gap_buffer;
 #[cfg(test)]
 mod plain;
+mod range;
+mod remembered;
 mod row;
 mod search;
 #[cfg(test)]
 mod tests;
+mod text_range;
 
-use buckets::{BUCKET_STARTS, bucket_of, move_later};
+use gap_buffer::GapBuffer;
+use remembered::{Remembered, remembered_ranges};
 use row::{Row, copied, new_row};
-use search::{count_up_to, first_goes_on, longest_of, place_of};
+use search::place_of;
 use std::alloc::{AllocError, Global};
 use std::fmt::Debug;
 use std::marker::Model;
+use text_range::range_of;
 
 /// The answer of [`KeyMap::lookup`].
 #[derive(Clone, PartialEq, Eq, Debug, Drop)]
@@ -32,11 +37,12 @@ pub enum Found<Value> {
 }
 
 /// A finite map from byte strings to values: one list of rows, whose keys strictly ascend in the order of
-/// their bytes, and the places in it where the buckets of keys start.
+/// their bytes.
 #[derive(Debug, Drop)]
 pub struct KeyMap<V: Debug + Clone + Drop> {
-    rows: Vec<Box<Row<V>>>,
-    starts: [usize; BUCKET_STARTS],
+    rows: GapBuffer<Row<V>>,
+    // Remembered ranges of these rows. They follow from the rows, and say nothing more of the map.
+    places: Vec<Remembered>,
     alloc: Global,
 }
 
@@ -46,15 +52,15 @@ impl<V: Debug + Clone + Drop> Model for KeyMap<V> {
     ghost use Rattle.std.specs.FinMap as map;
     ghost use Rattle.std.specs.Coded.{coded_ℕ, coded_list};
     ghost use Rattle.termwiz_keymap.specs.KeyRows.{row_entries};
-    ghost use Rattle.termwiz_keymap.specs.KeyBuckets.{AreIndexed};
+    ghost use Rattle.termwiz_keymap.specs.Remembering.{AreSearchable};
 
     ghost Value = { map.FinMap (slice_cmp nat_cmp) V };
 
     ghost coded = { map.code (coded_list coded_ℕ) V.code };
 
-    ghost view = { λ m. map.from_entries (row_entries m.rows.items) };
+    ghost view = { λ m. map.from_entries (row_entries m.rows) };
 
-    ghost invariant = { λ m. AreIndexed m.rows.items m.starts };
+    ghost invariant = { λ m. AreSearchable m.rows m.places.items };
 }
 
 impl<V: Debug + Clone + Drop> KeyMap<V> {
@@ -65,8 +71,8 @@ impl<V: Debug + Clone + Drop> KeyMap<V> {
         ensures { result ≡ map.empty }
     {
         KeyMap {
-            rows: Vec::new(alloc),
-            starts: [0; BUCKET_STARTS],
+            rows: GapBuffer::from_vec(alloc, Vec::new(alloc)),
+            places: Vec::new(alloc),
             alloc,
         }
     }
@@ -75,19 +81,39 @@ impl<V: Debug + Clone + Drop> KeyMap<V> {
     /// value. The empty key is a key like any other.
     ///
     /// Fails only if memory is refused; the map is then unchanged, and `value` is dropped.
-    #[tactic(auto, using(crate::proofs::lemmas::rows::KeysInRows::row_inserted, crate::proofs::lemmas::rows::KeysInRows::row_replaced, crate::proofs::lemmas::rows::BucketsRise::indexed_set))]
+    #[tactic(auto, using(crate::proofs::lemmas::rows::KeysInRows::row_inserted, crate::proofs::lemmas::rows::KeysInRows::row_replaced, crate::proofs::lemmas::rows::RememberedRanges::searchable_set, crate::proofs::lemmas::rows::RememberedRanges::searchable_inserted))]
     pub fn insert(&mut self, key: &[u8], value: V) -> Result<(), AllocError>
         ensures ok { OnOk result (self.new ≡ map.insert self.old key.now value) }
         ensures err { OnErr result (self.new ≡ self.old) }
     {
-        match place_of(&self.rows, &self.starts, key) {
-            Ok(place) => self.rows[place].value = value,
-            Err(place) => {
-                let row = new_row(self.alloc, key, value)?;
-                self.rows.insert(place, row)?;
-                move_later(&mut self.starts, bucket_of(key));
+        let row = new_row(self.alloc, key, value)?;
+        self.places.clear();
+        match place_of(&self.rows, key, self.rows.gap()) {
+            Ok(place) => {
+                self.rows.set(place, row);
+                Ok(())
             }
+            Err(place) => self.rows.insert(place, row),
         }
+    }
+
+    /// Asks once for the memory of so many keys more, so that inserts needn't ask for it again and again. A long key still takes
+    /// memory of its own. The map stays the same. Fails only if memory is refused.
+    pub fn reserve(&mut self, additional: usize) -> Result<(), AllocError>
+        ensures { self.new ≡ self.old }
+    {
+        self.rows.reserve(additional)
+    }
+
+    /// Remembers ranges of keys that begin with the same bytes, so that lookups are quicker. It is there for speed alone: the map
+    /// stays the same, and so do all answers. Fails only if memory is refused; it then remembers no more than before.
+    ///
+    /// Call it after the last insert, since each insert forgets what is remembered. A clone remembers nothing.
+    pub fn remember(&mut self) -> Result<(), AllocError>
+        ensures { self.new ≡ self.old }
+    {
+        self.rows.close()?;
+        self.places = remembered_ranges(self.alloc, &self.rows)?;
         Ok(())
     }
 
@@ -111,18 +137,20 @@ impl<V: Debug + Clone + Drop> KeyMap<V> {
     }
 
     // The length and the value of the longest key that is a prefix of a text, and whether some key begins
-    // with the whole text and is longer. The keys up to the text come first in the list: the longest is among
-    // them, and the first of the others goes on where any does.
+    // with the whole text and is longer.
     fn walk(&self, text: &[u8]) -> (Option<(usize, &V)>, bool)
         ensures longest { IfSome result.0 (λ found. IsLongestKey self.now text.now found.0 found.1.now) }
         ensures none { IfNone result.0 (NoKeyBegins self.now text.now) }
         ensures extended { IsTrue result.1 ↔ IsExtended self.now text.now }
     {
-        let count = count_up_to(&self.rows, &self.starts, text);
-        (
-            longest_of(&self.rows[..count], &self.starts, text),
-            first_goes_on(&self.rows[count..], text),
-        )
+        let range = range_of(&self.rows, &self.places, text);
+        let extended = range.low < range.high;
+        if range.longest < self.rows.len() {
+            let row = &self.rows[range.longest];
+            (Some((row.key().len(), &row.value)), extended)
+        } else {
+            (None, extended)
+        }
     }
 
     /// A map with the same keys and with a clone of each value. If clones of the values equal them,
@@ -136,8 +164,8 @@ impl<V: Debug + Clone + Drop> KeyMap<V> {
         ensures same { ClonesEqual V.is_clone → IfOk result (λ copy. copy ≡ self.now) }
     {
         Ok(KeyMap {
-            rows: copied(self.alloc, &self.rows)?,
-            starts: self.starts,
+            rows: GapBuffer::from_vec(self.alloc, copied(self.alloc, &self.rows)?),
+            places: Vec::new(self.alloc),
             alloc: self.alloc,
         })
     }

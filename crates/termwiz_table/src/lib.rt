@@ -30,15 +30,19 @@ use std::alloc::{AllocError, Global};
 use termwiz_keymap::keymap::KeyMap;
 use termwiz_keys::types::KeyEvent;
 
+// The rows for which memory is asked at once; they are some fewer.
+const ROOM: usize = 3072;
+
 /// Puts all rows of the sequence table into `keys`, a key map from sequences to keys. If memory is refused, a part of the rows may
 /// be in the map.
 ///
-/// The order of the rules is for speed: first those whose bytes come first, as far as rules go, since a row that is inserted
-/// moves all that come after it.
+/// The order of the rules is for speed: those whose rows lie far apart come before those with many rows, since an insert moves the rows
+/// between its place and that of the one before.
 #[tactic(auto, using(crate::proofs::lemmas::InsertedRows::joined_rows), unfolding(termwiz_grammar::specs::Table::rows))]
 pub fn add_rows(alloc: Global, keys: &mut KeyMap<KeyEvent>) -> Result<(), AllocError>
     ensures { OnOk result (keys.new ≡ with_rows keys.old rows) }
 {
+    keys.reserve(ROOM)?;
     control_letters(keys)?;
     backspace_bytes(keys)?;
     tab_byte(keys)?;
@@ -51,18 +55,18 @@ pub fn add_rows(alloc: Global, keys: &mut KeyMap<KeyEvent>) -> Result<(), AllocE
     modified_application_arrows(alloc, keys)?;
     ss3_function_keys(alloc, keys)?;
     application_home_end(alloc, keys)?;
+    cursor_keys(alloc, keys)?;
+    shift_tab(keys)?;
+    shift_arrows(alloc, keys)?;
+    edit_keys(alloc, keys)?;
+    modified_edit_keys(alloc, keys)?;
+    paste_start(keys)?;
+    paste_end(keys)?;
     modified_cursor_keys(alloc, keys)?;
     lettered_function_keys(alloc, keys)?;
     ctrl_shift_tab(keys)?;
-    paste_start(keys)?;
-    paste_end(keys)?;
     numbered_function_keys(alloc, keys)?;
-    modify_other_keys(alloc, keys)?;
-    csi_u(alloc, keys)?;
     high_function_keys(alloc, keys)?;
-    modified_edit_keys(alloc, keys)?;
-    edit_keys(alloc, keys)?;
-    cursor_keys(alloc, keys)?;
-    shift_tab(keys)?;
-    shift_arrows(alloc, keys)
+    csi_u(alloc, keys)?;
+    modify_other_keys(alloc, keys)
 }

@@ -1,6 +1,10 @@
+pub mod AscendingRows
 pub mod BinarySearch
+pub mod ByteSearch
 pub mod ClonedRows
-pub mod BucketsRise
+pub mod GoingOn
 pub mod KeyOrder
 pub mod KeysInRows
-pub mod LongestKey
+pub mod Narrowing
+pub mod RangeLookups
+pub mod RememberedRanges

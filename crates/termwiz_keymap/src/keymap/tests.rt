@@ -1,7 +1,6 @@
 //! Lookups whose answers come from outside, and the map against the plain one.
 ghost use Rattle.std.specs.Prelude.{◌<◌};
 
-use super::buckets::{BUCKET_STARTS, bucket_of};
 use super::plain::PlainMap;
 use super::{Found, KeyMap};
 use std::alloc::{AllocError, Global};
@@ -34,17 +33,26 @@ fn filled_backwards(alloc: Global, case: &Case) -> Result<KeyMap<bool>, AllocErr
     Ok(map)
 }
 
-// Checks a case whose keys are all different: in a map, in a clone of it, and in a map whose keys were put
-// in in reverse order.
-fn check(rt: &impl Abort, alloc: Global, case: &Case) -> Result<(), AllocError> {
-    let map = filled(alloc, case)?;
-    let copy = map.clone()?;
-    let backwards = filled_backwards(alloc, case)?;
+// Checks the answers of a map.
+fn check_answers(rt: &impl Abort, map: &KeyMap<bool>, case: &Case) {
     for (text, maybe_more, answer) in case.lookups {
         assert_eq!(rt; map.lookup(text, *maybe_more), *answer);
-        assert_eq!(rt; copy.lookup(text, *maybe_more), *answer);
-        assert_eq!(rt; backwards.lookup(text, *maybe_more), *answer);
     }
+}
+
+// Checks a case whose keys are all different: in a map, in a clone of it, and in a map whose keys were put
+// in in reverse order; then in these maps with remembered ranges.
+fn check(rt: &impl Abort, alloc: Global, case: &Case) -> Result<(), AllocError> {
+    let mut map = filled(alloc, case)?;
+    let mut backwards = filled_backwards(alloc, case)?;
+    check_answers(rt, &map, case);
+    check_answers(rt, &map.clone()?, case);
+    check_answers(rt, &backwards, case);
+    map.remember()?;
+    backwards.remember()?;
+    check_answers(rt, &map, case);
+    check_answers(rt, &map.clone()?, case);
+    check_answers(rt, &backwards, case);
     Ok(())
 }
 
@@ -218,6 +226,25 @@ fn many_keys(rt: HostRuntime) -> Result<(), Fail> {
     Ok(())
 }
 
+// Keys that come alternately from both ends of their order, so that each insert is far from the one before.
+#[test]
+fn keys_far_apart_in_memory_asked_for_before(rt: HostRuntime) -> Result<(), Fail> {
+    let mut map = KeyMap::new(rt.alloc());
+    map.reserve(6000)?;
+    for number in 0u32..3000 {
+        map.insert(&two_bytes(number), number)?;
+        map.insert(&two_bytes(5999 - number), 5999 - number)?;
+    }
+    map.reserve(1)?;
+    for number in 0u32..6000 {
+        assert_eq!(rt;
+            map.lookup(&two_bytes(number), true),
+            Found::Exact(2, &number)
+        );
+    }
+    Ok(())
+}
+
 #[test]
 fn clones_its_texts(rt: HostRuntime) -> Result<(), Fail> {
     let mut map = KeyMap::new(rt.alloc());
@@ -283,13 +310,32 @@ impl Numbers {
         Ok(text)
     }
 
-    // A text that begins as sequences do, and goes on with at most three of the bytes on both sides of a border between buckets.
-    fn sequence(&mut self, alloc: Global) -> Result<Vec<u8>, AllocError> {
+    // A text that begins as all of its kind do, and goes on with at most three of four bytes.
+    fn nested(&mut self, alloc: Global) -> Result<Vec<u8>, AllocError> {
         let mut text = Vec::new(alloc);
-        let len = self.below(4) as usize;
-        text.extend_from_slice(&b"\x1b[1"[..len])?;
+        let len = self.below(19) as usize;
+        text.extend_from_slice(&b"a common beginning"[..len])?;
         for _ in 0..self.below(4) {
-            text.push(b"\x1a\x1b\x1cZ[\\/019:"[self.below(11) as usize])?;
+            text.push(b"\x00\x01\xfe\xff"[self.below(4) as usize])?;
+        }
+        Ok(text)
+    }
+
+    // Five bytes, of which the last three are any of four.
+    fn bytes(&mut self, alloc: Global) -> Result<Vec<u8>, AllocError> {
+        let mut text = Vec::new(alloc);
+        text.extend_from_slice(b"\x00\xff")?;
+        for _ in 0..3 {
+            text.push(b"\x00\x01\xfe\xff"[self.below(4) as usize])?;
+        }
+        Ok(text)
+    }
+
+    // A text of some 300 bytes.
+    fn long(&mut self, alloc: Global) -> Result<Vec<u8>, AllocError> {
+        let mut text = long_text(alloc, 298 + self.below(4) as usize)?;
+        for _ in 0..self.below(3) {
+            text.push(b"\x00\xff"[self.below(2) as usize])?;
         }
         Ok(text)
     }
@@ -298,7 +344,9 @@ impl Numbers {
     fn draw(&mut self, alloc: Global, kind: Kind) -> Result<Vec<u8>, AllocError> {
         match kind {
             Kind::Letters => self.text(alloc),
-            Kind::Sequences => self.sequence(alloc),
+            Kind::Nested => self.nested(alloc),
+            Kind::Bytes => self.bytes(alloc),
+            Kind::Long => self.long(alloc),
         }
     }
 }
@@ -307,7 +355,18 @@ impl Numbers {
 #[derive(Clone, Copy)]
 enum Kind {
     Letters,
-    Sequences,
+    Nested,
+    Bytes,
+    Long,
+}
+
+// When a test has the map remember its ranges.
+#[derive(Clone, Copy)]
+enum When {
+    Never,
+    Before,
+    Between,
+    After,
 }
 
 // Looks ten texts up in both maps.
@@ -336,55 +395,113 @@ fn assert_grow_alike(
     alloc: Global,
     numbers: &mut Numbers,
     kind: Kind,
+    when: When,
 ) -> Result<(), AllocError> {
     let mut map = KeyMap::new(alloc);
     let mut plain = PlainMap::new(alloc);
+    if matches!(when, When::Before) {
+        map.remember()?;
+    }
     map.insert(b"", 60)?;
     plain.insert(b"", 60)?;
     for value in 0u32..60 {
         let key = numbers.draw(alloc, kind)?;
         map.insert(&key, value)?;
         plain.insert(&key, value)?;
+        if matches!(when, When::Between) && value % 7 < 4 {
+            map.remember()?;
+        }
         assert_alike(rt, alloc, numbers, kind, &map, &plain)?;
     }
-    assert_starts(rt, &map);
-    Ok(())
+    if matches!(when, When::After) {
+        map.remember()?;
+    }
+    assert_alike(rt, alloc, numbers, kind, &map, &plain)?;
+    assert_alike(rt, alloc, numbers, kind, &map.clone()?, &plain)
+}
+
+// The same for each kind of texts, several times.
+fn assert_kinds_alike(rt: &impl Abort, alloc: Global, when: When) -> Result<(), AllocError> {
+    let mut numbers = Numbers(1);
+    for _ in 0..8 {
+        assert_grow_alike(rt, alloc, &mut numbers, Kind::Letters, when)?;
+        assert_grow_alike(rt, alloc, &mut numbers, Kind::Nested, when)?;
+        assert_grow_alike(rt, alloc, &mut numbers, Kind::Bytes, when)?;
+    }
+    assert_grow_alike(rt, alloc, &mut numbers, Kind::Long, when)
 }
 
 #[test]
 fn map_and_plain_map_agree(rt: HostRuntime) -> Result<(), Fail> {
-    let mut numbers = Numbers(1);
-    for _ in 0..8 {
-        assert_grow_alike(&rt, rt.alloc(), &mut numbers, Kind::Letters)?;
-        assert_grow_alike(&rt, rt.alloc(), &mut numbers, Kind::Sequences)?;
+    Ok(assert_kinds_alike(&rt, rt.alloc(), When::Never)?)
+}
+
+#[test]
+fn map_that_remembers_first_and_plain_map_agree(rt: HostRuntime) -> Result<(), Fail> {
+    Ok(assert_kinds_alike(&rt, rt.alloc(), When::Before)?)
+}
+
+#[test]
+fn map_that_remembers_between_and_plain_map_agree(rt: HostRuntime) -> Result<(), Fail> {
+    Ok(assert_kinds_alike(&rt, rt.alloc(), When::Between)?)
+}
+
+#[test]
+fn map_that_remembers_last_and_plain_map_agree(rt: HostRuntime) -> Result<(), Fail> {
+    Ok(assert_kinds_alike(&rt, rt.alloc(), When::After)?)
+}
+
+// Looks up each decimal number below a limit, with a byte before it, and with one of two after it.
+fn assert_decimals_alike(
+    rt: &impl Abort,
+    alloc: Global,
+    limit: u32,
+    map: &KeyMap<u32>,
+    plain: &PlainMap<u32>,
+) -> Result<(), AllocError> {
+    for number in 0..limit {
+        let text = format!(in alloc; "#{number}")?;
+        let after = format!(in alloc; "#{number}~#")?;
+        for maybe_more in [true, false] {
+            assert_eq!(rt;
+                map.lookup(text.as_bytes(), maybe_more),
+                plain.lookup(text.as_bytes(), maybe_more)
+            );
+            assert_eq!(rt;
+                map.lookup(after.as_bytes(), maybe_more),
+                plain.lookup(after.as_bytes(), maybe_more)
+            );
+        }
     }
     Ok(())
 }
 
-// Each bucket starts after the rows whose buckets are smaller, as counted.
-fn assert_starts(rt: &impl Abort, map: &KeyMap<u32>) {
-    for bucket in 0..BUCKET_STARTS {
-        let smaller = map
-            .rows
-            .iter()
-            .filter(|row| bucket_of(&row.key) < bucket)
-            .count();
-        assert_eq!(rt; map.starts[bucket], smaller);
+#[test]
+fn keys_in_reverse_order(rt: HostRuntime) -> Result<(), Fail> {
+    let alloc = rt.alloc();
+    let mut map = KeyMap::new(alloc);
+    let mut plain = PlainMap::new(alloc);
+    for number in 0u32..300 {
+        let key = format!(in alloc; "#{}~", 299 - number)?;
+        map.insert(key.as_bytes(), number)?;
+        plain.insert(key.as_bytes(), number)?;
+        if number == 150 {
+            map.remember()?;
+        }
     }
+    assert_decimals_alike(&rt, alloc, 310, &map, &plain)?;
+    map.remember()?;
+    assert_decimals_alike(&rt, alloc, 310, &map, &plain)?;
+    assert_decimals_alike(&rt, alloc, 310, &map.clone()?, &plain)?;
+    Ok(())
 }
 
 #[test]
-fn buckets_start_where_they_are_counted(rt: HostRuntime) -> Result<(), Fail> {
-    let mut descending = KeyMap::new(rt.alloc());
-    let mut mixed = KeyMap::new(rt.alloc());
-    for number in 0u32..256 {
-        let last = format!(in rt.alloc(); "\x1b[{}u", 255 - number)?;
-        descending.insert(last.as_bytes(), number)?;
-        let any = format!(in rt.alloc(); "\x1b[{}~", number * 37 % 256)?;
-        mixed.insert(any.as_bytes(), number)?;
-    }
-    assert_starts(&rt, &descending);
-    assert_starts(&rt, &mixed);
-    assert_starts(&rt, &mixed.clone()?);
+fn later_value_where_ranges_are_remembered(rt: HostRuntime) -> Result<(), Fail> {
+    let mut map = numbered(rt.alloc(), 3000)?;
+    map.remember()?;
+    map.insert(&two_bytes(700), 1)?;
+    assert_eq!(rt; map.lookup(&two_bytes(700), true), Found::Exact(2, &1));
+    assert_eq!(rt; map.lookup(&two_bytes(701), true), Found::Exact(2, &701));
     Ok(())
 }

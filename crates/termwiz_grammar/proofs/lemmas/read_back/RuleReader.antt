@@ -135,11 +135,11 @@ reading_means part text k are e = go (row_key part text) refl
 abbrev rules : List (List TableRow)
 rules =
     backspace_bytes_rows ∷ tab_byte_rows ∷ enter_bytes_rows ∷ escape_byte_rows ∷ alt_letters_rows ∷ alt_bracket_rows
-    ∷ ctrl_arrows_rows ∷ application_arrows_rows ∷ modified_application_arrows_rows
-    ∷ ss3_function_keys_rows ∷ application_home_end_rows ∷ modified_cursor_keys_rows ∷ lettered_function_keys_rows
-    ∷ ctrl_shift_tab_rows ∷ paste_start_rows ∷ paste_end_rows ∷ numbered_function_keys_rows ∷ modify_other_keys_rows
-    ∷ csi_u_rows ∷ high_function_keys_rows ∷ modified_edit_keys_rows ∷ edit_keys_rows ∷ cursor_keys_rows
-    ∷ shift_tab_rows ∷ shift_arrows_rows ∷ []
+    ∷ ctrl_arrows_rows ∷ application_arrows_rows ∷ modified_application_arrows_rows ∷ ss3_function_keys_rows
+    ∷ application_home_end_rows ∷ cursor_keys_rows ∷ shift_tab_rows ∷ shift_arrows_rows ∷ edit_keys_rows
+    ∷ modified_edit_keys_rows ∷ paste_start_rows ∷ paste_end_rows ∷ modified_cursor_keys_rows
+    ∷ lettered_function_keys_rows ∷ ctrl_shift_tab_rows ∷ numbered_function_keys_rows ∷ high_function_keys_rows
+    ∷ csi_u_rows ∷ modify_other_keys_rows ∷ []
 
 rows_are_joined : joined control_letters_rows rules ≡ rows
 unfolding rows

@@ -1,17 +1,24 @@
 -- What a search among ascending rows finds, and which bytes it need not compare again.
-use Rattle.std.proofs.Common.{⊎_elim, ◌⊎◌, inl, inr, ◌≡◌, ◌≢◌, ◌∙◌, ◌+◌, ◌-◌, ◌<◌, ◌≤◌, min, ℕ, zero, suc, List, [], ◌∷◌, length, take, get_or, refl, sym, ap, subst, arith}
+use Rattle.std.proofs.Common.{⊎_elim, ◌⊎◌, inl, inr, ◌≡◌, ◌≢◌, ◌∙◌, ◌+◌, ◌-◌, ◌<◌, ◌≤◌, min, ℕ, zero, suc, List, [], ◌∷◌, length, get_or, refl, sym, ap, subst, arith}
 use Rattle.std.specs.Ordering.{nat_cmp}
 use Rattle.std.specs.declared.cmp.Ordering.TheVariants.{Less, Equal, Greater}
 use Rattle.std.specs.Cmp.Lexicographic.{slice_cmp}
 use Rattle.std.specs.FinMap.{nat_cmp-IsAntisymmetric, slice_cmp-IsAntisymmetric}
 use Rattle.std.proofs.lemmas.Cmp.{nat_list_cmp_total}
 use Rattle.std.proofs.lemmas.Bool.{cases_lt}
-use Rattle.std.proofs.lemmas.List.{get_or_default, length-take-le}
-use Rattle.std.specs.Global.{Box}
+use Rattle.std.proofs.lemmas.List.{get_or_default}
 use Rattle.termwiz_keymap.specs.declared.keymap.row.Row.{Row}
 use Rattle.termwiz_keymap.specs.KeyRows.{AgreeFor, ShareFirst, key_of, AreAscending, IsAt, IsGapFor, IsBounded, IsCountUpTo}
 use Rattle.termwiz_keymap.proofs.lemmas.rows.KeyOrder.{Before, first_bytes, before_by_first, before_by_rest, turned}
-use Rattle.termwiz_keymap.proofs.lemmas.rows.LongestKey.{agree_rest, key_in_front}
+
+-- the rest of an agreement
+agree_rest : (x y : ℕ) (key text : List ℕ) (n : ℕ) → AgreeFor (x ∷ key) (y ∷ text) (suc n) → AgreeFor key text n
+agree_rest x y key text n is = record {
+  in_key = omega (arith, is.in_key);
+  in_text = omega (arith, is.in_text);
+  same = λ i below. is.same (suc i) (omega arith);
+  differ = λ k t. is.differ (omega arith) (omega arith);
+}
 
 pub share_none : (key text : List ℕ) → ShareFirst key text 0
 share_none key text = record { in_key = omega arith; in_text = omega arith; same = λ i below. absurd (omega arith) }
@@ -121,20 +128,20 @@ decided t k = elim (slice_cmp nat_cmp t k) as (λ o. (o ≡ Less) ⊎ (o ≡ Les
 
 module _ {V : Type 0} where
   -- the key of a row, whatever stands where no row is
-  pub key_any : (rows : List (Box (Row V))) (i : ℕ) (row r : Box (Row V)) → i < length rows → row ≡ get_or rows i row
+  pub key_any : (rows : List (Row V)) (i : ℕ) (row r : Row V) → i < length rows → row ≡ get_or rows i row
       → key_of row ≡ key_of (get_or rows i r)
-  key_any rows i row r inside is = ap (λ (x : Box (Row V)). key_of x) (is ∙ get_or_default rows i row r inside)
+  key_any rows i row r inside is = ap (λ (x : Row V). key_of x) (is ∙ get_or_default rows i row r inside)
 
   -- Where the search has come to: the rows between the bounds share so many first bytes with the key if they aren't
   -- after it, and so many if they are.
-  pub record IsNarrowed (rows : List (Box (Row V))) (key : List ℕ) (low high low_shared high_shared : ℕ) : Type 0 where
+  pub record IsNarrowed (rows : List (Row V)) (key : List ℕ) (low high low_shared high_shared : ℕ) : Type 0 where
     pub bounded : IsBounded rows key low high
-    pub below : (i : ℕ) (r : Box (Row V)) → low ≤ i → i < length rows → (Before key (key_of (get_or rows i r)) → ⊥)
+    pub below : (i : ℕ) (r : Row V) → low ≤ i → i < length rows → (Before key (key_of (get_or rows i r)) → ⊥)
         → ShareFirst (key_of (get_or rows i r)) key low_shared
-    pub above : (i : ℕ) (r : Box (Row V)) → i < high → Before key (key_of (get_or rows i r))
+    pub above : (i : ℕ) (r : Row V) → i < high → Before key (key_of (get_or rows i r))
         → ShareFirst (key_of (get_or rows i r)) key high_shared
 
-  pub narrowed_none : (rows : List (Box (Row V))) (key : List ℕ) (low high : ℕ) → IsBounded rows key low high
+  pub narrowed_none : (rows : List (Row V)) (key : List ℕ) (low high : ℕ) → IsBounded rows key low high
       → IsNarrowed rows key low high 0 0
   narrowed_none rows key low high is = record {
     bounded = is;
@@ -142,23 +149,22 @@ module _ {V : Type 0} where
     above = λ i r _ _. share_none (key_of (get_or rows i r)) key;
   }
 
-  module _ (rows : List (Box (Row V))) (up : AreAscending rows) (key : List ℕ) (low high low_shared high_shared : ℕ)
+  module _ (rows : List (Row V)) (up : AreAscending rows) (key : List ℕ) (low high low_shared high_shared : ℕ)
       (is : IsNarrowed rows key low high low_shared high_shared) where
     pub counted : high ≤ low → IsCountUpTo rows key low
     counted met = record {
-      in_range = is.bounded.low_inside;
-      up_to = λ i r inside before.
-          let under : i < low = omega (arith, length-take-le low rows is.bounded.low_inside) in
-          is.bounded.up_to i r under (subst (λ k. Before key k) (key_in_front rows low i r under) before);
+      low_inside = is.bounded.low_inside;
+      high_inside = is.bounded.low_inside;
+      up_to = is.bounded.up_to;
       after = λ i r past inside. is.bounded.after i r (omega arith) inside;
     }
 
-    module _ (middle : ℕ) (row : Box (Row V)) (from : low ≤ middle) (to : middle < high)
+    module _ (middle : ℕ) (row : Row V) (from : low ≤ middle) (to : middle < high)
         (there : row ≡ get_or rows middle row) where
       inside : middle < length rows
       inside = omega (arith, is.bounded.high_inside)
 
-      key_is : (r : Box (Row V)) → key_of row ≡ key_of (get_or rows middle r)
+      key_is : (r : Row V) → key_of row ≡ key_of (get_or rows middle r)
       key_is r = key_any rows middle row r inside there
 
       pub middle_shares : (n : ℕ) → n ≡ min low_shared high_shared → ShareFirst (key_of row) key n
@@ -172,7 +178,7 @@ module _ {V : Type 0} where
           (decided key k))
 
       module _ (n : ℕ) (agree : AgreeFor (key_of row) key n) where
-        shares : (r : Box (Row V)) → ShareFirst (key_of (get_or rows middle r)) key n
+        shares : (r : Row V) → ShareFirst (key_of (get_or rows middle r)) key n
         shares r = subst (λ x. ShareFirst x key n) (key_is r) (agree_share (key_of row) key n agree)
 
         pub narrowed_below : (Before key (key_of row) → ⊥) → IsNarrowed rows key (middle + 1) high n high_shared
@@ -214,37 +220,74 @@ module _ {V : Type 0} where
         }
 
   -- of the rows that aren't after a key the last has the key, or none has
-  module _ (rows : List (Box (Row V))) (up : AreAscending rows) (key : List ℕ) (n : ℕ)
-      (count : IsCountUpTo rows key n) where
-    not_past : (i : ℕ) (r : Box (Row V)) → i < n → Before key (key_of (get_or rows i r)) → ⊥
-    not_past i r under before = count.up_to i r (omega (arith, length-take-le n rows count.in_range))
-        (subst (λ k. Before key k) (sym (key_in_front rows n i r under)) before)
-
-    pub at_last : (row : Box (Row V)) → 0 < n → row ≡ get_or (take n rows) (n - 1) row → key_of row ≡ key
-        → IsAt rows key (n - 1)
+  module _ (rows : List (Row V)) (up : AreAscending rows) (key : List ℕ) (n : ℕ) (count : IsCountUpTo rows key n) where
+    pub at_last : (row : Row V) → 0 < n → row ≡ get_or rows (n - 1) row → key_of row ≡ key → IsAt rows key (n - 1)
     at_last row some last same = record {
-      in_range = omega (arith, count.in_range);
-      same = λ r. sym (key_in_front rows n (n - 1) r (omega arith))
-          ∙ sym (key_any (take n rows) (n - 1) row r (omega (arith, length-take-le n rows count.in_range)) last) ∙ same;
+      in_range = omega (arith, count.low_inside);
+      same = λ r. sym (key_any rows (n - 1) row r (omega (arith, count.low_inside)) last) ∙ same;
     }
 
-    pub gap_after_last : (0 < n → (r : Box (Row V)) → key_of (get_or (take n rows) (n - 1) r) ≢ key)
-        → IsGapFor rows key n
+    pub gap_after_last : (0 < n → (r : Row V) → key_of (get_or rows (n - 1) r) ≢ key) → IsGapFor rows key n
     gap_after_last apart = record {
-      in_range = count.in_range;
+      in_range = count.low_inside;
       smaller_before = λ j r under.
           let k = key_of (get_or rows j r) in
           elim (slice_cmp nat_cmp key k) as (λ o. slice_cmp nat_cmp key k ≡ o → Before k key) [
-            | Less ↦ λ e. absurd (not_past j r under e)
+            | Less ↦ λ e. absurd (count.up_to j r under e)
             | Equal ↦ λ e.
                 let equal : key ≡ k = slice_cmp-IsAntisymmetric nat_cmp-IsAntisymmetric _ _ e in
                 absurd (⊎_elim
-                (λ (less : j < n - 1). not_past (n - 1) r (omega arith) (subst (λ x. Before x
-                (key_of (get_or rows (n - 1) r))) (sym equal) (up j (n - 1) r less (omega (arith, count.in_range)))))
-                (λ (last : n - 1 ≤ j). apart (omega arith) r (key_in_front rows n (n - 1) r (omega arith)
-                ∙ ap (λ i. key_of (get_or rows i r)) {x = n - 1} {y = j} (omega arith) ∙ sym equal))
+                (λ (less : j < n - 1). count.up_to (n - 1) r (omega arith) (subst (λ x. Before x
+                (key_of (get_or rows (n - 1) r))) (sym equal) (up j (n - 1) r less (omega (arith, count.low_inside)))))
+                (λ (last : n - 1 ≤ j). apart (omega arith) r
+                (ap (λ i. key_of (get_or rows i r)) {x = n - 1} {y = j} (omega arith) ∙ sym equal))
                 (cases_lt j (n - 1)))
             | Greater ↦ λ e. turned key k e
           ] refl;
       greater_after = count.after;
     }
+
+    pub gap_after_row : (row : Row V) → 0 < n → row ≡ get_or rows (n - 1) row → key_of row ≢ key → IsGapFor rows key n
+    gap_after_row row some last apart = gap_after_last (λ _ r same.
+        apart (key_any rows (n - 1) row r (omega (arith, count.low_inside)) last ∙ same))
+
+  -- a place between a row that isn't after a key and one that is
+  module _ (rows : List (Row V)) (up : AreAscending rows) (key : List ℕ) (place : ℕ) (inside : place ≤ length rows) where
+    counted_at : (0 < place → (r : Row V) → Before key (key_of (get_or rows (place - 1) r)) → ⊥)
+        → (place < length rows → (r : Row V) → Before key (key_of (get_or rows place r))) → IsCountUpTo rows key place
+    counted_at low high = record {
+      low_inside = inside;
+      high_inside = inside;
+      up_to = λ i r under before. low (omega arith) r (⊎_elim
+          (λ (less : i < place - 1). nat_list_cmp_total.trans key (key_of (get_or rows i r))
+          (key_of (get_or rows (place - 1) r)) before (up i (place - 1) r less (omega arith)))
+          (λ (last : place - 1 ≤ i). subst (λ k. Before key (key_of (get_or rows k r))) {x = i} {y = place - 1}
+          (omega arith) before)
+          (cases_lt i (place - 1)));
+      after = λ i r past within. ⊎_elim
+          (λ (more : place < i). nat_list_cmp_total.trans key (key_of (get_or rows place r)) (key_of (get_or rows i r))
+          (high (omega arith) r) (up place i r more within))
+          (λ (first : i ≤ place). subst (λ k. Before key (key_of (get_or rows k r))) {x = place} {y = i} (omega arith)
+          (high (omega arith) r))
+          (cases_lt place i);
+    }
+
+    -- the row before the place, and the one there
+    abbrev pub NotBefore : Type 0
+    NotBefore = 0 < place → (r : Row V) → Before key (key_of (get_or rows (place - 1) r)) → ⊥
+
+    pub not_before : (row : Row V) → 0 < place → row ≡ get_or rows (place - 1) row → (Before key (key_of row) → ⊥)
+        → NotBefore
+    not_before row some there not _ r before = not (subst (λ k. Before key k)
+        (sym (key_any rows (place - 1) row r (omega arith) there)) before)
+
+    pub none_before : place ≤ 0 → NotBefore
+    none_before first some r before = absurd (omega arith)
+
+    pub counted_last : NotBefore → place ≡ length rows → IsCountUpTo rows key place
+    counted_last low last = counted_at low (λ less r. absurd (omega arith))
+
+    pub counted_between : NotBefore → (row : Row V) → place < length rows → row ≡ get_or rows place row
+        → Before key (key_of row) → IsCountUpTo rows key place
+    counted_between low row less there before = counted_at low (λ _ r. subst (λ k. Before key k)
+        (key_any rows place row r less there) before)

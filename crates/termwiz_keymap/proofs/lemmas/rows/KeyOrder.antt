@@ -1,5 +1,5 @@
 -- The order of keys.
-use Rattle.std.proofs.Common.{◌≡◌, ◌∙◌, ◌<◌, ◌⊎◌, inl, inr, ℕ, List, ◌∷◌, refl, ap, arith}
+use Rattle.std.proofs.Common.{◌≡◌, ◌∙◌, ◌<◌, ◌⊎◌, ⊎_elim, inl, inr, ℕ, List, [], ◌∷◌, ◌++◌, refl, ap, arith}
 use Rattle.std.specs.Ordering.{nat_cmp, ordering_then, ordering_reverse}
 use Rattle.std.specs.declared.cmp.Ordering.TheVariants.{Less, Equal, Greater}
 use Rattle.std.specs.Cmp.Lexicographic.{slice_cmp}
@@ -50,3 +50,16 @@ pub not_both_ways : (x y : List ℕ) → Before x y → Before y x → ⊥
 not_both_ways x y before after =
     let other : slice_cmp nat_cmp y x ≡ Greater = nat_list_cmp_total.antisymm y x ∙ ap ordering_reverse before in
     cc (other, after)
+
+-- what begins a text isn't after it
+pub not_after : (q x : List ℕ) → Before (q ++ x) q → ⊥
+not_after [] [] before = cc (before)
+not_after [] (b ∷ x) before = cc (before)
+not_after (a ∷ q) x before =
+    ⊎_elim (λ (less : a < a). absurd (omega arith)) (λ p. not_after q x p.1) (first_bytes a a (q ++ x) q before)
+
+-- two keys that begin with the same bytes are in the order of their rests
+pub rests_before : (q x y : List ℕ) → Before (q ++ x) (q ++ y) → Before x y
+rests_before [] x y before = before
+rests_before (a ∷ q) x y before = ⊎_elim (λ (less : a < a). absurd (omega arith))
+    (λ p. rests_before q x y p.1) (first_bytes a a (q ++ x) (q ++ y) before)

@@ -9,7 +9,6 @@ use Rattle.std.specs.FinMap as map
 use Rattle.std.proofs.lemmas.Cmp.{nat_list_eq_equiv}
 use Rattle.std.proofs.lemmas.Bool.{cases_lt}
 use Rattle.std.proofs.lemmas.List.{get_or-map, get_or-take, take-map, drop-map, map-append, map-set, length-map, length-take-le}
-use Rattle.std.specs.Global.{Box}
 use Rattle.termwiz_keymap.specs.declared.keymap.row.Row.{Row}
 use Rattle.termwiz_keymap.specs.Entries.{Entries, IsFirstPlace}
 use Rattle.termwiz_keymap.specs.KeyRows.{key_of, value_of, row_entries, AreAscending, IsAt, IsGapFor, IsRowOf}
@@ -19,12 +18,12 @@ use Rattle.termwiz_keymap.proofs.lemmas.rows.KeyOrder.{Before, not_itself}
 
 module _ {V : Type 0} where
   -- a key that is found is a row's
-  pub found_row : (rows : List (Box (Row V))) (q : List ℕ) → IsSome (found q (row_entries rows))
-      → (i : ℕ) × (i < length rows) × ((r : Box (Row V)) → key_of (get_or rows i r) ≡ q)
+  pub found_row : (rows : List (Row V)) (q : List ℕ) → IsSome (found q (row_entries rows))
+      → (i : ℕ) × (i < length rows) × ((r : Row V) → key_of (get_or rows i r) ≡ q)
   found_row [] q h = absurd (cc)
   found_row (x ∷ rows) q h =
       elim (pointwise nat_eq (key_of x) q) as (λ b. b ≡ pointwise nat_eq (key_of x) q
-      → (i : ℕ) × (i < length (x ∷ rows)) × ((r : Box (Row V)) → key_of (get_or (x ∷ rows) i r) ≡ q)) [
+      → (i : ℕ) × (i < length (x ∷ rows)) × ((r : Row V) → key_of (get_or (x ∷ rows) i r) ≡ q)) [
         | true ↦ λ is. (0, omega arith, λ r. same_text (key_of x) q is)
         | false ↦ λ other. let p =
             found_row rows q (ap is_some (sym (find_later q (key_of x) (value_of x) (row_entries rows) other)) ∙ h) in
@@ -32,8 +31,8 @@ module _ {V : Type 0} where
       ] refl
 
   -- a key that no row has isn't found
-  absent : (rows : List (Box (Row V))) (q : List ℕ)
-      → ((i : ℕ) (r : Box (Row V)) → i < length rows → key_of (get_or rows i r) ≢ q) → found q (row_entries rows) ≡ None
+  absent : (rows : List (Row V)) (q : List ℕ)
+      → ((i : ℕ) (r : Row V) → i < length rows → key_of (get_or rows i r) ≢ q) → found q (row_entries rows) ≡ None
   absent [] q apart = refl
   absent (x ∷ rows) q apart =
       elim (pointwise nat_eq (key_of x) q) as (λ b. b ≡ pointwise nat_eq (key_of x) q
@@ -44,7 +43,7 @@ module _ {V : Type 0} where
       ] refl
 
   -- each row's key has its value
-  pub stored : (rows : List (Box (Row V))) → AreAscending rows → (i : ℕ) (r : Box (Row V)) → i < length rows
+  pub stored : (rows : List (Row V)) → AreAscending rows → (i : ℕ) (r : Row V) → i < length rows
       → found (key_of (get_or rows i r)) (row_entries rows) ≡ Some (value_of (get_or rows i r))
   stored [] up i r inside = absurd (omega arith)
   stored (x ∷ rows) up zero r inside =
@@ -84,10 +83,10 @@ module _ {V : Type 0} where
           (λ is. front_none _ _ (parted q ∙ ap (λ k. found k es) (tied_same q key is) ∙ new))
           ∙ ap (cond (tied q key) (Some v)) (parted q)
 
-  abbrev entry : Box (Row V) → List ℕ × V
+  abbrev entry : Row V → List ℕ × V
   entry row = (key_of row, value_of row)
 
-  module _ (rows : List (Box (Row V))) (key : List ℕ) (i : ℕ) (value : V) (row : Box (Row V))
+  module _ (rows : List (Row V)) (key : List ℕ) (i : ℕ) (value : V) (row : Row V)
       (is : IsRowOf key value row) (up : AreAscending rows) where
     -- the entry of the row
     entry_is : entry row ≡ (key, value)
@@ -125,7 +124,7 @@ module _ {V : Type 0} where
         none_before = ap (found key) (take-map entry i rows) ∙ absent (take i rows) key (λ j r inside same.
             let len : length (take i rows) ≡ i = length-take-le i rows (omega (arith, at.in_range)) in
             let there : key_of (get_or rows j r) ≡ key =
-            ap (λ (x : Box (Row V)). key_of x) (sym (get_or-take i rows j r (omega arith))) ∙ same in
+            ap (λ (x : Row V). key_of x) (sym (get_or-take i rows j r (omega arith))) ∙ same in
             not_itself key (rw (there, at.same r) at (up j i r (omega arith) at.in_range)));
         here =
             get_or-map (λ (x : List ℕ × V). x.0) (row_entries rows) i (entry row) []
@@ -141,3 +140,12 @@ module _ {V : Type 0} where
           ap (λ es. map.from_entries {R = slice_cmp nat_cmp} es)
           (map-set entry rows i row ∙ ap (set (row_entries rows) i) entry_is)
           ∙ replaced (row_entries rows) key i value first
+
+  -- a row with another value, in the place of the one with the same key
+  pub value_set : (rows : List (Row V)) (key : List ℕ) (i : ℕ) (value : V) (old new : Row V) → AreAscending rows
+      → IsAt rows key i → old ≡ get_or rows i old → key_of new ≡ key_of old → value_of new ≡ value
+      → map.from_entries {R = slice_cmp nat_cmp} (row_entries (set rows i new))
+      ≡ map.insert (map.from_entries (row_entries rows)) key value
+  value_set rows key i value old new up at there same its =
+      row_replaced rows key i value new
+      (record { key = same ∙ ap (λ (x : Row V). key_of x) there ∙ at.same old; value = its }) up at

@@ -6,3 +6,6 @@ returns-clause-exactly c = table_exact
 
 pub returns-in_err-add_rows-clause-exactly : goal.returns-in_err-add_rows-clause-exactly
 returns-in_err-add_rows-clause-exactly c = table_exact
+
+pub returns-in_err-remember-clause-exactly : goal.returns-in_err-remember-clause-exactly
+returns-in_err-remember-clause-exactly c = table_exact

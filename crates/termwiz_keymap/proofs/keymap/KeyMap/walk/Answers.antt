@@ -1,38 +1,46 @@
-use Rattle.std.proofs.Common.{◌≡◌, ◌-◌, take, drop, length, arith, length-drop}
-use Rattle.std.proofs.lemmas.List.{take_all}
-use Rattle.termwiz_keymap.proofs.lemmas.rows.BucketsRise.{starts_of_front}
-use Rattle.termwiz_keymap.proofs.lemmas.rows.LongestKey.{longest_found, none_found, extended_from, goes_on_from}
+use Rattle.std.proofs.Common.{◌<◌, ℕ, IsTrue, nat_lt, length, ap, refl, arith}
+use Rattle.std.proofs.lemmas.Bool.Decides.{nat_tests}
+use Rattle.termwiz_keymap.proofs.lemmas.rows.RangeLookups.{longest_found, none_found, extended_from, goes_on_from}
 use Rattle.termwiz_keymap.proofs.keymap.KeyMap.walk.Goals as goal
 
-pub returns-clause-longest : goal.returns-clause-longest
-returns-clause-longest g c =
-    let count = rw c.deref.ensures.value at c.count_up_to-count.ensures in
-    let some = rw c.deref-2.ensures.value at c.longest_of.ensures.some in
-    longest_found c.args.self.now c.self.inside.rows.items c.self.invariant.ascending c.self.view_is c.args.text.now
-    c.count_up_to-count.result count c.longest_of.result some
+less_tested : (a b : ℕ) → IsTrue (nat_lt a b) → a < b
+less_tested a b is = grind (arith, nat_tests)
 
-pub returns-clause-none : goal.returns-clause-none
-returns-clause-none g c =
-    let count = rw c.deref.ensures.value at c.count_up_to-count.ensures in
-    let none = rw c.deref-2.ensures.value at c.longest_of.ensures.none in
-    none_found c.args.self.now c.self.inside.rows.items c.self.invariant.ascending c.self.view_is c.args.text.now
-    c.count_up_to-count.result count c.longest_of.result none
+tests_less : (a b : ℕ) → a < b → IsTrue (nat_lt a b)
+tests_less a b less = grind (arith, nat_tests)
 
-pub returns-clause-extended : goal.returns-clause-extended
-returns-clause-extended g c =
-    let rows = c.self.inside.rows.items in
-    let n = c.count_up_to-count.result in
-    let count = rw c.deref.ensures.value at c.count_up_to-count.ensures in
-    let whole : take (length rows - n) (drop n rows) ≡ drop n rows =
-    take_all (length rows - n) (drop n rows) (omega (arith, length-drop n rows)) in
-    let here = rw c.deref-3.ensures.value at c.first_goes_on.ensures in
-    let first = rw whole at here in (
-      λ yes. extended_from c.args.self.now rows c.self.invariant.ascending c.self.view_is c.args.text.now n count
-          (first.0 yes),
-      λ ext. first.1
-          (goes_on_from c.args.self.now rows c.self.invariant.ascending c.self.view_is c.args.text.now n count ext),
+pub returns-then-range-len-clause-longest : goal.returns-then-range-len-clause-longest
+returns-then-range-len-clause-longest g c =
+    let of = c.range_of-range.ensures in
+    longest_found c.args.self.now c.self.inside.rows c.self.invariant.ascending c.self.view_is c.args.text.now
+    c.range_of-range.result of c.index-row.result.now (length c.key.result.now) c.index-row.result.now.value
+    (omega (arith, c.if-range-len.true, c.len.ensures)) c.index-row.ensures (ap length c.key.ensures)
+    refl
+
+pub returns-then-range-len-clause-extended : goal.returns-then-range-len-clause-extended
+returns-then-range-len-clause-extended g c =
+    let of = c.range_of-range.ensures in (
+      λ yes. extended_from c.args.self.now c.self.inside.rows c.self.invariant.ascending c.self.view_is c.args.text.now
+          c.range_of-range.result of (less_tested _ _ yes),
+      λ ext. tests_less _ _ (goes_on_from c.args.self.now c.self.inside.rows c.self.invariant.ascending c.self.view_is
+          c.args.text.now c.range_of-range.result of ext),
     )
 
-pub longest_of-requires-clause-starts : goal.longest_of-requires-clause-starts
-longest_of-requires-clause-starts g c = rw c.deref-2.ensures.value (starts_of_front c.self.inside.rows.items
-    c.self.inside.starts c.count_up_to-count.result c.self.invariant.starts_are)
+pub returns-else-range-len-clause-none : goal.returns-else-range-len-clause-none
+returns-else-range-len-clause-none g c =
+    let of = c.range_of-range.ensures in
+    none_found c.args.self.now c.self.inside.rows c.self.invariant.ascending c.self.view_is c.args.text.now
+    c.range_of-range.result of (omega (arith, c.if-range-len.false, c.len.ensures))
+
+pub returns-else-range-len-clause-extended : goal.returns-else-range-len-clause-extended
+returns-else-range-len-clause-extended g c =
+    let of = c.range_of-range.ensures in (
+      λ yes. extended_from c.args.self.now c.self.inside.rows c.self.invariant.ascending c.self.view_is c.args.text.now
+          c.range_of-range.result of (less_tested _ _ yes),
+      λ ext. tests_less _ _ (goes_on_from c.args.self.now c.self.inside.rows c.self.invariant.ascending c.self.view_is
+          c.args.text.now c.range_of-range.result of ext),
+    )
+
+pub range_of-range-requires-clause-remembered : goal.range_of-range-requires-clause-remembered
+range_of-range-requires-clause-remembered g c =
+    rw c.deref.ensures.value c.self.invariant.remembered

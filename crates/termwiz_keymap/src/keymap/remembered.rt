@@ -1,0 +1,213 @@
+//! Ranges that are remembered by the bytes that their keys begin with, so that a search needn't begin with all rows. They follow from
+//! the rows alone, and any of them may be missing.
+ghost use Rattle.std.specs.Prelude.{◌≡◌, ◌<◌, ◌≤◌, ◌^◌, length, take, IfOk, IfSome};
+ghost use Rattle.termwiz_keymap.specs.KeyRows.{AreAscending};
+ghost use Rattle.termwiz_keymap.specs.KeyRanges.{IsRangeOf};
+ghost use Rattle.termwiz_keymap.specs.Remembering.{AreRemembered, IsFoundFor, IsAmongPlaces, number_of, range_in};
+
+use super::gap_buffer::GapBuffer;
+use super::range::{Range, narrowed, whole};
+use super::row::Row;
+use std::alloc::{AllocError, Global};
+
+/// A range, remembered by the number of so many first bytes of its keys. If `depth` is 0, nothing is remembered.
+#[derive(Clone, Copy, Debug)]
+pub struct Remembered {
+    pub number: u64,
+    pub depth: u32,
+    pub low: u32,
+    pub high: u32,
+    pub longest: u32,
+}
+
+// At most so many first bytes have a remembered range.
+const DEEPEST: usize = 8;
+
+// A search begins with the range of so many first bytes, if it is remembered.
+const FIRST: usize = 3;
+
+// A range of at most so many rows isn't parted further.
+const FEW: usize = 8;
+
+// The number of places for ranges. Each range has one place, where another may stand.
+const PLACES: usize = 2048;
+
+// Below so many rows a place among them fits a remembered range.
+const ROWS: usize = 0x1_0000_0000;
+
+// Nothing remembered.
+const NOTHING: Remembered = Remembered {
+    number: 0,
+    depth: 0,
+    low: 0,
+    high: 0,
+    longest: 0,
+};
+
+impl Remembered {
+    /// The range.
+    pub fn range(&self) -> Range
+        ensures { result ≡ range_in self.now }
+    {
+        Range {
+            low: self.low as usize,
+            high: self.high as usize,
+            longest: self.longest as usize,
+        }
+    }
+
+    // The number of rows of the range.
+    fn count(&self) -> usize {
+        self.high.saturating_sub(self.low) as usize
+    }
+
+    // Whether a range of so many rows may have the place of this one.
+    fn yields_to(&self, count: usize) -> bool {
+        self.depth == 0 || self.count() < count
+    }
+}
+
+// Some bytes as one number, of which the first byte is the most significant.
+fn number_of(bytes: &[u8]) -> u64
+    requires { length bytes.now ≤ DEEPEST }
+    ensures { result ≡ number_of bytes.now }
+{
+    let mut number = 0;
+    for byte in bytes {
+        number = number * 256 + *byte as u64;
+    }
+    number
+}
+
+// The place for the range of so many bytes with this number.
+fn place_of(number: u64, depth: u32) -> usize {
+    let mixed = number
+        .wrapping_add(depth as u64)
+        .wrapping_mul(0x9e37_79b9_7f4a_7c15);
+    (mixed >> 53) as usize % PLACES
+}
+
+// What is remembered for so many bytes with this number.
+fn found_at(places: &[Remembered], number: u64, depth: u32) -> Option<Remembered>
+    ensures { IfSome result (IsAmongPlaces places.now number depth) }
+{
+    let found = places.get(place_of(number, depth))?;
+    if found.number == number && found.depth == depth {
+        Some(*found)
+    } else {
+        None
+    }
+}
+
+/// The remembered range with which a search for a text begins: that of the most first bytes for which one is remembered, as far as each
+/// of those before has many rows.
+pub fn remembered_for(places: &[Remembered], text: &[u8]) -> Option<Remembered>
+    ensures { IfSome result (IsFoundFor places.now text.now) }
+{
+    let found = first_found(places, text)?;
+    Some(last_found(places, text, found))
+}
+
+// What is remembered for the first bytes of a text, which are at most `FIRST`.
+fn first_found(places: &[Remembered], text: &[u8]) -> Option<Remembered>
+    ensures { IfSome result (IsFoundFor places.now text.now) }
+{
+    let mut depth = text.len().min(FIRST);
+    while depth > 0 {
+        let found = found_at(places, number_of(&text[..depth]), depth as u32);
+        if found.is_some() {
+            return found;
+        }
+        depth -= 1;
+    }
+    None
+}
+
+// What is remembered for more and more bytes of a text, until few rows are left or nothing is remembered.
+fn last_found(places: &[Remembered], text: &[u8], mut found: Remembered) -> Remembered
+    requires { IsFoundFor places.now text.now found }
+    ensures { IsFoundFor places.now text.now result }
+{
+    while found.count() > FEW && (found.depth as usize) < text.len().min(DEEPEST) {
+        let number = found.number * 256 + text[found.depth as usize] as u64;
+        match found_at(places, number, found.depth + 1) {
+            Some(next) => found = next,
+            None => return found,
+        }
+    }
+    found
+}
+
+/// The ranges of many rows, remembered in new memory.
+pub fn remembered_ranges<V>(
+    alloc: Global,
+    rows: &GapBuffer<Row<V>>,
+) -> Result<Vec<Remembered>, AllocError>
+    requires { AreAscending rows.now }
+    ensures { IfOk result (λ places. AreRemembered rows.now places.items) }
+{
+    let mut places = vec![in alloc; NOTHING; PLACES]?;
+    if rows.len() >= ROWS {
+        return Ok(places);
+    }
+    remember_within(rows, &mut places, whole(rows), &[], 0);
+    Ok(places)
+}
+
+// Remembers the ranges within the range of so many first bytes of a text: each by its next byte.
+fn remember_within<V>(
+    rows: &GapBuffer<Row<V>>,
+    places: &mut [Remembered],
+    range: Range,
+    text: &[u8],
+    depth: usize,
+)
+    requires ascending { AreAscending rows.now }
+    requires few { length rows.now < 2 ^ 32 }
+    requires inside { depth ≤ length text.now }
+    requires deep { depth ≤ DEEPEST }
+    requires first { IsRangeOf rows.now (take depth text.now) range }
+    requires remembered { AreRemembered rows.now places.old }
+    ensures { AreRemembered rows.now places.new }
+{
+    if depth == DEEPEST || (depth >= FIRST && range.count() <= FEW) {
+        return;
+    }
+    let mut low = range.low;
+    while low < range.high {
+        let key = rows[low].key();
+        let next = narrowed(rows, range, key, depth);
+        remember(rows, places, next, key, depth + 1);
+        remember_within(rows, places, next, key, depth + 1);
+        low = next.high.max(low + 1);
+    }
+}
+
+// Remembers the range of so many first bytes of a text, unless its place has one of as many rows or more.
+fn remember<V>(
+    rows: &GapBuffer<Row<V>>,
+    places: &mut [Remembered],
+    range: Range,
+    text: &[u8],
+    depth: usize,
+)
+    requires few { length rows.now < 2 ^ 32 }
+    requires inside { depth ≤ length text.now }
+    requires deep { depth ≤ DEEPEST }
+    requires ordered { range.low ≤ range.high }
+    requires first { IsRangeOf rows.now (take depth text.now) range }
+    requires remembered { AreRemembered rows.now places.old }
+    ensures { AreRemembered rows.now places.new }
+{
+    let number = number_of(&text[..depth]);
+    let place = place_of(number, depth as u32);
+    if place < places.len() && places[place].yields_to(range.count()) {
+        places[place] = Remembered {
+            number,
+            depth: depth as u32,
+            low: range.low as u32,
+            high: range.high as u32,
+            longest: range.longest.min(rows.len()) as u32,
+        };
+    }
+}
