@@ -140,12 +140,3 @@ module _ {V : Type 0} where
           ap (λ es. map.from_entries {R = slice_cmp nat_cmp} es)
           (map-set entry rows i row ∙ ap (set (row_entries rows) i) entry_is)
           ∙ replaced (row_entries rows) key i value first
-
-  -- a row with another value, in the place of the one with the same key
-  pub value_set : (rows : List (Row V)) (key : List ℕ) (i : ℕ) (value : V) (old new : Row V) → AreAscending rows
-      → IsAt rows key i → old ≡ get_or rows i old → key_of new ≡ key_of old → value_of new ≡ value
-      → map.from_entries {R = slice_cmp nat_cmp} (row_entries (set rows i new))
-      ≡ map.insert (map.from_entries (row_entries rows)) key value
-  value_set rows key i value old new up at there same its =
-      row_replaced rows key i value new
-      (record { key = same ∙ ap (λ (x : Row V). key_of x) there ∙ at.same old; value = its }) up at
