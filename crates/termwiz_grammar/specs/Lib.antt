@@ -6,3 +6,4 @@ pub mod Listed
 pub mod ListedExamples
 pub mod Streams
 pub mod Table
+pub mod WaitingKinds

@@ -5,6 +5,7 @@ ghost use Rattle.std.specs.Prelude.{◌≤◌};
 ghost use Rattle.termwiz_grammar.specs.Laws.{CutIndependent, EmptyIsRest, FewEvents, FewEventsInStream, MostWait, OneByOneMeans, OneMeaning, Resumes, StepsJoin, TableFacts, ThreeBeginnings, Undecided, WaitingShape};
 ghost use Rattle.termwiz_grammar.specs.Listed.{CsiUReadsBack, IsListed, ReadsBack};
 ghost use Rattle.termwiz_grammar.specs.ListedExamples.{ListedExamples};
+ghost use Rattle.termwiz_grammar.specs.WaitingKinds.{FlushOfKinds, WaitingKinds};
 
 use termwiz_base::Modifiers;
 use termwiz_keys::encode::KeyCodeEncodeModes;
@@ -74,6 +75,18 @@ pub fn empty_is_rest()
 /// sequence or a character, after at most one Escape.
 pub fn waiting_shape()
     ensures { WaitingShape }
+{}
+
+/// What stays buffered is of exactly one kind: nothing; an Escape; the beginning of a longer sequence; the beginning of a
+/// character; or an open paste.
+pub fn waiting_kinds()
+    ensures { WaitingKinds }
+{}
+
+/// What a flush makes of each kind: an Escape is the Escape key, alone or with Alt. The beginning of a sequence or of a character
+/// is broken. An open paste stays as it is.
+pub fn flush_of_kinds()
+    ensures { FlushOfKinds }
 {}
 
 /// Twenty undecided bytes can stay buffered, alone and after one Escape: the longest proper beginning of a mouse report.

@@ -53,6 +53,12 @@ abbrev pub HasNonPrintableAfterEscape : List ℕ → Type 0
 HasNonPrintableAfterEscape u =
     (1 < length u) × (slice_index_or u 0 0 ≡ 0x1b) × ¬ IsPrintableAscii (slice_index_or u 1 0)
 
+-- the first byte is from 0x80 on, or the byte after an ESC
+abbrev pub BeginsWithHighByte : List ℕ → Type 0
+BeginsWithHighByte u =
+    ((0 < length u) × (0x80 ≤ slice_index_or u 0 0))
+    ⊎ ((1 < length u) × (slice_index_or u 0 0 ≡ 0x1b) × (0x80 ≤ slice_index_or u 1 0))
+
 -- an item with this event stands at the text, and its bytes are so many first ones
 abbrev pub IsItemAt : List ℕ → Bool → MatchedItem → Type 0
 IsItemAt u more item = (item.len ≤ length u) × Stands u more (take item.len u) item.event

@@ -1,23 +1,28 @@
 //! The parser: bytes of a terminal to events.
-ghost use Rattle.std.specs.Prelude.{◌≡◌, ◌≢◌, ◌++◌, ◌+◌, ◌^◌, ◌<◌, ◌≤◌, ℕ, Bool, List, [], ◌∷◌, length, drop, Contains, Some, true, false, OnErr, IfOk, IfErr, IfSome, IfNone, IsTrue, ◌↔◌, ◌==◌, ◌⊎◌, slice_index_or, if◌then◌else◌, OnOk, IsOk, IsErrOf, vec_len, vec_capacity};
+ghost use Rattle.std.specs.Prelude.{◌≡◌, ◌≢◌, ◌++◌, ◌+◌, ◌^◌, ◌<◌, ◌≤◌, ℕ, Bool, List, [], ◌∷◌, length, drop, Contains, Some, true, false, OnErr, IfOk, IfErr, IfSome, IfNone, IsSome, IsTrue, ◌↔◌, ◌==◌, ◌⊎◌, slice_index_or, if◌then◌else◌, OnOk, IsOk, IsErrOf, vec_len, vec_capacity};
 ghost use Rattle.termwiz_keys.specs.declared.types.KeyEvent.{KeyEvent};
 ghost use Rattle.termwiz_keymap.specs.Bytes.{Begins};
 ghost use Rattle.termwiz_keys.specs.Introducers.{START};
 ghost use Rattle.termwiz_keys.specs.Keys.{plain};
+ghost use Rattle.termwiz_grammar.specs.WaitingKinds.{IsKind, IsOneOrTwoEscapes, IsOpenPaste};
+ghost use Rattle.termwiz_input.specs.PasteSearch.{IsPasteSoFar};
 ghost use Rattle.termwiz_grammar.specs.Grammar.{GivesNoPaste, HasItem, HasPaste, IsRest, Steps, Means};
 ghost use Rattle.termwiz_input.specs.Matches.{IsItemAt};
 ghost use Rattle.termwiz_input.specs.Callbacks.{MayBeCalledOn, MayBeCalledOnNumbered, WasCalledOn, WasCalledOnNumbered};
 ghost use Rattle.termwiz_input.specs.Pieces.{AreNumbered, NumberedEvent, ReadsFirst, events_of, flag_at, join, numbered, pieces_or_one, taken_or_one, texts};
 ghost use Rattle.termwiz_keys.specs.declared.types.InputEvent.{InputEvent as Event};
 
+use crate::head::escape_key;
 use crate::item::{
-    MatchedItem, append_printable_ascii, character_front, item_at, mouse_report_front, plain_key,
-    printable_ascii_front,
+    MatchedItem, alt_key, append_printable_ascii, character_front, item_at, mouse_report_front,
+    plain_key, printable_ascii_front,
 };
-use crate::paste::{begins_paste, next_search};
+use crate::paste::{begins_paste, next_search, paste_so_far};
+use crate::waiting::{is_escape, kind_of};
 use std::alloc::{AllocError, Global};
 use std::marker::Model;
 pub use termwiz_base::{Flags, Modifiers};
+pub use termwiz_grammar::waiting::Waiting;
 use termwiz_keymap::keymap::KeyMap;
 use termwiz_keymap::readbuf::ReadBuffer;
 pub use termwiz_keys::encode::{CSI, EncodeError, KeyCodeEncodeModes, KeyboardEncoding, SS3};
@@ -147,6 +152,15 @@ impl InputParser {
         begins_paste(self.buffer.as_slice())
     }
 
+    /// What kind of bytes stays buffered, once [`InputParser::next_event`] returned `None`, or `parse` succeeded.
+    ///
+    /// After a pause flush an `Escape`. Give a `Sequence` a much longer pause, for a slow line. Never flush a `Character` or a `Paste`.
+    pub fn waiting(&self) -> Waiting
+        ensures { (more : Bool) → IsRest self.now more → IsKind self.now more result }
+    {
+        kind_of(self.buffer.as_slice())
+    }
+
     // The item at the front of the waiting text, where it stays.
     fn peek(&self, maybe_more: bool) -> Result<Option<MatchedItem>, AllocError>
         ensures item { IfOk result (λ found. IfSome found (IsItemAt self.now maybe_more)) }
@@ -179,6 +193,55 @@ impl InputParser {
             self.note_search();
         }
         Ok(found)
+    }
+
+    /// Emits the Escape key, with ALT if ESC ESC stays buffered. `None` if anything else stays buffered; the parser is then unchanged.
+    ///
+    /// Call it after a pause of some 50 ms: unlike a flush, it breaks no sequence, no character and no paste that came in part.
+    pub fn flush_escape(&mut self) -> Option<InputEvent>
+        ensures event { IfSome result (λ event. Means self.old false (event ∷ []) self.new) }
+        ensures when { IsSome result ↔ IsOneOrTwoEscapes self.old }
+        ensures none { IfNone result (self.new ≡ self.old) }
+    {
+        if !is_escape(self.buffer.as_slice()) {
+            return None;
+        }
+        let is_one = self.waiting_len() == 1;
+        self.reset();
+        Some(InputEvent::Key(if is_one {
+            escape_key()
+        } else {
+            alt_key(escape_key())
+        }))
+    }
+
+    /// Ends an open paste where it is: its text so far is the event, and nothing stays buffered. `None` if no paste is open; the parser is
+    /// then unchanged.
+    ///
+    /// A program with a limit for pastes calls it once [`InputParser::waiting_len`] is over the limit. What the terminal still sends of the
+    /// paste arrives as typed keys. If memory for the text is refused, the parser is unchanged.
+    pub fn end_paste(&mut self) -> Result<Option<InputEvent>, AllocError>
+        ensures event { IfOk result (λ found. IfSome found (IsPasteSoFar self.old)) }
+        ensures nothing { IfOk result (λ found. IfSome found (λ _. self.new ≡ [])) }
+        ensures none { IfOk result (λ found. IfNone found (¬ IsOpenPaste self.old)) }
+        ensures none_same { IfOk result (λ found. IfNone found (self.new ≡ self.old)) }
+        ensures refused_same { OnErr result (self.new ≡ self.old) }
+    {
+        let Some(event) = paste_so_far(self.alloc, self.buffer.as_slice())? else {
+            return Ok(None);
+        };
+        self.reset();
+        Ok(Some(event))
+    }
+
+    /// Forgets what stays buffered, and returns how many bytes these were. It takes no memory and frees none.
+    pub fn reset(&mut self) -> usize
+        ensures count { result ≡ length self.old }
+        ensures nothing { self.new ≡ [] }
+    {
+        let len = self.waiting_len();
+        self.consume(len);
+        len
     }
 
     // Drops the first bytes of the waiting text. Nothing is known of a paste in what is left.

@@ -48,7 +48,7 @@ pub(crate) fn plain_key(character: char) -> KeyEvent
 }
 
 // The same key with ALT added to its modifiers.
-fn alt_key(key: KeyEvent) -> KeyEvent
+pub(crate) fn alt_key(key: KeyEvent) -> KeyEvent
     ensures { result ≡ with_alt key }
 {
     KeyEvent {

@@ -7,6 +7,7 @@ mod item;
 pub mod laws;
 mod mouse_report;
 mod paste;
+mod waiting;
 
 pub use termwiz_keymap::{keymap, readbuf};
 pub use termwiz_keys::{encode, types};

@@ -5,7 +5,8 @@ ghost use Rattle.termwiz_keymap.specs.Bytes.{Begins};
 ghost use Rattle.termwiz_keys.specs.Introducers.{START};
 ghost use Rattle.termwiz_input.specs.Matches.{IsItemAt};
 ghost use Rattle.termwiz_grammar.specs.Grammar.{HasPaste, IsRest};
-ghost use Rattle.termwiz_input.specs.PasteSearch.{NoEndBefore};
+ghost use Rattle.termwiz_grammar.specs.WaitingKinds.{IsOpenPaste};
+ghost use Rattle.termwiz_input.specs.PasteSearch.{IsPasteSoFar, NoEndBefore};
 
 use crate::item::MatchedItem;
 use bstr::ByteSlice;
@@ -57,6 +58,23 @@ pub(crate) fn paste_at(
             len: end + PASTE_END.len(),
         })),
         Err(fault) => Err(fault),
+    }
+}
+
+// The text so far of an open paste. `None` if the text is none, or has the end of its paste.
+pub(crate) fn paste_so_far(alloc: Global, text: &[u8]) -> Result<Option<InputEvent>, AllocError>
+    ensures event { IfOk result (λ found. IfSome found (IsPasteSoFar text.now)) }
+    ensures none { IfOk result (λ found. IfNone found (¬ IsOpenPaste text.now)) }
+{
+    if !begins_paste(text) {
+        return Ok(None);
+    }
+    match find_from(text, PASTE_START.len(), PASTE_END) {
+        Some(_) => Ok(None),
+        None => {
+            let pasted = lossy_text(alloc, &text[PASTE_START.len()..])?;
+            Ok(Some(InputEvent::Paste(pasted)))
+        }
     }
 }
 

@@ -1,3 +1,4 @@
 pub mod LongestBeginning
+pub mod RestKinds
 pub mod RestShape
 pub mod UndecidedBytes

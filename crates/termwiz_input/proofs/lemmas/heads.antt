@@ -1,2 +1,3 @@
+pub mod FirstHighByte
 pub mod HeadLookup
 pub mod StartsNoSequence

@@ -2,7 +2,7 @@
 use Rattle.std.proofs.Common.{◌≡◌, ◌≢◌, ◌⊎◌, inl, inr, ℕ, zero, suc, ◌<◌, ◌≤◌, Bool, false, List, [], ◌∷◌, ◌++◌, length, refl, sym, ap, ◌∙◌, subst, ⊎_elim, arith, encode_utf8, length-append}
 use Rattle.std.specs.Str.Lossy.{utf8_lossy}
 use Rattle.termwiz_keys.specs.declared.types.KeyEvent.{KeyEvent}
-use Rattle.termwiz_keymap.specs.Bytes.{Begins}
+use Rattle.termwiz_keymap.specs.Bytes.{Begins, Occurs}
 use Rattle.termwiz_keys.specs.Introducers.{ESC, START, END}
 use Rattle.termwiz_keys.specs.declared.types.InputEvent.{InputEvent}
 use Rattle.termwiz_keys.specs.Keys.{plain, escape, with_alt}
@@ -39,6 +39,19 @@ key_or_apart (Broken byte) = inl (plain replacement, refl)
 stand : (u bytes : List ℕ) (f : Bool) (event : InputEvent) → ¬ IsOpen u f → Item u f bytes event → Settled u f
 stand u bytes f event closed item = standing bytes event (record { closed = closed; item = item })
 
+-- nothing stands at a paste that has no end
+pub endless_rests : (u : List ℕ) (f : Bool) (k : KeyEvent) → IsLongest u START (Row k) → (body : List ℕ)
+    → u ≡ START ++ body → ¬ Occurs END body → IsRest u f
+endless_rests u f k is body split none bytes event stands =
+    let r = reads u bytes event f stands.item in
+    unread (subst (λ h. Gives u f h bytes event) (head_once u r.0 (Sequence START (Row k)) r.1 is) r.2)
+  where
+    unread : RowGives u f START k bytes event → ⊥
+    unread (its_key p q r s) = p refl
+    unread (its_paste at inner rest splits first r s) = none (inner, rest, cc (splits, split))
+    unread (apart at v h splits some closed is far r s) = cc (at)
+    unread (joined at v h j splits some closed is near r s) = cc (at)
+
 -- a text that isn't open, whose head is START
 after_start : (u : List ℕ) (f : Bool) (k : KeyEvent) → ¬ IsOpen u f → IsLongest u START (Row k) → Settled u f
 after_start u f k closed is = go (find_end is.begins.0)
@@ -46,16 +59,8 @@ after_start u f k closed is = go (find_end is.begins.0)
     go : Ends is.begins.0 → Settled u f
     go (ends body rest e first) = stand u (START ++ body ++ END) f (Paste (utf8_lossy body)) closed
         (paste body (rest, is.begins.1 ∙ ap (λ x. START ++ x) e) first)
-    go (endless none) = resting
-        (λ bytes event stands. let r = reads u bytes event f stands.item in
-        unread bytes event (subst (λ h. Gives u f h bytes event) (head_once u r.0 (Sequence START (Row k)) r.1 is) r.2))
+    go (endless none) = resting (endless_rests u f k is is.begins.0 is.begins.1 none)
         (open_paste is.begins.0 is.begins.1 none)
-      where
-        unread : (bytes : List ℕ) (event : InputEvent) → RowGives u f START k bytes event → ⊥
-        unread bytes event (its_key p q r s) = p refl
-        unread bytes event (its_paste at body rest split first r s) = none (body, rest, cc (split, is.begins.1))
-        unread bytes event (apart at v h split some closed is far r s) = cc (at)
-        unread bytes event (joined at v h j split some closed is near r s) = cc (at)
 
 -- where ESC is the head, nothing stands if what follows it is open
 unread_row : (u v : List ℕ) (f : Bool) → u ≡ ESC ++ v → v ≢ [] → IsOpen v f → (bytes : List ℕ) (event : InputEvent)

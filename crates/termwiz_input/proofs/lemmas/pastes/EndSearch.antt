@@ -7,7 +7,12 @@ use Rattle.memchr.specs.Find.{OccursAt, FindsNeedle}
 use Rattle.memchr.proofs.lemmas.MatchLemmas.{OccursAt-split, OccursAt-from_part}
 use Rattle.termwiz_keymap.specs.Bytes.{Begins, Occurs}
 use Rattle.termwiz_keys.specs.Introducers.{START, END}
+use Rattle.std.specs.Str.Lossy.{utf8_lossy}
+use Rattle.termwiz_keys.specs.declared.types.InputEvent.{InputEvent}
+use Rattle.termwiz_keys.specs.declared.types.InputEvent.TheVariants.{Paste}
 use Rattle.termwiz_grammar.specs.Grammar.{EndsFirst}
+use Rattle.termwiz_grammar.specs.WaitingKinds.{IsOpenPaste}
+use Rattle.termwiz_input.specs.PasteSearch.{IsPasteSoFar}
 
 -- an occurrence that is written out
 occurs_between : (u before needle after : List ℕ) → u ≡ before ++ needle ++ after → OccursAt u needle (length before)
@@ -93,3 +98,17 @@ paste_to u k begins found = record {
         none_left : (t : List ℕ) → length t ≤ 0 → t ≡ []
         none_left [] l = refl
         none_left (x ∷ t) l = absurd (omega arith)
+
+-- a paste whose end is found isn't open
+pub ended : (u : List ℕ) (k : ℕ) → Begins START u → FindsNeedle u END 6 (Some k) → ¬ IsOpenPaste u
+ended u k begins found p =
+    let to = paste_to u k begins found in
+    let same : p.body ≡ take (k - 6) (drop 6 u) ++ END ++ to.rest = cc (p.splits, to.parts) in
+    p.endless (take (k - 6) (drop 6 u), to.rest, same)
+
+-- the text of a paste whose end isn't found
+pub so_far : (u : List ℕ) (event : InputEvent) → Begins START u → FindsNeedle u END 6 None
+    → event ≡ Paste (utf8_lossy (drop 6 u)) → IsPasteSoFar u event
+so_far u event begins never is =
+    let split : u ≡ START ++ drop 6 u = begins.1 ∙ ap (λ t. START ++ t) (sym (ap (drop 6) begins.1)) in
+    record { body = drop 6 u; splits = split; endless = endless u begins never (drop 6 u) split; its_text = is }
