@@ -1,8 +1,12 @@
 -- What the calls do to a parser that C holds: to the parser that its handle leads to, if there is one.
-use Rattle.std.specs.Prelude.{◌≡◌, ℕ, Bool, List, [], ◌∷◌, ◌++◌, take, drop, length, Option, Some, None, string_bytes}
+use Rattle.std.specs.Prelude.{◌≡◌, ℕ, Bool, false, List, [], ◌∷◌, ◌++◌, take, drop, length, Option, Some, None, string_bytes}
 use Rattle.termwiz_input.specs.InputEvent.{InputEvent}
 use Rattle.termwiz_input.specs.InputEvent.TheVariants.{Paste}
-use Rattle.termwiz_input.specs.Grammar.{HasPaste, IsRest, Steps}
+use Rattle.termwiz_input.specs.Grammar.{HasPaste, IsRest, Means, Steps}
+use Rattle.termwiz_input.specs.PasteSearch.{IsPasteSoFar}
+use Rattle.termwiz_input.specs.Waiting.{Waiting}
+use Rattle.termwiz_input.specs.Waiting.TheVariants.{Nothing, Escape, Sequence, Character, Paste as OpenPaste}
+use Rattle.termwiz_input.specs.WaitingKinds.{IsKind, IsOneOrTwoEscapes, IsOpenPaste}
 use Rattle.termwiz_input.specs.Bytes.{Begins, START}
 use Rattle.termwiz_c.specs.declared.parser_and_paste.ParserAndPaste.{ParserAndPaste}
 use Rattle.termwiz_c.specs.declared.events.CEvent.{CEvent}
@@ -59,3 +63,51 @@ HasPasteNext None more = ⊥
 -- `out` with as much of the text as it has room for in place of its first bytes
 abbrev pub copied : List ℕ → List ℕ → List ℕ
 copied text out = take (length out) text ++ drop (length text) out
+
+-- the number of a kind of what is buffered
+unfoldable pub waiting_number : Waiting → ℕ
+waiting_number Nothing = 0
+waiting_number Escape = 1
+waiting_number Sequence = 2
+waiting_number Character = 3
+waiting_number OpenPaste = 4
+
+-- a rest that is buffered is of the kind with this number; 0 without a parser
+abbrev pub HasKind : Option ParserAndPaste → ℕ → Type 0
+HasKind (Some held) number = (kind : Waiting) × (number ≡ waiting_number kind)
+    × ((more : Bool) → IsRest held.parser more → IsKind held.parser more kind)
+HasKind None number = number ≡ 0
+
+-- ESC or ESC ESC is buffered
+abbrev pub HasEscape : Option ParserAndPaste → Type 0
+HasEscape (Some held) = IsOneOrTwoEscapes held.parser
+HasEscape None = ⊥
+
+-- what was buffered is this event, with no more to come
+abbrev pub Flushed : Option ParserAndPaste → CEvent → Option ParserAndPaste → Type 0
+Flushed (Some before) shown (Some after) =
+    (event : InputEvent) × Means before.parser false (event ∷ []) after.parser × (shown ≡ c_event event)
+    × (string_bytes after.pasted ≡ string_bytes before.pasted)
+Flushed _ shown _ = ⊥
+
+-- a paste without an end is buffered, and no more than it
+abbrev pub HasEndlessPaste : Option ParserAndPaste → Type 0
+HasEndlessPaste (Some held) = IsOpenPaste held.parser
+HasEndlessPaste None = ⊥
+
+-- the open paste was ended, and this is its event
+abbrev pub Ended : Option ParserAndPaste → CEvent → Option ParserAndPaste → Type 0
+Ended (Some before) shown (Some after) =
+    (event : InputEvent) × IsPasteSoFar before.parser event × (after.parser ≡ []) × (shown ≡ c_event event)
+    × (string_bytes after.pasted ≡ text_after event (string_bytes before.pasted))
+Ended _ shown _ = ⊥
+
+-- what was buffered is forgotten, and the text of the last paste stays
+abbrev pub IsReset : Option ParserAndPaste → Option ParserAndPaste → Type 0
+IsReset (Some before) (Some after) = (after.parser ≡ []) × (string_bytes after.pasted ≡ string_bytes before.pasted)
+IsReset before after = after ≡ before
+
+-- the text of the last paste is forgotten, and what is buffered stays
+abbrev pub HasDroppedPaste : Option ParserAndPaste → Option ParserAndPaste → Type 0
+HasDroppedPaste (Some before) (Some after) = (after.parser ≡ before.parser) × (string_bytes after.pasted ≡ [])
+HasDroppedPaste before after = after ≡ before

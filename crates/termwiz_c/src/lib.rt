@@ -8,7 +8,7 @@
 ghost use Rattle.std.specs.Prelude.{◌≡◌, ◌≢◌, ◌≤◌, ◌↔◌, [], length, true, false, None, IsTrue};
 ghost use Rattle.event_text.specs.Names.{variant_name};
 ghost use Rattle.termwiz_input.specs.KeyCode.{KeyCode as Key};
-ghost use Rattle.termwiz_c.specs.Calls.{Gave, HasOpenPaste, HasPasteNext, IsFresh, Rests, Took, copied, pasted, waiting_len};
+ghost use Rattle.termwiz_c.specs.Calls.{Ended, Flushed, Gave, HasDroppedPaste, HasEndlessPaste, HasEscape, HasKind, HasOpenPaste, HasPasteNext, IsFresh, IsReset, Rests, Took, copied, pasted, waiting_len, waiting_number};
 ghost use Rattle.termwiz_c.specs.Keys.{IsNoKey, key_number};
 ghost use Rattle.termwiz_c.specs.Presses.{HasNoText, IsBad, Wrote};
 
@@ -29,9 +29,9 @@ use crate::modes::{CModes, press_of};
 use crate::parser_and_paste::{ParserAndPaste, copy_prefix};
 use event_text::variant_name;
 use std::alloc::Global;
-use termwiz_input::input::EncodeError;
+use termwiz_input::input::{EncodeError, Waiting};
 
-// The answers of `tw_parser_next`.
+// The answers of `tw_parser_next`, `tw_parser_flush_escape` and `tw_parser_end_paste`.
 const NONE: u32 = 0;
 
 const EVENT: u32 = 1;
@@ -39,6 +39,17 @@ const EVENT: u32 = 1;
 const NO_MEMORY: u32 = 2;
 
 const NO_PARSER: u32 = 3;
+
+// The answers of `tw_parser_waiting_kind`.
+const WAITING_NOTHING: u32 = 0;
+
+const WAITING_ESCAPE: u32 = 1;
+
+const WAITING_SEQUENCE: u32 = 2;
+
+const WAITING_CHARACTER: u32 = 3;
+
+const WAITING_PASTE: u32 = 4;
 
 // The answers of `tw_encode`.
 const TEXT: u32 = 0;
@@ -164,6 +175,122 @@ pub extern "C" fn tw_parser_is_paste_open(alloc: Global, parser: &mut Handle) ->
     let is_open = held.parser.is_paste_open();
     parser.put(held);
     is_open
+}
+
+// The number of a kind.
+#[tactic(auto, unfolding(crate::specs::Calls::waiting_number))]
+fn waiting_number(kind: Waiting) -> u32
+    ensures { result ≡ waiting_number kind }
+{
+    match kind {
+        Waiting::Nothing => WAITING_NOTHING,
+        Waiting::Escape => WAITING_ESCAPE,
+        Waiting::Sequence => WAITING_SEQUENCE,
+        Waiting::Character => WAITING_CHARACTER,
+        Waiting::Paste => WAITING_PASTE,
+    }
+}
+
+/// The kind of what stays buffered, once `tw_parser_next` answered 0: 1 for ESC or ESC ESC, 2 for a longer beginning of a sequence, 3 for
+/// one of a character, 4 for an open paste, and 0 for nothing or if there is no parser.
+#[unsafe(no_mangle)]
+pub extern "C" fn tw_parser_waiting_kind(alloc: Global, parser: &mut Handle) -> u32
+    ensures same { parser.new.owned.held ≡ parser.old.owned.held }
+    ensures kind { HasKind parser.old.owned.held result }
+{
+    let Some(held) = parser.take(alloc) else {
+        return WAITING_NOTHING;
+    };
+    let kind = held.parser.waiting();
+    parser.put(held);
+    waiting_number(kind)
+}
+
+/// Takes ESC or ESC ESC, if no more than that is buffered. The answer is 1 if `event` is its event, the Escape key; 0 if something else
+/// is buffered; and 3 if there is no parser.
+#[unsafe(no_mangle)]
+pub extern "C" fn tw_parser_flush_escape(
+    alloc: Global,
+    parser: &mut Handle,
+    event: &mut CEvent,
+) -> u32
+    ensures answers { result ≤ 3 }
+    ensures granted { result ≢ NO_MEMORY }
+    ensures when { result ≡ EVENT ↔ HasEscape parser.old.owned.held }
+    ensures event { result ≡ EVENT → Flushed parser.old.owned.held event.new parser.new.owned.held }
+    ensures no_parser { result ≡ NO_PARSER ↔ (parser.old.owned.held ≡ None) }
+    ensures same { result ≢ EVENT → parser.new.owned.held ≡ parser.old.owned.held }
+    ensures event_same { result ≢ EVENT → event.new ≡ event.old }
+{
+    let Some(mut held) = parser.take(alloc) else {
+        return NO_PARSER;
+    };
+    let found = held.flush_escape();
+    parser.put(held);
+    match found {
+        Some(escape) => {
+            *event = escape;
+            EVENT
+        }
+        None => NONE,
+    }
+}
+
+/// Ends an open paste where it is. The answer is 1 if `event` is its event, whose text is what came so far; 0 if no paste is open;
+/// 2 if memory for the text is refused; and 3 if there is no parser.
+#[unsafe(no_mangle)]
+pub extern "C" fn tw_parser_end_paste(
+    alloc: Global,
+    parser: &mut Handle,
+    event: &mut CEvent,
+) -> u32
+    ensures answers { result ≤ 3 }
+    ensures none { result ≡ NONE → ¬ HasEndlessPaste parser.old.owned.held }
+    ensures event { result ≡ EVENT → Ended parser.old.owned.held event.new parser.new.owned.held }
+    ensures refused { result ≡ NO_MEMORY → HasEndlessPaste parser.old.owned.held }
+    ensures no_parser { result ≡ NO_PARSER ↔ (parser.old.owned.held ≡ None) }
+    ensures same { result ≢ EVENT → parser.new.owned.held ≡ parser.old.owned.held }
+    ensures event_same { result ≢ EVENT → event.new ≡ event.old }
+{
+    let Some(mut held) = parser.take(alloc) else {
+        return NO_PARSER;
+    };
+    let found = held.end_paste();
+    parser.put(held);
+    match found {
+        Ok(Some(paste)) => {
+            *event = paste;
+            EVENT
+        }
+        Ok(None) => NONE,
+        Err(_) => NO_MEMORY,
+    }
+}
+
+/// Forgets what is buffered, and returns how many bytes these were; 0 if there is no parser.
+#[unsafe(no_mangle)]
+pub extern "C" fn tw_parser_reset(alloc: Global, parser: &mut Handle) -> usize
+    ensures len { result ≡ waiting_len parser.old.owned.held }
+    ensures reset { IsReset parser.old.owned.held parser.new.owned.held }
+{
+    let Some(mut held) = parser.take(alloc) else {
+        return 0;
+    };
+    let len = held.parser.reset();
+    parser.put(held);
+    len
+}
+
+/// Frees the text of the last paste that was taken, which is then empty.
+#[unsafe(no_mangle)]
+pub extern "C" fn tw_parser_drop_paste(alloc: Global, parser: &mut Handle)
+    ensures { HasDroppedPaste parser.old.owned.held parser.new.owned.held }
+{
+    let Some(mut held) = parser.take(alloc) else {
+        return;
+    };
+    held.drop_paste(alloc);
+    parser.put(held);
 }
 
 /// Encodes a key that is pressed while `modifiers` are held, or that is up. The answer is 0 if `out` has as much of the text as it

@@ -1,7 +1,9 @@
 // What a handle leads to.
-ghost use Rattle.std.specs.Prelude.{◌≡◌, [], ◌∷◌, length, string_bytes, IfOk, IfSome, IfNone, OnErr};
+ghost use Rattle.std.specs.Prelude.{◌≡◌, ◌↔◌, [], ◌∷◌, false, length, string_bytes, IfOk, IfSome, IfNone, IsSome, OnErr};
 ghost use Rattle.termwiz_input.specs.InputEvent.{InputEvent as Event};
-ghost use Rattle.termwiz_input.specs.Grammar.{HasPaste, IsRest, Steps};
+ghost use Rattle.termwiz_input.specs.Grammar.{HasPaste, IsRest, Means, Steps};
+ghost use Rattle.termwiz_input.specs.PasteSearch.{IsPasteSoFar};
+ghost use Rattle.termwiz_input.specs.WaitingKinds.{IsOneOrTwoEscapes, IsOpenPaste};
 ghost use Rattle.termwiz_c.specs.Calls.{copied, text_after};
 ghost use Rattle.termwiz_c.specs.Events.{c_event};
 
@@ -57,6 +59,45 @@ impl ParserAndPaste {
             Some(event) => Ok(Some(self.keep_text(event))),
             None => Ok(None),
         }
+    }
+
+    // The Escape key, as C has it, if nothing else is buffered.
+    pub(crate) fn flush_escape(&mut self) -> Option<CEvent>
+        ensures event { IfSome result (λ shown. (event : Event)
+            × Means self.old.parser false (event ∷ []) self.new.parser
+            × (shown ≡ c_event event)) }
+        ensures when { IsSome result ↔ IsOneOrTwoEscapes self.old.parser }
+        ensures none { IfNone result (self.new.parser ≡ self.old.parser) }
+        ensures pasted { self.new.pasted ≡ self.old.pasted }
+    {
+        let event = self.parser.flush_escape()?;
+        Some(c_event(&event))
+    }
+
+    // The text so far of an open paste, which ends there, as C has it.
+    pub(crate) fn end_paste(&mut self) -> Result<Option<CEvent>, AllocError>
+        ensures event { IfOk result (λ found. IfSome found (λ shown. (event : Event)
+            × IsPasteSoFar self.old.parser event
+            × (shown ≡ c_event event)
+            × (string_bytes self.new.pasted ≡ text_after event (string_bytes self.old.pasted)))) }
+        ensures nothing { IfOk result (λ found. IfSome found (λ _. self.new.parser ≡ [])) }
+        ensures none { IfOk result (λ found. IfNone found (¬ IsOpenPaste self.old.parser)) }
+        ensures none_same { IfOk result (λ found. IfNone found (self.new ≡ self.old)) }
+        ensures refused { OnErr result (IsOpenPaste self.old.parser) }
+        ensures refused_same { OnErr result (self.new ≡ self.old) }
+    {
+        match self.parser.end_paste()? {
+            Some(event) => Ok(Some(self.keep_text(event))),
+            None => Ok(None),
+        }
+    }
+
+    // Frees the text of the last paste.
+    pub(crate) fn drop_paste(&mut self, alloc: Global)
+        ensures text { string_bytes self.new.pasted ≡ [] }
+        ensures parser { self.new.parser ≡ self.old.parser }
+    {
+        self.pasted = String::new(alloc);
     }
 
     // Copies as much of the last paste's text as `out` has room for, and returns its whole length.

@@ -225,6 +225,7 @@ impl InputParser {
         ensures nothing { IfOk result (λ found. IfSome found (λ _. self.new ≡ [])) }
         ensures none { IfOk result (λ found. IfNone found (¬ IsOpenPaste self.old)) }
         ensures none_same { IfOk result (λ found. IfNone found (self.new ≡ self.old)) }
+        ensures refused { OnErr result (IsOpenPaste self.old) }
         ensures refused_same { OnErr result (self.new ≡ self.old) }
     {
         let Some(event) = paste_so_far(self.alloc, self.buffer.as_slice())? else {

@@ -62,9 +62,11 @@ pub(crate) fn paste_at(
 }
 
 // The text so far of an open paste. `None` if the text is none, or has the end of its paste.
+#[tactic(auto, using(crate::proofs::lemmas::pastes::EndSearch::still_open))]
 pub(crate) fn paste_so_far(alloc: Global, text: &[u8]) -> Result<Option<InputEvent>, AllocError>
     ensures event { IfOk result (λ found. IfSome found (IsPasteSoFar text.now)) }
     ensures none { IfOk result (λ found. IfNone found (¬ IsOpenPaste text.now)) }
+    ensures refused { OnErr result (IsOpenPaste text.now) }
 {
     if !begins_paste(text) {
         return Ok(None);

@@ -106,9 +106,16 @@ ended u k begins found p =
     let same : p.body ≡ take (k - 6) (drop 6 u) ++ END ++ to.rest = cc (p.splits, to.parts) in
     p.endless (take (k - 6) (drop 6 u), to.rest, same)
 
+-- a paste whose end isn't found is open
+pub still_open : (u : List ℕ) → Begins START u → FindsNeedle u END 6 None → IsOpenPaste u
+still_open u begins never =
+    let split : u ≡ START ++ drop 6 u = begins.1 ∙ ap (λ t. START ++ t) (sym (ap (drop 6) begins.1)) in
+    record { body = drop 6 u; splits = split; endless = endless u begins never (drop 6 u) split }
+
 -- the text of a paste whose end isn't found
 pub so_far : (u : List ℕ) (event : InputEvent) → Begins START u → FindsNeedle u END 6 None
     → event ≡ Paste (utf8_lossy (drop 6 u)) → IsPasteSoFar u event
+unfolding still_open
 so_far u event begins never is =
-    let split : u ≡ START ++ drop 6 u = begins.1 ∙ ap (λ t. START ++ t) (sym (ap (drop 6) begins.1)) in
-    record { body = drop 6 u; splits = split; endless = endless u begins never (drop 6 u) split; its_text = is }
+    let paste = still_open u begins never in
+    record { body = drop 6 u; splits = paste.splits; endless = paste.endless; its_text = is }
