@@ -3,7 +3,13 @@
  *     tw_parser parser = TW_PARSER_NONE;
  *     tw_event event;
  *     if (!tw_parser_init(&parser)) ...                        // no memory
- *     while ((n = read(0, bytes, sizeof bytes)) > 0) {
+ *     for (;;) {
+ *       int ms = tw_parser_waiting_kind(&parser) == TW_WAITING_ESCAPE ? 50 : -1;
+ *       if (poll(&keyboard, 1, ms) == 0) {                     // nothing followed the ESC
+ *         if (tw_parser_flush_escape(&parser, &event) == TW_EVENT) ...
+ *         continue;
+ *       }
+ *       if ((n = read(0, bytes, sizeof bytes)) <= 0) break;
  *       if (!tw_parser_feed(&parser, bytes, n)) ...            // no memory: none of the bytes is buffered
  *       while (tw_parser_next(&parser, true, &event) == TW_EVENT) ...
  *     }
@@ -11,7 +17,7 @@
  *     tw_parser_free(&parser);
  *
  * tw_parser_feed buffers bytes, and tw_parser_next emits events, one at a time. However the bytes are cut into calls, the events are
- * the same.
+ * the same. An ESC stays buffered, since it may begin a sequence: only a pause tells that it is the Escape key.
  *
  * The bodies of the calls are proved. The duties of a caller are not checked:
  *
@@ -69,11 +75,11 @@ typedef struct tw_event {
   size_t paste_len;   /* TW_PASTE: the number of bytes of the text, which tw_parser_paste copies */
 } tw_event;
 
-/* What tw_parser_next returns. */
+/* What tw_parser_next, tw_parser_flush_escape and tw_parser_end_paste return. */
 enum tw_next {
   /* numbers.txt: next c */
-  TW_NONE = 0, /* No event is at the front of the buffer. */
-  TW_EVENT = 1, /* An event was consumed and written. */
+  TW_NONE = 0, /* There is no such event. Nothing changed. */
+  TW_EVENT = 1, /* An event was written, and its bytes were consumed. */
   TW_NO_MEMORY = 2, /* Memory was refused. Nothing changed, and the call may be made again. */
   TW_NO_PARSER = 3 /* There is no parser: it wasn't made yet, or it was freed. */
   /* numbers.txt: end */
@@ -96,7 +102,8 @@ bool tw_parser_feed(tw_parser *parser, const uint8_t *bytes, size_t len);
 /* Consumes the item at the front of the buffer, and writes its event to *event. The caller calls this until it returns TW_NONE.
  *
  * Pass more as true while more bytes may come: then bytes that may still become a longer sequence or a character, such as a lone ESC,
- * stay buffered. Pass it as false at the end of the input, or if a pause says that Escape was meant: then only an open paste stays.
+ * stay buffered. After a pause call tw_parser_flush_escape instead. Pass more as false at the end of the input: then only an open paste
+ * stays. Before the end this breaks a sequence or a character of which the rest is still to come.
  *
  * Returns an enum tw_next. *event is written only with TW_EVENT. With TW_NO_MEMORY, which only a paste can meet, nothing changed. */
 uint32_t tw_parser_next(tw_parser *parser, bool more, tw_event *event);
@@ -105,15 +112,59 @@ uint32_t tw_parser_next(tw_parser *parser, bool more, tw_event *event);
  * unchanged.
  *
  * Returns the number of bytes of the whole text, as paste_len has it, so a caller whose room was short can call again: the parser keeps
- * the text until the next TW_PASTE. Returns 0 if there was no paste yet, or if there is no parser. */
+ * the text until the next TW_PASTE or tw_parser_drop_paste. Returns 0 if there is no such text, or if there is no parser. */
 size_t tw_parser_paste(tw_parser *parser, uint8_t *out, size_t len);
+
+/* Frees the text of the last TW_PASTE: tw_parser_paste returns 0 until the next. The caller calls it once it has copied a text that is
+ * too long to be kept. If there is no text or no parser, it does nothing. */
+void tw_parser_drop_paste(tw_parser *parser);
 
 /* Returns the number of bytes that are buffered, 0 if there is no parser. */
 size_t tw_parser_waiting(tw_parser *parser);
 
+/* What stays buffered. */
+enum tw_waiting {
+  /* numbers.txt: waiting c */
+  TW_WAITING_NOTHING = 0, /* Nothing is buffered. */
+  TW_WAITING_ESCAPE = 1, /* ESC, or ESC ESC: the Escape key, alone or with Alt, unless more bytes follow. */
+  TW_WAITING_SEQUENCE = 2, /* A longer prefix of a sequence, after an ESC or not. */
+  TW_WAITING_CHARACTER = 3, /* A prefix of a character in UTF-8, after an ESC or not. */
+  TW_WAITING_PASTE = 4 /* An open paste: its start, and its text so far. */
+  /* numbers.txt: end */
+};
+
+/* Returns what stays buffered, an enum tw_waiting. The caller calls it after TW_NONE: before, it doesn't tell which events come first.
+ *
+ * It says what a pause means. After some 50 ms with TW_WAITING_ESCAPE call tw_parser_flush_escape. TW_WAITING_SEQUENCE may be half of a
+ * sequence on a slow line: flush it after a much longer pause, say 1000 ms, or never. Never flush the other two.
+ *
+ * Returns TW_WAITING_NOTHING if there is no parser. */
+uint32_t tw_parser_waiting_kind(tw_parser *parser);
+
+/* Writes the Escape key to *event if ESC alone is buffered, with TW_MOD_ALT if ESC ESC is, and consumes it. The caller calls it when
+ * some 50 ms have passed without a byte. Whatever else is buffered stays: a pause after more than the ESC breaks no sequence, and none
+ * breaks a character or a paste.
+ *
+ * Returns TW_EVENT, TW_NONE if anything else or nothing is buffered, or TW_NO_PARSER. *event is written only with TW_EVENT. */
+uint32_t tw_parser_flush_escape(tw_parser *parser, tw_event *event);
+
 /* Returns whether the buffer begins with the start of a paste. Such a paste is buffered without limit until its end arrives: a caller
- * that accepts no more makes the parser anew. Returns false if there is no parser. */
+ * with a limit, say 1 MB, calls tw_parser_end_paste once tw_parser_waiting is above it. Returns false if there is no parser. */
 bool tw_parser_is_paste_open(tw_parser *parser);
+
+/* Ends an open paste where it is: writes a TW_PASTE to *event, whose text is what came so far, and consumes the whole buffer.
+ * tw_parser_paste copies the text. The rest of the paste then arrives as typed keys, Enter included, and its end as
+ * TW_KEY_INTERNAL_PASTE_END; if the text ended inside that, the rest of it is typed keys too.
+ *
+ * Returns TW_EVENT, TW_NONE if no paste is open, TW_NO_MEMORY, or TW_NO_PARSER. *event is written only with TW_EVENT. With TW_NO_MEMORY
+ * nothing changed, and the call may be made again. */
+uint32_t tw_parser_end_paste(tw_parser *parser, tw_event *event);
+
+/* Forgets all that is buffered, an open paste too: the next byte that is fed comes first. The caller calls it where earlier bytes no
+ * longer count, as after another program had the terminal. The text of the last TW_PASTE is kept, and no memory is freed.
+ *
+ * Returns the number of bytes that were buffered, 0 if there is no parser. */
+size_t tw_parser_reset(tw_parser *parser);
 
 /* The modifier keys, as bits of a set. */
 enum tw_mod {

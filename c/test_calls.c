@@ -28,10 +28,14 @@ static void none_answers(tw_parser *parser) {
   memset(&before, 0x55, sizeof before);
   EXPECT(!tw_parser_feed(parser, &byte, 1));
   EXPECT(tw_parser_next(parser, true, &event) == TW_NO_PARSER);
+  EXPECT(tw_parser_flush_escape(parser, &event) == TW_NO_PARSER);
+  EXPECT(tw_parser_end_paste(parser, &event) == TW_NO_PARSER);
   EXPECT(memcmp(&event, &before, sizeof event) == 0);
   EXPECT(tw_parser_paste(parser, &byte, 1) == 0 && byte == 'x');
-  EXPECT(tw_parser_waiting(parser) == 0);
+  tw_parser_drop_paste(parser);
+  EXPECT(tw_parser_waiting(parser) == 0 && tw_parser_waiting_kind(parser) == TW_WAITING_NOTHING);
   EXPECT(!tw_parser_is_paste_open(parser));
+  EXPECT(tw_parser_reset(parser) == 0);
   tw_parser_free(parser);
   EXPECT(!parser->live);
 }
@@ -133,6 +137,209 @@ static void gives_a_long_paste(tw_parser *parser) {
   EXPECT(NEXT(parser, "\033[201~", true) == TW_EVENT && taken.kind == TW_PASTE && taken.paste_len == sizeof body);
   EXPECT(tw_parser_paste(parser, room, sizeof room) == sizeof body && memcmp(room, body, sizeof body) == 0);
   EXPECT(NEXT(parser, "", true) == TW_NONE && tw_parser_waiting(parser) == 0);
+}
+
+/* What stays buffered of a text, and its kind. */
+struct rest {
+  const char *text;
+  uint32_t kind;
+};
+
+static const struct rest rests[] = {
+    {"", TW_WAITING_NOTHING},
+    {"\033", TW_WAITING_ESCAPE},
+    {"\033\033", TW_WAITING_ESCAPE},
+    {"\033[", TW_WAITING_SEQUENCE},
+    {"\033O", TW_WAITING_SEQUENCE},
+    {"\033[1;5", TW_WAITING_SEQUENCE},
+    {"\033[<0;3", TW_WAITING_SEQUENCE},
+    {"\033[200", TW_WAITING_SEQUENCE},
+    {"\033\033[", TW_WAITING_SEQUENCE},
+    {"\033\033[<00095;65535;65535", TW_WAITING_SEQUENCE},
+    {"\303", TW_WAITING_CHARACTER},
+    {"\342\202", TW_WAITING_CHARACTER},
+    {"\360\237\230", TW_WAITING_CHARACTER},
+    {"\033\303", TW_WAITING_CHARACTER},
+    {"\033\360\237\230", TW_WAITING_CHARACTER},
+    {"\033[200~", TW_WAITING_PASTE},
+    {"\033[200~\033", TW_WAITING_PASTE},
+    {"\033[200~ab\033\033", TW_WAITING_PASTE},
+    {"\033[200~\303", TW_WAITING_PASTE},
+    {"\033[200~ab\033[201", TW_WAITING_PASTE},
+    {"\033[200~\033[200~", TW_WAITING_PASTE},
+};
+
+enum { RESTS = sizeof rests / sizeof rests[0] };
+
+/* Whether as many bytes of this kind stay buffered. */
+static bool is_rest(tw_parser *parser, size_t len, uint32_t kind) {
+  return tw_parser_waiting(parser) == len && tw_parser_waiting_kind(parser) == kind
+         && tw_parser_is_paste_open(parser) == (kind == TW_WAITING_PASTE);
+}
+
+/* Feeds a rest to a parser that has nothing buffered. */
+static void feed_rest(tw_parser *parser, const struct rest *rest) {
+  EXPECT(is_rest(parser, 0, TW_WAITING_NOTHING));
+  EXPECT(next_of(parser, rest->text, strlen(rest->text), true) == TW_NONE);
+  EXPECT(is_rest(parser, strlen(rest->text), rest->kind));
+}
+
+/* Each rest has its kind, alone and after a key, fed whole or byte by byte, and reset forgets it. */
+static void tells_kinds_and_forgets(tw_parser *parser) {
+  for (size_t i = 0; i < RESTS; i++) {
+    size_t len = strlen(rests[i].text);
+    feed_rest(parser, &rests[i]);
+    EXPECT(tw_parser_reset(parser) == len && tw_parser_reset(parser) == 0);
+    EXPECT(NEXT(parser, "q", true) == TW_EVENT && is_key(TW_KEY_CHAR, 'q', TW_MOD_NONE));
+    for (size_t at = 0; at < len; at++) EXPECT(next_of(parser, rests[i].text + at, 1, true) == TW_NONE);
+    EXPECT(is_rest(parser, len, rests[i].kind));
+    EXPECT(tw_parser_reset(parser) == len);
+  }
+  EXPECT(is_rest(parser, 0, TW_WAITING_NOTHING));
+}
+
+/* What was fed and not emitted yet is forgotten too. */
+static void forgets_events(tw_parser *parser) {
+  EXPECT(NEXT(parser, "ab\033[A\033[200~text\033[201~", true) == TW_EVENT);
+  EXPECT(tw_parser_reset(parser) == 20);
+  EXPECT(NEXT(parser, "", false) == TW_NONE && is_rest(parser, 0, TW_WAITING_NOTHING));
+}
+
+/* After a flush nothing but an open paste stays. */
+static void flushes(tw_parser *parser) {
+  for (size_t i = 0; i < RESTS; i++) {
+    bool is_open = rests[i].kind == TW_WAITING_PASTE;
+    feed_rest(parser, &rests[i]);
+    while (NEXT(parser, "", false) == TW_EVENT) EXPECT(taken.kind == TW_KEY && !is_open);
+    EXPECT(is_rest(parser, is_open ? strlen(rests[i].text) : 0, is_open ? TW_WAITING_PASTE : TW_WAITING_NOTHING));
+    tw_parser_reset(parser);
+  }
+}
+
+/* Calls tw_parser_flush_escape or tw_parser_end_paste; its event is in `taken`, which has to be unchanged without one. */
+static uint32_t call(uint32_t (*calls)(tw_parser *, tw_event *), tw_parser *parser) {
+  tw_event before;
+  memset(&taken, 0xaa, sizeof taken);
+  memset(&before, 0xaa, sizeof before);
+  uint32_t answer = calls(parser, &taken);
+  EXPECT(answer == TW_EVENT || memcmp(&taken, &before, sizeof taken) == 0);
+  return answer;
+}
+
+/* ESC is flushed as Escape, ESC ESC with Alt, and nothing else is flushed. */
+static void flushes_escapes(tw_parser *parser) {
+  EXPECT(NEXT(parser, "\033", true) == TW_NONE);
+  EXPECT(call(tw_parser_flush_escape, parser) == TW_EVENT && is_key(TW_KEY_ESCAPE, 0, TW_MOD_NONE));
+  EXPECT(is_rest(parser, 0, TW_WAITING_NOTHING));
+  EXPECT(NEXT(parser, "\033\033", true) == TW_NONE);
+  EXPECT(call(tw_parser_flush_escape, parser) == TW_EVENT && is_key(TW_KEY_ESCAPE, 0, TW_MOD_ALT));
+  EXPECT(is_rest(parser, 0, TW_WAITING_NOTHING));
+  EXPECT(NEXT(parser, "[A", true) == TW_EVENT && is_key(TW_KEY_CHAR, '[', TW_MOD_NONE));
+  EXPECT(NEXT(parser, "", true) == TW_EVENT && is_key(TW_KEY_CHAR, 'A', TW_MOD_NONE));
+  EXPECT(NEXT(parser, "q\033", true) == TW_EVENT && is_key(TW_KEY_CHAR, 'q', TW_MOD_NONE));
+  EXPECT(call(tw_parser_flush_escape, parser) == TW_EVENT && is_key(TW_KEY_ESCAPE, 0, TW_MOD_NONE));
+}
+
+/* Every other rest is as it was after it. */
+static void flushes_escapes_alone(tw_parser *parser) {
+  for (size_t i = 0; i < RESTS; i++) {
+    if (rests[i].kind == TW_WAITING_ESCAPE) continue;
+    feed_rest(parser, &rests[i]);
+    EXPECT(call(tw_parser_flush_escape, parser) == TW_NONE);
+    EXPECT(is_rest(parser, strlen(rests[i].text), rests[i].kind));
+    tw_parser_reset(parser);
+  }
+  EXPECT(NEXT(parser, "\033[1;5", true) == TW_NONE && call(tw_parser_flush_escape, parser) == TW_NONE);
+  EXPECT(NEXT(parser, "A", true) == TW_EVENT && is_key(TW_KEY_UP_ARROW, 0, TW_MOD_CTRL));
+  EXPECT(NEXT(parser, "\342\202", true) == TW_NONE && call(tw_parser_flush_escape, parser) == TW_NONE);
+  EXPECT(NEXT(parser, "\254", true) == TW_EVENT && is_key(TW_KEY_CHAR, 0x20ac, TW_MOD_NONE));
+  EXPECT(NEXT(parser, "\033[200~ab\033", true) == TW_NONE && call(tw_parser_flush_escape, parser) == TW_NONE);
+  EXPECT(NEXT(parser, "[201~", true) == TW_EVENT && taken.kind == TW_PASTE && taken.paste_len == 2);
+  EXPECT(tw_parser_feed(parser, (const uint8_t *)"q\033", 2) && call(tw_parser_flush_escape, parser) == TW_NONE);
+  EXPECT(tw_parser_reset(parser) == 2);
+}
+
+/* Whether `taken` is a paste of this text. */
+static bool is_paste(tw_parser *parser, const char *want) {
+  uint8_t room[64];
+  size_t len = strlen(want);
+  return taken.kind == TW_PASTE && taken.paste_len == len && taken.buttons == 0 && taken.modifiers == 0 && taken.key == 0 && taken.x == 0
+         && taken.y == 0 && taken.detail == 0 && tw_parser_paste(parser, room, sizeof room) == len && memcmp(room, want, len) == 0;
+}
+
+/* A paste is ended where it is: what it has so far is its text. */
+static void ends_pastes(tw_parser *parser) {
+  EXPECT(NEXT(parser, "\033[200~", true) == TW_NONE);
+  EXPECT(call(tw_parser_end_paste, parser) == TW_EVENT && is_paste(parser, "") && is_rest(parser, 0, TW_WAITING_NOTHING));
+  EXPECT(NEXT(parser, "q\033[200~ab\n", true) == TW_EVENT && NEXT(parser, "", true) == TW_NONE);
+  EXPECT(call(tw_parser_end_paste, parser) == TW_EVENT && is_paste(parser, "ab\n") && is_rest(parser, 0, TW_WAITING_NOTHING));
+  EXPECT(call(tw_parser_end_paste, parser) == TW_NONE && tw_parser_paste(parser, (uint8_t *)"", 0) == 3);
+  EXPECT(NEXT(parser, "c\033[201~", true) == TW_EVENT && is_key(TW_KEY_CHAR, 'c', TW_MOD_NONE));
+  EXPECT(NEXT(parser, "", true) == TW_EVENT && is_key(TW_KEY_INTERNAL_PASTE_END, 0, TW_MOD_NONE));
+  EXPECT(NEXT(parser, "\033[200~\303\251\342\202", false) == TW_NONE);
+  EXPECT(call(tw_parser_end_paste, parser) == TW_EVENT && is_paste(parser, "\303\251\357\277\275"));
+  EXPECT(NEXT(parser, "\033[200~ab\033[201", true) == TW_NONE);
+  EXPECT(call(tw_parser_end_paste, parser) == TW_EVENT && is_paste(parser, "ab\033[201"));
+  EXPECT(NEXT(parser, "~", true) == TW_EVENT && is_key(TW_KEY_CHAR, '~', TW_MOD_NONE));
+  EXPECT(is_rest(parser, 0, TW_WAITING_NOTHING));
+}
+
+/* Where no paste is open, nothing is ended: neither another rest nor a paste that has its end. */
+static void ends_open_pastes_alone(tw_parser *parser) {
+  for (size_t i = 0; i < RESTS; i++) {
+    if (rests[i].kind == TW_WAITING_PASTE) continue;
+    feed_rest(parser, &rests[i]);
+    EXPECT(call(tw_parser_end_paste, parser) == TW_NONE);
+    EXPECT(is_rest(parser, strlen(rests[i].text), rests[i].kind));
+    tw_parser_reset(parser);
+  }
+  EXPECT(tw_parser_feed(parser, (const uint8_t *)"\033[200~ab\033[201~\033[200~c", 21));
+  EXPECT(call(tw_parser_end_paste, parser) == TW_NONE && tw_parser_waiting(parser) == 21);
+  EXPECT(NEXT(parser, "", true) == TW_EVENT && is_paste(parser, "ab"));
+  EXPECT(call(tw_parser_end_paste, parser) == TW_EVENT && is_paste(parser, "c"));
+}
+
+/* The text of a paste is kept until it is dropped, whatever is buffered. */
+static void drops_pastes(tw_parser *parser) {
+  uint8_t room[4] = {'.', '.', '.', '.'};
+  EXPECT(NEXT(parser, "\033[200~ab\033[201~\033[200~cd", true) == TW_EVENT && is_paste(parser, "ab"));
+  tw_parser_drop_paste(parser);
+  EXPECT(tw_parser_paste(parser, room, sizeof room) == 0 && memcmp(room, "....", 4) == 0);
+  tw_parser_drop_paste(parser);
+  EXPECT(NEXT(parser, "", true) == TW_NONE && is_rest(parser, 8, TW_WAITING_PASTE));
+  EXPECT(call(tw_parser_end_paste, parser) == TW_EVENT && is_paste(parser, "cd"));
+  EXPECT(NEXT(parser, "ab", true) == TW_EVENT && tw_parser_reset(parser) == 1 && tw_parser_paste(parser, room, 0) == 2);
+  tw_parser_drop_paste(parser);
+  EXPECT(tw_parser_paste(parser, room, sizeof room) == 0);
+  EXPECT(NEXT(parser, "\033[200~e\033[201~", true) == TW_EVENT && is_paste(parser, "e"));
+}
+
+enum { LONG = 300000 };
+
+/* Feeds the start of a paste and a long text, in pieces as of reads. */
+static void feed_long_paste(tw_parser *parser, const uint8_t *body) {
+  EXPECT(NEXT(parser, "\033[200~", true) == TW_NONE);
+  for (size_t at = 0; at < LONG; at += 4000) {
+    EXPECT(tw_parser_feed(parser, body + at, 4000));
+    EXPECT(tw_parser_next(parser, true, &taken) == TW_NONE);
+  }
+  EXPECT(is_rest(parser, LONG + 6, TW_WAITING_PASTE));
+}
+
+/* A paste of 300 KB is ended, and another forgotten. */
+static void ends_a_long_paste(tw_parser *parser) {
+  static uint8_t body[LONG], room[LONG];
+  for (size_t at = 0; at < LONG; at++) body[at] = (uint8_t)"0123456789abcdef\033[201"[at % 21];
+  feed_long_paste(parser, body);
+  EXPECT(call(tw_parser_flush_escape, parser) == TW_NONE);
+  EXPECT(call(tw_parser_end_paste, parser) == TW_EVENT && taken.kind == TW_PASTE && taken.paste_len == LONG);
+  EXPECT(is_rest(parser, 0, TW_WAITING_NOTHING));
+  EXPECT(tw_parser_paste(parser, room, LONG) == LONG && memcmp(room, body, LONG) == 0);
+  tw_parser_drop_paste(parser);
+  EXPECT(tw_parser_paste(parser, room, LONG) == 0);
+  feed_long_paste(parser, body);
+  EXPECT(tw_parser_reset(parser) == LONG + 6);
+  EXPECT(NEXT(parser, "q", true) == TW_EVENT && is_key(TW_KEY_CHAR, 'q', TW_MOD_NONE));
 }
 
 /* A text of 70,000 keys in one call, an arrow and a letter in turn. */
@@ -326,6 +533,15 @@ int main(int argc, char **argv) {
   gives_pastes(&parser);
   gives_a_long_paste(&parser);
   gives_many_keys(&parser);
+  tells_kinds_and_forgets(&parser);
+  forgets_events(&parser);
+  flushes(&parser);
+  flushes_escapes(&parser);
+  flushes_escapes_alone(&parser);
+  ends_pastes(&parser);
+  ends_open_pastes_alone(&parser);
+  drops_pastes(&parser);
+  ends_a_long_paste(&parser);
   tw_parser_free(&parser);
   cuts_make_no_difference();
   names_keys(argv[1]);

@@ -124,6 +124,55 @@ static void refuse_while_reading(size_t piece) {
   printf("pieces of %zu: %ld refusals\n", piece, number - 1);
 }
 
+/* Whether the last paste's text is this one. */
+static bool is_pasted(tw_parser *parser, const char *want) {
+  uint8_t text[256];
+  size_t len = strlen(want);
+  return tw_parser_paste(parser, text, sizeof text) == len && memcmp(text, want, len) == 0;
+}
+
+/* Ends the open paste of a parser with one request refused, which leaves everything as it was, and again. Returns whether one was. */
+static bool refuse_end_of(tw_parser *parser, long number, const char *last) {
+  tw_event event;
+  uint8_t before[sizeof event];
+  size_t waiting = tw_parser_waiting(parser);
+  memset(&event, 0x55, sizeof event);
+  memcpy(before, &event, sizeof event);
+  refuse(number);
+  uint32_t answer = tw_parser_end_paste(parser, &event);
+  unsigned met = refused;
+  refuse(0);
+  EXPECT(answer == (met ? TW_NO_MEMORY : TW_EVENT));
+  if (met) {
+    EXPECT(memcmp(&event, before, sizeof event) == 0 && is_pasted(parser, last));
+    EXPECT(tw_parser_waiting(parser) == waiting && tw_parser_waiting_kind(parser) == TW_WAITING_PASTE);
+    EXPECT(tw_parser_end_paste(parser, &event) == TW_EVENT);
+  }
+  EXPECT(event.kind == TW_PASTE && event.paste_len == 16 && is_pasted(parser, "h\303\266lle \357\277\275\357\277\275 \033["));
+  EXPECT(tw_parser_waiting(parser) == 0 && tw_parser_waiting_kind(parser) == TW_WAITING_NOTHING);
+  return met;
+}
+
+/* The end of an open paste, with each request refused in turn. */
+static void refuse_while_ending(void) {
+  static const char last[] = "\033[200~last\033[201~", open[] = "\033[200~h\303\266lle \377\377 \033[";
+  long number = 0;
+  bool met;
+  do {
+    tw_parser parser = TW_PARSER_NONE;
+    tw_event event;
+    EXPECT(tw_parser_init(&parser));
+    EXPECT(tw_parser_feed(&parser, (const uint8_t *)last, sizeof last - 1));
+    EXPECT(tw_parser_next(&parser, true, &event) == TW_EVENT);
+    EXPECT(tw_parser_feed(&parser, (const uint8_t *)open, sizeof open - 1));
+    EXPECT(tw_parser_next(&parser, true, &event) == TW_NONE);
+    met = refuse_end_of(&parser, ++number, "last");
+    tw_parser_free(&parser);
+  } while (met);
+  EXPECT(number > 1);
+  printf("end of a paste: %ld refusals\n", number - 1);
+}
+
 /* A refused init leaves what was there: a parser in which two bytes wait, or none. Returns whether it was refused. */
 static bool refuse_init_of(tw_parser *parser, long number, size_t waiting) {
   refuse(number);
@@ -177,7 +226,7 @@ static void refuse_while_encoding(void) {
   refuse(0);
 }
 
-/* No bytes need no memory, and what gives no paste is taken without any. */
+/* No bytes need no memory, what gives no paste is taken without any, and what is forgotten or dropped needs none. */
 static void need_no_memory(void) {
   tw_parser parser = TW_PARSER_NONE;
   tw_event event;
@@ -189,6 +238,20 @@ static void need_no_memory(void) {
   EXPECT(tw_parser_next(&parser, false, &event) == TW_EVENT && tw_parser_waiting(&parser) == 0);
   EXPECT(!refused);
   refuse(0);
+  EXPECT(tw_parser_feed(&parser, (const uint8_t *)"\033\033", 2));
+  refuse(1);
+  EXPECT(tw_parser_waiting_kind(&parser) == TW_WAITING_ESCAPE);
+  EXPECT(tw_parser_flush_escape(&parser, &event) == TW_EVENT && tw_parser_flush_escape(&parser, &event) == TW_NONE);
+  EXPECT(tw_parser_end_paste(&parser, &event) == TW_NONE);
+  EXPECT(!refused);
+  refuse(0);
+  EXPECT(tw_parser_feed(&parser, (const uint8_t *)"\033[200~last\033[201~\033[200~ab", 24));
+  EXPECT(tw_parser_next(&parser, true, &event) == TW_EVENT);
+  refuse(1);
+  EXPECT(tw_parser_reset(&parser) == 8 && is_pasted(&parser, "last"));
+  tw_parser_drop_paste(&parser);
+  EXPECT(is_pasted(&parser, "") && !refused);
+  refuse(0);
   tw_parser_free(&parser);
 }
 
@@ -196,6 +259,7 @@ int main(int argc, char **argv) {
   long step = argc > 1 ? atol(argv[1]) : 1;
   if (step < 1) return 2;
   for (size_t piece = 1; piece < 2 * sizeof stream; piece = piece * 3 + 1) refuse_while_reading(piece);
+  refuse_while_ending();
   refuse_while_encoding();
   need_no_memory();
   refuse_init(step);

@@ -38,8 +38,8 @@ place_in() { # file places..
 }
 
 failed=0
-place_in c/termwiz_input.h 'next c' 'encoded c' 'kind c' 'encoding c' 'kitty c' 'modifier c' 'button c' 'key c' || failed=1
-place_in rust/src/raw.rs 'next const' 'encoded const' 'kind const' 'encoding const' || failed=1
+place_in c/termwiz_input.h 'next c' 'waiting c' 'encoded c' 'kind c' 'encoding c' 'kitty c' 'modifier c' 'button c' 'key c' || failed=1
+place_in rust/src/raw.rs 'next const' 'waiting const' 'encoded const' 'kind const' 'encoding const' || failed=1
 place_in rust/src/input/flags.rs 'kitty flag' 'modifier flag' 'button flag' || failed=1
 place_in rust/src/input/keys.rs 'key variant' 'key number' 'key of' || failed=1
 place_in rust/tests/parser/names.rs 'modifier named' 'button named' 'key plain' || failed=1
@@ -65,6 +65,7 @@ if [ -n "$check" ]; then
     proved_in kind crates/termwiz_c/src/events.rt || failed=1
     proved_in encoding crates/termwiz_c/src/modes.rt || failed=1
     proved_in 'next encoded' crates/termwiz_c/src/lib.rt || failed=1
+    proved_in waiting crates/termwiz_c/src/lib.rt || failed=1
     proved_in modifier crates/termwiz_base/src/modifiers.rt || failed=1
     proved_in kitty crates/termwiz_base/src/kitty.rt || failed=1
     proved_in button crates/termwiz_keys/src/types.rt || failed=1

@@ -21,8 +21,8 @@
 //!
 //! # If memory is refused
 //!
-//! `new`, `parse`, `parse_as_vec` and `encode` panic, and the forms whose names begin with `try_` return an error, after which every
-//! value may be used again. No event is lost: each error says how to go on.
+//! `new`, `parse`, `parse_as_vec`, `end_paste` and `encode` panic, and the forms whose names begin with `try_` return an error, after
+//! which every value may be used again. No event is lost: each error says how to go on.
 #![deny(missing_docs)]
 
 pub mod input;

@@ -5,16 +5,29 @@
 use std::ffi::c_void;
 use std::mem::{offset_of, size_of};
 
-// What tw_parser_next and tw_encode answer, and the kinds and encodings.
+// What the calls answer, and the kinds and encodings.
 // numbers.txt: next const
-/// No event is at the front of the buffer.
+/// There is no such event. Nothing changed.
 pub const NEXT_NONE: u32 = 0;
-/// An event was consumed and written.
+/// An event was written, and its bytes were consumed.
 pub const NEXT_EVENT: u32 = 1;
 /// Memory was refused. Nothing changed, and the call may be made again.
 pub const NEXT_NO_MEMORY: u32 = 2;
 /// There is no parser: it wasn't made yet, or it was freed.
 pub const NEXT_NO_PARSER: u32 = 3;
+// numbers.txt: end
+
+// numbers.txt: waiting const
+/// Nothing is buffered.
+pub const WAITING_NOTHING: u32 = 0;
+/// ESC, or ESC ESC: the Escape key, alone or with Alt, unless more bytes follow.
+pub const WAITING_ESCAPE: u32 = 1;
+/// A longer prefix of a sequence, after an ESC or not.
+pub const WAITING_SEQUENCE: u32 = 2;
+/// A prefix of a character in UTF-8, after an ESC or not.
+pub const WAITING_CHARACTER: u32 = 3;
+/// An open paste: its start, and its text so far.
+pub const WAITING_PASTE: u32 = 4;
 // numbers.txt: end
 
 // numbers.txt: encoded const
@@ -105,8 +118,13 @@ extern "C" {
     pub fn tw_parser_feed(parser: *mut Parser, bytes: *const u8, len: usize) -> bool;
     pub fn tw_parser_next(parser: *mut Parser, more: bool, event: *mut Event) -> u32;
     pub fn tw_parser_paste(parser: *mut Parser, out: *mut u8, len: usize) -> usize;
+    pub fn tw_parser_drop_paste(parser: *mut Parser);
     pub fn tw_parser_waiting(parser: *mut Parser) -> usize;
+    pub fn tw_parser_waiting_kind(parser: *mut Parser) -> u32;
+    pub fn tw_parser_flush_escape(parser: *mut Parser, event: *mut Event) -> u32;
     pub fn tw_parser_is_paste_open(parser: *mut Parser) -> bool;
+    pub fn tw_parser_end_paste(parser: *mut Parser, event: *mut Event) -> u32;
+    pub fn tw_parser_reset(parser: *mut Parser) -> usize;
     pub fn tw_encode(
         key: u16,
         detail: u32,

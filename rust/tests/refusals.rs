@@ -6,7 +6,7 @@
 use std::cell::Cell;
 use std::ffi::c_void;
 use termwiz::input::{AllocError, EncodeError, InputEvent, InputParser, KeyCode, KeyCodeEncodeModes, KeyboardEncoding};
-use termwiz::input::{Modifiers, ParseError};
+use termwiz::input::{Modifiers, ParseError, Waiting};
 
 thread_local! {
     // How many requests there are to the one that is refused, or 0.
@@ -141,6 +141,91 @@ fn goes_on_with_try_parse_as_vec() {
     check(give_as_vec);
 }
 
+// A parser with an open paste, which has the text `OPEN_TEXT` if it is ended.
+fn parser_in_a_paste() -> InputParser {
+    let mut parser = InputParser::new();
+    assert_eq!(parser.parse_as_vec(b"\x1b[200~h\xc3\xb6lle \xff\xff \x1b[", true), []);
+    parser
+}
+
+const OPEN_TEXT: &str = "hölle \u{fffd}\u{fffd} \x1b[";
+
+// Ends a paste with each request refused in turn, and goes on: the first event then is the paste.
+fn check_end(go_on: impl Fn(&mut InputParser) -> Vec<InputEvent>) {
+    let wanted = InputEvent::Paste(OPEN_TEXT.to_string());
+    let mut number = 1;
+    loop {
+        let mut parser = parser_in_a_paste();
+        let (ended, refused) = refusing(number, || parser.try_end_paste());
+        if refused == 0 {
+            assert_eq!(ended, Ok(Some(wanted)));
+            break;
+        }
+        assert_eq!((ended, parser.flush_escape()), (Err(AllocError), None));
+        assert_eq!(go_on(&mut parser).first(), Some(&wanted), "request {number}");
+        assert_eq!((parser.waiting(), parser.try_end_paste()), (Waiting::Nothing, Ok(None)));
+        number += 1;
+    }
+    assert!(number > 2);
+}
+
+#[test]
+fn ends_a_paste_after_a_refusal() {
+    check_end(|parser| Vec::from_iter(parser.end_paste()));
+}
+
+// The paste is still open, or its event is the first.
+#[test]
+fn parses_on_after_a_refused_end() {
+    check_end(|parser| parser.parse_as_vec(b"\x1b[201~q", true));
+}
+
+// Parsers that took these bytes, and were refused memory for an event: one for each request.
+fn refused_parsers(bytes: &[u8]) -> Vec<InputParser> {
+    let mut parsers = Vec::new();
+    for number in 1.. {
+        let mut parser = InputParser::new();
+        let (parsed, refused) = refusing(number, || parser.try_parse_as_vec(bytes, true));
+        if refused == 0 {
+            break;
+        }
+        if parsed.is_err_and(|error| error.taken) {
+            parsers.push(parser);
+        }
+    }
+    assert_ne!(parsers.len(), 0);
+    parsers
+}
+
+const PASTE_AND_ESCAPE: &[u8] = b"\x1b[200~text\x1b[201~\x1b";
+
+#[test]
+fn emits_a_refused_event_before_an_escape() {
+    for mut parser in refused_parsers(PASTE_AND_ESCAPE) {
+        assert_eq!(parser.flush_escape(), None);
+        assert_eq!(parser.parse_as_vec(b"", true), [InputEvent::Paste("text".to_string())]);
+        assert_eq!(parser.waiting(), Waiting::Escape);
+        assert!(parser.flush_escape().is_some());
+    }
+}
+
+#[test]
+fn emits_a_refused_event_before_an_open_paste() {
+    for mut parser in refused_parsers(b"\x1b[A\x1b[200~text") {
+        assert_eq!(parser.try_end_paste(), Ok(None));
+        assert_eq!(parser.parse_as_vec(b"", true).len(), 1);
+        assert_eq!(parser.end_paste(), Some(InputEvent::Paste("text".to_string())));
+    }
+}
+
+#[test]
+fn forgets_a_refused_event() {
+    for mut parser in refused_parsers(PASTE_AND_ESCAPE) {
+        assert!(parser.reset() > 0);
+        assert_eq!((parser.parse_as_vec(b"", false), parser.waiting_len()), (Vec::new(), 0));
+    }
+}
+
 // Each of the first requests, and then every 100th.
 #[test]
 fn makes_a_parser_after_a_refusal() {
@@ -185,4 +270,11 @@ fn panics_if_refused() {
         .is_err()
     };
     assert!(refused(|| drop(InputParser::new())));
+    let mut parser = parser_in_a_paste();
+    let ended = std::panic::catch_unwind(std::panic::AssertUnwindSafe(|| {
+        TO_REFUSAL.set(1);
+        parser.end_paste()
+    }));
+    assert!(ended.is_err());
+    assert_eq!(parser.end_paste(), Some(InputEvent::Paste(OPEN_TEXT.to_string())));
 }

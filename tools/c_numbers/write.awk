@@ -5,10 +5,11 @@
 # A place begins at a comment 'numbers.txt: GROUP FORM' on a line of its own, and ends before the comment 'numbers.txt: end'.
 BEGIN {
     prefix["next"] = prefix["encoded"] = prefix["kind"] = prefix["encoding"] = "TW_"
+    prefix["waiting"] = "TW_WAITING_"
     prefix["kitty"] = "TW_KITTY_"
     prefix["modifier"] = "TW_MOD_"
     prefix["button"] = "TW_BUTTON_"
-    type["next"] = type["encoded"] = "u32"
+    type["next"] = type["waiting"] = type["encoded"] = "u32"
     type["kind"] = type["encoding"] = "u8"
     type["modifier"] = "Modifiers"
     type["button"] = "MouseButtons"

@@ -7,3 +7,4 @@ pub mod ListedExamples
 pub mod Streams
 pub mod Table
 pub mod WaitingKinds
+pub mod Pauses

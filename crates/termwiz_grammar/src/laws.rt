@@ -5,6 +5,7 @@ ghost use Rattle.std.specs.Prelude.{◌≤◌};
 ghost use Rattle.termwiz_grammar.specs.Laws.{CutIndependent, EmptyIsRest, FewEvents, FewEventsInStream, MostWait, OneByOneMeans, OneMeaning, Resumes, StepsJoin, TableFacts, ThreeBeginnings, Undecided, WaitingShape};
 ghost use Rattle.termwiz_grammar.specs.Listed.{CsiUReadsBack, IsListed, ReadsBack};
 ghost use Rattle.termwiz_grammar.specs.ListedExamples.{ListedExamples};
+ghost use Rattle.termwiz_grammar.specs.Pauses.{PausesChangeNothing};
 ghost use Rattle.termwiz_grammar.specs.WaitingKinds.{FlushOfKinds, WaitingKinds};
 
 use termwiz_base::Modifiers;
@@ -87,6 +88,13 @@ pub fn waiting_kinds()
 /// is broken. An open paste stays as it is.
 pub fn flush_of_kinds()
     ensures { FlushOfKinds }
+{}
+
+/// A program that flushes the Escape key alone after a pause can't be harmed by a badly timed one. ESC or ESC ESC that is buffered is
+/// flushed at any places of a stream, at each of which an item of the whole stream ends: no sequence, no character and no paste
+/// goes on from that ESC. Then the events and what stays buffered are those of the stream without pauses.
+pub fn pauses_change_nothing()
+    ensures { PausesChangeNothing }
 {}
 
 /// Twenty undecided bytes can stay buffered, alone and after one Escape: the longest proper beginning of a mouse report.

@@ -12,6 +12,7 @@ pub use Rattle.termwiz_grammar.specs.Sequences as Sequences
 pub use Rattle.termwiz_grammar.specs.Laws as Laws
 pub use Rattle.termwiz_grammar.specs.Listed as Listed
 pub use Rattle.termwiz_grammar.specs.ListedExamples as ListedExamples
+pub use Rattle.termwiz_grammar.specs.Pauses as Pauses
 pub use Rattle.termwiz_grammar.specs.Streams as Streams
 pub use Rattle.termwiz_grammar.specs.Table as Table
 pub use Rattle.termwiz_grammar.specs.WaitingKinds as WaitingKinds

@@ -5,8 +5,9 @@ ghost use Rattle.termwiz_input.specs.RefusalEquality.{TellsEqualRefusals};
 use crate::input::{ParseError, ParseVecError, PiecesError};
 pub use termwiz_grammar::laws::{
     csi_u_read_back, cut_independent, empty_is_rest, few_events, few_events_in_stream,
-    flush_of_kinds, listed_examples, most_wait, one_by_one, one_meaning, read_back, resumes,
-    steps_join, table_facts, three_beginnings, undecided, waiting_kinds, waiting_shape,
+    flush_of_kinds, listed_examples, most_wait, one_by_one, one_meaning, pauses_change_nothing,
+    read_back, resumes, steps_join, table_facts, three_beginnings, undecided, waiting_kinds,
+    waiting_shape,
 };
 pub use termwiz_keymap::laws::{exact_stays, found_values};
 pub use termwiz_keys::laws::{clones, equality, hashes, mouse_button_flags};

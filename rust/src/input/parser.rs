@@ -56,6 +56,23 @@ impl fmt::Display for ParseVecError {
 
 impl error::Error for ParseVecError {}
 
+/// What stays buffered, as [`InputParser::waiting`] returns it. It says what a pause means.
+#[derive(Clone, Copy, Debug, PartialEq, Eq, Hash)]
+pub enum Waiting {
+    /// Nothing is buffered.
+    Nothing,
+    /// ESC, or ESC ESC: the Escape key, alone or with Alt, unless more bytes follow. After a pause of some 50 ms call
+    /// [`InputParser::flush_escape`].
+    Escape,
+    /// A longer prefix of a sequence, after an ESC or not. On a slow line the rest may come late: flush it after a much longer pause, say
+    /// 1000 ms, or never.
+    Sequence,
+    /// A prefix of a character in UTF-8, after an ESC or not. Never flush it.
+    Character,
+    /// An open paste: its start, and its text so far. There is nothing to flush; [`InputParser::end_paste`] ends it.
+    Paste,
+}
+
 /// Reads events from the bytes that a terminal sends, however they are cut into calls.
 pub struct InputParser {
     // A parser that `tw_parser_init` made, and no other value has. The library writes to it also in calls that change nothing.
@@ -99,8 +116,8 @@ impl InputParser {
     /// Appends `bytes` to the buffer, and calls `callback` with each event in order. Bytes that are no event yet stay buffered.
     ///
     /// Pass `maybe_more` as true while more bytes may come: then bytes that may still become a longer sequence or a character stay
-    /// buffered. Pass false at the end of the input, or if a pause says that an Escape was meant alone: then only an open paste stays.
-    /// Call with no bytes and false to flush.
+    /// buffered. After a pause call [`InputParser::flush_escape`]. Pass false at the end of the input: then only an open paste stays.
+    /// Call with no bytes and false to flush. Before the end this breaks a sequence or a character of which the rest is still to come.
     ///
     /// # Panics
     ///
@@ -117,9 +134,7 @@ impl InputParser {
     pub fn try_parse<F: FnMut(InputEvent)>(&mut self, bytes: &[u8], mut callback: F, maybe_more: bool) -> Result<(), ParseError> {
         self.feed(bytes).map_err(|_| ParseError::NotTaken)?;
         while self.find_front(maybe_more).map_err(|_| ParseError::Taken)? {
-            let event = self.event().map_err(|_| ParseError::Taken)?;
-            self.has_front = false;
-            callback(event);
+            callback(self.take_front().map_err(|_| ParseError::Taken)?);
         }
         Ok(())
     }
@@ -153,10 +168,84 @@ impl InputParser {
         unsafe { raw::tw_parser_waiting(self.raw.get()) }
     }
 
-    /// Returns whether the waiting text begins with the start of a paste.
+    /// Returns what stays buffered, once a call that parses has succeeded.
+    pub fn waiting(&self) -> Waiting {
+        // SAFETY: `raw` is a parser.
+        match unsafe { raw::tw_parser_waiting_kind(self.raw.get()) } {
+            raw::WAITING_NOTHING => Waiting::Nothing,
+            raw::WAITING_ESCAPE => Waiting::Escape,
+            raw::WAITING_SEQUENCE => Waiting::Sequence,
+            raw::WAITING_CHARACTER => Waiting::Character,
+            raw::WAITING_PASTE => Waiting::Paste,
+            _ => unreachable!("{FAULT}"),
+        }
+    }
+
+    /// Returns the Escape key if ESC alone is buffered, with ALT if ESC ESC is, and consumes it. Returns `None` otherwise; the parser is
+    /// then unchanged.
+    ///
+    /// Call it when some 50 ms have passed without a byte. A pause after more than the ESC breaks no sequence, and none breaks a character
+    /// or a paste.
+    pub fn flush_escape(&mut self) -> Option<InputEvent> {
+        // An event that was refused memory comes before what is buffered.
+        if self.has_front {
+            return None;
+        }
+        // SAFETY: `raw` is a parser, and `front` another value.
+        let found = unsafe { raw::tw_parser_flush_escape(self.raw.get(), &mut self.front) };
+        let has_escape = is_event(found).expect(FAULT);
+        has_escape.then(|| self.event().expect(FAULT))
+    }
+
+    /// Returns whether the waiting text begins with the start of a paste. Such a paste is buffered without limit until its end arrives:
+    /// with a limit, say 1 MB, call [`InputParser::end_paste`] once [`InputParser::waiting_len`] is above it.
     pub fn is_paste_open(&self) -> bool {
         // SAFETY: `raw` is a parser.
         unsafe { raw::tw_parser_is_paste_open(self.raw.get()) }
+    }
+
+    /// Ends an open paste where it is: returns a `Paste` of the text that came so far, and consumes all that is buffered. Returns `None`
+    /// if no paste is open; the parser is then unchanged.
+    ///
+    /// The rest of the paste then arrives as typed keys, Enter included, and its end as [`KeyCode::InternalPasteEnd`]. If the text ended
+    /// inside that, the rest of it is typed keys too.
+    ///
+    /// # Panics
+    ///
+    /// If memory is refused.
+    pub fn end_paste(&mut self) -> Option<InputEvent> {
+        self.try_end_paste().expect("the paste is ended")
+    }
+
+    /// Does what [`InputParser::end_paste`] does.
+    ///
+    /// # Errors
+    ///
+    /// If memory is refused. The paste isn't lost: call again, or parse on.
+    pub fn try_end_paste(&mut self) -> Result<Option<InputEvent>, AllocError> {
+        if !self.has_front {
+            // SAFETY: `raw` is a parser, and `front` another value.
+            self.has_front = is_event(unsafe { raw::tw_parser_end_paste(self.raw.get(), &mut self.front) })?;
+        }
+        // A paste that was refused memory before is at the front, where another call left it.
+        if self.has_front && self.front.kind == raw::KIND_PASTE {
+            self.take_front().map(Some)
+        } else {
+            Ok(None)
+        }
+    }
+
+    /// Forgets all that is buffered, an open paste too, and an event that was refused memory. Returns the number of bytes that were
+    /// buffered, as [`InputParser::waiting_len`] counts them.
+    ///
+    /// Call it where earlier bytes no longer count, as after another program had the terminal.
+    pub fn reset(&mut self) -> usize {
+        self.has_front = false;
+        // SAFETY: `raw` is a parser. The library may still have the text of a paste that was refused memory.
+        unsafe {
+            raw::tw_parser_drop_paste(self.raw.get());
+            raw::tw_parser_reset(self.raw.get())
+        }
     }
 
     // Appends bytes to the waiting text.
@@ -170,26 +259,27 @@ impl InputParser {
         }
     }
 
-    // Whether there is an event at the front. It is `front` then, and stays there until `has_front` is set to false.
+    // Whether there is an event at the front. It is `front` then, and stays there until `take_front` moves it out.
     fn find_front(&mut self, maybe_more: bool) -> Result<bool, AllocError> {
         if !self.has_front {
             // SAFETY: `raw` is a parser, and `front` another value.
-            self.has_front = match unsafe { raw::tw_parser_next(self.raw.get(), maybe_more, &mut self.front) } {
-                raw::NEXT_NONE => false,
-                raw::NEXT_EVENT => true,
-                raw::NEXT_NO_MEMORY => return Err(AllocError),
-                _ => unreachable!("{FAULT}"),
-            };
+            self.has_front = is_event(unsafe { raw::tw_parser_next(self.raw.get(), maybe_more, &mut self.front) })?;
         }
         Ok(self.has_front)
+    }
+
+    // Moves the event at the front out of the parser. If memory is refused, it stays there.
+    fn take_front(&mut self) -> Result<InputEvent, AllocError> {
+        let event = self.event()?;
+        self.has_front = false;
+        Ok(event)
     }
 
     // Moves the events of the waiting text to a list. There is room for an event before it leaves the parser.
     fn store_events(&mut self, events: &mut Vec<InputEvent>, maybe_more: bool) -> Result<(), AllocError> {
         while self.find_front(maybe_more)? {
             events.try_reserve(1).map_err(|_| AllocError)?;
-            events.push(self.event()?);
-            self.has_front = false;
+            events.push(self.take_front()?);
         }
         Ok(())
     }
@@ -214,7 +304,7 @@ impl InputParser {
         })
     }
 
-    // The text of the paste that the library gave last.
+    // The text of the paste that the library gave last. Once it is copied, the library keeps it no longer.
     fn pasted(&self, len: usize) -> Result<String, AllocError> {
         let mut text = Vec::new();
         text.try_reserve_exact(len).map_err(|_| AllocError)?;
@@ -222,7 +312,19 @@ impl InputParser {
         // SAFETY: `raw` is a parser. A vector's pointer isn't null, and leads to as many bytes, which no other value has.
         let whole = unsafe { raw::tw_parser_paste(self.raw.get(), text.as_mut_ptr(), text.len()) };
         assert_eq!(whole, len, "{FAULT}");
+        // SAFETY: `raw` is a parser.
+        unsafe { raw::tw_parser_drop_paste(self.raw.get()) };
         Ok(String::from_utf8(text).expect(FAULT))
+    }
+}
+
+// Whether the library answers that it wrote an event.
+fn is_event(answer: u32) -> Result<bool, AllocError> {
+    match answer {
+        raw::NEXT_NONE => Ok(false),
+        raw::NEXT_EVENT => Ok(true),
+        raw::NEXT_NO_MEMORY => Err(AllocError),
+        _ => unreachable!("{FAULT}"),
     }
 }
 

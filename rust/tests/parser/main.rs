@@ -8,3 +8,4 @@ mod names;
 mod parser;
 mod recorded;
 mod streams;
+mod waiting;

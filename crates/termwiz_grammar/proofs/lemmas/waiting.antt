@@ -1,4 +1,5 @@
 pub mod LongestBeginning
+pub mod Pauses
 pub mod RestKinds
 pub mod RestShape
 pub mod UndecidedBytes

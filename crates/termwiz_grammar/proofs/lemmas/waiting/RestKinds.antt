@@ -1,10 +1,9 @@
 -- Each rest is of exactly one kind, told by its first bytes, and what a flush makes of it.
-use Rattle.std.proofs.Common.{◌≡◌, ◌≢◌, ◌⊎◌, inl, inr, ⊎_elim, ℕ, ◌≤◌, Bool, true, false, List, [], ◌∷◌, ◌++◌, length, refl, sym, ap, ◌∙◌, subst, append_assoc, arith}
+use Rattle.std.proofs.Common.{◌≡◌, ◌≢◌, ◌⊎◌, inl, inr, ⊎_elim, ℕ, ◌≤◌, Bool, false, List, [], ◌∷◌, ◌++◌, length, refl, sym, ap, ◌∙◌, subst, append_assoc, arith}
 use Rattle.std.specs.List.{AllByRecursion}
-use Rattle.termwiz_keymap.specs.Bytes.{Begins, Occurs}
-use Rattle.termwiz_keys.specs.Introducers.{ESC, START, END}
+use Rattle.termwiz_keymap.specs.Bytes.{Begins}
+use Rattle.termwiz_keys.specs.Introducers.{ESC, START}
 use Rattle.termwiz_keys.specs.Keys.{escape, with_alt}
-use Rattle.termwiz_keys.specs.declared.types.InputEvent.{InputEvent}
 use Rattle.termwiz_keys.specs.declared.types.InputEvent.TheVariants.{Key}
 use Rattle.termwiz_grammar.specs.declared.waiting.Waiting.{Waiting}
 use Rattle.termwiz_grammar.specs.declared.waiting.Waiting.TheVariants.{Nothing, Escape, Sequence, Character, Paste}
@@ -12,9 +11,9 @@ use Rattle.termwiz_grammar.specs.Sequences.{IsSequence}
 use Rattle.termwiz_grammar.specs.Grammar.{IsUnfinishedSequence, IsUnfinishedCharacter, IsBeginning, IsRest, Means}
 use Rattle.termwiz_grammar.specs.Sequences.Meaning.{Row}
 use Rattle.termwiz_grammar.specs.Grammar.Head.{Sequence as Spelled}
-use Rattle.termwiz_grammar.specs.Laws.{FlushMatters, IsHeldEscape, Undecided, Waits}
+use Rattle.termwiz_grammar.specs.Laws.{FlushMatters, IsHeldEscape, Waits}
 use Rattle.termwiz_grammar.specs.Laws.Waits.{nothing, open_paste, undecided}
-use Rattle.termwiz_grammar.specs.WaitingKinds.{IsHeldThen, IsOneOrTwoEscapes, IsOpenPaste, IsKind, WaitingKinds, FlushedAs, FlushOfKinds}
+use Rattle.termwiz_grammar.specs.WaitingKinds.{IsHeldThen, IsOneOrTwoEscapes, IsKind, WaitingKinds, FlushOfKinds}
 use Rattle.termwiz_keymap.proofs.lemmas.lists.CommonPrefixes.{append-some, true_at_front}
 use Rattle.termwiz_grammar.proofs.lemmas.table.RowShape.{Bytes, escape_row}
 use Rattle.termwiz_grammar.proofs.lemmas.table.RowShape.Bytes.{one, more}
