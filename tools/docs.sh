@@ -16,7 +16,8 @@
 #     <!-- run: c [input 'TEXT' | typed 'TEXT' ..] -->       a program in C, linked with the library
 #     <!-- run: rust [input 'TEXT' | typed 'TEXT' ..] -->    a program over the package in rust/
 #     <!-- run: rattle FILE -->                              the file, without its contracts, `ghost use` lines and comments
-#     <!-- run: sh -->                                       commands, run at the top of the repository; DIR is the library's folder
+#     <!-- run: sh -->                                       commands, run at the top of the repository; DIR is the library's folder,
+#                                                            TMPDIR a folder that is removed afterwards
 #     <!-- run: lines FILE except WORD -->                   each line stands in the file, but for those that begin with WORD
 #     <!-- run: keyshow -->                                  a table: keyshow prints the last column for the bytes of the first
 #     <!-- prints -->                                        what the listing before has to print: a block, or the second cells of a table

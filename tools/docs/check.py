@@ -309,10 +309,9 @@ class Runner:
         return None
 
     def sh(self, listing):
-        env = dict(os.environ)
-        if 'DIR' in listing.text:
+        env = dict(os.environ, TMPDIR=self.work)
+        if names_library(listing):
             env['DIR'] = self.library_folder()
-            env['TMPDIR'] = self.work
         words = ['bash', '-e', '-c', listing.text]
         if listing.words[1:2] == ['typed']:
             return run_typed(words, listing.words[2:])
@@ -402,8 +401,12 @@ def options(words):
     return chosen
 
 
+def names_library(listing):
+    return re.search(r'\bDIR\b', listing.text)
+
+
 def needs_library(listing):
-    return listing.words[0] in ('c', 'rust') or listing.words[0] == 'sh' and 'DIR' in listing.text
+    return listing.words[0] in ('c', 'rust') or listing.words[0] == 'sh' and names_library(listing)
 
 
 def missing_tool(listings):

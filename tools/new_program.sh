@@ -1,0 +1,85 @@
+#!/usr/bin/env bash
+# Makes a program of your own: a copy of crates/example under another name, which checks at once.
+#
+#     tools/new_program.sh NAME [FOLDER]
+#
+# It writes the folder crates/NAME, with NAME in its proofs, and a line in crates.txt. With FOLDER it does so in another repository, and
+# copies there the six crates that a program stands on, with their lines, unless they are there. FOLDER is made if it isn't there.
+#
+# NAME is lowercase letters, digits and _, and begins with a letter. It may not be a crate there, a library of the kit or a word of the
+# language. If something is wrong, nothing is written. It needs rt.
+set -eu
+export LC_ALL=C
+. "$(dirname "$0")/common.sh"
+name='' folder=''
+for word; do
+    case $word in
+        --help) show_help; exit ;;
+        -*) refuse_word "$word" ;;
+        *)
+            if [ -z "$name" ]; then name=$word
+            elif [ -z "$folder" ]; then folder=$word
+            else refuse_word "$word"; fi ;;
+    esac
+done
+[ -n "$name" ] || refuse 'wants the name of the program'
+need rt 'the Rattle kit'
+stop_if_missing
+[ -z "$folder" ] || folder=$(realpath -m -- "$folder")
+cd "$(dirname "$0")/.."
+: "${folder:=$PWD}"
+
+# What neither Rust nor the language of proofs takes for a name.
+words_of_rattle='abbrev as async await axiom break const continue core crate data deriving do dyn elim else ensures enum extern false final
+    fn for ghost if impl in infix infixl infixr let loop match mod module move mut mutual open package pub record ref requires return ruleset
+    self static std struct super trait true type unfold unfoldable unfolding unsafe use where while'
+
+# Prints the line of a crate in a crates.txt.
+line_of() { # crate file
+    awk -F: -v wanted="$1" '{ split($1, words, " "); if (words[1] == wanted) print }' "$2"
+}
+
+# Prints the crates of this repository that a crate stands on, lowest first.
+crates_below() { # crate
+    local below
+    for below in $(line_of "$1" crates.txt | cut -d: -f2); do
+        [ ! -d "crates/$below" ] || echo "$(crates_below "$below") $below"
+    done | tr ' ' '\n' | awk 'NF && !seen[$0]++'
+}
+
+# Appends a line to crates.txt there.
+append_line() { # line
+    [ -z "$(tail -c 1 "$folder/crates.txt")" ] || echo >> "$folder/crates.txt"
+    echo "$1" >> "$folder/crates.txt"
+}
+
+[[ $name =~ ^[a-z][a-z0-9_]*$ ]] || refuse "a name is lowercase letters, digits and _, and not '$name'"
+[[ $name != *__* ]] || refuse "a name has no two underscores in a row, as '$name' has"
+for word in $words_of_rattle; do
+    [ "$name" != "$word" ] || refuse "$name is a word of the language"
+done
+[ ! -e "$(dirname "$(rt doc)")/rlibs/$name.rlib" ] || refuse "the kit has a library $name"
+[ ! -e "$folder" ] || [ -d "$folder" ] || refuse "$folder is no folder"
+[ ! -e "$folder/crates/$name" ] || refuse "$folder/crates/$name is there already"
+[ ! -f "$folder/crates.txt" ] || [ -z "$(line_of "$name" "$folder/crates.txt")" ] || refuse "$folder/crates.txt has a line for $name already"
+
+mkdir -p "$folder/crates"
+[ -e "$folder/crates.txt" ] || echo '# NAME: the crates that it stands on' > "$folder/crates.txt"
+for crate in $(crates_below example); do
+    if [ ! -e "$folder/crates/$crate" ]; then
+        progress "copying $crate"
+        mkdir "$folder/crates/$crate"
+        tar -C "crates/$crate" --exclude=./out -cf - . | tar -C "$folder/crates/$crate" -xf -
+    fi
+    [ -n "$(line_of "$crate" "$folder/crates.txt")" ] || append_line "$(line_of "$crate" crates.txt)"
+done
+
+mkdir "$folder/crates/$name"
+for part in src specs proofs stdin stdout; do
+    [ ! -e "crates/example/$part" ] || cp -R "crates/example/$part" "$folder/crates/$name/"
+done
+find "$folder/crates/$name" '(' -name '*.rt' -o -name '*.antt' ')' -exec sed -i "s/\bRattle\.example\./Rattle.$name./g" {} +
+append_line "$name:$(line_of example crates.txt | cut -d: -f2)"
+
+progress "wrote $folder/crates/$name, and its line in crates.txt"
+progress "next: cd $folder/crates/$name && rt run < stdin"
