@@ -135,7 +135,7 @@ check_keyshow() {
     note keyshow "$number" "$wrong"
 }
 
-for case in new extend_with insert clone-map clone-event encode parse parse_as_vec parse_as_vec-paste parse_as_vec-long parse_pieces; do
+for case in new extend_with insert clone-map clone-event encode parse parse_as_vec parse_as_vec-paste parse_as_vec-long parse_pieces end_paste; do
     check_case "$case"
 done
 check_keyshow

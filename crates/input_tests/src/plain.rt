@@ -1,5 +1,5 @@
 // A slow reader, for tests. It follows docs/GRAMMAR.md sentence by sentence and by trying everything, and shares nothing
-// with the parser but the types of events. A number in a comment is that of the page's sentence.
+// with the parser but the types of events and of what waits. A number in a comment is that of the page's sentence.
 mod rows;
 
 use rows::Rows;
@@ -7,7 +7,7 @@ use std::alloc::{AllocError, Global};
 use std::collections::BTreeMap;
 use std::str;
 use termwiz_input::input::{
-    Flags, InputEvent, KeyCode, KeyEvent, Modifiers, MouseButtons, MouseEvent, PastedText,
+    Flags, InputEvent, KeyCode, KeyEvent, Modifiers, MouseButtons, MouseEvent, PastedText, Waiting,
 };
 
 const ESC: &[u8] = b"\x1b";
@@ -15,6 +15,8 @@ const ESC: &[u8] = b"\x1b";
 const START: &[u8] = b"\x1b[200~";
 
 const END: &[u8] = b"\x1b[201~";
+
+const TWO_ESCAPES: &[u8] = b"\x1b\x1b";
 
 // The event of a key.
 fn key_event(key: KeyCode, modifiers: Modifiers) -> InputEvent {
@@ -182,14 +184,6 @@ fn paste_at(alloc: Global, text: &[u8]) -> Result<Option<(InputEvent, &[u8])>, A
     Ok(None)
 }
 
-// "What waits": the shapes of a rest.
-#[derive(Clone, Copy, PartialEq, Eq, Debug)]
-pub(super) enum Shape {
-    Nothing,
-    OpenPaste,
-    Undecided,
-}
-
 // The reader, by the rows of the sequence table.
 #[derive(Drop)]
 pub(super) struct PlainReader {
@@ -320,25 +314,55 @@ impl PlainReader {
         Ok((events, rest))
     }
 
+    // The places in a text at which an item ends.
+    pub(super) fn ends_of(&self, text: &[u8], more: bool) -> Result<Vec<usize>, AllocError> {
+        let mut ends = Vec::new(self.alloc);
+        let mut rest = text;
+        for _ in 0..text.len() {
+            let Some((_, after)) = self.item_at(rest, more)? else {
+                break;
+            };
+            ends.push(text.len().saturating_sub(after.len()))?;
+            rest = after;
+        }
+        Ok(ends)
+    }
+
     // "What waits": whether bytes that stand there as they are, or after one ESC, are undecided.
     fn are_undecided(&self, bytes: &[u8], more: bool) -> Result<bool, AllocError> {
         Ok(bytes.len() <= 20 && self.is_open(bytes, more)?)
     }
 
-    // "What waits": the shape of a rest, and `None` where it has none of them.
-    pub(super) fn shape_of(&self, rest: &[u8], more: bool) -> Result<Option<Shape>, AllocError> {
+    // "What waits": the kind of bytes that are undecided as they stand there, or after one ESC.
+    fn kind_of_undecided(
+        &self,
+        bytes: &[u8],
+        more: bool,
+    ) -> Result<Option<Waiting>, AllocError> {
+        if !self.are_undecided(bytes, more)? {
+            return Ok(None);
+        }
+        if begins_character(self.alloc, bytes)? {
+            return Ok(Some(Waiting::Character));
+        }
+        Ok(Some(Waiting::Sequence))
+    }
+
+    // "What waits": the kind of a rest, and `None` if it is of none.
+    pub(super) fn kind_of(&self, rest: &[u8], more: bool) -> Result<Option<Waiting>, AllocError> {
         if rest.is_empty() {
-            return Ok(Some(Shape::Nothing));
+            return Ok(Some(Waiting::Nothing));
         }
         if rest.starts_with(START) && paste_at(self.alloc, rest)?.is_none() {
-            return Ok(Some(Shape::OpenPaste));
+            return Ok(Some(Waiting::Paste));
         }
-        if self.are_undecided(rest, more)? {
-            return Ok(Some(Shape::Undecided));
+        if more && (rest == ESC || rest == TWO_ESCAPES) {
+            return Ok(Some(Waiting::Escape));
         }
+        let alone = self.kind_of_undecided(rest, more)?;
         match rest.strip_prefix(ESC) {
-            Some(bytes) if self.are_undecided(bytes, more)? => Ok(Some(Shape::Undecided)),
-            _ => Ok(None),
+            Some(bytes) if alone.is_none() => self.kind_of_undecided(bytes, more),
+            _ => Ok(alone),
         }
     }
 }

@@ -13,13 +13,14 @@ mod pieces;
 mod pulled;
 mod rows;
 mod undecided;
+mod waiting;
 
 use crate::plain;
 use std::alloc::{AllocError, Global};
 use std::process::Abort;
 use std::test::Fail;
 use termwiz_input::input::{
-    Flags, InputEvent, InputParser, KeyCode, KeyEvent, Modifiers, MouseButtons,
+    Flags, InputEvent, InputParser, KeyCode, KeyEvent, Modifiers, MouseButtons, Waiting,
 };
 
 const MORE: bool = true;

@@ -81,6 +81,7 @@ fn show(rt: &HostRuntime, case: &str) -> Result<(), Failure> {
         "parse_as_vec-paste" => show_parse_as_vec(rt, HELD_AND_PASTE),
         "parse_as_vec-long" => show_long_parse_as_vec(rt),
         "parse_pieces" => show_parse_pieces(rt),
+        "end_paste" => show_end_paste(rt),
         _ => Err(Failure::NoSuchCase),
     }
 }
@@ -246,6 +247,20 @@ fn show_parse_pieces(rt: &HostRuntime) -> Result<(), Failure> {
     if let Some(PiecesStop { taken, left }) = stop {
         print!(rt; " / refused after {taken} pieces")?;
         print_left(rt, &left)?;
+    }
+    Ok(print!(rt; " / waiting {}", parser.waiting_len())?)
+}
+
+fn show_end_paste(rt: &HostRuntime) -> Result<(), Failure> {
+    let mut parser = InputParser::new(rt.alloc())?;
+    parser.feed(b"\x1b[200~ab")?;
+    let (event, refused) = parts::end_paste(&mut parser).map_err(|_| Failure::Failed)?;
+    if let Some(len) = refused {
+        print!(rt; " / refused, waiting {len}")?;
+    }
+    if let Some(event) = event {
+        print!(rt; " / ")?;
+        print_event(rt, &event)?;
     }
     Ok(print!(rt; " / waiting {}", parser.waiting_len())?)
 }

@@ -1,11 +1,13 @@
 // Calls that take memory, each made again if it's refused. What they lend is unchanged after a refusal, and the second call
 // answers what the first would have.
 
-ghost use Rattle.std.specs.Prelude.{◌≡◌, ◌++◌, ℕ, [], Err, Some, true, length, string_bytes, IfOk, IfSome, OnErr, OnOk};
+ghost use Rattle.std.specs.Prelude.{◌≡◌, ◌++◌, ℕ, [], Err, Some, true, length, string_bytes, IfNone, IfOk, IfSome, OnErr, OnOk};
 ghost use Rattle.std.specs.FinMap as map;
 ghost use Rattle.termwiz_input.specs.Encoding.{enc, unhandled};
 ghost use Rattle.termwiz_input.specs.Lookup.{LookupGives};
 ghost use Rattle.termwiz_input.specs.EncodeError.TheVariants as error;
+ghost use Rattle.termwiz_input.specs.PasteSearch.{IsPasteSoFar};
+ghost use Rattle.termwiz_input.specs.WaitingKinds.{IsOpenPaste};
 
 use std::alloc::{AllocError, Global};
 use termwiz_input::input::{
@@ -21,6 +23,23 @@ pub fn make_parser(alloc: Global) -> Result<(InputParser, bool), AllocError>
     match InputParser::new(alloc) {
         Ok(parser) => Ok((parser, false)),
         Err(_) => Ok((InputParser::new(alloc)?, true)),
+    }
+}
+
+/// Ends the open paste of a parser, if there is one. Returns its event, and how many bytes waited after a refusal.
+pub fn end_paste(
+    parser: &mut InputParser,
+) -> Result<(Option<InputEvent>, Option<usize>), AllocError>
+    ensures event { IfOk result (λ ended. IfSome ended.0 (IsPasteSoFar parser.old)) }
+    ensures none { IfOk result (λ ended. IfNone ended.0 (¬ IsOpenPaste parser.old)) }
+    ensures unchanged { IfOk result (λ ended. IfSome ended.1 (λ len. len ≡ length parser.old)) }
+{
+    match parser.end_paste() {
+        Ok(event) => Ok((event, None)),
+        Err(_) => {
+            let len = parser.waiting_len();
+            Ok((parser.end_paste()?, Some(len)))
+        }
     }
 }
 

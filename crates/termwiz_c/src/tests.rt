@@ -3,9 +3,11 @@ use crate::events::NO_EVENT;
 use crate::handle::Handle;
 use crate::modes::CModes;
 use crate::{
-    BAD_NUMBER, EVENT, NO_PARSER, NONE, REFUSED_KEY, TEXT, tw_encode, tw_key_name, tw_parser_feed,
+    BAD_NUMBER, EVENT, NO_PARSER, NONE, REFUSED_KEY, TEXT, WAITING_CHARACTER, WAITING_ESCAPE,
+    WAITING_NOTHING, WAITING_PASTE, WAITING_SEQUENCE, tw_encode, tw_key_name,
+    tw_parser_drop_paste, tw_parser_end_paste, tw_parser_feed, tw_parser_flush_escape,
     tw_parser_free, tw_parser_init, tw_parser_is_paste_open, tw_parser_next, tw_parser_paste,
-    tw_parser_waiting,
+    tw_parser_reset, tw_parser_waiting, tw_parser_waiting_kind,
 };
 use std::alloc::Global;
 use std::process::Abort;
@@ -71,6 +73,79 @@ fn keeps_the_text_of_a_paste(rt: HostRuntime) -> Result<(), Fail> {
     assert!(rt; tw_parser_init(alloc, &mut parser));
     assert_eq!(rt; tw_parser_paste(alloc, &mut parser, &mut text), 0);
     assert!(rt; !tw_parser_is_paste_open(alloc, &mut parser));
+    tw_parser_free(alloc, &mut parser);
+    parser.close();
+    Ok(())
+}
+
+// Texts that stay buffered, and the numbers of their kinds.
+const KINDS: &[(&[u8], u32)] = &[
+    (b"", WAITING_NOTHING),
+    (b"\x1b", WAITING_ESCAPE),
+    (b"\x1b\x1b", WAITING_ESCAPE),
+    (b"\x1b[<0;1", WAITING_SEQUENCE),
+    (b"\x1b\xe2\x82", WAITING_CHARACTER),
+    (b"\x1b[200~ab", WAITING_PASTE),
+];
+
+#[test]
+fn tells_what_stays_buffered(rt: HostRuntime) -> Result<(), Fail> {
+    let alloc = rt.alloc();
+    let mut parser = Handle::empty();
+    let mut event = NO_EVENT;
+    assert_eq!(rt; tw_parser_waiting_kind(alloc, &mut parser), WAITING_NOTHING);
+    assert_eq!(rt; tw_parser_reset(alloc, &mut parser), 0);
+    assert!(rt; tw_parser_init(alloc, &mut parser));
+    for (text, kind) in KINDS {
+        assert!(rt; tw_parser_feed(alloc, &mut parser, text));
+        assert_eq!(rt; tw_parser_next(alloc, &mut parser, MORE, &mut event), NONE);
+        assert_eq!(rt; tw_parser_waiting_kind(alloc, &mut parser), *kind);
+        assert_eq!(rt; tw_parser_reset(alloc, &mut parser), text.len());
+        assert_eq!(rt; tw_parser_waiting(alloc, &mut parser), 0);
+    }
+    tw_parser_free(alloc, &mut parser);
+    parser.close();
+    Ok(())
+}
+
+#[test]
+fn flushes_the_escape_key(rt: HostRuntime) -> Result<(), Fail> {
+    let alloc = rt.alloc();
+    let mut parser = Handle::empty();
+    let mut event = NO_EVENT;
+    assert_eq!(rt; tw_parser_flush_escape(alloc, &mut parser, &mut event), NO_PARSER);
+    assert!(rt; tw_parser_init(alloc, &mut parser));
+    assert_eq!(rt; tw_parser_flush_escape(alloc, &mut parser, &mut event), NONE);
+    assert!(rt; tw_parser_feed(alloc, &mut parser, b"\x1b\x1b"));
+    assert_eq!(rt; tw_parser_flush_escape(alloc, &mut parser, &mut event), EVENT);
+    assert!(rt; event.kind == 1 && event.key == 11 && event.modifiers == 4);
+    assert!(rt; tw_parser_feed(alloc, &mut parser, b"\x1b["));
+    assert_eq!(rt; tw_parser_flush_escape(alloc, &mut parser, &mut event), NONE);
+    assert_eq!(rt; tw_parser_waiting(alloc, &mut parser), 2);
+    tw_parser_free(alloc, &mut parser);
+    parser.close();
+    Ok(())
+}
+
+#[test]
+fn ends_a_long_paste_and_drops_its_text(rt: HostRuntime) -> Result<(), Fail> {
+    let alloc = rt.alloc();
+    let mut parser = Handle::empty();
+    let mut event = NO_EVENT;
+    assert_eq!(rt; tw_parser_end_paste(alloc, &mut parser, &mut event), NO_PARSER);
+    tw_parser_drop_paste(alloc, &mut parser);
+    assert!(rt; tw_parser_init(alloc, &mut parser));
+    assert_eq!(rt; tw_parser_end_paste(alloc, &mut parser, &mut event), NONE);
+    assert!(rt; tw_parser_feed(alloc, &mut parser, b"\x1b[200~"));
+    assert!(rt; tw_parser_feed(alloc, &mut parser, &b"ab".repeat(alloc, 50_000)?));
+    assert_eq!(rt; tw_parser_end_paste(alloc, &mut parser, &mut event), EVENT);
+    assert!(rt; event.kind == 3 && event.paste_len == 100_000);
+    assert_eq!(rt; tw_parser_waiting(alloc, &mut parser), 0);
+    let mut text = [b'.'; 3];
+    assert_eq!(rt; tw_parser_paste(alloc, &mut parser, &mut text), 100_000);
+    assert!(rt; text == *b"aba");
+    tw_parser_drop_paste(alloc, &mut parser);
+    assert_eq!(rt; tw_parser_paste(alloc, &mut parser, &mut text), 0);
     tw_parser_free(alloc, &mut parser);
     parser.close();
     Ok(())

@@ -1,7 +1,7 @@
 // Texts that are cut or flushed, and bytes that wait.
 use super::long::read_in_pieces;
-use super::plain::{PlainReader, Shape};
-use super::{Example, InputParser, LAST, MORE, check_all, renew};
+use super::plain::PlainReader;
+use super::{Example, InputParser, LAST, MORE, Waiting, check_all, renew};
 use std::alloc::Global;
 use std::process::Abort;
 use std::test::Fail;
@@ -175,32 +175,32 @@ fn reads_broken_bytes(rt: HostRuntime) -> Result<(), Fail> {
     check_all(&rt, rt.alloc(), BROKEN_AFTER_ESCAPE)
 }
 
-// Texts that wait as a whole: the text, the flag, and its shape.
-const RESTS: &[(&[u8], bool, Shape)] = &[
-    (b"", MORE, Shape::Nothing),
-    (b"", LAST, Shape::Nothing),
-    (b"\x1b", MORE, Shape::Undecided),
-    (b"\x1b\x1b", MORE, Shape::Undecided),
-    (b"\x1b[", MORE, Shape::Undecided),
-    (b"\x1b\x1b[27;8;127", MORE, Shape::Undecided),
-    (b"\x1b[<00095;65535;65535", MORE, Shape::Undecided),
-    (b"\x1b\x1b[<00095;65535;65535", MORE, Shape::Undecided),
-    (b"\x1b[200~", MORE, Shape::OpenPaste),
-    (b"\x1b[200~ab\x1b[201", MORE, Shape::OpenPaste),
-    (b"\x1b[200~ab\x1b[201", LAST, Shape::OpenPaste),
-    (b"\xe2\x82", MORE, Shape::Undecided),
-    (b"\x1b\xe2\x82", MORE, Shape::Undecided),
-    (b"\xf4\x8f\xbf", MORE, Shape::Undecided),
+// Texts that wait as a whole: the text, the flag, and its kind.
+pub(super) const RESTS: &[(&[u8], bool, Waiting)] = &[
+    (b"", MORE, Waiting::Nothing),
+    (b"", LAST, Waiting::Nothing),
+    (b"\x1b", MORE, Waiting::Escape),
+    (b"\x1b\x1b", MORE, Waiting::Escape),
+    (b"\x1b[", MORE, Waiting::Sequence),
+    (b"\x1b\x1b[27;8;127", MORE, Waiting::Sequence),
+    (b"\x1b[<00095;65535;65535", MORE, Waiting::Sequence),
+    (b"\x1b\x1b[<00095;65535;65535", MORE, Waiting::Sequence),
+    (b"\x1b[200~", MORE, Waiting::Paste),
+    (b"\x1b[200~ab\x1b[201", MORE, Waiting::Paste),
+    (b"\x1b[200~ab\x1b[201", LAST, Waiting::Paste),
+    (b"\xe2\x82", MORE, Waiting::Character),
+    (b"\x1b\xe2\x82", MORE, Waiting::Character),
+    (b"\xf4\x8f\xbf", MORE, Waiting::Character),
 ];
 
 // The most that waits, but for an open paste: one ESC, and the longest proper beginning of a sequence.
 pub(super) const MOST: usize = 21;
 
-// Whether so many bytes may wait in this shape.
-pub(super) fn may_wait(shape: Option<Shape>, len: usize) -> bool {
-    match shape {
-        Some(Shape::OpenPaste) => true,
-        Some(Shape::Nothing | Shape::Undecided) => len <= MOST,
+// Whether so many bytes of this kind may wait.
+pub(super) fn may_wait(kind: Option<Waiting>, len: usize) -> bool {
+    match kind {
+        Some(Waiting::Paste) => true,
+        Some(_) => len <= MOST,
         None => false,
     }
 }
@@ -242,33 +242,34 @@ pub(super) fn check_sizes(
     Ok(())
 }
 
-// The text waits as a whole, and a paste is open if and only if that is its shape.
+// The text waits as a whole and is of this kind, and a paste is open if and only if it is one.
 fn check_rest(
     rt: &impl Abort,
     alloc: Global,
     text: &[u8],
     more: bool,
-    shape: Shape,
+    kind: Waiting,
 ) -> Result<(), Fail> {
     let mut parser = InputParser::new(alloc)?;
     let events = parser.parse_as_vec(text, more)?;
     assert!(rt; events.is_empty(), "{text:?}");
     assert_eq!(rt; parser.waiting_len(), text.len(), "{text:?}");
-    assert!(rt; may_wait(Some(shape), text.len()), "{text:?}");
+    assert!(rt; may_wait(Some(kind), text.len()), "{text:?}");
     assert_eq!(rt;
         parser.is_paste_open(),
-        shape == Shape::OpenPaste,
+        kind == Waiting::Paste,
         "{text:?}"
     );
+    assert_eq!(rt; parser.waiting(), kind, "{text:?}");
     Ok(())
 }
 
 #[test]
-fn rests_have_a_shape(rt: HostRuntime) -> Result<(), Fail> {
+fn rests_have_a_kind(rt: HostRuntime) -> Result<(), Fail> {
     let reader = PlainReader::new(rt.alloc())?;
-    for (text, more, shape) in RESTS {
-        assert_eq!(rt; reader.shape_of(text, *more)?, Some(*shape), "{text:?}");
-        check_rest(&rt, rt.alloc(), text, *more, *shape)?;
+    for (text, more, kind) in RESTS {
+        assert_eq!(rt; reader.kind_of(text, *more)?, Some(*kind), "{text:?}");
+        check_rest(&rt, rt.alloc(), text, *more, *kind)?;
     }
     Ok(())
 }

@@ -2,8 +2,8 @@
 use super::cuts::may_wait;
 use super::draws::Draws;
 use super::pieces::parsed_pieces;
-use super::plain::{PlainReader, Shape};
-use super::{Calls, InputEvent, InputParser, LAST, MORE, renew};
+use super::plain::PlainReader;
+use super::{Calls, InputEvent, InputParser, LAST, MORE, Waiting, renew};
 use std::alloc::{AllocError, Global};
 use std::fmt::Write;
 use std::process::Abort;
@@ -56,13 +56,14 @@ struct Reading<'a> {
     more: bool,
     events: Vec<InputEvent>,
     waiting_len: usize,
-    is_paste_open: bool,
+    kind: Waiting,
 }
 
-// As many bytes wait in the parser as after this reading, and a paste is open if and only if it is then.
+// As many bytes wait in the parser as after this reading, and they are of the same kind.
 fn check_waiting(rt: &impl Abort, parser: &InputParser, reading: &Reading, name: &str) {
     assert_eq!(rt; parser.waiting_len(), reading.waiting_len, "{name}");
-    assert_eq!(rt; parser.is_paste_open(), reading.is_paste_open, "{name}");
+    assert_eq!(rt; parser.waiting(), reading.kind, "{name}");
+    assert_eq!(rt; parser.is_paste_open(), reading.kind == Waiting::Paste, "{name}");
 }
 
 // The calls give each reading.
@@ -219,8 +220,8 @@ impl Comparison {
     ) -> Result<Reading<'a>, Fail> {
         waiting.extend_from_slice(bytes)?;
         let (events, rest) = self.reader.read(waiting.as_slice(), more)?;
-        let shape = self.reader.shape_of(rest, more)?;
-        assert!(rt; may_wait(shape, rest.len()), "{rest:?} waits, {name}");
+        let kind = self.reader.kind_of(rest, more)?;
+        assert!(rt; may_wait(kind, rest.len()), "{rest:?} waits, {name}");
         let rest = rest.to_vec(self.alloc)?;
         let waiting_len = rest.len();
         *waiting = rest;
@@ -229,7 +230,7 @@ impl Comparison {
             more,
             events,
             waiting_len,
-            is_paste_open: shape == Some(Shape::OpenPaste),
+            kind: kind.unwrap_or(Waiting::Nothing),
         })
     }
 

@@ -1,0 +1,162 @@
+// What a program with a timeout calls: the Escape key alone is flushed, an open paste is ended, and what waits is forgotten.
+use super::cuts::RESTS;
+use super::draws::Draws;
+use super::line::line_of;
+use super::plain::PlainReader;
+use super::{InputEvent, InputParser, LAST, MORE, Waiting, renew};
+use std::alloc::{AllocError, Global};
+use std::process::Abort;
+use std::test::Fail;
+
+// Flushes the Escape key. It is an event if ESC or ESC ESC waits, and else nothing changes.
+fn check_escape(
+    rt: &impl Abort,
+    alloc: Global,
+    text: &[u8],
+    more: bool,
+    kind: Waiting,
+) -> Result<(), Fail> {
+    let mut parser = InputParser::new(alloc)?;
+    parser.parse_as_vec(text, more)?;
+    let event = parser.flush_escape();
+    if kind == Waiting::Escape {
+        let flushed = InputParser::new(alloc)?.parse_as_vec(text, LAST)?;
+        assert!(rt; event.as_ref() == flushed.first(), "{text:?}");
+        assert_eq!(rt; parser.waiting_len(), 0, "{text:?}");
+    } else {
+        assert!(rt; event.is_none(), "{text:?}");
+        assert_eq!(rt; parser.waiting_len(), text.len(), "{text:?}");
+        assert_eq!(rt; parser.waiting(), kind, "{text:?}");
+    }
+    Ok(())
+}
+
+#[test]
+fn flushes_the_escape_key_alone(rt: HostRuntime) -> Result<(), Fail> {
+    for (text, more, kind) in RESTS {
+        check_escape(&rt, rt.alloc(), text, *more, *kind)?;
+    }
+    Ok(())
+}
+
+// Reads the pieces of a text. After each, if ESC or ESC ESC waits and an item of the whole text ends there, the Escape key is flushed.
+fn events_with_pauses(
+    alloc: Global,
+    parser: &mut InputParser,
+    pieces: &[&[u8]],
+    ends: &[usize],
+) -> Result<Vec<InputEvent>, Fail> {
+    let mut events = Vec::new(alloc);
+    let mut place: usize = 0;
+    for piece in pieces {
+        place = place.saturating_add(piece.len());
+        for event in parser.parse_as_vec(piece, MORE)? {
+            events.push(event)?;
+        }
+        if ends.contains(&place) {
+            if let Some(event) = parser.flush_escape() {
+                events.push(event)?;
+            }
+        }
+    }
+    for event in parser.parse_as_vec(b"", LAST)? {
+        events.push(event)?;
+    }
+    Ok(events)
+}
+
+// Such pauses change no event.
+#[test]
+fn pauses_between_items_change_nothing(rt: HostRuntime) -> Result<(), Fail> {
+    let alloc = rt.alloc();
+    let reader = PlainReader::new(alloc)?;
+    let mut draws = Draws::new(alloc, &reader, 6)?;
+    let mut parser = InputParser::new(alloc)?;
+    for _ in 0..3000 {
+        let text = draws.text()?;
+        let pieces = draws.pieces(&text)?;
+        let ends = reader.ends_of(&text, LAST)?;
+        let events = events_with_pauses(alloc, &mut parser, &pieces, &ends)?;
+        let (wanted, rest) = reader.read(&text, LAST)?;
+        assert_eq!(rt; events, wanted, "{text:?}");
+        assert_eq!(rt; parser.waiting_len(), rest.len(), "{text:?}");
+        renew(alloc, &mut parser)?;
+    }
+    Ok(())
+}
+
+// Texts, and the lines of what `end_paste` makes of them and of what follows.
+const ENDED: &[(&[u8], &str)] = &[
+    (b"\x1b[200~", "Paste()"),
+    (b"\x1b[200~ab\x1b[20", "Paste(ab\x1b[20)"),
+    (b"\x1b[200~a\xe2\x82", "Paste(a\u{fffd})"),
+    (b"\x1b[200", "waits 5"),
+    (b"\x1b", "waits 1"),
+    (b"q", ""),
+];
+
+#[test]
+fn ends_an_open_paste(rt: HostRuntime) -> Result<(), Fail> {
+    let alloc = rt.alloc();
+    for (text, line) in ENDED {
+        let mut parser = InputParser::new(alloc)?;
+        parser.parse_as_vec(text, MORE)?;
+        let mut events = Vec::new(alloc);
+        if let Some(event) = parser.end_paste()? {
+            events.push(event)?;
+        }
+        assert_eq!(rt; line_of(alloc, &events, &parser)?.as_str(), *line, "{text:?}");
+    }
+    Ok(())
+}
+
+// A paste without an end, of so many bytes after its start.
+fn open_paste(alloc: Global, len: usize) -> Result<Vec<u8>, AllocError> {
+    let mut text = b"\x1b[200~".to_vec(alloc)?;
+    text.extend_from_slice(&b"x".repeat(alloc, len)?)?;
+    Ok(text)
+}
+
+const LONG: usize = 300_000;
+
+#[test]
+fn ends_a_long_paste_and_reads_on(rt: HostRuntime) -> Result<(), Fail> {
+    let alloc = rt.alloc();
+    let text = open_paste(alloc, LONG)?;
+    let mut parser = InputParser::new(alloc)?;
+    parser.parse_as_vec(&text, MORE)?;
+    assert_eq!(rt; parser.waiting_len(), text.len());
+    match parser.end_paste()? {
+        Some(InputEvent::Paste(pasted)) => {
+            assert!(rt; Some(pasted.as_str().as_bytes()) == text.get(6..));
+        }
+        _ => panic!(rt; "no paste"),
+    }
+    let events = parser.parse_as_vec(b"q\x1b[201~", LAST)?;
+    assert_eq!(rt;
+        line_of(alloc, &events, &parser)?.as_str(),
+        "q, InternalPasteEnd"
+    );
+    Ok(())
+}
+
+// The parser forgets all of these bytes, which wait in it.
+fn check_reset(rt: &impl Abort, parser: &mut InputParser, text: &[u8], more: bool) -> Result<(), Fail> {
+    parser.parse_as_vec(text, more)?;
+    assert_eq!(rt; parser.reset(), text.len());
+    assert_eq!(rt; parser.waiting(), Waiting::Nothing);
+    Ok(())
+}
+
+#[test]
+fn forgets_what_waits(rt: HostRuntime) -> Result<(), Fail> {
+    let alloc = rt.alloc();
+    let mut parser = InputParser::new(alloc)?;
+    for (text, more, _) in RESTS {
+        check_reset(&rt, &mut parser, text, *more)?;
+    }
+    check_reset(&rt, &mut parser, &open_paste(alloc, LONG)?, MORE)?;
+    let events = parser.parse_as_vec(b"\x1b", LAST)?;
+    assert_eq!(rt; line_of(alloc, &events, &parser)?.as_str(), "Escape");
+    Ok(())
+}
