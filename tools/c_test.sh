@@ -5,14 +5,14 @@
 #
 # The example and the tests in c/ are built as C99, the example also as C++, and linked with the archive and with the shared library; the
 # crate in rust/ is built with its tests. The tests also run under valgrind (of those in Rust all but the longest), which has to find no
-# error and no leak. A test in C and one in Rust refuse every request for memory in turn. The last line is 'N passed, N failed', the
-# status 1 if a case failed.
+# error and no leak. A test in C and one in Rust refuse every request for memory in turn. The live programs run on a pseudo-terminal, as
+# tools/live_test.sh says. The last line is 'N passed, N failed', the status 1 if a case failed.
 #
 # DIR is a folder that tools/c_library.sh wrote; without --library the library is built. With --built the keyshow that `rt ci` left in
 # crates/keyshow/out is run; otherwise it is built.
 #
-# It needs rt, cc, binutils, c++, pkg-config, cargo and valgrind, and fails if one isn't there. A word --without-PROGRAM leaves out the
-# tests that need that program; without cc there are none. All that is built lies in a temporary folder, but for what rt keeps in out/.
+# It needs rt, cc, binutils, python3, c++, pkg-config, cargo and valgrind, and fails if one isn't there. A word --without-PROGRAM leaves out
+# the tests that need that program; without cc there are none. All that is built lies in a temporary folder, but for what rt keeps in out/.
 set -u
 export LC_ALL=C
 . "$(dirname "$0")/common.sh"
@@ -40,6 +40,7 @@ fi
 need rt 'the Rattle kit'
 need cc gcc --without-cc
 for tool in ar objcopy nm; do need $tool binutils; done
+need python3 python3
 ! wants c++ || need c++ g++ --without-c++
 ! wants pkg-config || need pkg-config pkg-config --without-pkg-config
 ! wants cargo || need cargo cargo --without-cargo
@@ -118,6 +119,8 @@ check 'build of the calls' cc -std=c99 $strict -I"$work/lib" c/test_calls.c "$ar
 check 'build with the shared library' cc -std=c99 $strict -I"$work/lib" c/test_calls.c $shared -o "$work/calls_shared"
 check 'build of the refusals' cc -std=c99 $strict -I"$work/lib" -Wl,--wrap=malloc -Wl,--wrap=realloc c/test_refusals.c "$archive" \
     -o "$work/refusals"
+check 'live program as C99' cc -std=c99 $strict -I"$work/lib" c/live.c "$archive" -o "$work/live"
+check 'live program in C' tools/live_test.sh "$work/live"
 check 'calls' "$work/calls" c/numbers.txt
 check 'calls of the shared library' "$work/calls_shared" c/numbers.txt
 check 'refusals' "$work/refusals"
@@ -132,6 +135,7 @@ if wants cargo; then
     [ "$is_built" = yes ] || (cd crates/keyshow && rt run < stdin) > "$work/log" 2>&1 || { cat "$work/log" >&2; exit 1; }
     check 'listings in Rust' bash -c 'check_listings rust'
     check 'Rust crate' bash -c 'rust_tests env'
+    check 'live program in Rust' tools/live_test.sh "$work/target/debug/examples/live"
     if wants valgrind; then
         check 'Rust crate under valgrind' bash -c 'rust_tests "$memcheck --errors-for-leak-kinds=definite" --test parser -- --skip streams --skip recorded'
     fi

@@ -1,0 +1,221 @@
+//! Prints the events of a terminal as they come, one on a line. A program to start from.
+//!
+//!     TERMWIZ_C_DIR=DIR cargo run --example live [-- --mouse]
+//!
+//! Bracketed paste is always on, or pasted text would count as typed. --mouse switches mouse reports on too, which keep most terminals
+//! from selecting text. A new size of the terminal is printed as well.
+//!
+//! q ends the program, and so do the end of the input, SIGHUP, SIGINT, SIGQUIT and SIGTERM. ^C, ^Z and ^\ are keys like any other, as in an
+//! editor; SIGTSTP from another process stops it until SIGCONT. The terminal is restored whenever it ends or stops.
+mod terminal;
+mod unix;
+
+use std::io::{self, Read};
+use std::os::fd::AsRawFd;
+use std::os::unix::net::UnixStream;
+use std::process::ExitCode;
+use std::sync::atomic::Ordering::SeqCst;
+use terminal::Terminal;
+use termwiz::input::{InputEvent, InputParser, KeyCode, KeyEvent, Modifiers, MouseEvent, Waiting};
+use unix::signals;
+
+const ESCAPE_MS: i32 = 50;
+const SEQUENCE_MS: i32 = 1000;
+const LONGEST_PASTE: usize = 1 << 20;
+
+fn with_modifiers(mut line: String, modifiers: Modifiers) -> String {
+    for (flag, name) in [(Modifiers::SHIFT, " shift"), (Modifiers::ALT, " alt"), (Modifiers::CTRL, " ctrl")] {
+        if modifiers.contains(flag) {
+            line.push_str(name);
+        }
+    }
+    line
+}
+
+fn key_line(event: &KeyEvent) -> String {
+    let key = match event.key {
+        KeyCode::Char(c) => format!("Char U+{:04X}", u32::from(c)),
+        KeyCode::Function(number) => format!("Function {number}"),
+        named => format!("{named:?}"),
+    };
+    with_modifiers(key, event.modifiers)
+}
+
+fn mouse_line(event: &MouseEvent) -> String {
+    let report = format!("mouse at {}, {}, buttons {}", event.x, event.y, event.mouse_buttons.bits());
+    with_modifiers(report, event.modifiers)
+}
+
+fn line(event: &InputEvent) -> String {
+    match event {
+        InputEvent::Key(key) => key_line(key),
+        InputEvent::Mouse(mouse) => mouse_line(mouse),
+        InputEvent::Paste(text) => format!("paste of {} bytes", text.len()),
+        other => format!("{other:?}"),
+    }
+}
+
+fn ends_paste(event: &InputEvent) -> bool {
+    match event {
+        InputEvent::Key(key) => key.key == KeyCode::InternalPasteEnd,
+        InputEvent::Paste(_) => true,
+        _ => false,
+    }
+}
+
+fn is_q(event: &InputEvent) -> bool {
+    matches!(event, InputEvent::Key(key) if key.key == KeyCode::Char('q') && key.modifiers.is_empty())
+}
+
+/// What the events are shown on.
+struct View {
+    terminal: Terminal,
+    /// Whether the rest of a paste that was too long is passed over.
+    passes_over: bool,
+}
+
+impl View {
+    /// Returns whether the program goes on.
+    fn handle(&mut self, event: &InputEvent) -> io::Result<bool> {
+        if self.passes_over {
+            self.passes_over = !ends_paste(event);
+            return Ok(true);
+        }
+        self.terminal.print_line(&line(event))?;
+        Ok(!is_q(event))
+    }
+}
+
+/// The program. Its functions return whether it goes on.
+struct Live {
+    parser: InputParser,
+    view: View,
+    wake: UnixStream,
+}
+
+impl Live {
+    fn new(mouse: bool) -> io::Result<Live> {
+        let terminal = Terminal::find(mouse)?;
+        let view = View {
+            terminal,
+            passes_over: false,
+        };
+        let wake = signals::note_all()?;
+        let parser = InputParser::try_new().map_err(io::Error::other)?;
+        Ok(Live { parser, view, wake })
+    }
+
+    fn run(&mut self) -> io::Result<()> {
+        self.view.terminal.enter()?;
+        self.view.terminal.print_line("q ends")?;
+        while self.step()? {}
+        Ok(())
+    }
+
+    fn step(&mut self) -> io::Result<bool> {
+        let descriptors = [self.view.terminal.input.as_raw_fd(), self.wake.as_raw_fd()];
+        match unix::poll_all(descriptors, self.pause_ms()) {
+            Ok([false, false]) => self.handle_pause(),
+            Ok([true, false]) => self.handle_input(),
+            Ok([_, true]) => self.handle_wake(),
+            Err(error) if error.kind() == io::ErrorKind::Interrupted => Ok(true),
+            Err(error) => Err(error),
+        }
+    }
+
+    /// How long to wait for more bytes: without end (-1) for those of a character or a paste.
+    fn pause_ms(&self) -> i32 {
+        match self.parser.waiting() {
+            _ if self.view.passes_over => SEQUENCE_MS,
+            Waiting::Escape => ESCAPE_MS,
+            Waiting::Sequence => SEQUENCE_MS,
+            Waiting::Nothing | Waiting::Character | Waiting::Paste => -1,
+        }
+    }
+
+    fn handle_pause(&mut self) -> io::Result<bool> {
+        if self.view.passes_over {
+            self.view.passes_over = false;
+            return Ok(true);
+        }
+        match self.parser.flush_escape() {
+            Some(escape) => self.view.handle(&escape),
+            None => self.parse(b"", false),
+        }
+    }
+
+    fn handle_input(&mut self) -> io::Result<bool> {
+        let mut bytes = [0; 4096];
+        let count = self.view.terminal.input.read(&mut bytes)?;
+        let goes_on = self.parse(&bytes[..count], count > 0)?;
+        Ok(goes_on && self.limit_paste()? && count > 0)
+    }
+
+    fn parse(&mut self, bytes: &[u8], more: bool) -> io::Result<bool> {
+        let mut goes_on = Ok(true);
+        let handle = |event| {
+            if matches!(goes_on, Ok(true)) {
+                goes_on = self.view.handle(&event);
+            }
+        };
+        self.parser.try_parse(bytes, handle, more).map_err(io::Error::other)?;
+        goes_on
+    }
+
+    /// Ends a paste at the limit. The rest arrives as keys, which weren't typed: they are passed over up to the paste's end, or up to a
+    /// pause if the limit cut that end.
+    fn limit_paste(&mut self) -> io::Result<bool> {
+        if self.parser.waiting_len() > LONGEST_PASTE {
+            if let Some(paste) = self.parser.try_end_paste().map_err(io::Error::other)? {
+                self.view.handle(&paste)?;
+                self.view.passes_over = true;
+            }
+        }
+        Ok(true)
+    }
+
+    fn handle_wake(&mut self) -> io::Result<bool> {
+        let _ = self.wake.read(&mut [0; 64])?;
+        if signals::ending().is_some() {
+            return Ok(false);
+        }
+        if signals::STOPPING.load(SeqCst) {
+            self.view.terminal.leave();
+            signals::stop();
+            return Ok(true); // a signal that ends the program comes before raw mode
+        }
+        if signals::CONTINUED.swap(false, SeqCst) {
+            self.resume()?;
+        }
+        if signals::RESIZED.swap(false, SeqCst) {
+            self.view.terminal.print_size()?;
+        }
+        Ok(true)
+    }
+
+    /// Another program had the terminal: what was buffered before no longer counts, and the size may be new.
+    fn resume(&mut self) -> io::Result<()> {
+        self.parser.reset();
+        self.view.passes_over = false;
+        signals::RESIZED.store(true, SeqCst);
+        self.view.terminal.enter()
+    }
+}
+
+fn main() -> ExitCode {
+    let words: Vec<_> = std::env::args_os().skip(1).collect();
+    let mouse = words == ["--mouse"];
+    if !words.is_empty() && !mouse {
+        eprintln!("usage: live [--mouse]");
+        return ExitCode::from(2);
+    }
+    let ended = Live::new(mouse).and_then(|mut live| live.run());
+    signals::end_by_signal();
+    match ended {
+        Ok(()) => ExitCode::SUCCESS,
+        Err(error) => {
+            eprintln!("live: {error}");
+            ExitCode::FAILURE
+        }
+    }
+}

@@ -1,0 +1,194 @@
+//! The calls of Unix that the program needs and std doesn't have, with the numbers of x86-64 Linux. This package depends on no other crate;
+//! a program of your own has all this from `libc`, or from a crate that is safe to call.
+use std::ffi::{c_int, c_short, c_ulong};
+use std::io;
+use std::os::fd::RawFd;
+
+#[cfg(not(all(target_os = "linux", target_arch = "x86_64")))]
+compile_error!("the numbers of this file are those of x86-64 Linux");
+
+const POLLIN: c_short = 1;
+const TCSADRAIN: c_int = 1;
+const TCSAFLUSH: c_int = 2;
+const TIOCGWINSZ: c_ulong = 0x5413;
+
+#[repr(C)]
+struct PollFd {
+    descriptor: RawFd,
+    events: c_short,
+    ready: c_short,
+}
+
+#[repr(C)]
+#[derive(Default)]
+struct WindowSize {
+    rows: u16,
+    columns: u16,
+    pixels: [u16; 2],
+}
+
+extern "C" {
+    fn poll(descriptors: *mut PollFd, count: c_ulong, ms: c_int) -> c_int;
+    fn ioctl(descriptor: c_int, request: c_ulong, ...) -> c_int;
+    fn tcgetattr(descriptor: c_int, settings: *mut Settings) -> c_int;
+    fn tcsetattr(descriptor: c_int, when: c_int, settings: *const Settings) -> c_int;
+    fn cfmakeraw(settings: *mut Settings);
+}
+
+fn checked(answer: c_int) -> io::Result<c_int> {
+    if answer < 0 {
+        Err(io::Error::last_os_error())
+    } else {
+        Ok(answer)
+    }
+}
+
+/// The settings of a terminal, a `struct termios`. Only the C library looks into it; its own has 60 bytes.
+#[repr(C, align(8))]
+#[derive(Clone, Copy)]
+pub struct Settings([u8; 256]);
+
+impl Settings {
+    pub fn of(terminal: RawFd) -> io::Result<Settings> {
+        let mut settings = Settings([0; 256]);
+        // SAFETY: there is room for a `struct termios`.
+        checked(unsafe { tcgetattr(terminal, &mut settings) })?;
+        Ok(settings)
+    }
+
+    /// The same settings in raw mode: each byte arrives at once and as it is, ^C and ^Z too.
+    pub fn to_raw(mut self) -> Settings {
+        // SAFETY: there is a `struct termios`.
+        unsafe { cfmakeraw(&mut self) }
+        self
+    }
+
+    /// Sets the terminal once its output is written.
+    pub fn apply(&self, terminal: RawFd) -> io::Result<()> {
+        self.set(terminal, TCSADRAIN)
+    }
+
+    /// Does the same, and discards the input that nobody has read.
+    pub fn apply_and_discard(&self, terminal: RawFd) -> io::Result<()> {
+        self.set(terminal, TCSAFLUSH)
+    }
+
+    fn set(&self, terminal: RawFd, when: c_int) -> io::Result<()> {
+        // SAFETY: there is a `struct termios`.
+        checked(unsafe { tcsetattr(terminal, when, self) }).map(|_| ())
+    }
+}
+
+/// Returns the columns and rows of a terminal.
+pub fn size(terminal: RawFd) -> io::Result<(u16, u16)> {
+    let mut size = WindowSize::default();
+    // SAFETY: the request writes a `struct winsize`.
+    checked(unsafe { ioctl(terminal, TIOCGWINSZ, &mut size as *mut WindowSize) })?;
+    Ok((size.columns, size.rows))
+}
+
+/// Waits until a descriptor can be read or is at its end, for ever if the time is below zero. Returns which of them are ready.
+pub fn poll_all<const N: usize>(descriptors: [RawFd; N], ms: i32) -> io::Result<[bool; N]> {
+    let mut polled = descriptors.map(|descriptor| PollFd {
+        descriptor,
+        events: POLLIN,
+        ready: 0,
+    });
+    // SAFETY: there are N of them.
+    checked(unsafe { poll(polled.as_mut_ptr(), N as c_ulong, ms) })?;
+    Ok(polled.map(|it| it.ready != 0))
+}
+
+/// Signals are noted by their handler, and handled in the loop. The handler also writes to a socket, which is polled: so no signal is missed
+/// between a look at these and the poll.
+pub mod signals {
+    use std::ffi::{c_int, c_void};
+    use std::io;
+    use std::os::fd::IntoRawFd;
+    use std::os::unix::net::UnixStream;
+    use std::sync::atomic::{AtomicBool, AtomicI32, Ordering::SeqCst};
+
+    const SIGHUP: c_int = 1;
+    const SIGINT: c_int = 2;
+    const SIGQUIT: c_int = 3;
+    const SIGTERM: c_int = 15;
+    const SIGCONT: c_int = 18;
+    const SIGTSTP: c_int = 20;
+    const SIGWINCH: c_int = 28;
+    const SIG_DFL: usize = 0;
+    const SIG_ERR: usize = usize::MAX;
+
+    extern "C" {
+        fn signal(number: c_int, handler: usize) -> usize;
+        fn raise(number: c_int) -> c_int;
+        fn write(descriptor: c_int, bytes: *const c_void, len: usize) -> isize;
+        fn __errno_location() -> *mut c_int;
+    }
+
+    pub static STOPPING: AtomicBool = AtomicBool::new(false);
+    pub static CONTINUED: AtomicBool = AtomicBool::new(false);
+    pub static RESIZED: AtomicBool = AtomicBool::new(false);
+    static ENDING: AtomicI32 = AtomicI32::new(0);
+    static WAKE: AtomicI32 = AtomicI32::new(-1);
+
+    extern "C" fn note(number: c_int) {
+        match number {
+            SIGTSTP => STOPPING.store(true, SeqCst),
+            SIGCONT => CONTINUED.store(true, SeqCst),
+            SIGWINCH => RESIZED.store(true, SeqCst),
+            _ => ENDING.store(number, SeqCst),
+        }
+        // SAFETY: a handler may call `write`, and there is a byte. errno is that of the code that was interrupted. A full socket ends the
+        // poll as well.
+        unsafe {
+            let errno = *__errno_location();
+            write(WAKE.load(SeqCst), b"!".as_ptr().cast(), 1);
+            *__errno_location() = errno;
+        }
+    }
+
+    fn handle(number: c_int, handler: usize) -> io::Result<()> {
+        // SAFETY: the handler is `note`, which does only what a handler may, or the default.
+        if unsafe { signal(number, handler) } == SIG_ERR {
+            return Err(io::Error::last_os_error());
+        }
+        Ok(())
+    }
+
+    fn noted(number: c_int) -> io::Result<()> {
+        handle(number, note as *const () as usize)
+    }
+
+    /// Begins to note signals. Returns what can be read once one has arrived.
+    pub fn note_all() -> io::Result<UnixStream> {
+        let (ours, handlers) = UnixStream::pair()?;
+        ours.set_nonblocking(true)?;
+        handlers.set_nonblocking(true)?;
+        WAKE.store(handlers.into_raw_fd(), SeqCst);
+        [SIGHUP, SIGINT, SIGQUIT, SIGTERM, SIGTSTP, SIGCONT, SIGWINCH]
+            .into_iter()
+            .try_for_each(noted)?;
+        Ok(ours)
+    }
+
+    /// Returns the signal that ends the program, if one arrived.
+    pub fn ending() -> Option<c_int> {
+        Some(ENDING.load(SeqCst)).filter(|number| *number != 0)
+    }
+
+    /// Ends the program by the signal that it was sent, as a program ends that handles none.
+    pub fn end_by_signal() {
+        if let Some(number) = ending() {
+            // If the default can't be set, the program ends in its own way.
+            let _ = handle(number, SIG_DFL).map(|()| unsafe { raise(number) });
+        }
+    }
+
+    /// Stops as a program does that handles no SIGTSTP. Returns once it is continued, or at once if no shell could continue it.
+    pub fn stop() {
+        let _ = handle(SIGTSTP, SIG_DFL).map(|()| unsafe { raise(SIGTSTP) });
+        let _ = noted(SIGTSTP);
+        STOPPING.store(false, SeqCst);
+        note(SIGCONT);
+    }
+}
