@@ -10,7 +10,8 @@ export LC_ALL=C
 cd "$(dirname "$0")/.."
 case "${1-}" in
     '' | --check) check=${1-} ;;
-    *) sed -n '2,7p' "$0" >&2; exit 2 ;;
+    --help) sed -n '2,7s/^# \{0,1\}//p' "tools/$(basename "$0")"; exit ;;
+    *) echo "c_numbers: what is '$1'? --help lists the words" >&2; exit 2 ;;
 esac
 list=c/numbers.txt
 work=$(mktemp -d)

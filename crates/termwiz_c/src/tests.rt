@@ -130,6 +130,7 @@ fn flushes_the_escape_key(rt: HostRuntime) -> Result<(), Fail> {
 #[test]
 fn ends_a_long_paste_and_drops_its_text(rt: HostRuntime) -> Result<(), Fail> {
     let alloc = rt.alloc();
+    let body = b"ab".repeat(alloc, 50_000)?;
     let mut parser = Handle::empty();
     let mut event = NO_EVENT;
     assert_eq!(rt; tw_parser_end_paste(alloc, &mut parser, &mut event), NO_PARSER);
@@ -137,7 +138,7 @@ fn ends_a_long_paste_and_drops_its_text(rt: HostRuntime) -> Result<(), Fail> {
     assert!(rt; tw_parser_init(alloc, &mut parser));
     assert_eq!(rt; tw_parser_end_paste(alloc, &mut parser, &mut event), NONE);
     assert!(rt; tw_parser_feed(alloc, &mut parser, b"\x1b[200~"));
-    assert!(rt; tw_parser_feed(alloc, &mut parser, &b"ab".repeat(alloc, 50_000)?));
+    assert!(rt; tw_parser_feed(alloc, &mut parser, &body));
     assert_eq!(rt; tw_parser_end_paste(alloc, &mut parser, &mut event), EVENT);
     assert!(rt; event.kind == 3 && event.paste_len == 100_000);
     assert_eq!(rt; tw_parser_waiting(alloc, &mut parser), 0);
