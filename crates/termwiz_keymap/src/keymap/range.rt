@@ -86,6 +86,10 @@ fn first_from<V>(
     requires rising { AreRising rows.now depth low high }
     ensures { IsFirstFrom rows.now depth limit low high result }
 {
+    // For a byte below all of the range's, and for the end of rows that aren't there, it is the first.
+    if low < high && rows[low].byte(depth) as usize >= limit {
+        return low;
+    }
     while low < high {
         let middle = low + (high - low) / 2;
         if (rows[middle].byte(depth) as usize) < limit {
