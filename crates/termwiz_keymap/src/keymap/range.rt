@@ -58,8 +58,16 @@ pub fn narrowed<V>(rows: &GapBuffer<Row<V>>, range: Range, text: &[u8], depth: u
 {
     let byte = text[depth] as usize;
     let low = first_from(rows, depth, byte, range.low, range.high);
-    let high = first_from(rows, depth, byte + 1, low, range.high);
-    if low < high && rows[low].key().len() == depth + 1 {
+    // Where the first byte that isn't smaller is another, no row has this one.
+    if low == range.high || rows[low].byte(depth) as usize != byte {
+        return Range {
+            low,
+            high: low,
+            longest: range.longest,
+        };
+    }
+    let high = first_from(rows, depth, byte + 1, low + 1, range.high);
+    if rows[low].key().len() == depth + 1 {
         Range {
             low: low + 1,
             high,
