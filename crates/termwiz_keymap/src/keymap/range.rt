@@ -57,9 +57,17 @@ pub fn narrowed<V>(rows: &GapBuffer<Row<V>>, range: Range, text: &[u8], depth: u
     ensures range { IsRangeOf rows.now (take (depth + 1) text.now) result }
 {
     let byte = text[depth] as usize;
-    let low = first_from(rows, depth, byte, range.low, range.high);
-    let high = first_from(rows, depth, byte + 1, low, range.high);
-    if low < high && rows[low].key().len() == depth + 1 {
+    let low = first_of(rows, depth, byte, range.low, range.high);
+    // Where the first byte that isn't smaller is another, no row has this one.
+    if low == range.high || rows[low].byte(depth) as usize != byte {
+        return Range {
+            low,
+            high: low,
+            longest: range.longest,
+        };
+    }
+    let high = first_from(rows, depth, byte + 1, low + 1, range.high);
+    if rows[low].key().len() == depth + 1 {
         Range {
             low: low + 1,
             high,
@@ -74,6 +82,32 @@ pub fn narrowed<V>(rows: &GapBuffer<Row<V>>, range: Range, text: &[u8], depth: u
     }
 }
 
+// As `first_from`. Where each byte from the first on has one row, it is as far ahead as the limit is above the first byte: such
+// a place is tried before the search.
+fn first_of<V>(
+    rows: &GapBuffer<Row<V>>,
+    depth: usize,
+    limit: usize,
+    low: usize,
+    high: usize,
+) -> usize
+    requires ordered { low ≤ high }
+    requires rising { AreRising rows.now depth low high }
+    ensures { IsFirstFrom rows.now depth limit low high result }
+{
+    if low < high {
+        let ahead = limit.saturating_sub(rows[low].byte(depth) as usize);
+        if ahead > 0
+            && ahead < high - low
+            && rows[low + ahead].byte(depth) as usize >= limit
+            && (rows[low + ahead - 1].byte(depth) as usize) < limit
+        {
+            return low + ahead;
+        }
+    }
+    first_from(rows, depth, limit, low, high)
+}
+
 // The first place of a range at which the byte of the key at a depth isn't below the limit, or the range's end.
 fn first_from<V>(
     rows: &GapBuffer<Row<V>>,
@@ -86,6 +120,10 @@ fn first_from<V>(
     requires rising { AreRising rows.now depth low high }
     ensures { IsFirstFrom rows.now depth limit low high result }
 {
+    // For a byte below all of the range's, and for the end of rows that aren't there, it is the first.
+    if low < high && rows[low].byte(depth) as usize >= limit {
+        return low;
+    }
     while low < high {
         let middle = low + (high - low) / 2;
         if (rows[middle].byte(depth) as usize) < limit {

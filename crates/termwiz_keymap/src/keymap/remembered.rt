@@ -27,10 +27,10 @@ const DEEPEST: usize = 8;
 const FIRST: usize = 3;
 
 // A range of at most so many rows isn't parted further.
-const FEW: usize = 8;
+const FEW: usize = 4;
 
 // The number of places for ranges. Each range has one place, where another may stand.
-const PLACES: usize = 2048;
+const PLACES: usize = 4096;
 
 // Below so many rows a place among them fits a remembered range.
 const ROWS: usize = 0x1_0000_0000;
@@ -61,9 +61,18 @@ impl Remembered {
         self.high.saturating_sub(self.low) as usize
     }
 
-    // Whether a range of so many rows may have the place of this one.
-    fn yields_to(&self, count: usize) -> bool {
-        self.depth == 0 || self.count() < count
+    // Whether a range of so many first bytes with so many rows may have the place of this one. A search begins with at most `FIRST`
+    // bytes, so such ranges come before all others; and ranges of many rows before those of few.
+    fn yields_to(&self, depth: usize, count: usize) -> bool {
+        if self.depth == 0 {
+            return true;
+        }
+        let is_first = self.depth as usize <= FIRST;
+        if is_first == (depth <= FIRST) {
+            self.count() < count
+        } else {
+            !is_first
+        }
     }
 }
 
@@ -84,16 +93,16 @@ fn place_of(number: u64, depth: u32) -> usize {
     let mixed = number
         .wrapping_add(depth as u64)
         .wrapping_mul(0x9e37_79b9_7f4a_7c15);
-    (mixed >> 53) as usize % PLACES
+    (mixed >> 52) as usize % PLACES
 }
 
 // What is remembered for so many bytes with this number.
-fn found_at(places: &[Remembered], number: u64, depth: u32) -> Option<Remembered>
-    ensures { IfSome result (IsAmongPlaces places.now number depth) }
+fn found_at(places: &[Remembered], number: u64, depth: u32) -> Option<&Remembered>
+    ensures { IfSome result (λ found. IsAmongPlaces places.now number depth found.now) }
 {
     let found = places.get(place_of(number, depth))?;
     if found.number == number && found.depth == depth {
-        Some(*found)
+        Some(found)
     } else {
         None
     }
@@ -101,16 +110,16 @@ fn found_at(places: &[Remembered], number: u64, depth: u32) -> Option<Remembered
 
 /// The remembered range with which a search for a text begins: that of the most first bytes for which one is remembered, as far as each
 /// of those before has many rows.
-pub fn remembered_for(places: &[Remembered], text: &[u8]) -> Option<Remembered>
-    ensures { IfSome result (IsFoundFor places.now text.now) }
+pub fn remembered_for<'a>(places: &'a [Remembered], text: &[u8]) -> Option<&'a Remembered>
+    ensures { IfSome result (λ found. IsFoundFor places.now text.now found.now) }
 {
     let found = first_found(places, text)?;
     Some(last_found(places, text, found))
 }
 
 // What is remembered for the first bytes of a text, which are at most `FIRST`.
-fn first_found(places: &[Remembered], text: &[u8]) -> Option<Remembered>
-    ensures { IfSome result (IsFoundFor places.now text.now) }
+fn first_found<'a>(places: &'a [Remembered], text: &[u8]) -> Option<&'a Remembered>
+    ensures { IfSome result (λ found. IsFoundFor places.now text.now found.now) }
 {
     let mut depth = text.len().min(FIRST);
     while depth > 0 {
@@ -124,9 +133,13 @@ fn first_found(places: &[Remembered], text: &[u8]) -> Option<Remembered>
 }
 
 // What is remembered for more and more bytes of a text, until few rows are left or nothing is remembered.
-fn last_found(places: &[Remembered], text: &[u8], mut found: Remembered) -> Remembered
-    requires { IsFoundFor places.now text.now found }
-    ensures { IsFoundFor places.now text.now result }
+fn last_found<'a>(
+    places: &'a [Remembered],
+    text: &[u8],
+    mut found: &'a Remembered,
+) -> &'a Remembered
+    requires { IsFoundFor places.now text.now found.now }
+    ensures { IsFoundFor places.now text.now result.now }
 {
     while found.count() > FEW && (found.depth as usize) < text.len().min(DEEPEST) {
         let number = found.number * 256 + text[found.depth as usize] as u64;
@@ -201,7 +214,7 @@ fn remember<V>(
 {
     let number = number_of(&text[..depth]);
     let place = place_of(number, depth as u32);
-    if place < places.len() && places[place].yields_to(range.count()) {
+    if place < places.len() && places[place].yields_to(depth, range.count()) {
         places[place] = Remembered {
             number,
             depth: depth as u32,

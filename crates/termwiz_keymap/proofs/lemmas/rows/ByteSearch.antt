@@ -1,5 +1,5 @@
 -- Binary search for the first row whose byte at a depth isn't below a limit.
-use Rattle.std.proofs.Common.{⊎_elim, ◌≡◌, ◌∙◌, ◌+◌, ◌<◌, ◌≤◌, ℕ, List, length, get_or, sym, ap, subst, arith}
+use Rattle.std.proofs.Common.{⊎_elim, ◌≡◌, ◌≢◌, ◌∙◌, ◌+◌, ◌<◌, ◌≤◌, ℕ, List, length, get_or, sym, ap, subst, arith}
 use Rattle.std.proofs.lemmas.Bool.{cases_lt}
 use Rattle.std.proofs.lemmas.List.{get_or_default}
 use Rattle.termwiz_keymap.specs.declared.keymap.row.Row.{Row}
@@ -81,3 +81,56 @@ module _ {V : Type 0} where
           (omega (arith, byte_there r)))
           (cases_lt middle i);
     }
+
+  -- the byte at a place, read from the row there
+  byte_of : (rows : List (Row V)) (depth i : ℕ) (row r : Row V) → i < length rows → row ≡ get_or rows i row
+      → byte_at rows depth i r ≡ get_or (key_of row) depth 0
+  byte_of rows depth i row r inside there =
+      ap (λ (x : Row V). get_or (key_of x) depth 0) (get_or_default rows i r row inside ∙ sym there)
+
+  -- a search that began after a row with a byte below the limit
+  pub first_after : (rows : List (Row V)) (depth limit low high place : ℕ) (row : Row V) → low < length rows
+      → row ≡ get_or rows low row → get_or (key_of row) depth 0 < limit
+      → IsFirstFrom rows depth limit (low + 1) high place → IsFirstFrom rows depth limit low high place
+  first_after rows depth limit low high place row inside there less is = record {
+    past_low = omega (arith, is.past_low);
+    up_to_high = is.up_to_high;
+    below = λ i r past under. ⊎_elim
+        (λ (after : low < i). is.below i r (omega arith) under)
+        (λ (at : i ≤ low). subst (λ k. byte_at rows depth k r < limit) {x = low} {y = i} (omega arith)
+        (omega (arith, byte_of rows depth low row r inside there)))
+        (cases_lt low i);
+    from = is.from;
+  }
+
+  -- where the first byte that isn't below another isn't equal to it, no byte is
+  module _ (rows : List (Row V)) (depth byte first low high : ℕ) (rises : AreRising rows depth first high)
+      (is : IsFirstFrom rows depth byte first high low) where
+    none_from : ((r : Row V) → low < high → byte < byte_at rows depth low r)
+        → IsFirstFrom rows depth (byte + 1) low high low
+    none_from above = record {
+      past_low = omega arith;
+      up_to_high = is.up_to_high;
+      below = λ i r past under. absurd (omega arith);
+      from = λ i r past under. ⊎_elim
+          (λ (after : low < i). omega (
+            arith,
+            above r (omega arith),
+            rises.rising low i r is.past_low after under,
+          ))
+          (λ (at : i ≤ low). subst (λ k. byte + 1 ≤ byte_at rows depth k r) {x = low} {y = i} (omega arith)
+          (omega (arith, above r (omega arith))))
+          (cases_lt low i);
+    }
+
+    pub none_left : low ≡ high → IsFirstFrom rows depth (byte + 1) low high low
+    none_left end = none_from (λ r some. absurd (omega arith))
+
+    pub none_with : (row : Row V) → low < length rows → row ≡ get_or rows low row
+        → get_or (key_of row) depth 0 ≢ byte → IsFirstFrom rows depth (byte + 1) low high low
+    none_with row inside there apart = none_from (λ r some. omega (
+      arith,
+      apart,
+      is.from low r (omega arith) some,
+      byte_of rows depth low row r inside there,
+    ))

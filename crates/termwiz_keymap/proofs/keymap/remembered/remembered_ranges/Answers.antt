@@ -13,7 +13,7 @@ returns g c =
     let nothing : Remembered = record { number = 0; depth = 0; low = 0; high = 0; longest = 0 } in
     let none : All (IsRight rows) old =
     rw (c.in_ok-places.ensures.items_if_clones_equal (λ y e. e))
-    (All-replicate (IsRight rows) 2048 nothing (λ front bytes some. absurd (omega arith))) in
+    (All-replicate (IsRight rows) 4096 nothing (λ front bytes some. absurd (omega arith))) in
     All-take (IsRight rows) c.in_ok-places.places.len (new ++ drop (length new) old)
     (All-append (IsRight rows) new (drop (length new) old) c.remember_within.ensures
     (All-drop (IsRight rows) (length new) old none))

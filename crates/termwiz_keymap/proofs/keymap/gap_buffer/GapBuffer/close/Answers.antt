@@ -1,4 +1,4 @@
-use Rattle.std.proofs.Common.{arith, sym, ◌∙◌}
+use Rattle.std.proofs.Common.{sym, ◌∙◌}
 use Rattle.termwiz_keymap.proofs.lemmas.lists.GapLists.{same_length}
 use Rattle.termwiz_keymap.proofs.keymap.gap_buffer.GapBuffer.close.Goals as goal
 
