@@ -334,11 +334,7 @@ impl PlainReader {
     }
 
     // "What waits": the kind of bytes that are undecided as they stand there, or after one ESC.
-    fn kind_of_undecided(
-        &self,
-        bytes: &[u8],
-        more: bool,
-    ) -> Result<Option<Waiting>, AllocError> {
+    fn kind_of_undecided(&self, bytes: &[u8], more: bool) -> Result<Option<Waiting>, AllocError> {
         if !self.are_undecided(bytes, more)? {
             return Ok(None);
         }

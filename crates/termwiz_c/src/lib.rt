@@ -239,11 +239,7 @@ pub extern "C" fn tw_parser_flush_escape(
 /// Ends an open paste where it is. The answer is 1 if `event` is its event, whose text is what came so far; 0 if no paste is open;
 /// 2 if memory for the text is refused; and 3 if there is no parser.
 #[unsafe(no_mangle)]
-pub extern "C" fn tw_parser_end_paste(
-    alloc: Global,
-    parser: &mut Handle,
-    event: &mut CEvent,
-) -> u32
+pub extern "C" fn tw_parser_end_paste(alloc: Global, parser: &mut Handle, event: &mut CEvent) -> u32
     ensures answers { result ≤ 3 }
     ensures none { result ≡ NONE → ¬ HasEndlessPaste parser.old.owned.held }
     ensures event { result ≡ EVENT → Ended parser.old.owned.held event.new parser.new.owned.held }

@@ -4,10 +4,10 @@ use crate::handle::Handle;
 use crate::modes::CModes;
 use crate::{
     BAD_NUMBER, EVENT, NO_PARSER, NONE, REFUSED_KEY, TEXT, WAITING_CHARACTER, WAITING_ESCAPE,
-    WAITING_NOTHING, WAITING_PASTE, WAITING_SEQUENCE, tw_encode, tw_key_name,
-    tw_parser_drop_paste, tw_parser_end_paste, tw_parser_feed, tw_parser_flush_escape,
-    tw_parser_free, tw_parser_init, tw_parser_is_paste_open, tw_parser_next, tw_parser_paste,
-    tw_parser_reset, tw_parser_waiting, tw_parser_waiting_kind,
+    WAITING_NOTHING, WAITING_PASTE, WAITING_SEQUENCE, tw_encode, tw_key_name, tw_parser_drop_paste,
+    tw_parser_end_paste, tw_parser_feed, tw_parser_flush_escape, tw_parser_free, tw_parser_init,
+    tw_parser_is_paste_open, tw_parser_next, tw_parser_paste, tw_parser_reset, tw_parser_waiting,
+    tw_parser_waiting_kind,
 };
 use std::alloc::Global;
 use std::process::Abort;
@@ -113,14 +113,26 @@ fn flushes_the_escape_key(rt: HostRuntime) -> Result<(), Fail> {
     let alloc = rt.alloc();
     let mut parser = Handle::empty();
     let mut event = NO_EVENT;
-    assert_eq!(rt; tw_parser_flush_escape(alloc, &mut parser, &mut event), NO_PARSER);
+    assert_eq!(rt;
+        tw_parser_flush_escape(alloc, &mut parser, &mut event),
+        NO_PARSER
+    );
     assert!(rt; tw_parser_init(alloc, &mut parser));
-    assert_eq!(rt; tw_parser_flush_escape(alloc, &mut parser, &mut event), NONE);
+    assert_eq!(rt;
+        tw_parser_flush_escape(alloc, &mut parser, &mut event),
+        NONE
+    );
     assert!(rt; tw_parser_feed(alloc, &mut parser, b"\x1b\x1b"));
-    assert_eq!(rt; tw_parser_flush_escape(alloc, &mut parser, &mut event), EVENT);
+    assert_eq!(rt;
+        tw_parser_flush_escape(alloc, &mut parser, &mut event),
+        EVENT
+    );
     assert!(rt; event.kind == 1 && event.key == 11 && event.modifiers == 4);
     assert!(rt; tw_parser_feed(alloc, &mut parser, b"\x1b["));
-    assert_eq!(rt; tw_parser_flush_escape(alloc, &mut parser, &mut event), NONE);
+    assert_eq!(rt;
+        tw_parser_flush_escape(alloc, &mut parser, &mut event),
+        NONE
+    );
     assert_eq!(rt; tw_parser_waiting(alloc, &mut parser), 2);
     tw_parser_free(alloc, &mut parser);
     parser.close();
@@ -133,7 +145,10 @@ fn ends_a_long_paste_and_drops_its_text(rt: HostRuntime) -> Result<(), Fail> {
     let body = b"ab".repeat(alloc, 50_000)?;
     let mut parser = Handle::empty();
     let mut event = NO_EVENT;
-    assert_eq!(rt; tw_parser_end_paste(alloc, &mut parser, &mut event), NO_PARSER);
+    assert_eq!(rt;
+        tw_parser_end_paste(alloc, &mut parser, &mut event),
+        NO_PARSER
+    );
     tw_parser_drop_paste(alloc, &mut parser);
     assert!(rt; tw_parser_init(alloc, &mut parser));
     assert_eq!(rt; tw_parser_end_paste(alloc, &mut parser, &mut event), NONE);

@@ -255,11 +255,7 @@ fn check_rest(
     assert!(rt; events.is_empty(), "{text:?}");
     assert_eq!(rt; parser.waiting_len(), text.len(), "{text:?}");
     assert!(rt; may_wait(Some(kind), text.len()), "{text:?}");
-    assert_eq!(rt;
-        parser.is_paste_open(),
-        kind == Waiting::Paste,
-        "{text:?}"
-    );
+    assert_eq!(rt; parser.is_paste_open(), kind == Waiting::Paste, "{text:?}");
     assert_eq!(rt; parser.waiting(), kind, "{text:?}");
     Ok(())
 }

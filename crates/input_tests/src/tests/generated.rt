@@ -63,7 +63,11 @@ struct Reading<'a> {
 fn check_waiting(rt: &impl Abort, parser: &InputParser, reading: &Reading, name: &str) {
     assert_eq!(rt; parser.waiting_len(), reading.waiting_len, "{name}");
     assert_eq!(rt; parser.waiting(), reading.kind, "{name}");
-    assert_eq!(rt; parser.is_paste_open(), reading.kind == Waiting::Paste, "{name}");
+    assert_eq!(rt;
+        parser.is_paste_open(),
+        reading.kind == Waiting::Paste,
+        "{name}"
+    );
 }
 
 // The calls give each reading.

@@ -105,7 +105,11 @@ fn ends_an_open_paste(rt: HostRuntime) -> Result<(), Fail> {
         if let Some(event) = parser.end_paste()? {
             events.push(event)?;
         }
-        assert_eq!(rt; line_of(alloc, &events, &parser)?.as_str(), *line, "{text:?}");
+        assert_eq!(rt;
+            line_of(alloc, &events, &parser)?.as_str(),
+            *line,
+            "{text:?}"
+        );
     }
     Ok(())
 }
@@ -141,7 +145,12 @@ fn ends_a_long_paste_and_reads_on(rt: HostRuntime) -> Result<(), Fail> {
 }
 
 // The parser forgets all of these bytes, which wait in it.
-fn check_reset(rt: &impl Abort, parser: &mut InputParser, text: &[u8], more: bool) -> Result<(), Fail> {
+fn check_reset(
+    rt: &impl Abort,
+    parser: &mut InputParser,
+    text: &[u8],
+    more: bool,
+) -> Result<(), Fail> {
     parser.parse_as_vec(text, more)?;
     assert_eq!(rt; parser.reset(), text.len());
     assert_eq!(rt; parser.waiting(), Waiting::Nothing);

@@ -174,8 +174,10 @@ some_kind u f (nothing e) = (Nothing, e)
 some_kind u f (open_paste body e never) = (Paste, record { body = body; splits = e; endless = never })
 some_kind u f (undecided held bytes is e n (inl unfinished) short m) = ⊎_elim
     (λ (escapes : IsOneOrTwoEscapes u). (Escape, (escapes, m)))
-    (λ other. (Sequence,
-    (record { held = held; bytes = bytes; is_held = is; splits = e; some = n; unfinished = unfinished }, other, m)))
+    (λ other. (
+      Sequence,
+      (record { held = held; bytes = bytes; is_held = is; splits = e; some = n; unfinished = unfinished }, other, m),
+    ))
     (one_or_two_or_not u)
 some_kind u f (undecided held bytes is e n (inr unfinished) short m) =
     (Character, (record { held = held; bytes = bytes; is_held = is; splits = e; some = n; unfinished = unfinished }, m))
