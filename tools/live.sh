@@ -66,7 +66,7 @@ trap 'exit 143' TERM
 
 room=$(mktemp -d) && mkfifo "$room/lines" || exit 1
 
-# Bytes come as they are typed. After three seconds without any a read gives none, which is the end of input for keyshow.
+# Bytes come as they are typed. After three seconds without any a read returns none, which is the end of input for keyshow.
 stty -icanon -echo -icrnl -ixon -isig min 0 time 30
 if [ -n "$mouse" ]; then printf '\033[?1003h\033[?1006h'; fi
 if [ -n "$paste" ]; then printf '\033[?2004h'; fi

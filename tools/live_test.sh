@@ -4,12 +4,12 @@
 #     tools/live_test.sh [--library DIR] [--without-cc] [--without-cargo] [PROGRAM..]
 #
 # Keys, an Escape alone, a mouse report and pastes are typed, some cut by pauses; the terminal is resized; the program is stopped and
-# continued. It ends by q, at the end of the input, by signals and by errors. Each time it has to print the right lines, leave the terminal's
-# settings as they were, and switch off the modes that it switched on.
+# continued. It ends by q, at the end of the input, and by signals. Each time it has to print the right lines, leave the terminal's
+# settings as they were, and switch off the modes that it switched on. It also has to end if its terminal is gone or was never there.
 #
 # DIR is a folder that tools/c_library.sh wrote; without --library the library is built. PROGRAMs that are built already are run as they are.
-# Pauses are typed in earnest, so a program takes some ten seconds. A wait ends after a minute, so that other programs on the machine do no
-# harm. The last line is 'N passed, N failed', the status 1 if a case failed.
+# The pauses are real, so a program runs for some ten seconds. So that a busy machine fails no case, each wait may last a minute. A case in
+# which bytes have to come in time passes if one try of twenty does. The last line is 'N passed, N failed', the status 1 if a case failed.
 #
 # It needs python3, and without PROGRAMs rt, cc, binutils and cargo. A word --without-PROGRAM leaves out the live program that needs it.
 set -u

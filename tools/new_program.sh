@@ -1,13 +1,13 @@
 #!/usr/bin/env bash
-# Makes a program of your own: a copy of crates/example under another name, which checks at once.
+# Makes a program of your own: a copy of crates/example under another name, which is proved as it is.
 #
 #     tools/new_program.sh NAME [FOLDER]
 #
 # It writes the folder crates/NAME, with NAME in its proofs, and a line in crates.txt. With FOLDER it does so in another repository, and
 # copies there the six crates that a program stands on, with their lines, unless they are there. FOLDER is made if it isn't there.
 #
-# NAME is lowercase letters, digits and _, and begins with a letter. It may not be a crate there, a library of the kit or a word of the
-# language. If something is wrong, nothing is written. It needs rt.
+# NAME is lowercase letters, digits and _, and begins with a letter. It may not name a crate there or a library of the kit, nor be a word
+# of the language. If NAME or FOLDER is wrong, nothing is written. It needs rt.
 set -eu
 export LC_ALL=C
 . "$(dirname "$0")/common.sh"
