@@ -133,7 +133,7 @@ enum tw_waiting {
   /* numbers.txt: end */
 };
 
-/* Returns what stays buffered, an enum tw_waiting. The caller calls it after TW_NONE: before, it doesn't tell which events come first.
+/* Returns what stays buffered, an enum tw_waiting. The caller calls it after TW_NONE: before that, events may still be next.
  *
  * It says what a pause means. After some 50 ms with TW_WAITING_ESCAPE call tw_parser_flush_escape. TW_WAITING_SEQUENCE may be half of a
  * sequence on a slow line: flush it after a much longer pause, say 1000 ms, or never. Never flush the other two.
@@ -142,8 +142,8 @@ enum tw_waiting {
 uint32_t tw_parser_waiting_kind(tw_parser *parser);
 
 /* Writes the Escape key to *event if ESC alone is buffered, with TW_MOD_ALT if ESC ESC is, and consumes it. The caller calls it when
- * some 50 ms have passed without a byte. Whatever else is buffered stays: a pause after more than the ESC breaks no sequence, and none
- * breaks a character or a paste.
+ * some 50 ms have passed without a byte. Whatever else is buffered stays, so a pause breaks only what is cut right after its ESC or
+ * ESC ESC: a sequence, the start of a paste, or a key with Alt.
  *
  * Returns TW_EVENT, TW_NONE if anything else or nothing is buffered, or TW_NO_PARSER. *event is written only with TW_EVENT. */
 uint32_t tw_parser_flush_escape(tw_parser *parser, tw_event *event);

@@ -328,12 +328,12 @@ impl PlainReader {
         Ok(ends)
     }
 
-    // "What waits": whether bytes that stand there as they are, or after one ESC, are undecided.
+    // "What stays buffered": whether bytes that stand there as they are, or after one ESC, are undecided.
     fn are_undecided(&self, bytes: &[u8], more: bool) -> Result<bool, AllocError> {
         Ok(bytes.len() <= 20 && self.is_open(bytes, more)?)
     }
 
-    // "What waits": the kind of bytes that are undecided as they stand there, or after one ESC.
+    // "What stays buffered": the kind of bytes that are undecided as they stand there, or after one ESC.
     fn kind_of_undecided(&self, bytes: &[u8], more: bool) -> Result<Option<Waiting>, AllocError> {
         if !self.are_undecided(bytes, more)? {
             return Ok(None);
@@ -344,7 +344,7 @@ impl PlainReader {
         Ok(Some(Waiting::Sequence))
     }
 
-    // "What waits": the kind of a rest, and `None` if it is of none.
+    // "What stays buffered": the kind of a rest, and `None` if it is of none.
     pub(super) fn kind_of(&self, rest: &[u8], more: bool) -> Result<Option<Waiting>, AllocError> {
         if rest.is_empty() {
             return Ok(Some(Waiting::Nothing));

@@ -26,7 +26,7 @@ pub fn make_parser(alloc: Global) -> Result<(InputParser, bool), AllocError>
     }
 }
 
-/// Ends the open paste of a parser, if there is one. Returns its event, and how many bytes waited after a refusal.
+/// Ends the open paste of a parser, if there is one. Returns its event, and how many bytes stayed buffered after a refusal.
 pub fn end_paste(
     parser: &mut InputParser,
 ) -> Result<(Option<InputEvent>, Option<usize>), AllocError>

@@ -41,11 +41,12 @@ abbrev pub WaitingKinds : Type 0
 WaitingKinds = (u : List ℕ) (more : Bool) → IsRest u more
     → (kind : Waiting) × IsKind u more kind × ((other : Waiting) → IsKind u more other → other ≡ kind)
 
--- What a flush makes of each kind: Escape is the Escape key, twice with Alt; what began a sequence or a character is broken; an open paste
--- stays.
+-- What a flush makes of each kind: ESC is the Escape key, and ESC ESC the same with ALT; what began a sequence or a character is broken; an
+-- open paste stays.
 abbrev pub FlushedAs : List ℕ → Waiting → Type 0
 FlushedAs u Nothing = Means u false [] []
-FlushedAs u Escape = Means u false (Key escape ∷ []) [] ⊎ Means u false (Key (with_alt escape) ∷ []) []
+FlushedAs u Escape = ((u ≡ ESC) × Means u false (Key escape ∷ []) [])
+    ⊎ ((u ≡ ESC ++ ESC) × Means u false (Key (with_alt escape) ∷ []) [])
 FlushedAs u Sequence = (c : List ℕ) × FlushMatters u c
 FlushedAs u Character = (c : List ℕ) × FlushMatters u c
 FlushedAs u Paste = Means u false [] u

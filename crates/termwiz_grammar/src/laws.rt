@@ -84,15 +84,15 @@ pub fn waiting_kinds()
     ensures { WaitingKinds }
 {}
 
-/// What a flush makes of each kind: an Escape is the Escape key, alone or with Alt. The beginning of a sequence or of a character
+/// What a flush makes of each kind: ESC is the Escape key, and ESC ESC the same with ALT. The beginning of a sequence or of a character
 /// is broken. An open paste stays as it is.
 pub fn flush_of_kinds()
     ensures { FlushOfKinds }
 {}
 
-/// A program that flushes the Escape key alone after a pause can't be harmed by a badly timed one. ESC or ESC ESC that is buffered is
-/// flushed at any places of a stream, at each of which an item of the whole stream ends: no sequence, no character and no paste
-/// goes on from that ESC. Then the events and what stays buffered are those of the stream without pauses.
+/// A pause after which only the Escape key is flushed changes no event, unless something goes on from that ESC. ESC or ESC ESC that is
+/// buffered may be flushed at any places of a stream, if at each of them an item of the whole stream ends: no sequence, no
+/// character and no paste goes on from there. Then the events and what stays buffered are those of the stream without pauses.
 pub fn pauses_change_nothing()
     ensures { PausesChangeNothing }
 {}

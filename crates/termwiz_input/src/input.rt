@@ -154,7 +154,8 @@ impl InputParser {
 
     /// What kind of bytes stays buffered, once [`InputParser::next_event`] returned `None`, or `parse` succeeded.
     ///
-    /// After a pause flush an `Escape`. Give a `Sequence` a much longer pause, for a slow line. Never flush a `Character` or a `Paste`.
+    /// After a pause with `Escape` call [`InputParser::flush_escape`]. Flush a `Sequence` only after a much longer pause, since the line may
+    /// be slow. Never flush a `Character` or a `Paste`.
     pub fn waiting(&self) -> Waiting
         ensures { (more : Bool) → IsRest self.now more → IsKind self.now more result }
     {
@@ -197,7 +198,7 @@ impl InputParser {
 
     /// Emits the Escape key, with ALT if ESC ESC stays buffered. `None` if anything else stays buffered; the parser is then unchanged.
     ///
-    /// Call it after a pause of some 50 ms: unlike a flush, it breaks no sequence, no character and no paste that came in part.
+    /// Call it after a pause of some 50 ms. Unlike a flush, it breaks only what is cut right after its ESC or ESC ESC.
     pub fn flush_escape(&mut self) -> Option<InputEvent>
         ensures event { IfSome result (λ event. Means self.old false (event ∷ []) self.new) }
         ensures when { IsSome result ↔ IsOneOrTwoEscapes self.old }
@@ -235,7 +236,7 @@ impl InputParser {
         Ok(Some(event))
     }
 
-    /// Forgets what stays buffered, and returns how many bytes these were. It takes no memory and frees none.
+    /// Forgets what stays buffered, and returns how many bytes these were. It asks for no memory and frees none.
     pub fn reset(&mut self) -> usize
         ensures count { result ≡ length self.old }
         ensures nothing { self.new ≡ [] }
@@ -318,8 +319,8 @@ impl InputParser {
     /// Appends `bytes` to the waiting text, and calls `callback` with each of its events in order. What is no event yet waits.
     ///
     /// Pass `maybe_more` as true while more bytes may come: then a text that may yet become a longer sequence or a character
-    /// waits. Pass false at the end of the input, or if a pause says that an Escape was meant alone: then only an open paste
-    /// waits. Call with no bytes and false to flush.
+    /// stays buffered. After a pause call [`InputParser::flush_escape`]. Pass false at the end of the input: then only an open
+    /// paste stays buffered. No bytes and false are a flush.
     #[tactic(auto, using(termwiz_grammar::proofs::lemmas::waiting::RestShape::rest_flushed))]
     pub fn parse<F: FnMut(InputEvent)>(
         &mut self,
@@ -555,8 +556,8 @@ impl InputParser {
     /// Appends `bytes` to the waiting text, and returns its events in order. What is no event yet waits.
     ///
     /// Pass `maybe_more` as true while more bytes may come: then a text that may yet become a longer sequence or a character
-    /// waits. Pass false at the end of the input, or if a pause says that an Escape was meant alone: then only an open paste
-    /// waits. Call with no bytes and false to flush.
+    /// stays buffered. After a pause call [`InputParser::flush_escape`]. Pass false at the end of the input: then only an open
+    /// paste stays buffered. No bytes and false are a flush.
     #[tactic(auto, using(termwiz_grammar::proofs::lemmas::waiting::RestShape::rest_flushed))]
     pub fn parse_as_vec(
         &mut self,

@@ -31,7 +31,7 @@ fn begins_with_high_byte(text: &[u8]) -> bool
     }
 }
 
-// The kind of a text at which no item stands.
+// The kind of a text at which no item is matched.
 pub(crate) fn kind_of(text: &[u8]) -> Waiting
     ensures { (more : Bool) → IsRest text.now more → IsKind text.now more result }
 {

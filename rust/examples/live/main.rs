@@ -6,7 +6,8 @@
 //! from selecting text. A new size of the terminal is printed as well.
 //!
 //! q ends the program, and so do the end of the input, SIGHUP, SIGINT, SIGQUIT and SIGTERM. ^C, ^Z and ^\ are keys like any other, as in an
-//! editor; SIGTSTP from another process stops it until SIGCONT. The terminal is restored whenever it ends or stops.
+//! editor; SIGTSTP from another process stops it until SIGCONT. The terminal is restored whenever it ends or stops in one of
+//! these ways.
 mod terminal;
 mod unix;
 

@@ -184,8 +184,8 @@ impl InputParser {
     /// Returns the Escape key if ESC alone is buffered, with ALT if ESC ESC is, and consumes it. Returns `None` otherwise; the parser is
     /// then unchanged.
     ///
-    /// Call it when some 50 ms have passed without a byte. A pause after more than the ESC breaks no sequence, and none breaks a character
-    /// or a paste.
+    /// Call it when some 50 ms have passed without a byte. Whatever else is buffered stays, so a pause breaks only what is cut right after
+    /// its ESC or ESC ESC: a sequence, the start of a paste, or a key with Alt.
     pub fn flush_escape(&mut self) -> Option<InputEvent> {
         // An event that was refused memory comes before what is buffered.
         if self.has_front {

@@ -82,8 +82,8 @@ pub fn narrowed<V>(rows: &GapBuffer<Row<V>>, range: Range, text: &[u8], depth: u
     }
 }
 
-// As `first_from`. Where each byte from the first on has one row, it is as far ahead as the limit is above the first byte: such
-// a place is tried before the search.
+// As `first_from`. Where each byte from the first on has one row, the place is as far ahead as the limit is above the first byte: it
+// is tried before the search.
 fn first_of<V>(
     rows: &GapBuffer<Row<V>>,
     depth: usize,
@@ -120,7 +120,7 @@ fn first_from<V>(
     requires rising { AreRising rows.now depth low high }
     ensures { IsFirstFrom rows.now depth limit low high result }
 {
-    // For a byte below all of the range's, and for the end of rows that aren't there, it is the first.
+    // For a byte below all of the range's, and for the end of a byte that has one row, it is the first.
     if low < high && rows[low].byte(depth) as usize >= limit {
         return low;
     }

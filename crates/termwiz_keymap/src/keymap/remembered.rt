@@ -26,7 +26,7 @@ const DEEPEST: usize = 8;
 // A search begins with the range of so many first bytes, if it is remembered.
 const FIRST: usize = 3;
 
-// A range of at most so many rows isn't parted further.
+// A range of `FIRST` bytes or more isn't parted further if it has at most so many rows.
 const FEW: usize = 4;
 
 // The number of places for ranges. Each range has one place, where another may stand.
@@ -151,7 +151,7 @@ fn last_found<'a>(
     found
 }
 
-/// The ranges of many rows, remembered in new memory.
+/// Ranges of the rows, remembered in new memory.
 pub fn remembered_ranges<V>(
     alloc: Global,
     rows: &GapBuffer<Row<V>>,
@@ -196,7 +196,7 @@ fn remember_within<V>(
     }
 }
 
-// Remembers the range of so many first bytes of a text, unless its place has one of as many rows or more.
+// Remembers the range of so many first bytes of a text, unless its place has one that doesn't yield to it.
 fn remember<V>(
     rows: &GapBuffer<Row<V>>,
     places: &mut [Remembered],

@@ -247,8 +247,8 @@ twice =
 pub flush_of_kinds : FlushOfKinds
 flush_of_kinds u Nothing is = subst (λ x. Means x false [] []) (sym is) (record { steps = refl; rest = empty_is_rest false })
 flush_of_kinds u Escape is = ⊎_elim
-    (λ (a : u ≡ ESC). inl (subst (λ x. Means x false (Key escape ∷ []) []) (sym a) alone))
-    (λ (b : u ≡ ESC ++ ESC). inr (subst (λ x. Means x false (Key (with_alt escape) ∷ []) []) (sym b) twice)) is.0
+    (λ (a : u ≡ ESC). inl (a, subst (λ x. Means x false (Key escape ∷ []) []) (sym a) alone))
+    (λ (b : u ≡ ESC ++ ESC). inr (b, subst (λ x. Means x false (Key (with_alt escape) ∷ []) []) (sym b) twice)) is.0
 flush_of_kinds u Sequence is = breaks u is.0.held is.0.bytes is.0.is_held is.0.splits is.0.some (inl is.0.unfinished)
 flush_of_kinds u Character is = breaks u is.0.held is.0.bytes is.0.is_held is.0.splits is.0.some (inr is.0.unfinished)
 flush_of_kinds u Paste is = record {
