@@ -1,4 +1,5 @@
 pub mod Matches
+pub mod Fronts
 pub mod Bytes
 pub mod Callbacks
 pub mod MouseReportAnswers

@@ -3,22 +3,20 @@ ghost use Rattle.std.specs.Prelude.{◌≡◌, ◌≢◌, ◌++◌, ◌+◌, ◌
 ghost use Rattle.termwiz_keys.specs.declared.types.KeyEvent.{KeyEvent};
 ghost use Rattle.termwiz_keymap.specs.Bytes.{Begins};
 ghost use Rattle.termwiz_keys.specs.Introducers.{START};
-ghost use Rattle.termwiz_keys.specs.Keys.{plain};
 ghost use Rattle.termwiz_grammar.specs.WaitingKinds.{IsKind, IsOneOrTwoEscapes, IsOpenPaste};
 ghost use Rattle.termwiz_input.specs.PasteSearch.{IsPasteSoFar};
 ghost use Rattle.termwiz_grammar.specs.Grammar.{GivesNoPaste, HasItem, HasPaste, IsRest, Steps, Means};
+ghost use Rattle.termwiz_input.specs.Fronts.{Emits, IsFront, Stores};
 ghost use Rattle.termwiz_input.specs.Matches.{IsItemAt};
 ghost use Rattle.termwiz_input.specs.Callbacks.{MayBeCalledOn, MayBeCalledOnNumbered, WasCalledOn, WasCalledOnNumbered};
 ghost use Rattle.termwiz_input.specs.Pieces.{AreNumbered, NumberedEvent, ReadsFirst, events_of, flag_at, join, numbered, pieces_or_one, taken_or_one, texts};
 ghost use Rattle.termwiz_keys.specs.declared.types.InputEvent.{InputEvent as Event};
 
-use crate::head::escape_key;
-use crate::item::{
-    MatchedItem, alt_key, append_printable_ascii, character_front, item_at, mouse_report_front,
-    plain_key, printable_ascii_front,
-};
-use crate::paste::{begins_paste, next_search, paste_so_far};
-use crate::waiting::{is_escape, kind_of};
+use crate::front::{AtFront, front, is_escape};
+use crate::key::{alt_key, copied, escape_key, plain_key};
+use crate::paste::{begins_paste, lossy_text, next_search, paste_so_far};
+use crate::printable_ascii::append_printable_ascii;
+use crate::waiting::kind_of;
 use std::alloc::{AllocError, Global};
 use std::marker::Model;
 pub use termwiz_base::{Flags, Modifiers};
@@ -154,25 +152,24 @@ impl InputParser {
 
     /// What kind of bytes stays buffered, once [`InputParser::next_event`] returned `None`, or `parse` succeeded.
     ///
-    /// After a pause with `Escape` call [`InputParser::flush_escape`]. Flush a `Sequence` only after a much longer pause, since the line may
-    /// be slow. Never flush a `Character` or a `Paste`.
+    /// After a pause with `Escape` call [`InputParser::flush_escape`]. Flush a `Sequence` only after a much longer pause, since the line
+    /// may be slow. Never flush a `Character` or a `Paste`.
     pub fn waiting(&self) -> Waiting
         ensures { (more : Bool) → IsRest self.now more → IsKind self.now more result }
     {
         kind_of(self.buffer.as_slice())
     }
 
-    // The item at the front of the waiting text, where it stays.
-    fn peek(&self, maybe_more: bool) -> Result<Option<MatchedItem>, AllocError>
-        ensures item { IfOk result (λ found. IfSome found (IsItemAt self.now maybe_more)) }
-        ensures none { IfOk result (λ found. IfNone found (IsRest self.now maybe_more)) }
-        ensures refused { OnErr result (HasPaste self.now maybe_more) }
+    // What is at the front of the waiting text. A run of printable ASCII has at most `most` characters.
+    fn front(&self, most: usize, maybe_more: bool) -> AtFront<'_, '_>
+        requires { 0 < most }
+        ensures { IsFront self.now maybe_more result }
     {
         let text = self.buffer.as_slice();
-        item_at(self.alloc, &self.key_map, text, self.searched, maybe_more)
+        front(&self.key_map, text, self.searched, most, maybe_more)
     }
 
-    // If no item stands at the front, notes how far an open paste was searched for its end.
+    // Once no item is matched, notes how far an open paste was searched for its end.
     fn note_search(&mut self)
         requires { (more : Bool) × IsRest self.old more }
         ensures { self.new ≡ self.old }
@@ -180,20 +177,6 @@ impl InputParser {
         if self.is_paste_open() {
             self.searched = next_search(self.buffer.as_slice());
         }
-    }
-
-    // The item at the front of the waiting text, as `peek` finds it. If there is none, notes how far an open paste was searched.
-    fn find_item(&mut self, maybe_more: bool) -> Result<Option<MatchedItem>, AllocError>
-        ensures same { self.new ≡ self.old }
-        ensures item { IfOk result (λ found. IfSome found (IsItemAt self.old maybe_more)) }
-        ensures none { IfOk result (λ found. IfNone found (IsRest self.old maybe_more)) }
-        ensures refused { OnErr result (HasPaste self.old maybe_more) }
-    {
-        let found = self.peek(maybe_more)?;
-        if found.is_none() {
-            self.note_search();
-        }
-        Ok(found)
     }
 
     /// Emits the Escape key, with ALT if ESC ESC stays buffered. `None` if anything else stays buffered; the parser is then unchanged.
@@ -246,7 +229,7 @@ impl InputParser {
         len
     }
 
-    // Drops the first bytes of the waiting text. Nothing is known of a paste in what is left.
+    // Drops the first bytes of the waiting text. What is left wasn't searched for the end of a paste.
     fn consume(&mut self, len: usize)
         requires { len ≤ length self.old }
         ensures { self.new ≡ drop len self.old }
@@ -266,25 +249,50 @@ impl InputParser {
         self.buffer.extend_with(bytes)
     }
 
-    // Takes the character at the front of the waiting text. `None`, and nothing taken, if a sequence may begin there or no whole
-    // character stands there.
-    fn next_character(&mut self) -> Option<char>
-        ensures event { IfSome result (λ character. (more : Bool) → Steps self.old more (Event.Key (plain character) ∷ []) self.new) }
-        ensures none { IfNone result (self.new ≡ self.old) }
+    // Consumes so many bytes, whose event this is.
+    #[inline(always)]
+    fn emit(&mut self, event: InputEvent, len: usize) -> Result<Option<InputEvent>, AllocError>
+        requires { len ≤ length self.old }
+        ensures { (more : Bool) → IsItemAt self.old more event len → Emits self.old more self.new result }
     {
-        let (character, len) = character_front(self.buffer.as_slice())?;
         self.consume(len);
-        Some(character)
+        Ok(Some(event))
     }
 
-    // Takes the mouse report at the front of the waiting text. `None`, and nothing taken, if none stands there.
-    fn next_mouse_report(&mut self) -> Option<MouseEvent>
-        ensures event { IfSome result (λ event. (more : Bool) → Steps self.old more (Event.Mouse event ∷ []) self.new) }
-        ensures none { IfNone result (self.new ≡ self.old) }
+    // Consumes the item at the front of the waiting text, and returns its event. `None` if no item is there.
+    fn emit_front(&mut self, maybe_more: bool) -> Result<Option<InputEvent>, AllocError>
+        ensures { Emits self.old maybe_more self.new result }
     {
-        let (event, len) = mouse_report_front(self.buffer.as_slice())?;
-        self.consume(len);
-        Some(event)
+        match self.front(1, maybe_more) {
+            AtFront::PrintableAscii(run) => {
+                let first = char::from(run[0]);
+                self.emit(InputEvent::Key(plain_key(first)), 1)
+            }
+            AtFront::Character(character, len) => {
+                self.emit(InputEvent::Key(plain_key(character)), len)
+            }
+            AtFront::Key(key, len) => {
+                let key = copied(key);
+                self.emit(InputEvent::Key(key), len)
+            }
+            AtFront::Escape => self.emit(InputEvent::Key(escape_key()), 1),
+            AtFront::AltCharacter(character, len) => {
+                self.emit(InputEvent::Key(alt_key(plain_key(character))), len)
+            }
+            AtFront::AltKey(key, len) => {
+                let key = alt_key(copied(key));
+                self.emit(InputEvent::Key(key), len)
+            }
+            AtFront::MouseReport(event, len) => self.emit(InputEvent::Mouse(event), len),
+            AtFront::Paste(body, len) => {
+                let text = lossy_text(self.alloc, body)?;
+                self.emit(InputEvent::Paste(text), len)
+            }
+            AtFront::Incomplete => {
+                self.note_search();
+                Ok(None)
+            }
+        }
     }
 
     /// Takes the item at the front of the waiting text, and returns its event. `None` if no item stands there: what waits is
@@ -303,17 +311,7 @@ impl InputParser {
         // Without more to come nothing waits but an open paste.
         ensures flushed { maybe_more ≡ false → IfOk result (λ found. IfNone found ((self.new ≡ []) ⊎ Begins START self.new)) }
     {
-        if let Some(character) = self.next_character() {
-            return Ok(Some(InputEvent::Key(plain_key(character))));
-        }
-        if let Some(event) = self.next_mouse_report() {
-            return Ok(Some(InputEvent::Mouse(event)));
-        }
-        let Some(MatchedItem { event, len }) = self.find_item(maybe_more)? else {
-            return Ok(None);
-        };
-        self.consume(len);
-        Ok(Some(event))
+        self.emit_front(maybe_more)
     }
 
     /// Appends `bytes` to the waiting text, and calls `callback` with each of its events in order. What is no event yet waits.
@@ -354,10 +352,6 @@ impl InputParser {
             return Err(ParseError::NotTaken);
         }
         loop {
-            if let Some(character) = self.next_character() {
-                callback(InputEvent::Key(plain_key(character)));
-                continue;
-            }
             match self.next_event(maybe_more) {
                 Ok(Some(event)) => callback(event),
                 Ok(None) => return Ok(()),
@@ -366,7 +360,7 @@ impl InputParser {
         }
     }
 
-    // Appends a piece to the waiting text, and calls back with its number and each of its events.
+    // Appends a piece to the waiting text, and calls `callback` with the piece's number and each of the events in order.
     fn parse_piece<F: FnMut(usize, InputEvent)>(
         &mut self,
         number: usize,
@@ -387,20 +381,13 @@ impl InputParser {
         ensures taken_paste { IsErrOf result ParseError.Taken → HasPaste self.new more }
         ensures granted { piece.now ≡ [] → GivesNoPaste self.old more → IsOk result }
     {
-        if self.feed(piece).is_err() {
-            return Err(ParseError::NotTaken);
-        }
-        loop {
-            if let Some(character) = self.next_character() {
-                callback(number, InputEvent::Key(plain_key(character)));
-                continue;
-            }
-            match self.next_event(more) {
-                Ok(Some(event)) => callback(number, event),
-                Ok(None) => return Ok(()),
-                Err(_) => return Err(ParseError::Taken),
-            }
-        }
+        self.parse(
+            piece,
+            &mut |event|
+                requires { F.pre callback.now number event }
+            { callback(number, event) },
+            more,
+        )
     }
 
     /// Appends each piece to the waiting text in turn, and calls `callback` with the number of the piece, from 0, and each of
@@ -462,8 +449,8 @@ impl InputParser {
         Ok(())
     }
 
-    // Makes room in the list for so many more events. An empty list gets room for as many as a short text may give, so that a
-    // short read makes one request for memory.
+    // Makes room in the list for `count` more events. The first request is for as many as a short text may have, so that a short read makes
+    // no other.
     fn make_room(&self, events: &mut Vec<InputEvent>, count: usize) -> Result<(), AllocError>
         ensures items { events.new.items ≡ events.old.items }
         ensures room { OnOk result (vec_len events.new + count ≤ vec_capacity events.new) }
@@ -474,60 +461,59 @@ impl InputParser {
         events.reserve(self.waiting_len().min(SHORT_TEXT).max(count))
     }
 
-    // Moves the events of the printable ASCII characters at the front of the waiting text to the list.
-    fn store_printable_ascii(&mut self, events: &mut Vec<InputEvent>) -> Result<(), AllocError>
-        ensures steps { (text : List ℕ) (more : Bool) → Steps text more events.old.items self.old → Steps text more events.new.items self.new }
-        ensures few { length events.new.items + length self.new ≤ length events.old.items + length self.old }
-        ensures left { length self.new ≤ length self.old }
-        ensures item { OnErr result ((more : Bool) → HasItem self.new more) }
+    // Appends the event of the first `len` bytes of the waiting text, and returns `len`.
+    #[inline(always)]
+    fn store(
+        &self,
+        events: &mut Vec<InputEvent>,
+        event: InputEvent,
+        len: usize,
+    ) -> Result<Option<usize>, AllocError>
+        ensures { (more : Bool) → IsItemAt self.now more event len → Stores self.now more events.old.items events.new.items result }
     {
-        let characters = printable_ascii_front(self.buffer.as_slice());
-        let len = characters.len();
-        if len == 0 {
-            return Ok(());
-        }
-        self.make_room(events, len)?;
-        append_printable_ascii(events, characters);
-        self.consume(len);
-        Ok(())
+        self.make_room(events, 1)?;
+        events.push_reserved(event);
+        Ok(Some(len))
     }
 
-    // Moves the events of the characters at the front of the waiting text to the list, up to where a sequence may begin.
-    fn store_characters(&mut self, events: &mut Vec<InputEvent>) -> Result<(), AllocError>
-        ensures steps { (text : List ℕ) (more : Bool) → Steps text more events.old.items self.old → Steps text more events.new.items self.new }
-        ensures few { length events.new.items + length self.new ≤ length events.old.items + length self.old }
-        ensures left { length self.new ≤ length self.old }
-        ensures item { OnErr result ((more : Bool) → HasItem self.new more) }
+    // Appends the events of what is at the front of the waiting text, and returns the number of their bytes. `None` if it is incomplete.
+    // Each arm builds the event that it stores.
+    fn store_front(
+        &self,
+        events: &mut Vec<InputEvent>,
+        maybe_more: bool,
+    ) -> Result<Option<usize>, AllocError>
+        ensures { Stores self.now maybe_more events.old.items events.new.items result }
     {
-        loop {
-            self.store_printable_ascii(events)?;
-            match character_front(self.buffer.as_slice()) {
-                Some((character, len)) => {
-                    self.make_room(events, 1)?;
-                    events.push_reserved(InputEvent::Key(plain_key(character)));
-                    self.consume(len);
-                }
-                None => return Ok(()),
+        match self.front(usize::MAX, maybe_more) {
+            AtFront::PrintableAscii(run) => {
+                self.make_room(events, run.len())?;
+                append_printable_ascii(events, run);
+                Ok(Some(run.len()))
             }
+            AtFront::Character(character, len) => {
+                self.store(events, InputEvent::Key(plain_key(character)), len)
+            }
+            AtFront::Key(key, len) => self.store(events, InputEvent::Key(copied(key)), len),
+            AtFront::Escape => self.store(events, InputEvent::Key(escape_key()), 1),
+            AtFront::AltCharacter(character, len) => {
+                self.store(events, InputEvent::Key(alt_key(plain_key(character))), len)
+            }
+            AtFront::AltKey(key, len) => self.store(
+                events,
+                InputEvent::Key(alt_key(copied(key))),
+                len,
+            ),
+            AtFront::MouseReport(event, len) => self.store(events, InputEvent::Mouse(event), len),
+            AtFront::Paste(body, len) => {
+                let text = lossy_text(self.alloc, body)?;
+                self.store(events, InputEvent::Paste(text), len)
+            }
+            AtFront::Incomplete => Ok(None),
         }
     }
 
-    // Moves the events of the mouse reports at the front of the waiting text to the list.
-    fn store_mouse_reports(&mut self, events: &mut Vec<InputEvent>) -> Result<(), AllocError>
-        ensures steps { (text : List ℕ) (more : Bool) → Steps text more events.old.items self.old → Steps text more events.new.items self.new }
-        ensures few { length events.new.items + length self.new ≤ length events.old.items + length self.old }
-        ensures left { length self.new ≤ length self.old }
-        ensures item { OnErr result ((more : Bool) → HasItem self.new more) }
-    {
-        while let Some((event, len)) = mouse_report_front(self.buffer.as_slice()) {
-            self.make_room(events, 1)?;
-            events.push_reserved(InputEvent::Mouse(event));
-            self.consume(len);
-        }
-        Ok(())
-    }
-
-    // Moves the events of the waiting text to an empty list, in order. An event leaves the parser only after it is stored.
+    // Moves the events of the waiting text to an empty list, in order. An event's bytes are consumed only after it is stored.
     fn store_events(
         &mut self,
         events: &mut Vec<InputEvent>,
@@ -540,15 +526,12 @@ impl InputParser {
         ensures few { length events.new.items + length self.new ≤ length self.old }
     {
         loop {
-            self.store_characters(events)?;
-            self.store_mouse_reports(events)?;
-            match self.find_item(maybe_more)? {
-                Some(MatchedItem { event, len }) => {
-                    self.make_room(events, 1)?;
-                    events.push_reserved(event);
-                    self.consume(len);
+            match self.store_front(events, maybe_more)? {
+                Some(len) => self.consume(len),
+                None => {
+                    self.note_search();
+                    return Ok(());
                 }
-                None => return Ok(()),
             }
         }
     }

@@ -1,12 +1,14 @@
 //! Bytes of a terminal, read as key, mouse and paste events, and keys written as the bytes that a terminal sends.
 #![tactic(auto)]
 
+mod front;
 mod head;
 pub mod input;
-mod item;
+mod key;
 pub mod laws;
 mod mouse_report;
 mod paste;
+mod printable_ascii;
 mod waiting;
 
 pub use termwiz_keymap::{keymap, readbuf};

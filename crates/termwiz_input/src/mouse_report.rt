@@ -39,7 +39,7 @@ struct Number<'t> {
     rest: &'t [u8],
 }
 
-pub(crate) const INTRODUCER: &[u8] = b"\x1b[<";
+const INTRODUCER: &[u8] = b"\x1b[<";
 
 const LARGEST_CODE: u16 = 95;
 

@@ -1,6 +1,7 @@
 // Pasted texts, as a terminal sends them in xterm's bracketed paste mode: between ESC `[200~` and ESC `[201~`.
 ghost use Rattle.std.specs.Prelude.{◌≡◌, ◌↔◌, Bool, IsTrue, OnErr, IfOk, IfSome, IfNone};
 ghost use Rattle.std.specs.Str.Lossy.{utf8_lossy};
+ghost use Rattle.termwiz_keys.specs.declared.types.InputEvent.{InputEvent as Event};
 ghost use Rattle.termwiz_keymap.specs.Bytes.{Begins};
 ghost use Rattle.termwiz_keys.specs.Introducers.{START};
 ghost use Rattle.termwiz_input.specs.Matches.{IsItemAt};
@@ -8,14 +9,13 @@ ghost use Rattle.termwiz_grammar.specs.Grammar.{HasPaste, IsRest};
 ghost use Rattle.termwiz_grammar.specs.WaitingKinds.{IsOpenPaste};
 ghost use Rattle.termwiz_input.specs.PasteSearch.{IsPasteSoFar, NoEndBefore};
 
-use crate::item::MatchedItem;
 use bstr::ByteSlice;
 use std::alloc::{AllocError, Global};
 use termwiz_keymap::bytes::{begins_with, find_from};
 use termwiz_keys::types::{InputEvent, PastedText};
 
 // What comes before a pasted text, and after it.
-const PASTE_START: &[u8] = b"\x1b[200~";
+pub(crate) const PASTE_START: &[u8] = b"\x1b[200~";
 
 const PASTE_END: &[u8] = b"\x1b[201~";
 
@@ -27,7 +27,7 @@ pub(crate) fn begins_paste(text: &[u8]) -> bool
 }
 
 // Pasted bytes as text, with U+FFFD for what is no character.
-fn lossy_text(alloc: Global, bytes: &[u8]) -> Result<PastedText, AllocError>
+pub(crate) fn lossy_text(alloc: Global, bytes: &[u8]) -> Result<PastedText, AllocError>
     ensures { IfOk result (λ text. text ≡ utf8_lossy bytes.now) }
 {
     let mut text = String::new(alloc);
@@ -35,29 +35,16 @@ fn lossy_text(alloc: Global, bytes: &[u8]) -> Result<PastedText, AllocError>
     Ok(PastedText::new(text))
 }
 
-// The paste that begins the text, and `None` if its end isn't there. The end is looked for from `searched` on, since it
-// begins nowhere before.
-pub(crate) fn paste_at(
-    alloc: Global,
-    text: &[u8],
-    searched: usize,
-    maybe_more: bool,
-) -> Result<Option<MatchedItem>, AllocError>
+// The bytes of the text of the paste that begins a text, and the number of all of its bytes. `None` if its end isn't there.
+pub(crate) fn pasted_bytes(text: &[u8], searched: usize) -> Option<(&[u8], usize)>
     requires begins { Begins START text.now }
     requires searched { NoEndBefore text.now searched }
-    ensures item { IfOk result (λ found. IfSome found (IsItemAt text.now maybe_more)) }
-    ensures none { IfOk result (λ found. IfNone found (IsRest text.now maybe_more)) }
-    ensures refused { OnErr result (HasPaste text.now maybe_more) }
+    ensures item { IfSome result (λ found. (more : Bool) → IsItemAt text.now more (Event.Paste (utf8_lossy found.0.now)) found.1) }
+    ensures none { IfNone result ((more : Bool) → IsRest text.now more) }
 {
-    let Some(end) = find_from(text, searched.max(PASTE_START.len()), PASTE_END) else {
-        return Ok(None);
-    };
-    match lossy_text(alloc, &text[PASTE_START.len()..end]) {
-        Ok(pasted) => Ok(Some(MatchedItem {
-            event: InputEvent::Paste(pasted),
-            len: end + PASTE_END.len(),
-        })),
-        Err(fault) => Err(fault),
+    match find_from(text, searched.max(PASTE_START.len()), PASTE_END) {
+        Some(end) => Some((&text[PASTE_START.len()..end], end + PASTE_END.len())),
+        None => None,
     }
 }
 

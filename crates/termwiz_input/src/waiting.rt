@@ -1,35 +1,11 @@
 // What kind of bytes stay buffered, told by the first of them.
-ghost use Rattle.std.specs.Prelude.{◌↔◌, Bool, IsTrue};
+ghost use Rattle.std.specs.Prelude.{Bool};
 ghost use Rattle.termwiz_grammar.specs.Grammar.{IsRest};
-ghost use Rattle.termwiz_grammar.specs.WaitingKinds.{IsKind, IsOneOrTwoEscapes};
-ghost use Rattle.termwiz_input.specs.Matches.{BeginsWithHighByte};
+ghost use Rattle.termwiz_grammar.specs.WaitingKinds.{IsKind};
 
+use crate::front::{begins_with_high_byte, is_escape};
 use crate::paste::begins_paste;
 use termwiz_grammar::waiting::Waiting;
-
-// The first byte that isn't ASCII.
-const HIGH: u8 = 0x80;
-
-// Whether the text is ESC or ESC ESC.
-pub(crate) fn is_escape(text: &[u8]) -> bool
-    ensures { IsTrue result ↔ IsOneOrTwoEscapes text.now }
-{
-    match text {
-        [b'\x1b'] | [b'\x1b', b'\x1b'] => true,
-        _ => false,
-    }
-}
-
-// Whether the first byte isn't ASCII, or the one after an ESC.
-fn begins_with_high_byte(text: &[u8]) -> bool
-    ensures { IsTrue result ↔ BeginsWithHighByte text.now }
-{
-    match text {
-        [b'\x1b', next, ..] => *next >= HIGH,
-        [first, ..] => *first >= HIGH,
-        [] => false,
-    }
-}
 
 // The kind of a text at which no item is matched.
 pub(crate) fn kind_of(text: &[u8]) -> Waiting

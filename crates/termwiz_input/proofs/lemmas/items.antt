@@ -1,3 +1,3 @@
 pub mod ItemByHead
-pub mod ItemShortens
 pub mod PrintableAscii
+pub mod FrontItem

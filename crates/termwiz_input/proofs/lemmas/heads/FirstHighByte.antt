@@ -1,5 +1,5 @@
 -- A byte from 128 on, first in a text or after an ESC.
-use Rattle.std.proofs.Common.{◌≡◌, ◌⊎◌, inl, inr, ⊎_elim, ℕ, ◌<◌, ◌≤◌, List, [], ◌∷◌, ◌++◌, length, slice_index_or, refl, sym, ap, arith}
+use Rattle.std.proofs.Common.{◌≡◌, inl, inr, ⊎_elim, ℕ, List, [], ◌∷◌, refl, ap, arith}
 use Rattle.termwiz_input.specs.Matches.{BeginsWithHighByte}
 use Rattle.termwiz_grammar.proofs.lemmas.waiting.RestKinds.{CharacterBytes}
 

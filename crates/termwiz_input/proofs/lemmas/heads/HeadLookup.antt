@@ -13,7 +13,7 @@ use Rattle.bstr.specs.Utf8.{decoded}
 use Rattle.bstr.proofs.lemmas.SoundLemmas.{SpellsChar-decoded}
 use Rattle.termwiz_keys.specs.declared.types.KeyEvent.{KeyEvent}
 use Rattle.termwiz_keys.specs.declared.types.MouseEvent.{MouseEvent}
-use Rattle.termwiz_input.specs.declared.head.MatchedHead.TheVariants.{Row as row, Report as mouse_report, Character as character, Broken as broken}
+use Rattle.termwiz_input.specs.declared.head.MatchedHead.TheVariants.{Report as mouse_report, Character as character, Broken as broken}
 use Rattle.termwiz_keymap.specs.Bytes.{Begins}
 use Rattle.termwiz_keymap.specs.Lookup.{IsLongestKey, IsExtended, NoKeyBegins}
 use Rattle.termwiz_grammar.specs.Table.{table}
@@ -22,7 +22,7 @@ use Rattle.termwiz_input.specs.MouseReportAnswers.{IsBegun}
 use Rattle.termwiz_grammar.specs.Sequences.{Meaning, IsSequence}
 use Rattle.termwiz_grammar.specs.Sequences.Meaning.{Row, Report}
 use Rattle.termwiz_grammar.specs.Grammar.{IsOpen, IsUnfinishedSequence, IsUnfinishedCharacter}
-use Rattle.termwiz_input.specs.Matches.{HasHead, NoMouseReportBegins, NoSequenceBegins, HasNoHeadYet, character_of}
+use Rattle.termwiz_input.specs.Matches.{HasHead, HasRow, NoMouseReportBegins, NoSequenceBegins, HasNoHeadYet, character_of}
 use Rattle.termwiz_keymap.proofs.lemmas.lists.CommonPrefixes.{append-some, length-some, length-Begins, Overlaps, overlap}
 use Rattle.termwiz_keymap.proofs.lemmas.lists.CommonPrefixes.Overlaps.{within, past}
 use Rattle.termwiz_grammar.proofs.lemmas.table.SequenceFacts.{report_ends}
@@ -63,7 +63,7 @@ some_none o k e f = cc
 
 -- the longest key of the map is the longest sequence, where no mouse report begins the text
 pub longest_from_key : (u : List ℕ) (n : ℕ) (k : KeyEvent) → NoMouseReportBegins u → IsLongestKey table u n k
-    → HasHead u (row k n)
+    → HasRow u k n
 longest_from_key u n k none is = (
   is.within,
   record {
@@ -169,19 +169,11 @@ pub character_closed : (u : List ℕ) (more : Bool) (c n : ℕ) → (more ≡ tr
     → character_of u ≡ Some (c, n) → ¬ IsOpen u more
 character_closed u more c n finished e = closed_by u more finished (λ m. character_finished u c (spelled u c n e).2)
 
-pub broken_closed : (u : List ℕ) (more : Bool) → (more ≡ true → ¬ IsUnfinishedSequence u)
-    → ((more ≡ true) × IsUnfinishedCharacter u → ⊥) → ¬ IsOpen u more
-broken_closed u more finished whole = closed_by u more finished (λ m h. whole (m, h))
-
 -- the first byte of a text that no sequence and no character begins
 pub broken_front : (u : List ℕ) → u ≢ [] → NoSequenceBegins u → character_of u ≡ None → HasHead u broken
 broken_front [] some no_sequence e = absurd (some refl)
 broken_front (x ∷ u) some no_sequence e =
     (x, record { no_sequence = no_sequence; unspelled = unspelled (x ∷ u) e; begins = (u, refl) })
-
-pub unfinished_waits : (u : List ℕ) (more : Bool) → u ≢ [] → (more ≡ true) × IsUnfinishedCharacter u
-    → HasNoHeadYet u more
-unfinished_waits u more some (m, h) = inl (record { more_comes = m; some = some; beginning = inr h })
 
 -- what std says of bytes that no character begins
 not_decoded : (u : List ℕ) → character_of u ≡ None → (decoded u).char ≡ None

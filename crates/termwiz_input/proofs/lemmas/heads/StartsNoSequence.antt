@@ -6,8 +6,8 @@ use Rattle.termwiz_keys.specs.Introducers.{ESC}
 use Rattle.termwiz_keys.specs.Keys.{escape}
 use Rattle.termwiz_grammar.specs.Sequences.{Meaning, IsSequence}
 use Rattle.termwiz_grammar.specs.Sequences.Meaning.{Row}
-use Rattle.termwiz_grammar.specs.Grammar.{IsUnfinishedSequence, IsUnfinishedCharacter}
-use Rattle.termwiz_input.specs.Matches.{NoSequenceBegins, CannotStartSequence, HasLoneEscape}
+use Rattle.termwiz_grammar.specs.Grammar.{IsLongest, IsUnfinishedSequence, IsUnfinishedCharacter}
+use Rattle.termwiz_input.specs.Matches.{HasRow, NoSequenceBegins, CannotStartSequence, HasLoneEscape}
 use Rattle.termwiz_grammar.proofs.lemmas.table.SequenceFacts.{sequence_bytes, sequence_some, escape_is_sequence}
 use Rattle.termwiz_grammar.proofs.lemmas.characters.CharacterPrefixes.{sequence_finished}
 use Rattle.termwiz_grammar.proofs.lemmas.mouse.OneReport.{IsPlain}
@@ -83,3 +83,9 @@ pub lone_escape_at : (u : List ℕ) → 1 < length u → slice_index_or u 0 0 �
 lone_escape_at [] long first other = absurd (omega arith)
 lone_escape_at (x ∷ []) long first other = absurd (omega arith)
 lone_escape_at (x ∷ b ∷ u) long first other = subst (λ z. HasLoneEscape (z ∷ b ∷ u)) (sym first) (lone_escape b u other)
+
+-- a lone Escape, as the head of one byte
+pub escape_head : (u : List ℕ) → 0 < length u → slice_index_or u 0 0 ≡ 27 → HasLoneEscape u → HasRow u escape 1
+escape_head [] long first is = absurd (omega arith)
+escape_head (x ∷ u) long first is =
+    (omega arith, subst (λ z. IsLongest (x ∷ u) (z ∷ []) (Row escape)) (sym first) is.head)

@@ -1,22 +1,22 @@
 -- Which item stands at a text, by its head.
-use Rattle.std.proofs.Common.{◌≡◌, ◌≢◌, inl, inr, ⊎_elim, ℕ, suc, ◌+◌, ◌-◌, ◌≤◌, Bool, List, [], ◌∷◌, ◌++◌, length, take, drop, refl, sym, ap, ◌∙◌, subst, arith, append_assoc, length-append, encode_utf8}
+use Rattle.std.proofs.Common.{◌≡◌, ◌≢◌, inl, inr, ⊎_elim, ℕ, suc, ◌+◌, ◌-◌, ◌≤◌, Bool, List, [], ◌∷◌, ◌++◌, length, take, drop, refl, sym, ap, ◌∙◌, subst, arith, append_assoc, length-append, length-take-le, encode_utf8}
 use Rattle.std.specs.Str.Lossy.{utf8_lossy}
 use Rattle.std.proofs.Math.Seq.{take-append_seam}
 use Rattle.termwiz_keys.specs.declared.types.KeyEvent.{KeyEvent}
 use Rattle.termwiz_keys.specs.declared.types.MouseEvent.{MouseEvent}
 use Rattle.termwiz_keys.specs.declared.types.InputEvent.{InputEvent}
 use Rattle.termwiz_keys.specs.declared.types.InputEvent.TheVariants.{Key, Mouse, Paste}
-use Rattle.termwiz_input.specs.declared.item.MatchedItem.{MatchedItem}
-use Rattle.termwiz_input.specs.declared.head.MatchedHead.TheVariants.{Row as row, Report as mouse_report, Character as character, Broken as broken}
+use Rattle.termwiz_input.specs.declared.head.MatchedHead.TheVariants.{Report as mouse_report, Character as character, Broken as broken}
 use Rattle.termwiz_keymap.specs.Bytes.{Begins, Occurs}
 use Rattle.termwiz_keys.specs.Introducers.{ESC, START, END}
 use Rattle.termwiz_keys.specs.Keys.{plain, escape, with_alt}
-use Rattle.termwiz_grammar.specs.Sequences.{IsSequence}
+use Rattle.termwiz_grammar.specs.Sequences.{IsSequence, Meaning}
 use Rattle.termwiz_grammar.specs.Sequences.Meaning.{Row, Report}
-use Rattle.termwiz_grammar.specs.Grammar.{IsLongest, IsUnfinishedSequence, IsUnfinishedCharacter, IsOpen, IsAfterEscape, replacement, Item, HasPaste, IsRest, Stands}
+use Rattle.termwiz_grammar.specs.Grammar.{IsLongest, IsUnfinishedSequence, IsUnfinishedCharacter, IsOpen, IsAfterEscape, replacement, Item, IsRest, Stands}
+use Rattle.termwiz_grammar.specs.Grammar.{Head}
 use Rattle.termwiz_grammar.specs.Grammar.Head.{Sequence, Character, Broken}
 use Rattle.termwiz_grammar.specs.Grammar.Item.{key, char, broken as broken_byte, mouse, paste, lone_escape, alt}
-use Rattle.termwiz_input.specs.Matches.{HasHead, IsItemAt, HasNoHeadYet}
+use Rattle.termwiz_input.specs.Matches.{HasHead, HasRow, IsItemAt, HasNoHeadYet}
 use Rattle.termwiz_keymap.proofs.lemmas.lists.CommonPrefixes.{append-some}
 use Rattle.termwiz_grammar.proofs.lemmas.table.SequenceFacts.{sequence_once, escape_is_sequence, start, start_is_sequence, start_ends}
 use Rattle.termwiz_grammar.proofs.lemmas.items.OneHead.{head_once}
@@ -25,10 +25,6 @@ use Rattle.termwiz_grammar.proofs.lemmas.characters.CharacterPrefixes.{sequence_
 use Rattle.termwiz_grammar.proofs.lemmas.items.OneItem.{RowGives, Gives, reads, not_alone, start_head}
 use Rattle.termwiz_grammar.proofs.lemmas.items.OneItem.RowGives.{its_key, its_paste, apart, joined}
 use Rattle.termwiz_input.proofs.lemmas.pastes.EndSearch.{IsPasteTo}
-
--- an item of this event and so many bytes
-abbrev pub item_of : InputEvent → ℕ → MatchedItem
-item_of event len = record { event = event; len = len }
 
 -- no item stands where the text is open, or where it is empty
 pub waits_rest : (u : List ℕ) (more : Bool) → HasNoHeadYet u more → IsRest u more
@@ -40,14 +36,29 @@ waits_rest u more (inr e) bytes event stands =
 not_start : (u : List ℕ) (n : ℕ) → ¬ Begins START u → Begins (take n u) u → take n u ≢ START
 not_start u n never b e = never (subst (λ t. Begins t u) e b)
 
-pub row_stands : (u : List ℕ) (more : Bool) (k : KeyEvent) (n : ℕ) → ¬ IsOpen u more → HasHead u (row k n)
+-- the row at the start of a paste is that start
+pub start_row : (u : List ℕ) (k : KeyEvent) (n : ℕ) → HasRow u k n → Begins START u → n ≡ 6
+start_row u k n front b =
+    let same : take n u ≡ START = same_text
+    (head_once u (Sequence (take n u) (Row k)) (Sequence START (Row start)) front.1 (start_head u b)) in
+    omega (arith, ap length same, length-take-le n u front.0)
+  where
+    bytes_of : Head → List ℕ
+    bytes_of (Sequence text m) = text
+    bytes_of (Character c) = []
+    bytes_of (Broken byte) = []
+
+    same_text : {text other : List ℕ} {m j : Meaning} → Sequence text m ≡ Sequence other j → text ≡ other
+    same_text e = ap bytes_of e
+
+pub row_stands : (u : List ℕ) (more : Bool) (k : KeyEvent) (n : ℕ) → ¬ IsOpen u more → HasRow u k n
     → ¬ Begins START u
-    → (take n u ≡ ESC → u ≡ ESC) → IsItemAt u more (item_of (Key k) n)
+    → (take n u ≡ ESC → u ≡ ESC) → IsItemAt u more (Key k) n
 row_stands u more k n closed front never alone =
     (front.0, record { closed = closed; item = key (take n u) k front.1 (not_start u n never front.1.begins) alone })
 
 pub report_stands : (u : List ℕ) (more : Bool) (event : MouseEvent) (n : ℕ) → ¬ IsOpen u more
-    → HasHead u (mouse_report event n) → IsItemAt u more (item_of (Mouse event) n)
+    → HasHead u (mouse_report event n) → IsItemAt u more (Mouse event) n
 report_stands u more event n closed front = (front.0, record { closed = closed; item = mouse (take n u) event front.1 })
 
 -- the bytes of a character at the front
@@ -59,7 +70,7 @@ character_bytes u c n (long, is) = (
 )
 
 pub character_stands : (u : List ℕ) (more : Bool) (c n : ℕ) → ¬ IsOpen u more → HasHead u (character c n)
-    → IsItemAt u more (item_of (Key (plain c)) n)
+    → IsItemAt u more (Key (plain c)) n
 character_stands u more c n closed front =
     let bytes = character_bytes u c n front in
     (bytes.0, record { closed = closed; item = subst (λ t. Item u more t (Key (plain c))) bytes.1 (char c front.1) })
@@ -69,7 +80,7 @@ first_byte : (u : List ℕ) (byte : ℕ) → Begins (byte ∷ []) u → (1 ≤ l
 first_byte u byte b = (omega (arith, ap length b.1), ap (take 1) (sym b.1))
 
 pub broken_stands : (u : List ℕ) (more : Bool) → ¬ IsOpen u more → HasHead u broken
-    → IsItemAt u more (item_of (Key (plain replacement)) 1)
+    → IsItemAt u more (Key (plain replacement)) 1
 broken_stands u more closed (byte, is) =
     let first = first_byte u byte is.begins in (
       first.0,
@@ -89,8 +100,8 @@ take_after rest n = let e : 1 + n ≡ suc n = omega arith in rw e refl
 
 pub alt_row_stands : (rest : List ℕ) (more : Bool) (k : KeyEvent) (n : ℕ) → ¬ IsOpen (ESC ++ rest) more
     → IsLongest (ESC ++ rest) ESC (Row escape) → rest ≢ []
-    → ¬ IsOpen rest more → HasHead rest (row k n) → ¬ Begins START rest
-    → IsItemAt (ESC ++ rest) more (item_of (Key (with_alt k)) (1 + n))
+    → ¬ IsOpen rest more → HasRow rest k n → ¬ Begins START rest
+    → IsItemAt (ESC ++ rest) more (Key (with_alt k)) (1 + n)
 alt_row_stands rest more k n closed head some gap front never = (
   omega (arith, front.0),
   record {
@@ -104,7 +115,7 @@ alt_row_stands rest more k n closed head some gap front never = (
 pub alt_character_stands : (rest : List ℕ) (more : Bool) (c n : ℕ) → ¬ IsOpen (ESC ++ rest) more
     → IsLongest (ESC ++ rest) ESC (Row escape) → rest ≢ []
     → ¬ IsOpen rest more → HasHead rest (character c n)
-    → IsItemAt (ESC ++ rest) more (item_of (Key (with_alt (plain c))) (1 + n))
+    → IsItemAt (ESC ++ rest) more (Key (with_alt (plain c))) (1 + n)
 alt_character_stands rest more c n closed head some gap front =
     let bytes = character_bytes rest c n front in (
       omega (arith, bytes.0),
@@ -119,7 +130,7 @@ alt_character_stands rest more c n closed head some gap front =
 pub alt_broken_stands : (rest : List ℕ) (more : Bool) → ¬ IsOpen (ESC ++ rest) more
     → IsLongest (ESC ++ rest) ESC (Row escape) → rest ≢ []
     → ¬ IsOpen rest more → HasHead rest broken
-    → IsItemAt (ESC ++ rest) more (item_of (Key (with_alt (plain replacement))) 2)
+    → IsItemAt (ESC ++ rest) more (Key (with_alt (plain replacement))) 2
 alt_broken_stands rest more closed head some gap (byte, is) =
     let first = first_byte rest byte is.begins in (
       omega (arith, first.0),
@@ -133,7 +144,7 @@ alt_broken_stands rest more closed head some gap (byte, is) =
 
 pub escape_before_report : (rest : List ℕ) (more : Bool) (event : MouseEvent) (n : ℕ) → ¬ IsOpen (ESC ++ rest) more
     → IsLongest (ESC ++ rest) ESC (Row escape) → rest ≢ []
-    → ¬ IsOpen rest more → HasHead rest (mouse_report event n) → IsItemAt (ESC ++ rest) more (item_of (Key escape) 1)
+    → ¬ IsOpen rest more → HasHead rest (mouse_report event n) → IsItemAt (ESC ++ rest) more (Key escape) 1
 escape_before_report rest more event n closed head some gap front = (
   omega arith,
   record {
@@ -154,7 +165,7 @@ start_closed u more (rest, e) opens = ⊎_elim
 
 pub escape_before_start : (rest : List ℕ) (more : Bool) → ¬ IsOpen (ESC ++ rest) more
     → IsLongest (ESC ++ rest) ESC (Row escape) → rest ≢ []
-    → Begins START rest → IsItemAt (ESC ++ rest) more (item_of (Key escape) 1)
+    → Begins START rest → IsItemAt (ESC ++ rest) more (Key escape) 1
 escape_before_start rest more closed head some b = (
   omega arith,
   record {
@@ -183,7 +194,7 @@ joined_rest rest more head some waits bytes event stands =
     unread bytes event (joined at v h j split some2 gap second near r s) = decided v (cc (split)) gap waits
 
 -- a row at the front whose bytes are ESC is the key Escape
-pub escape_row_is : (u : List ℕ) (k : KeyEvent) (n : ℕ) → HasHead u (row k n) → take n u ≡ ESC
+pub escape_row_is : (u : List ℕ) (k : KeyEvent) (n : ℕ) → HasRow u k n → take n u ≡ ESC
     → IsLongest u ESC (Row escape)
 escape_row_is u k n front e =
     let here : IsLongest u ESC (Row k) = subst (λ t. IsLongest u t (Row k)) e front.1 in
@@ -191,7 +202,7 @@ escape_row_is u k n front e =
 
 -- pastes
 pub paste_stands : (u : List ℕ) (more : Bool) (k : ℕ) → Begins START u → IsPasteTo u k
-    → IsItemAt u more (item_of (Paste (utf8_lossy (take (k - 6) (drop 6 u)))) (k + 6))
+    → IsItemAt u more (Paste (utf8_lossy (take (k - 6) (drop 6 u)))) (k + 6)
 paste_stands u more k b is = (
   is.within,
   record {
@@ -214,9 +225,3 @@ paste_rest u more b never bytes event stands =
         never (body ++ END ++ rest) split (body, rest, refl)
     unread bytes event (apart at v h split some gap second far r s) = cc (at)
     unread bytes event (joined at v h j split some gap second near r s) = cc (at)
-
--- so a paste stands there
-pub paste_there : (u : List ℕ) (more : Bool) (k : ℕ) → Begins START u → IsPasteTo u k → HasPaste u more
-paste_there u more k b is =
-    let stands = paste_stands u more k b is in
-    (take (k + 6) u, utf8_lossy (take (k - 6) (drop 6 u)), stands.1)

@@ -1,6 +1,6 @@
 -- Where a search for the end of a paste may go on.
-use Rattle.std.proofs.Common.{◌≡◌, ℕ, ◌+◌, ◌-◌, ◌≤◌, Bool, true, not, List, [], ◌∷◌, ◌++◌, length, take, drop, max, get_or, sym, ap, ◌∙◌, arith, append_assoc, append-nil, length-append, length-take-le, take-append-drop}
-use Rattle.std.specs.Prelude.{Option, Some, None, is_some, IfNone}
+use Rattle.std.proofs.Common.{◌≡◌, ℕ, ◌+◌, ◌-◌, ◌≤◌, Bool, List, [], ◌∷◌, ◌++◌, length, take, drop, max, get_or, sym, ap, ◌∙◌, arith, append_assoc, append-nil, length-append, length-take-le, take-append-drop}
+use Rattle.std.specs.Prelude.{Option, Some, None}
 use Rattle.std.specs.Str.Lossy.{utf8_lossy}
 use Rattle.memchr.specs.Find.{OccursAt, FindsNeedle}
 use Rattle.memchr.proofs.lemmas.MatchLemmas.{OccursAt-split}
@@ -80,9 +80,3 @@ waits_place u more place waits (rest, begins) low s before after e = go (overlap
     go (within t f g) = absurd (paste_ends u rest more waits begins (past_start before t rest (sym begins ∙ f)))
     go (past t longer f g) =
         omega (arith, low, ap length f, length-append u t, length-append before END, length-some t longer)
-
--- nothing was found
-pub nothing_found : {A : Type 0} {P : Type 0} (found : Option A) {b : Bool} → is_some found ≡ not b → b ≡ true
-    → IfNone found P → P
-nothing_found None e is p = p
-nothing_found (Some item) e is p = absurd (cc (e, is))

@@ -1,9 +1,9 @@
 -- Calls of a callback, one after another, and the numbers of their events.
-use Rattle.std.proofs.Common.{◌≡◌, ℕ, Bool, List, [], ◌∷◌, ◌++◌, refl, sym, subst}
+use Rattle.std.proofs.Common.{◌≡◌, ◌∙◌, ℕ, Bool, List, [], ◌∷◌, ◌++◌, refl, sym, subst}
 use Rattle.std.specs.List.{FoldsTo}
 use Rattle.std.specs.Fn.{Mut}
+use denote.Ref.{Bor, MutBor}
 use denote.Param.Members.{Called}
-use Rattle.std.proofs.lemmas.List.{map-append}
 use Rattle.termwiz_keys.specs.declared.types.InputEvent.{InputEvent}
 use Rattle.termwiz_grammar.specs.Grammar.{Steps}
 use Rattle.termwiz_input.specs.Pieces.{NumberedEvent, numbered}
@@ -26,11 +26,6 @@ module _ {P A : Type 0} (R : P → A → P → Type 0) where
   pub FoldsTo-nil : (a : P) (xs : List A) (b : P) → xs ≡ [] → FoldsTo R a xs b → a ≡ b
   FoldsTo-nil a [] b none h = h
   FoldsTo-nil a (x ∷ xs) b none h = absurd (cc (none))
-
--- one more event of a piece
-pub numbered-push : (number : ℕ) (events : List InputEvent) (event : InputEvent)
-    → numbered number (events ++ event ∷ []) ≡ numbered number events ++ (number, event) ∷ []
-numbered-push number events event = map-append (λ e. (number, e)) events (event ∷ [])
 
 -- what may be called on a list may, after its first part, be called on the rest
 module _ {F : Type 0} (g : Mut F (ℕ × (InputEvent × Unit {0})) (Unit {0})) where
@@ -65,30 +60,44 @@ module _ {F : Type 0} (g : Mut F (InputEvent × Unit {0}) (Unit {0})) (more : Bo
   may_give_more U now event V next may step called events rest steps =
       (may (event ∷ events) rest (steps_join (event ∷ []) events U V rest more step steps)).1 tt next called
 
--- a piece's events are given one by one, with its number
-module _ {F : Type 0} (g : Mut F (ℕ × (InputEvent × Unit {0})) (Unit {0})) (number : ℕ) (more : Bool) where
-  abbrev pub WasGivenNumbered : List ℕ → F → List ℕ → F → Type 0
-  WasGivenNumbered T first U now = (events : List InputEvent) × Steps T more events U
-      × WasCalledOnNumbered (λ before n event done after. Called g before (n, (event, done)) tt after) first
-      (numbered number events) now
+-- a callback that passes each event on with a number: it holds references to the callback that gets them, and to the number
+module _ {F : Type 0} (f : Mut F (ℕ × (InputEvent × Unit {0})) (Unit {0}))
+    (g : Mut (MutBor F × Bor ℕ) (InputEvent × Unit {0}) (Unit {0})) where
+  -- it may be called where that callback may
+  abbrev pub MayPassOn : Type 0
+  MayPassOn = (s : MutBor F × Bor ℕ) (event : InputEvent) → f.pre s.0.now (s.1.now, (event, tt)) → g.pre s (event, tt)
 
-  abbrev pub MayBeGivenNumbered : List ℕ → F → Type 0
-  MayBeGivenNumbered U now = (events : List InputEvent) (rest : List ℕ) → Steps U more events rest
-      → MayBeCalledOnNumbered g now (numbered number events)
+  -- a call of it is one of that callback, and changes neither the number nor where the reference leads
+  abbrev pub PassesOn : Type 0
+  PassesOn = (s : MutBor F × Bor ℕ) (event : InputEvent) (t : MutBor F × Bor ℕ) → Called g s (event, tt) tt t
+      → Called f s.0.now (s.1.now, (event, tt)) tt t.0.now × (s.1.now ≡ t.1.now) × (s.0.ghost_name ≡ t.0.ghost_name)
 
-  pub given_one_more_numbered : (T : List ℕ) (first : F) (U : List ℕ) (now : F) (event : InputEvent)
-      (V : List ℕ) (next : F)
-      → WasGivenNumbered T first U now → Steps U more (event ∷ []) V → Called g now (number, (event, tt)) tt next
-      → WasGivenNumbered T first V next
-  given_one_more_numbered T first U now event V next (events, steps, calls) step called = (
-    events ++ event ∷ [],
-    steps_join events (event ∷ []) T U V more steps step,
-    rw (numbered-push number events event)
-        (FoldsTo-push _ first (numbered number events) now (number, event) next calls called),
+  pub may_pass_on : MayPassOn → PassesOn → (s : MutBor F × Bor ℕ) (events : List InputEvent)
+      → MayBeCalledOnNumbered f s.0.now (numbered s.1.now events) → MayBeCalledOn g s events
+  may_pass_on asks calls s [] may = tt
+  may_pass_on asks calls s (event ∷ events) may = (
+    asks s event may.0,
+    λ done t called. let passed = calls s event t called in
+        may_pass_on asks calls t events
+        (subst (λ n. MayBeCalledOnNumbered f t.0.now (numbered n events)) passed.1 (may.1 tt t.0.now passed.0)),
   )
 
-  pub may_give_more_numbered : (U : List ℕ) (now : F) (event : InputEvent) (V : List ℕ) (next : F)
-      → MayBeGivenNumbered U now → Steps U more (event ∷ []) V → Called g now (number, (event, tt)) tt next
-      → MayBeGivenNumbered V next
-  may_give_more_numbered U now event V next may step called events rest steps =
-      (may (event ∷ events) rest (steps_join (event ∷ []) events U V rest more step steps)).1 tt next called
+  pub passed_on : PassesOn → (s : MutBor F × Bor ℕ) (events : List InputEvent) (last : MutBor F × Bor ℕ)
+      → WasCalledOn (λ before event done after. Called g before (event, done) tt after) s events last
+      → WasCalledOnNumbered (λ before n event done after. Called f before (n, (event, done)) tt after) s.0.now
+      (numbered s.1.now events) last.0.now
+      × (s.0.ghost_name ≡ last.0.ghost_name)
+  passed_on calls s [] last is =
+      let Q : MutBor F × Bor ℕ → Type 0 = λ t. (s.0.now ≡ t.0.now) × (s.0.ghost_name ≡ t.0.ghost_name) in
+      subst Q is (refl, refl)
+  passed_on calls s (event ∷ events) last (t, called, later) =
+      let passed = calls s event t called in
+      let rest = passed_on calls t events last later in (
+        (
+          t.0.now,
+          passed.0,
+          subst (λ n. WasCalledOnNumbered (λ before n event done after. Called f before (n, (event, done)) tt after)
+              t.0.now (numbered n events) last.0.now) (sym passed.1) rest.0,
+        ),
+        passed.2 ∙ rest.1,
+      )

@@ -2,7 +2,7 @@ use Rattle.std.proofs.Common.{◌∙◌, ap}
 use Rattle.std.specs.Str.Lossy.{utf8_lossy}
 use Rattle.std.proofs.lemmas.List.{take_rest}
 use Rattle.termwiz_keys.specs.declared.types.InputEvent.TheVariants.{Paste}
-use Rattle.termwiz_input.proofs.lemmas.pastes.EndSearch.{ended, so_far, still_open}
+use Rattle.termwiz_input.proofs.lemmas.pastes.EndSearch.{ended, so_far}
 use Rattle.termwiz_input.proofs.paste.paste_so_far.Goals as goal
 
 pub returns-in-Some-clause-none : goal.returns-in-Some-clause-none

@@ -1,7 +1,4 @@
-use Rattle.std.proofs.Common.{◌≡◌, ◌∙◌, false, [], ◌∷◌, length, sym, ap, subst, arith}
-use Rattle.termwiz_keys.specs.Keys.{with_alt}
-use Rattle.termwiz_keys.specs.declared.types.InputEvent.TheVariants.{Key}
-use Rattle.termwiz_grammar.specs.Grammar.{Means}
+use Rattle.std.proofs.Common.{◌∙◌, sym}
 use Rattle.termwiz_grammar.specs.WaitingKinds.{IsOneOrTwoEscapes}
 use Rattle.termwiz_grammar.proofs.lemmas.waiting.RestKinds.{one_flushed, two_flushed}
 use Rattle.termwiz_input.proofs.input.InputParser.flush_escape.Goals as goal

@@ -4,8 +4,8 @@ use Rattle.termwiz_grammar.specs.Grammar.{Steps}
 use Rattle.termwiz_input.specs.Callbacks.{MayBeCalledOn, WasCalledOn}
 use Rattle.termwiz_input.proofs.input.InputParser.parse.Given as goal
 
-abbrev pub invariant-loop-character : goal.invariant-loop-character
-invariant-loop-character g l = record {
+abbrev pub invariant-loop-event : goal.invariant-loop-event
+invariant-loop-event g l = record {
   given : (events : List InputEvent)
       × Steps (l.fn.self ++ l.fn.bytes) l.fn.maybe_more events l.self
       × WasCalledOn (goal.F-step g) l.fn.callback events l.callback;
@@ -13,5 +13,5 @@ invariant-loop-character g l = record {
       → MayBeCalledOn g.F.FnMut l.callback events;
 }
 
-abbrev pub decreases-loop-character : goal.decreases-loop-character
-decreases-loop-character g l = length l.self
+abbrev pub decreases-loop-event : goal.decreases-loop-event
+decreases-loop-event g l = length l.self

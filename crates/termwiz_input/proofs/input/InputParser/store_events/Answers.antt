@@ -1,38 +1,27 @@
-use Rattle.std.proofs.Common.{◌≡◌, ◌++◌, ◌∷◌, [], ◌∙◌, ap, subst, drop, arith}
-use Rattle.std.specs.Prelude.{IfSome}
-use Rattle.termwiz_input.specs.Matches.{IsItemAt}
+use Rattle.std.proofs.Common.{sym, subst}
+use Rattle.std.specs.Prelude.{IfNone, IfSome}
+use Rattle.termwiz_grammar.specs.Grammar.{IsRest, Steps}
 use Rattle.termwiz_grammar.proofs.lemmas.cuts.FewEvents.{few_events}
-use Rattle.termwiz_input.proofs.lemmas.items.ItemShortens.{item_shortens, steps_more}
+use Rattle.termwiz_input.specs.Fronts.{IsStored}
+use Rattle.termwiz_input.proofs.lemmas.items.FrontItem.{stored_steps}
 use Rattle.termwiz_input.proofs.input.InputParser.store_events.Goals as goal
 
--- the item that was found
-found_item : (c : goal.After-consume) → IsItemAt c.store_mouse_reports.new.self c.args.maybe_more c.in-Some.field-0
-found_item c =
-    let found = subst (λ o. IfSome o (IsItemAt c.store_mouse_reports.new.self c.args.maybe_more)) c.in-Some.is
-    c.in_ok-event.ensures.item in
-    subst (IsItemAt c.store_mouse_reports.new.self c.args.maybe_more) c.in-Some.field-0-is found
+pub loop-len-preserved : goal.loop-len-preserved
+loop-len-preserved c =
+    let is : IsStored c.loop-len.self c.args.maybe_more c.loop-len.events.items c.store_front.new.events.items c.in-Some.len
+    = subst (λ o. IfSome o (λ len. IsStored c.loop-len.self c.args.maybe_more c.loop-len.events.items
+    c.store_front.new.events.items len)) c.in-Some.is c.in_ok-len.ensures.stored in
+    let steps = stored_steps c.args.self.now c.loop-len.self c.args.maybe_more c.loop-len.events.items
+    c.store_front.new.events.items c.in-Some.len is c.loop-len.invariant.steps in
+    let there = subst (λ u. Steps c.args.self.now c.args.maybe_more c.store_front.new.events.items u) (sym c.consume.ensures)
+    steps in
+    record {
+      steps = there;
+      few = few_events c.args.self.now c.consume.new.self c.store_front.new.events.items c.args.maybe_more there;
+    }
 
-left : (c : goal.After-consume) → c.consume.new.self ≡ drop c.in-Some.field-0.len c.store_mouse_reports.new.self
-left c = c.consume.ensures ∙ ap (drop c.in-Some.field-0.len) c.find_item.ensures.same
-
-pub loop-self-smaller : goal.loop-self-smaller
-loop-self-smaller c =
-    rw (left c) (omega (
-      arith,
-      item_shortens c.store_mouse_reports.new.self c.args.maybe_more c.in-Some.field-0 (found_item c),
-      c.store_mouse_reports.ensures.left,
-      c.store_characters.ensures.left,
-    ))
-
-pub loop-self-preserved : goal.loop-self-preserved
-loop-self-preserved c =
-    let characters = c.store_characters.ensures.steps c.args.self.now c.args.maybe_more c.loop-self.invariant.steps in
-    let reports = c.store_mouse_reports.ensures.steps c.args.self.now c.args.maybe_more characters in
-    let steps = steps_more c.store_mouse_reports.new.events.items c.args.self.now c.store_mouse_reports.new.self
-    c.args.maybe_more c.in-Some.field-0 reports (found_item c) in
-    let few = few_events c.args.self.now _ _ c.args.maybe_more steps in
-    rw (
-      c.push_reserved.ensures.items
-          ∙ ap (λ l. l ++ c.in-Some.field-0.event ∷ []) c.in_ok-make_room-in-Some.ensures.items,
-      left c,
-    ) (record { steps = steps; few = few })
+pub note_search-requires : goal.note_search-requires
+note_search-requires c = (
+  c.args.maybe_more,
+  subst (λ o. IfNone o (IsRest c.loop-len.self c.args.maybe_more)) c.in-None.is c.in_ok-len.ensures.none,
+)
