@@ -31,13 +31,25 @@
  * The caller owns all memory that it passes. The library keeps no pointer to it, and reads and writes nothing else of the caller's. What
  * a parser owns it gets from malloc and realloc, and tw_parser_free frees it.
  *
- * The layouts are those of x86-64. The numbers are those of c/numbers.txt, and a number never changes its meaning. */
+ * The library is built for Linux on x86-64, and so are its layouts: for anything else this header doesn't compile. The numbers are those
+ * of c/numbers.txt, and a number never changes its meaning. */
 #ifndef TERMWIZ_INPUT_H
 #define TERMWIZ_INPUT_H
+
+#if !defined(__linux__) || !defined(__x86_64__) || defined(__ILP32__)
+#error "termwiz_input.h: the library is built for Linux on x86-64 with 64-bit pointers alone, and this compiler builds for something else"
+#endif
 
 #include <stdbool.h>
 #include <stddef.h>
 #include <stdint.h>
+
+/* The version of this header, and of the library that lies beside it. The first number is also in the name by which programs ask for the
+ * shared library, libtermwiz_c.so.0. */
+#define TW_VERSION_MAJOR 0
+#define TW_VERSION_MINOR 1
+#define TW_VERSION_PATCH 0
+#define TW_VERSION "0.1.0"
 
 #ifdef __cplusplus
 extern "C" {

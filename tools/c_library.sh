@@ -4,7 +4,10 @@
 #     tools/c_library.sh [--over RLIBS] DIR
 #
 # libtermwiz_c.a and libtermwiz_c.so, each of which needs the C library alone; termwiz_input.h; and termwiz_c.pc for pkg-config, by which
-# the folder may be moved. What it builds is proved first.
+# the folder may be moved. What it builds is proved first. The shared library is libtermwiz_c.so.VERSION, the version being that of the
+# header; libtermwiz_c.so and the name by which programs find it, with the version's first number, lead to it.
+#
+# tools/install.sh puts these files where other programs look for them.
 #
 # With --over it proves the crate termwiz_c alone, over the libraries below it that lie as NAME.rlib in the folder RLIBS, where the gate
 # puts those that `rt ci` proved.
@@ -52,15 +55,12 @@ mkdir "$work/objects"
 cc -nostdlib -r -o "$work/termwiz_c.o" "$work"/objects/*.o
 objcopy --wildcard --keep-global-symbol='tw_*' "$work/termwiz_c.o"
 
-rm -f "$out/libtermwiz_c.a"
+rm -f "$out"/libtermwiz_c.a "$out"/libtermwiz_c.so*
 ar rcs "$out/libtermwiz_c.a" "$work/termwiz_c.o"
-cc -shared -Wl,-soname,libtermwiz_c.so -o "$out/libtermwiz_c.so" "$work/termwiz_c.o"
-cp c/termwiz_input.h "$out/"
-cat > "$out/termwiz_c.pc" <<'END'
-Name: termwiz_c
-Description: Key, mouse and paste events from the bytes that a terminal sends
-Version: 0.23.3
-Cflags: -I${pcfiledir}
-Libs: -L${pcfiledir} -ltermwiz_c
-END
-echo "c_library: wrote libtermwiz_c.a, libtermwiz_c.so, termwiz_input.h and termwiz_c.pc to $out"
+version=$(library_version)
+soname=libtermwiz_c.so.${version%%.*}
+cc -shared -Wl,-soname,"$soname" -Wl,--version-script=c/termwiz_c.map -Wl,-z,now -Wl,-z,relro -Wl,-z,noexecstack \
+    -o "$out/libtermwiz_c.so.$version" "$work/termwiz_c.o"
+for name in "$soname" libtermwiz_c.so; do ln -s "libtermwiz_c.so.$version" "$out/$name"; done
+cp c/termwiz_input.h c/termwiz_c.pc "$out/"
+echo "c_library: wrote libtermwiz_c.a, libtermwiz_c.so.$version, termwiz_input.h and termwiz_c.pc to $out"

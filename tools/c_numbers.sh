@@ -4,13 +4,14 @@
 #     tools/c_numbers.sh [--check]
 #
 # With --check it writes nothing. It compares the header, the Rust crate and the proved crates with the list: their numbers, and the
-# names of keys and flags that they print. It says which lines differ, and ends with status 1 if one does. It needs no compiler.
+# names of keys and flags that they print. It also compares the version in the header with those in termwiz_c.pc and CHANGELOG.md. It
+# says what differs, and ends with status 1 if something does. It needs no compiler.
 set -eu
 export LC_ALL=C
 cd "$(dirname "$0")/.."
 case "${1-}" in
     '' | --check) check=${1-} ;;
-    --help) sed -n '2,7s/^# \{0,1\}//p' "tools/$(basename "$0")"; exit ;;
+    --help) sed -n '2,8s/^# \{0,1\}//p' "tools/$(basename "$0")"; exit ;;
     *) echo "c_numbers: what is '$1'? --help lists the words" >&2; exit 2 ;;
 esac
 list=c/numbers.txt
@@ -61,6 +62,14 @@ names_in() { # group files..
     done
 }
 
+# The version is the header's everywhere. tools/c_library.sh gives it to the shared library.
+library_version=$(sed -n 's/^#define TW_VERSION "\(.*\)"$/\1/p' c/termwiz_input.h)
+same_version() { # where version
+    [ "$2" != "$library_version" ] || return 0
+    echo "$1: has the version '$2', and TW_VERSION of c/termwiz_input.h is '$library_version'" >&2
+    return 1
+}
+
 if [ -n "$check" ]; then
     proved_in key crates/termwiz_c/src/keys.rt || failed=1
     proved_in kind crates/termwiz_c/src/events.rt || failed=1
@@ -74,6 +83,10 @@ if [ -n "$check" ]; then
     names_in modifier crates/termwiz_base/src/modifiers.rt crates/event_text/specs/Names.antt || failed=1
     names_in button crates/termwiz_keys/src/types.rt crates/event_text/specs/Names.antt || failed=1
     names_in kitty crates/termwiz_base/src/kitty.rt || failed=1
+    same_version c/termwiz_input.h "$(sed -nE 's/^#define TW_VERSION_(MAJOR|MINOR|PATCH) //p' c/termwiz_input.h | paste -sd .)" || failed=1
+    same_version c/termwiz_c.pc "$(sed -n 's/^Version: //p' c/termwiz_c.pc)" || failed=1
+    same_version CHANGELOG.md "$(sed -nE 's/^## ([0-9.]+)$/\1/p' CHANGELOG.md | head -n 1)" || failed=1
     [ "$failed" = 1 ] || echo "numbers: $(grep -c '^[a-z]' "$list") names, and the header, the Rust crate and the proved crates agree"
+    [ "$failed" = 1 ] || echo "version: $library_version in the header, termwiz_c.pc and CHANGELOG.md"
 fi
 exit "$failed"

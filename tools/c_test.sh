@@ -6,7 +6,8 @@
 # The example and the tests in c/ are built as C99, the example also as C++, and linked with the archive and with the shared library; the
 # crate in rust/ is built with its tests. The tests also run under valgrind (of those in Rust all but the longest), which has to find no
 # error and no leak. A test in C and one in Rust refuse every request for memory in turn. The live programs run on a pseudo-terminal, as
-# tools/live_test.sh says. The last line is 'N passed, N failed', the status 1 if a case failed.
+# tools/live_test.sh says, and all is installed and removed again, as tools/install_test.sh says. The last line is 'N passed, N failed',
+# the status 1 if a case failed.
 #
 # DIR is a folder that tools/c_library.sh wrote; without --library the library is built. With --built the keyshow that `rt ci` left in
 # crates/keyshow/out is run; otherwise it is built.
@@ -39,7 +40,7 @@ if ! wants cc; then
 fi
 need rt 'the Rattle kit'
 need cc gcc --without-cc
-for tool in ar objcopy nm; do need $tool binutils; done
+for tool in ar objcopy nm readelf; do need $tool binutils; done
 need python3 python3
 ! wants c++ || need c++ g++ --without-c++
 ! wants pkg-config || need pkg-config pkg-config --without-pkg-config
@@ -77,8 +78,7 @@ shared="-L$work/lib -ltermwiz_c -Wl,-rpath,$work/lib"
 # The archive asks for functions of the C library alone, and has the calls of the header and no others.
 check_names() {
     nm -u "$archive" | awk 'NF == 2 && $2 !~ /^(malloc|realloc|free|memcpy|memmove|memset)$/ { print "asks for " $2; bad = 1 } END { exit bad }' &&
-        diff <(nm -g --defined-only "$archive" | awk 'NF == 3 { print $3 }' | sort) \
-            <(sed -nE 's/^[a-z].*[ *](tw_[a-z_]+)\(.*$/\1/p' c/termwiz_input.h | sort)
+        diff <(nm -g --defined-only "$archive" | awk 'NF == 3 { print $3 }' | sort) <(library_calls | sort)
 }
 
 # What the example prints.
@@ -99,7 +99,7 @@ rust_tests() { # runner words..
     env "CARGO_TARGET_${host}_RUNNER=$1" TERMWIZ_C_DIR="$work/lib" CARGO_TARGET_DIR="$work/target" \
         cargo test --quiet --locked --offline --manifest-path rust/Cargo.toml "${@:2}"
 }
-export -f check_names check_example check_listings rust_tests
+export -f library_calls check_names check_example check_listings rust_tests
 memcheck='valgrind --quiet --error-exitcode=9 --leak-check=full'
 export archive work memcheck
 
@@ -130,15 +130,21 @@ if wants valgrind; then
     check 'refusals under valgrind' $memcheck --errors-for-leak-kinds=all "$work/refusals" 1000
 fi
 
+# The streams of the Rust crate's tests are compared with what keyshow prints, and keyshow is installed too.
+if [ "$is_built" = no ] && { wants cargo || wants pkg-config; }; then
+    (cd crates/keyshow && rt run < stdin) > "$work/log" 2>&1 || { cat "$work/log" >&2; exit 1; }
+fi
 if wants cargo; then
-    # The streams of the Rust crate's tests are compared with what keyshow prints.
-    [ "$is_built" = yes ] || (cd crates/keyshow && rt run < stdin) > "$work/log" 2>&1 || { cat "$work/log" >&2; exit 1; }
     check 'listings in Rust' bash -c 'check_listings rust'
     check 'Rust crate' bash -c 'rust_tests env'
     check 'live program in Rust' tools/live_test.sh "$work/target/debug/examples/live"
     if wants valgrind; then
         check 'Rust crate under valgrind' bash -c 'rust_tests "$memcheck --errors-for-leak-kinds=definite" --test parser -- --skip streams --skip recorded'
     fi
+fi
+if wants pkg-config; then
+    check 'install' tools/install_test.sh --library "$work/lib" --keyshow crates/keyshow/out/keyshow
+    grep '^install_test:' "$work/log"
 fi
 [ -z "$left_out" ] || echo "c_test: left out by name: what needs$left_out"
 echo "$passed passed, $failed failed"

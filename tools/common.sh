@@ -55,3 +55,13 @@ stop_if_missing() {
     echo "$script: not run, $missing: install $packages" >&2
     exit 1
 }
+
+# Prints the library's version, as the header has it. It is called at the top of the repository, as the next is.
+library_version() {
+    sed -n 's/^#define TW_VERSION "\(.*\)"$/\1/p' c/termwiz_input.h
+}
+
+# Prints the names of the header's calls.
+library_calls() {
+    sed -nE 's/^[a-z].*[ *](tw_[a-z_]+)\(.*$/\1/p' c/termwiz_input.h
+}

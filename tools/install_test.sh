@@ -1,0 +1,273 @@
+#!/usr/bin/env bash
+# Installs the library for C and keyshow in temporary folders by tools/install.sh, and tests what lies there.
+#
+#     tools/install_test.sh [--library DIR] [--keyshow FILE]
+#
+# Programs are built by pkg-config, with the shared library and with the archive, where the files were installed and after the prefix was
+# moved. The shared library has to export the calls of the header alone, and to be linked as tools/c_library.sh says. The manual page has to
+# have each call as the header declares it. Each file has to be gone once it is uninstalled, and no other.
+#
+# DIR is a folder that tools/c_library.sh wrote, FILE the program; what isn't named is proved and built first. The last line is 'N passed,
+# N failed', the status 1 if a case failed. It needs cc, binutils and pkg-config, and rt to build. The manual pages are checked by mandoc
+# or man too if one of them is there.
+set -u
+export LC_ALL=C
+. "$(dirname "$0")/common.sh"
+library='' keyshow=''
+while [ $# -gt 0 ]; do
+    case $1 in
+        --help) show_help; exit ;;
+        --library) want_next "$@"; library=$(realpath -- "$2") || exit; shift ;;
+        --keyshow) want_next "$@"; keyshow=$(realpath -- "$2") || exit; shift ;;
+        *) refuse_word "$1" ;;
+    esac
+    shift
+done
+{ [ -n "$library" ] && [ -n "$keyshow" ]; } || need rt 'the Rattle kit'
+need cc gcc
+for tool in nm readelf; do need $tool binutils; done
+need pkg-config pkg-config
+stop_if_missing
+cd "$(dirname "$0")/.." || exit
+work=$(mktemp -d)
+trap 'rm -rf "$work"' EXIT
+if [ -z "$library" ]; then
+    progress 'builds the library'
+    library=$work/library
+    tools/c_library.sh "$library" > "$work/log" 2>&1 || { cat "$work/log" >&2; exit 1; }
+fi
+if [ -z "$keyshow" ]; then
+    progress 'builds keyshow'
+    (cd crates/keyshow && rt run < stdin) > "$work/log" 2>&1 || { cat "$work/log" >&2; exit 1; }
+    keyshow=$PWD/crates/keyshow/out/keyshow
+fi
+
+passed=0 failed=0
+# Runs a case. What it prints is shown only if it fails.
+check() { # name words..
+    local name=$1
+    shift
+    if ("$@") > "$work/log" 2>&1; then
+        echo "$name: passed"
+        passed=$((passed + 1))
+    else
+        cat "$work/log"
+        echo "$name: failed"
+        failed=$((failed + 1))
+    fi
+}
+
+install=$PWD/tools/install.sh
+page=docs/man/termwiz_input.3
+version=$(library_version)
+major=${version%%.*}
+built=(--library "$library" --keyshow "$keyshow")
+top=$work/stage/usr/local
+strict='-std=c99 -O1 -Wall -Wextra -pedantic -Werror'
+# Beside the source the header of these sources would be found first.
+cp c/events.c "$work/"
+
+# What lies below a folder: links with what they lead to, files with their modes.
+listed() { # folder
+    find "$1" -type l -printf '%P -> %l\n' -o -type f -printf '%P %m\n' | sort
+}
+
+check_files() {
+    {
+        echo 'bin/keyshow 755'
+        echo 'include/termwiz_input.h 644'
+        echo 'lib/libtermwiz_c.a 644'
+        echo "lib/libtermwiz_c.so -> libtermwiz_c.so.$version"
+        echo "lib/libtermwiz_c.so.$major -> libtermwiz_c.so.$version"
+        echo "lib/libtermwiz_c.so.$version 755"
+        echo 'lib/pkgconfig/termwiz_c.pc 644'
+        echo 'share/man/man1/keyshow.1 644'
+        echo 'share/man/man3/termwiz_input.3 644'
+        library_calls | sed 's|.*|share/man/man3/&.3 -> termwiz_input.3|'
+    } | sort | diff - <(listed "$top")
+}
+
+# What pkg-config answers, about this library alone.
+asked() { # prefix libdir words..
+    PKG_CONFIG_LIBDIR=$1/$2/pkgconfig pkg-config "${@:3}" termwiz_c
+}
+
+check_versions() {
+    [ "$(asked "$top" lib --modversion)" = "$version" ] &&
+        readelf -dW "$top/lib/libtermwiz_c.so" | grep -F "soname: [libtermwiz_c.so.$major]" &&
+        printf '#include <termwiz_input.h>\nTW_VERSION_MAJOR.TW_VERSION_MINOR.TW_VERSION_PATCH TW_VERSION\n' |
+        cc -E -P -I"$top/include" - | tail -n 1 | tr -d ' ' | grep -xF "$version\"$version\""
+}
+
+# Exactly the calls of the header are exported.
+check_exports() {
+    diff <(nm -D --defined-only "$top/lib/libtermwiz_c.so" | awk '{ print $3 }' | sort) <(library_calls | sort)
+}
+
+# Nothing of it is written or resolved while it runs, its stack isn't executed, and it needs the C library alone.
+check_hardening() {
+    readelf -dW "$top/lib/libtermwiz_c.so" > "$work/dynamic" && readelf -lW "$top/lib/libtermwiz_c.so" > "$work/segments" || return
+    cat "$work/dynamic" "$work/segments"
+    grep -q 'FLAGS.*BIND_NOW' "$work/dynamic" && ! grep -qE 'TEXTREL|RPATH|RUNPATH' "$work/dynamic" &&
+        [ "$(grep -o 'Shared library: .*' "$work/dynamic")" = 'Shared library: [libc.so.6]' ] &&
+        grep -q 'GNU_RELRO' "$work/segments" && grep -qE 'GNU_STACK .* RW +0x' "$work/segments" && ! grep -q 'RWE' "$work/segments"
+}
+
+# Whether the program prints the right events.
+runs() {
+    printf '\033[1;5Aq' | LD_LIBRARY_PATH=${1-} "$work/events" | diff - <(printf '%s\n' 'UpArrow ctrl' 'Char U+0071')
+}
+
+needed() {
+    readelf -dW "$work/events" | grep -o 'Shared library: .*'
+}
+
+check_shared() { # prefix libdir
+    local flags
+    flags=$(asked "$1" "$2" --cflags --libs) && cc $strict "$work/events.c" $flags -o "$work/events" &&
+        needed | grep -F "[libtermwiz_c.so.$major]" && runs "$1/$2"
+}
+
+check_static() { # prefix libdir
+    local flags
+    flags=$(asked "$1" "$2" --static --cflags --libs) || return
+    cc $strict "$work/events.c" -Wl,-Bstatic $flags -Wl,-Bdynamic -o "$work/events" || return
+    ! needed | grep termwiz && runs && ! readelf -lW "$work/events" | grep RWE
+}
+
+check_keyshow() {
+    printf '\033[1;5Az\033' | "$top/bin/keyshow" > "$work/lines" && [ -s "$work/lines" ] &&
+        diff "$work/lines" <(sed -n '/| keyshow$/,/^\.Ed/p' "$top/share/man/man1/keyshow.1" | sed '1d;$d')
+}
+
+# For another target the compiler says what the library is built for.
+check_refused() { # option for the compiler
+    ! printf '#include <termwiz_input.h>\n' | cc "$1" -fsyntax-only -I"$top/include" -xc - 2> "$work/words" &&
+        grep -F '#error "termwiz_input.h: the library is built for Linux on x86-64' "$work/words"
+}
+
+# The calls as the header declares them, each on a line.
+declared() {
+    awk '/^[a-z].*[ *]tw_[a-z_]+\(/ { inside = 1; text = "" }
+         inside { sub(/^ +/, " "); text = text $0 }
+         inside && /;$/ { print text; inside = 0 }' c/termwiz_input.h
+}
+
+# The calls as the manual page's synopsis has them.
+documented() {
+    awk '/^\.Sh/ { inside = $2 == "SYNOPSIS" }
+         !inside { next }
+         $1 == ".Ft" { type = $2 }
+         $1 == ".Fn" || $1 == ".Fo" { name = $2; words = "" }
+         $1 == ".Fn" || $1 == ".Fa" {
+             count = split($0, parts, "\"")
+             for (i = 2; i <= count; i += 2) words = words (words == "" ? "" : ", ") parts[i]
+         }
+         $1 == ".Fn" || $1 == ".Fc" { print type " " name "(" words ");" }' $page
+}
+
+# The fields of the structs that are open to the caller.
+fields() { # file
+    sed -nE '/^typedef struct tw_(event|modes) \{$/,/^\}/{s| */\*.*||;p}' "$1"
+}
+
+# The page has each call in its name, its synopsis and its description, and no name that the header hasn't.
+check_calls_page() {
+    diff <(declared) <(documented) && diff <(fields c/termwiz_input.h) <(fields $page) &&
+        diff <(library_calls) <(sed -n '/^\.Sh NAME/,/^\.Nd/s/^\.Nm \(tw_[a-z_]*\).*/\1/p' $page) &&
+        diff <(library_calls | sort) <(sed -n 's/^\.It Fn //p' $page | sort) &&
+        grep -oE '\b(tw|TW)_[A-Za-z_0-9]*[A-Za-z0-9]\b' $page | sort -u | while read -r name; do
+            grep -qw "$name" c/termwiz_input.h || { echo "the header has no $name"; exit 1; }
+        done
+}
+
+# The page's program.
+check_example() {
+    sed -n '/^\.Sh EXAMPLES/,/^\.Ed/p' $page | sed '1,/^\.Bd/d;/^\.Ed/d' > "$work/example.c"
+    cc $strict "$work/example.c" $(asked "$top" lib --cflags --libs) -o "$work/events" &&
+        printf 'a\033[1;5A\033' | LD_LIBRARY_PATH=$top/lib "$work/events" | diff - <(printf '%s\n' Char 'UpArrow with Ctrl' Escape)
+}
+
+check_by_mandoc() {
+    mandoc -T lint -W warning docs/man/*
+}
+
+check_by_man() {
+    local file
+    for file in docs/man/*; do
+        man --warnings -E UTF-8 -l -Tutf8 -Z - < "$file" > "$work/shown" 2> "$work/words" && [ -s "$work/shown" ] || return
+        cat "$work/words"
+        [ ! -s "$work/words" ] || return
+    done
+}
+
+# The whole prefix elsewhere.
+move() {
+    mkdir "$work/elsewhere" && mv "$top" "$work/elsewhere/moved" && [ ! -e "$top" ]
+}
+
+check_moved_away() {
+    "$install" --uninstall --prefix "$work/elsewhere/moved" 2> "$work/words" && [ ! -s "$work/words" ] && [ ! -e "$work/elsewhere/moved" ]
+}
+
+# Folders of the caller's, and a folder of the libraries with another name.
+install_from_caller() {
+    cd "$work" && "$install" "${built[@]}" --prefix own --libdir lib/x86_64-linux-gnu
+}
+
+# Another's file stays with its folders, and what is gone already is named.
+check_uninstall() {
+    cd "$work" && touch own/lib/another && rm own/bin/keyshow || return
+    "$install" --uninstall --prefix own --libdir lib/x86_64-linux-gnu 2> "$work/words" || return
+    diff "$work/words" <(echo "install: there was no $work/own/bin/keyshow") &&
+        diff <(find own | sort) <(printf '%s\n' own own/lib own/lib/another)
+}
+
+check_nothing_to_uninstall() {
+    ! "$install" --uninstall --prefix "$work/none" && [ ! -e "$work/none" ]
+}
+
+# In a folder for packages nothing is left.
+check_uninstall_of_stage() {
+    rm -rf "$work/stage" && mkdir "$work/stage" && "$install" "${built[@]}" --prefix /usr --destdir "$work/stage" &&
+        [ -f "$work/stage/usr/include/termwiz_input.h" ] && "$install" --uninstall --prefix /usr --destdir "$work/stage" &&
+        [ -z "$(find "$work/stage" -mindepth 1)" ]
+}
+
+# A library of other sources isn't installed.
+check_stale() {
+    cp -a "$library" "$work/stale" && echo >> "$work/stale/termwiz_input.h" &&
+        ! "$install" --library "$work/stale" --keyshow "$keyshow" --prefix "$work/none" 2> "$work/words" &&
+        grep -F 'was built from other sources' "$work/words" && [ ! -e "$work/none" ]
+}
+
+check 'install in a folder for packages' "$install" "${built[@]}" --destdir "$work/stage"
+check 'files' check_files
+check 'versions' check_versions
+check 'exports of the shared library' check_exports
+check 'hardening of the shared library' check_hardening
+check 'program with the shared library' check_shared "$top" lib
+check 'program with the archive' check_static "$top" lib
+check 'keyshow, as its manual page shows it' check_keyshow
+for option in -m32 -mx32 -U__linux__; do check "header with $option" check_refused $option; done
+check 'calls in the manual page' check_calls_page
+check 'example of the manual page' check_example
+if command -v mandoc > /dev/null; then
+    check 'manual pages by mandoc' check_by_mandoc
+elif command -v man > /dev/null; then
+    check 'manual pages by man' check_by_man
+else
+    echo "install_test: the form of the manual pages isn't checked: there is neither mandoc nor man"
+fi
+check 'move of the prefix' move
+check 'program with the shared library, moved' check_shared "$work/elsewhere/moved" lib
+check 'program with the archive, moved' check_static "$work/elsewhere/moved" lib
+check 'uninstall, moved' check_moved_away
+check 'install from another folder' install_from_caller
+check 'program with the shared library, there' check_shared "$work/own" lib/x86_64-linux-gnu
+check 'uninstall among other files' check_uninstall
+check 'uninstall of nothing' check_nothing_to_uninstall
+check 'uninstall from a folder for packages' check_uninstall_of_stage
+check 'library of other sources' check_stale
+echo "$passed passed, $failed failed"
+[ "$failed" = 0 ]
