@@ -1,0 +1,303 @@
+/* Calls in any order, with requests for memory refused.
+ *
+ * An input is a program. The low five bits of a byte are a call, so that each has a letter; what follows are its arguments:
+ *
+ *     I n    init                    F n bytes  feed n bytes, 63 at most     N  next, more to come     E    flush the escape
+ *     K      free                    O n byte   feed 16 n times a byte       L  next, no more to come  C    end the paste
+ *     B      reset                   M          move the parser              A  next until none, more  G n  copy n bytes of the paste
+ *     D      drop the paste                                                  H  the same, no more
+ *
+ * The three high bits, with 2 flipped, are the number of the request that is refused: none for the letters above, and the first for small
+ * letters. For init, which makes some hundreds, 4 n is added; it takes a millisecond, so a program has two of them at most.
+ * A program whose first letter is W begins with a parser that such programs share; it has room for all that a program feeds.
+ *
+ * A second parser gets the same calls and is never refused, and the waiting bytes are kept beside them. Each answer has to be the second
+ * parser's, and what the waiting bytes say. A call that is refused changes nothing, and made again it is granted. What needs no memory
+ * asks for none. Before init and after free every call says that there is no parser. At the end no memory is left. */
+#include "fuzz.h"
+#include <string.h>
+
+enum { FED_MAX = 1 << 12, TEXT_MAX = 3 * FED_MAX, ONE_FEED = 63, MANY = 16 };
+enum { MOST_CALLS = 512, MOST_INITS = 2, LETTER = 0x1f, NO_REFUSAL = 2 };
+
+static const tw_parser none = TW_PARSER_NONE;
+
+/* The parser under test lies in a room, and moves to another. */
+static room places[2], given, taken, copied;
+static unsigned place;
+static tw_parser *parser;
+static bool is_made;
+static int inits;
+
+/* The parser that programs share, while none has it; whether this one began with it; how many blocks are no concern of this one. */
+static tw_parser shared = TW_PARSER_NONE;
+static bool is_shared;
+static long other_blocks;
+
+/* The second parser; the text of the last paste; all that was fed, of which the last bytes wait in both parsers. */
+static tw_parser twin = TW_PARSER_NONE;
+static uint8_t text[TEXT_MAX], fed[FED_MAX];
+static size_t text_len, fed_len, waiting_len;
+
+static const uint8_t *waiting(void) { return fed + fed_len - waiting_len; }
+
+/* What the parser shows of itself. */
+static void check_state(void) {
+  refuse_request(1);
+  HOLDS(tw_parser_waiting(parser) == waiting_len);
+  HOLDS(tw_parser_is_paste_open(parser) == begins_paste(waiting(), waiting_len));
+  HOLDS(tw_parser_waiting_kind(parser) == (is_made ? tw_parser_waiting_kind(&twin) : TW_WAITING_NOTHING));
+  HOLDS(tw_parser_paste(parser, room_of(&copied, 0), 0) == text_len && is_untouched(&copied, 0));
+  HOLDS(is_untouched(&places[place], sizeof *parser));
+  HOLDS(requests() == 0);
+  refuse_request(0);
+}
+
+/* The paste's text, as much as there is room for. */
+static void copy_paste(size_t len) {
+  size_t want = len < text_len ? len : text_len;
+  uint8_t *out = room_of(&copied, len);
+  HOLDS(tw_parser_paste(parser, out, len) == text_len);
+  HOLDS(memcmp(out, text, want) == 0 && is_untouched(&copied, want));
+}
+
+/* There is no parser, so nothing waits. */
+static void forget(void) { is_made = false, waiting_len = text_len = 0; }
+
+static void clear_twin(void) {
+  set_owner(TWIN);
+  tw_parser_reset(&twin);
+  tw_parser_drop_paste(&twin);
+  set_owner(TESTED);
+}
+
+static void init(unsigned number) {
+  if (++inits > MOST_INITS) return;
+  refuse_request(number);
+  bool made = tw_parser_init(parser);
+  HOLDS(made == (refusals() == 0));
+  if (!made) check_state();
+  refuse_request(0);
+  HOLDS(made || tw_parser_init(parser));
+  forget();
+  is_made = true;
+  clear_twin();
+}
+
+static void free_parser(void) {
+  tw_parser_free(parser);
+  HOLDS(!parser->live && parser->state == NULL && blocks_of(TESTED) == other_blocks);
+  forget();
+}
+
+static void move(void) {
+  tw_parser old = *parser;
+  memset(parser, 0xee, sizeof *parser);
+  place = !place;
+  parser = (tw_parser *)places[place].at;
+  *parser = old;
+}
+
+static void feed_twin(const uint8_t *bytes, size_t len) {
+  set_owner(TWIN);
+  HOLDS(tw_parser_feed(&twin, bytes, len));
+  set_owner(TESTED);
+  memcpy(fed + fed_len, bytes, len);
+  fed_len += len;
+  waiting_len += len;
+}
+
+static void feed(const uint8_t *bytes, size_t len, unsigned number) {
+  if (len > FED_MAX - fed_len) return;
+  room_with(&given, bytes, len);
+  refuse_request(number);
+  bool is_fed = tw_parser_feed(parser, given.at, len);
+  HOLDS(is_fed == (is_made && refusals() == 0));
+  HOLDS((is_made && len > 0) || requests() == 0);
+  note(0x40000, requests());
+  if (!is_made) return;
+  if (!is_fed) check_state();
+  refuse_request(0);
+  HOLDS(is_fed || tw_parser_feed(parser, given.at, len));
+  HOLDS(memcmp(given.at, bytes, len) == 0 && is_untouched(&given, len));
+  feed_twin(given.at, len);
+}
+
+/* The calls that take an event. */
+enum take { NEXT_MORE, NEXT_LAST, FLUSH_ESCAPE, END_PASTE };
+
+static uint32_t ask(enum take what, tw_parser *of, tw_event *event) {
+  if (what == FLUSH_ESCAPE) return tw_parser_flush_escape(of, event);
+  if (what == END_PASTE) return tw_parser_end_paste(of, event);
+  return tw_parser_next(of, what == NEXT_MORE, event);
+}
+
+static uint32_t ask_twin(enum take what, tw_event *event) {
+  set_owner(TWIN);
+  refuse_request(0);
+  uint32_t answer = ask(what, &twin, event);
+  if (answer == TW_EVENT && event->kind == TW_PASTE) {
+    text_len = tw_parser_paste(&twin, text, sizeof text);
+    HOLDS(text_len == event->paste_len && text_len <= sizeof text);
+  }
+  set_owner(TESTED);
+  return answer;
+}
+
+/* What the waiting bytes say of an answer, before any of them is consumed. */
+static void check_answer(enum take what, bool is_event, const tw_event *event) {
+  bool is_open = is_open_paste(waiting(), waiting_len);
+  if (what == FLUSH_ESCAPE) {
+    HOLDS(is_event == is_escape(waiting(), waiting_len));
+    HOLDS(!is_event || (event->kind == TW_KEY && event->key == TW_KEY_ESCAPE));
+    HOLDS(!is_event || event->modifiers == (waiting_len == 2 ? TW_MOD_ALT : TW_MOD_NONE));
+  } else if (what == END_PASTE) {
+    HOLDS(is_event == is_open);
+    HOLDS(!is_event || event->kind == TW_PASTE);
+  } else if (what == NEXT_LAST) {
+    HOLDS(is_event == (waiting_len > 0 && !is_open));
+  } else if (!is_event) {
+    check_rest(parser, waiting(), waiting_len);
+  }
+}
+
+/* Some of the waiting bytes are gone: all of them, unless the event was the next of several. */
+static void consume(enum take what) {
+  size_t left = tw_parser_waiting(parser);
+  HOLDS(left < waiting_len);
+  HOLDS(left == 0 || what == NEXT_MORE || what == NEXT_LAST);
+  waiting_len = left;
+}
+
+static uint32_t take(enum take what, unsigned number) {
+  tw_event *event = room_of(&taken, sizeof *event), wanted;
+  refuse_request(number);
+  uint32_t answer = ask(what, parser, event);
+  unsigned asked = requests();
+  bool is_refused = refusals() > 0;
+  HOLDS(answer == TW_EVENT || is_untouched(&taken, 0));
+  HOLDS((answer == TW_NO_PARSER) == !is_made && (answer == TW_NO_MEMORY) == is_refused);
+  if (!is_made) return answer;
+  if (is_refused) {
+    check_state();
+    copy_paste(text_len);
+    answer = ask(what, parser, event);
+  }
+  HOLDS(is_untouched(&taken, answer == TW_EVENT ? sizeof *event : 0));
+  HOLDS(answer == ask_twin(what, &wanted));
+  HOLDS(answer == TW_EVENT || answer == TW_NONE);
+  HOLDS(asked == 0 || (answer == TW_EVENT && event->kind == TW_PASTE));
+  check_answer(what, answer == TW_EVENT, event);
+  if (answer != TW_EVENT) return answer;
+  check_event(event);
+  HOLDS(same_event(event, &wanted));
+  if (event->kind == TW_PASTE) copy_paste(text_len);
+  consume(what);
+  return answer;
+}
+
+static void take_all(enum take what, unsigned number) {
+  while (take(what, number) == TW_EVENT) {}
+}
+
+static void reset(void) {
+  HOLDS(tw_parser_reset(parser) == waiting_len);
+  if (is_made) HOLDS(tw_parser_reset(&twin) == waiting_len);
+  waiting_len = 0;
+}
+
+static void drop_paste(void) {
+  tw_parser_drop_paste(parser);
+  set_owner(TWIN);
+  tw_parser_drop_paste(&twin);
+  set_owner(TESTED);
+  text_len = 0;
+}
+
+static void feed_some(input *it, unsigned number) {
+  size_t len;
+  const uint8_t *bytes = take_bytes(it, take_byte(it) & ONE_FEED, &len);
+  feed(bytes, len, number);
+}
+
+static void feed_many(input *it, unsigned number) {
+  static uint8_t bytes[255 * MANY];
+  size_t len = MANY * (size_t)take_byte(it);
+  memset(bytes, take_byte(it), len);
+  feed(bytes, len, number);
+}
+
+static void call(input *it) {
+  uint8_t byte = take_byte(it);
+  unsigned number = (byte >> 5) ^ NO_REFUSAL;
+  switch ((byte & LETTER) | 0x40) {
+    case 'I': init(number ? number + 4 * take_byte(it) : 0); break;
+    case 'K': free_parser(); break;
+    case 'B': reset(); break;
+    case 'D': drop_paste(); break;
+    case 'F': feed_some(it, number); break;
+    case 'O': feed_many(it, number); break;
+    case 'M': move(); break;
+    case 'N': take(NEXT_MORE, number); break;
+    case 'L': take(NEXT_LAST, number); break;
+    case 'A': take_all(NEXT_MORE, number); break;
+    case 'H': take_all(NEXT_LAST, number); break;
+    case 'E': take(FLUSH_ESCAPE, number); break;
+    case 'C': take(END_PASTE, number); break;
+    case 'G': copy_paste(take_byte(it)); break;
+    default: return; /* (W too) */
+  }
+  check_state();
+}
+
+static void begin_twin(void) {
+  set_owner(TWIN);
+  if (!twin.live) HOLDS(tw_parser_init(&twin));
+  clear_twin();
+}
+
+/* Takes the parser that programs share, as it always is: empty, and with room for all that a program feeds. */
+static void take_shared(void) {
+  static const uint8_t bytes[FED_MAX];
+  if (!shared.live) HOLDS(tw_parser_init(&shared) && tw_parser_feed(&shared, bytes, sizeof bytes));
+  *parser = shared;
+  shared = none;
+  tw_parser_reset(parser);
+  tw_parser_drop_paste(parser);
+  is_made = true;
+}
+
+/* Puts it back, if the program still has it. */
+static void give_shared(void) {
+  if (!is_made || inits > 0) return;
+  shared = *parser;
+  *parser = none;
+  other_blocks = blocks_of(TESTED);
+}
+
+static void begin(bool wants_shared) {
+  refuse_request(0);
+  begin_twin();
+  places[0].is_at_end = given.is_at_end = taken.is_at_end = copied.is_at_end = false;
+  places[1].is_at_end = true;
+  room_with(&places[1], &none, sizeof none);
+  parser = room_with(&places[0], &none, sizeof none);
+  place = 0;
+  inits = 0;
+  fed_len = 0;
+  forget();
+  is_shared = wants_shared;
+  other_blocks = is_shared ? 0 : blocks_of(TESTED);
+  if (is_shared) take_shared();
+}
+
+int LLVMFuzzerTestOneInput(const uint8_t *bytes, size_t len) {
+  input it = {bytes, len};
+  begin(len > 0 && bytes[0] == 'W');
+  for (int calls = 0; it.left > 0 && calls < MOST_CALLS; calls++) call(&it);
+  if (is_shared) give_shared();
+  free_parser();
+  free_parser();
+  HOLDS(is_untouched(&places[place], sizeof *parser));
+  return 0;
+}

@@ -1,0 +1,238 @@
+/* What the harnesses share. */
+#define _GNU_SOURCE
+#include "fuzz.h"
+#include <sanitizer/asan_interface.h>
+#include <stdio.h>
+#include <stdlib.h>
+#include <string.h>
+#include <sys/mman.h>
+
+void fail(const char *what, const char *file, int line) {
+  fprintf(stderr, "%s:%d: not so: %s\n", file, line, what);
+  abort();
+}
+
+uint8_t take_byte(input *it) {
+  if (it->left == 0) return 0;
+  it->left--;
+  return *it->at++;
+}
+
+uint64_t take_number(input *it, unsigned bytes) {
+  uint64_t number = 0;
+  for (unsigned i = 0; i < bytes; i++) number |= (uint64_t)take_byte(it) << 8 * i;
+  return number;
+}
+
+const uint8_t *take_bytes(input *it, size_t want, size_t *got) {
+  const uint8_t *bytes = it->at;
+  *got = want < it->left ? want : it->left;
+  it->at += *got;
+  it->left -= *got;
+  return bytes;
+}
+
+/* Rooms. */
+
+enum { PAGE = 4096, MARK = 0xa5, MARGIN = 64 };
+
+/* Pages for a room: one on each side can't be touched. */
+static uint8_t *make_pages(void) {
+  uint8_t *all = mmap(NULL, ROOM_MAX + 2 * PAGE, PROT_NONE, MAP_PRIVATE | MAP_ANONYMOUS, -1, 0);
+  HOLDS(all != MAP_FAILED);
+  HOLDS(mprotect(all + PAGE, ROOM_MAX, PROT_READ | PROT_WRITE) == 0);
+  return all + PAGE;
+}
+
+/* The marks beside a room, on the side where there is no page that can't be touched. */
+static uint8_t *margin_of(const room *it) { return it->is_at_end ? it->at - MARGIN : it->at + it->len; }
+
+void *room_of(room *it, size_t len) {
+  HOLDS(len <= ROOM_MAX - MARGIN);
+  if (!it->pages) it->pages = make_pages();
+  it->is_at_end = !it->is_at_end;
+  it->at = it->is_at_end ? it->pages + ROOM_MAX - len : it->pages;
+  it->len = len;
+  memset(it->at, MARK, len);
+  memset(margin_of(it), MARK, MARGIN);
+  return it->at;
+}
+
+void *room_with(room *it, const void *bytes, size_t len) {
+  room_of(it, len);
+  return memcpy(it->at, bytes, len);
+}
+
+static bool are_marks(const uint8_t *bytes, size_t len) {
+  static uint8_t marks[ROOM_MAX];
+  if (marks[0] != MARK) memset(marks, MARK, sizeof marks);
+  return memcmp(bytes, marks, len) == 0;
+}
+
+bool is_untouched(const room *it, size_t from) {
+  return are_marks(margin_of(it), MARGIN) && (from >= it->len || are_marks(it->at + from, it->len - from));
+}
+
+/* Memory. */
+
+enum { BLOCK_MARK = 0x600db10c, TAIL = 16, FREED = 0xdd };
+
+/* What lies before each block. As many marks as TAIL lie after it. */
+typedef struct head {
+  size_t size;
+  uint32_t owner;
+  uint32_t mark;
+} head;
+
+static enum owner owner;
+static long blocks[OWNERS];
+static unsigned refused_number, asked, refused;
+
+void set_owner(enum owner next) { owner = next; }
+
+long blocks_of(enum owner whose) { return blocks[whose]; }
+
+void refuse_request(unsigned number) {
+  refused_number = number;
+  asked = refused = 0;
+}
+
+unsigned requests(void) { return asked; }
+
+unsigned refusals(void) { return refused; }
+
+static bool refuses(void) {
+  asked++;
+  if (asked != refused_number) return false;
+  refused++;
+  return true;
+}
+
+static void *make_block(size_t size) {
+  head *at = malloc(sizeof *at + size + TAIL);
+  HOLDS(at);
+  *at = (head){size, owner, BLOCK_MARK};
+  uint8_t *block = (uint8_t *)(at + 1);
+  memset(block + size, MARK, TAIL);
+  ASAN_POISON_MEMORY_REGION(at, sizeof *at);
+  ASAN_POISON_MEMORY_REGION(block + size, TAIL);
+  blocks[owner]++;
+  return block;
+}
+
+/* The head of a block whose marks are as they were. */
+static head *head_of(void *block) {
+  head *at = (head *)block - 1;
+  ASAN_UNPOISON_MEMORY_REGION(at, sizeof *at);
+  HOLDS(at->mark == BLOCK_MARK && at->owner == owner);
+  ASAN_UNPOISON_MEMORY_REGION((uint8_t *)block + at->size, TAIL);
+  HOLDS(are_marks((uint8_t *)block + at->size, TAIL));
+  return at;
+}
+
+static void free_block(void *block) {
+  head *at = head_of(block);
+  blocks[owner]--;
+  memset(at, FREED, sizeof *at + at->size);
+  free(at);
+}
+
+void *fuzz_malloc(size_t size) { return refuses() ? NULL : make_block(size); }
+
+void *fuzz_realloc(void *block, size_t size) {
+  if (refuses()) return NULL;
+  void *made = make_block(size);
+  if (block) {
+    size_t old = head_of(block)->size;
+    memcpy(made, block, old < size ? old : size);
+    free_block(block);
+  }
+  return made;
+}
+
+void fuzz_free(void *block) {
+  if (block) free_block(block);
+}
+
+/* What a run has seen. */
+
+__attribute__((section("__libfuzzer_extra_counters"))) static uint8_t seen[1 << 14];
+
+void note(unsigned what, unsigned how) {
+  uint8_t *counter = &seen[(what * 2654435761u ^ how * 40503u) % sizeof seen];
+  if (*counter < 255) ++*counter;
+}
+
+/* Events. */
+
+bool same_event(const tw_event *one, const tw_event *other) {
+  return one->kind == other->kind && one->buttons == other->buttons && one->modifiers == other->modifiers && one->key == other->key
+         && one->x == other->x && one->y == other->y && one->detail == other->detail && one->paste_len == other->paste_len;
+}
+
+static void check_key(const tw_event *event) {
+  uint16_t known = TW_MOD_SHIFT | TW_MOD_ALT | TW_MOD_CTRL;
+  HOLDS((event->modifiers & ~known) == 0);
+  HOLDS(event->key >= TW_KEY_CHAR && event->key <= TW_KEY_INTERNAL_PASTE_END && event->key != TW_KEY_INTERNAL_PASTE_START);
+  if (event->key == TW_KEY_CHAR) {
+    HOLDS(event->detail <= 0x10ffff && (event->detail < 0xd800 || event->detail > 0xdfff));
+  } else if (event->key == TW_KEY_FUNCTION) {
+    HOLDS(event->detail >= 1 && event->detail <= 24);
+  } else {
+    HOLDS(event->detail == 0);
+  }
+  HOLDS(event->buttons == 0 && event->x == 0 && event->y == 0 && event->paste_len == 0);
+}
+
+static void check_mouse(const tw_event *event) {
+  HOLDS((event->modifiers & ~(TW_MOD_SHIFT | TW_MOD_ALT | TW_MOD_CTRL)) == 0);
+  HOLDS((event->buttons & ~(2 * TW_BUTTON_WHEEL_POSITIVE - TW_BUTTON_LEFT)) == 0);
+  HOLDS(event->key == 0 && event->detail == 0 && event->paste_len == 0);
+}
+
+void check_event(const tw_event *event) {
+  HOLDS(event->kind == TW_KEY || event->kind == TW_MOUSE || event->kind == TW_PASTE);
+  if (event->kind == TW_KEY) {
+    check_key(event);
+    note(event->key << 8 | (event->detail & 0x7f), event->modifiers);
+  } else if (event->kind == TW_MOUSE) {
+    check_mouse(event);
+    note(0x10000u | event->buttons, event->modifiers);
+  } else {
+    HOLDS(event->buttons == 0 && event->modifiers == 0 && event->key == 0 && event->detail == 0 && event->x == 0 && event->y == 0);
+    note(0x20000u, event->paste_len < 64 ? (unsigned)event->paste_len : 64);
+  }
+}
+
+/* What waits. */
+
+static const char start[] = "\033[200~", end[] = "\033[201~";
+enum { BRACKET = sizeof start - 1, ESC = 0x1b, MOST_WAITING = 21 };
+
+bool begins_paste(const uint8_t *waiting, size_t len) { return len >= BRACKET && memcmp(waiting, start, BRACKET) == 0; }
+
+bool is_open_paste(const uint8_t *waiting, size_t len) {
+  return begins_paste(waiting, len) && !memmem(waiting + BRACKET, len - BRACKET, end, BRACKET);
+}
+
+bool is_escape(const uint8_t *waiting, size_t len) {
+  return (len == 1 && waiting[0] == ESC) || (len == 2 && waiting[0] == ESC && waiting[1] == ESC);
+}
+
+/* The kind of a rest, by its first bytes. */
+static uint32_t kind_of_rest(const uint8_t *waiting, size_t len) {
+  if (len == 0) return TW_WAITING_NOTHING;
+  if (is_escape(waiting, len)) return TW_WAITING_ESCAPE;
+  if (begins_paste(waiting, len)) return TW_WAITING_PASTE;
+  if (waiting[0] != ESC || waiting[1] >= 0x80) return TW_WAITING_CHARACTER;
+  return TW_WAITING_SEQUENCE;
+}
+
+void check_rest(tw_parser *parser, const uint8_t *waiting, size_t len) {
+  bool is_open = is_open_paste(waiting, len);
+  HOLDS(tw_parser_waiting(parser) == len);
+  HOLDS(is_open || len <= MOST_WAITING);
+  HOLDS(tw_parser_is_paste_open(parser) == is_open);
+  HOLDS(tw_parser_waiting_kind(parser) == kind_of_rest(waiting, len));
+  note(0x30000u | kind_of_rest(waiting, len), len < 64 ? (unsigned)len : 64);
+}

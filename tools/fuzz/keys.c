@@ -1,0 +1,157 @@
+/* Texts and names of keys, into rooms of every size.
+ *
+ * An input is the arguments of one call of tw_encode: the key (2 bytes), the detail (4), the modifiers (2), flags of bool (1), the
+ * encoding (1), kitty's flags (1), the level of modifyOtherKeys (8), and which request for memory is refused (1).
+ *
+ * The answer has to be the one that the header promises for these numbers. A room that is too short gets as much of the text as it has
+ * room for, and the rest of a longer one stays as it was. What isn't read makes no difference. A refused call writes nothing, and made
+ * again it is granted; no memory is left. A character without modifiers is read back. The name of the same key goes into rooms of every
+ * size too. */
+#include "fuzz.h"
+#include <string.h>
+
+enum { TEXT_MAX = 64, NAME_MAX = 21, KEYS = TW_KEY_INTERNAL_PASTE_END };
+enum { ALL_MODIFIERS = 2 * TW_MOD_RIGHT_SHIFT - TW_MOD_SHIFT, ALL_KITTY = 2 * TW_KITTY_REPORT_ASSOCIATED_TEXT - 1, FUNCTIONS = 24 };
+
+typedef struct press {
+  uint16_t key, modifiers;
+  uint32_t detail;
+  bool is_down;
+  tw_modes modes;
+} press;
+
+/* The answer of one call, with as much of the text as there was room for. */
+typedef struct answer {
+  uint32_t encoded;
+  size_t len;
+  uint8_t text[TEXT_MAX];
+} answer;
+
+static room out, out_len, modes;
+
+static press take_press(input *it) {
+  press is = {.key = (uint16_t)take_number(it, 2)};
+  is.detail = (uint32_t)take_number(it, 4);
+  is.modifiers = (uint16_t)take_number(it, 2);
+  uint8_t flags = take_byte(it);
+  is.is_down = !(flags & 1);
+  is.modes.application_cursor_keys = flags & 2;
+  is.modes.newline_mode = flags & 4;
+  is.modes.has_modify_other_keys = flags & 8;
+  is.modes.encoding = take_byte(it);
+  is.modes.kitty_flags = take_byte(it);
+  is.modes.modify_other_keys = (int64_t)take_number(it, 8);
+  return is;
+}
+
+/* Makes the call with a room of `room` bytes, and checks what it wrote. */
+static answer encode(const press *is, size_t room) {
+  answer got = {.len = 0};
+  room_of(&out, room);
+  room_of(&out_len, sizeof(size_t));
+  room_with(&modes, &is->modes, sizeof is->modes);
+  got.encoded = tw_encode(is->key, is->detail, is->modifiers, is->is_down, (tw_modes *)modes.at, out.at, room, (size_t *)out_len.at);
+  memcpy(&got.len, out_len.at, sizeof got.len);
+  HOLDS(memcmp(modes.at, &is->modes, sizeof is->modes) == 0 && is_untouched(&modes, sizeof is->modes));
+  HOLDS(is_untouched(&out_len, sizeof(size_t)));
+  HOLDS(got.len <= TEXT_MAX && (got.encoded == TW_TEXT || got.len == 0));
+  size_t written = got.len < room ? got.len : room;
+  HOLDS(is_untouched(&out, written));
+  memcpy(got.text, out.at, written);
+  return got;
+}
+
+static bool same_answer(const answer *one, const answer *other, size_t room) {
+  size_t len = one->len < room ? one->len : room;
+  return one->encoded == other->encoded && one->len == other->len && memcmp(one->text, other->text, len) == 0;
+}
+
+static bool is_scalar(uint32_t code) { return code <= 0x10ffff && (code < 0xd800 || code > 0xdfff); }
+
+static bool is_bad(const press *is) {
+  if (is->key == 0 || is->key > KEYS || is->modifiers & ~ALL_MODIFIERS || is->modes.encoding > TW_KITTY) return true;
+  if (is->key == TW_KEY_CHAR && !is_scalar(is->detail)) return true;
+  if (is->key == TW_KEY_FUNCTION && is->detail > 255) return true;
+  return is->modes.encoding == TW_KITTY && is->modes.kitty_flags & ~ALL_KITTY;
+}
+
+/* What the header promises for these numbers. */
+static uint32_t promised(const press *is) {
+  if (is_bad(is)) return TW_BAD_NUMBER;
+  bool has_no_text = is->key == TW_KEY_FUNCTION && is->is_down && (is->detail == 0 || is->detail > FUNCTIONS);
+  return has_no_text ? TW_REFUSED_KEY : TW_TEXT;
+}
+
+/* Numbers that the call doesn't read for this press. */
+static press with_others_unread(press is) {
+  if (is.key != TW_KEY_CHAR && is.key != TW_KEY_FUNCTION) is.detail = ~is.detail;
+  if (!is.modes.has_modify_other_keys) is.modes.modify_other_keys ^= 2;
+  if (is.modes.encoding != TW_KITTY) is.modes.kitty_flags = (uint8_t)~is.modes.kitty_flags;
+  return is;
+}
+
+static void check_refusal(const press *is, const answer *whole, unsigned number) {
+  refuse_request(number);
+  answer got = encode(is, TEXT_MAX);
+  unsigned asked = requests();
+  bool is_refused = refusals() > 0;
+  refuse_request(0);
+  HOLDS((got.encoded == TW_REFUSED_MEMORY) == is_refused);
+  HOLDS(is->is_down || asked == 0);
+  if (is_refused) got = encode(is, TEXT_MAX);
+  HOLDS(same_answer(&got, whole, TEXT_MAX));
+}
+
+/* A character that is pressed without modifiers is its text, and is read back. */
+static void check_character(const press *is, const answer *whole) {
+  static tw_parser parser = TW_PARSER_NONE;
+  tw_event event;
+  set_owner(TWIN);
+  if (!parser.live) HOLDS(tw_parser_init(&parser));
+  HOLDS(tw_parser_feed(&parser, whole->text, whole->len));
+  HOLDS(tw_parser_next(&parser, false, &event) == TW_EVENT && tw_parser_waiting(&parser) == 0);
+  HOLDS(event.kind == TW_KEY && event.key == TW_KEY_CHAR && event.detail == is->detail && event.modifiers == TW_MOD_NONE);
+  set_owner(TESTED);
+}
+
+static void check_encoding(const press *is, unsigned number) {
+  press other = with_others_unread(*is);
+  answer whole = encode(is, TEXT_MAX), others = encode(&other, TEXT_MAX);
+  HOLDS(whole.encoded == promised(is));
+  HOLDS(is->is_down || whole.len == 0);
+  HOLDS(same_answer(&whole, &others, TEXT_MAX));
+  for (size_t room = 0; room <= whole.len + 2; room++) {
+    answer part = encode(is, room);
+    HOLDS(same_answer(&part, &whole, room));
+  }
+  check_refusal(is, &whole, number);
+  bool is_plain = is->key == TW_KEY_CHAR && is->modifiers == TW_MOD_NONE && is->detail >= ' ' && is->detail != 0x7f;
+  if (whole.encoded == TW_TEXT && is->is_down && is_plain) check_character(is, &whole);
+  unsigned text_modifiers = is->modifiers & (TW_MOD_SHIFT | TW_MOD_ALT | TW_MOD_CTRL);
+  note(0x50000u | (is->key & 0x7fu) << 8 | text_modifiers << 3 | (is->modes.encoding & 7u), is->modes.has_modify_other_keys);
+  note(0x60000u | whole.encoded, (unsigned)whole.len);
+}
+
+static void check_name(uint16_t key) {
+  uint8_t name[NAME_MAX];
+  size_t len = tw_key_name(key, room_of(&out, NAME_MAX), NAME_MAX);
+  HOLDS((len > 0) == (key >= 1 && key <= KEYS) && len <= NAME_MAX && is_untouched(&out, len));
+  memcpy(name, out.at, len);
+  for (size_t i = 0; i < len; i++) HOLDS(name[i] >= '0' && name[i] <= 'z');
+  for (size_t room = 0; room <= len + 2; room++) {
+    size_t written = room < len ? room : len;
+    HOLDS(tw_key_name(key, room_of(&out, room), room) == len);
+    HOLDS(memcmp(out.at, name, written) == 0 && is_untouched(&out, written));
+  }
+}
+
+int LLVMFuzzerTestOneInput(const uint8_t *bytes, size_t len) {
+  input it = {bytes, len};
+  press is = take_press(&it);
+  refuse_request(0);
+  out.is_at_end = out_len.is_at_end = modes.is_at_end = false;
+  check_encoding(&is, 1 + take_byte(&it) % 8u);
+  check_name(is.key);
+  HOLDS(blocks_of(TESTED) == 0);
+  return 0;
+}
