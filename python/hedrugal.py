@@ -1,0 +1,736 @@
+r"""Key, mouse and paste events from the bytes that a terminal sends, and the bytes that it sends for a key.
+
+    >>> with InputParser() as parser:
+    ...     parser.parse(b"q\x1b[1;5A")
+    [KeyEvent(key='q', modifiers=Modifiers.NONE), KeyEvent(key=KeyCode.UpArrow, modifiers=Modifiers.CTRL)]
+    >>> encode(KeyCode.UpArrow, Modifiers.CTRL)
+    b'\x1b[1;5A'
+
+The module calls the shared library libtermwiz_c.so by ctypes. The environment variable HEDRUGAL_LIBRARY names its file; otherwise it is
+looked for beside this module, and then where the system has its libraries. If none is found, the import raises ImportError.
+
+The parser does no input of its own. The caller reads bytes from a terminal, and passes them on. However the bytes are cut into calls, the
+events are the same. Modifiers, KeyCode and so on have the names of the Rust crate termwiz, and the numbers of termwiz_input.h."""
+from __future__ import annotations
+
+import ctypes
+import ctypes.util
+import enum
+import functools
+import os
+import platform
+import struct
+import sys
+import weakref
+from dataclasses import dataclass
+from typing import Any, Iterator, List, NoReturn, Optional, Tuple, Union, cast
+
+__all__ = [
+    "EncodeError",
+    "Event",
+    "Function",
+    "InputParser",
+    "Key",
+    "KeyCode",
+    "KeyCodeEncodeModes",
+    "KeyEvent",
+    "KeyboardEncoding",
+    "KittyKeyboardFlags",
+    "Modifiers",
+    "MouseButtons",
+    "MouseEvent",
+    "ParseError",
+    "Paste",
+    "Waiting",
+    "encode",
+]
+
+
+class _Named(enum.Enum):
+    """An enum whose members are printed by name."""
+
+    def __repr__(self) -> str:
+        return f"{type(self).__name__}.{self.name}"
+
+
+class _Flags(enum.IntFlag):
+    """A set of flags, printed by their names."""
+
+    def __repr__(self) -> str:
+        names = [str(flag.name) for flag in type(self) if flag.value and flag.value & self.value]
+        return f"{type(self).__name__}.{'|'.join(names) or 'NONE'}"
+
+    __str__ = __repr__
+
+
+class Modifiers(_Flags):
+    """A set of modifier keys."""
+
+    NONE = 0  # No modifier.
+    SHIFT = 2  # Shift.
+    ALT = 4  # Alt.
+    CTRL = 8  # Ctrl.
+    SUPER = 16  # Super: the key with the Windows logo, or Command.
+    LEFT_ALT = 32  # The left Alt key.
+    RIGHT_ALT = 64  # The right Alt key.
+    LEADER = 128  # A leader key, for programs that define one.
+    LEFT_CTRL = 256  # The left Ctrl key.
+    RIGHT_CTRL = 512  # The right Ctrl key.
+    LEFT_SHIFT = 1024  # The left Shift key.
+    RIGHT_SHIFT = 2048  # The right Shift key.
+
+
+class MouseButtons(_Flags):
+    """A set of buttons and wheels of the mouse."""
+
+    NONE = 0  # No button and no wheel.
+    LEFT = 2  # The left button.
+    RIGHT = 4  # The right button.
+    MIDDLE = 8  # The middle button.
+    VERT_WHEEL = 16  # The wheel that scrolls up and down. It was turned up if WHEEL_POSITIVE is set too, and down if not.
+    HORZ_WHEEL = 32  # The wheel that scrolls to the sides. It was turned left if WHEEL_POSITIVE is set too, and right if not.
+    WHEEL_POSITIVE = 64  # Set with a wheel that was turned up or left.
+
+
+class KittyKeyboardFlags(_Flags):
+    """A set of flags of kitty's keyboard protocol."""
+
+    NONE = 0  # Nothing is asked for.
+    DISAMBIGUATE_ESCAPE_CODES = 1  # Keys whose plain text is ambiguous, as that of Escape, are reported as escape codes.
+    REPORT_EVENT_TYPES = 2  # Repeats and releases of a key are reported, and not presses alone.
+    REPORT_ALTERNATE_KEYS = 4  # A key is reported with its shifted code and with its code on the standard layout.
+    REPORT_ALL_KEYS_AS_ESCAPE_CODES = 8  # Keys that make text are reported as escape codes too.
+    REPORT_ASSOCIATED_TEXT = 16  # A key that makes text is reported with that text.
+
+
+class KeyboardEncoding(_Named):
+    """How a terminal encodes the keys that it sends."""
+
+    Xterm = 0  # The characters themselves, and xterm's control sequences.
+    CsiU = 1  # The same, but a character with modifiers that it can't show is sent as ESC [ c ; m u (fixterms).
+    Win32 = 2  # Records of the Windows console. Keys are encoded as with XTERM.
+    Kitty = 3  # kitty's keyboard protocol. Keys are encoded as with XTERM.
+
+
+class Waiting(_Named):
+    """What stays buffered, and so what a pause means: see `InputParser.waiting`."""
+
+    Nothing = 0  # Nothing is buffered.
+    Escape = 1  # ESC, or ESC ESC: the Escape key, alone or with Alt, unless more bytes follow.
+    Sequence = 2  # A longer prefix of a sequence, after an ESC or not.
+    Character = 3  # A prefix of a character in UTF-8, after an ESC or not.
+    Paste = 4  # An open paste: its start, and its text so far.
+
+
+class KeyCode(_Named):
+    """A key that types no character and is no function key."""
+
+    Hyper = 2  # Hyper, a modifier key.
+    Super = 3  # Super, a modifier key: on most keyboards the one with the Windows logo, or Command.
+    Meta = 4  # Meta, a modifier key. The key that is labelled Alt is `Alt`.
+    Cancel = 5  # Cancel, which on PC keyboards is Ctrl-Break.
+    Backspace = 6  # Backspace, which deletes the character before the cursor.
+    Tab = 7  # Tab. Shift-Tab is this key with SHIFT.
+    Clear = 8  # Clear, which on PC keyboards is the 5 of the keypad while Num Lock is off.
+    Enter = 9  # Enter, also called Return.
+    Shift = 10  # Shift, where it isn't known which of the two.
+    Escape = 11  # Escape.
+    LeftShift = 12  # The left Shift key.
+    RightShift = 13  # The right Shift key.
+    Control = 14  # Ctrl, where it isn't known which of the two.
+    LeftControl = 15  # The left Ctrl key.
+    RightControl = 16  # The right Ctrl key.
+    Alt = 17  # Alt, or Option, where it isn't known which of the two.
+    LeftAlt = 18  # The left Alt key.
+    RightAlt = 19  # The right Alt key, also called AltGr.
+    Menu = 20  # Menu, Windows' name for Alt (`VK_MENU`). The key that opens a context menu is `Applications`.
+    LeftMenu = 21  # Windows' name for the left Alt key (`VK_LMENU`).
+    RightMenu = 22  # Windows' name for the right Alt key (`VK_RMENU`).
+    Pause = 23  # Pause.
+    CapsLock = 24  # Caps Lock.
+    PageUp = 25  # Page Up.
+    PageDown = 26  # Page Down.
+    End = 27  # End.
+    Home = 28  # Home.
+    LeftArrow = 29  # The left arrow key.
+    RightArrow = 30  # The right arrow key.
+    UpArrow = 31  # The up arrow key.
+    DownArrow = 32  # The down arrow key.
+    Select = 33  # Select, as on the VT220's editing keypad.
+    Print = 34  # Print (`VK_PRINT`), which few keyboards have. It isn't `PrintScreen`.
+    Execute = 35  # Execute (`VK_EXECUTE`), which few keyboards have.
+    PrintScreen = 36  # Print Screen.
+    Insert = 37  # Insert.
+    Delete = 38  # Delete, which deletes the character at the cursor.
+    Help = 39  # Help.
+    LeftWindows = 40  # The left key with the Windows logo.
+    RightWindows = 41  # The right key with the Windows logo.
+    Applications = 42  # The Applications key, which opens a context menu.
+    Sleep = 43  # Sleep, which suspends the computer.
+    Numpad0 = 44  # The 0 of the numeric keypad, while Num Lock is on.
+    Numpad1 = 45  # The 1 of the numeric keypad, while Num Lock is on.
+    Numpad2 = 46  # The 2 of the numeric keypad, while Num Lock is on.
+    Numpad3 = 47  # The 3 of the numeric keypad, while Num Lock is on.
+    Numpad4 = 48  # The 4 of the numeric keypad, while Num Lock is on.
+    Numpad5 = 49  # The 5 of the numeric keypad, while Num Lock is on.
+    Numpad6 = 50  # The 6 of the numeric keypad, while Num Lock is on.
+    Numpad7 = 51  # The 7 of the numeric keypad, while Num Lock is on.
+    Numpad8 = 52  # The 8 of the numeric keypad, while Num Lock is on.
+    Numpad9 = 53  # The 9 of the numeric keypad, while Num Lock is on.
+    Multiply = 54  # The `*` of the numeric keypad.
+    Add = 55  # The `+` of the numeric keypad.
+    Separator = 56  # The thousands separator of the numeric keypad, on keyboards that have one.
+    Subtract = 57  # The `-` of the numeric keypad.
+    Decimal = 58  # The decimal point of the numeric keypad.
+    Divide = 59  # The `/` of the numeric keypad.
+    NumLock = 61  # Num Lock.
+    ScrollLock = 62  # Scroll Lock.
+    Copy = 63  # A key of its own for copying.
+    Cut = 64  # A key of its own for cutting.
+    Paste = 65  # A key of its own for pasting. Text that was pasted comes as an event of its own kind.
+    BrowserBack = 66  # Back, for a web browser.
+    BrowserForward = 67  # Forward, for a web browser.
+    BrowserRefresh = 68  # Refresh, for a web browser.
+    BrowserStop = 69  # Stop loading, for a web browser.
+    BrowserSearch = 70  # Search, for a web browser.
+    BrowserFavorites = 71  # Favorites, for a web browser.
+    BrowserHome = 72  # Home page, for a web browser.
+    VolumeMute = 73  # Mute the sound.
+    VolumeDown = 74  # Turn the volume down.
+    VolumeUp = 75  # Turn the volume up.
+    MediaNextTrack = 76  # Skip to the next track.
+    MediaPrevTrack = 77  # Skip to the previous track.
+    MediaStop = 78  # Stop playing.
+    MediaPlayPause = 79  # Play, or pause.
+    ApplicationLeftArrow = 80  # The left arrow key while the terminal is in application cursor mode (DECCKM).
+    ApplicationRightArrow = 81  # The right arrow key in application cursor mode.
+    ApplicationUpArrow = 82  # The up arrow key in application cursor mode.
+    ApplicationDownArrow = 83  # The down arrow key in application cursor mode.
+    KeyPadHome = 84  # Home on the numeric keypad: the 7 while Num Lock is off.
+    KeyPadEnd = 85  # End on the numeric keypad: the 1 while Num Lock is off.
+    KeyPadPageUp = 86  # Page Up on the numeric keypad: the 9 while Num Lock is off.
+    KeyPadPageDown = 87  # Page Down on the numeric keypad: the 3 while Num Lock is off.
+    KeyPadBegin = 88  # Begin on the numeric keypad: the 5 while Num Lock is off.
+    InternalPasteStart = 89  # The start of a bracketed paste. No event carries it: the paste comes as one event.
+    InternalPasteEnd = 90  # The end of a bracketed paste, where none was started.
+
+
+@dataclass(frozen=True)
+class Function:
+    """A function key, by its number: F1 is Function(1)."""
+
+    number: int
+
+
+# A key: the character that it types, as a text of one character, or a key without one. `"A"` is what Shift-A types.
+Key = Union[str, KeyCode, Function]
+
+
+@dataclass(frozen=True)
+class KeyEvent:
+    """A key was pressed."""
+
+    key: Key
+    modifiers: Modifiers = Modifiers.NONE
+
+
+@dataclass(frozen=True)
+class MouseEvent:
+    """The mouse was moved, one of its buttons was pressed or released, or a wheel was turned.
+
+    x is the column and y the row, as the terminal sent them: the cell at the top left is 1, 1. `buttons` has those that are down. It is
+    empty after a release, and for a move with no button down."""
+
+    x: int
+    y: int
+    buttons: MouseButtons = MouseButtons.NONE
+    modifiers: Modifiers = Modifiers.NONE
+
+
+@dataclass(frozen=True)
+class Paste:
+    """Text was pasted, in bracketed paste mode. Bytes that are no UTF-8 are U+FFFD in it."""
+
+    text: str
+
+
+Event = Union[KeyEvent, MouseEvent, Paste]
+
+Bytes = Union[bytes, bytearray, memoryview]
+
+
+@dataclass(frozen=True)
+class KeyCodeEncodeModes:
+    """The modes of a terminal that change the text of a key. Without arguments it is xterm with every mode off.
+
+    encoding: how keys are encoded.
+    application_cursor_keys: the arrows, Home and End send ESC O in place of ESC [ (DECCKM).
+    newline_mode: Enter sends a line feed after the carriage return (LNM).
+    modify_other_keys: the level of xterm's modifyOtherKeys, or None if it is off.
+    kitty_flags: what the program asked of kitty's protocol; read with KeyboardEncoding.Kitty alone."""
+
+    encoding: KeyboardEncoding = KeyboardEncoding.Xterm
+    application_cursor_keys: bool = False
+    newline_mode: bool = False
+    modify_other_keys: Optional[int] = None
+    kitty_flags: KittyKeyboardFlags = KittyKeyboardFlags.NONE
+
+
+class EncodeError(ValueError):
+    """A key has no text: it is a function key other than F1 to F24, or a number, a text or a flag is given that names nothing."""
+
+
+class ParseError(MemoryError):
+    """Memory was refused while bytes were parsed. No event is lost, and the parser may be used again.
+
+    If `taken` is false, none of the bytes is buffered, and the call may be made again. If it is true, all are: parse on with b"" and the
+    same flag, or with the next bytes. The events that were found come first."""
+
+    def __init__(self, taken: bool) -> None:
+        super().__init__(f"out of memory: the bytes were {'' if taken else 'not '}taken")
+        self.taken = taken
+
+
+# The structs of termwiz_input.h.
+
+
+class _RawParser(ctypes.Structure):
+    _fields_ = [("live", ctypes.c_bool), ("state", ctypes.c_void_p)]
+
+
+class _RawEvent(ctypes.Structure):
+    _fields_ = [
+        ("kind", ctypes.c_uint8),
+        ("buttons", ctypes.c_uint8),
+        ("modifiers", ctypes.c_uint16),
+        ("key", ctypes.c_uint16),
+        ("x", ctypes.c_uint16),
+        ("y", ctypes.c_uint16),
+        ("detail", ctypes.c_uint32),
+        ("paste_len", ctypes.c_size_t),
+    ]
+
+
+# The fields of a _RawEvent, all at once: in native layout it has the same gaps.
+_fields_of = struct.Struct("@BBHHHHIN").unpack_from
+
+
+class _RawModes(ctypes.Structure):
+    _fields_ = [
+        ("modify_other_keys", ctypes.c_int64),
+        ("encoding", ctypes.c_uint8),
+        ("kitty_flags", ctypes.c_uint8),
+        ("application_cursor_keys", ctypes.c_bool),
+        ("newline_mode", ctypes.c_bool),
+        ("has_modify_other_keys", ctypes.c_bool),
+    ]
+
+
+# The numbers of termwiz_input.h that no enum above has.
+_KIND_KEY, _KIND_MOUSE, _KIND_PASTE = 1, 2, 3
+_NEXT_NONE, _NEXT_EVENT, _NEXT_NO_MEMORY, _NEXT_NO_PARSER = 0, 1, 2, 3
+_ENCODED_TEXT, _ENCODED_REFUSED_KEY, _ENCODED_REFUSED_MEMORY, _ENCODED_BAD_NUMBER = 0, 1, 2, 3
+_KEY_CHAR, _KEY_FUNCTION = 1, 60
+
+_PARSER = ctypes.POINTER(_RawParser)
+_EVENT = ctypes.POINTER(_RawEvent)
+# A uint8_t *, as which ctypes passes a bytes object without a copy.
+_BYTES = ctypes.c_void_p
+
+# The calls of termwiz_input.h: what each returns, and what it takes.
+_CALLS = {
+    "tw_parser_init": (ctypes.c_bool, [_PARSER]),
+    "tw_parser_free": (None, [_PARSER]),
+    "tw_parser_feed": (ctypes.c_bool, [_PARSER, _BYTES, ctypes.c_size_t]),
+    "tw_parser_next": (ctypes.c_uint32, [_PARSER, ctypes.c_bool, _EVENT]),
+    "tw_parser_paste": (ctypes.c_size_t, [_PARSER, _BYTES, ctypes.c_size_t]),
+    "tw_parser_drop_paste": (None, [_PARSER]),
+    "tw_parser_waiting": (ctypes.c_size_t, [_PARSER]),
+    "tw_parser_waiting_kind": (ctypes.c_uint32, [_PARSER]),
+    "tw_parser_flush_escape": (ctypes.c_uint32, [_PARSER, _EVENT]),
+    "tw_parser_is_paste_open": (ctypes.c_bool, [_PARSER]),
+    "tw_parser_end_paste": (ctypes.c_uint32, [_PARSER, _EVENT]),
+    "tw_parser_reset": (ctypes.c_size_t, [_PARSER]),
+    "tw_key_name": (ctypes.c_size_t, [ctypes.c_uint16, _BYTES, ctypes.c_size_t]),
+    "tw_encode": (
+        ctypes.c_uint32,
+        [
+            ctypes.c_uint16,
+            ctypes.c_uint32,
+            ctypes.c_uint16,
+            ctypes.c_bool,
+            ctypes.POINTER(_RawModes),
+            _BYTES,
+            ctypes.c_size_t,
+            ctypes.POINTER(ctypes.c_size_t),
+        ],
+    ),
+}
+
+
+def _library_file() -> str:
+    """Returns the file of the library, or the name by which the system finds it."""
+    named = os.environ.get("HEDRUGAL_LIBRARY")
+    if named:
+        return os.path.abspath(named)
+    beside = os.path.join(os.path.dirname(os.path.abspath(__file__)), "libtermwiz_c.so")
+    if os.path.exists(beside):
+        return beside
+    found = ctypes.util.find_library("termwiz_c")
+    if found:
+        return found
+    raise ImportError(f"hedrugal: no libtermwiz_c.so beside {__file__} nor in the system's folders\nHEDRUGAL_LIBRARY can name its file.")
+
+
+def _load() -> ctypes.PyDLL:
+    """Loads the library, and declares its calls."""
+    machine, bits = platform.machine(), 8 * ctypes.sizeof(ctypes.c_void_p)
+    if not sys.platform.startswith("linux") or machine not in ("x86_64", "AMD64") or bits != 64:
+        raise ImportError(f"hedrugal: the library is for x86-64 Linux, and this is a Python of {bits} bits for {machine} {sys.platform}")
+    file = _library_file()
+    try:
+        # A PyDLL keeps Python's lock while a call runs, so no two threads are in a call at once.
+        library = ctypes.PyDLL(file)
+        for name, (returned, taken) in _CALLS.items():
+            call = getattr(library, name)
+            call.restype, call.argtypes = returned, taken
+    except (OSError, AttributeError) as error:
+        raise ImportError(f"hedrugal: {error}\nHEDRUGAL_LIBRARY has to name a libtermwiz_c.so of this version.") from None
+    return library
+
+
+_library = _load()
+_feed, _next = _library.tw_parser_feed, _library.tw_parser_next
+
+
+def _fault() -> NoReturn:
+    raise RuntimeError("libtermwiz_c.so answers what this module doesn't know: they are of different versions")
+
+
+def _refused() -> MemoryError:
+    return MemoryError("libtermwiz_c.so was refused memory")
+
+
+def _closed() -> ValueError:
+    return ValueError("the parser is closed")
+
+
+def _is_event(answer: int) -> bool:
+    """Whether the library answers that it wrote an event."""
+    if answer == _NEXT_EVENT:
+        return True
+    if answer == _NEXT_NONE:
+        return False
+    if answer == _NEXT_NO_MEMORY:
+        raise _refused()
+    if answer == _NEXT_NO_PARSER:
+        raise _closed()
+    _fault()
+
+
+def _borrowed(data: Bytes) -> Tuple[Any, int]:
+    """Returns what ctypes passes as the pointer to the bytes, and their number. Only bytes that it can't borrow are copied: those of a
+    memoryview that is read-only or has gaps."""
+    if isinstance(data, bytes):
+        return data, len(data)
+    if not isinstance(data, (bytearray, memoryview)):
+        raise TypeError(f"bytes, a bytearray or a memoryview is wanted, and not {type(data).__name__}")
+    view = memoryview(data)
+    if view.readonly or not view.c_contiguous or not view.nbytes:
+        return view.tobytes(), view.nbytes
+    return ctypes.byref(ctypes.c_char.from_buffer(view)), view.nbytes
+
+
+# Few of the sets and key events are ever seen, and making one takes longer than finding it again.
+_modifiers = functools.lru_cache(maxsize=None)(Modifiers)
+_buttons = functools.lru_cache(maxsize=None)(MouseButtons)
+_key_codes = {code.value: code for code in KeyCode}
+_waitings = {kind.value: kind for kind in Waiting}
+
+
+@functools.lru_cache(maxsize=4096)
+def _key_event(number: int, detail: int, modifiers: int) -> KeyEvent:
+    key: Key
+    if number == _KEY_CHAR:
+        key = chr(detail)
+    elif number == _KEY_FUNCTION:
+        key = Function(detail)
+    elif number in _key_codes:
+        key = _key_codes[number]
+    else:
+        _fault()
+    return KeyEvent(key, _modifiers(modifiers))
+
+
+class InputParser:
+    """Reads events from the bytes that a terminal sends, however they are cut into calls.
+
+    It buffers bytes that are no event yet. A lone ESC stays buffered, since it may begin a sequence: only a pause tells that it is the
+    Escape key. See `waiting`.
+
+    A parser owns memory outside of Python. `close` frees it; so do the end of a `with` block and the end of the parser's life. Every other
+    call then raises ValueError. One thread at a time uses a parser. It can't be copied or pickled.
+
+    Raises MemoryError if memory is refused, as every call does of which it is said. The parser is then as it was, and no event is lost:
+    the call may be made again."""
+
+    def __init__(self) -> None:
+        self._raw = _RawParser()
+        if not _library.tw_parser_init(self._raw):
+            raise _refused()
+        self._free = weakref.finalize(self, _library.tw_parser_free, self._raw)
+        # The event that the library wrote last, and whether the caller has yet to get it: it stays until memory for it is granted.
+        self._front = _RawEvent()
+        self._has_front = False
+        # Events that `parse` found before it was refused memory. They come before that at the front.
+        self._kept: List[Event] = []
+
+    def __enter__(self) -> InputParser:
+        self._check_open()
+        return self
+
+    def __exit__(self, *_: object) -> None:
+        self.close()
+
+    def __reduce__(self) -> NoReturn:
+        raise TypeError("an InputParser can't be copied or pickled")
+
+    def __repr__(self) -> str:
+        return f"<InputParser, {'closed' if self.closed else f'{self.waiting_len} bytes are buffered'}>"
+
+    def close(self) -> None:
+        """Frees what the parser owns. It may be called twice."""
+        self._free()
+
+    @property
+    def closed(self) -> bool:
+        """Whether the parser was closed."""
+        return not self._raw.live
+
+    def feed(self, data: Bytes) -> None:
+        """Appends bytes to the buffer. `next_event`, or a loop over the parser, then gives the events.
+
+        Raises MemoryError if memory is refused. Then none of the bytes is buffered, and the call may be made again."""
+        pointer, length = _borrowed(data)
+        if not _feed(self._raw, pointer, length):
+            self._check_open()
+            raise _refused()
+
+    def next_event(self, maybe_more: bool = True) -> Optional[Event]:
+        """Takes the event at the front of the buffer and returns it, or None if there is none.
+
+        Pass maybe_more as True while more bytes may come: then bytes that may still become a longer sequence or a character stay buffered.
+        After a pause call `flush_escape`. Pass False at the end of the input: then only an open paste stays. Before the end this breaks a
+        sequence or a character of which the rest is still to come.
+
+        Raises MemoryError if memory is refused. Nothing changed, and the call may be made again."""
+        self._check_open()
+        if self._kept:
+            return self._kept.pop(0)
+        if not self._find_front(maybe_more):
+            return None
+        event = self._front_event()
+        self._leave_front()
+        return event
+
+    def __iter__(self) -> Iterator[Event]:
+        """Takes the events one by one, as `next_event(True)` does, until there is none."""
+        while True:
+            event = self.next_event()
+            if event is None:
+                return
+            yield event
+
+    def parse(self, data: Bytes, maybe_more: bool = True) -> List[Event]:
+        """Appends bytes to the buffer, and returns the events in order. Bytes that are no event yet stay buffered, as `next_event` says.
+
+        Raises ParseError, which is a MemoryError, if memory is refused. It says whether the bytes are buffered."""
+        try:
+            self.feed(data)
+            kept: List[Event] = []
+        except MemoryError:
+            raise ParseError(taken=False) from None
+        events = self._kept
+        try:
+            while self._find_front(maybe_more):
+                events.append(self._front_event())
+                self._leave_front()
+        except MemoryError:
+            raise ParseError(taken=True) from None
+        self._kept = kept
+        return events
+
+    def flush(self) -> List[Event]:
+        """Returns the events of all that is buffered but an open paste, as at the end of the input: `parse(b"", False)`.
+
+        After a pause call `flush_escape` instead, since half a sequence or a character may be buffered."""
+        return self.parse(b"", False)
+
+    def flush_escape(self) -> Optional[KeyEvent]:
+        """Takes the Escape key if ESC alone is buffered, with ALT if ESC ESC is, and returns it. Returns None otherwise.
+
+        Call it when some 50 ms have passed without a byte. Whatever else is buffered stays, so a pause breaks only what is cut right after
+        its ESC or ESC ESC: a sequence, the start of a paste, or a key with Alt."""
+        self._check_open()
+        # What was refused memory comes before what is buffered.
+        if self._kept or self._has_front:
+            return None
+        if not _is_event(_library.tw_parser_flush_escape(self._raw, self._front)):
+            return None
+        self._has_front = True
+        return cast(KeyEvent, self.next_event())
+
+    @property
+    def waiting(self) -> Waiting:
+        """What stays buffered. Read it once `parse` has returned, or `next_event` has returned None: before that, events may be next.
+
+        It says what a pause means. After some 50 ms with Waiting.Escape call `flush_escape`. Waiting.Sequence may be half of a sequence on
+        a slow line: call `flush` after a much longer pause, say 1000 ms, or never. Never flush the others."""
+        self._check_open()
+        return _waitings.get(_library.tw_parser_waiting_kind(self._raw)) or _fault()
+
+    @property
+    def waiting_len(self) -> int:
+        """The number of bytes that are buffered."""
+        self._check_open()
+        return cast(int, _library.tw_parser_waiting(self._raw))
+
+    @property
+    def is_paste_open(self) -> bool:
+        """Whether the buffer begins with the start of a paste.
+
+        Such a paste is buffered without limit until its end arrives. A caller with a limit, say 1 MB, calls `end_paste` once `waiting_len`
+        is above it."""
+        self._check_open()
+        return cast(bool, _library.tw_parser_is_paste_open(self._raw))
+
+    def end_paste(self) -> Optional[Paste]:
+        """Ends an open paste where it is: returns what came of it so far, and takes all that is buffered. Returns None if no paste is open.
+
+        The rest of the paste then arrives as typed keys, Enter included, and its end as KeyCode.InternalPasteEnd. If the text ended inside
+        that, the rest of it is typed keys too.
+
+        Raises MemoryError if memory is refused. The paste isn't lost: the call may be made again."""
+        self._check_open()
+        if self._kept:
+            return None
+        if not self._has_front:
+            self._has_front = _is_event(_library.tw_parser_end_paste(self._raw, self._front))
+        # A paste that was refused memory before is at the front, where another call left it.
+        if not self._has_front or self._front.kind != _KIND_PASTE:
+            return None
+        return cast(Paste, self.next_event())
+
+    def reset(self) -> int:
+        """Forgets all that is buffered, an open paste too, and returns how many bytes that were.
+
+        Call it where earlier bytes no longer count, as after another program had the terminal."""
+        self._check_open()
+        self._kept.clear()
+        self._has_front = False
+        _library.tw_parser_drop_paste(self._raw)
+        return cast(int, _library.tw_parser_reset(self._raw))
+
+    def _check_open(self) -> None:
+        if not self._raw.live:
+            raise _closed()
+
+    def _find_front(self, maybe_more: bool) -> bool:
+        """Whether there is an event at the front. It stays there until `_leave_front`."""
+        if not self._has_front:
+            self._has_front = _is_event(_next(self._raw, maybe_more, self._front))
+        return self._has_front
+
+    def _front_event(self) -> Event:
+        kind, buttons, modifiers, key, x, y, detail, paste_len = _fields_of(self._front)
+        if kind == _KIND_KEY:
+            return _key_event(key, detail, modifiers)
+        if kind == _KIND_MOUSE:
+            return MouseEvent(x, y, _buttons(buttons), _modifiers(modifiers))
+        if kind == _KIND_PASTE:
+            return Paste(self._paste_text(paste_len))
+        _fault()
+
+    def _leave_front(self) -> None:
+        self._has_front = False
+        if self._front.kind == _KIND_PASTE:
+            _library.tw_parser_drop_paste(self._raw)
+
+    def _paste_text(self, length: int) -> str:
+        """The text of the paste at the front, which the library keeps until `_leave_front`."""
+        room = bytearray(length)
+        pointer, _ = _borrowed(room)
+        if _library.tw_parser_paste(self._raw, pointer, length) != length:
+            _fault()
+        return room.decode("utf-8")
+
+
+# More bytes than any key's text has.
+_ROOM = 64
+
+
+def _number_and_detail(key: Key) -> Tuple[int, int]:
+    """The number of a key, and its code point or the number of a function key."""
+    if isinstance(key, KeyCode):
+        return key.value, 0
+    if isinstance(key, Function):
+        return _KEY_FUNCTION, _whole(key.number, 0, 255)
+    if not isinstance(key, str):
+        raise TypeError(f"a character, a KeyCode or a Function is wanted, and not {type(key).__name__}")
+    if len(key) != 1:
+        raise EncodeError(f"a key types one character, and {key!r} has {len(key)}")
+    return _KEY_CHAR, ord(key)
+
+
+def _whole(number: int, least: int, most: int) -> int:
+    """The number, since ctypes would cut a larger one."""
+    if not isinstance(number, int):
+        raise TypeError(f"an int is wanted, and not {type(number).__name__}")
+    if not least <= number <= most:
+        raise EncodeError(f"{number} isn't between {least} and {most}")
+    return number
+
+
+def _raw_modes(modes: KeyCodeEncodeModes) -> _RawModes:
+    encoding, level, flags = modes.encoding, modes.modify_other_keys, modes.kitty_flags
+    if not isinstance(encoding, KeyboardEncoding) or not isinstance(flags, KittyKeyboardFlags):
+        raise TypeError("modes have a KeyboardEncoding and KittyKeyboardFlags")
+    return _RawModes(
+        0 if level is None else _whole(level, -(2**63), 2**63 - 1),
+        encoding.value,
+        _whole(flags.value, 0, 255),
+        bool(modes.application_cursor_keys),
+        bool(modes.newline_mode),
+        level is not None,
+    )
+
+
+def encode(
+    key: Key, modifiers: Modifiers = Modifiers.NONE, modes: KeyCodeEncodeModes = KeyCodeEncodeModes(), is_down: bool = True
+) -> bytes:
+    """Returns the bytes, in UTF-8, that a terminal in these modes sends for a key, with the modifiers that are held. They are empty for a
+    key that sends nothing, and for every key that is up (is_down is False).
+
+    Raises EncodeError, which is a ValueError, for a function key other than F1 to F24 that is down; and, for a key that is up too, for a
+    text that isn't one character, a surrogate, a number out of range, or a bit that no flag has. Raises MemoryError if memory is
+    refused."""
+    number, detail = _number_and_detail(key)
+    if not isinstance(modifiers, Modifiers):
+        raise TypeError(f"Modifiers are wanted, and not {type(modifiers).__name__}")
+    held = _whole(modifiers.value, 0, 0xFFFF)
+    raw_modes, length, room = _raw_modes(modes), ctypes.c_size_t(), bytearray(_ROOM)
+    while True:
+        pointer, size = _borrowed(room)
+        answer = _library.tw_encode(number, detail, held, is_down, raw_modes, pointer, size, length)
+        if answer != _ENCODED_TEXT:
+            break
+        if length.value <= size:
+            return bytes(room[: length.value])
+        room = bytearray(length.value)
+    if answer == _ENCODED_REFUSED_KEY:
+        raise EncodeError(f"F{detail} has no text: only F1 to F24 have one")
+    if answer == _ENCODED_REFUSED_MEMORY:
+        raise _refused()
+    if answer == _ENCODED_BAD_NUMBER:
+        raise EncodeError("a surrogate, or a bit that no flag has, names nothing")
+    _fault()

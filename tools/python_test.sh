@@ -1,0 +1,29 @@
+#!/usr/bin/env bash
+# Tests the Python module python/hedrugal.py.
+#
+#     tools/python_test.sh DIR
+#
+# DIR is a folder that tools/c_library.sh wrote. The tests, in python/test_hedrugal.py, make each call, replay every recorded answer in
+# crates/replay/data, cut a stream at each place, refuse memory, load the library from each place where it is looked for, and run the
+# listing of docs/python.md on a pseudo-terminal. The last line is 'N passed, N failed', the status 1 if a test failed.
+#
+# It needs python3, 3.9 or later, and nothing beyond its standard library.
+set -u
+export LC_ALL=C.UTF-8
+. "$(dirname "$0")/common.sh"
+library=''
+for word; do
+    case $word in
+        --help) show_help; exit ;;
+        -*) refuse_word "$word" ;;
+        *) [ -z "$library" ] || refuse_word "$word"; library=$word ;;
+    esac
+done
+[ -n "$library" ] || refuse 'it wants the folder that tools/c_library.sh wrote'
+[ -f "$library/libtermwiz_c.so" ] || refuse "there is no libtermwiz_c.so in '$library'"
+library=$(realpath "$library")
+need python3 python3
+stop_if_missing
+python3 -c 'import sys; sys.exit(sys.version_info < (3, 9))' || refuse 'it needs Python 3.9 or later'
+cd "$(dirname "$0")/.." || exit
+HEDRUGAL_LIBRARY=$library/libtermwiz_c.so exec python3 -B -W error python/test_hedrugal.py
