@@ -1,7 +1,7 @@
 #!/usr/bin/env bash
 # Calls the C library with inputs that clang's libFuzzer makes, and checks what it answers.
 #
-#     tools/fuzz.sh [--over DIR] [--repeat HARNESS FILE] [--without-clang] [SECONDS]
+#     tools/fuzz.sh [--library DIR] [--repeat HARNESS FILE] [--without-clang] [SECONDS]
 #
 # There are three harnesses in tools/fuzz, and the head of each says what it checks: cuts (a stream read whole and in pieces), calls (calls
 # in any order, with requests for memory refused) and keys (texts and names of keys). Each begins with the seeds of tools/fuzz/corpus.
@@ -10,7 +10,7 @@
 # The harnesses are built with clang's checks of addresses and of undefined behaviour. The archive is compiled already and has no such
 # checks in it. So each argument lies beside a page that can't be touched, and each block of the library's memory between marks.
 #
-# DIR is a folder that tools/c_library.sh wrote; without --over the library is built, which needs rt. An input that fails is kept in a
+# DIR is a folder that tools/c_library.sh wrote; without --library the library is built, which needs rt. An input that fails is kept in a
 # folder that the script names, with the words that repeat it: --repeat runs that input alone. The last line is 'N passed, N failed', the
 # status 1 if a harness failed.
 #
@@ -23,7 +23,7 @@ library='' harness='' input='' seconds='' left_out=''
 while [ $# -gt 0 ]; do
     case $1 in
         --help) show_help; exit ;;
-        --over)
+        --library)
             want_next "$@"
             [ -f "$2/libtermwiz_c.a" ] || refuse "there is no libtermwiz_c.a in $2"
             library=$(realpath "$2")
