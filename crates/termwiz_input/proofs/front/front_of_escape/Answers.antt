@@ -1,12 +1,7 @@
-use Rattle.std.proofs.Common.{refl, subst}
-use Rattle.termwiz_input.specs.Matches.{HasHead}
+use Rattle.std.proofs.Common.{refl}
 use Rattle.termwiz_keymap.proofs.lemmas.lists.PrefixTest.{denied}
 use Rattle.termwiz_input.proofs.lemmas.items.ItemByHead.{escape_before_start, escape_before_report, alt_row_stands, alt_character_stands, alt_broken_stands, joined_rest}
 use Rattle.termwiz_input.proofs.front.front_of_escape.Goals as goal
-
-pub is_paste_start-requires : goal.is_paste_start-requires
-is_paste_start-requires c =
-    (c.in-Some-Row.field-0-0.now, subst (HasHead c.args.rest.now) c.in-Some-Row.field-0-is c.in-Some-Row.ensures.head)
 
 pub returns-in-Some-Row : goal.returns-in-Some-Row
 returns-in-Some-Row c =
@@ -18,7 +13,7 @@ returns-in-Some-Row-2 c =
     alt_row_stands c.args.rest.now c.args.maybe_more c.in-Some-Row.field-0-0.now c.in-Some-Row.len c.requires.closed
     c.requires.head c.requires.some
     (c.in-Some-Row.ensures.closed refl)
-    (subst (HasHead c.args.rest.now) c.in-Some-Row.field-0-is c.in-Some-Row.ensures.head)
+    (rw c.in-Some-Row.field-0-is at c.in-Some-Row.ensures.head)
     (denied c.is_paste_start.ensures.1 c.if-is_paste_start.false)
 
 pub returns-in-Some-Character : goal.returns-in-Some-Character
@@ -26,20 +21,20 @@ returns-in-Some-Character c =
     alt_character_stands c.args.rest.now c.args.maybe_more c.in-Some-Character.character c.in-Some-Character.len
     c.requires.closed c.requires.head c.requires.some
     (c.in-Some-Character.ensures.closed refl)
-    (subst (HasHead c.args.rest.now) c.in-Some-Character.field-0-is c.in-Some-Character.ensures.head)
+    (rw c.in-Some-Character.field-0-is at c.in-Some-Character.ensures.head)
 
 pub returns-in-Some-Broken : goal.returns-in-Some-Broken
 returns-in-Some-Broken c =
     alt_broken_stands c.args.rest.now c.args.maybe_more c.requires.closed c.requires.head c.requires.some
     (c.in-Some-Broken.ensures.closed refl)
-    (subst (HasHead c.args.rest.now) c.in-Some-Broken.field-0-is c.in-Some-Broken.ensures.head)
+    (rw c.in-Some-Broken.field-0-is at c.in-Some-Broken.ensures.head)
 
 pub returns-in-Some-Report : goal.returns-in-Some-Report
 returns-in-Some-Report c =
     escape_before_report c.args.rest.now c.args.maybe_more c.in-Some-Report.field-0-0 c.in-Some-Report.field-0-1
     c.requires.closed c.requires.head c.requires.some
     (c.in-Some-Report.ensures.closed refl)
-    (subst (HasHead c.args.rest.now) c.in-Some-Report.field-0-is c.in-Some-Report.ensures.head)
+    (rw c.in-Some-Report.field-0-is at c.in-Some-Report.ensures.head)
 
 pub returns-in-None : goal.returns-in-None
 returns-in-None c =

@@ -1,7 +1,5 @@
 -- What a lookup in the table, and a test for a mouse report, say of the head of a text.
-use Rattle.std.proofs.Common.{◌≡◌, ◌≢◌, inl, inr, ⊎_elim, ℕ, ◌<◌, ◌≤◌, Bool, true, false, List, [], ◌∷◌, ◌++◌, length, take, drop, refl, sym, ap, ◌∙◌, subst, arith, append_assoc, length-append, length-take-le, take-append-drop, append-nil, encode_utf8}
-use Rattle.std.specs.Prelude.{Option, Some, None, is_some, not, IsSome, IsTrue, ◌↔◌}
-use Rattle.std.specs.Option.{option_map}
+use Rattle.std.proofs.Common.{◌≡◌, ◌≢◌, inr, ⊎_elim, ℕ, ◌<◌, ◌≤◌, Bool, true, false, List, [], ◌∷◌, ◌++◌, length, take, drop, refl, sym, ap, ◌∙◌, subst, arith, append_assoc, length-append, length-take-le, take-append-drop, append-nil, encode_utf8, Option, Some, None, is_some, not, IsSome, IsTrue, ◌↔◌, option_map}
 use Rattle.std.specs.Char.{IsScalar}
 use Rattle.std.specs.Str.{IsUtf8, IsValidUpTo}
 use Rattle.std.specs.Str.Lossy.{utf8_error_len}
@@ -58,9 +56,6 @@ stored_at : (u other : List ℕ) (k : KeyEvent) → Begins other u → IsSequenc
     → get table (take (length other) u) ≡ Some k
 stored_at u other k b is_sequence = ap (get table) (begins_is other u b) ∙ row_in_table other k is_sequence
 
-some_none : (o : Option KeyEvent) (k : KeyEvent) → o ≡ Some k → o ≡ None → ⊥
-some_none o k e f = cc
-
 -- the longest key of the map is the longest sequence, where no mouse report begins the text
 pub longest_from_key : (u : List ℕ) (n : ℕ) (k : KeyEvent) → NoMouseReportBegins u → IsLongestKey table u n k
     → HasRow u k n
@@ -76,7 +71,7 @@ longest_from_key u n k none is = (
     at_most : (other : List ℕ) (m : Meaning) → IsSequence other m → Begins other u → length other ≤ length (take n u)
     at_most other (Row j) is_sequence b = ⊎_elim
         (λ (l : n < length other). absurd
-        (some_none _ j (stored_at u other j b is_sequence) (is.longest (length other) l (length-Begins other u b))))
+        (cc (stored_at u other j b is_sequence, is.longest (length other) l (length-Begins other u b))))
         (λ (l : length other ≤ n). omega (arith, length-take-le n u is.within))
         (cases_lt n (length other))
     at_most other (Report event) is_sequence b = absurd (none other event (report_of_sequence other event is_sequence) b)
@@ -96,34 +91,25 @@ stored_key : (o : Option KeyEvent) → IsSome o → (k : KeyEvent) × (o ≡ Som
 stored_key (Some k) h = (k, refl)
 stored_key None h = absurd (cc)
 
-pub open_from_extended : (u : List ℕ) → u ≢ [] → IsExtended table u → IsOpen u true
-open_from_extended u some (tail, longer, stored) =
-    let k = stored_key (get table (u ++ tail)) stored in
-    record {
-      more_comes = refl;
-      some = some;
-      beginning = inl (record {
-        tail = tail;
-        longer = λ none. omega (arith, ap length none);
-        meaning = Row k.0;
-        is_sequence = row_is_sequence (u ++ tail) k.0 k.1;
-      });
-    }
+-- a text that properly begins a sequence has no head yet
+begun_sequence : (u tail : List ℕ) (m : Meaning) → tail ≢ [] → IsSequence (u ++ tail) m → HasNoHeadYet u true
+begun_sequence [] tail m longer is_sequence = inr refl
+begun_sequence (x ∷ u) tail m longer is_sequence = grind arith
 
 pub extended_waits : (u : List ℕ) → IsExtended table u → HasNoHeadYet u true
-extended_waits [] ext = inr refl
-extended_waits (x ∷ u) ext = inl (open_from_extended (x ∷ u) (λ h. cc) ext)
+extended_waits u (tail, longer, stored) =
+    let k = stored_key (get table (u ++ tail)) stored in
+    begun_sequence u tail (Row k.0) (λ none. omega (arith, ap length none)) (row_is_sequence (u ++ tail) k.0 k.1)
+
+pub begun_waits : (u : List ℕ) → IsBegun u → HasNoHeadYet u true
+begun_waits u (tail, event, longer, f) =
+    begun_sequence u tail (Report event) longer (report_is_sequence (u ++ tail) event f)
 
 -- no sequence begins the text, where no key and no mouse report does
 pub no_sequence : (u : List ℕ) → NoMouseReportBegins u → NoKeyBegins table u → NoSequenceBegins u
 no_sequence u none no_key text (Row k) is_sequence b =
-    some_none _ k (stored_at u text k b is_sequence) (no_key (length text) (length-Begins text u b))
+    cc (stored_at u text k b is_sequence, no_key (length text) (length-Begins text u b))
 no_sequence u none no_key text (Report event) is_sequence b = none text event (report_of_sequence text event is_sequence) b
-
-same_pair : (d s c n : ℕ) → ◌≡◌ {A = Option (ℕ × ℕ)} (Some (d, s)) (Some (c, n)) → (d ≡ c) × (s ≡ n)
-same_pair d s c n e =
-    let pair : ◌≡◌ {A = ℕ × ℕ} (d, s) (c, n) = cc (e) in
-    (ap (λ (p : ℕ × ℕ). p.0) pair, ap (λ (p : ℕ × ℕ). p.1) pair)
 
 spelled : (u : List ℕ) (c n : ℕ) → character_of u ≡ Some (c, n)
     → IsScalar c × (n ≡ length (encode_utf8 c)) × Begins (encode_utf8 c) u
@@ -133,10 +119,10 @@ spelled u c n e = go (decoded u).char refl e
     go : (o : Option ℕ) → (decoded u).char ≡ o → option_map {U = ℕ × ℕ} (λ d. (d, (decoded u).size)) o ≡ Some (c, n)
         → IsScalar c × (n ≡ length (encode_utf8 c)) × Begins (encode_utf8 c) u
     go (Some d) f h =
-        let same = same_pair d (decoded u).size c n h in
+        let pair : ◌≡◌ {A = ℕ × ℕ} (d, (decoded u).size) (c, n) = cc (h) in
         let spells = SpellsChar-decoded u d f in
-        subst (λ x. IsScalar x × (n ≡ length (encode_utf8 x)) × Begins (encode_utf8 x) u) same.0
-        (spells.scalar, sym (spells.width ∙ same.1), (drop (decoded u).size u, spells.bytes))
+        subst (λ (p : ℕ × ℕ). IsScalar p.0 × (p.1 ≡ length (encode_utf8 p.0)) × Begins (encode_utf8 p.0) u) pair
+        (spells.scalar, sym spells.width, (drop (decoded u).size u, spells.bytes))
     go None f h = absurd (cc (h))
 
 pub character_front : (u : List ℕ) (c n : ℕ) → NoSequenceBegins u → character_of u ≡ Some (c, n)
@@ -148,9 +134,7 @@ character_front u c n no_sequence e =
 unspelled : (u : List ℕ) → character_of u ≡ None → (c : ℕ) → IsScalar c → Begins (encode_utf8 c) u → ⊥
 unfolding character_of
 unspelled u e c scalar b =
-    let found : option_map {U = ℕ × ℕ} (λ d. (d, (decoded u).size)) (decoded u).char ≡ Some (c, (decoded u).size) =
-    ap (option_map {U = ℕ × ℕ} (λ d. (d, (decoded u).size))) (begins_decoded u c scalar b) in
-    cc (e, found)
+    let none = rw (begins_decoded u c scalar b) at e in cc (none)
 
 -- what a character begins doesn't properly begin another
 character_finished : (u : List ℕ) (c : ℕ) → Begins (encode_utf8 c) u → IsUnfinishedCharacter u → ⊥
@@ -178,12 +162,7 @@ broken_front (x ∷ u) some no_sequence e =
 -- what std says of bytes that no character begins
 not_decoded : (u : List ℕ) → character_of u ≡ None → (decoded u).char ≡ None
 unfolding character_of
-not_decoded u e = go (decoded u).char refl e
-  where
-    go : (o : Option ℕ) → (decoded u).char ≡ o → option_map {U = ℕ × ℕ} (λ d. (d, (decoded u).size)) o ≡ None
-        → (decoded u).char ≡ None
-    go (Some d) f h = absurd (cc (h))
-    go None f h = f
+not_decoded u e = grind arith
 
 pub not_text : (u : List ℕ) → u ≢ [] → character_of u ≡ None → IsUtf8 u → ⊥
 not_text u some e is = no_utf8 u some (not_decoded u e) is
@@ -200,14 +179,10 @@ fault_tells u n len none some e valid is test =
     )
   where
     told : (o : Option ℕ) (b : Bool) → is_some o ≡ not b → IsTrue b → o ≡ None
-    told None b same h = refl
-    told (Some k) true same h = absurd (cc (same))
-    told (Some k) false same h = absurd (cc (h))
+    told o b same h = grind arith
 
     tells : (o : Option ℕ) (b : Bool) → is_some o ≡ not b → o ≡ None → IsTrue b
-    tells None true same h = refl
-    tells None false same h = absurd (cc (same))
-    tells (Some k) b same h = absurd (cc (h))
+    tells o b same h = grind arith
 
 -- a mouse report at the front is the head, and nothing that comes changes it
 pub mouse_report_front : (u : List ℕ) (n : ℕ) (event : MouseEvent) → n ≤ length u → IsMouseReport (take n u) event
@@ -241,20 +216,6 @@ report_closed u n more event f opens = ⊎_elim
     (λ (h : IsUnfinishedCharacter u). sequence_finished (take n u) u (Report event)
     (report_is_sequence (take n u) event f) (begins_take u n) opens.some h)
     opens.beginning
-
-pub begun_waits : (u : List ℕ) → IsBegun u → HasNoHeadYet u true
-begun_waits [] begun = inr refl
-begun_waits (x ∷ u) (tail, event, longer, f) =
-    inl (record {
-      more_comes = refl;
-      some = λ h. cc;
-      beginning = inl (record {
-        tail = tail;
-        longer = longer;
-        meaning = Report event;
-        is_sequence = report_is_sequence (x ∷ u ++ tail) event f;
-      });
-    })
 
 -- where a text properly begins a mouse report, no mouse report begins it
 pub begun_no_report : (u : List ℕ) → IsBegun u → NoMouseReportBegins u

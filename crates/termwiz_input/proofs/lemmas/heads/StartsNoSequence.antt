@@ -1,6 +1,5 @@
 -- No sequence begins with a byte from 0x20 to 0x7e or from 0x80 on, and none has another after its first.
-use Rattle.std.proofs.Common.{◌≡◌, ◌≢◌, ◌⊎◌, inl, ℕ, ◌<◌, ◌≤◌, List, [], ◌∷◌, ◌++◌, refl, sym, ap, subst, arith, get_or, length, drop, ⊎_elim, slice_index_or}
-use Rattle.std.specs.List.{AllByRecursion}
+use Rattle.std.proofs.Common.{◌≡◌, ◌≢◌, ◌⊎◌, inl, ℕ, ◌<◌, ◌≤◌, List, [], ◌∷◌, ◌++◌, refl, sym, ap, subst, arith, get_or, length, ⊎_elim, slice_index_or}
 use Rattle.termwiz_keymap.specs.Bytes.{Begins}
 use Rattle.termwiz_keys.specs.Introducers.{ESC}
 use Rattle.termwiz_keys.specs.Keys.{escape}
@@ -42,11 +41,7 @@ apart_from_sequences (b ∷ u) some low other = record {
 -- a sequence has no such byte after an ESC
 second_plain : (b : ℕ) (t : List ℕ) → Bytes (27 ∷ b ∷ t) → IsPlain b
 second_plain b t (one c low e) = absurd (cc (e))
-second_plain b t (more s n e plain) = go s plain (ap (drop 1) e)
-  where
-    go : (s : List ℕ) → AllByRecursion IsPlain s → b ∷ t ≡ s → IsPlain b
-    go [] plain e = absurd (cc (e))
-    go (x ∷ s) plain e = subst IsPlain (ap (λ l. get_or l 0 0) (sym e)) plain.0
+second_plain b t (more s n e plain) = grind arith
 
 not_after_escape : (b : ℕ) (t : List ℕ) (m : Meaning) → ¬ IsPlain b → IsSequence (27 ∷ b ∷ t) m → ⊥
 not_after_escape b t m other is_sequence = other (second_plain b t (sequence_bytes (27 ∷ b ∷ t) m is_sequence))
@@ -62,9 +57,6 @@ at_most_escape b u (x ∷ y ∷ text) m not_plain is_sequence begins =
     absurd (not_after_escape b text m not_plain (subst (λ z. IsSequence (z ∷ b ∷ text) m) (sym first)
     (subst (λ z. IsSequence (x ∷ z ∷ text) m) (sym second) is_sequence)))
 
-escape_ends : (b : ℕ) (u : List ℕ) → IsUnfinishedCharacter (27 ∷ b ∷ u) → ⊥
-escape_ends b u h = sequence_finished ESC (27 ∷ b ∷ u) (Row escape) escape_is_sequence (b ∷ u, refl) (λ e. cc (e)) h
-
 pub lone_escape : (b : ℕ) (u : List ℕ) → ¬ IsPlain b → HasLoneEscape (27 ∷ b ∷ u)
 lone_escape b u other = record {
   head = record {
@@ -74,7 +66,8 @@ lone_escape b u other = record {
   };
   closed = λ more opens. ⊎_elim
       (λ (h : IsUnfinishedSequence (27 ∷ b ∷ u)). not_after_escape b (u ++ h.tail) h.meaning other h.is_sequence)
-      (λ (h : IsUnfinishedCharacter (27 ∷ b ∷ u)). escape_ends b u h)
+      (λ (h : IsUnfinishedCharacter (27 ∷ b ∷ u)).
+      sequence_finished ESC (27 ∷ b ∷ u) (Row escape) escape_is_sequence (b ∷ u, refl) (λ e. cc (e)) h)
       opens.beginning;
 }
 

@@ -1,7 +1,7 @@
 -- Which item stands at a text, by its head.
-use Rattle.std.proofs.Common.{◌≡◌, ◌≢◌, inl, inr, ⊎_elim, ℕ, suc, ◌+◌, ◌-◌, ◌≤◌, Bool, List, [], ◌∷◌, ◌++◌, length, take, drop, refl, sym, ap, ◌∙◌, subst, arith, append_assoc, length-append, length-take-le, encode_utf8}
+use Rattle.std.proofs.Common.{◌≡◌, ◌≢◌, inl, inr, ⊎_elim, ℕ, suc, ◌+◌, ◌-◌, ◌≤◌, Bool, List, [], ◌∷◌, ◌++◌, length, take, drop, refl, sym, ap, ◌∙◌, subst, arith, append_assoc, length-take-le, encode_utf8}
 use Rattle.std.specs.Str.Lossy.{utf8_lossy}
-use Rattle.std.proofs.Math.Seq.{take-append_seam}
+use Rattle.std.proofs.lemmas.Grind.{common_steps}
 use Rattle.termwiz_keys.specs.declared.types.KeyEvent.{KeyEvent}
 use Rattle.termwiz_keys.specs.declared.types.MouseEvent.{MouseEvent}
 use Rattle.termwiz_keys.specs.declared.types.InputEvent.{InputEvent}
@@ -10,10 +10,9 @@ use Rattle.termwiz_input.specs.declared.head.MatchedHead.TheVariants.{Report as 
 use Rattle.termwiz_keymap.specs.Bytes.{Begins, Occurs}
 use Rattle.termwiz_keys.specs.Introducers.{ESC, START, END}
 use Rattle.termwiz_keys.specs.Keys.{plain, escape, with_alt}
-use Rattle.termwiz_grammar.specs.Sequences.{IsSequence, Meaning}
+use Rattle.termwiz_grammar.specs.Sequences.{IsSequence}
 use Rattle.termwiz_grammar.specs.Sequences.Meaning.{Row, Report}
 use Rattle.termwiz_grammar.specs.Grammar.{IsLongest, IsUnfinishedSequence, IsUnfinishedCharacter, IsOpen, IsAfterEscape, replacement, Item, IsRest, Stands}
-use Rattle.termwiz_grammar.specs.Grammar.{Head}
 use Rattle.termwiz_grammar.specs.Grammar.Head.{Sequence, Character, Broken}
 use Rattle.termwiz_grammar.specs.Grammar.Item.{key, char, broken as broken_byte, mouse, paste, lone_escape, alt}
 use Rattle.termwiz_input.specs.Matches.{HasHead, HasRow, IsItemAt, HasNoHeadYet}
@@ -39,17 +38,9 @@ not_start u n never b e = never (subst (λ t. Begins t u) e b)
 -- the row at the start of a paste is that start
 pub start_row : (u : List ℕ) (k : KeyEvent) (n : ℕ) → HasRow u k n → Begins START u → n ≡ 6
 start_row u k n front b =
-    let same : take n u ≡ START = same_text
-    (head_once u (Sequence (take n u) (Row k)) (Sequence START (Row start)) front.1 (start_head u b)) in
+    let same : take n u ≡ START = cc (head_once u (Sequence (take n u) (Row k)) (Sequence START (Row start)) front.1
+    (start_head u b)) in
     omega (arith, ap length same, length-take-le n u front.0)
-  where
-    bytes_of : Head → List ℕ
-    bytes_of (Sequence text m) = text
-    bytes_of (Character c) = []
-    bytes_of (Broken byte) = []
-
-    same_text : {text other : List ℕ} {m j : Meaning} → Sequence text m ≡ Sequence other j → text ≡ other
-    same_text e = ap bytes_of e
 
 pub row_stands : (u : List ℕ) (more : Bool) (k : KeyEvent) (n : ℕ) → ¬ IsOpen u more → HasRow u k n
     → ¬ Begins START u
@@ -63,11 +54,7 @@ report_stands u more event n closed front = (front.0, record { closed = closed; 
 
 -- the bytes of a character at the front
 character_bytes : (u : List ℕ) (c n : ℕ) → HasHead u (character c n) → (n ≤ length u) × (encode_utf8 c ≡ take n u)
-character_bytes u c n (long, is) = (
-  omega (arith, long, ap length is.begins.1, length-append (encode_utf8 c) is.begins.0),
-  sym (take-append_seam (encode_utf8 c) is.begins.0) ∙ ap (take (length (encode_utf8 c))) (sym is.begins.1)
-      ∙ ap (λ m. take m u) (sym long),
-)
+character_bytes u c n (long, is) = grind (arith, common_steps)
 
 pub character_stands : (u : List ℕ) (more : Bool) (c n : ℕ) → ¬ IsOpen u more → HasHead u (character c n)
     → IsItemAt u more (Key (plain c)) n

@@ -1,9 +1,7 @@
 -- Characters from SPACE to ~: each is an item, whatever follows it.
-use Rattle.std.proofs.Common.{◌≡◌, ⊎_elim, ℕ, zero, suc, ◌<◌, ◌≤◌, Bool, List, [], ◌∷◌, ◌++◌, length, take, drop, refl, sym, ap, subst, arith, take-append-drop, length-take-le, encode_utf8}
+use Rattle.std.proofs.Common.{◌≡◌, ⊎_elim, ℕ, zero, suc, ◌<◌, ◌≤◌, Bool, List, [], ◌∷◌, ◌++◌, length, take, drop, refl, sym, ap, subst, arith, take-append-drop, length-take-le, encode_utf8, slice_index_or}
 use Rattle.std.proofs.lemmas.Str.{encode_ascii}
 use Rattle.std.specs.List.{AllByRecursion}
-use Rattle.std.specs.Prelude.{slice_index_or}
-use Rattle.std.specs.Char.{IsScalar}
 use Rattle.termwiz_keys.specs.declared.types.InputEvent.TheVariants.{Key}
 use Rattle.termwiz_keys.specs.Keys.{plain}
 use Rattle.termwiz_grammar.specs.Grammar.{IsUnfinishedCharacter, Item, Stands, Steps}
@@ -12,10 +10,7 @@ use Rattle.termwiz_input.specs.Matches.{IsItemAt}
 use Rattle.termwiz_input.specs.Fronts.{IsRun}
 use Rattle.termwiz_input.specs.PrintableAscii.{IsPrintableAscii, printable_events}
 use Rattle.termwiz_input.proofs.lemmas.heads.StartsNoSequence.{apart_from_sequences}
-use Rattle.termwiz_grammar.proofs.lemmas.characters.CharacterPrefixes.{IsHigh, unfinished_high}
-
-scalar : (b : ℕ) → IsPrintableAscii b → IsScalar b
-scalar b is = search (arith)
+use Rattle.termwiz_grammar.proofs.lemmas.characters.CharacterPrefixes.{unfinished_high}
 
 printable_stands : (b : ℕ) (u : List ℕ) (more : Bool) → IsPrintableAscii b
     → Stands (b ∷ u) more (b ∷ []) (Key (plain b))
@@ -24,17 +19,15 @@ printable_stands b u more is =
     let spelled : encode_utf8 b ≡ b ∷ [] = encode_ascii b (omega (arith, is.1)) in
     record {
       closed = λ opens. ⊎_elim apart.finished
-          (λ (h : IsUnfinishedCharacter (b ∷ u)). not_high (unfinished_high (b ∷ u) (λ e. cc (e)) h)) opens.beginning;
+          (λ (h : IsUnfinishedCharacter (b ∷ u)).
+          let high = unfinished_high (b ∷ u) (λ e. cc (e)) h in omega (arith, high.0.0, is.1)) opens.beginning;
       item = subst (λ t. Item (b ∷ u) more t (Key (plain b))) spelled
           (char b (record {
             no_sequence = apart.no_sequence;
-            scalar = scalar b is;
+            scalar = search (arith);
             begins = (u, ap (λ t. t ++ u) (sym spelled));
           }));
     }
-  where
-    not_high : AllByRecursion IsHigh (b ∷ u) → ⊥
-    not_high a = omega (arith, a.0.0, is.1)
 
 printable_steps : (characters u : List ℕ) (more : Bool) → AllByRecursion IsPrintableAscii characters
     → Steps (characters ++ u) more (printable_events characters) u

@@ -1,18 +1,14 @@
 -- What the numbers that are read say of the mouse reports that a text may begin.
-use Rattle.std.proofs.Common.{◌≡◌, ◌≢◌, ℕ, ◌+◌, ◌-◌, List, [], ◌∷◌, ◌++◌, length, take, drop, inl, inr, refl, sym, ap, ◌∙◌, subst, arith, append_assoc, append-nil, length-append, Contains, zero, suc}
-use Rattle.std.specs.Prelude.{Ok}
-use denote.Ref.{Bor}
+use Rattle.std.proofs.Common.{◌≡◌, ◌≢◌, ℕ, ◌-◌, List, [], ◌∷◌, ◌++◌, length, take, drop, inl, inr, refl, sym, ap, ◌∙◌, subst, arith, append_assoc, append-nil, Contains, zero, suc, Ok, Bor}
 use Rattle.std.proofs.lemmas.List.{take_rest}
-use Rattle.std.proofs.Math.Seq.{take-append_seam}
 use Rattle.termwiz_keys.specs.declared.types.MouseEvent.{MouseEvent}
-use Rattle.termwiz_input.specs.declared.mouse_report.FrontReport.TheVariants.{Whole}
 use Rattle.termwiz_input.specs.declared.mouse_report.Unread.{Unread}
 use Rattle.termwiz_input.specs.declared.mouse_report.Unread.TheVariants.{Begun, Absent}
 use Rattle.termwiz_input.specs.declared.mouse_report.Number.{Number}
-use Rattle.termwiz_base.specs.Mouse.{largest_code, final_press, final_release, IsFinal, IsReport}
+use Rattle.termwiz_base.specs.Mouse.{largest_code, final_press, final_release, IsFinal}
 use Rattle.termwiz_keymap.specs.Bytes.{Begins}
 use Rattle.termwiz_grammar.specs.MouseReports.{IsDigit, IsNumber, value_of, introducer, semicolon, largest_place, IsMouseReport, mouse_event}
-use Rattle.termwiz_input.specs.MouseReportAnswers.{IsBegun, HasNoPartInMouseReports, IsMouseReportAnswer, IsNumberUnread, IsNumberAnswer, IsMouseReportUnread, IsEventAnswer}
+use Rattle.termwiz_input.specs.MouseReportAnswers.{IsBegun, HasNoPartInMouseReports, IsNumberUnread, IsNumberAnswer, IsMouseReportUnread, IsEventAnswer}
 use Rattle.termwiz_keymap.proofs.lemmas.lists.CommonPrefixes.{append-some, Overlaps, overlap}
 use Rattle.termwiz_keymap.proofs.lemmas.lists.CommonPrefixes.Overlaps.{within, past}
 use Rattle.termwiz_grammar.proofs.lemmas.mouse.ReportNumbers.{completes, digits_end}
@@ -39,6 +35,11 @@ until : (text digits : List ℕ) (number : Number) → Contains (semicolon ∷ [
     → text ≡ digits ++ number.end ∷ number.rest.now → text ≡ digits ++ semicolon ∷ number.rest.now
 until text digits number ends parts = parts ∙ ap (λ b. digits ++ b ∷ number.rest.now) (is_semicolon number.end ends)
 
+-- a mouse report, and what follows it
+laid_before : (code x y : List ℕ) (last : ℕ) (rest : List ℕ)
+    → laid_out code x y last ++ rest ≡ introducer ++ (code ++ semicolon ∷ (x ++ semicolon ∷ (y ++ last ∷ rest)))
+laid_before code x y last rest = simp append_assoc
+
 -- where no mouse report and the text begin one text, the text has no part in mouse reports
 no_part : (text : List ℕ)
     → ((word rest more : List ℕ) (event : MouseEvent) → IsMouseReport word event → word ++ rest ≢ text ++ more)
@@ -48,42 +49,40 @@ no_part text never = (
   λ begun. never (text ++ begun.0) [] begun.0 begun.1 begun.3 (append-nil (text ++ begun.0)),
 )
 
--- after front a mouse report has a number up to the limit and one of the bytes ends, and may have each such number
-record AsksNumber (front : List ℕ) (limit : ℕ) (ends : List ℕ) : Type 0 where
-  stops : (end : ℕ) → Contains ends end → ¬ IsDigit end
-  asked : (word rest more : List ℕ) (event : MouseEvent) → IsMouseReport word event → word ++ rest ≡ front ++ more
-      → (digits after : List ℕ) × (end : ℕ) × IsNumber digits limit × Contains ends end × (digits ++ end ∷ after ≡ more)
+-- after the parts before it a mouse report has a number up to the limit and one of the bytes ends,
+-- and may have each such number
+record AsksNumber (before : List ℕ → List ℕ) (limit : ℕ) (ends : List ℕ) : Type 0 where
+  goes_on : (text more : List ℕ) → before text ++ more ≡ before (text ++ more)
+  asked : (word rest more : List ℕ) (event : MouseEvent) → IsMouseReport word event → word ++ rest ≡ before more
+      → (digits after : List ℕ) × (end : ℕ) × IsNumber digits limit × Contains ends end × (¬ IsDigit end)
+      × (digits ++ end ∷ after ≡ more)
   given : (digits : List ℕ) → IsNumber digits limit
-      → (tail : List ℕ) × (event : MouseEvent) × (tail ≢ []) × IsMouseReport (front ++ (digits ++ tail)) event
+      → (tail : List ℕ) × (event : MouseEvent) × (tail ≢ []) × IsMouseReport (before (digits ++ tail)) event
 
--- where no number is read after front, no mouse report is
-unread : (front text : List ℕ) (limit : ℕ) (ends : List ℕ) (why : Unread) → AsksNumber front limit ends
-    → IsNumberUnread text limit ends why → IsMouseReportUnread (front ++ text) why
-unread front text limit ends Begun asks digits =
+-- where no number is read after those parts, no mouse report is
+unread : (before : List ℕ → List ℕ) (text : List ℕ) (limit : ℕ) (ends : List ℕ) (why : Unread)
+    → AsksNumber before limit ends → IsNumberUnread text limit ends why → IsMouseReportUnread (before text) why
+unread before text limit ends Begun asks digits =
     let more = completes text limit digits.0 digits.1 digits.2 in
     let mouse_report = asks.given (text ++ more.0) more.1 in
-    let parts : front ++ ((text ++ more.0) ++ mouse_report.0) ≡ (front ++ text) ++ (more.0 ++ mouse_report.0) =
-    simp append_assoc in (
-      more.0 ++ mouse_report.0,
+    let tail : List ℕ = more.0 ++ mouse_report.0 in
+    let parts : before ((text ++ more.0) ++ mouse_report.0) ≡ before text ++ tail =
+    ap before (append_assoc text more.0 mouse_report.0) ∙ sym (asks.goes_on text tail) in (
+      tail,
       mouse_report.1,
       append-some more.0 mouse_report.0 mouse_report.2,
       subst (λ w. IsMouseReport w mouse_report.1) parts mouse_report.3,
     )
-unread front text limit ends Absent asks never = no_part (front ++ text) (λ word rest more event f e.
-    let number = asks.asked word rest (text ++ more) event f (e ∙ append_assoc front text more) in
-    never number.0 number.1 more number.2 number.3 number.4 (asks.stops number.2 number.4) number.5)
+unread before text limit ends Absent asks never = no_part (before text) (λ word rest more event f e.
+    let number = asks.asked word rest (text ++ more) event f (e ∙ asks.goes_on text more) in
+    never number.0 number.1 more number.2 number.3 number.4 number.5 number.6)
 
 -- the parts of a mouse report, each after the one before
 after_introducer : (word rest more : List ℕ) (event : MouseEvent) (f : IsMouseReport word event)
     → word ++ rest ≡ introducer ++ more
     → f.code ++ semicolon ∷ (f.x ++ semicolon ∷ (f.y ++ f.last ∷ rest)) ≡ more
 after_introducer word rest more event f e =
-    let whole : laid_out f.code f.x f.y f.last ++ rest ≡ introducer ++ more =
-    ap (λ w. w ++ rest) (sym (layout word event f)) ∙ e in
-    sym (simp append_assoc) ∙ drop_three (laid_out f.code f.x f.y f.last ++ rest) (introducer ++ more) whole
-  where
-    drop_three : (a b : List ℕ) → a ≡ b → drop 3 a ≡ drop 3 b
-    drop_three a b h = ap (drop 3) h
+    ap (drop 3) (sym (laid_before f.code f.x f.y f.last rest) ∙ ap (λ w. w ++ rest) (sym (layout word event f)) ∙ e)
 
 after_number : (digits front rest more : List ℕ) (limit : ℕ) → IsNumber digits limit → IsNumber front limit
     → digits ++ semicolon ∷ rest ≡ front ++ semicolon ∷ more → rest ≡ more
@@ -95,15 +94,16 @@ zero_number : (limit : ℕ) → IsNumber (48 ∷ []) limit
 zero_number limit =
     record { some = omega arith; short = omega arith; each = ((omega arith, omega arith), tt); within = omega arith }
 
-asks_code : AsksNumber introducer largest_code (semicolon ∷ [])
+asks_code : AsksNumber (λ text. introducer ++ text) largest_code (semicolon ∷ [])
 asks_code = record {
-  stops = λ end is. subst (λ b. ¬ IsDigit b) (sym (is_semicolon end is)) semicolon_no_digit;
+  goes_on = λ text more. refl;
   asked = λ word rest more event f e. (
     f.code,
     f.x ++ semicolon ∷ (f.y ++ f.last ∷ rest),
     semicolon,
     f.code_is,
     (0, omega arith, refl),
+    semicolon_no_digit,
     after_introducer word rest more event f e,
   );
   given = λ code is. (
@@ -116,88 +116,67 @@ asks_code = record {
 }
 
 asks_column : (code : List ℕ) → IsNumber code largest_code
-    → AsksNumber (introducer ++ (code ++ semicolon ∷ [])) largest_place (semicolon ∷ [])
+    → AsksNumber (λ text. introducer ++ (code ++ semicolon ∷ text)) largest_place (semicolon ∷ [])
 asks_column code code_is = record {
-  stops = asks_code.stops;
+  goes_on = λ text more. simp append_assoc;
   asked = λ word rest more event f e. (
     f.x,
     f.y ++ f.last ∷ rest,
     semicolon,
     f.x_is,
     (0, omega arith, refl),
+    semicolon_no_digit,
     after_number f.code code _ more largest_code f.code_is code_is
-        (after_introducer word rest (code ++ semicolon ∷ more) event f (e ∙ simp append_assoc)),
+        (after_introducer word rest (code ++ semicolon ∷ more) event f e),
   );
   given = λ x is. (
     semicolon ∷ 48 ∷ final_press ∷ [],
     _,
     (λ h. cc (h)),
-    report_from _ code x (48 ∷ []) final_press (parted code x) code_is is (zero_number largest_place) (inl refl),
+    report_from _ code x (48 ∷ []) final_press refl code_is is (zero_number largest_place) (inl refl),
   );
 }
-  where
-    parted : (a b : List ℕ) → (introducer ++ (a ++ semicolon ∷ [])) ++ (b ++ (semicolon ∷ 48 ∷ final_press ∷ []))
-        ≡ laid_out a b (48 ∷ []) final_press
-    parted a b = simp append_assoc
 
 asks_row : (code x : List ℕ) → IsNumber code largest_code → IsNumber x largest_place
-    → AsksNumber (introducer ++ (code ++ semicolon ∷ (x ++ semicolon ∷ []))) largest_place finals
+    → AsksNumber (λ text. introducer ++ (code ++ semicolon ∷ (x ++ semicolon ∷ text))) largest_place finals
 asks_row code x code_is x_is = record {
-  stops = λ end is. final_no_digit end (is_final end is);
+  goes_on = λ text more. simp append_assoc;
   asked = λ word rest more event f e. (
     f.y,
     rest,
     f.last,
     f.y_is,
     final_in f.last f.last_is,
+    final_no_digit f.last f.last_is,
     after_number f.x x _ more largest_place f.x_is x_is
         (after_number f.code code _ (x ++ semicolon ∷ more) largest_code f.code_is code_is
-        (after_introducer word rest (code ++ semicolon ∷ (x ++ semicolon ∷ more)) event f (e ∙ simp append_assoc))),
+        (after_introducer word rest (code ++ semicolon ∷ (x ++ semicolon ∷ more)) event f e)),
   );
-  given = λ y is. (
-    final_press ∷ [],
-    _,
-    (λ h. cc (h)),
-    report_from _ code x y final_press (parted code x y) code_is x_is is (inl refl),
-  );
+  given = λ y is.
+      (final_press ∷ [], _, (λ h. cc (h)), report_from _ code x y final_press refl code_is x_is is (inl refl));
 }
-  where
-    parted : (a b c : List ℕ) → (introducer ++ (a ++ semicolon ∷ (b ++ semicolon ∷ []))) ++ (c ++ (final_press ∷ []))
-        ≡ laid_out a b c final_press
-    parted a b c = simp append_assoc
 
 -- the answers of the reader, by what it read before
 pub code_unread : (text : List ℕ) (why : Unread) → IsNumberUnread text largest_code (semicolon ∷ []) why
     → IsMouseReportUnread (introducer ++ text) why
-code_unread text why = unread introducer text largest_code (semicolon ∷ []) why asks_code
+code_unread text why = unread _ text largest_code (semicolon ∷ []) why asks_code
 
 pub column_unread : (text : List ℕ) (code : Number) (why : Unread)
     → IsNumberAnswer text largest_code (semicolon ∷ []) (Ok code)
     → IsNumberUnread code.rest.now largest_place (semicolon ∷ []) why → IsMouseReportUnread (introducer ++ text) why
 column_unread text code why (digits, is, value, ends, parts) number =
-    subst (λ t. IsMouseReportUnread t why)
-    (regroup digits code.rest.now ∙ ap (λ t. introducer ++ t) (sym (until text digits code ends parts)))
-    (unread (introducer ++ (digits ++ semicolon ∷ [])) code.rest.now largest_place (semicolon ∷ []) why
-    (asks_column digits is) number)
-  where
-    regroup : (a b : List ℕ) → (introducer ++ (a ++ semicolon ∷ [])) ++ b ≡ introducer ++ (a ++ semicolon ∷ b)
-    regroup a b = simp append_assoc
+    subst (λ t. IsMouseReportUnread (introducer ++ t) why) (sym (until text digits code ends parts))
+    (unread _ code.rest.now largest_place (semicolon ∷ []) why (asks_column digits is) number)
 
 pub row_unread : (text : List ℕ) (code x : Number) (why : Unread)
     → IsNumberAnswer text largest_code (semicolon ∷ []) (Ok code)
     → IsNumberAnswer code.rest.now largest_place (semicolon ∷ []) (Ok x)
     → IsNumberUnread x.rest.now largest_place finals why → IsMouseReportUnread (introducer ++ text) why
 row_unread text code x why (first, is, value, ends, parts) (second, is2, value2, ends2, parts2) number =
-    subst (λ t. IsMouseReportUnread t why)
-    (regroup first second x.rest.now
-    ∙ ap (λ t. introducer ++ (first ++ semicolon ∷ t)) (sym (until code.rest.now second x ends2 parts2))
-    ∙ ap (λ t. introducer ++ t) (sym (until text first code ends parts)))
-    (unread (introducer ++ (first ++ semicolon ∷ (second ++ semicolon ∷ []))) x.rest.now largest_place finals why
-    (asks_row first second is is2) number)
-  where
-    regroup : (a b c : List ℕ) → (introducer ++ (a ++ semicolon ∷ (b ++ semicolon ∷ []))) ++ c
-        ≡ introducer ++ (a ++ semicolon ∷ (b ++ semicolon ∷ c))
-    regroup a b c = simp append_assoc
+    let whole : text ≡ first ++ semicolon ∷ (second ++ semicolon ∷ x.rest.now) = until text first code ends parts
+    ∙ ap (λ t. first ++ semicolon ∷ t) (until code.rest.now second x ends2 parts2) in
+    subst (λ t. IsMouseReportUnread (introducer ++ t) why) (sym whole)
+    (unread _ x.rest.now largest_place finals why (asks_row first second is is2) number)
 
 pub whole_report_read : (text : List ℕ) (code x y : Number) (found : MouseEvent × Bor (List ℕ))
     → IsNumberAnswer text largest_code (semicolon ∷ []) (Ok code)
@@ -213,19 +192,9 @@ whole_report_read text code x y found (first, is, value, ends, parts) (second, i
       laid_out first second third y.end,
       subst (λ e. IsMouseReport (laid_out first second third y.end) e) same
           (report_from _ first second third y.end refl is is2 is3 (is_final y.end ends3)),
-      ap (λ t. introducer ++ t) whole ∙ regroup first second third y.end y.rest.now
+      ap (λ t. introducer ++ t) whole ∙ sym (laid_before first second third y.end y.rest.now)
           ∙ ap (λ t. laid_out first second third y.end ++ t) (sym rest),
     )
-  where
-    regroup : (a b c : List ℕ) (e : ℕ) (d : List ℕ)
-        → introducer ++ (a ++ semicolon ∷ (b ++ semicolon ∷ (c ++ e ∷ d))) ≡ laid_out a b c e ++ d
-    regroup a b c e d = simp append_assoc
-
--- the numbers that are read make a report
-pub report_read : (text rest : List ℕ) (code y : Number) → IsNumberAnswer text largest_code (semicolon ∷ []) (Ok code)
-    → IsNumberAnswer rest largest_place finals (Ok y) → IsReport code.value y.end
-report_read text rest code y (first, is, value, ends, parts) (third, is3, value3, ends3, parts3) =
-    (omega (arith, value, is.within), is_final y.end ends3)
 
 -- a text that begins with the introducer, by what follows it
 pub introduced : (text after : List ℕ) → Begins introducer text → after ≡ take (length text - 3) (drop 3 text)
@@ -256,15 +225,3 @@ no_introducer text longer shorter = no_part text go
     go word rest more event f e =
         let t = (f.code ++ semicolon ∷ (f.x ++ semicolon ∷ (f.y ++ f.last ∷ []))) ++ rest in
         split t more (overlap introducer t text more (sym e ∙ ap (λ w. w ++ rest) (layout word event f)))
-
--- a mouse report at the front of a text, by what follows it
-pub report_before : (text word rest : List ℕ) (event : MouseEvent) (len : ℕ) → IsMouseReport word event
-    → text ≡ word ++ rest → len ≡ length text - length rest
-    → IsMouseReportAnswer text (Whole event len)
-report_before text word rest event len f parts is =
-    let whole : length text ≡ length word + length rest = ap length parts ∙ length-append word rest in
-    let same : len ≡ length word = omega (arith, whole, is) in (
-      omega (arith, whole, same),
-      subst (λ w. IsMouseReport w event)
-          (sym (ap (λ t. take len t) parts ∙ ap (λ n. take n (word ++ rest)) same ∙ take-append_seam word rest)) f,
-    )

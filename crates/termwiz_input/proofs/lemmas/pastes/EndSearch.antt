@@ -1,10 +1,11 @@
 -- Where the end marker of a paste first occurs in a text.
-use Rattle.std.proofs.Common.{◌≡◌, ℕ, ◌+◌, ◌-◌, ◌<◌, ◌≤◌, List, [], ◌∷◌, ◌++◌, length, take, drop, refl, sym, ap, ◌∙◌, arith, append_assoc, length-append, length-drop, length-take-le, take-append-drop, drop-drop, ⊎_elim}
-use Rattle.std.specs.Prelude.{Some, None}
+use Rattle.std.proofs.Common.{◌≡◌, ℕ, ◌+◌, ◌-◌, ◌<◌, ◌≤◌, List, [], ◌++◌, length, take, drop, sym, ap, ◌∙◌, arith, append_assoc, length-append, length-drop, length-take-le, take-append-drop, drop-drop, ⊎_elim, Some, None}
 use Rattle.std.proofs.lemmas.Bool.{cases_lt}
-use Rattle.std.proofs.Math.Seq.{take-append_seam, drop-append_seam}
+use Rattle.std.proofs.lemmas.Grind.{common_steps}
+use Rattle.std.proofs.lemmas.List.{nil_from_length}
+use Rattle.std.proofs.Math.Seq.{take-append_seam}
 use Rattle.memchr.specs.Find.{OccursAt, FindsNeedle}
-use Rattle.memchr.proofs.lemmas.MatchLemmas.{OccursAt-split, OccursAt-from_part}
+use Rattle.memchr.proofs.lemmas.MatchLemmas.{OccursAt-split}
 use Rattle.termwiz_keymap.specs.Bytes.{Begins, Occurs}
 use Rattle.termwiz_keys.specs.Introducers.{START, END}
 use Rattle.std.specs.Str.Lossy.{utf8_lossy}
@@ -16,12 +17,7 @@ use Rattle.termwiz_input.specs.PasteSearch.{IsPasteSoFar}
 
 -- an occurrence that is written out
 occurs_between : (u before needle after : List ℕ) → u ≡ before ++ needle ++ after → OccursAt u needle (length before)
-occurs_between u before needle after e =
-    let rest : drop (length before) u ≡ needle ++ after =
-    ap (drop (length before)) (e ∙ append_assoc before needle after) ∙ drop-append_seam before (needle ++ after) in
-    OccursAt-from_part u needle (length before)
-    (omega (arith, ap length e, length-append (before ++ needle) after, length-append before needle))
-    (ap (take (length needle)) rest ∙ take-append_seam needle after)
+occurs_between u before needle after e = grind (arith, common_steps)
 
 -- what a search for the end marker says of a paste
 pub endless : (u : List ℕ) → Begins START u → FindsNeedle u END 6 None → (body : List ℕ) → u ≡ START ++ body
@@ -81,7 +77,7 @@ paste_to u k begins found = record {
         let here = occurs_between u (START ++ before) END (after ++ rest)
         (parts ∙ ap (λ t. START ++ t ++ rest) e ∙ ap (λ t. START ++ t) (append_assoc (before ++ END) after rest)) in
         let least : k ≤ length (START ++ before) = not_before (length (START ++ before)) (omega arith) here in
-        none_left after (omega (
+        nil_from_length after (omega (
           arith,
           ap length e,
           length-append body END,
@@ -94,10 +90,6 @@ paste_to u k begins found = record {
       where
         not_before : (j : ℕ) → 6 ≤ j → OccursAt u END j → k ≤ j
         not_before j l o = ⊎_elim (λ (h : j < k). absurd (found.0.before j l h o)) (λ (h : k ≤ j). h) (cases_lt j k)
-
-        none_left : (t : List ℕ) → length t ≤ 0 → t ≡ []
-        none_left [] l = refl
-        none_left (x ∷ t) l = absurd (omega arith)
 
 -- a paste whose end is found isn't open
 pub ended : (u : List ℕ) (k : ℕ) → Begins START u → FindsNeedle u END 6 (Some k) → ¬ IsOpenPaste u

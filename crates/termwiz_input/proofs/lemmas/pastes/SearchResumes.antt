@@ -1,6 +1,5 @@
 -- Where a search for the end of a paste may go on.
-use Rattle.std.proofs.Common.{◌≡◌, ℕ, ◌+◌, ◌-◌, ◌≤◌, Bool, List, [], ◌∷◌, ◌++◌, length, take, drop, max, get_or, sym, ap, ◌∙◌, arith, append_assoc, append-nil, length-append, length-take-le, take-append-drop}
-use Rattle.std.specs.Prelude.{Option, Some, None}
+use Rattle.std.proofs.Common.{◌≡◌, ℕ, ◌+◌, ◌-◌, ◌≤◌, Bool, List, [], ◌∷◌, ◌++◌, length, take, drop, max, get_or, sym, ap, ◌∙◌, arith, append_assoc, append-nil, length-append, length-take-le, take-append-drop, Option, Some, None}
 use Rattle.std.specs.Str.Lossy.{utf8_lossy}
 use Rattle.memchr.specs.Find.{OccursAt, FindsNeedle}
 use Rattle.memchr.proofs.lemmas.MatchLemmas.{OccursAt-split}
@@ -16,15 +15,11 @@ use Rattle.termwiz_grammar.proofs.lemmas.pastes.FirstEnd.{Ends, find_end}
 use Rattle.termwiz_grammar.proofs.lemmas.pastes.FirstEnd.Ends.{ends, endless}
 use Rattle.termwiz_input.proofs.lemmas.items.ItemByHead.{start_closed}
 
--- the place lies in the text
-place_within : (u : List ℕ) (place : ℕ) → NoEndBefore u place → place ≤ length u
-place_within u place is = is END u [] (sym (append-nil (u ++ END)))
-
 -- a search of an open paste, from the place on but after START, begins in the text
 pub search_within : (u : List ℕ) (place from : ℕ) → Begins START u → NoEndBefore u place → from ≡ max place 6
     → from ≤ length u
 search_within u place from begins is e =
-    omega (arith, place_within u place is, ap length begins.1, length-append START begins.0)
+    omega (arith, is END u [] (sym (append-nil (u ++ END))), ap length begins.1, length-append START begins.0)
 
 too_soon : (u : List ℕ) (place k : ℕ) → NoEndBefore u place → OccursAt u END k → place ≤ k
 too_soon u place k is here =

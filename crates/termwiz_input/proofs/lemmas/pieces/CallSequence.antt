@@ -1,8 +1,7 @@
 -- Calls of a callback, one after another, and the numbers of their events.
-use Rattle.std.proofs.Common.{◌≡◌, ◌∙◌, ℕ, Bool, List, [], ◌∷◌, ◌++◌, refl, sym, subst}
+use Rattle.std.proofs.Common.{◌≡◌, ◌∙◌, ℕ, Bool, List, [], ◌∷◌, ◌++◌, refl, sym, subst, Bor, MutBor}
 use Rattle.std.specs.List.{FoldsTo}
 use Rattle.std.specs.Fn.{Mut}
-use denote.Ref.{Bor, MutBor}
 use denote.Param.Members.{Called}
 use Rattle.termwiz_keys.specs.declared.types.InputEvent.{InputEvent}
 use Rattle.termwiz_grammar.specs.Grammar.{Steps}
@@ -16,11 +15,6 @@ module _ {P A : Type 0} (R : P → A → P → Type 0) where
       → FoldsTo R a (xs ++ ys) c
   FoldsTo-append a [] b ys c h k = let Q : P → Type 0 = λ v. FoldsTo R v ys c in subst Q (sym h) k
   FoldsTo-append a (x ∷ xs) b ys c h k = (h.0, h.1, FoldsTo-append h.0 xs b ys c h.2 k)
-
-  -- one more step at the end
-  pub FoldsTo-push : (a : P) (xs : List A) (b : P) (x : A) (c : P) → FoldsTo R a xs b → R b x c
-      → FoldsTo R a (xs ++ x ∷ []) c
-  FoldsTo-push a xs b x c h k = FoldsTo-append a xs b (x ∷ []) c h (c, k, refl)
 
   -- no step changes nothing
   pub FoldsTo-nil : (a : P) (xs : List A) (b : P) → xs ≡ [] → FoldsTo R a xs b → a ≡ b
@@ -52,7 +46,7 @@ module _ {F : Type 0} (g : Mut F (InputEvent × Unit {0}) (Unit {0})) (more : Bo
   given_one_more T first U now event V next (events, steps, calls) step called = (
     events ++ event ∷ [],
     steps_join events (event ∷ []) T U V more steps step,
-    FoldsTo-push _ first events now event next calls called,
+    FoldsTo-append _ first events now (event ∷ []) next calls (next, called, refl),
   )
 
   pub may_give_more : (U : List ℕ) (now : F) (event : InputEvent) (V : List ℕ) (next : F)

@@ -1,18 +1,15 @@
 -- Pieces that are read one after another, and the numbers of their events.
-use Rattle.std.proofs.Common.{◌≡◌, ◌⊎◌, ◌∙◌, ◌+◌, ◌-◌, ◌<◌, ◌≤◌, ◌==◌, ℕ, suc, Bool, true, false, cond, List, [], ◌∷◌, ◌++◌, length, take, get_or, nat_lt, refl, sym, ap, subst, arith, ⊎_elim, append_assoc, append-nil, length-append, All}
+use Rattle.std.proofs.Common.{◌≡◌, ◌∙◌, ◌+◌, ◌-◌, ◌<◌, ◌≤◌, ◌==◌, ℕ, suc, Bool, true, false, cond, List, [], ◌∷◌, ◌++◌, length, take, get_or, nat_lt, refl, sym, ap, subst, arith, ⊎_elim, append_assoc, append-nil, length-append, All, Bor}
 use Rattle.std.specs.List.Sorted.{IsNonDecreasingBy}
+use Rattle.std.proofs.lemmas.Grind.{common_steps}
 use Rattle.std.proofs.lemmas.Bool.{cases_lt}
 use Rattle.std.proofs.lemmas.Bool.Decides.{nat_tests}
 use Rattle.std.proofs.lemmas.List.{length-map, length-take-le, take_all, take_more, take-append-le, get_or-map, flat_map_more}
 use Rattle.std.proofs.lemmas.List.Elements.{All-append, All-cons, All-weaker, filter-append}
 use Rattle.std.proofs.lemmas.List.Sorted.{IsNonDecreasingBy-push}
-use denote.Ref.{Bor}
 use Rattle.termwiz_keys.specs.declared.types.InputEvent.{InputEvent}
-use Rattle.termwiz_grammar.specs.Grammar.{Steps, Means, IsRest}
+use Rattle.termwiz_grammar.specs.Grammar.{HasPaste, Steps, Means, IsRest}
 use Rattle.termwiz_input.specs.Pieces.{texts, join, pieces_or_one, NumberedEvent, events_of, numbered, of_first, AreNumbered, flag_at, ReadsFirst, taken_or_one}
-use Rattle.termwiz_keymap.specs.Bytes.{Begins}
-use Rattle.termwiz_keys.specs.Introducers.{START}
-use Rattle.termwiz_grammar.proofs.lemmas.waiting.RestShape.{rest_flushed}
 use Rattle.termwiz_grammar.proofs.lemmas.cuts.ChunkInvariance.{steps_stay, steps_join}
 
 -- the events of one more piece
@@ -55,19 +52,12 @@ in_order-numbered : (given : List NumberedEvent) (number : ℕ) (events : List I
     → IsNonDecreasingBy (λ event. event.0) (given ++ numbered number events)
 in_order-numbered given number [] order below = rw (append-nil given) order
 in_order-numbered given number (e ∷ events) order below =
-    let next : List NumberedEvent = given ++ (number, e) ∷ [] in
-    let one : (given ++ (number, e) ∷ []) ++ numbered number events ≡ given ++ ((number, e) ∷ numbered number events) =
-    append_assoc given ((number, e) ∷ []) (numbered number events) in
-    rw (← one) (in_order-numbered (given ++ (number, e) ∷ []) number events
+    rw (← append_assoc given ((number, e) ∷ []) (numbered number events))
+    (in_order-numbered (given ++ (number, e) ∷ []) number events
     (IsNonDecreasingBy-push (λ (event : NumberedEvent). event.0) given (number, e) order
     (λ d some. let last = below (length given - 1) d (omega arith) in omega (arith, last)))
     (All-append (λ (event : NumberedEvent). event.0 < number + 1) given ((number, e) ∷ []) below
     (all_numbered number (e ∷ []))))
-
--- the text with one more piece
-join-push : (waiting : List ℕ) (pieces : List (List ℕ)) (piece : List ℕ)
-    → waiting ++ join (pieces ++ piece ∷ []) ≡ (waiting ++ join pieces) ++ piece
-join-push waiting pieces piece = sym (flat_map_more (λ (p : List ℕ). p) waiting pieces piece)
 
 -- one more piece keeps the numbers right, where what waits before it is a rest
 pub numbered_more : (waiting : List ℕ) (pieces : List (List ℕ)) (piece : List ℕ) (given : List NumberedEvent)
@@ -123,30 +113,15 @@ pub record Between (waiting : List ℕ) (pieces : List (List ℕ)) (more : Bool)
 -- the flags of the pieces
 pub flag_before : (pieces : List (List ℕ)) (more : Bool) (taken : ℕ) → taken < length pieces
     → flag_at pieces more taken ≡ true
-flag_before pieces more taken inside = let test : (taken == length pieces) ≡ false = grind (arith, nat_tests) in
-    rw test refl
-
-flag_last : (pieces : List (List ℕ)) (more : Bool) → flag_at pieces more (length pieces) ≡ more
-flag_last pieces more = let test : (length pieces == length pieces) ≡ true = grind (arith, nat_tests) in rw test refl
+flag_before pieces more taken inside = grind (arith, nat_tests)
 
 -- at first
 pub between_none : (waiting : List ℕ) (pieces : List (List ℕ)) (more : Bool) → 0 < length pieces
     → Between waiting pieces more 0 [] waiting
-between_none waiting pieces more some = record {
-  reads = record {
-    within = omega arith;
-    steps = append-nil waiting;
-    are_numbered = record {
-      in_range = λ i d inside. absurd (omega arith);
-      in_order = λ i j d le inside. absurd (omega arith);
-      by_piece = λ k above inside. absurd (omega arith);
-    };
-  };
-  settled = λ none. absurd (omega arith);
-}
+between_none waiting pieces more some = grind (arith, common_steps)
 
-module _ (waiting : List ℕ) (pieces : List (List ℕ)) (more : Bool) (taken : ℕ) (given : List NumberedEvent)
-    (rest : List ℕ) (at : Between waiting pieces more taken given rest)
+module _ {waiting : List ℕ} {pieces : List (List ℕ)} {more : Bool} {taken : ℕ} {given : List NumberedEvent}
+    {rest : List ℕ} (at : Between waiting pieces more taken given rest)
     (inside : taken < length pieces) (piece : List ℕ) (is : piece ≡ get_or pieces taken []) (events : List InputEvent)
     (left : List ℕ) where
   one_more : take (taken + 1) pieces ≡ take taken pieces ++ piece ∷ []
@@ -156,17 +131,17 @@ module _ (waiting : List ℕ) (pieces : List (List ℕ)) (more : Bool) (taken : 
   long = length-take-le taken pieces (omega arith)
 
   steps_before : Steps (waiting ++ join (take taken pieces)) true (events_of given) rest
-  steps_before = subst (λ b. Steps (waiting ++ join (take taken pieces)) b (events_of given) rest)
-      (flag_before pieces more taken inside) at.reads.steps
+  steps_before = grind (arith, common_steps)
 
   -- the next piece, read as far as its steps come
   pub read_more : (f : Bool) → f ≡ flag_at pieces more (taken + 1) → Steps (rest ++ piece) f events left
       → ReadsFirst waiting pieces more (taken + 1) (given ++ numbered taken events) left
   read_more f flag steps = record {
     within = omega arith;
-    steps = rw (← flag, one_more, join-push waiting (take taken pieces) piece, events_of-numbered given taken events)
+    steps = rw (← flag, one_more, ← flat_map_more (λ (p : List ℕ). p) waiting (take taken pieces) piece)
+        (rw (events_of-numbered given taken events)
         (steps_join (events_of given) events ((waiting ++ join (take taken pieces)) ++ piece) (rest ++ piece) left f
-        (steps_stay (events_of given) (waiting ++ join (take taken pieces)) piece rest f steps_before) steps);
+        (steps_stay (events_of given) (waiting ++ join (take taken pieces)) piece rest f steps_before) steps));
     are_numbered = rw one_more
         (subst (λ n. AreNumbered waiting (take taken pieces ++ piece ∷ []) (given ++ numbered n events)) long
         (numbered_more waiting (take taken pieces) piece given rest events at.reads.are_numbered steps_before
@@ -180,30 +155,6 @@ module _ (waiting : List ℕ) (pieces : List (List ℕ)) (more : Bool) (taken : 
     reads = read_more f flag means.steps;
     settled = λ some. subst (IsRest left) flag means.rest;
   }
-
--- all pieces were read
-pub all_read : (waiting : List ℕ) (pieces : List (List ℕ)) (more : Bool) (given : List NumberedEvent) (rest : List ℕ)
-    → 0 < length pieces → Between waiting pieces more (length pieces) given rest
-    → Means (waiting ++ join pieces) more (events_of given) rest × AreNumbered waiting pieces given
-all_read waiting pieces more given rest some at =
-    let all : take (length pieces) pieces ≡ pieces = take_all (length pieces) pieces (omega arith) in (
-      record {
-        steps = subst (λ b. Steps (waiting ++ join pieces) b (events_of given) rest) (flag_last pieces more)
-            (subst (λ ps. Steps (waiting ++ join ps) (flag_at pieces more (length pieces)) (events_of given) rest) all
-            at.reads.steps);
-        rest = subst (IsRest rest) (flag_last pieces more) (at.settled some);
-      },
-      subst (λ ps. AreNumbered waiting ps given) all at.reads.are_numbered,
-    )
-
--- what waits then, without more to come
-pub all_flushed : (waiting : List ℕ) (pieces : List (List ℕ)) (more : Bool) (taken : ℕ) (given : List NumberedEvent)
-    (rest : List ℕ) → 0 < length pieces
-    → taken ≡ length pieces → Between waiting pieces more taken given rest → more ≡ false
-    → (rest ≡ []) ⊎ Begins START rest
-all_flushed waiting pieces more taken given rest some all at last =
-    rest_flushed rest more
-    (subst (IsRest rest) (ap (flag_at pieces more) all ∙ flag_last pieces more) (at.settled (omega arith))) last
 
 -- the pieces of a slice that has some
 pub length-pieces : (pieces : List (Bor (List ℕ))) → 0 < length pieces
@@ -225,37 +176,51 @@ some_taken (p ∷ pieces) taken some = refl
 pub one_read : (waiting : List ℕ) (more : Bool) (events : List InputEvent) (rest : List ℕ)
     → Steps (waiting ++ []) more events rest → ReadsFirst waiting ([] ∷ []) more 1 (numbered 0 events) rest
 one_read waiting more events rest steps =
-    read_more waiting ([] ∷ []) more 0 [] waiting (between_none waiting ([] ∷ []) more (omega arith))
-    (omega arith) [] refl events rest more refl steps
+    read_more (between_none waiting ([] ∷ []) more (omega arith)) (omega arith) [] refl events rest more refl steps
 
 pub one_settled : (waiting : List ℕ) (more : Bool) (events : List InputEvent) (rest : List ℕ)
     → Means (waiting ++ []) more events rest
     → Means (waiting ++ join ([] ∷ [])) more (events_of (numbered 0 events)) rest
     × AreNumbered waiting ([] ∷ []) (numbered 0 events)
 one_settled waiting more events rest means =
-    all_read waiting ([] ∷ []) more (numbered 0 events) rest (omega arith)
-    (between_more waiting ([] ∷ []) more 0 [] waiting (between_none waiting ([] ∷ []) more (omega arith))
-    (omega arith) [] refl events rest more refl means)
+    let at =
+    between_more (between_none waiting ([] ∷ []) more (omega arith)) (omega arith) [] refl events rest more refl means in
+    grind (arith, common_steps)
 
--- the flag of a piece, by the number of the pieces of the slice
-pub flag_of_slice : (pieces : List (Bor (List ℕ))) (more : Bool) (taken : ℕ) → 0 < length pieces
-    → cond (taken == length pieces) more true ≡ flag_at (pieces_or_one (texts pieces)) more taken
-flag_of_slice pieces more taken some = ap (λ n. cond (taken == n) more true) (sym (length-pieces pieces some))
+-- where a piece of a slice was taken, by the flag under which it was read
+pub paste_after : (slice : List (Bor (List ℕ))) (more : Bool) (u : List ℕ) {number : ℕ} {f : Bool}
+    → number < length slice → f ≡ cond (number + 1 == length slice) more true → HasPaste u f
+    → HasPaste u (flag_at (pieces_or_one (texts slice)) more (number + 1))
+paste_after slice more u inside flag is = grind (arith, common_steps)
+
+-- the piece of a slice after those that were read
+module _ (slice : List (Bor (List ℕ))) {waiting : List ℕ} {more : Bool} {number : ℕ} {given : List NumberedEvent}
+    {rest : List ℕ} (at : Between waiting (pieces_or_one (texts slice)) more number given rest)
+    (inside : number < length slice) where
+  within : number < length (pieces_or_one (texts slice))
+  within = omega (arith, length-pieces slice (omega arith))
+
+  -- before it waits a rest
+  pub rest_before : 0 < number → IsRest rest true
+  rest_before some = subst (IsRest rest) (flag_before (pieces_or_one (texts slice)) more number within) (at.settled some)
+
+  module _ (d : Bor (List ℕ)) {f : Bool} (flag : f ≡ cond (number + 1 == length slice) more true)
+      (events : List InputEvent) (left : List ℕ) where
+    flag_here : f ≡ flag_at (pieces_or_one (texts slice)) more (number + 1)
+    flag_here = grind (arith, common_steps)
+
+    -- it is read as far as its steps come, or to its rest
+    pub slice_read : Steps (rest ++ (get_or slice number d).now) f events left
+        → ReadsFirst waiting (pieces_or_one (texts slice)) more (number + 1) (given ++ numbered number events) left
+    slice_read = read_more at within _ (piece_at slice number d inside) events left f flag_here
+
+    pub slice_settled : Means (rest ++ (get_or slice number d).now) f events left
+        → Between waiting (pieces_or_one (texts slice)) more (number + 1) (given ++ numbered number events) left
+    slice_settled = between_more at within _ (piece_at slice number d inside) events left f flag_here
 
 -- where no piece was read, nothing was
-pub nothing_read : (waiting : List ℕ) (pieces : List (List ℕ)) (more : Bool) (taken : ℕ) (given : List NumberedEvent)
-    (rest : List ℕ) → Between waiting pieces more taken given rest → taken ≡ 0
-    → (given ≡ []) × (waiting ≡ rest)
-nothing_read waiting pieces more taken given rest at zero = by given at.reads.are_numbered.in_range at.reads.steps
-  where
-    take_none : (n : ℕ) (ps : List (List ℕ)) → n ≡ 0 → take n ps ≡ []
-    take_none n ps none = rw none refl
-
-    by : (es : List NumberedEvent) → All (λ event. event.0 < length (take taken pieces)) es
-        → Steps (waiting ++ join (take taken pieces)) (flag_at pieces more taken) (events_of es) rest
-        → (es ≡ []) × (waiting ≡ rest)
-    by [] below steps =
-        (refl, sym (append-nil waiting) ∙ ap (λ ps. waiting ++ join ps) (sym (take_none taken pieces zero)) ∙ steps)
-    by (e ∷ es) below steps =
-        let first : e.0 < length (take taken pieces) = below 0 e (omega arith) in
-        absurd (omega (arith, ap length (take_none taken pieces zero)))
+pub nothing_read : {waiting : List ℕ} {pieces : List (List ℕ)} {more : Bool} {taken : ℕ} {given : List NumberedEvent}
+    {rest : List ℕ} → Between waiting pieces more taken given rest → taken ≡ 0 → (given ≡ []) × (waiting ≡ rest)
+nothing_read {given = []} at zero = grind (arith, common_steps)
+nothing_read {given = event ∷ given} at zero =
+    let below = rw zero at (at.reads.are_numbered.in_range 0 event (omega arith)) in absurd (omega arith)

@@ -1,8 +1,7 @@
-use Rattle.std.proofs.Common.{List, ℕ, refl}
+use Rattle.std.proofs.Common.{List, ℕ, refl, Bor}
 use Rattle.std.proofs.lemmas.Result.{err_from_is_err_and}
-use denote.Ref.{Bor}
 use Rattle.termwiz_keys.specs.declared.types.MouseEvent.{MouseEvent}
-use Rattle.termwiz_input.proofs.lemmas.mouse.ReportReading.{code_unread, column_unread, row_unread, report_read, whole_report_read}
+use Rattle.termwiz_input.proofs.lemmas.mouse.ReportReading.{code_unread, column_unread, row_unread, whole_report_read}
 use Rattle.termwiz_input.proofs.mouse_report.event_at.Goals as goal
 
 pub returns-in_err-code : goal.returns-in_err-code
@@ -27,7 +26,3 @@ returns-in-Some c =
     let found : MouseEvent × Bor (List ℕ) = (c.in-Some.event, c.in_ok-row.row.rest) in
     whole_report_read c.args.text.now c.in_ok-code.code c.in_ok-column.column c.in_ok-row.row found c.in_ok-code.ensures
     c.in_ok-column.ensures c.in_ok-row.ensures c.in-Some.ensures.1 refl
-
-pub returns-in-None : goal.returns-in-None
-returns-in-None c = absurd (c.in-None.ensures
-    (report_read c.args.text.now _ c.in_ok-code.code c.in_ok-row.row c.in_ok-code.ensures c.in_ok-row.ensures))

@@ -1,21 +1,9 @@
-use Rattle.std.proofs.Common.{◌∙◌, sym, subst, refl}
-use Rattle.termwiz_input.specs.declared.mouse_report.Unread.TheVariants.{Begun, Absent}
+use Rattle.std.proofs.Common.{subst, refl}
+use Rattle.termwiz_input.specs.declared.mouse_report.Unread.TheVariants.{Absent}
 use Rattle.termwiz_input.specs.MouseReportAnswers.{IsMouseReportUnread}
-use Rattle.termwiz_input.proofs.lemmas.mouse.ReportReading.{introduced, report_before, introducer_begun, no_introducer}
+use Rattle.termwiz_input.proofs.lemmas.mouse.ReportReading.{introduced, introducer_begun, no_introducer}
 use Rattle.termwiz_keymap.proofs.lemmas.lists.PrefixTest.{denied}
 use Rattle.termwiz_input.proofs.mouse_report.mouse_report_at.Goals as goal
-
-pub returns-in-Ok : goal.returns-in-Ok
-returns-in-Ok c =
-    let whole = introduced c.args.text.now _ (c.begins_with.ensures.0 c.if-begins_with.true) refl in
-    let found = c.in-Ok.ensures in
-    report_before c.args.text.now found.0 c.in-Ok.rest.now c.in-Ok.event _ found.1 (sym whole ∙ found.2) refl
-
-pub returns-in-Err-Begun : goal.returns-in-Err-Begun
-returns-in-Err-Begun c =
-    subst (λ t. IsMouseReportUnread t Begun)
-    (introduced c.args.text.now _ (c.begins_with.ensures.0 c.if-begins_with.true) refl)
-    (rw c.in-Err-Begun.field-0-is at c.in-Err-Begun.ensures)
 
 pub returns-in-Err-Absent : goal.returns-in-Err-Absent
 returns-in-Err-Absent c =

@@ -1,5 +1,4 @@
-use Rattle.std.proofs.Common.{◌≡◌, ◌+◌, ◌-◌, ◌++◌, ◌≤◌, length, take}
-use Rattle.std.specs.Prelude.{vec_len, vec_capacity}
+use Rattle.std.proofs.Common.{◌≡◌, ◌+◌, ◌-◌, ◌++◌, ◌≤◌, length, take, vec_len, vec_capacity}
 use Rattle.termwiz_input.specs.PrintableAscii.{printable_events}
 use Rattle.termwiz_input.proofs.printable_ascii.append_printable_ascii.Given as goal
 

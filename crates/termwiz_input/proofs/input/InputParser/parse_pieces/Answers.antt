@@ -1,14 +1,14 @@
-use Rattle.std.proofs.Common.{List, ℕ, ◌≡◌, ◌++◌, ◌+◌, ◌<◌, ◌∙◌, [], Result, Err, inl, inr, refl, sym, subst, arith, length}
+use Rattle.std.proofs.Common.{List, ℕ, ◌≡◌, ◌++◌, ◌+◌, ◌∙◌, [], Result, Err, inl, inr, refl, sym, arith, Bor}
 use Rattle.std.proofs.lemmas.List.{nil_from_length, get_or-map}
-use denote.Ref.{Bor}
 use Rattle.std.proofs.lemmas.Bool.Decides.{nat_tests}
 use Rattle.termwiz_input.specs.declared.input.ParseError.{ParseError}
 use Rattle.termwiz_input.specs.declared.input.ParseError.TheVariants.{NotTaken, Taken}
-use Rattle.termwiz_grammar.specs.Grammar.{HasPaste, IsRest, Means}
-use Rattle.termwiz_input.specs.Pieces.{AreNumbered, ReadsFirst, events_of, flag_at, join, numbered, pieces_or_one, taken_or_one, texts}
+use Rattle.termwiz_grammar.specs.Grammar.{IsRest}
+use Rattle.termwiz_input.specs.Pieces.{numbered}
 use Rattle.termwiz_input.proofs.lemmas.pieces.CallSequence.{FoldsTo-append, FoldsTo-nil, may_go_on}
 use Rattle.termwiz_grammar.proofs.lemmas.waiting.RestShape.{rest_flushed}
-use Rattle.termwiz_input.proofs.lemmas.pieces.NumberedEvents.{all_flushed, between_more, flag_of_slice, length-pieces, flag_before, nothing_read, one_read, one_settled, piece_at, read_more, some_taken}
+use Rattle.termwiz_input.proofs.lemmas.pieces.NumberedEvents.{nothing_read, one_read, one_settled, paste_after, rest_before, slice_read, slice_settled, some_taken}
+use Rattle.std.proofs.lemmas.Grind.{common_steps}
 use Rattle.termwiz_input.proofs.input.InputParser.parse_pieces.Goals as goal
 
 -- what a refusal was
@@ -22,22 +22,14 @@ by_fault Taken a b = b refl refl
 pub parse_piece-requires : goal.parse_piece-requires
 parse_piece-requires g c = λ events rest steps.
     let none : c.args.pieces.now ≡ [] = nil_from_length c.args.pieces.now (grind (arith, nat_tests)) in
-    c.requires 1 (numbered 0 events) rest
-    (subst (λ ps. ReadsFirst c.args.self.now (pieces_or_one (texts ps)) c.args.maybe_more 1 (numbered 0 events) rest)
-    (sym none)
-    (one_read c.args.self.now c.args.maybe_more events rest steps))
+    c.requires 1 (numbered 0 events) rest (rw none (one_read _ _ events rest steps))
 
 pub returns-in-Ok-clause-ok : goal.returns-in-Ok-clause-ok
 returns-in-Ok-clause-ok g c =
     let none : c.args.pieces.now ≡ [] = nil_from_length c.args.pieces.now (grind (arith, nat_tests)) in
     let parsed = c.in-Ok.ensures.ok in
-    let both = one_settled c.args.self.now c.args.maybe_more parsed.0 c.parse_piece.new.self parsed.1 in (
-      numbered 0 parsed.0,
-      subst (λ ps. Means (c.args.self.now ++ join (texts ps)) c.args.maybe_more
-          (events_of (numbered 0 parsed.0)) c.parse_piece.new.self) (sym none) both.0,
-      subst (λ ps. AreNumbered c.args.self.now (pieces_or_one (texts ps)) (numbered 0 parsed.0)) (sym none) both.1,
-      parsed.2,
-    )
+    let both = one_settled c.args.self.now c.args.maybe_more parsed.0 c.parse_piece.new.self parsed.1 in
+    (numbered 0 parsed.0, rw none both.0, rw none both.1, parsed.2)
 
 pub returns-in-Ok-clause-flushed : goal.returns-in-Ok-clause-flushed
 returns-in-Ok-clause-flushed g c =
@@ -48,67 +40,43 @@ returns-in-Err-clause-taken g c =
     let none : c.args.pieces.now ≡ [] = nil_from_length c.args.pieces.now (grind (arith, nat_tests)) in
     by_fault c.in-Err.field-0
     (λ was is. absurd (c.in-Err.ensures.not_taken_some was refl))
-    (λ was is.
-    let parsed = c.in-Err.ensures.taken was in (
-      numbered 0 parsed.0,
-      subst (λ ps. ReadsFirst c.args.self.now (pieces_or_one (texts ps)) c.args.maybe_more (taken_or_one (texts ps) 0)
-          (numbered 0 parsed.0) c.parse_piece.new.self) (sym none)
-          (one_read c.args.self.now c.args.maybe_more parsed.0 c.parse_piece.new.self parsed.1),
-      parsed.2,
-    ))
+    (λ was is. let parsed = c.in-Err.ensures.taken was in
+    (numbered 0 parsed.0, rw none (one_read _ _ parsed.0 _ parsed.1), parsed.2))
 
 pub returns-in-Err-clause-refused : goal.returns-in-Err-clause-refused
 returns-in-Err-clause-refused g c =
     let none : c.args.pieces.now ≡ [] = nil_from_length c.args.pieces.now (grind (arith, nat_tests)) in
     by_fault c.in-Err.field-0
     (λ was is. absurd (c.in-Err.ensures.not_taken_some was refl))
-    (λ was is. inl (subst (λ ps. HasPaste c.parse_piece.new.self
-    (flag_at (pieces_or_one (texts ps)) c.args.maybe_more (taken_or_one (texts ps) 0))) (sym none)
-    (c.in-Err.ensures.taken_paste was)))
+    (λ was is. inl (rw none (c.in-Err.ensures.taken_paste was)))
 
 -- the piece with this number
 pub parse_piece-requires-in-loop-number : goal.parse_piece-requires-in-loop-number
 parse_piece-requires-in-loop-number g c = λ events rest steps.
     let given = c.loop-number.invariant in
-    let ps = pieces_or_one (texts c.args.pieces.now) in
-    let number = c.loop-number.number in
-    let inside : number < length c.args.pieces.now = c.loop-number-test.true in
-    let count : length ps ≡ length c.args.pieces.now = length-pieces c.args.pieces.now (omega arith) in
-    may_go_on g.F.FnMut c.args.callback.now given.0 (numbered number events) c.loop-number.callback
-    (c.requires (number + 1) (given.0 ++ numbered number events) rest
-    (read_more c.args.self.now ps c.args.maybe_more number given.0 c.loop-number.self given.1 (omega arith) _
-    (piece_at c.args.pieces.now number _ inside) events rest
-    c.more_after-more.result
-    (c.more_after-more.ensures ∙ flag_of_slice c.args.pieces.now c.args.maybe_more (number + 1) (omega arith)) steps))
+    let these = numbered c.loop-number.number events in
+    may_go_on g.F.FnMut c.args.callback.now given.0 these c.loop-number.callback
+    (c.requires (c.loop-number.number + 1) (given.0 ++ these) rest
+    (slice_read c.args.pieces.now given.1 c.loop-number-test.true _ c.more_after-more.ensures events rest steps))
     given.2
 
 pub returns-in-Err-parse_piece-clause-none_taken_same : goal.returns-in-Err-parse_piece-clause-none_taken_same
 returns-in-Err-parse_piece-clause-none_taken_same g c = λ some zero. by_fault c.in-Err-parse_piece.fault
-    (λ was is.
-    let at : c.at.result.taken ≡ c.loop-number.number = c.at.ensures.not_taken is in
-    let given = c.loop-number.invariant in
-    c.in-Err-parse_piece.ensures.not_taken_same was
-    ∙ sym (nothing_read c.args.self.now (pieces_or_one (texts c.args.pieces.now)) c.args.maybe_more c.loop-number.number
-    given.0 c.loop-number.self given.1 (omega arith)).1)
-    (λ was is. let at : c.at.result.taken ≡ c.loop-number.number + 1 = c.at.ensures.taken is in absurd (omega arith))
+    (λ was is. c.in-Err-parse_piece.ensures.not_taken_same was
+    ∙ sym (nothing_read c.loop-number.invariant.1 (omega (arith, c.at.ensures.not_taken is))).1)
+    (λ was is. absurd (omega (arith, c.at.ensures.taken is)))
 
 pub returns-in-Err-parse_piece-clause-none_taken_quiet : goal.returns-in-Err-parse_piece-clause-none_taken_quiet
 returns-in-Err-parse_piece-clause-none_taken_quiet g c = λ some zero. by_fault c.in-Err-parse_piece.fault
-    (λ was is.
-    let at : c.at.result.taken ≡ c.loop-number.number = c.at.ensures.not_taken is in
-    let given = c.loop-number.invariant in
-    let none : given.0 ≡ [] = (nothing_read c.args.self.now (pieces_or_one (texts c.args.pieces.now)) c.args.maybe_more
-    c.loop-number.number given.0 c.loop-number.self given.1 (omega arith)).0 in
-    c.in-Err-parse_piece.ensures.not_taken_quiet was ∙ sym (FoldsTo-nil _ c.args.callback.now given.0 _ none given.2))
-    (λ was is. let at : c.at.result.taken ≡ c.loop-number.number + 1 = c.at.ensures.taken is in absurd (omega arith))
+    (λ was is. let given = c.loop-number.invariant in
+    c.in-Err-parse_piece.ensures.not_taken_quiet was ∙ sym (FoldsTo-nil _ c.args.callback.now given.0 _
+    (nothing_read given.1 (omega (arith, c.at.ensures.not_taken is))).0 given.2))
+    (λ was is. absurd (omega (arith, c.at.ensures.taken is)))
 
 pub returns-in-Err-parse_piece-clause-taken : goal.returns-in-Err-parse_piece-clause-taken
 returns-in-Err-parse_piece-clause-taken g c =
     let given = c.loop-number.invariant in
-    let ps = pieces_or_one (texts c.args.pieces.now) in
-    let number = c.loop-number.number in
-    let inside : number < length c.args.pieces.now = c.loop-number-test.true in
-    let count : length ps ≡ length c.args.pieces.now = length-pieces c.args.pieces.now (omega arith) in
+    let inside = c.loop-number-test.true in
     rw (some_taken c.args.pieces.now c.at.result.taken (omega arith))
     (by_fault c.in-Err-parse_piece.fault
     (λ was is. (
@@ -116,74 +84,48 @@ returns-in-Err-parse_piece-clause-taken g c =
       rw (c.at.ensures.not_taken is, c.in-Err-parse_piece.ensures.not_taken_same was) given.1.reads,
       rw (c.in-Err-parse_piece.ensures.not_taken_quiet was) given.2,
     ))
-    (λ was is.
-    let parsed = c.in-Err-parse_piece.ensures.taken was in (
-      given.0 ++ numbered number parsed.0,
+    (λ was is. let parsed = c.in-Err-parse_piece.ensures.taken was in (
+      given.0 ++ numbered c.loop-number.number parsed.0,
       rw (c.at.ensures.taken is)
-          (read_more c.args.self.now ps c.args.maybe_more number given.0 c.loop-number.self given.1 (omega arith) _
-          (piece_at c.args.pieces.now number _ inside) parsed.0 _
-          c.more_after-more.result (c.more_after-more.ensures
-          ∙ flag_of_slice c.args.pieces.now c.args.maybe_more (number + 1) (omega arith)) parsed.1),
-      FoldsTo-append _ _ given.0 _ (numbered number parsed.0) _ given.2 parsed.2,
+          (slice_read c.args.pieces.now given.1 inside _ c.more_after-more.ensures parsed.0 _ parsed.1),
+      FoldsTo-append _ _ given.0 _ (numbered c.loop-number.number parsed.0) _ given.2 parsed.2,
     )))
 
 pub returns-in-Err-parse_piece-clause-stops : goal.returns-in-Err-parse_piece-clause-stops
 returns-in-Err-parse_piece-clause-stops g c =
-    let given = c.loop-number.invariant in
-    let number = c.loop-number.number in
-    let inside : number < length c.args.pieces.now = c.loop-number-test.true in
-    let count : length (pieces_or_one (texts c.args.pieces.now)) ≡ length c.args.pieces.now =
-    length-pieces c.args.pieces.now (omega arith) in
+    let inside = c.loop-number-test.true in
     rw (some_taken c.args.pieces.now c.at.result.taken (omega arith))
     (λ some. by_fault c.in-Err-parse_piece.fault
-    (λ was is.
-    let at : c.at.result.taken ≡ number = c.at.ensures.not_taken is in
-    inr (
-      omega arith,
+    (λ was is. let at = c.at.ensures.not_taken is in inr (
+      omega (arith, at),
       rw (c.in-Err-parse_piece.ensures.not_taken_same was)
-          (subst (IsRest c.loop-number.self) (flag_before (pieces_or_one (texts c.args.pieces.now)) c.args.maybe_more
-          number (omega arith)) (given.1.settled (omega arith))),
+          (rest_before c.args.pieces.now c.loop-number.invariant.1 inside (omega (arith, at))),
     ))
     (λ was is. inl (rw (c.at.ensures.taken is)
-    (subst (HasPaste c.parse_piece-in-loop-number.new.self)
-    (c.more_after-more.ensures ∙ flag_of_slice c.args.pieces.now c.args.maybe_more (number + 1) (omega arith))
+    (paste_after c.args.pieces.now c.args.maybe_more _ inside c.more_after-more.ensures
     (c.in-Err-parse_piece.ensures.taken_paste was)))))
 
 pub returns-in-Err-parse_piece-clause-refused : goal.returns-in-Err-parse_piece-clause-refused
 returns-in-Err-parse_piece-clause-refused g c =
-    let number = c.loop-number.number in
-    let inside : number < length c.args.pieces.now = c.loop-number-test.true in
+    let inside = c.loop-number-test.true in
     rw (some_taken c.args.pieces.now c.at.result.taken (omega arith))
     (by_fault c.in-Err-parse_piece.fault
     (λ was is. inr (rw (c.at.ensures.not_taken is) (λ none. c.in-Err-parse_piece.ensures.not_taken_some was
-    (sym (get_or-map (λ (piece : Bor (List ℕ)). piece.now) c.args.pieces.now number _ [] inside) ∙ none))))
+    (sym (get_or-map (λ (piece : Bor (List ℕ)). piece.now) c.args.pieces.now _ _ [] inside) ∙ none))))
     (λ was is. inl (rw (c.at.ensures.taken is)
-    (subst (HasPaste c.parse_piece-in-loop-number.new.self)
-    (c.more_after-more.ensures ∙ flag_of_slice c.args.pieces.now c.args.maybe_more (number + 1) (omega arith))
+    (paste_after c.args.pieces.now c.args.maybe_more _ inside c.more_after-more.ensures
     (c.in-Err-parse_piece.ensures.taken_paste was)))))
 
 pub loop-number-preserved : goal.loop-number-preserved
 loop-number-preserved g c =
     let given = c.loop-number.invariant in
-    let ps = pieces_or_one (texts c.args.pieces.now) in
-    let number = c.loop-number.number in
-    let inside : number < length c.args.pieces.now = c.loop-number-test.true in
-    let count : length ps ≡ length c.args.pieces.now = length-pieces c.args.pieces.now (omega arith) in
     let parsed = c.in_default.ensures.ok in (
-      given.0 ++ numbered number parsed.0,
-      between_more c.args.self.now ps c.args.maybe_more number given.0 c.loop-number.self given.1 (omega arith) _
-          (piece_at c.args.pieces.now number _ inside) parsed.0 _
-          c.more_after-more.result (c.more_after-more.ensures
-          ∙ flag_of_slice c.args.pieces.now c.args.maybe_more (number + 1) (omega arith)) parsed.1,
-      FoldsTo-append _ _ given.0 _ (numbered number parsed.0) _ given.2 parsed.2,
+      given.0 ++ numbered c.loop-number.number parsed.0,
+      slice_settled c.args.pieces.now given.1 c.loop-number-test.true _ c.more_after-more.ensures parsed.0 _ parsed.1,
+      FoldsTo-append _ _ given.0 _ (numbered c.loop-number.number parsed.0) _ given.2 parsed.2,
     )
 
 pub returns-clause-flushed : goal.returns-clause-flushed
 returns-clause-flushed g c = λ last.
-    let given = c.loop-number.invariant in
-    let some : 0 < length c.args.pieces.now = grind (arith, nat_tests) in
-    let count : length (pieces_or_one (texts c.args.pieces.now)) ≡ length c.args.pieces.now =
-    length-pieces c.args.pieces.now (omega arith) in
-    all_flushed c.args.self.now
-    (pieces_or_one (texts c.args.pieces.now)) c.args.maybe_more c.loop-number.number given.0 c.loop-number.self
-    (omega arith) (omega arith) given.1 last
+    let waits : IsRest c.loop-number.self c.args.maybe_more = grind (arith, common_steps) in
+    rest_flushed c.loop-number.self c.args.maybe_more waits last
