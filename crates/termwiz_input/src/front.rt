@@ -199,6 +199,7 @@ fn front_of_head<'t, 'k>(
 
 // What is at the front of a text. A run of printable ASCII has at most `most` characters. The end of a paste is looked for from `searched`
 // on, since it begins nowhere before.
+#[inline(always)]
 pub(crate) fn front<'t, 'k>(
     key_map: &'k KeyMap<KeyEvent>,
     text: &'t [u8],

@@ -161,6 +161,7 @@ impl InputParser {
     }
 
     // What is at the front of the waiting text. A run of printable ASCII has at most `most` characters.
+    #[inline(always)]
     fn front(&self, most: usize, maybe_more: bool) -> AtFront<'_, '_>
         requires { 0 < most }
         ensures { IsFront self.now maybe_more result }
