@@ -7,9 +7,9 @@
 #include <unistd.h>
 
 static void print_key(const tw_event *event) {
-  char name[32];
-  int len = (int)tw_key_name(event->key, (uint8_t *)name, sizeof name);
-  printf("%.*s", len, name);
+  char name[22];
+  tw_key_name(event->key, (uint8_t *)name, sizeof name);
+  fputs(name, stdout);
   if (event->key == TW_KEY_CHAR) printf(" U+%04X", (unsigned)event->detail);
   if (event->key == TW_KEY_FUNCTION) printf(" %u", (unsigned)event->detail);
   printf("%s%s%s\n", event->modifiers & TW_MOD_SHIFT ? " shift" : "", event->modifiers & TW_MOD_ALT ? " alt" : "",

@@ -1,4 +1,5 @@
-/* Key, mouse and paste events from the bytes that a terminal sends, and the bytes that it sends for a key.
+/* Key, mouse and paste events from the bytes that a terminal sends, and the bytes that it sends for a key. A map from byte strings to
+ * numbers, for key bindings.
  *
  *     tw_parser parser = TW_PARSER_NONE;
  *     tw_event event;
@@ -21,15 +22,16 @@
  *
  * The bodies of the calls are proved. The duties of a caller are not checked:
  *
- * - Pointers must be non-null, even for length 0.
+ * - A pointer of length 0 may be NULL. Every other pointer must be non-null.
  * - Two pointers of one call must not lead to the same memory, and each leads to as much as its type or length says.
- * - A tw_parser is all zero (TW_PARSER_NONE) or as a call of this library left it.
- * - One thread at a time uses a parser; two threads may use two parsers. No call is made in a signal handler nor, if the program has threads,
- *   in a forked child before it calls exec: the calls ask malloc.
+ * - A tw_parser and a tw_keymap are all zero (TW_PARSER_NONE, TW_KEYMAP_NONE) or as a call of this library left them.
+ * - Any thread may call, but no two calls on the same parser or the same map may run at the same time, not even two that only read.
+ * - No call is made in a signal handler nor, if the program has threads, in a forked child before it calls exec: the calls ask malloc.
  * - A bool is false or true.
  *
- * The caller owns all memory that it passes. The library keeps no pointer to it, and reads and writes nothing else of the caller's. What
- * a parser owns it gets from malloc and realloc, and tw_parser_free frees it.
+ * The caller owns all memory that it passes. The library keeps no pointer to it, and reads and writes nothing else of the caller's. A call
+ * with a const pointer to a parser or a map changes neither the struct nor what it leads to. What a parser or a map owns it gets from
+ * malloc and realloc, and tw_parser_free or tw_keymap_free frees it.
  *
  * The library is built for Linux on x86-64, and so are its layouts: for anything else this header doesn't compile. The numbers are those
  * of c/numbers.txt, and a number never changes its meaning. */
@@ -51,6 +53,9 @@
 #define TW_VERSION_PATCH 0
 #define TW_VERSION "0.1.0"
 
+/* The version in one number, which grows with it. tw_version returns that of the library. */
+#define TW_VERSION_NUMBER (TW_VERSION_MAJOR * 65536 + TW_VERSION_MINOR * 256 + TW_VERSION_PATCH)
+
 #ifdef __cplusplus
 extern "C" {
 #endif
@@ -65,7 +70,7 @@ typedef struct tw_parser {
 /* The value of a tw_parser that is none. */
 #define TW_PARSER_NONE { false, NULL }
 
-/* The kinds of events. */
+/* The kinds of events: the field kind of a tw_event. */
 enum tw_kind {
   /* numbers.txt: kind c */
   TW_OTHER = 0, /* None of these. No event has this kind. */
@@ -99,6 +104,9 @@ enum tw_next {
 
 /* Makes a parser with an empty buffer. If there was one, it is freed. The caller owes a tw_parser_free.
  *
+ * A parser takes some half a millisecond to make, and some 270 KB, most of it a table of sequences. So make one and keep it:
+ * tw_parser_reset empties its buffer.
+ *
  * Returns false if memory is refused: then the parser is unchanged. */
 bool tw_parser_init(tw_parser *parser);
 
@@ -125,16 +133,16 @@ uint32_t tw_parser_next(tw_parser *parser, bool more, tw_event *event);
  *
  * Returns the number of bytes of the whole text, as paste_len has it, so a caller whose room was short can call again: the parser keeps
  * the text until the next TW_PASTE or tw_parser_drop_paste. Returns 0 if there is no such text, or if there is no parser. */
-size_t tw_parser_paste(tw_parser *parser, uint8_t *out, size_t len);
+size_t tw_parser_paste(const tw_parser *parser, uint8_t *out, size_t len);
 
 /* Frees the text of the last TW_PASTE: tw_parser_paste returns 0 until the next. The caller calls it once it has copied a text that is
  * too long to be kept. If there is no text or no parser, it does nothing. */
 void tw_parser_drop_paste(tw_parser *parser);
 
 /* Returns the number of bytes that are buffered, 0 if there is no parser. */
-size_t tw_parser_waiting(tw_parser *parser);
+size_t tw_parser_waiting(const tw_parser *parser);
 
-/* What stays buffered. */
+/* What stays buffered, as tw_parser_waiting_kind returns it. */
 enum tw_waiting {
   /* numbers.txt: waiting c */
   TW_WAITING_NOTHING = 0, /* Nothing is buffered. */
@@ -151,7 +159,7 @@ enum tw_waiting {
  * sequence on a slow line: flush it after a much longer pause, say 1000 ms, or never. Never flush the other two.
  *
  * Returns TW_WAITING_NOTHING if there is no parser. */
-uint32_t tw_parser_waiting_kind(tw_parser *parser);
+uint32_t tw_parser_waiting_kind(const tw_parser *parser);
 
 /* Writes the Escape key to *event if ESC alone is buffered, with TW_MOD_ALT if ESC ESC is, and consumes it. The caller calls it when
  * some 50 ms have passed without a byte. Whatever else is buffered stays, so a pause breaks only what is cut right after its ESC or
@@ -162,7 +170,7 @@ uint32_t tw_parser_flush_escape(tw_parser *parser, tw_event *event);
 
 /* Returns whether the buffer begins with the start of a paste. Such a paste is buffered without limit until its end arrives: a caller
  * with a limit, say 1 MB, calls tw_parser_end_paste once tw_parser_waiting is above it. Returns false if there is no parser. */
-bool tw_parser_is_paste_open(tw_parser *parser);
+bool tw_parser_is_paste_open(const tw_parser *parser);
 
 /* Ends an open paste where it is: writes a TW_PASTE to *event, whose text is what came so far, and consumes the whole buffer.
  * tw_parser_paste copies the text. The rest of the paste then arrives as typed keys, Enter included, and its end as
@@ -178,7 +186,7 @@ uint32_t tw_parser_end_paste(tw_parser *parser, tw_event *event);
  * Returns the number of bytes that were buffered, 0 if there is no parser. */
 size_t tw_parser_reset(tw_parser *parser);
 
-/* The modifier keys, as bits of a set. */
+/* The modifier keys, as bits of a set: the field modifiers of a tw_event, and what tw_encode is given. */
 enum tw_mod {
   /* numbers.txt: modifier c */
   TW_MOD_NONE = 0, /* No modifier. */
@@ -196,7 +204,7 @@ enum tw_mod {
   /* numbers.txt: end */
 };
 
-/* The buttons and wheels of the mouse, as bits of a set. */
+/* The buttons and wheels of the mouse, as bits of a set: the field buttons of a tw_event. */
 enum tw_button {
   /* numbers.txt: button c */
   TW_BUTTON_NONE = 0, /* No button and no wheel. */
@@ -209,7 +217,7 @@ enum tw_button {
   /* numbers.txt: end */
 };
 
-/* The keys, in the order of termwiz's KeyCode. */
+/* The keys, in the order of termwiz's KeyCode: the field key of a tw_event, and what tw_key_name and tw_encode are given. */
 enum tw_key {
   /* numbers.txt: key c */
   TW_KEY_CHAR = 1, /* A key that types a character: `A` is what Shift-A types, and Ctrl-C is `c` with CTRL. */
@@ -305,13 +313,14 @@ enum tw_key {
   /* numbers.txt: end */
 };
 
-/* Copies the name of a key to out, at most len bytes of it: "LeftArrow" for TW_KEY_LEFT_ARROW, "Char" for TW_KEY_CHAR, without a
- * final 0. The rest of out is unchanged.
+/* Copies the name of a key to out, at most len bytes of it: "LeftArrow" for TW_KEY_LEFT_ARROW, "Char" for TW_KEY_CHAR. If a byte more
+ * fits, a final 0 follows, so with 22 bytes every name is a string. The rest of out is unchanged.
  *
- * Returns the number of bytes of the whole name, at most 21, and 0 for a number that is no key's. */
+ * Returns the number of bytes of the whole name without the 0, at most 21. For a number that is no key's it returns 0, and out is
+ * unchanged. */
 size_t tw_key_name(uint16_t key, uint8_t *out, size_t len);
 
-/* The encodings of keys. */
+/* The encodings of keys: the field encoding of a tw_modes. */
 enum tw_encoding {
   /* numbers.txt: encoding c */
   TW_XTERM = 0, /* The characters themselves, and xterm's control sequences. */
@@ -321,7 +330,7 @@ enum tw_encoding {
   /* numbers.txt: end */
 };
 
-/* The flags of kitty's keyboard protocol, as bits of a set. */
+/* The flags of kitty's keyboard protocol, as bits of a set: the field kitty_flags of a tw_modes. */
 enum tw_kitty {
   /* numbers.txt: kitty c */
   TW_KITTY_NONE = 0, /* Nothing is asked for. */
@@ -367,11 +376,68 @@ enum tw_encoded {
 uint32_t tw_encode(uint16_t key, uint32_t detail, uint16_t modifiers, bool is_down, const tw_modes *modes, uint8_t *out, size_t len,
                    size_t *text_len);
 
+/* A map from byte strings to numbers, or none. Its fields are the library's, and it may be moved as a tw_parser may. A program keeps its
+ * key bindings in one: the bytes of each, and the number of what it does. */
+typedef struct tw_keymap {
+  bool live;
+  void *state;
+} tw_keymap;
+
+/* The value of a tw_keymap that is none. */
+#define TW_KEYMAP_NONE { false, NULL }
+
+/* A key that tw_keymap_lookup found. */
+typedef struct tw_match {
+  size_t len;     /* the number of its bytes */
+  uint64_t value; /* its value */
+} tw_match;
+
+/* What tw_keymap_lookup returns. */
+enum tw_found {
+  /* numbers.txt: found c */
+  TW_FOUND_NONE = 0, /* No key is a prefix of the text, and the text is a prefix of no key. */
+  TW_FOUND_EXACT = 1, /* The longest key that is a prefix of the text was written to *match. */
+  TW_FOUND_AMBIGUOUS = 2, /* The same, but more may follow, and the text is a prefix of a longer key too. */
+  TW_FOUND_NEED_DATA = 3, /* No key is a prefix of the text, but the text is a prefix of some key. */
+  TW_FOUND_NO_MAP = 4 /* There is no map: it wasn't made yet, or it was freed. */
+  /* numbers.txt: end */
+};
+
+/* Makes an empty map. If there was one, it is freed. The caller owes a tw_keymap_free.
+ *
+ * Returns false if memory is refused: then the map is unchanged. */
+bool tw_keymap_init(tw_keymap *map);
+
+/* Frees what the map owns, and leaves TW_KEYMAP_NONE. If there is no map, it does nothing, so it may be called twice. */
+void tw_keymap_free(tw_keymap *map);
+
+/* Sets the value of the key that has these len bytes, in place of the one that it has, if any. The bytes are copied. The empty key is a
+ * key like any other, and is a prefix of every text.
+ *
+ * Returns false if memory is refused: then the map is unchanged, and the call may be made again. It also returns false if there is no
+ * map. */
+bool tw_keymap_insert(tw_keymap *map, const uint8_t *key, size_t len, uint64_t value);
+
+/* Finds the longest key that is a prefix of a text of len bytes. Pass maybe_more as true while more of the text may come. The caller of
+ * a TW_FOUND_EXACT consumes as many bytes as match->len says, and looks up the rest.
+ *
+ * Returns an enum tw_found. *match is written only with TW_FOUND_EXACT and TW_FOUND_AMBIGUOUS. Without maybe_more the longest key is
+ * always TW_FOUND_EXACT. The map is unchanged, and no memory is needed. */
+uint32_t tw_keymap_lookup(const tw_keymap *map, const uint8_t *text, size_t len, bool maybe_more, tw_match *match);
+
+/* Returns the number of keys, 0 if there is no map. */
+size_t tw_keymap_len(const tw_keymap *map);
+
+/* Returns the version of the library that is linked, as TW_VERSION_NUMBER has that of the header. */
+uint32_t tw_version(void);
+
 /* The layouts that the library was proved with. A line that doesn't compile says that this machine has others. */
 #define TW_IS(name, holds) typedef char tw_is_##name[(holds) ? 1 : -1]
 TW_IS(parser, sizeof(tw_parser) == 16 && offsetof(tw_parser, state) == 8);
 TW_IS(event, sizeof(tw_event) == 24 && offsetof(tw_event, modifiers) == 2 && offsetof(tw_event, y) == 8);
 TW_IS(event_end, offsetof(tw_event, detail) == 12 && offsetof(tw_event, paste_len) == 16);
+TW_IS(keymap, sizeof(tw_keymap) == 16 && offsetof(tw_keymap, state) == 8);
+TW_IS(match, sizeof(tw_match) == 16 && offsetof(tw_match, value) == 8);
 TW_IS(modes, sizeof(tw_modes) == 16 && offsetof(tw_modes, encoding) == 8 && offsetof(tw_modes, has_modify_other_keys) == 12);
 #undef TW_IS
 

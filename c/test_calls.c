@@ -1,8 +1,10 @@
 /* A test of every call: `test_calls NUMBERS`, NUMBERS being the list c/numbers.txt. */
+#define _DEFAULT_SOURCE
 #include "expect.h"
 #include "termwiz_input.h"
 #include <stdlib.h>
 #include <string.h>
+#include <sys/mman.h>
 
 static tw_event taken;
 
@@ -391,16 +393,15 @@ static void cuts_make_no_difference(void) {
   }
 }
 
-/* The name of a key, cut at any length. */
+/* The name of a key and a final 0, cut at any length. */
 static void check_name(uint16_t key, const char *name) {
-  uint8_t room[32];
+  uint8_t room[32], want[32];
   size_t len = strlen(name);
   for (size_t has = 0; has <= sizeof room; has++) {
-    size_t copied = has < len ? has : len;
     memset(room, '.', sizeof room);
-    EXPECT(tw_key_name(key, room, has) == len);
-    EXPECT(memcmp(room, name, copied) == 0);
-    EXPECT(copied == sizeof room || room[copied] == '.');
+    memset(want, '.', sizeof want);
+    memcpy(want, name, has <= len ? has : len + 1);
+    EXPECT(tw_key_name(key, room, has) == len && memcmp(room, want, sizeof room) == 0);
   }
 }
 
@@ -520,6 +521,224 @@ static void encodes_every_key(void) {
       EXPECT(encode(key, 'a', TW_MOD_SHIFT, true, 16) == (key == TW_KEY_FUNCTION ? TW_REFUSED_KEY : TW_TEXT));
 }
 
+/* What the last lookup wrote, or this if it wrote nothing. */
+static const tw_match unwritten = {77, 777};
+static tw_match found;
+
+static uint32_t look_up(tw_keymap *map, const void *bytes, size_t len, bool maybe_more) {
+  found = unwritten;
+  return tw_keymap_lookup(map, (const uint8_t *)bytes, len, maybe_more, &found);
+}
+
+#define LOOK_UP(map, text, maybe_more) look_up(map, text, sizeof text - 1, maybe_more)
+#define INSERT(map, key, value) tw_keymap_insert(map, (const uint8_t *)key, sizeof key - 1, value)
+
+static bool is_found(size_t len, uint64_t value) { return found.len == len && found.value == value; }
+
+static bool is_unwritten(void) { return is_found(unwritten.len, unwritten.value); }
+
+/* There is no map before init and after free, and each call says so. */
+static void no_map_answers(tw_keymap *map) {
+  EXPECT(LOOK_UP(map, "", true) == TW_FOUND_NO_MAP && is_unwritten());
+  EXPECT(LOOK_UP(map, "a", false) == TW_FOUND_NO_MAP && is_unwritten());
+  EXPECT(!INSERT(map, "a", 1) && tw_keymap_len(map) == 0);
+  tw_keymap_free(map);
+  EXPECT(!map->live);
+}
+
+static void answers_without_a_map(void) {
+  tw_keymap map = TW_KEYMAP_NONE, zero;
+  memset(&zero, 0, sizeof zero);
+  no_map_answers(&map);
+  no_map_answers(&zero);
+  EXPECT(tw_keymap_init(&map) && INSERT(&map, "a", 1) && tw_keymap_len(&map) == 1);
+  tw_keymap_free(&map);
+  no_map_answers(&map);
+  EXPECT(tw_keymap_init(&map) && tw_keymap_len(&map) == 0 && LOOK_UP(&map, "a", true) == TW_FOUND_NONE && is_unwritten());
+  tw_keymap_free(&map);
+  tw_keymap_free(&map);
+}
+
+/* Every answer, with more to come and without. */
+static void finds_keys(void) {
+  tw_keymap map = TW_KEYMAP_NONE;
+  EXPECT(tw_keymap_init(&map) && LOOK_UP(&map, "", true) == TW_FOUND_NONE && is_unwritten());
+  EXPECT(INSERT(&map, "boom", UINT64_MAX) && INSERT(&map, "boo", 2) && INSERT(&map, "boa\0", 1));
+  EXPECT(tw_keymap_len(&map) == 3 && INSERT(&map, "boo", 4) && tw_keymap_len(&map) == 3);
+  for (int more = 0; more < 2; more++) {
+    EXPECT(LOOK_UP(&map, "", more) == TW_FOUND_NEED_DATA && is_unwritten());
+    EXPECT(LOOK_UP(&map, "boa", more) == TW_FOUND_NEED_DATA && is_unwritten());
+    EXPECT(LOOK_UP(&map, "boa\0", more) == TW_FOUND_EXACT && is_found(4, 1));
+    EXPECT(LOOK_UP(&map, "boo!", more) == TW_FOUND_EXACT && is_found(3, 4));
+    EXPECT(LOOK_UP(&map, "boom!", more) == TW_FOUND_EXACT && is_found(4, UINT64_MAX));
+    EXPECT(LOOK_UP(&map, "box", more) == TW_FOUND_NONE && is_unwritten());
+  }
+  EXPECT(LOOK_UP(&map, "boo", true) == TW_FOUND_AMBIGUOUS && is_found(3, 4));
+  EXPECT(LOOK_UP(&map, "boo", false) == TW_FOUND_EXACT && is_found(3, 4));
+  EXPECT(INSERT(&map, "", 9) && tw_keymap_len(&map) == 4);
+  EXPECT(LOOK_UP(&map, "", true) == TW_FOUND_AMBIGUOUS && is_found(0, 9));
+  EXPECT(LOOK_UP(&map, "box", true) == TW_FOUND_EXACT && is_found(0, 9));
+  tw_keymap_free(&map);
+}
+
+/* A map that was moved is used at its new place, and init frees the map that was there. */
+static void moves_and_makes_maps_anew(void) {
+  tw_keymap first = TW_KEYMAP_NONE, second;
+  EXPECT(tw_keymap_init(&first) && INSERT(&first, "ab", 1));
+  memcpy(&second, &first, sizeof second);
+  memset(&first, 0, sizeof first);
+  EXPECT(INSERT(&second, "abc", 2) && LOOK_UP(&second, "ab", true) == TW_FOUND_AMBIGUOUS && is_found(2, 1));
+  EXPECT(tw_keymap_init(&second) && tw_keymap_len(&second) == 0 && LOOK_UP(&second, "ab", true) == TW_FOUND_NONE);
+  tw_keymap_free(&second);
+}
+
+/* A plain map to compare with: a list of keys, all of which each lookup goes through. */
+enum { MOST_BYTES = 6, MOST_KEYS = 2000 };
+
+struct plain {
+  uint8_t key[MOST_BYTES];
+  size_t len;
+  uint64_t value;
+};
+
+static struct plain plain[MOST_KEYS];
+static size_t plain_len;
+
+static void plain_insert(const uint8_t *key, size_t len, uint64_t value) {
+  size_t at = 0;
+  while (at < plain_len && !(plain[at].len == len && memcmp(plain[at].key, key, len) == 0)) at++;
+  if (at == plain_len) plain_len++;
+  memcpy(plain[at].key, key, len);
+  plain[at].len = len;
+  plain[at].value = value;
+}
+
+static uint32_t plain_lookup(const uint8_t *bytes, size_t len, bool maybe_more, tw_match *match) {
+  const struct plain *longest = NULL;
+  bool is_extended = false;
+  for (const struct plain *row = plain; row < plain + plain_len; row++) {
+    if (memcmp(row->key, bytes, row->len < len ? row->len : len) != 0) continue;
+    if (row->len > len) is_extended = true;
+    if (row->len <= len && (!longest || row->len > longest->len)) longest = row;
+  }
+  if (!longest) return is_extended ? TW_FOUND_NEED_DATA : TW_FOUND_NONE;
+  match->len = longest->len;
+  match->value = longest->value;
+  return is_extended && maybe_more ? TW_FOUND_AMBIGUOUS : TW_FOUND_EXACT;
+}
+
+static uint32_t seed = 1;
+
+/* A number below `limit`, the next of a fixed sequence. */
+static uint32_t number_below(uint32_t limit) {
+  seed = seed * 1664525u + 1013904223u;
+  return (seed >> 16) % limit;
+}
+
+/* Writes at most MOST_BYTES bytes, each one of four, and returns how many. */
+static size_t make_bytes(uint8_t *bytes) {
+  size_t len = number_below(MOST_BYTES + 1);
+  for (size_t at = 0; at < len; at++) bytes[at] = (uint8_t)"\0a\033\377"[number_below(4)];
+  return len;
+}
+
+/* The answers are those of the plain map. */
+static void compare_lookups(tw_keymap *map, int lookups) {
+  uint8_t bytes[MOST_BYTES];
+  for (; lookups > 0; lookups--) {
+    size_t len = make_bytes(bytes);
+    bool maybe_more = number_below(2);
+    tw_match match = unwritten;
+    uint32_t answer = plain_lookup(bytes, len, maybe_more, &match);
+    EXPECT(look_up(map, bytes, len, maybe_more) == answer && is_found(match.len, match.value));
+  }
+}
+
+static void agrees_with_a_plain_map(void) {
+  uint8_t key[MOST_BYTES];
+  tw_keymap map = TW_KEYMAP_NONE;
+  EXPECT(tw_keymap_init(&map));
+  for (uint64_t value = 0; value < MOST_KEYS; value++) {
+    size_t len = make_bytes(key);
+    plain_insert(key, len, value << 40);
+    EXPECT(tw_keymap_insert(&map, key, len, value << 40) && tw_keymap_len(&map) == plain_len);
+    compare_lookups(&map, 3);
+  }
+  compare_lookups(&map, 5000);
+  tw_keymap_free(&map);
+}
+
+/* Five thousand keys, and one of 300 bytes. */
+static void keeps_many_keys(void) {
+  uint8_t key[3], prefix[300];
+  tw_keymap map = TW_KEYMAP_NONE;
+  memset(prefix, 'x', sizeof prefix);
+  EXPECT(tw_keymap_init(&map) && tw_keymap_insert(&map, prefix, sizeof prefix, 5));
+  for (uint32_t number = 0; number < 5000; number++) {
+    memcpy(key, (uint8_t[]){(uint8_t)number, (uint8_t)(number >> 8), 0}, sizeof key);
+    EXPECT(tw_keymap_insert(&map, key, sizeof key, number));
+  }
+  EXPECT(tw_keymap_len(&map) == 5001);
+  for (uint32_t number = 0; number < 5000; number++) {
+    memcpy(key, (uint8_t[]){(uint8_t)number, (uint8_t)(number >> 8), 0}, sizeof key);
+    EXPECT(look_up(&map, key, sizeof key, true) == TW_FOUND_EXACT && is_found(3, number));
+    EXPECT(look_up(&map, key, 2, true) == TW_FOUND_NEED_DATA && is_unwritten());
+  }
+  EXPECT(look_up(&map, prefix, 300, true) == TW_FOUND_EXACT && is_found(300, 5));
+  EXPECT(look_up(&map, prefix, 299, true) == TW_FOUND_NEED_DATA && is_unwritten());
+  tw_keymap_free(&map);
+}
+
+/* A pointer of length 0 may be NULL. */
+static void takes_null_for_no_bytes(void) {
+  tw_parser parser = TW_PARSER_NONE;
+  tw_keymap map = TW_KEYMAP_NONE;
+  memset(&modes, 0, sizeof modes);
+  EXPECT(!tw_parser_feed(&parser, NULL, 0) && tw_parser_paste(&parser, NULL, 0) == 0);
+  EXPECT(tw_parser_init(&parser) && NEXT(&parser, "\033[200~ab\033[201~\033", true) == TW_EVENT);
+  EXPECT(tw_parser_feed(&parser, NULL, 0) && tw_parser_waiting(&parser) == 1 && tw_parser_paste(&parser, NULL, 0) == 2);
+  tw_parser_free(&parser);
+  EXPECT(tw_key_name(TW_KEY_TAB, NULL, 0) == 3 && tw_key_name(0, NULL, 0) == 0);
+  EXPECT(tw_encode(TW_KEY_UP_ARROW, 0, 0, true, &modes, NULL, 0, &text_len) == TW_TEXT && text_len == 3);
+  EXPECT(tw_keymap_lookup(&map, NULL, 0, true, &found) == TW_FOUND_NO_MAP && !tw_keymap_insert(&map, NULL, 0, 1));
+  EXPECT(tw_keymap_init(&map) && tw_keymap_lookup(&map, NULL, 0, true, &found) == TW_FOUND_NONE);
+  EXPECT(tw_keymap_insert(&map, NULL, 0, 6) && tw_keymap_lookup(&map, NULL, 0, true, &found) == TW_FOUND_EXACT && is_found(0, 6));
+  tw_keymap_free(&map);
+}
+
+/* A page whose bytes can't be written while it is read-only. */
+static void *page(void) {
+  return mmap(NULL, 4096, PROT_READ | PROT_WRITE, MAP_PRIVATE | MAP_ANONYMOUS, -1, 0);
+}
+
+/* The calls with a const pointer write nothing to the struct. */
+static void reads_from_a_page_that_is_read_only(void) {
+  struct { tw_parser parser; tw_keymap map; } *it = page();
+  tw_match match = { 7, 7 };
+  uint8_t text[4] = "....";
+  if (it == MAP_FAILED) abort();
+  EXPECT(tw_parser_init(&it->parser) && tw_keymap_init(&it->map) && tw_keymap_insert(&it->map, (const uint8_t *)"up", 2, 5));
+  EXPECT(NEXT(&it->parser, "\033[200~ab\033[201~\033[200~c", true) == TW_EVENT);
+  EXPECT(mprotect(it, 4096, PROT_READ) == 0);
+  EXPECT(tw_parser_waiting(&it->parser) == 7 && tw_parser_waiting_kind(&it->parser) == TW_WAITING_PASTE);
+  EXPECT(tw_parser_is_paste_open(&it->parser));
+  EXPECT(tw_parser_paste(&it->parser, text, sizeof text) == 2 && memcmp(text, "ab..", 4) == 0);
+  EXPECT(tw_keymap_len(&it->map) == 1);
+  EXPECT(tw_keymap_lookup(&it->map, (const uint8_t *)"upper", 5, true, &match) == TW_FOUND_EXACT && match.len == 2 && match.value == 5);
+  EXPECT(mprotect(it, 4096, PROT_READ | PROT_WRITE) == 0);
+  tw_parser_free(&it->parser);
+  tw_keymap_free(&it->map);
+  munmap(it, 4096);
+}
+
+static void tells_the_version(void) {
+  char version[32];
+  uint32_t number = tw_version();
+  EXPECT(number == TW_VERSION_NUMBER);
+  sprintf(version, "%u.%u.%u", (unsigned)(number >> 16), (unsigned)(number >> 8 & 255), (unsigned)(number & 255));
+  EXPECT(strcmp(version, TW_VERSION) == 0);
+}
+
 int main(int argc, char **argv) {
   tw_parser parser = TW_PARSER_NONE;
   if (argc != 2) return 2;
@@ -550,5 +769,13 @@ int main(int argc, char **argv) {
   refuses_function_keys();
   refuses_numbers_that_stand_for_nothing();
   encodes_every_key();
+  answers_without_a_map();
+  finds_keys();
+  moves_and_makes_maps_anew();
+  agrees_with_a_plain_map();
+  keeps_many_keys();
+  takes_null_for_no_bytes();
+  reads_from_a_page_that_is_read_only();
+  tells_the_version();
   return expected("test_calls");
 }

@@ -255,6 +255,78 @@ static void need_no_memory(void) {
   tw_parser_free(&parser);
 }
 
+#define LONG_KEY "0123456789012345678901234567890123456789012345678901234567890123456789012345678901234567890123456789"
+
+/* Keys that are inserted one after another, each with its place in the list as its value. A long one needs memory of its own. */
+static const char *const bound[] = {
+    LONG_KEY, "\033[A", "\033[B", "\033", "", LONG_KEY "a", "a", "ab", "\030\023", "\033[1;5A", LONG_KEY "b", "b", "c", "d", "e", "f", "g",
+};
+
+enum { BOUND = sizeof bound / sizeof bound[0] };
+
+/* The map has the first of the keys, and no other. It is asked without memory. */
+static void expect_bound(tw_keymap *map, size_t count) {
+  long saved = to_refusal;
+  unsigned before = refused;
+  to_refusal = 1;
+  EXPECT(tw_keymap_len(map) == count);
+  for (size_t at = 0; at < BOUND; at++) {
+    size_t len = strlen(bound[at]);
+    tw_match match = {77, 777};
+    uint32_t answer = tw_keymap_lookup(map, (const uint8_t *)bound[at], len, false, &match);
+    bool is_there = answer == TW_FOUND_EXACT && match.len == len;
+    EXPECT(is_there == (at < count) && (!is_there || match.value == at));
+  }
+  EXPECT(refused == before);
+  to_refusal = saved;
+}
+
+/* Makes a map of all the keys, again if a call is refused, with one request refused. Returns whether one was. */
+static bool refuse_while_binding(long number) {
+  tw_keymap map = TW_KEYMAP_NONE;
+  told = 0;
+  refuse(number);
+  while (!tw_keymap_init(&map)) {
+    told++;
+    EXPECT(!map.live);
+  }
+  for (size_t at = 0; at < BOUND; at++)
+    while (!tw_keymap_insert(&map, (const uint8_t *)bound[at], strlen(bound[at]), at)) {
+      told++;
+      expect_bound(&map, at);
+    }
+  to_refusal = 0;
+  EXPECT(told == refused);
+  expect_bound(&map, BOUND);
+  tw_keymap_free(&map);
+  return refused > 0;
+}
+
+/* Another value for a key, and another init, with each request refused in turn: until one succeeds, the map is unchanged. */
+static void refuse_while_binding_again(void) {
+  tw_keymap map = TW_KEYMAP_NONE;
+  long number;
+  EXPECT(tw_keymap_init(&map));
+  for (size_t at = 0; at < BOUND; at++) EXPECT(tw_keymap_insert(&map, (const uint8_t *)bound[at], strlen(bound[at]), at));
+  for (number = 1; refuse(number), !tw_keymap_insert(&map, (const uint8_t *)LONG_KEY, 100, 99); number++) expect_bound(&map, BOUND);
+  EXPECT(number > 1 && !refused);
+  refuse(0);
+  EXPECT(tw_keymap_insert(&map, (const uint8_t *)LONG_KEY, 100, 0));
+  for (number = 1; refuse(number), !tw_keymap_init(&map); number++) expect_bound(&map, BOUND);
+  EXPECT(number > 1 && !refused && tw_keymap_len(&map) == 0);
+  refuse(0);
+  tw_keymap_free(&map);
+}
+
+/* A map of keys, with each request refused in turn. */
+static void refuse_bindings(void) {
+  long number = 1;
+  while (refuse_while_binding(number)) number++;
+  EXPECT(number > 5);
+  refuse_while_binding_again();
+  printf("key map: %ld refusals\n", number - 1);
+}
+
 int main(int argc, char **argv) {
   long step = argc > 1 ? atol(argv[1]) : 1;
   if (step < 1) return 2;
@@ -262,6 +334,7 @@ int main(int argc, char **argv) {
   refuse_while_ending();
   refuse_while_encoding();
   need_no_memory();
+  refuse_bindings();
   refuse_init(step);
   return expected("test_refusals");
 }

@@ -6,11 +6,14 @@ r"""Key, mouse and paste events from the bytes that a terminal sends, and the by
     >>> encode(KeyCode.UpArrow, Modifiers.CTRL)
     b'\x1b[1;5A'
 
-The module calls the shared library libtermwiz_c.so by ctypes. The environment variable HEDRUGAL_LIBRARY names its file; otherwise it is
-looked for beside this module, and then where the system has its libraries. If none is found, the import raises ImportError.
+The parser does no input of its own. The caller reads bytes from a terminal and passes them on. The events are the same however the bytes
+are cut into calls. A KeyMap maps byte strings to values of the program, such as its commands.
 
-The parser does no input of its own. The caller reads bytes from a terminal, and passes them on. However the bytes are cut into calls, the
-events are the same. Modifiers, KeyCode and so on have the names of the Rust crate termwiz, and the numbers of termwiz_input.h."""
+The module calls the shared library libtermwiz_c.so by ctypes. The environment variable HEDRUGAL_LIBRARY names the library's file. If the
+variable isn't set, the library is looked for beside this module, and then where the system has its libraries. The import raises
+ImportError if no library is found, or if its version isn't that of the module.
+
+Names such as Modifiers and KeyCode are those of the Rust crate termwiz. Their numbers are those of termwiz_input.h."""
 from __future__ import annotations
 
 import ctypes
@@ -23,22 +26,30 @@ import struct
 import sys
 import weakref
 from dataclasses import dataclass
-from typing import Any, Iterator, List, NoReturn, Optional, Tuple, Union, cast
+from typing import Any, Generic, Iterator, List, NoReturn, Optional, Tuple, TypeVar, Union, cast
+
+__version__ = "0.1.0"
 
 __all__ = [
+    "Ambiguous",
     "EncodeError",
     "Event",
+    "Exact",
+    "Found",
     "Function",
     "InputParser",
     "Key",
     "KeyCode",
     "KeyCodeEncodeModes",
     "KeyEvent",
+    "KeyMap",
     "KeyboardEncoding",
     "KittyKeyboardFlags",
     "Modifiers",
     "MouseButtons",
     "MouseEvent",
+    "NeedData",
+    "Nothing",
     "ParseError",
     "Paste",
     "Waiting",
@@ -238,7 +249,7 @@ class KeyEvent:
 class MouseEvent:
     """The mouse was moved, one of its buttons was pressed or released, or a wheel was turned.
 
-    x is the column and y the row, as the terminal sent them: the cell at the top left is 1, 1. `buttons` has those that are down. It is
+    x is the column and y the row, as the terminal sent them. The cell at the top left is 1, 1. `buttons` are those that are down. They are
     empty after a release, and for a move with no button down."""
 
     x: int
@@ -249,7 +260,7 @@ class MouseEvent:
 
 @dataclass(frozen=True)
 class Paste:
-    """Text was pasted, in bracketed paste mode. Bytes that are no UTF-8 are U+FFFD in it."""
+    """Text was pasted, in bracketed paste mode. Bytes that aren't UTF-8 are replaced by U+FFFD."""
 
     text: str
 
@@ -267,7 +278,7 @@ class KeyCodeEncodeModes:
     application_cursor_keys: the arrows, Home and End send ESC O in place of ESC [ (DECCKM).
     newline_mode: Enter sends a line feed after the carriage return (LNM).
     modify_other_keys: the level of xterm's modifyOtherKeys, or None if it is off.
-    kitty_flags: what the program asked of kitty's protocol; read with KeyboardEncoding.Kitty alone."""
+    kitty_flags: what the program asked of kitty's protocol. They are read with KeyboardEncoding.Kitty alone."""
 
     encoding: KeyboardEncoding = KeyboardEncoding.Xterm
     application_cursor_keys: bool = False
@@ -276,15 +287,48 @@ class KeyCodeEncodeModes:
     kitty_flags: KittyKeyboardFlags = KittyKeyboardFlags.NONE
 
 
+Value = TypeVar("Value")
+
+
+@dataclass(frozen=True)
+class Nothing:
+    """No key of the map is a prefix of the text, and the text is a prefix of no key."""
+
+
+@dataclass(frozen=True)
+class Exact(Generic[Value]):
+    """The longest key that is a prefix of the text: its length and its value."""
+
+    len: int
+    value: Value
+
+
+@dataclass(frozen=True)
+class Ambiguous(Generic[Value]):
+    """The same, but more of the text may follow, and the text is a prefix of a longer key too."""
+
+    len: int
+    value: Value
+
+
+@dataclass(frozen=True)
+class NeedData:
+    """No key of the map is a prefix of the text, but the text is a prefix of some key."""
+
+
+# What `KeyMap.lookup` returns.
+Found = Union[Nothing, Exact[Value], Ambiguous[Value], NeedData]
+
+
 class EncodeError(ValueError):
-    """A key has no text: it is a function key other than F1 to F24, or a number, a text or a flag is given that names nothing."""
+    """A key has no text: it is a function key other than F1 to F24, or a number, a text or a flag names nothing."""
 
 
 class ParseError(MemoryError):
     """Memory was refused while bytes were parsed. No event is lost, and the parser may be used again.
 
-    If `taken` is false, none of the bytes is buffered, and the call may be made again. If it is true, all are: parse on with b"" and the
-    same flag, or with the next bytes. The events that were found come first."""
+    If `taken` is false, none of the bytes is buffered, and the call may be made again. If it is true, all of them are buffered. Then parse
+    b"" with the same flag, or the next bytes. That call returns the events that were found before."""
 
     def __init__(self, taken: bool) -> None:
         super().__init__(f"out of memory: the bytes were {'' if taken else 'not '}taken")
@@ -326,18 +370,28 @@ class _RawModes(ctypes.Structure):
     ]
 
 
+class _RawKeyMap(ctypes.Structure):
+    _fields_ = [("live", ctypes.c_bool), ("state", ctypes.c_void_p)]
+
+
+class _RawMatch(ctypes.Structure):
+    _fields_ = [("len", ctypes.c_size_t), ("value", ctypes.c_uint64)]
+
+
 # The numbers of termwiz_input.h that no enum above has.
 _KIND_KEY, _KIND_MOUSE, _KIND_PASTE = 1, 2, 3
 _NEXT_NONE, _NEXT_EVENT, _NEXT_NO_MEMORY, _NEXT_NO_PARSER = 0, 1, 2, 3
 _ENCODED_TEXT, _ENCODED_REFUSED_KEY, _ENCODED_REFUSED_MEMORY, _ENCODED_BAD_NUMBER = 0, 1, 2, 3
 _KEY_CHAR, _KEY_FUNCTION = 1, 60
+_FOUND_NONE, _FOUND_EXACT, _FOUND_AMBIGUOUS, _FOUND_NEED_DATA, _FOUND_NO_MAP = 0, 1, 2, 3, 4
 
 _PARSER = ctypes.POINTER(_RawParser)
 _EVENT = ctypes.POINTER(_RawEvent)
+_MAP = ctypes.POINTER(_RawKeyMap)
 # A uint8_t *, as which ctypes passes a bytes object without a copy.
 _BYTES = ctypes.c_void_p
 
-# The calls of termwiz_input.h: what each returns, and what it takes.
+# The calls of termwiz_input.h: the type of the result, and those of the arguments.
 _CALLS = {
     "tw_parser_init": (ctypes.c_bool, [_PARSER]),
     "tw_parser_free": (None, [_PARSER]),
@@ -365,6 +419,12 @@ _CALLS = {
             ctypes.POINTER(ctypes.c_size_t),
         ],
     ),
+    "tw_keymap_init": (ctypes.c_bool, [_MAP]),
+    "tw_keymap_free": (None, [_MAP]),
+    "tw_keymap_insert": (ctypes.c_bool, [_MAP, _BYTES, ctypes.c_size_t, ctypes.c_uint64]),
+    "tw_keymap_lookup": (ctypes.c_uint32, [_MAP, _BYTES, ctypes.c_size_t, ctypes.c_bool, ctypes.POINTER(_RawMatch)]),
+    "tw_keymap_len": (ctypes.c_size_t, [_MAP]),
+    "tw_version": (ctypes.c_uint32, []),
 }
 
 
@@ -395,12 +455,20 @@ def _load() -> ctypes.PyDLL:
             call = getattr(library, name)
             call.restype, call.argtypes = returned, taken
     except (OSError, AttributeError) as error:
-        raise ImportError(f"hedrugal: {error}\nHEDRUGAL_LIBRARY has to name a libtermwiz_c.so of this version.") from None
+        raise _not_loaded(str(error)) from None
+    number = library.tw_version()
+    version = f"{number >> 16}.{number >> 8 & 255}.{number & 255}"
+    if version != __version__:
+        raise _not_loaded(f"{file} is version {version} of the library, and this module is for version {__version__}")
     return library
 
 
+def _not_loaded(why: str) -> ImportError:
+    return ImportError(f"hedrugal: {why}\nHEDRUGAL_LIBRARY has to name a libtermwiz_c.so of this version.")
+
+
 _library = _load()
-_feed, _next = _library.tw_parser_feed, _library.tw_parser_next
+_feed, _next, _lookup = _library.tw_parser_feed, _library.tw_parser_next, _library.tw_keymap_lookup
 
 
 def _fault() -> NoReturn:
@@ -411,8 +479,8 @@ def _refused() -> MemoryError:
     return MemoryError("libtermwiz_c.so was refused memory")
 
 
-def _closed() -> ValueError:
-    return ValueError("the parser is closed")
+def _closed(what: str) -> ValueError:
+    return ValueError(f"the {what} is closed")
 
 
 def _is_event(answer: int) -> bool:
@@ -424,24 +492,59 @@ def _is_event(answer: int) -> bool:
     if answer == _NEXT_NO_MEMORY:
         raise _refused()
     if answer == _NEXT_NO_PARSER:
-        raise _closed()
+        raise _closed("parser")
     _fault()
 
 
 def _borrowed(data: Bytes) -> Tuple[Any, int]:
-    """Returns what ctypes passes as the pointer to the bytes, and their number. Only bytes that it can't borrow are copied: those of a
-    memoryview that is read-only or has gaps."""
+    """Returns what ctypes passes as the pointer to the bytes, and their number. Only a memoryview that is read-only or has gaps is copied,
+    since ctypes can't borrow its bytes."""
     if isinstance(data, bytes):
         return data, len(data)
     if not isinstance(data, (bytearray, memoryview)):
-        raise TypeError(f"bytes, a bytearray or a memoryview is wanted, and not {type(data).__name__}")
+        raise TypeError(f"bytes, a bytearray or a memoryview is required, not {type(data).__name__}")
     view = memoryview(data)
     if view.readonly or not view.c_contiguous or not view.nbytes:
         return view.tobytes(), view.nbytes
     return ctypes.byref(ctypes.c_char.from_buffer(view)), view.nbytes
 
 
-# Few of the sets and key events are ever seen, and making one takes longer than finding it again.
+_Self = TypeVar("_Self", bound="_Closable")
+
+
+class _Closable:
+    """What owns memory of the library until it is closed: a parser or a map."""
+
+    def __init__(self, what: str, raw: Any, init: Any, free: Any) -> None:
+        if not init(raw):
+            raise _refused()
+        self._what, self._raw, self._free = what, raw, weakref.finalize(self, free, raw)
+
+    def __enter__(self: _Self) -> _Self:
+        self._check_open()
+        return self
+
+    def __exit__(self, *_: object) -> None:
+        self.close()
+
+    def __reduce__(self) -> NoReturn:
+        raise TypeError(f"a {self._what} can't be copied or pickled")
+
+    def close(self) -> None:
+        """Frees what the library holds. It may be called twice."""
+        self._free()
+
+    @property
+    def closed(self) -> bool:
+        """Whether it was closed."""
+        return not self._raw.live
+
+    def _check_open(self) -> None:
+        if not self._raw.live:
+            raise _closed(self._what)
+
+
+# A program sees few different sets and key events, and finding one again is quicker than making it.
 _modifiers = functools.lru_cache(maxsize=None)(Modifiers)
 _buttons = functools.lru_cache(maxsize=None)(MouseButtons)
 _key_codes = {code.value: code for code in KeyCode}
@@ -462,53 +565,31 @@ def _key_event(number: int, detail: int, modifiers: int) -> KeyEvent:
     return KeyEvent(key, _modifiers(modifiers))
 
 
-class InputParser:
+class InputParser(_Closable):
     """Reads events from the bytes that a terminal sends, however they are cut into calls.
 
-    It buffers bytes that are no event yet. A lone ESC stays buffered, since it may begin a sequence: only a pause tells that it is the
-    Escape key. See `waiting`.
+    Bytes that are no event yet stay buffered. So does a lone ESC, since it may begin a sequence. Only a pause tells that it is the Escape
+    key: see `waiting`.
 
     A parser owns memory outside of Python. `close` frees it; so do the end of a `with` block and the end of the parser's life. Every other
-    call then raises ValueError. One thread at a time uses a parser. It can't be copied or pickled.
+    call raises ValueError once the parser is closed. One thread at a time uses a parser. It can't be copied or pickled.
 
-    Raises MemoryError if memory is refused, as every call does of which it is said. The parser is then as it was, and no event is lost:
-    the call may be made again."""
+    Making a parser raises MemoryError if memory is refused. So do the calls that say it. No event is then lost, and the parser may be used
+    again."""
 
     def __init__(self) -> None:
-        self._raw = _RawParser()
-        if not _library.tw_parser_init(self._raw):
-            raise _refused()
-        self._free = weakref.finalize(self, _library.tw_parser_free, self._raw)
+        super().__init__("parser", _RawParser(), _library.tw_parser_init, _library.tw_parser_free)
         # The event that the library wrote last, and whether the caller has yet to get it: it stays until memory for it is granted.
         self._front = _RawEvent()
         self._has_front = False
         # Events that `parse` found before it was refused memory. They come before that at the front.
         self._kept: List[Event] = []
 
-    def __enter__(self) -> InputParser:
-        self._check_open()
-        return self
-
-    def __exit__(self, *_: object) -> None:
-        self.close()
-
-    def __reduce__(self) -> NoReturn:
-        raise TypeError("an InputParser can't be copied or pickled")
-
     def __repr__(self) -> str:
         return f"<InputParser, {'closed' if self.closed else f'{self.waiting_len} bytes are buffered'}>"
 
-    def close(self) -> None:
-        """Frees what the parser owns. It may be called twice."""
-        self._free()
-
-    @property
-    def closed(self) -> bool:
-        """Whether the parser was closed."""
-        return not self._raw.live
-
     def feed(self, data: Bytes) -> None:
-        """Appends bytes to the buffer. `next_event`, or a loop over the parser, then gives the events.
+        """Appends bytes to the buffer. `next_event`, or a loop over the parser, then returns the events.
 
         Raises MemoryError if memory is refused. Then none of the bytes is buffered, and the call may be made again."""
         pointer, length = _borrowed(data)
@@ -517,11 +598,13 @@ class InputParser:
             raise _refused()
 
     def next_event(self, maybe_more: bool = True) -> Optional[Event]:
-        """Takes the event at the front of the buffer and returns it, or None if there is none.
+        """Returns the event at the front of the buffer, and consumes its bytes. Returns None if there is no event.
 
-        Pass maybe_more as True while more bytes may come: then bytes that may still become a longer sequence or a character stay buffered.
-        After a pause call `flush_escape`. Pass False at the end of the input: then only an open paste stays. Before the end this breaks a
-        sequence or a character of which the rest is still to come.
+        While more bytes may come, pass maybe_more as True. Bytes that may still become a longer sequence or a character then stay buffered.
+        After a pause call `flush_escape`.
+
+        At the end of the input pass False. Then only an open paste stays buffered. Before the end, False breaks a sequence or a character
+        whose last bytes are still to come.
 
         Raises MemoryError if memory is refused. Nothing changed, and the call may be made again."""
         self._check_open()
@@ -534,7 +617,7 @@ class InputParser:
         return event
 
     def __iter__(self) -> Iterator[Event]:
-        """Takes the events one by one, as `next_event(True)` does, until there is none."""
+        """Returns the events one by one, as `next_event(True)` does, until there is none."""
         while True:
             event = self.next_event()
             if event is None:
@@ -567,10 +650,10 @@ class InputParser:
         return self.parse(b"", False)
 
     def flush_escape(self) -> Optional[KeyEvent]:
-        """Takes the Escape key if ESC alone is buffered, with ALT if ESC ESC is, and returns it. Returns None otherwise.
+        """Returns the Escape key if ESC alone is buffered, with ALT if ESC ESC is, and consumes these bytes. Returns None otherwise.
 
-        Call it when some 50 ms have passed without a byte. Whatever else is buffered stays, so a pause breaks only what is cut right after
-        its ESC or ESC ESC: a sequence, the start of a paste, or a key with Alt."""
+        Call it when some 50 ms have passed without a byte. Anything else stays buffered. So a pause breaks only what is cut right after its
+        ESC or ESC ESC: a sequence, the start of a paste, or a key with Alt."""
         self._check_open()
         # What was refused memory comes before what is buffered.
         if self._kept or self._has_front:
@@ -605,12 +688,12 @@ class InputParser:
         return cast(bool, _library.tw_parser_is_paste_open(self._raw))
 
     def end_paste(self) -> Optional[Paste]:
-        """Ends an open paste where it is: returns what came of it so far, and takes all that is buffered. Returns None if no paste is open.
+        """Ends an open paste where it is. Returns its text so far, and consumes all that is buffered. Returns None if no paste is open.
 
-        The rest of the paste then arrives as typed keys, Enter included, and its end as KeyCode.InternalPasteEnd. If the text ended inside
-        that, the rest of it is typed keys too.
+        The rest of the paste then arrives as typed keys, Enter included, and its end as KeyCode.InternalPasteEnd. If a part of the end was
+        buffered, the rest of the end arrives as typed keys too.
 
-        Raises MemoryError if memory is refused. The paste isn't lost: the call may be made again."""
+        Raises MemoryError if memory is refused. The paste isn't lost, and the call may be made again."""
         self._check_open()
         if self._kept:
             return None
@@ -622,7 +705,7 @@ class InputParser:
         return cast(Paste, self.next_event())
 
     def reset(self) -> int:
-        """Forgets all that is buffered, an open paste too, and returns how many bytes that were.
+        """Discards all buffered bytes, those of an open paste too, and returns how many there were.
 
         Call it where earlier bytes no longer count, as after another program had the terminal."""
         self._check_open()
@@ -630,10 +713,6 @@ class InputParser:
         self._has_front = False
         _library.tw_parser_drop_paste(self._raw)
         return cast(int, _library.tw_parser_reset(self._raw))
-
-    def _check_open(self) -> None:
-        if not self._raw.live:
-            raise _closed()
 
     def _find_front(self, maybe_more: bool) -> bool:
         """Whether there is an event at the front. It stays there until `_leave_front`."""
@@ -665,6 +744,95 @@ class InputParser:
         return room.decode("utf-8")
 
 
+# The answers of a lookup that say nothing of a key.
+_nothing, _need_data = Nothing(), NeedData()
+
+
+class KeyMap(_Closable, Generic[Value]):
+    """Maps byte strings, the keys, to values, and finds the longest key that is a prefix of a text.
+
+        >>> with KeyMap[str]() as keys:
+        ...     keys.insert(b"d", "delete")
+        ...     keys.insert(b"diw", "delete the word")
+        ...     for text in (b"d", b"di", b"dx", b"diw", b"x"):
+        ...         print(keys.lookup(text))
+        Ambiguous(len=1, value='delete')
+        Ambiguous(len=1, value='delete')
+        Exact(len=1, value='delete')
+        Exact(len=3, value='delete the word')
+        Nothing()
+
+    A value may be any object. The map keeps it until the key is inserted with another value, or the map is closed.
+
+    A map owns memory outside of Python. `close` frees it; so do the end of a `with` block and the end of the map's life. Every other call
+    raises ValueError once the map is closed. One thread at a time uses a map. It can't be copied or pickled.
+
+    Making a map raises MemoryError if memory is refused."""
+
+    def __init__(self) -> None:
+        super().__init__("map", _RawKeyMap(), _library.tw_keymap_init, _library.tw_keymap_free)
+        # The library maps a key to the place of its value.
+        self._values: List[Value] = []
+
+    def __len__(self) -> int:
+        """The number of keys."""
+        self._check_open()
+        return cast(int, _library.tw_keymap_len(self._raw))
+
+    def __repr__(self) -> str:
+        return f"<KeyMap, {'closed' if self.closed else f'{len(self)} keys'}>"
+
+    def insert(self, key: Bytes, value: Value) -> None:
+        """Maps a key to a value. A value that the key had before is let go.
+
+        Raises MemoryError if memory is refused. Then the map is unchanged, and the call may be made again."""
+        self._check_open()
+        pointer, length = _borrowed(key)
+        match = _RawMatch()
+        if _lookup(self._raw, pointer, length, False, match) == _FOUND_EXACT and match.len == length:
+            # The key keeps its place.
+            self._values[match.value] = value
+            return
+        place = len(self._values)
+        self._values.append(value)
+        if not _library.tw_keymap_insert(self._raw, pointer, length, place):
+            self._values.pop()
+            raise _refused()
+
+    def lookup(self, text: Bytes, maybe_more: bool = True) -> Found[Value]:
+        """Finds the longest key that is a prefix of the text, and returns an Exact with its length and its value.
+
+        While more of the text may follow, pass maybe_more as True. The answer is then an Ambiguous if the text is a prefix of a longer key
+        too, and an Exact holds however the text goes on.
+
+        If no key is a prefix of the text, the answer is NeedData() if the text is a prefix of some key, and else Nothing().
+
+            >>> with KeyMap[int]() as keys:
+            ...     keys.insert(b"gg", 1)
+            ...     keys.insert(b"ggx", 2)
+            ...     [keys.lookup(b"g"), keys.lookup(b"g", False), keys.lookup(b"gg"), keys.lookup(b"gg", False)]
+            [NeedData(), NeedData(), Ambiguous(len=2, value=1), Exact(len=2, value=1)]"""
+        pointer, length = _borrowed(text)
+        match = _RawMatch()
+        answer = _lookup(self._raw, pointer, length, maybe_more, match)
+        if answer == _FOUND_EXACT:
+            return Exact(match.len, self._values[match.value])
+        if answer == _FOUND_AMBIGUOUS:
+            return Ambiguous(match.len, self._values[match.value])
+        if answer == _FOUND_NEED_DATA:
+            return _need_data
+        if answer == _FOUND_NONE:
+            return _nothing
+        if answer == _FOUND_NO_MAP:
+            raise _closed(self._what)
+        _fault()
+
+    def close(self) -> None:
+        """Frees what the library holds, and lets the values go. It may be called twice."""
+        super().close()
+        self._values.clear()
+
+
 # More bytes than any key's text has.
 _ROOM = 64
 
@@ -676,7 +844,7 @@ def _number_and_detail(key: Key) -> Tuple[int, int]:
     if isinstance(key, Function):
         return _KEY_FUNCTION, _whole(key.number, 0, 255)
     if not isinstance(key, str):
-        raise TypeError(f"a character, a KeyCode or a Function is wanted, and not {type(key).__name__}")
+        raise TypeError(f"a character, a KeyCode or a Function is required, not {type(key).__name__}")
     if len(key) != 1:
         raise EncodeError(f"a key types one character, and {key!r} has {len(key)}")
     return _KEY_CHAR, ord(key)
@@ -685,7 +853,7 @@ def _number_and_detail(key: Key) -> Tuple[int, int]:
 def _whole(number: int, least: int, most: int) -> int:
     """The number, since ctypes would cut a larger one."""
     if not isinstance(number, int):
-        raise TypeError(f"an int is wanted, and not {type(number).__name__}")
+        raise TypeError(f"an int is required, not {type(number).__name__}")
     if not least <= number <= most:
         raise EncodeError(f"{number} isn't between {least} and {most}")
     return number
@@ -711,12 +879,12 @@ def encode(
     """Returns the bytes, in UTF-8, that a terminal in these modes sends for a key, with the modifiers that are held. They are empty for a
     key that sends nothing, and for every key that is up (is_down is False).
 
-    Raises EncodeError, which is a ValueError, for a function key other than F1 to F24 that is down; and, for a key that is up too, for a
-    text that isn't one character, a surrogate, a number out of range, or a bit that no flag has. Raises MemoryError if memory is
+    Raises EncodeError, which is a ValueError, for a function key other than F1 to F24 that is down. Whether the key is up or down, raises
+    it for a text that isn't one character, a surrogate, a number out of range, or a bit that no flag has. Raises MemoryError if memory is
     refused."""
     number, detail = _number_and_detail(key)
     if not isinstance(modifiers, Modifiers):
-        raise TypeError(f"Modifiers are wanted, and not {type(modifiers).__name__}")
+        raise TypeError(f"Modifiers are required, not {type(modifiers).__name__}")
     held = _whole(modifiers.value, 0, 0xFFFF)
     raw_modes, length, room = _raw_modes(modes), ctypes.c_size_t(), bytearray(_ROOM)
     while True:

@@ -1,4 +1,4 @@
-"""Tests of hedrugal.py, over the library that HEDRUGAL_LIBRARY names. tools/python_test.sh runs them."""
+"""Tests of hedrugal.py, over the library that HEDRUGAL_LIBRARY names. tools/python_test.sh runs these and those of test_keymap.py."""
 import copy
 import ctypes
 import doctest
@@ -29,6 +29,7 @@ from hedrugal import (  # noqa: E402
     KeyCode,
     KeyCodeEncodeModes,
     KeyEvent,
+    KeyMap,
     KittyKeyboardFlags,
     Modifiers,
     MouseButtons,
@@ -117,21 +118,22 @@ class Numbers(unittest.TestCase):
         self.assertGreater(seen, 110)
 
     def test_other_numbers(self):
-        groups = {"kind": "_KIND_", "next": "_NEXT_", "encoded": "_ENCODED_", "key": "_KEY_"}
+        groups = {"kind": "_KIND_", "next": "_NEXT_", "encoded": "_ENCODED_", "key": "_KEY_", "found": "_FOUND_"}
         seen = 0
         for group, name, number, _ in numbers():
             found = getattr(hedrugal, groups.get(group, "_NONE_") + name.upper(), None)
             if found is not None:
                 self.assertEqual(found, int(number), name)
                 seen += 1
-        self.assertEqual(seen, 13)
+        self.assertEqual(seen, 18)
 
     def test_key_names(self):
         names = {int(number): name for group, name, number, _ in numbers() if group == "key"}
-        room = ctypes.create_string_buffer(32)
         for number in [0, *names, len(names) + 1, 65535]:
-            length = hedrugal._library.tw_key_name(number, room, len(room))
-            self.assertEqual(room.raw[:length].decode(), names.get(number, ""))
+            room, name = ctypes.create_string_buffer(b"-" * 32, 32), names.get(number, "").encode()
+            written = name + b"\0" if name else b""
+            self.assertEqual(hedrugal._library.tw_key_name(number, room, len(room)), len(name))
+            self.assertEqual(room.raw, written + b"-" * (len(room) - len(written)))
 
     def test_layouts(self):
         parser, event, modes = hedrugal._RawParser, hedrugal._RawEvent, hedrugal._RawModes
@@ -139,6 +141,8 @@ class Numbers(unittest.TestCase):
         offsets = [event.modifiers.offset, event.y.offset, event.detail.offset, event.paste_len.offset]
         self.assertEqual(offsets, [2, 8, 12, 16])
         self.assertEqual([parser.state.offset, modes.encoding.offset, modes.has_modify_other_keys.offset], [8, 8, 12])
+        keys, match = hedrugal._RawKeyMap, hedrugal._RawMatch
+        self.assertEqual([ctypes.sizeof(keys), keys.state.offset, ctypes.sizeof(match), match.value.offset], [16, 8, 16, 8])
         raw = event(1, 2, 3, 4, 5, 6, 7, 8)
         self.assertEqual(hedrugal._fields_of(raw), (1, 2, 3, 4, 5, 6, 7, 8))
 
@@ -146,7 +150,11 @@ class Numbers(unittest.TestCase):
         """All calls of the header are declared, with as many arguments."""
         header = re.sub(r"/\*.*?\*/", "", read("c/termwiz_input.h"), flags=re.S)
         calls = re.findall(r"^[a-z].*?[ *](tw_\w+)\(([^;]*)\);", header, flags=re.M)
-        self.assertEqual({name: taken.count(",") + 1 for name, taken in calls}, {n: len(c[1]) for n, c in hedrugal._CALLS.items()})
+        counts = {name: 0 if taken == "void" else taken.count(",") + 1 for name, taken in calls}
+        self.assertEqual(counts, {name: len(taken) for name, (_, taken) in hedrugal._CALLS.items()})
+
+    def test_version(self):
+        self.assertIn(f'#define TW_VERSION "{hedrugal.__version__}"\n', read("c/termwiz_input.h"))
 
 
 class WithParser(unittest.TestCase):
@@ -433,7 +441,7 @@ class Types(WithParser):
     def test_wrong_bytes(self):
         for wrong in ("q", 65, None, [65], b"q"[0], object(), ctypes.create_string_buffer(b"q")):
             for use in (self.parser.feed, self.parser.parse):
-                with self.assertRaisesRegex(TypeError, "is wanted, and not"):
+                with self.assertRaisesRegex(TypeError, "is required, not"):
                     use(wrong)
         released = memoryview(b"q")
         released.release()
@@ -443,18 +451,18 @@ class Types(WithParser):
 
     def test_wrong_keys(self):
         for wrong in (None, 65, b"q", Modifiers.ALT, KeyEvent("q"), ["q"]):
-            with self.assertRaisesRegex(TypeError, "is wanted, and not"):
+            with self.assertRaisesRegex(TypeError, "is required, not"):
                 encode(wrong)
         for wrong in (None, 4, "ALT", MouseButtons.LEFT):
-            with self.assertRaisesRegex(TypeError, "Modifiers are wanted"):
+            with self.assertRaisesRegex(TypeError, "Modifiers are required"):
                 encode("q", wrong)
         for wrong in ({"modes": None}, {"modes": KeyCodeEncodeModes(encoding=0)}, {"modes": KeyCodeEncodeModes(kitty_flags=1)}):
             with self.assertRaises((TypeError, AttributeError)):
                 encode("q", **wrong)
         for wrong in (Function("1"), Function(None), Function(1.0)):
-            with self.assertRaisesRegex(TypeError, "an int is wanted"):
+            with self.assertRaisesRegex(TypeError, "an int is required"):
                 encode(wrong)
-        with self.assertRaisesRegex(TypeError, "an int is wanted"):
+        with self.assertRaisesRegex(TypeError, "an int is required"):
             encode("q", modes=KeyCodeEncodeModes(modify_other_keys="1"))
 
 
@@ -748,6 +756,17 @@ class Imports(unittest.TestCase):
             self.skipTest("no libc.so.6")
         self.assert_message(self.import_it({"HEDRUGAL_LIBRARY": other.group()}), "tw_parser_init", "of this version")
 
+    def test_another_version(self):
+        """A module is loaded with the library of its own version alone."""
+        line, text = f'__version__ = "{hedrugal.__version__}"\n', read("python/hedrugal.py")
+        self.assertEqual(text.count(line), 1)
+        major, minor, patch = map(int, hedrugal.__version__.split("."))
+        for other in (f"{major + 1}.{minor}.{patch}", f"{major}.{minor + 1}.{patch}", f"{major}.{minor}.{patch + 1}"):
+            with open(os.path.join(self.folder, "hedrugal.py"), "w", encoding="utf-8") as opened:
+                opened.write(text.replace(line, f'__version__ = "{other}"\n'))
+            printed = self.import_it({"PYTHONPATH": self.folder, "HEDRUGAL_LIBRARY": LIBRARY}, cwd=self.folder)
+            self.assert_message(printed, LIBRARY, f"is version {hedrugal.__version__} of", f"is for version {other}\n")
+
     def test_another_processor(self):
         env = {"HEDRUGAL_LIBRARY": LIBRARY}
         for before in (
@@ -760,8 +779,8 @@ class Imports(unittest.TestCase):
 
 # Sets the most memory that this process may have to what it has, and some bytes more, or to all.
 LIMITS = """
-import resource, sys
-from hedrugal import InputParser, ParseError, Paste, KeyEvent, Waiting, EncodeError
+import resource
+from hedrugal import *
 def limit(more):
     pages = int(open("/proc/self/statm").read().split()[0])
     most = resource.RLIM_INFINITY if more is None else pages * resource.getpagesize() + more
@@ -953,14 +972,14 @@ for it in threads: it.join()
 print("good" if wanted and not wrong else "wrong")
 """
 
-# Threads that use one parser, which no program should do. Any exception may come of it.
+# Threads that use one parser and one map, which no program should do. Any exception may come of it.
 ONE_PARSER = """
 import sys, threading, time
-from hedrugal import InputParser
+from hedrugal import InputParser, KeyMap
 stream = sys.argv[1].encode("latin-1") * 20
-parser, end = InputParser(), time.monotonic() + 1
+parser, keys, end = InputParser(), KeyMap(), time.monotonic() + 1
 def work(remake):
-    global parser
+    global parser, keys
     while time.monotonic() < end:
         try:
             parser.feed(bytearray(stream))
@@ -968,9 +987,13 @@ def work(remake):
             parser.parse(stream + b"\\x1b[200~" + stream)
             parser.end_paste()
             parser.reset()
+            for length in range(50):
+                keys.insert(stream[:length], object())
+                keys.lookup(stream)
             if remake:
-                old, parser = parser, InputParser()
-                old.close()
+                parser.close()
+                keys.close()
+                parser, keys = InputParser(), KeyMap()
         except Exception:
             pass
 sys.setswitchinterval(1e-6)
@@ -996,10 +1019,9 @@ class Threads(unittest.TestCase):
         self.run_threads(ONE_PARSER, STREAM)
 
 
-def listing(kind):
-    """The first listing of docs/python.md that begins with such a fence and reads the terminal, and what it prints."""
-    found = re.search(rf"^```{kind}\n([^`]*termios.*?)^```\n.*?<!-- prints -->\n```\n(.*?)^```", read("docs/python.md"), flags=re.M | re.S)
-    return found.groups()
+def listings():
+    """The two listings in Python of docs/python.md, each with what it prints: an event loop and a key map."""
+    return re.findall(r"^```python\n(.*?)^```\n.*?<!-- prints -->\n```\n(.*?)^```", read("docs/python.md"), flags=re.M | re.S)
 
 
 class Documents(unittest.TestCase):
@@ -1008,9 +1030,11 @@ class Documents(unittest.TestCase):
         self.assertEqual((failed, tried > 0), (0, True))
 
     def test_every_call_says_what_it_does(self):
-        for it in [getattr(hedrugal, name) for name in hedrugal.__all__] + [it for name, it in vars(InputParser).items() if name[0] != "_"]:
-            if it not in (hedrugal.Event, hedrugal.Key):
-                self.assertTrue(it.__doc__ and it.__doc__[0].isupper(), it)
+        for it in (hedrugal, InputParser, KeyMap):
+            names = hedrugal.__all__ if it is hedrugal else [name for name in dir(it) if name[0] != "_"]
+            for name in {*names} - {"Event", "Found", "Key"}:
+                said = getattr(it, name).__doc__
+                self.assertTrue(said and said[0].isupper(), name)
 
     def wait_for_lines(self, terminal, seen, count):
         """Reads what a program prints until there are so many lines."""
@@ -1020,9 +1044,25 @@ class Documents(unittest.TestCase):
             if select.select([terminal], [], [], 0.1)[0]:
                 seen += os.read(terminal, 4096)
 
+    def test_types(self):
+        """The module passes mypy --strict, and so does a program that tells answers apart."""
+        if not shutil.which("mypy"):
+            self.skipTest("no mypy")
+        text = "from hedrugal import *\nwith KeyMap[str]() as keys:\n    found: Found[str] = keys.lookup(b'q')\n"
+        text += "    if isinstance(found, (Exact, Ambiguous)):\n        length: int = found.len\n        value: str = found.value\n"
+        for words in (["python/hedrugal.py"], ["-c", text]):
+            words = ["mypy", "--strict", "--cache-dir=/dev/null", *words]
+            env = {**os.environ, "MYPYPATH": HERE}
+            done = subprocess.run(words, env=env, cwd=TOP, capture_output=True, timeout=SECONDS, check=False)
+            self.assertEqual((done.returncode, done.stderr), (0, b""), done.stdout.decode())
+
+    def test_key_map_listing(self):
+        text, wanted = listings()[1]
+        self.assertEqual(run_python(text, {"HEDRUGAL_LIBRARY": LIBRARY}), (0, wanted, ""))
+
     def test_listing(self):
         """The listing runs on a pseudo-terminal: each text is typed once the line of the one before was printed."""
-        text, wanted = listing("python")
+        text, wanted = listings()[0]
         child, terminal = pty.fork()
         if child == 0:
             os.environ.update(PYTHONPATH=HERE, HEDRUGAL_LIBRARY=LIBRARY)
@@ -1042,7 +1082,7 @@ class Documents(unittest.TestCase):
 
 
 def main():
-    tests = unittest.defaultTestLoader.loadTestsFromModule(sys.modules["__main__"])
+    tests = unittest.defaultTestLoader.discover(HERE)
     ran = unittest.TextTestRunner(stream=sys.stdout, verbosity=2).run(tests)
     failed = len(ran.failures) + len(ran.errors) + len(ran.unexpectedSuccesses)
     print(f"{ran.testsRun - failed - len(ran.skipped)} passed, {failed} failed")

@@ -1,23 +1,129 @@
-// Links libtermwiz_c.a from the folder that TERMWIZ_C_DIR names.
+// Finds libtermwiz_c: in the folder that TERMWIZ_C_DIR names, or else by pkg-config.
 use std::env;
 use std::path::{Path, PathBuf};
+use std::process::{self, Command};
 
-/// A relative folder is one of the folder in which cargo was called. Cargo runs this program elsewhere, but leaves the shell's PWD as it
-/// is.
-fn from_caller(folder: &str) -> PathBuf {
-    match env::var_os("PWD") {
-        Some(caller) => Path::new(&caller).join(folder),
-        None => PathBuf::from(folder),
+// The variables on which the answer depends.
+const VARIABLES: &[&str] = &[
+    "TERMWIZ_C_DIR",
+    "PKG_CONFIG",
+    "PKG_CONFIG_PATH",
+    "PKG_CONFIG_LIBDIR",
+    "PKG_CONFIG_SYSROOT_DIR",
+];
+
+// Ends the build with a message of two lines.
+fn stop(fault: &str, advice: &str) -> ! {
+    eprintln!("hedrugal: {fault}");
+    eprintln!("{advice}");
+    process::exit(1)
+}
+
+// Whether the program is built for Linux on x86-64 with 64-bit pointers, as the library is.
+fn is_for_linux() -> bool {
+    let is = |name: &str, value: &str| env::var_os(name).is_some_and(|known| known == value);
+    is("CARGO_CFG_TARGET_OS", "linux") && is("CARGO_CFG_TARGET_ARCH", "x86_64") && is("CARGO_CFG_TARGET_POINTER_WIDTH", "64")
+}
+
+// The folder that TERMWIZ_C_DIR names. A relative one begins where cargo was called: cargo runs this program elsewhere, but leaves the
+// shell's PWD as it is, which then counts too.
+fn named_folder() -> Option<PathBuf> {
+    let named = PathBuf::from(env::var_os("TERMWIZ_C_DIR")?);
+    if named.is_absolute() {
+        return Some(named);
     }
+    let caller = env::var_os("PWD").unwrap_or_default();
+    Some(Path::new(&caller).join(named))
+}
+
+// The words of a line of pkg-config, which writes a backslash before a space that is part of a word.
+fn words(line: &str) -> Vec<String> {
+    let (mut words, mut word) = (Vec::new(), String::new());
+    let mut characters = line.chars();
+    while let Some(character) = characters.next() {
+        match character {
+            '\\' => word.extend(characters.next()),
+            c if c.is_whitespace() => words.push(std::mem::take(&mut word)),
+            c => word.push(c),
+        }
+    }
+    words.push(word);
+    words.retain(|word| !word.is_empty());
+    words
+}
+
+// The folders that pkg-config names, also those in which a linker looks unasked. `None` if it isn't there, or doesn't know the library.
+fn by_pkg_config() -> Option<Vec<PathBuf>> {
+    let program = env::var_os("PKG_CONFIG").unwrap_or_else(|| "pkg-config".into());
+    let done = Command::new(program)
+        .args(["--libs-only-L", "--static", "termwiz_c"])
+        .env("PKG_CONFIG_ALLOW_SYSTEM_LIBS", "1")
+        .output()
+        .ok()?;
+    if !done.status.success() {
+        return None;
+    }
+    let line = String::from_utf8(done.stdout).ok()?;
+    let folders = words(&line)
+        .into_iter()
+        .filter_map(|word| word.strip_prefix("-L").map(PathBuf::from));
+    Some(folders.collect())
+}
+
+// A library, and how it is linked.
+struct Library {
+    folder: PathBuf,
+    file: &'static str,
+    kind: &'static str,
+}
+
+// The library in a folder: the archive, or the shared library if there is no archive.
+fn library_in(folder: &Path) -> Option<Library> {
+    let forms = [("libtermwiz_c.a", "static"), ("libtermwiz_c.so", "dylib")];
+    let (file, kind) = forms.into_iter().find(|(file, _)| folder.join(file).is_file())?;
+    let folder = folder.to_path_buf();
+    Some(Library { folder, file, kind })
+}
+
+fn library() -> Library {
+    if let Some(folder) = named_folder() {
+        return library_in(&folder).unwrap_or_else(|| {
+            stop(
+                &format!("there is no libtermwiz_c.a in {}", folder.display()),
+                "Set TERMWIZ_C_DIR to the folder of the library, absolute or from where cargo runs.",
+            )
+        });
+    }
+    let Some(folders) = by_pkg_config() else {
+        stop(
+            "pkg-config finds no termwiz_c, and TERMWIZ_C_DIR isn't set",
+            "Install the library, or set TERMWIZ_C_DIR to its folder, absolute or from where cargo runs.",
+        )
+    };
+    folders.iter().find_map(|folder| library_in(folder)).unwrap_or_else(|| {
+        stop(
+            "there is no libtermwiz_c.a in the folder that pkg-config names for termwiz_c",
+            "Install the library again, or set TERMWIZ_C_DIR to its folder.",
+        )
+    })
 }
 
 fn main() {
-    println!("cargo:rerun-if-env-changed=TERMWIZ_C_DIR");
-    let folder = env::var("TERMWIZ_C_DIR").expect("TERMWIZ_C_DIR has to name the folder that tools/c_library.sh wrote");
-    let folder = from_caller(&folder);
-    let archive = folder.join("libtermwiz_c.a");
-    assert!(archive.is_file(), "there is no {}", archive.display());
-    println!("cargo:rerun-if-changed={}", archive.display());
+    if !is_for_linux() {
+        stop(
+            "the library is for Linux on x86-64 alone, with 64-bit pointers",
+            "Build for that target, as x86_64-unknown-linux-gnu.",
+        );
+    }
+    let Library { folder, file, kind } = library();
+    // cargo shows what was printed if the build is stopped, so these lines come last.
+    for name in VARIABLES {
+        println!("cargo:rerun-if-env-changed={name}");
+    }
+    if env::var_os("TERMWIZ_C_DIR").is_some_and(|named| Path::new(&named).is_relative()) {
+        println!("cargo:rerun-if-env-changed=PWD");
+    }
+    println!("cargo:rerun-if-changed={}", folder.join(file).display());
     println!("cargo:rustc-link-search=native={}", folder.display());
-    println!("cargo:rustc-link-lib=static=termwiz_c");
+    println!("cargo:rustc-link-lib={kind}=termwiz_c");
 }

@@ -4,8 +4,8 @@
 #     tools/c_numbers.sh [--check]
 #
 # With --check it writes nothing. It compares the header, the Rust crate and the proved crates with the list: their numbers, and the
-# names of keys and flags that they print. It also compares the version in the header with those in termwiz_c.pc and CHANGELOG.md. It
-# says what differs, and ends with status 1 if something does. It needs no compiler.
+# names of keys and flags that they print. It also compares the version in the header with those in the crate termwiz_c, termwiz_c.pc and
+# CHANGELOG.md. It says what differs, and ends with status 1 if something does. It needs no compiler.
 set -eu
 export LC_ALL=C
 cd "$(dirname "$0")/.."
@@ -40,8 +40,8 @@ place_in() { # file places..
 }
 
 failed=0
-place_in c/termwiz_input.h 'next c' 'waiting c' 'encoded c' 'kind c' 'encoding c' 'kitty c' 'modifier c' 'button c' 'key c' || failed=1
-place_in rust/src/raw.rs 'next const' 'waiting const' 'encoded const' 'kind const' 'encoding const' || failed=1
+place_in c/termwiz_input.h 'next c' 'waiting c' 'encoded c' 'found c' 'kind c' 'encoding c' 'kitty c' 'modifier c' 'button c' 'key c' || failed=1
+place_in rust/src/raw.rs 'next const' 'waiting const' 'encoded const' 'found const' 'kind const' 'encoding const' || failed=1
 place_in rust/src/input/flags.rs 'kitty flag' 'modifier flag' 'button flag' || failed=1
 place_in rust/src/input/keys.rs 'key variant' 'key number' 'key of' || failed=1
 place_in rust/tests/parser/names.rs 'modifier named' 'button named' 'key plain' || failed=1
@@ -76,6 +76,7 @@ if [ -n "$check" ]; then
     proved_in encoding crates/termwiz_c/src/modes.rt || failed=1
     proved_in 'next encoded' crates/termwiz_c/src/lib.rt || failed=1
     proved_in waiting crates/termwiz_c/src/lib.rt || failed=1
+    proved_in found crates/termwiz_c/src/keymap_calls.rt || failed=1
     proved_in modifier crates/termwiz_base/src/modifiers.rt || failed=1
     proved_in kitty crates/termwiz_base/src/kitty.rt || failed=1
     proved_in button crates/termwiz_keys/src/types.rt || failed=1
@@ -84,9 +85,11 @@ if [ -n "$check" ]; then
     names_in button crates/termwiz_keys/src/types.rt crates/event_text/specs/Names.antt || failed=1
     names_in kitty crates/termwiz_base/src/kitty.rt || failed=1
     same_version c/termwiz_input.h "$(sed -nE 's/^#define TW_VERSION_(MAJOR|MINOR|PATCH) //p' c/termwiz_input.h | paste -sd .)" || failed=1
+    same_version crates/termwiz_c/src/lib.rt \
+        "$(sed -nE 's/^const VERSION_(MAJOR|MINOR|PATCH): u32 = ([0-9]+);$/\2/p' crates/termwiz_c/src/lib.rt | paste -sd .)" || failed=1
     same_version c/termwiz_c.pc "$(sed -n 's/^Version: //p' c/termwiz_c.pc)" || failed=1
     same_version CHANGELOG.md "$(sed -nE 's/^## ([0-9.]+)$/\1/p' CHANGELOG.md | head -n 1)" || failed=1
     [ "$failed" = 1 ] || echo "numbers: $(grep -c '^[a-z]' "$list") names, and the header, the Rust crate and the proved crates agree"
-    [ "$failed" = 1 ] || echo "version: $library_version in the header, termwiz_c.pc and CHANGELOG.md"
+    [ "$failed" = 1 ] || echo "version: $library_version in the header, the crate termwiz_c, termwiz_c.pc and CHANGELOG.md"
 fi
 exit "$failed"

@@ -1,19 +1,22 @@
 #!/usr/bin/env bash
 # Builds the C library, and tests it from C and from Rust.
 #
-#     tools/c_test.sh [--built] [--library DIR] [--without-cc] [--without-c++] [--without-pkg-config] [--without-cargo] [--without-valgrind]
+#     tools/c_test.sh [--built] [--library DIR] [--without-cc] [--without-c++] [--without-pkg-config] [--without-cargo] [--without-clippy]
+#                     [--without-rustfmt] [--without-serde] [--without-valgrind]
 #
 # The example and the tests in c/ are built as C99, the example also as C++, and linked with the archive and with the shared library; the
-# crate in rust/ is built with its tests. The tests also run under valgrind (of those in Rust all but the longest), which has to find no
-# error and no leak. A test in C and one in Rust refuse every request for memory in turn. The live programs run on a pseudo-terminal, as
-# tools/live_test.sh says, and all is installed and removed again, as tools/install_test.sh says. The last line is 'N passed, N failed',
-# the status 1 if a case failed.
+# crate in rust/ is built with its tests, with the examples in its documentation, and with serde. It has to find the library in each way
+# that docs/rust.md names, and to say so if there is none. The tests also run under valgrind (of those in Rust all but the longest), which
+# has to find no error and no leak. A test in C and one in Rust refuse every request for memory in turn. The live programs run on a
+# pseudo-terminal, as tools/live_test.sh says, and all is installed and removed again, as tools/install_test.sh says. The last line is
+# 'N passed, N failed', the status 1 if a case failed.
 #
 # DIR is a folder that tools/c_library.sh wrote; without --library the library is built. With --built the keyshow that `rt ci` left in
 # crates/keyshow/out is run; otherwise it is built.
 #
-# It needs rt, cc, binutils, python3, c++, pkg-config, cargo and valgrind, and fails if one isn't there. A word --without-PROGRAM leaves out
-# the tests that need that program; without cc there are none. All that is built lies in a temporary folder, but for what rt keeps in out/.
+# It needs rt, cc, binutils, python3, c++, pkg-config, cargo with clippy and rustfmt, Debian's packages of serde and valgrind, and fails if
+# one isn't there. A word --without-PROGRAM leaves out the tests that need that program; without cc there are none. All that is built lies
+# in a temporary folder, but for what rt keeps in out/.
 set -u
 export LC_ALL=C
 . "$(dirname "$0")/common.sh"
@@ -23,15 +26,24 @@ while [ $# -gt 0 ]; do
         --help) show_help; exit ;;
         --built) is_built=yes ;;
         --library) [ $# -gt 1 ] || refuse_word "$1"; library=$(realpath "$2"); shift ;;
-        --without-cc | --without-c++ | --without-pkg-config | --without-cargo | --without-valgrind)
+        --without-cc | --without-c++ | --without-pkg-config | --without-cargo | --without-clippy | --without-rustfmt | --without-serde | \
+            --without-valgrind)
             left_out="$left_out ${1#--without-}" ;;
         *) refuse_word "$1" ;;
     esac
     shift
 done
-# Whether the tests that need a program are wanted.
-wants() { # program
-    [[ "$left_out " != *" $1 "* ]]
+# Whether the tests that need these programs are wanted.
+wants() { # programs..
+    local program
+    for program; do [[ "$left_out " != *" $program "* ]] || return; done
+}
+
+# Where Debian's packages have the sources of Rust crates.
+system_crates=/usr/share/cargo/registry
+# Notes that the script can't run if a crate isn't there.
+need_crate() { # crate package word
+    compgen -G "$system_crates/$1-[0-9]*" > /dev/null || lacks "crate $1 in $system_crates" "${@:2}"
 }
 if ! wants cc; then
     echo 'c_test: left out by --without-cc: the library for C and the Rust crate are not tested'
@@ -45,6 +57,10 @@ need python3 python3
 ! wants c++ || need c++ g++ --without-c++
 ! wants pkg-config || need pkg-config pkg-config --without-pkg-config
 ! wants cargo || need cargo cargo --without-cargo
+! wants cargo clippy || need cargo-clippy rust-clippy --without-clippy
+! wants cargo rustfmt || need rustfmt rustfmt --without-rustfmt
+! wants cargo serde || need_crate serde librust-serde-dev --without-serde
+! wants cargo serde || need_crate serde_json librust-serde-json-dev --without-serde
 ! wants valgrind || need valgrind valgrind --without-valgrind
 stop_if_missing
 cd "$(dirname "$0")/.." || exit
@@ -92,16 +108,64 @@ check_listings() { # c or rust
     tools/docs.sh --library "$work/lib" --only "$1"
 }
 
-# The Rust crate's tests, each program by a runner. The lock file stays as it is, and no registry is asked.
-rust_tests() { # runner words..
+# cargo on the Rust crate. The lock file stays as it is, and no registry is asked.
+rust() { # command words..
+    TERMWIZ_C_DIR="$work/lib" CARGO_TARGET_DIR="$work/target" \
+        cargo "$1" --quiet --locked --offline --manifest-path rust/Cargo.toml "${@:2}"
+}
+
+# The Rust crate's tests under valgrind.
+rust_memcheck() { # words..
     local host
     host=$(rustc -vV | sed -n 's/^host: //p' | tr 'a-z-' 'A-Z_')
-    env "CARGO_TARGET_${host}_RUNNER=$1" TERMWIZ_C_DIR="$work/lib" CARGO_TARGET_DIR="$work/target" \
-        cargo test --quiet --locked --offline --manifest-path rust/Cargo.toml "${@:2}"
+    export "CARGO_TARGET_${host}_RUNNER=$memcheck --errors-for-leak-kinds=definite"
+    rust test "$@"
 }
-export -f library_calls check_names check_example check_listings rust_tests
+
+# The documentation of the public items, and that of all: rustdoc has to warn of nothing.
+rust_documentation() {
+    export RUSTDOCFLAGS='-D warnings'
+    rust doc --no-deps && rust doc --no-deps --document-private-items
+}
+
+# Each manifest names its own tests.
+rust_layout() {
+    cargo fmt --manifest-path rust/Cargo.toml --check && cargo fmt --manifest-path rust/serde/Cargo.toml --check
+}
+
+# The tests with serde. cargo writes a lock file beside the manifest, so they are a copy's.
+rust_serde_tests() {
+    mkdir "$work/rust" && cp -r rust/build.rs rust/src rust/tests rust/serde "$work/rust/" || return
+    TERMWIZ_C_DIR="$work/lib" CARGO_TARGET_DIR="$work/serde" \
+        cargo test --quiet --offline --manifest-path "$work/rust/serde/Cargo.toml" --features use_serde --test serde \
+        --config 'source.crates-io.replace-with="system"' --config "source.system.directory=\"$system_crates\""
+}
+
+# Builds a program over the Rust crate in a new folder, with these variables in place of the one that names the library.
+rust_builds() { # NAME=VALUE..
+    rm -rf "$work/found"
+    env -u TERMWIZ_C_DIR CARGO_TARGET_DIR="$work/found" "$@" \
+        cargo build --quiet --locked --offline --manifest-path "$top/rust/Cargo.toml" --example measure
+}
+
+# The program so built finds two events in four bytes.
+rust_finds() { # NAME=VALUE..
+    rust_builds "$@" || return
+    printf 'q\033[A' > "$work/keys" && env "$@" "$work/found/debug/examples/measure" "$work/keys" 1 | grep -x '[0-9]* 2 0'
+}
+
+# The build stops with a message of two lines, of which the first says this.
+rust_stops() { # text NAME=VALUE..
+    if rust_builds "${@:2}" 2> "$work/message"; then return 1; fi
+    cat "$work/message"
+    sed '1,/^ *--- stderr/d;/^$/d' "$work/message" > "$work/said"
+    [ "$(wc -l < "$work/said")" = 2 ] && head -n 1 "$work/said" | grep -F "hedrugal: $1"
+}
+export -f library_calls check_names check_example check_listings
+export -f rust rust_memcheck rust_documentation rust_layout rust_serde_tests rust_builds rust_finds rust_stops
 memcheck='valgrind --quiet --error-exitcode=9 --leak-check=full'
-export archive work memcheck
+top=$PWD
+export archive work memcheck top system_crates
 
 check 'names in the archive' bash -c check_names
 check 'example as C99' cc -std=c99 $strict -I"$work/lib" c/events.c "$archive" -o "$work/events"
@@ -136,11 +200,31 @@ if [ "$is_built" = no ] && { wants cargo || wants pkg-config; }; then
 fi
 if wants cargo; then
     check 'listings in Rust' bash -c 'check_listings rust'
-    check 'Rust crate' bash -c 'rust_tests env'
+    check 'Rust crate' bash -c 'rust build --examples && rust test --tests'
+    check 'examples of the Rust crate' bash -c 'rust test --doc'
+    check 'documentation of the Rust crate' bash -c rust_documentation
+    ! wants clippy || check 'Rust crate by clippy' bash -c 'rust clippy --all-targets -- -D warnings'
+    ! wants rustfmt || check 'layout of the Rust crate' bash -c rust_layout
+    ! wants serde || check 'Rust crate with serde' bash -c rust_serde_tests
     check 'live program in Rust' tools/live_test.sh "$work/target/debug/examples/live"
     if wants valgrind; then
-        check 'Rust crate under valgrind' bash -c 'rust_tests "$memcheck --errors-for-leak-kinds=definite" --test parser -- --skip streams --skip recorded'
+        check 'Rust crate under valgrind' bash -c 'rust_memcheck --test parser --test keymap -- --skip streams --skip recorded'
     fi
+
+    # The ways in which it finds the library, and what it says if there is none.
+    mkdir "$work/shared" && cp -a "$work"/lib/libtermwiz_c.so* "$work/shared/" || exit
+    check 'Rust crate, absolute folder' bash -c 'rust_finds TERMWIZ_C_DIR="$work/lib"'
+    check 'Rust crate, relative folder' bash -c 'cd "$work/shared" && rust_finds TERMWIZ_C_DIR=../lib'
+    check 'Rust crate, shared library' bash -c 'rust_finds TERMWIZ_C_DIR="$work/shared" LD_LIBRARY_PATH="$work/shared"'
+    if wants pkg-config; then
+        # A folder in which linkers look unasked isn't named by pkg-config itself.
+        check 'Rust crate, pkg-config' bash -c 'rust_finds PKG_CONFIG_PATH="$work/lib"'
+        check 'Rust crate, pkg-config of the system' bash -c \
+            'rust_finds PKG_CONFIG_PATH="$work/lib" PKG_CONFIG_SYSTEM_LIBRARY_PATH="$work/lib"'
+    fi
+    check 'Rust crate, no library' bash -c 'rust_stops "pkg-config finds no termwiz_c" PKG_CONFIG=false'
+    check 'Rust crate, folder without a library' bash -c 'rust_stops "there is no libtermwiz_c.a in $work/no" TERMWIZ_C_DIR="$work/no"'
+    check 'Rust crate, other target' bash -c 'rust_stops "the library is for Linux on x86-64" CARGO_BUILD_TARGET=i686-unknown-linux-gnu'
 fi
 if wants pkg-config; then
     check 'install' tools/install_test.sh --library "$work/lib" --keyshow crates/keyshow/out/keyshow

@@ -42,11 +42,15 @@ note_load() {
 }
 
 missing='' packages=''
-# Notes that the script can't run if there is no such program. The package is what has it in Debian; the word leaves out what needs it.
-need() { # program package [word]
-    command -v "$1" > /dev/null && return
+# Notes that the script can't run. The package is what has the missing thing in Debian; the word leaves out what needs it.
+lacks() { # thing package [word]
     missing="$missing${missing:+, }no $1"
     packages="$packages${packages:+, }$2${3:+ (or leave it out by $3)}"
+}
+
+# Notes it if there is no such program.
+need() { # program package [word]
+    command -v "$1" > /dev/null || lacks "$@"
 }
 
 # Ends the script if a program that it needs isn't there.
@@ -64,4 +68,62 @@ library_version() {
 # Prints the names of the header's calls.
 library_calls() {
     sed -nE 's/^[a-z].*[ *](tw_[a-z_]+)\(.*$/\1/p' c/termwiz_input.h
+}
+
+# Runs a command, and shows what it prints only if it fails.
+run_quietly() { # words..
+    local log status=0
+    log=$(mktemp)
+    "$@" > "$log" 2>&1 || { status=$?; cat "$log" >&2; }
+    rm "$log"
+    return "$status"
+}
+
+# Ends the script over a library, $library, that isn't that of these sources. It is called at the top of the repository.
+check_library() {
+    for name in libtermwiz_c.a "libtermwiz_c.so.$(library_version)" termwiz_input.h termwiz_c.pc; do
+        [ -f "$library/$name" ] || refuse "there is no $name in '$library'"
+    done
+    for name in termwiz_input.h termwiz_c.pc; do
+        cmp -s "c/$name" "$library/$name" || refuse "the library in '$library' was built from other sources: its $name is another"
+    done
+}
+
+# Looks at the library and the program that were named, and proves and builds those that weren't. Then $library is the library's folder, if
+# need be one in the folder $work, and $keyshow the program. It is called at the top of the repository.
+build_unnamed() {
+    [ -z "$library" ] || check_library
+    [ -z "$keyshow" ] || { [ -x "$keyshow" ] && [ -f "$keyshow" ]; } || refuse "'$keyshow' is no program"
+    { [ -n "$library" ] && [ -n "$keyshow" ]; } || need rt 'the Rattle kit (or name the library by --library and the program by --keyshow)'
+    stop_if_missing
+    if [ -z "$library" ]; then
+        progress 'proves and builds the library'
+        library=$work/library
+        run_quietly tools/c_library.sh "$library" || exit
+    fi
+    if [ -z "$keyshow" ]; then
+        progress 'proves and builds keyshow'
+        (cd crates/keyshow && run_quietly rt run < stdin) || exit
+        keyshow=$PWD/crates/keyshow/out/keyshow
+    fi
+}
+
+passed=0 failed=0
+# Runs a case, and counts it. What it prints is shown only if it fails.
+check() { # name words..
+    local name=$1
+    shift
+    if (run_quietly "$@") 2>&1; then
+        echo "$name: passed"
+        passed=$((passed + 1))
+    else
+        echo "$name: failed"
+        failed=$((failed + 1))
+    fi
+}
+
+# Prints how many cases passed and failed. The status is 1 if one failed.
+print_counts() {
+    echo "$passed passed, $failed failed"
+    [ "$failed" = 0 ]
 }

@@ -1,11 +1,11 @@
 #!/usr/bin/env bash
 # Calls the C library with inputs that clang's libFuzzer makes, and checks what it answers.
 #
-#     tools/fuzz.sh [--library DIR] [--repeat HARNESS FILE] [--without-clang] [SECONDS]
+#     tools/fuzz.sh [--library DIR] [--repeat HARNESS FILE] [--if-clang] [--without-clang] [SECONDS]
 #
-# There are three harnesses in tools/fuzz, and the head of each says what it checks: cuts (a stream read whole and in pieces), calls (calls
-# in any order, with requests for memory refused) and keys (texts and names of keys). Each begins with the seeds of tools/fuzz/corpus.
-# calls runs for half of the SECONDS (60 if left out), the others for a quarter each.
+# There are four harnesses in tools/fuzz, and the head of each says what it checks: cuts (a stream read whole and in pieces), calls (calls
+# in any order, with requests for memory refused), maps (a key map beside a plain one) and keys (texts and names of keys). Each begins with
+# the seeds of tools/fuzz/corpus. calls runs for two fifths of the SECONDS (60 if left out), the others for a fifth each.
 #
 # The harnesses are built with clang's checks of addresses and of undefined behaviour. The archive is compiled already and has no such
 # checks in it. So each argument lies beside a page that can't be touched, and each block of the library's memory between marks.
@@ -14,12 +14,13 @@
 # folder that the script names, with the words that repeat it: --repeat runs that input alone. The last line is 'N passed, N failed', the
 # status 1 if a harness failed.
 #
-# It needs clang with its runtime, and objcopy of binutils, and fails if one isn't there. With --without-clang it checks nothing and says
-# so.
+# It needs clang with its runtime, and objcopy of binutils, and fails if one isn't there. With --if-clang, as the gate runs it, it doesn't
+# fail if clang or its runtime isn't there: its last line is then 'fuzz: not run: ..', and its status 77. With --without-clang it checks
+# nothing and says so.
 set -u
 export LC_ALL=C
 . "$(dirname "$0")/common.sh"
-library='' harness='' input='' seconds='' left_out=''
+harnesses='cuts calls maps keys' library='' harness='' input='' seconds='' left_out='' if_clang=''
 while [ $# -gt 0 ]; do
     case $1 in
         --help) show_help; exit ;;
@@ -30,10 +31,12 @@ while [ $# -gt 0 ]; do
             shift ;;
         --repeat)
             [ $# -gt 2 ] || refuse '--repeat wants a harness and a file after it'
-            case $2 in cuts | calls | keys) harness=$2 ;; *) refuse_word "$2" ;; esac
+            [[ " $harnesses " == *" $2 "* ]] || refuse_word "$2"
+            harness=$2
             [ -f "$3" ] || refuse "there is no file $3"
             input=$(realpath "$3")
             shift 2 ;;
+        --if-clang) if_clang=yes ;;
         --without-clang) left_out=clang ;;
         -*) refuse_word "$1" ;;
         *) [ -z "$seconds" ] || refuse_word "$1"; want_number "$1" SECONDS; seconds=$1 ;;
@@ -45,37 +48,47 @@ if [ -n "$left_out" ]; then
     echo '0 passed, 0 failed'
     exit
 fi
+# Ends the script since a part of clang isn't there.
+stop_without() { # what package
+    if [ -n "$if_clang" ]; then
+        echo "fuzz: not run: $1 isn't here (Debian has it in $2)"
+        exit 77
+    fi
+    echo "fuzz: not run, $1 isn't here: install $2 (or leave it out by --without-clang)" >&2
+    exit 1
+}
+
 [ -n "$library" ] || need rt 'the Rattle kit'
-need clang 'clang and its libclang-rt-VERSION-dev' --without-clang
 need objcopy binutils
 stop_if_missing
+command -v clang > /dev/null || stop_without clang 'clang and libclang-rt-VERSION-dev'
 cd "$(dirname "$0")/.." || exit
 work=$(mktemp -d)
 trap 'rm -rf "$work"' EXIT
 checks='-fsanitize=address,undefined -fno-sanitize-recover=all'
 echo 'int LLVMFuzzerTestOneInput(const char *it, unsigned long len) { return it && len ? 0 : 0; }' > "$work/empty.c"
+version=$(clang -dumpversion)
 # shellcheck disable=SC2086
-if ! clang $checks -fsanitize=fuzzer "$work/empty.c" -o "$work/empty" 2> "$work/log"; then
-    version=$(clang -dumpversion)
-    echo "fuzz: not run, clang has no libFuzzer: install libclang-rt-${version%%.*}-dev (or leave it out by --without-clang)" >&2
-    exit 1
-fi
+clang $checks -fsanitize=fuzzer "$work/empty.c" -o "$work/empty" 2> "$work/log" ||
+    stop_without "clang's runtime with libFuzzer" "libclang-rt-${version%%.*}-dev"
 if [ -z "$library" ]; then
     progress 'builds the library'
     library=$work/lib
     tools/c_library.sh "$library" > "$work/log" 2>&1 || { cat "$work/log" >&2; exit 1; }
 fi
 
-# Builds the harnesses over an archive whose requests for memory are those of tools/fuzz/fuzz.c. What is in fuzz.c isn't traced.
+# Builds the harnesses over an archive whose requests for memory are those of tools/fuzz/fuzz.c. What they share isn't traced.
 build() {
     local name options="-std=c11 -O1 -g -Wall -Wextra -pedantic -Werror -I$library"
     objcopy --redefine-sym malloc=fuzz_malloc --redefine-sym realloc=fuzz_realloc --redefine-sym free=fuzz_free \
         "$library/libtermwiz_c.a" "$work/archive.a" || return 1
-    # shellcheck disable=SC2086
-    clang $options $checks -c tools/fuzz/fuzz.c -o "$work/fuzz.o" || return 1
-    for name in cuts calls keys; do
+    for name in fuzz map_calls; do
         # shellcheck disable=SC2086
-        clang $options $checks -fsanitize=fuzzer "tools/fuzz/$name.c" "$work/fuzz.o" "$work/archive.a" -o "$work/$name" || return 1
+        clang $options $checks -c "tools/fuzz/$name.c" -o "$work/$name.o" || return 1
+    done
+    for name in $harnesses; do
+        # shellcheck disable=SC2086
+        clang $options $checks -fsanitize=fuzzer "tools/fuzz/$name.c" "$work"/{fuzz,map_calls}.o "$work/archive.a" -o "$work/$name" || return 1
     done
 }
 progress 'builds the harnesses'
@@ -146,10 +159,11 @@ if [ -n "$harness" ]; then
     fi
 else
     seconds=${seconds:-60}
-    quarter=$(((seconds + 3) / 4))
-    fuzz cuts "$quarter" 600
-    fuzz calls "$((2 * quarter))" 400
-    fuzz keys "$quarter" 32
+    fifth=$(((seconds + 4) / 5))
+    fuzz cuts "$fifth" 600
+    fuzz calls "$((2 * fifth))" 400
+    fuzz maps "$fifth" 300
+    fuzz keys "$fifth" 32
 fi
 echo "$passed passed, $failed failed"
 [ "$failed" = 0 ]

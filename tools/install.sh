@@ -40,7 +40,6 @@ while [ $# -gt 0 ]; do
 done
 [[ /$libdir/ != *//* && /$libdir/ != */.*/* && $libdir != *[^A-Za-z0-9_+./-]* ]] ||
     refuse "--libdir wants a folder's name below the prefix, and not '$libdir'"
-[ -z "$keyshow" ] || { [ -x "$keyshow" ] && [ -f "$keyshow" ]; } || refuse "'$keyshow' is no program"
 cd "$(dirname "$0")/.."
 version=$(library_version)
 top=${destdir%/}${prefix%/}
@@ -60,28 +59,6 @@ list_files() {
     echo "share/man/man1/keyshow.1 644 docs/man/keyshow.1"
     echo "share/man/man3/termwiz_input.3 644 docs/man/termwiz_input.3"
     library_calls | sed 's|.*|share/man/man3/&.3 link termwiz_input.3|'
-}
-
-# Proves and builds what wasn't named, and ends the script over a library that isn't that of these sources.
-find_built() {
-    if [ -z "$library" ]; then
-        progress 'proves and builds the library'
-        library=$work/library
-        tools/c_library.sh "$library" > "$work/log" 2>&1 || { cat "$work/log" >&2; exit 1; }
-    fi
-    if [ -z "$keyshow" ]; then
-        need rt 'the Rattle kit (or name the program by --keyshow)'
-        stop_if_missing
-        progress 'proves and builds keyshow'
-        (cd crates/keyshow && rt run < stdin) > "$work/log" 2>&1 || { cat "$work/log" >&2; exit 1; }
-        keyshow=$PWD/crates/keyshow/out/keyshow
-    fi
-    for name in libtermwiz_c.a "libtermwiz_c.so.$version" termwiz_input.h termwiz_c.pc; do
-        [ -f "$library/$name" ] || refuse "there is no $name in '$library'"
-    done
-    for name in termwiz_input.h termwiz_c.pc; do
-        cmp -s "c/$name" "$library/$name" || refuse "the library in '$library' was built from other sources: its $name is another"
-    done
 }
 
 # Writes termwiz_c.pc for the usual folders.
@@ -149,7 +126,7 @@ if [ "$is_uninstall" = yes ]; then
     mapfile -t files < <(list_files)
     remove_files
 else
-    find_built
+    build_unnamed
     write_pc
     mapfile -t files < <(list_files)
     install_files

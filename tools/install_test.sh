@@ -23,7 +23,6 @@ while [ $# -gt 0 ]; do
     esac
     shift
 done
-{ [ -n "$library" ] && [ -n "$keyshow" ]; } || need rt 'the Rattle kit'
 need cc gcc
 for tool in nm readelf; do need $tool binutils; done
 need pkg-config pkg-config
@@ -31,31 +30,7 @@ stop_if_missing
 cd "$(dirname "$0")/.." || exit
 work=$(mktemp -d)
 trap 'rm -rf "$work"' EXIT
-if [ -z "$library" ]; then
-    progress 'builds the library'
-    library=$work/library
-    tools/c_library.sh "$library" > "$work/log" 2>&1 || { cat "$work/log" >&2; exit 1; }
-fi
-if [ -z "$keyshow" ]; then
-    progress 'builds keyshow'
-    (cd crates/keyshow && rt run < stdin) > "$work/log" 2>&1 || { cat "$work/log" >&2; exit 1; }
-    keyshow=$PWD/crates/keyshow/out/keyshow
-fi
-
-passed=0 failed=0
-# Runs a case. What it prints is shown only if it fails.
-check() { # name words..
-    local name=$1
-    shift
-    if ("$@") > "$work/log" 2>&1; then
-        echo "$name: passed"
-        passed=$((passed + 1))
-    else
-        cat "$work/log"
-        echo "$name: failed"
-        failed=$((failed + 1))
-    fi
-}
+build_unnamed
 
 install=$PWD/tools/install.sh
 page=docs/man/termwiz_input.3
@@ -269,5 +244,4 @@ check 'uninstall among other files' check_uninstall
 check 'uninstall of nothing' check_nothing_to_uninstall
 check 'uninstall from a folder for packages' check_uninstall_of_stage
 check 'library of other sources' check_stale
-echo "$passed passed, $failed failed"
-[ "$failed" = 0 ]
+print_counts

@@ -1,9 +1,9 @@
-//! One pass of a parser over a file: `measure FILE READ` feeds the file in reads of READ bytes, and prints the nanoseconds that this took, the
-//! events, and the bytes that wait at the end.
+//! One pass of a parser over a file: `measure FILE READ` feeds the file in reads of READ bytes, and prints its nanoseconds, the
+//! number of events, and the number of bytes that stay buffered.
+use hedrugal::input::{InputEvent, InputParser};
 use std::error::Error;
 use std::time::Instant;
 use std::{env, fs};
-use termwiz::input::{InputEvent, InputParser};
 
 fn main() -> Result<(), Box<dyn Error>> {
     let words: Vec<String> = env::args().skip(1).collect();

@@ -1,4 +1,13 @@
 //! The parser, its events, and the text of keys.
+//!
+//! ```
+//! use hedrugal::input::{InputEvent, InputParser, KeyCode};
+//!
+//! let mut parser = InputParser::new();
+//! for event in parser.parse_as_vec(b"\x1b[A", true) {
+//!     assert!(matches!(event, InputEvent::Key(key) if key.key == KeyCode::UpArrow));
+//! }
+//! ```
 mod encode;
 mod events;
 mod flags;
@@ -7,9 +16,9 @@ mod parser;
 
 pub use encode::{EncodeError, KeyCodeEncodeModes, KeyboardEncoding, CSI, SS3};
 pub use events::{InputEvent, KeyEvent, MouseEvent, PixelMouseEvent};
-pub use flags::{KittyKeyboardFlags, Modifiers, MouseButtons};
+pub use flags::{FlagIter, FlagNames, KittyKeyboardFlags, Modifiers, MouseButtons, ParseFlagsError};
 pub use keys::KeyCode;
 pub use parser::{AllocError, InputParser, ParseError, ParseVecError, Waiting};
 
 // What is said if the library answers otherwise than its header says.
-const FAULT: &str = "the library answers as c/termwiz_input.h says";
+pub(crate) const FAULT: &str = "the library answers as c/termwiz_input.h says";

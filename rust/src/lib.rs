@@ -1,10 +1,12 @@
-//! Key, mouse and paste events from the bytes that a terminal sends, and the bytes that it sends for a key.
+//! The key input of termwiz 0.23.3: key, mouse and paste events from the bytes that a terminal sends, the bytes that it sends for a key,
+//! and a map from byte strings to values. The items of [`input`] and [`keymap`] have termwiz's names, and so has
+//! [`escape::csi::KittyKeyboardFlags`]. Left out are termwiz's modules `terminal`, `caps`, `surface`, `lineedit` and `readbuf`, the rest
+//! of `escape`, and Windows.
 //!
-//! This crate stands in for the parser of termwiz 0.23.3: the items of [`input`] have the crate's names and paths. Behind
-//! them is a static library whose calls are proved against their contracts. The proof ends at those calls; this crate is tested.
+//! Behind them is a library whose calls are proved against their contracts. The proof ends at those calls; this crate is tested.
 //!
 //! ```
-//! use termwiz::input::{InputEvent, InputParser, KeyCode, KeyEvent, Modifiers};
+//! use hedrugal::input::{InputEvent, InputParser, KeyCode, KeyEvent, Modifiers};
 //!
 //! let mut parser = InputParser::new();
 //! let events = parser.parse_as_vec(b"\x1b[1;5A", true);
@@ -17,13 +19,34 @@
 //! );
 //! ```
 //!
-//! A build needs the library: `TERMWIZ_C_DIR` names the folder that has `libtermwiz_c.a`.
+//! A program that names termwiz's paths keeps its `use` lines by this dependency:
+//!
+//! ```toml
+//! termwiz = { package = "hedrugal", path = "hedrugal/rust" }
+//! ```
+//!
+//! A build finds the installed library by pkg-config. `TERMWIZ_C_DIR` comes first: it names another folder that has `libtermwiz_c.a`,
+//! absolute or from where cargo runs. The library is for Linux on x86-64.
+//!
+//! The feature `use_serde`, serde's derives for keys, events and flags, is that of the manifest in `rust/serde`, which has these
+//! sources: so a build without it asks for no other crate.
 //!
 //! # If memory is refused
 //!
-//! `new`, `parse`, `parse_as_vec`, `end_paste` and `encode` panic, and the forms whose names begin with `try_` return an error, after
-//! which every value may be used again. No event is lost: each error says how to go on.
+//! `new`, `parse`, `parse_as_vec`, `end_paste`, `encode` and `insert` panic, and the forms whose names begin with `try_` return an error,
+//! after which every value may be used again. No event is lost: each error says how to go on.
+//!
+//! # Threads
+//!
+//! [`InputParser`](input::InputParser) is `Send` and `Sync`. Calls that change it borrow it alone (`&mut self`). Those that only read it
+//! ([`waiting`](input::InputParser::waiting), [`waiting_len`](input::InputParser::waiting_len) and
+//! [`is_paste_open`](input::InputParser::is_paste_open)) may be called by several threads, and lock it, since the library allows one
+//! thread at a time.
+//!
+//! [`KeyMap`](keymap::KeyMap) is `Send` and `Sync` if its values are. Lookups may be called by several threads too, and lock it.
 #![deny(missing_docs)]
 
+pub mod escape;
 pub mod input;
+pub mod keymap;
 mod raw;

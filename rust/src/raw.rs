@@ -41,6 +41,19 @@ pub const ENCODED_REFUSED_MEMORY: u32 = 2;
 pub const ENCODED_BAD_NUMBER: u32 = 3;
 // numbers.txt: end
 
+// numbers.txt: found const
+/// No key is a prefix of the text, and the text is a prefix of no key.
+pub const FOUND_NONE: u32 = 0;
+/// The longest key that is a prefix of the text was written to *match.
+pub const FOUND_EXACT: u32 = 1;
+/// The same, but more may follow, and the text is a prefix of a longer key too.
+pub const FOUND_AMBIGUOUS: u32 = 2;
+/// No key is a prefix of the text, but the text is a prefix of some key.
+pub const FOUND_NEED_DATA: u32 = 3;
+/// There is no map: it wasn't made yet, or it was freed.
+pub const FOUND_NO_MAP: u32 = 4;
+// numbers.txt: end
+
 // numbers.txt: kind const
 /// None of these. No event has this kind.
 pub const KIND_OTHER: u8 = 0;
@@ -78,6 +91,9 @@ impl Parser {
     };
 }
 
+// SAFETY: what a parser owns is reached through it alone, and the library keeps nothing that belongs to a thread.
+unsafe impl Send for Parser {}
+
 /// An event. What its kind has no use for is 0.
 #[repr(C)]
 #[derive(Clone, Copy, Default)]
@@ -103,6 +119,32 @@ pub struct Modes {
     pub has_modify_other_keys: bool,
 }
 
+/// A map from byte strings to numbers, or none.
+#[repr(C)]
+pub struct KeyMap {
+    live: bool,
+    state: *mut c_void,
+}
+
+impl KeyMap {
+    /// No map.
+    pub const NONE: KeyMap = KeyMap {
+        live: false,
+        state: std::ptr::null_mut(),
+    };
+}
+
+// SAFETY: what a map owns is reached through it alone, and the library keeps nothing that belongs to a thread.
+unsafe impl Send for KeyMap {}
+
+/// The key that a lookup found.
+#[repr(C)]
+#[derive(Clone, Copy, Default)]
+pub struct Match {
+    pub len: usize,
+    pub value: u64,
+}
+
 // The layouts that the library was proved with.
 const _: () = {
     assert!(size_of::<Parser>() == 16 && offset_of!(Parser, state) == 8);
@@ -110,6 +152,8 @@ const _: () = {
     assert!(offset_of!(Event, detail) == 12 && offset_of!(Event, paste_len) == 16);
     assert!(size_of::<Modes>() == 16 && offset_of!(Modes, encoding) == 8);
     assert!(offset_of!(Modes, has_modify_other_keys) == 12);
+    assert!(size_of::<KeyMap>() == 16 && offset_of!(KeyMap, state) == 8);
+    assert!(size_of::<Match>() == 16 && offset_of!(Match, value) == 8);
 };
 
 extern "C" {
@@ -135,4 +179,9 @@ extern "C" {
         len: usize,
         text_len: *mut usize,
     ) -> u32;
+    pub fn tw_keymap_init(map: *mut KeyMap) -> bool;
+    pub fn tw_keymap_free(map: *mut KeyMap);
+    pub fn tw_keymap_insert(map: *mut KeyMap, key: *const u8, len: usize, value: u64) -> bool;
+    pub fn tw_keymap_lookup(map: *mut KeyMap, text: *const u8, len: usize, maybe_more: bool, found: *mut Match) -> u32;
+    pub fn tw_keymap_len(map: *mut KeyMap) -> usize;
 }

@@ -3,10 +3,11 @@
 //
 // `malloc` and `realloc` are this program's own, over the C library's (glibc's names for them), so all requests come here. What a thread of
 // the tests asks for is refused if that thread said so.
+use hedrugal::input::{AllocError, EncodeError, InputEvent, InputParser, KeyCode, KeyCodeEncodeModes, KeyboardEncoding};
+use hedrugal::input::{Modifiers, ParseError, Waiting};
+use hedrugal::keymap::{Found, InsertError, KeyMap};
 use std::cell::Cell;
 use std::ffi::c_void;
-use termwiz::input::{AllocError, EncodeError, InputEvent, InputParser, KeyCode, KeyCodeEncodeModes, KeyboardEncoding};
-use termwiz::input::{Modifiers, ParseError, Waiting};
 
 thread_local! {
     // How many requests there are to the one that is refused, or 0.
@@ -260,6 +261,61 @@ fn encodes_after_a_refusal() {
     assert_eq!(encode().as_deref(), Ok("\x1b[1;3D"));
 }
 
+// A map of so many keys, each with its number.
+fn numbered_keys(count: usize) -> KeyMap<usize> {
+    let mut map = KeyMap::new();
+    for number in 0..count {
+        map.insert(number.to_string(), number);
+    }
+    map
+}
+
+fn assert_numbered(map: &KeyMap<usize>, count: usize) {
+    for number in 0..count {
+        let key = number.to_string();
+        assert_eq!(map.lookup(&key, false), Found::Exact(key.len(), number));
+    }
+}
+
+// Inserts a key more with each request refused in turn: the map is unchanged, the value comes back, and the key can be inserted then.
+// Returns the number of requests.
+fn check_insert(count: usize) -> usize {
+    let key = "a key of more bytes than are stored beside its value";
+    for number in 1.. {
+        let mut map = numbered_keys(count);
+        let (inserted, refused) = refusing(number, || map.try_insert(key, 1000));
+        if refused > 0 {
+            assert_eq!(inserted, Err(InsertError { value: 1000 }), "{count} keys, request {number}");
+            assert_eq!(map.lookup(key, false), Found::None);
+            assert_numbered(&map, count);
+            map.insert(key, 1000);
+        }
+        assert_eq!(map.lookup(key, false), Found::Exact(key.len(), 1000));
+        assert_numbered(&map, count);
+        if refused == 0 {
+            assert_eq!(inserted, Ok(()));
+            return number - 1;
+        }
+    }
+    unreachable!("a call makes no end of requests");
+}
+
+// The first key also makes the map, and the fifth finds the list of four places full.
+#[test]
+fn inserts_after_a_refusal() {
+    assert!(check_insert(0) > 2);
+    assert!(check_insert(1) > 0);
+    assert!(check_insert(4) > check_insert(1));
+}
+
+#[test]
+fn replaces_and_looks_up_without_memory() {
+    let mut map = numbered_keys(20);
+    assert_eq!(refusing(1, || map.try_insert("7", 8)), (Ok(()), 0));
+    assert_eq!(refusing(1, || map.lookup("7", true)), (Found::Exact(1, 8), 0));
+    assert_eq!(refusing(1, KeyMap::<usize>::new).1, 0);
+}
+
 #[test]
 fn panics_if_refused() {
     let refused = |call: fn()| {
@@ -270,6 +326,7 @@ fn panics_if_refused() {
         .is_err()
     };
     assert!(refused(|| drop(InputParser::new())));
+    assert!(refused(|| KeyMap::new().insert("a", 1)));
     let mut parser = parser_in_a_paste();
     let ended = std::panic::catch_unwind(std::panic::AssertUnwindSafe(|| {
         TO_REFUSAL.set(1);

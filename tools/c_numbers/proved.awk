@@ -3,8 +3,8 @@
 #     awk -v groups='GROUP ..' -f proved.awk LIST FILE..
 #
 # It reads lines of these forms: of keys `KeyCode::NAME => N`, of flags `pub const NAME: TYPE = TYPE(N);` (N also as 1 << K), of answers
-# `const NAME: u32 = N;`, of what stays buffered `const WAITING_NAME: u32 = N;`, of encodings `N => Some(KeyboardEncoding::NAME`, and of
-# kinds `kind: N` after `InputEvent::NAME` or NO_EVENT.
+# `const NAME: u32 = N;`, of what stays buffered `const WAITING_NAME: u32 = N;`, of lookups `const FOUND_NAME: u32 = N;`, also after
+# `pub(crate)`, of encodings `N => Some(KeyboardEncoding::NAME`, and of kinds `kind: N` after `InputEvent::NAME` or NO_EVENT.
 NR == FNR {
     if (index(" " groups " ", " " $1 " ")) {
         wanted[$2] = $3
@@ -25,11 +25,11 @@ groups ~ /^(modifier|button|kitty)$/ && /^ *pub const [A-Z0-9_]+: [A-Za-z]+ = [A
     split(value, parts, " << ")
     met($3, parts[1] * 2 ^ (parts[2] + 0))
 }
-groups == "next encoded" && /^const [A-Z0-9_]+: u32 = [0-9]+;$/ && !/^const WAITING_/ { met($2, $5) }
-groups == "waiting" && /^const WAITING_[A-Z0-9_]+: u32 = [0-9]+;$/ {
-    name = $2
-    sub(/^WAITING_/, "", name)
-    met(name, $5)
+groups == "next encoded" && /^const [A-Z0-9_]+: u32 = [0-9]+;$/ && !/^const (WAITING|VERSION)_/ { met($2, $5) }
+groups ~ /^(waiting|found)$/ && /^(pub\(crate\) )?const [A-Z0-9_]+: u32 = [0-9]+;$/ {
+    sub(/^pub\(crate\) /, "")
+    prefix = toupper(groups) "_"
+    if (index($2, prefix) == 1) met(substr($2, length(prefix) + 1), $5)
 }
 groups == "encoding" && /^ *[0-9]+ => Some\(KeyboardEncoding::/ {
     name = $3

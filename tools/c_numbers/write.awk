@@ -6,10 +6,11 @@
 BEGIN {
     prefix["next"] = prefix["encoded"] = prefix["kind"] = prefix["encoding"] = "TW_"
     prefix["waiting"] = "TW_WAITING_"
+    prefix["found"] = "TW_FOUND_"
     prefix["kitty"] = "TW_KITTY_"
     prefix["modifier"] = "TW_MOD_"
     prefix["button"] = "TW_BUTTON_"
-    type["next"] = type["waiting"] = type["encoded"] = "u32"
+    type["next"] = type["waiting"] = type["encoded"] = type["found"] = "u32"
     type["kind"] = type["encoding"] = "u8"
     type["modifier"] = "Modifiers"
     type["button"] = "MouseButtons"

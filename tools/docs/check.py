@@ -286,7 +286,10 @@ class Runner:
         with open(os.path.join(folder, 'src/main.rs'), 'w', encoding='utf-8') as opened:
             opened.write(listing.text)
         with open(os.path.join(folder, 'Cargo.toml'), 'w', encoding='utf-8') as opened:
-            opened.write('[package]\nname = "listing"\nedition = "2021"\n[dependencies]\n' f'termwiz = {{ path = "{os.getcwd()}/rust" }}\n')
+            # A listing may name the package as termwiz.
+            name = 'termwiz' if 'use termwiz::' in listing.text else 'hedrugal'
+            opened.write('[package]\nname = "listing"\nedition = "2021"\n[dependencies]\n')
+            opened.write(f'{name} = {{ package = "hedrugal", path = "{os.getcwd()}/rust" }}\n')
         target = os.path.join(self.work, 'target')
         env = dict(os.environ, TERMWIZ_C_DIR=library, CARGO_TARGET_DIR=target, RUSTFLAGS='-D warnings')
         run(['cargo', 'build', '--quiet', '--offline', '--manifest-path', os.path.join(folder, 'Cargo.toml')], env=env)

@@ -1,24 +1,28 @@
 /* Calls in any order, with requests for memory refused.
  *
- * An input is a program. The low five bits of a byte are a call, so that each has a letter; what follows are its arguments:
+ * An input is a program of calls, each a letter (see take_letter) and its arguments:
  *
  *     I n    init                    F n bytes  feed n bytes, 63 at most     N  next, more to come     E    flush the escape
  *     K      free                    O n byte   feed 16 n times a byte       L  next, no more to come  C    end the paste
  *     B      reset                   M          move the parser              A  next until none, more  G n  copy n bytes of the paste
- *     D      drop the paste                                                  H  the same, no more
+ *     D      drop the paste          V          the version                  H  the same, no more
  *
- * The three high bits, with 2 flipped, are the number of the request that is refused: none for the letters above, and the first for small
- * letters. For init, which makes some hundreds, 4 n is added; it takes a millisecond, so a program has two of them at most.
- * A program whose first letter is W begins with a parser that such programs share; it has room for all that a program feeds.
+ *     J      init of a map           P n bytes value  insert                 Q n bytes  look up, under both flags
+ *     R      free the map                                                    S          move the map
+ *
+ * For init, which makes some hundreds of requests, 4 n is added to the number of the refused one. It takes a millisecond, so a program has
+ * two of them at most. A program whose first letter is W begins with a parser that such programs share; it has room for all that a program
+ * feeds. tools/fuzz/maps.c has programs of the map's calls alone.
  *
  * A second parser gets the same calls and is never refused, and the waiting bytes are kept beside them. Each answer has to be the second
  * parser's, and what the waiting bytes say. A call that is refused changes nothing, and made again it is granted. What needs no memory
  * asks for none. Before init and after free every call says that there is no parser. At the end no memory is left. */
 #include "fuzz.h"
+#include "map_calls.h"
 #include <string.h>
 
 enum { FED_MAX = 1 << 12, TEXT_MAX = 3 * FED_MAX, ONE_FEED = 63, MANY = 16 };
-enum { MOST_CALLS = 512, MOST_INITS = 2, LETTER = 0x1f, NO_REFUSAL = 2 };
+enum { MOST_CALLS = 512, MOST_INITS = 2 };
 
 static const tw_parser none = TW_PARSER_NONE;
 
@@ -47,7 +51,8 @@ static void check_state(void) {
   HOLDS(tw_parser_waiting(parser) == waiting_len);
   HOLDS(tw_parser_is_paste_open(parser) == begins_paste(waiting(), waiting_len));
   HOLDS(tw_parser_waiting_kind(parser) == (is_made ? tw_parser_waiting_kind(&twin) : TW_WAITING_NOTHING));
-  HOLDS(tw_parser_paste(parser, room_of(&copied, 0), 0) == text_len && is_untouched(&copied, 0));
+  room_of(&copied, 0);
+  HOLDS(tw_parser_paste(parser, pointer_to(&copied), 0) == text_len && is_untouched(&copied, 0));
   HOLDS(is_untouched(&places[place], sizeof *parser));
   HOLDS(requests() == 0);
   refuse_request(0);
@@ -57,7 +62,7 @@ static void check_state(void) {
 static void copy_paste(size_t len) {
   size_t want = len < text_len ? len : text_len;
   uint8_t *out = room_of(&copied, len);
-  HOLDS(tw_parser_paste(parser, out, len) == text_len);
+  HOLDS(tw_parser_paste(parser, pointer_to(&copied), len) == text_len);
   HOLDS(memcmp(out, text, want) == 0 && is_untouched(&copied, want));
 }
 
@@ -111,15 +116,15 @@ static void feed(const uint8_t *bytes, size_t len, unsigned number) {
   if (len > FED_MAX - fed_len) return;
   room_with(&given, bytes, len);
   refuse_request(number);
-  bool is_fed = tw_parser_feed(parser, given.at, len);
+  bool is_fed = tw_parser_feed(parser, pointer_to(&given), len);
   HOLDS(is_fed == (is_made && refusals() == 0));
   HOLDS((is_made && len > 0) || requests() == 0);
   note(0x40000, requests());
   if (!is_made) return;
   if (!is_fed) check_state();
   refuse_request(0);
-  HOLDS(is_fed || tw_parser_feed(parser, given.at, len));
-  HOLDS(memcmp(given.at, bytes, len) == 0 && is_untouched(&given, len));
+  HOLDS(is_fed || tw_parser_feed(parser, pointer_to(&given), len));
+  HOLDS(is_unchanged(&given, bytes));
   feed_twin(given.at, len);
 }
 
@@ -214,9 +219,11 @@ static void drop_paste(void) {
   text_len = 0;
 }
 
+static const uint8_t *take_some(input *it, size_t *len) { return take_bytes(it, take_byte(it) & ONE_FEED, len); }
+
 static void feed_some(input *it, unsigned number) {
   size_t len;
-  const uint8_t *bytes = take_bytes(it, take_byte(it) & ONE_FEED, &len);
+  const uint8_t *bytes = take_some(it, &len);
   feed(bytes, len, number);
 }
 
@@ -227,10 +234,41 @@ static void feed_many(input *it, unsigned number) {
   feed(bytes, len, number);
 }
 
+static void insert_some(input *it, unsigned number) {
+  size_t len;
+  const uint8_t *key = take_some(it, &len);
+  insert_in_map(key, len, take_byte(it), number);
+}
+
+static void look_some_up(input *it) {
+  size_t len;
+  const uint8_t *text = take_some(it, &len);
+  look_up(text, len);
+}
+
+static void check_version(void) {
+  refuse_request(1);
+  HOLDS(tw_version() == TW_VERSION_NUMBER && requests() == 0);
+  refuse_request(0);
+}
+
+/* Makes a call of the map, if the letter is of one, or asks for the version. */
+static void call_map(letter of, input *it) {
+  switch (of.capital) {
+    case 'J': init_map(of.refused); break;
+    case 'P': insert_some(it, of.refused); break;
+    case 'Q': look_some_up(it); break;
+    case 'R': free_map(); break;
+    case 'S': move_map(); break;
+    case 'V': check_version(); break;
+    default: break; /* (W too) */
+  }
+}
+
 static void call(input *it) {
-  uint8_t byte = take_byte(it);
-  unsigned number = (byte >> 5) ^ NO_REFUSAL;
-  switch ((byte & LETTER) | 0x40) {
+  letter of = take_letter(it);
+  unsigned number = of.refused;
+  switch (of.capital) {
     case 'I': init(number ? number + 4 * take_byte(it) : 0); break;
     case 'K': free_parser(); break;
     case 'B': reset(); break;
@@ -245,7 +283,7 @@ static void call(input *it) {
     case 'E': take(FLUSH_ESCAPE, number); break;
     case 'C': take(END_PASTE, number); break;
     case 'G': copy_paste(take_byte(it)); break;
-    default: return; /* (W too) */
+    default: call_map(of, it);
   }
   check_state();
 }
@@ -289,12 +327,14 @@ static void begin(bool wants_shared) {
   is_shared = wants_shared;
   other_blocks = is_shared ? 0 : blocks_of(TESTED);
   if (is_shared) take_shared();
+  begin_map();
 }
 
 int LLVMFuzzerTestOneInput(const uint8_t *bytes, size_t len) {
   input it = {bytes, len};
   begin(len > 0 && bytes[0] == 'W');
   for (int calls = 0; it.left > 0 && calls < MOST_CALLS; calls++) call(&it);
+  end_map();
   if (is_shared) give_shared();
   free_parser();
   free_parser();

@@ -25,7 +25,7 @@ static room given, taken, text;
 
 static void keep_text(reading *it, size_t len) {
   uint8_t *out = room_of(&text, len);
-  HOLDS(tw_parser_paste(&parser, out, len) == len);
+  HOLDS(tw_parser_paste(&parser, pointer_to(&text), len) == len);
   HOLDS(is_untouched(&text, len) && it->texts_len + len <= sizeof it->texts);
   memcpy(it->texts + it->texts_len, out, len);
   it->texts_len += len;
@@ -51,8 +51,9 @@ static void take_all(reading *it, bool more) {
 }
 
 static void feed(const uint8_t *bytes, size_t len) {
-  HOLDS(tw_parser_feed(&parser, room_with(&given, bytes, len), len));
-  HOLDS(memcmp(given.at, bytes, len) == 0 && is_untouched(&given, len));
+  room_with(&given, bytes, len);
+  HOLDS(tw_parser_feed(&parser, pointer_to(&given), len));
+  HOLDS(is_unchanged(&given, bytes));
 }
 
 /* Feeds the bytes up to `to`, and takes all that they give. */

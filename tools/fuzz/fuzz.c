@@ -32,6 +32,12 @@ const uint8_t *take_bytes(input *it, size_t want, size_t *got) {
   return bytes;
 }
 
+letter take_letter(input *it) {
+  enum { LETTER = 0x1f, NO_REFUSAL = 2 };
+  uint8_t byte = take_byte(it);
+  return (letter){(char)((byte & LETTER) | 0x40), (byte >> 5) ^ NO_REFUSAL};
+}
+
 /* Rooms. */
 
 enum { PAGE = 4096, MARK = 0xa5, MARGIN = 64 };
@@ -60,8 +66,11 @@ void *room_of(room *it, size_t len) {
 
 void *room_with(room *it, const void *bytes, size_t len) {
   room_of(it, len);
-  return memcpy(it->at, bytes, len);
+  if (len > 0) memcpy(it->at, bytes, len);
+  return it->at;
 }
+
+void *pointer_to(const room *it) { return it->len == 0 && it->is_at_end ? NULL : it->at; }
 
 static bool are_marks(const uint8_t *bytes, size_t len) {
   static uint8_t marks[ROOM_MAX];
@@ -71,6 +80,10 @@ static bool are_marks(const uint8_t *bytes, size_t len) {
 
 bool is_untouched(const room *it, size_t from) {
   return are_marks(margin_of(it), MARGIN) && (from >= it->len || are_marks(it->at + from, it->len - from));
+}
+
+bool is_unchanged(const room *it, const void *bytes) {
+  return is_untouched(it, it->len) && (it->len == 0 || memcmp(it->at, bytes, it->len) == 0);
 }
 
 /* Memory. */

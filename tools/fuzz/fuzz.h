@@ -27,6 +27,15 @@ uint64_t take_number(input *it, unsigned bytes);
 /* At most `want` bytes; `got` is how many. */
 const uint8_t *take_bytes(input *it, size_t want, size_t *got);
 
+/* A call of a program: a letter, which the five low bits of a byte are, and the number of the request for memory that is refused in it.
+ * The three high bits, with 2 flipped, are that number: none for capital letters, and the first for small ones. */
+typedef struct letter {
+  char capital;
+  unsigned refused;
+} letter;
+
+letter take_letter(input *it);
+
 /* A room for one argument of a call. On one side of it lies a page that can't be touched, on the other there are marks. The side changes
  * from one use to the next. A call that reads or writes past the page's side faults. */
 typedef struct room {
@@ -44,8 +53,14 @@ void *room_of(room *it, size_t len);
 /* The same with a copy of these bytes. */
 void *room_with(room *it, const void *bytes, size_t len);
 
+/* What a call gets as the pointer to a room: NULL in place of every other one that is empty. */
+void *pointer_to(const room *it);
+
 /* Whether the room's bytes are marks from there on, and nothing around the room was written. */
 bool is_untouched(const room *it, size_t from);
+
+/* Whether the room has these bytes, as many as fit it, and nothing around it was written. */
+bool is_unchanged(const room *it, const void *bytes);
 
 /* The archive's requests for memory come here: tools/fuzz.sh renames them. Each block has marks around it, always moves when it grows, and
  * is overwritten when it is freed. */
@@ -54,7 +69,7 @@ void *fuzz_realloc(void *block, size_t size);
 void fuzz_free(void *block);
 
 /* Whose requests come next. */
-enum owner { TESTED, TWIN, OWNERS };
+enum owner { TESTED, TWIN, MAP, OWNERS };
 
 void set_owner(enum owner owner);
 

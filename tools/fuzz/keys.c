@@ -1,7 +1,8 @@
 /* Texts and names of keys, into rooms of every size.
  *
  * An input is the arguments of one call of tw_encode: the key (2 bytes), the detail (4), the modifiers (2), flags of bool (1), the
- * encoding (1), kitty's flags (1), the level of modifyOtherKeys (8), and which request for memory is refused (1).
+ * encoding (1), kitty's flags (1), the level of modifyOtherKeys (8), and which request for memory is refused (1). If the flags haven't
+ * 0x80, numbers that name nothing become others that name something, since few numbers do.
  *
  * The answer has to be the one that the header promises for these numbers. A room that is too short gets as much of the text as it has
  * room for, and the rest of a longer one stays as it was. What isn't read makes no difference. A refused call writes nothing, and made
@@ -29,6 +30,20 @@ typedef struct answer {
 
 static room out, out_len, modes;
 
+static bool is_scalar(uint32_t code) { return code <= 0x10ffff && (code < 0xd800 || code > 0xdfff); }
+
+/* The press with numbers that name something. Those that do stay, but for function keys and levels that are far off. */
+static press named(press is) {
+  is.key = is.key == 0 ? 1 : (is.key - 1) % KEYS + 1;
+  is.modifiers &= ALL_MODIFIERS;
+  is.modes.encoding %= TW_KITTY + 1;
+  is.modes.kitty_flags &= ALL_KITTY;
+  is.modes.modify_other_keys &= 3;
+  if (is.key == TW_KEY_CHAR && !is_scalar(is.detail)) is.detail &= 0x7fff;
+  if (is.key == TW_KEY_FUNCTION) is.detail %= 32;
+  return is;
+}
+
 static press take_press(input *it) {
   press is = {.key = (uint16_t)take_number(it, 2)};
   is.detail = (uint32_t)take_number(it, 4);
@@ -41,7 +56,7 @@ static press take_press(input *it) {
   is.modes.encoding = take_byte(it);
   is.modes.kitty_flags = take_byte(it);
   is.modes.modify_other_keys = (int64_t)take_number(it, 8);
-  return is;
+  return flags & 0x80 ? is : named(is);
 }
 
 /* Makes the call with a room of `room` bytes, and checks what it wrote. */
@@ -50,7 +65,8 @@ static answer encode(const press *is, size_t room) {
   room_of(&out, room);
   room_of(&out_len, sizeof(size_t));
   room_with(&modes, &is->modes, sizeof is->modes);
-  got.encoded = tw_encode(is->key, is->detail, is->modifiers, is->is_down, (tw_modes *)modes.at, out.at, room, (size_t *)out_len.at);
+  uint8_t *text = pointer_to(&out);
+  got.encoded = tw_encode(is->key, is->detail, is->modifiers, is->is_down, (tw_modes *)modes.at, text, room, (size_t *)out_len.at);
   memcpy(&got.len, out_len.at, sizeof got.len);
   HOLDS(memcmp(modes.at, &is->modes, sizeof is->modes) == 0 && is_untouched(&modes, sizeof is->modes));
   HOLDS(is_untouched(&out_len, sizeof(size_t)));
@@ -65,8 +81,6 @@ static bool same_answer(const answer *one, const answer *other, size_t room) {
   size_t len = one->len < room ? one->len : room;
   return one->encoded == other->encoded && one->len == other->len && memcmp(one->text, other->text, len) == 0;
 }
-
-static bool is_scalar(uint32_t code) { return code <= 0x10ffff && (code < 0xd800 || code > 0xdfff); }
 
 static bool is_bad(const press *is) {
   if (is->key == 0 || is->key > KEYS || is->modifiers & ~ALL_MODIFIERS || is->modes.encoding > TW_KITTY) return true;
@@ -114,6 +128,16 @@ static void check_character(const press *is, const answer *whole) {
   set_owner(TESTED);
 }
 
+static void note_press(const press *is, const answer *whole) {
+  unsigned modes = (is->modes.application_cursor_keys ? 1u : 0) | (is->modes.newline_mode ? 2u : 0);
+  if (is->modes.has_modify_other_keys) modes |= 4u << (is->modes.modify_other_keys & 3);
+  note(0x60000u | whole->encoded, (unsigned)whole->len);
+  if (whole->len == 0) return;
+  unsigned held = is->modifiers & (TW_MOD_SHIFT | TW_MOD_ALT | TW_MOD_CTRL);
+  note(0x50000u | is->key << 8 | held << 3 | is->modes.encoding, modes);
+  if (is->key == TW_KEY_CHAR && is->detail < 0x80) note(0xb0000u | is->detail << 8 | held << 3 | is->modes.encoding, modes);
+}
+
 static void check_encoding(const press *is, unsigned number) {
   press other = with_others_unread(*is);
   answer whole = encode(is, TEXT_MAX), others = encode(&other, TEXT_MAX);
@@ -127,21 +151,28 @@ static void check_encoding(const press *is, unsigned number) {
   check_refusal(is, &whole, number);
   bool is_plain = is->key == TW_KEY_CHAR && is->modifiers == TW_MOD_NONE && is->detail >= ' ' && is->detail != 0x7f;
   if (whole.encoded == TW_TEXT && is->is_down && is_plain) check_character(is, &whole);
-  unsigned text_modifiers = is->modifiers & (TW_MOD_SHIFT | TW_MOD_ALT | TW_MOD_CTRL);
-  note(0x50000u | (is->key & 0x7fu) << 8 | text_modifiers << 3 | (is->modes.encoding & 7u), is->modes.has_modify_other_keys);
-  note(0x60000u | whole.encoded, (unsigned)whole.len);
+  note_press(is, &whole);
+}
+
+/* Asks for the name of a key in a room, and checks that the room has as much of it as fits, and a zero after it if that fits too. For a
+ * number that is no key's nothing is written. */
+static size_t name_of(uint16_t key, size_t room) {
+  room_of(&out, room);
+  size_t len = tw_key_name(key, pointer_to(&out), room), written = len < room ? len + 1 : room;
+  if (len == 0) written = 0;
+  HOLDS(is_untouched(&out, written));
+  for (size_t i = 0; i < written; i++) HOLDS(i < len ? out.at[i] >= '0' && out.at[i] <= 'z' : out.at[i] == 0);
+  return len;
 }
 
 static void check_name(uint16_t key) {
   uint8_t name[NAME_MAX];
-  size_t len = tw_key_name(key, room_of(&out, NAME_MAX), NAME_MAX);
-  HOLDS((len > 0) == (key >= 1 && key <= KEYS) && len <= NAME_MAX && is_untouched(&out, len));
+  size_t len = name_of(key, NAME_MAX + 1);
+  HOLDS((len > 0) == (key >= 1 && key <= KEYS) && len <= NAME_MAX);
   memcpy(name, out.at, len);
-  for (size_t i = 0; i < len; i++) HOLDS(name[i] >= '0' && name[i] <= 'z');
   for (size_t room = 0; room <= len + 2; room++) {
-    size_t written = room < len ? room : len;
-    HOLDS(tw_key_name(key, room_of(&out, room), room) == len);
-    HOLDS(memcmp(out.at, name, written) == 0 && is_untouched(&out, written));
+    HOLDS(name_of(key, room) == len);
+    HOLDS(memcmp(out.at, name, room < len ? room : len) == 0);
   }
 }
 

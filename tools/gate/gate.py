@@ -9,7 +9,10 @@ that nothing is proved for the scripts but two static libraries.
 At the end it prints a table: when each part began and ended, and how much processor time it took. The parts of `rt ci` are found by
 looking at its processes once a second. The last line is 'N passed, N failed' over all parts, the status 1 if one failed.
 
-It needs rt, python3, cc, binutils, c++, pkg-config, cargo and valgrind: see `--help` of the scripts."""
+It needs rt, python3, cc, binutils, c++, pkg-config, cargo and valgrind: see `--help` of the scripts. Where clang's runtime with libFuzzer
+isn't there, the fuzzer isn't run; where lintian, clippy, rustfmt or Debian's packages of serde aren't, what needs them is left out. A line
+before the last says so, and what isn't run counts neither as passed nor as failed. tools/gate/packages.sh installs what Debian has."""
+import glob
 import os
 import re
 import shutil
@@ -22,6 +25,15 @@ import time
 
 ROOT = os.path.dirname(os.path.dirname(os.path.dirname(os.path.realpath(__file__))))
 COUNTS = re.compile(r"^(\d+) passed, (\d+) failed$")
+# The last line and the status of a script that a word --if-TOOL told not to fail where the tool isn't there.
+NOT_RUN, NOT_RUN_STATUS = re.compile(r"^\w+: (not run: .*)$"), 77
+# What a part leaves out by name if something isn't there: the part, its word, and a program, or files by their pattern.
+LEFT_OUT = [
+    ("c_test", "--without-clippy", "cargo-clippy"),
+    ("c_test", "--without-rustfmt", "rustfmt"),
+    ("c_test", "--without-serde", "/usr/share/cargo/registry/serde_json-*"),
+    ("package_test", "--without-lintian", "lintian"),
+]
 TICKS = os.sysconf("SC_CLK_TCK")
 STARTED = time.monotonic()
 printing = threading.Lock()
@@ -38,6 +50,12 @@ def clock(seconds):
 def say(text):
     with printing:
         print(text, flush=True)
+
+
+def left_out(part):
+    """Returns the words by which a part leaves out what can't be run here."""
+    is_there = lambda it: glob.glob(it) if "/" in it else shutil.which(it)
+    return [word for name, word, thing in LEFT_OUT if name == part and not is_there(thing)]
 
 
 def libraries_below(name):
@@ -65,7 +83,7 @@ class Part:
 
     def __init__(self, name, needs, *words):
         self.name, self.needs, self.words = name, {*needs}, words
-        self.passed, self.failed = 0, 1
+        self.passed, self.failed, self.why_not_run = 0, 1, ""
         self.began = self.ended = self.processor = 0
         self.process, self.lines = None, []
 
@@ -78,21 +96,32 @@ class Part:
             self.lines.append(line.rstrip("\n"))
             each_line(self.lines[-1])
         _, status, used = os.wait4(self.process.pid, 0)
-        self.process.returncode = status
+        self.process.returncode = os.waitstatus_to_exitcode(status)
         self.ended, self.processor = now(), used.ru_utime + used.ru_stime
-        counts = COUNTS.match(self.lines[-1]) if self.lines else None
+        self.judge(self.process.returncode, self.lines[-1] if self.lines else "")
+        return bool(not self.failed and not self.why_not_run)
+
+    def judge(self, status, last_line):
+        """Counts what passed and failed, by the status of the command and its last line."""
+        not_run, counts = NOT_RUN.match(last_line), COUNTS.match(last_line)
+        if status == NOT_RUN_STATUS and not_run and any(it.startswith("--if-") for it in self.words):
+            self.failed, self.why_not_run = 0, not_run[1]
+            return
         self.passed, self.failed = map(int, counts.groups()) if counts else (int(not status), int(bool(status)))
         if status and not self.failed:
             self.failed = 1
-        return not self.failed
+
+    def result(self):
+        return self.why_not_run or (f"{self.passed} passed, {self.failed} failed" if self.ended else "not run")
 
     def run_quietly(self):
         """Runs the command, and shows what it printed when it has ended."""
-        self.run(lambda line: None)
+        passed = self.run(lambda line: None)
         with printing:
             print("\n".join([f"== {self.name}", *self.lines]))
-            print(f"gate: {self.name}: {'FAILED' if self.failed else 'passed'}, {clock(self.ended - self.began)}", flush=True)
-        return not self.failed
+            word = self.why_not_run or ("FAILED" if self.failed else "passed")
+            print(f"gate: {self.name}: {word}, {clock(self.ended - self.began)}", flush=True)
+        return passed
 
     def stop(self):
         if self.process and self.process.returncode is None:
@@ -169,9 +198,13 @@ class Gate:
             Part("c_numbers", [], "tools/c_numbers.sh", "--check"),
             Part("c_library", self.libraries, "tools/c_library.sh", "--over", self.rlibs, self.library),
             Part("growth", ["c_library"], "tools/growth.sh", *over, "--over", self.rlibs),
-            Part("c_test", ["c_library", "keyshow"], "tools/c_test.sh", "--built", *over),
+            Part("c_test", ["c_library", "keyshow"], "tools/c_test.sh", "--built", *over, *left_out("c_test")),
+            Part("python_test", ["c_library"], "tools/python_test.sh", self.library),
+            Part("fuzz", ["c_library"], "tools/fuzz.sh", "--if-clang", *over, "30"),
             Part("keyshow_test", ["keyshow"], "tools/keyshow_test.sh", "--built"),
             Part("refusals", ["refusals", "keyshow"], "tools/refusals.sh", "--built"),
+            Part("package_test", ["c_library", "keyshow"], "tools/package_test.sh", *over, "--keyshow", "crates/keyshow/out/keyshow",
+                 *left_out("package_test")),
             Part("docs", ["c_library", "keyshow", "example"], "tools/docs.sh", "--built", *over),
         ]
         self.parts = [self.ci, *self.scripts]
@@ -225,8 +258,7 @@ class Gate:
         yield f"{'part':32} {'from':>7} {'to':>7} {'takes':>7} {'processor':>10}  result"
         row = lambda name, began, ended, used: f"{name:32} {clock(began):>7} {clock(ended):>7} {clock(ended - began):>7} {clock(used):>10}"
         for part in self.parts:
-            result = f"{part.passed} passed, {part.failed} failed" if part.ended else "not run"
-            yield f"{row(part.name, part.began, part.ended, part.processor)}  {result}"
+            yield f"{row(part.name, part.began, part.ended, part.processor)}  {part.result()}"
             if part is self.ci:
                 checks = [*self.watch.rows()]
                 yield from (row(*it) for it in checks)
@@ -256,6 +288,11 @@ def main():
                 part.stop()
     passed, failed = sum(it.passed for it in gate.parts), sum(it.failed for it in gate.parts)
     say("\n" + "\n".join(gate.table()) + "\n")
+    for part in gate.parts:
+        for word in left_out(part.name):
+            say(f"gate: {part.name}: left out by {word}, since what it needs isn't there")
+        if part.why_not_run:
+            say(f"gate: {part.name}: {part.why_not_run}; it counts neither as passed nor as failed")
     say(f"{passed} passed, {failed} failed")
     return 1 if failed else 0
 

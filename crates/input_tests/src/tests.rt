@@ -4,6 +4,7 @@ mod cuts;
 mod differences;
 mod draws;
 mod generated;
+mod instances;
 mod keys;
 mod line;
 mod long;

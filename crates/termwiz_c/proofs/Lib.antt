@@ -2,3 +2,4 @@ pub mod KeyNumbers
 pub mod RawBoxValues
 pub mod Pressed
 pub mod OwnedPointerValues
+pub mod Walks

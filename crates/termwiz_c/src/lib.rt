@@ -1,35 +1,48 @@
-//! The parser of `termwiz_input` for programs in C, and in other languages that call C. Numbers stand for keys, flags and
-//! answers, as the C header lists them.
+//! The parser and the key map of `termwiz_input` for programs in C, and in other languages that call C. Numbers stand for keys,
+//! flags and answers, as the C header lists them.
 //!
 //! The caller keeps a `tw_parser`, all zero at first, gives bytes to it by `tw_parser_feed` and takes the events, one at a time,
-//! by `tw_parser_next`.
+//! by `tw_parser_next`. A `tw_keymap` is kept in the same way.
 #![tactic(auto)]
 
-ghost use Rattle.std.specs.Prelude.{◌≡◌, ◌≢◌, ◌≤◌, ◌↔◌, [], length, true, false, None, IsTrue};
+ghost use Rattle.std.specs.Prelude.{◌≡◌, ◌≢◌, ◌≤◌, ◌↔◌, ◌+◌, ◌*◌, ◌++◌, [], ◌∷◌, length, true, false, None, IsTrue};
 ghost use Rattle.event_text.specs.Names.{variant_name};
 ghost use Rattle.termwiz_input.specs.KeyCode.{KeyCode as Key};
 ghost use Rattle.termwiz_c.specs.Calls.{Ended, Flushed, Gave, HasDroppedPaste, HasEndlessPaste, HasEscape, HasKind, HasOpenPaste, HasPasteNext, IsFresh, IsReset, Rests, Took, copied, pasted, waiting_len, waiting_number};
 ghost use Rattle.termwiz_c.specs.Keys.{IsNoKey, key_number};
 ghost use Rattle.termwiz_c.specs.Presses.{HasNoText, IsBad, Wrote};
 
+mod bindings;
+mod copying;
 mod events;
-mod handle;
+mod keymap_calls;
+mod keymap_handle;
 mod keys;
 mod modes;
-mod owned_pointer;
+mod owned_keymap;
+mod owned_parser;
 mod parser_and_paste;
+mod parser_handle;
 mod raw_box;
 #[cfg(test)]
 mod tests;
 
+use crate::copying::{copy_prefix, copy_with_zero};
 use crate::events::CEvent;
-use crate::handle::Handle;
 use crate::keys::key_at;
 use crate::modes::{CModes, press_of};
-use crate::parser_and_paste::{ParserAndPaste, copy_prefix};
+use crate::parser_and_paste::ParserAndPaste;
+use crate::parser_handle::ParserHandle;
 use event_text::variant_name;
 use std::alloc::Global;
 use termwiz_input::input::{EncodeError, Waiting};
+
+// The version of the library, which the header and the other packages have too.
+const VERSION_MAJOR: u32 = 0;
+
+const VERSION_MINOR: u32 = 1;
+
+const VERSION_PATCH: u32 = 0;
 
 // The answers of `tw_parser_next`, `tw_parser_flush_escape` and `tw_parser_end_paste`.
 const NONE: u32 = 0;
@@ -62,7 +75,7 @@ const BAD_NUMBER: u32 = 3;
 
 /// Makes a parser, and frees the one that was there. If memory is refused, the answer is false and nothing changes.
 #[unsafe(no_mangle)]
-pub extern "C" fn tw_parser_init(alloc: Global, parser: &mut Handle) -> bool
+pub extern "C" fn tw_parser_init(alloc: Global, parser: &mut ParserHandle) -> bool
     ensures made { result ≡ true → IsFresh parser.new.owned.held }
     ensures refused { result ≡ false → parser.new.owned.held ≡ parser.old.owned.held }
 {
@@ -80,7 +93,7 @@ pub extern "C" fn tw_parser_init(alloc: Global, parser: &mut Handle) -> bool
 
 /// Frees the parser, if there is one, and leaves none.
 #[unsafe(no_mangle)]
-pub extern "C" fn tw_parser_free(alloc: Global, parser: &mut Handle)
+pub extern "C" fn tw_parser_free(alloc: Global, parser: &mut ParserHandle)
     ensures { parser.new.owned.held ≡ None }
 {
     drop(parser.take(alloc));
@@ -89,28 +102,22 @@ pub extern "C" fn tw_parser_free(alloc: Global, parser: &mut Handle)
 /// Appends bytes to the waiting text. If memory is refused, or there is no parser, the answer is false and nothing changes. No bytes
 /// need no memory.
 #[unsafe(no_mangle)]
-pub extern "C" fn tw_parser_feed(alloc: Global, parser: &mut Handle, bytes: &[u8]) -> bool
+pub extern "C" fn tw_parser_feed(parser: &mut ParserHandle, bytes: &[u8]) -> bool
     ensures took { result ≡ true → Took parser.old.owned.held bytes.now parser.new.owned.held }
     ensures refused { result ≡ false → parser.new.owned.held ≡ parser.old.owned.held }
     ensures no_bytes { bytes.now ≡ [] → parser.old.owned.held ≢ None → result ≡ true }
 {
-    let Some(mut held) = parser.take(alloc) else {
+    if !parser.live {
         return false;
-    };
-    let taken = held.parser.feed(bytes).is_ok();
-    parser.put(held);
-    taken
+    }
+    let held = parser.owned.get_mut();
+    held.parser.feed(bytes).is_ok()
 }
 
 /// Takes the item at the front of the waiting text. The answer is 1 if `event` is its event; 0 if no item stands there; 2 if
 /// memory for the text of a paste is refused, and the paste still stands there; and 3 if there is no parser.
 #[unsafe(no_mangle)]
-pub extern "C" fn tw_parser_next(
-    alloc: Global,
-    parser: &mut Handle,
-    more: bool,
-    event: &mut CEvent,
-) -> u32
+pub extern "C" fn tw_parser_next(parser: &mut ParserHandle, more: bool, event: &mut CEvent) -> u32
     ensures answers { result ≤ 3 }
     ensures none { result ≡ NONE → Rests parser.old.owned.held more }
     ensures event { result ≡ EVENT → Gave parser.old.owned.held more event.new parser.new.owned.held }
@@ -119,12 +126,11 @@ pub extern "C" fn tw_parser_next(
     ensures same { result ≢ EVENT → parser.new.owned.held ≡ parser.old.owned.held }
     ensures event_same { result ≢ EVENT → event.new ≡ event.old }
 {
-    let Some(mut held) = parser.take(alloc) else {
+    if !parser.live {
         return NO_PARSER;
-    };
-    let found = held.next(more);
-    parser.put(held);
-    match found {
+    }
+    let held = parser.owned.get_mut();
+    match held.next(more) {
         Ok(Some(next)) => {
             *event = next;
             EVENT
@@ -136,45 +142,42 @@ pub extern "C" fn tw_parser_next(
 
 /// Copies the text of the last paste that was taken, as much of it as `out` has room for, and returns its whole length.
 #[unsafe(no_mangle)]
-pub extern "C" fn tw_parser_paste(alloc: Global, parser: &mut Handle, out: &mut [u8]) -> usize
-    ensures same { parser.new.owned.held ≡ parser.old.owned.held }
+pub extern "C" fn tw_parser_paste(parser: &mut ParserHandle, out: &mut [u8]) -> usize
+    ensures same { parser.new.owned ≡ parser.old.owned }
     ensures len { result ≡ length (pasted parser.old.owned.held) }
     ensures bytes { out.new ≡ copied (pasted parser.old.owned.held) out.old }
 {
-    let Some(held) = parser.take(alloc) else {
+    if !parser.live {
         return 0;
-    };
-    let len = held.copy_pasted(out);
-    parser.put(held);
-    len
+    }
+    let held = parser.owned.get_mut();
+    held.copy_pasted(out)
 }
 
 /// The length of the waiting text; 0 if there is no parser.
 #[unsafe(no_mangle)]
-pub extern "C" fn tw_parser_waiting(alloc: Global, parser: &mut Handle) -> usize
-    ensures same { parser.new.owned.held ≡ parser.old.owned.held }
+pub extern "C" fn tw_parser_waiting(parser: &mut ParserHandle) -> usize
+    ensures same { parser.new.owned ≡ parser.old.owned }
     ensures len { result ≡ waiting_len parser.old.owned.held }
 {
-    let Some(held) = parser.take(alloc) else {
+    if !parser.live {
         return 0;
-    };
-    let len = held.parser.waiting_len();
-    parser.put(held);
-    len
+    }
+    let held = parser.owned.get_mut();
+    held.parser.waiting_len()
 }
 
 /// Whether the waiting text begins with the start of a paste; false if there is no parser.
 #[unsafe(no_mangle)]
-pub extern "C" fn tw_parser_is_paste_open(alloc: Global, parser: &mut Handle) -> bool
-    ensures same { parser.new.owned.held ≡ parser.old.owned.held }
+pub extern "C" fn tw_parser_is_paste_open(parser: &mut ParserHandle) -> bool
+    ensures same { parser.new.owned ≡ parser.old.owned }
     ensures open { IsTrue result ↔ HasOpenPaste parser.old.owned.held }
 {
-    let Some(held) = parser.take(alloc) else {
+    if !parser.live {
         return false;
-    };
-    let is_open = held.parser.is_paste_open();
-    parser.put(held);
-    is_open
+    }
+    let held = parser.owned.get_mut();
+    held.parser.is_paste_open()
 }
 
 // The number of a kind.
@@ -194,26 +197,21 @@ fn waiting_number(kind: Waiting) -> u32
 /// The kind of what stays buffered, once `tw_parser_next` answered 0: 1 for ESC or ESC ESC, 2 for a longer beginning of a sequence, 3 for
 /// one of a character, 4 for an open paste, and 0 for nothing or if there is no parser.
 #[unsafe(no_mangle)]
-pub extern "C" fn tw_parser_waiting_kind(alloc: Global, parser: &mut Handle) -> u32
-    ensures same { parser.new.owned.held ≡ parser.old.owned.held }
+pub extern "C" fn tw_parser_waiting_kind(parser: &mut ParserHandle) -> u32
+    ensures same { parser.new.owned ≡ parser.old.owned }
     ensures kind { HasKind parser.old.owned.held result }
 {
-    let Some(held) = parser.take(alloc) else {
+    if !parser.live {
         return WAITING_NOTHING;
-    };
-    let kind = held.parser.waiting();
-    parser.put(held);
-    waiting_number(kind)
+    }
+    let held = parser.owned.get_mut();
+    waiting_number(held.parser.waiting())
 }
 
 /// Takes ESC or ESC ESC, if no more than that is buffered. The answer is 1 if `event` is its event, the Escape key; 0 if something else
 /// is buffered; and 3 if there is no parser.
 #[unsafe(no_mangle)]
-pub extern "C" fn tw_parser_flush_escape(
-    alloc: Global,
-    parser: &mut Handle,
-    event: &mut CEvent,
-) -> u32
+pub extern "C" fn tw_parser_flush_escape(parser: &mut ParserHandle, event: &mut CEvent) -> u32
     ensures answers { result ≤ 3 }
     ensures granted { result ≢ NO_MEMORY }
     ensures when { result ≡ EVENT ↔ HasEscape parser.old.owned.held }
@@ -222,12 +220,11 @@ pub extern "C" fn tw_parser_flush_escape(
     ensures same { result ≢ EVENT → parser.new.owned.held ≡ parser.old.owned.held }
     ensures event_same { result ≢ EVENT → event.new ≡ event.old }
 {
-    let Some(mut held) = parser.take(alloc) else {
+    if !parser.live {
         return NO_PARSER;
-    };
-    let found = held.flush_escape();
-    parser.put(held);
-    match found {
+    }
+    let held = parser.owned.get_mut();
+    match held.flush_escape() {
         Some(escape) => {
             *event = escape;
             EVENT
@@ -239,7 +236,7 @@ pub extern "C" fn tw_parser_flush_escape(
 /// Ends an open paste where it is. The answer is 1 if `event` is its event, whose text is what came so far; 0 if no paste is open;
 /// 2 if memory for the text is refused; and 3 if there is no parser.
 #[unsafe(no_mangle)]
-pub extern "C" fn tw_parser_end_paste(alloc: Global, parser: &mut Handle, event: &mut CEvent) -> u32
+pub extern "C" fn tw_parser_end_paste(parser: &mut ParserHandle, event: &mut CEvent) -> u32
     ensures answers { result ≤ 3 }
     ensures none { result ≡ NONE → ¬ HasEndlessPaste parser.old.owned.held }
     ensures event { result ≡ EVENT → Ended parser.old.owned.held event.new parser.new.owned.held }
@@ -248,12 +245,11 @@ pub extern "C" fn tw_parser_end_paste(alloc: Global, parser: &mut Handle, event:
     ensures same { result ≢ EVENT → parser.new.owned.held ≡ parser.old.owned.held }
     ensures event_same { result ≢ EVENT → event.new ≡ event.old }
 {
-    let Some(mut held) = parser.take(alloc) else {
+    if !parser.live {
         return NO_PARSER;
-    };
-    let found = held.end_paste();
-    parser.put(held);
-    match found {
+    }
+    let held = parser.owned.get_mut();
+    match held.end_paste() {
         Ok(Some(paste)) => {
             *event = paste;
             EVENT
@@ -265,28 +261,27 @@ pub extern "C" fn tw_parser_end_paste(alloc: Global, parser: &mut Handle, event:
 
 /// Forgets what is buffered, and returns how many bytes these were; 0 if there is no parser.
 #[unsafe(no_mangle)]
-pub extern "C" fn tw_parser_reset(alloc: Global, parser: &mut Handle) -> usize
+pub extern "C" fn tw_parser_reset(parser: &mut ParserHandle) -> usize
     ensures len { result ≡ waiting_len parser.old.owned.held }
     ensures reset { IsReset parser.old.owned.held parser.new.owned.held }
 {
-    let Some(mut held) = parser.take(alloc) else {
+    if !parser.live {
         return 0;
-    };
-    let len = held.parser.reset();
-    parser.put(held);
-    len
+    }
+    let held = parser.owned.get_mut();
+    held.parser.reset()
 }
 
 /// Frees the text of the last paste that was taken, which is then empty.
 #[unsafe(no_mangle)]
-pub extern "C" fn tw_parser_drop_paste(alloc: Global, parser: &mut Handle)
+pub extern "C" fn tw_parser_drop_paste(alloc: Global, parser: &mut ParserHandle)
     ensures { HasDroppedPaste parser.old.owned.held parser.new.owned.held }
 {
-    let Some(mut held) = parser.take(alloc) else {
+    if !parser.live {
         return;
-    };
+    }
+    let held = parser.owned.get_mut();
     held.drop_paste(alloc);
-    parser.put(held);
 }
 
 /// Encodes a key that is pressed while `modifiers` are held, or that is up. The answer is 0 if `out` has as much of the text as it
@@ -329,17 +324,25 @@ pub extern "C" fn tw_encode(
     }
 }
 
-/// Copies the name of the key with this number, as much of it as `out` has room for, and returns its whole length. The length is 0 if
-/// no key has the number.
+/// Copies the name of the key with this number and a final zero byte, as much of both as `out` has room for, and returns the length of
+/// the name. The length is 0, and `out` unchanged, if no key has the number.
 #[unsafe(no_mangle)]
 pub extern "C" fn tw_key_name(key: u16, out: &mut [u8]) -> usize
     ensures len { (named : Key) → key_number named ≡ key → result ≡ length (variant_name named) }
-    ensures bytes { (named : Key) → key_number named ≡ key → out.new ≡ copied (variant_name named) out.old }
+    ensures bytes { (named : Key) → key_number named ≡ key → out.new ≡ copied (variant_name named ++ (0 ∷ [])) out.old }
     ensures no_key { IsNoKey key → result ≡ 0 }
     ensures no_key_same { IsNoKey key → out.new ≡ out.old }
 {
     match key_at(key) {
-        Some(named) => copy_prefix(variant_name(named).as_bytes(), out),
+        Some(named) => copy_with_zero(variant_name(named).as_bytes(), out),
         None => 0,
     }
+}
+
+/// The version of the library in one number: 65536 times the first of its three numbers, 256 times the second, and the third.
+#[unsafe(no_mangle)]
+pub extern "C" fn tw_version() -> u32
+    ensures { result ≡ VERSION_MAJOR * 65536 + VERSION_MINOR * 256 + VERSION_PATCH }
+{
+    VERSION_MAJOR * 65536 + VERSION_MINOR * 256 + VERSION_PATCH
 }

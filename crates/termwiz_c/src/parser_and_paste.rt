@@ -1,4 +1,4 @@
-// What a handle leads to.
+// What the handle of a parser leads to.
 ghost use Rattle.std.specs.Prelude.{◌≡◌, ◌↔◌, [], ◌∷◌, false, length, string_bytes, IfOk, IfSome, IfNone, IsSome, OnErr};
 ghost use Rattle.termwiz_input.specs.InputEvent.{InputEvent as Event};
 ghost use Rattle.termwiz_input.specs.Grammar.{HasPaste, IsRest, Means, Steps};
@@ -7,6 +7,7 @@ ghost use Rattle.termwiz_input.specs.WaitingKinds.{IsOneOrTwoEscapes, IsOpenPast
 ghost use Rattle.termwiz_c.specs.Calls.{copied, text_after};
 ghost use Rattle.termwiz_c.specs.Events.{c_event};
 
+use crate::copying::copy_prefix;
 use crate::events::{CEvent, c_event};
 use std::alloc::{AllocError, Global};
 use termwiz_input::input::{InputEvent, InputParser};
@@ -107,14 +108,4 @@ impl ParserAndPaste {
     {
         copy_prefix(self.pasted.as_bytes(), out)
     }
-}
-
-// Copies as much of the text as `out` has room for, and returns its whole length.
-pub(crate) fn copy_prefix(text: &[u8], out: &mut [u8]) -> usize
-    ensures len { result ≡ length text.now }
-    ensures bytes { out.new ≡ copied text.now out.old }
-{
-    let len = text.len().min(out.len());
-    out[..len].copy_from_slice(&text[..len]);
-    text.len()
 }

@@ -1,13 +1,15 @@
 // The calls, as a C program makes them.
+mod keymaps;
+
 use crate::events::NO_EVENT;
-use crate::handle::Handle;
 use crate::modes::CModes;
+use crate::parser_handle::ParserHandle;
 use crate::{
     BAD_NUMBER, EVENT, NO_PARSER, NONE, REFUSED_KEY, TEXT, WAITING_CHARACTER, WAITING_ESCAPE,
     WAITING_NOTHING, WAITING_PASTE, WAITING_SEQUENCE, tw_encode, tw_key_name, tw_parser_drop_paste,
     tw_parser_end_paste, tw_parser_feed, tw_parser_flush_escape, tw_parser_free, tw_parser_init,
     tw_parser_is_paste_open, tw_parser_next, tw_parser_paste, tw_parser_reset, tw_parser_waiting,
-    tw_parser_waiting_kind,
+    tw_parser_waiting_kind, tw_version,
 };
 use std::alloc::Global;
 use std::process::Abort;
@@ -18,34 +20,25 @@ const MORE: bool = true;
 #[test]
 fn gives_events_one_by_one(rt: HostRuntime) -> Result<(), Fail> {
     let alloc = rt.alloc();
-    let mut parser = Handle::empty();
+    let mut parser = ParserHandle::empty();
     let mut event = NO_EVENT;
-    assert_eq!(rt;
-        tw_parser_next(alloc, &mut parser, MORE, &mut event),
-        NO_PARSER
-    );
-    assert!(rt; !tw_parser_feed(alloc, &mut parser, b"a"));
+    assert_eq!(rt; tw_parser_next(&mut parser, MORE, &mut event), NO_PARSER);
+    assert!(rt; !tw_parser_feed(&mut parser, b"a"));
     assert!(rt; tw_parser_init(alloc, &mut parser));
-    assert_eq!(rt; tw_parser_next(alloc, &mut parser, MORE, &mut event), NONE);
-    assert!(rt; tw_parser_feed(alloc, &mut parser, b"\x1b[1;3A\x1b[<0;7;9M\xe2\x82\xac\x1b"));
-    assert_eq!(rt; tw_parser_next(alloc, &mut parser, MORE, &mut event), EVENT);
+    assert_eq!(rt; tw_parser_next(&mut parser, MORE, &mut event), NONE);
+    assert!(rt; tw_parser_feed(&mut parser, b"\x1b[1;3A\x1b[<0;7;9M\xe2\x82\xac\x1b"));
+    assert_eq!(rt; tw_parser_next(&mut parser, MORE, &mut event), EVENT);
     assert!(rt; event.kind == 1 && event.key == 31 && event.modifiers == 4);
-    assert_eq!(rt; tw_parser_next(alloc, &mut parser, MORE, &mut event), EVENT);
+    assert_eq!(rt; tw_parser_next(&mut parser, MORE, &mut event), EVENT);
     assert!(rt; event.kind == 2 && event.buttons == 2 && event.x == 7 && event.y == 9);
-    assert_eq!(rt; tw_parser_next(alloc, &mut parser, MORE, &mut event), EVENT);
+    assert_eq!(rt; tw_parser_next(&mut parser, MORE, &mut event), EVENT);
     assert!(rt; event.kind == 1 && event.key == 1 && event.detail == 0x20ac);
-    assert_eq!(rt; tw_parser_next(alloc, &mut parser, MORE, &mut event), NONE);
-    assert_eq!(rt; tw_parser_waiting(alloc, &mut parser), 1);
-    assert_eq!(rt;
-        tw_parser_next(alloc, &mut parser, !MORE, &mut event),
-        EVENT
-    );
+    assert_eq!(rt; tw_parser_next(&mut parser, MORE, &mut event), NONE);
+    assert_eq!(rt; tw_parser_waiting(&mut parser), 1);
+    assert_eq!(rt; tw_parser_next(&mut parser, !MORE, &mut event), EVENT);
     assert!(rt; event.kind == 1 && event.key == 11);
     tw_parser_free(alloc, &mut parser);
-    assert_eq!(rt;
-        tw_parser_next(alloc, &mut parser, MORE, &mut event),
-        NO_PARSER
-    );
+    assert_eq!(rt; tw_parser_next(&mut parser, MORE, &mut event), NO_PARSER);
     tw_parser_free(alloc, &mut parser);
     parser.close();
     Ok(())
@@ -54,25 +47,25 @@ fn gives_events_one_by_one(rt: HostRuntime) -> Result<(), Fail> {
 #[test]
 fn keeps_the_text_of_a_paste(rt: HostRuntime) -> Result<(), Fail> {
     let alloc = rt.alloc();
-    let mut parser = Handle::empty();
+    let mut parser = ParserHandle::empty();
     let mut event = NO_EVENT;
     assert!(rt; tw_parser_init(alloc, &mut parser));
-    assert!(rt; tw_parser_feed(alloc, &mut parser, b"\x1b[200~ab"));
-    assert!(rt; tw_parser_is_paste_open(alloc, &mut parser));
-    assert_eq!(rt; tw_parser_waiting(alloc, &mut parser), 8);
-    assert!(rt; tw_parser_feed(alloc, &mut parser, b"\x1b[201~c"));
-    assert_eq!(rt; tw_parser_next(alloc, &mut parser, MORE, &mut event), EVENT);
+    assert!(rt; tw_parser_feed(&mut parser, b"\x1b[200~ab"));
+    assert!(rt; tw_parser_is_paste_open(&mut parser));
+    assert_eq!(rt; tw_parser_waiting(&mut parser), 8);
+    assert!(rt; tw_parser_feed(&mut parser, b"\x1b[201~c"));
+    assert_eq!(rt; tw_parser_next(&mut parser, MORE, &mut event), EVENT);
     assert!(rt; event.kind == 3 && event.paste_len == 2);
-    assert_eq!(rt; tw_parser_next(alloc, &mut parser, MORE, &mut event), EVENT);
+    assert_eq!(rt; tw_parser_next(&mut parser, MORE, &mut event), EVENT);
     let mut text = [b'.'; 3];
-    assert_eq!(rt; tw_parser_paste(alloc, &mut parser, &mut text), 2);
+    assert_eq!(rt; tw_parser_paste(&mut parser, &mut text), 2);
     assert!(rt; text == *b"ab.");
-    assert_eq!(rt; tw_parser_paste(alloc, &mut parser, &mut text[..1]), 2);
+    assert_eq!(rt; tw_parser_paste(&mut parser, &mut text[..1]), 2);
 
     // A new parser in place of the old one has no paste.
     assert!(rt; tw_parser_init(alloc, &mut parser));
-    assert_eq!(rt; tw_parser_paste(alloc, &mut parser, &mut text), 0);
-    assert!(rt; !tw_parser_is_paste_open(alloc, &mut parser));
+    assert_eq!(rt; tw_parser_paste(&mut parser, &mut text), 0);
+    assert!(rt; !tw_parser_is_paste_open(&mut parser));
     tw_parser_free(alloc, &mut parser);
     parser.close();
     Ok(())
@@ -91,17 +84,17 @@ const KINDS: &[(&[u8], u32)] = &[
 #[test]
 fn tells_what_stays_buffered(rt: HostRuntime) -> Result<(), Fail> {
     let alloc = rt.alloc();
-    let mut parser = Handle::empty();
+    let mut parser = ParserHandle::empty();
     let mut event = NO_EVENT;
-    assert_eq!(rt; tw_parser_waiting_kind(alloc, &mut parser), WAITING_NOTHING);
-    assert_eq!(rt; tw_parser_reset(alloc, &mut parser), 0);
+    assert_eq!(rt; tw_parser_waiting_kind(&mut parser), WAITING_NOTHING);
+    assert_eq!(rt; tw_parser_reset(&mut parser), 0);
     assert!(rt; tw_parser_init(alloc, &mut parser));
     for (text, kind) in KINDS {
-        assert!(rt; tw_parser_feed(alloc, &mut parser, text));
-        assert_eq!(rt; tw_parser_next(alloc, &mut parser, MORE, &mut event), NONE);
-        assert_eq!(rt; tw_parser_waiting_kind(alloc, &mut parser), *kind);
-        assert_eq!(rt; tw_parser_reset(alloc, &mut parser), text.len());
-        assert_eq!(rt; tw_parser_waiting(alloc, &mut parser), 0);
+        assert!(rt; tw_parser_feed(&mut parser, text));
+        assert_eq!(rt; tw_parser_next(&mut parser, MORE, &mut event), NONE);
+        assert_eq!(rt; tw_parser_waiting_kind(&mut parser), *kind);
+        assert_eq!(rt; tw_parser_reset(&mut parser), text.len());
+        assert_eq!(rt; tw_parser_waiting(&mut parser), 0);
     }
     tw_parser_free(alloc, &mut parser);
     parser.close();
@@ -111,29 +104,17 @@ fn tells_what_stays_buffered(rt: HostRuntime) -> Result<(), Fail> {
 #[test]
 fn flushes_the_escape_key(rt: HostRuntime) -> Result<(), Fail> {
     let alloc = rt.alloc();
-    let mut parser = Handle::empty();
+    let mut parser = ParserHandle::empty();
     let mut event = NO_EVENT;
-    assert_eq!(rt;
-        tw_parser_flush_escape(alloc, &mut parser, &mut event),
-        NO_PARSER
-    );
+    assert_eq!(rt; tw_parser_flush_escape(&mut parser, &mut event), NO_PARSER);
     assert!(rt; tw_parser_init(alloc, &mut parser));
-    assert_eq!(rt;
-        tw_parser_flush_escape(alloc, &mut parser, &mut event),
-        NONE
-    );
-    assert!(rt; tw_parser_feed(alloc, &mut parser, b"\x1b\x1b"));
-    assert_eq!(rt;
-        tw_parser_flush_escape(alloc, &mut parser, &mut event),
-        EVENT
-    );
+    assert_eq!(rt; tw_parser_flush_escape(&mut parser, &mut event), NONE);
+    assert!(rt; tw_parser_feed(&mut parser, b"\x1b\x1b"));
+    assert_eq!(rt; tw_parser_flush_escape(&mut parser, &mut event), EVENT);
     assert!(rt; event.kind == 1 && event.key == 11 && event.modifiers == 4);
-    assert!(rt; tw_parser_feed(alloc, &mut parser, b"\x1b["));
-    assert_eq!(rt;
-        tw_parser_flush_escape(alloc, &mut parser, &mut event),
-        NONE
-    );
-    assert_eq!(rt; tw_parser_waiting(alloc, &mut parser), 2);
+    assert!(rt; tw_parser_feed(&mut parser, b"\x1b["));
+    assert_eq!(rt; tw_parser_flush_escape(&mut parser, &mut event), NONE);
+    assert_eq!(rt; tw_parser_waiting(&mut parser), 2);
     tw_parser_free(alloc, &mut parser);
     parser.close();
     Ok(())
@@ -143,25 +124,22 @@ fn flushes_the_escape_key(rt: HostRuntime) -> Result<(), Fail> {
 fn ends_a_long_paste_and_drops_its_text(rt: HostRuntime) -> Result<(), Fail> {
     let alloc = rt.alloc();
     let body = b"ab".repeat(alloc, 50_000)?;
-    let mut parser = Handle::empty();
+    let mut parser = ParserHandle::empty();
     let mut event = NO_EVENT;
-    assert_eq!(rt;
-        tw_parser_end_paste(alloc, &mut parser, &mut event),
-        NO_PARSER
-    );
+    assert_eq!(rt; tw_parser_end_paste(&mut parser, &mut event), NO_PARSER);
     tw_parser_drop_paste(alloc, &mut parser);
     assert!(rt; tw_parser_init(alloc, &mut parser));
-    assert_eq!(rt; tw_parser_end_paste(alloc, &mut parser, &mut event), NONE);
-    assert!(rt; tw_parser_feed(alloc, &mut parser, b"\x1b[200~"));
-    assert!(rt; tw_parser_feed(alloc, &mut parser, &body));
-    assert_eq!(rt; tw_parser_end_paste(alloc, &mut parser, &mut event), EVENT);
+    assert_eq!(rt; tw_parser_end_paste(&mut parser, &mut event), NONE);
+    assert!(rt; tw_parser_feed(&mut parser, b"\x1b[200~"));
+    assert!(rt; tw_parser_feed(&mut parser, &body));
+    assert_eq!(rt; tw_parser_end_paste(&mut parser, &mut event), EVENT);
     assert!(rt; event.kind == 3 && event.paste_len == 100_000);
-    assert_eq!(rt; tw_parser_waiting(alloc, &mut parser), 0);
+    assert_eq!(rt; tw_parser_waiting(&mut parser), 0);
     let mut text = [b'.'; 3];
-    assert_eq!(rt; tw_parser_paste(alloc, &mut parser, &mut text), 100_000);
+    assert_eq!(rt; tw_parser_paste(&mut parser, &mut text), 100_000);
     assert!(rt; text == *b"aba");
     tw_parser_drop_paste(alloc, &mut parser);
-    assert_eq!(rt; tw_parser_paste(alloc, &mut parser, &mut text), 0);
+    assert_eq!(rt; tw_parser_paste(&mut parser, &mut text), 0);
     tw_parser_free(alloc, &mut parser);
     parser.close();
     Ok(())
@@ -245,14 +223,24 @@ fn encodes_keys(rt: HostRuntime) -> Result<(), Fail> {
 
 #[test]
 fn names_keys(rt: HostRuntime) -> Result<(), Fail> {
-    let mut name = [b'.'; 6];
+    let mut name = [b'.'; 8];
+    assert_eq!(rt; tw_key_name(31, &mut name[..6]), 7);
+    assert!(rt; name == *b"UpArro..");
+    assert_eq!(rt; tw_key_name(31, &mut name[..7]), 7);
+    assert!(rt; name == *b"UpArrow.");
     assert_eq!(rt; tw_key_name(31, &mut name), 7);
-    assert!(rt; name == *b"UpArro");
+    assert!(rt; name == *b"UpArrow\0");
     assert_eq!(rt; tw_key_name(1, &mut name), 4);
-    assert!(rt; name == *b"Charro");
+    assert!(rt; name == *b"Char\0ow\0");
     assert_eq!(rt; tw_key_name(90, &mut name), 16);
     assert_eq!(rt; tw_key_name(91, &mut name), 0);
-    assert!(rt; name == *b"Intern");
+    assert!(rt; name == *b"Internal");
+    Ok(())
+}
+
+#[test]
+fn tells_its_version(rt: HostRuntime) -> Result<(), Fail> {
+    assert_eq!(rt; tw_version(), 0x0100);
     Ok(())
 }
 
@@ -266,28 +254,25 @@ fn takes_much_input(rt: HostRuntime) -> Result<(), Fail> {
     paste.extend_from_slice(b"\x1b[201~")?;
     let keys = b"\x1b[Aq".repeat(alloc, 35000)?;
     let mut text = b".".repeat(alloc, 102400)?;
-    let mut parser = Handle::empty();
+    let mut parser = ParserHandle::empty();
     let mut event = NO_EVENT;
     assert!(rt; tw_parser_init(alloc, &mut parser));
-    assert!(rt; tw_parser_feed(alloc, &mut parser, paste.as_slice()));
-    assert_eq!(rt; tw_parser_next(alloc, &mut parser, MORE, &mut event), EVENT);
+    assert!(rt; tw_parser_feed(&mut parser, paste.as_slice()));
+    assert_eq!(rt; tw_parser_next(&mut parser, MORE, &mut event), EVENT);
     assert!(rt; event.kind == 3 && event.paste_len == 102400);
-    assert_eq!(rt;
-        tw_parser_paste(alloc, &mut parser, text.as_mut_slice()),
-        102400
-    );
+    assert_eq!(rt; tw_parser_paste(&mut parser, text.as_mut_slice()), 102400);
     assert!(rt; text == body);
-    assert!(rt; tw_parser_feed(alloc, &mut parser, keys.as_slice()));
+    assert!(rt; tw_parser_feed(&mut parser, keys.as_slice()));
     for number in 0..35000 {
-        assert_eq!(rt; tw_parser_next(alloc, &mut parser, MORE, &mut event), EVENT);
+        assert_eq!(rt; tw_parser_next(&mut parser, MORE, &mut event), EVENT);
         assert!(rt; event.kind == 1 && event.key == 31, "arrow {number}");
-        assert_eq!(rt; tw_parser_next(alloc, &mut parser, MORE, &mut event), EVENT);
+        assert_eq!(rt; tw_parser_next(&mut parser, MORE, &mut event), EVENT);
         assert!(rt;
             event.kind == 1 && event.key == 1 && event.detail == 0x71,
             "letter {number}"
         );
     }
-    assert_eq!(rt; tw_parser_next(alloc, &mut parser, MORE, &mut event), NONE);
+    assert_eq!(rt; tw_parser_next(&mut parser, MORE, &mut event), NONE);
     tw_parser_free(alloc, &mut parser);
     parser.close();
     Ok(())

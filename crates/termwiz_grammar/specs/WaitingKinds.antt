@@ -1,5 +1,5 @@
 -- What stays buffered, by kind, and what a flush makes of it.
-use Rattle.std.specs.Prelude.{◌≡◌, ◌≢◌, ℕ, ◌⊎◌, Bool, true, false, List, [], ◌∷◌, ◌++◌}
+use Rattle.std.specs.Prelude.{◌≡◌, ◌≢◌, ℕ, ◌+◌, ◌≤◌, ◌⊎◌, Bool, true, false, List, [], ◌∷◌, ◌++◌, length}
 use Rattle.termwiz_keymap.specs.Bytes.{Occurs}
 use Rattle.termwiz_keys.specs.Introducers.{ESC, START, END}
 use Rattle.termwiz_keys.specs.Keys.{escape, with_alt}
@@ -7,7 +7,7 @@ use Rattle.termwiz_keys.specs.declared.types.InputEvent.TheVariants.{Key}
 use Rattle.termwiz_grammar.specs.declared.waiting.Waiting.{Waiting}
 use Rattle.termwiz_grammar.specs.declared.waiting.Waiting.TheVariants.{Nothing, Escape, Sequence, Character, Paste}
 use Rattle.termwiz_grammar.specs.Grammar.{IsUnfinishedSequence, IsUnfinishedCharacter, IsRest, Means}
-use Rattle.termwiz_grammar.specs.Laws.{IsHeldEscape, FlushMatters}
+use Rattle.termwiz_grammar.specs.Laws.{IsHeldEscape, FlushMatters, most_undecided}
 
 -- what properly begins a sequence or a character, after at most one ESC
 pub record IsHeldThen (IsUnfinished : List ℕ → Type 0) (u : List ℕ) : Type 0 where
@@ -27,6 +27,14 @@ pub record IsOpenPaste (u : List ℕ) : Type 0 where
   pub body : List ℕ
   pub splits : u ≡ START ++ body
   pub endless : ¬ Occurs END body
+
+-- how many bytes can stay buffered, but for an open paste: the undecided ones, and one ESC before them
+abbrev pub most_buffered : ℕ
+most_buffered = most_undecided + 1
+
+-- at most so many bytes, or an open paste
+abbrev pub IsShortOrOpenPaste : List ℕ → Type 0
+IsShortOrOpenPaste u = (length u ≤ most_buffered) ⊎ IsOpenPaste u
 
 -- what stays buffered is of this kind
 abbrev pub IsKind : List ℕ → Bool → Waiting → Type 0

@@ -6,6 +6,7 @@ pub mod MouseReportAnswers
 pub mod PasteSearch
 pub mod Pieces
 pub mod PrintableAscii
+pub mod Promise
 pub mod RefusalEquality
 pub use Rattle.termwiz_grammar.specs.MouseReports as MouseReports
 pub use Rattle.termwiz_grammar.specs.Grammar as Grammar

@@ -3,11 +3,14 @@ ghost use Rattle.std.specs.Prelude.{◌≡◌, ◌≢◌, ◌++◌, ◌+◌, ◌
 ghost use Rattle.termwiz_keys.specs.declared.types.KeyEvent.{KeyEvent};
 ghost use Rattle.termwiz_keymap.specs.Bytes.{Begins};
 ghost use Rattle.termwiz_keys.specs.Introducers.{START};
-ghost use Rattle.termwiz_grammar.specs.WaitingKinds.{IsKind, IsOneOrTwoEscapes, IsOpenPaste};
+ghost use Rattle.termwiz_grammar.specs.Table.{table};
+ghost use Rattle.termwiz_grammar.specs.WaitingKinds.{IsKind, IsOneOrTwoEscapes, IsOpenPaste, IsShortOrOpenPaste};
+ghost use Rattle.termwiz_keymap.specs.Lookup.{LookupGives, found_copied};
 ghost use Rattle.termwiz_input.specs.PasteSearch.{IsPasteSoFar};
 ghost use Rattle.termwiz_grammar.specs.Grammar.{GivesNoPaste, HasItem, HasPaste, IsRest, Steps, Means};
 ghost use Rattle.termwiz_input.specs.Fronts.{Emits, IsFront, Stores};
 ghost use Rattle.termwiz_input.specs.Matches.{IsItemAt};
+ghost use Rattle.termwiz_input.specs.Promise.{IsExactReading};
 ghost use Rattle.termwiz_input.specs.Callbacks.{MayBeCalledOn, MayBeCalledOnNumbered, WasCalledOn, WasCalledOnNumbered};
 ghost use Rattle.termwiz_input.specs.Pieces.{AreNumbered, NumberedEvent, ReadsFirst, events_of, flag_at, join, numbered, pieces_or_one, taken_or_one, texts};
 ghost use Rattle.termwiz_keys.specs.declared.types.InputEvent.{InputEvent as Event};
@@ -21,7 +24,7 @@ use std::alloc::{AllocError, Global};
 use std::marker::Model;
 pub use termwiz_base::{Flags, Modifiers};
 pub use termwiz_grammar::waiting::Waiting;
-use termwiz_keymap::keymap::KeyMap;
+use termwiz_keymap::keymap::{Found, KeyMap};
 use termwiz_keymap::readbuf::ReadBuffer;
 pub use termwiz_keys::encode::{CSI, EncodeError, KeyCodeEncodeModes, KeyboardEncoding, SS3};
 pub use termwiz_keys::types::{
@@ -118,8 +121,8 @@ impl InputParser {
 
     /// A parser whose key map is exactly the sequence table, and whose waiting text is empty.
     ///
-    /// The clause `exactly` speaks of the table alone: that the parser's key map is this table, now and in every later
-    /// state, is the invariant of the type.
+    /// The clause `exactly` says which rows the table has. That the parser's key map is this table, now and in every later state, is the
+    /// invariant of the type: [`InputParser::lookup`] answers from it, and every event is one that the table means.
     #[tactic(auto, unfolding(termwiz_grammar::specs::Table::table))]
     pub fn new(alloc: Global) -> Result<InputParser, AllocError>
         ensures empty { IfOk result (λ parser. parser ≡ []) }
@@ -134,6 +137,15 @@ impl InputParser {
             searched: 0,
             alloc,
         })
+    }
+
+    /// Looks bytes up in the sequence table, as the parser does: finds the longest row that is a prefix of them. Nothing is buffered.
+    ///
+    /// Pass true for `maybe_more` if more bytes may follow. The answers are those of [`KeyMap::lookup`].
+    pub fn lookup(&self, bytes: &[u8], maybe_more: bool) -> Found<&KeyEvent>
+        ensures { LookupGives table bytes.now maybe_more (found_copied result) }
+    {
+        self.key_map.lookup(bytes, maybe_more)
     }
 
     /// The length of the waiting text.
@@ -311,8 +323,46 @@ impl InputParser {
 
         // Without more to come nothing waits but an open paste.
         ensures flushed { maybe_more ≡ false → IfOk result (λ found. IfNone found ((self.new ≡ []) ⊎ Begins START self.new)) }
+
+        // In any case at most 21 bytes wait, or an open paste.
+        ensures waits { IfOk result (λ found. IfNone found (IsShortOrOpenPaste self.new)) }
     {
         self.emit_front(maybe_more)
+    }
+
+    /// Calls `callback` with each event of the waiting text in order: a loop over [`InputParser::next_event`] up to `None`. A program that has
+    /// such a loop of its own has the same events.
+    ///
+    /// Pass `maybe_more` as for [`InputParser::parse`]. If memory for the text of a paste is refused, the paste is still at the front of what
+    /// waits, and the same call may be made again.
+    #[tactic(auto, using(termwiz_grammar::proofs::lemmas::waiting::RestShape::rest_flushed, termwiz_grammar::proofs::lemmas::waiting::RestShape::rest_short))]
+    pub fn for_each_event<F: FnMut(InputEvent)>(
+        &mut self,
+        callback: &mut F,
+        maybe_more: bool,
+    ) -> Result<(), AllocError>
+        requires { (events : List Event) (rest : List ℕ) → Steps self.old maybe_more events rest
+            → MayBeCalledOn F.FnMut callback.old events }
+        ensures ok { OnOk result ((events : List Event) × Means self.old maybe_more events self.new
+            × WasCalledOn F.step callback.old events callback.new) }
+
+        // Without more to come nothing waits but an open paste.
+        ensures flushed { maybe_more ≡ false → OnOk result ((self.new ≡ []) ⊎ Begins START self.new) }
+
+        // In any case at most 21 bytes wait, or an open paste.
+        ensures waits { OnOk result (IsShortOrOpenPaste self.new) }
+
+        // The parser stands after the events that were given, and a paste is at its front.
+        ensures refused { OnErr result ((events : List Event) × Steps self.old maybe_more events self.new
+            × WasCalledOn F.step callback.old events callback.new) }
+        ensures refused_paste { OnErr result (HasPaste self.new maybe_more) }
+    {
+        loop {
+            match self.next_event(maybe_more)? {
+                Some(event) => callback(event),
+                None => return Ok(()),
+            }
+        }
     }
 
     /// Appends `bytes` to the waiting text, and calls `callback` with each of its events in order. What is no event yet waits.
@@ -320,7 +370,7 @@ impl InputParser {
     /// Pass `maybe_more` as true while more bytes may come: then a text that may yet become a longer sequence or a character
     /// stays buffered. After a pause call [`InputParser::flush_escape`]. Pass false at the end of the input: then only an open
     /// paste stays buffered. No bytes and false are a flush.
-    #[tactic(auto, using(termwiz_grammar::proofs::lemmas::waiting::RestShape::rest_flushed))]
+    #[tactic(auto, using(termwiz_grammar::proofs::lemmas::waiting::RestShape::rest_flushed, termwiz_grammar::proofs::lemmas::waiting::RestShape::rest_short))]
     pub fn parse<F: FnMut(InputEvent)>(
         &mut self,
         bytes: &[u8],
@@ -334,6 +384,9 @@ impl InputParser {
 
         // Without more to come nothing waits but an open paste.
         ensures flushed { maybe_more ≡ false → OnOk result ((self.new ≡ []) ⊎ Begins START self.new) }
+
+        // In any case at most 21 bytes wait, or an open paste.
+        ensures waits { OnOk result (IsShortOrOpenPaste self.new) }
 
         // If the bytes weren't taken, nothing happened.
         ensures not_taken_same { IsErrOf result ParseError.NotTaken → self.new ≡ self.old }
@@ -352,12 +405,9 @@ impl InputParser {
         if self.feed(bytes).is_err() {
             return Err(ParseError::NotTaken);
         }
-        loop {
-            match self.next_event(maybe_more) {
-                Ok(Some(event)) => callback(event),
-                Ok(None) => return Ok(()),
-                Err(_) => return Err(ParseError::Taken),
-            }
+        match self.for_each_event(callback, maybe_more) {
+            Ok(()) => Ok(()),
+            Err(_) => Err(ParseError::Taken),
         }
     }
 
@@ -410,8 +460,16 @@ impl InputParser {
             × AreNumbered self.old (pieces_or_one (texts pieces.now)) given
             × WasCalledOnNumbered F.step callback.old given callback.new) }
 
+        // The promise in one statement: the events and what waits are exactly those of the grammar, and little waits.
+        ensures promise { OnOk result ((given : List NumberedEvent)
+            × IsExactReading self.old (texts pieces.now) maybe_more given self.new
+            × WasCalledOnNumbered F.step callback.old given callback.new) }
+
         // Without more to come nothing waits but an open paste.
         ensures flushed { maybe_more ≡ false → OnOk result ((self.new ≡ []) ⊎ Begins START self.new) }
+
+        // In any case at most 21 bytes wait, or an open paste.
+        ensures waits { OnOk result (IsShortOrOpenPaste self.new) }
 
         // Nothing happened if the first of some pieces wasn't taken.
         ensures none_taken_same { IfErr result (λ e. pieces.now ≢ [] → e.taken ≡ 0 → self.new ≡ self.old) }
@@ -553,6 +611,9 @@ impl InputParser {
 
         // Without more to come nothing waits but an open paste.
         ensures flushed { maybe_more ≡ false → OnOk result ((self.new ≡ []) ⊎ Begins START self.new) }
+
+        // In any case at most 21 bytes wait, or an open paste.
+        ensures waits { OnOk result (IsShortOrOpenPaste self.new) }
 
         // If the bytes weren't taken, nothing happened.
         ensures not_taken_none { IfErr result (λ e. e.taken ≡ false → e.events.items ≡ []) }

@@ -1,8 +1,11 @@
 //! The laws of the parser's errors, and by `pub use` those of the layers below: of the grammar, of the key map and of the types' values.
 ghost use Rattle.termwiz_base.specs.Laws.{AlwaysCloned, ClonesEqual, TellsEqual};
+ghost use Rattle.termwiz_grammar.specs.Listed.{IsListed};
+ghost use Rattle.termwiz_input.specs.Promise.{IsReadFromPieces};
 ghost use Rattle.termwiz_input.specs.RefusalEquality.{TellsEqualRefusals};
 
 use crate::input::{ParseError, ParseVecError, PiecesError};
+use termwiz_base::Modifiers;
 pub use termwiz_grammar::laws::{
     csi_u_read_back, cut_independent, empty_is_rest, few_events, few_events_in_stream,
     flush_of_kinds, listed_examples, most_wait, one_by_one, one_meaning, pauses_change_nothing,
@@ -10,7 +13,17 @@ pub use termwiz_grammar::laws::{
     waiting_shape,
 };
 pub use termwiz_keymap::laws::{exact_stays, found_values};
+use termwiz_keys::encode::KeyCodeEncodeModes;
 pub use termwiz_keys::laws::{clones, equality, hashes, mouse_button_flags};
+use termwiz_keys::types::KeyCode;
+
+/// The text of a listed key is read back, however it is cut: if [`InputParser::parse_pieces`](crate::input::InputParser::parse_pieces) reads
+/// it with an empty buffer and no more to come, exactly that key with those modifiers is emitted, and nothing is left. Its clause
+/// `promise` has the statement of which this speaks.
+#[tactic(auto, using(crate::proofs::lemmas::pieces::KeysFromPieces::read_from_pieces))]
+pub fn read_back_from_pieces(key: KeyCode, modifiers: Modifiers, modes: KeyCodeEncodeModes)
+    ensures { IsListed key modifiers modes → IsReadFromPieces key modifiers modes }
+{}
 
 /// Two errors of the parser are equal by `==` exactly if they are the same error. Of the events in a [`ParseVecError`] those in
 /// the list count, and not where the list lies in memory or how long it may grow.

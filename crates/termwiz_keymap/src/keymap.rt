@@ -97,6 +97,14 @@ impl<V: Debug + Clone + Drop> KeyMap<V> {
         }
     }
 
+    /// The number of keys. The empty key counts like any other.
+    #[tactic(auto, using(crate::proofs::lemmas::rows::KeysInRows::counted))]
+    pub fn len(&self) -> usize
+        ensures { result ≡ map.len self.now }
+    {
+        self.rows.len()
+    }
+
     /// Asks once for the memory of so many keys more, so that inserts needn't ask for it again and again. A long key still takes
     /// memory of its own. The map stays the same. Fails only if memory is refused.
     pub fn reserve(&mut self, additional: usize) -> Result<(), AllocError>

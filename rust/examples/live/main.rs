@@ -11,13 +11,13 @@
 mod terminal;
 mod unix;
 
+use hedrugal::input::{InputEvent, InputParser, KeyCode, KeyEvent, Modifiers, MouseEvent, Waiting};
 use std::io::{self, Read};
 use std::os::fd::AsRawFd;
 use std::os::unix::net::UnixStream;
 use std::process::ExitCode;
 use std::sync::atomic::Ordering::SeqCst;
 use terminal::Terminal;
-use termwiz::input::{InputEvent, InputParser, KeyCode, KeyEvent, Modifiers, MouseEvent, Waiting};
 use unix::signals;
 
 const ESCAPE_MS: i32 = 50;

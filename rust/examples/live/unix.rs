@@ -155,6 +155,11 @@ pub mod signals {
         Ok(())
     }
 
+    fn raised(number: c_int) -> c_int {
+        // SAFETY: the call only sends the signal to this program.
+        unsafe { raise(number) }
+    }
+
     fn noted(number: c_int) -> io::Result<()> {
         handle(number, note as *const () as usize)
     }
@@ -180,13 +185,13 @@ pub mod signals {
     pub fn end_by_signal() {
         if let Some(number) = ending() {
             // If the default can't be set, the program ends in its own way.
-            let _ = handle(number, SIG_DFL).map(|()| unsafe { raise(number) });
+            let _ = handle(number, SIG_DFL).map(|()| raised(number));
         }
     }
 
     /// Stops as a program does that handles no SIGTSTP. Returns once it is continued, or at once if no shell could continue it.
     pub fn stop() {
-        let _ = handle(SIGTSTP, SIG_DFL).map(|()| unsafe { raise(SIGTSTP) });
+        let _ = handle(SIGTSTP, SIG_DFL).map(|()| raised(SIGTSTP));
         let _ = noted(SIGTSTP);
         STOPPING.store(false, SeqCst);
         note(SIGCONT);

@@ -4,12 +4,30 @@ use crate::raw;
 use std::{error, fmt, str};
 
 /// What a control sequence begins with: ESC `[`, the control sequence introducer.
+///
+/// ```
+/// use hedrugal::input::CSI;
+///
+/// assert_eq!(format!("{CSI}A"), "\x1b[A");
+/// ```
 pub const CSI: &str = "\x1b[";
 
 /// What the sequence of an application key begins with: ESC `O`, single shift three.
+///
+/// ```
+/// use hedrugal::input::SS3;
+///
+/// assert_eq!(format!("{SS3}A"), "\x1bOA");
+/// ```
 pub const SS3: &str = "\x1bO";
 
 /// How a terminal encodes the keys that it sends.
+///
+/// ```
+/// use hedrugal::input::{KeyboardEncoding, KittyKeyboardFlags};
+///
+/// assert_ne!(KeyboardEncoding::Xterm, KeyboardEncoding::Kitty(KittyKeyboardFlags::NONE));
+/// ```
 #[derive(Debug, Clone, Copy, PartialEq, Eq)]
 pub enum KeyboardEncoding {
     /// The characters themselves, and xterm's control sequences.
@@ -23,6 +41,18 @@ pub enum KeyboardEncoding {
 }
 
 /// The modes of a terminal that change the text of a key.
+///
+/// ```
+/// use hedrugal::input::{KeyCode, KeyCodeEncodeModes, KeyboardEncoding, Modifiers};
+///
+/// let modes = KeyCodeEncodeModes {
+///     encoding: KeyboardEncoding::Xterm,
+///     application_cursor_keys: true,
+///     newline_mode: false,
+///     modify_other_keys: None,
+/// };
+/// assert_eq!(KeyCode::UpArrow.encode(Modifiers::NONE, modes, true).as_deref(), Ok("\x1bOA"));
+/// ```
 #[derive(Debug, Clone, Copy)]
 pub struct KeyCodeEncodeModes {
     /// The encoding of keys.
@@ -46,7 +76,7 @@ impl KeyCodeEncodeModes {
         raw::Modes {
             modify_other_keys: self.modify_other_keys.unwrap_or(0),
             encoding,
-            kitty_flags: u8::try_from(kitty.bits()).expect("each flag is below 256"),
+            kitty_flags: u8::try_from((kitty & KittyKeyboardFlags::all()).bits()).expect("each flag is below 256"),
             application_cursor_keys: self.application_cursor_keys,
             newline_mode: self.newline_mode,
             has_modify_other_keys: self.modify_other_keys.is_some(),
@@ -55,6 +85,12 @@ impl KeyCodeEncodeModes {
 }
 
 /// Why [`KeyCode::try_encode`] made no text.
+///
+/// ```
+/// use hedrugal::input::EncodeError;
+///
+/// assert_eq!(EncodeError::UnhandledFunctionKey(25).to_string(), "unhandled fkey number 25");
+/// ```
 #[derive(Debug, Clone, Copy, PartialEq, Eq)]
 pub enum EncodeError {
     /// The function key with this number isn't one of F1 to F24.
@@ -79,7 +115,21 @@ const ROOM: usize = 64;
 
 impl KeyCode {
     /// Returns the text that a terminal in these modes sends for the key, with the modifiers that are held. It is empty for a key
-    /// that sends nothing, and for every key that is up (`is_down` is false).
+    /// that sends nothing, and for every key that is up (`is_down` is false). Bits of `mods` that no flag has don't count.
+    ///
+    /// ```
+    /// use hedrugal::input::{KeyCode, KeyCodeEncodeModes, KeyboardEncoding, Modifiers};
+    ///
+    /// let modes = KeyCodeEncodeModes {
+    ///     encoding: KeyboardEncoding::Xterm,
+    ///     application_cursor_keys: false,
+    ///     newline_mode: false,
+    ///     modify_other_keys: None,
+    /// };
+    /// assert_eq!(KeyCode::UpArrow.encode(Modifiers::CTRL, modes, true).as_deref(), Ok("\x1b[1;5A"));
+    /// assert_eq!(KeyCode::UpArrow.encode(Modifiers::CTRL, modes, false).as_deref(), Ok(""));
+    /// assert!(KeyCode::Function(25).encode(Modifiers::NONE, modes, true).is_err());
+    /// ```
     ///
     /// # Errors
     ///
@@ -96,6 +146,18 @@ impl KeyCode {
 
     /// Returns what [`KeyCode::encode`] returns.
     ///
+    /// ```
+    /// use hedrugal::input::{KeyCode, KeyCodeEncodeModes, KeyboardEncoding, Modifiers};
+    ///
+    /// let modes = KeyCodeEncodeModes {
+    ///     encoding: KeyboardEncoding::Xterm,
+    ///     application_cursor_keys: false,
+    ///     newline_mode: false,
+    ///     modify_other_keys: None,
+    /// };
+    /// assert_eq!(KeyCode::Enter.try_encode(Modifiers::NONE, modes, true).as_deref(), Ok("\r"));
+    /// ```
+    ///
     /// # Errors
     ///
     /// The same, and `Memory` if memory is refused.
@@ -108,7 +170,7 @@ impl KeyCode {
             raw::tw_encode(
                 self.number(),
                 self.detail(),
-                mods.bits(),
+                (mods & Modifiers::all()).bits(),
                 is_down,
                 &modes,
                 room.as_mut_ptr(),
@@ -128,6 +190,13 @@ impl KeyCode {
     }
 
     /// Returns whether the key is one of the modifier keys: Hyper, Super, Meta, and each Shift, Ctrl, Alt and Windows key.
+    ///
+    /// ```
+    /// use hedrugal::input::KeyCode;
+    ///
+    /// assert!(KeyCode::LeftAlt.is_modifier() && !KeyCode::Menu.is_modifier());
+    /// ```
+    #[must_use]
     pub fn is_modifier(self) -> bool {
         use KeyCode::*;
         matches!(
@@ -150,6 +219,14 @@ impl KeyCode {
     }
 
     /// Returns the upper case letter if the key is a lower case letter of ASCII and SHIFT is held, and else the key itself.
+    ///
+    /// ```
+    /// use hedrugal::input::{KeyCode, Modifiers};
+    ///
+    /// let key = KeyCode::Char('a');
+    /// assert_eq!(key.normalize_shift_to_upper_case(Modifiers::SHIFT), KeyCode::Char('A'));
+    /// assert_eq!(key.normalize_shift_to_upper_case(Modifiers::CTRL), key);
+    /// ```
     #[must_use]
     pub fn normalize_shift_to_upper_case(self, modifiers: Modifiers) -> KeyCode {
         match self {

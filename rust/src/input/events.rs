@@ -2,7 +2,18 @@
 use super::{KeyCode, Modifiers, MouseButtons};
 
 /// A key press: which key, and the modifiers held with it.
+///
+/// ```
+/// use hedrugal::input::{KeyCode, KeyEvent, Modifiers};
+///
+/// let event = KeyEvent {
+///     key: KeyCode::Char('x'),
+///     modifiers: Modifiers::ALT,
+/// };
+/// assert_eq!(format!("{event:?}"), "KeyEvent { key: Char('x'), modifiers: Modifiers(ALT) }");
+/// ```
 #[derive(Debug, Clone, PartialEq, Eq)]
+#[cfg_attr(feature = "use_serde", derive(serde::Serialize, serde::Deserialize))]
 pub struct KeyEvent {
     /// The key that was pressed.
     pub key: KeyCode,
@@ -11,7 +22,20 @@ pub struct KeyEvent {
 }
 
 /// A mouse report, with the position in cells.
+///
+/// ```
+/// use hedrugal::input::{InputEvent, InputParser, Modifiers, MouseButtons, MouseEvent};
+///
+/// let event = MouseEvent {
+///     x: 3,
+///     y: 4,
+///     mouse_buttons: MouseButtons::LEFT,
+///     modifiers: Modifiers::NONE,
+/// };
+/// assert_eq!(InputParser::new().parse_as_vec(b"\x1b[<0;3;4M", true), [InputEvent::Mouse(event)]);
+/// ```
 #[derive(Debug, Clone, PartialEq, Eq)]
+#[cfg_attr(feature = "use_serde", derive(serde::Serialize, serde::Deserialize))]
 pub struct MouseEvent {
     /// The column, as the terminal sent it: the leftmost is 1.
     pub x: u16,
@@ -24,7 +48,20 @@ pub struct MouseEvent {
 }
 
 /// A mouse report, with the position in pixels. The parser never makes one.
+///
+/// ```
+/// use hedrugal::input::{Modifiers, MouseButtons, PixelMouseEvent};
+///
+/// let event = PixelMouseEvent {
+///     x_pixels: 300,
+///     y_pixels: 40,
+///     mouse_buttons: MouseButtons::RIGHT,
+///     modifiers: Modifiers::CTRL,
+/// };
+/// assert!(event.mouse_buttons.contains(MouseButtons::RIGHT));
+/// ```
 #[derive(Debug, Clone, PartialEq, Eq)]
+#[cfg_attr(feature = "use_serde", derive(serde::Serialize, serde::Deserialize))]
 pub struct PixelMouseEvent {
     /// The distance from the left, in pixels.
     pub x_pixels: u16,
@@ -38,7 +75,15 @@ pub struct PixelMouseEvent {
 
 /// Something that happened at the terminal. The parser makes keys, mouse reports and pastes; the other events are for programs that put
 /// input from elsewhere into the same stream.
+///
+/// ```
+/// use hedrugal::input::{InputEvent, InputParser};
+///
+/// let events = InputParser::new().parse_as_vec(b"\x1b[200~text\x1b[201~", true);
+/// assert_eq!(events, [InputEvent::Paste("text".to_string())]);
+/// ```
 #[derive(Debug, Clone, PartialEq, Eq)]
+#[cfg_attr(feature = "use_serde", derive(serde::Serialize, serde::Deserialize))]
 pub enum InputEvent {
     /// A key was pressed.
     Key(KeyEvent),

@@ -1,6 +1,72 @@
 // Sets of flags, each a number whose bits have names.
-use std::fmt;
 use std::ops::{BitAnd, BitAndAssign, BitOr, BitOrAssign, BitXor, BitXorAssign, Not, Sub, SubAssign};
+use std::str::FromStr;
+use std::{error, fmt};
+
+/// A text names a flag that isn't there.
+///
+/// ```
+/// use hedrugal::input::Modifiers;
+///
+/// let error = "CTRL|SHFT".parse::<Modifiers>().unwrap_err();
+/// assert_eq!(error.to_string(), "no flag is named SHFT");
+/// ```
+#[derive(Debug, Clone, PartialEq, Eq)]
+pub struct ParseFlagsError {
+    name: String,
+}
+
+impl fmt::Display for ParseFlagsError {
+    fn fmt(&self, f: &mut fmt::Formatter<'_>) -> fmt::Result {
+        write!(f, "no flag is named {}", self.name)
+    }
+}
+
+impl error::Error for ParseFlagsError {}
+
+/// The flags of a set one by one, lowest first, as `iter` returns them. Bits that no flag has come last, together.
+///
+/// ```
+/// use hedrugal::input::Modifiers;
+///
+/// let set = Modifiers::CTRL | Modifiers::SHIFT | Modifiers::from_bits_retain(1);
+/// let flags: Vec<Modifiers> = set.iter().collect();
+/// assert_eq!(flags, [Modifiers::SHIFT, Modifiers::CTRL, Modifiers::from_bits_retain(1)]);
+/// ```
+#[derive(Debug, Clone)]
+pub struct FlagIter<Flags> {
+    names: FlagNames<Flags>,
+}
+
+/// The flags of a set with their names, lowest first, as `iter_names` returns them.
+///
+/// ```
+/// use hedrugal::input::MouseButtons;
+///
+/// let names: Vec<&str> = MouseButtons::all().iter_names().map(|(name, _)| name).collect();
+/// assert_eq!(names.join(" "), "LEFT RIGHT MIDDLE VERT_WHEEL HORZ_WHEEL WHEEL_POSITIVE");
+/// ```
+#[derive(Debug, Clone)]
+pub struct FlagNames<Flags> {
+    rest: Flags,
+    next: usize,
+}
+
+impl<Flags> FlagNames<Flags> {
+    /// Returns the flags that are still to come, and the bits that no flag has.
+    ///
+    /// ```
+    /// use hedrugal::input::Modifiers;
+    ///
+    /// let mut names = (Modifiers::CTRL | Modifiers::SHIFT).iter_names();
+    /// assert_eq!(names.next(), Some(("SHIFT", Modifiers::SHIFT)));
+    /// assert_eq!(names.remaining(), &Modifiers::CTRL);
+    /// ```
+    #[must_use]
+    pub const fn remaining(&self) -> &Flags {
+        &self.rest
+    }
+}
 
 // An operator on two sets, and its assigning form.
 macro_rules! operator {
@@ -21,24 +87,68 @@ macro_rules! operator {
     };
 }
 
-// A type of sets, with the calls and operators that such a type has in termwiz.
+// Printing of the number, in another base.
+macro_rules! base {
+    ($name:ident: $($base:ident)*) => {
+        $(impl fmt::$base for $name {
+            fn fmt(&self, f: &mut fmt::Formatter<'_>) -> fmt::Result {
+                fmt::$base::fmt(&self.0, f)
+            }
+        })*
+    };
+}
+
+// A type of sets, with the calls and operators that such a type has in termwiz. `head` begins each example: it makes two flags, a and b.
 macro_rules! flags {
-    ($(#[$about:meta])* $name:ident: $bits:ty { $($(#[$meaning:meta])* const $flag:ident = $value:literal;)* }) => {
+    (
+        $head:literal
+        $(#[$about:meta])*
+        $name:ident: $bits:ty { $($(#[$meaning:meta])* const $flag:ident = $value:literal;)* }
+        also named { $($alias:literal => $named:ident,)* }
+    ) => {
         $(#[$about])*
+        ///
+        /// ```
+        #[doc = $head]
+        /// let both = a | b;
+        /// assert!(both.contains(a) && both - a == b);
+        /// assert_eq!(both.to_string().parse(), Ok(both));
+        /// ```
         #[derive(Clone, Copy, Default, PartialEq, Eq, PartialOrd, Ord, Hash)]
         pub struct $name($bits);
 
         impl $name {
-            $($(#[$meaning])* pub const $flag: $name = $name($value);)*
+            $(
+                $(#[$meaning])*
+                ///
+                /// ```
+                #[doc = concat!("use hedrugal::input::", stringify!($name), " as Flags;")]
+                #[doc = concat!("assert_eq!(Flags::", stringify!($flag), ".bits(), ", stringify!($value), ");")]
+                /// ```
+                pub const $flag: $name = $name($value);
+            )*
 
             const NAMES: &'static [(&'static str, $bits)] = &[$((stringify!($flag), $value)),*];
 
             /// Returns the set as a number.
+            ///
+            /// ```
+            #[doc = $head]
+            /// assert_eq!((a | b).bits(), a.bits() + b.bits());
+            /// ```
+            #[must_use]
             pub const fn bits(&self) -> $bits {
                 self.0
             }
 
             /// Returns the set of a number, or `None` if it has a bit that no flag has.
+            ///
+            /// ```
+            #[doc = $head]
+            /// assert_eq!(Flags::from_bits(a.bits()), Some(a));
+            /// assert_eq!(Flags::from_bits(!0), None);
+            /// ```
+            #[must_use]
             pub const fn from_bits(bits: $bits) -> Option<$name> {
                 if bits & !$name::all().0 == 0 {
                     Some($name(bits))
@@ -48,56 +158,176 @@ macro_rules! flags {
             }
 
             /// Returns the set of a number, without the bits that no flag has.
+            ///
+            /// ```
+            #[doc = $head]
+            /// assert_eq!(Flags::from_bits_truncate(a.bits()), a);
+            /// assert_eq!(Flags::from_bits_truncate(!0), Flags::all());
+            /// ```
+            #[must_use]
             pub const fn from_bits_truncate(bits: $bits) -> $name {
                 $name(bits & $name::all().0)
             }
 
+            /// Returns the set of a number, with the bits that no flag has too.
+            ///
+            /// ```
+            #[doc = $head]
+            /// assert_eq!(Flags::from_bits_retain(!0).bits(), !0);
+            /// ```
+            #[must_use]
+            pub const fn from_bits_retain(bits: $bits) -> $name {
+                $name(bits)
+            }
+
+            /// Returns the flag with a name, or `None` if there is none.
+            ///
+            /// ```
+            #[doc = $head]
+            /// let (name, flag) = a.iter_names().next().unwrap();
+            /// assert_eq!((Flags::from_name(name), flag), (Some(a), a));
+            /// assert_eq!(Flags::from_name("NONE"), Some(Flags::NONE));
+            /// assert_eq!(Flags::from_name("none"), None);
+            /// ```
+            #[must_use]
+            pub fn from_name(name: &str) -> Option<$name> {
+                let found = $name::NAMES.iter().find(|(known, _)| *known == name)?;
+                Some($name(found.1))
+            }
+
+            /// Returns the flags of the set one by one, lowest first. Bits that no flag has come last, together.
+            ///
+            /// ```
+            #[doc = $head]
+            /// assert_eq!((a | b).iter().collect::<Vec<_>>(), [a, b]);
+            /// ```
+            #[must_use]
+            pub const fn iter(&self) -> FlagIter<$name> {
+                FlagIter { names: self.iter_names() }
+            }
+
+            /// Returns the flags of the set with their names, lowest first.
+            ///
+            /// ```
+            #[doc = $head]
+            /// assert_eq!(a.iter_names().next().map(|(name, _)| name), Some(a.to_string()).as_deref());
+            /// ```
+            #[must_use]
+            pub const fn iter_names(&self) -> FlagNames<$name> {
+                FlagNames { rest: *self, next: 0 }
+            }
+
             /// Returns the set that has no flag.
+            ///
+            /// ```
+            #[doc = $head]
+            /// assert!(!Flags::empty().contains(a));
+            /// ```
+            #[must_use]
             pub const fn empty() -> $name {
                 $name(0)
             }
 
             /// Returns the set that has every flag.
+            ///
+            /// ```
+            #[doc = $head]
+            /// assert!(Flags::all().contains(a | b));
+            /// ```
+            #[must_use]
             pub const fn all() -> $name {
                 $name(0 $(| $value)*)
             }
 
-            /// Returns whether the set has no flag.
+            /// Returns whether the set has no bit.
+            ///
+            /// ```
+            #[doc = $head]
+            /// assert!(Flags::NONE.is_empty() && !a.is_empty());
+            /// ```
+            #[must_use]
             pub const fn is_empty(&self) -> bool {
                 self.0 == 0
             }
 
             /// Returns whether the set has every flag.
+            ///
+            /// ```
+            #[doc = $head]
+            /// assert!((a | !a).is_all() && !a.is_all());
+            /// ```
+            #[must_use]
             pub const fn is_all(&self) -> bool {
-                self.0 == $name::all().0
+                self.contains($name::all())
             }
 
             /// Returns whether the set has a flag that `other` has too.
+            ///
+            /// ```
+            #[doc = $head]
+            /// assert!(a.intersects(a | b) && !a.intersects(b));
+            /// ```
+            #[must_use]
             pub const fn intersects(&self, other: $name) -> bool {
                 self.0 & other.0 != 0
             }
 
             /// Returns whether the set has every flag that `other` has.
+            ///
+            /// ```
+            #[doc = $head]
+            /// assert!((a | b).contains(a) && !a.contains(a | b));
+            /// ```
+            #[must_use]
             pub const fn contains(&self, other: $name) -> bool {
                 self.0 & other.0 == other.0
             }
 
             /// Adds the flags of `other`.
+            ///
+            /// ```
+            #[doc = $head]
+            /// let mut set = a;
+            /// set.insert(b);
+            /// assert_eq!(set, a | b);
+            /// ```
             pub fn insert(&mut self, other: $name) {
                 self.0 |= other.0;
             }
 
-            /// Takes the flags of `other` away.
+            /// Removes the flags of `other`.
+            ///
+            /// ```
+            #[doc = $head]
+            /// let mut set = a | b;
+            /// set.remove(a);
+            /// assert_eq!(set, b);
+            /// ```
             pub fn remove(&mut self, other: $name) {
                 self.0 &= !other.0;
             }
 
             /// Adds the flags of `other` that the set doesn't have, and removes the others.
+            ///
+            /// ```
+            #[doc = $head]
+            /// let mut set = a;
+            /// set.toggle(a | b);
+            /// assert_eq!(set, b);
+            /// ```
             pub fn toggle(&mut self, other: $name) {
                 self.0 ^= other.0;
             }
 
             /// Adds the flags of `other` if `value` is true, and removes them if not.
+            ///
+            /// ```
+            #[doc = $head]
+            /// let mut set = a;
+            /// set.set(b, true);
+            /// set.set(a, false);
+            /// assert_eq!(set, b);
+            /// ```
             pub fn set(&mut self, other: $name, value: bool) {
                 if value {
                     self.insert(other);
@@ -107,50 +337,196 @@ macro_rules! flags {
             }
 
             /// Returns the flags that either set has.
+            ///
+            /// ```
+            #[doc = $head]
+            /// assert_eq!(a.union(b), a | b);
+            /// ```
             #[must_use]
             pub const fn union(self, other: $name) -> $name {
                 $name(self.0 | other.0)
             }
 
             /// Returns the flags that both sets have.
+            ///
+            /// ```
+            #[doc = $head]
+            /// assert_eq!((a | b).intersection(b), b);
+            /// ```
             #[must_use]
             pub const fn intersection(self, other: $name) -> $name {
                 $name(self.0 & other.0)
             }
 
             /// Returns the flags that `other` doesn't have.
+            ///
+            /// ```
+            #[doc = $head]
+            /// assert_eq!((a | b).difference(b), a);
+            /// ```
             #[must_use]
             pub const fn difference(self, other: $name) -> $name {
                 $name(self.0 & !other.0)
             }
 
             /// Returns the flags that exactly one of the sets has.
+            ///
+            /// ```
+            #[doc = $head]
+            /// assert_eq!((a | b).symmetric_difference(b), a);
+            /// ```
             #[must_use]
             pub const fn symmetric_difference(self, other: $name) -> $name {
                 $name(self.0 ^ other.0)
             }
 
             /// Returns the flags that the set doesn't have.
+            ///
+            /// ```
+            #[doc = $head]
+            /// assert_eq!(a.complement(), Flags::all() - a);
+            /// ```
             #[must_use]
             pub const fn complement(self) -> $name {
                 $name(!self.0 & $name::all().0)
             }
+
+            // Writes the names with a text between them, and after them the bits without a name in hexadecimal. Returns whether there
+            // was anything to write.
+            fn write_names(self, f: &mut fmt::Formatter<'_>, between: &str) -> Result<bool, fmt::Error> {
+                let mut names = self.iter_names();
+                let mut is_first = true;
+                for (name, _) in &mut names {
+                    f.write_str(if is_first { "" } else { between })?;
+                    f.write_str(name)?;
+                    is_first = false;
+                }
+                if names.rest.0 != 0 {
+                    f.write_str(if is_first { "" } else { between })?;
+                    write!(f, "{:#x}", names.rest.0)?;
+                }
+                Ok(self.0 != 0)
+            }
         }
 
-        /// The names of the flags, joined by ` | `; `NONE` if there are none.
-        impl fmt::Debug for $name {
-            fn fmt(&self, f: &mut fmt::Formatter<'_>) -> fmt::Result {
-                let mut joint = "";
-                for (name, value) in $name::NAMES {
-                    if *value != 0 && self.0 & value == *value {
-                        write!(f, "{joint}{name}")?;
-                        joint = " | ";
+        impl Iterator for FlagNames<$name> {
+            type Item = (&'static str, $name);
+
+            fn next(&mut self) -> Option<Self::Item> {
+                while let Some((name, value)) = $name::NAMES.get(self.next) {
+                    self.next += 1;
+                    if self.rest.0 & value != 0 {
+                        self.rest.0 &= !value;
+                        return Some((name, $name(*value)));
                     }
                 }
-                if joint.is_empty() {
+                None
+            }
+        }
+
+        impl Iterator for FlagIter<$name> {
+            type Item = $name;
+
+            fn next(&mut self) -> Option<$name> {
+                if let Some((_, flag)) = self.names.next() {
+                    return Some(flag);
+                }
+                let rest = std::mem::take(&mut self.names.rest);
+                (rest.0 != 0).then_some(rest)
+            }
+        }
+
+        impl IntoIterator for $name {
+            type Item = $name;
+            type IntoIter = FlagIter<$name>;
+
+            fn into_iter(self) -> FlagIter<$name> {
+                self.iter()
+            }
+        }
+
+        /// The union of the sets.
+        impl FromIterator<$name> for $name {
+            fn from_iter<Sets: IntoIterator<Item = $name>>(sets: Sets) -> $name {
+                let mut all = $name::empty();
+                all.extend(sets);
+                all
+            }
+        }
+
+        impl Extend<$name> for $name {
+            fn extend<Sets: IntoIterator<Item = $name>>(&mut self, sets: Sets) {
+                for set in sets {
+                    self.insert(set);
+                }
+            }
+        }
+
+        /// The type's name and, in parentheses, the names of the flags joined by ` | `, or `0x0` if there are none. Bits that no flag has
+        /// come last, in hexadecimal.
+        impl fmt::Debug for $name {
+            fn fmt(&self, f: &mut fmt::Formatter<'_>) -> fmt::Result {
+                // The names as one value, which `{:#?}` puts on a line of its own.
+                struct Names($name);
+
+                impl fmt::Debug for Names {
+                    fn fmt(&self, f: &mut fmt::Formatter<'_>) -> fmt::Result {
+                        if !self.0.write_names(f, " | ")? {
+                            f.write_str("0x0")?;
+                        }
+                        Ok(())
+                    }
+                }
+
+                f.debug_tuple(stringify!($name)).field(&Names(*self)).finish()
+            }
+        }
+
+        /// The names of the flags joined by `|`; `NONE` if there are none. Bits that no flag has come last, in hexadecimal.
+        impl fmt::Display for $name {
+            fn fmt(&self, f: &mut fmt::Formatter<'_>) -> fmt::Result {
+                if !self.write_names(f, "|")? {
                     f.write_str("NONE")?;
                 }
                 Ok(())
+            }
+        }
+
+        base!($name: Binary Octal LowerHex UpperHex);
+
+        /// Reads names joined by `|`, with or without spaces around them. `NONE` and no text at all name no flag; a number in
+        /// hexadecimal, as in `0x8`, is the set with these bits.
+        impl FromStr for $name {
+            type Err = ParseFlagsError;
+
+            fn from_str(text: &str) -> Result<$name, ParseFlagsError> {
+                let mut set = $name::empty();
+                if text.trim().is_empty() {
+                    return Ok(set);
+                }
+                for name in text.split('|').map(str::trim) {
+                    let number = name.strip_prefix("0x").and_then(|digits| <$bits>::from_str_radix(digits, 16).ok());
+                    let found = match name {
+                        $($alias => Some($name::$named),)*
+                        _ => number.map($name).or_else(|| $name::from_name(name)),
+                    };
+                    set |= found.ok_or_else(|| ParseFlagsError { name: name.to_string() })?;
+                }
+                Ok(set)
+            }
+        }
+
+        impl TryFrom<String> for $name {
+            type Error = String;
+
+            fn try_from(text: String) -> Result<$name, String> {
+                text.parse().map_err(|error: ParseFlagsError| error.to_string())
+            }
+        }
+
+        impl From<&$name> for String {
+            fn from(set: &$name) -> String {
+                set.to_string()
             }
         }
 
@@ -166,10 +542,44 @@ macro_rules! flags {
                 self.complement()
             }
         }
+
+        // The names joined by ` | ` where people read the format, and the number elsewhere.
+        #[cfg(feature = "use_serde")]
+        impl serde::Serialize for $name {
+            fn serialize<To: serde::Serializer>(&self, to: To) -> Result<To::Ok, To::Error> {
+                // A set as the names alone.
+                struct Names($name);
+
+                impl fmt::Display for Names {
+                    fn fmt(&self, f: &mut fmt::Formatter<'_>) -> fmt::Result {
+                        self.0.write_names(f, " | ").map(|_| ())
+                    }
+                }
+
+                if to.is_human_readable() {
+                    to.collect_str(&Names(*self))
+                } else {
+                    self.0.serialize(to)
+                }
+            }
+        }
+
+        #[cfg(feature = "use_serde")]
+        impl<'de> serde::Deserialize<'de> for $name {
+            fn deserialize<From: serde::Deserializer<'de>>(from: From) -> Result<$name, From::Error> {
+                use serde::de::Error;
+                if from.is_human_readable() {
+                    String::deserialize(from)?.parse().map_err(From::Error::custom)
+                } else {
+                    <$bits>::deserialize(from).map($name)
+                }
+            }
+        }
     };
 }
 
 flags! {
+    "use hedrugal::input::Modifiers as Flags;\nlet (a, b) = (Flags::SHIFT, Flags::CTRL);"
     /// A set of modifier keys, such as those held while another key is pressed.
     Modifiers: u16 {
         // numbers.txt: modifier flag
@@ -199,11 +609,24 @@ flags! {
         const RIGHT_SHIFT = 2048;
         // numbers.txt: end
     }
+    also named {
+        "META" => ALT,
+        "OPT" => ALT,
+        "CMD" => SUPER,
+        "WIN" => SUPER,
+    }
 }
 
 impl Modifiers {
     /// Returns the modifiers without the six flags that name a left or a right key. The other flags are unchanged: a caller that
     /// doesn't care which Alt key is held looks at ALT alone.
+    ///
+    /// ```
+    /// use hedrugal::input::Modifiers;
+    ///
+    /// let held = Modifiers::ALT | Modifiers::LEFT_ALT;
+    /// assert_eq!(held.remove_positional_mods(), Modifiers::ALT);
+    /// ```
     #[must_use]
     pub const fn remove_positional_mods(self) -> Modifiers {
         self.difference(Modifiers::LEFT_ALT.union(Modifiers::RIGHT_ALT))
@@ -213,6 +636,13 @@ impl Modifiers {
 
     /// Returns the number by which xterm's key sequences tell these modifiers: 1 for SHIFT plus 2 for ALT plus 4 for CTRL. Other flags
     /// don't count. The parameter in a sequence is one more than this number.
+    ///
+    /// ```
+    /// use hedrugal::input::Modifiers;
+    ///
+    /// assert_eq!((Modifiers::CTRL | Modifiers::SHIFT).encode_xterm(), 5);
+    /// ```
+    #[must_use]
     pub fn encode_xterm(self) -> u8 {
         u8::from(self.contains(Modifiers::SHIFT))
             + 2 * u8::from(self.contains(Modifiers::ALT))
@@ -221,6 +651,7 @@ impl Modifiers {
 }
 
 flags! {
+    "use hedrugal::input::MouseButtons as Flags;\nlet (a, b) = (Flags::LEFT, Flags::VERT_WHEEL);"
     /// A set of mouse buttons and wheels.
     MouseButtons: u8 {
         // numbers.txt: button flag
@@ -240,9 +671,11 @@ flags! {
         const WHEEL_POSITIVE = 64;
         // numbers.txt: end
     }
+    also named {}
 }
 
 flags! {
+    "use hedrugal::input::KittyKeyboardFlags as Flags;\nlet (a, b) = (Flags::DISAMBIGUATE_ESCAPE_CODES, Flags::REPORT_EVENT_TYPES);"
     /// What a program asks of a terminal in kitty's keyboard protocol.
     KittyKeyboardFlags: u16 {
         // numbers.txt: kitty flag
@@ -260,4 +693,5 @@ flags! {
         const REPORT_ASSOCIATED_TEXT = 16;
         // numbers.txt: end
     }
+    also named {}
 }

@@ -3,7 +3,15 @@
 /// A key: by the character that it types, or by its name.
 ///
 /// Terminals report only some of these keys; the rest are for programs that have keys from elsewhere, such as a window system.
+///
+/// ```
+/// use hedrugal::input::KeyCode;
+///
+/// assert_eq!(format!("{:?}", KeyCode::Function(5)), "Function(5)");
+/// assert_ne!(KeyCode::Char('a'), KeyCode::Char('A'));
+/// ```
 #[derive(Debug, Clone, Copy, PartialEq, Eq, PartialOrd, Ord, Hash)]
+#[cfg_attr(feature = "use_serde", derive(serde::Serialize, serde::Deserialize))]
 pub enum KeyCode {
     // numbers.txt: key variant
     /// A key that types a character: `A` is what Shift-A types, and Ctrl-C is `c` with CTRL.

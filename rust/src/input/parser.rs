@@ -1,10 +1,16 @@
 // The parser: bytes of a terminal to events.
 use super::{InputEvent, KeyCode, KeyEvent, Modifiers, MouseButtons, MouseEvent, FAULT};
 use crate::raw;
-use std::cell::UnsafeCell;
+use std::sync::{Mutex, MutexGuard, PoisonError};
 use std::{error, fmt};
 
 /// Memory was refused.
+///
+/// ```
+/// use hedrugal::input::AllocError;
+///
+/// assert_eq!(AllocError.to_string(), "out of memory");
+/// ```
 #[derive(Debug, Clone, Copy, PartialEq, Eq)]
 pub struct AllocError;
 
@@ -17,12 +23,18 @@ impl fmt::Display for AllocError {
 impl error::Error for AllocError {}
 
 /// A call of [`InputParser::try_parse`] was refused memory. The parser may be used again.
+///
+/// ```
+/// use hedrugal::input::ParseError;
+///
+/// assert_eq!(ParseError::Taken.to_string(), "input taken: out of memory");
+/// ```
 #[derive(Debug, Clone, Copy, PartialEq, Eq)]
 pub enum ParseError {
-    /// The bytes weren't taken: no event was given, and the parser is unchanged. Call again with the same bytes.
+    /// The bytes weren't buffered: no event was emitted, and the parser is unchanged. Call again with the same bytes.
     NotTaken,
-    /// The bytes were taken, and the events before a paste were given. Call again with no bytes and the same flag, or with the next bytes
-    /// if more may come: the paste comes first.
+    /// The bytes were buffered, and the events before a paste were emitted. Call again with no bytes and the same flag, or with the next
+    /// bytes if more may come: the paste comes first.
     Taken,
 }
 
@@ -38,11 +50,21 @@ impl fmt::Display for ParseError {
 impl error::Error for ParseError {}
 
 /// A call of [`InputParser::try_parse_as_vec`] was refused memory. The parser may be used again.
+///
+/// ```
+/// use hedrugal::input::ParseVecError;
+///
+/// let error = ParseVecError {
+///     events: Vec::new(),
+///     taken: false,
+/// };
+/// assert_eq!(error.to_string(), "input not taken: out of memory");
+/// ```
 #[derive(Debug, Clone, PartialEq, Eq)]
 pub struct ParseVecError {
-    /// The events so far. The parser doesn't give them again.
+    /// The events so far. The parser doesn't emit them again.
     pub events: Vec<InputEvent>,
-    /// Whether the bytes were taken. If not, call again with the same bytes. If they were, call again with no bytes and the same flag,
+    /// Whether the bytes were buffered. If not, call again with the same bytes. If they were, call again with no bytes and the same flag,
     /// or with the next bytes if more may come.
     pub taken: bool,
 }
@@ -57,6 +79,14 @@ impl fmt::Display for ParseVecError {
 impl error::Error for ParseVecError {}
 
 /// What stays buffered, as [`InputParser::waiting`] returns it. It says what a pause means.
+///
+/// ```
+/// use hedrugal::input::{InputParser, Waiting};
+///
+/// let mut parser = InputParser::new();
+/// parser.parse(b"\x1b[1;5", |_| {}, true);
+/// assert_eq!(parser.waiting(), Waiting::Sequence);
+/// ```
 #[derive(Clone, Copy, Debug, PartialEq, Eq, Hash)]
 pub enum Waiting {
     /// Nothing is buffered.
@@ -74,28 +104,47 @@ pub enum Waiting {
 }
 
 /// Reads events from the bytes that a terminal sends, however they are cut into calls.
+///
+/// ```
+/// use hedrugal::input::InputParser;
+///
+/// let mut parser = InputParser::new();
+/// assert!(parser.parse_as_vec(b"\x1b[", true).is_empty());
+/// assert_eq!(parser.parse_as_vec(b"A", true).len(), 1);
+/// ```
 pub struct InputParser {
-    // A parser that `tw_parser_init` made, and no other value has. The library writes to it also in calls that change nothing.
-    raw: UnsafeCell<raw::Parser>,
-    // The event that the library gave last, and whether this parser has yet to give it: it stays until memory for it is granted.
+    // A parser that `tw_parser_init` made. The library allows one thread at a time, also in calls that only read, so a call through a
+    // shared reference locks it.
+    raw: Mutex<raw::Parser>,
+    // The library's last event, and whether this parser has yet to emit it: it stays until memory for it is granted.
     front: raw::Event,
     has_front: bool,
 }
 
-// SAFETY: what the library's parser owns is reached through it alone, and the library keeps nothing that belongs to a thread.
-unsafe impl Send for InputParser {}
-
 impl InputParser {
     /// Makes a parser with an empty buffer.
+    ///
+    /// ```
+    /// use hedrugal::input::InputParser;
+    ///
+    /// assert_eq!(InputParser::new().waiting_len(), 0);
+    /// ```
     ///
     /// # Panics
     ///
     /// If memory is refused.
+    #[must_use]
     pub fn new() -> InputParser {
         InputParser::try_new().expect("a parser is made")
     }
 
     /// Makes a parser with an empty buffer.
+    ///
+    /// ```
+    /// use hedrugal::input::InputParser;
+    ///
+    /// assert!(InputParser::try_new().is_ok());
+    /// ```
     ///
     /// # Errors
     ///
@@ -107,7 +156,7 @@ impl InputParser {
             return Err(AllocError);
         }
         Ok(InputParser {
-            raw: UnsafeCell::new(raw),
+            raw: Mutex::new(raw),
             front: raw::Event::default(),
             has_front: false,
         })
@@ -119,6 +168,15 @@ impl InputParser {
     /// buffered. After a pause call [`InputParser::flush_escape`]. Pass false at the end of the input: then only an open paste stays.
     /// Call with no bytes and false to flush. Before the end this breaks a sequence or a character of which the rest is still to come.
     ///
+    /// ```
+    /// use hedrugal::input::InputParser;
+    ///
+    /// let mut parser = InputParser::new();
+    /// let mut count = 0;
+    /// parser.parse(b"ab\x1b[A", |_| count += 1, true);
+    /// assert_eq!(count, 3);
+    /// ```
+    ///
     /// # Panics
     ///
     /// If memory is refused.
@@ -128,9 +186,16 @@ impl InputParser {
 
     /// Does what [`InputParser::parse`] does.
     ///
+    /// ```
+    /// use hedrugal::input::InputParser;
+    ///
+    /// let mut parser = InputParser::new();
+    /// assert_eq!(parser.try_parse(b"q", |event| println!("{event:?}"), true), Ok(()));
+    /// ```
+    ///
     /// # Errors
     ///
-    /// If memory is refused. The error says whether the bytes were taken, and so how to go on; no event is lost.
+    /// If memory is refused. The error says whether the bytes were buffered, and so how to go on; no event is lost.
     pub fn try_parse<F: FnMut(InputEvent)>(&mut self, bytes: &[u8], mut callback: F, maybe_more: bool) -> Result<(), ParseError> {
         self.feed(bytes).map_err(|_| ParseError::NotTaken)?;
         while self.find_front(maybe_more).map_err(|_| ParseError::Taken)? {
@@ -141,18 +206,34 @@ impl InputParser {
 
     /// Returns the events with which [`InputParser::parse`] calls its callback.
     ///
+    /// ```
+    /// use hedrugal::input::InputParser;
+    ///
+    /// let mut parser = InputParser::new();
+    /// assert_eq!(parser.parse_as_vec(b"\x1b", true), []);
+    /// assert_eq!(parser.parse_as_vec(b"", false).len(), 1);
+    /// ```
+    ///
     /// # Panics
     ///
     /// If memory is refused.
+    #[must_use]
     pub fn parse_as_vec(&mut self, bytes: &[u8], maybe_more: bool) -> Vec<InputEvent> {
         self.try_parse_as_vec(bytes, maybe_more).expect("the input is parsed")
     }
 
     /// Returns the events with which [`InputParser::parse`] calls its callback.
     ///
+    /// ```
+    /// use hedrugal::input::InputParser;
+    ///
+    /// let mut parser = InputParser::new();
+    /// assert_eq!(parser.try_parse_as_vec(b"ab", true).map(|events| events.len()), Ok(2));
+    /// ```
+    ///
     /// # Errors
     ///
-    /// If memory is refused. The error has the events so far and says whether the bytes were taken, and so how to go on; no event is lost.
+    /// If memory is refused. The error has the events so far, and says whether the bytes were buffered; no event is lost.
     pub fn try_parse_as_vec(&mut self, bytes: &[u8], maybe_more: bool) -> Result<Vec<InputEvent>, ParseVecError> {
         let mut events = Vec::new();
         let taken = self.feed(bytes).is_ok();
@@ -162,16 +243,34 @@ impl InputParser {
         Err(ParseVecError { events, taken })
     }
 
-    /// Returns the number of bytes that wait. Those of a paste that was refused memory may no longer be among them.
+    /// Returns the number of bytes that are buffered. Those of a paste that was refused memory may no longer be among them.
+    ///
+    /// ```
+    /// use hedrugal::input::InputParser;
+    ///
+    /// let mut parser = InputParser::new();
+    /// parser.parse(b"a\x1b[1", |_| {}, true);
+    /// assert_eq!(parser.waiting_len(), 3);
+    /// ```
+    #[must_use]
     pub fn waiting_len(&self) -> usize {
-        // SAFETY: `raw` is a parser.
-        unsafe { raw::tw_parser_waiting(self.raw.get()) }
+        // SAFETY: `raw` is a parser, which this thread alone has.
+        unsafe { raw::tw_parser_waiting(&mut *self.locked()) }
     }
 
     /// Returns what stays buffered, once a call that parses has succeeded.
+    ///
+    /// ```
+    /// use hedrugal::input::{InputParser, Waiting};
+    ///
+    /// let mut parser = InputParser::new();
+    /// parser.parse(b"\x1b", |_| {}, true);
+    /// assert_eq!(parser.waiting(), Waiting::Escape);
+    /// ```
+    #[must_use]
     pub fn waiting(&self) -> Waiting {
-        // SAFETY: `raw` is a parser.
-        match unsafe { raw::tw_parser_waiting_kind(self.raw.get()) } {
+        // SAFETY: `raw` is a parser, which this thread alone has.
+        match unsafe { raw::tw_parser_waiting_kind(&mut *self.locked()) } {
             raw::WAITING_NOTHING => Waiting::Nothing,
             raw::WAITING_ESCAPE => Waiting::Escape,
             raw::WAITING_SEQUENCE => Waiting::Sequence,
@@ -186,22 +285,45 @@ impl InputParser {
     ///
     /// Call it when some 50 ms have passed without a byte. Whatever else is buffered stays, so a pause breaks only what is cut right after
     /// its ESC or ESC ESC: a sequence, the start of a paste, or a key with Alt.
+    ///
+    /// ```
+    /// use hedrugal::input::{InputEvent, InputParser, KeyCode, KeyEvent, Modifiers};
+    ///
+    /// let mut parser = InputParser::new();
+    /// parser.parse(b"\x1b\x1b", |_| {}, true);
+    /// let escape = KeyEvent {
+    ///     key: KeyCode::Escape,
+    ///     modifiers: Modifiers::ALT,
+    /// };
+    /// assert_eq!(parser.flush_escape(), Some(InputEvent::Key(escape)));
+    /// assert_eq!(parser.flush_escape(), None);
+    /// ```
+    #[must_use]
     pub fn flush_escape(&mut self) -> Option<InputEvent> {
         // An event that was refused memory comes before what is buffered.
         if self.has_front {
             return None;
         }
         // SAFETY: `raw` is a parser, and `front` another value.
-        let found = unsafe { raw::tw_parser_flush_escape(self.raw.get(), &mut self.front) };
+        let found = unsafe { raw::tw_parser_flush_escape(self.raw(), &mut self.front) };
         let has_escape = is_event(found).expect(FAULT);
         has_escape.then(|| self.event().expect(FAULT))
     }
 
-    /// Returns whether the waiting text begins with the start of a paste. Such a paste is buffered without limit until its end arrives:
+    /// Returns whether the buffer begins with the start of a paste. Such a paste is buffered without limit until its end arrives:
     /// with a limit, say 1 MB, call [`InputParser::end_paste`] once [`InputParser::waiting_len`] is above it.
+    ///
+    /// ```
+    /// use hedrugal::input::InputParser;
+    ///
+    /// let mut parser = InputParser::new();
+    /// parser.parse(b"\x1b[200~te", |_| {}, true);
+    /// assert!(parser.is_paste_open());
+    /// ```
+    #[must_use]
     pub fn is_paste_open(&self) -> bool {
-        // SAFETY: `raw` is a parser.
-        unsafe { raw::tw_parser_is_paste_open(self.raw.get()) }
+        // SAFETY: `raw` is a parser, which this thread alone has.
+        unsafe { raw::tw_parser_is_paste_open(&mut *self.locked()) }
     }
 
     /// Ends an open paste where it is: returns a `Paste` of the text that came so far, and consumes all that is buffered. Returns `None`
@@ -210,14 +332,31 @@ impl InputParser {
     /// The rest of the paste then arrives as typed keys, Enter included, and its end as [`KeyCode::InternalPasteEnd`]. If the text ended
     /// inside that, the rest of it is typed keys too.
     ///
+    /// ```
+    /// use hedrugal::input::{InputEvent, InputParser};
+    ///
+    /// let mut parser = InputParser::new();
+    /// parser.parse(b"\x1b[200~te", |_| {}, true);
+    /// assert_eq!(parser.end_paste(), Some(InputEvent::Paste("te".to_string())));
+    /// assert_eq!(parser.end_paste(), None);
+    /// ```
+    ///
     /// # Panics
     ///
     /// If memory is refused.
+    #[must_use]
     pub fn end_paste(&mut self) -> Option<InputEvent> {
         self.try_end_paste().expect("the paste is ended")
     }
 
     /// Does what [`InputParser::end_paste`] does.
+    ///
+    /// ```
+    /// use hedrugal::input::InputParser;
+    ///
+    /// let mut parser = InputParser::new();
+    /// assert_eq!(parser.try_end_paste(), Ok(None));
+    /// ```
     ///
     /// # Errors
     ///
@@ -225,7 +364,7 @@ impl InputParser {
     pub fn try_end_paste(&mut self) -> Result<Option<InputEvent>, AllocError> {
         if !self.has_front {
             // SAFETY: `raw` is a parser, and `front` another value.
-            self.has_front = is_event(unsafe { raw::tw_parser_end_paste(self.raw.get(), &mut self.front) })?;
+            self.has_front = is_event(unsafe { raw::tw_parser_end_paste(self.raw(), &mut self.front) })?;
         }
         // A paste that was refused memory before is at the front, where another call left it.
         if self.has_front && self.front.kind == raw::KIND_PASTE {
@@ -239,19 +378,38 @@ impl InputParser {
     /// buffered, as [`InputParser::waiting_len`] counts them.
     ///
     /// Call it where earlier bytes no longer count, as after another program had the terminal.
+    ///
+    /// ```
+    /// use hedrugal::input::InputParser;
+    ///
+    /// let mut parser = InputParser::new();
+    /// parser.parse(b"\x1b[200~te", |_| {}, true);
+    /// assert_eq!(parser.reset(), 8);
+    /// assert_eq!(parser.waiting_len(), 0);
+    /// ```
     pub fn reset(&mut self) -> usize {
         self.has_front = false;
         // SAFETY: `raw` is a parser. The library may still have the text of a paste that was refused memory.
         unsafe {
-            raw::tw_parser_drop_paste(self.raw.get());
-            raw::tw_parser_reset(self.raw.get())
+            raw::tw_parser_drop_paste(self.raw());
+            raw::tw_parser_reset(self.raw())
         }
     }
 
-    // Appends bytes to the waiting text.
+    // The library's parser, for a call that reads. Only a fault of the library panics while it is locked.
+    fn locked(&self) -> MutexGuard<'_, raw::Parser> {
+        self.raw.lock().unwrap_or_else(PoisonError::into_inner)
+    }
+
+    // The library's parser, for a call that has this one alone.
+    fn raw(&mut self) -> &mut raw::Parser {
+        self.raw.get_mut().unwrap_or_else(PoisonError::into_inner)
+    }
+
+    // Appends bytes to the buffer.
     fn feed(&mut self, bytes: &[u8]) -> Result<(), AllocError> {
         // SAFETY: `raw` is a parser. A slice's pointer isn't null, also if the slice is empty, and leads to as many bytes.
-        let fed = unsafe { raw::tw_parser_feed(self.raw.get(), bytes.as_ptr(), bytes.len()) };
+        let fed = unsafe { raw::tw_parser_feed(self.raw(), bytes.as_ptr(), bytes.len()) };
         if fed {
             Ok(())
         } else {
@@ -263,7 +421,7 @@ impl InputParser {
     fn find_front(&mut self, maybe_more: bool) -> Result<bool, AllocError> {
         if !self.has_front {
             // SAFETY: `raw` is a parser, and `front` another value.
-            self.has_front = is_event(unsafe { raw::tw_parser_next(self.raw.get(), maybe_more, &mut self.front) })?;
+            self.has_front = is_event(unsafe { raw::tw_parser_next(self.raw(), maybe_more, &mut self.front) })?;
         }
         Ok(self.has_front)
     }
@@ -275,7 +433,7 @@ impl InputParser {
         Ok(event)
     }
 
-    // Moves the events of the waiting text to a list. There is room for an event before it leaves the parser.
+    // Moves the events of the buffered bytes to a list. There is room for an event before it leaves the parser.
     fn store_events(&mut self, events: &mut Vec<InputEvent>, maybe_more: bool) -> Result<(), AllocError> {
         while self.find_front(maybe_more)? {
             events.try_reserve(1).map_err(|_| AllocError)?;
@@ -285,8 +443,8 @@ impl InputParser {
     }
 
     // The event at the front.
-    fn event(&self) -> Result<InputEvent, AllocError> {
-        let event = &self.front;
+    fn event(&mut self) -> Result<InputEvent, AllocError> {
+        let event = self.front;
         let modifiers = Modifiers::from_bits(event.modifiers).expect(FAULT);
         Ok(match event.kind {
             raw::KIND_KEY => InputEvent::Key(KeyEvent {
@@ -304,16 +462,16 @@ impl InputParser {
         })
     }
 
-    // The text of the paste that the library gave last. Once it is copied, the library keeps it no longer.
-    fn pasted(&self, len: usize) -> Result<String, AllocError> {
+    // The text of the last paste. Once it is copied, the library keeps it no longer.
+    fn pasted(&mut self, len: usize) -> Result<String, AllocError> {
         let mut text = Vec::new();
         text.try_reserve_exact(len).map_err(|_| AllocError)?;
         text.resize(len, 0);
         // SAFETY: `raw` is a parser. A vector's pointer isn't null, and leads to as many bytes, which no other value has.
-        let whole = unsafe { raw::tw_parser_paste(self.raw.get(), text.as_mut_ptr(), text.len()) };
+        let whole = unsafe { raw::tw_parser_paste(self.raw(), text.as_mut_ptr(), text.len()) };
         assert_eq!(whole, len, "{FAULT}");
         // SAFETY: `raw` is a parser.
-        unsafe { raw::tw_parser_drop_paste(self.raw.get()) };
+        unsafe { raw::tw_parser_drop_paste(self.raw()) };
         Ok(String::from_utf8(text).expect(FAULT))
     }
 }
@@ -337,7 +495,7 @@ impl Default for InputParser {
 impl Drop for InputParser {
     fn drop(&mut self) {
         // SAFETY: `raw` is a parser, and isn't used again.
-        unsafe { raw::tw_parser_free(self.raw.get()) }
+        unsafe { raw::tw_parser_free(self.raw()) }
     }
 }
 

@@ -1,6 +1,6 @@
 // The texts of keys, on worked examples.
 use crate::names::PLAIN_KEYS;
-use termwiz::input::{EncodeError, KeyCode, KeyCodeEncodeModes, KeyboardEncoding, KittyKeyboardFlags, Modifiers, CSI, SS3};
+use hedrugal::input::{EncodeError, KeyCode, KeyCodeEncodeModes, KeyboardEncoding, KittyKeyboardFlags, Modifiers, CSI, SS3};
 
 // A key that is pressed, the modifiers that are held, and the text.
 type Example = (KeyCode, Modifiers, &'static str);

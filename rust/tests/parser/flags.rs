@@ -1,6 +1,7 @@
 // The sets of flags.
+use crate::names::{BUTTONS, MODIFIERS};
+use hedrugal::input::{KittyKeyboardFlags, Modifiers, MouseButtons};
 use std::collections::BTreeSet;
-use termwiz::input::{KittyKeyboardFlags, Modifiers, MouseButtons};
 
 // Tries the operations of a type on every pair of sets of at most two flags. A model of a set is the set of its bits' places.
 macro_rules! tries_pairs {
@@ -102,12 +103,14 @@ fn changes_sets() {
     assert_eq!(set, CTRL);
 }
 
-// No set has a bit without a name.
 #[test]
-fn refuses_bits_without_a_name() {
+fn drops_or_keeps_bits_without_a_name() {
     assert_eq!(Modifiers::from_bits(1), None);
     assert_eq!(Modifiers::from_bits(2), Some(SHIFT));
     assert_eq!(Modifiers::from_bits_truncate(0xf003), SHIFT);
+    assert_eq!(Modifiers::from_bits_retain(0xf003).bits(), 0xf003);
+    assert_eq!((!Modifiers::from_bits_retain(0xf000)).bits(), 0x0ffe);
+    assert!(!Modifiers::from_bits_retain(1).is_empty() && Modifiers::from_bits_retain(0xffff).is_all());
     assert_eq!(Modifiers::all().bits(), 0x0ffe);
     assert_eq!(MouseButtons::all().bits(), 0x7e);
     assert_eq!(MouseButtons::from_bits(0x80), None);
@@ -119,13 +122,123 @@ fn refuses_bits_without_a_name() {
 }
 
 #[test]
-fn shows_names() {
-    assert_eq!(format!("{:?}", SHIFT | CTRL), "SHIFT | CTRL");
-    assert_eq!(format!("{:?}", Modifiers::NONE), "NONE");
+fn finds_flags_by_name() {
+    for (name, flag) in MODIFIERS {
+        assert_eq!(Modifiers::from_name(name), Some(*flag), "{name}");
+    }
+    for (name, flag) in BUTTONS {
+        assert_eq!(MouseButtons::from_name(name), Some(*flag), "{name}");
+    }
+    assert_eq!(Modifiers::from_name("NONE"), Some(Modifiers::NONE));
     assert_eq!(
-        format!("{:?}", MouseButtons::VERT_WHEEL | MouseButtons::WHEEL_POSITIVE),
-        "VERT_WHEEL | WHEEL_POSITIVE"
+        KittyKeyboardFlags::from_name("REPORT_EVENT_TYPES"),
+        Some(KittyKeyboardFlags::REPORT_EVENT_TYPES)
     );
+    for name in ["", "shift", "SHIFT ", "SHIFT|CTRL", "CMD", "LEFT"] {
+        assert_eq!(Modifiers::from_name(name), None, "{name}");
+    }
+}
+
+#[test]
+fn iterates() {
+    let unnamed = Modifiers::from_bits_retain(0x8001);
+    let set = CTRL | unnamed | SHIFT;
+    assert_eq!(set.iter().collect::<Vec<_>>(), [SHIFT, CTRL, unnamed]);
+    assert_eq!(set.into_iter().collect::<Vec<_>>(), [SHIFT, CTRL, unnamed]);
+    assert_eq!(set.iter_names().collect::<Vec<_>>(), [("SHIFT", SHIFT), ("CTRL", CTRL)]);
+    assert_eq!(Modifiers::all().iter_names().collect::<Vec<_>>(), MODIFIERS);
+    assert_eq!(MouseButtons::all().iter_names().collect::<Vec<_>>(), BUTTONS);
+    assert_eq!((Modifiers::NONE.iter().next(), Modifiers::NONE.iter_names().next()), (None, None));
+    let mut names = set.iter_names();
+    assert_eq!(names.by_ref().count(), 2);
+    assert_eq!(names.remaining(), &unnamed);
+    let mut flags = set.iter();
+    assert_eq!((flags.by_ref().count(), flags.next()), (3, None));
+}
+
+#[test]
+fn collects() {
+    assert_eq!([SHIFT, CTRL, SHIFT].into_iter().collect::<Modifiers>(), SHIFT | CTRL);
+    assert_eq!(Modifiers::from_iter([]), Modifiers::NONE);
+    let mut set = SHIFT;
+    set.extend([CTRL, Modifiers::ALT]);
+    assert_eq!(set, SHIFT | CTRL | Modifiers::ALT);
+    for bits in (0..=u16::MAX).step_by(13) {
+        let set = Modifiers::from_bits_retain(bits);
+        assert_eq!(set.iter().collect::<Modifiers>(), set);
+    }
+}
+
+#[test]
+fn shows_names() {
+    let wheel = MouseButtons::VERT_WHEEL | MouseButtons::WHEEL_POSITIVE;
+    let shown = [
+        format!("{:?}", SHIFT | CTRL),
+        format!("{:?}", Modifiers::NONE),
+        format!("{:?}", Modifiers::from_bits_retain(0x8003)),
+        format!("{:?}", Modifiers::from_bits_retain(1)),
+        format!("{wheel:?}"),
+        format!("{:#?}", SHIFT | CTRL),
+        format!("{} {} {wheel}", SHIFT | CTRL, Modifiers::NONE),
+        Modifiers::from_bits_retain(0x8003).to_string(),
+        String::from(&CTRL),
+    ];
+    assert_eq!(
+        shown,
+        [
+            "Modifiers(SHIFT | CTRL)",
+            "Modifiers(0x0)",
+            "Modifiers(SHIFT | 0x8001)",
+            "Modifiers(0x1)",
+            "MouseButtons(VERT_WHEEL | WHEEL_POSITIVE)",
+            "Modifiers(\n    SHIFT | CTRL,\n)",
+            "SHIFT|CTRL NONE VERT_WHEEL|WHEEL_POSITIVE",
+            "SHIFT|0x8001",
+            "CTRL",
+        ]
+    );
+}
+
+#[test]
+fn shows_numbers() {
+    let set = SHIFT | CTRL;
+    assert_eq!(format!("{set:x} {set:X} {set:o} {set:b}"), "a A 12 1010");
+    assert_eq!(format!("{set:#06x} {set:#X} {set:#o} {set:#b}"), "0x000a 0xA 0o12 0b1010");
+    assert_eq!(format!("{:x} {:b}", MouseButtons::RIGHT, KittyKeyboardFlags::all()), "4 11111");
+}
+
+#[test]
+fn reads_names() {
+    for bits in (0..=u16::MAX).step_by(13) {
+        let set = Modifiers::from_bits_retain(bits);
+        assert_eq!(set.to_string().parse(), Ok(set));
+    }
+    for (text, set) in [
+        ("", Modifiers::NONE),
+        (" ", Modifiers::NONE),
+        ("NONE", Modifiers::NONE),
+        ("CTRL|SHIFT", SHIFT | CTRL),
+        (" SHIFT | CTRL ", SHIFT | CTRL),
+        ("META|CMD", Modifiers::ALT | Modifiers::SUPER),
+        ("OPT|WIN", Modifiers::ALT | Modifiers::SUPER),
+        ("0xa", SHIFT | CTRL),
+        ("NONE|LEADER", Modifiers::LEADER),
+    ] {
+        assert_eq!(text.parse(), Ok(set), "{text}");
+        assert_eq!(Modifiers::try_from(text.to_string()), Ok(set), "{text}");
+    }
+    for (text, name) in [
+        ("SHFT", "SHFT"),
+        ("SHIFT|", ""),
+        ("CTRL|shift", "shift"),
+        ("0x", "0x"),
+        ("0x10000", "0x10000"),
+    ] {
+        let error = text.parse::<Modifiers>().expect_err(text);
+        assert_eq!(error.to_string(), format!("no flag is named {name}"));
+        assert_eq!(Modifiers::try_from(text.to_string()), Err(error.to_string()));
+    }
+    assert!("CMD".parse::<MouseButtons>().is_err());
 }
 
 #[test]

@@ -1,6 +1,6 @@
 // Events as keyshow's lines, and what is read back from such lines.
 use crate::names::{BUTTONS, MODIFIERS, PLAIN_KEYS};
-use termwiz::input::{InputEvent, KeyCode, KeyEvent, Modifiers, MouseButtons};
+use hedrugal::input::{InputEvent, KeyCode, KeyEvent, Modifiers, MouseButtons};
 
 // The names that are in a set, joined by +.
 fn joined(names: impl Iterator<Item = &'static str>) -> String {

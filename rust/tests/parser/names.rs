@@ -1,5 +1,5 @@
 // The flags and the keys by their names.
-use termwiz::input::{KeyCode, Modifiers, MouseButtons};
+use hedrugal::input::{KeyCode, Modifiers, MouseButtons};
 
 pub const MODIFIERS: &[(&str, Modifiers)] = &[
     // numbers.txt: modifier named

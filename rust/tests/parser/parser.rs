@@ -1,7 +1,7 @@
 // The parser on worked examples.
 use crate::examples::{Example, Step, CARRIED, CUTS, KEYS, MOUSE_REPORTS, PASTES};
 use crate::lines::lines;
-use termwiz::input::{InputEvent, InputParser, KeyCode, KeyEvent, Modifiers};
+use hedrugal::input::{InputEvent, InputParser, KeyCode, KeyEvent, Modifiers};
 
 // What a call gave, and how many bytes wait after it.
 fn given(events: &[InputEvent], parser: &InputParser) -> String {

@@ -1,8 +1,8 @@
 // What termwiz 0.23.3 answered, as crates/replay/data has it: each recorded text, fed in every way that was recorded.
 use crate::lines::{bytes, hex, key_named, lines, modifiers_named};
+use hedrugal::input::{EncodeError, InputEvent, InputParser, KeyCode, KeyCodeEncodeModes, KeyboardEncoding, Modifiers};
 use std::fs;
 use std::path::Path;
-use termwiz::input::{EncodeError, InputEvent, InputParser, KeyCode, KeyCodeEncodeModes, KeyboardEncoding, Modifiers};
 
 pub fn data(file: &str) -> String {
     let path = Path::new(env!("CARGO_MANIFEST_DIR")).join("../crates/replay/data").join(file);

@@ -6,12 +6,12 @@
 use crate::draws::Draws;
 use crate::lines::{hex, line};
 use crate::recorded::data;
+use hedrugal::input::{InputEvent, InputParser};
 use std::io::Write;
 use std::path::PathBuf;
 use std::process::{Command, Stdio};
 use std::sync::Mutex;
 use std::{env, thread};
-use termwiz::input::{InputEvent, InputParser};
 
 const PIECES: &[usize] = &[1, 7, 64];
 

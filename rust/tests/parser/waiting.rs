@@ -2,7 +2,7 @@
 use crate::draws::Draws;
 use crate::lines::{hex, lines};
 use crate::recorded::data;
-use termwiz::input::{InputEvent, InputParser, Waiting};
+use hedrugal::input::{InputEvent, InputParser, Waiting};
 
 const PASTE_START: &[u8] = b"\x1b[200~";
 

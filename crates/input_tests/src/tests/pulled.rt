@@ -1,9 +1,10 @@
-// The calls that give one event at a time: `feed` and `next_event`.
+// The calls by which a program pulls its events: `feed`, `next_event` and the loop over it; and lookups in the sequence table.
 use super::line::line_of;
-use super::{InputEvent, InputParser, LAST, MORE};
+use super::{InputEvent, InputParser, KeyCode, KeyEvent, LAST, MORE, Modifiers};
 use std::alloc::{AllocError, Global};
 use std::process::Abort;
 use std::test::Fail;
+use termwiz_input::keymap::Found;
 use termwiz_input::laws::few_events;
 
 // The events of the waiting text and these bytes, one call of `next_event` for each.
@@ -59,4 +60,98 @@ fn takes_one_item_at_a_time(rt: HostRuntime) -> Result<(), Fail> {
     check_next(&rt, alloc, &mut parser, MORE, "waits 1")?;
     check_next(&rt, alloc, &mut parser, LAST, "Escape")?;
     check_next(&rt, alloc, &mut parser, LAST, "")
+}
+
+// The lines of the events that the loop over `next_event` emits, one after another, and of what waits after them.
+fn looped(
+    rt: &impl Abort,
+    alloc: Global,
+    parser: &mut InputParser,
+    more: bool,
+) -> Result<String, Fail> {
+    let mut events = Vec::new(alloc);
+    let mut refused = false;
+    parser.for_each_event(
+        &mut |event| {
+            refused = events.push(event).is_err() || refused;
+        },
+        more,
+    )?;
+    assert!(rt; !refused);
+    Ok(line_of(alloc, events.as_slice(), parser)?)
+}
+
+#[test]
+fn loops_over_all_items(rt: HostRuntime) -> Result<(), Fail> {
+    let alloc = rt.alloc();
+    let mut parser = InputParser::new(alloc)?;
+    assert_eq!(rt; looped(&rt, alloc, &mut parser, MORE)?.as_str(), "");
+    parser.feed(b"a\x1b[A\x1b[200~b\x1b[201~\x1b")?;
+    assert_eq!(rt;
+        looped(&rt, alloc, &mut parser, MORE)?.as_str(),
+        "a, UpArrow, Paste(b), waits 1"
+    );
+    assert_eq!(rt; looped(&rt, alloc, &mut parser, LAST)?.as_str(), "Escape");
+    Ok(())
+}
+
+// A lookup answers with the length of a row, and its key.
+fn check_row(
+    rt: &impl Abort,
+    parser: &InputParser,
+    bytes: &[u8],
+    len: usize,
+    key: KeyCode,
+    modifiers: Modifiers,
+) {
+    let event = KeyEvent { key, modifiers };
+    assert_eq!(rt; parser.lookup(bytes, LAST), Found::Exact(len, &event));
+}
+
+#[test]
+fn looks_rows_up(rt: HostRuntime) -> Result<(), Fail> {
+    let parser = InputParser::new(rt.alloc())?;
+    check_row(
+        &rt,
+        &parser,
+        b"\x1b[Aq",
+        3,
+        KeyCode::UpArrow,
+        Modifiers::NONE,
+    );
+    check_row(
+        &rt,
+        &parser,
+        b"\x1b[1;5A",
+        6,
+        KeyCode::UpArrow,
+        Modifiers::CTRL,
+    );
+    check_row(
+        &rt,
+        &parser,
+        b"\x1b[1;5",
+        2,
+        KeyCode::Char('['),
+        Modifiers::ALT,
+    );
+    check_row(
+        &rt,
+        &parser,
+        b"\x1b[200~",
+        6,
+        KeyCode::InternalPasteStart,
+        Modifiers::NONE,
+    );
+    let escape = KeyEvent {
+        key: KeyCode::Escape,
+        modifiers: Modifiers::NONE,
+    };
+    assert_eq!(rt; parser.lookup(b"\x1b", MORE), Found::Ambiguous(1, &escape));
+    assert_eq!(rt; parser.lookup(b"\x1bq", MORE), Found::Exact(1, &escape));
+    assert_eq!(rt; parser.lookup(b"q", MORE), Found::None);
+    assert_eq!(rt; parser.lookup(b"\xc3", MORE), Found::None);
+    assert_eq!(rt; parser.lookup(b"", MORE), Found::NeedData);
+    assert_eq!(rt; parser.waiting_len(), 0);
+    Ok(())
 }

@@ -1,2 +1,3 @@
 pub mod CallSequence
+pub mod KeysFromPieces
 pub mod NumberedEvents

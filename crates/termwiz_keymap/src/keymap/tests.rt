@@ -33,8 +33,9 @@ fn filled_backwards(alloc: Global, case: &Case) -> Result<KeyMap<bool>, AllocErr
     Ok(map)
 }
 
-// Checks the answers of a map.
+// Checks the answers of a map, and the number of its keys.
 fn check_answers(rt: &impl Abort, map: &KeyMap<bool>, case: &Case) {
+    assert_eq!(rt; map.len(), case.entries.len());
     for (text, maybe_more, answer) in case.lookups {
         assert_eq!(rt; map.lookup(text, *maybe_more), *answer);
     }

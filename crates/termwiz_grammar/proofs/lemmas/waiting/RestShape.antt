@@ -12,8 +12,9 @@ use Rattle.termwiz_grammar.specs.Sequences.Meaning.{Row, Report}
 use Rattle.termwiz_grammar.specs.Grammar.{Head, IsHead, IsLongest, IsOpen, IsAfterEscape, replacement, bytes_of, IsKey, IsApart, Item, Stands, IsRest}
 use Rattle.termwiz_grammar.specs.Grammar.Head.{Sequence, Character, Broken}
 use Rattle.termwiz_grammar.specs.Grammar.Item.{key, char, broken, mouse, paste, lone_escape, alt}
-use Rattle.termwiz_grammar.specs.Laws.{EmptyIsRest, OneMeaning, WaitingShape, Waits}
+use Rattle.termwiz_grammar.specs.Laws.{EmptyIsRest, IsHeldEscape, OneMeaning, WaitingShape, Waits}
 use Rattle.termwiz_grammar.specs.Laws.Waits.{nothing, open_paste, undecided}
+use Rattle.termwiz_grammar.specs.WaitingKinds.{IsShortOrOpenPaste}
 use Rattle.termwiz_keymap.proofs.lemmas.lists.CommonPrefixes.{append-some_left, length-some}
 use Rattle.termwiz_grammar.proofs.lemmas.table.SequenceFacts.{sequence_once, escape_is_sequence}
 use Rattle.termwiz_grammar.proofs.lemmas.characters.CharacterPrefixes.{beginning_short}
@@ -145,6 +146,22 @@ flushed W rest = go (waiting_shape W false rest)
 
 pub rest_flushed : (W : List ℕ) (more : Bool) → IsRest W more → more ≡ false → (W ≡ []) ⊎ Begins START W
 rest_flushed W more rest last = flushed W (subst (IsRest W) last rest)
+
+held_one : (held : List ℕ) → IsHeldEscape held → length held ≤ 1
+held_one held is = ⊎_elim
+    (λ (none : held ≡ []). omega (arith, ap length none))
+    (λ (one : held ≡ ESC). omega (arith, ap length one))
+    is
+
+-- what waits is short, or an open paste
+pub rest_short : (W : List ℕ) (more : Bool) → IsRest W more → IsShortOrOpenPaste W
+rest_short W more rest = go (waiting_shape W more rest)
+  where
+    go : Waits W more → IsShortOrOpenPaste W
+    go (nothing e) = inl (omega (arith, ap length e))
+    go (open_paste body e never) = inr (record { body = body; splits = e; endless = never })
+    go (undecided held bytes is e n u short m) =
+        inl (omega (arith, ap length e, length-append held bytes, held_one held is, short))
 
 meaning_within : (n : ℕ) (T : List ℕ) (f : Bool) → length T ≤ n → (E : List InputEvent) × (W : List ℕ) × Read T f E W
 meaning_within zero [] f l = go (settle [] f)

@@ -1,12 +1,14 @@
--- The item of what is at the front of a text.
-use Rattle.std.proofs.Common.{◌≡◌, ℕ, Bool, List, [], ◌∷◌, ◌++◌, length-take-le, take, drop, sym, refl, arith, take-append-drop, Option, Result, Ok, Err, IsErr}
+-- The item of what is at the front of a text, and what is left if there is none.
+use Rattle.std.proofs.Common.{◌≡◌, ℕ, Bool, List, [], ◌∷◌, ◌++◌, length-take-le, take, drop, sym, refl, arith, take-append-drop, Option, Some, None, Result, Ok, Err, IfOk, IfNone, IsErr, subst}
 use Rattle.termwiz_keys.specs.declared.types.InputEvent.{InputEvent}
 use Rattle.termwiz_grammar.specs.Grammar.{HasItem, Steps}
+use Rattle.termwiz_grammar.specs.WaitingKinds.{IsShortOrOpenPaste}
 use Rattle.termwiz_grammar.proofs.lemmas.cuts.ChunkInvariance.{steps_join}
 use Rattle.termwiz_grammar.proofs.lemmas.items.ItemStable.{item_some}
+use Rattle.termwiz_grammar.proofs.lemmas.waiting.RestShape.{rest_short}
 use Rattle.termwiz_keymap.proofs.lemmas.lists.CommonPrefixes.{length-some}
 use Rattle.termwiz_input.specs.Matches.{IsItemAt}
-use Rattle.termwiz_input.specs.Fronts.{IsRun, IsStored, Stores}
+use Rattle.termwiz_input.specs.Fronts.{Emits, IsRun, IsStored, Stores}
 
 pub run_there : (u run : List ℕ) (more : Bool) → IsRun u run → HasItem u more
 run_there u run more is = (take 1 u, _, (is.first more).1)
@@ -32,3 +34,11 @@ pub refused_store : {F : Type 0} (u : List ℕ) (more : Bool) (before after : Li
     → IsErr result → HasItem u more → after ≡ before → Stores u more before after result
 refused_store u more before after (Ok found) is item same = absurd (cc (is))
 refused_store u more before after (Err fault) is item same = grind arith
+
+-- what is left if no item is there
+pub left_short : {F : Type 0} (u left : List ℕ) (more : Bool) (result : Result (Option InputEvent) F)
+    → Emits u more left result → IfOk result (λ found. IfNone found (IsShortOrOpenPaste left))
+left_short u left more (Ok None) emits =
+    subst IsShortOrOpenPaste (sym emits.none_same) (rest_short u more emits.none)
+left_short u left more (Ok (Some event)) emits = tt
+left_short u left more (Err fault) emits = tt

@@ -1,12 +1,12 @@
 -- The keys of ascending rows in the map that the rows make, and what an edit of the rows does to the map.
-use Rattle.std.proofs.Common.{◌≡◌, ◌≢◌, ◌∙◌, ◌<◌, ◌≤◌, ⊎_elim, ℕ, zero, suc, Bool, true, false, cond, List, [], ◌∷◌, ◌++◌, length, take, drop, set, get_or, nat_eq, refl, sym, ap, ap₂, subst, arith, take-append-drop}
+use Rattle.std.proofs.Common.{◌≡◌, ◌≢◌, ◌∙◌, ◌<◌, ◌≤◌, ◌+◌, ⊎_elim, ℕ, zero, suc, Bool, true, false, cond, List, [], ◌∷◌, ◌++◌, length, take, drop, set, get_or, nat_eq, refl, sym, ap, ap₂, subst, arith, take-append-drop}
 use Rattle.std.specs.Prelude.{Option, Some, None, IsSome, is_some}
 use Rattle.std.specs.Option.{option_or}
 use Rattle.std.specs.List.{insert}
 use Rattle.std.specs.Ordering.{nat_cmp}
 use Rattle.std.specs.Cmp.Lexicographic.{slice_cmp, pointwise, same_text}
 use Rattle.std.specs.FinMap as map
-use Rattle.std.proofs.lemmas.Cmp.{nat_list_eq_equiv}
+use Rattle.std.proofs.lemmas.Cmp.{nat_list_cmp_total, nat_list_eq_equiv}
 use Rattle.std.proofs.lemmas.Bool.{cases_lt}
 use Rattle.std.proofs.lemmas.List.{get_or-map, get_or-take, take-map, drop-map, map-append, map-set, length-map, length-take-le}
 use Rattle.termwiz_keymap.specs.declared.keymap.row.Row.{Row}
@@ -57,6 +57,19 @@ module _ {V : Type 0} where
         | false ↦ λ other. find_later k (key_of x) (value_of x) (row_entries rows) other
             ∙ stored rows (λ a b s lt within. up (suc a) (suc b) s (omega arith) (omega arith)) i r (omega arith)
       ] refl
+
+  -- ascending rows make a map of as many keys
+  pub counted : (rows : List (Row V)) → AreAscending rows
+      → map.len (map.from_entries {R = slice_cmp nat_cmp} (row_entries rows)) ≡ length rows
+  counted [] up = map.len-empty (slice_cmp nat_cmp) V
+  counted (x ∷ rows) up =
+      let k = key_of x in let m = map.from_entries {R = slice_cmp nat_cmp} (row_entries rows) in
+      let new : map.get m k ≡ None = get-entries (row_entries rows) k ∙ absent rows k (λ i r inside same. not_itself k
+      (subst (λ (y : List ℕ). Before k y) same (up 0 (suc i) r (omega arith) (omega arith)))) in
+      map.len-insert nat_list_cmp_total m k (value_of x)
+      ∙ ap (λ o. cond (is_some o) (map.len m) (map.len m + 1)) new
+      ∙ ap (λ n. n + 1) (counted rows (λ a b s lt within. up (suc a) (suc b) s (omega arith) (omega arith)))
+      ∙ omega arith
 
   put_in : (b : Bool) (v : V) (o p : Option V) → (b ≡ true → o ≡ None)
       → option_or o (cond b (Some v) p) ≡ cond b (Some v) (option_or o p)

@@ -3,11 +3,12 @@ use Rattle.std.proofs.lemmas.List.{nil_from_length, get_or-map}
 use Rattle.std.proofs.lemmas.Bool.Decides.{nat_tests}
 use Rattle.termwiz_input.specs.declared.input.ParseError.{ParseError}
 use Rattle.termwiz_input.specs.declared.input.ParseError.TheVariants.{NotTaken, Taken}
-use Rattle.termwiz_grammar.specs.Grammar.{IsRest}
-use Rattle.termwiz_input.specs.Pieces.{numbered}
+use Rattle.termwiz_grammar.specs.Grammar.{IsRest, Means}
+use Rattle.termwiz_input.specs.Pieces.{AreNumbered, events_of, join, numbered, pieces_or_one, texts}
 use Rattle.termwiz_input.proofs.lemmas.pieces.CallSequence.{FoldsTo-append, FoldsTo-nil, may_go_on}
-use Rattle.termwiz_grammar.proofs.lemmas.waiting.RestShape.{rest_flushed}
+use Rattle.termwiz_grammar.proofs.lemmas.waiting.RestShape.{rest_flushed, rest_short}
 use Rattle.termwiz_input.proofs.lemmas.pieces.NumberedEvents.{nothing_read, one_read, one_settled, paste_after, rest_before, slice_read, slice_settled, some_taken}
+use Rattle.termwiz_input.proofs.lemmas.pieces.KeysFromPieces.{exact}
 use Rattle.std.proofs.lemmas.Grind.{common_steps}
 use Rattle.termwiz_input.proofs.input.InputParser.parse_pieces.Goals as goal
 
@@ -34,6 +35,17 @@ returns-in-Ok-clause-ok g c =
 pub returns-in-Ok-clause-flushed : goal.returns-in-Ok-clause-flushed
 returns-in-Ok-clause-flushed g c =
     λ last. rest_flushed c.parse_piece.new.self c.args.maybe_more c.in-Ok.ensures.ok.1.rest last
+
+pub returns-in-Ok-clause-promise : goal.returns-in-Ok-clause-promise
+returns-in-Ok-clause-promise g c =
+    let ok = returns-in-Ok-clause-ok g c in (
+      ok.0,
+      exact c.args.self.now (texts c.args.pieces.now) c.args.maybe_more ok.0 c.parse_piece.new.self ok.1 ok.2,
+      ok.3,
+    )
+
+pub returns-in-Ok-clause-waits : goal.returns-in-Ok-clause-waits
+returns-in-Ok-clause-waits g c = rest_short c.parse_piece.new.self c.args.maybe_more c.in-Ok.ensures.ok.1.rest
 
 pub returns-in-Err-clause-taken : goal.returns-in-Err-clause-taken
 returns-in-Err-clause-taken g c =
@@ -129,3 +141,17 @@ pub returns-clause-flushed : goal.returns-clause-flushed
 returns-clause-flushed g c = λ last.
     let waits : IsRest c.loop-number.self c.args.maybe_more = grind (arith, common_steps) in
     rest_flushed c.loop-number.self c.args.maybe_more waits last
+
+pub returns-clause-promise : goal.returns-clause-promise
+returns-clause-promise g c =
+    let given = c.loop-number.invariant in
+    let pieces = texts c.args.pieces.now in
+    let means : Means (c.args.self.now ++ join pieces) c.args.maybe_more (events_of given.0) c.loop-number.self =
+    grind (arith, common_steps) in
+    let numbers : AreNumbered c.args.self.now (pieces_or_one pieces) given.0 = grind (arith, common_steps) in
+    (given.0, exact c.args.self.now pieces c.args.maybe_more given.0 c.loop-number.self means numbers, given.2)
+
+pub returns-clause-waits : goal.returns-clause-waits
+returns-clause-waits g c =
+    let waits : IsRest c.loop-number.self c.args.maybe_more = grind (arith, common_steps) in
+    rest_short c.loop-number.self c.args.maybe_more waits

@@ -1,0 +1,27 @@
+-- What the pointer of a handle owns once a `&mut` to its value has ended.
+use Rattle.std.specs.Prelude.{Some}
+use Rattle.std.specs.Borrow.{Fml, Lends, MutBor}
+use Rattle.termwiz_c.specs.declared.bindings.Bindings.{Bindings}
+use Rattle.termwiz_c.specs.declared.owned_keymap.OwnedKeymap.{OwnedKeymap}
+use Rattle.termwiz_c.specs.declared.owned_parser.OwnedParser.{OwnedParser}
+use Rattle.termwiz_c.specs.declared.parser_and_paste.ParserAndPaste.{ParserAndPaste}
+use Rattle.termwiz_c.specs.contracts.bindings.Bindings.{the_row as BindingsType}
+use Rattle.termwiz_c.specs.contracts.owned_keymap.OwnedKeymap.{the_row as OwnedKeymapType}
+use Rattle.termwiz_c.specs.contracts.owned_parser.OwnedParser.{the_row as OwnedParserType}
+use Rattle.termwiz_c.specs.contracts.parser_and_paste.ParserAndPaste.{the_row as ParserAndPasteType}
+
+-- the pointer, which owns this parser
+abbrev pub with_parser : OwnedParser → ParserAndPaste → OwnedParser
+with_parser pointer held = record pointer { held = Some held }
+
+-- the pointer owns the lent parser as it is at the end of the loan
+abbrev pub lends_parser : MutBor OwnedParser → MutBor ParserAndPaste → Fml
+lends_parser pointer lent = Lends OwnedParserType ParserAndPasteType pointer lent (with_parser pointer.now)
+
+-- the pointer, which owns this key map
+abbrev pub with_map : OwnedKeymap → Bindings → OwnedKeymap
+with_map pointer held = record pointer { held = Some held }
+
+-- the pointer owns the lent key map as it is at the end of the loan
+abbrev pub lends_map : MutBor OwnedKeymap → MutBor Bindings → Fml
+lends_map pointer lent = Lends OwnedKeymapType BindingsType pointer lent (with_map pointer.now)

@@ -1,0 +1,32 @@
+-- What the parser promises, in one statement.
+use Rattle.std.specs.Prelude.{◌≡◌, ℕ, Bool, false, List, [], ◌∷◌, ◌++◌, Some}
+use Rattle.termwiz_base.specs.declared.modifiers.Modifiers.{Modifiers}
+use Rattle.termwiz_keys.specs.declared.encode.KeyCodeEncodeModes.{KeyCodeEncodeModes}
+use Rattle.termwiz_keys.specs.declared.types.KeyCode.{KeyCode}
+use Rattle.termwiz_keys.specs.declared.types.InputEvent.{InputEvent}
+use Rattle.termwiz_keys.specs.declared.types.InputEvent.TheVariants.{Key}
+use Rattle.termwiz_keys.specs.Encoding.{enc}
+use Rattle.termwiz_grammar.specs.Grammar.{Means}
+use Rattle.termwiz_grammar.specs.Laws.{Waits}
+use Rattle.termwiz_input.specs.Pieces.{AreNumbered, NumberedEvent, events_of, join, pieces_or_one}
+
+-- Some pieces were read after what was buffered before them. These events were emitted, and this is left in the buffer.
+pub record IsExactReading (before : List ℕ) (pieces : List (List ℕ)) (more : Bool) (given : List NumberedEvent)
+    (left : List ℕ) : Type 0 where
+  -- they are what the grammar says of the bytes that were buffered and all pieces joined
+  pub meaning : Means (before ++ join pieces) more (events_of given) left
+  -- and it says nothing else of them
+  pub only : (events : List InputEvent) (rest : List ℕ) → Means (before ++ join pieces) more events rest
+      → (events ≡ events_of given) × (rest ≡ left)
+  -- each event has the number of the piece that completed it
+  pub numbers : AreNumbered before (pieces_or_one pieces) given
+  -- what is left is nothing, an open paste, or, if more may come, at most twenty undecided bytes after at most one ESC
+  pub short : Waits left more
+
+-- The key has a text, and however this text is cut into pieces, an empty parser reads exactly that key with those modifiers, and nothing is
+-- left.
+abbrev pub IsReadFromPieces : KeyCode → Modifiers → KeyCodeEncodeModes → Type 0
+IsReadFromPieces key modifiers modes = (text : List ℕ) × (enc key modifiers modes ≡ Some text)
+    × ((pieces : List (List ℕ)) (given : List NumberedEvent) (left : List ℕ) → join pieces ≡ text
+    → IsExactReading [] pieces false given left
+    → (events_of given ≡ Key (record { key = key; modifiers = modifiers }) ∷ []) × (left ≡ []))

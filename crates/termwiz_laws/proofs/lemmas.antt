@@ -1,0 +1,10 @@
+pub mod broken_bytes
+pub mod first_bytes
+pub mod flushes
+pub mod further_keys
+pub mod key_streams
+pub mod many_reads
+pub mod paste_events
+pub mod plain_texts
+pub mod shared_texts
+pub mod waiting_bounds

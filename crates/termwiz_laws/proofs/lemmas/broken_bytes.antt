@@ -1,0 +1,3 @@
+pub mod BrokenItems
+pub mod CutCharacters
+pub mod FirstBytesOfNone

@@ -1,0 +1,2 @@
+pub mod EncodedBytes
+pub mod NoSequence

@@ -1,0 +1,3 @@
+pub mod MoreEvents
+pub mod NothingLeft
+pub mod PlainItems

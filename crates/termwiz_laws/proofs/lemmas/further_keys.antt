@@ -1,0 +1,9 @@
+pub mod AlikeModes
+pub mod CharacterKeys
+pub mod ComputedReadings
+pub mod FurtherReadings
+pub mod OnlyThese
+pub mod OtherKeys
+pub mod SingleCharacters
+pub mod SingleKey
+pub mod WideReadings

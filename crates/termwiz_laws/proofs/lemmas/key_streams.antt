@@ -1,0 +1,4 @@
+pub mod EachFlushed
+pub mod NoFlush
+pub mod OneKeyTexts
+pub mod FourKeys

@@ -1,0 +1,3 @@
+pub mod FlushedByStart
+pub mod NoBorder
+pub mod OnePaste

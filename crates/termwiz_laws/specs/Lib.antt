@@ -1,0 +1,9 @@
+pub mod BrokenBytes
+pub mod Flushes
+pub mod FurtherKeys
+pub mod KeyStreams
+pub mod ManyReads
+pub mod PasteEvents
+pub mod PlainTexts
+pub mod SharedTexts
+pub mod WaitingBounds

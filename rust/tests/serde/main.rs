@@ -1,0 +1,62 @@
+// The derives behind the feature `use_serde`, which rust/serde builds.
+use hedrugal::input::{InputEvent, KeyCode, KeyEvent, KittyKeyboardFlags, Modifiers, MouseButtons, MouseEvent, PixelMouseEvent};
+use serde::de::DeserializeOwned;
+use serde::Serialize;
+use std::fmt::Debug;
+
+// A value and its JSON, in both directions.
+fn check<T: Serialize + DeserializeOwned + PartialEq + Debug>(value: T, json: &str) {
+    assert_eq!(serde_json::to_string(&value).expect("JSON is written"), json);
+    assert_eq!(serde_json::from_str::<T>(json).expect("JSON is read"), value);
+}
+
+const BOTH: Modifiers = Modifiers::SHIFT.union(Modifiers::CTRL);
+
+#[test]
+fn writes_and_reads_flags() {
+    check(BOTH, "\"SHIFT | CTRL\"");
+    check(Modifiers::NONE, "\"\"");
+    check(Modifiers::from_bits_retain(0x8002), "\"SHIFT | 0x8000\"");
+    check(MouseButtons::VERT_WHEEL, "\"VERT_WHEEL\"");
+    check(KittyKeyboardFlags::REPORT_EVENT_TYPES, "\"REPORT_EVENT_TYPES\"");
+    assert!(serde_json::from_str::<Modifiers>("\"SHFT\"").is_err());
+    assert!(serde_json::from_str::<Modifiers>("2").is_err());
+}
+
+#[test]
+fn writes_and_reads_keys() {
+    check(KeyCode::Char('é'), "{\"Char\":\"é\"}");
+    check(KeyCode::Function(12), "{\"Function\":12}");
+    check(KeyCode::KeyPadBegin, "\"KeyPadBegin\"");
+}
+
+#[test]
+fn writes_and_reads_events() {
+    let (key, modifiers) = (KeyCode::UpArrow, BOTH);
+    check(
+        InputEvent::Key(KeyEvent { key, modifiers }),
+        r#"{"Key":{"key":"UpArrow","modifiers":"SHIFT | CTRL"}}"#,
+    );
+    let mouse_buttons = MouseButtons::LEFT;
+    check(
+        InputEvent::Mouse(MouseEvent {
+            x: 3,
+            y: 4,
+            mouse_buttons,
+            modifiers,
+        }),
+        r#"{"Mouse":{"x":3,"y":4,"mouse_buttons":"LEFT","modifiers":"SHIFT | CTRL"}}"#,
+    );
+    check(
+        InputEvent::PixelMouse(PixelMouseEvent {
+            x_pixels: 30,
+            y_pixels: 40,
+            mouse_buttons,
+            modifiers,
+        }),
+        r#"{"PixelMouse":{"x_pixels":30,"y_pixels":40,"mouse_buttons":"LEFT","modifiers":"SHIFT | CTRL"}}"#,
+    );
+    check(InputEvent::Resized { cols: 80, rows: 24 }, r#"{"Resized":{"cols":80,"rows":24}}"#);
+    check(InputEvent::Paste("text".to_string()), r#"{"Paste":"text"}"#);
+    check(InputEvent::Wake, "\"Wake\"");
+}
