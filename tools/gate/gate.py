@@ -228,9 +228,9 @@ class Gate:
             say(f"gate: {it.name}: NOT RUN, since {', '.join(sorted(it.needs - self.well))} failed")
 
     def note(self, line):
-        """Shows a line of `rt ci`, and notes what is proved."""
+        """Shows a line of `rt ci`, and notes what it proved, or an earlier run on this machine did."""
         say(line)
-        proved = re.match(r"rt: (\w+) proved$", line)
+        proved = re.match(r"rt: (\w+) (?:proved$|is kept: )", line)
         if proved:
             self.keep(proved[1])
             self.well.add(proved[1])
