@@ -2,5 +2,6 @@ pub mod Bytes
 pub mod Entries
 pub mod KeyRanges
 pub mod KeyRows
+pub mod KeysInOrder
 pub mod Lookup
 pub mod Remembering

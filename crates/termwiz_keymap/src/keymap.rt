@@ -21,6 +21,7 @@ use search::place_of;
 use std::alloc::{AllocError, Global};
 use std::fmt::Debug;
 use std::marker::Model;
+use std::ops::Range;
 use text_range::range_of;
 
 /// The answer of [`KeyMap::lookup`].
@@ -64,6 +65,8 @@ impl<V: Debug + Clone + Drop> Model for KeyMap<V> {
 }
 
 impl<V: Debug + Clone + Drop> KeyMap<V> {
+    ghost use Rattle.std.specs.Prelude.{◌≤◌};
+    ghost use Rattle.termwiz_keymap.specs.KeysInOrder.{AreExtensions, IsEntryAt};
     ghost use Rattle.termwiz_keymap.specs.Lookup.{ClonesEqual, IsClone, IsExtended, IsLongestKey, LookupGives, NoKeyBegins, found_copied};
 
     /// An empty map. Takes no memory; later calls take theirs from `alloc`.
@@ -103,6 +106,28 @@ impl<V: Debug + Clone + Drop> KeyMap<V> {
         ensures { result ≡ map.len self.now }
     {
         self.rows.len()
+    }
+
+    /// The key at a place in the order of the keys' bytes, and its value; `None` from [`KeyMap::len`] on. The first place is 0.
+    #[tactic(auto, using(crate::proofs::lemmas::rows::RowPlaces::as_many))]
+    pub fn get_index(&self, index: usize) -> Option<(&[u8], &V)>
+        ensures entry { IfSome result (λ entry. IsEntryAt self.now index entry.0.now entry.1.now) }
+        ensures none { IfNone result (map.len self.now ≤ index) }
+    {
+        if index < self.rows.len() {
+            let row = &self.rows[index];
+            Some((row.key(), &row.value))
+        } else {
+            None
+        }
+    }
+
+    /// The places of the keys that begin with a text and are longer, as [`KeyMap::get_index`] has them.
+    pub fn extensions(&self, text: &[u8]) -> Range<usize>
+        ensures { AreExtensions self.now text.now result.start result.end }
+    {
+        let range = range_of(&self.rows, &self.places, text);
+        range.low..range.high
     }
 
     /// Asks once for the memory of so many keys more, so that inserts needn't ask for it again and again. A long key still takes

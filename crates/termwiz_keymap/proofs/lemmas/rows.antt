@@ -8,3 +8,4 @@ pub mod KeysInRows
 pub mod Narrowing
 pub mod RangeLookups
 pub mod RememberedRanges
+pub mod RowPlaces
