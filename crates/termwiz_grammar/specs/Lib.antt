@@ -8,3 +8,4 @@ pub mod Streams
 pub mod Table
 pub mod WaitingKinds
 pub mod Pauses
+pub mod RowsInOrder

@@ -6,6 +6,7 @@ ghost use Rattle.termwiz_grammar.specs.Laws.{CutIndependent, EmptyIsRest, FewEve
 ghost use Rattle.termwiz_grammar.specs.Listed.{CsiUReadsBack, IsListed, ReadsBack};
 ghost use Rattle.termwiz_grammar.specs.ListedExamples.{ListedExamples};
 ghost use Rattle.termwiz_grammar.specs.Pauses.{PausesChangeNothing};
+ghost use Rattle.termwiz_grammar.specs.RowsInOrder.{RowsInOrder};
 ghost use Rattle.termwiz_grammar.specs.WaitingKinds.{FlushOfKinds, WaitingKinds};
 
 use termwiz_base::Modifiers;
@@ -21,6 +22,13 @@ pub fn one_meaning()
 /// begins with ESC `[<`, as mouse reports do.
 pub fn table_facts()
     ensures { TableFacts }
+{}
+
+/// The rows of the sequence table by their places, as `InputParser::row` answers with them: each row is at one place, later ones have
+/// greater bytes, and there are no others.
+#[tactic(auto, using(crate::proofs::lemmas::table::TableAsMap::rows_in_order))]
+pub fn rows_in_order()
+    ensures { RowsInOrder }
 {}
 
 /// Of the rows of the sequence table exactly ESC, ESC `[` and ESC `O` properly begin another row.

@@ -15,10 +15,12 @@ pub use Rattle.termwiz_grammar.specs.Laws as Laws
 pub use Rattle.termwiz_grammar.specs.Listed as Listed
 pub use Rattle.termwiz_grammar.specs.ListedExamples as ListedExamples
 pub use Rattle.termwiz_grammar.specs.Pauses as Pauses
+pub use Rattle.termwiz_grammar.specs.RowsInOrder as RowsInOrder
 pub use Rattle.termwiz_grammar.specs.Streams as Streams
 pub use Rattle.termwiz_grammar.specs.Table as Table
 pub use Rattle.termwiz_grammar.specs.WaitingKinds as WaitingKinds
 pub use Rattle.termwiz_grammar.specs.declared.waiting.Waiting as Waiting
+pub use Rattle.termwiz_keymap.specs.KeysInOrder as KeysInOrder
 pub use Rattle.termwiz_keymap.specs.Lookup as Lookup
 pub use Rattle.termwiz_keymap.specs.declared.keymap.Found as Found
 pub use Rattle.termwiz_keymap.specs.declared.keymap.KeyMap as KeyMap

@@ -230,6 +230,17 @@ pub(crate) fn is_escape(text: &[u8]) -> bool
     }
 }
 
+// What follows a first ESC.
+pub(crate) fn follows_escape(text: &[u8]) -> Option<&[u8]>
+    ensures some { IfSome result (λ after. text.now ≡ ESC ++ after.now) }
+    ensures none { IfNone result (¬ Begins ESC text.now) }
+{
+    match text {
+        [b'\x1b', after @ ..] => Some(after),
+        _ => None,
+    }
+}
+
 // Whether the first byte isn't ASCII, or the byte after a first ESC isn't.
 pub(crate) fn begins_with_high_byte(text: &[u8]) -> bool
     ensures { IsTrue result ↔ BeginsWithHighByte text.now }

@@ -3,6 +3,7 @@ ghost use Rattle.std.specs.Prelude.{◌≡◌, ◌≢◌, ◌++◌, ◌+◌, ◌
 ghost use Rattle.termwiz_keys.specs.declared.types.KeyEvent.{KeyEvent};
 ghost use Rattle.termwiz_keymap.specs.Bytes.{Begins};
 ghost use Rattle.termwiz_keys.specs.Introducers.{START};
+ghost use Rattle.termwiz_grammar.specs.RowsInOrder.{AreCompletions, IsRowAt};
 ghost use Rattle.termwiz_grammar.specs.Table.{table};
 ghost use Rattle.termwiz_grammar.specs.WaitingKinds.{IsKind, IsOneOrTwoEscapes, IsOpenPaste, IsShortOrOpenPaste};
 ghost use Rattle.termwiz_keymap.specs.Lookup.{LookupGives, found_copied};
@@ -15,6 +16,8 @@ ghost use Rattle.termwiz_input.specs.Callbacks.{MayBeCalledOn, MayBeCalledOnNumb
 ghost use Rattle.termwiz_input.specs.Pieces.{AreNumbered, NumberedEvent, ReadsFirst, events_of, flag_at, join, numbered, pieces_or_one, taken_or_one, texts};
 ghost use Rattle.termwiz_keys.specs.declared.types.InputEvent.{InputEvent as Event};
 
+pub use crate::completions::Completions;
+use crate::completions::completions_of;
 use crate::front::{AtFront, front, is_escape};
 use crate::key::{alt_key, copied, escape_key, plain_key};
 use crate::paste::{begins_paste, lossy_text, next_search, paste_so_far};
@@ -146,6 +149,29 @@ impl InputParser {
         ensures { LookupGives table bytes.now maybe_more (found_copied result) }
     {
         self.key_map.lookup(bytes, maybe_more)
+    }
+
+    /// The row of the sequence table at a place: the bytes of a sequence, and its key. Rows are in the order of their bytes; the first
+    /// place is 0, and `None` is returned from 2937 on, the number of rows.
+    ///
+    /// By the law `rows_in_order` each row of the table is at one place. The rows of the start and the end of a paste have the keys
+    /// `InternalPasteStart` and `InternalPasteEnd`.
+    pub fn row(&self, place: usize) -> Option<(&[u8], &KeyEvent)>
+        ensures row { IfSome result (λ row. IsRowAt place row.0.now row.1.now) }
+        ensures none { IfNone result (map.len table ≤ place) }
+    {
+        self.key_map.get_index(place)
+    }
+
+    /// The rows of the sequence table that would complete the waiting text: those that begin with it and are longer. If there are none,
+    /// those that begin with what follows its ESC; these get ALT.
+    ///
+    /// Ask for them while [`InputParser::waiting`] is `Escape` or `Sequence`. A mouse report, a character and a paste are completed by bytes
+    /// that aren't in the table, and an ESC by any character too.
+    pub fn completions(&self) -> Completions
+        ensures { AreCompletions self.now result.with_alt result.rows.start result.rows.end }
+    {
+        completions_of(&self.key_map, self.buffer.as_slice())
     }
 
     /// The length of the waiting text.

@@ -9,10 +9,10 @@ use termwiz_base::Modifiers;
 pub use termwiz_grammar::laws::{
     csi_u_read_back, cut_independent, empty_is_rest, few_events, few_events_in_stream,
     flush_of_kinds, listed_examples, most_wait, one_by_one, one_meaning, pauses_change_nothing,
-    read_back, resumes, steps_join, table_facts, three_beginnings, undecided, waiting_kinds,
-    waiting_shape,
+    read_back, resumes, rows_in_order, steps_join, table_facts, three_beginnings, undecided,
+    waiting_kinds, waiting_shape,
 };
-pub use termwiz_keymap::laws::{exact_stays, found_values};
+pub use termwiz_keymap::laws::{exact_stays, found_values, keys_in_order};
 use termwiz_keys::encode::KeyCodeEncodeModes;
 pub use termwiz_keys::laws::{clones, equality, hashes, mouse_button_flags};
 use termwiz_keys::types::KeyCode;

@@ -1,6 +1,7 @@
 //! Bytes of a terminal, read as key, mouse and paste events, and keys written as the bytes that a terminal sends.
 #![tactic(auto)]
 
+mod completions;
 mod front;
 mod head;
 pub mod input;

@@ -65,7 +65,7 @@ impl<V: Debug + Clone + Drop> Model for KeyMap<V> {
 }
 
 impl<V: Debug + Clone + Drop> KeyMap<V> {
-    ghost use Rattle.std.specs.Prelude.{◌≤◌};
+    ghost use Rattle.std.specs.Prelude.{◌<◌, ◌≤◌};
     ghost use Rattle.termwiz_keymap.specs.KeysInOrder.{AreExtensions, IsEntryAt};
     ghost use Rattle.termwiz_keymap.specs.Lookup.{ClonesEqual, IsClone, IsExtended, IsLongestKey, LookupGives, NoKeyBegins, found_copied};
 
@@ -122,9 +122,11 @@ impl<V: Debug + Clone + Drop> KeyMap<V> {
         }
     }
 
-    /// The places of the keys that begin with a text and are longer, as [`KeyMap::get_index`] has them.
+    /// The places of the keys that begin with a text and are longer, as [`KeyMap::get_index`] has them. The range is empty if there are
+    /// none.
     pub fn extensions(&self, text: &[u8]) -> Range<usize>
-        ensures { AreExtensions self.now text.now result.start result.end }
+        ensures keys { AreExtensions self.now text.now result.start result.end }
+        ensures some { (result.start < result.end) ↔ IsExtended self.now text.now }
     {
         let range = range_of(&self.rows, &self.places, text);
         range.low..range.high

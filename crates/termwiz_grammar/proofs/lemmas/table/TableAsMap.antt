@@ -1,14 +1,17 @@
 -- The table as a map has exactly the rows.
-use Rattle.std.proofs.Common.{◌≡◌, ◌⊎◌, inl, inr, ⊎_elim, ℕ, zero, suc, Bool, true, false, cond, List, [], ◌∷◌, refl, sym, ap, ap₂, ◌∙◌, subst, arith, Contains, nat_eq, ◌↔◌}
-use Rattle.std.specs.Prelude.{Some}
+use Rattle.std.proofs.Common.{◌≡◌, ◌⊎◌, inl, inr, ⊎_elim, ℕ, zero, suc, Bool, true, false, cond, List, [], ◌∷◌, refl, sym, ap, ap₂, ◌∙◌, subst, arith, Contains, nat_eq, ◌↔◌, ◌≢◌, ◌<◌, ◌+◌, length, slice_index_or}
+use Rattle.std.specs.Prelude.{Some, None, is_some, AllPairs}
 use Rattle.std.specs.Ordering.{nat_cmp, eq_by_cmp}
 use Rattle.std.specs.Cmp.Lexicographic.{slice_cmp, pointwise, same_text}
 use Rattle.std.proofs.lemmas.Cmp.{nat_list_cmp_total, nat_list_eq_equiv}
-use Rattle.std.specs.FinMap.{get, insert, empty, get-insert, get-empty}
+use Rattle.std.specs.FinMap.{get, insert, empty, len, get-insert, get-empty, len-insert, len-empty}
 use Rattle.termwiz_keys.specs.declared.types.KeyEvent.{KeyEvent}
 use Rattle.termwiz_keymap.specs.Lookup.{ByteMap}
 use Rattle.termwiz_grammar.specs.Table.{TableRow, rows, with_rows, table}
-use Rattle.termwiz_grammar.proofs.lemmas.table.RowShape.{row_once}
+use Rattle.termwiz_grammar.proofs.lemmas.table.RowShape.{row_once, table_facts}
+use Rattle.termwiz_grammar.specs.Laws.{HasOtherBytes, row_count}
+use Rattle.termwiz_grammar.specs.RowsInOrder.{RowsInOrder}
+use Rattle.termwiz_keymap.proofs.lemmas.entries.EntriesInOrder.{in_order_of_bytes}
 use Rattle.termwiz_keymap.proofs.lemmas.entries.KeysInEntries.{tie}
 
 -- what a map answers after one more row
@@ -92,3 +95,41 @@ table_from_row text k c =
 
 pub table_exact : (text : List ℕ) (k : KeyEvent) → (get table text ≡ Some k) ↔ Contains rows (text, k)
 table_exact text k = (row_from_table text k, table_from_row text k)
+
+-- a key that a map doesn't have, and that isn't the new one
+still_new : (m : ByteMap KeyEvent) (k : List ℕ) (v : KeyEvent) (q : List ℕ) → q ≢ k → get m q ≡ None
+    → get (insert m k v) q ≡ None
+still_new m k v q other none =
+    elim (pointwise nat_eq k q) as (λ b. b ≡ pointwise nat_eq k q → get (insert m k v) q ≡ None) [
+      | true ↦ λ is. absurd (other (sym (same_text k q is)))
+      | false ↦ λ is. get-insert nat_list_cmp_total m k v q ∙ ap (λ b. cond b (Some v) (get m q)) (tie q k false is) ∙ none
+    ] refl
+
+-- rows with other bytes than each other, and than the map's keys, are all counted
+rows_counted : (rs : List TableRow) (m : ByteMap KeyEvent) → AllPairs HasOtherBytes rs
+    → ((i : ℕ) (d : TableRow) → i < length rs → get m (slice_index_or rs i d).0 ≡ None)
+    → len (with_rows m rs) ≡ len m + length rs
+rows_counted [] m differ new = omega arith
+rows_counted (r ∷ rs) m differ new =
+    let first : get m r.0 ≡ None = new 0 r (omega arith) in
+    let rest = rows_counted rs (insert m r.0 r.1) (λ i j d less inside. differ (suc i) (suc j) d (omega arith) (omega arith))
+        (λ i d inside. still_new m r.0 r.1 (slice_index_or rs i d).0
+        (λ same. differ 0 (suc i) d (omega arith) (omega arith) (sym same)) (new (suc i) d (omega arith))) in
+    let one : len (insert m r.0 r.1) ≡ len m + 1 = len-insert nat_list_cmp_total m r.0 r.1
+        ∙ ap (λ o. cond (is_some o) (len m) (len m + 1)) first in
+    omega (arith, rest, one)
+
+table_counted : len table ≡ row_count
+unfolding table
+table_counted =
+    let all = rows_counted rows empty table_facts.bytes_differ (λ i d inside. get-empty (slice_cmp nat_cmp) _) in
+    omega (arith, all, len-empty (slice_cmp nat_cmp) KeyEvent, table_facts.counted)
+
+-- the places have exactly the rows
+pub rows_in_order : RowsInOrder
+rows_in_order = record {
+  counted = table_counted;
+  exactly = λ bytes key. let stored = in_order_of_bytes.stored table bytes key in
+      (λ c. stored.0 (table_from_row bytes key c), λ p. row_from_table bytes key (stored.1 p));
+  ascending = in_order_of_bytes.ascending table;
+}

@@ -1,6 +1,6 @@
 -- Each key of a map is at one place among its entries, and later keys are greater.
-use Rattle.std.proofs.Common.{◌≡◌, ◌∙◌, ◌<◌, ℕ, zero, suc, Bool, true, false, cond, T, List, [], ◌∷◌, length, get_or, nat_eq, refl, sym, ap, ap₂, subst, arith}
-use Rattle.std.specs.Prelude.{◌&&◌, Some}
+use Rattle.std.proofs.Common.{◌≡◌, ◌∙◌, ◌<◌, ℕ, zero, suc, Bool, true, false, cond, T, List, [], ◌∷◌, ◌++◌, length, get_or, nat_eq, refl, sym, ap, ap₂, subst, arith}
+use Rattle.std.specs.Prelude.{◌&&◌, Some, ◌↔◌, Option, None, IsSome, is_some}
 use Rattle.std.specs.Option.{unwrap_or}
 use Rattle.std.specs.FinMap as map
 use Rattle.std.specs.FinMap.Entries.{below_all}
@@ -10,9 +10,11 @@ use Rattle.std.specs.declared.cmp.Ordering.TheVariants.{Less, Equal, Greater}
 use Rattle.std.specs.Cmp.Lexicographic.{slice_cmp, pointwise, same_text}
 use Rattle.std.proofs.lemmas.Cmp.{nat_list_eq_equiv}
 use Rattle.termwiz_keymap.specs.Entries.{Entries}
-use Rattle.termwiz_keymap.specs.Lookup.{ByteMap}
-use Rattle.termwiz_keymap.specs.KeysInOrder.{IsEntryAt, AreInOrder}
+use Rattle.termwiz_keymap.specs.Lookup.{ByteMap, IsExtended}
+use Rattle.termwiz_keymap.specs.KeysInOrder.{IsEntryAt, AreExtensions, AreInOrder}
 use Rattle.termwiz_keymap.proofs.lemmas.entries.KeysInEntries.{tied, tied_same, found, find_here, find_later}
+use Rattle.std.proofs.lemmas.List.{get_or_default}
+use Rattle.termwiz_keymap.proofs.lemmas.lists.CommonPrefixes.{length-some}
 use Rattle.termwiz_keymap.proofs.lemmas.rows.KeyOrder.{Before, not_itself}
 
 first : (a b : Bool) → T (a && b) → T a
@@ -27,6 +29,10 @@ is_less : (o : Ordering) → T (is_lt o) → o ≡ Less
 is_less Less p = refl
 is_less Equal p = absurd p
 is_less Greater p = absurd p
+
+some_entry : {X : Type 0} (xs : List X) (i : ℕ) → i < length xs → X
+some_entry [] i inside = absurd (omega arith)
+some_entry (x ∷ xs) i inside = x
 
 module _ {V : Type 0} where
   abbrev AreSorted : Entries V → Type 0
@@ -93,6 +99,30 @@ module _ {V : Type 0} where
         (subst (λ (e : List ℕ × V). Before e.0 (get_or (map.entries m) j (key, value)).0) (at.there (key, value))
         (in_order (map.entries m) (map.entries_sorted m) i j (key, value) less
         (omega (arith, after.inside, map.len-entries m))))
+
+    -- some key begins with a text and is longer exactly if its places aren't none
+    pub some_places : (t : List ℕ) (low high : ℕ) → AreExtensions m t low high → (low < high) ↔ IsExtended m t
+    some_places t low high are = (
+      λ less.
+          let inside : low < length (map.entries m) = omega (arith, less, are.inside, map.len-entries m) in
+          let entry = some_entry (map.entries m) low inside in
+          let found = get_or (map.entries m) low entry in
+          let at : IsEntryAt m low found.0 found.1 = record {
+            inside = omega (arith, less, are.inside);
+            there = λ d. get_or_default (map.entries m) low d entry inside;
+          } in
+          let goes = (are.those low found.0 found.1 at).1 (omega arith, less) in (
+            goes.0,
+            length-some goes.0 goes.1,
+            ap is_some (ap (map.get m) (sym goes.2) ∙ stored_at low found.0 found.1 at),
+          ),
+      λ (rest, long, some). elim (map.get m (t ++ rest)) as (λ o. map.get m (t ++ rest) ≡ o → IsSome o → low < high) [
+        | None ↦ λ is none. absurd (cc (none))
+        | Some value ↦ λ is _. let p = place_in (t ++ rest) value is in
+            let within = (are.those p.0 (t ++ rest) value p.1).0 (rest, (λ none. omega (arith, long, ap length none)), refl) in
+            omega (arith, within.0, within.1)
+      ] refl some,
+    )
 
 pub in_order_of_bytes : {V : Type 0} → AreInOrder V
 in_order_of_bytes = record {

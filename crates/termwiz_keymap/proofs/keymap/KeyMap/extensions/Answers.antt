@@ -1,11 +1,18 @@
 use Rattle.termwiz_keymap.proofs.lemmas.rows.RowPlaces.{extensions_of}
+use Rattle.termwiz_keymap.proofs.lemmas.entries.EntriesInOrder.{some_places}
 use Rattle.termwiz_keymap.proofs.keymap.KeyMap.extensions.Goals as goal
+
+keys : goal.returns-clause-keys
+keys g c =
+    let range = c.range_of-range.result in
+    extensions_of c.args.self.now c.self.inside.rows c.self.invariant.ascending c.self.view_is c.args.text.now range.low
+    range.high range.longest c.range_of-range.ensures
 
 pub range_of-range-requires-clause-remembered : goal.range_of-range-requires-clause-remembered
 range_of-range-requires-clause-remembered g c = rw c.deref.ensures.value c.self.invariant.remembered
 
-pub returns : goal.returns
-returns g c =
-    let range = c.range_of-range.result in
-    extensions_of c.args.self.now c.self.inside.rows c.self.invariant.ascending c.self.view_is c.args.text.now range.low
-    range.high range.longest c.range_of-range.ensures
+pub returns-clause-keys : goal.returns-clause-keys
+returns-clause-keys g c = keys g c
+
+pub returns-clause-some : goal.returns-clause-some
+returns-clause-some g c = some_places c.args.self.now c.args.text.now _ _ (keys g c)
