@@ -13,8 +13,9 @@ module _ {V : Type 0} where
     pub inside : place < map.len m
     pub there : (entry : List ℕ × V) → get_or (map.entries m) place entry ≡ (key, value)
 
-  -- the keys that begin with a text and are longer are those from the first place up to the second, if any
+  -- the keys that begin with a text and are longer are those from the first place up to the second
   pub record AreExtensions (m : ByteMap V) (text : List ℕ) (low high : ℕ) : Type 0 where
+    pub ordered : low ≤ high
     pub inside : high ≤ map.len m
     pub those : (place : ℕ) (key : List ℕ) (value : V) → IsEntryAt m place key value
         → GoesOn text key ↔ ((low ≤ place) × (place < high))

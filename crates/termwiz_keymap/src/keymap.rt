@@ -129,7 +129,7 @@ impl<V: Debug + Clone + Drop> KeyMap<V> {
         ensures some { (result.start < result.end) ↔ IsExtended self.now text.now }
     {
         let range = range_of(&self.rows, &self.places, text);
-        range.low..range.high
+        range.low.min(range.high)..range.high
     }
 
     /// Asks once for the memory of so many keys more, so that inserts needn't ask for it again and again. A long key still takes

@@ -246,6 +246,50 @@ fn keys_far_apart_in_memory_asked_for_before(rt: HostRuntime) -> Result<(), Fail
     Ok(())
 }
 
+// Each key with its place, and after them no more.
+fn check_places(rt: &impl Abort, map: &KeyMap<u32>, keys: &[&[u8]]) {
+    for place in 0..keys.len() {
+        let (key, _) = map.get_index(place).expect(rt, "a key at each place");
+        assert_eq!(rt; key, keys[place]);
+    }
+    assert!(rt; map.get_index(keys.len()).is_none());
+}
+
+#[test]
+fn places_of_keys(rt: HostRuntime) -> Result<(), Fail> {
+    let mut map = KeyMap::new(rt.alloc());
+    check_places(&rt, &map, &[]);
+    assert_eq!(rt; map.extensions(b""), 0..0);
+    for key in [b"b".as_slice(), b"ab", b"", b"a", b"abc", b"\xff"] {
+        map.insert(key, 7)?;
+    }
+    check_places(&rt, &map, &[b"", b"a", b"ab", b"abc", b"b", b"\xff"]);
+    assert_eq!(rt; map.extensions(b""), 1..6);
+    assert_eq!(rt; map.extensions(b"a"), 2..4);
+    assert_eq!(rt; map.extensions(b"ab"), 3..4);
+    assert!(rt; map.extensions(b"abc").is_empty());
+    assert!(rt; map.extensions(b"c").is_empty());
+    assert!(rt; map.extensions(b"\xff").is_empty());
+    Ok(())
+}
+
+// Sixty thousand keys of two bytes, of which 256 begin with each byte.
+#[test]
+fn places_of_many_keys(rt: HostRuntime) -> Result<(), Fail> {
+    let mut map = numbered(rt.alloc(), 60_000)?;
+    map.remember()?;
+    for number in 0..60_000_u32 {
+        let (key, value) = map
+            .get_index(number as usize)
+            .expect(&rt, "a key at each place");
+        assert_eq!(rt; key, two_bytes(number).as_slice());
+        assert_eq!(rt; *value, number);
+    }
+    assert!(rt; map.get_index(60_000).is_none());
+    assert_eq!(rt; map.extensions(&[3]), 768..1024);
+    Ok(())
+}
+
 #[test]
 fn clones_its_texts(rt: HostRuntime) -> Result<(), Fail> {
     let mut map = KeyMap::new(rt.alloc());

@@ -1,6 +1,6 @@
 -- Each key of a map is at one place among its entries, and later keys are greater.
 use Rattle.std.proofs.Common.{◌≡◌, ◌∙◌, ◌<◌, ℕ, zero, suc, Bool, true, false, cond, T, List, [], ◌∷◌, ◌++◌, length, get_or, nat_eq, refl, sym, ap, ap₂, subst, arith}
-use Rattle.std.specs.Prelude.{◌&&◌, Some, ◌↔◌, Option, None, IsSome, is_some}
+use Rattle.std.specs.Prelude.{◌&&◌, Some, ◌↔◌, None, IsSome, is_some}
 use Rattle.std.specs.Option.{unwrap_or}
 use Rattle.std.specs.FinMap as map
 use Rattle.std.specs.FinMap.Entries.{below_all}
@@ -100,6 +100,11 @@ module _ {V : Type 0} where
         (in_order (map.entries m) (map.entries_sorted m) i j (key, value) less
         (omega (arith, after.inside, map.len-entries m))))
 
+    -- one key is at a place, with one value
+    pub one_entry : (place : ℕ) (key other : List ℕ) (value another : V) → IsEntryAt m place key value
+        → IsEntryAt m place other another → ◌≡◌ {A = List ℕ × V} (key, value) (other, another)
+    one_entry place key other value another at too = sym (at.there (key, value)) ∙ too.there (key, value)
+
     -- some key begins with a text and is longer exactly if its places aren't none
     pub some_places : (t : List ℕ) (low high : ℕ) → AreExtensions m t low high → (low < high) ↔ IsExtended m t
     some_places t low high are = (
@@ -111,11 +116,10 @@ module _ {V : Type 0} where
             inside = omega (arith, less, are.inside);
             there = λ d. get_or_default (map.entries m) low d entry inside;
           } in
-          let goes = (are.those low found.0 found.1 at).1 (omega arith, less) in (
-            goes.0,
-            length-some goes.0 goes.1,
-            ap is_some (ap (map.get m) (sym goes.2) ∙ stored_at low found.0 found.1 at),
-          ),
+          let goes = (are.those low found.0 found.1 at).1 (omega arith, less) in
+          let stored : map.get m (t ++ goes.0) ≡ Some found.1 =
+          ap (λ k. map.get m k) (sym goes.2) ∙ stored_at low found.0 found.1 at in
+          (goes.0, length-some goes.0 goes.1, ap is_some stored),
       λ (rest, long, some). elim (map.get m (t ++ rest)) as (λ o. map.get m (t ++ rest) ≡ o → IsSome o → low < high) [
         | None ↦ λ is none. absurd (cc (none))
         | Some value ↦ λ is _. let p = place_in (t ++ rest) value is in

@@ -1,3 +1,4 @@
+use Rattle.std.proofs.Common.{arith}
 use Rattle.termwiz_keymap.proofs.lemmas.rows.RowPlaces.{extensions_of}
 use Rattle.termwiz_keymap.proofs.lemmas.entries.EntriesInOrder.{some_places}
 use Rattle.termwiz_keymap.proofs.keymap.KeyMap.extensions.Goals as goal
@@ -5,8 +6,9 @@ use Rattle.termwiz_keymap.proofs.keymap.KeyMap.extensions.Goals as goal
 keys : goal.returns-clause-keys
 keys g c =
     let range = c.range_of-range.result in
-    extensions_of c.args.self.now c.self.inside.rows c.self.invariant.ascending c.self.view_is c.args.text.now range.low
-    range.high range.longest c.range_of-range.ensures
+    extensions_of c.args.self.now c.self.inside.rows c.self.invariant.ascending c.self.view_is c.args.text.now range
+    c.min.result c.range_of-range.ensures (omega (arith, c.min.ensures)) (λ up. omega (arith, c.min.ensures, up))
+    (λ down. omega (arith, c.min.ensures, down))
 
 pub range_of-range-requires-clause-remembered : goal.range_of-range-requires-clause-remembered
 range_of-range-requires-clause-remembered g c = rw c.deref.ensures.value c.self.invariant.remembered
