@@ -5,3 +5,4 @@ pub mod Keys
 pub mod Lent
 pub mod Owned
 pub mod Presses
+pub mod RowCalls

@@ -24,6 +24,7 @@ mod owned_parser;
 mod parser_and_paste;
 mod parser_handle;
 mod raw_box;
+mod row_calls;
 #[cfg(test)]
 mod tests;
 

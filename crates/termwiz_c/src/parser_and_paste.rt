@@ -1,6 +1,11 @@
 // What the handle of a parser leads to.
-ghost use Rattle.std.specs.Prelude.{◌≡◌, ◌↔◌, [], ◌∷◌, false, length, string_bytes, IfOk, IfSome, IfNone, IsSome, OnErr};
+ghost use Rattle.std.specs.Prelude.{◌≡◌, ◌↔◌, ◌+◌, ◌≤◌, ℕ, List, [], ◌∷◌, false, length, string_bytes, IfOk, IfSome, IfNone, IsSome, OnErr};
+ghost use Rattle.std.specs.FinMap as map;
 ghost use Rattle.termwiz_input.specs.InputEvent.{InputEvent as Event};
+ghost use Rattle.termwiz_input.specs.InputEvent.TheVariants.{Key};
+ghost use Rattle.termwiz_input.specs.KeyEvent.{KeyEvent};
+ghost use Rattle.termwiz_input.specs.RowsInOrder.{AreCompletions, IsRowAt};
+ghost use Rattle.termwiz_input.specs.Table.{table};
 ghost use Rattle.termwiz_input.specs.Grammar.{HasPaste, IsRest, Means, Steps};
 ghost use Rattle.termwiz_input.specs.PasteSearch.{IsPasteSoFar};
 ghost use Rattle.termwiz_input.specs.WaitingKinds.{IsOneOrTwoEscapes, IsOpenPaste};
@@ -8,7 +13,8 @@ ghost use Rattle.termwiz_c.specs.Calls.{copied, text_after};
 ghost use Rattle.termwiz_c.specs.Events.{c_event};
 
 use crate::copying::copy_prefix;
-use crate::events::{CEvent, c_event};
+use crate::events::{CEvent, c_event, key_event};
+use crate::row_calls::CRows;
 use std::alloc::{AllocError, Global};
 use termwiz_input::input::{InputEvent, InputParser};
 
@@ -99,6 +105,33 @@ impl ParserAndPaste {
         ensures parser { self.new.parser ≡ self.old.parser }
     {
         self.pasted = String::new(alloc);
+    }
+
+    // Copies as much of the row at a place as `out` has room for, shows its key, and returns the row's length; 0 if no row is there.
+    pub(crate) fn copy_row(&self, place: usize, out: &mut [u8], event: &mut CEvent) -> usize
+        ensures row { (row : List ℕ) (key : KeyEvent) → IsRowAt place row key
+            → (result ≡ length row) × (out.new ≡ copied row out.old) × (event.new ≡ c_event (Key key)) }
+        ensures none { map.len table ≤ place → result ≡ 0 }
+        ensures out_same { map.len table ≤ place → out.new ≡ out.old }
+        ensures event_same { map.len table ≤ place → event.new ≡ event.old }
+    {
+        let Some((row, key)) = self.parser.row(place) else {
+            return 0;
+        };
+        *event = key_event(key);
+        copy_prefix(row, out)
+    }
+
+    // The rows that would complete what is buffered.
+    pub(crate) fn completions(&self) -> CRows
+        ensures { AreCompletions self.now.parser result.with_alt result.first (result.first + result.count) }
+    {
+        let found = self.parser.completions();
+        CRows {
+            first: found.rows.start,
+            count: found.rows.end - found.rows.start,
+            with_alt: found.with_alt,
+        }
     }
 
     // Copies as much of the last paste's text as `out` has room for, and returns its whole length.

@@ -1,5 +1,5 @@
 -- The rows of the sequence table in the order of their bytes, and those that would complete a text.
-use Rattle.std.specs.Prelude.{◌≡◌, ◌<◌, ◌↔◌, ℕ, Bool, true, false, List, ◌++◌, Contains, IsTrue}
+use Rattle.std.specs.Prelude.{◌≡◌, ◌<◌, ◌≤◌, ◌↔◌, ℕ, Bool, true, false, List, ◌++◌, Contains, IsTrue}
 use Rattle.std.specs.Ordering.{nat_cmp}
 use Rattle.std.specs.declared.cmp.Ordering.TheVariants.{Less}
 use Rattle.std.specs.Cmp.Lexicographic.{slice_cmp}
@@ -33,6 +33,7 @@ BeginsRowsAfterEscape text = (after : List ℕ) × (text ≡ ESC ++ after) × Be
 -- The rows that would complete a text, by their places: those that begin with it and are longer. If there are none, those that begin with
 -- what follows its ESC and are longer, and their keys get ALT.
 pub record AreCompletions (text : List ℕ) (with_alt : Bool) (low high : ℕ) : Type 0 where
+  pub ordered : low ≤ high
   pub when : IsTrue with_alt ↔ ((¬ BeginsRows text) × BeginsRowsAfterEscape text)
   pub whole : with_alt ≡ false → AreExtensions table text low high
   pub after_escape : with_alt ≡ true → (after : List ℕ) → text ≡ ESC ++ after → AreExtensions table after low high

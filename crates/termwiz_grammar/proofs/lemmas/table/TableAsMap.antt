@@ -113,10 +113,10 @@ rows_counted [] m differ new = omega arith
 rows_counted (r ∷ rs) m differ new =
     let first : get m r.0 ≡ None = new 0 r (omega arith) in
     let rest = rows_counted rs (insert m r.0 r.1) (λ i j d less inside. differ (suc i) (suc j) d (omega arith) (omega arith))
-        (λ i d inside. still_new m r.0 r.1 (slice_index_or rs i d).0
-        (λ same. differ 0 (suc i) d (omega arith) (omega arith) (sym same)) (new (suc i) d (omega arith))) in
+    (λ i d inside. still_new m r.0 r.1 (slice_index_or rs i d).0
+    (λ same. differ 0 (suc i) d (omega arith) (omega arith) (sym same)) (new (suc i) d (omega arith))) in
     let one : len (insert m r.0 r.1) ≡ len m + 1 = len-insert nat_list_cmp_total m r.0 r.1
-        ∙ ap (λ o. cond (is_some o) (len m) (len m + 1)) first in
+    ∙ ap (λ o. cond (is_some o) (len m) (len m + 1)) first in
     omega (arith, rest, one)
 
 table_counted : len table ≡ row_count

@@ -100,11 +100,6 @@ module _ {V : Type 0} where
         (in_order (map.entries m) (map.entries_sorted m) i j (key, value) less
         (omega (arith, after.inside, map.len-entries m))))
 
-    -- one key is at a place, with one value
-    pub one_entry : (place : ℕ) (key other : List ℕ) (value another : V) → IsEntryAt m place key value
-        → IsEntryAt m place other another → ◌≡◌ {A = List ℕ × V} (key, value) (other, another)
-    one_entry place key other value another at too = sym (at.there (key, value)) ∙ too.there (key, value)
-
     -- some key begins with a text and is longer exactly if its places aren't none
     pub some_places : (t : List ℕ) (low high : ℕ) → AreExtensions m t low high → (low < high) ↔ IsExtended m t
     some_places t low high are = (
