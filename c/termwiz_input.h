@@ -376,6 +376,31 @@ enum tw_encoded {
 uint32_t tw_encode(uint16_t key, uint32_t detail, uint16_t modifiers, bool is_down, const tw_modes *modes, uint8_t *out, size_t len,
                    size_t *text_len);
 
+/* The sequence table, which each parser has: the rows are in the order of their bytes, and the first place is 0. */
+#define TW_ROW_COUNT 2937 /* how many rows there are */
+#define TW_ROW_MOST 11    /* the length of the longest */
+
+/* Tells the row at a place: the bytes of a sequence, and its key. Writes as many of the bytes as capacity says, and the key to *event, a
+ * TW_KEY. The start and the end of a paste are rows too, with the keys TW_KEY_INTERNAL_PASTE_START and TW_KEY_INTERNAL_PASTE_END.
+ *
+ * Returns how many bytes the row has, 0 if place isn't below TW_ROW_COUNT or there is no parser; then nothing is written. The parser is
+ * unchanged, and no memory is needed. */
+size_t tw_row(const tw_parser *parser, size_t place, uint8_t *bytes, size_t capacity, tw_event *event);
+
+/* Some rows of the table, one after another. */
+typedef struct tw_rows {
+  size_t first;  /* the place of the first */
+  size_t count;  /* how many there are */
+  bool with_alt; /* whether their keys get TW_ALT */
+} tw_rows;
+
+/* Tells which rows would complete what stays buffered: those that begin with it and are longer. If there are none, those that begin with
+ * what follows its ESC, and with_alt is true. Ask while tw_parser_waiting_kind is TW_WAITING_ESCAPE or TW_WAITING_SEQUENCE. A mouse
+ * report and a character aren't rows, and after an ESC any character follows as a key with TW_ALT.
+ *
+ * Returns false if there is no parser, and *rows isn't written. The parser is unchanged, and no memory is needed. */
+bool tw_parser_completions(const tw_parser *parser, tw_rows *rows);
+
 /* A map from byte strings to numbers, or none. Its fields are the library's, and it may be moved as a tw_parser may. A program keeps its
  * key bindings in one: the bytes of each, and the number of what it does. */
 typedef struct tw_keymap {
@@ -437,6 +462,7 @@ TW_IS(parser, sizeof(tw_parser) == 16 && offsetof(tw_parser, state) == 8);
 TW_IS(event, sizeof(tw_event) == 24 && offsetof(tw_event, modifiers) == 2 && offsetof(tw_event, y) == 8);
 TW_IS(event_end, offsetof(tw_event, detail) == 12 && offsetof(tw_event, paste_len) == 16);
 TW_IS(keymap, sizeof(tw_keymap) == 16 && offsetof(tw_keymap, state) == 8);
+TW_IS(rows, sizeof(tw_rows) == 24 && offsetof(tw_rows, count) == 8 && offsetof(tw_rows, with_alt) == 16);
 TW_IS(match, sizeof(tw_match) == 16 && offsetof(tw_match, value) == 8);
 TW_IS(modes, sizeof(tw_modes) == 16 && offsetof(tw_modes, encoding) == 8 && offsetof(tw_modes, has_modify_other_keys) == 12);
 #undef TW_IS
