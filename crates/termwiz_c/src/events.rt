@@ -1,11 +1,10 @@
 // Events as C has them.
 ghost use Rattle.std.specs.Prelude.{◌≡◌};
-ghost use Rattle.termwiz_input.specs.InputEvent.TheVariants.{Key};
 ghost use Rattle.termwiz_c.specs.Events.{c_event};
 
 use crate::keys::{key_detail, key_number};
 use bitflags::Flags;
-use termwiz_input::types::{InputEvent, KeyEvent};
+use termwiz_input::types::InputEvent;
 
 /// `tw_event`: an event in numbers. What its kind has no use for is 0.
 #[repr(C)]
@@ -41,27 +40,19 @@ pub(crate) const NO_EVENT: CEvent = CEvent {
     paste_len: 0,
 };
 
-// The event of a key as C has it.
-#[tactic(auto, unfolding(crate::specs::Events::c_event))]
-pub(crate) fn key_event(key: &KeyEvent) -> CEvent
-    ensures { result ≡ c_event (Key key.now) }
-{
-    CEvent {
-        kind: 1,
-        modifiers: key.modifiers.bits(),
-        key: key_number(key.key),
-        detail: key_detail(key.key),
-        ..NO_EVENT
-    }
-}
-
 // An event as C has it.
 #[tactic(auto, unfolding(crate::specs::Events::c_event))]
 pub(crate) fn c_event(event: &InputEvent) -> CEvent
     ensures { result ≡ c_event event.now }
 {
     match event {
-        InputEvent::Key(key) => key_event(key),
+        InputEvent::Key(key) => CEvent {
+            kind: 1,
+            modifiers: key.modifiers.bits(),
+            key: key_number(key.key),
+            detail: key_detail(key.key),
+            ..NO_EVENT
+        },
         InputEvent::Mouse(mouse) => CEvent {
             kind: 2,
             buttons: mouse.mouse_buttons.bits(),

@@ -13,10 +13,10 @@ ghost use Rattle.termwiz_c.specs.Calls.{copied, text_after};
 ghost use Rattle.termwiz_c.specs.Events.{c_event};
 
 use crate::copying::copy_prefix;
-use crate::events::{CEvent, c_event, key_event};
+use crate::events::{CEvent, c_event};
 use crate::row_calls::CRows;
 use std::alloc::{AllocError, Global};
-use termwiz_input::input::{InputEvent, InputParser};
+use termwiz_input::input::{InputEvent, InputParser, KeyEvent};
 
 /// A parser, and the text of the last paste that it gave.
 #[derive(Drop)]
@@ -118,7 +118,10 @@ impl ParserAndPaste {
         let Some((row, key)) = self.parser.row(place) else {
             return 0;
         };
-        *event = key_event(key);
+        *event = c_event(&InputEvent::Key(KeyEvent {
+            key: key.key,
+            modifiers: key.modifiers,
+        }));
         copy_prefix(row, out)
     }
 

@@ -9,5 +9,5 @@ returns-clause-row c = λ row key at.
     let same = sym (c.in-Some.ensures.row.there (row, key)) ∙ at.there (row, key) in (
       c.copy_prefix.ensures.len ∙ ap (λ e. length e.0) same,
       c.copy_prefix.ensures.bytes ∙ ap (λ e. copied e.0 c.args.out.now) same,
-      c.key_event.ensures ∙ ap (λ e. c_event (Key e.1)) same,
+      c.c_event.ensures ∙ ap (λ e. c_event (Key e.1)) same,
     )
