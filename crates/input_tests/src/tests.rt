@@ -1,5 +1,6 @@
 // The parser's answers on examples, on every row, on long input, and against the plain reader.
 mod carried;
+mod completions;
 mod cuts;
 mod differences;
 mod draws;

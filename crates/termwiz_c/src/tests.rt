@@ -1,5 +1,6 @@
 // The calls, as a C program makes them.
 mod keymaps;
+mod rows;
 
 use crate::events::NO_EVENT;
 use crate::modes::CModes;
