@@ -79,6 +79,12 @@ run_quietly() { # words..
     return "$status"
 }
 
+# Builds the program hedrugal-keys over a library's archive. Further words go to the compiler. It is called at the top of the repository.
+build_keys() { # library program [words..]
+    cc -std=c11 -O2 -D_FORTIFY_SOURCE=2 -fstack-protector-strong -fPIE -pie -Wl,-z,relro,-z,now "${@:3}" -I"$1" keys/*.c \
+        "$1/libtermwiz_c.a" -o "$2"
+}
+
 # Ends the script over a library, $library, that isn't that of these sources. It is called at the top of the repository.
 check_library() {
     for name in libtermwiz_c.a "libtermwiz_c.so.$(library_version)" termwiz_input.h termwiz_c.pc; do
