@@ -95,11 +95,13 @@ check_library() {
     done
 }
 
-# Looks at the library and the program that were named, and proves and builds those that weren't. Then $library is the library's folder, if
-# need be one in the folder $work, and $keyshow the program. It is called at the top of the repository.
+# Looks at the library and the programs that were named, and proves and builds those that weren't. Then $library is the library's folder, if
+# need be one in the folder $work, $keyshow the program, and $keys hedrugal-keys. It is called at the top of the repository.
 build_unnamed() {
     [ -z "$library" ] || check_library
     [ -z "$keyshow" ] || { [ -x "$keyshow" ] && [ -f "$keyshow" ]; } || refuse "'$keyshow' is no program"
+    [ -z "$keys" ] || { [ -x "$keys" ] && [ -f "$keys" ]; } || refuse "'$keys' is no program"
+    [ -n "$keys" ] || need cc 'gcc (or name hedrugal-keys by --keys)'
     { [ -n "$library" ] && [ -n "$keyshow" ]; } || need rt 'the Rattle kit (or name the library by --library and the program by --keyshow)'
     stop_if_missing
     if [ -z "$library" ]; then
@@ -111,6 +113,11 @@ build_unnamed() {
         progress 'proves and builds keyshow'
         (cd crates/keyshow && run_quietly rt run < stdin) || exit
         keyshow=$PWD/crates/keyshow/out/keyshow
+    fi
+    if [ -z "$keys" ]; then
+        progress 'builds hedrugal-keys'
+        keys=$work/hedrugal-keys
+        run_quietly build_keys "$library" "$keys" || exit
     fi
 }
 
