@@ -37,11 +37,11 @@ static size_t character_length(uint8_t first) {
 }
 
 /* The code point of the character at the front of a text. */
-static uint32_t code_point(const uint8_t *text) {
+static uint32_t code_point(const uint8_t *first) {
   static const uint8_t masks[] = { 0, 0x7f, 0x1f, 0x0f, 0x07 };
-  size_t length = character_length(*text);
-  uint32_t code = *text & masks[length];
-  for (size_t i = 1; i < length; i++) code = code << 6 | (text[i] & 0x3f);
+  size_t length = character_length(*first);
+  uint32_t code = *first & masks[length];
+  for (size_t i = 1; i < length; i++) code = code << 6 | (first[i] & 0x3f);
   return code;
 }
 
@@ -52,8 +52,8 @@ static void put_character(uint32_t code) {
   else printf("\\u%04x\\u%04x", (unsigned)(0xd800 + ((code - 0x10000) >> 10)), (unsigned)(0xdc00 + (code & 0x3ff)));
 }
 
-static void put_text(const uint8_t *text, size_t length) {
-  for (size_t at = 0; at < length; at += character_length(text[at])) put_character(code_point(text + at));
+static void put_text(const uint8_t *characters, size_t length) {
+  for (size_t at = 0; at < length; at += character_length(characters[at])) put_character(code_point(characters + at));
 }
 
 static bool put_paste(const group *its, const tw_parser *parser) {

@@ -69,6 +69,10 @@ static void put_space(screen *it) {
 }
 
 static void put_word(screen *it, const char *style, const char *word) {
+  if (it->is_measuring) {
+    it->measured += strlen(word) + 1;
+    return;
+  }
   if (it->column > indent_of(it)) {
     if (has_room(it, strlen(word) + 1)) put_space(it);
     else begin_row(it);
@@ -88,18 +92,19 @@ static void put_words(screen *it, const char *style, const char *words) {
   }
 }
 
-/* How bytes of a group are written: those of earlier reads in parentheses. */
-typedef struct span {
+/* A group, or what waits: its bytes, of which those of earlier reads are in parentheses, and what they mean. */
+typedef struct item {
   const uint8_t *bytes;
   size_t length, earlier;
-  const char *style;
-} span;
+  const char *style, *arrow_style, *meaning_style;
+  const char *meaning;
+} item;
 
-static bool is_cut(const span *of) {
+static bool is_cut(const item *of) {
   return of->length > LONGEST;
 }
 
-static void put_byte(screen *it, const span *of, size_t place) {
+static void put_byte(screen *it, const item *of, size_t place) {
   text word = { .length = 0 };
   if (place == 0 && of->earlier > 0) text_add(&word, "(");
   add_byte(&word, of->bytes[place], it->is_hex);
@@ -107,14 +112,14 @@ static void put_byte(screen *it, const span *of, size_t place) {
   put_word(it, place < of->earlier ? dim : of->style, word.bytes);
 }
 
-static void put_cut(screen *it, const span *of) {
+static void put_cut(screen *it, const item *of) {
   text words = { .length = 0 };
   bool closes = of->earlier > HEAD && of->earlier <= of->length - TAIL;
   text_add(&words, ".. %zu more ..%s", of->length - HEAD - TAIL, closes ? ")" : "");
   put_words(it, dim, words.bytes);
 }
 
-static void put_bytes(screen *it, const span *of) {
+static void put_bytes(screen *it, const item *of) {
   for (size_t place = 0; place < of->length; place++) {
     if (place == HEAD && is_cut(of)) {
       put_cut(it, of);
@@ -122,6 +127,29 @@ static void put_bytes(screen *it, const span *of) {
     }
     put_byte(it, of, place);
   }
+}
+
+static void put_item_words(screen *it, const item *of) {
+  put_bytes(it, of);
+  put_word(it, of->arrow_style, "->");
+  put_words(it, of->meaning_style, of->meaning);
+}
+
+/* Whether an item has no room on the rest of the row. */
+static bool wants_row(screen *it, const item *of) {
+  it->measured = 0;
+  it->is_measuring = true;
+  put_item_words(it, of);
+  it->is_measuring = false;
+  return !has_room(it, it->measured);
+}
+
+static void put_item(screen *it, const item *of, bool is_first) {
+  if (!is_first) {
+    put_word(it, plain, "|");
+    if (wants_row(it, of)) begin_row(it);
+  }
+  put_item_words(it, of);
 }
 
 static void add_paste(text *out, const group *of) {
@@ -150,12 +178,10 @@ static void add_event(text *out, const group *of) {
 
 static void put_group(screen *it, const line *shown, const group *of) {
   text event = { .length = 0 };
-  size_t earlier = line_earlier(shown, of->start, of->length);
-  if (of != shown->groups) put_word(it, plain, "|");
-  put_bytes(it, &(span){ shown->bytes + of->start, of->length, earlier, coloured });
-  put_word(it, plain, "->");
   add_event(&event, of);
-  put_words(it, bold, event.bytes);
+  item put = { .bytes = shown->bytes + of->start, .length = of->length, .earlier = line_earlier(shown, of->start, of->length),
+               .style = coloured, .arrow_style = plain, .meaning_style = bold, .meaning = event.bytes };
+  put_item(it, &put, of == shown->groups);
 }
 
 static void put_groups(screen *it, const line *shown) {
@@ -164,11 +190,9 @@ static void put_groups(screen *it, const line *shown) {
 
 static void put_waiting(screen *it, const line *shown, const char *reason) {
   size_t length = line_waiting(shown);
-  if (length == 0) return;
-  if (shown->group_count > 0) put_word(it, plain, "|");
-  put_bytes(it, &(span){ shown->bytes + shown->settled, length, line_earlier(shown, shown->settled, length), dim });
-  put_word(it, dim, "->");
-  put_words(it, dim, reason);
+  item put = { .bytes = shown->bytes + shown->settled, .length = length, .earlier = line_earlier(shown, shown->settled, length),
+               .style = dim, .arrow_style = dim, .meaning_style = dim, .meaning = reason };
+  if (length > 0) put_item(it, &put, shown->group_count == 0);
 }
 
 bool screen_can_replace(const screen *it) {

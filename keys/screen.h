@@ -14,6 +14,8 @@ typedef struct screen {
   size_t rows, column; /* how many rows the line takes that is written, and where the next character comes */
   bool is_drawn; /* whether the line was written at all */
   const char *style;
+  bool is_measuring; /* whether words are only counted, with a space for each */
+  size_t measured;
 } screen;
 
 /* Whether escape sequences for colours and for moves of the cursor may be written, as the standard output and the environment say. */

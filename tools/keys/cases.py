@@ -198,9 +198,10 @@ def narrow(program):
     """The program breaks the rows itself, and the last column stays empty. A line of several rows is written again in its place."""
     with Keys(program, size=(46, 24)) as keys:
         keys.send(b"ab\033")
-        head = ["   1  a -> key U+0061 NONE | b -> key U+0062", "      NONE | ESC -> "]
-        keys.wait_for_screen(head[0], head[1] + "key Escape NONE")
-        expect("frames", keys.screen().frames[0][1:], [head[0], head[1] + "Escape, or the beginning", "      of a key: waits up to 50 ms"])
+        head = ["   1  a -> key U+0061 NONE |", "      b -> key U+0062 NONE |"]
+        keys.wait_for_screen(*head, "      ESC -> key Escape NONE")
+        frame = [*head, "      ESC -> Escape, or the beginning of a", "      key: waits up to 50 ms"]
+        expect("frames", [it[1:] for it in keys.screen().frames], [frame])
         keys.end()
 
 
@@ -222,9 +223,9 @@ def low(program):
     """Where the line begins above the screen, it is written again below."""
     with Keys(program, size=(46, 3)) as keys:
         keys.send(b"ab\033")
-        head = ["   1  a -> key U+0061 NONE | b -> key U+0062", "      NONE | ESC -> "]
-        keys.wait_for_screen(head[0], head[1] + "Escape, or the beginning", "      of a key: waits up to 50 ms",
-                             head[0], head[1] + "key Escape NONE")
+        head = ["   1  a -> key U+0061 NONE |", "      b -> key U+0062 NONE |"]
+        keys.wait_for_screen(*head, "      ESC -> Escape, or the beginning of a", "      key: waits up to 50 ms",
+                             *head, "      ESC -> key Escape NONE")
         expect("frames", keys.screen().frames, [])
         keys.end()
 
@@ -543,10 +544,10 @@ CASES = [
     ("ESC, then [ A in time", lambda program: run_tries(escape_then_key, program)),
     ("ESC, then ESC in time", lambda program: run_tries(escape_over_escape, program)),
     ("a sequence over three reads", lambda program: run_tries(sequence_over_reads, program)),
-    ("control characters", shows(b"\x00\x01\r\x7f ", "   1  ^@ -> key U+0000 NONE | ^A -> key U+0061 CTRL | ^M -> key Enter NONE | ^?",
-                                 "      -> key Backspace NONE | SP -> key U+0020 NONE")),
-    ("bytes that aren't UTF-8", shows(b"\xff\xc3a\x9b", "   1  ff -> key U+FFFD NONE | c3 -> key U+FFFD NONE | a -> key U+0061 NONE | 9b",
-                                      "      -> key U+FFFD NONE")),
+    ("control characters", shows(b"\x00\x01\r\x7f ", "   1  ^@ -> key U+0000 NONE | ^A -> key U+0061 CTRL | ^M -> key Enter NONE |",
+                                 "      ^? -> key Backspace NONE | SP -> key U+0020 NONE")),
+    ("bytes that aren't UTF-8", shows(b"\xff\xc3a\x9b", "   1  ff -> key U+FFFD NONE | c3 -> key U+FFFD NONE | a -> key U+0061 NONE |",
+                                      "      9b -> key U+FFFD NONE")),
     ("control characters in a paste", shows(START + b"\033]0;x\x07\x9b\r\n" + END,
                                             "   1  ESC [ 2 0 0 ~ ESC ] 0 ; x ^G 9b ^M ^J ESC [ 2 0 1 ~ -> paste",
                                             "      11:1b5d303b7807efbfbd0d0a")),
