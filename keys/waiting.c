@@ -18,38 +18,67 @@ static size_t paste_start_length(const tw_parser *parser) {
 }
 
 typedef struct row {
-  size_t place, length;
+  tw_event event;
+  size_t length;
 } row;
 
-/* The rows that are named: those with the fewest bytes, since these are the keys without modifiers. */
+/* The rows that are named, the first of them first. No two have the same key. */
 typedef struct named {
   row rows[NAMED];
   size_t count;
 } named;
 
-/* Puts a row behind those that are no longer, if it is among the shortest. */
-static void name_row(named *it, row added) {
-  bool is_full = it->count == NAMED;
-  if (is_full && it->rows[NAMED - 1].length <= added.length) return;
-  size_t at = is_full ? NAMED - 1 : it->count++;
-  for (; at > 0 && it->rows[at - 1].length > added.length; at--) it->rows[at] = it->rows[at - 1];
-  it->rows[at] = added;
+static bool is_character(const row *it) {
+  return it->event.key == TW_KEY_CHAR;
+}
+
+static bool has_modifiers(const row *it) {
+  return it->event.modifiers != TW_MOD_NONE;
+}
+
+/* Named are first the keys that people know by their names, then those without modifiers, then those with the fewest bytes. */
+static bool comes_before(const row *one, const row *other) {
+  if (is_character(one) != is_character(other)) return is_character(other);
+  if (has_modifiers(one) != has_modifiers(other)) return has_modifiers(other);
+  return one->length < other->length;
+}
+
+static bool has_same_key(const row *one, const row *other) {
+  bool is_same = one->event.key == other->event.key && one->event.detail == other->event.detail;
+  return is_same && one->event.modifiers == other->event.modifiers;
+}
+
+/* The place of the row that has the same key, or that after the last. */
+static size_t place_of_key(const named *it, const row *added) {
+  size_t place = 0;
+  while (place < it->count && !has_same_key(&it->rows[place], added)) place++;
+  return place;
+}
+
+/* Puts a row behind those that don't come after it. It takes the place of one with its key, or of the last if all are taken. */
+static void name_row(named *it, const row *added) {
+  size_t place = place_of_key(it, added);
+  if (place == NAMED) place--;
+  if (place < it->count && !comes_before(added, &it->rows[place])) return;
+  if (place == it->count) it->count++;
+  for (; place > 0 && comes_before(added, &it->rows[place - 1]); place--) it->rows[place] = it->rows[place - 1];
+  it->rows[place] = *added;
 }
 
 static void find_named(named *it, const tw_parser *parser, const tw_rows *rows) {
-  tw_event event;
-  for (size_t place = rows->first; place < rows->first + rows->count; place++)
-    name_row(it, (row){ place, tw_row(parser, place, NULL, 0, &event) });
+  for (size_t place = rows->first; place < rows->first + rows->count; place++) {
+    row found;
+    found.length = tw_row(parser, place, NULL, 0, &found.event);
+    if (found.length > 0) name_row(it, &found);
+  }
 }
 
-static void add_listed_key(text *out, const tw_parser *parser, size_t place, bool with_alt) {
-  tw_event event;
-  if (tw_row(parser, place, NULL, 0, &event) == 0) return;
-  add_modifier_prefix(out, (uint16_t)(event.modifiers | (with_alt ? TW_MOD_ALT : TW_MOD_NONE)));
-  bool is_printable = event.key == TW_KEY_CHAR && event.detail > ' ' && event.detail < 0x7f;
-  if (event.key == TW_KEY_INTERNAL_PASTE_START) text_add(out, "a paste");
-  else if (is_printable) text_add(out, "%c", (char)event.detail);
-  else add_key(out, &event);
+static void add_listed_key(text *out, const tw_event *event, bool with_alt) {
+  bool is_printable = event->key == TW_KEY_CHAR && event->detail > ' ' && event->detail < 0x7f;
+  add_modifier_prefix(out, (uint16_t)(event->modifiers | (with_alt ? TW_MOD_ALT : TW_MOD_NONE)));
+  if (event->key == TW_KEY_INTERNAL_PASTE_START) text_add(out, "a paste");
+  else if (is_printable) text_add(out, "%c", (char)event->detail);
+  else add_key(out, event);
 }
 
 static void add_keys(text *out, const tw_parser *parser, const tw_rows *rows) {
@@ -57,7 +86,7 @@ static void add_keys(text *out, const tw_parser *parser, const tw_rows *rows) {
   find_named(&found, parser, rows);
   for (size_t i = 0; i < found.count; i++) {
     if (i > 0) text_add(out, ", ");
-    add_listed_key(out, parser, found.rows[i].place, rows->with_alt);
+    add_listed_key(out, &found.rows[i].event, rows->with_alt);
   }
   if (rows->count > found.count) text_add(out, ", .. (%zu more)", rows->count - found.count);
 }
@@ -68,7 +97,7 @@ static void add_sequence(text *out, const tw_parser *parser) {
     text_add(out, "the beginning of a mouse report");
     return;
   }
-  text_add(out, "a sequence that may become %zu key%s: ", rows.count, rows.count == 1 ? "" : "s");
+  text_add(out, "the beginning of %zu sequence%s: ", rows.count, rows.count == 1 ? "" : "s");
   add_keys(out, parser, &rows);
 }
 

@@ -29,7 +29,6 @@ ALL_MODES = ["--application-cursor-keys", "--modify-other-keys=2", "--mouse", "-
 ALL_SWITCHED = {"?1": True, ">4": 2, "?1003": True, "?1006": True, "?2004": True}
 ESCAPE = "Escape, or the beginning of a key: waits up to 50 ms"
 ALT_ESCAPE = "Alt-Escape, or the beginning of a key with Alt: waits up to 50 ms"
-SEQUENCE = r"a sequence that may become \d+ keys: .+, .+, .+, \.\. \(\d+ more\): waits up to 1 s"
 MOUSE = "the beginning of a mouse report: waits up to 1 s"
 
 
@@ -93,9 +92,15 @@ class Keys:
         self.terminal.wait_for(lambda: not self.screen().switched_on(), "end of the modes")
 
 
+def begins(count, *keys):
+    """The reason of a sequence that may become so many, with the keys that are named."""
+    more = f", .. ({count - 3} more)" if count > 3 else ""
+    return f"the beginning of {count} sequence{'s' if count > 1 else ''}: {', '.join(keys)}{more}: waits up to 1 s"
+
+
 def settles(typed, bytes_shown, reason, *events):
-    """A case in which bytes are typed that wait, for a reason that is a pattern, and become events where they are when the pause comes."""
-    waiting = re.escape(f"   1  {bytes_shown} -> ") + reason
+    """A case in which bytes are typed that wait, for a reason, and become events where they are when the pause comes."""
+    waiting = [HELLO, f"   1  {bytes_shown} -> {reason}"]
     settled = "   1  " + " | ".join(events)
 
     def case(program):
@@ -103,9 +108,7 @@ def settles(typed, bytes_shown, reason, *events):
             keys.send(typed)
             keys.wait_for_screen(settled)
             keys.end_with(settled)
-            frames = keys.screen().frames
-            if len(frames) != 1 or frames[0][0] != HELLO or not re.fullmatch(waiting, "\n".join(frames[0][1:])):
-                raise Failed(f"{frames!r} in place of {waiting!r}")
+            expect("frames before", keys.screen().frames, [waiting])
     return case
 
 
@@ -532,12 +535,39 @@ def refusals_of_memory(program):
             expect("with memory", found, run(program, *words))
 
 
+def screen_of_page(program):
+    """The screen that docs/keys.md shows, and the line that it shows before."""
+    with open("docs/keys.md", encoding="utf-8") as page:
+        before, screen, waiting = re.findall(r"<!-- not run: tools/keys_test[^>]*-->\n```(?:sh)?\n(.*?)\n```", page.read(), re.S)
+    expect("start", before, "hedrugal-keys")
+    steps = [b"a", b"\033", PAUSE, b"\033[", PAUSE, b"A", b"\033[<0;3;4M", b"\xc3", b"\xa9", START + b"hi\r" + END, b"\033[1"]
+    with Keys(program, "--mouse", "--bracketed-paste") as keys:
+        read = 0
+        for step in steps:
+            if isinstance(step, float):
+                time.sleep(step)
+                continue
+            read += 1
+            keys.send(step)
+            keys.wait_for_text(f"   {read}  ")
+        expect("screen", keys.screen().text(), screen.split("\n"))
+        expect("line before", [waiting] in [it[-1:] for it in keys.screen().frames], True)
+        keys.end()
+
+
 CASES = [
+    ("the screen of docs/keys.md", lambda program: run_tries(screen_of_page, program)),
     ("Escape", settles(b"\033", "ESC", ESCAPE, "ESC -> key Escape NONE")),
     ("Alt-Escape", settles(b"\033\033", "ESC ESC", ALT_ESCAPE, "ESC ESC -> key Escape ALT")),
-    ("a sequence", settles(b"\033[", "ESC [", SEQUENCE, "ESC [ -> key U+005B ALT")),
-    ("a longer sequence", settles(b"\033[1;", "ESC [ 1 ;", SEQUENCE, "ESC [ -> key U+005B ALT", "1 -> key U+0031 NONE",
-                                  "; -> key U+003B NONE")),
+    ("a sequence", settles(b"\033[", "ESC [", begins(2832, "UpArrow", "DownArrow", "RightArrow"), "ESC [ -> key U+005B ALT")),
+    ("a sequence after ESC", settles(b"\033\033[", "ESC ESC [", begins(2832, "Alt-UpArrow", "Alt-DownArrow", "Alt-RightArrow"),
+                                     "ESC ESC [ -> key U+005B ALT")),
+    ("a longer sequence", settles(b"\033[15", "ESC [ 1 5", begins(26, "F5", "Shift-F5", "Alt-F5"), "ESC [ -> key U+005B ALT",
+                                  "1 -> key U+0031 NONE", "5 -> key U+0035 NONE")),
+    ("two sequences", settles(b"\033[15;5", "ESC [ 1 5 ; 5", begins(2, "Ctrl-F5", "Ctrl-U+000F"), "ESC [ -> key U+005B ALT",
+                              "1 -> key U+0031 NONE", "5 -> key U+0035 NONE", "; -> key U+003B NONE", "5 -> key U+0035 NONE")),
+    ("the start of a paste", settles(b"\033[200", "ESC [ 2 0 0", begins(1, "a paste"), "ESC [ -> key U+005B ALT",
+                                     "2 -> key U+0032 NONE", "0 -> key U+0030 NONE", "0 -> key U+0030 NONE")),
     ("a mouse report", settles(b"\033[<0", "ESC [ < 0", MOUSE, "ESC [ -> key U+005B ALT", "< -> key U+003C NONE", "0 -> key U+0030 NONE")),
     ("half a character", half_character),
     ("an open paste", open_paste),
