@@ -137,12 +137,20 @@ static bool enter_terminal(keys *it) {
   return terminal_enter(&it->terminal) || fail(it, "raw mode can't be set", errno);
 }
 
-/* Another program had the terminal: what was buffered before no longer counts, and the size may be new. */
-static bool resume(keys *it) {
+static void forget_waiting(keys *it) {
+  text reason = { .length = 0 };
+  text_add(&reason, "forgotten, since another program had the terminal");
+  if (line_waiting(&it->line) > 0) draw(it, &reason);
   tw_parser_reset(&it->parser);
   line_forget(&it->line);
+}
+
+/* Another program had the terminal: what was buffered before no longer counts, and the size may be new. */
+static bool resume(keys *it) {
+  if (!enter_terminal(it)) return false;
   take_size(it);
-  return enter_terminal(it);
+  forget_waiting(it);
+  return true;
 }
 
 static bool handle_wake(keys *it) {

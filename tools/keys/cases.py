@@ -370,7 +370,7 @@ def stop_and_continue(program):
         keys.terminal.wait_for(lambda: keys.screen().switched_on() == ALL_SWITCHED, "modes")
         expect("raw mode again", keys.terminal.is_raw(), True)
         keys.send(b"b")
-        keys.wait_for_screen(*first, "   2  b -> key U+0062 NONE")
+        keys.wait_for_screen(*first, "   1  ESC [ 2 0 0 ~ a -> forgotten, since another program had the terminal", "   2  b -> key U+0062 NONE")
         check_stopped(keys)
         keys.terminal.kill(signal.SIGTERM)
         keys.terminal.kill(signal.SIGCONT)
@@ -585,7 +585,7 @@ CASES = [
     ("a narrow terminal", narrow),
     ("a terminal of twelve columns", very_narrow),
     ("a terminal of three rows", low),
-    ("a new size", resized),
+    ("a new size", lambda program: run_tries(resized, program)),
     ("colours", colours),
     ("NO_COLOR", no_colour),
     ("NO_COLOR, empty", empty_no_colour),
