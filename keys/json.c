@@ -15,15 +15,12 @@ static void begin_object(const line *of, size_t start, size_t length, const char
   printf("\",\"earlier\":%zu,\"kind\":\"%s\"", line_earlier(of, start, length), kind);
 }
 
-typedef const char *flag_at(size_t place, uint16_t *bit);
-
-static void put_flags(const char *field, flag_at *at, unsigned set) {
-  const char *before = "", *name;
-  uint16_t bit;
+static void put_flags(const char *field, const flag *flags, unsigned set) {
+  const char *before = "";
   printf(",\"%s\":[", field);
-  for (size_t place = 0; (name = at(place, &bit)) != NULL; place++) {
-    if (!(set & bit)) continue;
-    printf("%s\"%s\"", before, name);
+  for (const flag *it = flags; it->name; it++) {
+    if (!(set & it->bit)) continue;
+    printf("%s\"%s\"", before, it->name);
     before = ",";
   }
   putchar(']');
@@ -72,13 +69,13 @@ static void put_key(const tw_event *event) {
   text name = { .length = 0 };
   add_key(&name, event);
   printf(",\"key\":\"%s\"", name.bytes);
-  put_flags("modifiers", modifier_at, event->modifiers);
+  put_flags("modifiers", modifier_flags, event->modifiers);
 }
 
 static void put_mouse(const tw_event *event) {
   printf(",\"x\":%u,\"y\":%u", event->x, event->y);
-  put_flags("buttons", button_at, event->buttons);
-  put_flags("modifiers", modifier_at, event->modifiers);
+  put_flags("buttons", button_flags, event->buttons);
+  put_flags("modifiers", modifier_flags, event->modifiers);
 }
 
 static const char *kind_name(uint8_t kind) {

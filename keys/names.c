@@ -1,11 +1,6 @@
 #include "names.h"
 
-typedef struct flag {
-  uint16_t bit;
-  const char *name, *prefix;
-} flag;
-
-static const flag modifier_flags[] = {
+const flag modifier_flags[] = {
   { TW_MOD_SHIFT, "SHIFT", "Shift-" },
   { TW_MOD_ALT, "ALT", "Alt-" },
   { TW_MOD_CTRL, "CTRL", "Ctrl-" },
@@ -20,7 +15,7 @@ static const flag modifier_flags[] = {
   { 0, NULL, NULL },
 };
 
-static const flag button_flags[] = {
+const flag button_flags[] = {
   { TW_BUTTON_LEFT, "LEFT", NULL },
   { TW_BUTTON_RIGHT, "RIGHT", NULL },
   { TW_BUTTON_MIDDLE, "MIDDLE", NULL },
@@ -46,7 +41,7 @@ void add_key(text *out, const tw_event *event) {
   else text_add(out, "%.*s", length, name);
 }
 
-static void add_flags(text *out, const flag *flags, unsigned set) {
+void add_flags(text *out, const flag *flags, unsigned set) {
   const char *before = "";
   for (const flag *it = flags; it->name; it++) {
     if (!(set & it->bit)) continue;
@@ -56,25 +51,7 @@ static void add_flags(text *out, const flag *flags, unsigned set) {
   if (set == 0) text_add(out, "NONE");
 }
 
-void add_modifiers(text *out, uint16_t modifiers) {
-  add_flags(out, modifier_flags, modifiers);
-}
-
-void add_buttons(text *out, uint8_t buttons) {
-  add_flags(out, button_flags, buttons);
-}
-
-void add_modifier_prefix(text *out, uint16_t modifiers) {
+void add_prefixes(text *out, unsigned modifiers) {
   for (const flag *it = modifier_flags; it->name; it++)
     if (modifiers & it->bit) text_add(out, "%s", it->prefix);
-}
-
-const char *modifier_at(size_t place, uint16_t *bit) {
-  *bit = modifier_flags[place].bit;
-  return modifier_flags[place].name;
-}
-
-const char *button_at(size_t place, uint16_t *bit) {
-  *bit = button_flags[place].bit;
-  return button_flags[place].name;
 }

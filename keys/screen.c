@@ -100,10 +100,6 @@ typedef struct item {
   const char *meaning;
 } item;
 
-static bool is_cut(const item *of) {
-  return of->length > LONGEST;
-}
-
 static void put_byte(screen *it, const item *of, size_t place) {
   text word = { .length = 0 };
   if (place == 0 && of->earlier > 0) text_add(&word, "(");
@@ -119,14 +115,18 @@ static void put_cut(screen *it, const item *of) {
   put_words(it, dim, words.bytes);
 }
 
+static void put_range(screen *it, const item *of, size_t first, size_t end) {
+  for (size_t place = first; place < end; place++) put_byte(it, of, place);
+}
+
 static void put_bytes(screen *it, const item *of) {
-  for (size_t place = 0; place < of->length; place++) {
-    if (place == HEAD && is_cut(of)) {
-      put_cut(it, of);
-      place = of->length - TAIL;
-    }
-    put_byte(it, of, place);
+  if (of->length <= LONGEST) {
+    put_range(it, of, 0, of->length);
+    return;
   }
+  put_range(it, of, 0, HEAD);
+  put_cut(it, of);
+  put_range(it, of, of->length - TAIL, of->length);
 }
 
 static void put_item_words(screen *it, const item *of) {
@@ -167,13 +167,13 @@ static void add_event(text *out, const group *of) {
   }
   if (event->kind == TW_MOUSE) {
     text_add(out, "mouse %u %u ", event->x, event->y);
-    add_buttons(out, event->buttons);
+    add_flags(out, button_flags, event->buttons);
   } else {
     text_add(out, "key ");
     add_key(out, event);
   }
   text_add(out, " ");
-  add_modifiers(out, event->modifiers);
+  add_flags(out, modifier_flags, event->modifiers);
 }
 
 static void put_group(screen *it, const line *shown, const group *of) {

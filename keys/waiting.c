@@ -75,7 +75,7 @@ static void find_named(named *it, const tw_parser *parser, const tw_rows *rows) 
 
 static void add_listed_key(text *out, const tw_event *event, bool with_alt) {
   bool is_printable = event->key == TW_KEY_CHAR && event->detail > ' ' && event->detail < 0x7f;
-  add_modifier_prefix(out, (uint16_t)(event->modifiers | (with_alt ? TW_MOD_ALT : TW_MOD_NONE)));
+  add_prefixes(out, event->modifiers | (with_alt ? TW_MOD_ALT : TW_MOD_NONE));
   if (event->key == TW_KEY_INTERNAL_PASTE_START) text_add(out, "a paste");
   else if (is_printable) text_add(out, "%c", (char)event->detail);
   else add_key(out, event);

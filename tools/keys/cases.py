@@ -1,6 +1,7 @@
 """Runs hedrugal-keys on a pseudo-terminal and over pipes. tools/keys_test.sh says more."""
 import json
 import os
+import random
 import re
 import signal
 import subprocess
@@ -479,6 +480,38 @@ def reads_of_4096(program):
         expect("second line", second, "   2  (ESC [) A -> key UpArrow NONE | b -> key U+0062 NONE | ESC -> key Escape NONE")
 
 
+def file_on_a_terminal(program):
+    """It is shown as on a terminal, and the terminal's settings and modes stay."""
+    with tempfile.NamedTemporaryFile() as file:
+        file.write(b"abcd\033")
+        file.flush()
+        terminal = Terminal(["/bin/sh", "-c", 'NO_COLOR=1 TERM=xterm exec "$@"', "sh", program, file.name])
+        try:
+            expect("status", terminal.wait_for_end(), 0)
+            while terminal.read(0):
+                pass
+            screen = Screen().take(terminal.output)
+            expect("settings", terminal.settings(), terminal.before)
+            expect("modes and frames", (screen.modes, screen.frames), ({}, []))
+            expect("screen", screen.text(), ["   1  a -> key U+0061 NONE | b -> key U+0062 NONE | c -> key U+0063 NONE |",
+                                             "      d -> key U+0064 NONE | ESC -> key Escape NONE"])
+        finally:
+            terminal.close()
+
+
+def random_bytes(program):
+    """Each byte belongs to exactly one group, and what is shown is printable ASCII."""
+    pieces = [START, END, b"\033", b"\033[", b"\033[A", b"\033[<0;3;4M", b"\033[1;5", b"\xc3", b"\xa9", b"\xff", b"\x00", b"\x9b", b"a", b"u", b"~"]
+    chosen = random.Random(7)
+    for _ in range(20):
+        typed = b"".join(chosen.choice(pieces) for _ in range(chosen.randrange(3000)))
+        status, out, errors = run(program, "--json", typed=typed)
+        groups = [bytes.fromhex(json.loads(line)["bytes"]) for line in out.splitlines()]
+        expect("all", (status, errors, b"".join(groups)), (0, "", typed))
+        status, out, errors = run(program, typed=typed)
+        expect("status and unprintable bytes", (status, errors, re.findall(r"[^ -~\n]", out)), (0, "", []))
+
+
 def closed_pipe(program):
     reader, writer = os.pipe()
     os.close(reader)
@@ -614,6 +647,8 @@ CASES = [
     ("JSON, from a pipe", prints(ALL_KINDS, *ALL_AS_JSON, words=["--json"])),
     ("JSON, from a file", prints(ALL_KINDS, *ALL_AS_JSON, words=["--json"], from_file=True)),
     ("reads of 4096 bytes", reads_of_4096),
+    ("a file on a terminal", file_on_a_terminal),
+    ("random bytes", random_bytes),
     ("a closed pipe", closed_pipe),
     ("a full disk", full_disk()),
     ("a full disk, JSON", full_disk("--json")),
