@@ -40,5 +40,6 @@ fi
 progress 'builds the program'
 strict=(-Wall -Wextra -pedantic -Werror)
 run_quietly build_keys "$library" "$work/hedrugal-keys" "${strict[@]}" || exit
-run_quietly build_keys "$library" "$work/hedrugal-keys_refusing" "${strict[@]}" -Wl,--wrap=malloc -Wl,--wrap=realloc tools/keys/refuse.c || exit
+refusing=(-Wl,--wrap=malloc -Wl,--wrap=realloc tools/keys/refuse.c)
+run_quietly build_keys "$library" "$work/hedrugal-keys_refusing" "${strict[@]}" "${refusing[@]}" || exit
 PYTHONPATH=tools/live python3 -B tools/keys/cases.py "$work/hedrugal-keys"

@@ -371,7 +371,8 @@ def stop_and_continue(program):
         keys.terminal.wait_for(lambda: keys.screen().switched_on() == ALL_SWITCHED, "modes")
         expect("raw mode again", keys.terminal.is_raw(), True)
         keys.send(b"b")
-        keys.wait_for_screen(*first, "   1  ESC [ 2 0 0 ~ a -> forgotten, since another program had the terminal", "   2  b -> key U+0062 NONE")
+        keys.wait_for_screen(*first, "   1  ESC [ 2 0 0 ~ a -> forgotten, since another program had the terminal",
+                             "   2  b -> key U+0062 NONE")
         check_stopped(keys)
         keys.terminal.kill(signal.SIGTERM)
         keys.terminal.kill(signal.SIGCONT)
@@ -501,7 +502,8 @@ def file_on_a_terminal(program):
 
 def random_bytes(program):
     """Each byte belongs to exactly one group, and what is shown is printable ASCII."""
-    pieces = [START, END, b"\033", b"\033[", b"\033[A", b"\033[<0;3;4M", b"\033[1;5", b"\xc3", b"\xa9", b"\xff", b"\x00", b"\x9b", b"a", b"u", b"~"]
+    pieces = [START, END, b"\033", b"\033[", b"\033[A", b"\033[<0;3;4M", b"\033[1;5", b"\xc3", b"\xa9", b"\xff", b"\x00", b"\x9b", b"a", b"u",
+              b"~"]
     chosen = random.Random(7)
     for _ in range(20):
         typed = b"".join(chosen.choice(pieces) for _ in range(chosen.randrange(3000)))
@@ -643,7 +645,8 @@ CASES = [
     ("an empty pipe", prints(b"")),
     ("an open paste at the end", prints(START + b"x", "   1  ESC [ 2 0 0 ~ x -> a paste of 1 bytes so far: its end never came")),
     ("hexadecimal, from a pipe", prints(b"a\033[A", "   1  61 -> key U+0061 NONE | 1b 5b 41 -> key UpArrow NONE", words=["--hex"])),
-    ("hexadecimal, from a file", prints(b"a\033[A", "   1  61 -> key U+0061 NONE | 1b 5b 41 -> key UpArrow NONE", words=["--hex"], from_file=True)),
+    ("hexadecimal, from a file", prints(b"a\033[A", "   1  61 -> key U+0061 NONE | 1b 5b 41 -> key UpArrow NONE", words=["--hex"],
+                                        from_file=True)),
     ("JSON, from a pipe", prints(ALL_KINDS, *ALL_AS_JSON, words=["--json"])),
     ("JSON, from a file", prints(ALL_KINDS, *ALL_AS_JSON, words=["--json"], from_file=True)),
     ("reads of 4096 bytes", reads_of_4096),
