@@ -8,8 +8,8 @@
 # have each call as the header declares it. Each file has to be gone once it is uninstalled, and no other.
 #
 # DIR is a folder that tools/c_library.sh wrote, each FILE the program; what isn't named is proved and built first. The last line is
-# 'N passed, N failed', the status 1 if a case failed. It needs cc, binutils and pkg-config, and rt to build. The manual pages are checked by
-# mandoc or man too if one of them is there.
+# 'N passed, N failed', the status 1 if a case failed. It needs cc, binutils and pkg-config, and rt to build. The manual pages are checked
+# by mandoc or man too if one of them is there.
 set -u
 export LC_ALL=C
 . "$(dirname "$0")/common.sh"

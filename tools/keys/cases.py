@@ -502,8 +502,8 @@ def file_on_a_terminal(program):
 
 def random_bytes(program):
     """Each byte belongs to exactly one group, and what is shown is printable ASCII."""
-    pieces = [START, END, b"\033", b"\033[", b"\033[A", b"\033[<0;3;4M", b"\033[1;5", b"\xc3", b"\xa9", b"\xff", b"\x00", b"\x9b", b"a", b"u",
-              b"~"]
+    pieces = [START, END, b"\033", b"\033[", b"\033[A", b"\033[<0;3;4M", b"\033[1;5", b"\xc3", b"\xa9", b"\xff", b"\x00", b"\x9b", b"a",
+              b"u", b"~"]
     chosen = random.Random(7)
     for _ in range(20):
         typed = b"".join(chosen.choice(pieces) for _ in range(chosen.randrange(3000)))
