@@ -79,6 +79,12 @@ run_quietly() { # words..
     return "$status"
 }
 
+# Builds the program hedrugal-keys over a library's archive. Further words go to the compiler. It is called at the top of the repository.
+build_keys() { # library program [words..]
+    cc -std=c11 -O2 -D_FORTIFY_SOURCE=2 -fstack-protector-strong -fPIE -pie -Wl,-z,relro,-z,now "${@:3}" -I"$1" keys/*.c \
+        "$1/libtermwiz_c.a" -o "$2"
+}
+
 # Ends the script over a library, $library, that isn't that of these sources. It is called at the top of the repository.
 check_library() {
     for name in libtermwiz_c.a "libtermwiz_c.so.$(library_version)" termwiz_input.h termwiz_c.pc; do
@@ -89,11 +95,13 @@ check_library() {
     done
 }
 
-# Looks at the library and the program that were named, and proves and builds those that weren't. Then $library is the library's folder, if
-# need be one in the folder $work, and $keyshow the program. It is called at the top of the repository.
+# Looks at the library and the programs that were named, and proves and builds those that weren't. Then $library is the library's folder, if
+# need be one in the folder $work, $keyshow the program, and $keys hedrugal-keys. It is called at the top of the repository.
 build_unnamed() {
     [ -z "$library" ] || check_library
     [ -z "$keyshow" ] || { [ -x "$keyshow" ] && [ -f "$keyshow" ]; } || refuse "'$keyshow' is no program"
+    [ -z "$keys" ] || { [ -x "$keys" ] && [ -f "$keys" ]; } || refuse "'$keys' is no program"
+    [ -n "$keys" ] || need cc 'gcc (or name hedrugal-keys by --keys)'
     { [ -n "$library" ] && [ -n "$keyshow" ]; } || need rt 'the Rattle kit (or name the library by --library and the program by --keyshow)'
     stop_if_missing
     if [ -z "$library" ]; then
@@ -105,6 +113,11 @@ build_unnamed() {
         progress 'proves and builds keyshow'
         (cd crates/keyshow && run_quietly rt run < stdin) || exit
         keyshow=$PWD/crates/keyshow/out/keyshow
+    fi
+    if [ -z "$keys" ]; then
+        progress 'builds hedrugal-keys'
+        keys=$work/hedrugal-keys
+        run_quietly build_keys "$library" "$keys" || exit
     fi
 }
 

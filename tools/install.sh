@@ -1,7 +1,7 @@
 #!/usr/bin/env bash
-# Installs the library for C and keyshow, or takes them away:
+# Installs the library for C, keyshow and hedrugal-keys, or takes them away:
 #
-#     tools/install.sh [--prefix DIR] [--destdir DIR] [--libdir NAME] [--library DIR] [--keyshow FILE]
+#     tools/install.sh [--prefix DIR] [--destdir DIR] [--libdir NAME] [--library DIR] [--keyshow FILE] [--keys FILE]
 #     tools/install.sh --uninstall [--prefix DIR] [--destdir DIR] [--libdir NAME]
 #
 # Below the prefix, /usr/local unless --prefix names another, it puts
@@ -9,14 +9,15 @@
 #     include         termwiz_input.h
 #     lib             libtermwiz_c.a, libtermwiz_c.so and the file to which that leads
 #     lib/pkgconfig   termwiz_c.pc
-#     bin             keyshow
-#     share/man       keyshow.1, termwiz_input.3, and for each call a link to the latter
+#     bin             keyshow, hedrugal-keys
+#     share/man       keyshow.1, hedrugal-keys.1, termwiz_input.3, and for each call a link to the latter
 #
 # termwiz_c.pc names no folder but by where it lies itself, so the prefix may be moved as a whole. --destdir names a folder that is put
 # before the prefix, as a package is made. --libdir names the folder of the libraries below the prefix, such as lib64.
 #
-# --library names a folder that tools/c_library.sh wrote from these sources, --keyshow a program that was built from them. What isn't
-# named is proved and built first, which needs rt and what tools/c_library.sh needs. A relative DIR is one of the caller's folder.
+# --library names a folder that tools/c_library.sh wrote from these sources, --keyshow and --keys the programs that were built from them.
+# What isn't named is built first: hedrugal-keys by cc; the others are proved too, which needs rt and what tools/c_library.sh needs. A
+# relative DIR is one of the caller's folder.
 #
 # --uninstall removes the files of the list above, and says which of them aren't there; the status is 1 if none is. Of their folders it
 # removes those that are left empty, the prefix too, and those above it in DESTDIR. But the folders of /, /usr and /usr/local stay, unless
@@ -24,7 +25,7 @@
 set -eu
 export LC_ALL=C
 . "$(dirname "$0")/common.sh"
-prefix=/usr/local destdir='' libdir=lib library='' keyshow='' is_uninstall=no
+prefix=/usr/local destdir='' libdir=lib library='' keyshow='' keys='' is_uninstall=no
 while [ $# -gt 0 ]; do
     case $1 in
         --help) show_help; exit ;;
@@ -34,6 +35,7 @@ while [ $# -gt 0 ]; do
         --libdir) want_next "$@"; libdir=$2; shift ;;
         --library) want_next "$@"; library=$(realpath -- "$2"); shift ;;
         --keyshow) want_next "$@"; keyshow=$(realpath -- "$2"); shift ;;
+        --keys) want_next "$@"; keys=$(realpath -- "$2"); shift ;;
         *) refuse_word "$1" ;;
     esac
     shift
@@ -56,7 +58,9 @@ list_files() {
     echo "$libdir/libtermwiz_c.so link libtermwiz_c.so.$version"
     echo "$libdir/pkgconfig/termwiz_c.pc 644 $work/termwiz_c.pc"
     echo "bin/keyshow 755 $keyshow"
+    echo "bin/hedrugal-keys 755 $keys"
     echo "share/man/man1/keyshow.1 644 docs/man/keyshow.1"
+    echo "share/man/man1/hedrugal-keys.1 644 docs/man/hedrugal-keys.1"
     echo "share/man/man3/termwiz_input.3 644 docs/man/termwiz_input.3"
     library_calls | sed 's|.*|share/man/man3/&.3 link termwiz_input.3|'
 }

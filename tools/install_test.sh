@@ -1,24 +1,25 @@
 #!/usr/bin/env bash
-# Installs the library for C and keyshow in temporary folders by tools/install.sh, and tests what lies there.
+# Installs the library for C, keyshow and hedrugal-keys in temporary folders by tools/install.sh, and tests what lies there.
 #
-#     tools/install_test.sh [--library DIR] [--keyshow FILE]
+#     tools/install_test.sh [--library DIR] [--keyshow FILE] [--keys FILE]
 #
 # Programs are built by pkg-config, with the shared library and with the archive, where the files were installed and after the prefix was
 # moved. The shared library has to export the calls of the header alone, and to be linked as tools/c_library.sh says. The manual page has to
 # have each call as the header declares it. Each file has to be gone once it is uninstalled, and no other.
 #
-# DIR is a folder that tools/c_library.sh wrote, FILE the program; what isn't named is proved and built first. The last line is 'N passed,
-# N failed', the status 1 if a case failed. It needs cc, binutils and pkg-config, and rt to build. The manual pages are checked by mandoc
-# or man too if one of them is there.
+# DIR is a folder that tools/c_library.sh wrote, each FILE the program; what isn't named is proved and built first. The last line is
+# 'N passed, N failed', the status 1 if a case failed. It needs cc, binutils and pkg-config, and rt to build. The manual pages are checked
+# by mandoc or man too if one of them is there.
 set -u
 export LC_ALL=C
 . "$(dirname "$0")/common.sh"
-library='' keyshow=''
+library='' keyshow='' keys=''
 while [ $# -gt 0 ]; do
     case $1 in
         --help) show_help; exit ;;
         --library) want_next "$@"; library=$(realpath -- "$2") || exit; shift ;;
         --keyshow) want_next "$@"; keyshow=$(realpath -- "$2") || exit; shift ;;
+        --keys) want_next "$@"; keys=$(realpath -- "$2") || exit; shift ;;
         *) refuse_word "$1" ;;
     esac
     shift
@@ -36,7 +37,7 @@ install=$PWD/tools/install.sh
 page=docs/man/termwiz_input.3
 version=$(library_version)
 major=${version%%.*}
-built=(--library "$library" --keyshow "$keyshow")
+built=(--library "$library" --keyshow "$keyshow" --keys "$keys")
 top=$work/stage/usr/local
 strict='-std=c99 -O1 -Wall -Wextra -pedantic -Werror'
 # Beside the source the header of these sources would be found first.
@@ -49,6 +50,7 @@ listed() { # folder
 
 check_files() {
     {
+        echo 'bin/hedrugal-keys 755'
         echo 'bin/keyshow 755'
         echo 'include/termwiz_input.h 644'
         echo 'lib/libtermwiz_c.a 644'
@@ -56,6 +58,7 @@ check_files() {
         echo "lib/libtermwiz_c.so.$major -> libtermwiz_c.so.$version"
         echo "lib/libtermwiz_c.so.$version 755"
         echo 'lib/pkgconfig/termwiz_c.pc 644'
+        echo 'share/man/man1/hedrugal-keys.1 644'
         echo 'share/man/man1/keyshow.1 644'
         echo 'share/man/man3/termwiz_input.3 644'
         library_calls | sed 's|.*|share/man/man3/&.3 -> termwiz_input.3|'
@@ -113,6 +116,14 @@ check_static() { # prefix libdir
 check_keyshow() {
     printf '\033[1;5Az\033' | "$top/bin/keyshow" > "$work/lines" && [ -s "$work/lines" ] &&
         diff "$work/lines" <(sed -n '/| keyshow$/,/^\.Ed/p' "$top/share/man/man1/keyshow.1" | sed '1d;$d')
+}
+
+# It needs the C library alone.
+check_keys() {
+    [ "$(readelf -dW "$top/bin/hedrugal-keys" | grep -o 'Shared library: .*')" = 'Shared library: [libc.so.6]' ] &&
+        "$top/bin/hedrugal-keys" --version | grep -xF "hedrugal-keys $version" &&
+        printf 'z\033[1;5A\033' | "$top/bin/hedrugal-keys" > "$work/lines" && [ -s "$work/lines" ] &&
+        diff "$work/lines" <(sed -n '/| hedrugal-keys$/,/^\.Ed/p' "$top/share/man/man1/hedrugal-keys.1" | sed '1d;$d')
 }
 
 # For another target the compiler says what the library is built for.
@@ -212,7 +223,7 @@ check_uninstall_of_stage() {
 # A library of other sources isn't installed.
 check_stale() {
     cp -a "$library" "$work/stale" && echo >> "$work/stale/termwiz_input.h" &&
-        ! "$install" --library "$work/stale" --keyshow "$keyshow" --prefix "$work/none" 2> "$work/words" &&
+        ! "$install" --library "$work/stale" --keyshow "$keyshow" --keys "$keys" --prefix "$work/none" 2> "$work/words" &&
         grep -F 'was built from other sources' "$work/words" && [ ! -e "$work/none" ]
 }
 
@@ -224,6 +235,7 @@ check 'hardening of the shared library' check_hardening
 check 'program with the shared library' check_shared "$top" lib
 check 'program with the archive' check_static "$top" lib
 check 'keyshow, as its manual page shows it' check_keyshow
+check 'hedrugal-keys, as its manual page shows it' check_keys
 for option in -m32 -mx32 -U__linux__; do check "header with $option" check_refused $option; done
 check 'calls in the manual page' check_calls_page
 check 'example of the manual page' check_example

@@ -1,36 +1,38 @@
 #!/usr/bin/env bash
 # Makes what a machine without the Rattle kit installs:
 #
-#     tools/package.sh [--library DIR] [--keyshow FILE] [OUT]
+#     tools/package.sh [--library DIR] [--keyshow FILE] [--keys FILE] [OUT]
 #
 # In the folder OUT, out/packages of this repository if none is named, it writes
 #
 #     libtermwiz-input0_VERSION-1_amd64.deb             the shared library, for Debian and what descends from it
 #     libtermwiz-input-dev_VERSION-1_amd64.deb          header, archive, termwiz_c.pc, manual page, two programs to start from
-#     keyshow_VERSION-1_amd64.deb                       the program and its manual page
+#     keyshow_VERSION-1_amd64.deb                       keyshow, hedrugal-keys and their manual pages
 #     hedrugal-VERSION-x86_64-linux.tar.gz              one folder with all of these, the Rust package and the Python module
 #     hedrugal-VERSION-py3-none-manylinux_*_x86_64.whl  the Python module and the shared library, for pip
 #     SHA256SUMS                                        the checksums of these files
 #
 # and removes what an earlier run left there under such names. docs/packages.md says how each is used.
 #
-# --library names a folder that tools/c_library.sh wrote from these sources, --keyshow a program that was built from them. What isn't
-# named is proved and built first, which needs rt and what tools/c_library.sh needs. A relative name is one of the caller's folder.
+# --library names a folder that tools/c_library.sh wrote from these sources, --keyshow and --keys the programs that were built from them.
+# What isn't named is built first: hedrugal-keys by cc; the others are proved too, which needs rt and what tools/c_library.sh needs. A
+# relative name is one of the caller's folder.
 #
-# The same sources, library and program make the same bytes, in any folder. All dates are that of the last commit, or SOURCE_DATE_EPOCH
-# if it is set. Files belong to root. The library and the program are stripped of what they don't need to be linked or run.
+# The same sources, library and programs make the same bytes, in any folder. All dates are that of the last commit, or SOURCE_DATE_EPOCH
+# if it is set. Files belong to root. The library and the programs are stripped of what they don't need to be linked or run.
 #
 # It needs dpkg-deb, python3, tar, gzip and binutils, and git for the date.
 set -euo pipefail
 export LC_ALL=C TZ=UTC
 umask 022
 . "$(dirname "$0")/common.sh"
-library='' keyshow='' out=''
+library='' keyshow='' keys='' out=''
 while [ $# -gt 0 ]; do
     case $1 in
         --help) show_help; exit ;;
         --library) want_next "$@"; library=$(realpath -- "$2"); shift ;;
         --keyshow) want_next "$@"; keyshow=$(realpath -- "$2"); shift ;;
+        --keys) want_next "$@"; keys=$(realpath -- "$2"); shift ;;
         -*) refuse_word "$1" ;;
         *) [ -z "$out" ] || refuse_word "$1"; out=$(realpath -m -- "$1") ;;
     esac
@@ -53,17 +55,19 @@ mkdir "$made" "$stripped" "$tree"
 . tools/package/debian.sh
 build_unnamed
 
-# Copies the library and the program, without what isn't needed to link and run them.
+# Copies the library and the programs, without what isn't needed to link and run them.
 strip_built() {
     cp -P "$library"/libtermwiz_c.* "$library/termwiz_input.h" "$library/termwiz_c.pc" "$stripped/"
     cp "$keyshow" "$stripped/keyshow"
+    cp "$keys" "$stripped/hedrugal-keys"
     strip -D --strip-debug --remove-section=.comment "$stripped/libtermwiz_c.a"
-    strip --strip-unneeded --remove-section=.comment --remove-section=.note "$stripped/libtermwiz_c.so.$version" "$stripped/keyshow"
+    strip --strip-unneeded --remove-section=.comment --remove-section=.note "$stripped/libtermwiz_c.so.$version" \
+        "$stripped/keyshow" "$stripped/hedrugal-keys"
 }
 
 # Installs them in a folder for packages.
 install_stripped() { # words of tools/install.sh
-    tools/install.sh --library "$stripped" --keyshow "$stripped/keyshow" "$@" > /dev/null
+    tools/install.sh --library "$stripped" --keyshow "$stripped/keyshow" --keys "$stripped/hedrugal-keys" "$@" > /dev/null
 }
 
 # Prints the version of the GNU C Library that a file needs.

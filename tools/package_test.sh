@@ -1,7 +1,7 @@
 #!/usr/bin/env bash
 # Makes the packages of tools/package.sh, and tests them as on a machine without the Rattle kit.
 #
-#     tools/package_test.sh [--library DIR] [--keyshow FILE] [--without-lintian]
+#     tools/package_test.sh [--library DIR] [--keyshow FILE] [--keys FILE] [--without-lintian]
 #
 # The packages are made twice, from two folders, and have to be the same bytes. lintian has to find nothing in the Debian packages but what
 # the files tools/package/debian/*.lintian-overrides explain. Their files, fields and exported calls have to be those that are expected.
@@ -11,18 +11,19 @@
 # place of the system's root, the tarball is unpacked in a folder whose name has a space, and the wheel is installed in a virtual
 # environment. At last dpkg has to remove all that it installed.
 #
-# DIR is a folder that tools/c_library.sh wrote, FILE the program; what isn't named is proved and built first. The last line is 'N passed,
+# DIR is a folder that tools/c_library.sh wrote, each FILE the program; what isn't named is proved and built first. The last line is 'N passed,
 # N failed', the status 1 if a case failed. It needs lintian (but for --without-lintian), dpkg, cc, binutils, pkg-config, cargo, python3 with venv and pip, and what
 # tools/package.sh needs.
 set -u
 export LC_ALL=C.UTF-8
 . "$(dirname "$0")/common.sh"
-library='' keyshow='' has_lintian=yes
+library='' keyshow='' keys='' has_lintian=yes
 while [ $# -gt 0 ]; do
     case $1 in
         --help) show_help; exit ;;
         --library) want_next "$@"; library=$(realpath -- "$2") || exit; shift ;;
         --keyshow) want_next "$@"; keyshow=$(realpath -- "$2") || exit; shift ;;
+        --keys) want_next "$@"; keys=$(realpath -- "$2") || exit; shift ;;
         --without-lintian) has_lintian=no ;;
         *) refuse_word "$1" ;;
     esac
@@ -45,7 +46,7 @@ version=$(library_version)
 major=${version%%.*}
 debian='keyshow libtermwiz-input-dev libtermwiz-input0'
 packages=$work/packages unpacked=$work/unpacked root=$work/root
-built=(--library "$library" --keyshow "$keyshow")
+built=(--library "$library" --keyshow "$keyshow" --keys "$keys")
 libdir=usr/lib/x86_64-linux-gnu
 system_library=$unpacked/libtermwiz-input0/$libdir/libtermwiz_c.so.$version
 SOURCE_DATE_EPOCH=${SOURCE_DATE_EPOCH:-$(git log -1 --format=%ct)}
@@ -57,7 +58,7 @@ kit=$PWD
 # From a copy of the sources, in another folder and for another user's settings.
 make_again() {
     local copy="$work/a copy"
-    mkdir "$copy" && tar --exclude=target -c CHANGELOG.md LICENSE c docs python rust tools | tar -C "$copy" -x || return
+    mkdir "$copy" && tar --exclude=target -c CHANGELOG.md LICENSE c docs keys python rust tools | tar -C "$copy" -x || return
     (cd / && umask 077 && TZ=Asia/Tokyo "$copy/tools/package.sh" "${built[@]}" "$work/again") && diff -r "$packages" "$work/again"
 }
 
@@ -96,8 +97,8 @@ expected_files() { # package
     expected_documents "$1"
     case $1 in
         keyshow)
-            echo 'usr/bin/keyshow 755'
-            echo 'usr/share/man/man1/keyshow.1.gz 644' ;;
+            printf 'usr/bin/%s 755\n' hedrugal-keys keyshow
+            printf 'usr/share/man/man1/%s.1.gz 644\n' hedrugal-keys keyshow ;;
         libtermwiz-input-dev)
             echo 'usr/include/termwiz_input.h 644'
             echo "$libdir/libtermwiz_c.a 644"
@@ -143,10 +144,10 @@ check_exports() {
         grep -xF 'activate-noawait ldconfig' "$control/triggers"
 }
 
-# What dpkg-shlibdeps says that a file needs is what its package depends on.
-check_dependency() { # package file
+# What dpkg-shlibdeps says that files need is what their package depends on.
+check_dependency() { # package files..
     mkdir -p "$work/source/debian" && printf 'Source: any\n\nPackage: any\nArchitecture: any\n' > "$work/source/debian/control" || return
-    diff <(cd "$work/source" && dpkg-shlibdeps -O "$unpacked/$1/$2") <(echo "shlibs:Depends=$(dpkg-deb -f "$packages/$1"_*.deb Depends)")
+    diff <(cd "$work/source" && dpkg-shlibdeps -O "${@:2}") <(echo "shlibs:Depends=$(dpkg-deb -f "$packages/$1"_*.deb Depends)")
 }
 
 # No instruction of AVX, BMI and other extensions that a processor of the level x86-64-v2 may lack.
@@ -310,10 +311,10 @@ check 'fields of keyshow' check_fields keyshow utils
 check 'fields of libtermwiz-input-dev' check_fields libtermwiz-input-dev libdevel same
 check 'fields of libtermwiz-input0' check_fields libtermwiz-input0 libs same
 check 'dependency of libtermwiz-input-dev' check_dev_dependency
-check 'dependency of libtermwiz-input0' check_dependency libtermwiz-input0 "$libdir/libtermwiz_c.so.$version"
-check 'dependency of keyshow' check_dependency keyshow usr/bin/keyshow
+check 'dependency of libtermwiz-input0' check_dependency libtermwiz-input0 "$system_library"
+check 'dependency of keyshow' check_dependency keyshow "$unpacked"/keyshow/usr/bin/*
 check 'name and exports of the library' check_exports
-for file in "$system_library" "$unpacked/keyshow/usr/bin/keyshow"; do check "processor for ${file##*/}" check_processor "$file"; done
+for file in "$system_library" "$unpacked"/keyshow/usr/bin/*; do check "processor for ${file##*/}" check_processor "$file"; done
 check 'wheel' check_wheel
 check 'notices' check_notices
 check 'parts of the kit' check_third_party

@@ -199,6 +199,7 @@ class Gate:
             Part("c_library", self.libraries, "tools/c_library.sh", "--over", self.rlibs, self.library),
             Part("growth", ["c_library"], "tools/growth.sh", *over, "--over", self.rlibs),
             Part("c_test", ["c_library", "keyshow"], "tools/c_test.sh", "--built", *over, *left_out("c_test")),
+            Part("keys_test", ["c_library"], "tools/keys_test.sh", *over),
             Part("python_test", ["c_library"], "tools/python_test.sh", self.library),
             Part("fuzz", ["c_library"], "tools/fuzz.sh", "--if-clang", *over, "30"),
             Part("keyshow_test", ["keyshow"], "tools/keyshow_test.sh", "--built"),

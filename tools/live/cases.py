@@ -1,11 +1,9 @@
 """Runs live programs on a pseudo-terminal. tools/live_test.sh says more."""
-import os
 import re
 import signal
-import subprocess
-import sys
 import termios
 import time
+from runs import expect, run_all, run_tries
 from terminal import CC, LFLAG, Failed, Terminal, run_without_terminal
 
 START, END = b"\033[200~", b"\033[201~"
@@ -29,12 +27,6 @@ TYPED = [
     ("a character, cut by a pause", [b"\xc3", LONG_PAUSE, b"\xa9"], ["Char U+00E9"]),
     ("a paste, cut by pauses", [START + b"q\033", PAUSE, b"b\r", LONG_PAUSE, b"q" + END], ["paste of 5 bytes"]),
 ]
-TRIES = 20
-
-
-def expect(what, found, wanted):
-    if found != wanted:
-        raise Failed(f"{what}: {found!r} in place of {wanted!r}")
 
 
 class Live:
@@ -76,16 +68,6 @@ def run_typed(program, steps, lines):
     with Live(program) as terminal:
         type_steps(terminal, [*steps, b"q"])
         check_end(terminal, 0, [*lines, "Char U+0071"])
-
-
-def run_tries(case, program):
-    """Runs a case, and again as long as it fails, since the machine may have been late."""
-    for _ in range(TRIES - 1):
-        try:
-            return case(program)
-        except Failed:
-            pass
-    return case(program)
 
 
 def typed_case(steps, lines):
@@ -271,28 +253,4 @@ CASES = [
 ]
 
 
-def run_case(program, name, case):
-    start = time.monotonic()
-    try:
-        case(program)
-    except (Failed, OSError, subprocess.TimeoutExpired) as fault:
-        print(f"{name}: failed: {fault}", flush=True)
-        return False
-    print(f"{name}: passed, {time.monotonic() - start:.1f} s", flush=True)
-    return True
-
-
-def main():
-    passed = failed = 0
-    for program in sys.argv[1:]:
-        print(f"== {program}", flush=True)
-        for name, case in CASES:
-            if run_case(os.path.abspath(program), name, case):
-                passed += 1
-            else:
-                failed += 1
-    print(f"{passed} passed, {failed} failed")
-    sys.exit(1 if failed else 0)
-
-
-main()
+run_all(CASES)

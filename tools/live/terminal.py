@@ -61,10 +61,10 @@ def run_shell(slave, words, errors, statuses, leave):
 class Terminal:
     """A pseudo-terminal on which a program runs. `output` is what the program has printed."""
 
-    def __init__(self, words):
+    def __init__(self, words, size=(80, 24)):
         self.master, self.slave = pty.openpty()
         os.set_blocking(self.master, False)
-        self.resize(80, 24)
+        self.resize(*size)
         self.before = self.unusual_settings()
         self.output = b""
         self.errors = tempfile.TemporaryFile()

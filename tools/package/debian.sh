@@ -71,10 +71,11 @@ installed_size() { # package
         awk '{ sum += int(($1 + 1023) / 1024) } END { print sum }'
 }
 
-# Prints the version of the GNU C Library that the files of a package need.
+# Prints the newest version of the GNU C Library that a file of a package needs.
 libc_of() { # package
     local file
-    find "$debs/$1" -type f \( -name '*.so.*' -o -path '*/bin/*' \) | while read -r file; do glibc_needed "$file"; done
+    find "$debs/$1" -type f \( -name '*.so.*' -o -path '*/bin/*' \) | while read -r file; do glibc_needed "$file"; done | sort -uV |
+        tail -n 1
 }
 
 # Prints the fields of a package: its name, those that all share, and its others.

@@ -1,0 +1,68 @@
+#include "line.h"
+#include <stdlib.h>
+#include <string.h>
+
+static size_t doubled(size_t room, size_t least) {
+  while (room < least) room = room < 64 ? 64 : room * 2;
+  return room;
+}
+
+static bool reserve_bytes(line *it, size_t length) {
+  size_t room = doubled(it->room, length);
+  uint8_t *bytes = room == it->room ? it->bytes : realloc(it->bytes, room);
+  if (!bytes) return false;
+  it->bytes = bytes;
+  it->room = room;
+  return true;
+}
+
+static bool reserve_groups(line *it, size_t count) {
+  size_t room = doubled(it->group_room, count);
+  group *groups = room == it->group_room ? it->groups : realloc(it->groups, room * sizeof *groups);
+  if (!groups) return false;
+  it->groups = groups;
+  it->group_room = room;
+  return true;
+}
+
+bool line_begin(line *it, const uint8_t *bytes, size_t length) {
+  size_t waiting = line_waiting(it);
+  if (!reserve_bytes(it, it->length + length)) return false;
+  if (it->settled > 0) memmove(it->bytes, it->bytes + it->settled, waiting);
+  if (length > 0) memcpy(it->bytes + waiting, bytes, length);
+  it->read++;
+  it->earlier = waiting;
+  it->length = waiting + length;
+  it->settled = it->group_count = 0;
+  return true;
+}
+
+group *line_settle(line *it, const tw_event *event, size_t waiting) {
+  if (!reserve_groups(it, it->group_count + 1)) return NULL;
+  group *added = &it->groups[it->group_count++];
+  memset(added, 0, sizeof *added);
+  added->start = it->settled;
+  added->length = line_waiting(it) - waiting;
+  added->event = *event;
+  it->settled += added->length;
+  return added;
+}
+
+size_t line_waiting(const line *it) {
+  return it->length - it->settled;
+}
+
+size_t line_earlier(const line *it, size_t start, size_t length) {
+  size_t earlier = start < it->earlier ? it->earlier - start : 0;
+  return earlier < length ? earlier : length;
+}
+
+void line_forget(line *it) {
+  it->length = it->settled;
+}
+
+void line_free(line *it) {
+  free(it->bytes);
+  free(it->groups);
+  memset(it, 0, sizeof *it);
+}

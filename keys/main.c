@@ -1,0 +1,253 @@
+/* hedrugal-keys: shows what a terminal sends, read by read and byte by byte, and what the bytes mean. docs/keys.md is its page.
+ *
+ * It has no grammar of its own: the library says which bytes an event consumed, and why others wait. ^C, ^Z and ^\ are keys like any other
+ * (ISIG is off). The terminal is restored whenever the program ends or stops, as in c/live.c. */
+#define _POSIX_C_SOURCE 200809L
+#include "json.h"
+#include "options.h"
+#include "screen.h"
+#include "signals.h"
+#include "terminal.h"
+#include "waiting.h"
+#include <errno.h>
+#include <fcntl.h>
+#include <poll.h>
+#include <signal.h>
+#include <stdio.h>
+#include <string.h>
+#include <unistd.h>
+
+enum { READ_SIZE = 4096 };
+
+typedef struct keys {
+  options options;
+  terminal terminal;
+  screen screen;
+  line line;
+  tw_parser parser;
+  int input, wake;
+  bool is_live; /* whether the input is a terminal, where pauses count */
+  bool was_end; /* whether the last event was ^D */
+  bool is_over; /* whether ^D came twice */
+  const char *failure; /* why the program ends, if nobody asked for it */
+  int error; /* the system's number for that, 0 if it has none */
+} keys;
+
+static const char no_memory[] = "out of memory";
+
+/* Returns false, as each function here does once the program has to end. */
+static bool fail(keys *it, const char *failure, int error) {
+  it->failure = failure;
+  it->error = error;
+  return false;
+}
+
+static bool flush_output(keys *it) {
+  if (fflush(stdout) == 0 && !ferror(stdout)) return true;
+  return fail(it, "the output can't be written", errno);
+}
+
+static void note_end(keys *it, const tw_event *event) {
+  bool is_end = event->kind == TW_KEY && event->key == TW_KEY_CHAR && event->detail == 'd' && event->modifiers == TW_MOD_CTRL;
+  if (is_end && it->was_end && it->is_live) it->is_over = true;
+  it->was_end = is_end;
+}
+
+/* Adds the event's group to the line. */
+static bool handle_event(keys *it, const tw_event *event) {
+  group *added = line_settle(&it->line, event, tw_parser_waiting(&it->parser));
+  if (!added) return fail(it, no_memory, 0);
+  if (event->kind == TW_PASTE) tw_parser_paste(&it->parser, added->paste, sizeof added->paste);
+  if (it->options.is_json && !json_event(&it->line, added, &it->parser)) return fail(it, no_memory, 0);
+  if (event->kind == TW_PASTE) tw_parser_drop_paste(&it->parser);
+  note_end(it, event);
+  return true;
+}
+
+static bool handle_events(keys *it, bool more) {
+  tw_event event;
+  uint32_t next;
+  while ((next = tw_parser_next(&it->parser, more, &event)) == TW_EVENT)
+    if (!handle_event(it, &event)) return false;
+  return next == TW_NONE || fail(it, no_memory, 0);
+}
+
+static void draw(keys *it, const text *reason) {
+  if (!it->options.is_json) screen_draw(&it->screen, &it->line, reason->bytes);
+}
+
+/* Shows the line with what waits. Without pauses the next read settles that, so the line is shown then. */
+static void show(keys *it) {
+  text reason = { .length = 0 };
+  if (!it->is_live && line_waiting(&it->line) > 0) return;
+  add_waiting(&reason, &it->parser);
+  add_waiting_for(&reason, &it->parser);
+  draw(it, &reason);
+}
+
+/* What waits belongs to a group of the next line. */
+static void leave_line(keys *it) {
+  text reason = { .length = 0 };
+  text_add(&reason, "goes on in read %zu", it->line.read + 1);
+  if (line_waiting(&it->line) > 0 && (!it->screen.is_drawn || screen_can_replace(&it->screen))) draw(it, &reason);
+  screen_next(&it->screen);
+}
+
+static bool handle_bytes(keys *it, const uint8_t *bytes, size_t length) {
+  leave_line(it);
+  if (!line_begin(&it->line, bytes, length) || !tw_parser_feed(&it->parser, bytes, length)) return fail(it, no_memory, 0);
+  bool goes_on = handle_events(it, true);
+  show(it);
+  return goes_on && !it->is_over;
+}
+
+/* Returns false at the end of the input too. */
+static bool handle_input(keys *it) {
+  uint8_t bytes[READ_SIZE];
+  ssize_t count = read(it->input, bytes, sizeof bytes);
+  if (count < 0) return errno == EINTR || fail(it, "the input can't be read", errno);
+  return count > 0 && handle_bytes(it, bytes, (size_t)count);
+}
+
+static bool handle_pause(keys *it) {
+  tw_event event;
+  bool goes_on = tw_parser_flush_escape(&it->parser, &event) == TW_EVENT ? handle_event(it, &event) : handle_events(it, false);
+  show(it);
+  return goes_on;
+}
+
+/* Flushes what waits once nothing more can come. An open paste stays. */
+static bool handle_end(keys *it) {
+  text reason = { .length = 0 };
+  if (line_waiting(&it->line) == 0) return true;
+  if (!handle_events(it, false)) return false;
+  add_waiting(&reason, &it->parser);
+  text_add(&reason, ": its end never came");
+  draw(it, &reason);
+  return true;
+}
+
+static void take_size(keys *it) {
+  size_t columns, rows;
+  terminal_size(&columns, &rows);
+  screen_resize(&it->screen, columns, rows);
+}
+
+static bool enter_terminal(keys *it) {
+  return terminal_enter(&it->terminal) || fail(it, "raw mode can't be set", errno);
+}
+
+static void forget_waiting(keys *it) {
+  text reason = { .length = 0 };
+  text_add(&reason, "forgotten, since another program had the terminal");
+  if (line_waiting(&it->line) > 0) draw(it, &reason);
+  tw_parser_reset(&it->parser);
+  line_forget(&it->line);
+}
+
+/* Another program had the terminal: what was buffered before no longer counts, and the size may be new. */
+static bool resume(keys *it) {
+  if (!enter_terminal(it)) return false;
+  take_size(it);
+  forget_waiting(it);
+  return true;
+}
+
+static bool handle_wake(keys *it) {
+  signals_heed();
+  if (signals_ending()) return false;
+  if (signals_take_stop()) {
+    terminal_leave(&it->terminal);
+    signals_stop();
+    return true; /* a signal that ends the program comes before raw mode */
+  }
+  if (signals_take_continue()) return resume(it);
+  if (signals_take_resize()) take_size(it);
+  return true;
+}
+
+static bool wait_and_handle(keys *it) {
+  struct pollfd ready[2] = { { .fd = it->input, .events = POLLIN }, { .fd = it->wake, .events = POLLIN } };
+  int count = poll(ready, 2, waiting_ms(&it->parser));
+  if (count == 0) return handle_pause(it);
+  if (count < 0) return errno == EINTR || fail(it, "the terminal can't be polled", errno);
+  return ready[1].revents ? handle_wake(it) : handle_input(it);
+}
+
+static void run(keys *it) {
+  bool goes_on = true;
+  while (goes_on && flush_output(it)) goes_on = it->is_live ? wait_and_handle(it) : handle_input(it);
+}
+
+/* The last line of JSON, if bytes wait at the end. */
+static void show_waiting(keys *it) {
+  text reason = { .length = 0 };
+  if (!it->options.is_json || line_waiting(&it->line) == 0) return;
+  add_waiting(&reason, &it->parser);
+  json_waiting(&it->line, reason.bytes);
+}
+
+static void finish(keys *it) {
+  bool has_ended = !it->failure && !it->is_over && !signals_ending();
+  if (has_ended && !handle_end(it)) return;
+  if (!it->failure) show_waiting(it);
+  if (!it->failure) flush_output(it);
+}
+
+static bool start_live(keys *it) {
+  if (!terminal_find(&it->terminal, it->options.modes)) return fail(it, "the terminal can't be written", errno);
+  it->wake = signals_note();
+  if (it->wake < 0) return fail(it, "signals can't be handled", errno);
+  if (!enter_terminal(it)) return false;
+  terminal_write(&it->terminal, "hedrugal-keys: press keys; ^D twice ends it.\n");
+  return true;
+}
+
+static bool open_input(keys *it) {
+  if (it->options.file) it->input = open(it->options.file, O_RDONLY);
+  return it->input >= 0 || fail(it, it->options.file, errno);
+}
+
+static void show_input(keys *it) {
+  screen_find(&it->screen);
+  take_size(it);
+  it->screen.is_hex = it->options.is_hex;
+  if (!open_input(it)) return;
+  if (!tw_parser_init(&it->parser)) {
+    fail(it, no_memory, 0);
+    return;
+  }
+  if (!it->is_live || start_live(it)) {
+    run(it);
+    finish(it);
+  }
+  terminal_leave(&it->terminal);
+  tw_parser_free(&it->parser);
+  line_free(&it->line);
+}
+
+static void print_words(keys *it) {
+  fputs(it->options.wants_help ? options_help : "hedrugal-keys " TW_VERSION "\n", stdout);
+  flush_output(it);
+}
+
+static int status_of(const keys *it) {
+  if (signals_ending()) signals_end(signals_ending());
+  if (!it->failure) return 0;
+  fprintf(stderr, "hedrugal-keys: %s%s%s\n", it->failure, it->error ? ": " : "", it->error ? strerror(it->error) : "");
+  return 1;
+}
+
+int main(int count, char **words) {
+  keys it = { .parser = TW_PARSER_NONE, .input = 0 };
+  bool has_terminal = isatty(0);
+  signal(SIGPIPE, SIG_IGN); /* the write fails then */
+  if (!options_read(&it.options, count, words, has_terminal)) {
+    fprintf(stderr, "hedrugal-keys: %s\n", it.options.refused.bytes);
+    return 2;
+  }
+  it.is_live = has_terminal && !it.options.file;
+  if (it.options.wants_help || it.options.wants_version) print_words(&it);
+  else show_input(&it);
+  return status_of(&it);
+}

@@ -1,0 +1,9 @@
+#include "modes.h"
+
+const mode all_modes[MODE_COUNT] = {
+  { "--application-cursor-keys", "\033[?1h", "\033[?1l" },
+  { "--modify-other-keys=1", "\033[>4;1m", "\033[>4m" },
+  { "--modify-other-keys=2", "\033[>4;2m", "\033[>4m" },
+  { "--mouse", "\033[?1003h\033[?1006h", "\033[?1006l\033[?1003l" },
+  { "--bracketed-paste", "\033[?2004h", "\033[?2004l" },
+};

@@ -1,0 +1,62 @@
+#include "options.h"
+#include <string.h>
+
+const char options_help[] =
+  "usage: hedrugal-keys [SWITCH..] [FILE]\n"
+  "\n"
+  "Shows what a terminal sends, read by read and byte by byte, and the keys, mouse reports and pastes that the bytes mean.\n"
+  "Two ^D keys in a row end it. With FILE or a pipe it shows that input, and flushes at its end what waits.\n"
+  "\n"
+  "  --application-cursor-keys   the terminal sends arrows, Home and End as ESC O in place of ESC [\n"
+  "  --modify-other-keys=1|2     it sends characters with modifiers as sequences, all of them at level 2\n"
+  "  --mouse                     it reports the mouse\n"
+  "  --bracketed-paste           it marks where a paste starts and ends\n"
+  "  --hex                       bytes in hexadecimal\n"
+  "  --json                      an object on a line for each event\n"
+  "  --help, --version           print this, or the version, and end\n"
+  "\n"
+  "A line has the read's number, then groups: bytes -> event. Bytes of earlier reads are in parentheses.\n"
+  "Bytes that wait are dimmed, and the reason follows. SP is a space, ^A to ^_ and ^? are control characters,\n"
+  "and two hexadecimal digits any byte from 80 on. NO_COLOR switches off colours.\n";
+
+static bool read_mode(options *it, const char *word) {
+  for (size_t i = 0; i < MODE_COUNT; i++) {
+    if (strcmp(word, all_modes[i].word) != 0) continue;
+    it->modes[i] = true;
+    return true;
+  }
+  text_add(&it->refused, "what is '%s'? --help lists the words", word);
+  return false;
+}
+
+static bool read_file(options *it, const char *word) {
+  if (it->file) text_add(&it->refused, "wants one file, and '%s' is another; --help says more", word);
+  it->file = word;
+  return it->refused.length == 0;
+}
+
+static bool read_word(options *it, const char *word) {
+  if (*word != '-') return read_file(it, word);
+  bool *is_asked = NULL;
+  if (strcmp(word, "--hex") == 0) is_asked = &it->is_hex;
+  if (strcmp(word, "--json") == 0) is_asked = &it->is_json;
+  if (strcmp(word, "--help") == 0) is_asked = &it->wants_help;
+  if (strcmp(word, "--version") == 0) is_asked = &it->wants_version;
+  if (!is_asked) return read_mode(it, word);
+  *is_asked = true;
+  return true;
+}
+
+/* A file or a pipe has no modes. */
+static bool check_modes(options *it, bool has_terminal) {
+  bool is_live = has_terminal && !it->file;
+  for (size_t i = 0; i < MODE_COUNT && it->refused.length == 0; i++)
+    if (it->modes[i] && !is_live) text_add(&it->refused, "%s wants a terminal as the input; --help says more", all_modes[i].word);
+  return it->refused.length == 0;
+}
+
+bool options_read(options *it, int count, char **words, bool has_terminal) {
+  for (int i = 1; i < count; i++)
+    if (!read_word(it, words[i])) return false;
+  return it->wants_help || it->wants_version || check_modes(it, has_terminal);
+}

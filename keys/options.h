@@ -1,0 +1,21 @@
+/* The program's words. */
+#ifndef KEYS_OPTIONS_H
+#define KEYS_OPTIONS_H
+
+#include "modes.h"
+#include "text.h"
+
+typedef struct options {
+  bool is_hex, is_json;
+  bool wants_help, wants_version;
+  bool modes[MODE_COUNT];
+  const char *file; /* NULL if none is named */
+  text refused; /* what is wrong with the words, if they are refused */
+} options;
+
+/* Reads the words. has_terminal says whether the standard input is one. Returns false if they are refused. */
+bool options_read(options *it, int count, char **words, bool has_terminal);
+
+extern const char options_help[];
+
+#endif

@@ -1,0 +1,30 @@
+/* The terminal: raw mode and the modes that were asked for, and back. */
+#ifndef KEYS_TERMINAL_H
+#define KEYS_TERMINAL_H
+
+#include "modes.h"
+#include <termios.h>
+
+typedef struct terminal {
+  const bool *modes; /* which of all_modes are switched on */
+  int output; /* where the terminal is written, whatever the standard output is */
+  bool is_raw;
+  struct termios saved, raw;
+} terminal;
+
+/* Finds the terminal of the standard input. Returns false if it can't be written. */
+bool terminal_find(terminal *it, const bool *modes);
+
+/* Sets raw mode and the modes. What was typed ahead is kept. Returns false if raw mode can't be set. */
+bool terminal_enter(terminal *it);
+
+/* Restores the terminal, unless another program has it, and discards what it sent meanwhile, so that no mouse report reaches the shell. */
+void terminal_leave(terminal *it);
+
+/* Writes a text to it. */
+void terminal_write(const terminal *it, const char *text);
+
+/* The size of the standard output's terminal, 0 where it has none. */
+void terminal_size(size_t *columns, size_t *rows);
+
+#endif

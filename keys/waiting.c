@@ -1,0 +1,125 @@
+#include "waiting.h"
+#include "names.h"
+
+enum { NAMED = 3 };
+
+int waiting_ms(const tw_parser *parser) {
+  uint32_t kind = tw_parser_waiting_kind(parser);
+  if (kind == TW_WAITING_ESCAPE) return ESCAPE_MS;
+  return kind == TW_WAITING_SEQUENCE ? SEQUENCE_MS : -1;
+}
+
+/* The length of the sequence that starts a paste, which the sequence table has. */
+static size_t paste_start_length(const tw_parser *parser) {
+  tw_event event;
+  for (size_t place = 0, length; (length = tw_row(parser, place, NULL, 0, &event)) > 0; place++)
+    if (event.key == TW_KEY_INTERNAL_PASTE_START) return length;
+  return 0;
+}
+
+typedef struct row {
+  tw_event event;
+  size_t length;
+} row;
+
+/* The rows that are named, the first of them first. No two have the same key. */
+typedef struct named {
+  row rows[NAMED];
+  size_t count;
+} named;
+
+static bool is_character(const row *it) {
+  return it->event.key == TW_KEY_CHAR;
+}
+
+static bool has_modifiers(const row *it) {
+  return it->event.modifiers != TW_MOD_NONE;
+}
+
+/* Named are first the keys that people know by their names, then those without modifiers, then those with the fewest bytes. */
+static bool comes_before(const row *one, const row *other) {
+  if (is_character(one) != is_character(other)) return is_character(other);
+  if (has_modifiers(one) != has_modifiers(other)) return has_modifiers(other);
+  return one->length < other->length;
+}
+
+static bool has_same_key(const row *one, const row *other) {
+  bool is_same = one->event.key == other->event.key && one->event.detail == other->event.detail;
+  return is_same && one->event.modifiers == other->event.modifiers;
+}
+
+/* The place of the row that has the same key, or that after the last. */
+static size_t place_of_key(const named *it, const row *added) {
+  size_t place = 0;
+  while (place < it->count && !has_same_key(&it->rows[place], added)) place++;
+  return place;
+}
+
+/* Puts a row behind those that don't come after it. It takes the place of one with its key, or of the last if all are taken. */
+static void name_row(named *it, const row *added) {
+  size_t place = place_of_key(it, added);
+  if (place == NAMED) place--;
+  if (place < it->count && !comes_before(added, &it->rows[place])) return;
+  if (place == it->count) it->count++;
+  for (; place > 0 && comes_before(added, &it->rows[place - 1]); place--) it->rows[place] = it->rows[place - 1];
+  it->rows[place] = *added;
+}
+
+static void find_named(named *it, const tw_parser *parser, const tw_rows *rows) {
+  for (size_t place = rows->first; place < rows->first + rows->count; place++) {
+    row found;
+    found.length = tw_row(parser, place, NULL, 0, &found.event);
+    if (found.length > 0) name_row(it, &found);
+  }
+}
+
+static void add_listed_key(text *out, const tw_event *event, bool with_alt) {
+  bool is_printable = event->key == TW_KEY_CHAR && event->detail > ' ' && event->detail < 0x7f;
+  add_prefixes(out, event->modifiers | (with_alt ? TW_MOD_ALT : TW_MOD_NONE));
+  if (event->key == TW_KEY_INTERNAL_PASTE_START) text_add(out, "a paste");
+  else if (is_printable) text_add(out, "%c", (char)event->detail);
+  else add_key(out, event);
+}
+
+static void add_keys(text *out, const tw_parser *parser, const tw_rows *rows) {
+  named found = { .count = 0 };
+  find_named(&found, parser, rows);
+  for (size_t i = 0; i < found.count; i++) {
+    if (i > 0) text_add(out, ", ");
+    add_listed_key(out, &found.rows[i].event, rows->with_alt);
+  }
+  if (rows->count > found.count) text_add(out, ", .. (%zu more)", rows->count - found.count);
+}
+
+static void add_sequence(text *out, const tw_parser *parser) {
+  tw_rows rows = { .count = 0 };
+  if (!tw_parser_completions(parser, &rows) || rows.count == 0) {
+    text_add(out, "the beginning of a mouse report");
+    return;
+  }
+  text_add(out, "the beginning of %zu sequence%s: ", rows.count, rows.count == 1 ? "" : "s");
+  add_keys(out, parser, &rows);
+}
+
+void add_waiting(text *out, const tw_parser *parser) {
+  size_t length = tw_parser_waiting(parser);
+  switch (tw_parser_waiting_kind(parser)) {
+    case TW_WAITING_ESCAPE:
+      text_add(out, length == 1 ? "Escape, or the beginning of a key" : "Alt-Escape, or the beginning of a key with Alt");
+      break;
+    case TW_WAITING_SEQUENCE: add_sequence(out, parser); break;
+    case TW_WAITING_CHARACTER: text_add(out, "half a character"); break;
+    case TW_WAITING_PASTE: text_add(out, "a paste of %zu bytes so far", length - paste_start_length(parser)); break;
+    default: break;
+  }
+}
+
+void add_waiting_for(text *out, const tw_parser *parser) {
+  switch (tw_parser_waiting_kind(parser)) {
+    case TW_WAITING_ESCAPE: text_add(out, ": waits up to %d ms", ESCAPE_MS); break;
+    case TW_WAITING_SEQUENCE: text_add(out, ": waits up to %d s", SEQUENCE_MS / 1000); break;
+    case TW_WAITING_CHARACTER: text_add(out, ": waits for the rest"); break;
+    case TW_WAITING_PASTE: text_add(out, ": waits for its end"); break;
+    default: break;
+  }
+}

@@ -1,0 +1,71 @@
+"""A screen for exactly the control sequences that hedrugal-keys writes. It refuses all others, so a byte of the input that reaches the
+terminal as it came fails a case, where a whole terminal emulator would obey it."""
+import re
+from terminal import Failed
+
+TOKEN = re.compile(rb"\033\[(\d+)A|\033\[J|\033\[([0126]|36)m|\033\[(\?\d+)([hl])|\033\[(>4)(;[12])?m|\r\n|([ -~]+)")
+STYLES = {b"0": "", b"1": "*", b"2": "~", b"36": "_"}
+
+
+class Screen:
+    """Rows of characters, each with its style: bold is *, dim ~, a colour _. `top` is the first row that has not scrolled away."""
+
+    def __init__(self, columns=80, height=24):
+        self.columns, self.height = columns, height
+        self.rows, self.row, self.style = [[]], 0, ""
+        self.modes, self.frames = {}, []
+
+    @property
+    def top(self):
+        return max(0, len(self.rows) - self.height)
+
+    def take(self, output):
+        """Takes what the program wrote, from the first byte on."""
+        at = 0
+        while at < len(output):
+            token = TOKEN.match(output, at)
+            if not token:
+                raise Failed(f"written to the terminal: {output[at:at + 30]!r}")
+            self.obey(token)
+            at = token.end()
+        return self
+
+    def obey(self, token):
+        up, style, mode, switch, other, level, characters = token.groups()
+        if characters:
+            self.put(characters.decode("ascii"))
+        elif up:
+            self.frames.append(self.text())
+            self.row = max(self.top, self.row - int(up))
+        elif style:
+            self.style = STYLES[style]
+        elif mode:
+            self.modes[mode.decode()] = switch == b"h"
+        elif other:
+            self.modes[other.decode()] = int(level[1:]) if level else False
+        elif token[0] == b"\033[J":
+            self.rows[self.row:] = [[]]
+        else:
+            self.end_row()
+
+    def put(self, characters):
+        row = self.rows[self.row]
+        row.extend((it, self.style) for it in characters)
+        if len(row) >= self.columns:
+            raise Failed(f"a row reaches the last column: {self.text()[self.row]!r}")
+
+    def end_row(self):
+        self.row += 1
+        if self.row == len(self.rows):
+            self.rows.append([])
+
+    def text(self):
+        """The rows above the cursor, those that scrolled away too."""
+        return ["".join(it for it, _ in row) for row in self.rows[:-1]]
+
+    def styled(self):
+        """The same, with the style before and after each run of characters that has one."""
+        return [re.sub(r"([*~_])\1", "", "".join(f"{style}{it}{style}" for it, style in row)) for row in self.rows[:-1]]
+
+    def switched_on(self):
+        return {mode: to for mode, to in self.modes.items() if to}
