@@ -357,8 +357,8 @@ static void cuts_row(const tw_parser *parser, size_t place, size_t len) {
   EXPECT(tw_row(parser, place, NULL, 0, &taken) == len && is_row_key(TW_MOD_NONE));
 }
 
-/* Feeds what a row has after the bytes that are buffered, and flushes: its key is the event, with these modifiers more. The start of a paste
- * opens one instead, after the Escape key if its ESC was buffered before. */
+/* Feeds what a row has after the bytes that are buffered, and flushes: its key is the event, with these modifiers more. The start of a
+ * paste opens one instead, after the Escape key if an ESC was buffered before it. */
 static void reads_row(tw_parser *parser, const uint8_t *bytes, size_t len, uint16_t modifiers) {
   uint32_t answer = next_of(parser, (const char *)bytes, len, false);
   bool is_start = row_key.key == TW_KEY_INTERNAL_PASTE_START;
