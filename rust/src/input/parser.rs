@@ -409,9 +409,11 @@ impl InputParser {
     ///     key: KeyCode::UpArrow,
     ///     modifiers: Modifiers::CTRL,
     /// };
-    /// let mut rows = (0..).map_while(|place| parser.row(place));
-    /// let (bytes, _) = rows.find(|(_, key)| *key == ctrl_up).unwrap();
-    /// assert_eq!(&bytes[..], b"\x1b[1;5A");
+    /// let rows = (0..).map_while(|place| parser.row(place));
+    /// let of_ctrl_up: Vec<_> = rows.filter(|(_, key)| *key == ctrl_up).collect();
+    /// assert_eq!(of_ctrl_up.len(), 2);
+    /// assert_eq!(&of_ctrl_up[0].0[..], b"\x1bOa");
+    /// assert_eq!(&of_ctrl_up[1].0[..], b"\x1b[1;5A");
     /// assert_eq!(parser.row(2937), None);
     /// ```
     #[must_use]
@@ -431,8 +433,8 @@ impl InputParser {
     /// are none, those that begin with what follows its ESC; the keys of these get ALT.
     ///
     /// Call it while [`InputParser::waiting`] is `Escape` or `Sequence`. A mouse report, a character and a paste are completed by bytes
-    /// that aren't in the table, and an ESC by any character too. If the start of a paste completes a row after an ESC, that is the Escape
-    /// key, and the paste follows.
+    /// that aren't in the table, and an ESC by any character too. The start of a paste is no key event: after an ESC the Escape key is
+    /// emitted, and the paste is open.
     ///
     /// ```
     /// use hedrugal::input::{InputParser, KeyCode};
