@@ -391,12 +391,13 @@ size_t tw_row(const tw_parser *parser, size_t place, uint8_t *bytes, size_t capa
 typedef struct tw_rows {
   size_t first;  /* the place of the first */
   size_t count;  /* how many there are */
-  bool with_alt; /* whether their keys get TW_ALT */
+  bool with_alt; /* whether their keys get TW_MOD_ALT */
 } tw_rows;
 
 /* Tells which rows would complete what stays buffered: those that begin with it and are longer. If there are none, those that begin with
  * what follows its ESC, and with_alt is true. Ask while tw_parser_waiting_kind is TW_WAITING_ESCAPE or TW_WAITING_SEQUENCE. A mouse
- * report and a character aren't rows, and after an ESC any character follows as a key with TW_ALT.
+ * report and a character aren't rows, and after an ESC any character follows as a key with TW_MOD_ALT. Only the start of a paste gets no
+ * modifier after ESC: that ESC is the Escape key.
  *
  * Returns false if there is no parser, and *rows isn't written. The parser is unchanged, and no memory is needed. */
 bool tw_parser_completions(const tw_parser *parser, tw_rows *rows);

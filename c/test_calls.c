@@ -22,6 +22,18 @@ static bool is_key(uint16_t key, uint32_t detail, uint16_t modifiers) {
          && taken.x == 0 && taken.y == 0 && taken.paste_len == 0;
 }
 
+/* Without a parser there are no rows, and nothing is written. */
+static void no_rows_answer(const tw_parser *parser) {
+  tw_event event, before;
+  tw_rows rows = {7, 8, true};
+  uint8_t byte = 'x';
+  memset(&event, 0x55, sizeof event);
+  memset(&before, 0x55, sizeof before);
+  EXPECT(tw_row(parser, 0, &byte, 1, &event) == 0 && tw_row(parser, TW_ROW_COUNT, &byte, 1, &event) == 0);
+  EXPECT(byte == 'x' && memcmp(&event, &before, sizeof event) == 0);
+  EXPECT(!tw_parser_completions(parser, &rows) && rows.first == 7 && rows.count == 8 && rows.with_alt);
+}
+
 /* Nothing is there before init and after free, and each call says so. */
 static void none_answers(tw_parser *parser) {
   tw_event event, before;
@@ -38,6 +50,7 @@ static void none_answers(tw_parser *parser) {
   EXPECT(tw_parser_waiting(parser) == 0 && tw_parser_waiting_kind(parser) == TW_WAITING_NOTHING);
   EXPECT(!tw_parser_is_paste_open(parser));
   EXPECT(tw_parser_reset(parser) == 0);
+  no_rows_answer(parser);
   tw_parser_free(parser);
   EXPECT(!parser->live);
 }
@@ -314,6 +327,161 @@ static void drops_pastes(tw_parser *parser) {
   tw_parser_drop_paste(parser);
   EXPECT(tw_parser_paste(parser, room, sizeof room) == 0);
   EXPECT(NEXT(parser, "\033[200~e\033[201~", true) == TW_EVENT && is_paste(parser, "e"));
+}
+
+/* The row that was asked for last: its bytes and its key. */
+static uint8_t row_bytes[TW_ROW_MOST];
+static tw_event row_key;
+
+/* Asks for a row, and returns how many bytes it has. */
+static size_t row_at(const tw_parser *parser, size_t place) {
+  memset(row_bytes, '.', sizeof row_bytes);
+  memset(&row_key, 0xaa, sizeof row_key);
+  return tw_row(parser, place, row_bytes, sizeof row_bytes, &row_key);
+}
+
+/* Whether the event `taken` is the last row's key with these modifiers more. */
+static bool is_row_key(uint16_t modifiers) { return is_key(row_key.key, row_key.detail, row_key.modifiers | modifiers); }
+
+/* However few bytes there is room for, the length and the key are those of the whole row, and the bytes after the room are unchanged. */
+static void cuts_row(const tw_parser *parser, size_t place, size_t len) {
+  uint8_t room[TW_ROW_MOST + 2];
+  for (size_t has = 0; has <= sizeof room; has++) {
+    memset(room, '#', sizeof room);
+    memset(&taken, 0xaa, sizeof taken);
+    EXPECT(tw_row(parser, place, room, has, &taken) == len && is_row_key(TW_MOD_NONE));
+    size_t copied = has < len ? has : len, at = copied;
+    while (at < sizeof room && room[at] == '#') at++;
+    EXPECT(memcmp(room, row_bytes, copied) == 0 && at == sizeof room);
+  }
+  EXPECT(tw_row(parser, place, NULL, 0, &taken) == len && is_row_key(TW_MOD_NONE));
+}
+
+/* Feeds what a row has after the bytes that are buffered, and flushes: its key is the event, with these modifiers more. The start of a
+ * paste opens one instead, after the Escape key if an ESC was buffered before it. */
+static void reads_row(tw_parser *parser, const uint8_t *bytes, size_t len, uint16_t modifiers) {
+  uint32_t answer = next_of(parser, (const char *)bytes, len, false);
+  bool is_start = row_key.key == TW_KEY_INTERNAL_PASTE_START;
+  if (is_start && modifiers == TW_MOD_ALT) {
+    EXPECT(answer == TW_EVENT && is_key(TW_KEY_ESCAPE, 0, TW_MOD_NONE));
+  } else {
+    EXPECT(is_start ? answer == TW_NONE : answer == TW_EVENT && is_row_key(modifiers));
+  }
+  EXPECT(is_start ? is_rest(parser, 6, TW_WAITING_PASTE) : is_rest(parser, 0, TW_WAITING_NOTHING));
+  tw_parser_reset(parser);
+}
+
+/* Whether one text comes before another in the order of bytes. */
+static bool is_before(const uint8_t *one, size_t one_len, const uint8_t *other, size_t other_len) {
+  int order = memcmp(one, other, one_len < other_len ? one_len : other_len);
+  return order < 0 || (order == 0 && one_len < other_len);
+}
+
+/* Every row: its bytes come after those of the row before it, and are read as its key. */
+static void tells_rows(tw_parser *parser) {
+  uint8_t before[TW_ROW_MOST];
+  size_t before_len = 0, longest = 0;
+  unsigned starts = 0, ends = 0;
+  for (size_t place = 0; place < TW_ROW_COUNT; place++) {
+    size_t len = row_at(parser, place);
+    EXPECT(len > 0 && len <= TW_ROW_MOST && is_before(before, before_len, row_bytes, len));
+    cuts_row(parser, place, len);
+    reads_row(parser, row_bytes, len, TW_MOD_NONE);
+    starts += row_key.key == TW_KEY_INTERNAL_PASTE_START;
+    ends += row_key.key == TW_KEY_INTERNAL_PASTE_END;
+    memcpy(before, row_bytes, sizeof before);
+    before_len = len;
+    if (len > longest) longest = len;
+  }
+  EXPECT(longest == TW_ROW_MOST && starts == 1 && ends == 1);
+}
+
+/* From the number of rows on there is none, and nothing is written. What is buffered makes no difference, and stays. */
+static void has_no_other_rows(tw_parser *parser) {
+  static const size_t places[] = {TW_ROW_COUNT, TW_ROW_COUNT + 1, (size_t)1 << 32, SIZE_MAX};
+  tw_event untouched;
+  memset(&untouched, 0xaa, sizeof untouched);
+  for (size_t i = 0; i < 4; i++) {
+    EXPECT(row_at(parser, places[i]) == 0 && memcmp(row_bytes, "...........", TW_ROW_MOST) == 0);
+    EXPECT(memcmp(&row_key, &untouched, sizeof row_key) == 0);
+    EXPECT(tw_row(parser, places[i], NULL, 0, &row_key) == 0 && memcmp(&row_key, &untouched, sizeof row_key) == 0);
+  }
+  EXPECT(NEXT(parser, "\033[200~ab", true) == TW_NONE);
+  EXPECT(row_at(parser, 0) == 1 && row_bytes[0] == 1 && row_key.key == TW_KEY_CHAR && row_key.detail == 'a');
+  EXPECT(row_key.modifiers == TW_MOD_CTRL && is_rest(parser, 8, TW_WAITING_PASTE) && tw_parser_reset(parser) == 8);
+}
+
+/* A text that stays buffered, and what would complete it. The counts are those of docs/GRAMMAR.md. */
+struct begun {
+  const char *text;
+  size_t count;
+  bool with_alt;
+};
+
+static const struct begun begun[] = {
+    {"", TW_ROW_COUNT, false},
+    {"\033", TW_ROW_COUNT - 28, false}, /* all but those of one byte */
+    {"\033\033", TW_ROW_COUNT - 28, true},
+    {"\033O", 50, false},
+    {"\033\033O", 50, true},
+    {"\033[", TW_ROW_COUNT - 28 - 26 - 1 - 50, false}, /* of two bytes there are 26 letters and the bracket */
+    {"\033\033[", TW_ROW_COUNT - 28 - 26 - 1 - 50, true},
+    {"\033[1", 662, false},
+    {"\033\033[1;", 169, true},
+    {"\033[20", 9 + 17 + 2, false}, /* CSI u, F9, and the start and the end of a paste */
+    {"\033\033[20", 28, true},
+    {"\033\033[200", 1, true},
+    {"\033[27;5;13", 1, false},
+    {"\033[<", 0, false}, /* a mouse report */
+    {"\033\033[<0;3", 0, false},
+    {"\303", 0, false}, /* half a character */
+    {"\033\360\237\230", 0, false},
+    {"\033[200~", 0, false}, /* an open paste */
+    {"\033[200~ab\033[201", 0, false},
+};
+
+/* Whether the last row begins with a text and is longer. */
+static bool goes_on_from(size_t len, const char *text, size_t text_len) {
+  return len > text_len && memcmp(row_bytes, text, text_len) == 0;
+}
+
+/* The rows are those that begin with what is buffered, or with what follows its ESC, and are longer; and there are no others. What each has
+ * more makes it of what is buffered. */
+static void completes(tw_parser *parser, const struct begun *it) {
+  size_t len = strlen(it->text), after = len - it->with_alt;
+  const char *text = it->text + it->with_alt;
+  tw_rows rows;
+  memset(&rows, 0xaa, sizeof rows);
+  EXPECT(next_of(parser, it->text, len, true) == TW_NONE && tw_parser_completions(parser, &rows));
+  EXPECT(rows.count == it->count && rows.with_alt == it->with_alt);
+  EXPECT(rows.first <= TW_ROW_COUNT && rows.count <= TW_ROW_COUNT - rows.first);
+  for (size_t place = 0; place < TW_ROW_COUNT; place++) {
+    size_t row_len = row_at(parser, place);
+    bool is_among = place >= rows.first && place - rows.first < rows.count;
+    EXPECT(goes_on_from(row_len, text, after) == is_among);
+    EXPECT(!it->with_alt || !goes_on_from(row_len, it->text, len));
+    if (!is_among) continue;
+    EXPECT(tw_parser_waiting(parser) == len || next_of(parser, it->text, len, true) == TW_NONE);
+    reads_row(parser, row_bytes + after, row_len - after, it->with_alt ? TW_MOD_ALT : TW_MOD_NONE);
+  }
+  tw_parser_reset(parser);
+}
+
+static void tells_completions(tw_parser *parser) {
+  for (size_t i = 0; i < sizeof begun / sizeof begun[0]; i++) completes(parser, &begun[i]);
+}
+
+/* Every rest: if nothing but a row could complete it, there are rows. */
+static void completes_every_rest(tw_parser *parser) {
+  for (size_t i = 0; i < RESTS; i++) {
+    tw_rows rows;
+    bool is_report = strstr(rests[i].text, "[<") != NULL;
+    feed_rest(parser, &rests[i]);
+    EXPECT(tw_parser_completions(parser, &rows) && is_rest(parser, strlen(rests[i].text), rests[i].kind));
+    EXPECT((rows.count > 0) == (!is_report && rests[i].kind != TW_WAITING_CHARACTER && rests[i].kind != TW_WAITING_PASTE));
+    EXPECT(rows.count > 0 || !rows.with_alt);
+    tw_parser_reset(parser);
+  }
 }
 
 enum { LONG = 300000 };
@@ -695,8 +863,10 @@ static void takes_null_for_no_bytes(void) {
   tw_keymap map = TW_KEYMAP_NONE;
   memset(&modes, 0, sizeof modes);
   EXPECT(!tw_parser_feed(&parser, NULL, 0) && tw_parser_paste(&parser, NULL, 0) == 0);
+  EXPECT(tw_row(&parser, 0, NULL, 0, &taken) == 0);
   EXPECT(tw_parser_init(&parser) && NEXT(&parser, "\033[200~ab\033[201~\033", true) == TW_EVENT);
   EXPECT(tw_parser_feed(&parser, NULL, 0) && tw_parser_waiting(&parser) == 1 && tw_parser_paste(&parser, NULL, 0) == 2);
+  EXPECT(tw_row(&parser, 0, NULL, 0, &taken) == 1 && is_key(TW_KEY_CHAR, 'a', TW_MOD_CTRL));
   tw_parser_free(&parser);
   EXPECT(tw_key_name(TW_KEY_TAB, NULL, 0) == 3 && tw_key_name(0, NULL, 0) == 0);
   EXPECT(tw_encode(TW_KEY_UP_ARROW, 0, 0, true, &modes, NULL, 0, &text_len) == TW_TEXT && text_len == 3);
@@ -715,6 +885,7 @@ static void *page(void) {
 static void reads_from_a_page_that_is_read_only(void) {
   struct { tw_parser parser; tw_keymap map; } *it = page();
   tw_match match = { 7, 7 };
+  tw_rows rows = { 7, 7, true };
   uint8_t text[4] = "....";
   if (it == MAP_FAILED) abort();
   EXPECT(tw_parser_init(&it->parser) && tw_keymap_init(&it->map) && tw_keymap_insert(&it->map, (const uint8_t *)"up", 2, 5));
@@ -723,6 +894,8 @@ static void reads_from_a_page_that_is_read_only(void) {
   EXPECT(tw_parser_waiting(&it->parser) == 7 && tw_parser_waiting_kind(&it->parser) == TW_WAITING_PASTE);
   EXPECT(tw_parser_is_paste_open(&it->parser));
   EXPECT(tw_parser_paste(&it->parser, text, sizeof text) == 2 && memcmp(text, "ab..", 4) == 0);
+  EXPECT(row_at(&it->parser, 0) == 1 && row_at(&it->parser, TW_ROW_COUNT - 1) > 0 && row_at(&it->parser, TW_ROW_COUNT) == 0);
+  EXPECT(tw_parser_completions(&it->parser, &rows) && rows.count == 0 && !rows.with_alt);
   EXPECT(tw_keymap_len(&it->map) == 1);
   EXPECT(tw_keymap_lookup(&it->map, (const uint8_t *)"upper", 5, true, &match) == TW_FOUND_EXACT && match.len == 2 && match.value == 5);
   EXPECT(mprotect(it, 4096, PROT_READ | PROT_WRITE) == 0);
@@ -761,6 +934,10 @@ int main(int argc, char **argv) {
   ends_open_pastes_alone(&parser);
   drops_pastes(&parser);
   ends_a_long_paste(&parser);
+  tells_rows(&parser);
+  has_no_other_rows(&parser);
+  tells_completions(&parser);
+  completes_every_rest(&parser);
   tw_parser_free(&parser);
   cuts_make_no_difference();
   names_keys(argv[1]);

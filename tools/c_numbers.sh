@@ -4,14 +4,15 @@
 #     tools/c_numbers.sh [--check]
 #
 # With --check it writes nothing. It compares the header, the Rust crate and the proved crates with the list: their numbers, and the
-# names of keys and flags that they print. It also compares the version in the header with those in the crate termwiz_c, termwiz_c.pc and
-# CHANGELOG.md. It says what differs, and ends with status 1 if something does. It needs no compiler.
+# names of keys and flags that they print. It also compares the numbers of the sequence table in the header with those of the proved
+# definitions, and the version in the header with those in the crate termwiz_c, termwiz_c.pc and CHANGELOG.md. It says what differs, and
+# ends with status 1 if something does. It needs no compiler.
 set -eu
 export LC_ALL=C
 cd "$(dirname "$0")/.."
 case "${1-}" in
     '' | --check) check=${1-} ;;
-    --help) sed -n '2,8s/^# \{0,1\}//p' "tools/$(basename "$0")"; exit ;;
+    --help) sed -n '2,9s/^# \{0,1\}//p' "tools/$(basename "$0")"; exit ;;
     *) echo "c_numbers: what is '$1'? --help lists the words" >&2; exit 2 ;;
 esac
 list=c/numbers.txt
@@ -62,6 +63,16 @@ names_in() { # group files..
     done
 }
 
+# A number of the sequence table, as the header has it. It is the same in the proved definitions and in the Rust crate.
+of_rows() { # name
+    sed -nE "s/^#define $1 ([0-9]+)( .*)?\$/\1/p" c/termwiz_input.h
+}
+same_of_rows() { # name where number
+    { [ -z "$3" ] || [ "$3" != "$(of_rows "$1")" ]; } || return 0
+    echo "$2: has '$3', and $1 of c/termwiz_input.h is '$(of_rows "$1")'" >&2
+    return 1
+}
+
 # The version is the header's everywhere. tools/c_library.sh gives it to the shared library.
 library_version=$(sed -n 's/^#define TW_VERSION "\(.*\)"$/\1/p' c/termwiz_input.h)
 same_version() { # where version
@@ -84,12 +95,17 @@ if [ -n "$check" ]; then
     names_in modifier crates/termwiz_base/src/modifiers.rt crates/event_text/specs/Names.antt || failed=1
     names_in button crates/termwiz_keys/src/types.rt crates/event_text/specs/Names.antt || failed=1
     names_in kitty crates/termwiz_base/src/kitty.rt || failed=1
+    laws=crates/termwiz_grammar/specs/Laws.antt
+    same_of_rows TW_ROW_COUNT "$laws" "$(sed -nE 's/^row_count = ([0-9]+)$/\1/p' "$laws")" || failed=1
+    same_of_rows TW_ROW_MOST "$laws" "$(sed -nE 's/^  pub one_has_[a-z]+_bytes .*length bytes ≡ ([0-9]+)\)$/\1/p' "$laws")" || failed=1
+    same_of_rows TW_ROW_MOST rust/src/raw.rs "$(sed -nE 's/^pub const ROW_MOST: usize = ([0-9]+);$/\1/p' rust/src/raw.rs)" || failed=1
     same_version c/termwiz_input.h "$(sed -nE 's/^#define TW_VERSION_(MAJOR|MINOR|PATCH) //p' c/termwiz_input.h | paste -sd .)" || failed=1
     same_version crates/termwiz_c/src/lib.rt \
         "$(sed -nE 's/^const VERSION_(MAJOR|MINOR|PATCH): u32 = ([0-9]+);$/\2/p' crates/termwiz_c/src/lib.rt | paste -sd .)" || failed=1
     same_version c/termwiz_c.pc "$(sed -n 's/^Version: //p' c/termwiz_c.pc)" || failed=1
     same_version CHANGELOG.md "$(sed -nE 's/^## ([0-9.]+)$/\1/p' CHANGELOG.md | head -n 1)" || failed=1
     [ "$failed" = 1 ] || echo "numbers: $(grep -c '^[a-z]' "$list") names, and the header, the Rust crate and the proved crates agree"
+    [ "$failed" = 1 ] || echo "rows: $(of_rows TW_ROW_COUNT), of at most $(of_rows TW_ROW_MOST) bytes, in the header and the proved definitions"
     [ "$failed" = 1 ] || echo "version: $library_version in the header, the crate termwiz_c, termwiz_c.pc and CHANGELOG.md"
 fi
 exit "$failed"

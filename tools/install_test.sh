@@ -154,7 +154,8 @@ documented() {
 
 # The fields of the structs that are open to the caller.
 fields() { # file
-    sed -nE '/^typedef struct tw_(event|modes) \{$/,/^\}/{s| */\*.*||;p}' "$1"
+    local name
+    for name in event modes rows match; do sed -nE "/^typedef struct tw_$name \\{\$/,/^\\}/{s| */\\*.*||;p}" "$1"; done
 }
 
 # The page has each call in its name, its synopsis and its description, and no name that the header hasn't.

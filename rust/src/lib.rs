@@ -39,9 +39,10 @@
 //! # Threads
 //!
 //! [`InputParser`](input::InputParser) is `Send` and `Sync`. Calls that change it borrow it alone (`&mut self`). Those that only read it
-//! ([`waiting`](input::InputParser::waiting), [`waiting_len`](input::InputParser::waiting_len) and
-//! [`is_paste_open`](input::InputParser::is_paste_open)) may be called by several threads, and lock it, since the library allows one
-//! thread at a time.
+//! ([`waiting`](input::InputParser::waiting), [`waiting_len`](input::InputParser::waiting_len),
+//! [`is_paste_open`](input::InputParser::is_paste_open), [`row`](input::InputParser::row) and
+//! [`completions`](input::InputParser::completions)) may be called by several threads, and lock it, since the library allows one thread
+//! at a time.
 //!
 //! [`KeyMap`](keymap::KeyMap) is `Send` and `Sync` if its values are. Lookups may be called by several threads too, and lock it.
 #![deny(missing_docs)]

@@ -119,6 +119,18 @@ pub struct Modes {
     pub has_modify_other_keys: bool,
 }
 
+/// The length of the longest row of the sequence table.
+pub const ROW_MOST: usize = 11;
+
+/// Some rows of the sequence table, one after another.
+#[repr(C)]
+#[derive(Clone, Copy, Default)]
+pub struct Rows {
+    pub first: usize,
+    pub count: usize,
+    pub with_alt: bool,
+}
+
 /// A map from byte strings to numbers, or none.
 #[repr(C)]
 pub struct KeyMap {
@@ -153,6 +165,7 @@ const _: () = {
     assert!(size_of::<Modes>() == 16 && offset_of!(Modes, encoding) == 8);
     assert!(offset_of!(Modes, has_modify_other_keys) == 12);
     assert!(size_of::<KeyMap>() == 16 && offset_of!(KeyMap, state) == 8);
+    assert!(size_of::<Rows>() == 24 && offset_of!(Rows, count) == 8 && offset_of!(Rows, with_alt) == 16);
     assert!(size_of::<Match>() == 16 && offset_of!(Match, value) == 8);
 };
 
@@ -179,6 +192,8 @@ extern "C" {
         len: usize,
         text_len: *mut usize,
     ) -> u32;
+    pub fn tw_row(parser: *mut Parser, place: usize, bytes: *mut u8, capacity: usize, event: *mut Event) -> usize;
+    pub fn tw_parser_completions(parser: *mut Parser, rows: *mut Rows) -> bool;
     pub fn tw_keymap_init(map: *mut KeyMap) -> bool;
     pub fn tw_keymap_free(map: *mut KeyMap);
     pub fn tw_keymap_insert(map: *mut KeyMap, key: *const u8, len: usize, value: u64) -> bool;

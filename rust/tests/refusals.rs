@@ -317,6 +317,17 @@ fn replaces_and_looks_up_without_memory() {
 }
 
 #[test]
+fn tells_rows_without_memory() {
+    let mut parser = InputParser::new();
+    assert_eq!(parser.parse_as_vec(b"\x1b\x1b[1;5", true), []);
+    let (completions, refused) = refusing(1, || parser.completions());
+    assert_eq!((completions.with_alt, refused), (true, 0));
+    let all_told = || completions.rows.clone().all(|place| parser.row(place).is_some());
+    assert_eq!(refusing(1, all_told), (true, 0));
+    assert_eq!(refusing(1, || parser.row(usize::MAX)), (None, 0));
+}
+
+#[test]
 fn panics_if_refused() {
     let refused = |call: fn()| {
         std::panic::catch_unwind(|| {

@@ -6,17 +6,21 @@
  *     K      free                    O n byte   feed 16 n times a byte       L  next, no more to come  C    end the paste
  *     B      reset                   M          move the parser              A  next until none, more  G n  copy n bytes of the paste
  *     D      drop the paste          V          the version                  H  the same, no more
+ *     T n place  a row               X          the completions
  *
  *     J      init of a map           P n bytes value  insert                 Q n bytes  look up, under both flags
  *     R      free the map                                                    S          move the map
+ *
+ * A place has two bytes, the lower first, and n bytes of its row are asked for.
  *
  * For init, which makes some hundreds of requests, 4 n is added to the number of the refused one. It takes a millisecond, so a program has
  * two of them at most. A program whose first letter is W begins with a parser that such programs share; it has room for all that a program
  * feeds. tools/fuzz/maps.c has programs of the map's calls alone.
  *
  * A second parser gets the same calls and is never refused, and the waiting bytes are kept beside them. Each answer has to be the second
- * parser's, and what the waiting bytes say. A call that is refused changes nothing, and made again it is granted. What needs no memory
- * asks for none. Before init and after free every call says that there is no parser. At the end no memory is left. */
+ * parser's, and what the waiting bytes say. The rows that would complete these begin with them, and the rows before and after don't. A call
+ * that is refused changes nothing, and made again it is granted. What needs no memory asks for none. Before init and after free every call
+ * says that there is no parser. At the end no memory is left. */
 #include "fuzz.h"
 #include "map_calls.h"
 #include <string.h>
@@ -64,6 +68,66 @@ static void copy_paste(size_t len) {
   uint8_t *out = room_of(&copied, len);
   HOLDS(tw_parser_paste(parser, pointer_to(&copied), len) == text_len);
   HOLDS(memcmp(out, text, want) == 0 && is_untouched(&copied, want));
+}
+
+/* A row of the sequence table: as many of its bytes as there is room for. Returns how many it has. */
+static size_t copy_row(size_t len, size_t at, tw_event **key) {
+  room_of(&copied, len);
+  *key = room_of(&taken, sizeof **key);
+  size_t whole = tw_row(parser, at, pointer_to(&copied), len, *key);
+  HOLDS((whole > 0) == (is_made && at < TW_ROW_COUNT) && whole <= TW_ROW_MOST);
+  HOLDS(is_untouched(&copied, whole < len ? whole : len) && is_untouched(&taken, whole > 0 ? sizeof **key : 0));
+  return whole;
+}
+
+/* The row is the second parser's, and its key an event's, but for the start of a paste. */
+static void check_row(size_t len, size_t at) {
+  uint8_t bytes[TW_ROW_MOST];
+  tw_event *key, wanted;
+  refuse_request(1);
+  size_t whole = copy_row(len, at, &key);
+  if (whole > 0) {
+    HOLDS(tw_row(&twin, at, bytes, sizeof bytes, &wanted) == whole && same_event(key, &wanted));
+    HOLDS(memcmp(copied.at, bytes, whole < len ? whole : len) == 0);
+    if (key->key != TW_KEY_INTERNAL_PASTE_START) check_event(key);
+    HOLDS(key->kind == TW_KEY);
+  }
+  HOLDS(requests() == 0);
+  refuse_request(0);
+}
+
+/* Whether the row at a place begins with a text and is longer. */
+static bool goes_on(size_t at, const uint8_t *from, size_t len) {
+  uint8_t bytes[TW_ROW_MOST];
+  tw_event key;
+  size_t whole = tw_row(&twin, at, bytes, sizeof bytes, &key);
+  return whole > len && memcmp(bytes, from, len) == 0;
+}
+
+/* The first and the last of some rows begin with a text and are longer, and the two beside them don't. */
+static void check_range(const tw_rows *rows, const uint8_t *from, size_t len) {
+  size_t end = rows->first + rows->count;
+  if (rows->count == 0) return;
+  HOLDS(goes_on(rows->first, from, len) && goes_on(end - 1, from, len));
+  HOLDS(rows->first == 0 || !goes_on(rows->first - 1, from, len));
+  HOLDS(!goes_on(end, from, len));
+}
+
+/* What would complete the waiting bytes. */
+static void check_completions(void) {
+  tw_rows *rows = room_of(&taken, sizeof *rows), wanted;
+  refuse_request(1);
+  bool told = tw_parser_completions(parser, rows);
+  HOLDS(told == is_made && is_untouched(&taken, told ? sizeof *rows : 0));
+  if (told) {
+    HOLDS(rows->first <= TW_ROW_COUNT && rows->count <= TW_ROW_COUNT - rows->first);
+    HOLDS(tw_parser_completions(&twin, &wanted) && wanted.first == rows->first && wanted.count == rows->count);
+    HOLDS(wanted.with_alt == rows->with_alt && (!rows->with_alt || (rows->count > 0 && waiting()[0] == '\033')));
+    check_range(rows, waiting() + rows->with_alt, waiting_len - rows->with_alt);
+    note(0x50000u | rows->with_alt, (unsigned)rows->count);
+  }
+  HOLDS(requests() == 0);
+  refuse_request(0);
 }
 
 /* There is no parser, so nothing waits. */
@@ -246,13 +310,18 @@ static void look_some_up(input *it) {
   look_up(text, len);
 }
 
+static void row_at(input *it) {
+  size_t len = take_byte(it) & ONE_FEED;
+  check_row(len, (size_t)take_number(it, 2));
+}
+
 static void check_version(void) {
   refuse_request(1);
   HOLDS(tw_version() == TW_VERSION_NUMBER && requests() == 0);
   refuse_request(0);
 }
 
-/* Makes a call of the map, if the letter is of one, or asks for the version. */
+/* Makes a call of the map, if the letter is of one, asks for the version, or for rows. */
 static void call_map(letter of, input *it) {
   switch (of.capital) {
     case 'J': init_map(of.refused); break;
@@ -261,6 +330,8 @@ static void call_map(letter of, input *it) {
     case 'R': free_map(); break;
     case 'S': move_map(); break;
     case 'V': check_version(); break;
+    case 'T': row_at(it); break;
+    case 'X': check_completions(); break;
     default: break; /* (W too) */
   }
 }

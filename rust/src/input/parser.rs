@@ -1,5 +1,5 @@
 // The parser: bytes of a terminal to events.
-use super::{InputEvent, KeyCode, KeyEvent, Modifiers, MouseButtons, MouseEvent, FAULT};
+use super::{Completions, InputEvent, KeyCode, KeyEvent, Modifiers, MouseButtons, MouseEvent, RowBytes, FAULT};
 use crate::raw;
 use std::sync::{Mutex, MutexGuard, PoisonError};
 use std::{error, fmt};
@@ -396,6 +396,69 @@ impl InputParser {
         }
     }
 
+    /// Returns the row of the sequence table at a place: the bytes of a sequence, and its key. Rows are in the order of their bytes; the
+    /// first place is 0, and the result is `None` from 2937 on, the number of rows. The table is the same in every parser.
+    ///
+    /// The start and the end of a paste are rows too, with the keys [`KeyCode::InternalPasteStart`] and [`KeyCode::InternalPasteEnd`].
+    ///
+    /// ```
+    /// use hedrugal::input::{InputParser, KeyCode, KeyEvent, Modifiers};
+    ///
+    /// let parser = InputParser::new();
+    /// let ctrl_up = KeyEvent {
+    ///     key: KeyCode::UpArrow,
+    ///     modifiers: Modifiers::CTRL,
+    /// };
+    /// let rows = (0..).map_while(|place| parser.row(place));
+    /// let of_ctrl_up: Vec<_> = rows.filter(|(_, key)| *key == ctrl_up).collect();
+    /// assert_eq!(of_ctrl_up.len(), 2);
+    /// assert_eq!(&of_ctrl_up[0].0[..], b"\x1bOa");
+    /// assert_eq!(&of_ctrl_up[1].0[..], b"\x1b[1;5A");
+    /// assert_eq!(parser.row(2937), None);
+    /// ```
+    #[must_use]
+    pub fn row(&self, place: usize) -> Option<(RowBytes, KeyEvent)> {
+        let mut bytes = [0; raw::ROW_MOST];
+        let mut event = raw::Event::default();
+        // SAFETY: `raw` is a parser, which this thread alone has. The array's pointer leads to as many bytes, and `event` is another value.
+        let len = unsafe { raw::tw_row(&mut *self.locked(), place, bytes.as_mut_ptr(), bytes.len(), &mut event) };
+        if len == 0 {
+            return None;
+        }
+        assert!(len <= bytes.len(), "{FAULT}");
+        Some((RowBytes::of(bytes, len), key_event(&event)))
+    }
+
+    /// Returns the rows of the sequence table that would complete what stays buffered: those that begin with it and are longer. If there
+    /// are none, those that begin with what follows its ESC; the keys of these get ALT.
+    ///
+    /// Call it while [`InputParser::waiting`] is `Escape` or `Sequence`. A mouse report, a character and a paste are completed by bytes
+    /// that aren't in the table, and an ESC by any character too. The start of a paste is no key event: after an ESC the Escape key is
+    /// emitted, and the paste is open.
+    ///
+    /// ```
+    /// use hedrugal::input::{InputParser, KeyCode};
+    ///
+    /// let mut parser = InputParser::new();
+    /// parser.parse(b"\x1b[23;5", |_| {}, true);
+    /// let completions = parser.completions();
+    /// let keys: Vec<_> = completions.rows.filter_map(|place| parser.row(place)).collect();
+    /// assert_eq!((&keys[0].0[..], keys[0].1.key), (&b"\x1b[23;5u"[..], KeyCode::Char('\x17')));
+    /// assert_eq!((&keys[1].0[..], keys[1].1.key), (&b"\x1b[23;5~"[..], KeyCode::Function(11)));
+    /// assert_eq!(keys.len(), 2);
+    /// ```
+    #[must_use]
+    pub fn completions(&self) -> Completions {
+        let mut rows = raw::Rows::default();
+        // SAFETY: `raw` is a parser, which this thread alone has, and `rows` another value.
+        let told = unsafe { raw::tw_parser_completions(&mut *self.locked(), &mut rows) };
+        assert!(told, "{FAULT}");
+        Completions {
+            rows: rows.first..rows.first + rows.count,
+            with_alt: rows.with_alt,
+        }
+    }
+
     // The library's parser, for a call that reads. Only a fault of the library panics while it is locked.
     fn locked(&self) -> MutexGuard<'_, raw::Parser> {
         self.raw.lock().unwrap_or_else(PoisonError::into_inner)
@@ -445,17 +508,13 @@ impl InputParser {
     // The event at the front.
     fn event(&mut self) -> Result<InputEvent, AllocError> {
         let event = self.front;
-        let modifiers = Modifiers::from_bits(event.modifiers).expect(FAULT);
         Ok(match event.kind {
-            raw::KIND_KEY => InputEvent::Key(KeyEvent {
-                key: KeyCode::of(event.key, event.detail).expect(FAULT),
-                modifiers,
-            }),
+            raw::KIND_KEY => InputEvent::Key(key_event(&event)),
             raw::KIND_MOUSE => InputEvent::Mouse(MouseEvent {
                 x: event.x,
                 y: event.y,
                 mouse_buttons: MouseButtons::from_bits(event.buttons).expect(FAULT),
-                modifiers,
+                modifiers: modifiers_of(&event),
             }),
             raw::KIND_PASTE => InputEvent::Paste(self.pasted(event.paste_len)?),
             _ => unreachable!("{FAULT}"),
@@ -473,6 +532,19 @@ impl InputParser {
         // SAFETY: `raw` is a parser.
         unsafe { raw::tw_parser_drop_paste(self.raw()) };
         Ok(String::from_utf8(text).expect(FAULT))
+    }
+}
+
+// The modifiers of an event of the library.
+fn modifiers_of(event: &raw::Event) -> Modifiers {
+    Modifiers::from_bits(event.modifiers).expect(FAULT)
+}
+
+// The key of an event of the library.
+fn key_event(event: &raw::Event) -> KeyEvent {
+    KeyEvent {
+        key: KeyCode::of(event.key, event.detail).expect(FAULT),
+        modifiers: modifiers_of(event),
     }
 }
 

@@ -7,5 +7,6 @@ mod lines;
 mod names;
 mod parser;
 mod recorded;
+mod rows;
 mod streams;
 mod waiting;

@@ -1,0 +1,117 @@
+// The rows of the sequence table, and those that would complete what stays buffered.
+use crate::lines::hex;
+use hedrugal::input::{InputEvent, InputParser, KeyCode, KeyEvent, Modifiers, Waiting};
+
+const ROW_COUNT: usize = 2937;
+
+// All rows, by their places.
+fn rows(parser: &InputParser) -> Vec<(Vec<u8>, KeyEvent)> {
+    let rows = (0..).map_while(|place| parser.row(place));
+    rows.map(|(bytes, key)| (bytes.to_vec(), key)).collect()
+}
+
+// The same key, with ALT if a first ESC was buffered.
+fn with_alt(key: &KeyEvent, with_alt: bool) -> KeyEvent {
+    let alt = if with_alt { Modifiers::ALT } else { Modifiers::NONE };
+    KeyEvent {
+        key: key.key,
+        modifiers: key.modifiers | alt,
+    }
+}
+
+// Parses the rest of a row: its key is the event, but the start of a paste opens one, after an Escape if there was a first ESC.
+fn check_completed(parser: &mut InputParser, rest: &[u8], key: &KeyEvent, has_alt: bool) {
+    let events = parser.parse_as_vec(rest, false);
+    let escape = KeyEvent {
+        key: KeyCode::Escape,
+        modifiers: Modifiers::NONE,
+    };
+    let is_start = key.key == KeyCode::InternalPasteStart;
+    match (is_start, has_alt) {
+        (true, false) => assert_eq!(events, []),
+        (true, true) => assert_eq!(events, [InputEvent::Key(escape)]),
+        _ => assert_eq!(events, [InputEvent::Key(with_alt(key, has_alt))]),
+    }
+    assert_eq!(parser.is_paste_open(), is_start);
+    parser.reset();
+}
+
+#[test]
+fn tells_rows() {
+    let mut parser = InputParser::new();
+    let rows = rows(&parser);
+    assert_eq!(rows.len(), ROW_COUNT);
+    assert!(rows.windows(2).all(|two| two[0].0 < two[1].0));
+    for (bytes, key) in &rows {
+        check_completed(&mut parser, bytes, key, false);
+    }
+    assert_eq!(rows.iter().map(|(bytes, _)| bytes.len()).max(), Some(11));
+}
+
+#[test]
+fn has_no_other_rows() {
+    let mut parser = InputParser::new();
+    parser.parse(b"\x1b[200~text", |_| {}, true);
+    for place in [ROW_COUNT, ROW_COUNT + 1, usize::MAX] {
+        assert_eq!(parser.row(place), None);
+    }
+    let (bytes, key) = parser.row(ROW_COUNT - 1).expect("there is a last row");
+    assert_eq!((&bytes[..], bytes.as_ref().len(), key.key), (&b"\x7f"[..], 1, KeyCode::Backspace));
+    assert_eq!(parser.waiting_len(), 10);
+}
+
+// A text, how many rows would complete it, and whether their keys get ALT.
+const BEGUN: &[(&[u8], usize, bool)] = &[
+    (b"", ROW_COUNT, false),
+    (b"\x1b", ROW_COUNT - 28, false),
+    (b"\x1b\x1b", ROW_COUNT - 28, true),
+    (b"\x1b[", 2832, false),
+    (b"\x1bO", 50, false),
+    (b"\x1b[1", 662, false),
+    (b"\x1b\x1b[1;", 169, true),
+    (b"\x1b[20", 28, false),
+    (b"\x1b\x1b[20", 28, true),
+    (b"\x1b[<0;3", 0, false),
+    (b"\x1b\x1b[<", 0, false),
+    (b"\xc3", 0, false),
+    (b"\x1b\xf0\x9f", 0, false),
+    (b"\x1b[200~te", 0, false),
+];
+
+#[test]
+fn tells_completions() {
+    let mut parser = InputParser::new();
+    let rows = rows(&parser);
+    for (text, count, has_alt) in BEGUN {
+        parser.parse(text, |_| {}, true);
+        let completions = parser.completions();
+        assert_eq!((completions.rows.len(), completions.with_alt), (*count, *has_alt), "{}", hex(text));
+        assert_eq!(parser.waiting_len(), text.len());
+        parser.reset();
+        let begun = &text[usize::from(*has_alt)..];
+        for (place, (bytes, key)) in rows.iter().enumerate() {
+            let goes_on = bytes.starts_with(begun) && bytes.len() > begun.len();
+            assert_eq!(completions.rows.contains(&place), goes_on, "{} {}", hex(text), hex(bytes));
+            if goes_on {
+                parser.parse(text, |_| panic!("{} stays buffered", hex(text)), true);
+                check_completed(&mut parser, &bytes[begun.len()..], key, *has_alt);
+            }
+        }
+    }
+}
+
+// Threads read the table of one parser at once.
+#[test]
+fn shares_the_table() {
+    let mut parser = InputParser::new();
+    parser.parse(b"\x1b[1;5", |_| {}, true);
+    std::thread::scope(|scope| {
+        for _ in 0..2 {
+            scope.spawn(|| {
+                let completions = parser.completions();
+                assert!(completions.rows.clone().all(|place| parser.row(place).is_some()));
+                assert_eq!(parser.waiting(), Waiting::Sequence);
+            });
+        }
+    });
+}
