@@ -392,6 +392,9 @@ USES = [
     lambda parser: parser.waiting,
     lambda parser: parser.waiting_len,
     lambda parser: parser.is_paste_open,
+    lambda parser: parser.row(0),
+    lambda parser: next(parser.rows()),
+    lambda parser: parser.completions(),
     lambda parser: parser.__enter__(),
 ]
 

@@ -800,6 +800,16 @@ class InputParser(_Closable):
             self._has_front = _is_event(_next(self._raw, maybe_more, self._front))
         return self._has_front
 
+    def _skip(self, maybe_more: bool, most: int) -> int:
+        """Consumes at most so many events, without making them, and returns how many there were. It is for the page, which counts them."""
+        count = 0
+        while count < most and self._find_front(maybe_more):
+            self._has_front = False
+            count += 1
+            while count < most and _next(self._raw, maybe_more, self._front) == _NEXT_EVENT:
+                count += 1
+        return count
+
     def _front_event(self) -> Event:
         kind, buttons, modifiers, key, x, y, detail, paste_len = _fields_of(self._front)
         if kind == _KIND_KEY:
