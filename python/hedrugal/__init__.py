@@ -501,6 +501,9 @@ def _not_loaded(why: str) -> ImportError:
 
 _library = _load()
 _feed, _next, _lookup = _library.tw_parser_feed, _library.tw_parser_next, _library.tw_keymap_lookup
+# tw_parser_next again, for `_skip`: a call whose arguments have no types takes a third of the time.
+_next_untyped = _library["tw_parser_next"]
+_next_untyped.restype = ctypes.c_uint32
 
 
 def _fault() -> NoReturn:
@@ -802,11 +805,11 @@ class InputParser(_Closable):
 
     def _skip(self, maybe_more: bool, most: int) -> int:
         """Consumes at most so many events, without making them, and returns how many there were. It is for the page, which counts them."""
-        count = 0
+        count, parser, front, more = 0, ctypes.byref(self._raw), ctypes.byref(self._front), int(maybe_more)
         while count < most and self._find_front(maybe_more):
             self._has_front = False
             count += 1
-            while count < most and _next(self._raw, maybe_more, self._front) == _NEXT_EVENT:
+            while count < most and _next_untyped(parser, more, front) == _NEXT_EVENT:
                 count += 1
         return count
 

@@ -152,6 +152,18 @@ def texts(name: str, names: str) -> Json:
     return {"line": key_line(key, modifiers), "sent": sent, "reads": reads}
 
 
+# The keys that are named first.
+KNOWN: List[Key] = [KeyCode.UpArrow, KeyCode.DownArrow, KeyCode.RightArrow, KeyCode.LeftArrow, KeyCode.Home, KeyCode.End, KeyCode.Delete]
+KNOWN += [KeyCode.Insert, KeyCode.PageUp, KeyCode.PageDown, KeyCode.Tab, KeyCode.Enter, KeyCode.Backspace, KeyCode.Escape]
+KNOWN += [Function(number) for number in range(1, 25)]
+
+
+def rank(row: Row) -> Tuple[bool, int, int, int, bytes]:
+    """The order in which rows are named: known keys with few modifiers first, of these the shortest, and characters last."""
+    place = KNOWN.index(row.key) if row.key in KNOWN else len(KNOWN)
+    return isinstance(row.key, str), place, bin(row.modifiers.value).count("1"), len(row.bytes), row.bytes
+
+
 class Meanings:
     """Answers what bytes mean. The sequence table is read once."""
 
@@ -212,16 +224,15 @@ class Meanings:
             alt = Modifiers.ALT if found.with_alt else Modifiers.NONE
             before = rest[:1] if found.with_alt else b""
             named = [[(before + row.bytes).hex(), key_line(row.key, row.modifiers | alt)] for row in self.named(found.rows)]
-            told.update(count=len(found.rows), named=named, mouse=self.report(rest))
+            told.update(count=len(found.rows), with_alt=found.with_alt, named=named, mouse=self.report(rest))
         if kind is Waiting.Escape:
             told["alt"] = [(rest + b"q").hex(), *self.lines(rest + b"q")]
         told["flushed"] = [line(event) for event in parser.flush()]
         return told
 
     def named(self, places: range) -> List[Row]:
-        """Some of these rows, each of another key: first keys with a name, with few modifiers and short texts."""
+        """Some of these rows, each of another key: first those that most readers know."""
         chosen: Dict[Key, Row] = {}
-        rank = lambda row: (isinstance(row.key, str), bin(row.modifiers.value).count("1"), len(row.bytes), row.bytes)
         for row in sorted(self.rows[places.start : places.stop], key=rank):
             chosen.setdefault(row.key, row)
             if len(chosen) == NAMED:

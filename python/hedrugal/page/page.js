@@ -158,7 +158,7 @@ const linkTo = (hex) => `#bytes=${hex}`;
 
 // A sequence and its event, as a link that puts the sequence into the field.
 const example = ([hex, ...lines]) => [
-  el('a', { class: 'sequence', href: linkTo(hex) }, sequence(fromHex(hex))), ` is ${lines.join(', ')}`,
+  el('a', { class: 'sequence', href: linkTo(hex) }, sequence(fromHex(hex))), ' is ', el('code', {}, lines.join(', ')),
 ];
 
 // ---- The server
@@ -330,12 +330,12 @@ function showWaits(waits) {
   $('why').replaceChildren(...WHY[waits.kind](waits, rest).filter(Boolean).map(paragraph));
   if (waits.count > waits.named?.length) {
     const find = el('button', { type: 'button' }, `See all ${waits.count.toLocaleString('en')} in the table`);
-    find.onclick = () => searchBytes(waits.named[0][0].startsWith(hexOf(rest).join('')) && !waits.alted ? rest : rest.subarray(1));
+    find.onclick = () => searchBytes(waits.with_alt ? rest.subarray(1) : rest);
     $('why').insertBefore(el('p', {}, find), $('why').children[2] ?? null);
   }
   const isPaste = waits.kind === 'Paste';
   $('flush').textContent = isPaste ? 'End the paste here' : 'Flush: no more bytes come';
-  set('flush-means', `That emits ${waits.flushed.join(', ')}.`);
+  $('flush-means').replaceChildren('That emits ', el('code', {}, waits.flushed.join(', ')), '.');
 }
 
 function flush(end, focus) {
@@ -504,7 +504,7 @@ async function showKey() {
 function showSent(answer) {
   state.sent = answer;
   const text = (mode) => answer.sent[modeIndex(mode)];
-  const matters = MODES.map((_, at) => allModes.some((mode) => text(mode) !== text(mode.with(at, 0))));
+  const matters = MODES.map((_, at) => allModes.some((mode) => text(mode) !== text(mode.map((value, place) => (place === at ? 0 : value)))));
   const now = modesNow();
   const rows = allModes.filter((mode) => mode.every((value, at) => matters[at] || value === 0));
   const texts = new Set(answer.sent).size;

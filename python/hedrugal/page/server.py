@@ -7,8 +7,10 @@ from __future__ import annotations
 
 import json
 import os
+import socket
 import socketserver
 import threading
+import time
 from http.server import BaseHTTPRequestHandler, ThreadingHTTPServer
 from typing import Any, Dict, List, Optional, Tuple
 from urllib.parse import parse_qs, urlsplit
@@ -16,8 +18,8 @@ from urllib.parse import parse_qs, urlsplit
 from .meanings import ENDS, Meanings, Wrong, texts
 
 ADDRESS = "127.0.0.1"
-# The bytes that a request may have, and those that are read of a larger one before its connection ends.
-MOST, MOST_IGNORED = 1 << 20, 1 << 24
+# The bytes that a request may have, and the bytes and the seconds for which one that was refused is read on.
+MOST, MOST_IGNORED, IGNORING = 1 << 20, 1 << 26, 2
 # The requests that are computed at one time.
 AT_ONCE = 4
 SECONDS = 30
@@ -181,7 +183,6 @@ class Handler(BaseHTTPRequestHandler):
     def body(self) -> bytes:
         length = self.length()
         if length > MOST:
-            self.ignore(length)
             raise Refused(413, f"a request has at most {MOST} bytes")
         data = self.rfile.read(length)
         if len(data) < length:
@@ -192,18 +193,18 @@ class Handler(BaseHTTPRequestHandler):
         if self.length():
             raise Refused(400, "this path takes no body")
 
-    def ignore(self, length: int) -> None:
-        """Reads a body that is too large, so that its sender gets the answer."""
-        left = min(length, MOST_IGNORED)
-        while left > 0:
-            read = len(self.rfile.read(min(left, 1 << 16)))
+    def refuse(self, refused: Refused) -> None:
+        """Says why, and ends the connection. What else the sender sends is read for a moment, since it may get no answer otherwise."""
+        self.close_connection = True
+        self.reply(refused.status, f"{refused.why}\n".encode(), "text/plain; charset=utf-8", {**refused.headers, "Connection": "close"})
+        end, left = time.monotonic() + IGNORING, MOST_IGNORED
+        self.connection.shutdown(socket.SHUT_WR)
+        self.connection.settimeout(IGNORING)
+        while left > 0 and time.monotonic() < end:
+            read = len(self.connection.recv(1 << 16))
             if not read:
                 break
             left -= read
-
-    def refuse(self, refused: Refused) -> None:
-        self.close_connection = True
-        self.reply(refused.status, f"{refused.why}\n".encode(), "text/plain; charset=utf-8", {**refused.headers, "Connection": "close"})
 
     def send_error(self, code: int, message: Optional[str] = None, explain: Optional[str] = None) -> None:
         """What http.server itself refuses, as a line too long."""
