@@ -9,7 +9,7 @@ import subprocess
 import tempfile
 import time
 
-SECONDS = 30
+SECONDS = 15
 NAMES = ["chromium", "chromium-browser", "google-chrome"]
 MODIFIERS = {"Alt": 1, "Control": 2, "Meta": 4, "Shift": 8}
 # The keys that are no characters: their codes, and what they type.
@@ -107,7 +107,7 @@ class Chromium:
     def wait(self, script, seconds=SECONDS):
         """Waits until an expression is true."""
         end = time.monotonic() + seconds
-        while not self.run(script):
+        while not self.run(f"!!({script})"):
             if time.monotonic() > end:
                 raise AssertionError(f"not so in {seconds} s: {script}\n{self.run('document.body.innerText.slice(0, 3000)')}")
             time.sleep(0.02)

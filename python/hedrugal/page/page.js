@@ -5,6 +5,7 @@ const $ = (id) => document.getElementById(id);
 const MOST = 1 << 20; // The bytes that the server takes.
 const LINKED = 4096; // The bytes that a link holds.
 const SHOWN = 24; // The bytes of one item that are shown.
+const COMPARED = 1 << 14; // The bytes that the server reads in pieces, too.
 const PORTION = 50; // The rows of the table that are shown at once.
 const COLORS = 5;
 
@@ -40,35 +41,60 @@ const decoder = new TextDecoder('utf-8', { fatal: true });
 const CONTROLS = 'NUL SOH STX ETX EOT ENQ ACK BEL BS TAB LF VT FF CR SO SI DLE DC1 DC2 DC3 DC4 NAK SYN ETB CAN EM SUB ESC FS GS RS US'.split(' ');
 const WORDS = new Map([...CONTROLS.map((name, at) => [name, at]), ['SP', 32], ['DEL', 127], ['HT', 9]]);
 const LETTERS = new Map(Object.entries({ e: 27, E: 27, n: 10, r: 13, t: 9, b: 8, a: 7, f: 12, v: 11, '\\': 92, '^': 94, '"': 34, "'": 39 }));
-const ESCAPE = /\\u\{([0-9a-f]{1,6})\}|\\u([0-9a-f]{4})|\\x([0-9a-f]{2})|\\([0-7]{1,3})|\\(.)|\^([@-_?a-z])|\\$/gis;
 
 const fromHex = (digits) => Uint8Array.from(digits.match(/../g) ?? [], (pair) => parseInt(pair, 16));
 const hexOf = (bytes) => Array.from(bytes, (byte) => byte.toString(16).padStart(2, '0'));
 const isScalar = (code) => code < 0x110000 && (code < 0xd800 || code > 0xdfff);
 const same = (one, other) => one.length === other.length && one.every((byte, at) => byte === other[at]);
 
+// The length of an escape at a place of a text, and the byte or the code point that it stands for. Null if there is none.
+function escapeAt(text, at) {
+  const letter = text[at + 1] ?? '';
+  if (text[at] === '^') return /^[@-_?a-z]$/i.test(letter) ? { length: 2, byte: letter === '?' ? 127 : letter.charCodeAt(0) & 31 } : { length: 1, byte: 94 };
+  if (LETTERS.has(letter)) return { length: 2, byte: LETTERS.get(letter) };
+  const digits = /^(?:x([0-9a-f]{2})|u\{([0-9a-f]{1,6})\}|u([0-9a-f]{4})|([0-7]{1,3}))/i.exec(text.slice(at + 1, at + 10));
+  if (!digits) return null;
+  const [whole, two, braced, four, octal] = digits, length = 1 + whole.length;
+  const number = octal === undefined ? parseInt(two ?? braced ?? four, 16) : parseInt(octal, 8);
+  if (two !== undefined || octal !== undefined) return number < 256 ? { length, byte: number } : null;
+  return isScalar(number) ? { length, code: number } : null;
+}
+
+// The value of a hexadecimal digit, 16 or more for anything else.
+const digitAt = (text, at) => { const code = text.charCodeAt(at); return code >= 48 && code < 58 ? code - 48 : (code | 32) > 96 && (code | 32) < 103 ? (code | 32) - 87 : 16; };
+
 // Text with escapes. What is no escape stands for itself, and is named in `wrong`.
 function bytesOfText(text, wrong) {
-  if (!/[\\^]/.test(text)) return encoder.encode(text);
   const room = new Uint8Array(3 * text.length);
-  let length = 0, at = 0;
-  const literal = (part) => { length += encoder.encodeInto(part, room.subarray(length)).written; };
-  for (const found of text.matchAll(ESCAPE)) {
-    const [whole, braced, four, two, octal, letter, caret] = found;
-    const code = braced ?? four;
-    literal(text.slice(at, found.index));
-    at = found.index + whole.length;
-    if (code !== undefined && isScalar(parseInt(code, 16))) literal(String.fromCodePoint(parseInt(code, 16)));
-    else if (two !== undefined) room[length++] = parseInt(two, 16);
-    else if (octal !== undefined && parseInt(octal, 8) < 256) room[length++] = parseInt(octal, 8);
-    else if (letter !== undefined && LETTERS.has(letter)) room[length++] = LETTERS.get(letter);
-    else if (caret !== undefined) room[length++] = caret === '?' ? 127 : caret.toUpperCase().charCodeAt(0) & 31;
-    else {
-      if (wrong.length < 3) wrong.push(whole);
-      literal(whole);
+  let length = 0, at = 0, literal = 0;
+  const copy = () => { length += encoder.encodeInto(text.slice(literal, at), room.subarray(length)).written; };
+  while (at < text.length) {
+    const code = text.charCodeAt(at);
+    if (code !== 92 && code !== 94) {
+      at += 1;
+      continue;
     }
+    if (literal < at) copy();
+    const high = digitAt(text, at + 2), low = digitAt(text, at + 3);
+    const isByte = code === 92 && text.charCodeAt(at + 1) === 120 && high < 16 && low < 16;
+    const found = isByte ? null : escapeAt(text, at);
+    if (isByte) {
+      room[length++] = 16 * high + low;
+      at += 4;
+    } else if (found?.byte !== undefined) {
+      room[length++] = found.byte;
+      at += found.length;
+    } else if (found) {
+      length += encoder.encodeInto(String.fromCodePoint(found.code), room.subarray(length)).written;
+      at += found.length;
+    } else {
+      room[length++] = 92;
+      if (wrong.length < 3) wrong.push(/^\\(?:u\{[^}]{0,6}\}|x.{0,2}|u.{0,4}|[0-7]{1,3}|.)?/su.exec(text.slice(at, at + 10))[0]);
+      at += 1;
+    }
+    literal = at;
   }
-  literal(text.slice(at));
+  copy();
   return room.slice(0, length);
 }
 
@@ -92,7 +118,7 @@ function bytesOfWords(text, wrong) {
 const NOTATIONS = {
   text: { read: bytesOfText, name: 'text and escapes', why: '' },
   hex: { read: bytesOfHex, name: 'hexadecimal', why: ', since all of it is pairs of hexadecimal digits' },
-  names: { read: bytesOfWords, name: 'ESC and words', why: ', since it begins with the word ESC' },
+  names: { read: bytesOfWords, name: 'words', why: ', since it begins with ESC' },
 };
 
 function notationOf(text) {
@@ -212,6 +238,9 @@ function fill(bytes) {
   readField();
 }
 
+// The bytes that are compared. The server knows by one byte more that others follow.
+const head = (bytes) => bytes.subarray(0, COMPARED + 1);
+
 async function show() {
   asking.abort();
   asking = new AbortController();
@@ -225,7 +254,7 @@ async function show() {
   try {
     const read = await ask('read', { end, first: 0 }, bytes, signal);
     showRead(read);
-    const [reads] = await Promise.all([ask('reads', { end }, bytes, signal), showCut(signal)]);
+    const [reads] = await Promise.all([ask('reads', { end }, head(bytes), signal), showCut(signal)]);
     showReads(reads);
     document.body.setAttribute('aria-busy', 'false');
   } catch (error) {
@@ -359,7 +388,7 @@ function listOf(read) {
 
 async function showCut(signal) {
   const { bytes, end } = state, at = state.cut ?? bytes.length >> 1;
-  const cut = await ask('cut', { end, at }, bytes, signal);
+  const cut = await ask('cut', { end, at }, head(bytes), signal);
   const slider = $('cut');
   slider.max = String(cut.bytes);
   slider.value = String(cut.at);
