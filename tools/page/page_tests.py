@@ -43,6 +43,14 @@ CONTRAST = """(() => {
 })()"""
 
 
+def slowness():
+    """How many times longer than its processor time a loop takes, since other programs run on this machine."""
+    began, used = time.perf_counter(), time.process_time()
+    while time.process_time() - used < 0.1:
+        pass
+    return max(1.0, (time.perf_counter() - began) / (time.process_time() - used))
+
+
 class Page(unittest.TestCase):
     @classmethod
     def setUpClass(cls):
@@ -114,14 +122,16 @@ class Page(unittest.TestCase):
         if lines or waiting:
             self.assertEqual(self.it.run("document.querySelectorAll('.verdict.good').length"), 2)
 
-    def picture(self, name, height=None):
+    def picture(self, name, last=None):
+        """Keeps a picture of the page, down to the element `last` if it is named."""
+        height = last and self.it.run(f"document.querySelector('{last}').getBoundingClientRect().bottom + scrollY + 16")
         self.it.picture(os.path.join(SCREENSHOTS, f"{name}.png"), height)
 
     def test_first_sight(self):
         self.check(["key UpArrow CTRL", "key U+0071 NONE"], "ESC")
         self.assertEqual(self.text("count"), "8 bytes: 2 events, and 1 byte waits.")
         self.picture("light")
-        self.picture("page", 790)
+        self.picture("page", "#waits")
 
     def test_typing(self):
         self.enter("")
@@ -223,10 +233,26 @@ class Page(unittest.TestCase):
             self.assertEqual(self.it.run("document.querySelectorAll('.verdict.good').length"), 2)
             self.it.press(" ")
             self.it.wait("document.activeElement.id === 'flush'")
-        self.enter("\\e[1;")
-        self.picture("waits", 1000)
+        self.enter("q\\e[1;")
+        self.it.run("document.activeElement.blur()")
+        self.picture("waits", "#two-same")
         self.click("#why button")
         self.it.wait("document.getElementById('found').innerText.startsWith('102 of') || document.getElementById('found').innerText.includes('ESC [ 1 ;')")
+
+    def test_pasting_control_characters(self):
+        """They are shown as escapes, and so are a backslash and a caret beside them."""
+        script = """(() => {
+          const clipboardData = new DataTransfer();
+          clipboardData.setData('text/plain', %s);
+          document.getElementById('text').select();
+          document.body.setAttribute('aria-busy', 'true');
+          return document.getElementById('text').dispatchEvent(new ClipboardEvent('paste', {clipboardData, cancelable: true}));
+        })()"""
+        self.assertFalse(self.it.run(script % json.dumps("\x1b[A\x03\\n^C\x7f\n")))
+        self.settle()
+        self.assertEqual(self.value("text"), "\\e[A^C\\\\n\\^C^?^J")
+        self.check(["key UpArrow NONE", "key U+0063 CTRL", "key U+005C NONE", "key U+006E NONE", "key U+005E NONE", "key U+0043 NONE", "key Backspace NONE", "key Enter NONE"])
+        self.assertTrue(self.it.run(script % json.dumps("\\e[A\n")))
 
     def test_cuts(self):
         """Wherever the slider cuts, the events are the same."""
@@ -361,26 +387,32 @@ class Page(unittest.TestCase):
         self.assertEqual(self.it.run("document.activeElement.tagName"), "LI")
 
     def test_a_megabyte(self):
-        """It is shown in two seconds, in the best of three tries, since other programs may run on this machine."""
+        """It is shown in two seconds. Each is longer by as much as this machine's other programs make a loop take."""
         script = """(async () => {
           const field = document.getElementById('text'), count = document.getElementById('count'), began = performance.now();
-          field.value = %s;
           document.body.setAttribute('aria-busy', 'true');
-          field.dispatchEvent(new Event('input', {bubbles: true}));
+          const text = %s, clipboardData = new DataTransfer();
+          clipboardData.setData('text/plain', text);
+          if (field.dispatchEvent(new ClipboardEvent('paste', {clipboardData, bubbles: true, cancelable: true}))) {
+            field.value = text;
+            field.dispatchEvent(new Event('input', {bubbles: true}));
+          }
           while (!count.innerText.startsWith('1,048,576 bytes')) await new Promise((done) => setTimeout(done, 5));
           const shown = performance.now() - began;
           while (document.body.getAttribute('aria-busy') !== 'false') await new Promise((done) => setTimeout(done, 5));
           return [shown, performance.now() - began];
         })()"""
-        for text in ("'a'.repeat(1 << 20)", "'\\\\e[A'.repeat(1 << 18) + 'q'.repeat(1 << 18)", "'\\\\xff'.repeat(1 << 20)"):
-            times = []
-            while len(times) < 3 and not any(it[1] < 2000 for it in times):
+        for text in ("'a'.repeat(1 << 20)", "'é'.repeat(1 << 19)", "'\\\\e[A'.repeat(1 << 18) + 'q'.repeat(1 << 18)", "'\\x1b[A\\x1b'.repeat(1 << 18)"):
+            times, limit = [], 0
+            while len(times) < 3 and not any(it[1] < limit for it in times):
                 self.enter("")
+                before = slowness()
                 times.append(self.it.run(script % text))
-                time.sleep(0.5)
-            print(f"{text[:9]}..: shown and compared after {', '.join(f'{one / 1000:.2f} and {two / 1000:.2f} s' for one, two in times)}", end=" ", flush=True)
-            self.assertLess(min(it[1] for it in times), 2000, text)
-            self.assertEqual(self.it.run("document.querySelectorAll('#items > li').length"), 300)
+                limit = 2000 * max(before, slowness())
+            shown = ", ".join(f"{one / 1000:.2f} and {two / 1000:.2f} s" for one, two in times)
+            print(f"\n  {text}: shown, and compared, after {shown}; the limit is {limit / 1000:.2f} s", end=" ", flush=True)
+            self.assertLess(min(it[1] for it in times), limit, text)
+            self.assertIn(self.it.run("document.querySelectorAll('#items > li').length"), (1, 300))
             self.assertIn("16,384", self.text("compared"))
             self.assertEqual(self.it.run("document.querySelectorAll('.verdict.good').length"), 2)
             self.assertEqual(self.it.run("location.hash"), "")
@@ -402,7 +434,7 @@ class Page(unittest.TestCase):
         self.enter("\\e[1;5Aq\\e")
         self.picture("narrow")
         self.it.scheme("dark")
-        self.picture("narrow-dark", 1500)
+        self.picture("narrow-dark")
 
     def test_schemes(self):
         """Both colour schemes are used, and each text can be read in them."""

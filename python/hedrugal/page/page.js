@@ -617,6 +617,17 @@ function searchBytes(bytes) {
   $('find').focus();
 }
 
+// Control characters that are pasted as such become escapes: a field doesn't show them, and a browser lays out many of them slowly.
+function paste(event) {
+  const text = event.clipboardData?.getData('text/plain') ?? '';
+  if (!/[\0-\x08\v-\x1f\x7f]/.test(text)) return;
+  event.preventDefault();
+  const shown = text.replace(/[\0-\x1f\x7f\\^]/g, (it) => it === '\x1b' ? '\\e' : it === '\\' || it === '^' ? `\\${it}` : `^${String.fromCharCode(it.charCodeAt(0) ^ 64)}`);
+  const field = $('text');
+  field.setRangeText(shown, field.selectionStart, field.selectionEnd, 'end');
+  showTyped();
+}
+
 // ---- What the user does
 
 function start(table) {
@@ -635,6 +646,7 @@ const showTyped = delayed(60, () => {
 const writeLater = delayed(200, writeLink);
 
 $('text').addEventListener('input', showTyped);
+$('text').addEventListener('paste', paste);
 $('notation').addEventListener('change', showTyped);
 $('press').addEventListener('keydown', press);
 $('flush').addEventListener('click', () => flush(state.waits?.kind === 'Paste' ? 'paste' : 'flush', 'unflush'));
