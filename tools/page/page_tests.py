@@ -13,6 +13,21 @@ WIDE, NARROW = (1100, 900), (360, 740)
 LINES = "[...document.querySelectorAll('#items > li .event')].map((it) => it.firstChild.textContent)"
 BYTES = "[...document.querySelectorAll('#items > li .bytes')].map((it) => it.getAttribute('aria-label'))"
 
+# The middle of an element, once it is in sight.
+MIDDLE = """(it) => {
+  it.scrollIntoView({block: 'center'});
+  const { x, y, width, height } = it.getBoundingClientRect();
+  return [x + width / 2, y + height / 2];
+}"""
+
+# What has the focus, how that is shown, and its place in the page. Null if it had the focus before.
+FOCUSED = """() => {
+  const it = document.activeElement, { outlineStyle, outlineWidth } = getComputedStyle(it);
+  if (it === document.body || seen.has(it)) return null;
+  seen.add(it);
+  return [it.id || it.outerHTML.slice(0, 60), outlineStyle, parseFloat(outlineWidth), [...document.querySelectorAll('*')].indexOf(it)];
+}"""
+
 # Each text of the page with its contrast, where that is below 4.5. The hatched ones are seen on both colours of the hatching.
 CONTRAST = """(() => {
   const numbers = (text) => text.match(/[\\d.]+/g).map(Number);
@@ -110,13 +125,13 @@ class Page(unittest.TestCase):
 
     def click(self, selector):
         """Clicks with the mouse on the middle of an element."""
-        script = f"(() => {{ const it = document.querySelector({json.dumps(selector)}); it.scrollIntoView({{block: 'center'}}); const r = it.getBoundingClientRect(); return [r.x + r.width / 2, r.y + r.height / 2]; }})()"
-        x, y = self.it.run(script)
+        x, y = self.it.run(f"({MIDDLE})(document.querySelector({json.dumps(selector)}))")
         for kind in ("mousePressed", "mouseReleased"):
             self.it.call("Input.dispatchMouseEvent", type=kind, x=x, y=y, button="left", clickCount=1)
 
     def check(self, lines, waiting=""):
-        self.it.wait(f"JSON.stringify({LINES}) === {json.dumps(json.dumps(lines + (['waits for more bytes'] if waiting else []), separators=(',', ':'), ensure_ascii=False))}")
+        shown = lines + (["waits for more bytes"] if waiting else [])
+        self.it.wait(f"JSON.stringify({LINES}) === JSON.stringify({json.dumps(shown)})")
         self.assertEqual(self.it.run("document.querySelector('#items > .hatched .bytes')?.getAttribute('aria-label') ?? ''"), waiting)
         self.settle()
         if lines or waiting:
@@ -145,17 +160,34 @@ class Page(unittest.TestCase):
     def test_notations(self):
         up = "ESC [ 1 ; 5 A"
         for typed, used, shown in [
-            ("\\e[1;5A", "text", [up]), ("\\x1b[1;5A", "text", [up]), ("\\033[1;5A", "text", [up]), ("^[[1;5A", "text", [up]), ("\\u001b[1;5A", "text", [up]),
-            ("1b 5b 31 3b 35 41", "hex", [up]), ("1B5B313B3541", "hex", [up]), ("0x1b, 0x5b, 0x31, 0x3b, 0x35, 0x41", "hex", [up]),
-            ("ESC [ 1 ; 5 A", "words", [up]), ("ESC[1;5A", "words", [up]), ("ESC [ A CR SP DEL", "words", ["ESC [ A", "^M", "SP", "DEL"]),
-            ("\\u{e9}", "text", ["\\xc3 \\xa9"]), ("é", "text", ["\\xc3 \\xa9"]), ("\\n\\t\\\\\\^", "text", ["^J", "^I", "\\", "^"]),
-            ("^?^@^", "text", ["DEL", "^@", "^"]), ("\\0\\377", "text", ["^@", "\\xff"]), ("1b", "text", ["1", "b"]), ("\x1b[A", "text", ["ESC [ A"]),
+            ("\\e[1;5A", "text", [up]),
+            ("\\x1b[1;5A", "text", [up]),
+            ("\\033[1;5A", "text", [up]),
+            ("^[[1;5A", "text", [up]),
+            ("\\u001b[1;5A", "text", [up]),
+            ("1b 5b 31 3b 35 41", "hex", [up]),
+            ("1B5B313B3541", "hex", [up]),
+            ("0x1b, 0x5b, 0x31, 0x3b, 0x35, 0x41", "hex", [up]),
+            ("ESC [ 1 ; 5 A", "words", [up]),
+            ("ESC[1;5A", "words", [up]),
+            ("ESC [ A CR SP DEL", "words", ["ESC [ A", "^M", "SP", "DEL"]),
+            ("\\u{e9}", "text", ["\\xc3 \\xa9"]),
+            ("é", "text", ["\\xc3 \\xa9"]),
+            ("\\n\\t\\\\\\^", "text", ["^J", "^I", "\\", "^"]),
+            ("^?^@^", "text", ["DEL", "^@", "^"]),
+            ("\\0\\377", "text", ["^@", "\\xff"]),
+            ("1b", "text", ["1", "b"]),
+            ("\x1b[A", "text", ["ESC [ A"]),
         ]:
             self.enter(typed)
             self.assertEqual(self.it.run(BYTES), shown, typed)
             self.assertIn(used, self.text("read-as"), typed)
             self.assertEqual(self.text("fault"), "")
-        for typed, faults in [("\\q\\xg", "‘\\q’, ‘\\xg’ is no escape"), ("\\u{d800}", "‘\\u{d800}’ is no escape"), ("\\777", "‘\\777’ is no escape")]:
+        for typed, faults in [
+            ("\\q\\xg", "‘\\q’, ‘\\xg’ is no escape"),
+            ("\\u{d800}", "‘\\u{d800}’ is no escape"),
+            ("\\777", "‘\\777’ is no escape"),
+        ]:
             self.enter(typed)
             self.assertIn(faults, self.text("fault"))
             self.assertEqual(self.it.run("document.getElementById('text').getAttribute('aria-invalid')"), "true")
@@ -200,7 +232,8 @@ class Page(unittest.TestCase):
         self.it.press("ArrowUp")
         self.check(["key ApplicationUpArrow NONE"])
         self.assertEqual(self.text("modes-now"), "application cursor keys")
-        self.it.run("(() => { const it = document.getElementById('encoding'); it.value = '1'; it.dispatchEvent(new Event('change', {bubbles: true})); })()")
+        self.it.run("document.getElementById('encoding').value = '1'")
+        self.it.run("document.getElementById('encoding').dispatchEvent(new Event('change', {bubbles: true}))")
         self.focus("press")
         self.it.press("i", "Control")
         self.check(["key ApplicationUpArrow NONE", "key U+0069 CTRL"])
@@ -209,13 +242,34 @@ class Page(unittest.TestCase):
     def test_what_waits(self):
         """Each kind of what waits is told in words, with a button that flushes."""
         for typed, words, button, flushed in [
-            ("\\e", ["The Escape key sends this byte, and nothing else.", "first byte of 2,909 longer sequences", "ESC [ A is key UpArrow NONE", "ESC q is key U+0071 ALT", "or a pause"], "Flush", ["key Escape NONE"]),
+            (
+                "\\e",
+                [
+                    "The Escape key sends this byte, and nothing else.",
+                    "first byte of 2,909 longer sequences",
+                    "ESC [ A is key UpArrow NONE",
+                    "ESC q is key U+0071 ALT",
+                    "or a pause",
+                ],
+                "Flush",
+                ["key Escape NONE"],
+            ),
             ("\\e\\e", ["Escape with Alt sends these two bytes", "ESC ESC [ A is key UpArrow ALT"], "Flush", ["key Escape ALT"]),
-            ("\\e[24;5", ["More bytes may make one of 2 keys of them:", "ESC [ 2 4 ; 5 ~ is key F12 CTRL", "slow line"], "Flush", ["key U+005B ALT"]),
+            (
+                "\\e[24;5",
+                ["More bytes may make one of 2 keys of them:", "ESC [ 2 4 ; 5 ~ is key F12 CTRL", "slow line"],
+                "Flush",
+                ["key U+005B ALT"],
+            ),
             ("\\e[<0;3", ["They begin a mouse report, whose end is still to come", "ESC [ < 0 ; 3"], "Flush", ["key U+005B ALT"]),
             ("\\xe2\\x82", ["a character may have several bytes", "U+FFFD"], "Flush", ["key U+FFFD NONE"]),
             ("\\xe2", ["the first one has arrived"], "Flush", ["key U+FFFD NONE"]),
-            ("\\e[200~ls -", ["A paste was begun, with 4 bytes of text so far", "ESC [ 2 0 1 ~"], "End the paste here", ["paste 4:6c73202d"]),
+            (
+                "\\e[200~ls -",
+                ["A paste was begun, with 4 bytes of text so far", "ESC [ 2 0 1 ~"],
+                "End the paste here",
+                ["paste 4:6c73202d"],
+            ),
         ]:
             self.enter(typed)
             self.assertTrue(self.it.run("document.getElementById('waits').checkVisibility()"), typed)
@@ -235,7 +289,7 @@ class Page(unittest.TestCase):
             self.it.wait("document.activeElement.id === 'flush'")
         self.enter("\\e[1;")
         self.click("#why button")
-        self.it.wait("document.getElementById('found').innerText.startsWith('102 of') || document.getElementById('found').innerText.includes('ESC [ 1 ;')")
+        self.it.wait("document.getElementById('found').innerText.endsWith('with bytes that begin with ESC [ 1 ;.')")
 
     def test_pasting_control_characters(self):
         """They are shown as escapes, and so are a backslash and a caret beside them."""
@@ -249,7 +303,18 @@ class Page(unittest.TestCase):
         self.assertFalse(self.it.run(script % json.dumps("\x1b[A\x03\\n^C\x7f\n")))
         self.settle()
         self.assertEqual(self.value("text"), "\\e[A^C\\\\n\\^C^?^J")
-        self.check(["key UpArrow NONE", "key U+0063 CTRL", "key U+005C NONE", "key U+006E NONE", "key U+005E NONE", "key U+0043 NONE", "key Backspace NONE", "key Enter NONE"])
+        self.check(
+            [
+                "key UpArrow NONE",
+                "key U+0063 CTRL",
+                "key U+005C NONE",
+                "key U+006E NONE",
+                "key U+005E NONE",
+                "key U+0043 NONE",
+                "key Backspace NONE",
+                "key Enter NONE",
+            ]
+        )
         self.assertTrue(self.it.run(script % json.dumps("\\e[A\n")))
 
     def test_cuts(self):
@@ -269,7 +334,10 @@ class Page(unittest.TestCase):
             if at == 10:
                 self.it.wait("location.hash.includes('cut=10')")
             self.it.press("ArrowRight")
-        steps = self.it.run("[...document.querySelectorAll('#steps > li')].map((it) => [...it.querySelectorAll('.event')].map((each) => each.innerText).join())")
+        steps = self.it.run(
+            "[...document.querySelectorAll('#steps > li')]"
+            ".map((it) => [...it.querySelectorAll('.event')].map((each) => each.innerText).join())"
+        )
         self.assertEqual((len(steps), [it for it in steps if " wait" not in it]), (23, lines))
         self.assertEqual(self.text("one-same"), "✓ 23 reads of one byte: the same events.")
 
@@ -293,7 +361,9 @@ class Page(unittest.TestCase):
         self.assertEqual(self.find("no such words"), [])
         self.assertEqual(len(self.find("alt")), 50)
         self.click("#more-rows button")
-        self.assertEqual(self.it.run("[document.querySelectorAll('#rows tbody tr').length, document.activeElement.closest('tr').rowIndex]"), [100, 51])
+        self.assertEqual(
+            self.it.run("[document.querySelectorAll('#rows tbody tr').length, document.activeElement.closest('tr').rowIndex]"), [100, 51]
+        )
         self.find("[11;16~")
         self.assertEqual(self.it.run("document.querySelectorAll('#rows tbody tr').length"), 1)
         self.click("#rows tbody a")
@@ -367,7 +437,9 @@ class Page(unittest.TestCase):
         self.it.wait("document.getElementById('key-fault').innerText.includes('<script>alert(1)</script>')")
         self.it.wait("document.getElementById('found').innerText.startsWith('0 of 2,937 rows')")
         self.focus("press")
-        self.it.run(f"document.getElementById('press').dispatchEvent(new KeyboardEvent('keydown', {{key: {json.dumps(evil)}, bubbles: true}}))")
+        self.it.run(
+            f"document.getElementById('press').dispatchEvent(new KeyboardEvent('keydown', {{key: {json.dumps(evil)}, bubbles: true}}))"
+        )
         self.it.wait("document.getElementById('pressed').innerText.includes('<img src=x')")
         self.assertEqual(self.it.run("document.querySelectorAll('main script, main img, main b b, main iframe').length"), 0)
         self.open("#bytes=" + evil.encode().hex())
@@ -400,13 +472,18 @@ class Page(unittest.TestCase):
           while (document.body.getAttribute('aria-busy') !== 'false') await new Promise((done) => setTimeout(done, 5));
           return [shown, performance.now() - began];
         })()"""
-        for text in ("'a'.repeat(1 << 20)", "'é'.repeat(1 << 19)", "'\\\\e[A'.repeat(1 << 18) + 'q'.repeat(1 << 18)", "'\\x1b[A\\x1b'.repeat(1 << 18)"):
+        for text in (
+            "'a'.repeat(1 << 20)",
+            "'é'.repeat(1 << 19)",
+            "'\\\\e[A'.repeat(1 << 18) + 'q'.repeat(1 << 18)",
+            "'\\x1b[A\\x1b'.repeat(1 << 18)",
+        ):
             times, limit = [], 0
-            while len(times) < 3 and not any(it[1] < limit for it in times):
+            while len(times) < 5 and not any(it[1] < limit for it in times):
                 self.enter("")
                 before = slowness()
                 times.append(self.it.run(script % text))
-                limit = 2000 * max(before, slowness())
+                limit = max(limit, 2000 * max(before, slowness()))
             shown = ", ".join(f"{one / 1000:.2f} and {two / 1000:.2f} s" for one, two in times)
             print(f"\n  {text}: shown, and compared, after {shown}; the limit is {limit / 1000:.2f} s", end=" ", flush=True)
             self.assertLess(min(it[1] for it in times), limit, text)
@@ -415,7 +492,8 @@ class Page(unittest.TestCase):
             self.assertEqual(self.it.run("document.querySelectorAll('.verdict.good').length"), 2)
             self.assertEqual(self.it.run("location.hash"), "")
         self.enter("")
-        self.it.run("(() => { const it = document.getElementById('text'); it.value = 'a'.repeat((1 << 20) + 1); it.dispatchEvent(new Event('input')); })()")
+        self.it.run("document.getElementById('text').value = 'a'.repeat((1 << 20) + 1)")
+        self.it.run("document.getElementById('text').dispatchEvent(new Event('input'))")
         self.it.wait("document.getElementById('fault').innerText.includes('At most 1,048,576 bytes')")
 
     def test_narrow(self):
@@ -426,7 +504,8 @@ class Page(unittest.TestCase):
         for text in ("\\e[1;5Aq\\e", "\\e[200~" + "x" * 300 + "\\e[201~", "W" * 400, "\\e[<95;65535;65535M\\e[1;", "\\xe2\\x82"):
             self.enter(text)
             self.assertEqual(self.it.run("document.documentElement.scrollWidth"), 360, text)
-        wide = "[...document.querySelectorAll('main *')].filter((it) => it.checkVisibility() && it.getBoundingClientRect().right > 360 && !it.closest('.wide') && !it.closest('.hidden')).map((it) => it.outerHTML.slice(0, 80))"
+        wide = "[...document.querySelectorAll('main *')].filter((it) => it.checkVisibility() && it.getBoundingClientRect().right > 360)"
+        wide += ".filter((it) => !it.closest('.wide') && !it.closest('.hidden')).map((it) => it.outerHTML.slice(0, 80))"
         self.assertEqual(self.it.run(wide), [])
         self.it.run("for (const it of document.querySelectorAll('details')) it.open = false")
         self.enter("\\e[1;5Aq\\e")
@@ -455,12 +534,15 @@ class Page(unittest.TestCase):
     def test_keyboard_alone(self):
         """Tab reaches each control in the order of the page, and shows where it is."""
         self.it.run("document.activeElement.blur()")
-        wanted = self.it.run("[...document.querySelectorAll('a[href], button, input, select, textarea, summary, [tabindex=\"0\"]')].filter((it) => it.checkVisibility() && !it.disabled && !(it.type === 'radio' && !it.checked)).length")
+        wanted = self.it.run(
+            "[...document.querySelectorAll('a[href], button, input, select, textarea, summary, [tabindex=\"0\"]')]"
+            ".filter((it) => it.checkVisibility() && !it.disabled && !(it.type === 'radio' && !it.checked)).length"
+        )
         seen, places = 0, []
         self.it.run("window.seen = new Set()")
         for _ in range(wanted + 5):
             self.it.press("Tab")
-            told = self.it.run("(() => { const it = document.activeElement; if (it === document.body || seen.has(it)) return null; seen.add(it); const style = getComputedStyle(it); const all = [...document.querySelectorAll('*')]; return [it.id || it.outerHTML.slice(0, 60), style.outlineStyle, parseFloat(style.outlineWidth), all.indexOf(it)]; })()")
+            told = self.it.run(f"({FOCUSED})()")
             if told is None:
                 break
             self.assertTrue(told[1] != "none" and told[2] >= 2, told)
@@ -477,13 +559,26 @@ class Page(unittest.TestCase):
             self.assertEqual([it for it in names if not it[1].strip()], [])
             self.assertGreater(len(names), 40)
             roles = {role for role, _ in names}
-            self.assertTrue({"textbox", "radio", "button", "slider", "searchbox", "checkbox", "combobox", "link", "application"} <= roles, roles)
-        for role, name in [("textbox", "Bytes"), ("application", "Keys Press keys here"), ("slider", "Cut after byte"), ("searchbox", "Search by words or bytes")]:
+            self.assertTrue(
+                {"textbox", "radio", "button", "slider", "searchbox", "checkbox", "combobox", "link", "application"} <= roles, roles
+            )
+        for role, name in [
+            ("textbox", "Bytes"),
+            ("application", "Keys Press keys here"),
+            ("slider", "Cut after byte"),
+            ("searchbox", "Search by words or bytes"),
+        ]:
             self.assertIn((role, name), names)
         self.assertEqual(self.it.run("[...document.querySelectorAll('[role=status], [role=alert]')].length >= 9"), True)
-        ids = "[...document.querySelectorAll('[aria-labelledby], [aria-describedby]')].flatMap((it) => `${it.getAttribute('aria-labelledby') ?? ''} ${it.getAttribute('aria-describedby') ?? ''}`.split(' ')).filter((id) => id && !document.getElementById(id))"
+        ids = "['aria-labelledby', 'aria-describedby', 'for'].flatMap((name) => [...document.querySelectorAll(`[${name}]`)]"
+        ids += ".flatMap((it) => it.getAttribute(name).split(' '))).filter((id) => !document.getElementById(id))"
         self.assertEqual(self.it.run(ids), [])
-        self.assertEqual(self.it.run("[document.documentElement.lang, document.querySelectorAll('h1').length, document.querySelectorAll('main').length]"), ["en", 1, 1])
+        self.assertEqual(
+            self.it.run(
+                "[document.documentElement.lang, document.querySelectorAll('h1').length, document.querySelectorAll('main').length]"
+            ),
+            ["en", 1, 1],
+        )
 
     def test_a_server_that_has_ended(self):
         self.server.hosts.clear()

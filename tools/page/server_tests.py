@@ -19,7 +19,19 @@ from hedrugal.page.server import AT_ONCE, FILES, HEADERS, MOST, Server
 
 TOP = os.path.dirname(os.path.dirname(os.path.dirname(os.path.abspath(__file__))))
 STREAM = b"hello\x1b[A\x1b\x1b[200~ab\xc3\xa9cd\x1b[201~q\x1b[<0;3;4M\xff\x1b[27;5;13~\xc3\xa9<script>alert(1)</script>"
-RESTS = [b"", b"\x1b", b"\x1b\x1b", b"\x1b[", b"\x1bO", b"\x1b[1;", b"\x1b\x1b[1", b"\x1b[<0;3", b"\xe2\x82", b"\x1b[200~ab", b"\x1b[200~\xc3"]
+RESTS = [
+    b"",
+    b"\x1b",
+    b"\x1b\x1b",
+    b"\x1b[",
+    b"\x1bO",
+    b"\x1b[1;",
+    b"\x1b\x1b[1",
+    b"\x1b[<0;3",
+    b"\xe2\x82",
+    b"\x1b[200~ab",
+    b"\x1b[200~\xc3",
+]
 SECONDS = 60
 
 
@@ -103,7 +115,14 @@ class Requests(WithServer):
             for host in (f"127.0.0.1:{port}", f"localhost:{port}"):
                 self.assertEqual(self.status(method, path, body, Host=host), 200, host)
             others = ["127.0.0.1", "localhost", f"127.0.0.1:{port + 1}", f"evil.example:{port}", f"127.0.0.1:{port}.evil.example", ""]
-            others += [f"[::1]:{port}", f"127.0.0.2:{port}", f"user@127.0.0.1:{port}", f"127.0.0.1:{port}@evil.example", f"0.0.0.0:{port}", None]
+            others += [
+                f"[::1]:{port}",
+                f"127.0.0.2:{port}",
+                f"user@127.0.0.1:{port}",
+                f"127.0.0.1:{port}@evil.example",
+                f"0.0.0.0:{port}",
+                None,
+            ]
             for host in (*others, [f"127.0.0.1:{port}", "evil.example"], [f"127.0.0.1:{port}"] * 2):
                 self.assertEqual(self.status(method, path, body, Host=host), 403, host)
 
@@ -128,7 +147,16 @@ class Requests(WithServer):
 
     def test_paths(self):
         paths = ["/none", "/server.py", "/__main__.py", "/page/", "/page.css/", "/PAGE.CSS", "/%70age.css", "/./page.css", "/api"]
-        paths += ["/../page/page.css", "/..%2f__init__.py", "/etc/passwd", "//etc/passwd", "/api/", "/api/read/", "/api/other", "/favicon.ico"]
+        paths += [
+            "/../page/page.css",
+            "/..%2f__init__.py",
+            "/etc/passwd",
+            "//etc/passwd",
+            "/api/",
+            "/api/read/",
+            "/api/other",
+            "/favicon.ico",
+        ]
         for path in paths:
             for method, body in (("GET", None), ("POST", b"q")):
                 self.assertEqual(self.status(method, path, body), 404, path)
@@ -161,8 +189,17 @@ class Requests(WithServer):
 
     def test_broken_requests(self):
         host = f"Host: 127.0.0.1:{self.server.port}\r\n".encode()
-        cases = [b"\r\n\r\n", b"\x16\x03\x01\0\xff", b"GET\r\n\r\n", b"GET / HTTP/9.9\r\n\r\n", b"GET / HTTP/1.1\r\n" + b"A: b\r\n" * 200 + b"\r\n"]
-        cases += [b"GET /" + b"a" * 70000 + b" HTTP/1.1\r\n" + host + b"\r\n", b"POST /api/read HTTP/1.1\r\n" + host + b"Content-Length: 9\r\n\r\nq"]
+        cases = [
+            b"\r\n\r\n",
+            b"\x16\x03\x01\0\xff",
+            b"GET\r\n\r\n",
+            b"GET / HTTP/9.9\r\n\r\n",
+            b"GET / HTTP/1.1\r\n" + b"A: b\r\n" * 200 + b"\r\n",
+        ]
+        cases += [
+            b"GET /" + b"a" * 70000 + b" HTTP/1.1\r\n" + host + b"\r\n",
+            b"POST /api/read HTTP/1.1\r\n" + host + b"Content-Length: 9\r\n\r\nq",
+        ]
         for case in cases:
             answer = self.raw(case)
             self.assertNotIn(b"<", answer, case[:40])
@@ -171,10 +208,32 @@ class Requests(WithServer):
         self.assertEqual(self.status("GET", "/"), 200)
 
     def test_queries(self):
-        wrong = ["end=all", "end=", "first=-1", "first=x", "first=1e3", "first=" + "9" * 10, "a", "a=1&b=2&c=3&d=4&e=5", "end=%ff", "first=%D9%A1"]
+        wrong = [
+            "end=all",
+            "end=",
+            "first=-1",
+            "first=x",
+            "first=1e3",
+            "first=" + "9" * 10,
+            "a",
+            "a=1&b=2&c=3&d=4&e=5",
+            "end=%ff",
+            "first=%D9%A1",
+        ]
         for query in wrong:
             self.assertEqual(self.status("POST", f"/api/read?{query}", b"q"), 400, query)
-        for query in ("key=Up", "key=", "", "key=U%2BD800", "key=U%2B110000", "key=F25", "key=F256", "key=a", "key=F1&modifiers=HYPER", "key=InternalPasteStart2"):
+        for query in (
+            "key=Up",
+            "key=",
+            "",
+            "key=U%2BD800",
+            "key=U%2B110000",
+            "key=F25",
+            "key=F256",
+            "key=a",
+            "key=F1&modifiers=HYPER",
+            "key=InternalPasteStart2",
+        ):
             self.assertEqual(self.status("GET", f"/api/encode?{query}"), 400, query)
         status, headers, body = self.ask("GET", "/api/encode?key=<script>alert(1)</script>")
         self.assertEqual((status, headers["Content-Type"]), (400, "text/plain; charset=utf-8"))
@@ -295,7 +354,10 @@ class Answers(WithServer):
         self.assertEqual((waits["flushed"], waits["with_alt"]), (["key Escape ALT"], True))
         self.assertEqual(waits["named"][0], ["1b1b5b41", "key UpArrow ALT"])
         waits = read(b"\x1b[24;5")
-        self.assertEqual((waits["kind"], waits["count"], waits["named"], waits["mouse"]), ("Sequence", 2, [["1b5b32343b357e", "key F12 CTRL"], ["1b5b32343b3575", "key U+0018 CTRL"]], None))
+        self.assertEqual(
+            (waits["kind"], waits["count"], waits["named"], waits["mouse"]),
+            ("Sequence", 2, [["1b5b32343b357e", "key F12 CTRL"], ["1b5b32343b3575", "key U+0018 CTRL"]], None),
+        )
         self.assertEqual(len(waits["flushed"]), 5)
         waits = read(b"\x1b[<0;3")
         self.assertEqual((waits["kind"], waits["count"], waits["named"]), ("Sequence", 0, []))
@@ -310,7 +372,11 @@ class Answers(WithServer):
         """Each key that bytes are said to begin is read from the named bytes."""
         for rest in RESTS:
             waits = self.told("/api/read", rest)["waits"] or {}
-            named = [*waits.get("named", []), *([waits["mouse"]] if waits.get("mouse") else []), *([waits["alt"]] if waits.get("alt") else [])]
+            named = [
+                *waits.get("named", []),
+                *([waits["mouse"]] if waits.get("mouse") else []),
+                *([waits["alt"]] if waits.get("alt") else []),
+            ]
             for text, *lines in named:
                 self.assertTrue(bytes.fromhex(text).startswith(rest))
                 if "InternalPasteStart" not in lines[0]:
@@ -327,7 +393,14 @@ class Answers(WithServer):
             self.assertEqual(meanings.key_name(meanings.key_of(name)), name)
 
     def test_encodings(self):
-        for name, modifiers in [("UpArrow", "NONE"), ("U+0069", "CTRL"), ("Enter", "CTRL+ALT"), ("F5", "SHIFT"), ("U+20AC", "ALT"), ("Tab", "SHIFT")]:
+        for name, modifiers in [
+            ("UpArrow", "NONE"),
+            ("U+0069", "CTRL"),
+            ("Enter", "CTRL+ALT"),
+            ("F5", "SHIFT"),
+            ("U+20AC", "ALT"),
+            ("Tab", "SHIFT"),
+        ]:
             told = json.loads(self.ask("GET", f"/api/encode?key={name.replace('+', '%2B')}&modifiers={modifiers.replace('+', '%2B')}")[2])
             key, held = meanings.key_of(name), meanings.modifiers_of(modifiers)
             self.assertEqual(told["sent"], [encode(key, held, modes).hex() for modes in meanings.MODES])
@@ -341,7 +414,9 @@ class Answers(WithServer):
     def test_names_are_those_of_keyshow(self):
         """The lines are those of the recorded answers."""
         names = {code: meanings.key_name(code) for code in KeyCode}
-        self.assertEqual((names[KeyCode.UpArrow], meanings.key_name("q"), meanings.key_name("\U0001f600")), ("UpArrow", "U+0071", "U+1F600"))
+        self.assertEqual(
+            (names[KeyCode.UpArrow], meanings.key_name("q"), meanings.key_name("\U0001f600")), ("UpArrow", "U+0071", "U+1F600")
+        )
         self.assertEqual(meanings.set_name(Modifiers.CTRL | Modifiers.SHIFT | Modifiers.ALT), "SHIFT+ALT+CTRL")
         with open(os.path.join(TOP, "crates/replay/data/rules.txt"), encoding="utf-8") as opened:
             found = [it for line in opened for it in re.findall(r"(?:key|mouse) [^,;|=\n]*[A-Z0-9_+]", line)]

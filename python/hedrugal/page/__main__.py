@@ -40,9 +40,9 @@ def main() -> int:
         print(f"hedrugal.page: port {port} can't be used: {why}", file=sys.stderr)
         return 1
     with server:
-        print(server.url, flush=True)
-        print("hedrugal.page: open this address in a browser; Ctrl-C ends it", file=sys.stderr)
         try:
+            print(server.url, flush=True)
+            print("hedrugal.page: open this address in a browser; Ctrl-C ends it", file=sys.stderr)
             server.serve_forever()
         except KeyboardInterrupt:
             print(file=sys.stderr)

@@ -26,11 +26,17 @@ function set(id, text, ...classes) {
   if (classes.length) $(id).className = classes.join(' ');
 }
 
+// Calls once nothing has come for a moment; at once if nothing came for a second before.
 function delayed(milliseconds, call) {
-  let timer = 0;
+  let timer = 0, last = -Infinity;
+  const now = () => {
+    last = performance.now();
+    call();
+  };
   return () => {
     clearTimeout(timer);
-    timer = setTimeout(call, milliseconds);
+    if (performance.now() - last > 1000) now();
+    else timer = setTimeout(now, milliseconds);
   };
 }
 
@@ -38,9 +44,12 @@ function delayed(milliseconds, call) {
 
 const encoder = new TextEncoder();
 const decoder = new TextDecoder('utf-8', { fatal: true });
-const CONTROLS = 'NUL SOH STX ETX EOT ENQ ACK BEL BS TAB LF VT FF CR SO SI DLE DC1 DC2 DC3 DC4 NAK SYN ETB CAN EM SUB ESC FS GS RS US'.split(' ');
+const CONTROLS = ('NUL SOH STX ETX EOT ENQ ACK BEL BS TAB LF VT FF CR SO SI DLE DC1 DC2 DC3 DC4 NAK SYN ETB CAN EM SUB ESC FS GS RS US')
+  .split(' ');
 const WORDS = new Map([...CONTROLS.map((name, at) => [name, at]), ['SP', 32], ['DEL', 127], ['HT', 9]]);
-const LETTERS = new Map(Object.entries({ e: 27, E: 27, n: 10, r: 13, t: 9, b: 8, a: 7, f: 12, v: 11, '\\': 92, '^': 94, '"': 34, "'": 39 }));
+const LETTERS = new Map(Object.entries({
+  e: 27, E: 27, n: 10, r: 13, t: 9, b: 8, a: 7, f: 12, v: 11, '\\': 92, '^': 94, '"': 34, "'": 39,
+}));
 
 const fromHex = (digits) => Uint8Array.from(digits.match(/../g) ?? [], (pair) => parseInt(pair, 16));
 const hexOf = (bytes) => Array.from(bytes, (byte) => byte.toString(16).padStart(2, '0'));
@@ -50,7 +59,10 @@ const same = (one, other) => one.length === other.length && one.every((byte, at)
 // The length of an escape at a place of a text, and the byte or the code point that it stands for. Null if there is none.
 function escapeAt(text, at) {
   const letter = text[at + 1] ?? '';
-  if (text[at] === '^') return /^[@-_?a-z]$/i.test(letter) ? { length: 2, byte: letter === '?' ? 127 : letter.charCodeAt(0) & 31 } : { length: 1, byte: 94 };
+  if (text[at] === '^') {
+    if (!/^[@-_?a-z]$/i.test(letter)) return { length: 1, byte: 94 };
+    return { length: 2, byte: letter === '?' ? 127 : letter.charCodeAt(0) & 31 };
+  }
   if (LETTERS.has(letter)) return { length: 2, byte: LETTERS.get(letter) };
   const digits = /^(?:x([0-9a-f]{2})|u\{([0-9a-f]{1,6})\}|u([0-9a-f]{4})|([0-7]{1,3}))/i.exec(text.slice(at + 1, at + 10));
   if (!digits) return null;
@@ -61,7 +73,11 @@ function escapeAt(text, at) {
 }
 
 // The value of a hexadecimal digit, 16 or more for anything else.
-const digitAt = (text, at) => { const code = text.charCodeAt(at); return code >= 48 && code < 58 ? code - 48 : (code | 32) > 96 && (code | 32) < 103 ? (code | 32) - 87 : 16; };
+function digitAt(text, at) {
+  const code = text.charCodeAt(at), lower = code | 32;
+  if (code >= 48 && code < 58) return code - 48;
+  return lower > 96 && lower < 103 ? lower - 87 : 16;
+}
 
 // Text with escapes. What is no escape stands for itself, and is named in `wrong`.
 function bytesOfText(text, wrong) {
@@ -310,7 +326,8 @@ function whyEscape(waits, rest) {
   const isAlone = rest.length === 1;
   return [
     [isAlone ? 'The Escape key sends this byte, and nothing else. But it is also the first byte of '
-      : 'Escape with Alt sends these two bytes, and nothing else. But they also begin ', `${many(waits.count, 'longer sequence')}, and the next byte may go on with one of them:`],
+      : 'Escape with Alt sends these two bytes, and nothing else. But they also begin ',
+    `${many(waits.count, 'longer sequence')}, and the next byte may go on with one of them:`],
     waits.named,
     ['A character after it is that character with Alt: ', ...example(waits.alt), '.'],
     waits.mouse && ['It may become a mouse report: ', ...example(waits.mouse), '.'],
@@ -319,17 +336,19 @@ function whyEscape(waits, rest) {
 }
 
 function whySequence(waits) {
-  const keys = waits.count && [`More bytes may make ${waits.count === 1 ? 'this key of them:' : `one of ${many(waits.count, 'key')} of them:`}`];
+  const keys = waits.count === 1 ? 'this key' : `one of ${many(waits.count, 'key')}`;
+  const mouse = waits.count ? 'They may become a mouse report, too: ' : 'They begin a mouse report, whose end is still to come: ';
   return [
-    keys, waits.count ? waits.named : null,
-    waits.mouse && [waits.count ? 'They may become a mouse report, too: ' : 'They begin a mouse report, whose end is still to come: ', ...example(waits.mouse), '.'],
+    waits.count && [`More bytes may make ${keys} of them:`], waits.count && waits.named,
+    waits.mouse && [mouse, ...example(waits.mouse), '.'],
     ['They may be half of a key on a slow line. A flush breaks them, so a program flushes them after a long pause, or never.'],
   ];
 }
 
 function whyCharacter(_, rest) {
+  const came = rest.length === 1 ? 'the first one has' : 'some have';
   return [
-    [`In UTF-8 a character may have several bytes. Here ${rest.length === 1 ? 'the first one has' : 'some have'} arrived, and the rest is still to come.`],
+    [`In UTF-8 a character may have several bytes. Here ${came} arrived, and the rest is still to come.`],
     ['A flush would make U+FFFD of half a character, so a program never flushes one before the end of its input.'],
   ];
 }
@@ -354,7 +373,8 @@ function showWaits(waits) {
   if (!waits) return;
   const rest = state.bytes.subarray(state.bytes.length - waits.length);
   const heading = el('span', {}, `Why ${waits.length === 1 ? 'this byte waits' : `these ${many(waits.length, 'byte')} wait`}`);
-  const bytes = el('span', { class: 'hatched bytes', role: 'img', 'aria-label': sequence(rest, 12) }, ...Array.from(rest.slice(0, 12), (byte) => chip(byte)));
+  const bytes = el('span', { class: 'hatched bytes', role: 'img', 'aria-label': sequence(rest, 12) },
+    ...Array.from(rest.slice(0, 12), (byte) => chip(byte)));
   $('waits-heading').replaceChildren(heading, bytes);
   $('why').replaceChildren(...WHY[waits.kind](waits, rest).filter(Boolean).map(paragraph));
   if (waits.count > waits.named?.length) {
@@ -375,10 +395,14 @@ function flush(end, focus) {
 // ---- The same bytes in two reads, and in reads of one byte
 
 function verdict(id, answer, how) {
-  set(id, !answer.bytes ? '' : answer.same ? `✓ ${how}: the same events.` : `✗ ${how}: OTHER EVENTS. This is a bug.`, 'verdict', answer.same ? 'good' : 'bad');
+  const text = answer.same ? `✓ ${how}: the same events.` : `✗ ${how}: OTHER EVENTS. This is a bug.`;
+  set(id, answer.bytes ? text : '', 'verdict', answer.same ? 'good' : 'bad');
 }
 
-const colorAt = (at) => [state.owners[at] ?? (state.waits && at >= state.bytes.length - state.waits.length ? 'hatched' : '')].filter(Boolean);
+function colorAt(at) {
+  if (state.owners[at]) return [state.owners[at]];
+  return state.waits && at >= state.bytes.length - state.waits.length ? ['hatched'] : [];
+}
 
 function listOf(read) {
   const more = read.events - read.lines.length;
@@ -413,7 +437,8 @@ function showReads(reads) {
   $('steps').replaceChildren(...reads.steps.map(([waiting, ...lines], at) => el('li', {},
     chip(state.bytes[at], ...colorAt(at)), ...lines.map((line) => el('span', { class: 'event' }, line)),
     ...(waiting ? [el('span', { class: 'event quiet' }, waiting === 1 ? '1 waits' : `${waiting} wait`)] : []))));
-  if (reads.flushed.length) $('steps').append(el('li', {}, el('b', {}, 'flush'), ...reads.flushed.map((line) => el('span', { class: 'event' }, line))));
+  const flushed = reads.flushed.map((line) => el('span', { class: 'event' }, line));
+  if (flushed.length) $('steps').append(el('li', {}, el('b', {}, 'flush'), ...flushed));
   const left = reads.bytes - reads.steps.length;
   set('more-steps', left > 0 ? `and ${many(left, 'more read')}` : '');
   verdict('one-same', reads, many(reads.bytes, 'read') + ' of one byte');
@@ -453,8 +478,9 @@ function loadLink() {
 
 function report() {
   const after = { more: 'more bytes may come', flush: 'a flush', paste: 'a flush, and the end of the open paste' }[state.end];
-  return [`bytes: ${hexOf(state.bytes).join(' ')}`, `then: ${after}`, state.cut === null ? 'read: at once' : `read: cut after byte ${state.cut}`,
-    ...state.lines, ...(state.waits ? [`waiting ${state.waits.length}`] : []), `hedrugal ${state.table?.version ?? ''}`, ''].join('\n');
+  const cut = state.cut === null ? 'at once' : `cut after byte ${state.cut}`;
+  return [`bytes: ${hexOf(state.bytes).join(' ')}`, `then: ${after}`, `read: ${cut}`, ...state.lines,
+    ...(state.waits ? [`waiting ${state.waits.length}`] : []), `hedrugal ${state.table?.version ?? ''}`, ''].join('\n');
 }
 
 function copy(text, what) {
@@ -494,10 +520,14 @@ function press(event) {
   if (event.key === 'Tab' || event.isComposing || !state.table) return;
   event.preventDefault();
   const isGraph = event.getModifierState('AltGraph');
-  const held = [event.shiftKey && 'SHIFT', event.altKey && !isGraph && 'ALT', event.ctrlKey && !isGraph && 'CTRL', event.metaKey && 'SUPER'].filter(Boolean);
+  const held = [
+    event.shiftKey && 'SHIFT', event.altKey && !isGraph && 'ALT', event.ctrlKey && !isGraph && 'CTRL', event.metaKey && 'SUPER',
+  ].filter(Boolean);
   const key = LONE.has(event.key) ? undefined : keyPressed(event);
   if (!key) {
-    if (!['Shift', 'Control', 'Alt', 'Meta', 'AltGraph'].includes(event.key)) set('pressed', `The browser calls this key ‘${event.key}’, and the library has none of that name.`);
+    if (!['Shift', 'Control', 'Alt', 'Meta', 'AltGraph'].includes(event.key)) {
+      set('pressed', `The browser calls this key ‘${event.key}’, and the library has none of that name.`);
+    }
     return;
   }
   const modifiers = held.join('+') || 'NONE';
@@ -533,12 +563,14 @@ async function showKey() {
 function showSent(answer) {
   state.sent = answer;
   const text = (mode) => answer.sent[modeIndex(mode)];
-  const matters = MODES.map((_, at) => allModes.some((mode) => text(mode) !== text(mode.map((value, place) => (place === at ? 0 : value)))));
+  const without = (mode, at) => mode.map((value, place) => (place === at ? 0 : value));
+  const matters = MODES.map((_, at) => allModes.some((mode) => text(mode) !== text(without(mode, at))));
   const now = modesNow();
   const rows = allModes.filter((mode) => mode.every((value, at) => matters[at] || value === 0));
   const texts = new Set(answer.sent).size;
+  const by = ['the encoding', 'application cursor keys', 'newline mode', 'modifyOtherKeys'].filter((_, at) => matters[at]).join(' and ');
   set('key-count', texts === 1 ? `${answer.line} sends the same bytes in every mode.`
-    : `${answer.line} sends ${many(texts, 'different text')}, by ${MODE_NAMES.filter((_, at) => matters[at]).map((names) => names.at(-1).replace(/ 2$/, '')).join(' and ').replace('CSI u', 'the encoding')}.`);
+    : `${answer.line} sends ${many(texts, 'different text')}, by ${by}.`);
   $('sent').replaceChildren(
     el('thead', {}, el('tr', {}, ...['Modes', 'Bytes', 'The library reads'].map((name) => el('th', { scope: 'col' }, name)))),
     el('tbody', {}, ...rows.map((mode) => {
@@ -555,7 +587,10 @@ function showSent(answer) {
 
 // ---- The table of sequences
 
-const SAME_WORDS = new Map(Object.entries({ control: 'ctrl', meta: 'alt', option: 'alt', esc: 'escape', del: 'delete', ins: 'insert', return: 'enter', pgup: 'pageup', pgdn: 'pagedown' }));
+const SAME_WORDS = new Map(Object.entries({
+  control: 'ctrl', meta: 'alt', option: 'alt', esc: 'escape', del: 'delete', ins: 'insert', return: 'enter', pgup: 'pageup',
+  pgdn: 'pagedown',
+}));
 let found = [], listed = 0;
 
 function wordsOfRow([, key, modifiers]) {
@@ -573,28 +608,37 @@ function search(query) {
   }
   if (/[^\w+\s-]/.test(text) && text.replace(/\s/g, '').length > 1) {
     const bytes = encoder.encode(text.replace(/\s/g, '')), hex = hexOf(bytes).join('');
-    const has = (row) => { for (let at = row.indexOf(hex); at >= 0; at = row.indexOf(hex, at + 1)) if (at % 2 === 0) return true; return false; };
+    const has = (row) => row.match(/../g).join(' ').includes(hex.match(/../g).join(' '));
     return { hits: rows.filter((row) => has(row[0])), how: `with the bytes ${sequence(bytes)} in them` };
   }
   const wanted = text.toLowerCase().split(/[\s+]+/).filter((each) => each).map((each) => SAME_WORDS.get(each) ?? each);
-  const tests = wanted.map((each) => words.some((row) => row.has(each)) ? (row) => row.has(each) : (row) => [...row].some((it) => it.startsWith(each)));
-  return { hits: rows.filter((_, at) => tests.every((test) => test(words[at]))), how: `with ${wanted.length > 1 ? 'the words' : 'the word'} ${wanted.join(' and ')}` };
+  // A word that no row has is the beginning of one.
+  const tests = wanted.map((each) => {
+    const isWhole = words.some((row) => row.has(each));
+    return (row) => (isWhole ? row.has(each) : [...row].some((it) => it.startsWith(each)));
+  });
+  const how = `with ${wanted.length > 1 ? 'the words' : 'the word'} ${wanted.join(' and ')}`;
+  return { hits: rows.filter((_, at) => tests.every((test) => test(words[at]))), how };
 }
 
 function showFound() {
   const { hits, how } = search($('find').value);
   found = hits;
   listed = 0;
-  set('found', how ? `${hits.length.toLocaleString('en')} of ${many(state.table.rows.length, 'row')} ${how}.` : `${many(hits.length, 'row')}.`);
-  $('rows').replaceChildren(el('thead', {}, el('tr', {}, el('th', { scope: 'col' }, 'Bytes'), el('th', { scope: 'col' }, 'Key'))), el('tbody'));
+  const all = many(state.table.rows.length, 'row');
+  set('found', how ? `${hits.length.toLocaleString('en')} of ${all} ${how}.` : `${all}.`);
+  const heads = ['Bytes', 'Key'].map((name) => el('th', { scope: 'col' }, name));
+  $('rows').replaceChildren(el('thead', {}, el('tr', {}, ...heads)), el('tbody'));
   addRows();
 }
 
 function addRows() {
   const body = $('rows').tBodies[0];
   for (const [hex, key, modifiers] of found.slice(listed, listed + PORTION)) {
-    const glyph = key.startsWith('U+') && /^U\+00[2-7]/.test(key) && key !== 'U+007F' ? el('span', { class: 'quiet' }, ` ${key === 'U+0020' ? 'space' : String.fromCodePoint(parseInt(key.slice(2), 16))}`) : '';
-    body.append(el('tr', {}, el('td', {}, el('a', { href: linkTo(hex) }, sequence(fromHex(hex)))), el('td', {}, `${key} ${modifiers}`, glyph)));
+    const isShown = /^U\+00[2-7]/.test(key) && key !== 'U+007F';
+    const glyph = !isShown ? '' : key === 'U+0020' ? 'space' : String.fromCodePoint(parseInt(key.slice(2), 16));
+    const link = el('a', { href: linkTo(hex) }, sequence(fromHex(hex)));
+    body.append(el('tr', {}, el('td', {}, link), el('td', {}, `${key} ${modifiers} `, el('span', { class: 'quiet' }, glyph))));
   }
   listed = Math.min(found.length, listed + PORTION);
   $('rows').closest('.wide').hidden = !found.length;
@@ -622,7 +666,8 @@ function paste(event) {
   const text = event.clipboardData?.getData('text/plain') ?? '';
   if (!/[\0-\x08\v-\x1f\x7f]/.test(text)) return;
   event.preventDefault();
-  const shown = text.replace(/[\0-\x1f\x7f\\^]/g, (it) => it === '\x1b' ? '\\e' : it === '\\' || it === '^' ? `\\${it}` : `^${String.fromCharCode(it.charCodeAt(0) ^ 64)}`);
+  const caret = (it) => `^${String.fromCharCode(it.charCodeAt(0) ^ 64)}`;
+  const shown = text.replace(/[\\^]/g, '\\$&').replace(/\x1b/g, '\\e').replace(/[\0-\x1f\x7f]/g, caret);
   const field = $('text');
   field.setRangeText(shown, field.selectionStart, field.selectionEnd, 'end');
   showTyped();
