@@ -1,4 +1,4 @@
-"""Tests of hedrugal.py, over the library that HEDRUGAL_LIBRARY names. tools/python_test.sh runs these and those of test_keymap.py."""
+"""Tests of the package hedrugal, over the library that HEDRUGAL_LIBRARY names. tools/python_test.sh runs these and those of test_keymap.py."""
 import copy
 import ctypes
 import doctest
@@ -22,6 +22,7 @@ sys.path.insert(0, HERE)
 
 import hedrugal  # noqa: E402
 from hedrugal import (  # noqa: E402
+    Completions,
     EncodeError,
     Function,
     InputParser,
@@ -36,6 +37,7 @@ from hedrugal import (  # noqa: E402
     MouseEvent,
     ParseError,
     Paste,
+    Row,
     Waiting,
     encode,
 )
@@ -102,7 +104,7 @@ class Numbers(unittest.TestCase):
             "waiting": Waiting,
             "key": KeyCode,
         }
-        source, seen = read("python/hedrugal.py"), 0
+        source, seen = read("python/hedrugal/__init__.py"), 0
         for group, enum in enums.items():
             body = re.search(rf"^class {enum.__name__}\(.*?\n\n\n", source, flags=re.M | re.S).group()
             wanted = []
@@ -141,6 +143,8 @@ class Numbers(unittest.TestCase):
         offsets = [event.modifiers.offset, event.y.offset, event.detail.offset, event.paste_len.offset]
         self.assertEqual(offsets, [2, 8, 12, 16])
         self.assertEqual([parser.state.offset, modes.encoding.offset, modes.has_modify_other_keys.offset], [8, 8, 12])
+        rows = hedrugal._RawRows
+        self.assertEqual([ctypes.sizeof(rows), rows.count.offset, rows.with_alt.offset], [24, 8, 16])
         keys, match = hedrugal._RawKeyMap, hedrugal._RawMatch
         self.assertEqual([ctypes.sizeof(keys), keys.state.offset, ctypes.sizeof(match), match.value.offset], [16, 8, 16, 8])
         raw = event(1, 2, 3, 4, 5, 6, 7, 8)
@@ -388,8 +392,88 @@ USES = [
     lambda parser: parser.waiting,
     lambda parser: parser.waiting_len,
     lambda parser: parser.is_paste_open,
+    lambda parser: parser.row(0),
+    lambda parser: next(parser.rows()),
+    lambda parser: parser.completions(),
     lambda parser: parser.__enter__(),
 ]
+
+
+class Rows(WithParser):
+    """The rows of the sequence table, and those that would complete what stays buffered."""
+
+    def test_rows(self):
+        """The rows are 2937, in the order of their bytes, at most eleven each, and each means its key."""
+        rows = list(self.parser.rows())
+        self.assertEqual((len(rows), max(len(row.bytes) for row in rows)), (2937, 11))
+        texts = [row.bytes for row in rows]
+        self.assertEqual(texts, sorted({*texts}))
+        for place, row in enumerate(rows):
+            self.assertEqual(self.parser.row(place), row)
+            if row.key is not KeyCode.InternalPasteStart:
+                self.assertEqual(self.parser.parse(row.bytes, False), [KeyEvent(row.key, row.modifiers)])
+        self.assertIn(Row(b"\x1b[15;6~", Function(5), Modifiers.SHIFT | Modifiers.CTRL), rows)
+        self.assertEqual(rows[0], Row(b"\x01", "a", Modifiers.CTRL))
+        self.assert_rest(0, Waiting.Nothing)
+
+    def test_places_outside_the_table(self):
+        for place in (2937, sys.maxsize, 2**64 - 1, 2**64, 2**64 + 1, -1, -(2**64)):
+            self.assertIsNone(self.parser.row(place))
+        for place in (None, "1", 1.0):
+            self.assertRaises(TypeError, self.parser.row, place)
+
+    def test_reading_rows_changes_nothing(self):
+        self.assertEqual(self.parser.parse(b"\x1b[1;5"), [])
+        rows = [self.parser.row(place) for place in self.parser.completions().rows]
+        self.assertEqual(len(rows), 12)
+        self.assert_rest(5, Waiting.Sequence)
+        self.assertEqual(self.parser.parse(b"A"), [KeyEvent(KeyCode.UpArrow, Modifiers.CTRL)])
+
+    def completed(self, rest, texts):
+        """Which of the texts begin with the rest and are longer."""
+        return [place for place, text in enumerate(texts) if text.startswith(rest) and len(text) > len(rest)]
+
+    def test_completions(self):
+        """They are those that a plain search finds, for each prefix of a row, without an ESC before it and with one."""
+        texts = [row.bytes for row in self.parser.rows()]
+        prefixes = {text[:length] for text in texts for length in range(1, len(text))} - {b"\x1b[200~"}
+        self.assertIn(b"\x1b", prefixes)
+        for prefix in sorted(prefixes):
+            for rest in (prefix, b"\x1b" + prefix):
+                self.assertEqual(self.parser.parse(rest), [])
+                self.assertIn(self.parser.waiting, (Waiting.Escape, Waiting.Sequence))
+                found, alone = self.parser.completions(), self.completed(rest, texts)
+                self.assertEqual(list(found.rows), alone or self.completed(rest[1:], texts), rest)
+                self.assertEqual((found.with_alt, len(found.rows) > 0), (not alone, True), rest)
+                self.parser.reset()
+
+    def test_completions_emit_their_keys(self):
+        for rest in (b"\x1b[1", b"\x1bO", b"\x1b\x1b[1", b"\x1b\x1b[24;"):
+            self.assertEqual(self.parser.parse(rest), [])
+            found = self.parser.completions()
+            self.assertGreater(len(found.rows), 0)
+            for place in found.rows:
+                row = self.parser.row(place)
+                modifiers = row.modifiers | (Modifiers.ALT if found.with_alt else Modifiers.NONE)
+                text = (b"\x1b" if found.with_alt else b"") + row.bytes
+                self.assertTrue(text.startswith(rest))
+                self.assertEqual(self.parser.parse(text[len(rest) :], False), [KeyEvent(row.key, modifiers)])
+                self.assertEqual(self.parser.parse(rest), [])
+            self.parser.reset()
+
+    def test_no_row_completes_a_mouse_report(self):
+        for rest in (b"\x1b[<", b"\x1b[<0;3", b"\x1b\x1b[<0"):
+            self.assertEqual(self.parser.parse(rest), [])
+            self.assertEqual(len(self.parser.completions().rows), 0)
+            self.parser.reset()
+
+    def test_they_are_values(self):
+        row, found = Row(b"a", "a"), Completions(range(1, 3))
+        self.assertEqual((row, hash(row)), (Row(b"a", "a", Modifiers.NONE), hash(Row(b"a", "a"))))
+        self.assertEqual((found, hash(found)), (Completions(range(1, 3), False), hash(Completions(range(1, 3)))))
+        self.assertEqual(repr(found), "Completions(rows=range(1, 3), with_alt=False)")
+        with self.assertRaises(AttributeError):
+            row.key = found.rows = None
 
 
 class Lives(unittest.TestCase):
@@ -725,11 +809,12 @@ class Imports(unittest.TestCase):
         self.assertEqual(self.import_it({"HEDRUGAL_LIBRARY": os.path.relpath(LIBRARY, self.folder)}, cwd=self.folder), f"{LIBRARY}\n")
 
     def test_beside_the_module(self):
-        shutil.copy(os.path.join(HERE, "hedrugal.py"), self.folder)
-        shutil.copy(LIBRARY, os.path.join(self.folder, "libtermwiz_c.so"))
+        package = os.path.join(self.folder, "hedrugal")
+        shutil.copytree(os.path.join(HERE, "hedrugal"), package)
+        shutil.copy(LIBRARY, os.path.join(package, "libtermwiz_c.so"))
         for named in ({}, {"HEDRUGAL_LIBRARY": ""}):
             found = self.import_it({"PYTHONPATH": self.folder, **named}, cwd="/")
-            self.assertEqual(found, f"{self.folder}/libtermwiz_c.so\n")
+            self.assertEqual(found, f"{package}/libtermwiz_c.so\n")
 
     def test_in_the_systems_folders(self):
         before = f"import ctypes.util as util\nutil.find_library = lambda name: {LIBRARY!r} if name == 'termwiz_c' else None\n"
@@ -758,7 +843,7 @@ class Imports(unittest.TestCase):
 
     def test_another_version(self):
         """A module is loaded with the library of its own version alone."""
-        line, text = f'__version__ = "{hedrugal.__version__}"\n', read("python/hedrugal.py")
+        line, text = f'__version__ = "{hedrugal.__version__}"\n', read("python/hedrugal/__init__.py")
         self.assertEqual(text.count(line), 1)
         major, minor, patch = map(int, hedrugal.__version__.split("."))
         for other in (f"{major + 1}.{minor}.{patch}", f"{major}.{minor + 1}.{patch}", f"{major}.{minor}.{patch + 1}"):
@@ -1045,12 +1130,12 @@ class Documents(unittest.TestCase):
                 seen += os.read(terminal, 4096)
 
     def test_types(self):
-        """The module passes mypy --strict, and so does a program that tells answers apart."""
+        """The package passes mypy --strict, and so does a program that tells answers apart."""
         if not shutil.which("mypy"):
             self.skipTest("no mypy")
         text = "from hedrugal import *\nwith KeyMap[str]() as keys:\n    found: Found[str] = keys.lookup(b'q')\n"
         text += "    if isinstance(found, (Exact, Ambiguous)):\n        length: int = found.len\n        value: str = found.value\n"
-        for words in (["python/hedrugal.py"], ["-c", text]):
+        for words in (["python/hedrugal"], ["-c", text]):
             words = ["mypy", "--strict", "--cache-dir=/dev/null", *words]
             env = {**os.environ, "MYPYPATH": HERE}
             done = subprocess.run(words, env=env, cwd=TOP, capture_output=True, timeout=SECONDS, check=False)

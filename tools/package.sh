@@ -86,13 +86,18 @@ copy_rust() {
     find rust -name target -prune -o -type f -exec cp --parents -t "$tree" {} +
 }
 
+# Copies the files of the Python module, and lets it find the library.
+copy_python() {
+    find python/hedrugal -name __pycache__ -prune -o -type f -exec cp --parents -t "$tree" {} +
+    ln -s ../../lib/libtermwiz_c.so "$tree/python/hedrugal/"
+}
+
 make_tarball() {
     progress 'makes the tarball'
     install_stripped --prefix "$tree"
-    mkdir "$tree/c" "$tree/python"
+    mkdir "$tree/c"
     cp c/events.c c/live.c "$tree/c/"
-    cp python/hedrugal.py "$tree/python/"
-    ln -s ../lib/libtermwiz_c.so "$tree/python/"
+    copy_python
     copy_rust
     cp LICENSE tools/package/THIRD-PARTY "$tree/"
     sed "s/@VERSION@/$version/" tools/package/README > "$tree/README"

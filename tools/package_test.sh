@@ -159,7 +159,15 @@ check_processor() { # file
 # The wheel's checksums are right, and its tag is for no older C library than its own file needs.
 check_wheel() {
     python3 tools/package/check_wheel.py "$packages"/*.whl \
-        "$(objdump -T "$unpacked/wheel/libtermwiz_c.so" | sed -n 's/.*GLIBC_\([0-9.]*\).*/\1/p' | sort -V | tail -n 1)"
+        "$(objdump -T "$unpacked/wheel/hedrugal/libtermwiz_c.so" | sed -n 's/.*GLIBC_\([0-9.]*\).*/\1/p' | sort -V | tail -n 1)"
+}
+
+# The tarball and the wheel have the files of the Python module, as they lie here, and the library where it looks for it.
+check_python() {
+    local folder
+    for folder in "$unpacked/hedrugal-$version-x86_64-linux/python" "$unpacked/wheel"; do
+        diff -r --exclude=__pycache__ --exclude=libtermwiz_c.so python/hedrugal "$folder/hedrugal" && [ -f "$folder/hedrugal/libtermwiz_c.so" ] || return
+    done
 }
 
 # The notices of the tarball, the wheel and the Debian packages.
@@ -316,6 +324,7 @@ check 'dependency of keyshow' check_dependency keyshow "$unpacked"/keyshow/usr/b
 check 'name and exports of the library' check_exports
 for file in "$system_library" "$unpacked"/keyshow/usr/bin/*; do check "processor for ${file##*/}" check_processor "$file"; done
 check 'wheel' check_wheel
+check 'Python module' check_python
 check 'notices' check_notices
 check 'parts of the kit' check_third_party
 find_view

@@ -1,5 +1,5 @@
 #!/usr/bin/env bash
-# Tests the Python module python/hedrugal.py.
+# Tests the Python module, the package python/hedrugal.
 #
 #     tools/python_test.sh DIR
 #

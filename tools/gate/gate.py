@@ -10,8 +10,9 @@ At the end it prints a table: when each part began and ended, and how much proce
 looking at its processes once a second. The last line is 'N passed, N failed' over all parts, the status 1 if one failed.
 
 It needs rt, python3, cc, binutils, c++, pkg-config, cargo and valgrind: see `--help` of the scripts. Where clang's runtime with libFuzzer
-isn't there, the fuzzer isn't run; where lintian, clippy, rustfmt or Debian's packages of serde aren't, what needs them is left out. A line
-before the last says so, and what isn't run counts neither as passed nor as failed. tools/gate/packages.sh installs what Debian has."""
+isn't there, the fuzzer isn't run, and without Chromium the page isn't tested; where lintian, clippy, rustfmt or Debian's packages of
+serde aren't, what needs them is left out. A line before the last says so, and what isn't run counts neither as passed nor as failed.
+tools/gate/packages.sh installs what Debian has."""
 import glob
 import os
 import re
@@ -201,6 +202,7 @@ class Gate:
             Part("c_test", ["c_library", "keyshow"], "tools/c_test.sh", "--built", *over, *left_out("c_test")),
             Part("keys_test", ["c_library"], "tools/keys_test.sh", *over),
             Part("python_test", ["c_library"], "tools/python_test.sh", self.library),
+            Part("page_test", ["c_library"], "tools/page_test.sh", "--if-chromium", *over),
             Part("fuzz", ["c_library"], "tools/fuzz.sh", "--if-clang", *over, "30"),
             Part("keyshow_test", ["keyshow"], "tools/keyshow_test.sh", "--built"),
             Part("refusals", ["refusals", "keyshow"], "tools/refusals.sh", "--built"),

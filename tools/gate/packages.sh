@@ -6,7 +6,7 @@
 set -u
 . "$(dirname "$0")/../common.sh"
 [ $# -eq 0 ] || { [ "$1" = --help ] && show_help && exit; refuse_word "$1"; }
-needed='binutils libclang-rt-14-dev librust-serde-dev librust-serde-json-dev lintian pkg-config python3-venv valgrind'
+needed='binutils chromium libclang-rt-14-dev librust-serde-dev librust-serde-json-dev lintian pkg-config python3-venv valgrind'
 missing=''
 for package in $needed; do
     dpkg-query -W -f '${Status}' "$package" 2> /dev/null | grep -q 'ok installed' || missing="$missing $package"

@@ -2,7 +2,7 @@
 
     wheel.py VERSION PLATFORM LIBRARY OUT
 
-It has python/hedrugal.py and the shared library beside it. PLATFORM is that for which pip takes it, LIBRARY the shared library, OUT the
+It has the package python/hedrugal, with the files of its page, and the shared library in it. PLATFORM is that for which pip takes it, LIBRARY the shared library, OUT the
 folder in which the wheel is written. The date of each file is SOURCE_DATE_EPOCH."""
 import base64
 import hashlib
@@ -45,7 +45,18 @@ def content(path):
 
 def description():
     """Returns the text at the head of the module."""
-    return content("python/hedrugal.py").decode().split('"""')[1]
+    return content("python/hedrugal/__init__.py").decode().split('"""')[1]
+
+
+def package():
+    """Returns the files of the package by their names in the wheel."""
+    found = {}
+    for folder, folders, names in os.walk("python/hedrugal"):
+        folders[:] = sorted({*folders} - {"__pycache__"})
+        for name in sorted(names):
+            path = os.path.join(folder, name)
+            found[os.path.relpath(path, "python")] = content(path)
+    return found
 
 
 def record_line(name, data):
@@ -67,8 +78,8 @@ def main():
     tag = f"py3-none-{platform}"
     info = f"hedrugal-{version}.dist-info"
     files = {
-        "hedrugal.py": content("python/hedrugal.py"),
-        "libtermwiz_c.so": content(library),
+        **package(),
+        "hedrugal/libtermwiz_c.so": content(library),
         f"{info}/LICENSE": content("LICENSE"),
         f"{info}/METADATA": METADATA.format(version=version, description=description()).encode(),
         f"{info}/THIRD-PARTY": content("tools/package/THIRD-PARTY"),

@@ -10,7 +10,7 @@ The parser does no input of its own. The caller reads bytes from a terminal and 
 are cut into calls. A KeyMap maps byte strings to values of the program, such as its commands.
 
 The module calls the shared library libtermwiz_c.so by ctypes. The environment variable HEDRUGAL_LIBRARY names the library's file. If the
-variable isn't set, the library is looked for beside this module, and then where the system has its libraries. The import raises
+variable isn't set, the library is looked for in this package's folder, and then where the system has its libraries. The import raises
 ImportError if no library is found, or if its version isn't that of the module.
 
 Names such as Modifiers and KeyCode are those of the Rust crate termwiz. Their numbers are those of termwiz_input.h."""
@@ -20,6 +20,7 @@ import ctypes
 import ctypes.util
 import enum
 import functools
+import itertools
 import os
 import platform
 import struct
@@ -32,6 +33,7 @@ __version__ = "0.1.0"
 
 __all__ = [
     "Ambiguous",
+    "Completions",
     "EncodeError",
     "Event",
     "Exact",
@@ -52,6 +54,7 @@ __all__ = [
     "Nothing",
     "ParseError",
     "Paste",
+    "Row",
     "Waiting",
     "encode",
 ]
@@ -267,6 +270,26 @@ class Paste:
 
 Event = Union[KeyEvent, MouseEvent, Paste]
 
+
+@dataclass(frozen=True)
+class Row:
+    """A row of the sequence table: its bytes, and the key and the modifiers that they mean."""
+
+    bytes: bytes
+    key: Key
+    modifiers: Modifiers = Modifiers.NONE
+
+
+@dataclass(frozen=True)
+class Completions:
+    """The rows that would complete what stays buffered: see `InputParser.completions`.
+
+    `rows` are their places. If `with_alt` is true, they complete what follows the ESC, and their keys get ALT."""
+
+    rows: range
+    with_alt: bool = False
+
+
 Bytes = Union[bytes, bytearray, memoryview]
 
 
@@ -378,12 +401,19 @@ class _RawMatch(ctypes.Structure):
     _fields_ = [("len", ctypes.c_size_t), ("value", ctypes.c_uint64)]
 
 
+class _RawRows(ctypes.Structure):
+    _fields_ = [("first", ctypes.c_size_t), ("count", ctypes.c_size_t), ("with_alt", ctypes.c_bool)]
+
+
 # The numbers of termwiz_input.h that no enum above has.
 _KIND_KEY, _KIND_MOUSE, _KIND_PASTE = 1, 2, 3
 _NEXT_NONE, _NEXT_EVENT, _NEXT_NO_MEMORY, _NEXT_NO_PARSER = 0, 1, 2, 3
 _ENCODED_TEXT, _ENCODED_REFUSED_KEY, _ENCODED_REFUSED_MEMORY, _ENCODED_BAD_NUMBER = 0, 1, 2, 3
 _KEY_CHAR, _KEY_FUNCTION = 1, 60
 _FOUND_NONE, _FOUND_EXACT, _FOUND_AMBIGUOUS, _FOUND_NEED_DATA, _FOUND_NO_MAP = 0, 1, 2, 3, 4
+
+# More bytes than a row or the text of a key has.
+_ROOM = 64
 
 _PARSER = ctypes.POINTER(_RawParser)
 _EVENT = ctypes.POINTER(_RawEvent)
@@ -405,6 +435,8 @@ _CALLS = {
     "tw_parser_is_paste_open": (ctypes.c_bool, [_PARSER]),
     "tw_parser_end_paste": (ctypes.c_uint32, [_PARSER, _EVENT]),
     "tw_parser_reset": (ctypes.c_size_t, [_PARSER]),
+    "tw_row": (ctypes.c_size_t, [_PARSER, ctypes.c_size_t, _BYTES, ctypes.c_size_t, _EVENT]),
+    "tw_parser_completions": (ctypes.c_bool, [_PARSER, ctypes.POINTER(_RawRows)]),
     "tw_key_name": (ctypes.c_size_t, [ctypes.c_uint16, _BYTES, ctypes.c_size_t]),
     "tw_encode": (
         ctypes.c_uint32,
@@ -439,7 +471,7 @@ def _library_file() -> str:
     found = ctypes.util.find_library("termwiz_c")
     if found:
         return found
-    raise ImportError(f"hedrugal: no libtermwiz_c.so beside {__file__} nor in the system's folders\nHEDRUGAL_LIBRARY can name its file.")
+    raise ImportError(f"hedrugal: no libtermwiz_c.so in {os.path.dirname(__file__)} nor in the system's folders\nHEDRUGAL_LIBRARY can name its file.")
 
 
 def _load() -> ctypes.PyDLL:
@@ -469,6 +501,9 @@ def _not_loaded(why: str) -> ImportError:
 
 _library = _load()
 _feed, _next, _lookup = _library.tw_parser_feed, _library.tw_parser_next, _library.tw_keymap_lookup
+# tw_parser_next again, for `_skip`: a call whose arguments have no types takes a third of the time.
+_next_untyped = _library["tw_parser_next"]
+_next_untyped.restype = ctypes.c_uint32
 
 
 def _fault() -> NoReturn:
@@ -714,11 +749,69 @@ class InputParser(_Closable):
         _library.tw_parser_drop_paste(self._raw)
         return cast(int, _library.tw_parser_reset(self._raw))
 
+    def row(self, place: int) -> Optional[Row]:
+        r"""Returns the row of the sequence table at a place, in the order of the rows' bytes. Returns None from the end of the table on.
+
+            >>> with InputParser() as parser:
+            ...     parser.row(0)
+            Row(bytes=b'\x01', key='a', modifiers=Modifiers.CTRL)"""
+        self._check_open()
+        if not isinstance(place, int):
+            raise TypeError(f"an int is required, not {type(place).__name__}")
+        if not 0 <= place <= sys.maxsize:
+            return None
+        event, room = _RawEvent(), bytearray(_ROOM)
+        pointer, size = _borrowed(room)
+        length = _library.tw_row(self._raw, place, pointer, size, event)
+        if not length:
+            return None
+        if length > size or event.kind != _KIND_KEY:
+            _fault()
+        pressed = _key_event(event.key, event.detail, event.modifiers)
+        return Row(bytes(room[:length]), pressed.key, pressed.modifiers)
+
+    def rows(self) -> Iterator[Row]:
+        """Returns the rows of the sequence table one by one, in the order of their bytes."""
+        for place in itertools.count():
+            row = self.row(place)
+            if row is None:
+                return
+            yield row
+
+    def completions(self) -> Completions:
+        r"""Returns the rows that would complete what stays buffered: those that begin with it and are longer. If there are none, they are
+        those that begin with what follows its ESC. Their keys then get ALT.
+
+        Read it while `waiting` is Waiting.Escape or Waiting.Sequence. A mouse report or a character isn't in the table. So there may be no
+        such row.
+
+            >>> with InputParser() as parser:
+            ...     parser.feed(b"\x1b[1;5")
+            ...     events = list(parser)
+            ...     rows = [parser.row(place) for place in parser.completions().rows]
+            >>> events, rows[0]
+            ([], Row(bytes=b'\x1b[1;5A', key=KeyCode.UpArrow, modifiers=Modifiers.CTRL))"""
+        self._check_open()
+        found = _RawRows()
+        if not _library.tw_parser_completions(self._raw, found):
+            _fault()
+        return Completions(range(found.first, found.first + found.count), bool(found.with_alt))
+
     def _find_front(self, maybe_more: bool) -> bool:
         """Whether there is an event at the front. It stays there until `_leave_front`."""
         if not self._has_front:
             self._has_front = _is_event(_next(self._raw, maybe_more, self._front))
         return self._has_front
+
+    def _skip(self, maybe_more: bool, most: int) -> int:
+        """Consumes at most so many events, without making them, and returns how many there were. It is for the page, which counts them."""
+        count, parser, front, more = 0, ctypes.byref(self._raw), ctypes.byref(self._front), int(maybe_more)
+        while count < most and self._find_front(maybe_more):
+            self._has_front = False
+            count += 1
+            while count < most and _next_untyped(parser, more, front) == _NEXT_EVENT:
+                count += 1
+        return count
 
     def _front_event(self) -> Event:
         kind, buttons, modifiers, key, x, y, detail, paste_len = _fields_of(self._front)
@@ -831,10 +924,6 @@ class KeyMap(_Closable, Generic[Value]):
         """Frees what the library holds, and lets the values go. It may be called twice."""
         super().close()
         self._values.clear()
-
-
-# More bytes than any key's text has.
-_ROOM = 64
 
 
 def _number_and_detail(key: Key) -> Tuple[int, int]:

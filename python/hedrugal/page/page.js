@@ -1,0 +1,730 @@
+// The page. It turns what is typed into bytes, asks the server what they mean, and shows the answers. What bytes mean is decided by the
+// library alone. Nothing here makes HTML of a text.
+
+const $ = (id) => document.getElementById(id);
+const MOST = 1 << 20; // The bytes that the server takes.
+const LINKED = 4096; // The bytes that a link holds.
+const SHOWN = 24; // The bytes of one item that are shown.
+const COMPARED = 1 << 14; // The bytes that the server reads in pieces, too.
+const PORTION = 50; // The rows of the table that are shown at once.
+const COLORS = 5;
+
+// ---- Elements and words
+
+function el(name, attributes = {}, ...children) {
+  const made = document.createElement(name);
+  for (const [key, value] of Object.entries(attributes)) made.setAttribute(key, value);
+  made.append(...children);
+  return made;
+}
+
+const many = (count, what) => `${count.toLocaleString('en')} ${what}${count === 1 ? '' : 's'}`;
+const wait = (count) => `${many(count, 'byte')} ${count === 1 ? 'waits' : 'wait'}`;
+
+function set(id, text, ...classes) {
+  $(id).textContent = text;
+  if (classes.length) $(id).className = classes.join(' ');
+}
+
+// Calls once nothing has come for a moment; at once if nothing came for a second before.
+function delayed(milliseconds, call) {
+  let timer = 0, last = -Infinity;
+  const now = () => {
+    last = performance.now();
+    call();
+  };
+  return () => {
+    clearTimeout(timer);
+    if (performance.now() - last > 1000) now();
+    else timer = setTimeout(now, milliseconds);
+  };
+}
+
+// ---- Bytes and their notations
+
+const encoder = new TextEncoder();
+const decoder = new TextDecoder('utf-8', { fatal: true });
+const CONTROLS = ('NUL SOH STX ETX EOT ENQ ACK BEL BS TAB LF VT FF CR SO SI DLE DC1 DC2 DC3 DC4 NAK SYN ETB CAN EM SUB ESC FS GS RS US')
+  .split(' ');
+const WORDS = new Map([...CONTROLS.map((name, at) => [name, at]), ['SP', 32], ['DEL', 127], ['HT', 9]]);
+const LETTERS = new Map(Object.entries({
+  e: 27, E: 27, n: 10, r: 13, t: 9, b: 8, a: 7, f: 12, v: 11, '\\': 92, '^': 94, '"': 34, "'": 39,
+}));
+
+const fromHex = (digits) => Uint8Array.from(digits.match(/../g) ?? [], (pair) => parseInt(pair, 16));
+const hexOf = (bytes) => Array.from(bytes, (byte) => byte.toString(16).padStart(2, '0'));
+const isScalar = (code) => code < 0x110000 && (code < 0xd800 || code > 0xdfff);
+const same = (one, other) => one.length === other.length && one.every((byte, at) => byte === other[at]);
+
+// The length of an escape at a place of a text, and the byte or the code point that it stands for. Null if there is none.
+function escapeAt(text, at) {
+  const letter = text[at + 1] ?? '';
+  if (text[at] === '^') {
+    if (!/^[@-_?a-z]$/i.test(letter)) return { length: 1, byte: 94 };
+    return { length: 2, byte: letter === '?' ? 127 : letter.charCodeAt(0) & 31 };
+  }
+  if (LETTERS.has(letter)) return { length: 2, byte: LETTERS.get(letter) };
+  const digits = /^(?:x([0-9a-f]{2})|u\{([0-9a-f]{1,6})\}|u([0-9a-f]{4})|([0-7]{1,3}))/i.exec(text.slice(at + 1, at + 10));
+  if (!digits) return null;
+  const [whole, two, braced, four, octal] = digits, length = 1 + whole.length;
+  const number = octal === undefined ? parseInt(two ?? braced ?? four, 16) : parseInt(octal, 8);
+  if (two !== undefined || octal !== undefined) return number < 256 ? { length, byte: number } : null;
+  return isScalar(number) ? { length, code: number } : null;
+}
+
+// The value of a hexadecimal digit, 16 or more for anything else.
+function digitAt(text, at) {
+  const code = text.charCodeAt(at), lower = code | 32;
+  if (code >= 48 && code < 58) return code - 48;
+  return lower > 96 && lower < 103 ? lower - 87 : 16;
+}
+
+// Text with escapes. What is no escape stands for itself, and is named in `wrong`.
+function bytesOfText(text, wrong) {
+  const room = new Uint8Array(3 * text.length);
+  let length = 0, at = 0, literal = 0;
+  const copy = () => { length += encoder.encodeInto(text.slice(literal, at), room.subarray(length)).written; };
+  while (at < text.length) {
+    const code = text.charCodeAt(at);
+    if (code !== 92 && code !== 94) {
+      at += 1;
+      continue;
+    }
+    if (literal < at) copy();
+    const high = digitAt(text, at + 2), low = digitAt(text, at + 3);
+    const isByte = code === 92 && text.charCodeAt(at + 1) === 120 && high < 16 && low < 16;
+    const found = isByte ? null : escapeAt(text, at);
+    if (isByte) {
+      room[length++] = 16 * high + low;
+      at += 4;
+    } else if (found?.byte !== undefined) {
+      room[length++] = found.byte;
+      at += found.length;
+    } else if (found) {
+      length += encoder.encodeInto(String.fromCodePoint(found.code), room.subarray(length)).written;
+      at += found.length;
+    } else {
+      room[length++] = 92;
+      if (wrong.length < 3) wrong.push(/^\\(?:u\{[^}]{0,6}\}|x.{0,2}|u.{0,4}|[0-7]{1,3}|.)?/su.exec(text.slice(at, at + 10))[0]);
+      at += 1;
+    }
+    literal = at;
+  }
+  copy();
+  return room.slice(0, length);
+}
+
+function bytesOfHex(text, wrong) {
+  const digits = text.replace(/0x|\\x|[\s,]/gi, '');
+  const other = /[^0-9a-f]/i.exec(digits);
+  if (other) wrong.push(other[0]);
+  else if (digits.length % 2) wrong.push(digits.at(-1));
+  return other ? new Uint8Array() : fromHex(digits.slice(0, digits.length - digits.length % 2));
+}
+
+function bytesOfWords(text, wrong) {
+  const bytes = [];
+  for (const word of text.replace(/ESC(?![A-Za-z])/g, ' ESC ').split(/\s+/).filter(Boolean)) {
+    if (WORDS.has(word)) bytes.push(WORDS.get(word));
+    else for (const byte of bytesOfText(word, wrong)) bytes.push(byte);
+  }
+  return Uint8Array.from(bytes);
+}
+
+const NOTATIONS = {
+  text: { read: bytesOfText, name: 'text and escapes', why: '' },
+  hex: { read: bytesOfHex, name: 'hexadecimal', why: ', since all of it is pairs of hexadecimal digits' },
+  names: { read: bytesOfWords, name: 'words', why: ', since it begins with ESC' },
+};
+
+function notationOf(text) {
+  if (/^\s*ESC(?![A-Za-z])/.test(text)) return 'names';
+  if (/^\s*(0x)?[0-9a-f]{2}([\s,]+(0x)?[0-9a-f]{2})+[\s,]*$/i.test(text) || /^\s*1b([0-9a-f]{2})+\s*$/i.test(text)) return 'hex';
+  return 'text';
+}
+
+function bytesOf(text, notation) {
+  const used = notation === 'auto' ? notationOf(text) : notation, wrong = [];
+  return { bytes: NOTATIONS[used].read(text, wrong), used, wrong };
+}
+
+// Text with escapes that stands for these bytes.
+function textOf(bytes) {
+  const parts = [];
+  for (let at = 0; at < bytes.length;) {
+    const byte = bytes[at];
+    if (byte < 128) {
+      at += 1;
+      if (byte === 27) parts.push('\\e');
+      else if (byte < 32 || byte === 127) parts.push(`^${String.fromCharCode(byte ^ 64)}`);
+      else parts.push(byte === 92 ? '\\\\' : byte === 94 ? '\\^' : String.fromCharCode(byte));
+      continue;
+    }
+    let character = '';
+    for (let length = 2; length < 5 && !character; length++) {
+      try { character = decoder.decode(bytes.subarray(at, at + length)); } catch { /* These bytes are no character. */ }
+    }
+    if ([...character].length !== 1) {
+      parts.push(`\\x${hexOf([byte])}`);
+      at += 1;
+      continue;
+    }
+    at += encoder.encode(character).length;
+    parts.push(/^[\p{L}\p{N}\p{P}\p{S}]$/u.test(character) ? character : `\\u{${character.codePointAt(0).toString(16)}}`);
+  }
+  return parts.join('');
+}
+
+const word = (byte) => byte === 27 ? 'ESC' : byte === 32 ? 'SP' : byte === 127 ? 'DEL' : byte < 32 ? `^${String.fromCharCode(byte + 64)}`
+  : byte < 127 ? String.fromCharCode(byte) : `\\x${hexOf([byte])}`;
+
+// ESC [ 1 ; 5 A
+function sequence(bytes, most = SHOWN) {
+  const words = Array.from(bytes.slice(0, most), word).join(' ');
+  return bytes.length > most ? `${words} … ${many(bytes.length - most, 'byte')} more` : words;
+}
+
+function chip(byte, ...classes) {
+  return el('span', { class: ['byte', ...classes].join(' ') }, el('b', {}, word(byte)), el('small', {}, hexOf([byte])[0]));
+}
+
+// Bytes as small boxes. A screen reader gets them as one text.
+function chips(bytes, color = () => [], most = SHOWN) {
+  const row = el('div', { class: 'bytes', role: 'img', 'aria-label': bytes.length ? sequence(bytes, most) : 'no bytes' });
+  bytes.slice(0, most).forEach((byte, at) => row.append(chip(byte, ...color(at))));
+  if (bytes.length > most) row.append(el('span', { class: 'quiet' }, `… ${many(bytes.length - most, 'byte')} more`));
+  return row;
+}
+
+const linkTo = (hex) => `#bytes=${hex}`;
+
+// A sequence and its event, as a link that puts the sequence into the field.
+const example = ([hex, ...lines]) => [
+  el('a', { class: 'sequence', href: linkTo(hex) }, sequence(fromHex(hex))), ' is ', el('code', {}, lines.join(', ')),
+];
+
+// ---- The server
+
+async function ask(path, words, body, signal) {
+  const how = body ? { method: 'POST', body, headers: { 'Content-Type': 'application/octet-stream' }, signal } : { signal };
+  const answer = await fetch(`api/${path}?${new URLSearchParams(words)}`, how);
+  if (!answer.ok) throw new Error((await answer.text()).trim());
+  return answer.json();
+}
+
+function failed(error) {
+  if (error.name === 'AbortError') return;
+  set('fault', error instanceof TypeError ? 'The server doesn’t answer. Does it still run?' : `The server says: ${error.message}.`);
+}
+
+// ---- The input and what it means
+
+// The bytes, what comes after them (more, flush or paste), where they are cut, and the answers that are shown.
+const state = { bytes: new Uint8Array(), end: 'more', cut: null, owners: [], lines: [], waits: null, table: null };
+let asking = new AbortController();
+
+const notation = () => document.querySelector('input[name="notation"]:checked').value;
+const choose = (name) => { document.querySelector(`input[name="notation"][value="${name}"]`).checked = true; };
+
+function readField() {
+  const { bytes, used, wrong } = bytesOf($('text').value, notation());
+  const how = NOTATIONS[used];
+  set('read-as', $('text').value ? `Read as ${how.name}${notation() === 'auto' ? how.why : ''}: ${many(bytes.length, 'byte')}.` : '');
+  const names = wrong.map((part) => `‘${part}’`).join(', ');
+  const isHex = used === 'hex';
+  set('fault', !wrong.length ? '' : isHex ? `${names} is no pair of hexadecimal digits.` : `${names} is no escape, and stands for itself.`);
+  $('text').setAttribute('aria-invalid', String(wrong.length > 0));
+  return bytes;
+}
+
+function setBytes(bytes, end = 'more') {
+  state.bytes = bytes;
+  state.end = end;
+  return show();
+}
+
+// Puts bytes into the field, in its notation.
+function fill(bytes) {
+  if (notation() === 'hex') $('text').value = hexOf(bytes).join(' ');
+  else {
+    $('text').value = textOf(bytes);
+    if (notation() === 'names') choose('auto');
+    if (!same(bytesOf($('text').value, notation()).bytes, bytes)) choose('text');
+  }
+  readField();
+}
+
+// The bytes that are compared. The server knows by one byte more that others follow.
+const head = (bytes) => bytes.subarray(0, COMPARED + 1);
+
+async function show() {
+  asking.abort();
+  asking = new AbortController();
+  const { signal } = asking, { bytes, end } = state;
+  writeLink();
+  if (bytes.length > MOST) {
+    set('fault', `At most ${MOST.toLocaleString('en')} bytes can be read, and these are ${bytes.length.toLocaleString('en')}.`);
+    return;
+  }
+  document.body.setAttribute('aria-busy', 'true');
+  try {
+    const read = await ask('read', { end, first: 0 }, bytes, signal);
+    showRead(read);
+    const [reads] = await Promise.all([ask('reads', { end }, head(bytes), signal), showCut(signal)]);
+    showReads(reads);
+    document.body.setAttribute('aria-busy', 'false');
+  } catch (error) {
+    failed(error);
+  }
+}
+
+function showRead(read) {
+  state.owners = [];
+  state.lines = [];
+  $('items').replaceChildren();
+  const waiting = read.waits?.length ?? 0;
+  const flushed = state.end === 'more' ? '' : ' No more bytes come.';
+  set('count', !read.bytes ? 'Type bytes, press keys, or try an example.'
+    : `${many(read.bytes, 'byte')}: ${many(read.events, 'event')}${waiting ? `, and ${wait(waiting)}` : ', and nothing waits'}.${flushed}`);
+  addItems(read);
+  state.waits = read.waits;
+  showWaits(read.waits);
+  $('flushed').hidden = state.end === 'more';
+}
+
+function addItems(read) {
+  let { at } = read;
+  read.items.forEach(([length, line, glyphs], number) => {
+    const place = read.first + number, color = `c${place % COLORS}`;
+    if (place === read.flushed) $('items').append(el('li', { class: 'mark' }, 'flush'));
+    const event = el('span', { class: 'event' }, line);
+    if (glyphs) event.append(' ', el('bdi', { class: 'glyphs quiet' }, glyphs));
+    $('items').append(el('li', { class: color }, chips(state.bytes.subarray(at, at + length)), event));
+    for (let each = at; each < at + length && each < 512; each++) state.owners[each] = color;
+    state.lines.push(line);
+    at += length;
+  });
+  const listed = read.first + read.items.length, left = read.events - listed;
+  $('more-items').replaceChildren();
+  if (left > 0) {
+    const button = el('button', { type: 'button' }, `Show the next ${Math.min(left, 300)} of ${many(left, 'more event')}`);
+    button.onclick = () => ask('read', { end: state.end, first: listed }, state.bytes, asking.signal).then((next) => {
+      const before = $('items').lastElementChild;
+      addItems(next);
+      before.nextElementSibling?.setAttribute('tabindex', '-1');
+      before.nextElementSibling?.focus();
+    }).catch(failed);
+    $('more-items').append(button);
+  } else if (read.waits) {
+    const rest = state.bytes.subarray(state.bytes.length - read.waits.length);
+    $('items').append(el('li', { class: 'hatched' }, chips(rest), el('span', { class: 'event' }, 'waits for more bytes')));
+  }
+}
+
+// Why bytes wait, in paragraphs. Each is a list of texts and elements.
+function whyEscape(waits, rest) {
+  const isAlone = rest.length === 1;
+  return [
+    [isAlone ? 'The Escape key sends this byte, and nothing else. But it is also the first byte of '
+      : 'Escape with Alt sends these two bytes, and nothing else. But they also begin ',
+    `${many(waits.count, 'longer sequence')}, and the next byte may go on with one of them:`],
+    waits.named,
+    ['A character after it is that character with Alt: ', ...example(waits.alt), '.'],
+    waits.mouse && ['It may become a mouse report: ', ...example(waits.mouse), '.'],
+    ['So only the next byte tells, or a pause. A program waits for some 50 ms, and flushes if nothing came.'],
+  ];
+}
+
+function whySequence(waits) {
+  const keys = waits.count === 1 ? 'this key' : `one of ${many(waits.count, 'key')}`;
+  const mouse = waits.count ? 'They may become a mouse report, too: ' : 'They begin a mouse report, whose end is still to come: ';
+  return [
+    waits.count && [`More bytes may make ${keys} of them:`], waits.count && waits.named,
+    waits.mouse && [mouse, ...example(waits.mouse), '.'],
+    ['They may be half of a key on a slow line. A flush breaks them, so a program flushes them after a long pause, or never.'],
+  ];
+}
+
+function whyCharacter(_, rest) {
+  const came = rest.length === 1 ? 'the first one has' : 'some have';
+  return [
+    [`In UTF-8 a character may have several bytes. Here ${came} arrived, and the rest is still to come.`],
+    ['A flush would make U+FFFD of half a character, so a program never flushes one before the end of its input.'],
+  ];
+}
+
+function whyPaste(waits) {
+  return [
+    [`A paste was begun, with ${many(waits.text, 'byte')} of text so far. It becomes one event when its end arrives: `,
+      el('span', { class: 'sequence' }, sequence(fromHex(waits.end))), '.'],
+    ['No pause and no flush ends a paste. A program that has a limit can end it where it is.'],
+  ];
+}
+
+const WHY = { Escape: whyEscape, Sequence: whySequence, Character: whyCharacter, Paste: whyPaste };
+
+function paragraph(part) {
+  if (!Array.isArray(part[0])) return el('p', {}, ...part);
+  return el('ul', {}, ...part.map((named) => el('li', {}, ...example(named))));
+}
+
+function showWaits(waits) {
+  $('waits').hidden = !waits;
+  if (!waits) return;
+  const rest = state.bytes.subarray(state.bytes.length - waits.length);
+  const heading = el('span', {}, `Why ${waits.length === 1 ? 'this byte waits' : `these ${many(waits.length, 'byte')} wait`}`);
+  const bytes = el('span', { class: 'hatched bytes', role: 'img', 'aria-label': sequence(rest, 12) },
+    ...Array.from(rest.slice(0, 12), (byte) => chip(byte)));
+  $('waits-heading').replaceChildren(heading, bytes);
+  $('why').replaceChildren(...WHY[waits.kind](waits, rest).filter(Boolean).map(paragraph));
+  if (waits.count > waits.named?.length) {
+    const find = el('button', { type: 'button' }, `See all ${waits.count.toLocaleString('en')} in the table`);
+    find.onclick = () => searchBytes(waits.with_alt ? rest.subarray(1) : rest);
+    $('why').insertBefore(el('p', {}, find), $('why').children[2] ?? null);
+  }
+  const isPaste = waits.kind === 'Paste';
+  $('flush').textContent = isPaste ? 'End the paste here' : 'Flush: no more bytes come';
+  $('flush-means').replaceChildren('That emits ', el('code', {}, waits.flushed.join(', ')), '.');
+}
+
+function flush(end, focus) {
+  const isWaiting = state.end === 'more';
+  setBytes(state.bytes, isWaiting ? end : 'more').then(() => { if (!$(focus).closest('[hidden]')) $(focus).focus(); });
+}
+
+// ---- The same bytes in two reads, and in reads of one byte
+
+function verdict(id, answer, how) {
+  const text = answer.same ? `✓ ${how}: the same events.` : `✗ ${how}: OTHER EVENTS. This is a bug.`;
+  set(id, answer.bytes ? text : '', 'verdict', answer.same ? 'good' : 'bad');
+}
+
+function colorAt(at) {
+  if (state.owners[at]) return [state.owners[at]];
+  return state.waits && at >= state.bytes.length - state.waits.length ? ['hatched'] : [];
+}
+
+function listOf(read) {
+  const more = read.events - read.lines.length;
+  return el('ul', {}, ...read.lines.map((line) => el('li', { class: 'event' }, line)),
+    ...(more > 0 ? [el('li', { class: 'quiet' }, `and ${many(more, 'more event')}`)] : []));
+}
+
+async function showCut(signal) {
+  const { bytes, end } = state, at = state.cut ?? bytes.length >> 1;
+  const cut = await ask('cut', { end, at }, head(bytes), signal);
+  const slider = $('cut');
+  slider.max = String(cut.bytes);
+  slider.value = String(cut.at);
+  slider.disabled = !cut.bytes;
+  slider.setAttribute('aria-valuetext', `after byte ${cut.at} of ${cut.bytes}`);
+  set('cut-at', cut.bytes ? `${cut.at} of ${cut.bytes}` : '');
+  const pieces = [[0, cut.at], [cut.at, cut.bytes]];
+  const hatched = cut.at - cut.length;
+  $('two').replaceChildren(...(cut.bytes ? pieces.map(([from, to], number) => {
+    const shown = number ? from : Math.max(from, to - SHOWN), before = shown - from;
+    return el('div', { class: 'read', role: 'group', 'aria-label': `Read ${number + 1}` },
+      el('h4', {}, `Read ${number + 1}: ${many(to - from, 'byte')}${before ? `, the last ${SHOWN} of them` : ''}`),
+      chips(bytes.subarray(shown, to), (place) => (!number && shown + place >= hatched ? ['hatched'] : colorAt(shown + place))),
+      listOf(cut.reads[number]),
+      el('p', { class: 'quiet' }, number ? '' : cut.length ? `${wait(cut.length)} for the second read.` : 'Nothing waits at the cut.'));
+  }) : []));
+  verdict('two-same', cut, 'Two reads');
+}
+
+function showReads(reads) {
+  set('compared', reads.bytes < state.bytes.length ? `Compared are the first ${reads.bytes.toLocaleString('en')} bytes.` : '');
+  $('steps').replaceChildren(...reads.steps.map(([waiting, ...lines], at) => el('li', {},
+    chip(state.bytes[at], ...colorAt(at)), ...lines.map((line) => el('span', { class: 'event' }, line)),
+    ...(waiting ? [el('span', { class: 'event quiet' }, waiting === 1 ? '1 waits' : `${waiting} wait`)] : []))));
+  const flushed = reads.flushed.map((line) => el('span', { class: 'event' }, line));
+  if (flushed.length) $('steps').append(el('li', {}, el('b', {}, 'flush'), ...flushed));
+  const left = reads.bytes - reads.steps.length;
+  set('more-steps', left > 0 ? `and ${many(left, 'more read')}` : '');
+  verdict('one-same', reads, many(reads.bytes, 'read') + ' of one byte');
+}
+
+// ---- The link
+
+function fragment() {
+  const words = new URLSearchParams({ bytes: hexOf(state.bytes).join('') });
+  if (state.cut !== null) words.set('cut', state.cut);
+  if (state.end !== 'more') words.set('end', state.end);
+  return `#${words}`;
+}
+
+function writeLink() {
+  const fits = state.bytes.length <= LINKED;
+  const made = fits && state.bytes.length ? fragment() : '#';
+  $('link').hidden = $('copy').hidden = made === '#';
+  $('link').href = made;
+  history.replaceState(null, '', made === '#' ? location.pathname : made);
+  set('copied', fits ? '' : `A link holds at most ${LINKED.toLocaleString('en')} bytes.`);
+}
+
+function loadLink() {
+  const words = new URLSearchParams(location.hash.slice(1)), hex = words.get('bytes') ?? '';
+  if (!/^([0-9a-f]{2})*$/i.test(hex)) {
+    set('fault', 'The link’s bytes are no pairs of hexadecimal digits.');
+    return false;
+  }
+  if (!hex) return false;
+  const cut = words.get('cut') ?? '', end = words.get('end') ?? '';
+  state.cut = /^[0-9]{1,8}$/.test(cut) ? Number(cut) : null;
+  fill(fromHex(hex));
+  setBytes(fromHex(hex), ['flush', 'paste'].includes(end) ? end : 'more');
+  return true;
+}
+
+function report() {
+  const after = { more: 'more bytes may come', flush: 'a flush', paste: 'a flush, and the end of the open paste' }[state.end];
+  const cut = state.cut === null ? 'at once' : `cut after byte ${state.cut}`;
+  return [`bytes: ${hexOf(state.bytes).join(' ')}`, `then: ${after}`, `read: ${cut}`, ...state.lines,
+    ...(state.waits ? [`waiting ${state.waits.length}`] : []), `hedrugal ${state.table?.version ?? ''}`, ''].join('\n');
+}
+
+function copy(text, what) {
+  navigator.clipboard.writeText(text).then(() => set('copied', `${what} was copied.`), () => set('copied', 'The browser refuses to copy.'));
+}
+
+// ---- Keys
+
+const KEYS = new Map(Object.entries({
+  ArrowUp: 'UpArrow', ArrowDown: 'DownArrow', ArrowLeft: 'LeftArrow', ArrowRight: 'RightArrow', ContextMenu: 'Applications',
+  AudioVolumeMute: 'VolumeMute', AudioVolumeDown: 'VolumeDown', AudioVolumeUp: 'VolumeUp', MediaTrackNext: 'MediaNextTrack',
+  MediaTrackPrevious: 'MediaPrevTrack',
+}));
+const LONE = new Set(['Shift', 'Control', 'Alt', 'Meta', 'AltGraph', 'OS', 'Fn', 'Dead', 'Process', 'Unidentified']);
+const MODES = ['encoding', 'cursor', 'newline', 'level'];
+const MODE_NAMES = [['xterm', 'CSI u'], ['cursor keys normal', 'application cursor keys'], ['newline mode off', 'newline mode'],
+  ['modifyOtherKeys off', 'modifyOtherKeys 1', 'modifyOtherKeys 2']];
+
+const codeName = (character) => `U+${character.codePointAt(0).toString(16).toUpperCase().padStart(4, '0')}`;
+const modesNow = () => [Number($('encoding').value), Number($('cursor').checked), Number($('newline').checked), Number($('level').value)];
+const modeIndex = ([encoding, cursor, newline, level]) => ((encoding * 2 + cursor) * 2 + newline) * 3 + level;
+const allModes = MODE_NAMES.reduce((modes, names) => modes.flatMap((mode) => names.map((_, at) => [...mode, at])), [[]]);
+
+// The name that the library has for a typed name or character.
+function keyNamed(text) {
+  if ([...text].length === 1) return codeName(text);
+  return state.table.keys.find((name) => name.toLowerCase() === text.trim().toLowerCase());
+}
+
+function keyPressed(event) {
+  if ([...event.key].length === 1) return codeName(event.key);
+  return state.table.keys.find((name) => name === (KEYS.get(event.key) ?? event.key));
+}
+
+let pressing = Promise.resolve();
+function press(event) {
+  if (event.key === 'Tab' || event.isComposing || !state.table) return;
+  event.preventDefault();
+  const isGraph = event.getModifierState('AltGraph');
+  const held = [
+    event.shiftKey && 'SHIFT', event.altKey && !isGraph && 'ALT', event.ctrlKey && !isGraph && 'CTRL', event.metaKey && 'SUPER',
+  ].filter(Boolean);
+  const key = LONE.has(event.key) ? undefined : keyPressed(event);
+  if (!key) {
+    if (!['Shift', 'Control', 'Alt', 'Meta', 'AltGraph'].includes(event.key)) {
+      set('pressed', `The browser calls this key ‘${event.key}’, and the library has none of that name.`);
+    }
+    return;
+  }
+  const modifiers = held.join('+') || 'NONE';
+  pressing = pressing.then(() => ask('encode', { key, modifiers })).then((answer) => {
+    const sent = fromHex(answer.sent[modeIndex(modesNow())]);
+    set('pressed', sent.length ? `${answer.line} sends ${sequence(sent)}` : `${answer.line} sends nothing in these modes`);
+    const bytes = new Uint8Array(state.bytes.length + sent.length);
+    bytes.set(state.bytes);
+    bytes.set(sent, state.bytes.length);
+    fill(bytes);
+    setBytes(bytes);
+    $('key').value = key.startsWith('U+') ? String.fromCodePoint(parseInt(key.slice(2), 16)) : key;
+    for (const box of $('modifiers').querySelectorAll('input')) box.checked = held.includes(box.value);
+    showSent(answer);
+  }).catch(failed);
+}
+
+let asked = 0;
+async function showKey() {
+  const key = keyNamed($('key').value), mine = ++asked;
+  set('key-fault', key ? '' : $('key').value ? `No key is called ‘${$('key').value}’.` : '');
+  $('key').setAttribute('aria-invalid', String(!key));
+  if (!key) return;
+  const held = [...$('modifiers').querySelectorAll('input:checked')].map((box) => box.value).join('+') || 'NONE';
+  try {
+    const answer = await ask('encode', { key, modifiers: held });
+    if (mine === asked) showSent(answer);
+  } catch (error) {
+    set('key-fault', `${error.message}.`);
+  }
+}
+
+function showSent(answer) {
+  state.sent = answer;
+  const text = (mode) => answer.sent[modeIndex(mode)];
+  const without = (mode, at) => mode.map((value, place) => (place === at ? 0 : value));
+  const matters = MODES.map((_, at) => allModes.some((mode) => text(mode) !== text(without(mode, at))));
+  const now = modesNow();
+  const rows = allModes.filter((mode) => mode.every((value, at) => matters[at] || value === 0));
+  const texts = new Set(answer.sent).size;
+  const by = ['the encoding', 'application cursor keys', 'newline mode', 'modifyOtherKeys'].filter((_, at) => matters[at]).join(' and ');
+  set('key-count', texts === 1 ? `${answer.line} sends the same bytes in every mode.`
+    : `${answer.line} sends ${many(texts, 'different text')}, by ${by}.`);
+  $('sent').replaceChildren(
+    el('thead', {}, el('tr', {}, ...['Modes', 'Bytes', 'The library reads'].map((name) => el('th', { scope: 'col' }, name)))),
+    el('tbody', {}, ...rows.map((mode) => {
+      const hex = text(mode), isNow = mode.every((value, at) => !matters[at] || value === now[at]);
+      const names = mode.map((value, at) => (matters[at] ? MODE_NAMES[at][value] : '')).filter(Boolean).join(', ') || 'every mode';
+      const read = answer.reads[hex].join(', '), isSame = read === answer.line;
+      return el('tr', isNow ? { class: 'now' } : {}, el('th', { scope: 'row' }, names, isNow && rows.length > 1 ? ' (chosen above)' : ''),
+        el('td', {}, hex ? el('a', { href: linkTo(hex) }, sequence(fromHex(hex))) : 'nothing'),
+        el('td', {}, !hex ? '' : isSame ? `✓ ${read}` : `≠ ${read}`));
+    })));
+  const chosen = modesNow().map((value, at) => (value ? MODE_NAMES[at][value] : '')).filter(Boolean);
+  set('modes-now', chosen.length ? chosen.join(', ') : 'xterm, all off');
+}
+
+// ---- The table of sequences
+
+const SAME_WORDS = new Map(Object.entries({
+  control: 'ctrl', meta: 'alt', option: 'alt', esc: 'escape', del: 'delete', ins: 'insert', return: 'enter', pgup: 'pageup',
+  pgdn: 'pagedown',
+}));
+let found = [], listed = 0;
+
+function wordsOfRow([, key, modifiers]) {
+  const words = [key, ...key.split(/(?<=[a-z])(?=[A-Z])/), ...modifiers.split('+')];
+  if (key.startsWith('U+')) words.push(String.fromCodePoint(parseInt(key.slice(2), 16)), ...(key === 'U+0020' ? ['space'] : []));
+  return new Set(words.map((each) => each.toLowerCase()));
+}
+
+function search(query) {
+  const { rows, words } = state.table, text = query.trim();
+  if (!text) return { hits: rows, how: '' };
+  if (/^[\\^]/.test(text) || notationOf(text) !== 'text') {
+    const { bytes } = bytesOf(text, notationOf(text)), hex = hexOf(bytes).join('');
+    return { hits: rows.filter((row) => row[0].startsWith(hex)), how: `with bytes that begin with ${sequence(bytes)}` };
+  }
+  if (/[^\w+\s-]/.test(text) && text.replace(/\s/g, '').length > 1) {
+    const bytes = encoder.encode(text.replace(/\s/g, '')), hex = hexOf(bytes).join('');
+    const has = (row) => row.match(/../g).join(' ').includes(hex.match(/../g).join(' '));
+    return { hits: rows.filter((row) => has(row[0])), how: `with the bytes ${sequence(bytes)} in them` };
+  }
+  const wanted = text.toLowerCase().split(/[\s+]+/).filter((each) => each).map((each) => SAME_WORDS.get(each) ?? each);
+  // A word that no row has is the beginning of one.
+  const tests = wanted.map((each) => {
+    const isWhole = words.some((row) => row.has(each));
+    return (row) => (isWhole ? row.has(each) : [...row].some((it) => it.startsWith(each)));
+  });
+  const how = `with ${wanted.length > 1 ? 'the words' : 'the word'} ${wanted.join(' and ')}`;
+  return { hits: rows.filter((_, at) => tests.every((test) => test(words[at]))), how };
+}
+
+function showFound() {
+  const { hits, how } = search($('find').value);
+  found = hits;
+  listed = 0;
+  const all = many(state.table.rows.length, 'row');
+  set('found', how ? `${hits.length.toLocaleString('en')} of ${all} ${how}.` : `${all}.`);
+  const heads = ['Bytes', 'Key'].map((name) => el('th', { scope: 'col' }, name));
+  $('rows').replaceChildren(el('thead', {}, el('tr', {}, ...heads)), el('tbody'));
+  addRows();
+}
+
+function addRows() {
+  const body = $('rows').tBodies[0];
+  for (const [hex, key, modifiers] of found.slice(listed, listed + PORTION)) {
+    const isShown = /^U\+00[2-7]/.test(key) && key !== 'U+007F';
+    const glyph = !isShown ? '' : key === 'U+0020' ? 'space' : String.fromCodePoint(parseInt(key.slice(2), 16));
+    const link = el('a', { href: linkTo(hex) }, sequence(fromHex(hex)));
+    body.append(el('tr', {}, el('td', {}, link), el('td', {}, `${key} ${modifiers} `, el('span', { class: 'quiet' }, glyph))));
+  }
+  listed = Math.min(found.length, listed + PORTION);
+  $('rows').closest('.wide').hidden = !found.length;
+  $('more-rows').replaceChildren();
+  if (listed < found.length) {
+    const left = found.length - listed;
+    const button = el('button', { type: 'button' }, `Show the next ${Math.min(PORTION, left)} of ${many(left, 'more row')}`);
+    button.onclick = () => {
+      const first = listed;
+      addRows();
+      body.rows[first].querySelector('a').focus();
+    };
+    $('more-rows').append(button);
+  }
+}
+
+function searchBytes(bytes) {
+  $('find').value = Array.from(bytes, word).join(' ');
+  showFound();
+  $('find').focus();
+}
+
+// Control characters that are pasted as such become escapes: a field doesn't show them, and a browser lays out many of them slowly.
+function paste(event) {
+  const text = event.clipboardData?.getData('text/plain') ?? '';
+  if (!/[\0-\x08\v-\x1f\x7f]/.test(text)) return;
+  event.preventDefault();
+  const caret = (it) => `^${String.fromCharCode(it.charCodeAt(0) ^ 64)}`;
+  const shown = text.replace(/[\\^]/g, '\\$&').replace(/\x1b/g, '\\e').replace(/[\0-\x1f\x7f]/g, caret);
+  const field = $('text');
+  field.setRangeText(shown, field.selectionStart, field.selectionEnd, 'end');
+  showTyped();
+}
+
+// ---- What the user does
+
+function start(table) {
+  state.table = { ...table, words: table.rows.map(wordsOfRow) };
+  set('version', table.version);
+  $('key-names').replaceChildren(...table.keys.map((name) => el('option', { value: name })));
+  for (const name of table.modifiers) $('modifiers').append(el('label', {}, el('input', { type: 'checkbox', value: name }), ` ${name}`));
+  showFound();
+  showKey();
+}
+
+const showTyped = delayed(60, () => {
+  state.cut = null;
+  setBytes(readField());
+});
+const writeLater = delayed(200, writeLink);
+
+$('text').addEventListener('input', showTyped);
+$('text').addEventListener('paste', paste);
+$('notation').addEventListener('change', showTyped);
+$('press').addEventListener('keydown', press);
+$('flush').addEventListener('click', () => flush(state.waits?.kind === 'Paste' ? 'paste' : 'flush', 'unflush'));
+$('unflush').addEventListener('click', () => flush('more', 'flush'));
+$('clear').addEventListener('click', () => {
+  $('text').value = '';
+  state.cut = null;
+  setBytes(readField());
+  $('text').focus();
+});
+for (const button of document.querySelectorAll('[data-try]')) {
+  button.addEventListener('click', () => {
+    if (notation() !== 'auto') choose('auto');
+    $('text').value = button.dataset.try;
+    state.cut = null;
+    setBytes(readField());
+  });
+}
+$('cut').addEventListener('input', () => {
+  state.cut = Number($('cut').value);
+  showCut(asking.signal).catch(failed);
+  writeLater();
+});
+$('copy').addEventListener('click', () => copy(location.origin + location.pathname + fragment(), 'The link'));
+$('copy-report').addEventListener('click', () => copy(report(), 'The report'));
+for (const id of MODES) $(id).addEventListener('change', () => { if (state.sent) showSent(state.sent); });
+$('key').addEventListener('input', showKey);
+$('modifiers').addEventListener('change', showKey);
+$('find').addEventListener('input', delayed(40, showFound));
+window.addEventListener('hashchange', () => { if (loadLink()) $('text').focus(); });
+
+if (!loadLink()) {
+  $('text').value = '\\e[1;5Aq\\e';
+  setBytes(readField());
+}
+ask('table', {}).then(start).catch(failed);
