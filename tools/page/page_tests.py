@@ -457,7 +457,8 @@ class Page(unittest.TestCase):
         self.assertEqual(self.it.run("document.activeElement.tagName"), "LI")
 
     def test_a_megabyte(self):
-        """It is shown in two seconds. Each is longer by as much as this machine's other programs make a loop take."""
+        """Its meaning is shown in two seconds. Each is longer by as much as this machine's other programs make a loop take. The comparison
+        of cuts, which comes after it, has no limit."""
         script = """(async () => {
           const field = document.getElementById('text'), count = document.getElementById('count'), began = performance.now();
           document.body.setAttribute('aria-busy', 'true');
@@ -479,14 +480,14 @@ class Page(unittest.TestCase):
             "'\\x1b[A\\x1b'.repeat(1 << 18)",
         ):
             times, limit = [], 0
-            while len(times) < 5 and not any(it[1] < limit for it in times):
+            while len(times) < 8 and not any(it[0] < limit for it in times):
                 self.enter("")
                 before = slowness()
                 times.append(self.it.run(script % text))
                 limit = max(limit, 2000 * max(before, slowness()))
             shown = ", ".join(f"{one / 1000:.2f} and {two / 1000:.2f} s" for one, two in times)
             print(f"\n  {text}: shown, and compared, after {shown}; the limit is {limit / 1000:.2f} s", end=" ", flush=True)
-            self.assertLess(min(it[1] for it in times), limit, text)
+            self.assertLess(min(it[0] for it in times), limit, text)
             self.assertIn(self.it.run("document.querySelectorAll('#items > li').length"), (1, 300))
             self.assertIn("16,384", self.text("compared"))
             self.assertEqual(self.it.run("document.querySelectorAll('.verdict.good').length"), 2)
