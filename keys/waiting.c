@@ -105,7 +105,7 @@ void add_waiting(text *out, const tw_parser *parser) {
   size_t length = tw_parser_waiting(parser);
   switch (tw_parser_waiting_kind(parser)) {
     case TW_WAITING_ESCAPE:
-      text_add(out, length == 1 ? "Escape, or the beginning of a key" : "Alt-Escape, or the beginning of a key with Alt");
+      text_add(out, length == 1 ? "may begin a key" : "may begin a key with Alt");
       break;
     case TW_WAITING_SEQUENCE: add_sequence(out, parser); break;
     case TW_WAITING_CHARACTER: text_add(out, "half a character"); break;
@@ -116,7 +116,11 @@ void add_waiting(text *out, const tw_parser *parser) {
 
 void add_waiting_for(text *out, const tw_parser *parser) {
   switch (tw_parser_waiting_kind(parser)) {
-    case TW_WAITING_ESCAPE: text_add(out, ": waits up to %d ms", ESCAPE_MS); break;
+    case TW_WAITING_ESCAPE: {
+      const char *modifiers = tw_parser_waiting(parser) == 1 ? "NONE" : "ALT";
+      text_add(out, "; if nothing follows in %d ms: key Escape %s", ESCAPE_MS, modifiers);
+      break;
+    }
     case TW_WAITING_SEQUENCE: text_add(out, ": waits up to %d s", SEQUENCE_MS / 1000); break;
     case TW_WAITING_CHARACTER: text_add(out, ": waits for the rest"); break;
     case TW_WAITING_PASTE: text_add(out, ": waits for its end"); break;

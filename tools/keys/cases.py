@@ -28,8 +28,8 @@ MODES = {
 }
 ALL_MODES = ["--application-cursor-keys", "--modify-other-keys=2", "--mouse", "--bracketed-paste"]
 ALL_SWITCHED = {"?1": True, ">4": 2, "?1003": True, "?1006": True, "?2004": True}
-ESCAPE = "Escape, or the beginning of a key: waits up to 50 ms"
-ALT_ESCAPE = "Alt-Escape, or the beginning of a key with Alt: waits up to 50 ms"
+ESCAPE = "may begin a key; if nothing follows in 50 ms: key Escape NONE"
+ALT_ESCAPE = "may begin a key with Alt; if nothing follows in 50 ms: key Escape ALT"
 MOUSE = "the beginning of a mouse report: waits up to 1 s"
 
 
@@ -182,7 +182,7 @@ def escape_over_escape(program):
         keys.send(b"\033")
         keys.wait_for_text(ESCAPE)
         keys.send(b"\033")
-        keys.wait_for_text("   2  ", "key Escape")
+        keys.wait_for_text("   2  ", "-> key Escape ALT")
         keys.end_with("   1  ESC -> goes on in read 2", "   2  (ESC) ESC -> key Escape ALT")
 
 
@@ -204,7 +204,7 @@ def narrow(program):
         keys.send(b"ab\033")
         head = ["   1  a -> key U+0061 NONE |", "      b -> key U+0062 NONE |"]
         keys.wait_for_screen(*head, "      ESC -> key Escape NONE")
-        frame = [*head, "      ESC -> Escape, or the beginning of a", "      key: waits up to 50 ms"]
+        frame = [*head, "      ESC -> may begin a key; if nothing", "      follows in 50 ms: key Escape NONE"]
         expect("frames", [it[1:] for it in keys.screen().frames], [frame])
         keys.end()
 
@@ -228,7 +228,7 @@ def low(program):
     with Keys(program, size=(46, 3)) as keys:
         keys.send(b"ab\033")
         head = ["   1  a -> key U+0061 NONE |", "      b -> key U+0062 NONE |"]
-        keys.wait_for_screen(*head, "      ESC -> Escape, or the beginning of a", "      key: waits up to 50 ms",
+        keys.wait_for_screen(*head, "      ESC -> may begin a key; if nothing", "      follows in 50 ms: key Escape NONE",
                              *head, "      ESC -> key Escape NONE")
         expect("frames", keys.screen().frames, [])
         keys.end()
@@ -250,7 +250,7 @@ def colours(program):
         keys.send(b"a\033")
         keys.wait_for_screen("   1  a -> key U+0061 NONE | ESC -> key Escape NONE")
         expect("styles", keys.screen().styled()[1], "   1  _a_ -> *key* *U+0061* *NONE* | _ESC_ -> *key* *Escape* *NONE*")
-        text = b"\033[2mESC\033[0m \033[2m->\033[0m \033[2mEscape,\033[0m \033[2mor"
+        text = b"\033[2mESC\033[0m \033[2m->\033[0m \033[2mmay\033[0m \033[2mbegin"
         if text not in keys.terminal.output:
             raise Failed(f"what waits isn't dimmed: {keys.terminal.output!r}")
         keys.end()
