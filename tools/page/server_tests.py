@@ -471,8 +471,10 @@ class Program(unittest.TestCase):
             self.assertIn("--port wants a number from 1 to 65535", errors)
 
     def start(self, *words):
+        """Starts the server. A shell has what it starts in the background ignore interrupts, and this server shouldn't."""
         words, how = self.words(*words)
-        process = subprocess.Popen(words, stdout=subprocess.PIPE, stderr=subprocess.PIPE, text=True, **how)
+        heed = lambda: signal.signal(signal.SIGINT, signal.SIG_DFL)
+        process = subprocess.Popen(words, stdout=subprocess.PIPE, stderr=subprocess.PIPE, text=True, preexec_fn=heed, **how)
         self.addCleanup(process.stdout.close)
         self.addCleanup(process.stderr.close)
         self.addCleanup(process.kill)
