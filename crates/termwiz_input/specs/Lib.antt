@@ -8,6 +8,7 @@ pub mod Pieces
 pub mod PrintableAscii
 pub mod Promise
 pub mod RefusalEquality
+pub mod WaitingBytes
 pub use Rattle.termwiz_grammar.specs.MouseReports as MouseReports
 pub use Rattle.termwiz_grammar.specs.Grammar as Grammar
 pub use Rattle.termwiz_grammar.specs.Sequences as Sequences

@@ -12,6 +12,7 @@ ghost use Rattle.termwiz_grammar.specs.Grammar.{GivesNoPaste, HasItem, HasPaste,
 ghost use Rattle.termwiz_input.specs.Fronts.{Emits, IsFront, Stores};
 ghost use Rattle.termwiz_input.specs.Matches.{IsItemAt};
 ghost use Rattle.termwiz_input.specs.Promise.{IsExactReading};
+ghost use Rattle.termwiz_input.specs.WaitingBytes.{IsToldByBytes};
 ghost use Rattle.termwiz_input.specs.Callbacks.{MayBeCalledOn, MayBeCalledOnNumbered, WasCalledOn, WasCalledOnNumbered};
 ghost use Rattle.termwiz_input.specs.Pieces.{AreNumbered, NumberedEvent, ReadsFirst, events_of, flag_at, join, numbered, pieces_or_one, taken_or_one, texts};
 ghost use Rattle.termwiz_keys.specs.declared.types.InputEvent.{InputEvent as Event};
@@ -20,6 +21,7 @@ pub use crate::completions::Completions;
 use crate::completions::completions_of;
 use crate::front::{AtFront, front, is_escape};
 use crate::key::{alt_key, copied, escape_key, plain_key};
+pub use crate::mouse_report::is_mouse_report;
 use crate::paste::{begins_paste, lossy_text, next_search, paste_so_far};
 use crate::printable_ascii::append_printable_ascii;
 use crate::waiting::kind_of;
@@ -181,6 +183,13 @@ impl InputParser {
         self.buffer.len()
     }
 
+    /// The waiting text: the bytes that are buffered.
+    pub fn waiting_text(&self) -> &[u8]
+        ensures { result.now ≡ self.now }
+    {
+        self.buffer.as_slice()
+    }
+
     /// Whether the waiting text begins with the start of a paste.
     pub fn is_paste_open(&self) -> bool
         ensures { IsTrue result ↔ Begins START self.now }
@@ -193,7 +202,10 @@ impl InputParser {
     /// After a pause with `Escape` call [`InputParser::flush_escape`]. Flush a `Sequence` only after a much longer pause, since the line
     /// may be slow. Never flush a `Character` or a `Paste`.
     pub fn waiting(&self) -> Waiting
-        ensures { (more : Bool) → IsRest self.now more → IsKind self.now more result }
+        ensures kind { (more : Bool) → IsRest self.now more → IsKind self.now more result }
+
+        // The first bytes alone tell the kind, also where an item is matched.
+        ensures bytes { IsToldByBytes self.now result }
     {
         kind_of(self.buffer.as_slice())
     }
@@ -268,8 +280,10 @@ impl InputParser {
         len
     }
 
-    // Drops the first bytes of the waiting text. What is left wasn't searched for the end of a paste.
-    fn consume(&mut self, len: usize)
+    /// Drops the first bytes of the waiting text, as if they had never come.
+    ///
+    /// It is for a parser that reads sequences of its own before this one does. What is left wasn't searched for the end of a paste.
+    pub fn consume(&mut self, len: usize)
         requires { len ≤ length self.old }
         ensures { self.new ≡ drop len self.old }
     {

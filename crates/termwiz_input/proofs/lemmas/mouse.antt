@@ -1,1 +1,2 @@
 pub mod ReportReading
+pub mod WholeReport

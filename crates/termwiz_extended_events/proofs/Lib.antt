@@ -1,0 +1,3 @@
+pub mod Examples
+pub mod FieldLemmas
+pub mod NumberLemmas

@@ -1,0 +1,177 @@
+-- The sequences that report a key.
+use Rattle.std.specs.Prelude.{ℕ, Bool, true, false, ◌-◌, ◌==◌, List, [], ◌∷◌, length, take, slice_get, codes, Option, Some, None, if◌then◌else◌, option_map, option_and_then, encode_utf8_all, bytes_eq}
+use Rattle.termwiz_grammar.specs.Table.{key_of_code}
+use Rattle.termwiz_keys.specs.declared.types.KeyCode.{KeyCode}
+use Rattle.termwiz_extended_events.specs.declared.types.KeyReport.{KeyReport}
+use Rattle.termwiz_extended_events.specs.declared.types.KeyEventKind.{KeyEventKind}
+use Rattle.termwiz_extended_events.specs.declared.types.KeyEventKind.TheVariants.{Press, Repeat, Release}
+use Rattle.termwiz_extended_events.specs.declared.types.ReportedKey.{ReportedKey}
+use Rattle.termwiz_extended_events.specs.declared.types.ReportedKey.TheVariants.{Named}
+use Rattle.termwiz_extended_events.specs.declared.key_fields.Manner.{Manner}
+use Rattle.termwiz_extended_events.specs.declared.key_fields.Codes.{Codes}
+use Rattle.termwiz_extended_events.specs.Numbers.{fields, parts, before_end, first_some, number, scalar}
+use Rattle.termwiz_extended_events.specs.ReportedKeys.{last_functional, entry_at, lettered_keys, key_of, tilde_key, keypad_keys, console_keys}
+
+-- the modifiers of a number: it is one more than their bits, and 1 where it is missing
+unfoldable pub modifiers_of : List ℕ → Option ℕ
+modifiers_of [] = Some 0
+modifiers_of digits = option_map (λ n. n - 1) (number 1 256 digits)
+
+-- what happened to the key, by the number of the event
+abbrev pub kind_at : ℕ → KeyEventKind
+kind_at n = if n == 1 then Press else (if n == 2 then Repeat else Release)
+
+unfoldable pub kind_of : List ℕ → Option KeyEventKind
+kind_of digits = option_map kind_at (number 1 3 digits)
+
+-- both of them, if both are there
+abbrev pub manner_with : Option ℕ → Option KeyEventKind → Option Manner
+manner_with (Some modifiers) (Some kind) = Some (record { modifiers = modifiers; kind = kind })
+manner_with _ _ = None
+
+-- the manner that the parts of a field say: the modifiers, and what happened to the key
+abbrev pub manner_of_parts : List (List ℕ) → Option Manner
+manner_of_parts (modifiers ∷ []) = manner_with (modifiers_of modifiers) (Some Press)
+manner_of_parts (modifiers ∷ kind ∷ []) = manner_with (modifiers_of modifiers) (kind_of kind)
+manner_of_parts _ = None
+
+unfoldable pub manner_of : List ℕ → Option Manner
+manner_of field = manner_of_parts (parts field)
+
+-- a press with no modifier
+abbrev pub pressed : Manner
+pressed = record { modifiers = 0; kind = Press }
+
+-- a character that may be missing
+unfoldable pub optional_scalar : List ℕ → Option (Option ℕ)
+optional_scalar [] = Some None
+optional_scalar digits = option_map (λ c. Some c) (scalar digits)
+
+-- a character that is there
+abbrev pub told_scalar : List ℕ → Option (Option ℕ)
+told_scalar digits = option_map (λ c. Some c) (scalar digits)
+
+-- all three, if all are there
+abbrev pub codes_with : Option ℕ → Option (Option ℕ) → Option (Option ℕ) → Option Codes
+codes_with (Some own) (Some shifted) (Some base) = Some (record { own = own; shifted = shifted; base = base })
+codes_with _ _ _ = None
+
+-- the codes that the parts of a field say: the key's own, what it types with Shift, and what the key at its place types on
+-- the standard layout
+abbrev pub codes_of_parts : List (List ℕ) → Option Codes
+codes_of_parts (own ∷ []) = codes_with (scalar own) (Some None) (Some None)
+codes_of_parts (own ∷ shifted ∷ []) = codes_with (scalar own) (told_scalar shifted) (Some None)
+codes_of_parts (own ∷ shifted ∷ base ∷ []) = codes_with (scalar own) (optional_scalar shifted) (told_scalar base)
+codes_of_parts _ = None
+
+unfoldable pub codes_of : List ℕ → Option Codes
+codes_of field = codes_of_parts (parts field)
+
+-- one character more, if all are characters
+abbrev pub and_more : Option ℕ → Option (List ℕ) → Option (List ℕ)
+and_more (Some c) (Some more) = Some (c ∷ more)
+and_more _ _ = None
+
+-- the characters whose numbers these texts write
+abbrev pub scalars : List (List ℕ) → Option (List ℕ)
+scalars [] = Some []
+scalars (digits ∷ more) = and_more (scalar digits) (scalars more)
+
+-- the text that a field says, as UTF-8: the numbers of its characters, or nothing
+unfoldable pub text_of : List ℕ → Option (List ℕ)
+text_of [] = Some []
+text_of field = option_map encode_utf8_all (scalars (parts field))
+
+-- the report of a key that says no more than its manner
+abbrev pub report_of : ReportedKey → Manner → KeyReport
+report_of key manner = record {
+  key = key;
+  modifiers = manner.modifiers;
+  kind = manner.kind;
+  shifted = None;
+  base = None;
+  text = [];
+}
+
+-- the report of a character's key, if all its fields are there
+abbrev pub character_report : Option Codes → Option Manner → Option (List ℕ) → Option KeyReport
+character_report (Some codes) (Some manner) (Some text) = Some (record {
+  key = key_of codes.own;
+  modifiers = manner.modifiers;
+  kind = manner.kind;
+  shifted = codes.shifted;
+  base = codes.base;
+  text = text;
+})
+character_report _ _ _ = None
+
+abbrev pub character_of_fields : List (List ℕ) → Option KeyReport
+character_of_fields (codes ∷ []) = character_report (codes_of codes) (Some pressed) (Some [])
+character_of_fields (codes ∷ manner ∷ []) = character_report (codes_of codes) (manner_of manner) (Some [])
+character_of_fields (codes ∷ manner ∷ text ∷ []) = character_report (codes_of codes) (manner_of manner) (text_of text)
+character_of_fields _ = None
+
+-- c : shifted : base ; modifiers : kind ; text u, of which only c must be there: the key of c
+unfoldable pub character_key : List ℕ → Option KeyReport
+character_key t = option_and_then (λ body. character_of_fields (fields body)) (before_end (codes "u") t)
+
+-- the report of a key in the manner that the fields behind the first one say
+abbrev pub report_behind : ReportedKey → List (List ℕ) → Option KeyReport
+report_behind key [] = Some (report_of key pressed)
+report_behind key (manner ∷ []) = option_map (report_of key) (manner_of manner)
+report_behind key _ = None
+
+-- the field is 1, or missing
+abbrev pub is_one_or_missing : List ℕ → Bool
+is_one_or_missing [] = true
+is_one_or_missing (b ∷ []) = b == 49
+is_one_or_missing _ = false
+
+abbrev pub lettered_of_fields : KeyCode → List (List ℕ) → Option KeyReport
+lettered_of_fields key (front ∷ more) = if is_one_or_missing front then report_behind (Named key) more else None
+lettered_of_fields key [] = None
+
+-- the key that the last byte stands for
+abbrev pub last_letter : List ℕ → Option KeyCode
+last_letter t = option_and_then (entry_at lettered_keys) (slice_get t (length t - 1))
+
+-- 1 ; modifiers : kind and a letter, of which only the letter must be there: a key by its letter
+unfoldable pub lettered_key : List ℕ → Option KeyReport
+lettered_key t = option_and_then (λ key. lettered_of_fields key (fields (take (length t - 1) t))) (last_letter t)
+
+abbrev pub numbered_of_fields : List (List ℕ) → Option KeyReport
+numbered_of_fields (n ∷ more) =
+    option_and_then (λ key. report_behind key more) (option_and_then tilde_key (number 0 last_functional n))
+numbered_of_fields [] = None
+
+-- n ; modifiers : kind ~, of which only n must be there: a key by its number
+unfoldable pub numbered_key : List ℕ → Option KeyReport
+numbered_key t = option_and_then (λ body. numbered_of_fields (fields body)) (before_end (codes "~") t)
+
+-- the key of a character as xterm reports it: the number of the modifiers is one more than their bits
+abbrev pub other_report : Option ℕ → Option ℕ → Option KeyReport
+other_report (Some m) (Some c) = Some (report_of (Named (key_of_code c)) (record { modifiers = m - 1; kind = Press }))
+other_report _ _ = None
+
+abbrev pub other_of_fields : List (List ℕ) → Option KeyReport
+other_of_fields (front ∷ m ∷ c ∷ []) = if bytes_eq front (codes "27") then other_report (number 1 8 m) (scalar c) else None
+other_of_fields _ = None
+
+-- 27 ; m ; c ~: the key of c, as xterm's modifyOtherKeys reports it
+unfoldable pub other_key : List ℕ → Option KeyReport
+other_key t = option_and_then (λ body. other_of_fields (fields body)) (before_end (codes "~") t)
+
+-- the report of a key by the first of these rules that fits
+unfoldable pub key_report : List ℕ → Option KeyReport
+key_report t = first_some (character_key t ∷ lettered_key t ∷ numbered_key t ∷ other_key t ∷ [])
+
+-- [ and a letter from A to E: F1 to F5, as the Linux console reports them
+unfoldable pub console_key : List ℕ → Option KeyReport
+console_key (bracket ∷ letter ∷ []) =
+    if bracket == 91 then option_map (λ key. report_of (Named key) pressed) (entry_at console_keys letter) else None
+console_key _ = None
+
+-- a letter behind ESC O: a key of the keypad in application mode
+unfoldable pub keypad_key : List ℕ → Option KeyReport
+keypad_key (letter ∷ []) = option_map (λ key. report_of key pressed) (entry_at keypad_keys letter)
+keypad_key _ = None

@@ -1,0 +1,55 @@
+-- What a sequence means that the port doesn't know.
+use Rattle.std.specs.Prelude.{ℕ, ◌==◌, List, [], ◌∷◌, Option, if◌then◌else◌, option_map, unwrap_or}
+use Rattle.termwiz_keys.specs.declared.types.MouseEvent.{MouseEvent}
+use Rattle.termwiz_keys.specs.declared.types.InputEvent.TheVariants.{Mouse}
+use Rattle.termwiz_extended_events.specs.declared.types.ExtendedEvent.{ExtendedEvent}
+use Rattle.termwiz_extended_events.specs.declared.types.ExtendedEvent.TheVariants.{Input, Csi, Osc, Dcs, Apc, Key, CursorPosition}
+use Rattle.termwiz_extended_events.specs.Numbers.{before_end, first_some}
+use Rattle.termwiz_extended_events.specs.KeyReports.{key_report, console_key, keypad_key}
+use Rattle.termwiz_extended_events.specs.Replies.{focus, reply, mouse_report}
+
+-- the event of a mouse report
+abbrev pub mouse : MouseEvent → ExtendedEvent
+mouse event = Input (Mouse event)
+
+-- the event of what follows ESC [, by the first rule that fits
+unfoldable pub reported : List ℕ → Option ExtendedEvent
+reported t = first_some (
+    focus t ∷ option_map Key (key_report t) ∷ reply t ∷ option_map mouse (mouse_report t)
+    ∷ option_map Key (console_key t) ∷ [])
+
+-- what ends a string: ESC and a backslash, or for commands the byte BEL
+abbrev pub string_end : List ℕ
+string_end = 27 ∷ 92 ∷ []
+
+abbrev pub bell : List ℕ
+bell = 7 ∷ []
+
+-- a string without its end
+unfoldable pub string_text : List ℕ → List ℕ
+string_text t = unwrap_or (before_end string_end t) t
+
+-- a command without its end
+unfoldable pub command_text : List ℕ → List ℕ
+command_text t = unwrap_or (before_end string_end t) (unwrap_or (before_end bell t) t)
+
+-- the event of what follows ESC and a byte
+unfoldable pub event_after : ℕ → List ℕ → ExtendedEvent
+event_after b t =
+    if b == 91 then unwrap_or (reported t) (Csi t)
+    else (if b == 79 then unwrap_or (option_map Key (keypad_key t)) (Csi t)
+    else (if b == 93 then Osc (command_text t)
+    else (if b == 80 then Dcs (string_text t)
+    else (if b == 95 then Apc (string_text t)
+    else Csi t))))
+
+-- the event of a sequence
+unfoldable pub event_of : List ℕ → ExtendedEvent
+event_of (escape ∷ b ∷ t) = if escape == 27 then event_after b t else Csi t
+event_of _ = Csi []
+
+-- a report of a key, or of the cursor's position
+abbrev pub IsKeyOrPosition : ExtendedEvent → Type 0
+IsKeyOrPosition (Key report) = Unit {0}
+IsKeyOrPosition (CursorPosition row column) = Unit {0}
+IsKeyOrPosition _ = ⊥

@@ -1,0 +1,105 @@
+-- The sequences that report something else than a key: the focus, the mouse, and what a terminal replies to questions.
+use Rattle.std.specs.Prelude.{ℕ, ◌-◌, ◌==◌, ◌&&◌, List, [], ◌∷◌, codes, nat_le, Option, Some, None, if◌then◌else◌, option_map, option_and_then, bytes_eq}
+use Rattle.termwiz_keys.specs.declared.types.MouseEvent.{MouseEvent}
+use Rattle.termwiz_base.specs.Mouse.{final_press}
+use Rattle.termwiz_grammar.specs.MouseReports.{mouse_event}
+use Rattle.termwiz_extended_events.specs.declared.types.ExtendedEvent.{ExtendedEvent}
+use Rattle.termwiz_extended_events.specs.declared.types.ExtendedEvent.TheVariants.{FocusGained, FocusLost, CursorPosition, KeyboardFlags, Resize}
+use Rattle.termwiz_extended_events.specs.Numbers.{fields, before_end, after_start, number_within, few_digits, first_some, short_number}
+
+-- I or O: the window gained the focus, or lost it
+unfoldable pub focus : List ℕ → Option ExtendedEvent
+focus (b ∷ []) = if b == 73 then Some FocusGained else (if b == 79 then Some FocusLost else None)
+focus _ = None
+
+-- the position of two numbers, if both are there
+abbrev pub position_at : Option ℕ → Option ℕ → Option ExtendedEvent
+position_at (Some row) (Some column) = Some (CursorPosition row column)
+position_at _ _ = None
+
+-- the same, if a third number is there too
+abbrev pub position_on : Option ℕ → Option ℕ → Option ℕ → Option ExtendedEvent
+position_on row column (Some page) = position_at row column
+position_on row column None = None
+
+-- row ; column
+abbrev pub position_of_fields : List (List ℕ) → Option ExtendedEvent
+position_of_fields (row ∷ column ∷ []) = position_at (short_number row) (short_number column)
+position_of_fields _ = None
+
+-- row ; column ; page, of which the page may be missing
+abbrev pub marked_position_of_fields : List (List ℕ) → Option ExtendedEvent
+marked_position_of_fields (row ∷ column ∷ page ∷ []) =
+    position_on (short_number row) (short_number column) (short_number page)
+marked_position_of_fields fs = position_of_fields fs
+
+abbrev pub position_of : List ℕ → Option (List ℕ) → Option ExtendedEvent
+position_of body None = position_of_fields (fields body)
+position_of body (Some marked) = marked_position_of_fields (fields marked)
+
+-- row ; column R, or with a question mark in front, and then maybe with a page: the position of the cursor
+unfoldable pub cursor_position : List ℕ → Option ExtendedEvent
+cursor_position t = option_and_then (λ body. position_of body (after_start (codes "?") body)) (before_end (codes "R") t)
+
+-- ? flags u: the flags of kitty's keyboard protocol
+unfoldable pub keyboard_flags : List ℕ → Option ExtendedEvent
+keyboard_flags t = option_map KeyboardFlags (option_and_then (number_within few_digits 0 255)
+    (option_and_then (after_start (codes "?")) (before_end (codes "u") t)))
+
+-- the size of four numbers, if all are there
+abbrev pub size_at : Option ℕ → Option ℕ → Option ℕ → Option ℕ → Option ExtendedEvent
+size_at (Some rows) (Some columns) (Some height) (Some width) = Some (Resize rows columns height width)
+size_at _ _ _ _ = None
+
+-- rows ; columns ; height ; width
+abbrev pub size_of_fields : List (List ℕ) → Option ExtendedEvent
+size_of_fields (rows ∷ columns ∷ height ∷ width ∷ []) =
+    size_at (short_number rows) (short_number columns) (short_number height) (short_number width)
+size_of_fields _ = None
+
+-- the same behind the number of the report
+abbrev pub numbered_size : List (List ℕ) → Option ExtendedEvent
+numbered_size (front ∷ more) = if bytes_eq front (codes "48") then size_of_fields more else None
+numbered_size [] = None
+
+-- 48 ; rows ; columns ; height ; width t: the new size of the terminal
+unfoldable pub resize : List ℕ → Option ExtendedEvent
+resize t = option_and_then (λ body. numbered_size (fields body)) (before_end (codes "t") t)
+
+-- a reply, or a new size, by the first of these rules that fits
+unfoldable pub reply : List ℕ → Option ExtendedEvent
+reply t = first_some (cursor_position t ∷ keyboard_flags t ∷ resize t ∷ [])
+
+-- the codes of mouse reports but SGR's are written this much larger
+abbrev pub offset : ℕ
+offset = 32
+
+-- the largest of these numbers
+abbrev pub largest_code : ℕ
+largest_code = 127
+
+-- the mouse report of three numbers, if all are there
+abbrev pub mouse_at : Option ℕ → Option ℕ → Option ℕ → Option MouseEvent
+mouse_at (Some b) (Some x) (Some y) = Some (mouse_event (b - offset) x y final_press)
+mouse_at _ _ _ = None
+
+abbrev pub mouse_of_fields : List (List ℕ) → Option MouseEvent
+mouse_of_fields (b ∷ x ∷ y ∷ []) =
+    mouse_at (number_within few_digits offset largest_code b) (short_number x) (short_number y)
+mouse_of_fields _ = None
+
+-- b ; x ; y M: a mouse report as urxvt writes it
+unfoldable pub urxvt_mouse : List ℕ → Option MouseEvent
+urxvt_mouse t = option_and_then (λ body. mouse_of_fields (fields body)) (before_end (codes "M") t)
+
+-- M and three bytes: a mouse report as X10 writes it, where 32 is added to each number
+unfoldable pub x10_mouse : List ℕ → Option MouseEvent
+x10_mouse (first ∷ b ∷ x ∷ y ∷ []) =
+    if (first == 77) && nat_le offset b && nat_le b largest_code && nat_le offset x && nat_le offset y
+    then Some (mouse_event (b - offset) (x - offset) (y - offset) final_press)
+    else None
+x10_mouse _ = None
+
+-- a mouse report by the first of these rules that fits
+unfoldable pub mouse_report : List ℕ → Option MouseEvent
+mouse_report t = first_some (urxvt_mouse t ∷ x10_mouse t ∷ [])

@@ -1,0 +1,140 @@
+// The fields of a key report.
+ghost use Rattle.std.specs.Prelude.{◌≡◌, IfOk, is_some};
+ghost use Rattle.termwiz_extended_events.specs.KeyReports.{modifiers_of, kind_of, manner_of, optional_scalar, codes_of, text_of};
+
+use crate::fields::Fields;
+use crate::numbers::{number, scalar};
+use crate::types::{KeyEventKind, KeyText};
+use std::alloc::{AllocError, Global};
+
+// Which modifiers are held, as kitty's bits, and what happened to the key.
+#[derive(Clone, Copy)]
+pub(crate) struct Manner {
+    pub modifiers: u8,
+    pub kind: KeyEventKind,
+}
+
+// The character of a key, what it types with Shift, and what the key at its place types on the standard layout.
+#[derive(Clone, Copy)]
+pub(crate) struct Codes {
+    pub own: char,
+    pub shifted: Option<char>,
+    pub base: Option<char>,
+}
+
+// The bits of the modifiers: their number is one more, and 1 where it is missing.
+#[tactic(auto, unfolding(crate::specs::KeyReports::modifiers_of))]
+fn modifiers_of(digits: &[u8]) -> Option<u8>
+    ensures { result ≡ modifiers_of digits.now }
+{
+    if digits.is_empty() {
+        return Some(0);
+    }
+    let one_more = number(digits, 1, 256)?;
+    Some((one_more - 1) as u8)
+}
+
+// What happened to the key.
+#[tactic(auto, unfolding(crate::specs::KeyReports::kind_of))]
+fn kind_of(digits: &[u8]) -> Option<KeyEventKind>
+    ensures { result ≡ kind_of digits.now }
+{
+    match number(digits, 1, 3)? {
+        1 => Some(KeyEventKind::Press),
+        2 => Some(KeyEventKind::Repeat),
+        _ => Some(KeyEventKind::Release),
+    }
+}
+
+// The manner that a field says.
+#[tactic(auto, unfolding(crate::specs::KeyReports::manner_of))]
+pub(crate) fn manner_of(field: &[u8]) -> Option<Manner>
+    ensures { result ≡ manner_of field.now }
+{
+    let mut parts = Fields::new(field, b':');
+    let modifiers = modifiers_of(parts.next()?)?;
+    let kind = match parts.next() {
+        Some(digits) => kind_of(digits)?,
+        None => KeyEventKind::Press,
+    };
+    match parts.next() {
+        Some(_) => None,
+        None => Some(Manner { modifiers, kind }),
+    }
+}
+
+// A character that may be missing.
+#[tactic(auto, unfolding(crate::specs::KeyReports::optional_scalar))]
+fn optional_scalar(digits: &[u8]) -> Option<Option<char>>
+    ensures { result ≡ optional_scalar digits.now }
+{
+    if digits.is_empty() {
+        return Some(None);
+    }
+    Some(Some(scalar(digits)?))
+}
+
+// The codes that a field says.
+#[tactic(auto, unfolding(crate::specs::KeyReports::codes_of))]
+pub(crate) fn codes_of(field: &[u8]) -> Option<Codes>
+    ensures { result ≡ codes_of field.now }
+{
+    let mut parts = Fields::new(field, b':');
+    let own = scalar(parts.next()?)?;
+    let Some(shifted) = parts.next() else {
+        return Some(Codes {
+            own,
+            shifted: None,
+            base: None,
+        });
+    };
+    let Some(base) = parts.next() else {
+        return Some(Codes {
+            own,
+            shifted: Some(scalar(shifted)?),
+            base: None,
+        });
+    };
+    if parts.next().is_some() {
+        return None;
+    }
+    Some(Codes {
+        own,
+        shifted: optional_scalar(shifted)?,
+        base: Some(scalar(base)?),
+    })
+}
+
+// The text that a field says: the numbers of its characters, or nothing.
+#[tactic(auto, unfolding(crate::specs::KeyReports::text_of))]
+pub(crate) fn text_of(alloc: Global, field: &[u8]) -> Result<Option<KeyText>, AllocError>
+    ensures { IfOk result (λ text. text ≡ text_of field.now) }
+{
+    let mut text = String::new(alloc);
+    if field.is_empty() {
+        return Ok(Some(KeyText::new(text)));
+    }
+    for digits in Fields::new(field, b':') {
+        let Some(c) = scalar(digits) else {
+            return Ok(None);
+        };
+        text.push(c)?;
+    }
+    Ok(Some(KeyText::new(text)))
+}
+
+// Whether a field says a text.
+#[tactic(auto, unfolding(crate::specs::KeyReports::text_of))]
+pub(crate) fn is_text(field: &[u8]) -> bool
+    ensures { result ≡ is_some (text_of field.now) }
+{
+    if field.is_empty() {
+        return true;
+    }
+    for digits in Fields::new(field, b':') {
+        if scalar(digits).is_none() {
+            return false;
+        }
+    }
+    true
+}

@@ -1,0 +1,204 @@
+// The sequences that report a key.
+ghost use Rattle.std.specs.Prelude.{◌≡◌, IfOk, is_some};
+ghost use Rattle.termwiz_extended_events.specs.KeyReports as rules;
+ghost use Rattle.termwiz_extended_events.specs.KeyReports.{report_of, report_behind};
+ghost use Rattle.termwiz_grammar.specs.Table.{key_of_code};
+ghost use Rattle.termwiz_extended_events.specs.FieldsLeft.{fields_left};
+
+use crate::fields::{Fields, before_end};
+use crate::key_fields::{Manner, codes_of, is_text, manner_of, text_of};
+use crate::numbers::{number, scalar};
+use crate::reported_keys;
+use crate::reported_keys::LAST_FUNCTIONAL;
+use crate::types::{KeyEventKind, KeyReport, KeyText, ReportedKey};
+use std::alloc::{AllocError, Global};
+use termwiz_keys::types::KeyCode;
+
+// A press with no modifier.
+const PRESSED: Manner = Manner {
+    modifiers: 0,
+    kind: KeyEventKind::Press,
+};
+
+// The report of a key that says no more than its manner.
+pub(crate) fn report_of(alloc: Global, key: ReportedKey, manner: Manner) -> KeyReport
+    ensures { result ≡ report_of key manner }
+{
+    KeyReport {
+        key,
+        modifiers: manner.modifiers,
+        kind: manner.kind,
+        shifted: None,
+        base: None,
+        text: KeyText::new(String::new(alloc)),
+    }
+}
+
+// c : shifted : base ; modifiers : kind ; text u, of which only c must be there: the key of c.
+#[tactic(auto, unfolding(crate::specs::KeyReports::character_key))]
+fn character_key(alloc: Global, t: &[u8]) -> Result<Option<KeyReport>, AllocError>
+    ensures { IfOk result (λ report. report ≡ rules.character_key t.now) }
+{
+    let Some(body) = before_end(t, b"u") else {
+        return Ok(None);
+    };
+    let mut fields = Fields::new(body, b';');
+    let Some(codes) = fields.next().and_then(codes_of) else {
+        return Ok(None);
+    };
+    let Some(manner) = fields.next().map_or(Some(PRESSED), manner_of) else {
+        return Ok(None);
+    };
+    let Some(text) = fields.next().map_or(
+        Ok(Some(KeyText::new(String::new(alloc)))),
+        |field| text_of(alloc, field),
+    )?
+    else {
+        return Ok(None);
+    };
+    if fields.next().is_some() {
+        return Ok(None);
+    }
+    Ok(Some(KeyReport {
+        key: reported_keys::key_of(codes.own),
+        modifiers: manner.modifiers,
+        kind: manner.kind,
+        shifted: codes.shifted,
+        base: codes.base,
+        text,
+    }))
+}
+
+// Whether a text is such a report.
+#[tactic(auto, unfolding(crate::specs::KeyReports::character_key))]
+fn is_character_key(t: &[u8]) -> bool
+    ensures { result ≡ is_some (rules.character_key t.now) }
+{
+    let Some(body) = before_end(t, b"u") else {
+        return false;
+    };
+    let mut fields = Fields::new(body, b';');
+    if fields.next().and_then(codes_of).is_none() {
+        return false;
+    }
+    if fields.next().map_or(Some(PRESSED), manner_of).is_none() {
+        return false;
+    }
+    fields.next().map_or(true, is_text) && fields.next().is_none()
+}
+
+// The report of a key in the manner that the fields behind the first one say.
+fn report_behind(alloc: Global, key: ReportedKey, mut fields: Fields) -> Option<KeyReport>
+    ensures { result ≡ report_behind key (fields_left fields.entry) }
+{
+    let manner = fields.next().map_or(Some(PRESSED), manner_of)?;
+    match fields.next() {
+        Some(_) => None,
+        None => Some(report_of(alloc, key, manner)),
+    }
+}
+
+// 1 ; modifiers : kind and a letter, of which only the letter must be there: a key by its letter.
+#[tactic(auto, unfolding(crate::specs::KeyReports::lettered_key))]
+fn lettered_key(alloc: Global, t: &[u8]) -> Option<KeyReport>
+    ensures { result ≡ rules.lettered_key t.now }
+{
+    let key = reported_keys::lettered_key(*t.last()?)?;
+    let mut fields = Fields::new(&t[..t.len() - 1], b';');
+    match fields.next()? {
+        [] | [b'1'] => report_behind(alloc, ReportedKey::Named(key), fields),
+        _ => None,
+    }
+}
+
+// n ; modifiers : kind ~, of which only n must be there: a key by its number.
+#[tactic(auto, unfolding(crate::specs::KeyReports::numbered_key))]
+fn numbered_key(alloc: Global, t: &[u8]) -> Option<KeyReport>
+    ensures { result ≡ rules.numbered_key t.now }
+{
+    let mut fields = Fields::new(before_end(t, b"~")?, b';');
+    let key = reported_keys::tilde_key(number(fields.next()?, 0, LAST_FUNCTIONAL)?)?;
+    report_behind(alloc, key, fields)
+}
+
+// The key of a character's number as xterm reports it, as in the sequence table.
+fn key_of_code(c: char) -> KeyCode
+    ensures { result ≡ key_of_code c }
+{
+    match c {
+        '\x08' | '\x7f' => KeyCode::Backspace,
+        '\x1b' => KeyCode::Escape,
+        '\t' => KeyCode::Tab,
+        '\n' | '\r' => KeyCode::Enter,
+        _ => KeyCode::Char(c),
+    }
+}
+
+// 27 ; m ; c ~: the key of c, as xterm's modifyOtherKeys reports it.
+#[tactic(auto, unfolding(crate::specs::KeyReports::other_key))]
+fn other_key(alloc: Global, t: &[u8]) -> Option<KeyReport>
+    ensures { result ≡ rules.other_key t.now }
+{
+    let mut fields = Fields::new(before_end(t, b"~")?, b';');
+    if fields.next()? != b"27".as_slice() {
+        return None;
+    }
+    let one_more = number(fields.next()?, 1, 8)?;
+    let c = scalar(fields.next()?)?;
+    if fields.next().is_some() {
+        return None;
+    }
+    let manner = Manner {
+        modifiers: (one_more - 1) as u8,
+        kind: KeyEventKind::Press,
+    };
+    Some(report_of(alloc, ReportedKey::Named(key_of_code(c)), manner))
+}
+
+// The report of a key by the first of these rules that fits.
+#[tactic(auto, unfolding(crate::specs::KeyReports::key_report))]
+pub(crate) fn key_report(alloc: Global, t: &[u8]) -> Result<Option<KeyReport>, AllocError>
+    ensures { IfOk result (λ report. report ≡ rules.key_report t.now) }
+{
+    let report = character_key(alloc, t)?
+        .or_else(|| lettered_key(alloc, t))
+        .or_else(|| numbered_key(alloc, t))
+        .or_else(|| other_key(alloc, t));
+    Ok(report)
+}
+
+// Whether one of these rules fits. It asks for no memory.
+#[tactic(auto, unfolding(crate::specs::KeyReports::key_report))]
+pub(crate) fn is_key_report(alloc: Global, t: &[u8]) -> bool
+    ensures { result ≡ is_some (rules.key_report t.now) }
+{
+    is_character_key(t)
+        || lettered_key(alloc, t).is_some()
+        || numbered_key(alloc, t).is_some()
+        || other_key(alloc, t).is_some()
+}
+
+// [ and a letter from A to E: F1 to F5, as the Linux console reports them.
+#[tactic(auto, unfolding(crate::specs::KeyReports::console_key))]
+pub(crate) fn console_key(alloc: Global, t: &[u8]) -> Option<KeyReport>
+    ensures { result ≡ rules.console_key t.now }
+{
+    match t {
+        [b'[', letter] => {
+            let key = reported_keys::console_key(*letter)?;
+            Some(report_of(alloc, ReportedKey::Named(key), PRESSED))
+        }
+        _ => None,
+    }
+}
+
+// A letter behind ESC O: a key of the keypad in application mode.
+#[tactic(auto, unfolding(crate::specs::KeyReports::keypad_key))]
+pub(crate) fn keypad_key(alloc: Global, t: &[u8]) -> Option<KeyReport>
+    ensures { result ≡ rules.keypad_key t.now }
+{
+    match t {
+        [letter] => Some(report_of(alloc, reported_keys::keypad_key(*letter)?, PRESSED)),
+        _ => None,
+    }
+}

@@ -1,0 +1,205 @@
+// What a sequence means that the port doesn't know.
+ghost use Rattle.std.specs.Prelude.{◌≡◌, ◌↔◌, IfOk, IsSomeAnd, IsTrue};
+ghost use Rattle.termwiz_extended_events.specs.Meanings as meaning;
+ghost use Rattle.termwiz_extended_events.specs.Meanings.{reported, command_text, string_text, event_after, IsKeyOrPosition};
+
+use crate::fields::before_end;
+use crate::key_reports::{console_key, is_key_report, key_report, keypad_key};
+use crate::replies::{focus, mouse_report, reply};
+use crate::types::{ExtendedEvent, SequenceBytes};
+use std::alloc::{AllocError, Global};
+use termwiz_keys::types::InputEvent;
+
+// What ends a string: ESC and a backslash.
+const STRING_END: &[u8] = b"\x1b\\";
+
+// What may end a command instead: the byte BEL.
+const BELL: &[u8] = b"\x07";
+
+// The event of what follows ESC [, by the first rule that fits.
+#[tactic(auto, unfolding(crate::specs::Meanings::reported))]
+fn reported(alloc: Global, t: &[u8]) -> Result<Option<ExtendedEvent>, AllocError>
+    ensures { IfOk result (λ event. event ≡ reported t.now) }
+{
+    if let Some(event) = focus(t) {
+        return Ok(Some(event));
+    }
+    if let Some(report) = key_report(alloc, t)? {
+        return Ok(Some(ExtendedEvent::Key(report)));
+    }
+    if let Some(event) = reply(t) {
+        return Ok(Some(event));
+    }
+    if let Some(report) = mouse_report(t) {
+        return Ok(Some(ExtendedEvent::Input(InputEvent::Mouse(report))));
+    }
+    Ok(console_key(alloc, t).map(ExtendedEvent::Key))
+}
+
+// The bytes of a sequence.
+fn bytes(alloc: Global, text: &[u8]) -> Result<SequenceBytes, AllocError>
+    ensures { IfOk result (λ bytes. bytes ≡ text.now) }
+{
+    Ok(SequenceBytes::new(text.to_vec(alloc)?))
+}
+
+// A string without its end.
+#[tactic(auto, unfolding(crate::specs::Meanings::string_text))]
+fn string_text(t: &[u8]) -> &[u8]
+    ensures { result.now ≡ string_text t.now }
+{
+    before_end(t, STRING_END).unwrap_or(t)
+}
+
+// A command without its end.
+#[tactic(auto, unfolding(crate::specs::Meanings::command_text))]
+fn command_text(t: &[u8]) -> &[u8]
+    ensures { result.now ≡ command_text t.now }
+{
+    before_end(t, STRING_END)
+        .or(before_end(t, BELL))
+        .unwrap_or(t)
+}
+
+// The event of what follows ESC and a byte.
+#[tactic(auto, unfolding(crate::specs::Meanings::event_after))]
+fn event_after(alloc: Global, byte: u8, t: &[u8]) -> Result<ExtendedEvent, AllocError>
+    ensures { IfOk result (λ event. event ≡ event_after byte t.now) }
+{
+    match byte {
+        b'[' => {
+            if let Some(event) = reported(alloc, t)? {
+                return Ok(event);
+            }
+        }
+        b'O' => {
+            if let Some(report) = keypad_key(alloc, t) {
+                return Ok(ExtendedEvent::Key(report));
+            }
+        }
+        b']' => return Ok(ExtendedEvent::Osc(bytes(alloc, command_text(t))?)),
+        b'P' => return Ok(ExtendedEvent::Dcs(bytes(alloc, string_text(t))?)),
+        b'_' => return Ok(ExtendedEvent::Apc(bytes(alloc, string_text(t))?)),
+        _ => {}
+    }
+    Ok(ExtendedEvent::Csi(bytes(alloc, t)?))
+}
+
+/// The event of one whole sequence, which begins with ESC.
+///
+/// It is the event of the first rule that fits. What no rule reads is a control sequence, `Csi`, of the bytes behind the first
+/// two. Only the bytes of `Csi`, `Osc`, `Dcs` and `Apc` and the text of a key report take memory, so only these can fail.
+#[tactic(auto, unfolding(crate::specs::Meanings::event_of))]
+pub fn event_of(alloc: Global, text: &[u8]) -> Result<ExtendedEvent, AllocError>
+    ensures { IfOk result (λ event. event ≡ meaning.event_of text.now) }
+{
+    match text {
+        [0x1b, byte, t @ ..] => event_after(alloc, *byte, t),
+        [_, _, t @ ..] => Ok(ExtendedEvent::Csi(bytes(alloc, t)?)),
+        _ => Ok(ExtendedEvent::Csi(bytes(alloc, &[])?)),
+    }
+}
+
+// Whether an event is a report of a key, or of the position of the cursor.
+fn is_of_key_or_position(event: &ExtendedEvent) -> bool
+    ensures { IsTrue result ↔ IsKeyOrPosition event.now }
+{
+    match event {
+        ExtendedEvent::Key(_) => true,
+        ExtendedEvent::CursorPosition { .. } => true,
+        _ => false,
+    }
+}
+
+// Whether what follows ESC [ reports a key, or the position of the cursor.
+#[tactic(auto, unfolding(crate::specs::Meanings::reported))]
+fn is_report_of_key_or_position(alloc: Global, t: &[u8]) -> bool
+    ensures { IsTrue result ↔ IsSomeAnd (reported t.now) IsKeyOrPosition }
+{
+    if let Some(event) = focus(t) {
+        return is_of_key_or_position(&event);
+    }
+    if is_key_report(alloc, t) {
+        return true;
+    }
+    if let Some(event) = reply(t) {
+        return is_of_key_or_position(&event);
+    }
+    mouse_report(t).is_none() && console_key(alloc, t).is_some()
+}
+
+/// Whether a whole sequence reports a key, or the position of the cursor. It asks for no memory.
+#[tactic(auto, unfolding(crate::specs::Meanings::event_of, crate::specs::Meanings::event_after))]
+pub fn is_key_or_position(alloc: Global, text: &[u8]) -> bool
+    ensures { IsTrue result ↔ IsKeyOrPosition (meaning.event_of text.now) }
+{
+    match text {
+        [0x1b, b'[', t @ ..] => is_report_of_key_or_position(alloc, t),
+        [0x1b, b'O', t @ ..] => keypad_key(alloc, t).is_some(),
+        _ => false,
+    }
+}
+
+#[cfg(test)]
+mod tests {
+    use super::event_of;
+    use crate::types::{ExtendedEvent, KeyEventKind, ReportedKey};
+    use std::alloc::AllocError;
+    use termwiz_keys::types::{InputEvent, KeyCode};
+
+    #[test]
+    fn reads_replies(rt: HostRuntime) -> Result<(), AllocError> {
+        let alloc = rt.alloc();
+        let position = ExtendedEvent::CursorPosition {
+            row: 24,
+            column: 80,
+        };
+        assert!(rt; event_of(alloc, b"\x1b[24;80R")? == position);
+        let size = ExtendedEvent::Resize {
+            rows: 24,
+            columns: 80,
+            height: 480,
+            width: 800,
+        };
+        assert!(rt; event_of(alloc, b"\x1b[48;24;80;480;800t")? == size);
+        assert!(rt; event_of(alloc, b"\x1b[?5u")? == ExtendedEvent::KeyboardFlags(5));
+        assert!(rt; event_of(alloc, b"\x1b[O")? == ExtendedEvent::FocusLost);
+        Ok(())
+    }
+
+    #[test]
+    fn reads_keys(rt: HostRuntime) -> Result<(), AllocError> {
+        let alloc = rt.alloc();
+        let ExtendedEvent::Key(report) = event_of(alloc, b"\x1b[97:65:99;2:3;65u")? else {
+            panic!(rt; "no key");
+        };
+        assert!(rt; report.key == ReportedKey::Named(KeyCode::Char('a')));
+        assert!(rt; report.modifiers == 1 && report.kind == KeyEventKind::Release);
+        assert!(rt; report.shifted == Some('A') && report.base == Some('c'));
+        assert!(rt; report.text.as_str() == "A");
+        let ExtendedEvent::Key(report) = event_of(alloc, b"\x1b[1;9A")? else {
+            panic!(rt; "no key");
+        };
+        assert!(rt; report.key == ReportedKey::Named(KeyCode::UpArrow) && report.modifiers == 8);
+        Ok(())
+    }
+
+    #[test]
+    fn reads_other_sequences(rt: HostRuntime) -> Result<(), AllocError> {
+        let alloc = rt.alloc();
+        let ExtendedEvent::Input(InputEvent::Mouse(report)) = event_of(alloc, b"\x1b[M0\x60\x70")?
+        else {
+            panic!(rt; "no mouse report");
+        };
+        assert!(rt; report.x == 64 && report.y == 80);
+        let ExtendedEvent::Osc(bytes) = event_of(alloc, b"\x1b]0;a\x07")? else {
+            panic!(rt; "no command");
+        };
+        assert!(rt; bytes.as_slice() == b"0;a".as_slice());
+        let ExtendedEvent::Csi(bytes) = event_of(alloc, b"\x1b[2D")? else {
+            panic!(rt; "no control sequence");
+        };
+        assert!(rt; bytes.as_slice() == b"2D".as_slice());
+        Ok(())
+    }
+}

@@ -1,0 +1,184 @@
+//! The events of the extended parser.
+ghost use Rattle.std.specs.Prelude.{◌≡◌, ◌==◌, string_bytes};
+ghost use Rattle.std.specs.Cmp.Rules.{comparing};
+ghost use Rattle.std.specs.Cmp.Lexicographic.{pointwise};
+ghost use Rattle.std.proofs.Common.{rules};
+
+use std::marker::Model;
+use termwiz_keys::types::{InputEvent, KeyCode};
+
+/// Which sequences of the table keep the key that the port reads from them.
+#[derive(Clone, Copy, PartialEq, Eq, Debug)]
+pub enum Rows {
+    /// All rows keep their keys. For programs that leave Kitty's keyboard protocol off.
+    Port,
+    /// Rows that report a key, or the position of the cursor, are read as these reports. For programs that turn Kitty's
+    /// keyboard protocol on, so that a press and its release name the same key.
+    Kitty,
+}
+
+/// What happened to a key.
+#[derive(Clone, Copy, PartialEq, Eq, Debug)]
+pub enum KeyEventKind {
+    /// It was pressed.
+    Press,
+    /// It was held down so long that it repeats.
+    Repeat,
+    /// It was released.
+    Release,
+}
+
+/// The key of a report.
+#[derive(Clone, Copy, PartialEq, Eq, Debug)]
+pub enum ReportedKey {
+    /// A key that has a name or types a character.
+    Named(KeyCode),
+    /// A key for which [`KeyCode`] has no name, by its number in Kitty's table of functional keys.
+    Functional(u32),
+}
+
+/// The text that a key types. Contracts see it as its bytes.
+#[derive(Debug, Drop)]
+pub struct KeyText {
+    inner: String,
+}
+
+impl Model for KeyText {
+    ghost use Rattle.std.specs.Prelude.{List, ℕ, string_bytes};
+
+    ghost Value = { List ℕ };
+
+    ghost view = { λ t. string_bytes t.inner };
+}
+
+impl PartialEq for KeyText {
+    ghost eq = { pointwise ◌==◌ };
+
+    ghost laws = { Prim.search (comparing, rules) };
+
+    fn eq(&self, other: &KeyText) -> bool {
+        self.inner == other.inner
+    }
+}
+
+impl Eq for KeyText {
+    ghost laws = { Prim.search (comparing, rules) };
+}
+
+impl KeyText {
+    /// Wraps a text, without copying it.
+    pub fn new(text: String) -> KeyText
+        ensures { result ≡ string_bytes text }
+    {
+        KeyText { inner: text }
+    }
+
+    /// Returns the text, borrowed.
+    pub fn as_str(&self) -> &str
+        ensures { result.now ≡ self.now }
+    {
+        self.inner.as_str()
+    }
+}
+
+/// The bytes of a sequence between its introducer and its end. Contracts see them as a list.
+#[derive(Debug, Drop)]
+pub struct SequenceBytes {
+    inner: Vec<u8>,
+}
+
+impl Model for SequenceBytes {
+    ghost use Rattle.std.specs.Prelude.{List, ℕ};
+
+    ghost Value = { List ℕ };
+
+    ghost view = { λ b. b.inner.items };
+}
+
+impl PartialEq for SequenceBytes {
+    ghost eq = { pointwise ◌==◌ };
+
+    ghost laws = { Prim.search (comparing, rules) };
+
+    fn eq(&self, other: &SequenceBytes) -> bool {
+        self.inner == other.inner
+    }
+}
+
+impl Eq for SequenceBytes {
+    ghost laws = { Prim.search (comparing, rules) };
+}
+
+impl SequenceBytes {
+    /// Wraps bytes, without copying them.
+    pub fn new(bytes: Vec<u8>) -> SequenceBytes
+        ensures { result ≡ bytes.items }
+    {
+        SequenceBytes { inner: bytes }
+    }
+
+    /// Returns the bytes, borrowed.
+    pub fn as_slice(&self) -> &[u8]
+        ensures { result.now ≡ self.now }
+    {
+        self.inner.as_slice()
+    }
+}
+
+/// A key that was pressed, held or released, with all that Kitty's keyboard protocol reports of it.
+#[derive(PartialEq, Eq, Debug, Drop)]
+pub struct KeyReport {
+    /// The key.
+    pub key: ReportedKey,
+    /// The modifiers as Kitty's bits: 1 SHIFT, 2 ALT, 4 CTRL, 8 SUPER, 16 HYPER, 32 META, 64 CAPS LOCK, 128 NUM LOCK.
+    pub modifiers: u8,
+    /// Whether it was pressed, held or released.
+    pub kind: KeyEventKind,
+    /// What the key types with Shift, if the terminal reported it.
+    pub shifted: Option<char>,
+    /// What the key at this place types on the standard layout (PC-101), if the terminal reported it.
+    pub base: Option<char>,
+    /// The text that the key types, if the terminal reported it; otherwise empty.
+    pub text: KeyText,
+}
+
+/// Something that happened at the terminal, or that it replied.
+#[derive(PartialEq, Eq, Debug, Drop)]
+pub enum ExtendedEvent {
+    /// An event of the port: a key, a mouse report or a paste.
+    Input(InputEvent),
+    /// A key report.
+    Key(KeyReport),
+    /// The terminal's window gained the focus (mode 1004).
+    FocusGained,
+    /// The terminal's window lost the focus.
+    FocusLost,
+    /// The reply to a question for the cursor's position (DSR 6), as it was sent: the first row and the first column are 1.
+    CursorPosition {
+        /// The row.
+        row: u16,
+        /// The column.
+        column: u16,
+    },
+    /// The terminal has a new size (mode 2048).
+    Resize {
+        /// The number of rows.
+        rows: u16,
+        /// The number of columns.
+        columns: u16,
+        /// The height in pixels.
+        height: u16,
+        /// The width in pixels.
+        width: u16,
+    },
+    /// The reply to a question for the flags of Kitty's keyboard protocol.
+    KeyboardFlags(u8),
+    /// Any other control sequence: its bytes after ESC `[`.
+    Csi(SequenceBytes),
+    /// An operating system command: its bytes after ESC `]`, without its end.
+    Osc(SequenceBytes),
+    /// A device control string: its bytes after ESC `P`, without its end.
+    Dcs(SequenceBytes),
+    /// An application program command: its bytes after ESC `_`, without its end.
+    Apc(SequenceBytes),
+}

@@ -1,0 +1,4 @@
+pub mod BeforeEscape
+pub mod ExtendedCuts
+pub mod SequencesStand
+pub mod SameAsPort

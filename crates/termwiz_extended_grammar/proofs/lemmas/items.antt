@@ -1,0 +1,2 @@
+pub mod ExtendedItems
+pub mod ExtendedRests

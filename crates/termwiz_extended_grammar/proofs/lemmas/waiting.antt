@@ -1,0 +1,2 @@
+pub mod FlushesMatter
+pub mod FlushesLeave

@@ -1,0 +1,97 @@
+-- The laws of the extended grammar. Each holds for both readings of the rows.
+use Rattle.std.specs.Prelude.{◌≡◌, ◌≢◌, ℕ, ◌+◌, ◌≤◌, ◌⊎◌, Bool, true, false, List, [], ◌∷◌, ◌++◌, length, map}
+use Rattle.termwiz_keymap.specs.Bytes.{Begins, Occurs}
+use Rattle.termwiz_keys.specs.Introducers.{ESC, START, END}
+use Rattle.termwiz_keys.specs.Keys.{escape}
+use Rattle.termwiz_keys.specs.declared.types.InputEvent.{InputEvent}
+use Rattle.termwiz_grammar.specs.Sequences.Meaning.{Row}
+use Rattle.termwiz_grammar.specs.Grammar as port
+use Rattle.termwiz_grammar.specs.Grammar.{IsLongest}
+use Rattle.termwiz_grammar.specs.Laws.{IsHeldEscape}
+use Rattle.termwiz_extended_events.specs.declared.types.ExtendedEvent.{ExtendedEvent}
+use Rattle.termwiz_extended_events.specs.declared.types.ExtendedEvent.TheVariants.{Input}
+use Rattle.termwiz_extended_events.specs.declared.types.Rows.{Rows}
+use Rattle.termwiz_extended_grammar.specs.Forms.{IsStringIntroducer, most_control, most_string}
+use Rattle.termwiz_extended_grammar.specs.ExtraSequences.{IsExtra, StartsWithExtra}
+use Rattle.termwiz_extended_grammar.specs.ExtendedGrammar.{BeginsKnown, IsOpen, IsRest, Steps, Means}
+
+-- How the bytes are cut doesn't matter.
+abbrev pub CutIndependent : Type 0
+CutIndependent = (rows : Rows) (T S W1 W2 : List ℕ) (E1 E2 : List ExtendedEvent) (f : Bool)
+    → Means rows T true E1 W1 → Means rows (W1 ++ S) f E2 W2 → Means rows (T ++ S) f (E1 ++ E2) W2
+
+-- Going on after a refusal gives the events of the whole.
+abbrev pub Resumes : Type 0
+Resumes = (rows : Rows) (T S W1 W2 : List ℕ) (E1 E2 : List ExtendedEvent) (f : Bool)
+    → (Steps rows T true E1 W1 → Means rows (W1 ++ S) f E2 W2 → Means rows (T ++ S) f (E1 ++ E2) W2)
+    × (Steps rows T f E1 W1 → Means rows W1 f E2 W2 → Means rows T f (E1 ++ E2) W2)
+
+-- Each text means, under each flag, one list of events and one rest.
+abbrev pub OneMeaning : Type 0
+OneMeaning = (rows : Rows) (T : List ℕ) (f : Bool) → (E : List ExtendedEvent) × (W : List ℕ) × Means rows T f E W
+    × ((D : List ExtendedEvent) (V : List ℕ) → Means rows T f D V → (D ≡ E) × (V ≡ W))
+
+-- Each event takes at least one byte, so there are no more events than bytes.
+abbrev pub FewEvents : Type 0
+FewEvents = (rows : Rows) (T W : List ℕ) (E : List ExtendedEvent) (f : Bool)
+    → Steps rows T f E W → length E + length W ≤ length T
+
+-- Items after items are items of the whole.
+abbrev pub StepsJoin : Type 0
+StepsJoin = (rows : Rows) (T V W : List ℕ) (E D : List ExtendedEvent) (f : Bool)
+    → Steps rows T f E V → Steps rows V f D W → Steps rows T f (E ++ D) W
+
+-- The empty text waits.
+abbrev pub EmptyIsRest : Type 0
+EmptyIsRest = (rows : Rows) (f : Bool) → IsRest rows [] f
+
+-- it begins as a string does: ESC and `]`, P or _
+abbrev pub BeginsString : List ℕ → Type 0
+BeginsString u = (introducer : ℕ) × (rest : List ℕ) × IsStringIntroducer introducer × (u ≡ ESC ++ introducer ∷ rest)
+
+-- shorter than the longest control sequence, or a string that is shorter than the longest string
+abbrev pub IsShort : List ℕ → Type 0
+IsShort u = (length u + 1 ≤ most_control) ⊎ ((length u + 1 ≤ most_string) × BeginsString u)
+
+-- What can wait.
+pub data Waits (rows : Rows) (u : List ℕ) (more : Bool) : Type 0 where
+  nothing : u ≡ [] → Waits rows u more
+  open_paste : (body : List ℕ) → u ≡ START ++ body → ¬ Occurs END body → Waits rows u more
+  undecided : (held bytes : List ℕ) → IsHeldEscape held → u ≡ held ++ bytes → bytes ≢ [] → BeginsKnown rows bytes
+      → IsShort bytes → more ≡ true → Waits rows u more
+
+-- Every rest waits for one of these.
+abbrev pub WaitingShape : Type 0
+WaitingShape = (rows : Rows) (u : List ℕ) (more : Bool) → IsRest rows u more → Waits rows u more
+
+-- What a text and c mean together isn't what they mean if the text is flushed before c comes.
+abbrev pub FlushMatters : Rows → List ℕ → List ℕ → Type 0
+FlushMatters rows text c =
+    (E E1 E2 : List ExtendedEvent) × (W W1 W2 : List ℕ)
+    × Means rows (text ++ c) false E W × Means rows text false E1 W1 × Means rows (W1 ++ c) false E2 W2 × (E ≢ E1 ++ E2)
+
+-- What properly begins a sequence or a character, after at most one Escape, may go on so that a flush before changes the events.
+abbrev pub Undecided : Type 0
+Undecided = (rows : Rows) (held p : List ℕ) → IsHeldEscape held → p ≢ [] → BeginsKnown rows p
+    → (c : List ℕ) × FlushMatters rows (held ++ p) c
+
+-- A complete sequence is its event, whatever stands before it, and that is read as a flush reads it.
+abbrev pub SequenceStands : Type 0
+SequenceStands = (rows : Rows) (T x S W : List ℕ) (E D : List ExtendedEvent) (e : ExtendedEvent) (f : Bool)
+    → Means rows T false E [] → IsExtra rows x e → Means rows S f D W → Means rows (T ++ (x ++ S)) f (E ++ e ∷ D) W
+
+-- The port looks for a head at u while it reads T: at each item's place, at that of the rest, and after an ESC that is the head.
+pub data LooksAt (T : List ℕ) (f : Bool) (u : List ℕ) : Type 0 where
+  at_item : (E : List InputEvent) → port.Steps T f E u → LooksAt T f u
+  after_escape : (E : List InputEvent) (before : List ℕ) → port.Steps T f E before → IsLongest before ESC (Row escape)
+      → before ≡ ESC ++ u → LooksAt T f u
+
+-- no extra sequence begins u, and if u is open, it is open to the port
+pub record HasNoExtra (rows : Rows) (u : List ℕ) (f : Bool) : Type 0 where
+  pub none : ¬ StartsWithExtra rows u
+  pub open_to_port : IsOpen rows u f → port.IsOpen u f
+
+-- Where no extra sequence is met, a text means what it means to the port.
+abbrev pub Conservative : Type 0
+Conservative = (rows : Rows) (T W : List ℕ) (E : List InputEvent) (f : Bool)
+    → ((u : List ℕ) → LooksAt T f u → HasNoExtra rows u f) → port.Means T f E W → Means rows T f (map (λ e. Input e) E) W

@@ -1,0 +1,4 @@
+pub mod ExtendedGrammar
+pub mod ExtendedLaws
+pub mod ExtraSequences
+pub mod Forms

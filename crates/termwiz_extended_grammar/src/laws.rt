@@ -1,0 +1,64 @@
+//! Laws of the extended grammar, each the contract of a function without effect. Each holds for both readings of the rows.
+//!
+//! They speak of the definitions alone. That the parser obeys the definitions is said by its own contracts.
+ghost use Rattle.termwiz_extended_grammar.specs.ExtendedLaws.{Conservative, CutIndependent, EmptyIsRest, FewEvents, OneMeaning, Resumes, SequenceStands, StepsJoin, Undecided, WaitingShape};
+
+/// Each text means, under each flag, exactly one list of events and one rest.
+pub fn one_meaning()
+    ensures { OneMeaning }
+{}
+
+/// A text may be read in parts, all but the last with more to come: if T with more to come gives the events E1 and the rest
+/// W1, and W1 followed by S gives E2 and W2 under either flag, then T followed by S gives E1 followed by E2, and W2, under
+/// that flag.
+pub fn cut_independent()
+    ensures { CutIndependent }
+{}
+
+/// Reading may stop between any two items and go on later: with more bytes under either flag if it stopped with more to
+/// come, or without more bytes under the same flag. The events are those of the whole text.
+pub fn resumes()
+    ensures { Resumes }
+{}
+
+/// Items that are read one after another are items of the whole text.
+pub fn steps_join()
+    ensures { StepsJoin }
+{}
+
+/// There are no more events than bytes, also where reading stops between two items: the events and the bytes that are left
+/// are together at most as many as the bytes of the text.
+pub fn few_events()
+    ensures { FewEvents }
+{}
+
+/// The empty text gives no event, under either flag.
+pub fn empty_is_rest()
+    ensures { EmptyIsRest }
+{}
+
+/// What waits is one of three: nothing; an open paste; or, if more may come, bytes that properly begin a sequence or a character, after
+/// at most one Escape. These are at most 255, or 65535 in a string.
+pub fn waiting_shape()
+    ensures { WaitingShape }
+{}
+
+/// What waits as the proper beginning of a sequence or of a character, alone or after one Escape, isn't decided yet: for some
+/// bytes that may follow it, a flush before them changes the events.
+pub fn undecided()
+    ensures { Undecided }
+{}
+
+/// A complete extra sequence is its event, however the text around it is cut. What stands before it is read as a flush reads it, and what
+/// comes after it by itself, if a flush leaves nothing of what stands before it. So no byte of the sequence becomes a key, and nothing
+/// before it is lost.
+pub fn sequence_stands()
+    ensures { SequenceStands }
+{}
+
+/// A text in which the port meets no extra sequence means what it means to the port, event for event, and the same bytes stay buffered.
+/// The port meets one if it begins at an item, at the rest or after the ESC of an item or the rest, or if it properly begins there and
+/// the port wouldn't go on reading.
+pub fn conservative()
+    ensures { Conservative }
+{}

@@ -1,0 +1,25 @@
+use Rattle.std.proofs.Common.{◌∷◌, [], drop, refl, sym, ap, subst}
+use Rattle.termwiz_keys.specs.Keys.{escape}
+use Rattle.termwiz_keys.specs.declared.types.InputEvent.TheVariants.{Key}
+use Rattle.termwiz_extended_events.specs.declared.types.ExtendedEvent.TheVariants.{Input}
+use Rattle.termwiz_extended_grammar.specs.ExtendedGrammar.{Steps}
+use Rattle.termwiz_input_extended.specs.Buffered.{Buffered}
+use Rattle.termwiz_input_extended.proofs.lemmas.fronts.EmittedItems.{emits_event, emits_none}
+use Rattle.termwiz_input_extended.proofs.lemmas.fronts.FrontItems.{escape_step}
+use Rattle.termwiz_input_extended.proofs.input.ExtendedParser.emit_front.Goals as goal
+
+pub returns-in-Extra : goal.returns-in-Extra
+returns-in-Extra c = c.next_extra.ensures c.args.maybe_more
+
+pub returns-in-Escape : goal.returns-in-Escape
+returns-in-Escape c = emits_event c.args.self.now _ c.args.maybe_more _
+    (subst (λ e. Steps c.args.self.now.rows c.args.self.now.text c.args.maybe_more (e ∷ []) c.consume.new.self.text)
+    (sym c.escape_key.ensures)
+    (subst (λ t. Steps c.args.self.now.rows c.args.self.now.text c.args.maybe_more (Input (Key escape) ∷ []) t)
+    (sym (ap (λ (b : Buffered). b.text) c.consume.ensures))
+    (escape_step c.args.self.now.rows c.args.self.now.text c.in-Escape.ensures.0 c.args.maybe_more c.in-Escape.ensures.1
+    c.in-Escape.ensures.2)))
+    (ap (λ (b : Buffered). b.rows) c.consume.ensures)
+
+pub returns-in-Incomplete : goal.returns-in-Incomplete
+returns-in-Incomplete c = emits_none c.args.self.now _ c.args.maybe_more c.in-Incomplete.ensures.0 c.self.view_is

@@ -1,0 +1,18 @@
+use Rattle.std.proofs.Common.{◌≡◌, List, ℕ, length}
+use Rattle.termwiz_extended_events.specs.declared.types.ExtendedEvent.{ExtendedEvent}
+use Rattle.termwiz_extended_grammar.specs.ExtendedGrammar.{Steps}
+use Rattle.termwiz_input_extended.specs.EventCallbacks.{MayBeCalledOn, WasCalledOn}
+use Rattle.termwiz_input_extended.proofs.input.ExtendedParser.for_each_event.Given as goal
+
+abbrev pub invariant-loop-event : goal.invariant-loop-event
+invariant-loop-event g l = record {
+  rows : l.self.rows ≡ l.fn.self.rows;
+  given : (events : List ExtendedEvent)
+      × Steps l.fn.self.rows l.fn.self.text l.fn.maybe_more events l.self.text
+      × WasCalledOn (goal.F-step g) l.fn.callback events l.callback;
+  callable : (events : List ExtendedEvent) (rest : List ℕ) → Steps l.fn.self.rows l.self.text l.fn.maybe_more events rest
+      → MayBeCalledOn g.F.FnMut l.callback events;
+}
+
+abbrev pub decreases-loop-event : goal.decreases-loop-event
+decreases-loop-event g l = length l.self.text

@@ -1,0 +1,26 @@
+use Rattle.std.proofs.Common.{◌∷◌, [], ◌∙◌, subst, arith}
+use Rattle.termwiz_extended_grammar.specs.ExtendedGrammar.{Steps}
+use Rattle.termwiz_extended_grammar.proofs.lemmas.cuts.ExtendedCuts.{few_events, join_steps}
+use Rattle.termwiz_input_extended.proofs.input.ExtendedParser.store_events.Goals as goal
+
+pub loop-self-smaller : goal.loop-self-smaller
+loop-self-smaller c =
+    let step = rw c.in-Some.is at c.in_ok-event.ensures.event in
+    omega (
+      arith,
+      few_events c.loop-self.self.rows c.loop-self.self.text c.next_event.new.self.text (c.in-Some.event ∷ []) c.args.maybe_more step,
+    )
+
+pub loop-self-preserved : goal.loop-self-preserved
+loop-self-preserved c =
+    let rows = c.args.self.now.rows in
+    let step = subst (λ r. Steps r c.loop-self.self.text c.args.maybe_more (c.in-Some.event ∷ []) c.next_event.new.self.text)
+    c.loop-self.invariant.rows (rw c.in-Some.is at c.in_ok-event.ensures.event) in
+    let there : Steps rows c.args.self.now.text c.args.maybe_more c.push_reserved.new.self.items c.next_event.new.self.text =
+    rw (c.push_reserved.ensures.items, c.reserve.ensures.items) (join_steps rows c.loop-self.events.items (c.in-Some.event ∷ [])
+    c.args.self.now.text c.loop-self.self.text c.next_event.new.self.text c.args.maybe_more c.loop-self.invariant.steps step) in
+    record {
+      rows = c.in_ok-event.ensures.rows ∙ c.loop-self.invariant.rows;
+      steps = there;
+      few = few_events rows c.args.self.now.text c.next_event.new.self.text c.push_reserved.new.self.items c.args.maybe_more there;
+    }

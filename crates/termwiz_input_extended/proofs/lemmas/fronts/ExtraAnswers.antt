@@ -1,0 +1,90 @@
+-- Whether a form is an extra sequence, and what extra sequence begins a text by the form that does.
+use Rattle.std.proofs.Common.{◌≡◌, ◌≢◌, inl, inr, ⊎_elim, ℕ, ◌≤◌, List, [], ◌∷◌, ◌++◌, length, take, drop, refl, sym, ap, ◌∙◌, subst, append_assoc, append-nil, take-append-drop, Contains}
+use Rattle.termwiz_keymap.specs.Bytes.{Begins}
+use Rattle.termwiz_keymap.proofs.lemmas.lists.CommonPrefixes.{Overlaps, overlap, append-some}
+use Rattle.termwiz_keymap.proofs.lemmas.lists.CommonPrefixes.Overlaps.{within, past}
+use Rattle.termwiz_keys.specs.declared.types.KeyEvent.{KeyEvent}
+use Rattle.termwiz_keys.specs.declared.types.MouseEvent.{MouseEvent}
+use Rattle.termwiz_grammar.specs.Table.{rows as table_rows}
+use Rattle.termwiz_grammar.specs.MouseReports.{IsMouseReport}
+use Rattle.termwiz_grammar.specs.Sequences.{Meaning, IsSequence}
+use Rattle.termwiz_grammar.specs.Sequences.Meaning.{Row, Report}
+use Rattle.termwiz_extended_events.specs.declared.types.ExtendedEvent.{ExtendedEvent}
+use Rattle.termwiz_extended_events.specs.declared.types.Rows.{Rows}
+use Rattle.termwiz_extended_events.specs.declared.types.Rows.TheVariants.{Port, Kitty}
+use Rattle.termwiz_extended_events.specs.Meanings.{event_of, IsKeyOrPosition}
+use Rattle.termwiz_extended_grammar.specs.Forms.{IsForm}
+use Rattle.termwiz_extended_grammar.specs.ExtraSequences.{IsFree, IsExtra, StartsWithExtra, IsUnfinishedExtra}
+use Rattle.termwiz_extended_grammar.proofs.lemmas.forms.FormEnds.{form_ends}
+use Rattle.termwiz_extended_grammar.proofs.lemmas.forms.ExtraFacts.{free_from_none}
+
+-- a mouse report is no extra sequence
+pub report_not_extra : (rows : Rows) (text : List ℕ) (r : MouseEvent) (event : ExtendedEvent) → IsMouseReport text r
+    → IsExtra rows text event → ⊥
+unfolding IsSequence
+report_not_extra rows text r event is extra = go rows extra.is_free
+  where
+    known : IsSequence text (Report r)
+    known = is
+
+    go : (rows : Rows) → IsFree rows text → ⊥
+    go Port free = free (Report r) known
+    go Kitty free = (let same : Report r ≡ Row (free (Report r) known).0 = (free (Report r) known).1 in cc (same))
+
+-- a form that is no mouse report and no row is an extra sequence
+pub unknown_is_extra : (rows : Rows) (text : List ℕ) → IsForm text → (((r : MouseEvent) × IsMouseReport text r) → ⊥)
+    → (((key : KeyEvent) × Contains table_rows (text, key)) → ⊥) → (event : ExtendedEvent) × IsExtra rows text event
+unfolding IsSequence
+unknown_is_extra rows text form no_report no_row =
+    (event_of text, record { is_form = form; is_free = free_from_none rows text unknown; means = refl })
+  where
+    unknown : (m : Meaning) → IsSequence text m → ⊥
+    unknown (Row key) is = no_row (key, is)
+    unknown (Report r) is = no_report (r, is)
+
+-- a row is one if it is read as a report
+pub row_is_no_extra : (text : List ℕ) (key : KeyEvent) (event : ExtendedEvent) → Contains table_rows (text, key)
+    → IsExtra Port text event → ⊥
+unfolding IsSequence
+row_is_no_extra text key event row is = is.is_free (Row key) row
+
+pub reported_row_is_extra : (text : List ℕ) → IsForm text → (((r : MouseEvent) × IsMouseReport text r) → ⊥)
+    → IsKeyOrPosition (event_of text) → (event : ExtendedEvent) × IsExtra Kitty text event
+unfolding IsSequence
+reported_row_is_extra text form no_report reported =
+    (event_of text, record { is_form = form; is_free = free; means = refl })
+  where
+    free : (m : Meaning) → IsSequence text m → ((key : KeyEvent) × (m ≡ Row key) × IsKeyOrPosition (event_of text))
+    free (Row key) is = (key, refl, reported)
+    free (Report r) is = absurd (no_report (r, is))
+
+pub extra_row_is_reported : (text : List ℕ) (key : KeyEvent) (event : ExtendedEvent) → Contains table_rows (text, key)
+    → IsExtra Kitty text event → IsKeyOrPosition (event_of text)
+unfolding IsSequence
+extra_row_is_reported text key event row is = (is.is_free (Row key) row).2
+
+module _ (rows : Rows) (u : List ℕ) (len : ℕ) (form : IsForm (take len u)) where
+  -- a form that begins the text is the only one
+  form_same : (text : List ℕ) → IsForm text → Begins text u → text ≡ take len u
+  form_same text is b = go (overlap text b.0 (take len u) (drop len u) (take-append-drop len u ∙ b.1))
+    where
+      go : Overlaps text b.0 (take len u) (drop len u) → text ≡ take len u
+      go (within t e f) =
+          let none : t ≡ [] = form_ends text t is (subst (λ x. IsForm x) e form) in
+          sym (e ∙ ap (λ x. text ++ x) none ∙ append-nil text)
+      go (past t n e f) = absurd (n (form_ends (take len u) t form (subst (λ x. IsForm x) e is)))
+
+  -- where the form isn't extra, no extra sequence begins the text, and the text begins none
+  pub no_extra_starts : (((event : ExtendedEvent) × IsExtra rows (take len u) event) → ⊥) → StartsWithExtra rows u → ⊥
+  no_extra_starts never h =
+      never (h.event, subst (λ x. IsExtra rows x h.event) (form_same h.text h.is_extra.is_form h.begins) h.is_extra)
+
+  pub no_extra_unfinished : IsUnfinishedExtra rows u → ⊥
+  no_extra_unfinished h = append-some (drop len u) h.tail h.longer (form_ends (take len u) (drop len u ++ h.tail) form
+      (subst (λ x. IsForm x) (ap (λ x. x ++ h.tail) (sym (take-append-drop len u)) ∙ append_assoc (take len u) (drop len u) h.tail)
+      h.is_extra.is_form))
+
+-- no extra sequence begins where no form does
+pub no_extra_without_form : (rows : Rows) (u : List ℕ) → ((text : List ℕ) → IsForm text → Begins text u → ⊥)
+    → StartsWithExtra rows u → ⊥
+no_extra_without_form rows u never h = never h.text h.is_extra.is_form h.begins

@@ -1,0 +1,152 @@
+-- What stands at a text by what is at its front.
+use Rattle.std.proofs.Common.{◌≡◌, ◌≢◌, inl, inr, ⊎_elim, ℕ, zero, ◌+◌, ◌-◌, ◌≤◌, Bool, true, false, List, [], ◌∷◌, ◌++◌, length, take, drop, refl, sym, ap, ◌∙◌, subst, arith, take-append-drop, Option, Some, None, Result, Ok, Err, IsErr}
+use Rattle.termwiz_keymap.specs.Bytes.{Begins}
+use Rattle.termwiz_keys.specs.Introducers.{ESC}
+use Rattle.termwiz_keys.specs.Keys.{escape}
+use Rattle.termwiz_keys.specs.declared.types.InputEvent.{InputEvent}
+use Rattle.termwiz_keys.specs.declared.types.InputEvent.TheVariants.{Key, Paste}
+use Rattle.termwiz_grammar.specs.Grammar as port
+use Rattle.termwiz_grammar.specs.Grammar.{IsBeginning}
+use Rattle.termwiz_extended_events.specs.declared.types.ExtendedEvent.{ExtendedEvent}
+use Rattle.termwiz_extended_events.specs.declared.types.ExtendedEvent.TheVariants.{Input}
+use Rattle.termwiz_extended_events.specs.declared.types.Rows.{Rows}
+use Rattle.termwiz_extended_events.specs.Meanings.{event_of}
+use Rattle.termwiz_extended_grammar.specs.ExtraSequences.{IsExtra, StartsWithExtra, IsUnfinishedExtra}
+use Rattle.termwiz_extended_grammar.specs.ExtendedGrammar.{IsOpen, IsRest, Stands, Steps}
+use Rattle.termwiz_extended_grammar.specs.ExtendedGrammar.Stands.{extra, lone_escape, usual}
+use Rattle.termwiz_extended_grammar.specs.ExtendedLaws.{HasNoExtra}
+use Rattle.termwiz_extended_grammar.proofs.lemmas.forms.FormBytes.{form_shape}
+use Rattle.termwiz_extended_grammar.proofs.lemmas.items.ExtendedItems.{starts_shape, second_not_escape}
+use Rattle.termwiz_extended_grammar.proofs.lemmas.cuts.SameAsPort.{usual_item, rest_of_port}
+use Rattle.termwiz_input_extended.specs.Buffered.{Buffered}
+use Rattle.termwiz_input_extended.specs.ExtendedFronts.{Emits, HasItemThatNeedsMemory, IsPortsOwn}
+
+-- no extra sequence begins a text that doesn't begin with ESC, nor one that begins ESC ESC
+pub not_escaped : (rows : Rows) (u : List ℕ) → (Begins ESC u → ⊥) → StartsWithExtra rows u → ⊥
+not_escaped rows u never h = (let s = starts_shape rows u h in never (s.0 ∷ s.1, s.2))
+
+pub not_two_escapes : (rows : Rows) (v : List ℕ) → Begins ESC v → StartsWithExtra rows (27 ∷ v) → ⊥
+not_two_escapes rows v b h =
+    let s = starts_shape rows (27 ∷ v) h in
+    let same : s.0 ≡ 27 = cc (s.2, b.1) in second_not_escape s.0 s.3 same
+
+-- where nothing properly begins an extra sequence, what is open is open to the port
+pub none_open : (rows : Rows) (u : List ℕ) (f : Bool) → (StartsWithExtra rows u → ⊥) → (f ≡ true → u ≢ [] → IsUnfinishedExtra rows u → ⊥)
+    → HasNoExtra rows u f
+none_open rows u f none finished = record {
+  none = none;
+  open_to_port = λ h. ⊎_elim
+      (λ (b : IsBeginning u). record { more_comes = h.more_comes; some = h.some; beginning = b })
+      (λ (b : IsUnfinishedExtra rows u). absurd (finished h.more_comes h.some b))
+      h.beginning;
+}
+
+-- where the port reads on by itself, its item stands
+pub own_item : (rows : Rows) (u bytes : List ℕ) (event : InputEvent) (f : Bool) → IsPortsOwn rows u f → port.Stands u f bytes event
+    → Stands rows u f bytes (Input event)
+own_item rows u bytes event f own stands = usual_item rows u bytes event f stands own.here (λ v is split. own.after v split)
+
+pub own_rest : (rows : Rows) (u : List ℕ) (f : Bool) → IsPortsOwn rows u f → port.IsRest u f → IsRest rows u f
+own_rest rows u f own rest = rest_of_port rows u f rest own.here (λ v is split. own.after v split)
+
+-- one step of the port is one step
+pub own_step : (rows : Rows) (u left : List ℕ) (event : InputEvent) (f : Bool) → IsPortsOwn rows u f
+    → port.Steps u f (event ∷ []) left → Steps rows u f (Input event ∷ []) left
+own_step rows u left event f own (bytes, rest, stands, splits, same) =
+    (bytes, rest, own_item rows u bytes event f own stands, splits, same)
+
+-- a paste of the port needs memory
+pub own_refused : (rows : Rows) (u : List ℕ) (f : Bool) → IsPortsOwn rows u f → port.HasPaste u f → HasItemThatNeedsMemory rows u f
+own_refused rows u f own (bytes, text, stands) = record {
+  bytes = bytes;
+  event = Input (Paste text);
+  stands = own_item rows u bytes (Paste text) f own stands;
+  needs = inl (text, refl);
+}
+
+-- an extra sequence is one step, and may need memory
+pub extra_step : (rows : Rows) (u : List ℕ) (len : ℕ) (event : ExtendedEvent) (f : Bool) → IsExtra rows (take len u) event
+    → (made : ExtendedEvent) → made ≡ event_of (take len u) → Steps rows u f (made ∷ []) (drop len u)
+extra_step rows u len event f is made means = (
+  take len u,
+  drop len u,
+  extra (take len u) made (record { is_form = is.is_form; is_free = is.is_free; means = means }) (drop len u, sym (take-append-drop len u)),
+  sym (take-append-drop len u),
+  refl,
+)
+
+pub extra_refused : (rows : Rows) (u : List ℕ) (len : ℕ) (event : ExtendedEvent) (f : Bool) → IsExtra rows (take len u) event
+    → HasItemThatNeedsMemory rows u f
+extra_refused rows u len event f is = record {
+  bytes = take len u;
+  event = event;
+  stands = extra (take len u) event is (drop len u, sym (take-append-drop len u));
+  needs = inr is;
+}
+
+-- the Escape before an extra sequence is one step
+pub escape_step : (rows : Rows) (u v : List ℕ) (f : Bool) → u ≡ ESC ++ v → StartsWithExtra rows v
+    → Steps rows u f (Input (Key escape) ∷ []) (drop 1 u)
+escape_step rows u v f split starts =
+    (ESC, drop 1 u, lone_escape v split starts, (split ∙ ap (λ x. 27 ∷ x) (sym (ap (drop 1) split))), refl)
+
+-- a text that begins with no ESC properly begins no extra sequence
+pub unescaped_finished : (rows : Rows) (u : List ℕ) → (Begins ESC u → ⊥) → u ≢ [] → IsUnfinishedExtra rows u → ⊥
+unescaped_finished rows [] never some h = some refl
+unescaped_finished rows (x ∷ u) never some h =
+    let s = form_shape (x ∷ u ++ h.tail) h.is_extra.is_form in
+    let first : x ≡ 27 = cc (s.2) in never (u, ap (λ z. z ∷ u) first)
+
+-- nor does one that begins ESC ESC
+pub two_escapes_finished : (rows : Rows) (v : List ℕ) → Begins ESC v → IsUnfinishedExtra rows (27 ∷ v) → ⊥
+two_escapes_finished rows [] b h = absurd (cc (b.1))
+two_escapes_finished rows (y ∷ v) b h =
+    let s = form_shape (27 ∷ y ∷ v ++ h.tail) h.is_extra.is_form in
+    let same : s.0 ≡ 27 = cc (s.2, b.1) in second_not_escape s.0 s.4 same
+
+-- a text that begins with no ESC is the port's own
+pub own_without_escape : (rows : Rows) (u : List ℕ) (f : Bool) → (Begins ESC u → ⊥) → IsPortsOwn rows u f
+own_without_escape rows u f never = record {
+  here = none_open rows u f (not_escaped rows u never) (λ m some h. unescaped_finished rows u never some h);
+  after = λ v split. absurd (never (v, split));
+}
+
+-- so is what begins with one ESC, if no extra sequence begins it, and it doesn't wait for one
+pub own_after_escape : (rows : Rows) (u : List ℕ) (f : Bool) → Begins ESC u → (Begins (ESC ++ ESC) u → ⊥)
+    → (StartsWithExtra rows u → ⊥) → (f ≡ true → IsUnfinishedExtra rows u → ⊥) → IsPortsOwn rows u f
+own_after_escape rows u f b one none finished = record {
+  here = none_open rows u f none (λ m some h. finished m h);
+  after = λ v split. none_open rows v f (not_escaped rows v (unescaped v split))
+      (λ m some h. unescaped_finished rows v (unescaped v split) some h);
+}
+  where
+    unescaped : (v : List ℕ) → u ≡ ESC ++ v → Begins ESC v → ⊥
+    unescaped v split c = one (c.0, split ∙ ap (λ x. 27 ∷ x) c.1)
+
+-- and what begins ESC ESC, if the same is true of what follows the first one
+pub own_after_two_escapes : (rows : Rows) (v : List ℕ) (f : Bool) → Begins ESC v → (StartsWithExtra rows v → ⊥)
+    → (f ≡ true → IsUnfinishedExtra rows v → ⊥) → IsPortsOwn rows (27 ∷ v) f
+own_after_two_escapes rows v f b none finished = record {
+  here = none_open rows (27 ∷ v) f (not_two_escapes rows v b) (λ m some h. two_escapes_finished rows v b h);
+  after = λ w split. subst (λ x. HasNoExtra rows x f) (let h : v ≡ w = cc (split) in h)
+      (none_open rows v f none (λ m some h. finished m h));
+}
+
+-- nothing stands at a text that waits for an extra sequence
+pub waits_for_extra : (rows : Rows) (u : List ℕ) (f : Bool) → Begins ESC u → (Begins (ESC ++ ESC) u → ⊥)
+    → (StartsWithExtra rows u → ⊥) → f ≡ true → IsUnfinishedExtra rows u → IsRest rows u f
+waits_for_extra rows u f b one none m h bytes event (extra text e is at) =
+    none (record { text = text; event = e; is_extra = is; begins = at })
+waits_for_extra rows u f b one none m h bytes event (lone_escape v split after) =
+    let s = starts_shape rows v after in one (s.0 ∷ s.1, split ∙ ap (λ x. 27 ∷ x) s.2)
+waits_for_extra rows u f b one none m h bytes event (usual s e stands is gap) =
+    is.closed (record { more_comes = m; some = (λ e. cc (e, b.1)); beginning = inr h })
+
+pub waits_after_escape : (rows : Rows) (v : List ℕ) (f : Bool) → Begins ESC v
+    → (StartsWithExtra rows v → ⊥) → f ≡ true → IsUnfinishedExtra rows v → IsRest rows (27 ∷ v) f
+waits_after_escape rows v f b none m h bytes event (extra text e is at) =
+    not_two_escapes rows v b (record { text = text; event = e; is_extra = is; begins = at })
+waits_after_escape rows v f b none m h bytes event (lone_escape w split after) =
+    none (subst (λ x. StartsWithExtra rows x) (let k : w ≡ v = cc (split) in k) after)
+waits_after_escape rows v f b none m h bytes event (usual s e stands is gap) =
+    (gap v refl).closed (record { more_comes = m; some = (λ e. cc (e, b.1)); beginning = inr h })

@@ -1,0 +1,8 @@
+-- What contracts see of an extended parser.
+use Rattle.std.specs.Prelude.{ℕ, List}
+use Rattle.termwiz_extended_events.specs.declared.types.Rows.{Rows}
+
+-- how it reads the rows of the sequence table, and the text that waits: what it has taken and not turned into events
+pub record Buffered : Type 0 where
+  pub rows : Rows
+  pub text : List ℕ

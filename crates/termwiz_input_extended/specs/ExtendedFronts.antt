@@ -1,0 +1,68 @@
+-- What is at the front of a text, as far as extra sequences go.
+use Rattle.std.specs.Prelude.{◌≡◌, ◌⊎◌, ℕ, ◌≤◌, ◌-◌, Bool, List, [], ◌∷◌, ◌++◌, length, take, drop, Option, Result, IfOk, IfSome, IfNone, OnErr}
+use Rattle.termwiz_keymap.specs.Bytes.{Begins}
+use Rattle.termwiz_keys.specs.Introducers.{ESC}
+use Rattle.termwiz_keys.specs.declared.types.InputEvent.{InputEvent}
+use Rattle.termwiz_keys.specs.declared.types.InputEvent.TheVariants.{Paste}
+use Rattle.termwiz_input.specs.PasteSearch.{IsPasteSoFar}
+use Rattle.termwiz_extended_events.specs.declared.types.ExtendedEvent.{ExtendedEvent}
+use Rattle.termwiz_extended_events.specs.declared.types.ExtendedEvent.TheVariants.{Input}
+use Rattle.termwiz_extended_events.specs.declared.types.Rows.{Rows}
+use Rattle.termwiz_extended_grammar.specs.ExtraSequences.{IsExtra, StartsWithExtra, IsUnfinishedExtra}
+use Rattle.termwiz_extended_grammar.specs.ExtendedGrammar.{IsRest, Stands, Steps}
+use Rattle.termwiz_extended_grammar.specs.ExtendedLaws.{HasNoExtra}
+use Rattle.termwiz_input_extended.specs.declared.front.ExtraAt.{ExtraAt}
+use Rattle.termwiz_input_extended.specs.declared.front.ExtraAt.TheVariants as at
+use Rattle.termwiz_input_extended.specs.declared.front.ExtendedFront.{ExtendedFront}
+use Rattle.termwiz_input_extended.specs.declared.front.ExtendedFront.TheVariants.{Extra, Escape, Usual, Incomplete}
+use Rattle.termwiz_input_extended.specs.Buffered.{Buffered}
+use Rattle.termwiz_input_extended.specs.FormAnswers.{IsScanned}
+
+-- what extra sequence is at the front of a text
+abbrev pub HasExtra : Rows → List ℕ → ExtraAt → Type 0
+HasExtra rows u (at.Whole len) = (len ≤ length u) × ((event : ExtendedEvent) × IsExtra rows (take len u) event)
+HasExtra rows u at.Unfinished = (¬ StartsWithExtra rows u) × IsUnfinishedExtra rows u
+HasExtra rows u at.Absent = (¬ StartsWithExtra rows u) × (¬ IsUnfinishedExtra rows u)
+
+-- neither the text nor what follows its ESC begins with an extra sequence, or is open but to the port
+pub record IsPortsOwn (rows : Rows) (u : List ℕ) (more : Bool) : Type 0 where
+  pub here : HasNoExtra rows u more
+  pub after : (v : List ℕ) → u ≡ ESC ++ v → HasNoExtra rows v more
+
+-- The bytes before this place, of the text or of what follows its ESC if another ESC does, needn't be looked at again.
+pub record IsScannedTo (u : List ℕ) (place : ℕ) : Type 0 where
+  pub within : place ≤ length u
+  pub here : (¬ Begins (ESC ++ ESC) u) → IsScanned u place
+  pub after : (v : List ℕ) → u ≡ ESC ++ v → Begins ESC v → IsScanned v (place - 1)
+
+-- this is at the front of the text, under this flag. Of an incomplete sequence the search goes on from a place.
+abbrev pub IsExtendedFront : Rows → List ℕ → Bool → ExtendedFront → Type 0
+IsExtendedFront rows u more (Extra len) = (len ≤ length u) × ((event : ExtendedEvent) × IsExtra rows (take len u) event)
+IsExtendedFront rows u more Escape = (v : List ℕ) × (u ≡ ESC ++ v) × StartsWithExtra rows v
+IsExtendedFront rows u more Usual = IsPortsOwn rows u more
+IsExtendedFront rows u more (Incomplete place) = IsRest rows u more × IsScannedTo u place
+
+-- an item stands at u whose event may hold memory: a paste, or an extra sequence
+pub record HasItemThatNeedsMemory (rows : Rows) (u : List ℕ) (more : Bool) : Type 0 where
+  pub bytes : List ℕ
+  pub event : ExtendedEvent
+  pub stands : Stands rows u more bytes event
+  pub needs : ((text : List ℕ) × (event ≡ Input (Paste text))) ⊎ IsExtra rows bytes event
+
+-- the events that a text gives, as far as they are read, need no memory
+abbrev pub GivesNoneThatNeedsMemory : Rows → List ℕ → Bool → Type 0
+GivesNoneThatNeedsMemory rows text more =
+    (events : List ExtendedEvent) (rest : List ℕ) → Steps rows text more events rest → ¬ HasItemThatNeedsMemory rows rest more
+
+-- what a call answers that consumes the item at the front: its event, none if no item is there
+pub record Emits {F : Type 0} (old : Buffered) (more : Bool) (new : Buffered) (result : Result (Option ExtendedEvent) F) : Type 0 where
+  pub event : IfOk result (λ found. IfSome found (λ event. Steps old.rows old.text more (event ∷ []) new.text))
+  pub rows : new.rows ≡ old.rows
+  pub none : IfOk result (λ found. IfNone found (IsRest old.rows old.text more))
+  pub none_same : IfOk result (λ found. IfNone found (new ≡ old))
+  pub refused : OnErr result (HasItemThatNeedsMemory old.rows old.text more)
+  pub refused_same : OnErr result (new ≡ old)
+
+-- the paste whose text is what an open paste has so far
+abbrev pub IsPasteEvent : List ℕ → ExtendedEvent → Type 0
+IsPasteEvent u event = (paste : InputEvent) × IsPasteSoFar u paste × (event ≡ Input paste)

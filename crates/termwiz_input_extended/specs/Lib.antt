@@ -1,0 +1,5 @@
+pub mod Buffered
+pub mod EventCallbacks
+pub mod ExtendedFronts
+pub mod ExtendedKinds
+pub mod FormAnswers

@@ -1,0 +1,414 @@
+//! The extended parser.
+ghost use Rattle.std.specs.Prelude.{◌≡◌, ◌≢◌, ◌++◌, ◌+◌, ◌≤◌, ℕ, Bool, List, [], ◌∷◌, length, drop, take, true, false, OnErr, IfOk, IfErr, IfSome, IfNone, IsSome, IsTrue, ◌↔◌, ◌⊎◌, OnOk, IsOk, IsErrOf};
+ghost use Rattle.termwiz_keymap.specs.Bytes.{Begins};
+ghost use Rattle.termwiz_keys.specs.Introducers.{START};
+ghost use Rattle.termwiz_keys.specs.Keys.{escape};
+ghost use Rattle.termwiz_keys.specs.declared.types.InputEvent.TheVariants as Port;
+ghost use Rattle.termwiz_grammar.specs.WaitingKinds.{IsOneOrTwoEscapes, IsOpenPaste};
+ghost use Rattle.termwiz_extended_events.specs.declared.types.ExtendedEvent.{ExtendedEvent as Event};
+ghost use Rattle.termwiz_extended_grammar.specs.ExtraSequences.{IsExtra};
+ghost use Rattle.termwiz_extended_grammar.specs.ExtendedGrammar.{IsRest, Means, Steps};
+ghost use Rattle.termwiz_input_extended.specs.EventCallbacks.{MayBeCalledOn, WasCalledOn};
+ghost use Rattle.termwiz_input_extended.specs.ExtendedFronts.{Emits, GivesNoneThatNeedsMemory, HasItemThatNeedsMemory, IsExtendedFront, IsPasteEvent, IsPortsOwn};
+ghost use Rattle.termwiz_input_extended.specs.ExtendedKinds.{IsBoundedOrOpenPaste, IsKind};
+
+use crate::front::{ExtendedFront, front};
+use std::alloc::{AllocError, Global};
+use std::marker::Model;
+use termwiz_extended_events::meanings::event_of;
+use termwiz_extended_events::types::{ExtendedEvent, Rows};
+pub use termwiz_input::input::{ParseError, Waiting};
+use termwiz_input::input::{InputEvent, InputParser, KeyCode, KeyEvent, Modifiers};
+
+/// A call of [`ExtendedParser::parse_as_vec`] was refused memory. No event is lost: the parser stands after `events`, and the next call goes
+/// on from there. Call again with the same bytes if `taken` is false, and with no bytes if it is true.
+#[derive(PartialEq, Eq, Debug, Drop)]
+pub struct ExtendedVecError {
+    /// The events so far.
+    pub events: Vec<ExtendedEvent>,
+    /// Whether the bytes of the call were taken. If not, there are no events, and the parser is unchanged.
+    pub taken: bool,
+}
+
+/// Reads events from the bytes that a terminal sends, however they are cut: those of [`InputParser`], and the sequences that it doesn't know,
+/// such as replies, focus reports and Kitty's keyboard protocol.
+///
+/// Contracts see a parser as how it reads the rows, and the text that waits: what it has taken and not turned into events.
+#[derive(Debug, Drop)]
+pub struct ExtendedParser {
+    // Its waiting text is that of this parser.
+    parser: InputParser,
+    rows: Rows,
+    // The bytes of the waiting text before this offset were looked at: a search for the end of a sequence goes on from there.
+    scanned: usize,
+    alloc: Global,
+}
+
+impl Model for ExtendedParser {
+    ghost use Rattle.termwiz_input_extended.specs.Buffered.{Buffered};
+    ghost use Rattle.termwiz_input_extended.specs.ExtendedFronts.{IsScannedTo};
+
+    ghost Value = { Buffered };
+
+    ghost view = { λ p. record { rows = p.rows; text = p.parser } };
+
+    ghost invariant = { λ p. IsScannedTo p.parser p.scanned };
+}
+
+// The Escape key, alone.
+fn escape_key() -> ExtendedEvent
+    ensures { result ≡ Event.Input (Port.Key escape) }
+{
+    ExtendedEvent::Input(InputEvent::Key(KeyEvent {
+        key: KeyCode::Escape,
+        modifiers: Modifiers::NONE,
+    }))
+}
+
+impl ExtendedParser {
+    /// A parser that reads the rows of the sequence table in this way, and whose waiting text is empty.
+    pub fn new(alloc: Global, rows: Rows) -> Result<ExtendedParser, AllocError>
+        ensures empty { IfOk result (λ parser. parser.text ≡ []) }
+        ensures rows { IfOk result (λ parser. parser.rows ≡ rows) }
+    {
+        Ok(ExtendedParser {
+            parser: InputParser::new(alloc)?,
+            rows,
+            scanned: 0,
+            alloc,
+        })
+    }
+
+    /// How the rows of the sequence table are read.
+    pub fn rows(&self) -> Rows
+        ensures { result ≡ self.now.rows }
+    {
+        self.rows
+    }
+
+    /// The waiting text: the bytes that are buffered.
+    pub fn waiting_text(&self) -> &[u8]
+        ensures { result.now ≡ self.now.text }
+    {
+        self.parser.waiting_text()
+    }
+
+    /// The length of the waiting text.
+    pub fn waiting_len(&self) -> usize
+        ensures { result ≡ length self.now.text }
+    {
+        self.parser.waiting_len()
+    }
+
+    /// Whether the waiting text begins with the start of a paste.
+    pub fn is_paste_open(&self) -> bool
+        ensures { IsTrue result ↔ Begins START self.now.text }
+    {
+        self.parser.is_paste_open()
+    }
+
+    // What is at the front of the waiting text.
+    fn front(&self, maybe_more: bool) -> ExtendedFront
+        ensures { IsExtendedFront self.now.rows self.now.text maybe_more result }
+    {
+        front(
+            self.alloc,
+            &self.parser,
+            self.rows,
+            self.parser.waiting_text(),
+            self.scanned,
+            maybe_more,
+        )
+    }
+
+    /// Forgets what stays buffered, and returns how many bytes these were. It asks for no memory and frees none.
+    pub fn reset(&mut self) -> usize
+        ensures count { result ≡ length self.old.text }
+        ensures nothing { self.new.text ≡ [] }
+        ensures rows { self.new.rows ≡ self.old.rows }
+    {
+        let len = self.waiting_len();
+        self.consume(len);
+        len
+    }
+
+    // Drops the first bytes of the waiting text. What is left wasn't looked at.
+    fn consume(&mut self, len: usize)
+        requires { len ≤ length self.old.text }
+        ensures { self.new ≡ record self.old { text = drop len self.old.text } }
+    {
+        self.parser.consume(len);
+        self.scanned = 0;
+    }
+
+    /// Appends bytes to the waiting text. If memory is refused, the parser is unchanged; no bytes need no memory.
+    ///
+    /// Then call [`ExtendedParser::next_event`] until it returns `None`.
+    pub fn feed(&mut self, bytes: &[u8]) -> Result<(), AllocError>
+        ensures ok { OnOk result (self.new ≡ record self.old { text = self.old.text ++ bytes.now }) }
+        ensures err { OnErr result (self.new ≡ self.old) }
+        ensures no_bytes { OnErr result (bytes.now ≢ []) }
+    {
+        self.parser.feed(bytes)
+    }
+
+    // Takes what the port finds at the front of the waiting text.
+    fn next_of_port(&mut self, maybe_more: bool) -> Result<Option<ExtendedEvent>, AllocError>
+        requires { IsPortsOwn self.old.rows self.old.text maybe_more }
+        ensures { Emits self.old maybe_more self.new result }
+    {
+        match self.parser.next_event(maybe_more)? {
+            Some(event) => {
+                self.scanned = 0;
+                Ok(Some(ExtendedEvent::Input(event)))
+            }
+            None => Ok(None),
+        }
+    }
+
+    // Takes the extra sequence of so many bytes at the front of the waiting text.
+    fn next_extra(&mut self, len: usize) -> Result<Option<ExtendedEvent>, AllocError>
+        requires within { len ≤ length self.old.text }
+        requires extra { (event : Event) × IsExtra self.old.rows (take len self.old.text) event }
+        ensures { (more : Bool) → Emits self.old more self.new result }
+    {
+        let event = event_of(self.alloc, &self.waiting_text()[..len])?;
+        self.consume(len);
+        Ok(Some(event))
+    }
+
+    // Consumes the item at the front of the waiting text, and returns its event. `None` if no item is there.
+    fn emit_front(&mut self, maybe_more: bool) -> Result<Option<ExtendedEvent>, AllocError>
+        ensures { Emits self.old maybe_more self.new result }
+    {
+        match self.front(maybe_more) {
+            ExtendedFront::Extra(len) => self.next_extra(len),
+            ExtendedFront::Escape => {
+                self.consume(1);
+                Ok(Some(escape_key()))
+            }
+            ExtendedFront::Usual => self.next_of_port(maybe_more),
+            ExtendedFront::Incomplete(place) => {
+                self.scanned = place;
+                Ok(None)
+            }
+        }
+    }
+
+    /// Takes the item at the front of the waiting text, and returns its event. `None` if no item stands there: what waits is
+    /// the rest, and the parser is unchanged.
+    ///
+    /// Pass `maybe_more` as for [`ExtendedParser::parse`]. Memory is needed for the text of a paste or of a key, and for the bytes of a
+    /// sequence. If it is refused, the parser is unchanged and the item still at its front, and the same call may be made again.
+    #[tactic(auto, using(crate::proofs::lemmas::fronts::LeftBounded::left_flushed, crate::proofs::lemmas::fronts::LeftBounded::left_bounded))]
+    pub fn next_event(&mut self, maybe_more: bool) -> Result<Option<ExtendedEvent>, AllocError>
+        ensures event { IfOk result (λ found. IfSome found (λ event. Steps self.old.rows self.old.text maybe_more (event ∷ []) self.new.text)) }
+        ensures rows { self.new.rows ≡ self.old.rows }
+        ensures none { IfOk result (λ found. IfNone found (IsRest self.old.rows self.old.text maybe_more)) }
+        ensures none_same { IfOk result (λ found. IfNone found (self.new ≡ self.old)) }
+        ensures refused { OnErr result (HasItemThatNeedsMemory self.old.rows self.old.text maybe_more) }
+        ensures refused_same { OnErr result (self.new ≡ self.old) }
+
+        // Without more to come nothing waits but an open paste.
+        ensures flushed { maybe_more ≡ false → IfOk result (λ found. IfNone found ((self.new.text ≡ []) ⊎ Begins START self.new.text)) }
+
+        // In any case at most 65536 bytes wait, or an open paste.
+        ensures waits { IfOk result (λ found. IfNone found (IsBoundedOrOpenPaste self.new.text)) }
+    {
+        self.emit_front(maybe_more)
+    }
+
+    /// What kind of bytes stays buffered, once [`ExtendedParser::next_event`] returned `None`, or `parse` succeeded.
+    ///
+    /// After a pause with `Escape` call [`ExtendedParser::flush_escape`]. Flush a `Sequence` only after a much longer pause, since the line
+    /// may be slow. Never flush a `Character` or a `Paste`.
+    pub fn waiting(&self) -> Waiting
+        ensures { (more : Bool) → IsRest self.now.rows self.now.text more → IsKind self.now.rows self.now.text more result }
+    {
+        self.parser.waiting()
+    }
+
+    /// Emits the Escape key, with ALT if ESC ESC stays buffered. `None` if anything else stays buffered; the parser is then unchanged.
+    ///
+    /// Call it after a pause of some 50 ms. Unlike a flush, it breaks only what is cut right after its ESC or ESC ESC.
+    pub fn flush_escape(&mut self) -> Option<ExtendedEvent>
+        ensures event { IfSome result (λ event. Means self.old.rows self.old.text false (event ∷ []) self.new.text) }
+        ensures rows { self.new.rows ≡ self.old.rows }
+        ensures when { IsSome result ↔ IsOneOrTwoEscapes self.old.text }
+        ensures none { IfNone result (self.new ≡ self.old) }
+    {
+        match self.parser.flush_escape() {
+            Some(event) => {
+                self.scanned = 0;
+                Some(ExtendedEvent::Input(event))
+            }
+            None => None,
+        }
+    }
+
+    /// Ends an open paste where it is: its text so far is the event, and nothing stays buffered. `None` if no paste is open; the parser is
+    /// then unchanged.
+    ///
+    /// A program with a limit for pastes calls it once [`ExtendedParser::waiting_len`] is over the limit. What the terminal still sends of
+    /// the paste arrives as typed keys. If memory for the text is refused, the parser is unchanged.
+    pub fn end_paste(&mut self) -> Result<Option<ExtendedEvent>, AllocError>
+        ensures event { IfOk result (λ found. IfSome found (IsPasteEvent self.old.text)) }
+        ensures nothing { IfOk result (λ found. IfSome found (λ _. self.new.text ≡ [])) }
+        ensures rows { self.new.rows ≡ self.old.rows }
+        ensures none { IfOk result (λ found. IfNone found (¬ IsOpenPaste self.old.text)) }
+        ensures none_same { IfOk result (λ found. IfNone found (self.new ≡ self.old)) }
+        ensures refused { OnErr result (IsOpenPaste self.old.text) }
+        ensures refused_same { OnErr result (self.new ≡ self.old) }
+    {
+        match self.parser.end_paste()? {
+            Some(event) => {
+                self.scanned = 0;
+                Ok(Some(ExtendedEvent::Input(event)))
+            }
+            None => Ok(None),
+        }
+    }
+
+    /// Calls `callback` with each event of the waiting text in order: a loop over [`ExtendedParser::next_event`] up to `None`. A program that
+    /// has such a loop of its own has the same events.
+    ///
+    /// Pass `maybe_more` as for [`ExtendedParser::parse`]. If memory for an event is refused, its item is still at the front of what waits,
+    /// and the same call may be made again.
+    pub fn for_each_event<F: FnMut(ExtendedEvent)>(
+        &mut self,
+        callback: &mut F,
+        maybe_more: bool,
+    ) -> Result<(), AllocError>
+        requires { (events : List Event) (rest : List ℕ) → Steps self.old.rows self.old.text maybe_more events rest
+            → MayBeCalledOn F.FnMut callback.old events }
+        ensures ok { OnOk result ((events : List Event) × Means self.old.rows self.old.text maybe_more events self.new.text
+            × WasCalledOn F.step callback.old events callback.new) }
+        ensures rows { self.new.rows ≡ self.old.rows }
+
+        // Without more to come nothing waits but an open paste.
+        ensures flushed { maybe_more ≡ false → OnOk result ((self.new.text ≡ []) ⊎ Begins START self.new.text) }
+
+        // In any case at most 65536 bytes wait, or an open paste.
+        ensures waits { OnOk result (IsBoundedOrOpenPaste self.new.text) }
+
+        // The parser stands after the events that were given, and an item whose event needs memory is at its front.
+        ensures refused { OnErr result ((events : List Event) × Steps self.old.rows self.old.text maybe_more events self.new.text
+            × WasCalledOn F.step callback.old events callback.new) }
+        ensures refused_item { OnErr result (HasItemThatNeedsMemory self.new.rows self.new.text maybe_more) }
+    {
+        loop {
+            match self.next_event(maybe_more)? {
+                Some(event) => callback(event),
+                None => return Ok(()),
+            }
+        }
+    }
+
+    /// Appends `bytes` to the waiting text, and calls `callback` with each of its events in order. What is no event yet waits.
+    ///
+    /// Pass `maybe_more` as true while more bytes may come: then a text that may yet become a longer sequence or a character
+    /// stays buffered. After a pause call [`ExtendedParser::flush_escape`]. Pass false at the end of the input: then only an open
+    /// paste stays buffered. No bytes and false are a flush.
+    pub fn parse<F: FnMut(ExtendedEvent)>(
+        &mut self,
+        bytes: &[u8],
+        callback: &mut F,
+        maybe_more: bool,
+    ) -> Result<(), ParseError>
+        requires { (events : List Event) (rest : List ℕ) → Steps self.old.rows (self.old.text ++ bytes.now) maybe_more events rest
+            → MayBeCalledOn F.FnMut callback.old events }
+        ensures ok { OnOk result ((events : List Event)
+            × Means self.old.rows (self.old.text ++ bytes.now) maybe_more events self.new.text
+            × WasCalledOn F.step callback.old events callback.new) }
+        ensures rows { self.new.rows ≡ self.old.rows }
+
+        // Without more to come nothing waits but an open paste.
+        ensures flushed { maybe_more ≡ false → OnOk result ((self.new.text ≡ []) ⊎ Begins START self.new.text) }
+
+        // In any case at most 65536 bytes wait, or an open paste.
+        ensures waits { OnOk result (IsBoundedOrOpenPaste self.new.text) }
+
+        // If the bytes weren't taken, nothing happened.
+        ensures not_taken_same { IsErrOf result ParseError.NotTaken → self.new ≡ self.old }
+        ensures not_taken_quiet { IsErrOf result ParseError.NotTaken → callback.new ≡ callback.old }
+        ensures not_taken_some { IsErrOf result ParseError.NotTaken → bytes.now ≢ [] }
+
+        // If they were, the parser stands after the events that were given, and an item whose event needs memory is at its front.
+        ensures taken { IsErrOf result ParseError.Taken
+            → (events : List Event) × Steps self.old.rows (self.old.text ++ bytes.now) maybe_more events self.new.text
+            × WasCalledOn F.step callback.old events callback.new }
+        ensures taken_item { IsErrOf result ParseError.Taken → HasItemThatNeedsMemory self.new.rows self.new.text maybe_more }
+
+        // No bytes need no memory, unless the waiting text gives an event that does.
+        ensures granted { bytes.now ≡ [] → GivesNoneThatNeedsMemory self.old.rows self.old.text maybe_more → IsOk result }
+    {
+        if self.feed(bytes).is_err() {
+            return Err(ParseError::NotTaken);
+        }
+        match self.for_each_event(callback, maybe_more) {
+            Ok(()) => Ok(()),
+            Err(_) => Err(ParseError::Taken),
+        }
+    }
+
+    // Moves the events of the waiting text to an empty list, in order. An event's bytes are consumed only after there is room for it.
+    fn store_events(
+        &mut self,
+        events: &mut Vec<ExtendedEvent>,
+        maybe_more: bool,
+    ) -> Result<(), AllocError>
+        requires { events.old.items ≡ [] }
+        ensures steps { Steps self.old.rows self.old.text maybe_more events.new.items self.new.text }
+        ensures same_rows { self.new.rows ≡ self.old.rows }
+        ensures rest { OnOk result (IsRest self.new.rows self.new.text maybe_more) }
+        ensures few { length events.new.items + length self.new.text ≤ length self.old.text }
+    {
+        loop {
+            events.reserve(1)?;
+            match self.next_event(maybe_more)? {
+                Some(event) => events.push_reserved(event),
+                None => return Ok(()),
+            }
+        }
+    }
+
+    /// Appends `bytes` to the waiting text, and returns its events in order. What is no event yet waits.
+    ///
+    /// Pass `maybe_more` as true while more bytes may come: then a text that may yet become a longer sequence or a character
+    /// stays buffered. After a pause call [`ExtendedParser::flush_escape`]. Pass false at the end of the input: then only an open
+    /// paste stays buffered. No bytes and false are a flush.
+    #[tactic(auto, using(termwiz_extended_grammar::proofs::lemmas::waiting::FlushesLeave::rest_flushed, crate::proofs::lemmas::fronts::LeftBounded::rest_bounded))]
+    pub fn parse_as_vec(
+        &mut self,
+        bytes: &[u8],
+        maybe_more: bool,
+    ) -> Result<Vec<ExtendedEvent>, ExtendedVecError>
+        ensures ok { IfOk result (λ events. Means self.old.rows (self.old.text ++ bytes.now) maybe_more events.items self.new.text) }
+        ensures few { IfOk result (λ events. length events.items + length self.new.text ≤ length self.old.text + length bytes.now) }
+        ensures rows { self.new.rows ≡ self.old.rows }
+
+        // Without more to come nothing waits but an open paste.
+        ensures flushed { maybe_more ≡ false → OnOk result ((self.new.text ≡ []) ⊎ Begins START self.new.text) }
+
+        // In any case at most 65536 bytes wait, or an open paste.
+        ensures waits { OnOk result (IsBoundedOrOpenPaste self.new.text) }
+
+        // If the bytes weren't taken, nothing happened.
+        ensures not_taken_none { IfErr result (λ e. e.taken ≡ false → e.events.items ≡ []) }
+        ensures not_taken_same { IfErr result (λ e. e.taken ≡ false → self.new ≡ self.old) }
+        ensures not_taken_some { IfErr result (λ e. e.taken ≡ false → bytes.now ≢ []) }
+
+        // If they were, the parser stands after the events of the error.
+        ensures taken { IfErr result (λ e. e.taken ≡ true
+            → Steps self.old.rows (self.old.text ++ bytes.now) maybe_more e.events.items self.new.text) }
+        ensures taken_few { IfErr result (λ e. e.taken ≡ true
+            → length e.events.items + length self.new.text ≤ length self.old.text + length bytes.now) }
+    {
+        let mut events = Vec::new(self.alloc);
+        let taken = self.feed(bytes).is_ok();
+        if taken && self.store_events(&mut events, maybe_more).is_ok() {
+            return Ok(events);
+        }
+        Err(ExtendedVecError { events, taken })
+    }
+}

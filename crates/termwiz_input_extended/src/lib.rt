@@ -1,0 +1,9 @@
+//! The extended parser: bytes of a terminal to events, of the port's and of what terminals send beyond it.
+#![tactic(auto)]
+
+mod form;
+mod front;
+pub mod input;
+
+pub use termwiz_extended_events::types;
+pub use termwiz_extended_grammar::laws;
