@@ -1,9 +1,10 @@
 -- The laws of the extended grammar. Each holds for both readings of the rows.
-use Rattle.std.specs.Prelude.{◌≡◌, ◌≢◌, ℕ, ◌+◌, ◌≤◌, ◌⊎◌, Bool, true, false, List, [], ◌∷◌, ◌++◌, length, map}
+use Rattle.std.specs.Prelude.{◌≡◌, ◌≢◌, ℕ, ◌+◌, ◌≤◌, ◌⊎◌, ◌↔◌, Bool, true, false, List, [], ◌∷◌, ◌++◌, length, map, codes}
 use Rattle.termwiz_keymap.specs.Bytes.{Begins, Occurs}
-use Rattle.termwiz_keys.specs.Introducers.{ESC, START, END}
+use Rattle.termwiz_keys.specs.Introducers.{ESC, CSI, SS3, START, END}
 use Rattle.termwiz_keys.specs.Keys.{escape}
 use Rattle.termwiz_keys.specs.declared.types.InputEvent.{InputEvent}
+use Rattle.termwiz_grammar.specs.Sequences.{Meaning, IsSequence}
 use Rattle.termwiz_grammar.specs.Sequences.Meaning.{Row}
 use Rattle.termwiz_grammar.specs.Grammar as port
 use Rattle.termwiz_grammar.specs.Grammar.{IsLongest}
@@ -95,3 +96,18 @@ pub record HasNoExtra (rows : Rows) (u : List ℕ) (f : Bool) : Type 0 where
 abbrev pub Conservative : Type 0
 Conservative = (rows : Rows) (T W : List ℕ) (E : List InputEvent) (f : Bool)
     → ((u : List ℕ) → LooksAt T f u → HasNoExtra rows u f) → port.Means T f E W → Means rows T f (map (λ e. Input e) E) W
+
+-- An extra sequence that begins a text is the only one that does, and no sequence of the port that begins it is longer.
+abbrev pub ExtraIsLongest : Type 0
+ExtraIsLongest = (rows : Rows) (u x : List ℕ) (e : ExtendedEvent) → IsExtra rows x e → Begins x u
+    → ((y : List ℕ) (m : Meaning) → IsSequence y m → Begins y u → length y ≤ length x)
+    × ((y : List ℕ) (d : ExtendedEvent) → IsExtra rows y d → Begins y u → (y ≡ x) × (d ≡ e))
+
+-- the text properly begins an extra sequence
+abbrev pub BeginsExtra : Rows → List ℕ → Type 0
+BeginsExtra rows text = (tail : List ℕ) × (e : ExtendedEvent) × (tail ≢ []) × IsExtra rows (text ++ tail) e
+
+-- Of the sequences of the port exactly ESC, ESC [, ESC O and ESC P properly begin an extra sequence.
+abbrev pub FourBeginnings : Type 0
+FourBeginnings = (rows : Rows) (text : List ℕ) (m : Meaning) → IsSequence text m
+    → BeginsExtra rows text ↔ ((text ≡ ESC) ⊎ ((text ≡ CSI) ⊎ ((text ≡ SS3) ⊎ (text ≡ ESC ++ codes "P"))))

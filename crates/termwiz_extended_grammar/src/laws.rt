@@ -1,7 +1,7 @@
 //! Laws of the extended grammar, each the contract of a function without effect. Each holds for both readings of the rows.
 //!
 //! They speak of the definitions alone. That the parser obeys the definitions is said by its own contracts.
-ghost use Rattle.termwiz_extended_grammar.specs.ExtendedLaws.{Conservative, CutIndependent, EmptyIsRest, FewEvents, OneMeaning, Resumes, SequenceStands, StepsJoin, Undecided, WaitingShape};
+ghost use Rattle.termwiz_extended_grammar.specs.ExtendedLaws.{Conservative, CutIndependent, EmptyIsRest, ExtraIsLongest, FewEvents, FourBeginnings, OneMeaning, Resumes, SequenceStands, StepsJoin, Undecided, WaitingShape};
 
 /// Each text means, under each flag, exactly one list of events and one rest.
 pub fn one_meaning()
@@ -61,4 +61,15 @@ pub fn sequence_stands()
 /// the port wouldn't go on reading.
 pub fn conservative()
     ensures { Conservative }
+{}
+
+/// An extra sequence that begins a text is the only one that does, and no sequence of the port that begins it is longer. So it is the
+/// longest known text there, and decides the item.
+pub fn extra_is_longest()
+    ensures { ExtraIsLongest }
+{}
+
+/// Of the sequences of the port exactly ESC, ESC `[`, ESC `O` and ESC `P` properly begin an extra sequence.
+pub fn four_beginnings()
+    ensures { FourBeginnings }
 {}

@@ -1,5 +1,5 @@
 -- What is at the front of a text, as far as extra sequences go.
-use Rattle.std.specs.Prelude.{◌≡◌, ◌⊎◌, ℕ, ◌≤◌, ◌-◌, Bool, List, [], ◌∷◌, ◌++◌, length, take, drop, Option, Result, IfOk, IfSome, IfNone, OnErr}
+use Rattle.std.specs.Prelude.{◌≡◌, ◌⊎◌, ℕ, ◌≤◌, ◌-◌, Bool, List, [], ◌∷◌, ◌++◌, length, take, Option, Result, IfOk, IfSome, IfNone, OnErr}
 use Rattle.termwiz_keymap.specs.Bytes.{Begins}
 use Rattle.termwiz_keys.specs.Introducers.{ESC}
 use Rattle.termwiz_keys.specs.declared.types.InputEvent.{InputEvent}

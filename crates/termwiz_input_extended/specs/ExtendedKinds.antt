@@ -1,12 +1,12 @@
 -- What stays buffered, by kind.
-use Rattle.std.specs.Prelude.{◌≡◌, ◌+◌, ◌≤◌, ◌⊎◌, ℕ, Bool, true, List, [], ◌++◌, length}
+use Rattle.std.specs.Prelude.{◌≡◌, ◌≤◌, ◌⊎◌, ℕ, Bool, true, List, [], length}
 use Rattle.termwiz_grammar.specs.declared.waiting.Waiting.{Waiting}
 use Rattle.termwiz_grammar.specs.declared.waiting.Waiting.TheVariants.{Nothing, Escape, Sequence, Character, Paste}
 use Rattle.termwiz_grammar.specs.Grammar.{IsUnfinishedSequence, IsUnfinishedCharacter}
 use Rattle.termwiz_grammar.specs.WaitingKinds.{IsHeldThen, IsOneOrTwoEscapes, IsOpenPaste}
 use Rattle.termwiz_extended_events.specs.declared.types.Rows.{Rows}
 use Rattle.termwiz_extended_grammar.specs.ExtraSequences.{IsUnfinishedExtra}
-use Rattle.termwiz_extended_grammar.specs.Forms.{most_control, most_string}
+use Rattle.termwiz_extended_grammar.specs.Forms.{most_string}
 
 -- u properly begins a sequence, an extra one or one of the port
 abbrev pub IsUnfinished : Rows → List ℕ → Type 0

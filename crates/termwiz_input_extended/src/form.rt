@@ -1,4 +1,5 @@
-// Forms of extra sequences: control sequences, X10 mouse reports, console and keypad keys, and strings, recognised at the front of a text.
+// Forms of extra sequences, recognised at the front of a text: control sequences, X10 mouse reports, console and keypad keys, and
+// strings.
 //
 // A string may come in many reads, so what was looked at of it before is not looked at again.
 ghost use Rattle.std.specs.Prelude.{◌≡◌, ◌≢◌, ◌+◌, ◌<◌, ◌≤◌, ◌↔◌, List, [], ◌∷◌, ◌++◌, length, take, slice_index, IsTrue};

@@ -1,2 +1,3 @@
 pub mod ExtendedItems
 pub mod ExtendedRests
+pub mod ExtraHeads

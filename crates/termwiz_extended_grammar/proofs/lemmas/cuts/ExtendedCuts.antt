@@ -1,9 +1,9 @@
 -- However a text is cut, it means the same; and no more events come than bytes.
-use Rattle.std.proofs.Common.{refl, ◌≡◌, ℕ, Bool, true, List, [], ◌∷◌, ◌++◌, length, sym, ap, ◌∙◌, subst, append_assoc, arith, length-append}
+use Rattle.std.proofs.Common.{ℕ, Bool, true, List, [], ◌∷◌, ◌++◌, length, sym, ap, ◌∙◌, subst, append_assoc, arith, length-append}
 use Rattle.termwiz_keymap.proofs.lemmas.lists.CommonPrefixes.{length-some}
 use Rattle.termwiz_extended_events.specs.declared.types.ExtendedEvent.{ExtendedEvent}
 use Rattle.termwiz_extended_events.specs.declared.types.Rows.{Rows}
-use Rattle.termwiz_extended_grammar.specs.ExtendedGrammar.{Stands, Steps}
+use Rattle.termwiz_extended_grammar.specs.ExtendedGrammar.{Steps}
 use Rattle.termwiz_extended_grammar.specs.ExtendedLaws.{CutIndependent, Resumes, StepsJoin, FewEvents}
 use Rattle.termwiz_extended_grammar.proofs.lemmas.items.ExtendedItems.{stands_stays_extended, stands_some}
 

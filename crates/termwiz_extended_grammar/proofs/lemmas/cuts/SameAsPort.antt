@@ -1,11 +1,9 @@
 -- Where no extra sequence is met, a text means what it means to the port.
-use Rattle.std.proofs.Common.{◌≡◌, ◌≢◌, ◌⊎◌, inl, inr, ⊎_elim, ℕ, ◌<◌, ◌≤◌, Bool, List, [], ◌∷◌, ◌++◌, length, map, refl, sym, ap, ◌∙◌, subst, append_assoc, arith, encode_utf8, length-append}
-use Rattle.std.specs.List.{AllByRecursion}
+use Rattle.std.proofs.Common.{◌≡◌, ◌≢◌, inl, inr, ⊎_elim, ℕ, Bool, List, [], ◌∷◌, ◌++◌, length, map, refl, sym, ap, ◌∙◌, subst, arith, length-append}
 use Rattle.termwiz_keymap.specs.Bytes.{Begins}
-use Rattle.termwiz_keys.specs.Introducers.{ESC, START, END}
+use Rattle.termwiz_keys.specs.Introducers.{ESC, END}
 use Rattle.termwiz_keys.specs.Keys.{escape}
 use Rattle.termwiz_keys.specs.declared.types.InputEvent.{InputEvent}
-use Rattle.termwiz_keys.specs.declared.types.KeyEvent.{KeyEvent}
 use Rattle.termwiz_grammar.specs.Grammar as port
 use Rattle.termwiz_grammar.specs.Grammar.{IsLongest, IsUnfinishedSequence, IsUnfinishedCharacter, IsBeginning, Item}
 use Rattle.termwiz_grammar.specs.Grammar.Item.{key, char, broken, mouse, paste, lone_escape, alt}
@@ -19,10 +17,9 @@ use Rattle.termwiz_grammar.proofs.lemmas.characters.CharacterPrefixes.{IsHigh, p
 use Rattle.termwiz_grammar.proofs.lemmas.mouse.OneReport.{IsPlain}
 use Rattle.termwiz_grammar.proofs.lemmas.read_back.WholeTexts.{escape_alone}
 use Rattle.termwiz_grammar.proofs.lemmas.cuts.ChunkInvariance.{steps_push}
-use Rattle.termwiz_extended_events.specs.declared.types.ExtendedEvent.{ExtendedEvent}
 use Rattle.termwiz_extended_events.specs.declared.types.ExtendedEvent.TheVariants.{Input}
 use Rattle.termwiz_extended_events.specs.declared.types.Rows.{Rows}
-use Rattle.termwiz_extended_grammar.specs.ExtraSequences.{StartsWithExtra, IsUnfinishedExtra}
+use Rattle.termwiz_extended_grammar.specs.ExtraSequences.{StartsWithExtra}
 use Rattle.termwiz_extended_grammar.specs.ExtendedGrammar as grammar
 use Rattle.termwiz_extended_grammar.specs.ExtendedGrammar.{IsOpen, IsUsual, BeginsKnown}
 use Rattle.termwiz_extended_grammar.specs.ExtendedGrammar.Stands.{extra, usual}

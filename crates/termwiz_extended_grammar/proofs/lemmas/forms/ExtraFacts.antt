@@ -1,10 +1,8 @@
 -- What the laws use of the extra sequences, and nothing else.
-use Rattle.std.proofs.Common.{◌≡◌, ◌≢◌, ◌⊎◌, inl, inr, ⊎_elim, ℕ, List, [], ◌∷◌, ◌++◌, refl, sym, ap, ◌∙◌, subst, arith, get_or}
+use Rattle.std.proofs.Common.{◌≡◌, ◌≢◌, inl, inr, ⊎_elim, ℕ, List, [], ◌++◌, refl, sym, ap, ◌∙◌, arith, get_or}
 use Rattle.std.specs.Prelude.{codes}
-use Rattle.termwiz_keymap.specs.Bytes.{Begins}
 use Rattle.termwiz_keys.specs.Introducers.{START}
 use Rattle.termwiz_keymap.proofs.lemmas.lists.CommonPrefixes.{append-some_left}
-use Rattle.termwiz_keys.specs.declared.types.KeyEvent.{KeyEvent}
 use Rattle.termwiz_grammar.specs.Sequences.{Meaning, IsSequence}
 use Rattle.termwiz_grammar.specs.Sequences.Meaning.{Row, Report}
 use Rattle.termwiz_grammar.proofs.lemmas.lists.Decidable.{Decision, decide_by, decide_parts}
@@ -18,7 +16,6 @@ use Rattle.termwiz_extended_grammar.specs.Forms.{IsForm, IsUnfinishedForm}
 use Rattle.termwiz_extended_grammar.specs.Forms.IsForm.{control}
 use Rattle.termwiz_extended_grammar.specs.ExtraSequences.{IsFree, IsExtra, StartsWithExtra, IsUnfinishedExtra}
 use Rattle.termwiz_extended_grammar.proofs.lemmas.forms.FormBytes.{form_shape}
-use Rattle.termwiz_extended_grammar.proofs.lemmas.forms.FormEnds.{form_ends}
 use Rattle.termwiz_extended_grammar.proofs.lemmas.forms.FormOrNot.{form_or_not, unfinished_form_or_not}
 use Rattle.termwiz_extended_grammar.proofs.lemmas.forms.Unfinished.{free_completion}
 

@@ -1,5 +1,5 @@
 -- At each text an item stands or the text waits, and it can be told which.
-use Rattle.std.proofs.Common.{◌≡◌, ◌≢◌, ◌⊎◌, inl, inr, ℕ, zero, suc, ◌+◌, ◌<◌, ◌≤◌, Bool, true, false, List, [], ◌∷◌, ◌++◌, length, refl, sym, ap, ap₂, ◌∙◌, subst, ⊎_elim, arith, length-append}
+use Rattle.std.proofs.Common.{◌≡◌, ◌⊎◌, inl, inr, ℕ, zero, suc, ◌<◌, ◌≤◌, Bool, true, false, List, [], ◌∷◌, ◌++◌, length, refl, sym, ap, ap₂, ◌∙◌, subst, ⊎_elim, arith, length-append}
 use Rattle.std.proofs.lemmas.List.{append_cancel_left}
 use Rattle.termwiz_keymap.proofs.lemmas.lists.CommonPrefixes.{append-some_left, length-some}
 use Rattle.termwiz_keys.specs.Introducers.{ESC}
@@ -25,7 +25,7 @@ use Rattle.termwiz_extended_grammar.specs.ExtendedGrammar.Stands.{extra, lone_es
 use Rattle.termwiz_extended_grammar.specs.ExtendedLaws.{EmptyIsRest, IsShort, OneMeaning, WaitingShape, Waits}
 use Rattle.termwiz_extended_grammar.specs.ExtendedLaws.Waits.{nothing, open_paste, undecided}
 use Rattle.termwiz_extended_grammar.proofs.lemmas.forms.Unfinished.{unfinished_short}
-use Rattle.termwiz_extended_grammar.proofs.lemmas.forms.ExtraFacts.{starts_or_not, unfinished_extra_or_not, form_from_unfinished, none_at_end}
+use Rattle.termwiz_extended_grammar.proofs.lemmas.forms.ExtraFacts.{starts_or_not, unfinished_extra_or_not, form_from_unfinished}
 use Rattle.termwiz_extended_grammar.proofs.lemmas.items.ExtendedItems.{stands_begins, stands_once, stands_some}
 
 -- what properly begins a sequence or a character is short

@@ -1,5 +1,5 @@
 -- What a flush leaves, and which events it gives.
-use Rattle.std.proofs.Common.{◌≡◌, ◌≢◌, ◌⊎◌, inl, inr, ⊎_elim, ℕ, ◌≤◌, Bool, true, false, List, [], ◌∷◌, ◌++◌, length, refl, sym, ap, ◌∙◌, subst, append_assoc, append-nil, arith, length-append}
+use Rattle.std.proofs.Common.{◌≡◌, ◌≢◌, ◌⊎◌, inl, inr, ⊎_elim, ℕ, ◌≤◌, Bool, false, List, [], ◌∷◌, ◌++◌, length, refl, sym, ap, ◌∙◌, subst, append_assoc, append-nil, arith, length-append}
 use Rattle.std.proofs.lemmas.List.{append_cancel_left}
 use Rattle.termwiz_keymap.specs.Bytes.{Begins}
 use Rattle.termwiz_keymap.proofs.lemmas.lists.CommonPrefixes.{append-some_left}
@@ -9,7 +9,7 @@ use Rattle.termwiz_extended_events.specs.declared.types.Rows.{Rows}
 use Rattle.termwiz_extended_grammar.specs.ExtendedGrammar.{Steps, IsRest}
 use Rattle.termwiz_extended_grammar.specs.ExtendedLaws.{Waits}
 use Rattle.termwiz_extended_grammar.specs.ExtendedLaws.Waits.{nothing, open_paste, undecided}
-use Rattle.termwiz_extended_grammar.proofs.lemmas.items.ExtendedItems.{stands_begins, stands_some}
+use Rattle.termwiz_extended_grammar.proofs.lemmas.items.ExtendedItems.{stands_some}
 use Rattle.termwiz_extended_grammar.proofs.lemmas.items.ExtendedRests.{Read, waiting_shape}
 
 -- nothing waits under a flush but an open paste

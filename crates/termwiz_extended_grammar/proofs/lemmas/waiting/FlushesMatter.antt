@@ -1,12 +1,12 @@
 -- What waits as the beginning of a sequence or of a character may go on so that a flush before changes the events.
-use Rattle.std.proofs.Common.{◌≡◌, ◌≢◌, ◌⊎◌, inl, inr, ⊎_elim, ℕ, ◌≤◌, Bool, false, List, [], ◌∷◌, ◌++◌, length, refl, sym, ap, ◌∙◌, subst, append_assoc, append-nil, arith, length-append, bit_or, encode_utf8}
+use Rattle.std.proofs.Common.{◌≡◌, ◌≢◌, ◌⊎◌, inl, inr, ⊎_elim, ℕ, ◌≤◌, false, List, [], ◌∷◌, ◌++◌, length, refl, sym, ap, ◌∙◌, subst, append_assoc, append-nil, arith, length-append, bit_or, encode_utf8}
 use Rattle.std.specs.List.{AllByRecursion}
 use Rattle.std.specs.Char.{IsScalar}
 use Rattle.std.proofs.lemmas.Nat.{le_or_r}
 use Rattle.termwiz_keymap.specs.Bytes.{Begins}
-use Rattle.termwiz_keymap.proofs.lemmas.lists.CommonPrefixes.{Overlaps, overlap, append-some, append-some_left, length-some, Begins-append, true_at_end, true_at_front}
+use Rattle.termwiz_keymap.proofs.lemmas.lists.CommonPrefixes.{Overlaps, overlap, append-some, length-some, Begins-append, true_at_end, true_at_front}
 use Rattle.termwiz_keymap.proofs.lemmas.lists.CommonPrefixes.Overlaps.{within, past}
-use Rattle.termwiz_keys.specs.Introducers.{ESC, CSI, SS3, START, END}
+use Rattle.termwiz_keys.specs.Introducers.{ESC, CSI, SS3, START}
 use Rattle.termwiz_keys.specs.Keys.{escape, with_alt, plain}
 use Rattle.termwiz_keys.specs.declared.types.KeyEvent.{KeyEvent}
 use Rattle.termwiz_keys.specs.declared.types.MouseEvent.{MouseEvent}
@@ -37,7 +37,7 @@ use Rattle.termwiz_extended_grammar.specs.Forms.{IsForm, IsStringIntroducer, IsU
 use Rattle.termwiz_extended_grammar.specs.ExtraSequences.{IsExtra, StartsWithExtra}
 use Rattle.termwiz_extended_grammar.specs.ExtendedGrammar.{BeginsKnown, Stands, Steps, Means}
 use Rattle.termwiz_extended_grammar.specs.ExtendedGrammar.Stands.{extra, lone_escape, usual}
-use Rattle.termwiz_extended_grammar.specs.ExtendedLaws.{FlushMatters, Undecided}
+use Rattle.termwiz_extended_grammar.specs.ExtendedLaws.{Undecided}
 use Rattle.termwiz_extended_grammar.proofs.lemmas.forms.FormBytes.{IsSecond, form_shape, escape_within}
 use Rattle.termwiz_extended_grammar.proofs.lemmas.forms.FormEnds.{form_ends, sequence_after_form, form_after_sequence}
 use Rattle.termwiz_extended_grammar.proofs.lemmas.forms.FormOrNot.{unfinished_form_or_not}
@@ -45,7 +45,7 @@ use Rattle.termwiz_extended_grammar.proofs.lemmas.forms.Unfinished.{free_complet
 use Rattle.termwiz_extended_grammar.proofs.lemmas.forms.ExtraFacts.{start_form, free_from_none, form_from_unfinished}
 use Rattle.termwiz_extended_grammar.proofs.lemmas.items.ExtendedItems.{starts_shape, second_not_escape, stands_once}
 use Rattle.termwiz_extended_grammar.proofs.lemmas.items.ExtendedRests.{Read, read_of, one_meaning}
-use Rattle.termwiz_extended_grammar.proofs.lemmas.cuts.BeforeEscape.{escape_comes_first, no_escape_within}
+use Rattle.termwiz_extended_grammar.proofs.lemmas.cuts.BeforeEscape.{escape_comes_first}
 use Rattle.termwiz_extended_grammar.proofs.lemmas.waiting.FlushesLeave.{HasNoStart, no_start_cons, flush_leaves, flush_gives, nothing_after, two_long}
 
 alt_not_escape : (j : KeyEvent) → Input (Key escape) ≡ Input (Key (with_alt j)) → ⊥

@@ -41,4 +41,5 @@ returns-else-second-eq92 c =
 
 pub returns-in-None : goal.returns-in-None
 returns-in-None c = string_escape_last_at c.args.introducer c.args.rest.now c.args.len c.requires.introducer
-    (omega (arith, ltb-false (c.args.len + 1) (length c.args.rest.now) (sym c.in-None.ensures.lookup.0))) c.requires.data c.if-byte-ne-ESCAPE.false (omega arith)
+    (omega (arith, ltb-false (c.args.len + 1) (length c.args.rest.now) (sym c.in-None.ensures.lookup.0))) c.requires.data
+    c.if-byte-ne-ESCAPE.false (omega arith)

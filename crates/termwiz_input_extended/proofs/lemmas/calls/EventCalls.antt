@@ -1,6 +1,5 @@
 -- Calls of a callback, one after another: a text's events are given one by one.
-use Rattle.std.proofs.Common.{◌≡◌, ℕ, Bool, List, [], ◌∷◌, ◌++◌, refl, sym, subst}
-use Rattle.std.specs.List.{FoldsTo}
+use Rattle.std.proofs.Common.{ℕ, Bool, List, [], ◌∷◌, ◌++◌, refl}
 use Rattle.std.specs.Fn.{Mut}
 use denote.Param.Members.{Called}
 use Rattle.termwiz_extended_events.specs.declared.types.ExtendedEvent.{ExtendedEvent}

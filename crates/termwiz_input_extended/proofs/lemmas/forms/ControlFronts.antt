@@ -69,7 +69,8 @@ control_long_from c run more each long = absent_front (27 ∷ 91 ∷ c ∷ (run 
     none text x y f e =
         let g = control_of text x (c ∷ (run ++ (more ++ y))) (λ h. omega (arith, each.0)) (λ h. omega (arith, each.0))
         f (e ∙ ap (λ z. 27 ∷ 91 ∷ c ∷ z) (append_assoc run more y)) in
-        let past = run_before IsInner (c ∷ run) (more ++ y) g.0.inner x g.0.last each (final_not_inner g.0.last g.0.last_is) g.1 in
+        let past = run_before IsInner (c ∷ run) (more ++ y) g.0.inner x g.0.last each
+        (final_not_inner g.0.last g.0.last_is) g.1 in
         omega (arith, past, g.0.short, ap length g.0.form, length-append g.0.inner (g.0.last ∷ []))
 
 -- inner bytes up to the limit
@@ -99,7 +100,8 @@ control_whole : (run more : List ℕ) (b : ℕ) → AllByRecursion IsInner run �
     → HasForm (27 ∷ 91 ∷ (run ++ b ∷ more)) (Whole (2 + length run + 1))
 control_whole run more b each last_is short no_mouse no_console no_row =
     subst (λ u. HasForm u (Whole (2 + length run + 1))) same
-    (whole_front (27 ∷ 91 ∷ (run ++ b ∷ [])) more (2 + length run + 1) (omega (arith, length-append run (b ∷ []))) (control (record {
+    (whole_front (27 ∷ 91 ∷ (run ++ b ∷ [])) more (2 + length run + 1) (omega (arith, length-append run (b ∷ [])))
+    (control (record {
       inner = run;
       last = b;
       form = refl;
@@ -158,7 +160,8 @@ control_whole_at r n inside short each last_is no_mouse no_console no_row =
     (subst (λ z. get_or z 0 0 ≢ 91) (sym parts) no_console)
     (subst (λ z. ¬ IsRow z) (sym parts) no_row)))
 
-pub control_long_at : (r : List ℕ) (n : ℕ) → n ≤ length r → 254 ≤ n → AllByRecursion IsInner (take n r) → HasForm (27 ∷ 91 ∷ r) Absent
+pub control_long_at : (r : List ℕ) (n : ℕ) → n ≤ length r → 254 ≤ n → AllByRecursion IsInner (take n r)
+    → HasForm (27 ∷ 91 ∷ r) Absent
 control_long_at r n inside long each = subst (λ z. HasForm (27 ∷ 91 ∷ z) Absent) (take-append-drop n r)
     (control_long (take n r) (drop n r) each (omega (arith, length-take-le n r inside)))
 

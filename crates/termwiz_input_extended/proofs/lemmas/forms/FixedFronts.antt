@@ -96,7 +96,8 @@ console_absent b r n = absent_front (27 ∷ 91 ∷ 91 ∷ b ∷ r) none
         let all : 27 ∷ 79 ∷ f.letter ∷ x ≡ 27 ∷ 91 ∷ 91 ∷ b ∷ (r ++ y) = ap (λ t. t ++ x) (sym f.form) ∙ e in
         let same : ◌≡◌ {A = ℕ} 79 91 = cc (all) in omega arith
     none text x y (string f) e =
-        let all : 27 ∷ f.introducer ∷ ((f.body ++ f.end) ++ x) ≡ 27 ∷ 91 ∷ 91 ∷ b ∷ (r ++ y) = ap (λ t. t ++ x) (sym f.form) ∙ e in
+        let all : 27 ∷ f.introducer ∷ ((f.body ++ f.end) ++ x) ≡ 27 ∷ 91 ∷ 91 ∷ b ∷ (r ++ y) =
+        ap (λ t. t ++ x) (sym f.form) ∙ e in
         let same : f.introducer ≡ 91 = cc (all) in
         let is : IsStringIntroducer f.introducer = f.introducer_is in
         omega arith
@@ -137,7 +138,8 @@ x10_bytes text x t (string f) e = absurd (
 
 -- a byte below SPACE among the three
 pub x10_absent : (r : List ℕ) (n : ℕ) → n < length r → n < 3 → get_or r n 0 < 32 → HasForm (27 ∷ 91 ∷ 77 ∷ r) Absent
-x10_absent r n inside few low = absent_front (27 ∷ 91 ∷ 77 ∷ r) (λ text x y f e. none r n inside few low x y (x10_bytes text x (r ++ y) f e))
+x10_absent r n inside few low = absent_front (27 ∷ 91 ∷ 77 ∷ r)
+    (λ text x y f e. none r n inside few low x y (x10_bytes text x (r ++ y) f e))
   where
     none : (r : List ℕ) (n : ℕ) → n < length r → n < 3 → get_or r n 0 < 32 → (x y : List ℕ)
         → (a b c : ℕ) × (r ++ y ≡ a ∷ b ∷ c ∷ x) × IsMouseByte a × IsMouseByte b × IsMouseByte c → ⊥
@@ -146,7 +148,8 @@ x10_absent r n inside few low = absent_front (27 ∷ 91 ∷ 77 ∷ r) (λ text x
     none (d ∷ []) (suc n) inside few low x y h = omega arith
     none (d ∷ f ∷ r) (suc zero) inside few low x y (a, b, c, e, p, q, s) = let same : f ≡ b = cc (e) in omega (arith, q.0)
     none (d ∷ f ∷ []) (suc (suc n)) inside few low x y h = omega arith
-    none (d ∷ f ∷ g ∷ r) (suc (suc zero)) inside few low x y (a, b, c, e, p, q, s) = let same : g ≡ c = cc (e) in omega (arith, s.0)
+    none (d ∷ f ∷ g ∷ r) (suc (suc zero)) inside few low x y (a, b, c, e, p, q, s) =
+        let same : g ≡ c = cc (e) in omega (arith, s.0)
     none (d ∷ f ∷ g ∷ r) (suc (suc (suc n))) inside few low x y h = omega arith
 
 pub x10_whole : (r : List ℕ) → 3 ≤ length r → AllByRecursion IsMouseByte (take 3 r) → HasForm (27 ∷ 91 ∷ 77 ∷ r) (Whole 6)

@@ -20,7 +20,8 @@ scanned_grows u s scanned (at_start l) = at_start l
 scanned_grows u s scanned (in_control inner rest e each l) =
     in_control inner (rest ++ s) (ap (λ z. z ++ s) e ∙ ap (λ z. 27 ∷ 91 ∷ z) (append_assoc inner rest s)) each l
 scanned_grows u s scanned (in_string introducer body rest e is each l) =
-    in_string introducer body (rest ++ s) (ap (λ z. z ++ s) e ∙ ap (λ z. 27 ∷ introducer ∷ z) (append_assoc body rest s)) is each l
+    in_string introducer body (rest ++ s)
+    (ap (λ z. z ++ s) e ∙ ap (λ z. 27 ∷ introducer ∷ z) (append_assoc body rest s)) is each l
 
 none_before : (P : ℕ → Type 0) (r : List ℕ) (scanned : ℕ) → scanned ≤ 2 → AllByRecursion P (take (scanned - 2) r)
 none_before P r scanned l = let none : 0 ≡ scanned - 2 = omega arith in subst (λ n. AllByRecursion P (take n r)) none tt

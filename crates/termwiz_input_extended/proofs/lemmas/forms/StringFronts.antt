@@ -53,7 +53,8 @@ string_of introducer text x t is (string f) e = by_end f.end_is
     by_end : IsStringEnd f.introducer f.end → Body introducer t x
     by_end (inl h) = (f.body, 27, 2, 92 ∷ x, after ST h, f.each, inl (refl, refl, refl), size 2 (ap length h))
     by_end (inr h) =
-        (f.body, 7, 1, x, after BEL h.1, f.each, inr (refl, refl, refl, (let same : f.introducer ≡ introducer = cc (all) in sym same ∙ h.0)), size 1 (ap length h.1))
+        let same : f.introducer ≡ introducer = cc (all) in
+        (f.body, 7, 1, x, after BEL h.1, f.each, inr (refl, refl, refl, sym same ∙ h.0), size 1 (ap length h.1))
 
 no_data_ends : (introducer v size : ℕ) (x s : List ℕ) → Ending introducer x v s size → ¬ IsData v
 no_data_ends introducer v size x s (inl h) d = omega (arith, h.0)
@@ -146,7 +147,8 @@ string_escapes_at introducer r n is inside each escape other =
     (string_stops introducer (get_or r n 0) (take n r) (drop (suc n) r) is each (λ d. omega arith) none (λ e i. omega arith))
   where
     none : (x y : List ℕ) → get_or r n 0 ≡ 27 → drop (suc n) r ++ y ≡ 92 ∷ x → length (take n r) + 4 ≤ most_string → ⊥
-    none x y e f l = other (ap (λ k. get_or r k 0) (omega arith) ∙ sym (get_or-drop (suc n) r 0 0) ∙ first (drop (suc n) r) (omega (arith, length-drop (suc n) r)) f)
+    none x y e f l = other (ap (λ k. get_or r k 0) (omega arith) ∙ sym (get_or-drop (suc n) r 0 0)
+        ∙ first (drop (suc n) r) (omega (arith, length-drop (suc n) r)) f)
       where
         first : (s : List ℕ) → 0 < length s → s ++ y ≡ 92 ∷ x → get_or s 0 0 ≡ 92
         first [] some h = absurd (omega arith)

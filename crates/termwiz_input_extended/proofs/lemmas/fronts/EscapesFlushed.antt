@@ -1,5 +1,5 @@
 -- A flush of ESC or ESC ESC means what it means to the port.
-use Rattle.std.proofs.Common.{◌≡◌, ◌⊎◌, ⊎_elim, ℕ, Bool, false, true, List, [], ◌∷◌, ◌++◌, length, refl, sym, ap, ◌∙◌, subst}
+use Rattle.std.proofs.Common.{◌≡◌, ⊎_elim, ℕ, Bool, false, List, [], ◌∷◌, ◌++◌, refl, sym, subst}
 use Rattle.std.specs.List.{AllByRecursion}
 use Rattle.termwiz_keymap.proofs.lemmas.lists.CommonPrefixes.{true_at_end}
 use Rattle.termwiz_keys.specs.Introducers.{ESC}

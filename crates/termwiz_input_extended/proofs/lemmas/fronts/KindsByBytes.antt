@@ -1,12 +1,12 @@
 -- The first bytes tell what kind of bytes stays buffered.
-use Rattle.std.proofs.Common.{◌≡◌, ◌≢◌, ◌⊎◌, inl, inr, ⊎_elim, ℕ, ◌+◌, ◌<◌, ◌≤◌, Bool, true, List, [], ◌∷◌, ◌++◌, length, refl, sym, ap, ◌∙◌, subst, append_assoc, arith, length-append}
+use Rattle.std.proofs.Common.{◌≡◌, ◌≢◌, inl, inr, ⊎_elim, ℕ, ◌<◌, ◌≤◌, Bool, true, List, [], ◌∷◌, ◌++◌, length, refl, sym, ap, ◌∙◌, subst, arith, length-append}
 use Rattle.std.specs.List.{AllByRecursion}
 use Rattle.termwiz_keymap.specs.Bytes.{Begins}
 use Rattle.termwiz_keymap.proofs.lemmas.lists.CommonPrefixes.{append-some, length-some}
 use Rattle.termwiz_keys.specs.Introducers.{ESC, START}
 use Rattle.termwiz_grammar.specs.declared.waiting.Waiting.{Waiting}
 use Rattle.termwiz_grammar.specs.declared.waiting.Waiting.TheVariants.{Nothing, Escape, Sequence, Character, Paste}
-use Rattle.termwiz_grammar.specs.Grammar.{IsUnfinishedSequence, IsUnfinishedCharacter}
+use Rattle.termwiz_grammar.specs.Grammar.{IsUnfinishedCharacter}
 use Rattle.termwiz_grammar.specs.Laws.{IsHeldEscape}
 use Rattle.termwiz_grammar.specs.Sequences.{IsSequence}
 use Rattle.termwiz_grammar.specs.WaitingKinds.{IsHeldThen, IsOneOrTwoEscapes}
@@ -16,11 +16,10 @@ use Rattle.termwiz_grammar.proofs.lemmas.table.RowShape.{Bytes}
 use Rattle.termwiz_grammar.proofs.lemmas.table.RowShape.Bytes.{one, more}
 use Rattle.termwiz_grammar.proofs.lemmas.table.SequenceFacts.{sequence_bytes, start_ends}
 use Rattle.termwiz_grammar.proofs.lemmas.waiting.RestKinds.{CharacterBytes}
-use Rattle.termwiz_input.specs.WaitingBytes.{IsToldByBytes, IsNoOtherKind}
+use Rattle.termwiz_input.specs.WaitingBytes.{IsToldByBytes}
 use Rattle.termwiz_input.proofs.lemmas.heads.FirstHighByte.{high_bytes, begins_high}
 use Rattle.termwiz_extended_events.specs.declared.types.Rows.{Rows}
-use Rattle.termwiz_extended_grammar.specs.ExtraSequences.{IsUnfinishedExtra}
-use Rattle.termwiz_extended_grammar.specs.ExtendedGrammar.{BeginsKnown, IsRest}
+use Rattle.termwiz_extended_grammar.specs.ExtendedGrammar.{IsRest}
 use Rattle.termwiz_extended_grammar.specs.ExtendedLaws.{Waits}
 use Rattle.termwiz_extended_grammar.specs.ExtendedLaws.Waits.{nothing, open_paste, undecided}
 use Rattle.termwiz_extended_grammar.specs.Forms.{IsForm}

@@ -1,5 +1,5 @@
 -- What is left if no item is there.
-use Rattle.std.proofs.Common.{◌≡◌, ◌⊎◌, inl, inr, ⊎_elim, ℕ, ◌+◌, ◌≤◌, Bool, true, false, List, [], ◌∷◌, ◌++◌, length, ap, subst, sym, arith, length-append, Option, Some, None, Result, Ok, Err, IfOk, IfNone}
+use Rattle.std.proofs.Common.{◌≡◌, ◌⊎◌, inl, inr, ⊎_elim, ℕ, ◌+◌, ◌≤◌, Bool, false, List, [], ◌++◌, length, ap, subst, sym, arith, length-append, Option, Some, None, Result, Ok, Err, IfOk, IfNone}
 use Rattle.termwiz_keymap.specs.Bytes.{Begins}
 use Rattle.termwiz_keys.specs.Introducers.{ESC, START}
 use Rattle.termwiz_grammar.specs.Laws.{IsHeldEscape}

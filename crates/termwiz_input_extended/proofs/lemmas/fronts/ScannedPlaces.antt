@@ -1,18 +1,12 @@
 -- What was looked at stays so while the text grows.
-use Rattle.std.proofs.Common.{◌≡◌, ◌≢◌, ⊎_elim, ℕ, ◌+◌, ◌-◌, ◌≤◌, List, [], ◌∷◌, ◌++◌, length, refl, sym, ap, ◌∙◌, subst, append_assoc, arith, length-append, Result, Ok, Err, OnOk, OnErr}
+use Rattle.std.proofs.Common.{◌≡◌, ℕ, ◌+◌, ◌-◌, ◌≤◌, List, [], ◌∷◌, ◌++◌, length, sym, ap, ◌∙◌, subst, arith, length-append, Result, Ok, Err, OnOk, OnErr}
 use Rattle.termwiz_keymap.specs.Bytes.{Begins}
 use Rattle.termwiz_keymap.proofs.lemmas.lists.CommonPrefixes.{Begins-append}
-use Rattle.termwiz_keys.specs.Introducers.{ESC, CSI}
+use Rattle.termwiz_keys.specs.Introducers.{ESC}
 use Rattle.termwiz_input_extended.specs.FormAnswers.{IsScanned}
-use Rattle.termwiz_input_extended.specs.FormAnswers.IsScanned.{at_start, in_control, in_string}
+use Rattle.termwiz_input_extended.specs.FormAnswers.IsScanned.{at_start}
 use Rattle.termwiz_input_extended.specs.ExtendedFronts.{IsScannedTo}
-
-scanned_grows : (u s : List ℕ) (place : ℕ) → IsScanned u place → IsScanned (u ++ s) place
-scanned_grows u s place (at_start early) = at_start early
-scanned_grows u s place (in_control inner rest split each far) =
-    in_control inner (rest ++ s) (ap (λ x. x ++ s) split ∙ append_assoc (CSI ++ inner) rest s) each far
-scanned_grows u s place (in_string introducer body rest split is each far) =
-    in_string introducer body (rest ++ s) (ap (λ x. x ++ s) split ∙ ap (λ x. 27 ∷ introducer ∷ x) (append_assoc body rest s)) is each far
+use Rattle.termwiz_input_extended.proofs.lemmas.forms.Scanned.{scanned_grows}
 
 -- nothing was looked at
 pub scanned_none : (u : List ℕ) → IsScannedTo u 0

@@ -1,4 +1,4 @@
-use Rattle.std.proofs.Common.{◌∷◌, [], drop, refl, sym, ap, subst}
+use Rattle.std.proofs.Common.{◌∷◌, [], sym, ap, subst}
 use Rattle.termwiz_keys.specs.Keys.{escape}
 use Rattle.termwiz_keys.specs.declared.types.InputEvent.TheVariants.{Key}
 use Rattle.termwiz_extended_events.specs.declared.types.ExtendedEvent.TheVariants.{Input}
