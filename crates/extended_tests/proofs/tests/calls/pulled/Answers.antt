@@ -1,0 +1,11 @@
+use Rattle.std.proofs.Common.{[], ◌∷◌, arith, length}
+use Rattle.extended_tests.proofs.tests.calls.pulled.Goals as goal
+
+pub loop-events-smaller : goal.loop-events-smaller
+loop-events-smaller c =
+    let step = rw c.in-Some.is at c.in_ok-event.ensures.event in
+    omega (
+      arith,
+      c.few_events.ensures c.loop-events.parser.rows c.loop-events.parser.text c.next_event.new.self.text (c.in-Some.event ∷ [])
+          c.args.more step,
+    )
