@@ -24,7 +24,8 @@
  *
  * - A pointer of length 0 may be NULL. Every other pointer must be non-null.
  * - Two pointers of one call must not lead to the same memory, and each leads to as much as its type or length says.
- * - A tw_parser and a tw_keymap are all zero (TW_PARSER_NONE, TW_KEYMAP_NONE) or as a call of this library left them.
+ * - A tw_parser, a tw_extended and a tw_keymap are all zero (TW_PARSER_NONE, TW_EXTENDED_NONE, TW_KEYMAP_NONE) or as a call of this
+ *   library left them.
  * - Any thread may call, but no two calls on the same parser or the same map may run at the same time, not even two that only read.
  * - No call is made in a signal handler nor, if the program has threads, in a forked child before it calls exec: the calls ask malloc.
  * - A bool is false or true.
@@ -454,6 +455,157 @@ uint32_t tw_keymap_lookup(const tw_keymap *map, const uint8_t *text, size_t len,
 /* Returns the number of keys, 0 if there is no map. */
 size_t tw_keymap_len(const tw_keymap *map);
 
+/* The extended parser, or none. It reads what a tw_parser reads, and what terminals send beyond the sequence table: replies to questions,
+ * focus reports, other mouse reports, control sequences and strings, and Kitty's keyboard protocol. docs/EXTENDED.md says what bytes mean
+ * to it. A program makes it in place of a tw_parser and calls it in the same way. It may be moved as a tw_parser may. */
+typedef struct tw_extended {
+  bool live;
+  void *state;
+} tw_extended;
+
+/* The value of a tw_extended that is none. */
+#define TW_EXTENDED_NONE { false, NULL }
+
+/* How the rows of the sequence table are read: what tw_extended_init is given. */
+enum tw_rows_read {
+  /* numbers.txt: rows c */
+  TW_ROWS_PORT = 0, /* Each row keeps its key. For programs that leave Kitty's keyboard protocol off. */
+  TW_ROWS_KITTY = 1 /* A row that reports a key or the cursor's position is read as that report. For programs that turn the protocol on. */
+  /* numbers.txt: end */
+};
+
+/* The kinds of events of the extended parser: the field kind of a tw_extended_event. The first four are those of enum tw_kind. */
+enum tw_extended_kind {
+  /* numbers.txt: event c */
+  TW_EVENT_OTHER = 0, /* None of these. No event has this kind. */
+  TW_EVENT_KEY = 1, /* A key was pressed: a row of the sequence table, or a character. */
+  TW_EVENT_MOUSE = 2, /* The mouse was moved, one of its buttons was pressed or released, or a wheel was turned. */
+  TW_EVENT_PASTE = 3, /* Text was pasted, in bracketed paste mode. */
+  TW_EVENT_REPORT = 4, /* A key report: a key was pressed, held down or released. */
+  TW_EVENT_FOCUS_GAINED = 5, /* The terminal's window gained the focus (mode 1004). */
+  TW_EVENT_FOCUS_LOST = 6, /* The terminal's window lost the focus. */
+  TW_EVENT_CURSOR_POSITION = 7, /* The reply to a question for the cursor's position. */
+  TW_EVENT_RESIZE = 8, /* The terminal has a new size (mode 2048). */
+  TW_EVENT_KEYBOARD_FLAGS = 9, /* The reply to a question for the flags of Kitty's keyboard protocol. */
+  TW_EVENT_CSI = 10, /* Any other control sequence. */
+  TW_EVENT_OSC = 11, /* An operating system command, such as the reply to a question for a colour. */
+  TW_EVENT_DCS = 12, /* A device control string, such as the reply to a question for the terminal's name and version. */
+  TW_EVENT_APC = 13 /* An application program command, such as a reply of Kitty's graphics protocol. */
+  /* numbers.txt: end */
+};
+
+/* What happened to a key: the field action of a tw_key_report. */
+enum tw_action {
+  /* numbers.txt: action c */
+  TW_ACTION_PRESS = 1, /* It was pressed. */
+  TW_ACTION_REPEAT = 2, /* It was held down so long that it repeats. */
+  TW_ACTION_RELEASE = 3 /* It was released. */
+  /* numbers.txt: end */
+};
+
+/* The modifiers of a key report, by Kitty's bits. */
+enum tw_report_mod {
+  /* numbers.txt: held c */
+  TW_HELD_NONE = 0, /* No modifier. */
+  TW_HELD_SHIFT = 1, /* Shift. */
+  TW_HELD_ALT = 2, /* Alt. */
+  TW_HELD_CTRL = 4, /* Ctrl. */
+  TW_HELD_SUPER = 8, /* Super: the key with the Windows logo, or Command. */
+  TW_HELD_HYPER = 16, /* Hyper. */
+  TW_HELD_META = 32, /* Meta. */
+  TW_HELD_CAPS_LOCK = 64, /* Caps Lock is on. */
+  TW_HELD_NUM_LOCK = 128 /* Num Lock is on. */
+  /* numbers.txt: end */
+};
+
+/* The code point in shifted and base of a tw_key_report, if the terminal didn't report one. */
+#define TW_NO_CODE 0xffffffffu
+
+/* A key, what happened to it, and what the terminal reported of it. */
+typedef struct tw_key_report {
+  uint8_t action;    /* an enum tw_action */
+  uint8_t modifiers; /* a set of TW_HELD_.. */
+  uint16_t key;      /* an enum tw_key, or 0 for a key that has no name there */
+  uint32_t detail;   /* the code point with TW_KEY_CHAR, the number with TW_KEY_FUNCTION, with key 0 the number in Kitty's table of keys */
+  uint32_t shifted;  /* the code point that the key types with Shift, or TW_NO_CODE */
+  uint32_t base;     /* the code point that the key at this place types on the standard layout (PC-101), or TW_NO_CODE */
+} tw_key_report;
+
+/* An event of the extended parser. What its kind has no use for is 0. */
+typedef struct tw_extended_event {
+  uint8_t kind;         /* an enum tw_extended_kind */
+  uint8_t flags;        /* TW_EVENT_KEYBOARD_FLAGS: a set of TW_KITTY_.. */
+  uint16_t row;         /* TW_EVENT_CURSOR_POSITION: the row, as the terminal sent it: the topmost is 1 */
+  uint16_t column;      /* TW_EVENT_CURSOR_POSITION: the column, as the terminal sent it: the leftmost is 1 */
+  uint16_t rows;        /* TW_EVENT_RESIZE: the number of rows */
+  uint16_t columns;     /* TW_EVENT_RESIZE: the number of columns */
+  uint16_t height;      /* TW_EVENT_RESIZE: the height in pixels */
+  uint16_t width;       /* TW_EVENT_RESIZE: the width in pixels */
+  tw_key_report report; /* TW_EVENT_REPORT: the report; TW_EVENT_KEY: the same key as a press, so that a program needs one case for both */
+  tw_event input;       /* TW_EVENT_KEY, TW_EVENT_MOUSE, TW_EVENT_PASTE: the event as tw_parser_next writes it */
+  size_t text_len;      /* the number of bytes that the event brought, which tw_extended_text copies: see there */
+} tw_extended_event;
+
+/* Makes an extended parser with an empty buffer. If there was one, it is freed. The caller owes a tw_extended_free. Pass TW_ROWS_KITTY to a
+ * program that turns Kitty's keyboard protocol on, and TW_ROWS_PORT to any other. It costs what a tw_parser costs.
+ *
+ * Returns false if memory is refused or rows is no enum tw_rows_read: then the parser is unchanged. */
+bool tw_extended_init(tw_extended *parser, uint32_t rows);
+
+/* Frees what the parser owns, and leaves TW_EXTENDED_NONE. If there is no parser, it does nothing, so it may be called twice. */
+void tw_extended_free(tw_extended *parser);
+
+/* Appends len bytes to the buffer, as tw_parser_feed does.
+ *
+ * Returns false if memory is refused: then none of them is buffered, and the call may be made again. It also returns false if there is
+ * no parser. A call without bytes needs no memory. */
+bool tw_extended_feed(tw_extended *parser, const uint8_t *bytes, size_t len);
+
+/* Consumes the item at the front of the buffer, and writes its event to *event. The caller calls this until it returns TW_NONE, and passes
+ * more as to tw_parser_next.
+ *
+ * Returns an enum tw_next. *event is written only with TW_EVENT. With TW_NO_MEMORY, which only an event with bytes of its own can meet,
+ * nothing changed. */
+uint32_t tw_extended_next(tw_extended *parser, bool more, tw_extended_event *event);
+
+/* Copies the bytes that the last such event brought to out, at most len of them: the text of a TW_EVENT_PASTE, the text that the key of a
+ * TW_EVENT_REPORT types, if the terminal reported it, and the bytes of a TW_EVENT_CSI, _OSC, _DCS or _APC after ESC and the byte that
+ * introduces it, those of a string without its end. The two texts are UTF-8. The rest of out is unchanged.
+ *
+ * Returns the number of all these bytes, as text_len has it: the parser keeps them until the next event of one of these kinds or
+ * tw_extended_drop_text. Returns 0 if there are none, or if there is no parser. */
+size_t tw_extended_text(const tw_extended *parser, uint8_t *out, size_t len);
+
+/* Frees these bytes: tw_extended_text returns 0 until the next such event. If there are none or there is no parser, it does nothing. */
+void tw_extended_drop_text(tw_extended *parser);
+
+/* Returns the number of bytes that are buffered, 0 if there is no parser. Without an open paste it is at most 65536. */
+size_t tw_extended_waiting(const tw_extended *parser);
+
+/* Returns what stays buffered, an enum tw_waiting, as tw_parser_waiting_kind does. The beginning of a control sequence or of a string is a
+ * TW_WAITING_SEQUENCE. */
+uint32_t tw_extended_waiting_kind(const tw_extended *parser);
+
+/* Writes the Escape key to *event if ESC alone is buffered, with TW_MOD_ALT if ESC ESC is, and consumes it, as tw_parser_flush_escape does.
+ *
+ * Returns TW_EVENT, TW_NONE if anything else or nothing is buffered, or TW_NO_PARSER. *event is written only with TW_EVENT. */
+uint32_t tw_extended_flush_escape(tw_extended *parser, tw_extended_event *event);
+
+/* Returns whether the buffer begins with the start of a paste, which is buffered without limit until its end arrives. Returns false if
+ * there is no parser. */
+bool tw_extended_is_paste_open(const tw_extended *parser);
+
+/* Ends an open paste where it is, as tw_parser_end_paste does: the event is a TW_EVENT_PASTE, whose text is what came so far.
+ *
+ * Returns TW_EVENT, TW_NONE if no paste is open, TW_NO_MEMORY, or TW_NO_PARSER. *event is written only with TW_EVENT. With TW_NO_MEMORY
+ * nothing changed, and the call may be made again. */
+uint32_t tw_extended_end_paste(tw_extended *parser, tw_extended_event *event);
+
+/* Forgets all that is buffered, an open paste too. The bytes of the last event are kept, and no memory is freed.
+ *
+ * Returns the number of bytes that were buffered, 0 if there is no parser. */
+size_t tw_extended_reset(tw_extended *parser);
+
 /* Returns the version of the library that is linked, as TW_VERSION_NUMBER has that of the header. */
 uint32_t tw_version(void);
 
@@ -465,6 +617,11 @@ TW_IS(event_end, offsetof(tw_event, detail) == 12 && offsetof(tw_event, paste_le
 TW_IS(keymap, sizeof(tw_keymap) == 16 && offsetof(tw_keymap, state) == 8);
 TW_IS(rows, sizeof(tw_rows) == 24 && offsetof(tw_rows, count) == 8 && offsetof(tw_rows, with_alt) == 16);
 TW_IS(match, sizeof(tw_match) == 16 && offsetof(tw_match, value) == 8);
+TW_IS(extended, sizeof(tw_extended) == 16 && offsetof(tw_extended, state) == 8);
+TW_IS(report, sizeof(tw_key_report) == 16 && offsetof(tw_key_report, key) == 2 && offsetof(tw_key_report, base) == 12);
+TW_IS(extended_event, sizeof(tw_extended_event) == 64 && offsetof(tw_extended_event, row) == 2 && offsetof(tw_extended_event, width) == 12);
+TW_IS(extended_end, offsetof(tw_extended_event, report) == 16 && offsetof(tw_extended_event, input) == 32);
+TW_IS(extended_text, offsetof(tw_extended_event, text_len) == 56);
 TW_IS(modes, sizeof(tw_modes) == 16 && offsetof(tw_modes, encoding) == 8 && offsetof(tw_modes, has_modify_other_keys) == 12);
 #undef TW_IS
 

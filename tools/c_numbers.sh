@@ -41,7 +41,8 @@ place_in() { # file places..
 }
 
 failed=0
-place_in c/termwiz_input.h 'next c' 'waiting c' 'encoded c' 'found c' 'kind c' 'encoding c' 'kitty c' 'modifier c' 'button c' 'key c' || failed=1
+place_in c/termwiz_input.h 'next c' 'waiting c' 'encoded c' 'found c' 'kind c' 'encoding c' 'kitty c' 'modifier c' 'button c' 'key c' \
+    'rows c' 'event c' 'action c' 'held c' || failed=1
 place_in rust/src/raw.rs 'next const' 'waiting const' 'encoded const' 'found const' 'kind const' 'encoding const' || failed=1
 place_in rust/src/input/flags.rs 'kitty flag' 'modifier flag' 'button flag' || failed=1
 place_in rust/src/input/keys.rs 'key variant' 'key number' 'key of' || failed=1
@@ -88,6 +89,9 @@ if [ -n "$check" ]; then
     proved_in 'next encoded' crates/termwiz_c/src/lib.rt || failed=1
     proved_in waiting crates/termwiz_c/src/lib.rt || failed=1
     proved_in found crates/termwiz_c/src/keymap_calls.rt || failed=1
+    proved_in rows crates/termwiz_c/src/extended_calls.rt || failed=1
+    proved_in event crates/termwiz_c/src/extended_events.rt || failed=1
+    proved_in action crates/termwiz_c/src/extended_events.rt || failed=1
     proved_in modifier crates/termwiz_base/src/modifiers.rt || failed=1
     proved_in kitty crates/termwiz_base/src/kitty.rt || failed=1
     proved_in button crates/termwiz_keys/src/types.rt || failed=1

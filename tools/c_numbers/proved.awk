@@ -3,8 +3,8 @@
 #     awk -v groups='GROUP ..' -f proved.awk LIST FILE..
 #
 # It reads lines of these forms: of keys `KeyCode::NAME => N`, of flags `pub const NAME: TYPE = TYPE(N);` (N also as 1 << K), of answers
-# `const NAME: u32 = N;`, of what stays buffered `const WAITING_NAME: u32 = N;`, of lookups `const FOUND_NAME: u32 = N;`, also after
-# `pub(crate)`, of encodings `N => Some(KeyboardEncoding::NAME`, and of kinds `kind: N` after `InputEvent::NAME` or NO_EVENT.
+# `const NAME: u32 = N;`, of what stays buffered `const WAITING_NAME: u32 = N;`, and so with FOUND_, ROWS_, EVENT_ and ACTION_, also u8 and
+# after `pub(crate)`, of encodings `N => Some(KeyboardEncoding::NAME`, and of kinds `kind: N` after `InputEvent::NAME` or NO_EVENT.
 NR == FNR {
     if (index(" " groups " ", " " $1 " ")) {
         wanted[$2] = $3
@@ -26,7 +26,7 @@ groups ~ /^(modifier|button|kitty)$/ && /^ *pub const [A-Z0-9_]+: [A-Za-z]+ = [A
     met($3, parts[1] * 2 ^ (parts[2] + 0))
 }
 groups == "next encoded" && /^const [A-Z0-9_]+: u32 = [0-9]+;$/ && !/^const (WAITING|VERSION)_/ { met($2, $5) }
-groups ~ /^(waiting|found)$/ && /^(pub\(crate\) )?const [A-Z0-9_]+: u32 = [0-9]+;$/ {
+groups ~ /^(waiting|found|rows|event|action)$/ && /^(pub\(crate\) )?const [A-Z0-9_]+: u(8|32) = [0-9]+;$/ {
     sub(/^pub\(crate\) /, "")
     prefix = toupper(groups) "_"
     if (index($2, prefix) == 1) met(substr($2, length(prefix) + 1), $5)
