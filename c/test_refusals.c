@@ -5,33 +5,10 @@
  *
  * Of the requests of tw_parser_init it refuses each STEPth (each, if no STEP is given). */
 #include "expect.h"
+#include "refuse.h"
 #include "termwiz_input.h"
 #include <stdlib.h>
 #include <string.h>
-
-void *__real_malloc(size_t size);
-void *__real_realloc(void *block, size_t size);
-void *__wrap_malloc(size_t size);
-void *__wrap_realloc(void *block, size_t size);
-
-/* How many requests there are to the one that is refused, or 0; and how many were refused. */
-static long to_refusal;
-static unsigned refused;
-
-static bool refuses(void) {
-  if (to_refusal == 0 || --to_refusal > 0) return false;
-  refused++;
-  return true;
-}
-
-void *__wrap_malloc(size_t size) { return refuses() ? NULL : __real_malloc(size); }
-
-void *__wrap_realloc(void *block, size_t size) { return refuses() ? NULL : __real_realloc(block, size); }
-
-static void refuse(long number) {
-  to_refusal = number;
-  refused = 0;
-}
 
 /* What a run saw: the events with their texts, and the refusals that were told. */
 static uint8_t seen[8192];

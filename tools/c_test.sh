@@ -7,8 +7,8 @@
 # The example and the tests in c/ are built as C99, the example also as C++, and linked with the archive and with the shared library; the
 # crate in rust/ is built with its tests, with the examples in its documentation, and with serde. It has to find the library in each way
 # that docs/rust.md names, and to say so if there is none. The tests also run under valgrind (of those in Rust all but the longest), which
-# has to find no error and no leak. A test in C and one in Rust refuse every request for memory in turn. The live programs run on a
-# pseudo-terminal, as tools/live_test.sh says, and all is installed and removed again, as tools/install_test.sh says. The last line is
+# has to find no error and no leak. Two tests in C and one in Rust refuse every request for memory in turn. The live programs run on a
+# pseudo-terminal, as tools/live_test.sh says, and the one that asks its terminal, as tools/ask_test.sh says, and all is installed and removed again, as tools/install_test.sh says. The last line is
 # 'N passed, N failed', the status 1 if a case failed.
 #
 # DIR is a folder that tools/c_library.sh wrote; without --library the library is built. With --built the keyshow that `rt ci` left in
@@ -183,15 +183,24 @@ check 'build of the calls' cc -std=c99 $strict -I"$work/lib" c/test_calls.c "$ar
 check 'build with the shared library' cc -std=c99 $strict -I"$work/lib" c/test_calls.c $shared -o "$work/calls_shared"
 check 'build of the refusals' cc -std=c99 $strict -I"$work/lib" -Wl,--wrap=malloc -Wl,--wrap=realloc c/test_refusals.c "$archive" \
     -o "$work/refusals"
+check 'build of the extended calls' cc -std=c99 $strict -I"$work/lib" c/test_extended.c "$archive" -o "$work/extended"
+check 'build of their refusals' cc -std=c99 $strict -I"$work/lib" -Wl,--wrap=malloc -Wl,--wrap=realloc c/test_extended_refusals.c \
+    "$archive" -o "$work/extended_refusals"
+check 'asking program as C99' cc -std=c99 $strict -I"$work/lib" c/ask.c "$archive" -o "$work/ask"
+check 'asking program in C' tools/ask_test.sh "$work/ask"
 check 'live program as C99' cc -std=c99 $strict -I"$work/lib" c/live.c "$archive" -o "$work/live"
 check 'live program in C' tools/live_test.sh "$work/live"
 check 'calls' "$work/calls" c/numbers.txt
 check 'calls of the shared library' "$work/calls_shared" c/numbers.txt
 check 'refusals' "$work/refusals"
+check 'extended calls' "$work/extended"
+check 'refusals of extended calls' "$work/extended_refusals"
 
 if wants valgrind; then
     check 'calls under valgrind' $memcheck --errors-for-leak-kinds=all "$work/calls" c/numbers.txt
     check 'refusals under valgrind' $memcheck --errors-for-leak-kinds=all "$work/refusals" 1000
+    check 'extended calls under valgrind' $memcheck --errors-for-leak-kinds=all "$work/extended"
+    check 'refusals of extended calls under valgrind' $memcheck --errors-for-leak-kinds=all "$work/extended_refusals" 1000
 fi
 
 # The streams of the Rust crate's tests are compared with what keyshow prints, and keyshow is installed too.

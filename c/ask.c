@@ -1,0 +1,128 @@
+/* Asks the terminal where its cursor is, for its colours and for the flags of Kitty's keyboard protocol, and prints its replies.
+ *
+ *     cc ask.c $(pkg-config --cflags --libs termwiz_c) -o ask && ./ask
+ *
+ * The last question is what the terminal is (DA1), which every terminal answers. Replies come in the order of the questions, so a reply
+ * that hasn't come before that one won't come. Without any the program gives up after a second. Keys that are typed meanwhile are read as
+ * keys, and no byte of a reply is taken for one. The terminal's settings are restored, also by a signal that ends the program. */
+#define _POSIX_C_SOURCE 200809L
+#include "termwiz_input.h"
+#include <errno.h>
+#include <poll.h>
+#include <signal.h>
+#include <stdio.h>
+#include <string.h>
+#include <termios.h>
+#include <time.h>
+#include <unistd.h>
+
+enum { TIMEOUT_MS = 1000, LONGEST_REPLY = 256 };
+
+/* The cursor's position (DECXCPR), the colours of text and background (OSC 10, 11), Kitty's flags, and DA1. With its question mark no reply
+ * for the position looks like a key. */
+static const char questions[] = "\033[?6n\033]10;?\033\\\033]11;?\033\\\033[?u\033[c";
+
+static volatile sig_atomic_t ending;
+
+static void note_signal(int number) { ending = number; }
+
+static void handle_signals(void (*handler)(int)) {
+  static const int numbers[] = { SIGHUP, SIGINT, SIGQUIT, SIGTERM };
+  struct sigaction action;
+  memset(&action, 0, sizeof action);
+  action.sa_handler = handler;
+  for (size_t i = 0; i < sizeof numbers / sizeof *numbers; i++) sigaction(numbers[i], &action, NULL);
+}
+
+/* Prints the bytes that an event brought, with a dot for each that isn't printable ASCII. */
+static void print_text(const tw_extended *parser, const char *name, size_t len) {
+  uint8_t text[LONGEST_REPLY];
+  tw_extended_text(parser, text, sizeof text);
+  printf("%s ", name);
+  for (size_t i = 0; i < len && i < sizeof text; i++) putchar(text[i] >= ' ' && text[i] <= '~' ? text[i] : '.');
+  putchar('\n');
+}
+
+/* Whether a control sequence is the reply to DA1: it begins with a question mark and ends with c. */
+static bool is_last_reply(const tw_extended *parser, size_t len) {
+  uint8_t text[LONGEST_REPLY];
+  return len > 1 && tw_extended_text(parser, text, sizeof text) == len && len <= sizeof text && text[0] == '?' && text[len - 1] == 'c';
+}
+
+/* Prints an event. Returns whether it is the last reply. */
+static bool print_event(const tw_extended *parser, const tw_extended_event *event) {
+  switch (event->kind) {
+    case TW_EVENT_CURSOR_POSITION: printf("cursor at row %u, column %u\n", event->row, event->column); break;
+    case TW_EVENT_OSC: print_text(parser, "colour", event->text_len); break;
+    case TW_EVENT_KEYBOARD_FLAGS: printf("flags of Kitty's keyboard protocol %u\n", event->flags); break;
+    case TW_EVENT_CSI: print_text(parser, "control sequence", event->text_len); break;
+    case TW_EVENT_KEY: puts("a key was typed"); break;
+    default: break;
+  }
+  return event->kind == TW_EVENT_CSI && is_last_reply(parser, event->text_len);
+}
+
+/* Prints the events that are there. Returns whether the last reply is among them. */
+static bool print_events(tw_extended *parser, bool more) {
+  tw_extended_event event;
+  bool is_over = false;
+  while (tw_extended_next(parser, more, &event) == TW_EVENT) is_over |= print_event(parser, &event);
+  return is_over;
+}
+
+static long now_ms(void) {
+  struct timespec now;
+  clock_gettime(CLOCK_MONOTONIC, &now);
+  return now.tv_sec * 1000L + now.tv_nsec / 1000000L;
+}
+
+/* Reads replies up to the last one. Returns false after the timeout, at the end of the input, or if a signal or want of memory ends it. */
+static bool read_replies(tw_extended *parser) {
+  struct pollfd input = { .fd = 0, .events = POLLIN };
+  uint8_t bytes[4096];
+  for (long end = now_ms() + TIMEOUT_MS, left; !ending && (left = end - now_ms()) > 0;) {
+    int count = poll(&input, 1, (int)left);
+    if (count < 0 && errno != EINTR) return false;
+    if (count <= 0) continue;
+    ssize_t len = read(0, bytes, sizeof bytes);
+    if (len <= 0 || !tw_extended_feed(parser, bytes, (size_t)len)) return false;
+    if (print_events(parser, true)) return true;
+  }
+  return false;
+}
+
+static bool ask(tw_extended *parser) {
+  fputs(questions, stdout);
+  if (fflush(stdout) != 0) return false;
+  if (read_replies(parser)) return true;
+  print_events(parser, false); /* an Escape key, or a reply that was cut off, as keys */
+  puts("no reply to the last question");
+  return false;
+}
+
+int main(void) {
+  tw_extended parser = TW_EXTENDED_NONE;
+  struct termios saved, raw;
+  if (!isatty(1) || tcgetattr(0, &saved) != 0) {
+    fputs("ask: standard input and output have to be a terminal\n", stderr);
+    return 2;
+  }
+  if (!tw_extended_init(&parser, TW_ROWS_PORT)) {
+    fputs("ask: out of memory\n", stderr);
+    return 1;
+  }
+  raw = saved;
+  raw.c_lflag &= ~(tcflag_t)(ECHO | ICANON);
+  raw.c_cc[VMIN] = 1;
+  raw.c_cc[VTIME] = 0;
+  handle_signals(note_signal);
+  tcsetattr(0, TCSADRAIN, &raw); /* what was typed ahead is kept */
+  bool is_answered = ask(&parser);
+  tcsetattr(0, is_answered ? TCSADRAIN : TCSAFLUSH, &saved); /* a late reply isn't left for the shell */
+  tw_extended_free(&parser);
+  if (ending) {
+    handle_signals(SIG_DFL);
+    raise(ending);
+  }
+  return is_answered ? 0 : 1;
+}

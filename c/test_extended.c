@@ -1,0 +1,320 @@
+/* A test of the calls of the extended parser. Events are told as lines, and compared for texts that are read whole, byte by byte and cut at
+ * each place. */
+#define _DEFAULT_SOURCE
+#include "expect.h"
+#include "termwiz_input.h"
+#include <stdarg.h>
+#include <stdlib.h>
+#include <string.h>
+#include <sys/mman.h>
+
+enum { BOTH = 2, MORE = 1, LAST = 0 };
+
+/* The events of a run, as one line. */
+static char told[4096];
+
+static void tell(const char *format, ...) {
+  size_t len = strlen(told);
+  va_list words;
+  va_start(words, format);
+  int written = vsnprintf(told + len, sizeof told - len, format, words);
+  va_end(words);
+  EXPECT(written >= 0 && (size_t)written < sizeof told - len);
+}
+
+static void tell_bytes(const uint8_t *bytes, size_t len) {
+  for (size_t i = 0; i < len; i++) tell(bytes[i] >= ' ' && bytes[i] <= '~' ? "%c" : "\\x%02x", bytes[i]);
+}
+
+/* The bytes that the event brought. */
+static void tell_text(const tw_extended *parser, const char *name, size_t len) {
+  uint8_t text[256];
+  EXPECT(len <= sizeof text && tw_extended_text(parser, text, sizeof text) == len);
+  tell("%s(", name);
+  tell_bytes(text, len);
+  tell(")");
+}
+
+static void tell_key_name(uint16_t key, uint32_t detail) {
+  char name[22];
+  if (tw_key_name(key, (uint8_t *)name, sizeof name) == 0) tell("functional %u", (unsigned)detail);
+  else if (key == TW_KEY_CHAR && detail > ' ' && detail < 0x7f) tell("%c", (char)detail);
+  else if (key == TW_KEY_CHAR) tell("U+%04X", (unsigned)detail);
+  else if (key == TW_KEY_FUNCTION) tell("F%u", (unsigned)detail);
+  else tell("%s", name);
+}
+
+static void tell_held(const tw_key_report *report) {
+  static const char *const names[] = { "SHIFT", "ALT", "CTRL", "SUPER", "HYPER", "META", "CAPS", "NUM" };
+  for (int bit = 0; bit < 8; bit++)
+    if (report->modifiers >> bit & 1) tell(" %s", names[bit]);
+}
+
+static void tell_report(const tw_extended *parser, const tw_extended_event *event) {
+  const tw_key_report *report = &event->report;
+  tell("Key(");
+  tell_key_name(report->key, report->detail);
+  tell_held(report);
+  if (report->action == TW_ACTION_REPEAT) tell(" Repeat");
+  if (report->action == TW_ACTION_RELEASE) tell(" Release");
+  if (report->shifted != TW_NO_CODE) tell(" shifted %c", (char)report->shifted);
+  if (report->base != TW_NO_CODE) tell(" base %c", (char)report->base);
+  if (event->text_len > 0) tell_text(parser, " text", event->text_len);
+  tell(")");
+}
+
+/* A key of the table. The report says the same as a press. */
+static void tell_input_key(const tw_extended_event *event) {
+  const tw_key_report *report = &event->report;
+  unsigned held = report->modifiers;
+  tell_key_name(event->input.key, event->input.detail);
+  tell_held(report);
+  EXPECT(event->input.kind == TW_KEY && report->key == event->input.key && report->detail == event->input.detail);
+  EXPECT(report->action == TW_ACTION_PRESS && report->shifted == TW_NO_CODE && report->base == TW_NO_CODE && event->text_len == 0);
+  EXPECT(!(held & TW_HELD_SHIFT) == !(event->input.modifiers & TW_MOD_SHIFT));
+  EXPECT(!(held & TW_HELD_ALT) == !(event->input.modifiers & TW_MOD_ALT));
+  EXPECT(!(held & TW_HELD_CTRL) == !(event->input.modifiers & TW_MOD_CTRL));
+}
+
+static void tell_event(const tw_extended *parser, const tw_extended_event *event) {
+  switch (event->kind) {
+    case TW_EVENT_KEY: tell_input_key(event); break;
+    case TW_EVENT_MOUSE:
+      tell("Mouse(%u, %u, %u, %u)", event->input.x, event->input.y, event->input.buttons, event->input.modifiers);
+      break;
+    case TW_EVENT_PASTE:
+      EXPECT(event->input.kind == TW_PASTE && event->input.paste_len == event->text_len);
+      tell_text(parser, "Paste", event->text_len);
+      break;
+    case TW_EVENT_REPORT: tell_report(parser, event); break;
+    case TW_EVENT_FOCUS_GAINED: tell("FocusGained"); break;
+    case TW_EVENT_FOCUS_LOST: tell("FocusLost"); break;
+    case TW_EVENT_CURSOR_POSITION: tell("CursorPosition(%u, %u)", event->row, event->column); break;
+    case TW_EVENT_RESIZE: tell("Resize(%u, %u, %u, %u)", event->rows, event->columns, event->height, event->width); break;
+    case TW_EVENT_KEYBOARD_FLAGS: tell("KeyboardFlags(%u)", event->flags); break;
+    case TW_EVENT_CSI: tell_text(parser, "Csi", event->text_len); break;
+    case TW_EVENT_OSC: tell_text(parser, "Osc", event->text_len); break;
+    case TW_EVENT_DCS: tell_text(parser, "Dcs", event->text_len); break;
+    case TW_EVENT_APC: tell_text(parser, "Apc", event->text_len); break;
+    default: EXPECT(!"an event has a kind");
+  }
+  tell("; ");
+}
+
+static void tell_events(tw_extended *parser, bool more) {
+  tw_extended_event event;
+  uint32_t next;
+  while ((next = tw_extended_next(parser, more, &event)) == TW_EVENT) tell_event(parser, &event);
+  EXPECT(next == TW_NONE);
+}
+
+static void feed(tw_extended *parser, const char *text, size_t len, bool more) {
+  EXPECT(tw_extended_feed(parser, (const uint8_t *)text, len));
+  tell_events(parser, more);
+}
+
+/* A text, whether more may come, its events under one reading of the rows or under both, and how many bytes stay buffered. */
+struct example {
+  uint32_t rows;
+  const char *text;
+  size_t len;
+  bool more;
+  const char *events;
+  size_t waiting;
+};
+
+#define TEXT(bytes) bytes, sizeof bytes - 1
+
+static const struct example examples[] = {
+  { BOTH, TEXT("\033[24;80R\033[20;10R"), LAST, "CursorPosition(24, 80); CursorPosition(20, 10); ", 0 },
+  { TW_ROWS_PORT, TEXT("\033[1;5R\033[?1;5R"), LAST, "F3 CTRL; CursorPosition(1, 5); ", 0 },
+  { TW_ROWS_KITTY, TEXT("\033[1;5R"), LAST, "CursorPosition(1, 5); ", 0 },
+  { BOTH, TEXT("\033[I\033[O"), MORE, "FocusGained; FocusLost; ", 0 },
+  { BOTH, TEXT("\033\033[I"), MORE, "Escape; FocusGained; ", 0 },
+  { BOTH, TEXT("\033[24;8"), LAST, "[ ALT; 2; 4; U+003B; 8; ", 0 },
+  { BOTH, TEXT("\033[24;8"), MORE, "", 6 },
+  { BOTH, TEXT("\033[24\r"), MORE, "[ ALT; 2; 4; Enter; ", 0 },
+  { BOTH, TEXT("\033]11;rgb:1e1e/1e1e/1e1e\033\\"), MORE, "Osc(11;rgb:1e1e/1e1e/1e1e); ", 0 },
+  { BOTH, TEXT("\033]10;#fff\007q"), LAST, "Osc(10;#fff); q; ", 0 },
+  { BOTH, TEXT("\033]0;\303\251\033\\"), MORE, "Osc(0;\\xc3\\xa9); ", 0 },
+  { BOTH, TEXT("\033]ab"), MORE, "", 4 },
+  { BOTH, TEXT("\033]a\033[I"), MORE, "] ALT; a; FocusGained; ", 0 },
+  { BOTH, TEXT("\033P>|kitty\033\\"), LAST, "Dcs(>|kitty); ", 0 },
+  { BOTH, TEXT("\033_Gi=31;OK\033\\"), MORE, "Apc(Gi=31;OK); ", 0 },
+  { BOTH, TEXT("\033[?62;22c\033[>1;10;0c"), MORE, "Csi(?62;22c); Csi(>1;10;0c); ", 0 },
+  { BOTH, TEXT("\033[?2026;2$y\033[?997;1n\033[?5u"), MORE, "Csi(?2026;2$y); Csi(?997;1n); KeyboardFlags(5); ", 0 },
+  { BOTH, TEXT("\033[48;24;80;480;800t"), MORE, "Resize(24, 80, 480, 800); ", 0 },
+  { BOTH, TEXT("\033[M0\x60\x70"), MORE, "Mouse(64, 80, 2, 8); ", 0 },
+  { BOTH, TEXT("\033[32;30;40M"), MORE, "Mouse(30, 40, 2, 0); ", 0 },
+  { BOTH, TEXT("\033[<0;20;10M\033[<0;20;10m"), MORE, "Mouse(20, 10, 2, 0); Mouse(20, 10, 0, 0); ", 0 },
+  { BOTH, TEXT("\033[200~\033[I\033]0;a\007\033[201~"), MORE, "Paste(\\x1b[I\\x1b]0;a\\x07); ", 0 },
+  { BOTH, TEXT("\033[[A\033OM\033Oq"), MORE, "Key(F1); Key(functional 57414); Key(Numpad1); ", 0 },
+  { TW_ROWS_PORT, TEXT("\033[97;5u\033[27u\033[1;9A"), MORE, "a CTRL; U+001B; UpArrow ALT; ", 0 },
+  { TW_ROWS_KITTY, TEXT("\033[13u\033[27u\033[1;9A"), MORE, "Key(Enter); Key(Escape); Key(UpArrow SUPER); ", 0 },
+  { TW_ROWS_KITTY, TEXT("\033\033[97;5u"), MORE, "Escape; Key(a CTRL); ", 0 },
+  { TW_ROWS_PORT, TEXT("\033\033[97;5u"), MORE, "a ALT CTRL; ", 0 },
+  { BOTH, TEXT("\033[97;1:2u\033[97;1:3u\033[97;65u\033[49;129u"), MORE, "Key(a Repeat); Key(a Release); Key(a CAPS); Key(1 NUM); ", 0 },
+  { BOTH, TEXT("\033[97;9u\033[97;17u\033[97;33u"), MORE, "Key(a SUPER); Key(a HYPER); Key(a META); ", 0 },
+  { BOTH, TEXT("\033[57358u\033[57376u\033[57428u"), MORE, "Key(CapsLock); Key(F13); Key(functional 57428); ", 0 },
+  { BOTH, TEXT("\033[97:65:99;2:1;65u\033[97::99;5u"), MORE, "Key(a SHIFT shifted A base c text(A)); Key(a CTRL base c); ", 0 },
+  { BOTH, TEXT("\033[0;;229:230u"), MORE, "Key(U+0000 text(\\xc3\\xa5\\xc3\\xa6)); ", 0 },
+  { BOTH, TEXT("q\303\251\033[A"), MORE, "q; U+00E9; UpArrow; ", 0 },
+};
+
+/* Reads a text, cut into pieces: the first of the given length, the others of another one. Only the last says that no more comes. */
+static void read_in_pieces(const struct example *it, uint32_t rows, size_t first, size_t others) {
+  tw_extended parser = TW_EXTENDED_NONE;
+  told[0] = '\0';
+  EXPECT(tw_extended_init(&parser, rows));
+  for (size_t at = 0, len = first; at < it->len || at == 0; at += len, len = others) {
+    if (len > it->len - at) len = it->len - at;
+    feed(&parser, it->text + at, len, at + len < it->len || it->more);
+  }
+  EXPECT(tw_extended_waiting(&parser) == it->waiting);
+  if (strcmp(told, it->events) != 0) fprintf(stderr, "%s is read as %s\n", it->events, told);
+  EXPECT(strcmp(told, it->events) == 0);
+  tw_extended_free(&parser);
+}
+
+static void reads_example(const struct example *it, uint32_t rows) {
+  for (size_t cut = 1; cut <= it->len; cut++) read_in_pieces(it, rows, cut, it->len);
+  read_in_pieces(it, rows, 1, 1);
+}
+
+static void reads_examples(void) {
+  for (size_t i = 0; i < sizeof examples / sizeof *examples; i++) {
+    if (examples[i].rows != TW_ROWS_KITTY) reads_example(&examples[i], TW_ROWS_PORT);
+    if (examples[i].rows != TW_ROWS_PORT) reads_example(&examples[i], TW_ROWS_KITTY);
+  }
+}
+
+/* Nothing is there before init and after free, and each call says so. */
+static void none_answers(tw_extended *parser) {
+  tw_extended_event event, before;
+  uint8_t byte = 'x';
+  memset(&event, 0x55, sizeof event);
+  memset(&before, 0x55, sizeof before);
+  EXPECT(!tw_extended_feed(parser, &byte, 1));
+  EXPECT(tw_extended_next(parser, true, &event) == TW_NO_PARSER);
+  EXPECT(tw_extended_flush_escape(parser, &event) == TW_NO_PARSER);
+  EXPECT(tw_extended_end_paste(parser, &event) == TW_NO_PARSER);
+  EXPECT(memcmp(&event, &before, sizeof event) == 0);
+  EXPECT(tw_extended_text(parser, &byte, 1) == 0 && byte == 'x');
+  tw_extended_drop_text(parser);
+  EXPECT(tw_extended_waiting(parser) == 0 && tw_extended_waiting_kind(parser) == TW_WAITING_NOTHING);
+  EXPECT(!tw_extended_is_paste_open(parser) && tw_extended_reset(parser) == 0);
+  tw_extended_free(parser);
+  EXPECT(!parser->live);
+}
+
+static void answers_before_init_and_after_free(void) {
+  tw_extended parser = TW_EXTENDED_NONE, moved;
+  none_answers(&parser);
+  EXPECT(!tw_extended_init(&parser, 2) && !parser.live && !tw_extended_init(&parser, UINT32_MAX));
+  EXPECT(tw_extended_init(&parser, TW_ROWS_PORT) && tw_extended_feed(&parser, (const uint8_t *)"\033[1;", 4));
+  EXPECT(!tw_extended_init(&parser, 2) && tw_extended_waiting(&parser) == 4);
+  memcpy(&moved, &parser, sizeof moved);
+  EXPECT(tw_extended_waiting(&moved) == 4 && tw_extended_init(&moved, TW_ROWS_KITTY) && tw_extended_waiting(&moved) == 0);
+  tw_extended_free(&moved);
+  none_answers(&moved);
+}
+
+/* What stays buffered, by kind; a lone ESC is flushed, and nothing else is. */
+static void tells_kinds(tw_extended *parser) {
+  static const struct { const char *text; size_t len; uint32_t kind; } rests[] = {
+    { TEXT("\033"), TW_WAITING_ESCAPE }, { TEXT("\033\033"), TW_WAITING_ESCAPE }, { TEXT("\033[1;"), TW_WAITING_SEQUENCE },
+    { TEXT("\033]0;a"), TW_WAITING_SEQUENCE }, { TEXT("\033\033P"), TW_WAITING_SEQUENCE }, { TEXT("\303"), TW_WAITING_CHARACTER },
+    { TEXT("\033[200~a"), TW_WAITING_PASTE },
+  };
+  for (size_t i = 0; i < sizeof rests / sizeof *rests; i++) {
+    tw_extended_event event;
+    bool is_escape = rests[i].kind == TW_WAITING_ESCAPE;
+    feed(parser, rests[i].text, rests[i].len, true);
+    EXPECT(tw_extended_waiting(parser) == rests[i].len && tw_extended_waiting_kind(parser) == rests[i].kind);
+    EXPECT(tw_extended_is_paste_open(parser) == (rests[i].kind == TW_WAITING_PASTE));
+    EXPECT(tw_extended_flush_escape(parser, &event) == (is_escape ? TW_EVENT : TW_NONE));
+    EXPECT(!is_escape || (event.kind == TW_EVENT_KEY && event.input.key == TW_KEY_ESCAPE && event.report.key == TW_KEY_ESCAPE));
+    EXPECT(!is_escape || event.input.modifiers == (rests[i].len == 2 ? TW_MOD_ALT : TW_MOD_NONE));
+    EXPECT(tw_extended_reset(parser) == (is_escape ? 0 : rests[i].len) && tw_extended_waiting(parser) == 0);
+  }
+}
+
+/* The bytes of an event are kept until the next event that has bytes of its own, and copied as often as they are asked for. */
+static void keeps_texts(tw_extended *parser) {
+  uint8_t room[8] = "........";
+  tw_extended_event event;
+  EXPECT(tw_extended_feed(parser, (const uint8_t *)TEXT("\033]0;abc\007q\033[97u\033[200~xy\033[201~")));
+  EXPECT(tw_extended_next(parser, true, &event) == TW_EVENT && event.kind == TW_EVENT_OSC && event.text_len == 5);
+  EXPECT(tw_extended_text(parser, room, 2) == 5 && memcmp(room, "0;......", 8) == 0);
+  EXPECT(tw_extended_next(parser, true, &event) == TW_EVENT && event.kind == TW_EVENT_KEY && event.text_len == 0);
+  EXPECT(tw_extended_text(parser, room, 8) == 5 && memcmp(room, "0;abc...", 8) == 0);
+  tw_extended_drop_text(parser);
+  EXPECT(tw_extended_text(parser, room, 8) == 0);
+  EXPECT(tw_extended_next(parser, true, &event) == TW_EVENT);
+  EXPECT(tw_extended_next(parser, true, &event) == TW_EVENT && event.kind == TW_EVENT_PASTE && event.text_len == 2);
+  EXPECT(tw_extended_text(parser, NULL, 0) == 2 && tw_extended_feed(parser, NULL, 0));
+}
+
+/* An open paste is ended where it is. */
+static void ends_pastes(tw_extended *parser) {
+  uint8_t room[4] = "....";
+  tw_extended_event event;
+  EXPECT(tw_extended_end_paste(parser, &event) == TW_NONE);
+  feed(parser, TEXT("\033[200~ab\033"), true);
+  EXPECT(tw_extended_end_paste(parser, &event) == TW_EVENT && event.kind == TW_EVENT_PASTE && event.text_len == 3);
+  EXPECT(tw_extended_text(parser, room, 4) == 3 && memcmp(room, "ab\033.", 4) == 0 && tw_extended_waiting(parser) == 0);
+}
+
+/* A long paste and a long string come whole, and a string past its limit is typed text. */
+static void reads_long_texts(tw_extended *parser) {
+  enum { LONG = 100000, STRING = 60000 };
+  uint8_t *text = malloc(LONG), *copy = malloc(LONG);
+  tw_extended_event event;
+  if (!text || !copy) abort();
+  memset(text, 'x', LONG);
+  EXPECT(tw_extended_feed(parser, (const uint8_t *)"\033[200~", 6) && tw_extended_feed(parser, text, LONG));
+  EXPECT(tw_extended_next(parser, true, &event) == TW_NONE && tw_extended_feed(parser, (const uint8_t *)"\033[201~", 6));
+  EXPECT(tw_extended_next(parser, true, &event) == TW_EVENT && event.kind == TW_EVENT_PASTE && event.text_len == LONG);
+  EXPECT(tw_extended_text(parser, copy, LONG) == LONG && memcmp(copy, text, LONG) == 0);
+  EXPECT(tw_extended_feed(parser, (const uint8_t *)"\033]", 2) && tw_extended_feed(parser, text, STRING));
+  EXPECT(tw_extended_next(parser, true, &event) == TW_NONE && tw_extended_waiting(parser) == STRING + 2);
+  EXPECT(tw_extended_feed(parser, (const uint8_t *)"\033\\", 2));
+  EXPECT(tw_extended_next(parser, true, &event) == TW_EVENT && event.kind == TW_EVENT_OSC && event.text_len == STRING);
+  EXPECT(tw_extended_text(parser, copy, LONG) == STRING && memcmp(copy, text, STRING) == 0);
+  EXPECT(tw_extended_feed(parser, (const uint8_t *)"\033]", 2) && tw_extended_feed(parser, text, 65534));
+  EXPECT(tw_extended_next(parser, true, &event) == TW_EVENT && event.input.detail == ']' && event.input.modifiers == TW_MOD_ALT);
+  EXPECT(tw_extended_reset(parser) == 65534);
+  free(text);
+  free(copy);
+}
+
+/* The calls with a const pointer write nothing to the struct. */
+static void reads_from_a_page_that_is_read_only(void) {
+  tw_extended *parser = mmap(NULL, 4096, PROT_READ | PROT_WRITE, MAP_PRIVATE | MAP_ANONYMOUS, -1, 0);
+  uint8_t text[4] = "....";
+  if (parser == MAP_FAILED) abort();
+  EXPECT(tw_extended_init(parser, TW_ROWS_KITTY));
+  feed(parser, TEXT("\033]ab\007\033[200~c"), true);
+  EXPECT(mprotect(parser, 4096, PROT_READ) == 0);
+  EXPECT(tw_extended_waiting(parser) == 7 && tw_extended_waiting_kind(parser) == TW_WAITING_PASTE && tw_extended_is_paste_open(parser));
+  EXPECT(tw_extended_text(parser, text, sizeof text) == 2 && memcmp(text, "ab..", 4) == 0);
+  EXPECT(mprotect(parser, 4096, PROT_READ | PROT_WRITE) == 0);
+  tw_extended_free(parser);
+  munmap(parser, 4096);
+}
+
+int main(void) {
+  tw_extended parser = TW_EXTENDED_NONE;
+  answers_before_init_and_after_free();
+  reads_examples();
+  EXPECT(tw_extended_init(&parser, TW_ROWS_KITTY));
+  told[0] = '\0';
+  tells_kinds(&parser);
+  keeps_texts(&parser);
+  ends_pastes(&parser);
+  reads_long_texts(&parser);
+  tw_extended_free(&parser);
+  tw_extended_free(&parser);
+  reads_from_a_page_that_is_read_only();
+  return expected("test_extended");
+}
