@@ -1,5 +1,5 @@
-/* Refuses each request for memory of the extended parser's calls in turn, one in each run, and makes the refused call again: the answers must
- * be those of a run without a refusal, and each refusal must be told once.
+/* Refuses each request for memory of the extended parser's calls in turn, one in each run, and makes the refused call again: the answers
+ * must be those of a run without a refusal, and each refusal must be told once.
  *
  *     cc -Wl,--wrap=malloc -Wl,--wrap=realloc test_extended_refusals.c libtermwiz_c.a && ./a.out [STEP]
  *

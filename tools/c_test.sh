@@ -8,8 +8,8 @@
 # crate in rust/ is built with its tests, with the examples in its documentation, and with serde. It has to find the library in each way
 # that docs/rust.md names, and to say so if there is none. The tests also run under valgrind (of those in Rust all but the longest), which
 # has to find no error and no leak. Two tests in C and one in Rust refuse every request for memory in turn. The live programs run on a
-# pseudo-terminal, as tools/live_test.sh says, and the one that asks its terminal, as tools/ask_test.sh says, and all is installed and removed again, as tools/install_test.sh says. The last line is
-# 'N passed, N failed', the status 1 if a case failed.
+# pseudo-terminal, as tools/live_test.sh says, and so do the programs that ask their terminal, as tools/ask_test.sh says. All is installed
+# and removed again, as tools/install_test.sh says. The last line is 'N passed, N failed', the status 1 if a case failed.
 #
 # DIR is a folder that tools/c_library.sh wrote; without --library the library is built. With --built the keyshow that `rt ci` left in
 # crates/keyshow/out is run; otherwise it is built.
