@@ -53,23 +53,37 @@ static void put_text(const uint8_t *characters, size_t length) {
   for (size_t at = 0; at < length; at += character_length(characters[at])) put_character(code_point(characters + at));
 }
 
-static bool put_paste(const group *its, const tw_parser *parser) {
-  size_t length = its->event.paste_len;
-  uint8_t *pasted = malloc(length + 1);
-  if (!pasted) return false;
-  tw_parser_paste(parser, pasted, length);
-  printf(",\"length\":%zu,\"text\":\"", length);
-  put_text(pasted, length);
+/* The bytes that the event brought: a text, or those of a sequence in hexadecimal. */
+static bool put_brought(const group *its, const reader *reader) {
+  size_t length = its->event.text_len;
+  bool is_text = its->event.kind == TW_EVENT_PASTE || its->event.kind == TW_EVENT_REPORT;
+  uint8_t *brought = malloc(length + 1);
+  if (!brought) return false;
+  reader_text(reader, brought, length);
+  printf(",\"length\":%zu,\"%s\":\"", length, is_text ? "text" : "data");
+  if (is_text) put_text(brought, length);
+  else put_hex(brought, length);
   putchar('"');
-  free(pasted);
+  free(brought);
   return true;
 }
 
-static void put_key(const tw_event *event) {
+static void put_key(uint16_t key, uint32_t detail, const flag *flags, unsigned modifiers) {
   text name = { .length = 0 };
-  add_key(&name, event);
+  add_key(&name, key, detail);
   printf(",\"key\":\"%s\"", name.bytes);
-  put_flags("modifiers", modifier_flags, event->modifiers);
+  put_flags("modifiers", flags, modifiers);
+}
+
+static void put_code(const char *name, uint32_t code) {
+  if (code != TW_NO_CODE) printf(",\"%s\":%u", name, (unsigned)code);
+}
+
+static void put_report(const tw_key_report *report) {
+  put_key(report->key, report->detail, held_flags, report->modifiers);
+  printf(",\"action\":\"%s\"", action_name(report->action));
+  put_code("shifted", report->shifted);
+  put_code("base", report->base);
 }
 
 static void put_mouse(const tw_event *event) {
@@ -78,17 +92,34 @@ static void put_mouse(const tw_event *event) {
   put_flags("modifiers", modifier_flags, event->modifiers);
 }
 
-static const char *kind_name(uint8_t kind) {
-  if (kind == TW_PASTE) return "paste";
-  return kind == TW_MOUSE ? "mouse" : "key";
+static void put_size(const tw_extended_event *event) {
+  printf(",\"rows\":%u,\"columns\":%u,\"height\":%u,\"width\":%u", event->rows, event->columns, event->height, event->width);
 }
 
-bool json_event(const line *of, const group *its, const tw_parser *parser) {
-  bool has_memory = true;
+/* The fields of an event, but for the bytes that it brought. */
+static void put_fields(const tw_extended_event *event) {
+  switch (event->kind) {
+    case TW_EVENT_KEY: put_key(event->input.key, event->input.detail, modifier_flags, event->input.modifiers); break;
+    case TW_EVENT_MOUSE: put_mouse(&event->input); break;
+    case TW_EVENT_REPORT: put_report(&event->report); break;
+    case TW_EVENT_FOCUS_GAINED: printf(",\"gained\":true"); break;
+    case TW_EVENT_FOCUS_LOST: printf(",\"gained\":false"); break;
+    case TW_EVENT_CURSOR_POSITION: printf(",\"row\":%u,\"column\":%u", event->row, event->column); break;
+    case TW_EVENT_RESIZE: put_size(event); break;
+    case TW_EVENT_KEYBOARD_FLAGS: printf(",\"flags\":%u", event->flags); break;
+    default: break;
+  }
+}
+
+/* Whether an event of this kind brings bytes, if only none. */
+static bool brings_bytes(uint8_t kind) {
+  return kind == TW_EVENT_PASTE || kind == TW_EVENT_REPORT || kind >= TW_EVENT_CSI;
+}
+
+bool json_event(const line *of, const group *its, const reader *reader) {
   begin_object(of, its->start, its->length, kind_name(its->event.kind));
-  if (its->event.kind == TW_PASTE) has_memory = put_paste(its, parser);
-  else if (its->event.kind == TW_MOUSE) put_mouse(&its->event);
-  else put_key(&its->event);
+  put_fields(&its->event);
+  bool has_memory = !brings_bytes(its->event.kind) || put_brought(its, reader);
   puts("}");
   return has_memory;
 }

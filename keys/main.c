@@ -5,6 +5,7 @@
 #define _POSIX_C_SOURCE 200809L
 #include "json.h"
 #include "options.h"
+#include "reader.h"
 #include "screen.h"
 #include "signals.h"
 #include "terminal.h"
@@ -24,7 +25,7 @@ typedef struct keys {
   terminal terminal;
   screen screen;
   line line;
-  tw_parser parser;
+  reader reader;
   int input, wake;
   bool is_live; /* whether the input is a terminal, where pauses count */
   bool was_end; /* whether the last event was ^D */
@@ -47,27 +48,41 @@ static bool flush_output(keys *it) {
   return fail(it, "the output can't be written", errno);
 }
 
-static void note_end(keys *it, const tw_event *event) {
-  bool is_end = event->kind == TW_KEY && event->key == TW_KEY_CHAR && event->detail == 'd' && event->modifiers == TW_MOD_CTRL;
+/* A key of any kind. The report of a key of the sequence table says that it was pressed. */
+static bool is_key(const tw_extended_event *event) {
+  return event->kind == TW_EVENT_KEY || event->kind == TW_EVENT_REPORT;
+}
+
+/* Whether a key is a modifier key or was not pressed, so that it may come between two presses of ^D. */
+static bool is_no_press(const tw_key_report *report) {
+  bool is_modifier = report->key >= TW_KEY_SHIFT && report->key <= TW_KEY_RIGHT_ALT && report->key != TW_KEY_ESCAPE;
+  return is_modifier || report->action != TW_ACTION_PRESS;
+}
+
+static void note_end(keys *it, const tw_extended_event *event) {
+  const tw_key_report *report = &event->report;
+  unsigned held = report->modifiers & ~(unsigned)(TW_HELD_CAPS_LOCK | TW_HELD_NUM_LOCK);
+  if (is_key(event) && is_no_press(report)) return;
+  bool is_end = is_key(event) && report->key == TW_KEY_CHAR && report->detail == 'd' && held == TW_HELD_CTRL;
   if (is_end && it->was_end && it->is_live) it->is_over = true;
   it->was_end = is_end;
 }
 
 /* Adds the event's group to the line. */
-static bool handle_event(keys *it, const tw_event *event) {
-  group *added = line_settle(&it->line, event, tw_parser_waiting(&it->parser));
+static bool handle_event(keys *it, const tw_extended_event *event) {
+  group *added = line_settle(&it->line, event, reader_waiting(&it->reader));
   if (!added) return fail(it, no_memory, 0);
-  if (event->kind == TW_PASTE) tw_parser_paste(&it->parser, added->paste, sizeof added->paste);
-  if (it->options.is_json && !json_event(&it->line, added, &it->parser)) return fail(it, no_memory, 0);
-  if (event->kind == TW_PASTE) tw_parser_drop_paste(&it->parser);
+  if (event->text_len > 0) reader_text(&it->reader, added->text, sizeof added->text);
+  if (it->options.is_json && !json_event(&it->line, added, &it->reader)) return fail(it, no_memory, 0);
+  if (event->text_len > 0) reader_drop_text(&it->reader);
   note_end(it, event);
   return true;
 }
 
 static bool handle_events(keys *it, bool more) {
-  tw_event event;
+  tw_extended_event event;
   uint32_t next;
-  while ((next = tw_parser_next(&it->parser, more, &event)) == TW_EVENT)
+  while ((next = reader_next(&it->reader, more, &event)) == TW_EVENT)
     if (!handle_event(it, &event)) return false;
   return next == TW_NONE || fail(it, no_memory, 0);
 }
@@ -80,8 +95,8 @@ static void draw(keys *it, const text *reason) {
 static void show(keys *it) {
   text reason = { .length = 0 };
   if (!it->is_live && line_waiting(&it->line) > 0) return;
-  add_waiting(&reason, &it->parser);
-  add_waiting_for(&reason, &it->parser);
+  add_waiting(&reason, &it->reader, &it->line);
+  add_waiting_for(&reason, &it->reader);
   draw(it, &reason);
 }
 
@@ -95,7 +110,7 @@ static void leave_line(keys *it) {
 
 static bool handle_bytes(keys *it, const uint8_t *bytes, size_t length) {
   leave_line(it);
-  if (!line_begin(&it->line, bytes, length) || !tw_parser_feed(&it->parser, bytes, length)) return fail(it, no_memory, 0);
+  if (!line_begin(&it->line, bytes, length) || !reader_feed(&it->reader, bytes, length)) return fail(it, no_memory, 0);
   bool goes_on = handle_events(it, true);
   show(it);
   return goes_on && !it->is_over;
@@ -110,8 +125,8 @@ static bool handle_input(keys *it) {
 }
 
 static bool handle_pause(keys *it) {
-  tw_event event;
-  bool goes_on = tw_parser_flush_escape(&it->parser, &event) == TW_EVENT ? handle_event(it, &event) : handle_events(it, false);
+  tw_extended_event event;
+  bool goes_on = reader_flush_escape(&it->reader, &event) == TW_EVENT ? handle_event(it, &event) : handle_events(it, false);
   show(it);
   return goes_on;
 }
@@ -121,7 +136,7 @@ static bool handle_end(keys *it) {
   text reason = { .length = 0 };
   if (line_waiting(&it->line) == 0) return true;
   if (!handle_events(it, false)) return false;
-  add_waiting(&reason, &it->parser);
+  add_waiting(&reason, &it->reader, &it->line);
   text_add(&reason, ": its end never came");
   draw(it, &reason);
   return true;
@@ -141,7 +156,7 @@ static void forget_waiting(keys *it) {
   text reason = { .length = 0 };
   text_add(&reason, "forgotten, since another program had the terminal");
   if (line_waiting(&it->line) > 0) draw(it, &reason);
-  tw_parser_reset(&it->parser);
+  reader_reset(&it->reader);
   line_forget(&it->line);
 }
 
@@ -168,7 +183,7 @@ static bool handle_wake(keys *it) {
 
 static bool wait_and_handle(keys *it) {
   struct pollfd ready[2] = { { .fd = it->input, .events = POLLIN }, { .fd = it->wake, .events = POLLIN } };
-  int count = poll(ready, 2, waiting_ms(&it->parser));
+  int count = poll(ready, 2, waiting_ms(&it->reader));
   if (count == 0) return handle_pause(it);
   if (count < 0) return errno == EINTR || fail(it, "the terminal can't be polled", errno);
   return ready[1].revents ? handle_wake(it) : handle_input(it);
@@ -183,7 +198,7 @@ static void run(keys *it) {
 static void show_waiting(keys *it) {
   text reason = { .length = 0 };
   if (!it->options.is_json || line_waiting(&it->line) == 0) return;
-  add_waiting(&reason, &it->parser);
+  add_waiting(&reason, &it->reader, &it->line);
   json_waiting(&it->line, reason.bytes);
 }
 
@@ -213,16 +228,13 @@ static void show_input(keys *it) {
   take_size(it);
   it->screen.is_hex = it->options.is_hex;
   if (!open_input(it)) return;
-  if (!tw_parser_init(&it->parser)) {
-    fail(it, no_memory, 0);
-    return;
-  }
-  if (!it->is_live || start_live(it)) {
+  if (!reader_init(&it->reader, it->options.reading)) fail(it, no_memory, 0);
+  else if (!it->is_live || start_live(it)) {
     run(it);
     finish(it);
   }
   terminal_leave(&it->terminal);
-  tw_parser_free(&it->parser);
+  reader_free(&it->reader);
   line_free(&it->line);
 }
 
@@ -239,7 +251,7 @@ static int status_of(const keys *it) {
 }
 
 int main(int count, char **words) {
-  keys it = { .parser = TW_PARSER_NONE, .input = 0 };
+  keys it = { .input = 0 };
   bool has_terminal = isatty(0);
   signal(SIGPIPE, SIG_IGN); /* the write fails then */
   if (!options_read(&it.options, count, words, has_terminal)) {

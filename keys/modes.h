@@ -5,11 +5,12 @@
 #include <stdbool.h>
 #include <stddef.h>
 
-enum { MODE_COUNT = 5 };
+enum { MODE_COUNT = 7 };
 
 typedef struct mode {
   const char *word; /* that asks for it */
   const char *on, *off;
+  bool wants_kitty; /* whether the input is to be read as Kitty's keyboard protocol means it */
 } mode;
 
 extern const mode all_modes[MODE_COUNT];

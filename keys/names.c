@@ -25,6 +25,33 @@ const flag button_flags[] = {
   { 0, NULL, NULL },
 };
 
+const flag held_flags[] = {
+  { TW_HELD_SHIFT, "SHIFT", NULL },
+  { TW_HELD_ALT, "ALT", NULL },
+  { TW_HELD_CTRL, "CTRL", NULL },
+  { TW_HELD_SUPER, "SUPER", NULL },
+  { TW_HELD_HYPER, "HYPER", NULL },
+  { TW_HELD_META, "META", NULL },
+  { TW_HELD_CAPS_LOCK, "CAPS_LOCK", NULL },
+  { TW_HELD_NUM_LOCK, "NUM_LOCK", NULL },
+  { 0, NULL, NULL },
+};
+
+const char *kind_name(uint8_t kind) {
+  static const char *const names[] = {
+    [TW_EVENT_KEY] = "key", [TW_EVENT_MOUSE] = "mouse", [TW_EVENT_PASTE] = "paste", [TW_EVENT_REPORT] = "report",
+    [TW_EVENT_FOCUS_GAINED] = "focus", [TW_EVENT_FOCUS_LOST] = "focus", [TW_EVENT_CURSOR_POSITION] = "cursor",
+    [TW_EVENT_RESIZE] = "resize", [TW_EVENT_KEYBOARD_FLAGS] = "flags", [TW_EVENT_CSI] = "csi", [TW_EVENT_OSC] = "osc",
+    [TW_EVENT_DCS] = "dcs", [TW_EVENT_APC] = "apc",
+  };
+  return names[kind];
+}
+
+const char *action_name(uint8_t action) {
+  if (action == TW_ACTION_REPEAT) return "repeat";
+  return action == TW_ACTION_RELEASE ? "release" : "press";
+}
+
 void add_byte(text *out, uint8_t byte, bool is_hex) {
   if (is_hex || byte > 0x7f) text_add(out, "%02x", byte);
   else if (byte == 0x1b) text_add(out, "ESC");
@@ -33,11 +60,12 @@ void add_byte(text *out, uint8_t byte, bool is_hex) {
   else text_add(out, "%c", byte);
 }
 
-void add_key(text *out, const tw_event *event) {
+void add_key(text *out, uint16_t key, uint32_t detail) {
   char name[32];
-  int length = (int)tw_key_name(event->key, (uint8_t *)name, sizeof name);
-  if (event->key == TW_KEY_CHAR) text_add(out, "U+%04X", (unsigned)event->detail);
-  else if (event->key == TW_KEY_FUNCTION) text_add(out, "F%u", (unsigned)event->detail);
+  int length = (int)tw_key_name(key, (uint8_t *)name, sizeof name);
+  if (key == TW_KEY_CHAR) text_add(out, "U+%04X", (unsigned)detail);
+  else if (key == TW_KEY_FUNCTION) text_add(out, "F%u", (unsigned)detail);
+  else if (length == 0) text_add(out, "functional %u", (unsigned)detail);
   else text_add(out, "%.*s", length, name);
 }
 

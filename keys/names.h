@@ -11,15 +11,21 @@ typedef struct flag {
   const char *name, *prefix;
 } flag;
 
-/* All modifiers and all buttons. The last has no name. */
-extern const flag modifier_flags[], button_flags[];
+/* All modifiers, all buttons and all modifiers of a key report. The last has no name. */
+extern const flag modifier_flags[], button_flags[], held_flags[];
+
+/* The kind of an event in one word: key, mouse, paste, report, focus, cursor, resize, flags, csi, osc, dcs or apc. */
+const char *kind_name(uint8_t kind);
+
+/* What happened to a key: press, repeat or release. */
+const char *action_name(uint8_t action);
 
 /* Appends a byte: printable ASCII as itself, ESC, SP for a space, ^A to ^_ and ^? for control characters, others in hexadecimal. With
  * is_hex each byte is in hexadecimal. */
 void add_byte(text *out, uint8_t byte, bool is_hex);
 
-/* Appends a key: U+0061, F5, UpArrow. */
-void add_key(text *out, const tw_event *event);
+/* Appends a key: U+0061, F5, UpArrow. One without a name is its number in Kitty's table. */
+void add_key(text *out, uint16_t key, uint32_t detail);
 
 /* Appends the names of the flags that are in a set: SHIFT+ALT, or NONE. */
 void add_flags(text *out, const flag *flags, unsigned set);

@@ -11,6 +11,10 @@ const char options_help[] =
   "  --modify-other-keys=1|2     it sends characters with modifiers as sequences, all of them at level 2\n"
   "  --mouse                     it reports the mouse\n"
   "  --bracketed-paste           it marks where a paste starts and ends\n"
+  "  --focus                     it reports when its window gains or loses the focus\n"
+  "  --kitty-keyboard            it reports keys by Kitty's protocol, with repeats and releases; implies --extended=kitty\n"
+  "  --extended, --extended=kitty\n"
+  "                              also reads what terminals send beyond the sequence table; =kitty as Kitty's protocol means it\n"
   "  --hex                       bytes in hexadecimal\n"
   "  --json                      an object on a line for each event\n"
   "  --help, --version           print this, or the version, and end\n"
@@ -23,6 +27,7 @@ static bool read_mode(options *it, const char *word) {
   for (size_t i = 0; i < MODE_COUNT; i++) {
     if (strcmp(word, all_modes[i].word) != 0) continue;
     it->modes[i] = true;
+    if (all_modes[i].wants_kitty) it->reading = READ_EXTENDED_KITTY;
     return true;
   }
   text_add(&it->refused, "what is '%s'? --help lists the words", word);
@@ -35,8 +40,17 @@ static bool read_file(options *it, const char *word) {
   return it->refused.length == 0;
 }
 
+/* Which parser reads the input. Reading for Kitty's protocol goes before. */
+static bool read_reading(options *it, const char *word) {
+  if (strcmp(word, "--extended=kitty") == 0) it->reading = READ_EXTENDED_KITTY;
+  else if (strcmp(word, "--extended") != 0) return false;
+  else if (it->reading == READ_USUALLY) it->reading = READ_EXTENDED;
+  return true;
+}
+
 static bool read_word(options *it, const char *word) {
   if (*word != '-') return read_file(it, word);
+  if (read_reading(it, word)) return true;
   bool *is_asked = NULL;
   if (strcmp(word, "--hex") == 0) is_asked = &it->is_hex;
   if (strcmp(word, "--json") == 0) is_asked = &it->is_json;

@@ -3,11 +3,13 @@
 #define KEYS_OPTIONS_H
 
 #include "modes.h"
+#include "reader.h"
 #include "text.h"
 
 typedef struct options {
   bool is_hex, is_json;
   bool wants_help, wants_version;
+  reading reading;
   bool modes[MODE_COUNT];
   const char *file; /* NULL if none is named */
   text refused; /* what is wrong with the words, if they are refused */

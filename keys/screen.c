@@ -152,28 +152,54 @@ static void put_item(screen *it, const item *of, bool is_first) {
   put_item_words(it, of);
 }
 
-static void add_paste(text *out, const group *of) {
-  size_t shown = of->event.paste_len < PASTE_SHOWN ? of->event.paste_len : PASTE_SHOWN;
-  text_add(out, "paste %zu:", of->event.paste_len);
-  for (size_t i = 0; i < shown; i++) add_byte(out, of->paste[i], true);
-  if (shown < of->event.paste_len) text_add(out, "..");
+/* The number of the bytes that the event brought, and the first of them. */
+static void add_text(text *out, const char *name, const group *of) {
+  size_t shown = of->event.text_len < TEXT_SHOWN ? of->event.text_len : TEXT_SHOWN;
+  text_add(out, "%s %zu:", name, of->event.text_len);
+  for (size_t i = 0; i < shown; i++) add_byte(out, of->text[i], true);
+  if (shown < of->event.text_len) text_add(out, "..");
 }
 
-static void add_event(text *out, const group *of) {
-  const tw_event *event = &of->event;
-  if (event->kind == TW_PASTE) {
-    add_paste(out, of);
-    return;
-  }
+static void add_code(text *out, const char *name, uint32_t code) {
+  if (code != TW_NO_CODE) text_add(out, " %s U+%04X", name, (unsigned)code);
+}
+
+static void add_report(text *out, const group *of) {
+  const tw_key_report *report = &of->event.report;
+  text_add(out, "report ");
+  add_key(out, report->key, report->detail);
+  text_add(out, " ");
+  add_flags(out, held_flags, report->modifiers);
+  text_add(out, " %s", action_name(report->action));
+  add_code(out, "shifted", report->shifted);
+  add_code(out, "base", report->base);
+  if (of->event.text_len > 0) add_text(out, " text", of);
+}
+
+static void add_input(text *out, const tw_event *event) {
   if (event->kind == TW_MOUSE) {
     text_add(out, "mouse %u %u ", event->x, event->y);
     add_flags(out, button_flags, event->buttons);
   } else {
     text_add(out, "key ");
-    add_key(out, event);
+    add_key(out, event->key, event->detail);
   }
   text_add(out, " ");
   add_flags(out, modifier_flags, event->modifiers);
+}
+
+static void add_event(text *out, const group *of) {
+  const tw_extended_event *event = &of->event;
+  switch (event->kind) {
+    case TW_EVENT_REPORT: add_report(out, of); break;
+    case TW_EVENT_FOCUS_GAINED: text_add(out, "focus gained"); break;
+    case TW_EVENT_FOCUS_LOST: text_add(out, "focus lost"); break;
+    case TW_EVENT_CURSOR_POSITION: text_add(out, "cursor %u %u", event->row, event->column); break;
+    case TW_EVENT_RESIZE: text_add(out, "resize %u %u %u %u", event->rows, event->columns, event->height, event->width); break;
+    case TW_EVENT_KEYBOARD_FLAGS: text_add(out, "keyboard flags %u", event->flags); break;
+    case TW_EVENT_KEY: case TW_EVENT_MOUSE: add_input(out, &event->input); break;
+    default: add_text(out, kind_name(event->kind), of);
+  }
 }
 
 static void put_group(screen *it, const line *shown, const group *of) {

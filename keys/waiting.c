@@ -3,8 +3,8 @@
 
 enum { NAMED = 3 };
 
-int waiting_ms(const tw_parser *parser) {
-  uint32_t kind = tw_parser_waiting_kind(parser);
+int waiting_ms(const reader *reader) {
+  uint32_t kind = reader_waiting_kind(reader);
   if (kind == TW_WAITING_ESCAPE) return ESCAPE_MS;
   return kind == TW_WAITING_SEQUENCE ? SEQUENCE_MS : -1;
 }
@@ -78,7 +78,7 @@ static void add_listed_key(text *out, const tw_event *event, bool with_alt) {
   add_prefixes(out, event->modifiers | (with_alt ? TW_MOD_ALT : TW_MOD_NONE));
   if (event->key == TW_KEY_INTERNAL_PASTE_START) text_add(out, "a paste");
   else if (is_printable) text_add(out, "%c", (char)event->detail);
-  else add_key(out, event);
+  else add_key(out, event->key, event->detail);
 }
 
 static void add_keys(text *out, const tw_parser *parser, const tw_rows *rows) {
@@ -91,33 +91,45 @@ static void add_keys(text *out, const tw_parser *parser, const tw_rows *rows) {
   if (rows->count > found.count) text_add(out, ", .. (%zu more)", rows->count - found.count);
 }
 
-static void add_sequence(text *out, const tw_parser *parser) {
-  tw_rows rows = { .count = 0 };
-  if (!tw_parser_completions(parser, &rows) || rows.count == 0) {
-    text_add(out, "the beginning of a mouse report");
+/* What bytes begin that begin no row of the sequence table. */
+static const char *begun_by(const reader *reader, const uint8_t *waiting, size_t length) {
+  if (!reader->is_extended || length < 2) return "a mouse report";
+  switch (waiting[waiting[1] == '\033' && length > 2 ? 2 : 1]) {
+    case ']': return "a command (OSC)";
+    case 'P': return "a device control string (DCS)";
+    case '_': return "an application command (APC)";
+    default: return "a control sequence";
+  }
+}
+
+static void add_sequence(text *out, reader *reader, const uint8_t *waiting, size_t length) {
+  tw_rows rows;
+  const tw_parser *table = reader_completions(reader, waiting, length, &rows);
+  if (rows.count == 0) {
+    text_add(out, "the beginning of %s", begun_by(reader, waiting, length));
     return;
   }
   text_add(out, "the beginning of %zu sequence%s: ", rows.count, rows.count == 1 ? "" : "s");
-  add_keys(out, parser, &rows);
+  add_keys(out, table, &rows);
 }
 
-void add_waiting(text *out, const tw_parser *parser) {
-  size_t length = tw_parser_waiting(parser);
-  switch (tw_parser_waiting_kind(parser)) {
+void add_waiting(text *out, reader *reader, const line *shown) {
+  size_t length = reader_waiting(reader);
+  switch (reader_waiting_kind(reader)) {
     case TW_WAITING_ESCAPE:
       text_add(out, length == 1 ? "may begin a key" : "may begin a key with Alt");
       break;
-    case TW_WAITING_SEQUENCE: add_sequence(out, parser); break;
+    case TW_WAITING_SEQUENCE: add_sequence(out, reader, shown->bytes + shown->settled, length); break;
     case TW_WAITING_CHARACTER: text_add(out, "half a character"); break;
-    case TW_WAITING_PASTE: text_add(out, "a paste of %zu bytes so far", length - paste_start_length(parser)); break;
+    case TW_WAITING_PASTE: text_add(out, "a paste of %zu bytes so far", length - paste_start_length(&reader->usual)); break;
     default: break;
   }
 }
 
-void add_waiting_for(text *out, const tw_parser *parser) {
-  switch (tw_parser_waiting_kind(parser)) {
+void add_waiting_for(text *out, const reader *reader) {
+  switch (reader_waiting_kind(reader)) {
     case TW_WAITING_ESCAPE: {
-      const char *modifiers = tw_parser_waiting(parser) == 1 ? "NONE" : "ALT";
+      const char *modifiers = reader_waiting(reader) == 1 ? "NONE" : "ALT";
       text_add(out, "; if nothing follows in %d ms: key Escape %s", ESCAPE_MS, modifiers);
       break;
     }

@@ -2,18 +2,19 @@
 #ifndef KEYS_WAITING_H
 #define KEYS_WAITING_H
 
-#include "termwiz_input.h"
+#include "line.h"
+#include "reader.h"
 #include "text.h"
 
 enum { ESCAPE_MS = 50, SEQUENCE_MS = 1000 };
 
 /* After how many milliseconds without a byte what waits is flushed. -1 if never: what waits then is a character, a paste or nothing. */
-int waiting_ms(const tw_parser *parser);
+int waiting_ms(const reader *reader);
 
-/* Appends what the bytes are that wait: half a character, say. */
-void add_waiting(text *out, const tw_parser *parser);
+/* Appends what the bytes are that wait on a line: half a character, say. */
+void add_waiting(text *out, reader *reader, const line *shown);
 
 /* Appends for what they wait, where pauses count. */
-void add_waiting_for(text *out, const tw_parser *parser);
+void add_waiting_for(text *out, const reader *reader);
 
 #endif

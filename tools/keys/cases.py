@@ -25,9 +25,11 @@ MODES = {
     "--modify-other-keys=2": {">4": 2},
     "--mouse": {"?1003": True, "?1006": True},
     "--bracketed-paste": {"?2004": True},
+    "--focus": {"?1004": True},
+    "--kitty-keyboard": {"kitty": True},
 }
-ALL_MODES = ["--application-cursor-keys", "--modify-other-keys=2", "--mouse", "--bracketed-paste"]
-ALL_SWITCHED = {"?1": True, ">4": 2, "?1003": True, "?1006": True, "?2004": True}
+ALL_MODES = ["--application-cursor-keys", "--modify-other-keys=2", "--mouse", "--bracketed-paste", "--focus"]
+ALL_SWITCHED = {"?1": True, ">4": 2, "?1003": True, "?1006": True, "?2004": True, "?1004": True}
 ESCAPE = "may begin a key; if nothing follows in 50 ms: key Escape NONE"
 ALT_ESCAPE = "may begin a key with Alt; if nothing follows in 50 ms: key Escape ALT"
 MOUSE = "the beginning of a mouse report: waits up to 1 s"
@@ -335,6 +337,26 @@ def end_by_sequences(program):
         keys.check_end(0)
 
 
+def kitty_keyboard(program):
+    """With Kitty's protocol ^D is a report, and neither a release nor a modifier key between two counts."""
+    with Keys(program, "--kitty-keyboard", size=(200, 24)) as keys:
+        keys.send(b"\033[97;5:3u\033[A")
+        keys.wait_for_screen("   1  ESC [ 9 7 ; 5 : 3 u -> report U+0061 CTRL release | ESC [ A -> report UpArrow NONE press")
+        keys.send(b"\033[100;5u\033[100;5:3u\033[57442;5u\033[100;69u")
+        keys.check_end(0)
+
+
+def string_over_reads(program):
+    """The beginning of a string waits, for a second at most."""
+    with Keys(program, "--extended", size=(200, 24)) as keys:
+        keys.send(b"\033]11;r")
+        first = "   1  ESC ] 1 1 ; r -> "
+        keys.wait_for_text("the beginning of a command (OSC): waits up to 1 s")
+        keys.send(b"\007\033[I")
+        keys.wait_for_text("focus gained")
+        keys.end_with(f"{first}goes on in read 2", "   2  (ESC ] 1 1 ; r) ^G -> osc 4:31313b72 | ESC [ I -> focus gained")
+
+
 def keys_of_signals(program):
     with Keys(program) as keys:
         keys.send(b"\x03\x1a\x1c")
@@ -467,6 +489,33 @@ ALL_AS_JSON = [
 ]
 
 
+REPORTS = (b"\033[97:65:99;2:2;65u\033[24;80R\033[?5u\033[48;24;80;480;800t\033[I\033[O\033[?62c"
+           b"\033]0;a\007\033Px\033\\\033_y\033\\\033[57428u")
+REPORTS_AS_LINES = [
+    "   1  ESC [ 9 7 : 6 5 : 9 9 ; 2 : 2 ; 6 5 u -> report U+0061 SHIFT repeat shifted U+0041 base U+0063 text 1:41"
+    " | ESC [ 2 4 ; 8 0 R -> cursor 24 80 | ESC [ ? 5 u -> keyboard flags 5"
+    " | ESC [ 4 8 ; 2 4 ; 8 0 ; 4 8 0 ; 8 0 0 t -> resize 24 80 480 800 | ESC [ I -> focus gained | ESC [ O -> focus lost"
+    " | ESC [ ? 6 2 c -> csi 4:3f363263 | ESC ] 0 ; a ^G -> osc 3:303b61 | ESC P x ESC \\ -> dcs 1:78 | ESC _ y ESC \\ -> apc 1:79"
+    " | ESC [ 5 7 4 2 8 u -> report functional 57428 NONE press",
+]
+REPORTS_AS_JSON = [
+    '{"read":1,"bytes":"1b5b39373a36353a39393b323a323b363575","earlier":0,"kind":"report","key":"U+0061","modifiers":["SHIFT"],'
+    '"action":"repeat","shifted":65,"base":99,"length":1,"text":"A"}',
+    '{"read":1,"bytes":"1b5b32343b383052","earlier":0,"kind":"cursor","row":24,"column":80}',
+    '{"read":1,"bytes":"1b5b3f3575","earlier":0,"kind":"flags","flags":5}',
+    '{"read":1,"bytes":"1b5b34383b32343b38303b3438303b38303074","earlier":0,"kind":"resize","rows":24,"columns":80,"height":480,'
+    '"width":800}',
+    '{"read":1,"bytes":"1b5b49","earlier":0,"kind":"focus","gained":true}',
+    '{"read":1,"bytes":"1b5b4f","earlier":0,"kind":"focus","gained":false}',
+    '{"read":1,"bytes":"1b5b3f363263","earlier":0,"kind":"csi","length":4,"data":"3f363263"}',
+    '{"read":1,"bytes":"1b5d303b6107","earlier":0,"kind":"osc","length":3,"data":"303b61"}',
+    '{"read":1,"bytes":"1b50781b5c","earlier":0,"kind":"dcs","length":1,"data":"78"}',
+    '{"read":1,"bytes":"1b5f791b5c","earlier":0,"kind":"apc","length":1,"data":"79"}',
+    '{"read":1,"bytes":"1b5b353734323875","earlier":0,"kind":"report","key":"functional 57428","modifiers":[],"action":"press",'
+    '"length":0,"text":""}',
+]
+
+
 def reads_of_4096(program):
     """A sequence that the end of a read cuts belongs to the line of the next."""
     with tempfile.NamedTemporaryFile() as file:
@@ -548,7 +597,7 @@ def version(program):
 def help_text(program):
     status, out, errors = run(program, "--help")
     expect("status", (status, errors), (0, ""))
-    for word in [*MODES, "--hex", "--json", "--version"]:
+    for word in [*MODES, "--extended", "--hex", "--json", "--version"]:
         name, _, level = word.partition("=")
         if f"{name}=1|2" not in out if level else name not in out:
             raise Failed(f"{word} isn't named")
@@ -632,6 +681,8 @@ CASES = [
     ("^D once", one_end_is_none),
     ("^D twice, in two reads", end_over_reads),
     ("^D twice, as sequences", end_by_sequences),
+    ("Kitty's keyboard protocol", kitty_keyboard),
+    ("a string over two reads", lambda program: run_tries(string_over_reads, program)),
     ("^C, ^Z and ^\\ as keys", keys_of_signals),
     *((it.name, end_by(it)) for it in (signal.SIGHUP, signal.SIGINT, signal.SIGQUIT, signal.SIGTERM)),
     ("SIGTSTP, SIGCONT, SIGTERM", stop_and_continue),
@@ -649,6 +700,12 @@ CASES = [
                                         from_file=True)),
     ("JSON, from a pipe", prints(ALL_KINDS, *ALL_AS_JSON, words=["--json"])),
     ("JSON, from a file", prints(ALL_KINDS, *ALL_AS_JSON, words=["--json"], from_file=True)),
+    ("reports, from a pipe", prints(REPORTS, *REPORTS_AS_LINES, words=["--extended"])),
+    ("reports, from a file", prints(REPORTS, *REPORTS_AS_LINES, words=["--extended"], from_file=True)),
+    ("reports as JSON", prints(REPORTS, *REPORTS_AS_JSON, words=["--extended", "--json"])),
+    ("rows by --extended", prints(b"\033[1;9A", "   1  ESC [ 1 ; 9 A -> key UpArrow ALT", words=["--extended"])),
+    ("rows by --extended=kitty", prints(b"\033[1;9A", "   1  ESC [ 1 ; 9 A -> report UpArrow SUPER press", words=["--extended=kitty"])),
+    ("all events by --extended", prints(ALL_KINDS, *ALL_AS_JSON, words=["--extended", "--json"])),
     ("reads of 4096 bytes", reads_of_4096),
     ("a file on a terminal", file_on_a_terminal),
     ("random bytes", random_bytes),
@@ -658,6 +715,7 @@ CASES = [
     ("a full disk, help", full_disk("--help")),
     ("memory refused", refusals_of_memory),
     ("an unknown word", refused("--foo", says="what is '--foo'? --help lists the words")),
+    ("an unknown reading", refused("--extended=vt52", says="what is '--extended=vt52'? --help lists the words")),
     ("an unknown level", refused("--modify-other-keys=3", says="what is '--modify-other-keys=3'? --help lists the words")),
     ("two files", refused("a", "b", says="wants one file, and 'b' is another; --help says more")),
     ("a mode without a terminal", refused("--mouse", says="--mouse wants a terminal as the input; --help says more")),

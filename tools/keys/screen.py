@@ -3,7 +3,7 @@ terminal as it came fails a case, where a whole terminal emulator would obey it.
 import re
 from terminal import Failed
 
-TOKEN = re.compile(rb"\033\[(\d+)A|\033\[J|\033\[([0126]|36)m|\033\[(\?\d+)([hl])|\033\[(>4)(;[12])?m|\r\n|([ -~]+)")
+TOKEN = re.compile(rb"\033\[(\d+)A|\033\[J|\033\[([0126]|36)m|\033\[(\?\d+)([hl])|\033\[(>4)(;[12])?m|\033\[(>31|<)u|\r\n|([ -~]+)")
 STYLES = {b"0": "", b"1": "*", b"2": "~", b"36": "_"}
 
 
@@ -31,7 +31,7 @@ class Screen:
         return self
 
     def obey(self, token):
-        up, style, mode, switch, other, level, characters = token.groups()
+        up, style, mode, switch, other, level, kitty, characters = token.groups()
         if characters:
             self.put(characters.decode("ascii"))
         elif up:
@@ -43,6 +43,8 @@ class Screen:
             self.modes[mode.decode()] = switch == b"h"
         elif other:
             self.modes[other.decode()] = int(level[1:]) if level else False
+        elif kitty:
+            self.modes["kitty"] = kitty == b">31"
         elif token[0] == b"\033[J":
             self.rows[self.row:] = [[]]
         else:
