@@ -3,9 +3,10 @@
 #
 #     tools/fuzz.sh [--library DIR] [--repeat HARNESS FILE] [--if-clang] [--without-clang] [SECONDS]
 #
-# There are four harnesses in tools/fuzz, and the head of each says what it checks: cuts (a stream read whole and in pieces), calls (calls
-# in any order, with requests for memory refused), maps (a key map beside a plain one) and keys (texts and names of keys). Each begins with
-# the seeds of tools/fuzz/corpus. calls runs for two fifths of the SECONDS (60 if left out), the others for a fifth each.
+# There are five harnesses in tools/fuzz, and the head of each says what it checks: cuts (a stream read whole and in pieces), extended (the
+# same for the extended parser), calls (calls in any order, with requests for memory refused), maps (a key map beside a plain one) and keys
+# (texts and names of keys). Each begins with the seeds of tools/fuzz/corpus. calls runs for a third of the SECONDS (60 if left out), the
+# others for a sixth each.
 #
 # The harnesses are built with clang's checks of addresses and of undefined behaviour. The archive is compiled already and has no such
 # checks in it. So each argument lies beside a page that can't be touched, and each block of the library's memory between marks.
@@ -20,7 +21,7 @@
 set -u
 export LC_ALL=C
 . "$(dirname "$0")/common.sh"
-harnesses='cuts calls maps keys' library='' harness='' input='' seconds='' left_out='' if_clang=''
+harnesses='cuts extended calls maps keys' library='' harness='' input='' seconds='' left_out='' if_clang=''
 while [ $# -gt 0 ]; do
     case $1 in
         --help) show_help; exit ;;
@@ -159,11 +160,12 @@ if [ -n "$harness" ]; then
     fi
 else
     seconds=${seconds:-60}
-    fifth=$(((seconds + 4) / 5))
-    fuzz cuts "$fifth" 600
-    fuzz calls "$((2 * fifth))" 400
-    fuzz maps "$fifth" 300
-    fuzz keys "$fifth" 32
+    sixth=$(((seconds + 5) / 6))
+    fuzz cuts "$sixth" 600
+    fuzz extended "$sixth" 600
+    fuzz calls "$((2 * sixth))" 400
+    fuzz maps "$sixth" 300
+    fuzz keys "$sixth" 32
 fi
 echo "$passed passed, $failed failed"
 [ "$failed" = 0 ]

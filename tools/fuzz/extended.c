@@ -1,0 +1,174 @@
+/* The events of the extended parser don't depend on how a stream is cut.
+ *
+ * An input is a byte whose five low bits are a number of pieces, a byte for each of them, and the stream. The five low bits of a piece's
+ * byte are its size. If another bit is set, a flush of the Escape key is asked for after the piece, which has to leave any rest but ESC and
+ * ESC ESC as it is. What the pieces leave comes in one piece, or byte by byte if the first byte has the bit 0x20. Its bit 0x40 asks for
+ * Kitty's reading of the rows.
+ *
+ * The stream is read whole and in these pieces. Then nothing more comes, and an open paste is ended. Events, the bytes that they bring and
+ * rests have to be the same each time. A flush leaves nothing outside a paste. */
+#include "fuzz.h"
+#include <string.h>
+
+enum { STREAM_MAX = 4096, LAST_BY_BYTE = 0x20, KITTY = 0x40, SIZE = 0x1f, LONGEST_REST = 65536 };
+
+/* What a reading gave. */
+typedef struct reading {
+  tw_extended_event events[STREAM_MAX];
+  uint8_t texts[3 * STREAM_MAX];
+  size_t count, texts_len;
+  size_t rest, flushed_rest;
+} reading;
+
+static reading whole, cut;
+static tw_extended parsers[2] = { TW_EXTENDED_NONE, TW_EXTENDED_NONE };
+static tw_extended *parser;
+static room given, taken, text;
+
+static bool is_key(const tw_extended_event *event) { return event->kind == TW_EVENT_KEY || event->kind == TW_EVENT_REPORT; }
+
+/* What holds for every report: it says what happened to a key, which has a name or a number in Kitty's table. */
+static void check_report(const tw_key_report *report) {
+  uint8_t name[22];
+  HOLDS(report->action >= TW_ACTION_PRESS && report->action <= TW_ACTION_RELEASE);
+  HOLDS(report->key == 0 ? report->detail >= 57344 && report->detail <= 63743 : tw_key_name(report->key, name, sizeof name) > 0);
+  HOLDS(report->shifted <= 0x10ffff || report->shifted == TW_NO_CODE);
+  HOLDS(report->base <= 0x10ffff || report->base == TW_NO_CODE);
+}
+
+/* What holds for every event. */
+static void check_extended_event(const tw_extended_event *event) {
+  static const tw_key_report none;
+  HOLDS(event->kind >= TW_EVENT_KEY && event->kind <= TW_EVENT_APC);
+  if (is_key(event)) check_report(&event->report);
+  else HOLDS(memcmp(&event->report, &none, sizeof none) == 0);
+  HOLDS((event->input.kind == TW_OTHER) == (event->kind > TW_EVENT_PASTE));
+  HOLDS(event->kind > TW_EVENT_PASTE || event->input.kind == event->kind);
+  if (event->kind == TW_EVENT_PASTE) HOLDS(event->text_len == event->input.paste_len);
+  note(0x60000u | event->kind, event->report.action);
+}
+
+static bool same_report(const tw_key_report *one, const tw_key_report *other) {
+  return one->action == other->action && one->modifiers == other->modifiers && one->key == other->key && one->detail == other->detail
+         && one->shifted == other->shifted && one->base == other->base;
+}
+
+static bool same_extended_event(const tw_extended_event *one, const tw_extended_event *other) {
+  return one->kind == other->kind && one->flags == other->flags && one->row == other->row && one->column == other->column
+         && one->rows == other->rows && one->columns == other->columns && one->height == other->height && one->width == other->width
+         && one->text_len == other->text_len && same_report(&one->report, &other->report) && same_event(&one->input, &other->input);
+}
+
+static void keep_text(reading *it, size_t len) {
+  uint8_t *out = room_of(&text, len);
+  HOLDS(tw_extended_text(parser, pointer_to(&text), len) == len);
+  HOLDS(is_untouched(&text, len) && it->texts_len + len <= sizeof it->texts);
+  memcpy(it->texts + it->texts_len, out, len);
+  it->texts_len += len;
+}
+
+static void keep_event(reading *it, const tw_extended_event *event) {
+  check_extended_event(event);
+  HOLDS(it->count < STREAM_MAX);
+  it->events[it->count++] = *event;
+  if (event->text_len > 0) keep_text(it, event->text_len);
+}
+
+/* Takes all events that there are. */
+static void take_all(reading *it, bool more) {
+  uint32_t next;
+  do {
+    tw_extended_event *event = room_of(&taken, sizeof *event);
+    next = tw_extended_next(parser, more, event);
+    HOLDS(next == TW_EVENT || next == TW_NONE);
+    if (next == TW_EVENT) keep_event(it, event);
+    HOLDS(is_untouched(&taken, next == TW_EVENT ? sizeof *event : 0));
+  } while (next == TW_EVENT);
+}
+
+/* What stays buffered is told by its kind. */
+static void check_extended_rest(const uint8_t *waiting, size_t len) {
+  uint32_t kind = tw_extended_waiting_kind(parser);
+  HOLDS((kind == TW_WAITING_NOTHING) == (len == 0));
+  HOLDS((kind == TW_WAITING_PASTE) == is_open_paste(waiting, len));
+  HOLDS((kind == TW_WAITING_ESCAPE) == is_escape(waiting, len));
+  HOLDS(tw_extended_is_paste_open(parser) == begins_paste(waiting, len));
+  HOLDS(len <= LONGEST_REST || kind == TW_WAITING_PASTE);
+}
+
+/* Feeds the bytes up to `to`, and takes all that they give. */
+static void read_up_to(reading *it, const uint8_t *stream, size_t from, size_t to) {
+  room_with(&given, stream + from, to - from);
+  HOLDS(tw_extended_feed(parser, pointer_to(&given), to - from));
+  HOLDS(is_unchanged(&given, stream + from));
+  take_all(it, true);
+  it->rest = tw_extended_waiting(parser);
+  HOLDS(it->rest <= to && it->count <= to);
+  check_extended_rest(stream + to - it->rest, it->rest);
+}
+
+/* Flushes no Escape key from a rest that is another. */
+static void flush_no_escape(const reading *it, const uint8_t *stream, size_t to) {
+  tw_extended_event *event = room_of(&taken, sizeof *event);
+  if (is_escape(stream + to - it->rest, it->rest)) return;
+  HOLDS(tw_extended_flush_escape(parser, event) == TW_NONE);
+  HOLDS(is_untouched(&taken, 0) && tw_extended_waiting(parser) == it->rest);
+}
+
+/* What follows when nothing more comes. */
+static void read_end(reading *it, const uint8_t *stream, size_t len) {
+  tw_extended_event *event = room_of(&taken, sizeof *event);
+  take_all(it, false);
+  it->flushed_rest = tw_extended_waiting(parser);
+  HOLDS(it->flushed_rest == 0 || is_open_paste(stream + len - it->flushed_rest, it->flushed_rest));
+  HOLDS(tw_extended_end_paste(parser, event) == (it->flushed_rest ? TW_EVENT : TW_NONE));
+  if (it->flushed_rest) keep_event(it, event);
+  HOLDS(it->count <= len && tw_extended_waiting(parser) == 0);
+}
+
+static void begin(reading *it) {
+  it->count = it->texts_len = it->rest = 0;
+  given.is_at_end = taken.is_at_end = text.is_at_end = false;
+  tw_extended_reset(parser);
+  tw_extended_drop_text(parser);
+}
+
+static void read_whole(const uint8_t *stream, size_t len) {
+  begin(&whole);
+  read_up_to(&whole, stream, 0, len);
+  read_end(&whole, stream, len);
+}
+
+static void read_cut(const uint8_t *pieces, size_t count, bool is_by_byte, const uint8_t *stream, size_t len) {
+  size_t from = 0;
+  begin(&cut);
+  for (size_t i = 0; i < count || from < len; i++) {
+    size_t left = len - from, size = i < count ? pieces[i] & SIZE : is_by_byte ? 1 : left;
+    size_t to = from + (size < left ? size : left);
+    read_up_to(&cut, stream, from, to);
+    if (i < count && pieces[i] & ~SIZE) flush_no_escape(&cut, stream, to);
+    from = to;
+  }
+  read_end(&cut, stream, len);
+}
+
+static void compare(void) {
+  HOLDS(whole.count == cut.count);
+  for (size_t i = 0; i < whole.count; i++) HOLDS(same_extended_event(&whole.events[i], &cut.events[i]));
+  HOLDS(whole.texts_len == cut.texts_len && memcmp(whole.texts, cut.texts, whole.texts_len) == 0);
+  HOLDS(whole.rest == cut.rest && whole.flushed_rest == cut.flushed_rest);
+}
+
+int LLVMFuzzerTestOneInput(const uint8_t *bytes, size_t len) {
+  input it = { bytes, len };
+  size_t count, stream_len;
+  uint8_t first = take_byte(&it);
+  const uint8_t *pieces = take_bytes(&it, first & SIZE, &count);
+  const uint8_t *stream = take_bytes(&it, STREAM_MAX, &stream_len);
+  parser = &parsers[(first & KITTY) != 0];
+  if (!parser->live) HOLDS(tw_extended_init(parser, first & KITTY ? TW_ROWS_KITTY : TW_ROWS_PORT));
+  read_whole(stream, stream_len);
+  read_cut(pieces, count, first & LAST_BY_BYTE, stream, stream_len);
+  compare();
+  return 0;
+}
