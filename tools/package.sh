@@ -96,7 +96,7 @@ make_tarball() {
     progress 'makes the tarball'
     install_stripped --prefix "$tree"
     mkdir "$tree/c"
-    cp c/events.c c/live.c "$tree/c/"
+    cp c/events.c c/live.c c/ask.c "$tree/c/"
     copy_python
     copy_rust
     cp LICENSE tools/package/THIRD-PARTY "$tree/"

@@ -104,7 +104,7 @@ expected_files() { # package
             echo "$libdir/libtermwiz_c.a 644"
             echo "$libdir/libtermwiz_c.so -> libtermwiz_c.so.$version"
             echo "$libdir/pkgconfig/termwiz_c.pc 644"
-            printf "usr/share/doc/$1/examples/%s 644\n" events.c live.c
+            printf "usr/share/doc/$1/examples/%s 644\n" ask.c events.c live.c
             echo 'usr/share/man/man3/termwiz_input.3.gz 644'
             library_calls | sed 's|.*|usr/share/man/man3/&.3.gz -> termwiz_input.3.gz|' ;;
         libtermwiz-input0)

@@ -20,7 +20,7 @@ split_system() {
     take libtermwiz-input-dev usr/include "$libdir/libtermwiz_c.a" "$libdir/libtermwiz_c.so" "$libdir/pkgconfig" usr/share/man/man3
     take keyshow usr/bin usr/share/man/man1
     [ -z "$(find "$system" ! -type d)" ] || { find "$system" ! -type d >&2; refuse 'these files are in no package'; }
-    install -D -m 644 -t "$debs/libtermwiz-input-dev/usr/share/doc/libtermwiz-input-dev/examples" c/events.c c/live.c
+    install -D -m 644 -t "$debs/libtermwiz-input-dev/usr/share/doc/libtermwiz-input-dev/examples" c/events.c c/live.c c/ask.c
 }
 
 # Compresses manual pages, and has links lead to what they have become.
