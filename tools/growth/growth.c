@@ -5,8 +5,8 @@
  *                        the most bytes of memory in use, and the largest request for memory
  *
  * A pass makes a parser, gives it a text in reads of one size, takes the events, and ends the parser. It goes through parse_as_vec
- * (parser_pass of tools/measure/feed.rt.txt) or through feed and next_event (the calls of c/termwiz_input.h). A pass of no bytes shows
- * what making a parser takes. */
+ * (parser_pass of tools/measure/feed.rt.txt), through feed and next_event (the calls of c/termwiz_input.h), or through the same calls of the
+ * extended parser. A pass of no bytes shows what making a parser takes. */
 #include "termwiz_input.h"
 #include <stdbool.h>
 #include <stdint.h>
@@ -126,6 +126,29 @@ static void fill_keys(void) {
     fill(0, keys, sizeof keys / sizeof *keys);
 }
 
+/* Strings of a thousand bytes, each with its end. */
+static void fill_strings(void) {
+    static char string[1024];
+    static const char *const strings[] = {string, "\x1b[24;80R", "\x1b]0;title\x1b\\"};
+    memset(string, 'x', sizeof string - 1);
+    memcpy(string, "\x1b]52;c;", 7);
+    string[sizeof string - 2] = '\a';
+    fill(0, strings, sizeof strings / sizeof *strings);
+}
+
+/* Strings that never end, each up to a control character, and control sequences that are a byte too long. */
+static void fill_begun(void) {
+    static char string[4096], control[256];
+    static const char *const begun[] = {string, control};
+    memset(string, 'x', sizeof string - 1);
+    memcpy(string, "\x1bP", 2);
+    string[sizeof string - 2] = '\r';
+    for (size_t i = 0; i < sizeof control - 1; i++)
+        control[i] = i % 2 ? ';' : '0';
+    memcpy(control, "\x1b[", 2);
+    fill(0, begun, sizeof begun / sizeof *begun);
+}
+
 static void fill_paste(void) {
     static const char *const lines[] = {"a pasted line\n", "and another, with a cut end \x1b[20\n", "\x1b[201\n"};
     static const char start[] = "\x1b[200~";
@@ -133,10 +156,14 @@ static void fill_paste(void) {
     fill(sizeof start - 1, lines, sizeof lines / sizeof *lines);
 }
 
+/* The calls by which events are taken, and what they are called. */
+enum way { NEXT_EVENT, PARSE_AS_VEC, EXTENDED, WAYS };
+static const char *const way_names[WAYS] = {"next_event", "parse_as_vec", "extended"};
+
 /* A pass: its bytes, the size of its reads, and how it takes events. */
 struct pass {
     size_t length, read;
-    bool is_vec;
+    enum way way;
     size_t longest;
 };
 
@@ -180,19 +207,46 @@ static void pass_by_steps(struct pass *pass) {
     tw_parser_free(&parser);
 }
 
+static void take_extended_events(tw_extended *parser, bool more) {
+    tw_extended_event event;
+    uint32_t answer;
+    while ((answer = tw_extended_next(parser, more, &event)) == TW_EVENT)
+        ;
+    if (answer != TW_NONE)
+        stop("memory was refused");
+}
+
+static void pass_by_extended_steps(struct pass *pass) {
+    tw_extended parser = {0};
+    if (!tw_extended_init(&parser, TW_ROWS_KITTY))
+        stop("memory was refused");
+    for (size_t at = 0; at < pass->length; at += pass->read) {
+        size_t length = pass->length - at < pass->read ? pass->length - at : pass->read;
+        if (!tw_extended_feed(&parser, text + at, length))
+            stop("memory was refused");
+        if (tw_extended_waiting(&parser) > pass->longest)
+            pass->longest = tw_extended_waiting(&parser);
+        take_extended_events(&parser, true);
+    }
+    take_extended_events(&parser, false);
+    tw_extended_free(&parser);
+}
+
 /* What is counted. */
 __attribute__((noinline)) void counted(struct pass *pass) {
-    if (pass->is_vec)
+    if (pass->way == PARSE_AS_VEC)
         pass_as_vec(pass);
+    else if (pass->way == EXTENDED)
+        pass_by_extended_steps(pass);
     else
         pass_by_steps(pass);
 }
 
-static void show(const char *name, bool is_vec, size_t read, size_t length, bool is_heap) {
-    struct pass pass = {length, read, is_vec, 0};
+static void show(const char *name, enum way way, size_t read, size_t length, bool is_heap) {
+    struct pass pass = {length, read, way, 0};
     memory.end = memory.in_use = memory.most_in_use = memory.largest = 0;
     counted(&pass);
-    printf("%s %s %zu %zu", is_vec ? "parse_as_vec" : "next_event", name, read, length);
+    printf("%s %s %zu %zu", way_names[way], name, read, length);
     if (is_heap)
         printf(" %zu %zu %zu", pass.longest, memory.most_in_use, memory.largest);
     printf("\n");
@@ -202,7 +256,9 @@ int main(int argc, char **argv) {
     static const struct {
         const char *name;
         void (*fill)(void);
-    } texts[] = {{"typed", fill_typed}, {"keys", fill_keys}, {"paste", fill_paste}};
+        bool is_extended; /* whether the extended parser alone gets it */
+    } texts[] = {{"typed", fill_typed, false}, {"keys", fill_keys, false}, {"paste", fill_paste, false}, {"strings", fill_strings, true},
+                 {"begun", fill_begun, true}};
     /* The sizes of reads, and the lengths of the shorter texts: each has enough reads for the buffer to grow as it does in the long run. */
     static const struct {
         size_t size, length;
@@ -210,13 +266,15 @@ int main(int argc, char **argv) {
     bool is_heap = argc == 2 && !strcmp(argv[1], "heap");
     static char line[BUFSIZ];
     setvbuf(stdout, line, _IOFBF, sizeof line);
-    for (int is_vec = 0; is_vec < 2; is_vec++) {
-        show("new", is_vec, 1, 0, is_heap);
+    for (enum way way = 0; way < WAYS; way++) {
+        show("new", way, 1, 0, is_heap);
         for (size_t i = 0; i < sizeof texts / sizeof *texts; i++) {
+            if (texts[i].is_extended && way != EXTENDED)
+                continue;
             texts[i].fill();
             for (size_t j = 0; j < sizeof reads / sizeof *reads; j++) {
-                show(texts[i].name, is_vec, reads[j].size, reads[j].length, is_heap);
-                show(texts[i].name, is_vec, reads[j].size, 4 * reads[j].length, is_heap);
+                show(texts[i].name, way, reads[j].size, reads[j].length, is_heap);
+                show(texts[i].name, way, reads[j].size, 4 * reads[j].length, is_heap);
             }
         }
     }
