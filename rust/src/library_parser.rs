@@ -3,28 +3,33 @@ use crate::input::{AllocError, ParseError, ParseVecError, Waiting, FAULT};
 use crate::raw;
 use std::sync::{Mutex, MutexGuard, PoisonError};
 
-/// A parser as the library has it, and the calls on it.
+// The library's calls on a parser.
+pub(crate) struct Calls<Raw, RawEvent> {
+    pub free: unsafe extern "C" fn(*mut Raw),
+    pub feed: unsafe extern "C" fn(*mut Raw, *const u8, usize) -> bool,
+    pub next: unsafe extern "C" fn(*mut Raw, bool, *mut RawEvent) -> u32,
+    pub text: unsafe extern "C" fn(*mut Raw, *mut u8, usize) -> usize,
+    pub drop_text: unsafe extern "C" fn(*mut Raw),
+    pub waiting: unsafe extern "C" fn(*mut Raw) -> usize,
+    pub waiting_kind: unsafe extern "C" fn(*mut Raw) -> u32,
+    pub flush_escape: unsafe extern "C" fn(*mut Raw, *mut RawEvent) -> u32,
+    pub is_paste_open: unsafe extern "C" fn(*mut Raw) -> bool,
+    pub end_paste: unsafe extern "C" fn(*mut Raw, *mut RawEvent) -> u32,
+    pub reset: unsafe extern "C" fn(*mut Raw) -> usize,
+}
+
+/// A parser as the library has it.
 ///
 /// # Safety
 ///
-/// Each constant is the library's call of that name for this parser.
-pub(crate) unsafe trait RawParser {
+/// `CALLS` has the library's calls on this parser, each under its name.
+pub(crate) unsafe trait RawParser: Sized {
     // What the library writes of an event.
     type RawEvent: Copy + Default;
     // The event, as this crate emits it.
     type Event;
 
-    const FREE: unsafe extern "C" fn(*mut Self);
-    const FEED: unsafe extern "C" fn(*mut Self, *const u8, usize) -> bool;
-    const NEXT: unsafe extern "C" fn(*mut Self, bool, *mut Self::RawEvent) -> u32;
-    const TEXT: unsafe extern "C" fn(*mut Self, *mut u8, usize) -> usize;
-    const DROP_TEXT: unsafe extern "C" fn(*mut Self);
-    const WAITING: unsafe extern "C" fn(*mut Self) -> usize;
-    const WAITING_KIND: unsafe extern "C" fn(*mut Self) -> u32;
-    const FLUSH_ESCAPE: unsafe extern "C" fn(*mut Self, *mut Self::RawEvent) -> u32;
-    const IS_PASTE_OPEN: unsafe extern "C" fn(*mut Self) -> bool;
-    const END_PASTE: unsafe extern "C" fn(*mut Self, *mut Self::RawEvent) -> u32;
-    const RESET: unsafe extern "C" fn(*mut Self) -> usize;
+    const CALLS: Calls<Self, Self::RawEvent>;
 
     // Whether the event is a paste.
     fn is_paste(event: &Self::RawEvent) -> bool;
@@ -65,7 +70,7 @@ impl<Raw: RawParser> LibraryParser<Raw> {
     // Appends bytes to the buffer.
     pub fn feed(&mut self, bytes: &[u8]) -> Result<(), AllocError> {
         // SAFETY: `raw` is a parser. A slice's pointer isn't null, also if the slice is empty, and leads to as many bytes.
-        let fed = unsafe { (Raw::FEED)(self.raw(), bytes.as_ptr(), bytes.len()) };
+        let fed = unsafe { (Raw::CALLS.feed)(self.raw(), bytes.as_ptr(), bytes.len()) };
         if fed {
             Ok(())
         } else {
@@ -104,13 +109,13 @@ impl<Raw: RawParser> LibraryParser<Raw> {
     // The number of bytes that are buffered.
     pub fn waiting_len(&self) -> usize {
         // SAFETY: `raw` is a parser, which this thread alone has.
-        unsafe { (Raw::WAITING)(&mut *self.locked()) }
+        unsafe { (Raw::CALLS.waiting)(&mut *self.locked()) }
     }
 
     // What stays buffered.
     pub fn waiting(&self) -> Waiting {
         // SAFETY: `raw` is a parser, which this thread alone has.
-        match unsafe { (Raw::WAITING_KIND)(&mut *self.locked()) } {
+        match unsafe { (Raw::CALLS.waiting_kind)(&mut *self.locked()) } {
             raw::WAITING_NOTHING => Waiting::Nothing,
             raw::WAITING_ESCAPE => Waiting::Escape,
             raw::WAITING_SEQUENCE => Waiting::Sequence,
@@ -127,7 +132,7 @@ impl<Raw: RawParser> LibraryParser<Raw> {
             return None;
         }
         // SAFETY: `raw` is a parser, and `front` another value.
-        let found = unsafe { (Raw::FLUSH_ESCAPE)(self.raw(), &mut self.front) };
+        let found = unsafe { (Raw::CALLS.flush_escape)(self.raw(), &mut self.front) };
         let has_escape = is_event(found).expect(FAULT);
         has_escape.then(|| self.event().expect(FAULT))
     }
@@ -135,14 +140,14 @@ impl<Raw: RawParser> LibraryParser<Raw> {
     // Whether the buffer begins with the start of a paste.
     pub fn is_paste_open(&self) -> bool {
         // SAFETY: `raw` is a parser, which this thread alone has.
-        unsafe { (Raw::IS_PASTE_OPEN)(&mut *self.locked()) }
+        unsafe { (Raw::CALLS.is_paste_open)(&mut *self.locked()) }
     }
 
     // Ends an open paste where it is.
     pub fn end_paste(&mut self) -> Result<Option<Raw::Event>, AllocError> {
         if !self.has_front {
             // SAFETY: `raw` is a parser, and `front` another value.
-            self.has_front = is_event(unsafe { (Raw::END_PASTE)(self.raw(), &mut self.front) })?;
+            self.has_front = is_event(unsafe { (Raw::CALLS.end_paste)(self.raw(), &mut self.front) })?;
         }
         // A paste that was refused memory before is at the front, where another call left it.
         if self.has_front && Raw::is_paste(&self.front) {
@@ -157,8 +162,8 @@ impl<Raw: RawParser> LibraryParser<Raw> {
         self.has_front = false;
         // SAFETY: `raw` is a parser. The library may still have the text of an event that was refused memory.
         unsafe {
-            (Raw::DROP_TEXT)(self.raw());
-            (Raw::RESET)(self.raw())
+            (Raw::CALLS.drop_text)(self.raw());
+            (Raw::CALLS.reset)(self.raw())
         }
     }
 
@@ -166,7 +171,7 @@ impl<Raw: RawParser> LibraryParser<Raw> {
     fn find_front(&mut self, maybe_more: bool) -> Result<bool, AllocError> {
         if !self.has_front {
             // SAFETY: `raw` is a parser, and `front` another value.
-            self.has_front = is_event(unsafe { (Raw::NEXT)(self.raw(), maybe_more, &mut self.front) })?;
+            self.has_front = is_event(unsafe { (Raw::CALLS.next)(self.raw(), maybe_more, &mut self.front) })?;
         }
         Ok(self.has_front)
     }
@@ -199,10 +204,10 @@ impl<Raw: RawParser> LibraryParser<Raw> {
         text.try_reserve_exact(len).map_err(|_| AllocError)?;
         text.resize(len, 0);
         // SAFETY: `raw` is a parser. A vector's pointer isn't null, and leads to as many bytes, which no other value has.
-        let whole = unsafe { (Raw::TEXT)(self.raw(), text.as_mut_ptr(), text.len()) };
+        let whole = unsafe { (Raw::CALLS.text)(self.raw(), text.as_mut_ptr(), text.len()) };
         assert_eq!(whole, len, "{FAULT}");
         // SAFETY: `raw` is a parser.
-        unsafe { (Raw::DROP_TEXT)(self.raw()) };
+        unsafe { (Raw::CALLS.drop_text)(self.raw()) };
         Ok(text)
     }
 }
@@ -210,7 +215,7 @@ impl<Raw: RawParser> LibraryParser<Raw> {
 impl<Raw: RawParser> Drop for LibraryParser<Raw> {
     fn drop(&mut self) {
         // SAFETY: `raw` is a parser, and isn't used again.
-        unsafe { (Raw::FREE)(self.raw()) }
+        unsafe { (Raw::CALLS.free)(self.raw()) }
     }
 }
 

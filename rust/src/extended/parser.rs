@@ -1,7 +1,7 @@
 // The extended parser: bytes of a terminal to events.
 use super::ExtendedEvent;
 use crate::input::{AllocError, ParseError, ParseVecError, Waiting};
-use crate::library_parser::{LibraryParser, RawParser};
+use crate::library_parser::{Calls, LibraryParser, RawParser};
 use crate::raw;
 use std::fmt;
 
@@ -45,17 +45,19 @@ unsafe impl RawParser for raw::Extended {
     type RawEvent = raw::ExtendedEvent;
     type Event = ExtendedEvent;
 
-    const FREE: unsafe extern "C" fn(*mut Self) = raw::tw_extended_free;
-    const FEED: unsafe extern "C" fn(*mut Self, *const u8, usize) -> bool = raw::tw_extended_feed;
-    const NEXT: unsafe extern "C" fn(*mut Self, bool, *mut raw::ExtendedEvent) -> u32 = raw::tw_extended_next;
-    const TEXT: unsafe extern "C" fn(*mut Self, *mut u8, usize) -> usize = raw::tw_extended_text;
-    const DROP_TEXT: unsafe extern "C" fn(*mut Self) = raw::tw_extended_drop_text;
-    const WAITING: unsafe extern "C" fn(*mut Self) -> usize = raw::tw_extended_waiting;
-    const WAITING_KIND: unsafe extern "C" fn(*mut Self) -> u32 = raw::tw_extended_waiting_kind;
-    const FLUSH_ESCAPE: unsafe extern "C" fn(*mut Self, *mut raw::ExtendedEvent) -> u32 = raw::tw_extended_flush_escape;
-    const IS_PASTE_OPEN: unsafe extern "C" fn(*mut Self) -> bool = raw::tw_extended_is_paste_open;
-    const END_PASTE: unsafe extern "C" fn(*mut Self, *mut raw::ExtendedEvent) -> u32 = raw::tw_extended_end_paste;
-    const RESET: unsafe extern "C" fn(*mut Self) -> usize = raw::tw_extended_reset;
+    const CALLS: Calls<raw::Extended, raw::ExtendedEvent> = Calls {
+        free: raw::tw_extended_free,
+        feed: raw::tw_extended_feed,
+        next: raw::tw_extended_next,
+        text: raw::tw_extended_text,
+        drop_text: raw::tw_extended_drop_text,
+        waiting: raw::tw_extended_waiting,
+        waiting_kind: raw::tw_extended_waiting_kind,
+        flush_escape: raw::tw_extended_flush_escape,
+        is_paste_open: raw::tw_extended_is_paste_open,
+        end_paste: raw::tw_extended_end_paste,
+        reset: raw::tw_extended_reset,
+    };
 
     fn is_paste(event: &raw::ExtendedEvent) -> bool {
         event.kind == raw::EVENT_PASTE

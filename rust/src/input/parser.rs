@@ -1,6 +1,6 @@
 // The parser: bytes of a terminal to events.
 use super::{Completions, InputEvent, KeyEvent, RowBytes, FAULT};
-use crate::library_parser::{LibraryParser, RawParser};
+use crate::library_parser::{Calls, LibraryParser, RawParser};
 use crate::raw;
 use std::{error, fmt};
 
@@ -124,17 +124,19 @@ unsafe impl RawParser for raw::Parser {
     type RawEvent = raw::Event;
     type Event = InputEvent;
 
-    const FREE: unsafe extern "C" fn(*mut Self) = raw::tw_parser_free;
-    const FEED: unsafe extern "C" fn(*mut Self, *const u8, usize) -> bool = raw::tw_parser_feed;
-    const NEXT: unsafe extern "C" fn(*mut Self, bool, *mut raw::Event) -> u32 = raw::tw_parser_next;
-    const TEXT: unsafe extern "C" fn(*mut Self, *mut u8, usize) -> usize = raw::tw_parser_paste;
-    const DROP_TEXT: unsafe extern "C" fn(*mut Self) = raw::tw_parser_drop_paste;
-    const WAITING: unsafe extern "C" fn(*mut Self) -> usize = raw::tw_parser_waiting;
-    const WAITING_KIND: unsafe extern "C" fn(*mut Self) -> u32 = raw::tw_parser_waiting_kind;
-    const FLUSH_ESCAPE: unsafe extern "C" fn(*mut Self, *mut raw::Event) -> u32 = raw::tw_parser_flush_escape;
-    const IS_PASTE_OPEN: unsafe extern "C" fn(*mut Self) -> bool = raw::tw_parser_is_paste_open;
-    const END_PASTE: unsafe extern "C" fn(*mut Self, *mut raw::Event) -> u32 = raw::tw_parser_end_paste;
-    const RESET: unsafe extern "C" fn(*mut Self) -> usize = raw::tw_parser_reset;
+    const CALLS: Calls<raw::Parser, raw::Event> = Calls {
+        free: raw::tw_parser_free,
+        feed: raw::tw_parser_feed,
+        next: raw::tw_parser_next,
+        text: raw::tw_parser_paste,
+        drop_text: raw::tw_parser_drop_paste,
+        waiting: raw::tw_parser_waiting,
+        waiting_kind: raw::tw_parser_waiting_kind,
+        flush_escape: raw::tw_parser_flush_escape,
+        is_paste_open: raw::tw_parser_is_paste_open,
+        end_paste: raw::tw_parser_end_paste,
+        reset: raw::tw_parser_reset,
+    };
 
     fn is_paste(event: &raw::Event) -> bool {
         event.kind == raw::KIND_PASTE
