@@ -43,8 +43,9 @@ place_in() { # file places..
 failed=0
 place_in c/termwiz_input.h 'next c' 'waiting c' 'encoded c' 'found c' 'kind c' 'encoding c' 'kitty c' 'modifier c' 'button c' 'key c' \
     'rows c' 'event c' 'action c' 'held c' || failed=1
-place_in rust/src/raw.rs 'next const' 'waiting const' 'encoded const' 'found const' 'kind const' 'encoding const' || failed=1
-place_in rust/src/input/flags.rs 'kitty flag' 'modifier flag' 'button flag' || failed=1
+place_in rust/src/raw.rs 'next const' 'waiting const' 'encoded const' 'found const' 'kind const' 'encoding const' \
+    'rows const' 'event const' 'action const' || failed=1
+place_in rust/src/input/flags.rs 'kitty flag' 'modifier flag' 'button flag' 'held flag' || failed=1
 place_in rust/src/input/keys.rs 'key variant' 'key number' 'key of' || failed=1
 place_in rust/tests/parser/names.rs 'modifier named' 'button named' 'key plain' || failed=1
 

@@ -10,7 +10,7 @@
 //! ```
 mod encode;
 mod events;
-mod flags;
+pub(crate) mod flags;
 mod keys;
 mod parser;
 mod rows;

@@ -1,7 +1,7 @@
 //! The key input of termwiz 0.23.3: key, mouse and paste events from the bytes that a terminal sends, the bytes that it sends for a key,
 //! and a map from byte strings to values. The items of [`input`] and [`keymap`] have termwiz's names, and so has
 //! [`escape::csi::KittyKeyboardFlags`]. Left out are termwiz's modules `terminal`, `caps`, `surface`, `lineedit` and `readbuf`, the rest
-//! of `escape`, and Windows.
+//! of `escape`, and Windows. [`extended`] is beyond termwiz: a parser that also reads what terminals reply, and Kitty's keyboard protocol.
 //!
 //! Behind them is a library whose calls are proved against their contracts. The proof ends at those calls; this crate is tested.
 //!
@@ -33,8 +33,8 @@
 //!
 //! # If memory is refused
 //!
-//! `new`, `parse`, `parse_as_vec`, `end_paste`, `encode` and `insert` panic, and the forms whose names begin with `try_` return an error,
-//! after which every value may be used again. No event is lost: each error says how to go on.
+//! `new`, `feed`, `next_event`, `parse`, `parse_as_vec`, `end_paste`, `encode` and `insert` panic, and the forms whose names begin with
+//! `try_` return an error, after which every value may be used again. No event is lost: each error says how to go on.
 //!
 //! # Threads
 //!
@@ -42,12 +42,14 @@
 //! ([`waiting`](input::InputParser::waiting), [`waiting_len`](input::InputParser::waiting_len),
 //! [`is_paste_open`](input::InputParser::is_paste_open), [`row`](input::InputParser::row) and
 //! [`completions`](input::InputParser::completions)) may be called by several threads, and lock it, since the library allows one thread
-//! at a time.
+//! at a time. The same holds for [`ExtendedParser`](extended::ExtendedParser), which has the first three of these.
 //!
 //! [`KeyMap`](keymap::KeyMap) is `Send` and `Sync` if its values are. Lookups may be called by several threads too, and lock it.
 #![deny(missing_docs)]
 
 pub mod escape;
+pub mod extended;
 pub mod input;
 pub mod keymap;
+mod library_parser;
 mod raw;

@@ -65,6 +65,53 @@ pub const KIND_MOUSE: u8 = 2;
 pub const KIND_PASTE: u8 = 3;
 // numbers.txt: end
 
+// numbers.txt: rows const
+/// Each row keeps its key. For programs that leave Kitty's keyboard protocol off.
+pub const ROWS_PORT: u32 = 0;
+/// A row that reports a key or the cursor's position is read as that report. For programs that turn the protocol on.
+pub const ROWS_KITTY: u32 = 1;
+// numbers.txt: end
+
+// numbers.txt: event const
+/// None of these. No event has this kind.
+pub const EVENT_OTHER: u8 = 0;
+/// A key was pressed: a row of the sequence table, or a character.
+pub const EVENT_KEY: u8 = 1;
+/// The mouse was moved, one of its buttons was pressed or released, or a wheel was turned.
+pub const EVENT_MOUSE: u8 = 2;
+/// Text was pasted, in bracketed paste mode.
+pub const EVENT_PASTE: u8 = 3;
+/// A key report: a key was pressed, held down or released.
+pub const EVENT_REPORT: u8 = 4;
+/// The terminal's window gained the focus (mode 1004).
+pub const EVENT_FOCUS_GAINED: u8 = 5;
+/// The terminal's window lost the focus.
+pub const EVENT_FOCUS_LOST: u8 = 6;
+/// The reply to a question for the cursor's position.
+pub const EVENT_CURSOR_POSITION: u8 = 7;
+/// The terminal has a new size (mode 2048).
+pub const EVENT_RESIZE: u8 = 8;
+/// The reply to a question for the flags of Kitty's keyboard protocol.
+pub const EVENT_KEYBOARD_FLAGS: u8 = 9;
+/// Any other control sequence.
+pub const EVENT_CSI: u8 = 10;
+/// An operating system command, such as the reply to a question for a colour.
+pub const EVENT_OSC: u8 = 11;
+/// A device control string, such as the reply to a question for the terminal's name and version.
+pub const EVENT_DCS: u8 = 12;
+/// An application program command, such as a reply of Kitty's graphics protocol.
+pub const EVENT_APC: u8 = 13;
+// numbers.txt: end
+
+// numbers.txt: action const
+/// It was pressed.
+pub const ACTION_PRESS: u8 = 1;
+/// It was held down so long that it repeats.
+pub const ACTION_REPEAT: u8 = 2;
+/// It was released.
+pub const ACTION_RELEASE: u8 = 3;
+// numbers.txt: end
+
 // numbers.txt: encoding const
 /// The characters themselves, and xterm's control sequences.
 pub const ENCODING_XTERM: u8 = 0;
@@ -157,6 +204,56 @@ pub struct Match {
     pub value: u64,
 }
 
+/// An extended parser, or none.
+#[repr(C)]
+pub struct Extended {
+    live: bool,
+    state: *mut c_void,
+}
+
+impl Extended {
+    /// No parser.
+    pub const NONE: Extended = Extended {
+        live: false,
+        state: std::ptr::null_mut(),
+    };
+}
+
+// SAFETY: what a parser owns is reached through it alone, and the library keeps nothing that belongs to a thread.
+unsafe impl Send for Extended {}
+
+/// The code point that the terminal didn't report.
+pub const NO_CODE: u32 = 0xffff_ffff;
+
+/// A key, what happened to it, and what the terminal reported of it.
+#[repr(C)]
+#[derive(Clone, Copy, Default)]
+pub struct KeyReport {
+    pub action: u8,
+    pub modifiers: u8,
+    pub key: u16,
+    pub detail: u32,
+    pub shifted: u32,
+    pub base: u32,
+}
+
+/// An event of the extended parser. What its kind has no use for is 0.
+#[repr(C)]
+#[derive(Clone, Copy, Default)]
+pub struct ExtendedEvent {
+    pub kind: u8,
+    pub flags: u8,
+    pub row: u16,
+    pub column: u16,
+    pub rows: u16,
+    pub columns: u16,
+    pub height: u16,
+    pub width: u16,
+    pub report: KeyReport,
+    pub input: Event,
+    pub text_len: usize,
+}
+
 // The layouts that the library was proved with.
 const _: () = {
     assert!(size_of::<Parser>() == 16 && offset_of!(Parser, state) == 8);
@@ -167,6 +264,11 @@ const _: () = {
     assert!(size_of::<KeyMap>() == 16 && offset_of!(KeyMap, state) == 8);
     assert!(size_of::<Rows>() == 24 && offset_of!(Rows, count) == 8 && offset_of!(Rows, with_alt) == 16);
     assert!(size_of::<Match>() == 16 && offset_of!(Match, value) == 8);
+    assert!(size_of::<Extended>() == 16 && offset_of!(Extended, state) == 8);
+    assert!(size_of::<KeyReport>() == 16 && offset_of!(KeyReport, key) == 2 && offset_of!(KeyReport, base) == 12);
+    assert!(size_of::<ExtendedEvent>() == 64 && offset_of!(ExtendedEvent, row) == 2 && offset_of!(ExtendedEvent, width) == 12);
+    assert!(offset_of!(ExtendedEvent, report) == 16 && offset_of!(ExtendedEvent, input) == 32);
+    assert!(offset_of!(ExtendedEvent, text_len) == 56);
 };
 
 extern "C" {
@@ -199,4 +301,16 @@ extern "C" {
     pub fn tw_keymap_insert(map: *mut KeyMap, key: *const u8, len: usize, value: u64) -> bool;
     pub fn tw_keymap_lookup(map: *mut KeyMap, text: *const u8, len: usize, maybe_more: bool, found: *mut Match) -> u32;
     pub fn tw_keymap_len(map: *mut KeyMap) -> usize;
+    pub fn tw_extended_init(parser: *mut Extended, rows: u32) -> bool;
+    pub fn tw_extended_free(parser: *mut Extended);
+    pub fn tw_extended_feed(parser: *mut Extended, bytes: *const u8, len: usize) -> bool;
+    pub fn tw_extended_next(parser: *mut Extended, more: bool, event: *mut ExtendedEvent) -> u32;
+    pub fn tw_extended_text(parser: *mut Extended, out: *mut u8, len: usize) -> usize;
+    pub fn tw_extended_drop_text(parser: *mut Extended);
+    pub fn tw_extended_waiting(parser: *mut Extended) -> usize;
+    pub fn tw_extended_waiting_kind(parser: *mut Extended) -> u32;
+    pub fn tw_extended_flush_escape(parser: *mut Extended, event: *mut ExtendedEvent) -> u32;
+    pub fn tw_extended_is_paste_open(parser: *mut Extended) -> bool;
+    pub fn tw_extended_end_paste(parser: *mut Extended, event: *mut ExtendedEvent) -> u32;
+    pub fn tw_extended_reset(parser: *mut Extended) -> usize;
 }

@@ -3,6 +3,7 @@
 //
 // `malloc` and `realloc` are this program's own, over the C library's (glibc's names for them), so all requests come here. What a thread of
 // the tests asks for is refused if that thread said so.
+use hedrugal::extended::{ExtendedEvent, ExtendedParser, Rows};
 use hedrugal::input::{AllocError, EncodeError, InputEvent, InputParser, KeyCode, KeyCodeEncodeModes, KeyboardEncoding};
 use hedrugal::input::{Modifiers, ParseError, Waiting};
 use hedrugal::keymap::{Found, InsertError, KeyMap};
@@ -140,6 +141,52 @@ fn goes_on_with_try_parse() {
 #[test]
 fn goes_on_with_try_parse_as_vec() {
     check(give_as_vec);
+}
+
+// Reports, replies and strings, of which most bring bytes of their own.
+const REPLIES: &[u8] =
+    b"q\x1b[97;5:3u\x1b[97;2;65u\x1b[24;80R\x1b[?62;22c\x1b]11;rgb:1e1e/1e1e/1e1e\x1b\\\x1bP>|kitty\x1b\\\x1b[200~text\x1b[201~";
+
+// Reads these in pieces by the extended parser with one request refused. Returns the events, and how many refusals were told.
+fn read_replies(piece: usize, number: usize) -> (Vec<ExtendedEvent>, usize) {
+    let mut parser = ExtendedParser::new(Rows::Kitty);
+    let mut events = Vec::with_capacity(64);
+    let (told, refused) = refusing(number, || {
+        let mut told = 0;
+        for mut bytes in REPLIES.chunks(piece) {
+            while let Err(error) = parser.try_parse(bytes, |event| events.push(event), true) {
+                told += 1;
+                if error == ParseError::Taken {
+                    bytes = b"";
+                }
+            }
+        }
+        told
+    });
+    assert_eq!(told, refused, "pieces of {piece}, request {number}");
+    (events, refused)
+}
+
+#[test]
+fn goes_on_with_the_extended_parser() {
+    for piece in [1, 7, REPLIES.len()] {
+        let (whole, none) = read_replies(piece, 0);
+        assert_eq!((whole.len(), none), (8, 0));
+        let mut number = 1;
+        while read_replies(piece, number).1 > 0 {
+            assert_eq!(read_replies(piece, number).0, whole, "pieces of {piece}, request {number}");
+            number += 1;
+        }
+        assert!(number > 8);
+    }
+}
+
+#[test]
+fn makes_an_extended_parser_after_a_refusal() {
+    for number in 1..300 {
+        let (parser, refused) = refusing(number, || ExtendedParser::try_new(Rows::Port));
+        assert_eq!((parser.err(), refused), (Some(AllocError), 1));
+    }
 }
 
 // A parser with an open paste, which has the text `OPEN_TEXT` if it is ended.

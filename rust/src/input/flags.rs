@@ -98,9 +98,11 @@ macro_rules! base {
     };
 }
 
-// A type of sets, with the calls and operators that such a type has in termwiz. `head` begins each example: it makes two flags, a and b.
+// A type of sets, with the calls and operators that such a type has in termwiz. `module` has it, and `head` begins each example: it makes
+// two flags, a and b.
 macro_rules! flags {
     (
+        in $module:literal
         $head:literal
         $(#[$about:meta])*
         $name:ident: $bits:ty { $($(#[$meaning:meta])* const $flag:ident = $value:literal;)* }
@@ -122,7 +124,7 @@ macro_rules! flags {
                 $(#[$meaning])*
                 ///
                 /// ```
-                #[doc = concat!("use hedrugal::input::", stringify!($name), " as Flags;")]
+                #[doc = concat!("use hedrugal::", $module, "::", stringify!($name), " as Flags;")]
                 #[doc = concat!("assert_eq!(Flags::", stringify!($flag), ".bits(), ", stringify!($value), ");")]
                 /// ```
                 pub const $flag: $name = $name($value);
@@ -146,7 +148,7 @@ macro_rules! flags {
             /// ```
             #[doc = $head]
             /// assert_eq!(Flags::from_bits(a.bits()), Some(a));
-            /// assert_eq!(Flags::from_bits(!0), None);
+            /// assert_eq!(Flags::from_bits(!0).is_none(), Flags::all().bits() != !0);
             /// ```
             #[must_use]
             pub const fn from_bits(bits: $bits) -> Option<$name> {
@@ -579,6 +581,7 @@ macro_rules! flags {
 }
 
 flags! {
+    in "input"
     "use hedrugal::input::Modifiers as Flags;\nlet (a, b) = (Flags::SHIFT, Flags::CTRL);"
     /// A set of modifier keys, such as those held while another key is pressed.
     Modifiers: u16 {
@@ -651,6 +654,7 @@ impl Modifiers {
 }
 
 flags! {
+    in "input"
     "use hedrugal::input::MouseButtons as Flags;\nlet (a, b) = (Flags::LEFT, Flags::VERT_WHEEL);"
     /// A set of mouse buttons and wheels.
     MouseButtons: u8 {
@@ -675,6 +679,7 @@ flags! {
 }
 
 flags! {
+    in "input"
     "use hedrugal::input::KittyKeyboardFlags as Flags;\nlet (a, b) = (Flags::DISAMBIGUATE_ESCAPE_CODES, Flags::REPORT_EVENT_TYPES);"
     /// What a program asks of a terminal in kitty's keyboard protocol.
     KittyKeyboardFlags: u16 {
@@ -691,6 +696,35 @@ flags! {
         const REPORT_ALL_KEYS_AS_ESCAPE_CODES = 8;
         /// A key that makes text is reported with that text.
         const REPORT_ASSOCIATED_TEXT = 16;
+        // numbers.txt: end
+    }
+    also named {}
+}
+
+flags! {
+    in "extended"
+    "use hedrugal::extended::KittyModifiers as Flags;\nlet (a, b) = (Flags::SHIFT, Flags::CTRL);"
+    /// A set of modifiers, as Kitty's keyboard protocol reports them: keys that are held, and locks that are on.
+    KittyModifiers: u8 {
+        // numbers.txt: held flag
+        /// No modifier.
+        const NONE = 0;
+        /// Shift.
+        const SHIFT = 1;
+        /// Alt.
+        const ALT = 2;
+        /// Ctrl.
+        const CTRL = 4;
+        /// Super: the key with the Windows logo, or Command.
+        const SUPER = 8;
+        /// Hyper.
+        const HYPER = 16;
+        /// Meta.
+        const META = 32;
+        /// Caps Lock is on.
+        const CAPS_LOCK = 64;
+        /// Num Lock is on.
+        const NUM_LOCK = 128;
         // numbers.txt: end
     }
     also named {}

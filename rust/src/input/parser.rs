@@ -1,7 +1,7 @@
 // The parser: bytes of a terminal to events.
-use super::{Completions, InputEvent, KeyCode, KeyEvent, Modifiers, MouseButtons, MouseEvent, RowBytes, FAULT};
+use super::{Completions, InputEvent, KeyEvent, RowBytes, FAULT};
+use crate::library_parser::{Calls, LibraryParser, RawParser};
 use crate::raw;
-use std::sync::{Mutex, MutexGuard, PoisonError};
 use std::{error, fmt};
 
 /// Memory was refused.
@@ -22,7 +22,8 @@ impl fmt::Display for AllocError {
 
 impl error::Error for AllocError {}
 
-/// A call of [`InputParser::try_parse`] was refused memory. The parser may be used again.
+/// A call of [`InputParser::try_parse`] or [`ExtendedParser::try_parse`](crate::extended::ExtendedParser::try_parse) was refused memory. The
+/// parser may be used again.
 ///
 /// ```
 /// use hedrugal::input::ParseError;
@@ -33,8 +34,8 @@ impl error::Error for AllocError {}
 pub enum ParseError {
     /// The bytes weren't buffered: no event was emitted, and the parser is unchanged. Call again with the same bytes.
     NotTaken,
-    /// The bytes were buffered, and the events before a paste were emitted. Call again with no bytes and the same flag, or with the next
-    /// bytes if more may come: the paste comes first.
+    /// The bytes were buffered, and the events before a paste, or another event with bytes of its own, were emitted. Call again with no
+    /// bytes and the same flag, or with the next bytes if more may come: that event comes first.
     Taken,
 }
 
@@ -49,36 +50,38 @@ impl fmt::Display for ParseError {
 
 impl error::Error for ParseError {}
 
-/// A call of [`InputParser::try_parse_as_vec`] was refused memory. The parser may be used again.
+/// A call of [`InputParser::try_parse_as_vec`] or
+/// [`ExtendedParser::try_parse_as_vec`](crate::extended::ExtendedParser::try_parse_as_vec) was refused memory. The parser may be used again.
 ///
 /// ```
-/// use hedrugal::input::ParseVecError;
+/// use hedrugal::input::{InputEvent, ParseVecError};
 ///
-/// let error = ParseVecError {
+/// let error = ParseVecError::<InputEvent> {
 ///     events: Vec::new(),
 ///     taken: false,
 /// };
 /// assert_eq!(error.to_string(), "input not taken: out of memory");
 /// ```
 #[derive(Debug, Clone, PartialEq, Eq)]
-pub struct ParseVecError {
+pub struct ParseVecError<Event = InputEvent> {
     /// The events so far. The parser doesn't emit them again.
-    pub events: Vec<InputEvent>,
+    pub events: Vec<Event>,
     /// Whether the bytes were buffered. If not, call again with the same bytes. If they were, call again with no bytes and the same flag,
     /// or with the next bytes if more may come.
     pub taken: bool,
 }
 
-impl fmt::Display for ParseVecError {
+impl<Event> fmt::Display for ParseVecError<Event> {
     fn fmt(&self, f: &mut fmt::Formatter<'_>) -> fmt::Result {
         let refused = if self.taken { ParseError::Taken } else { ParseError::NotTaken };
         refused.fmt(f)
     }
 }
 
-impl error::Error for ParseVecError {}
+impl<Event: fmt::Debug> error::Error for ParseVecError<Event> {}
 
-/// What stays buffered, as [`InputParser::waiting`] returns it. It says what a pause means.
+/// What stays buffered, as [`InputParser::waiting`] and [`ExtendedParser::waiting`](crate::extended::ExtendedParser::waiting) return it. It
+/// says what a pause means.
 ///
 /// ```
 /// use hedrugal::input::{InputParser, Waiting};
@@ -113,12 +116,35 @@ pub enum Waiting {
 /// assert_eq!(parser.parse_as_vec(b"A", true).len(), 1);
 /// ```
 pub struct InputParser {
-    // A parser that `tw_parser_init` made. The library allows one thread at a time, also in calls that only read, so a call through a
-    // shared reference locks it.
-    raw: Mutex<raw::Parser>,
-    // The library's last event, and whether this parser has yet to emit it: it stays until memory for it is granted.
-    front: raw::Event,
-    has_front: bool,
+    parser: LibraryParser<raw::Parser>,
+}
+
+// SAFETY: these are the library's calls for a `tw_parser`.
+unsafe impl RawParser for raw::Parser {
+    type RawEvent = raw::Event;
+    type Event = InputEvent;
+
+    const CALLS: Calls<raw::Parser, raw::Event> = Calls {
+        free: raw::tw_parser_free,
+        feed: raw::tw_parser_feed,
+        next: raw::tw_parser_next,
+        text: raw::tw_parser_paste,
+        drop_text: raw::tw_parser_drop_paste,
+        waiting: raw::tw_parser_waiting,
+        waiting_kind: raw::tw_parser_waiting_kind,
+        flush_escape: raw::tw_parser_flush_escape,
+        is_paste_open: raw::tw_parser_is_paste_open,
+        end_paste: raw::tw_parser_end_paste,
+        reset: raw::tw_parser_reset,
+    };
+
+    fn is_paste(event: &raw::Event) -> bool {
+        event.kind == raw::KIND_PASTE
+    }
+
+    fn event(event: &raw::Event, text: impl FnOnce(usize) -> Result<Vec<u8>, AllocError>) -> Result<InputEvent, AllocError> {
+        InputEvent::of(event, text)
+    }
 }
 
 impl InputParser {
@@ -155,11 +181,8 @@ impl InputParser {
         if !unsafe { raw::tw_parser_init(&mut raw) } {
             return Err(AllocError);
         }
-        Ok(InputParser {
-            raw: Mutex::new(raw),
-            front: raw::Event::default(),
-            has_front: false,
-        })
+        let parser = LibraryParser::of(raw);
+        Ok(InputParser { parser })
     }
 
     /// Appends `bytes` to the buffer, and calls `callback` with each event in order. Bytes that are no event yet stay buffered.
@@ -196,12 +219,8 @@ impl InputParser {
     /// # Errors
     ///
     /// If memory is refused. The error says whether the bytes were buffered, and so how to go on; no event is lost.
-    pub fn try_parse<F: FnMut(InputEvent)>(&mut self, bytes: &[u8], mut callback: F, maybe_more: bool) -> Result<(), ParseError> {
-        self.feed(bytes).map_err(|_| ParseError::NotTaken)?;
-        while self.find_front(maybe_more).map_err(|_| ParseError::Taken)? {
-            callback(self.take_front().map_err(|_| ParseError::Taken)?);
-        }
-        Ok(())
+    pub fn try_parse<F: FnMut(InputEvent)>(&mut self, bytes: &[u8], callback: F, maybe_more: bool) -> Result<(), ParseError> {
+        self.parser.parse(bytes, callback, maybe_more)
     }
 
     /// Returns the events with which [`InputParser::parse`] calls its callback.
@@ -235,12 +254,7 @@ impl InputParser {
     ///
     /// If memory is refused. The error has the events so far, and says whether the bytes were buffered; no event is lost.
     pub fn try_parse_as_vec(&mut self, bytes: &[u8], maybe_more: bool) -> Result<Vec<InputEvent>, ParseVecError> {
-        let mut events = Vec::new();
-        let taken = self.feed(bytes).is_ok();
-        if taken && self.store_events(&mut events, maybe_more).is_ok() {
-            return Ok(events);
-        }
-        Err(ParseVecError { events, taken })
+        self.parser.parse_as_vec(bytes, maybe_more)
     }
 
     /// Returns the number of bytes that are buffered. Those of a paste that was refused memory may no longer be among them.
@@ -254,8 +268,7 @@ impl InputParser {
     /// ```
     #[must_use]
     pub fn waiting_len(&self) -> usize {
-        // SAFETY: `raw` is a parser, which this thread alone has.
-        unsafe { raw::tw_parser_waiting(&mut *self.locked()) }
+        self.parser.waiting_len()
     }
 
     /// Returns what stays buffered, once a call that parses has succeeded.
@@ -269,15 +282,7 @@ impl InputParser {
     /// ```
     #[must_use]
     pub fn waiting(&self) -> Waiting {
-        // SAFETY: `raw` is a parser, which this thread alone has.
-        match unsafe { raw::tw_parser_waiting_kind(&mut *self.locked()) } {
-            raw::WAITING_NOTHING => Waiting::Nothing,
-            raw::WAITING_ESCAPE => Waiting::Escape,
-            raw::WAITING_SEQUENCE => Waiting::Sequence,
-            raw::WAITING_CHARACTER => Waiting::Character,
-            raw::WAITING_PASTE => Waiting::Paste,
-            _ => unreachable!("{FAULT}"),
-        }
+        self.parser.waiting()
     }
 
     /// Returns the Escape key if ESC alone is buffered, with ALT if ESC ESC is, and consumes it. Returns `None` otherwise; the parser is
@@ -300,14 +305,7 @@ impl InputParser {
     /// ```
     #[must_use]
     pub fn flush_escape(&mut self) -> Option<InputEvent> {
-        // An event that was refused memory comes before what is buffered.
-        if self.has_front {
-            return None;
-        }
-        // SAFETY: `raw` is a parser, and `front` another value.
-        let found = unsafe { raw::tw_parser_flush_escape(self.raw(), &mut self.front) };
-        let has_escape = is_event(found).expect(FAULT);
-        has_escape.then(|| self.event().expect(FAULT))
+        self.parser.flush_escape()
     }
 
     /// Returns whether the buffer begins with the start of a paste. Such a paste is buffered without limit until its end arrives:
@@ -322,15 +320,14 @@ impl InputParser {
     /// ```
     #[must_use]
     pub fn is_paste_open(&self) -> bool {
-        // SAFETY: `raw` is a parser, which this thread alone has.
-        unsafe { raw::tw_parser_is_paste_open(&mut *self.locked()) }
+        self.parser.is_paste_open()
     }
 
     /// Ends an open paste where it is: returns a `Paste` of the text that came so far, and consumes all that is buffered. Returns `None`
     /// if no paste is open; the parser is then unchanged.
     ///
-    /// The rest of the paste then arrives as typed keys, Enter included, and its end as [`KeyCode::InternalPasteEnd`]. If the text ended
-    /// inside that, the rest of it is typed keys too.
+    /// The rest of the paste then arrives as typed keys, Enter included, and its end as
+    /// [`KeyCode::InternalPasteEnd`](super::KeyCode::InternalPasteEnd). If the text ended inside that, the rest of it is typed keys too.
     ///
     /// ```
     /// use hedrugal::input::{InputEvent, InputParser};
@@ -362,16 +359,7 @@ impl InputParser {
     ///
     /// If memory is refused. The paste isn't lost: call again, or parse on.
     pub fn try_end_paste(&mut self) -> Result<Option<InputEvent>, AllocError> {
-        if !self.has_front {
-            // SAFETY: `raw` is a parser, and `front` another value.
-            self.has_front = is_event(unsafe { raw::tw_parser_end_paste(self.raw(), &mut self.front) })?;
-        }
-        // A paste that was refused memory before is at the front, where another call left it.
-        if self.has_front && self.front.kind == raw::KIND_PASTE {
-            self.take_front().map(Some)
-        } else {
-            Ok(None)
-        }
+        self.parser.end_paste()
     }
 
     /// Forgets all that is buffered, an open paste too, and an event that was refused memory. Returns the number of bytes that were
@@ -388,18 +376,14 @@ impl InputParser {
     /// assert_eq!(parser.waiting_len(), 0);
     /// ```
     pub fn reset(&mut self) -> usize {
-        self.has_front = false;
-        // SAFETY: `raw` is a parser. The library may still have the text of a paste that was refused memory.
-        unsafe {
-            raw::tw_parser_drop_paste(self.raw());
-            raw::tw_parser_reset(self.raw())
-        }
+        self.parser.reset()
     }
 
     /// Returns the row of the sequence table at a place: the bytes of a sequence, and its key. Rows are in the order of their bytes; the
     /// first place is 0, and the result is `None` from 2937 on, the number of rows. The table is the same in every parser.
     ///
-    /// The start and the end of a paste are rows too, with the keys [`KeyCode::InternalPasteStart`] and [`KeyCode::InternalPasteEnd`].
+    /// The start and the end of a paste are rows too, with the keys [`KeyCode::InternalPasteStart`](super::KeyCode::InternalPasteStart) and
+    /// [`KeyCode::InternalPasteEnd`](super::KeyCode::InternalPasteEnd).
     ///
     /// ```
     /// use hedrugal::input::{InputParser, KeyCode, KeyEvent, Modifiers};
@@ -421,12 +405,12 @@ impl InputParser {
         let mut bytes = [0; raw::ROW_MOST];
         let mut event = raw::Event::default();
         // SAFETY: `raw` is a parser, which this thread alone has. The array's pointer leads to as many bytes, and `event` is another value.
-        let len = unsafe { raw::tw_row(&mut *self.locked(), place, bytes.as_mut_ptr(), bytes.len(), &mut event) };
+        let len = unsafe { raw::tw_row(&mut *self.parser.locked(), place, bytes.as_mut_ptr(), bytes.len(), &mut event) };
         if len == 0 {
             return None;
         }
         assert!(len <= bytes.len(), "{FAULT}");
-        Some((RowBytes::of(bytes, len), key_event(&event)))
+        Some((RowBytes::of(bytes, len), KeyEvent::of(&event)))
     }
 
     /// Returns the rows of the sequence table that would complete what stays buffered: those that begin with it and are longer. If there
@@ -451,123 +435,18 @@ impl InputParser {
     pub fn completions(&self) -> Completions {
         let mut rows = raw::Rows::default();
         // SAFETY: `raw` is a parser, which this thread alone has, and `rows` another value.
-        let told = unsafe { raw::tw_parser_completions(&mut *self.locked(), &mut rows) };
+        let told = unsafe { raw::tw_parser_completions(&mut *self.parser.locked(), &mut rows) };
         assert!(told, "{FAULT}");
         Completions {
             rows: rows.first..rows.first + rows.count,
             with_alt: rows.with_alt,
         }
     }
-
-    // The library's parser, for a call that reads. Only a fault of the library panics while it is locked.
-    fn locked(&self) -> MutexGuard<'_, raw::Parser> {
-        self.raw.lock().unwrap_or_else(PoisonError::into_inner)
-    }
-
-    // The library's parser, for a call that has this one alone.
-    fn raw(&mut self) -> &mut raw::Parser {
-        self.raw.get_mut().unwrap_or_else(PoisonError::into_inner)
-    }
-
-    // Appends bytes to the buffer.
-    fn feed(&mut self, bytes: &[u8]) -> Result<(), AllocError> {
-        // SAFETY: `raw` is a parser. A slice's pointer isn't null, also if the slice is empty, and leads to as many bytes.
-        let fed = unsafe { raw::tw_parser_feed(self.raw(), bytes.as_ptr(), bytes.len()) };
-        if fed {
-            Ok(())
-        } else {
-            Err(AllocError)
-        }
-    }
-
-    // Whether there is an event at the front. It is `front` then, and stays there until `take_front` moves it out.
-    fn find_front(&mut self, maybe_more: bool) -> Result<bool, AllocError> {
-        if !self.has_front {
-            // SAFETY: `raw` is a parser, and `front` another value.
-            self.has_front = is_event(unsafe { raw::tw_parser_next(self.raw(), maybe_more, &mut self.front) })?;
-        }
-        Ok(self.has_front)
-    }
-
-    // Moves the event at the front out of the parser. If memory is refused, it stays there.
-    fn take_front(&mut self) -> Result<InputEvent, AllocError> {
-        let event = self.event()?;
-        self.has_front = false;
-        Ok(event)
-    }
-
-    // Moves the events of the buffered bytes to a list. There is room for an event before it leaves the parser.
-    fn store_events(&mut self, events: &mut Vec<InputEvent>, maybe_more: bool) -> Result<(), AllocError> {
-        while self.find_front(maybe_more)? {
-            events.try_reserve(1).map_err(|_| AllocError)?;
-            events.push(self.take_front()?);
-        }
-        Ok(())
-    }
-
-    // The event at the front.
-    fn event(&mut self) -> Result<InputEvent, AllocError> {
-        let event = self.front;
-        Ok(match event.kind {
-            raw::KIND_KEY => InputEvent::Key(key_event(&event)),
-            raw::KIND_MOUSE => InputEvent::Mouse(MouseEvent {
-                x: event.x,
-                y: event.y,
-                mouse_buttons: MouseButtons::from_bits(event.buttons).expect(FAULT),
-                modifiers: modifiers_of(&event),
-            }),
-            raw::KIND_PASTE => InputEvent::Paste(self.pasted(event.paste_len)?),
-            _ => unreachable!("{FAULT}"),
-        })
-    }
-
-    // The text of the last paste. Once it is copied, the library keeps it no longer.
-    fn pasted(&mut self, len: usize) -> Result<String, AllocError> {
-        let mut text = Vec::new();
-        text.try_reserve_exact(len).map_err(|_| AllocError)?;
-        text.resize(len, 0);
-        // SAFETY: `raw` is a parser. A vector's pointer isn't null, and leads to as many bytes, which no other value has.
-        let whole = unsafe { raw::tw_parser_paste(self.raw(), text.as_mut_ptr(), text.len()) };
-        assert_eq!(whole, len, "{FAULT}");
-        // SAFETY: `raw` is a parser.
-        unsafe { raw::tw_parser_drop_paste(self.raw()) };
-        Ok(String::from_utf8(text).expect(FAULT))
-    }
-}
-
-// The modifiers of an event of the library.
-fn modifiers_of(event: &raw::Event) -> Modifiers {
-    Modifiers::from_bits(event.modifiers).expect(FAULT)
-}
-
-// The key of an event of the library.
-fn key_event(event: &raw::Event) -> KeyEvent {
-    KeyEvent {
-        key: KeyCode::of(event.key, event.detail).expect(FAULT),
-        modifiers: modifiers_of(event),
-    }
-}
-
-// Whether the library answers that it wrote an event.
-fn is_event(answer: u32) -> Result<bool, AllocError> {
-    match answer {
-        raw::NEXT_NONE => Ok(false),
-        raw::NEXT_EVENT => Ok(true),
-        raw::NEXT_NO_MEMORY => Err(AllocError),
-        _ => unreachable!("{FAULT}"),
-    }
 }
 
 impl Default for InputParser {
     fn default() -> InputParser {
         InputParser::new()
-    }
-}
-
-impl Drop for InputParser {
-    fn drop(&mut self) {
-        // SAFETY: `raw` is a parser, and isn't used again.
-        unsafe { raw::tw_parser_free(self.raw()) }
     }
 }
 

@@ -1,4 +1,5 @@
 // The derives behind the feature `use_serde`, which rust/serde builds.
+use hedrugal::extended::{ExtendedEvent, KeyEventKind, KeyReport, KittyModifiers, ReportedKey};
 use hedrugal::input::{InputEvent, KeyCode, KeyEvent, KittyKeyboardFlags, Modifiers, MouseButtons, MouseEvent, PixelMouseEvent};
 use serde::de::DeserializeOwned;
 use serde::Serialize;
@@ -59,4 +60,26 @@ fn writes_and_reads_events() {
     check(InputEvent::Resized { cols: 80, rows: 24 }, r#"{"Resized":{"cols":80,"rows":24}}"#);
     check(InputEvent::Paste("text".to_string()), r#"{"Paste":"text"}"#);
     check(InputEvent::Wake, "\"Wake\"");
+}
+
+#[test]
+fn writes_and_reads_extended_events() {
+    let report = KeyReport {
+        key: ReportedKey::Functional(57428),
+        modifiers: KittyModifiers::SHIFT | KittyModifiers::NUM_LOCK,
+        kind: KeyEventKind::Release,
+        shifted: Some('A'),
+        base: None,
+        text: String::new(),
+    };
+    check(
+        ExtendedEvent::Key(report),
+        r#"{"Key":{"key":{"Functional":57428},"modifiers":"SHIFT | NUM_LOCK","kind":"Release","shifted":"A","base":null,"text":""}}"#,
+    );
+    check(ExtendedEvent::Input(InputEvent::Wake), r#"{"Input":"Wake"}"#);
+    check(
+        ExtendedEvent::CursorPosition { row: 24, column: 80 },
+        r#"{"CursorPosition":{"row":24,"column":80}}"#,
+    );
+    check(ExtendedEvent::Osc(b"1;".to_vec()), r#"{"Osc":[49,59]}"#);
 }

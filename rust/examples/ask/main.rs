@@ -1,0 +1,140 @@
+//! Asks a terminal where its cursor is, for its background colour, and for the flags of Kitty's keyboard protocol, and prints the replies.
+//!
+//!     TERMWIZ_C_DIR=DIR cargo run --example ask
+//!
+//! A terminal leaves a question without a reply if it doesn't know it. So the last question is for its attributes (DA1), which every
+//! terminal answers: once that reply came, no other will. The program waits for a second at most.
+//!
+//! What is typed meanwhile comes as events like any other. This program counts them; an editor would handle them. The terminal is restored
+//! whenever the program ends, also by SIGHUP, SIGINT, SIGQUIT and SIGTERM. A SIGTSTP stops it once the terminal is restored.
+#[allow(dead_code)]
+#[path = "../live/terminal.rs"]
+mod terminal;
+#[allow(dead_code)]
+#[path = "../live/unix.rs"]
+mod unix;
+
+use hedrugal::extended::{ExtendedEvent, ExtendedParser, Rows};
+use std::fs::File;
+use std::io::{self, Read, Write};
+use std::os::fd::AsRawFd;
+use std::os::unix::net::UnixStream;
+use std::process::ExitCode;
+use std::sync::atomic::Ordering::SeqCst;
+use std::time::{Duration, Instant};
+use terminal::Terminal;
+use unix::signals;
+
+/// Under `Rows::Port` the reply to ESC [6n may be an F3, and that to ESC [?6n never is.
+const QUESTIONS: &[u8] = b"\x1b[?6n\x1b]11;?\x1b\\\x1b[?u\x1b[c";
+
+const LONGEST_WAIT: Duration = Duration::from_secs(1);
+
+/// What came so far.
+#[derive(Default)]
+struct Replies {
+    lines: Vec<String>,
+    is_whole: bool,
+    typed: usize,
+}
+
+impl Replies {
+    fn note(&mut self, event: ExtendedEvent) {
+        let line = match event {
+            ExtendedEvent::CursorPosition { row, column } => format!("cursor in row {row}, column {column}"),
+            ExtendedEvent::Osc(bytes) if bytes.starts_with(b"11;") => format!("background {}", bytes[3..].escape_ascii()),
+            ExtendedEvent::KeyboardFlags(flags) => format!("keyboard flags {flags}"),
+            ExtendedEvent::Csi(bytes) if bytes.starts_with(b"?") && bytes.ends_with(b"c") => {
+                self.is_whole = true;
+                format!("attributes {}", bytes.escape_ascii())
+            }
+            _ => {
+                self.typed += 1;
+                return;
+            }
+        };
+        self.lines.push(line);
+    }
+
+    fn print(&self) {
+        for line in &self.lines {
+            println!("{line}");
+        }
+        if !self.is_whole {
+            println!("no reply to the last question");
+        }
+        println!("typed meanwhile: {}", self.typed);
+    }
+}
+
+/// Waits for input. Returns false once there is no reason to: the time is up, or a signal ends the program.
+fn has_input(input: &File, wake: &mut UnixStream, end: Instant) -> io::Result<bool> {
+    loop {
+        let left = end.saturating_duration_since(Instant::now());
+        let ms = left.as_micros().div_ceil(1000) as i32;
+        match unix::poll_all([input.as_raw_fd(), wake.as_raw_fd()], ms) {
+            Ok([ready, false]) => return Ok(ready),
+            Ok([_, true]) => {
+                let _ = wake.read(&mut [0; 64])?;
+                if signals::ending().is_some() {
+                    return Ok(false);
+                }
+            }
+            Err(error) if error.kind() == io::ErrorKind::Interrupted => {}
+            Err(error) => return Err(error),
+        }
+    }
+}
+
+/// Reads until the last reply came, the time is up, the input ended, or a signal ends the program.
+fn read_replies(input: &mut File, wake: &mut UnixStream, parser: &mut ExtendedParser) -> io::Result<Replies> {
+    let end = Instant::now() + LONGEST_WAIT;
+    let mut replies = Replies::default();
+    while !replies.is_whole && has_input(input, wake, end)? {
+        let mut bytes = [0; 4096];
+        let count = input.read(&mut bytes)?;
+        if count == 0 {
+            break;
+        }
+        let note = |event| replies.note(event);
+        parser.try_parse(&bytes[..count], note, true).map_err(io::Error::other)?;
+    }
+    // A beginning that nothing continued was typed.
+    parser
+        .try_parse(b"", |event| replies.note(event), false)
+        .map_err(io::Error::other)?;
+    Ok(replies)
+}
+
+fn ask() -> io::Result<Replies> {
+    let mut parser = ExtendedParser::try_new(Rows::Port).map_err(io::Error::other)?;
+    let mut terminal = Terminal::find(false)?;
+    let mut wake = signals::note_all()?;
+    terminal.enter()?;
+    let mut output = io::stdout();
+    output.write_all(QUESTIONS)?;
+    output.flush()?;
+    read_replies(&mut terminal.input, &mut wake, &mut parser)
+}
+
+fn main() -> ExitCode {
+    if std::env::args_os().len() > 1 {
+        eprintln!("usage: ask");
+        return ExitCode::from(2);
+    }
+    let asked = ask();
+    signals::end_by_signal();
+    if signals::STOPPING.load(SeqCst) {
+        signals::stop();
+    }
+    match asked {
+        Ok(replies) => {
+            replies.print();
+            ExitCode::SUCCESS
+        }
+        Err(error) => {
+            eprintln!("ask: {error}");
+            ExitCode::FAILURE
+        }
+    }
+}

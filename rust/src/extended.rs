@@ -1,0 +1,24 @@
+//! The parser for programs that ask their terminal questions, or turn Kitty's keyboard protocol on.
+//!
+//! It reads what [`InputParser`](crate::input::InputParser) reads, and what terminals send beyond termwiz's sequence table: the position of
+//! the cursor, focus reports, colours and other strings, further mouse reports, control sequences, and Kitty's keyboard protocol.
+//! docs/EXTENDED.md of the repository says what bytes mean to it.
+//!
+//! ```
+//! use hedrugal::extended::{ExtendedEvent, ExtendedParser, Rows};
+//!
+//! let mut parser = ExtendedParser::new(Rows::Port);
+//! for event in parser.parse_as_vec(b"\x1b[?24;80R\x1b]11;rgb:1e1e/1e1e/1e1e\x1b\\q", true) {
+//!     match event {
+//!         ExtendedEvent::CursorPosition { row, column } => assert_eq!((row, column), (24, 80)),
+//!         ExtendedEvent::Osc(bytes) => assert_eq!(bytes, b"11;rgb:1e1e/1e1e/1e1e"),
+//!         event => assert!(event.key().is_some()),
+//!     }
+//! }
+//! ```
+mod events;
+mod parser;
+
+pub use crate::input::flags::KittyModifiers;
+pub use events::{ExtendedEvent, KeyEventKind, KeyReport, ReportedKey};
+pub use parser::{ExtendedParser, Rows};

@@ -1,0 +1,221 @@
+// What happens at a terminal, and what it replies.
+use super::KittyModifiers;
+use crate::input::{AllocError, InputEvent, KeyCode, KeyEvent, FAULT};
+use crate::raw;
+
+/// What happened to a key.
+///
+/// ```
+/// use hedrugal::extended::{ExtendedParser, KeyEventKind, Rows};
+///
+/// let events = ExtendedParser::new(Rows::Kitty).parse_as_vec(b"\x1b[1;1:3A", true);
+/// assert_eq!(events[0].key().unwrap().kind, KeyEventKind::Release);
+/// ```
+#[derive(Debug, Clone, Copy, PartialEq, Eq, Hash)]
+#[cfg_attr(feature = "use_serde", derive(serde::Serialize, serde::Deserialize))]
+pub enum KeyEventKind {
+    /// It was pressed.
+    Press,
+    /// It was held down so long that it repeats.
+    Repeat,
+    /// It was released.
+    Release,
+}
+
+/// The key of a report.
+///
+/// ```
+/// use hedrugal::extended::{ExtendedParser, ReportedKey, Rows};
+/// use hedrugal::input::KeyCode;
+///
+/// let events = ExtendedParser::new(Rows::Kitty).parse_as_vec(b"\x1b[27u\x1b[57428u", true);
+/// assert_eq!(events[0].key().unwrap().key, ReportedKey::Named(KeyCode::Escape));
+/// assert_eq!(events[1].key().unwrap().key, ReportedKey::Functional(57428));
+/// ```
+#[derive(Debug, Clone, Copy, PartialEq, Eq, Hash)]
+#[cfg_attr(feature = "use_serde", derive(serde::Serialize, serde::Deserialize))]
+pub enum ReportedKey {
+    /// A key that has a name or types a character.
+    Named(KeyCode),
+    /// A key for which [`KeyCode`] has no name, by its number in Kitty's table of functional keys.
+    Functional(u32),
+}
+
+/// A key that was pressed, held or released, with all that Kitty's keyboard protocol reports of it.
+///
+/// ```
+/// use hedrugal::extended::{ExtendedEvent, ExtendedParser, KeyEventKind, KeyReport, KittyModifiers, ReportedKey, Rows};
+/// use hedrugal::input::KeyCode;
+///
+/// let report = KeyReport {
+///     key: ReportedKey::Named(KeyCode::Char('a')),
+///     modifiers: KittyModifiers::SHIFT,
+///     kind: KeyEventKind::Press,
+///     shifted: Some('A'),
+///     base: None,
+///     text: "A".to_string(),
+/// };
+/// let events = ExtendedParser::new(Rows::Kitty).parse_as_vec(b"\x1b[97:65;2;65u", true);
+/// assert_eq!(events, [ExtendedEvent::Key(report)]);
+/// ```
+#[derive(Debug, Clone, PartialEq, Eq)]
+#[cfg_attr(feature = "use_serde", derive(serde::Serialize, serde::Deserialize))]
+pub struct KeyReport {
+    /// The key.
+    pub key: ReportedKey,
+    /// The modifiers.
+    pub modifiers: KittyModifiers,
+    /// Whether it was pressed, held or released.
+    pub kind: KeyEventKind,
+    /// What the key types with Shift, if the terminal reported it.
+    pub shifted: Option<char>,
+    /// What the key at this place types on the standard layout (PC-101), if the terminal reported it.
+    pub base: Option<char>,
+    /// The text that the key types, if the terminal reported it; otherwise empty.
+    pub text: String,
+}
+
+/// Something that happened at the terminal, or that it replied.
+///
+/// ```
+/// use hedrugal::extended::{ExtendedEvent, ExtendedParser, Rows};
+///
+/// let events = ExtendedParser::new(Rows::Port).parse_as_vec(b"\x1b[I\x1b[?62;22c", true);
+/// assert_eq!(events, [ExtendedEvent::FocusGained, ExtendedEvent::Csi(b"?62;22c".to_vec())]);
+/// ```
+#[derive(Debug, Clone, PartialEq, Eq)]
+#[cfg_attr(feature = "use_serde", derive(serde::Serialize, serde::Deserialize))]
+pub enum ExtendedEvent {
+    /// A key, a mouse report or a paste, as [`InputParser`](crate::input::InputParser) emits it.
+    Input(InputEvent),
+    /// A key report.
+    Key(KeyReport),
+    /// The terminal's window gained the focus (mode 1004).
+    FocusGained,
+    /// The terminal's window lost the focus.
+    FocusLost,
+    /// The reply to a question for the cursor's position (DSR 6), as it was sent: the first row and the first column are 1.
+    CursorPosition {
+        /// The row.
+        row: u16,
+        /// The column.
+        column: u16,
+    },
+    /// The terminal has a new size (mode 2048).
+    Resize {
+        /// The number of rows.
+        rows: u16,
+        /// The number of columns.
+        columns: u16,
+        /// The height in pixels.
+        height: u16,
+        /// The width in pixels.
+        width: u16,
+    },
+    /// The reply to a question for the flags of Kitty's keyboard protocol, as the bits of
+    /// [`KittyKeyboardFlags`](crate::input::KittyKeyboardFlags).
+    KeyboardFlags(u8),
+    /// Any other control sequence: its bytes after ESC `[`.
+    Csi(Vec<u8>),
+    /// An operating system command: its bytes after ESC `]`, without its end.
+    Osc(Vec<u8>),
+    /// A device control string: its bytes after ESC `P`, without its end.
+    Dcs(Vec<u8>),
+    /// An application program command: its bytes after ESC `_`, without its end.
+    Apc(Vec<u8>),
+}
+
+impl ExtendedEvent {
+    /// Returns the report of a key: of `Key` a clone, and of a key in `Input` a press with its SHIFT, ALT and CTRL. Returns `None` for
+    /// any other event.
+    ///
+    /// ```
+    /// use hedrugal::extended::{ExtendedParser, KittyModifiers, ReportedKey, Rows};
+    /// use hedrugal::input::KeyCode;
+    ///
+    /// for rows in [Rows::Port, Rows::Kitty] {
+    ///     let events = ExtendedParser::new(rows).parse_as_vec(b"\x1b[1;5A\x1b[I", true);
+    ///     let report = events[0].key().unwrap();
+    ///     assert_eq!(report.key, ReportedKey::Named(KeyCode::UpArrow));
+    ///     assert_eq!(report.modifiers, KittyModifiers::CTRL);
+    ///     assert_eq!(events[1].key(), None);
+    /// }
+    /// ```
+    #[must_use]
+    pub fn key(&self) -> Option<KeyReport> {
+        match self {
+            ExtendedEvent::Key(report) => Some(report.clone()),
+            ExtendedEvent::Input(InputEvent::Key(event)) => Some(KeyReport::pressed(event)),
+            _ => None,
+        }
+    }
+
+    // An event of the library. `text` returns the bytes that it brought, of which there are so many.
+    pub(super) fn of(
+        event: &raw::ExtendedEvent,
+        text: impl FnOnce(usize) -> Result<Vec<u8>, AllocError>,
+    ) -> Result<ExtendedEvent, AllocError> {
+        Ok(match event.kind {
+            raw::EVENT_KEY | raw::EVENT_MOUSE | raw::EVENT_PASTE => ExtendedEvent::Input(InputEvent::of(&event.input, text)?),
+            raw::EVENT_REPORT => ExtendedEvent::Key(KeyReport::of(&event.report, text(event.text_len)?)),
+            raw::EVENT_FOCUS_GAINED => ExtendedEvent::FocusGained,
+            raw::EVENT_FOCUS_LOST => ExtendedEvent::FocusLost,
+            raw::EVENT_CURSOR_POSITION => ExtendedEvent::CursorPosition {
+                row: event.row,
+                column: event.column,
+            },
+            raw::EVENT_RESIZE => ExtendedEvent::Resize {
+                rows: event.rows,
+                columns: event.columns,
+                height: event.height,
+                width: event.width,
+            },
+            raw::EVENT_KEYBOARD_FLAGS => ExtendedEvent::KeyboardFlags(event.flags),
+            raw::EVENT_CSI => ExtendedEvent::Csi(text(event.text_len)?),
+            raw::EVENT_OSC => ExtendedEvent::Osc(text(event.text_len)?),
+            raw::EVENT_DCS => ExtendedEvent::Dcs(text(event.text_len)?),
+            raw::EVENT_APC => ExtendedEvent::Apc(text(event.text_len)?),
+            _ => unreachable!("{FAULT}"),
+        })
+    }
+}
+
+impl KeyReport {
+    // A key that was pressed, of which the terminal reports no more.
+    fn pressed(event: &KeyEvent) -> KeyReport {
+        KeyReport {
+            key: ReportedKey::Named(event.key),
+            // SHIFT, ALT and CTRL have the same bits in xterm's number.
+            modifiers: KittyModifiers::from_bits_retain(event.modifiers.encode_xterm()),
+            kind: KeyEventKind::Press,
+            shifted: None,
+            base: None,
+            text: String::new(),
+        }
+    }
+
+    // A report of the library, and the text that the key types.
+    fn of(report: &raw::KeyReport, text: Vec<u8>) -> KeyReport {
+        KeyReport {
+            key: match report.key {
+                0 => ReportedKey::Functional(report.detail),
+                key => ReportedKey::Named(KeyCode::of(key, report.detail).expect(FAULT)),
+            },
+            modifiers: KittyModifiers::from_bits(report.modifiers).expect(FAULT),
+            kind: match report.action {
+                raw::ACTION_PRESS => KeyEventKind::Press,
+                raw::ACTION_REPEAT => KeyEventKind::Repeat,
+                raw::ACTION_RELEASE => KeyEventKind::Release,
+                _ => unreachable!("{FAULT}"),
+            },
+            shifted: character(report.shifted),
+            base: character(report.base),
+            text: String::from_utf8(text).expect(FAULT),
+        }
+    }
+}
+
+// The character of a code point, if the terminal reported one.
+fn character(code: u32) -> Option<char> {
+    (code != raw::NO_CODE).then(|| char::from_u32(code).expect(FAULT))
+}

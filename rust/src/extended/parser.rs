@@ -1,0 +1,413 @@
+// The extended parser: bytes of a terminal to events.
+use super::ExtendedEvent;
+use crate::input::{AllocError, ParseError, ParseVecError, Waiting};
+use crate::library_parser::{Calls, LibraryParser, RawParser};
+use crate::raw;
+use std::fmt;
+
+/// Which rows of the sequence table keep the key that [`InputParser`](crate::input::InputParser) reads from them.
+///
+/// ```
+/// use hedrugal::extended::{ExtendedEvent, ExtendedParser, Rows};
+/// use hedrugal::input::{InputEvent, KeyCode, KeyEvent, Modifiers};
+///
+/// let f3 = KeyEvent {
+///     key: KeyCode::Function(3),
+///     modifiers: Modifiers::CTRL,
+/// };
+/// let events = ExtendedParser::new(Rows::Port).parse_as_vec(b"\x1b[1;5R", true);
+/// assert_eq!(events, [ExtendedEvent::Input(InputEvent::Key(f3))]);
+/// let events = ExtendedParser::new(Rows::Kitty).parse_as_vec(b"\x1b[1;5R", true);
+/// assert_eq!(events, [ExtendedEvent::CursorPosition { row: 1, column: 5 }]);
+/// ```
+#[derive(Debug, Clone, Copy, PartialEq, Eq, Hash)]
+pub enum Rows {
+    /// All rows keep their keys. For programs that leave Kitty's keyboard protocol off. Ask for the cursor's position by ESC `[?6n`, since
+    /// the reply to ESC `[6n` may be the row of an F3.
+    Port,
+    /// Rows that report a key, or the position of the cursor, are read as these reports. For programs that turn Kitty's keyboard protocol
+    /// on, so that a press and its release name the same key.
+    Kitty,
+}
+
+impl Rows {
+    // The number of the library.
+    fn number(self) -> u32 {
+        match self {
+            Rows::Port => raw::ROWS_PORT,
+            Rows::Kitty => raw::ROWS_KITTY,
+        }
+    }
+}
+
+// SAFETY: these are the library's calls for a `tw_extended`.
+unsafe impl RawParser for raw::Extended {
+    type RawEvent = raw::ExtendedEvent;
+    type Event = ExtendedEvent;
+
+    const CALLS: Calls<raw::Extended, raw::ExtendedEvent> = Calls {
+        free: raw::tw_extended_free,
+        feed: raw::tw_extended_feed,
+        next: raw::tw_extended_next,
+        text: raw::tw_extended_text,
+        drop_text: raw::tw_extended_drop_text,
+        waiting: raw::tw_extended_waiting,
+        waiting_kind: raw::tw_extended_waiting_kind,
+        flush_escape: raw::tw_extended_flush_escape,
+        is_paste_open: raw::tw_extended_is_paste_open,
+        end_paste: raw::tw_extended_end_paste,
+        reset: raw::tw_extended_reset,
+    };
+
+    fn is_paste(event: &raw::ExtendedEvent) -> bool {
+        event.kind == raw::EVENT_PASTE
+    }
+
+    fn event(event: &raw::ExtendedEvent, text: impl FnOnce(usize) -> Result<Vec<u8>, AllocError>) -> Result<ExtendedEvent, AllocError> {
+        ExtendedEvent::of(event, text)
+    }
+}
+
+/// Reads events from the bytes that a terminal sends, however they are cut into calls: keys, mouse reports and pastes as
+/// [`InputParser`](crate::input::InputParser), and what terminals send beyond them.
+///
+/// ```
+/// use hedrugal::extended::{ExtendedEvent, ExtendedParser, Rows};
+///
+/// let mut parser = ExtendedParser::new(Rows::Port);
+/// assert!(parser.parse_as_vec(b"\x1b[?24;8", true).is_empty());
+/// assert_eq!(parser.parse_as_vec(b"0R", true), [ExtendedEvent::CursorPosition { row: 24, column: 80 }]);
+/// ```
+pub struct ExtendedParser {
+    parser: LibraryParser<raw::Extended>,
+    rows: Rows,
+}
+
+impl ExtendedParser {
+    /// Makes a parser with an empty buffer.
+    ///
+    /// ```
+    /// use hedrugal::extended::{ExtendedParser, Rows};
+    ///
+    /// assert_eq!(ExtendedParser::new(Rows::Port).waiting_len(), 0);
+    /// ```
+    ///
+    /// # Panics
+    ///
+    /// If memory is refused.
+    #[must_use]
+    pub fn new(rows: Rows) -> ExtendedParser {
+        ExtendedParser::try_new(rows).expect("a parser is made")
+    }
+
+    /// Makes a parser with an empty buffer.
+    ///
+    /// ```
+    /// use hedrugal::extended::{ExtendedParser, Rows};
+    ///
+    /// assert!(ExtendedParser::try_new(Rows::Kitty).is_ok());
+    /// ```
+    ///
+    /// # Errors
+    ///
+    /// If memory is refused. Nothing was made.
+    pub fn try_new(rows: Rows) -> Result<ExtendedParser, AllocError> {
+        let mut raw = raw::Extended::NONE;
+        // SAFETY: `raw` is no parser yet, which the call allows.
+        if !unsafe { raw::tw_extended_init(&mut raw, rows.number()) } {
+            return Err(AllocError);
+        }
+        let parser = LibraryParser::of(raw);
+        Ok(ExtendedParser { parser, rows })
+    }
+
+    /// Returns how the parser reads the rows of the sequence table, as [`ExtendedParser::new`] was told.
+    ///
+    /// ```
+    /// use hedrugal::extended::{ExtendedParser, Rows};
+    ///
+    /// assert_eq!(ExtendedParser::new(Rows::Kitty).rows(), Rows::Kitty);
+    /// ```
+    #[must_use]
+    pub fn rows(&self) -> Rows {
+        self.rows
+    }
+
+    /// Appends `bytes` to the buffer. [`ExtendedParser::next_event`] then emits the events, one at a time.
+    ///
+    /// ```
+    /// use hedrugal::extended::{ExtendedParser, Rows};
+    ///
+    /// let mut parser = ExtendedParser::new(Rows::Port);
+    /// parser.feed(b"ab");
+    /// assert_eq!(parser.waiting_len(), 2);
+    /// ```
+    ///
+    /// # Panics
+    ///
+    /// If memory is refused.
+    pub fn feed(&mut self, bytes: &[u8]) {
+        self.try_feed(bytes).expect("the input is buffered");
+    }
+
+    /// Does what [`ExtendedParser::feed`] does.
+    ///
+    /// ```
+    /// use hedrugal::extended::{ExtendedParser, Rows};
+    ///
+    /// assert_eq!(ExtendedParser::new(Rows::Port).try_feed(b"ab"), Ok(()));
+    /// ```
+    ///
+    /// # Errors
+    ///
+    /// If memory is refused. None of the bytes is buffered: call again with the same ones.
+    pub fn try_feed(&mut self, bytes: &[u8]) -> Result<(), AllocError> {
+        self.parser.feed(bytes)
+    }
+
+    /// Consumes the item at the front of the buffer, and returns its event. Returns `None` if the bytes are no event yet. Pass `maybe_more`
+    /// as to [`ExtendedParser::parse`].
+    ///
+    /// ```
+    /// use hedrugal::extended::{ExtendedEvent, ExtendedParser, Rows};
+    ///
+    /// let mut parser = ExtendedParser::new(Rows::Port);
+    /// parser.feed(b"\x1b[I\x1b[O\x1b[");
+    /// assert_eq!(parser.next_event(true), Some(ExtendedEvent::FocusGained));
+    /// assert_eq!(parser.next_event(true), Some(ExtendedEvent::FocusLost));
+    /// assert_eq!(parser.next_event(true), None);
+    /// ```
+    ///
+    /// # Panics
+    ///
+    /// If memory is refused.
+    #[must_use]
+    pub fn next_event(&mut self, maybe_more: bool) -> Option<ExtendedEvent> {
+        self.try_next_event(maybe_more).expect("the event is emitted")
+    }
+
+    /// Does what [`ExtendedParser::next_event`] does.
+    ///
+    /// ```
+    /// use hedrugal::extended::{ExtendedParser, Rows};
+    ///
+    /// assert_eq!(ExtendedParser::new(Rows::Port).try_next_event(true), Ok(None));
+    /// ```
+    ///
+    /// # Errors
+    ///
+    /// If memory is refused. The event isn't lost: call again.
+    pub fn try_next_event(&mut self, maybe_more: bool) -> Result<Option<ExtendedEvent>, AllocError> {
+        self.parser.next_event(maybe_more)
+    }
+
+    /// Appends `bytes` to the buffer, and calls `callback` with each event in order. Bytes that are no event yet stay buffered.
+    ///
+    /// Pass `maybe_more` as true while more bytes may come: then bytes that may still become a longer sequence, a string or a character
+    /// stay buffered. After a pause call [`ExtendedParser::flush_escape`]. Pass false at the end of the input: then only an open paste
+    /// stays. Call with no bytes and false to flush. Before the end this breaks a sequence, a string or a character of which the rest is
+    /// still to come.
+    ///
+    /// ```
+    /// use hedrugal::extended::{ExtendedParser, Rows};
+    ///
+    /// let mut parser = ExtendedParser::new(Rows::Port);
+    /// let mut count = 0;
+    /// parser.parse(b"ab\x1b[I\x1b]0;title", |_| count += 1, true);
+    /// assert_eq!(count, 3);
+    /// ```
+    ///
+    /// # Panics
+    ///
+    /// If memory is refused.
+    pub fn parse<F: FnMut(ExtendedEvent)>(&mut self, bytes: &[u8], callback: F, maybe_more: bool) {
+        self.try_parse(bytes, callback, maybe_more).expect("the input is parsed");
+    }
+
+    /// Does what [`ExtendedParser::parse`] does.
+    ///
+    /// ```
+    /// use hedrugal::extended::{ExtendedParser, Rows};
+    ///
+    /// let mut parser = ExtendedParser::new(Rows::Port);
+    /// assert_eq!(parser.try_parse(b"\x1b[I", |event| println!("{event:?}"), true), Ok(()));
+    /// ```
+    ///
+    /// # Errors
+    ///
+    /// If memory is refused. The error says whether the bytes were buffered, and so how to go on; no event is lost.
+    pub fn try_parse<F: FnMut(ExtendedEvent)>(&mut self, bytes: &[u8], callback: F, maybe_more: bool) -> Result<(), ParseError> {
+        self.parser.parse(bytes, callback, maybe_more)
+    }
+
+    /// Returns the events with which [`ExtendedParser::parse`] calls its callback.
+    ///
+    /// ```
+    /// use hedrugal::extended::{ExtendedEvent, ExtendedParser, Rows};
+    ///
+    /// let mut parser = ExtendedParser::new(Rows::Port);
+    /// assert_eq!(parser.parse_as_vec(b"\x1bP>|kitty\x1b", true), []);
+    /// assert_eq!(parser.parse_as_vec(b"\\", true), [ExtendedEvent::Dcs(b">|kitty".to_vec())]);
+    /// ```
+    ///
+    /// # Panics
+    ///
+    /// If memory is refused.
+    #[must_use]
+    pub fn parse_as_vec(&mut self, bytes: &[u8], maybe_more: bool) -> Vec<ExtendedEvent> {
+        self.try_parse_as_vec(bytes, maybe_more).expect("the input is parsed")
+    }
+
+    /// Returns the events with which [`ExtendedParser::parse`] calls its callback.
+    ///
+    /// ```
+    /// use hedrugal::extended::{ExtendedParser, Rows};
+    ///
+    /// let mut parser = ExtendedParser::new(Rows::Port);
+    /// assert_eq!(parser.try_parse_as_vec(b"ab", true).map(|events| events.len()), Ok(2));
+    /// ```
+    ///
+    /// # Errors
+    ///
+    /// If memory is refused. The error has the events so far, and says whether the bytes were buffered; no event is lost.
+    pub fn try_parse_as_vec(&mut self, bytes: &[u8], maybe_more: bool) -> Result<Vec<ExtendedEvent>, ParseVecError<ExtendedEvent>> {
+        self.parser.parse_as_vec(bytes, maybe_more)
+    }
+
+    /// Returns the number of bytes that are buffered. Those of an event that was refused memory may no longer be among them. Between calls
+    /// that parse it is at most 65536, unless a paste is open.
+    ///
+    /// ```
+    /// use hedrugal::extended::{ExtendedParser, Rows};
+    ///
+    /// let mut parser = ExtendedParser::new(Rows::Port);
+    /// parser.parse(b"a\x1b]0;t", |_| {}, true);
+    /// assert_eq!(parser.waiting_len(), 5);
+    /// ```
+    #[must_use]
+    pub fn waiting_len(&self) -> usize {
+        self.parser.waiting_len()
+    }
+
+    /// Returns what stays buffered, once a call that parses has succeeded. The beginning of a control sequence or of a string is a
+    /// [`Waiting::Sequence`].
+    ///
+    /// ```
+    /// use hedrugal::extended::{ExtendedParser, Rows};
+    /// use hedrugal::input::Waiting;
+    ///
+    /// let mut parser = ExtendedParser::new(Rows::Port);
+    /// parser.parse(b"\x1b]0;title", |_| {}, true);
+    /// assert_eq!(parser.waiting(), Waiting::Sequence);
+    /// ```
+    #[must_use]
+    pub fn waiting(&self) -> Waiting {
+        self.parser.waiting()
+    }
+
+    /// Returns the Escape key if ESC alone is buffered, with ALT if ESC ESC is, and consumes it. Returns `None` otherwise; the parser is
+    /// then unchanged.
+    ///
+    /// Call it when some 50 ms have passed without a byte. Whatever else is buffered stays, so a pause breaks only what is cut right after
+    /// its ESC or ESC ESC.
+    ///
+    /// ```
+    /// use hedrugal::extended::{ExtendedEvent, ExtendedParser, Rows};
+    /// use hedrugal::input::{InputEvent, KeyCode, KeyEvent, Modifiers};
+    ///
+    /// let mut parser = ExtendedParser::new(Rows::Port);
+    /// parser.parse(b"\x1b", |_| {}, true);
+    /// let escape = KeyEvent {
+    ///     key: KeyCode::Escape,
+    ///     modifiers: Modifiers::NONE,
+    /// };
+    /// assert_eq!(parser.flush_escape(), Some(ExtendedEvent::Input(InputEvent::Key(escape))));
+    /// assert_eq!(parser.flush_escape(), None);
+    /// ```
+    #[must_use]
+    pub fn flush_escape(&mut self) -> Option<ExtendedEvent> {
+        self.parser.flush_escape()
+    }
+
+    /// Returns whether the buffer begins with the start of a paste. Such a paste is buffered without limit until its end arrives:
+    /// with a limit, say 1 MB, call [`ExtendedParser::end_paste`] once [`ExtendedParser::waiting_len`] is above it.
+    ///
+    /// ```
+    /// use hedrugal::extended::{ExtendedParser, Rows};
+    ///
+    /// let mut parser = ExtendedParser::new(Rows::Port);
+    /// parser.parse(b"\x1b[200~te", |_| {}, true);
+    /// assert!(parser.is_paste_open());
+    /// ```
+    #[must_use]
+    pub fn is_paste_open(&self) -> bool {
+        self.parser.is_paste_open()
+    }
+
+    /// Ends an open paste where it is: returns a `Paste` of the text that came so far, and consumes all that is buffered. Returns `None`
+    /// if no paste is open; the parser is then unchanged.
+    ///
+    /// The rest of the paste then arrives as if it were typed, and its end as
+    /// [`KeyCode::InternalPasteEnd`](crate::input::KeyCode::InternalPasteEnd). If the text ended inside that, the rest of it is typed keys
+    /// too.
+    ///
+    /// ```
+    /// use hedrugal::extended::{ExtendedEvent, ExtendedParser, Rows};
+    /// use hedrugal::input::InputEvent;
+    ///
+    /// let mut parser = ExtendedParser::new(Rows::Port);
+    /// parser.parse(b"\x1b[200~te", |_| {}, true);
+    /// let paste = InputEvent::Paste("te".to_string());
+    /// assert_eq!(parser.end_paste(), Some(ExtendedEvent::Input(paste)));
+    /// assert_eq!(parser.end_paste(), None);
+    /// ```
+    ///
+    /// # Panics
+    ///
+    /// If memory is refused.
+    #[must_use]
+    pub fn end_paste(&mut self) -> Option<ExtendedEvent> {
+        self.try_end_paste().expect("the paste is ended")
+    }
+
+    /// Does what [`ExtendedParser::end_paste`] does.
+    ///
+    /// ```
+    /// use hedrugal::extended::{ExtendedParser, Rows};
+    ///
+    /// assert_eq!(ExtendedParser::new(Rows::Port).try_end_paste(), Ok(None));
+    /// ```
+    ///
+    /// # Errors
+    ///
+    /// If memory is refused. The paste isn't lost: call again, or parse on.
+    pub fn try_end_paste(&mut self) -> Result<Option<ExtendedEvent>, AllocError> {
+        self.parser.end_paste()
+    }
+
+    /// Forgets all that is buffered, an open paste too, and an event that was refused memory. Returns the number of bytes that were
+    /// buffered, as [`ExtendedParser::waiting_len`] counts them.
+    ///
+    /// Call it where earlier bytes no longer count, as after another program had the terminal.
+    ///
+    /// ```
+    /// use hedrugal::extended::{ExtendedParser, Rows};
+    ///
+    /// let mut parser = ExtendedParser::new(Rows::Port);
+    /// parser.parse(b"\x1b]0;title", |_| {}, true);
+    /// assert_eq!(parser.reset(), 9);
+    /// assert_eq!(parser.waiting_len(), 0);
+    /// ```
+    pub fn reset(&mut self) -> usize {
+        self.parser.reset()
+    }
+}
+
+impl fmt::Debug for ExtendedParser {
+    fn fmt(&self, f: &mut fmt::Formatter<'_>) -> fmt::Result {
+        f.debug_struct("ExtendedParser")
+            .field("rows", &self.rows)
+            .field("waiting_len", &self.waiting_len())
+            .finish_non_exhaustive()
+    }
+}

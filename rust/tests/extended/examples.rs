@@ -1,0 +1,255 @@
+// Examples: what each call of a fresh parser gives.
+use hedrugal::extended::Rows;
+
+const MORE: bool = true;
+
+const LAST: bool = false;
+
+pub const PORT: &[Rows] = &[Rows::Port];
+
+pub const KITTY: &[Rows] = &[Rows::Kitty];
+
+pub const BOTH: &[Rows] = &[Rows::Port, Rows::Kitty];
+
+// The bytes of one call, its flag, and what it gives: the lines of the events, and how many bytes wait then, if any do.
+pub type Step = (&'static [u8], bool, &'static str);
+
+// For which rows an example is, and its calls.
+pub type Example = (&'static [Rows], &'static [Step]);
+
+pub const REPLIES: &[Example] = &[
+    (
+        BOTH,
+        &[(
+            b"\x1b[24;80R\x1b[?24;80R\x1b[?24;80;1R",
+            LAST,
+            "cursor 24 80, cursor 24 80, cursor 24 80",
+        )],
+    ),
+    (PORT, &[(b"\x1b[1;5R\x1b[?1;5R", LAST, "key Function(3) CTRL, cursor 1 5")]),
+    (KITTY, &[(b"\x1b[1;5R\x1b[?1;5R", LAST, "cursor 1 5, cursor 1 5")]),
+    (BOTH, &[(b"\x1b[24;8", MORE, "; 6"), (b"0R", MORE, "cursor 24 80")]),
+    (BOTH, &[(b"\x1b[65535;99999R\x1b[65536;1R", MORE, "csi 65535;99999R, csi 65536;1R")]),
+    (BOTH, &[(b"\x1b[I\x1b[O", MORE, "focus gained, focus lost")]),
+    (BOTH, &[(b"\x1b\x1b[I", MORE, "key Escape NONE, focus gained")]),
+    (BOTH, &[(b"\x1b[?62;22c\x1b[>1;10;0c", MORE, "csi ?62;22c, csi >1;10;0c")]),
+    (BOTH, &[(b"\x1b[?2026;2$y\x1b[?997;1n", MORE, "csi ?2026;2$y, csi ?997;1n")]),
+    (
+        BOTH,
+        &[(
+            b"\x1b[?0u\x1b[?31u\x1b[?255u\x1b[?256u",
+            MORE,
+            "flags 0, flags 31, flags 255, csi ?256u",
+        )],
+    ),
+    (BOTH, &[(b"\x1b[48;24;80;480;800t", MORE, "size 24 80 480 800")]),
+    (
+        BOTH,
+        &[(b"\x1b[48;24;80;480t\x1b[8;24;80t", MORE, "csi 48;24;80;480t, csi 8;24;80t")],
+    ),
+    (BOTH, &[(b"\x1b[x\x1b[2D", LAST, "csi x, csi 2D")]),
+];
+
+pub const STRINGS: &[Example] = &[
+    (BOTH, &[(b"\x1b]11;rgb:1e1e/1e1e/1e1e\x1b\\", MORE, "osc 11;rgb:1e1e/1e1e/1e1e")]),
+    (BOTH, &[(b"\x1b]10;#fff\x07q", LAST, "osc 10;#fff, key Char('q') NONE")]),
+    (BOTH, &[(b"\x1b]0;\xc3\xa9\x1b", MORE, "; 7"), (b"\\", MORE, r"osc 0;\xc3\xa9")]),
+    (BOTH, &[(b"\x1b]\x07\x1b]\x1b\\", LAST, "osc , osc ")]),
+    (BOTH, &[(b"\x1bP>|kitty(0.39.1)\x1b\\", LAST, "dcs >|kitty(0.39.1)")]),
+    (BOTH, &[(b"\x1b_Gi=31;OK\x1b\\", MORE, "apc Gi=31;OK")]),
+    (BOTH, &[(b"\x1b\x1b]0;t\x07", LAST, "key Escape NONE, osc 0;t")]),
+    (
+        BOTH,
+        &[(b"\x1bPa\x07", MORE, "key Char('P') ALT, key Char('a') NONE, key Char('g') CTRL")],
+    ),
+    (
+        BOTH,
+        &[(b"\x1b]a\x1b[I", MORE, "key Char(']') ALT, key Char('a') NONE, focus gained")],
+    ),
+    (
+        BOTH,
+        &[
+            (b"\x1b]ab", MORE, "; 4"),
+            (b"", LAST, "key Char(']') ALT, key Char('a') NONE, key Char('b') NONE"),
+        ],
+    ),
+    (
+        BOTH,
+        &[(b"\x1b^a\x1b\\", MORE, "key Char('^') ALT, key Char('a') NONE, key Char('\\\\') ALT")],
+    ),
+];
+
+pub const KEYS: &[Example] = &[
+    (
+        KITTY,
+        &[(
+            b"\x1b[97u\x1b[97;2u\x1b[97;7u\x1b[13u\x1b[27u",
+            MORE,
+            "report Char('a') NONE, report Char('a') SHIFT, report Char('a') ALT|CTRL, report Enter NONE, report Escape NONE",
+        )],
+    ),
+    (PORT, &[(b"\x1b[97;5u\x1b[27u\x1b[1;9A", MORE, "key Char('a') CTRL, key Char('\\u{1b}') NONE, key UpArrow ALT")]),
+    (
+        KITTY,
+        &[(
+            b"\x1b[1;9A\x1b[D\x1b[3;2~\x1b[1;2P",
+            MORE,
+            "report UpArrow SUPER, report LeftArrow NONE, report Delete SHIFT, report Function(1) SHIFT",
+        )],
+    ),
+    (KITTY, &[(b"\x1b\x1b[97;5u", MORE, "key Escape NONE, report Char('a') CTRL")]),
+    (PORT, &[(b"\x1b\x1b[97;5u", MORE, "key Char('a') ALT|CTRL")]),
+    (
+        BOTH,
+        &[(
+            b"\x1b[97;5:1u\x1b[97;1:2u\x1b[97;1:3u",
+            MORE,
+            "report Char('a') CTRL, report Char('a') NONE Repeat, report Char('a') NONE Release",
+        )],
+    ),
+    (
+        BOTH,
+        &[(
+            b"\x1b[1;2:3A\x1b[;1:3B\x1b[3;5:2~",
+            MORE,
+            "report UpArrow SHIFT Release, report DownArrow NONE Release, report Delete CTRL Repeat",
+        )],
+    ),
+    (
+        BOTH,
+        &[(
+            b"\x1b[97;9u\x1b[97;17u\x1b[97;33u\x1b[97;65u\x1b[97;129u",
+            MORE,
+            "report Char('a') SUPER, report Char('a') HYPER, report Char('a') META, report Char('a') CAPS_LOCK, report Char('a') NUM_LOCK",
+        )],
+    ),
+    (
+        BOTH,
+        &[(
+            b"\x1b[97;256:1u",
+            MORE,
+            "report Char('a') SHIFT|ALT|CTRL|SUPER|HYPER|META|CAPS_LOCK|NUM_LOCK",
+        )],
+    ),
+    (
+        BOTH,
+        &[(
+            b"\x1b[97:65:99;2:1;65u\x1b[97::99;5u\x1b[97:65;2u",
+            MORE,
+            "report Char('a') SHIFT shifted 'A' base 'c' text \"A\", report Char('a') CTRL base 'c', report Char('a') SHIFT shifted 'A'",
+        )],
+    ),
+    (
+        BOTH,
+        &[(
+            b"\x1b[233;5u\x1b[0;;229:128512u\x1b[27;5;233~",
+            MORE,
+            "report Char('é') CTRL, report Char('\\0') NONE text \"å😀\", report Char('é') CTRL",
+        )],
+    ),
+    (
+        BOTH,
+        &[(
+            b"\x1b[57358u\x1b[57376u\x1b[57399u\x1b[57428u\x1b[57441;2:3u",
+            MORE,
+            "report CapsLock NONE, report Function(13) NONE, report Numpad0 NONE, report 57428 NONE, report LeftShift SHIFT Release",
+        )],
+    ),
+    (
+        BOTH,
+        &[(
+            b"\x1b[[A\x1b[[E\x1bOM\x1bOX\x1bOE\x1bOq",
+            MORE,
+            "report Function(1) NONE, report Function(5) NONE, report 57414 NONE, report 57415 NONE, report KeyPadBegin NONE, report Numpad1 NONE",
+        )],
+    ),
+    (BOTH, &[(b"\x1b[55296u\x1b[97;257u\x1b[97;1:4u", MORE, "csi 55296u, csi 97;257u, csi 97;1:4u")]),
+];
+
+pub const MOUSE_REPORTS: &[Example] = &[
+    (
+        BOTH,
+        &[(
+            b"\x1b[<0;20;10M\x1b[<0;20;10m",
+            MORE,
+            "mouse 20 10 LEFT NONE, mouse 20 10 NONE NONE",
+        )],
+    ),
+    (BOTH, &[(b"\x1b[M0\x60\x70", MORE, "mouse 64 80 LEFT CTRL")]),
+    (BOTH, &[(b"\x1b[M ", MORE, "; 4"), (b"!\xff", MORE, "mouse 1 223 LEFT NONE")]),
+    (
+        BOTH,
+        &[(b"\x1b[M", MORE, "; 3"), (b"", LAST, "key Char('[') ALT, key Char('M') NONE")],
+    ),
+    (
+        BOTH,
+        &[(
+            b"\x1b[32;30;40M\x1b[35;30;40M",
+            MORE,
+            "mouse 30 40 LEFT NONE, mouse 30 40 NONE NONE",
+        )],
+    ),
+    (
+        BOTH,
+        &[(b"\x1b[32;30;40;M\x1b[<128;20;10M", MORE, "csi 32;30;40;M, csi <128;20;10M")],
+    ),
+];
+
+pub const PASTES: &[Example] = &[
+    (
+        BOTH,
+        &[
+            (b"\x1b[200~\x1b[I\x1b]0;a", MORE, "; 14 in a paste"),
+            (
+                b"\x07\x1b[97;1:3u\x1b[201~q",
+                LAST,
+                r#"paste "\u{1b}[I\u{1b}]0;a\u{7}\u{1b}[97;1:3u", key Char('q') NONE"#,
+            ),
+        ],
+    ),
+    (
+        BOTH,
+        &[
+            (b"\x1b[200~one\x1b[201~\x1b[200~o", LAST, "paste \"one\"; 7 in a paste"),
+            (b"\x1b[2D", LAST, "; 11 in a paste"),
+            (b"\x1b[201~", LAST, r#"paste "o\u{1b}[2D""#),
+        ],
+    ),
+    (
+        BOTH,
+        &[(
+            b"\x1b]0;a\x1b[200~b\x1b[201~",
+            MORE,
+            "key Char(']') ALT, key Char('0') NONE, key Char(';') NONE, key Char('a') NONE, paste \"b\"",
+        )],
+    ),
+];
+
+// What begins a sequence and is none is read as `InputParser` reads it.
+pub const OTHERS: &[Example] = &[
+    (
+        BOTH,
+        &[
+            (b"\x1b[24;8", MORE, "; 6"),
+            (
+                b"",
+                LAST,
+                "key Char('[') ALT, key Char('2') NONE, key Char('4') NONE, key Char(';') NONE, key Char('8') NONE",
+            ),
+        ],
+    ),
+    (
+        BOTH,
+        &[(
+            b"\x1b[24\r",
+            MORE,
+            "key Char('[') ALT, key Char('2') NONE, key Char('4') NONE, key Enter NONE",
+        )],
+    ),
+    (BOTH, &[(b"\xc2\x9bI", MORE, "key Char('\\u{9b}') NONE, key Char('I') NONE")]),
+    (
+        BOTH,
+        &[(b"\x1b[[x", MORE, "key Char('[') ALT, key Char('[') NONE, key Char('x') NONE")],
+    ),
+    (BOTH, &[(b"\x1b[2$y", MORE, "key Insert SHIFT, key Char('y') NONE")]),
+];

@@ -1,0 +1,7 @@
+// The extended parser, by the crate's public calls alone.
+mod examples;
+mod lines;
+mod long;
+mod parser;
+mod streams;
+mod waiting;

@@ -1,0 +1,254 @@
+// The extended parser on worked examples.
+use crate::examples::{Example, Step, BOTH, KEYS, MOUSE_REPORTS, OTHERS, PASTES, REPLIES, STRINGS};
+use crate::lines::lines;
+use hedrugal::extended::{ExtendedEvent, ExtendedParser, KeyEventKind, KeyReport, KittyModifiers, ReportedKey, Rows};
+use hedrugal::input::{InputEvent, InputParser, KeyCode, KittyKeyboardFlags, Waiting};
+
+// What a call gave, and how many bytes wait after it.
+fn given(events: &[ExtendedEvent], parser: &ExtendedParser) -> String {
+    let mut given = lines(events);
+    if parser.waiting_len() > 0 {
+        given += &format!("; {}", parser.waiting_len());
+    }
+    if parser.is_paste_open() {
+        given += " in a paste";
+    }
+    given
+}
+
+// The events of a call, by each way to call the parser.
+pub fn parsed(call: usize, parser: &mut ExtendedParser, bytes: &[u8], more: bool) -> Vec<ExtendedEvent> {
+    let mut events = Vec::new();
+    match call {
+        0 => return parser.parse_as_vec(bytes, more),
+        1 => return parser.try_parse_as_vec(bytes, more).expect("memory is granted"),
+        2 => parser.parse(bytes, |event| events.push(event), more),
+        3 => parser
+            .try_parse(bytes, |event| events.push(event), more)
+            .expect("memory is granted"),
+        4 => {
+            parser.feed(bytes);
+            events.extend(std::iter::from_fn(|| parser.next_event(more)));
+        }
+        _ => {
+            parser.try_feed(bytes).expect("memory is granted");
+            events.extend(std::iter::from_fn(|| parser.try_next_event(more).expect("memory is granted")));
+        }
+    }
+    events
+}
+
+// How many ways there are.
+pub const CALLS: usize = 6;
+
+fn check_steps(parser: &mut ExtendedParser, steps: &[Step]) {
+    for call in 0..CALLS {
+        parser.reset();
+        for (bytes, more, wanted) in steps {
+            let events = parsed(call, parser, bytes, *more);
+            assert_eq!(
+                given(&events, parser),
+                *wanted,
+                "{:?} {}, call {call}",
+                parser.rows(),
+                bytes.escape_ascii()
+            );
+        }
+    }
+}
+
+// The events of a text in pieces and what waits then, and then of a flush.
+fn in_pieces<'a>(parser: &mut ExtendedParser, pieces: impl IntoIterator<Item = &'a [u8]>) -> [String; 2] {
+    parser.reset();
+    let mut events = Vec::new();
+    for bytes in pieces {
+        parser.parse(bytes, |event| events.push(event), true);
+    }
+    let before = given(&events, parser);
+    let flushed = parser.parse_as_vec(b"", false);
+    [before, given(&flushed, parser)]
+}
+
+// All bytes of an example, byte by byte and cut at each place, give what they give as a whole.
+fn check_pieces(parser: &mut ExtendedParser, steps: &[Step]) {
+    let text: Vec<u8> = steps.iter().flat_map(|(bytes, _, _)| bytes.iter().copied()).collect();
+    let whole = in_pieces(parser, [&text[..]]);
+    assert_eq!(in_pieces(parser, text.chunks(1)), whole, "{}", text.escape_ascii());
+    for place in 0..text.len() {
+        assert_eq!(
+            in_pieces(parser, [&text[..place], &text[place..]]),
+            whole,
+            "{}, cut at {place}",
+            text.escape_ascii()
+        );
+    }
+}
+
+fn check_all(examples: &[Example]) {
+    for rows in BOTH {
+        let mut parser = ExtendedParser::new(*rows);
+        assert_eq!(parser.rows(), *rows);
+        for (_, steps) in examples.iter().filter(|(read, _)| read.contains(rows)) {
+            check_steps(&mut parser, steps);
+            check_pieces(&mut parser, steps);
+        }
+    }
+}
+
+#[test]
+fn replies() {
+    check_all(REPLIES);
+}
+
+#[test]
+fn strings() {
+    check_all(STRINGS);
+}
+
+#[test]
+fn keys() {
+    check_all(KEYS);
+}
+
+#[test]
+fn mouse_reports() {
+    check_all(MOUSE_REPORTS);
+}
+
+#[test]
+fn pastes() {
+    check_all(PASTES);
+}
+
+#[test]
+fn others() {
+    check_all(OTHERS);
+}
+
+// A press of a key.
+fn pressed(key: KeyCode, modifiers: KittyModifiers) -> KeyReport {
+    KeyReport {
+        key: ReportedKey::Named(key),
+        modifiers,
+        kind: KeyEventKind::Press,
+        shifted: None,
+        base: None,
+        text: String::new(),
+    }
+}
+
+// A key of the port is a press, so a program needs one case for both.
+#[test]
+fn finds_keys_of_events() {
+    let mut parser = ExtendedParser::new(Rows::Port);
+    let events = parser.parse_as_vec(
+        b"a\x1b[1;8A\x1b[I\x1b[97;5:3u\x1b[200~p\x1b[201~\x1b[<0;1;1M\x1b[?1u\x1b]a\x07",
+        true,
+    );
+    let keys: Vec<Option<KeyReport>> = events.iter().map(ExtendedEvent::key).collect();
+    let held = KittyModifiers::SHIFT | KittyModifiers::ALT | KittyModifiers::CTRL;
+    let released = KeyReport {
+        kind: KeyEventKind::Release,
+        ..pressed(KeyCode::Char('a'), KittyModifiers::CTRL)
+    };
+    let plain = pressed(KeyCode::Char('a'), KittyModifiers::NONE);
+    let up = pressed(KeyCode::UpArrow, held);
+    assert_eq!(keys, [Some(plain), Some(up), None, Some(released), None, None, None, None]);
+}
+
+// Each row is read as `InputParser` reads it, or under `Rows::Kitty` as a report. The start of a paste alone has no event.
+#[test]
+fn reads_each_row() {
+    let mut plain = InputParser::new();
+    let (mut port, mut kitty) = (ExtendedParser::new(Rows::Port), ExtendedParser::new(Rows::Kitty));
+    let mut reported = 0;
+    for place in 0.. {
+        let Some((row, key)) = plain.row(place) else { break };
+        let wanted: Vec<ExtendedEvent> = plain.parse_as_vec(&row, false).into_iter().map(ExtendedEvent::Input).collect();
+        assert_eq!(port.parse_as_vec(&row, false), wanted, "{row:?}");
+        let events = kitty.parse_as_vec(&row, false);
+        match &events[..] {
+            [ExtendedEvent::Key(_) | ExtendedEvent::CursorPosition { .. }] => reported += 1,
+            events => assert_eq!(events, wanted, "{row:?}"),
+        }
+        assert_eq!(wanted.is_empty(), key.key == KeyCode::InternalPasteStart);
+        let left = plain.reset();
+        assert_eq!((port.reset(), kitty.reset()), (left, left));
+    }
+    assert!(reported > 100, "{reported}");
+}
+
+// The flags of a reply are those that a program pushes.
+#[test]
+fn tells_keyboard_flags() {
+    let events = ExtendedParser::new(Rows::Kitty).parse_as_vec(b"\x1b[?5u", true);
+    let [ExtendedEvent::KeyboardFlags(bits)] = events[..] else {
+        panic!("{events:?}")
+    };
+    let flags = KittyKeyboardFlags::DISAMBIGUATE_ESCAPE_CODES | KittyKeyboardFlags::REPORT_ALTERNATE_KEYS;
+    assert_eq!(KittyKeyboardFlags::from_bits(bits.into()), Some(flags));
+}
+
+#[test]
+fn writes_and_reads_modifiers() {
+    let held = KittyModifiers::CTRL | KittyModifiers::NUM_LOCK;
+    assert_eq!((held.bits(), held.to_string()), (132, "CTRL|NUM_LOCK".to_string()));
+    assert_eq!("CTRL|NUM_LOCK".parse(), Ok(held));
+    assert_eq!(KittyModifiers::from_bits(255), Some(KittyModifiers::all()));
+}
+
+// A callback that panics loses no later event.
+#[test]
+fn goes_on_after_a_panic() {
+    let mut parser = ExtendedParser::new(Rows::Port);
+    let caught = std::panic::catch_unwind(std::panic::AssertUnwindSafe(|| {
+        parser.parse(b"\x1b[I\x1b]a\x07", |_| std::panic::resume_unwind(Box::new(())), true);
+    }));
+    assert!(caught.is_err());
+    assert_eq!(parser.parse_as_vec(b"", true), [ExtendedEvent::Osc(b"a".to_vec())]);
+}
+
+// What stays buffered is read by two threads at once, and the parser then goes on in a third.
+#[test]
+fn shares_a_parser_between_threads() {
+    let mut parser = ExtendedParser::new(Rows::Kitty);
+    parser.parse(b"\x1b]0;title", |_| {}, true);
+    std::thread::scope(|scope| {
+        for _ in 0..2 {
+            scope.spawn(|| {
+                for _ in 0..1000 {
+                    assert_eq!((parser.waiting(), parser.waiting_len()), (Waiting::Sequence, 9));
+                    assert!(!parser.is_paste_open());
+                }
+            });
+        }
+    });
+    let events = std::thread::spawn(move || parser.parse_as_vec(b"\x07", true)).join();
+    assert_eq!(events.ok(), Some(vec![ExtendedEvent::Osc(b"0;title".to_vec())]));
+}
+
+#[test]
+fn has_the_traits() {
+    fn is_shared<T: Send + Sync + std::panic::UnwindSafe + std::panic::RefUnwindSafe>() {}
+    is_shared::<ExtendedParser>();
+    is_shared::<ExtendedEvent>();
+    is_shared::<KittyModifiers>();
+}
+
+#[test]
+fn shows_a_parser() {
+    let mut parser = ExtendedParser::new(Rows::Port);
+    parser.parse(b"\x1b[", |_| (), true);
+    assert_eq!(format!("{parser:?}"), "ExtendedParser { rows: Port, waiting_len: 2, .. }");
+}
+
+// Two parsers at once, of either kind, have nothing in common.
+#[test]
+fn parts_parsers() {
+    let (mut plain, mut extended) = (InputParser::new(), ExtendedParser::new(Rows::Port));
+    assert_eq!(plain.parse_as_vec(b"\x1b[200~a", true), []);
+    assert_eq!(extended.parse_as_vec(b"\x1b[200~b", true), []);
+    let [a, b] = ["a", "b"].map(|text| InputEvent::Paste(text.to_string()));
+    assert_eq!(plain.parse_as_vec(b"\x1b[201~", true), [a]);
+    assert_eq!(extended.parse_as_vec(b"\x1b[201~", true), [ExtendedEvent::Input(b)]);
+}
