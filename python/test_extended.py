@@ -147,10 +147,11 @@ ROW_CASES = [
     (b"\x1b[97;5u", [KeyEvent("a", Modifiers.CTRL)], [KeyReport("a", CTRL)]),
     (b"\x1b[27u", [KeyEvent("\x1b")], [KeyReport(KeyCode.Escape)]),
     (b"\x1b[1;9A", [KeyEvent(KeyCode.UpArrow, Modifiers.ALT)], [KeyReport(KeyCode.UpArrow, Held.SUPER)]),
-    (b"\x1b[A\x1b[3;2~", [KeyEvent(KeyCode.UpArrow), KeyEvent(KeyCode.Delete, Modifiers.SHIFT)], [KeyReport(KeyCode.UpArrow), KeyReport(KeyCode.Delete, SHIFT)]),
+    (b"\x1b[A", [KeyEvent(KeyCode.UpArrow)], [KeyReport(KeyCode.UpArrow)]),
+    (b"\x1b[3;2~", [KeyEvent(KeyCode.Delete, Modifiers.SHIFT)], [KeyReport(KeyCode.Delete, SHIFT)]),
     (b"\x1b[1;5R", [KeyEvent(Function(3), Modifiers.CTRL)], [CursorPosition(1, 5)]),
     (b"\x1b\x1b[97;5u", [KeyEvent("a", Modifiers.ALT | Modifiers.CTRL)], [KeyEvent(KeyCode.Escape), KeyReport("a", CTRL)]),
-    (b"\x1bOP\x1bOA", [KeyEvent(Function(1)), KeyEvent(KeyCode.ApplicationUpArrow)], [KeyEvent(Function(1)), KeyEvent(KeyCode.ApplicationUpArrow)]),
+    (b"\x1bOP", [KeyEvent(Function(1))], [KeyEvent(Function(1))]),
 ]
 
 # What stays buffered beside what an InputParser buffers, its kind, and the text that it is at a flush.
@@ -377,24 +378,23 @@ class LongInput(WithParsers):
 
     def test_many_different_reports(self):
         for parser in self.parsers.values():
-            for code in range(0xA0, 0xD800):
-                data = b"\x1b[%d:%d;2:3;%du" % (code, code + 1, code)
-                if code % 11 == 0:
-                    self.assertEqual(parser.parse(data), [KeyReport(chr(code), SHIFT, RELEASE, chr(code + 1), None, chr(code))] if code + 1 < 0xD800 else [Csi(data[2:])])
+            for code in range(0xA0, 0xD7FF, 5):
+                event = KeyReport(chr(code), SHIFT, RELEASE, shifted=chr(code + 1), text=chr(code))
+                self.assertEqual(parser.parse(b"\x1b[%d:%d;2:3;%du" % (code, code + 1, code)), [event])
 
 
 class Rests(WithParsers):
     """What stays buffered, and what becomes of it."""
 
     def each_rest(self):
-        """Each text after no ESC and after one, as a rest of each parser, with the events of a flush."""
+        """Each text as a rest of each parser, alone and after an ESC, with what is typed by a flush."""
         for parser in self.parsers.values():
             for rest, text in RESTS:
-                for before, alone in ((b"", []), (b"\x1b", [])):
+                for rest in (rest, b"\x1b" + rest):
                     self.assert_rest(parser, 0, Waiting.Nothing)
-                    self.assertEqual(parser.parse(before + rest), [], rest)
-                    self.assert_rest(parser, len(before + rest), Waiting.Sequence)
-                    yield parser, before + rest, text
+                    self.assertEqual(parser.parse(rest), [], rest)
+                    self.assert_rest(parser, len(rest), Waiting.Sequence)
+                    yield parser, rest, text
 
     def test_reset(self):
         for parser, rest, _ in self.each_rest():
@@ -402,14 +402,13 @@ class Rests(WithParsers):
             self.assertEqual(parser.parse(b"q"), [KeyEvent("q")])
 
     def test_flush(self):
-        """A beginning that is flushed is typed text: its ESC is ALT for the next character, after the Escape key if there are two."""
-        for parser, rest, text in self.each_rest():
-            first, *others = text
-            held = KeyEvent(first, Modifiers.ALT)
-            wanted = [held, *typed("".join(others))]
-            if rest.startswith(b"\x1b\x1b"):
-                wanted.insert(0, KeyEvent(KeyCode.Escape))
-            self.assertEqual(parser.flush(), wanted, rest)
+        """A beginning that is flushed is typed text, as an InputParser reads it: its ESC is ALT for the next character."""
+        with InputParser() as usual:
+            for parser, rest, text in self.each_rest():
+                wanted = usual.parse(rest, False)
+                if not rest.startswith(b"\x1b\x1b"):
+                    self.assertEqual(wanted, [KeyEvent(text[0], Modifiers.ALT), *typed(text[1:])])
+                self.assertEqual(parser.flush(), wanted, rest)
 
     def test_other_calls(self):
         """Neither a short pause nor the end of a paste takes it."""
@@ -432,7 +431,7 @@ class Rests(WithParsers):
     def test_end_paste(self):
         for parser in self.parsers.values():
             self.assertEqual(parser.parse(b"\x1b[I\x1b[200~ab\x1b]0;\x1b[20"), [FocusGained()])
-            self.assert_rest(parser, 17, Waiting.Paste)
+            self.assert_rest(parser, 16, Waiting.Paste)
             self.assertEqual(parser.end_paste(), Paste("ab\x1b]0;\x1b[20"))
             self.assert_rest(parser, 0, Waiting.Nothing)
             self.assertEqual(parser.parse(b"\x1b[O"), [FocusLost()])
@@ -510,6 +509,7 @@ class Listing(unittest.TestCase):
         self.assertEqual(run_python(text, {"HEDRUGAL_LIBRARY": LIBRARY}), (0, wanted, ""))
 
 
+ASK = os.path.join(HERE, "examples", "ask.py")
 QUESTIONS = b"\x1b[?6n\x1b]11;?\x1b\\\x1b[?u\x1b[c"
 ANSWERS = b"\x1b[?24;80R\x1b]11;rgb:1e1e/1e1e/2e2e\x1b\\\x1b[?5u\x1b[?62;22c"
 LINES = [
@@ -527,7 +527,7 @@ class Ask(unittest.TestCase):
 
     def setUp(self):
         words = [shutil.which("env"), f"PYTHONPATH={HERE}", f"HEDRUGAL_LIBRARY={LIBRARY}", sys.executable, "-B", "-W", "error"]
-        self.terminal = Terminal([*words, os.path.join(HERE, "examples", "ask.py")])
+        self.terminal = Terminal([*words, ASK])
         self.addCleanup(self.terminal.close)
         self.terminal.wait_for(lambda: self.terminal.output == QUESTIONS, "question")
         self.assertTrue(self.terminal.is_raw())
@@ -580,7 +580,7 @@ class Ask(unittest.TestCase):
 class AskWithoutATerminal(unittest.TestCase):
     def test_it(self):
         """Without a terminal nothing is asked."""
-        text = f"import os, runpy\nos.setsid() if os.getpid() != os.getpgrp() else None\nrunpy.run_path({os.path.join(HERE, 'examples', 'ask.py')!r}, run_name='__main__')"
+        text = f"import os, runpy\nos.setsid()\nrunpy.run_path({ASK!r}, run_name='__main__')"
         status, printed, errors = run_python(text, {"HEDRUGAL_LIBRARY": LIBRARY})
         self.assertEqual((status, printed), (1, ""))
         self.assertIn("/dev/tty", errors)
