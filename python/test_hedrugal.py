@@ -1,4 +1,5 @@
-"""Tests of the package hedrugal, over the library that HEDRUGAL_LIBRARY names. tools/python_test.sh runs these and those of test_keymap.py."""
+"""Tests of the package hedrugal, over the library that HEDRUGAL_LIBRARY names. tools/python_test.sh runs these, those of test_keymap.py and
+those of test_extended.py, which makes many of these with the extended parser too."""
 import copy
 import ctypes
 import doctest
@@ -24,6 +25,7 @@ import hedrugal  # noqa: E402
 from hedrugal import (  # noqa: E402
     Completions,
     EncodeError,
+    ExtendedParser,
     Function,
     InputParser,
     KeyboardEncoding,
@@ -91,20 +93,10 @@ def numbers():
     return re.findall(r"^([a-z]+) (\w+) (\d+) (.*)$", read("c/numbers.txt"), flags=re.M)
 
 
-class Numbers(unittest.TestCase):
-    """The numbers and layouts are those of C."""
-
-    def test_enums(self):
-        """Each enum has the lines of its group, with their meanings, and no others."""
-        enums = {
-            "modifier": Modifiers,
-            "button": MouseButtons,
-            "kitty": KittyKeyboardFlags,
-            "encoding": KeyboardEncoding,
-            "waiting": Waiting,
-            "key": KeyCode,
-        }
-        source, seen = read("python/hedrugal/__init__.py"), 0
+class WithNumbers(unittest.TestCase):
+    def check_enums(self, file, enums):
+        """Each enum has the lines of its group, with their meanings, and no others. Returns how many there are."""
+        source, seen = read(file), 0
         for group, enum in enums.items():
             body = re.search(rf"^class {enum.__name__}\(.*?\n\n\n", source, flags=re.M | re.S).group()
             wanted = []
@@ -117,17 +109,36 @@ class Numbers(unittest.TestCase):
                 self.assertEqual(enum[name].value, int(number))
                 seen += 1
             self.assertEqual(re.findall(r"^    \w+ = .*$", body, flags=re.M), wanted)
-        self.assertGreater(seen, 110)
+        return seen
 
-    def test_other_numbers(self):
-        groups = {"kind": "_KIND_", "next": "_NEXT_", "encoded": "_ENCODED_", "key": "_KEY_", "found": "_FOUND_"}
+    def check_other_numbers(self, module, groups):
+        """The module's names that begin as its groups say have the numbers of these groups. Returns how many there are."""
         seen = 0
         for group, name, number, _ in numbers():
-            found = getattr(hedrugal, groups.get(group, "_NONE_") + name.upper(), None)
+            found = getattr(module, groups.get(group, "_NONE_") + name.upper(), None)
             if found is not None:
                 self.assertEqual(found, int(number), name)
                 seen += 1
-        self.assertEqual(seen, 18)
+        return seen
+
+
+class Numbers(WithNumbers):
+    """The numbers and layouts are those of C."""
+
+    def test_enums(self):
+        enums = {
+            "modifier": Modifiers,
+            "button": MouseButtons,
+            "kitty": KittyKeyboardFlags,
+            "encoding": KeyboardEncoding,
+            "waiting": Waiting,
+            "key": KeyCode,
+        }
+        self.assertGreater(self.check_enums("python/hedrugal/__init__.py", enums), 110)
+
+    def test_other_numbers(self):
+        groups = {"kind": "_KIND_", "next": "_NEXT_", "encoded": "_ENCODED_", "key": "_KEY_", "found": "_FOUND_"}
+        self.assertEqual(self.check_other_numbers(hedrugal, groups), 18)
 
     def test_key_names(self):
         names = {int(number): name for group, name, number, _ in numbers() if group == "key"}
@@ -155,15 +166,18 @@ class Numbers(unittest.TestCase):
         header = re.sub(r"/\*.*?\*/", "", read("c/termwiz_input.h"), flags=re.S)
         calls = re.findall(r"^[a-z].*?[ *](tw_\w+)\(([^;]*)\);", header, flags=re.M)
         counts = {name: 0 if taken == "void" else taken.count(",") + 1 for name, taken in calls}
-        self.assertEqual(counts, {name: len(taken) for name, (_, taken) in hedrugal._CALLS.items()})
+        declared = {**hedrugal._CALLS, **hedrugal.extended._CALLS}
+        self.assertEqual(counts, {name: len(taken) for name, (_, taken) in declared.items()})
 
     def test_version(self):
         self.assertIn(f'#define TW_VERSION "{hedrugal.__version__}"\n', read("c/termwiz_input.h"))
 
 
 class WithParser(unittest.TestCase):
+    make = InputParser
+
     def setUp(self):
-        self.parser = InputParser()
+        self.parser = self.make()
         self.addCleanup(self.parser.close)
 
     def assert_rest(self, length, kind):
@@ -201,7 +215,7 @@ class Events(WithParser):
         self.assertEqual(self.parser.parse(b"\x1b[200~\x1b[201~"), [Paste("")])
         # The library keeps no text that was copied.
         self.assertEqual(self.parser.parse(b"\x1b[200~a\x1b[201~"), [Paste("a")])
-        self.assertEqual(hedrugal._library.tw_parser_paste(self.parser._raw, b"", 0), 0)
+        self.assertEqual(self.parser._calls.text(self.parser._raw, b"", 0), 0)
 
     def test_pastes_in_a_row(self):
         texts = ["", "a", "bc" * 1000, "\n", "d"]
@@ -224,9 +238,9 @@ class Events(WithParser):
         self.assertEqual(repr(events), wanted)
         self.assertEqual(f"{Waiting.Escape!r} {Modifiers.ALT} {Modifiers(0)}", "Waiting.Escape Modifiers.ALT Modifiers.NONE")
         self.parser.feed(b"\x1b")
-        self.assertEqual(repr(self.parser), "<InputParser, 1 bytes are buffered>")
+        self.assertEqual(repr(self.parser), f"<{self.make.__name__}, 1 bytes are buffered>")
         self.parser.close()
-        self.assertEqual(repr(self.parser), "<InputParser, closed>")
+        self.assertEqual(repr(self.parser), f"<{self.make.__name__}, closed>")
 
     def test_one_by_one(self):
         self.parser.feed(b"ab\x1b[")
@@ -376,7 +390,12 @@ class Rests(WithParser):
         self.assert_rest(0, Waiting.Nothing)
 
 
-# Each call of a parser, but close.
+# Each call of a parser, but close. The calls on rows are those of an InputParser alone.
+ROW_USES = [
+    lambda parser: parser.row(0),
+    lambda parser: next(parser.rows()),
+    lambda parser: parser.completions(),
+]
 USES = [
     lambda parser: parser.feed(b"q"),
     lambda parser: parser.feed(b""),
@@ -392,9 +411,6 @@ USES = [
     lambda parser: parser.waiting,
     lambda parser: parser.waiting_len,
     lambda parser: parser.is_paste_open,
-    lambda parser: parser.row(0),
-    lambda parser: next(parser.rows()),
-    lambda parser: parser.completions(),
     lambda parser: parser.__enter__(),
 ]
 
@@ -477,15 +493,17 @@ class Rows(WithParser):
 
 
 class Lives(unittest.TestCase):
+    make, uses = InputParser, [*USES, *ROW_USES]
+
     def test_use_after_close(self):
-        parser = InputParser()
+        parser = self.make()
         self.assertEqual(parser.parse(b"q\x1b[200~ab"), [KeyEvent("q")])
         events = iter(parser)
         self.assertFalse(parser.closed)
         for _ in range(2):
             parser.close()
             self.assertTrue(parser.closed)
-            for use in USES:
+            for use in self.uses:
                 with self.assertRaisesRegex(ValueError, "^the parser is closed$"):
                     use(parser)
         with self.assertRaises(ValueError):
@@ -493,13 +511,13 @@ class Lives(unittest.TestCase):
 
     def test_with(self):
         with self.assertRaises(KeyError):
-            with InputParser() as parser:
+            with self.make() as parser:
                 self.assertEqual(parser.parse(b"q"), [KeyEvent("q")])
                 raise KeyError
         self.assertTrue(parser.closed)
 
     def test_end_of_life(self):
-        parser = InputParser()
+        parser = self.make()
         raw, seen = parser._raw, weakref.ref(parser)
         del parser
         gc.collect()
@@ -507,7 +525,7 @@ class Lives(unittest.TestCase):
         self.assertFalse(raw.live)
 
     def test_parsers_are_apart(self):
-        one, other = InputParser(), InputParser()
+        one, other = self.make(), self.make()
         one.feed(b"\x1b[200~a")
         self.assertEqual(other.parse(b"q"), [KeyEvent("q")])
         other.close()
@@ -515,7 +533,7 @@ class Lives(unittest.TestCase):
         one.close()
 
     def test_no_copies(self):
-        with InputParser() as parser:
+        with self.make() as parser:
             for make in (copy.copy, copy.deepcopy, pickle.dumps):
                 with self.assertRaisesRegex(TypeError, "can't be copied"):
                     make(parser)
@@ -939,7 +957,10 @@ print("good")
 class Refusals(unittest.TestCase):
     """Memory is refused by a limit on the process."""
 
+    make = InputParser
+
     def run_limited(self, text):
+        text = text.replace("InputParser", self.make.__name__)
         status, printed, errors = run_python(text, {"HEDRUGAL_LIBRARY": LIBRARY, "MALLOC_ARENA_MAX": "1"})
         self.assertEqual((status, printed, errors), (0, "good\n", ""))
 
@@ -1091,8 +1112,10 @@ print("good")
 
 
 class Threads(unittest.TestCase):
+    make = InputParser
+
     def run_threads(self, text, stream):
-        text = text.replace("sys.argv[1]", repr(stream.decode("latin-1")))
+        text = text.replace("sys.argv[1]", repr(stream.decode("latin-1"))).replace("InputParser", self.make.__name__)
         self.assertEqual(run_python(text, {"HEDRUGAL_LIBRARY": LIBRARY}), (0, "good\n", ""))
 
     def test_two_parsers(self):
@@ -1105,19 +1128,20 @@ class Threads(unittest.TestCase):
 
 
 def listings():
-    """The two listings in Python of docs/python.md, each with what it prints: an event loop and a key map."""
+    """The listings in Python of docs/python.md, each with what it prints: an event loop, a key map and the extended parser."""
     return re.findall(r"^```python\n(.*?)^```\n.*?<!-- prints -->\n```\n(.*?)^```", read("docs/python.md"), flags=re.M | re.S)
 
 
 class Documents(unittest.TestCase):
     def test_docstrings(self):
-        failed, tried = doctest.testmod(hedrugal)
-        self.assertEqual((failed, tried > 0), (0, True))
+        for module in (hedrugal, hedrugal.extended):
+            failed, tried = doctest.testmod(module)
+            self.assertEqual((failed, tried > 0), (0, True))
 
     def test_every_call_says_what_it_does(self):
-        for it in (hedrugal, InputParser, KeyMap):
+        for it in (hedrugal, InputParser, KeyMap, ExtendedParser):
             names = hedrugal.__all__ if it is hedrugal else [name for name in dir(it) if name[0] != "_"]
-            for name in {*names} - {"Event", "Found", "Key"}:
+            for name in {*names} - {"Event", "ExtendedEvent", "Found", "Key", "ReportedKey"}:
                 said = getattr(it, name).__doc__
                 self.assertTrue(said and said[0].isupper(), name)
 
@@ -1130,12 +1154,12 @@ class Documents(unittest.TestCase):
                 seen += os.read(terminal, 4096)
 
     def test_types(self):
-        """The package passes mypy --strict, and so does a program that tells answers apart."""
+        """The package passes mypy --strict, and so do the example and a program that tells answers apart."""
         if not shutil.which("mypy"):
             self.skipTest("no mypy")
         text = "from hedrugal import *\nwith KeyMap[str]() as keys:\n    found: Found[str] = keys.lookup(b'q')\n"
         text += "    if isinstance(found, (Exact, Ambiguous)):\n        length: int = found.len\n        value: str = found.value\n"
-        for words in (["python/hedrugal"], ["-c", text]):
+        for words in (["python/hedrugal"], ["python/examples/ask.py"], ["-c", text]):
             words = ["mypy", "--strict", "--cache-dir=/dev/null", *words]
             env = {**os.environ, "MYPYPATH": HERE}
             done = subprocess.run(words, env=env, cwd=TOP, capture_output=True, timeout=SECONDS, check=False)

@@ -27,36 +27,53 @@ import struct
 import sys
 import weakref
 from dataclasses import dataclass
-from typing import Any, Generic, Iterator, List, NoReturn, Optional, Tuple, TypeVar, Union, cast
+from typing import Any, ClassVar, Dict, FrozenSet, Generic, Iterator, List, NamedTuple, NoReturn, Optional, Tuple, TypeVar, Union, cast
 
 __version__ = "0.1.0"
 
 __all__ = [
     "Ambiguous",
+    "Apc",
     "Completions",
+    "Csi",
+    "CursorPosition",
+    "Dcs",
     "EncodeError",
     "Event",
     "Exact",
+    "ExtendedEvent",
+    "ExtendedParser",
+    "FocusGained",
+    "FocusLost",
     "Found",
     "Function",
+    "Held",
     "InputParser",
     "Key",
+    "KeyAction",
     "KeyCode",
     "KeyCodeEncodeModes",
     "KeyEvent",
     "KeyMap",
+    "KeyReport",
     "KeyboardEncoding",
+    "KeyboardFlags",
     "KittyKeyboardFlags",
     "Modifiers",
     "MouseButtons",
     "MouseEvent",
     "NeedData",
     "Nothing",
+    "Osc",
     "ParseError",
     "Paste",
+    "ReportedKey",
+    "Resize",
     "Row",
+    "Rows",
     "Waiting",
     "encode",
+    "key_report",
 ]
 
 
@@ -422,7 +439,7 @@ _MAP = ctypes.POINTER(_RawKeyMap)
 _BYTES = ctypes.c_void_p
 
 # The calls of termwiz_input.h: the type of the result, and those of the arguments.
-_CALLS = {
+_CALLS: Dict[str, Tuple[Any, List[Any]]] = {
     "tw_parser_init": (ctypes.c_bool, [_PARSER]),
     "tw_parser_free": (None, [_PARSER]),
     "tw_parser_feed": (ctypes.c_bool, [_PARSER, _BYTES, ctypes.c_size_t]),
@@ -483,11 +500,9 @@ def _load() -> ctypes.PyDLL:
     try:
         # A PyDLL keeps Python's lock while a call runs, so no two threads are in a call at once.
         library = ctypes.PyDLL(file)
-        for name, (returned, taken) in _CALLS.items():
-            call = getattr(library, name)
-            call.restype, call.argtypes = returned, taken
-    except (OSError, AttributeError) as error:
+    except OSError as error:
         raise _not_loaded(str(error)) from None
+    _declare(library, _CALLS)
     number = library.tw_version()
     version = f"{number >> 16}.{number >> 8 & 255}.{number & 255}"
     if version != __version__:
@@ -495,12 +510,22 @@ def _load() -> ctypes.PyDLL:
     return library
 
 
+def _declare(library: ctypes.PyDLL, calls: Dict[str, Tuple[Any, List[Any]]]) -> None:
+    """Declares calls of the library: the type of the result, and those of the arguments."""
+    try:
+        for name, (returned, taken) in calls.items():
+            call = getattr(library, name)
+            call.restype, call.argtypes = returned, taken
+    except AttributeError as error:
+        raise _not_loaded(str(error)) from None
+
+
 def _not_loaded(why: str) -> ImportError:
     return ImportError(f"hedrugal: {why}\nHEDRUGAL_LIBRARY has to name a libtermwiz_c.so of this version.")
 
 
-_library = _load()
-_feed, _next, _lookup = _library.tw_parser_feed, _library.tw_parser_next, _library.tw_keymap_lookup
+_library: ctypes.PyDLL = _load()
+_lookup = _library.tw_keymap_lookup
 # tw_parser_next again, for `_skip`: a call whose arguments have no types takes a third of the time.
 _next_untyped = _library["tw_parser_next"]
 _next_untyped.restype = ctypes.c_uint32
@@ -586,53 +611,63 @@ _key_codes = {code.value: code for code in KeyCode}
 _waitings = {kind.value: kind for kind in Waiting}
 
 
+def _key(number: int, detail: int) -> Key:
+    if number == _KEY_CHAR:
+        return chr(detail)
+    if number == _KEY_FUNCTION:
+        return Function(detail)
+    return _key_codes.get(number) or _fault()
+
+
 @functools.lru_cache(maxsize=4096)
 def _key_event(number: int, detail: int, modifiers: int) -> KeyEvent:
-    key: Key
-    if number == _KEY_CHAR:
-        key = chr(detail)
-    elif number == _KEY_FUNCTION:
-        key = Function(detail)
-    elif number in _key_codes:
-        key = _key_codes[number]
-    else:
-        _fault()
-    return KeyEvent(key, _modifiers(modifiers))
+    return KeyEvent(_key(number, detail), _modifiers(modifiers))
 
 
-class InputParser(_Closable):
-    """Reads events from the bytes that a terminal sends, however they are cut into calls.
+class _ParserCalls(NamedTuple):
+    """The library's calls for one of its parsers."""
 
-    Bytes that are no event yet stay buffered. So does a lone ESC, since it may begin a sequence. Only a pause tells that it is the Escape
-    key: see `waiting`.
+    feed: Any
+    next: Any
+    text: Any
+    drop_text: Any
+    waiting: Any
+    waiting_kind: Any
+    flush_escape: Any
+    is_paste_open: Any
+    end_paste: Any
+    reset: Any
 
-    A parser owns memory outside of Python. `close` frees it; so do the end of a `with` block and the end of the parser's life. Every other
-    call raises ValueError once the parser is closed. One thread at a time uses a parser. It can't be copied or pickled.
 
-    Making a parser raises MemoryError if memory is refused. So do the calls that say it. No event is then lost, and the parser may be used
-    again."""
+_AnyEvent = TypeVar("_AnyEvent")
 
-    def __init__(self) -> None:
-        super().__init__("parser", _RawParser(), _library.tw_parser_init, _library.tw_parser_free)
+
+class _EventParser(_Closable, Generic[_AnyEvent]):
+    """What both parsers have in common. Each names the library's calls, and the kinds of events whose text the library keeps."""
+
+    _calls: ClassVar[_ParserCalls]
+    _kinds_with_text: ClassVar[FrozenSet[int]]
+
+    def __init__(self, raw: Any, front: Any, init: Any, free: Any) -> None:
+        super().__init__("parser", raw, init, free)
         # The event that the library wrote last, and whether the caller has yet to get it: it stays until memory for it is granted.
-        self._front = _RawEvent()
-        self._has_front = False
+        self._front, self._has_front = front, False
         # Events that `parse` found before it was refused memory. They come before that at the front.
-        self._kept: List[Event] = []
+        self._kept: List[_AnyEvent] = []
 
     def __repr__(self) -> str:
-        return f"<InputParser, {'closed' if self.closed else f'{self.waiting_len} bytes are buffered'}>"
+        return f"<{type(self).__name__}, {'closed' if self.closed else f'{self.waiting_len} bytes are buffered'}>"
 
     def feed(self, data: Bytes) -> None:
         """Appends bytes to the buffer. `next_event`, or a loop over the parser, then returns the events.
 
         Raises MemoryError if memory is refused. Then none of the bytes is buffered, and the call may be made again."""
         pointer, length = _borrowed(data)
-        if not _feed(self._raw, pointer, length):
+        if not self._calls.feed(self._raw, pointer, length):
             self._check_open()
             raise _refused()
 
-    def next_event(self, maybe_more: bool = True) -> Optional[Event]:
+    def next_event(self, maybe_more: bool = True) -> Optional[_AnyEvent]:
         """Returns the event at the front of the buffer, and consumes its bytes. Returns None if there is no event.
 
         While more bytes may come, pass maybe_more as True. Bytes that may still become a longer sequence or a character then stay buffered.
@@ -651,7 +686,7 @@ class InputParser(_Closable):
         self._leave_front()
         return event
 
-    def __iter__(self) -> Iterator[Event]:
+    def __iter__(self) -> Iterator[_AnyEvent]:
         """Returns the events one by one, as `next_event(True)` does, until there is none."""
         while True:
             event = self.next_event()
@@ -659,13 +694,13 @@ class InputParser(_Closable):
                 return
             yield event
 
-    def parse(self, data: Bytes, maybe_more: bool = True) -> List[Event]:
+    def parse(self, data: Bytes, maybe_more: bool = True) -> List[_AnyEvent]:
         """Appends bytes to the buffer, and returns the events in order. Bytes that are no event yet stay buffered, as `next_event` says.
 
         Raises ParseError, which is a MemoryError, if memory is refused. It says whether the bytes are buffered."""
         try:
             self.feed(data)
-            kept: List[Event] = []
+            kept: List[_AnyEvent] = []
         except MemoryError:
             raise ParseError(taken=False) from None
         events = self._kept
@@ -678,7 +713,7 @@ class InputParser(_Closable):
         self._kept = kept
         return events
 
-    def flush(self) -> List[Event]:
+    def flush(self) -> List[_AnyEvent]:
         """Returns the events of all that is buffered but an open paste, as at the end of the input: `parse(b"", False)`.
 
         After a pause call `flush_escape` instead, since half a sequence or a character may be buffered."""
@@ -693,7 +728,7 @@ class InputParser(_Closable):
         # What was refused memory comes before what is buffered.
         if self._kept or self._has_front:
             return None
-        if not _is_event(_library.tw_parser_flush_escape(self._raw, self._front)):
+        if not _is_event(self._calls.flush_escape(self._raw, self._front)):
             return None
         self._has_front = True
         return cast(KeyEvent, self.next_event())
@@ -705,13 +740,13 @@ class InputParser(_Closable):
         It says what a pause means. After some 50 ms with Waiting.Escape call `flush_escape`. Waiting.Sequence may be half of a sequence on
         a slow line: call `flush` after a much longer pause, say 1000 ms, or never. Never flush the others."""
         self._check_open()
-        return _waitings.get(_library.tw_parser_waiting_kind(self._raw)) or _fault()
+        return _waitings.get(self._calls.waiting_kind(self._raw)) or _fault()
 
     @property
     def waiting_len(self) -> int:
         """The number of bytes that are buffered."""
         self._check_open()
-        return cast(int, _library.tw_parser_waiting(self._raw))
+        return cast(int, self._calls.waiting(self._raw))
 
     @property
     def is_paste_open(self) -> bool:
@@ -720,7 +755,7 @@ class InputParser(_Closable):
         Such a paste is buffered without limit until its end arrives. A caller with a limit, say 1 MB, calls `end_paste` once `waiting_len`
         is above it."""
         self._check_open()
-        return cast(bool, _library.tw_parser_is_paste_open(self._raw))
+        return cast(bool, self._calls.is_paste_open(self._raw))
 
     def end_paste(self) -> Optional[Paste]:
         """Ends an open paste where it is. Returns its text so far, and consumes all that is buffered. Returns None if no paste is open.
@@ -733,7 +768,7 @@ class InputParser(_Closable):
         if self._kept:
             return None
         if not self._has_front:
-            self._has_front = _is_event(_library.tw_parser_end_paste(self._raw, self._front))
+            self._has_front = _is_event(self._calls.end_paste(self._raw, self._front))
         # A paste that was refused memory before is at the front, where another call left it.
         if not self._has_front or self._front.kind != _KIND_PASTE:
             return None
@@ -746,8 +781,70 @@ class InputParser(_Closable):
         self._check_open()
         self._kept.clear()
         self._has_front = False
-        _library.tw_parser_drop_paste(self._raw)
-        return cast(int, _library.tw_parser_reset(self._raw))
+        self._calls.drop_text(self._raw)
+        return cast(int, self._calls.reset(self._raw))
+
+    def _find_front(self, maybe_more: bool) -> bool:
+        """Whether there is an event at the front. It stays there until `_leave_front`."""
+        if not self._has_front:
+            self._has_front = _is_event(self._calls.next(self._raw, maybe_more, self._front))
+        return self._has_front
+
+    def _front_event(self) -> _AnyEvent:
+        raise NotImplementedError
+
+    def _leave_front(self) -> None:
+        self._has_front = False
+        if self._front.kind in self._kinds_with_text:
+            self._calls.drop_text(self._raw)
+
+    def _input_event(self, kind: int, buttons: int, modifiers: int, key: int, x: int, y: int, detail: int, paste_len: int) -> Event:
+        """The event at the front, if it is one of an InputParser."""
+        if kind == _KIND_KEY:
+            return _key_event(key, detail, modifiers)
+        if kind == _KIND_MOUSE:
+            return MouseEvent(x, y, _buttons(buttons), _modifiers(modifiers))
+        if kind == _KIND_PASTE:
+            return Paste(self._text(paste_len).decode("utf-8"))
+        _fault()
+
+    def _text(self, length: int) -> bytearray:
+        """The text of the event at the front, which the library keeps until `_leave_front`."""
+        room = bytearray(length)
+        pointer, _ = _borrowed(room)
+        if self._calls.text(self._raw, pointer, length) != length:
+            _fault()
+        return room
+
+
+class InputParser(_EventParser[Event]):
+    """Reads events from the bytes that a terminal sends, however they are cut into calls.
+
+    Bytes that are no event yet stay buffered. So does a lone ESC, since it may begin a sequence. Only a pause tells that it is the Escape
+    key: see `waiting`.
+
+    A parser owns memory outside of Python. `close` frees it; so do the end of a `with` block and the end of the parser's life. Every other
+    call raises ValueError once the parser is closed. One thread at a time uses a parser. It can't be copied or pickled.
+
+    Making a parser raises MemoryError if memory is refused. So do the calls that say it. No event is then lost, and the parser may be used
+    again."""
+
+    _calls = _ParserCalls(
+        feed=_library.tw_parser_feed,
+        next=_library.tw_parser_next,
+        text=_library.tw_parser_paste,
+        drop_text=_library.tw_parser_drop_paste,
+        waiting=_library.tw_parser_waiting,
+        waiting_kind=_library.tw_parser_waiting_kind,
+        flush_escape=_library.tw_parser_flush_escape,
+        is_paste_open=_library.tw_parser_is_paste_open,
+        end_paste=_library.tw_parser_end_paste,
+        reset=_library.tw_parser_reset,
+    )
+    _kinds_with_text = frozenset([_KIND_PASTE])
+
+    def __init__(self) -> None:
+        super().__init__(_RawParser(), _RawEvent(), _library.tw_parser_init, _library.tw_parser_free)
 
     def row(self, place: int) -> Optional[Row]:
         r"""Returns the row of the sequence table at a place, in the order of the rows' bytes. Returns None from the end of the table on.
@@ -797,12 +894,6 @@ class InputParser(_Closable):
             _fault()
         return Completions(range(found.first, found.first + found.count), bool(found.with_alt))
 
-    def _find_front(self, maybe_more: bool) -> bool:
-        """Whether there is an event at the front. It stays there until `_leave_front`."""
-        if not self._has_front:
-            self._has_front = _is_event(_next(self._raw, maybe_more, self._front))
-        return self._has_front
-
     def _skip(self, maybe_more: bool, most: int) -> int:
         """Consumes at most so many events, without making them, and returns how many there were. It is for the page, which counts them."""
         count, parser, front, more = 0, ctypes.byref(self._raw), ctypes.byref(self._front), int(maybe_more)
@@ -814,27 +905,7 @@ class InputParser(_Closable):
         return count
 
     def _front_event(self) -> Event:
-        kind, buttons, modifiers, key, x, y, detail, paste_len = _fields_of(self._front)
-        if kind == _KIND_KEY:
-            return _key_event(key, detail, modifiers)
-        if kind == _KIND_MOUSE:
-            return MouseEvent(x, y, _buttons(buttons), _modifiers(modifiers))
-        if kind == _KIND_PASTE:
-            return Paste(self._paste_text(paste_len))
-        _fault()
-
-    def _leave_front(self) -> None:
-        self._has_front = False
-        if self._front.kind == _KIND_PASTE:
-            _library.tw_parser_drop_paste(self._raw)
-
-    def _paste_text(self, length: int) -> str:
-        """The text of the paste at the front, which the library keeps until `_leave_front`."""
-        room = bytearray(length)
-        pointer, _ = _borrowed(room)
-        if _library.tw_parser_paste(self._raw, pointer, length) != length:
-            _fault()
-        return room.decode("utf-8")
+        return self._input_event(*_fields_of(self._front))
 
 
 # The answers of a lookup that say nothing of a key.
@@ -991,3 +1062,25 @@ def encode(
     if answer == _ENCODED_BAD_NUMBER:
         raise EncodeError("a surrogate, or a bit that no flag has, names nothing")
     _fault()
+
+
+# The extended parser has a file of its own, which stands on the names above.
+from .extended import (  # noqa: E402
+    Apc,
+    Csi,
+    CursorPosition,
+    Dcs,
+    ExtendedEvent,
+    ExtendedParser,
+    FocusGained,
+    FocusLost,
+    Held,
+    KeyAction,
+    KeyboardFlags,
+    KeyReport,
+    Osc,
+    ReportedKey,
+    Resize,
+    Rows,
+    key_report,
+)

@@ -1,0 +1,89 @@
+"""Asks the terminal where its cursor is, which background colour it has and which flags of Kitty's keyboard protocol are set, and prints
+what it replies:
+
+    python3 python/examples/ask.py
+
+The last question is the one for the terminal's attributes (DA1). Every terminal answers it, and answers in order, so what wasn't answered
+before won't be. The program ends with that answer, or after a second. What is typed meanwhile is counted."""
+import os
+import select
+import sys
+import termios
+import time
+import tty
+from typing import List, Optional
+
+from hedrugal import Csi, CursorPosition, ExtendedEvent, ExtendedParser, KeyboardFlags, Osc
+
+CURSOR, BACKGROUND, KEYBOARD, ATTRIBUTES = b"\x1b[?6n", b"\x1b]11;?\x1b\\", b"\x1b[?u", b"\x1b[c"
+SECONDS = 1
+
+
+def is_attributes(event: ExtendedEvent) -> bool:
+    """Whether an event is the answer to the last question."""
+    return isinstance(event, Csi) and event.data.startswith(b"?") and event.data.endswith(b"c")
+
+
+def read_within(terminal: int, seconds: float) -> bytes:
+    """Reads what the terminal sends. Returns no bytes if it sends none within the time."""
+    if not select.select([terminal], [], [], max(seconds, 0))[0]:
+        return b""
+    return os.read(terminal, 4096)
+
+
+def ask(terminal: int) -> List[ExtendedEvent]:
+    """Asks all questions at once. Returns the events until the last answer, or until the time is over."""
+    os.write(terminal, CURSOR + BACKGROUND + KEYBOARD + ATTRIBUTES)
+    events: List[ExtendedEvent] = []
+    end = time.monotonic() + SECONDS
+    with ExtendedParser() as parser:
+        while not any(is_attributes(event) for event in events):
+            data = read_within(terminal, end - time.monotonic())
+            if not data:
+                break
+            events += parser.parse(data)
+        return events + parser.flush()
+
+
+def ask_in_raw_mode(terminal: int) -> List[ExtendedEvent]:
+    """Asks while the terminal passes each byte on, and then restores its modes. An answer that comes too late is thrown away."""
+    saved = termios.tcgetattr(terminal)
+    try:
+        tty.setraw(terminal)
+        return ask(terminal)
+    finally:
+        termios.tcsetattr(terminal, termios.TCSAFLUSH, saved)
+
+
+def described(event: ExtendedEvent) -> Optional[str]:
+    """Returns the line of an answer, None for any other event."""
+    if isinstance(event, CursorPosition):
+        return f"cursor: row {event.row}, column {event.column}"
+    if isinstance(event, Osc) and event.data.startswith(b"11;"):
+        return f"background: {event.data[3:].decode(errors='replace')}"
+    if isinstance(event, KeyboardFlags):
+        return f"keyboard: {event.flags}"
+    if isinstance(event, Csi) and is_attributes(event):
+        return f"attributes: {event.data[1:-1].decode()}"
+    return None
+
+
+def main() -> int:
+    terminal = os.open("/dev/tty", os.O_RDWR | os.O_NOCTTY)
+    try:
+        events = ask_in_raw_mode(terminal)
+    finally:
+        os.close(terminal)
+    lines = [described(event) for event in events]
+    for line in lines:
+        if line is not None:
+            print(line)
+    print(f"typed: {lines.count(None)}")
+    if not any(is_attributes(event) for event in events):
+        print(f"no answer to the last question in {SECONDS} s")
+        return 1
+    return 0
+
+
+if __name__ == "__main__":
+    sys.exit(main())

@@ -1,0 +1,319 @@
+r"""What terminals send beyond the sequence table, as events: replies to questions, focus reports, other mouse reports, control sequences and
+strings, and Kitty's keyboard protocol.
+
+    >>> with ExtendedParser() as parser:
+    ...     parser.parse(b"q\x1b[24;80R\x1b]11;rgb:0/0/0\x07")
+    [KeyEvent(key='q', modifiers=Modifiers.NONE), CursorPosition(row=24, column=80), Osc(data=b'11;rgb:0/0/0')]
+
+A program imports these names from the package hedrugal. docs/EXTENDED.md says what bytes mean to an ExtendedParser."""
+from __future__ import annotations
+
+import ctypes
+import functools
+import struct
+from dataclasses import dataclass
+from typing import Any, Callable, Dict, List, Optional, Tuple, Union
+
+from . import (
+    _BYTES,
+    Event,
+    Key,
+    KeyEvent,
+    KittyKeyboardFlags,
+    Modifiers,
+    _declare,
+    _EventParser,
+    _fault,
+    _fields_of,
+    _Flags,
+    _key,
+    _library,
+    _Named,
+    _ParserCalls,
+    _RawEvent,
+)
+
+
+class Rows(_Named):
+    """How an ExtendedParser reads the rows of the sequence table."""
+
+    PORT = 0  # Each row keeps its key. For programs that leave Kitty's keyboard protocol off.
+    KITTY = 1  # A row that reports a key or the cursor's position is read as that report. For programs that turn the protocol on.
+
+
+class KeyAction(_Named):
+    """What happened to a key."""
+
+    PRESS = 1  # It was pressed.
+    REPEAT = 2  # It was held down so long that it repeats.
+    RELEASE = 3  # It was released.
+
+
+class Held(_Flags):
+    """A set of modifiers of a key report. The bits are Kitty's."""
+
+    NONE = 0  # No modifier.
+    SHIFT = 1  # Shift.
+    ALT = 2  # Alt.
+    CTRL = 4  # Ctrl.
+    SUPER = 8  # Super: the key with the Windows logo, or Command.
+    HYPER = 16  # Hyper.
+    META = 32  # Meta.
+    CAPS_LOCK = 64  # Caps Lock is on.
+    NUM_LOCK = 128  # Num Lock is on.
+
+
+# The key of a report: a key that has no name is its number in Kitty's table of functional keys.
+ReportedKey = Union[Key, int]
+
+
+@dataclass(frozen=True)
+class KeyReport:
+    """A key was pressed, held down or released.
+
+    shifted is the character that the key types with Shift, base the one that the key at this place types on the standard layout (PC-101).
+    Each is None if the terminal didn't report it. text is the text that the key types, if the terminal reported it, and else empty."""
+
+    key: ReportedKey
+    modifiers: Held = Held.NONE
+    action: KeyAction = KeyAction.PRESS
+    shifted: Optional[str] = None
+    base: Optional[str] = None
+    text: str = ""
+
+
+@dataclass(frozen=True)
+class FocusGained:
+    """The terminal's window gained the focus (mode 1004)."""
+
+
+@dataclass(frozen=True)
+class FocusLost:
+    """The terminal's window lost the focus."""
+
+
+@dataclass(frozen=True)
+class CursorPosition:
+    """The reply to a question for the cursor's position. The first row and the first column are 1."""
+
+    row: int
+    column: int
+
+
+@dataclass(frozen=True)
+class Resize:
+    """The terminal has a new size (mode 2048): in rows and columns, and its height and width in pixels."""
+
+    rows: int
+    columns: int
+    height: int
+    width: int
+
+
+@dataclass(frozen=True)
+class KeyboardFlags:
+    """The reply to a question for the flags of Kitty's keyboard protocol."""
+
+    flags: KittyKeyboardFlags
+
+
+@dataclass(frozen=True)
+class Csi:
+    """Any other control sequence: its bytes after ESC [."""
+
+    data: bytes
+
+
+@dataclass(frozen=True)
+class Osc:
+    """An operating system command, such as the reply to a question for a colour: its bytes after ESC ], without its end."""
+
+    data: bytes
+
+
+@dataclass(frozen=True)
+class Dcs:
+    """A device control string, such as the reply to a question for the terminal's version: its bytes after ESC P, without its end."""
+
+    data: bytes
+
+
+@dataclass(frozen=True)
+class Apc:
+    """An application program command, such as a reply of Kitty's graphics protocol: its bytes after ESC _, without its end."""
+
+    data: bytes
+
+
+ExtendedEvent = Union[Event, KeyReport, FocusGained, FocusLost, CursorPosition, Resize, KeyboardFlags, Csi, Osc, Dcs, Apc]
+
+
+# The structs of termwiz_input.h.
+
+
+class _RawExtended(ctypes.Structure):
+    _fields_ = [("live", ctypes.c_bool), ("state", ctypes.c_void_p)]
+
+
+class _RawReport(ctypes.Structure):
+    _fields_ = [
+        ("action", ctypes.c_uint8),
+        ("modifiers", ctypes.c_uint8),
+        ("key", ctypes.c_uint16),
+        ("detail", ctypes.c_uint32),
+        ("shifted", ctypes.c_uint32),
+        ("base", ctypes.c_uint32),
+    ]
+
+
+class _RawExtendedEvent(ctypes.Structure):
+    _fields_ = [
+        ("kind", ctypes.c_uint8),
+        ("flags", ctypes.c_uint8),
+        ("row", ctypes.c_uint16),
+        ("column", ctypes.c_uint16),
+        ("rows", ctypes.c_uint16),
+        ("columns", ctypes.c_uint16),
+        ("height", ctypes.c_uint16),
+        ("width", ctypes.c_uint16),
+        ("report", _RawReport),
+        ("input", _RawEvent),
+        ("text_len", ctypes.c_size_t),
+    ]
+
+
+# Where these structs lie in a _RawExtendedEvent, and the fields of the first, all at once.
+_REPORT_AT, _INPUT_AT = _RawExtendedEvent.report.offset, _RawExtendedEvent.input.offset
+_report_fields_of = struct.Struct("@BBHIII").unpack_from
+
+# The numbers of termwiz_input.h that no enum above has.
+_EVENT_KEY, _EVENT_MOUSE, _EVENT_PASTE, _EVENT_REPORT, _EVENT_FOCUS_GAINED, _EVENT_FOCUS_LOST = 1, 2, 3, 4, 5, 6
+_EVENT_CURSOR_POSITION, _EVENT_RESIZE, _EVENT_KEYBOARD_FLAGS, _EVENT_CSI, _EVENT_OSC, _EVENT_DCS, _EVENT_APC = 7, 8, 9, 10, 11, 12, 13
+_NO_CODE = 0xFFFFFFFF
+
+_PARSER = ctypes.POINTER(_RawExtended)
+_EVENT = ctypes.POINTER(_RawExtendedEvent)
+
+# The calls of termwiz_input.h: the type of the result, and those of the arguments.
+_CALLS: Dict[str, Tuple[Any, List[Any]]] = {
+    "tw_extended_init": (ctypes.c_bool, [_PARSER, ctypes.c_uint32]),
+    "tw_extended_free": (None, [_PARSER]),
+    "tw_extended_feed": (ctypes.c_bool, [_PARSER, _BYTES, ctypes.c_size_t]),
+    "tw_extended_next": (ctypes.c_uint32, [_PARSER, ctypes.c_bool, _EVENT]),
+    "tw_extended_text": (ctypes.c_size_t, [_PARSER, _BYTES, ctypes.c_size_t]),
+    "tw_extended_drop_text": (None, [_PARSER]),
+    "tw_extended_waiting": (ctypes.c_size_t, [_PARSER]),
+    "tw_extended_waiting_kind": (ctypes.c_uint32, [_PARSER]),
+    "tw_extended_flush_escape": (ctypes.c_uint32, [_PARSER, _EVENT]),
+    "tw_extended_is_paste_open": (ctypes.c_bool, [_PARSER]),
+    "tw_extended_end_paste": (ctypes.c_uint32, [_PARSER, _EVENT]),
+    "tw_extended_reset": (ctypes.c_size_t, [_PARSER]),
+}
+_declare(_library, _CALLS)
+
+_focus_gained, _focus_lost = FocusGained(), FocusLost()
+_of_data: Dict[int, Callable[[bytes], ExtendedEvent]] = {_EVENT_CSI: Csi, _EVENT_OSC: Osc, _EVENT_DCS: Dcs, _EVENT_APC: Apc}
+_actions = {action.value: action for action in KeyAction}
+
+
+def _character(code: int) -> Optional[str]:
+    return None if code == _NO_CODE else chr(code)
+
+
+@functools.lru_cache(maxsize=4096)
+def _key_report(action: int, modifiers: int, number: int, detail: int, shifted: int, base: int, text: str) -> KeyReport:
+    key = _key(number, detail) if number else detail
+    return KeyReport(key, Held(modifiers), _actions.get(action) or _fault(), _character(shifted), _character(base), text)
+
+
+class ExtendedParser(_EventParser[ExtendedEvent]):
+    r"""Reads what an InputParser reads, and what terminals send beyond the sequence table. It is used in the same way.
+
+    A program that asks its terminal questions, or turns Kitty's keyboard protocol on, makes it in place of an InputParser. In the second
+    case it passes Rows.KITTY, since that protocol sends some rows of the table in another sense:
+
+        >>> for rows in Rows:
+        ...     with ExtendedParser(rows) as parser:
+        ...         parser.parse(b"\x1b[1;9A")
+        [KeyEvent(key=KeyCode.UpArrow, modifiers=Modifiers.ALT)]
+        [KeyReport(key=KeyCode.UpArrow, modifiers=Held.SUPER, action=KeyAction.PRESS, shifted=None, base=None, text='')]
+
+    A key is a KeyEvent or a KeyReport: `key_report` makes one of both.
+
+    The bytes of an event are the same however they are cut into calls. The beginning of a control sequence or of a string stays buffered as
+    Waiting.Sequence. Without an open paste at most 65536 bytes are buffered.
+
+    What an InputParser says of its memory, of threads and of errors holds here too."""
+
+    _calls = _ParserCalls(
+        feed=_library.tw_extended_feed,
+        next=_library.tw_extended_next,
+        text=_library.tw_extended_text,
+        drop_text=_library.tw_extended_drop_text,
+        waiting=_library.tw_extended_waiting,
+        waiting_kind=_library.tw_extended_waiting_kind,
+        flush_escape=_library.tw_extended_flush_escape,
+        is_paste_open=_library.tw_extended_is_paste_open,
+        end_paste=_library.tw_extended_end_paste,
+        reset=_library.tw_extended_reset,
+    )
+    _kinds_with_text = frozenset([_EVENT_PASTE, _EVENT_REPORT, *_of_data])
+
+    def __init__(self, rows: Rows = Rows.PORT) -> None:
+        if not isinstance(rows, Rows):
+            raise TypeError(f"Rows are required, not {type(rows).__name__}")
+        super().__init__(_RawExtended(), _RawExtendedEvent(), lambda raw: _library.tw_extended_init(raw, rows.value), _library.tw_extended_free)
+        self._rows = rows
+
+    @property
+    def rows(self) -> Rows:
+        """How the rows of the sequence table are read."""
+        return self._rows
+
+    def _front_event(self) -> ExtendedEvent:
+        front = self._front
+        kind = front.kind
+        if kind in (_EVENT_KEY, _EVENT_MOUSE, _EVENT_PASTE):
+            return self._input_event(*_fields_of(front, _INPUT_AT))
+        if kind == _EVENT_REPORT:
+            text = self._text(front.text_len).decode("utf-8") if front.text_len else ""
+            return _key_report(*_report_fields_of(front, _REPORT_AT), text)
+        if kind in _of_data:
+            return _of_data[kind](bytes(self._text(front.text_len)))
+        if kind == _EVENT_CURSOR_POSITION:
+            return CursorPosition(front.row, front.column)
+        if kind == _EVENT_RESIZE:
+            return Resize(front.rows, front.columns, front.height, front.width)
+        if kind == _EVENT_KEYBOARD_FLAGS:
+            return KeyboardFlags(KittyKeyboardFlags(front.flags))
+        if kind == _EVENT_FOCUS_GAINED:
+            return _focus_gained
+        if kind == _EVENT_FOCUS_LOST:
+            return _focus_lost
+        _fault()
+
+
+# The modifiers of a key event, and what they are in a report.
+_REPORTED = [(Modifiers.SHIFT, Held.SHIFT), (Modifiers.ALT, Held.ALT), (Modifiers.CTRL, Held.CTRL)]
+
+
+def key_report(event: ExtendedEvent) -> Optional[KeyReport]:
+    r"""Returns the report of a key, so that a program needs one case for keys. A KeyReport is returned as it is, and for a KeyEvent a press of
+    its key with its SHIFT, ALT and CTRL. Returns None for any other event.
+
+        >>> with ExtendedParser() as parser:
+        ...     events = parser.parse(b"\x03\x1b[99;5:3u")
+        >>> for event in events:
+        ...     report = key_report(event)
+        ...     print(report.key, report.modifiers, report.action)
+        c Held.CTRL KeyAction.PRESS
+        c Held.CTRL KeyAction.RELEASE"""
+    if isinstance(event, KeyReport):
+        return event
+    if not isinstance(event, KeyEvent):
+        return None
+    held = Held.NONE
+    for flag, reported in _REPORTED:
+        if flag & event.modifiers:
+            held |= reported
+    return KeyReport(event.key, held)
