@@ -2,10 +2,14 @@
 use Rattle.std.specs.Prelude.{Some}
 use Rattle.std.specs.Borrow.{Fml, Lends, MutBor}
 use Rattle.termwiz_c.specs.declared.bindings.Bindings.{Bindings}
+use Rattle.termwiz_c.specs.declared.extended_and_text.ExtendedAndText.{ExtendedAndText}
+use Rattle.termwiz_c.specs.declared.owned_extended.OwnedExtended.{OwnedExtended}
 use Rattle.termwiz_c.specs.declared.owned_keymap.OwnedKeymap.{OwnedKeymap}
 use Rattle.termwiz_c.specs.declared.owned_parser.OwnedParser.{OwnedParser}
 use Rattle.termwiz_c.specs.declared.parser_and_paste.ParserAndPaste.{ParserAndPaste}
 use Rattle.termwiz_c.specs.contracts.bindings.Bindings.{the_row as BindingsType}
+use Rattle.termwiz_c.specs.contracts.extended_and_text.ExtendedAndText.{the_row as ExtendedAndTextType}
+use Rattle.termwiz_c.specs.contracts.owned_extended.OwnedExtended.{the_row as OwnedExtendedType}
 use Rattle.termwiz_c.specs.contracts.owned_keymap.OwnedKeymap.{the_row as OwnedKeymapType}
 use Rattle.termwiz_c.specs.contracts.owned_parser.OwnedParser.{the_row as OwnedParserType}
 use Rattle.termwiz_c.specs.contracts.parser_and_paste.ParserAndPaste.{the_row as ParserAndPasteType}
@@ -25,3 +29,11 @@ with_map pointer held = record pointer { held = Some held }
 -- the pointer owns the lent key map as it is at the end of the loan
 abbrev pub lends_map : MutBor OwnedKeymap → MutBor Bindings → Fml
 lends_map pointer lent = Lends OwnedKeymapType BindingsType pointer lent (with_map pointer.now)
+
+-- the pointer, which owns this extended parser
+abbrev pub with_extended : OwnedExtended → ExtendedAndText → OwnedExtended
+with_extended pointer held = record pointer { held = Some held }
+
+-- the pointer owns the lent extended parser as it is at the end of the loan
+abbrev pub lends_extended : MutBor OwnedExtended → MutBor ExtendedAndText → Fml
+lends_extended pointer lent = Lends OwnedExtendedType ExtendedAndTextType pointer lent (with_extended pointer.now)

@@ -1,5 +1,7 @@
 pub mod Calls
 pub mod Events
+pub mod ExtendedCalls
+pub mod ExtendedEvents
 pub mod KeymapCalls
 pub mod Keys
 pub mod Lent

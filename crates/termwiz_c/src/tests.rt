@@ -1,4 +1,5 @@
 // The calls, as a C program makes them.
+mod extended;
 mod keymaps;
 mod rows;
 

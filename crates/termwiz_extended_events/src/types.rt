@@ -79,6 +79,14 @@ impl KeyText {
     {
         self.inner.as_str()
     }
+
+    /// Returns the text itself, without copying it.
+    pub fn into_string(self) -> String
+        ensures { string_bytes result ≡ self }
+    {
+        let KeyText { inner: whole } = self;
+        whole
+    }
 }
 
 /// The bytes of a sequence between its introducer and its end. Contracts see them as a list.
@@ -122,6 +130,14 @@ impl SequenceBytes {
         ensures { result.now ≡ self.now }
     {
         self.inner.as_slice()
+    }
+
+    /// Returns the bytes themselves, without copying them.
+    pub fn into_vec(self) -> Vec<u8>
+        ensures { result.items ≡ self }
+    {
+        let SequenceBytes { inner: whole } = self;
+        whole
     }
 }
 

@@ -1,0 +1,116 @@
+// What the handle of an extended parser leads to.
+ghost use Rattle.std.specs.Prelude.{◌≡◌, ◌↔◌, [], ◌∷◌, false, length, IfOk, IfSome, IfNone, IsSome, OnErr};
+ghost use Rattle.termwiz_input.specs.WaitingKinds.{IsOneOrTwoEscapes, IsOpenPaste};
+ghost use Rattle.termwiz_extended_events.specs.declared.types.ExtendedEvent.{ExtendedEvent as Event};
+ghost use Rattle.termwiz_extended_grammar.specs.ExtendedGrammar.{IsRest, Means, Steps};
+ghost use Rattle.termwiz_input_extended.specs.ExtendedFronts.{HasItemThatNeedsMemory, IsPasteEvent};
+ghost use Rattle.termwiz_c.specs.Calls.{copied};
+ghost use Rattle.termwiz_c.specs.ExtendedEvents.{c_extended_event};
+ghost use Rattle.termwiz_c.specs.ExtendedCalls.{text_after};
+
+use crate::copying::copy_prefix;
+use crate::extended_events::{CExtendedEvent, c_extended_event, own_bytes};
+use std::alloc::{AllocError, Global};
+use termwiz_input_extended::input::ExtendedParser;
+use termwiz_input_extended::types::{ExtendedEvent, Rows};
+
+/// An extended parser, and the bytes of the last event that brought bytes.
+#[derive(Drop)]
+pub struct ExtendedAndText {
+    pub(crate) parser: ExtendedParser,
+    pub(crate) text: Vec<u8>,
+}
+
+impl ExtendedAndText {
+    pub(crate) fn new(alloc: Global, rows: Rows) -> Result<ExtendedAndText, AllocError>
+        ensures waiting { IfOk result (λ held. held.parser.text ≡ []) }
+        ensures rows { IfOk result (λ held. held.parser.rows ≡ rows) }
+        ensures text { IfOk result (λ held. held.text.items ≡ []) }
+    {
+        let parser = ExtendedParser::new(alloc, rows)?;
+        Ok(ExtendedAndText {
+            parser,
+            text: Vec::new(alloc),
+        })
+    }
+
+    // Keeps the bytes that an event brings, and returns the event as C has it.
+    fn keep_text(&mut self, event: ExtendedEvent) -> CExtendedEvent
+        ensures event { result ≡ c_extended_event event }
+        ensures text { self.new.text.items ≡ text_after event self.old.text.items }
+        ensures parser { self.new.parser ≡ self.old.parser }
+    {
+        let shown = c_extended_event(&event);
+        if let Some(bytes) = own_bytes(event) {
+            self.text = bytes;
+        }
+        shown
+    }
+
+    // The next event, as C has it.
+    pub(crate) fn next(&mut self, maybe_more: bool) -> Result<Option<CExtendedEvent>, AllocError>
+        ensures event { IfOk result (λ found. IfSome found (λ shown. (event : Event)
+            × Steps self.old.parser.rows self.old.parser.text maybe_more (event ∷ []) self.new.parser.text
+            × (shown ≡ c_extended_event event)
+            × (self.new.text.items ≡ text_after event self.old.text.items))) }
+        ensures rows { self.new.parser.rows ≡ self.old.parser.rows }
+        ensures none { IfOk result (λ found. IfNone found (IsRest self.old.parser.rows self.old.parser.text maybe_more)) }
+        ensures none_same { IfOk result (λ found. IfNone found (self.new ≡ self.old)) }
+        ensures refused { OnErr result (HasItemThatNeedsMemory self.old.parser.rows self.old.parser.text maybe_more) }
+        ensures refused_same { OnErr result (self.new ≡ self.old) }
+    {
+        match self.parser.next_event(maybe_more)? {
+            Some(event) => Ok(Some(self.keep_text(event))),
+            None => Ok(None),
+        }
+    }
+
+    // The Escape key, as C has it, if nothing else is buffered.
+    pub(crate) fn flush_escape(&mut self) -> Option<CExtendedEvent>
+        ensures event { IfSome result (λ shown. (event : Event)
+            × Means self.old.parser.rows self.old.parser.text false (event ∷ []) self.new.parser.text
+            × (shown ≡ c_extended_event event)) }
+        ensures rows { self.new.parser.rows ≡ self.old.parser.rows }
+        ensures when { IsSome result ↔ IsOneOrTwoEscapes self.old.parser.text }
+        ensures none { IfNone result (self.new.parser ≡ self.old.parser) }
+        ensures text { self.new.text ≡ self.old.text }
+    {
+        let event = self.parser.flush_escape()?;
+        Some(c_extended_event(&event))
+    }
+
+    // The text so far of an open paste, which ends there, as C has it.
+    pub(crate) fn end_paste(&mut self) -> Result<Option<CExtendedEvent>, AllocError>
+        ensures event { IfOk result (λ found. IfSome found (λ shown. (event : Event)
+            × IsPasteEvent self.old.parser.text event
+            × (shown ≡ c_extended_event event)
+            × (self.new.text.items ≡ text_after event self.old.text.items))) }
+        ensures nothing { IfOk result (λ found. IfSome found (λ _. self.new.parser.text ≡ [])) }
+        ensures rows { self.new.parser.rows ≡ self.old.parser.rows }
+        ensures none { IfOk result (λ found. IfNone found (¬ IsOpenPaste self.old.parser.text)) }
+        ensures none_same { IfOk result (λ found. IfNone found (self.new ≡ self.old)) }
+        ensures refused { OnErr result (IsOpenPaste self.old.parser.text) }
+        ensures refused_same { OnErr result (self.new ≡ self.old) }
+    {
+        match self.parser.end_paste()? {
+            Some(event) => Ok(Some(self.keep_text(event))),
+            None => Ok(None),
+        }
+    }
+
+    // Frees the bytes of the last event that brought bytes.
+    pub(crate) fn drop_text(&mut self, alloc: Global)
+        ensures text { self.new.text.items ≡ [] }
+        ensures parser { self.new.parser ≡ self.old.parser }
+    {
+        self.text = Vec::new(alloc);
+    }
+
+    // Copies as much of these bytes as `out` has room for, and returns how many they are.
+    pub(crate) fn copy_text(&self, out: &mut [u8]) -> usize
+        ensures len { result ≡ length self.now.text.items }
+        ensures bytes { out.new ≡ copied self.now.text.items out.old }
+    {
+        copy_prefix(self.text.as_slice(), out)
+    }
+}
