@@ -112,7 +112,8 @@ int main(void) {
     return 1;
   }
   raw = saved;
-  raw.c_lflag &= ~(tcflag_t)(ECHO | ICANON);
+  raw.c_iflag &= ~(tcflag_t)(BRKINT | ICRNL | IGNCR | INLCR | INPCK | ISTRIP | IXON);
+  raw.c_lflag &= ~(tcflag_t)(ECHO | ICANON | IEXTEN | ISIG); /* no byte of a reply is a signal or another byte */
   raw.c_cc[VMIN] = 1;
   raw.c_cc[VTIME] = 0;
   handle_signals(note_signal);

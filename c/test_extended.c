@@ -131,7 +131,7 @@ static const struct example examples[] = {
   { TW_ROWS_KITTY, TEXT("\033[1;5R"), LAST, "CursorPosition(1, 5); ", 0 },
   { BOTH, TEXT("\033[I\033[O"), MORE, "FocusGained; FocusLost; ", 0 },
   { BOTH, TEXT("\033\033[I"), MORE, "Escape; FocusGained; ", 0 },
-  { BOTH, TEXT("\033[24;8"), LAST, "[ ALT; 2; 4; U+003B; 8; ", 0 },
+  { BOTH, TEXT("\033[24;8"), LAST, "[ ALT; 2; 4; ;; 8; ", 0 },
   { BOTH, TEXT("\033[24;8"), MORE, "", 6 },
   { BOTH, TEXT("\033[24\r"), MORE, "[ ALT; 2; 4; Enter; ", 0 },
   { BOTH, TEXT("\033]11;rgb:1e1e/1e1e/1e1e\033\\"), MORE, "Osc(11;rgb:1e1e/1e1e/1e1e); ", 0 },
@@ -158,7 +158,8 @@ static const struct example examples[] = {
   { BOTH, TEXT("\033[57358u\033[57376u\033[57428u"), MORE, "Key(CapsLock); Key(F13); Key(functional 57428); ", 0 },
   { BOTH, TEXT("\033[97:65:99;2:1;65u\033[97::99;5u"), MORE, "Key(a SHIFT shifted A base c text(A)); Key(a CTRL base c); ", 0 },
   { BOTH, TEXT("\033[0;;229:230u"), MORE, "Key(U+0000 text(\\xc3\\xa5\\xc3\\xa6)); ", 0 },
-  { BOTH, TEXT("q\303\251\033[A"), MORE, "q; U+00E9; UpArrow; ", 0 },
+  { TW_ROWS_PORT, TEXT("q\303\251\033[A"), MORE, "q; U+00E9; UpArrow; ", 0 },
+  { TW_ROWS_KITTY, TEXT("q\303\251\033[A"), MORE, "q; U+00E9; Key(UpArrow); ", 0 },
 };
 
 /* Reads a text, cut into pieces: the first of the given length, the others of another one. Only the last says that no more comes. */
