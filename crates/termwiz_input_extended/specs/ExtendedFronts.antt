@@ -1,26 +1,49 @@
 -- What is at the front of a text, as far as extra sequences go.
-use Rattle.std.specs.Prelude.{◌≡◌, ◌⊎◌, ℕ, ◌≤◌, ◌-◌, Bool, List, [], ◌∷◌, ◌++◌, length, take, Option, Result, IfOk, IfSome, IfNone, OnErr}
+use Rattle.std.specs.Prelude.{◌≡◌, ◌⊎◌, ℕ, ◌≤◌, ◌-◌, Bool, List, [], ◌∷◌, ◌++◌, length, take, Contains, Option, Result, IfOk, IfSome, IfNone, OnErr}
 use Rattle.termwiz_keymap.specs.Bytes.{Begins}
 use Rattle.termwiz_keys.specs.Introducers.{ESC}
 use Rattle.termwiz_keys.specs.declared.types.InputEvent.{InputEvent}
-use Rattle.termwiz_keys.specs.declared.types.InputEvent.TheVariants.{Paste}
+use Rattle.termwiz_keys.specs.declared.types.InputEvent.TheVariants.{Key as PortsKey, Paste}
+use Rattle.termwiz_input.specs.Matches.{IsItemAt}
 use Rattle.termwiz_input.specs.PasteSearch.{IsPasteSoFar}
 use Rattle.termwiz_extended_events.specs.declared.types.ExtendedEvent.{ExtendedEvent}
 use Rattle.termwiz_extended_events.specs.declared.types.ExtendedEvent.TheVariants.{Input}
 use Rattle.termwiz_extended_events.specs.declared.types.Rows.{Rows}
+use Rattle.termwiz_extended_events.specs.declared.types.Rows.TheVariants.{Kitty}
+use Rattle.termwiz_extended_events.specs.Meanings.{event_of, IsKeyOrPosition}
+use Rattle.termwiz_grammar.specs.Table.{rows as table_rows}
+use Rattle.termwiz_extended_grammar.specs.Forms.{IsForm}
 use Rattle.termwiz_extended_grammar.specs.ExtraSequences.{IsExtra, StartsWithExtra, IsUnfinishedExtra}
 use Rattle.termwiz_extended_grammar.specs.ExtendedGrammar.{IsRest, Stands, Steps}
 use Rattle.termwiz_extended_grammar.specs.ExtendedLaws.{HasNoExtra}
+use Rattle.termwiz_input_extended.specs.declared.front.FormKind.{FormKind}
+use Rattle.termwiz_input_extended.specs.declared.front.FormKind.TheVariants as kind
 use Rattle.termwiz_input_extended.specs.declared.front.ExtraAt.{ExtraAt}
 use Rattle.termwiz_input_extended.specs.declared.front.ExtraAt.TheVariants as at
 use Rattle.termwiz_input_extended.specs.declared.front.ExtendedFront.{ExtendedFront}
-use Rattle.termwiz_input_extended.specs.declared.front.ExtendedFront.TheVariants.{Extra, Escape, Usual, Incomplete}
+use Rattle.termwiz_input_extended.specs.declared.front.ExtendedFront.TheVariants.{Key, Extra, Escape, Usual, Incomplete}
 use Rattle.termwiz_input_extended.specs.Buffered.{Buffered}
 use Rattle.termwiz_input_extended.specs.FormAnswers.{IsScanned}
 
+-- the text is read as a report of a key or of the cursor's position, even if it is a row
+abbrev pub IsReported : Rows → List ℕ → Type 0
+IsReported rows text = (rows ≡ Kitty) × IsKeyOrPosition (event_of text)
+
+-- the text is an extra sequence
+abbrev pub IsSomeExtra : Rows → List ℕ → Type 0
+IsSomeExtra rows text = (event : ExtendedEvent) × IsExtra rows text event
+
+-- what a form is
+abbrev pub IsFormKind : Rows → List ℕ → FormKind → Type 0
+IsFormKind rows form kind.Extra = IsSomeExtra rows form
+IsFormKind rows form (kind.Row key) = Contains table_rows (form, key.now) × (¬ IsSomeExtra rows form)
+IsFormKind rows form kind.Report = ¬ IsSomeExtra rows form
+
 -- what extra sequence is at the front of a text
 abbrev pub HasExtra : Rows → List ℕ → ExtraAt → Type 0
-HasExtra rows u (at.Whole len) = (len ≤ length u) × ((event : ExtendedEvent) × IsExtra rows (take len u) event)
+HasExtra rows u (at.Whole len) = (len ≤ length u) × IsSomeExtra rows (take len u)
+HasExtra rows u (at.Row key len) = (len ≤ length u) × IsForm (take len u) × Contains table_rows (take len u, key.now)
+    × (¬ StartsWithExtra rows u) × (¬ IsUnfinishedExtra rows u)
 HasExtra rows u at.Unfinished = (¬ StartsWithExtra rows u) × IsUnfinishedExtra rows u
 HasExtra rows u at.Absent = (¬ StartsWithExtra rows u) × (¬ IsUnfinishedExtra rows u)
 
@@ -37,7 +60,8 @@ pub record IsScannedTo (u : List ℕ) (place : ℕ) : Type 0 where
 
 -- this is at the front of the text, under this flag. Of an incomplete sequence the search goes on from a place.
 abbrev pub IsExtendedFront : Rows → List ℕ → Bool → ExtendedFront → Type 0
-IsExtendedFront rows u more (Extra len) = (len ≤ length u) × ((event : ExtendedEvent) × IsExtra rows (take len u) event)
+IsExtendedFront rows u more (Key key len) = IsPortsOwn rows u more × IsItemAt u more (PortsKey key) len
+IsExtendedFront rows u more (Extra len) = (len ≤ length u) × IsSomeExtra rows (take len u)
 IsExtendedFront rows u more Escape = (v : List ℕ) × (u ≡ ESC ++ v) × StartsWithExtra rows v
 IsExtendedFront rows u more Usual = IsPortsOwn rows u more
 IsExtendedFront rows u more (Incomplete place) = IsRest rows u more × IsScannedTo u place

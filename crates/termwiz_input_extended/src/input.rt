@@ -108,6 +108,7 @@ impl ExtendedParser {
     }
 
     // What is at the front of the waiting text.
+    #[inline(always)]
     fn front(&self, maybe_more: bool) -> ExtendedFront
         ensures { IsExtendedFront self.now.rows self.now.text maybe_more result }
     {
@@ -178,10 +179,15 @@ impl ExtendedParser {
     }
 
     // Consumes the item at the front of the waiting text, and returns its event. `None` if no item is there.
+    #[inline(always)]
     fn emit_front(&mut self, maybe_more: bool) -> Result<Option<ExtendedEvent>, AllocError>
         ensures { Emits self.old maybe_more self.new result }
     {
         match self.front(maybe_more) {
+            ExtendedFront::Key(key, len) => {
+                self.consume(len);
+                Ok(Some(ExtendedEvent::Input(InputEvent::Key(key))))
+            }
             ExtendedFront::Extra(len) => self.next_extra(len),
             ExtendedFront::Escape => {
                 self.consume(1);

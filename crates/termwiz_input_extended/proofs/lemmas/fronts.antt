@@ -3,6 +3,7 @@ pub mod EscapesFlushed
 pub mod ExtraAnswers
 pub mod FrontItems
 pub mod KindsByBytes
+pub mod KnownFronts
 pub mod LeftBounded
 pub mod ScannedPlaces
 pub mod WholeRows

@@ -1,14 +1,21 @@
-use Rattle.termwiz_keymap.proofs.lemmas.lists.PrefixTest.{denied}
 use Rattle.termwiz_extended_grammar.proofs.lemmas.forms.ExtraFacts.{form_from_unfinished, unfinished_from_form}
 use Rattle.termwiz_input_extended.proofs.lemmas.fronts.ExtraAnswers.{no_extra_starts, no_extra_unfinished, no_extra_without_form}
 use Rattle.termwiz_input_extended.proofs.front.extra_at.Goals as goal
 
-pub returns-in-Whole-2 : goal.returns-in-Whole-2
-returns-in-Whole-2 c =
-    let never = denied c.is_extra.ensures.1 c.if-is_extra.false in (
-      no_extra_starts c.args.rows c.args.text.now c.in-Whole.len c.in-Whole.ensures.1 never,
-      no_extra_unfinished c.args.rows c.args.text.now c.in-Whole.len c.in-Whole.ensures.1,
-    )
+pub returns-in-Row : goal.returns-in-Row
+returns-in-Row c = (
+  c.in-Whole.ensures.0,
+  c.in-Whole.ensures.1,
+  c.in-Row.ensures.0,
+  no_extra_starts c.args.rows c.args.text.now c.in-Whole.len c.in-Whole.ensures.1 c.in-Row.ensures.1,
+  no_extra_unfinished c.args.rows c.args.text.now c.in-Whole.len c.in-Whole.ensures.1,
+)
+
+pub returns-in-Report : goal.returns-in-Report
+returns-in-Report c = (
+  no_extra_starts c.args.rows c.args.text.now c.in-Whole.len c.in-Whole.ensures.1 c.in-Report.ensures,
+  no_extra_unfinished c.args.rows c.args.text.now c.in-Whole.len c.in-Whole.ensures.1,
+)
 
 pub returns-in-Unfinished : goal.returns-in-Unfinished
 returns-in-Unfinished c = (

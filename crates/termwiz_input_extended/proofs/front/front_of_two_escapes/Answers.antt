@@ -26,3 +26,8 @@ pub returns-in-Absent : goal.returns-in-Absent
 returns-in-Absent c =
     own_after_two_escapes c.args.rows c.args.after.now c.args.maybe_more c.requires.escape c.in-Absent.ensures.0
     (λ m. c.in-Absent.ensures.1)
+
+pub returns-in-Row : goal.returns-in-Row
+returns-in-Row c =
+    own_after_two_escapes c.args.rows c.args.after.now c.args.maybe_more c.requires.escape c.in-Row.ensures.3
+    (λ m. c.in-Row.ensures.4)

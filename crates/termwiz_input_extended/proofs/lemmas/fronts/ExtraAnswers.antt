@@ -15,6 +15,7 @@ use Rattle.termwiz_extended_events.specs.declared.types.Rows.TheVariants.{Port, 
 use Rattle.termwiz_extended_events.specs.Meanings.{event_of, IsKeyOrPosition}
 use Rattle.termwiz_extended_grammar.specs.Forms.{IsForm}
 use Rattle.termwiz_extended_grammar.specs.ExtraSequences.{IsFree, IsExtra, StartsWithExtra, IsUnfinishedExtra}
+use Rattle.termwiz_input_extended.specs.ExtendedFronts.{IsReported, IsSomeExtra}
 use Rattle.termwiz_extended_grammar.proofs.lemmas.forms.FormEnds.{form_ends}
 use Rattle.termwiz_extended_grammar.proofs.lemmas.forms.ExtraFacts.{free_from_none}
 
@@ -43,12 +44,12 @@ unknown_is_extra rows text form no_report no_row =
     unknown (Report r) is = no_report (r, is)
 
 -- a row is one if it is read as a report
-pub row_is_no_extra : (text : List ℕ) (key : KeyEvent) (event : ExtendedEvent) → Contains table_rows (text, key)
+row_is_no_extra : (text : List ℕ) (key : KeyEvent) (event : ExtendedEvent) → Contains table_rows (text, key)
     → IsExtra Port text event → ⊥
 unfolding IsSequence
 row_is_no_extra text key event row is = is.is_free (Row key) row
 
-pub reported_row_is_extra : (text : List ℕ) → IsForm text → (((r : MouseEvent) × IsMouseReport text r) → ⊥)
+reported_row_is_extra : (text : List ℕ) → IsForm text → (((r : MouseEvent) × IsMouseReport text r) → ⊥)
     → IsKeyOrPosition (event_of text) → (event : ExtendedEvent) × IsExtra Kitty text event
 unfolding IsSequence
 reported_row_is_extra text form no_report reported =
@@ -58,10 +59,21 @@ reported_row_is_extra text form no_report reported =
     free (Row key) is = (key, refl, reported)
     free (Report r) is = absurd (no_report (r, is))
 
-pub extra_row_is_reported : (text : List ℕ) (key : KeyEvent) (event : ExtendedEvent) → Contains table_rows (text, key)
+extra_row_is_reported : (text : List ℕ) (key : KeyEvent) (event : ExtendedEvent) → Contains table_rows (text, key)
     → IsExtra Kitty text event → IsKeyOrPosition (event_of text)
 unfolding IsSequence
 extra_row_is_reported text key event row is = (is.is_free (Row key) row).2
+
+pub reported_is_extra : (rows : Rows) (text : List ℕ) → IsForm text → (((r : MouseEvent) × IsMouseReport text r) → ⊥)
+    → IsReported rows text → IsSomeExtra rows text
+reported_is_extra rows text form no_report (kitty, reported) =
+    let found = reported_row_is_extra text form no_report reported in
+    (found.0, subst (λ r. IsExtra r text found.0) (sym kitty) found.1)
+
+pub row_not_extra : (rows : Rows) (text : List ℕ) (key : KeyEvent) → Contains table_rows (text, key)
+    → (IsReported rows text → ⊥) → IsSomeExtra rows text → ⊥
+row_not_extra Port text key row never h = row_is_no_extra text key h.0 row h.1
+row_not_extra Kitty text key row never h = never (refl, extra_row_is_reported text key h.0 row h.1)
 
 module _ (rows : Rows) (u : List ℕ) (len : ℕ) (form : IsForm (take len u)) where
   -- a form that begins the text is the only one

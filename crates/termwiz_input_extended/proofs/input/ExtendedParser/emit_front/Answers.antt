@@ -6,20 +6,29 @@ use Rattle.termwiz_extended_grammar.specs.ExtendedGrammar.{Steps}
 use Rattle.termwiz_input_extended.specs.Buffered.{Buffered}
 use Rattle.termwiz_input_extended.proofs.lemmas.fronts.EmittedItems.{emits_event, emits_none}
 use Rattle.termwiz_input_extended.proofs.lemmas.fronts.FrontItems.{escape_step}
+use Rattle.termwiz_input_extended.proofs.lemmas.fronts.KnownFronts.{key_step}
 use Rattle.termwiz_input_extended.proofs.input.ExtendedParser.emit_front.Goals as goal
+
+pub returns-in-Key : goal.returns-in-Key
+returns-in-Key c = emits_event c.args.self.now _ c.args.maybe_more _
+    (subst (λ t. Steps c.args.self.now.rows c.args.self.now.text c.args.maybe_more (Input (Key c.in-Key.key) ∷ []) t)
+    (sym (ap (λ (b : Buffered). b.text) c.consume.ensures))
+    (key_step c.args.self.now.rows c.args.self.now.text c.in-Key.key c.in-Key.len c.args.maybe_more c.in-Key.ensures.0
+    c.in-Key.ensures.1))
+    (ap (λ (b : Buffered). b.rows) c.consume.ensures)
 
 pub returns-in-Extra : goal.returns-in-Extra
 returns-in-Extra c = c.next_extra.ensures c.args.maybe_more
 
 pub returns-in-Escape : goal.returns-in-Escape
 returns-in-Escape c = emits_event c.args.self.now _ c.args.maybe_more _
-    (subst (λ e. Steps c.args.self.now.rows c.args.self.now.text c.args.maybe_more (e ∷ []) c.consume.new.self.text)
+    (subst (λ e. Steps c.args.self.now.rows c.args.self.now.text c.args.maybe_more (e ∷ []) c.consume-in-Escape.new.self.text)
     (sym c.escape_key.ensures)
     (subst (λ t. Steps c.args.self.now.rows c.args.self.now.text c.args.maybe_more (Input (Key escape) ∷ []) t)
-    (sym (ap (λ (b : Buffered). b.text) c.consume.ensures))
+    (sym (ap (λ (b : Buffered). b.text) c.consume-in-Escape.ensures))
     (escape_step c.args.self.now.rows c.args.self.now.text c.in-Escape.ensures.0 c.args.maybe_more c.in-Escape.ensures.1
     c.in-Escape.ensures.2)))
-    (ap (λ (b : Buffered). b.rows) c.consume.ensures)
+    (ap (λ (b : Buffered). b.rows) c.consume-in-Escape.ensures)
 
 pub returns-in-Incomplete : goal.returns-in-Incomplete
 returns-in-Incomplete c = emits_none c.args.self.now _ c.args.maybe_more c.in-Incomplete.ensures.0 c.self.view_is

@@ -1,0 +1,15 @@
+use Rattle.termwiz_input_extended.proofs.lemmas.fronts.FrontItems.{own_without_escape}
+use Rattle.termwiz_input_extended.proofs.lemmas.fronts.ScannedPlaces.{no_second_escape}
+use Rattle.termwiz_input_extended.proofs.front.front_of_sequence.Goals as goal
+
+pub returns-in-None : goal.returns-in-None
+returns-in-None c = own_without_escape c.args.rows c.args.text.now c.args.maybe_more c.in-None.ensures.none
+
+pub front_of_two_escapes-requires-clause-scanned : goal.front_of_two_escapes-requires-clause-scanned
+front_of_two_escapes-requires-clause-scanned c =
+    rw c.saturating_sub.ensures (c.requires.after c.in-Some.after.now c.in-Some.ensures.some
+    (c.in-Some-after_escape.field-0.now, c.in-Some-after_escape.ensures.some))
+
+pub front_of_one_escape-requires-clause-scanned : goal.front_of_one_escape-requires-clause-scanned
+front_of_one_escape-requires-clause-scanned c = c.requires.here
+    (no_second_escape c.args.text.now c.in-Some.after.now c.in-Some.ensures.some c.in-None-after_escape.ensures.none)

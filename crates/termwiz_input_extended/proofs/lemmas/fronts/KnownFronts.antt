@@ -1,0 +1,136 @@
+-- Where a sequence of the port is at the front of a text, or a character, the text is the port's own.
+use Rattle.std.proofs.Common.{◌≡◌, ◌≢◌, ◌⊎◌, ⊎_elim, ℕ, ◌<◌, ◌≤◌, Bool, List, [], ◌∷◌, ◌++◌, length, take, drop, refl, sym, ap, ◌∙◌, subst, arith, append_assoc, append-nil, take-append-drop, length-append, get_or, Contains}
+use Rattle.std.specs.Prelude.{codes}
+use Rattle.termwiz_keymap.specs.Bytes.{Begins}
+use Rattle.termwiz_keymap.proofs.lemmas.lists.CommonPrefixes.{Overlaps, overlap, append-some}
+use Rattle.termwiz_keymap.proofs.lemmas.lists.CommonPrefixes.Overlaps.{within, past}
+use Rattle.termwiz_keys.specs.Introducers.{ESC, START}
+use Rattle.termwiz_keys.specs.Keys.{plain}
+use Rattle.termwiz_keys.specs.declared.types.KeyEvent.{KeyEvent}
+use Rattle.termwiz_keys.specs.declared.types.InputEvent.TheVariants.{Key}
+use Rattle.termwiz_grammar.specs.Sequences.{Meaning, IsSequence}
+use Rattle.termwiz_grammar.specs.Sequences.Meaning.{Row}
+use Rattle.termwiz_grammar.specs.Table.{rows as table_rows}
+use Rattle.termwiz_grammar.specs.Grammar.{IsOpen, IsUnfinishedSequence, IsUnfinishedCharacter}
+use Rattle.termwiz_grammar.proofs.lemmas.characters.CharacterPrefixes.{sequence_finished}
+use Rattle.termwiz_grammar.proofs.lemmas.table.SequenceFacts.{start, start_is_sequence}
+use Rattle.termwiz_input.specs.Matches.{IsItemAt}
+use Rattle.termwiz_input.specs.PrintableAscii.{IsPrintableAscii}
+use Rattle.termwiz_input.proofs.lemmas.items.ItemByHead.{row_stands}
+use Rattle.termwiz_input.proofs.lemmas.items.PrintableAscii.{printable_run}
+use Rattle.termwiz_extended_events.specs.declared.types.ExtendedEvent.{ExtendedEvent}
+use Rattle.termwiz_extended_events.specs.declared.types.ExtendedEvent.TheVariants.{Input, Csi}
+use Rattle.termwiz_extended_events.specs.declared.types.Rows.{Rows}
+use Rattle.termwiz_extended_events.specs.declared.types.Rows.TheVariants.{Port, Kitty}
+use Rattle.termwiz_extended_events.specs.Meanings.{event_of, IsKeyOrPosition}
+use Rattle.termwiz_extended_events.proofs.Examples.{written_out}
+use Rattle.termwiz_extended_grammar.specs.Forms.{IsForm}
+use Rattle.termwiz_extended_grammar.specs.ExtraSequences.{IsExtra, StartsWithExtra, IsUnfinishedExtra}
+use Rattle.termwiz_extended_grammar.specs.ExtendedGrammar.{Steps}
+use Rattle.termwiz_extended_grammar.proofs.lemmas.forms.FormBytes.{form_shape}
+use Rattle.termwiz_extended_grammar.proofs.lemmas.forms.FormEnds.{sequence_after_form, form_after_sequence}
+use Rattle.termwiz_input_extended.specs.ExtendedFronts.{IsPortsOwn}
+use Rattle.termwiz_input_extended.proofs.lemmas.fronts.FrontItems.{own_after_escape, own_item, own_without_escape}
+
+-- a sequence of more than two bytes properly begins no form
+long_ends : (y tail : List ℕ) (m : Meaning) → 2 < length y → IsSequence y m → tail ≢ [] → IsForm (y ++ tail) → ⊥
+long_ends y tail m long is some form = ⊎_elim
+    (λ (e : y ≡ ESC). omega (arith, ap length e))
+    (λ (more : (y ≡ 27 ∷ 91 ∷ []) ⊎ ((y ≡ 27 ∷ 79 ∷ []) ⊎ (y ≡ 27 ∷ 80 ∷ []))). ⊎_elim
+    (λ (e : y ≡ 27 ∷ 91 ∷ []). omega (arith, ap length e))
+    (λ (last : (y ≡ 27 ∷ 79 ∷ []) ⊎ (y ≡ 27 ∷ 80 ∷ [])). ⊎_elim
+    (λ (e : y ≡ 27 ∷ 79 ∷ []). omega (arith, ap length e))
+    (λ (e : y ≡ 27 ∷ 80 ∷ []). omega (arith, ap length e))
+    last)
+    more)
+    (form_after_sequence y tail m is some form)
+
+module _ (rows : Rows) (u y : List ℕ) (m : Meaning) (long : 2 < length y) (is : IsSequence y m) (b : Begins y u) where
+  -- the form at the front of a text that begins with such a sequence is the sequence
+  form_is : (text : List ℕ) → IsForm text → Begins text u → text ≡ y
+  form_is text form c = go (overlap y b.0 text c.0 (sym c.1 ∙ b.1))
+    where
+      go : Overlaps y b.0 text c.0 → text ≡ y
+      go (within [] e f) = e ∙ append-nil y
+      go (within (x ∷ t) e f) =
+          absurd (long_ends y (x ∷ t) m long is (λ h. cc (h)) (subst (λ z. IsForm z) e form))
+      go (past t n e f) = absurd (n (sequence_after_form text t m form (subst (λ z. IsSequence z m) e is)))
+
+  -- so the text is the port's own, unless the sequence is extra
+  pub own_by_sequence : (f : Bool) → Begins ESC u → (Begins (ESC ++ ESC) u → ⊥)
+      → (((event : ExtendedEvent) × IsExtra rows y event) → ⊥) → IsPortsOwn rows u f
+  own_by_sequence f escape one never = own_after_escape rows u f escape one none (λ comes. finished)
+    where
+      none : StartsWithExtra rows u → ⊥
+      none h = never
+          (h.event, subst (λ z. IsExtra rows z h.event) (form_is h.text h.is_extra.is_form h.begins) h.is_extra)
+
+      finished : IsUnfinishedExtra rows u → ⊥
+      finished h = long_ends y (b.0 ++ h.tail) m long is (append-some b.0 h.tail h.longer)
+          (subst (λ z. IsForm z) (ap (λ z. z ++ h.tail) b.1 ∙ append_assoc y b.0 h.tail) h.is_extra.is_form)
+
+-- the start of a paste reports no key and no position
+start_means : event_of START ≡ Csi (codes "200~")
+unfolding written_out
+start_means = refl
+
+start_not_extra : (rows : Rows) → ((event : ExtendedEvent) × IsExtra rows START event) → ⊥
+start_not_extra Port h = h.1.is_free (Row start) start_is_sequence
+start_not_extra Kitty h = subst IsKeyOrPosition start_means (h.1.is_free (Row start) start_is_sequence).2
+
+pub own_start : (rows : Rows) (u : List ℕ) (f : Bool) → Begins START u → IsPortsOwn rows u f
+own_start rows u f b = own_by_sequence rows u START (Row start) (omega arith) start_is_sequence b f
+    (codes "[200~" ++ b.0, b.1) (λ two. let second : ◌≡◌ {A = ℕ} 91 27 = cc (b.1, two.1) in omega arith)
+    (start_not_extra rows)
+
+-- a character from SPACE to ~ at the front
+pub printable_item : (u : List ℕ) (f : Bool) → 0 < length u → IsPrintableAscii (get_or u 0 0)
+    → IsItemAt u f (Key (plain (get_or u 0 0))) 1
+printable_item [] f some is = absurd (omega arith)
+printable_item (b ∷ u) f some is = (printable_run (b ∷ u) 1 (omega arith) (is, tt) (omega arith)).first f
+
+pub own_printable : (rows : Rows) (u : List ℕ) (f : Bool) → IsPrintableAscii (get_or u 0 0) → IsPortsOwn rows u f
+own_printable rows u f is = own_without_escape rows u f
+    (λ b. let first : get_or u 0 0 ≡ 27 = ap (λ z. get_or z 0 0) b.1 in omega (arith, is.0))
+
+-- a key of the port's is one step
+pub key_step : (rows : Rows) (u : List ℕ) (key : KeyEvent) (len : ℕ) (f : Bool) → IsPortsOwn rows u f → IsItemAt u f (Key key) len
+    → Steps rows u f (Input (Key key) ∷ []) (drop len u)
+key_step rows u key len f own is = (
+  take len u,
+  drop len u,
+  own_item rows u (take len u) (Key key) f own is.1,
+  sym (take-append-drop len u),
+  refl,
+)
+
+-- A row that has the form of an extra sequence is the longest sequence at the front, and nothing that comes changes it.
+module _ (u : List ℕ) (k : KeyEvent) (len : ℕ) (form : IsForm (take len u)) (row : Contains table_rows (take len u, k)) where
+  known : IsSequence (take len u) (Row k)
+  unfolding IsSequence
+  known = row
+
+  there : Begins (take len u) u
+  there = (drop len u, sym (take-append-drop len u))
+
+  at_most : (other : List ℕ) (m : Meaning) → IsSequence other m → Begins other u → length other ≤ length (take len u)
+  at_most other m it c = go (overlap other c.0 (take len u) (drop len u) (take-append-drop len u ∙ c.1))
+    where
+      go : Overlaps other c.0 (take len u) (drop len u) → length other ≤ length (take len u)
+      go (within t e f) = omega (arith, ap length e, length-append other t)
+      go (past t n e f) =
+          absurd (n (sequence_after_form (take len u) t m form (subst (λ z. IsSequence z m) e it)))
+
+  row_closed : (f : Bool) → IsOpen u f → ⊥
+  row_closed f opens = ⊎_elim
+      (λ (h : IsUnfinishedSequence u). append-some (drop len u) h.tail h.longer
+      (sequence_after_form (take len u) (drop len u ++ h.tail) h.meaning form
+      (subst (λ z. IsSequence z h.meaning)
+      (ap (λ z. z ++ h.tail) (sym (take-append-drop len u)) ∙ append_assoc (take len u) (drop len u) h.tail) h.is_sequence)))
+      (λ (h : IsUnfinishedCharacter u). sequence_finished (take len u) u (Row k) known there opens.some h)
+      opens.beginning
+
+  pub row_item : (f : Bool) → len ≤ length u → (Begins START u → ⊥) → IsItemAt u f (Key k) len
+  row_item f inside never = row_stands u f k len (row_closed f)
+      (inside, record { is_sequence = known; begins = there; longest = at_most }) never
+      (λ e. let s = form_shape (take len u) form in absurd (cc (e, s.2)))
