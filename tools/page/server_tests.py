@@ -554,7 +554,7 @@ class Answers(WithServer):
         """By the extended parser it takes at most twice as long."""
         pieces = [b"a", b"\x1b[A", b"\x1b", b"\xff", b"\x1b[200~a\x1b[201~", b"\x1b[97;5:3u", b"\x1b]11;#fff\a", b"\x1b]" + b"a" * 65536]
         for piece in pieces:
-            data = (piece * MOST)[:MOST]
+            data = (piece * (MOST // len(piece) + 1))[:MOST]
             for path in ("/api/read", "/api/reads", "/api/cut?at=5000"):
                 began = time.process_time()
                 status, _, body = self.ask("POST", f"{path}{'&' if '?' in path else '?'}reading=kitty", data)
