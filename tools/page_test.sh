@@ -4,9 +4,9 @@
 #     tools/page_test.sh [--library DIR] [--screenshots DIR] [--if-chromium]
 #
 # The tests of the server, tools/page/server_tests.py, ask it under other names and origins, by other methods and paths, and with bodies of
-# any size. They compare its answers with the library's. Those of the page, tools/page/page_tests.py, type, press keys, cut, search, follow
-# links, and look at the page in both colour schemes, at 360 pixels' width, and in the accessibility tree. An input of 1 MB has to be shown
-# in two seconds.
+# any size. They compare its answers with the library's. Those of the page, tools/page/page_tests.py, type, press keys, cut, switch how
+# bytes are read, search, follow links, and look at the page in both colour schemes, at 360 pixels' width, and in the accessibility tree. An
+# input of 1 MB has to be shown in two seconds.
 #
 # DIR is a folder that tools/c_library.sh wrote; without --library the library is built, which needs rt. Pictures of the page are written
 # to the folder of --screenshots, if it is named. docs/pictures has two of them. The last line is 'N passed, N failed', the status 1 if a

@@ -155,7 +155,7 @@ class Page(unittest.TestCase):
         self.it.type("\\e[1;5A^C")
         self.check(["key UpArrow CTRL", "key U+0063 CTRL"])
         self.assertEqual(self.it.run(BYTES), ["ESC [ 1 ; 5 A", "^C"])
-        self.assertEqual(self.text("read-as"), "Read as text and escapes: 7 bytes.")
+        self.assertEqual(self.text("written-as"), "Written as text and escapes: 7 bytes.")
 
     def test_notations(self):
         up = "ESC [ 1 ; 5 A"
@@ -181,7 +181,7 @@ class Page(unittest.TestCase):
         ]:
             self.enter(typed)
             self.assertEqual(self.it.run(BYTES), shown, typed)
-            self.assertIn(used, self.text("read-as"), typed)
+            self.assertIn(used, self.text("written-as"), typed)
             self.assertEqual(self.text("fault"), "")
         for typed, faults in [
             ("\\q\\xg", "‘\\q’, ‘\\xg’ is no escape"),
@@ -340,6 +340,119 @@ class Page(unittest.TestCase):
         )
         self.assertEqual((len(steps), [it for it in steps if " wait" not in it]), (23, lines))
         self.assertEqual(self.text("one-same"), "✓ 23 reads of one byte: the same events.")
+
+    def read_as(self, reading):
+        """Chooses how bytes are read."""
+        if self.it.run("document.querySelector('input[name=reading]:checked').value") != reading:
+            self.it.run("document.body.setAttribute('aria-busy', 'true')")
+            self.click(f"input[name=reading][value={reading}]")
+            self.settle()
+
+    def test_readings(self):
+        """The switch changes what bytes mean, wherever they are cut. The address has it, and so have the links of the page."""
+        typed = ["key U+005B ALT", *(f"key U+{ord(it):04X} NONE" for it in "24;80R")]
+        two = "[...document.querySelectorAll('#two .event')].map((it) => it.innerText)"
+        one = "[...document.querySelectorAll('#steps .event:not(.quiet)')].map((it) => it.innerText)"
+        for text, hexes, *wanted in [
+            ("\\e[1;9A", "1b5b313b3941", ["key UpArrow ALT"], ["key UpArrow ALT"], ["report UpArrow SUPER press"]),
+            ("\\e[24;80R", "1b5b32343b383052", typed, ["cursor 24 80"], ["cursor 24 80"]),
+        ]:
+            self.enter(text)
+            for reading, lines in zip(("table", "extended", "kitty"), wanted):
+                self.read_as(reading)
+                self.check(lines)
+                self.assertEqual((self.it.run(two), self.it.run(one)), (lines, lines))
+                link = f"#bytes={hexes}" + ("" if reading == "table" else f"&reading={reading}")
+                self.assertEqual(self.it.run("[location.hash, document.getElementById('link').hash]"), [link, link])
+                self.focus("cut")
+                self.it.press("Home")
+                for at in range(len(hexes) // 2 + 1):
+                    self.it.wait(f"document.getElementById('cut-at').innerText === '{at} of {len(hexes) // 2}'")
+                    self.assertEqual((self.it.run(two), self.text("two-same")), (lines, "✓ Two reads: the same events."))
+                    self.it.press("ArrowRight")
+                self.it.wait("location.hash.includes('cut=')")
+                link = self.it.run("location.hash")
+                self.open(link)
+                self.check(lines)
+                self.assertEqual(self.it.run("document.querySelector('input[name=reading]:checked').value"), reading)
+                self.assertEqual(self.it.run("location.hash"), link)
+                self.enter(text)
+            self.read_as("table")
+        self.read_as("kitty")
+        hrefs = "[...document.querySelectorAll('#rows a, #sent a')].map((it) => it.hash.endsWith('&reading=kitty'))"
+        self.assertEqual({*self.it.run(hrefs)}, {True})
+        self.find("up super")
+        self.assertEqual({*self.it.run(hrefs)}, {True})
+        self.read_as("table")
+        self.assertEqual({*self.it.run(hrefs)}, {False})
+
+    def test_readings_of_links(self):
+        """A link that names no reading, or none that there is, means the table. One that is followed sets the switch."""
+        reading = "document.querySelector('input[name=reading]:checked').value"
+        for name in ("kitty", "x", "extended", "constructor", "", "%00", "kitty", "table"):
+            self.it.run(f"location.hash = '#bytes=1b5b313b3941&end=flush&reading={name}'")
+            known = name if name in ("extended", "kitty") else "table"
+            self.it.wait(f"{reading} === '{known}'")
+            self.check(["report UpArrow SUPER press" if known == "kitty" else "key UpArrow ALT"])
+            self.assertTrue(self.it.run("document.getElementById('flushed').checkVisibility()"))
+        self.open("#bytes=1b5b313b3941&reading=kitty")
+        self.it.run("location.hash = '#bytes=1b5b41'")
+        self.check(["key UpArrow NONE"])
+        self.assertEqual(self.it.run(reading), "table")
+
+    def test_switching_by_keys(self):
+        """The arrow keys change the reading, which says what it is for. Examples that need one choose it."""
+        self.enter("\\e[1;9A")
+        self.focus("text")
+        self.it.run("document.querySelector('input[name=reading]:checked').focus()")
+        for lines, words in [
+            (["key UpArrow ALT"], "asks its terminal questions"),
+            (["report UpArrow SUPER press"], "Rows::Kitty"),
+            (["key UpArrow ALT"], "typed text"),
+        ]:
+            self.it.press("ArrowDown")
+            self.it.wait(f"document.getElementById('reading-means').innerText.includes({json.dumps(words)})")
+            self.check(lines)
+        self.click("[data-reading=extended]")
+        self.check(["cursor 24 80", "osc 7:31313b23666666", "focus gained"])
+        self.click("[data-reading=kitty]")
+        self.check(["report U+0061 CTRL release", "report UpArrow SUPER press"])
+        self.it.call("Browser.grantPermissions", permissions=["clipboardReadWrite", "clipboardSanitizedWrite"])
+        self.click("#copy-report")
+        self.it.wait("document.getElementById('copied').innerText === 'The report was copied.'")
+        self.assertIn("\nread: at once\nby: ExtendedParser, Rows::Kitty\nreport U+0061", self.it.run("navigator.clipboard.readText()"))
+
+    def test_what_waits_beyond_the_table(self):
+        """Each kind of beginning is named, and a flush breaks it."""
+        self.read_as("extended")
+        for typed, words, flushed in [
+            ("\\e[?", "the beginning of a control sequence, whose end is still to come", "key U+005B ALT"),
+            ("\\e]11;", "the beginning of a command (OSC), whose end is still to come", "key U+005D ALT"),
+            ("\\eP>|", "the beginning of a device control string (DCS)", "key U+0050 ALT"),
+            ("\\e_G", "the beginning of an application command (APC)", "key U+005F ALT"),
+            ("\\e[[", "the beginning of a key report", "key U+005B ALT"),
+            ("\\e[M!", "They begin a mouse report, whose end is still to come", "key U+005B ALT"),
+            ("\\e[<0;3", "They may become a mouse report, too", "key U+005B ALT"),
+            ("\\e[1;", "Or they begin a control sequence that the table doesn’t have.", "key U+005B ALT"),
+            ("\\e", "A reply or a report may begin with it, too.", "key Escape NONE"),
+            ("\\e]" + "a" * 1000, "the beginning of a command (OSC)", "key U+005D ALT"),
+        ]:
+            self.enter(typed)
+            self.assertIn(words, self.text("why"), typed)
+            self.assertTrue(self.text("flush-means").startswith(f"That emits {flushed}"), typed)
+            self.assertEqual("more events" in self.text("flush-means"), len(typed) > 100)
+            self.focus("flush")
+            self.it.press("Enter")
+            self.it.wait("document.activeElement.id === 'unflush'")
+            self.assertEqual(self.it.run(LINES)[0], flushed, typed)
+            self.settle()
+            self.assertEqual(self.it.run("document.querySelectorAll('.verdict.good').length"), 2)
+        self.enter("\\e[1;")
+        self.read_as("kitty")
+        self.assertIn("ESC [ 1 ; 1 A is report UpArrow NONE press", self.text("why"))
+        self.assertTrue(self.it.run("document.querySelector('#why a').hash.endsWith('&reading=kitty')"))
+        self.read_as("table")
+        self.assertNotIn("control sequence", self.text("why"))
 
     def find(self, text):
         before = self.text("found")
@@ -509,6 +622,11 @@ class Page(unittest.TestCase):
         wide += ".filter((it) => !it.closest('.wide') && !it.closest('.hidden')).map((it) => it.outerHTML.slice(0, 80))"
         self.assertEqual(self.it.run(wide), [])
         self.it.run("for (const it of document.querySelectorAll('details')) it.open = false")
+        self.read_as("kitty")
+        for text in ("\\e]" + "x" * 300 + "\\a", "\\e]" + "x" * 300, "\\e[97:65:99;256:3;65:66:67:68u\\e[1;"):
+            self.enter(text)
+            self.assertEqual(self.it.run("document.documentElement.scrollWidth"), 360, text)
+        self.read_as("table")
         self.enter("\\e[1;5Aq\\e")
         self.picture("narrow")
         self.it.scheme("dark")
@@ -530,6 +648,12 @@ class Page(unittest.TestCase):
             self.picture(f"cuts-{scheme}", "#one-same")
             self.enter("\\q")
             self.assertEqual(self.it.run(CONTRAST), [])
+            self.click("[data-reading=extended]")
+            self.check(["cursor 24 80", "osc 7:31313b23666666", "focus gained"])
+            self.assertEqual(self.it.run(CONTRAST), [])
+            self.it.run("document.activeElement.blur()")
+            self.picture(f"replies-{scheme}", "#one-same")
+            self.read_as("table")
         self.assertNotEqual(*backs)
 
     def test_keyboard_alone(self):
@@ -565,6 +689,9 @@ class Page(unittest.TestCase):
             )
         for role, name in [
             ("textbox", "Bytes"),
+            ("radio", "the sequence table alone"),
+            ("radio", "with replies and reports"),
+            ("radio", "for Kitty’s keyboard protocol"),
             ("application", "Keys Press keys here"),
             ("slider", "Cut after byte"),
             ("searchbox", "Search by words or bytes"),

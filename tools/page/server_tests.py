@@ -1,5 +1,6 @@
 """Tests of the page's server, over sockets, and of its answers."""
 import http.client
+import itertools
 import json
 import os
 import random
@@ -32,6 +33,9 @@ RESTS = [
     b"\x1b[200~ab",
     b"\x1b[200~\xc3",
 ]
+# What the sequence table doesn't know: replies, reports and strings, and their beginnings.
+EXTENDED_STREAM = b"q\x1b[24;80R\x1b\x1b[I\x1b]11;#fff\a\x1b[1;9A\x1b[97;5:3u\x1bP>|x\x1b\\\x1b]a\rb\x1b[M !!\x1b[?62;4c\xc3\xa9"
+BEGINNINGS = [b"\x1b[?", b"\x1b]11;", b"\x1b]11;\x1b", b"\x1bP", b"\x1b_G", b"\x1b[[", b"\x1b[M!", b"\x1b\x1b]1", b"\x1b\x1b[?1"]
 SECONDS = 60
 
 
@@ -222,6 +226,10 @@ class Requests(WithServer):
         ]
         for query in wrong:
             self.assertEqual(self.status("POST", f"/api/read?{query}", b"q"), 400, query)
+        for query in ("reading=x", "reading=", "reading=Kitty", "reading=table,kitty", "reading=kitty&reading=x", "reading=%ff"):
+            for path in ("read", "reads", "cut"):
+                self.assertEqual(self.status("POST", f"/api/{path}?{query}", b"q"), 400, query)
+        self.assertEqual(self.ask("POST", "/api/read?reading=x", b"q")[2], b"reading is one of table, extended, kitty\n")
         for query in (
             "key=Up",
             "key=",
@@ -281,24 +289,24 @@ class Requests(WithServer):
 class Answers(WithServer):
     """The answers are the library's."""
 
-    def all_items(self, data, end):
+    def all_items(self, data, end, reading):
         """The items of all portions, and the last answer."""
         items, told = [], None
         while told is None or len(items) < told["events"]:
-            told = self.told(f"/api/read?end={end}&first={len(items)}", data)
+            told = self.told(f"/api/read?end={end}&reading={reading}&first={len(items)}", data)
             self.assertEqual((told["bytes"], told["first"], told["at"]), (len(data), len(items), sum(it[0] for it in items)))
             self.assertTrue(told["items"] or not told["events"])
             self.assertLessEqual(len(told["items"]), meanings.ITEMS)
             items += told["items"]
         return items, told
 
-    def check(self, data, end):
-        with InputParser() as parser:
+    def check(self, data, end, reading="table"):
+        with meanings.READINGS[reading]() as parser:
             wanted = parser.parse(data)
             flushed = len(wanted)
             wanted += meanings.finish(parser, end)
             waiting, kind = parser.waiting_len, parser.waiting
-        items, told = self.all_items(data, end)
+        items, told = self.all_items(data, end, reading)
         self.assertEqual([it[1] for it in items], [meanings.line(event) for event in wanted], data)
         self.assertEqual(told["flushed"], None if end == "more" else flushed)
         waits = told["waits"]
@@ -308,13 +316,11 @@ class Answers(WithServer):
         # Each item's bytes, read alone, emit its event, and no other.
         at = 0
         for length, line, _ in items[: flushed if end != "more" else None]:
-            with InputParser() as parser:
-                alone = parser.parse(data[at : at + length], False)
-            self.assertEqual([meanings.line(event) for event in alone], [line], data[at : at + length])
+            self.assertEqual(meanings.lines(data[at : at + length], reading), [line], data[at : at + length])
             at += length
         for path in ("reads", *(f"cut?at={at}" for at in (0, 1, len(data) // 2, len(data), len(data) + 9))):
-            other = self.told(f"/api/{path}{'&' if '?' in path else '?'}end={end}", data)
-            self.assertTrue(other["same"], (path, data))
+            other = self.told(f"/api/{path}{'&' if '?' in path else '?'}end={end}&reading={reading}", data)
+            self.assertEqual((other["same"], other["bytes"]), (True, len(data)), (path, data))
         return items, told
 
     def test_streams(self):
@@ -322,6 +328,11 @@ class Answers(WithServer):
             for end in meanings.ENDS:
                 self.check(STREAM + rest, end)
                 self.check(rest, end)
+        for reading in meanings.READINGS:
+            for rest in RESTS + BEGINNINGS:
+                for end in meanings.ENDS:
+                    self.check(EXTENDED_STREAM + rest, end, reading)
+                    self.check(rest, end, reading)
 
     def test_portions(self):
         for count in (299, 300, 301, 600, 601, 1000):
@@ -334,10 +345,108 @@ class Answers(WithServer):
         seed = random.randrange(1 << 32)
         chance = random.Random(seed)
         pieces = [b"\x1b", b"[", b"O", b"1;5A", b"<0;3;4", b"M", b"200~", b"\x1b[201~", b"\xe2", b"\x82\xac", b"q", b"\xff", b"\0"]
-        for _ in range(60):
-            data = b"".join(chance.choice(pieces) for _ in range(chance.randrange(30)))
-            with self.subTest(seed=seed, data=data):
-                self.check(data, chance.choice(meanings.ENDS))
+        others = [b"\x1b]", b"\x1bP", b"\x1b_", b"\x1b\\", b"\a", b"\x1b[1;9", b"A", b"R", b"u", b":3", b"?", b"$", b"\x1b[["]
+        for reading in meanings.READINGS:
+            for _ in range(60):
+                data = b"".join(chance.choice(pieces if chance.random() < 0.6 else others) for _ in range(chance.randrange(30)))
+                with self.subTest(seed=seed, data=data, reading=reading):
+                    self.check(data, chance.choice(meanings.ENDS), reading)
+
+    def test_readings(self):
+        """Each reading has its own events. The table's is that of a request that names none."""
+        typed = ["key U+005B ALT", *(f"key U+{ord(it):04X} NONE" for it in "24;80R")]
+        for data, *lines in [
+            (b"\x1b[1;9A", ["key UpArrow ALT"], ["key UpArrow ALT"], ["report UpArrow SUPER press"]),
+            (b"\x1b[24;80R", typed, ["cursor 24 80"], ["cursor 24 80"]),
+            (b"\x1b[27u", ["key U+001B NONE"], ["key U+001B NONE"], ["report Escape NONE press"]),
+            (b"\x1b[1;5R", ["key F3 CTRL"], ["key F3 CTRL"], ["cursor 1 5"]),
+            (b"\x1b[1;5A", ["key UpArrow CTRL"], ["key UpArrow CTRL"], ["report UpArrow CTRL press"]),
+            (b"q\x03\xc3\xa9", *[["key U+0071 NONE", "key U+0063 CTRL", "key U+00E9 NONE"]] * 3),
+        ]:
+            for reading, wanted in zip(("table", "extended", "kitty"), lines):
+                items, _ = self.check(data, "more", reading)
+                self.assertEqual([it[1] for it in items], wanted, (data, reading))
+                steps = self.told(f"/api/reads?reading={reading}", data)["steps"]
+                self.assertEqual([line for _, *came in steps for line in came], wanted)
+                reads = self.told(f"/api/cut?at=2&reading={reading}", data)["reads"]
+                self.assertEqual(reads[0]["lines"] + reads[1]["lines"], wanted)
+            for path in ("read", "reads", "cut"):
+                self.assertEqual(self.told(f"/api/{path}", data), self.told(f"/api/{path}?reading=table", data))
+
+    def test_lines_beyond_the_table(self):
+        """The lines are those of hedrugal-keys."""
+        for data, line, glyphs in [
+            (b"\x1b[97;5:3u", "report U+0061 CTRL release", "a"),
+            (b"\x1b[97;1:2u", "report U+0061 NONE repeat", "a"),
+            (b"\x1b[97:65:99;2;65u", "report U+0061 SHIFT press shifted U+0041 base U+0063 text 1:41", "A"),
+            (b"\x1b[97::99;;228u", "report U+0061 NONE press base U+0063 text 2:c3a4", "ä"),
+            (b"\x1b[97;256:1u", "report U+0061 SHIFT+ALT+CTRL+SUPER+HYPER+META+CAPS_LOCK+NUM_LOCK press", "a"),
+            (b"\x1b[57414u", "report functional 57414 NONE press", ""),
+            (b"\x1b[[B", "report F2 NONE press", ""),
+            (b"\x1b[1;1:3A", "report UpArrow NONE release", ""),
+            (b"\x1b[I", "focus gained", ""),
+            (b"\x1b[O", "focus lost", ""),
+            (b"\x1b[?24;80;1R", "cursor 24 80", ""),
+            (b"\x1b[48;24;80;480;800t", "resize 24 80 480 800", ""),
+            (b"\x1b[?31u", "keyboard flags 31", ""),
+            (b"\x1b[32;3;4M", "mouse 3 4 LEFT NONE", ""),
+            (b"\x1b[M !!", "mouse 1 1 LEFT NONE", ""),
+            (b"\x1b[?62;4c", "csi 6:3f36323b3463", "?62;4c"),
+            (b"\x1b]11;#fff\a", "osc 7:31313b23666666", "11;#fff"),
+            (b"\x1b]\xff<b>\x1b\\", "osc 4:ff3c623e", "\ufffd<b>"),
+            (b"\x1b]\a", "osc 0:", ""),
+            (b"\x1bP>|x\x1b\\", "dcs 3:3e7c78", ">|x"),
+            (b"\x1b_Gi=1;OK\x1b\\", "apc 7:47693d313b4f4b", "Gi=1;OK"),
+            (b"\x1b]" + b"x" * 30 + b"\a", "osc 30:" + "78" * 24 + "…", "x" * 24 + "…"),
+        ]:
+            for reading in ("extended", "kitty"):
+                items, told = self.check(data, "more", reading)
+                self.assertEqual((items, told["waits"]), ([[len(data), line, glyphs]], None), reading)
+
+    def test_beginnings(self):
+        """What begins no row of the table is named by what it becomes."""
+        found = {"csi": [], "osc": [], "dcs": [], "apc": [], "report": [], None: []}
+        for reading in ("extended", "kitty"):
+            for rest in BEGINNINGS:
+                waits = self.told(f"/api/read?reading={reading}", rest)["waits"]
+                self.assertEqual((waits["kind"], waits["length"], waits["count"], waits["named"]), ("Sequence", len(rest), 0, []), rest)
+                self.assertEqual(waits["emits"], len(waits["flushed"]))
+                found[waits["begins"]].append(rest)
+                self.assertEqual(waits["mouse"] is not None, rest == b"\x1b[M!", rest)
+        self.assertEqual(found["csi"], [b"\x1b[?", b"\x1b\x1b[?1"] * 2)
+        self.assertEqual(found["osc"], [b"\x1b]11;", b"\x1b]11;\x1b", b"\x1b\x1b]1"] * 2)
+        self.assertEqual((found["dcs"], found["apc"]), ([b"\x1bP"] * 2, [b"\x1b_G"] * 2))
+        self.assertEqual((found["report"], found[None]), ([b"\x1b[["] * 2, [b"\x1b[M!"] * 2))
+        for reading, begins, line in [
+            ("table", None, "key UpArrow NONE"),
+            ("extended", "csi", "key UpArrow NONE"),
+            ("kitty", "csi", "report UpArrow NONE press"),
+        ]:
+            waits = self.told(f"/api/read?reading={reading}", b"\x1b[1;")["waits"]
+            self.assertEqual((waits["begins"], waits["named"][0]), (begins, ["1b5b313b3141", line]))
+            self.assertEqual(waits["count"], 169)
+        waits = self.told("/api/read?reading=extended", b"\x1b[<0;3")["waits"]
+        self.assertEqual((waits["count"], waits["begins"], waits["mouse"][1]), (0, "csi", "mouse 33 4 LEFT NONE"))
+
+    def test_long_strings(self):
+        """A string may wait with 65,535 bytes. Of the many events that a flush makes of it some are listed."""
+        for rest, begins in [
+            (b"\x1b]" + b"a" * 65533, "osc"),
+            (b"\x1b]" + b"a" * 65532 + b"\x1b", "osc"),
+            (b"\x1bP" + b"a" * 65532 + b"\x1b", "dcs"),
+            (b"\x1b_" + b"a" * 60000, "apc"),
+        ]:
+            began = time.process_time()
+            status, _, body = self.ask("POST", "/api/read?reading=extended", rest)
+            self.assertLess(time.process_time() - began, 2, begins)
+            waits = json.loads(body)["waits"]
+            self.assertEqual((status, waits["length"], waits["begins"], waits["mouse"]), (200, len(rest), begins, None))
+            self.assertEqual((waits["emits"], len(waits["flushed"])), (len(rest) - 1, meanings.LINES))
+            self.assertLess(len(body), 1 << 16)
+        told = self.told("/api/read?reading=extended", b"\x1b]" + b"a" * 65533 + b"\a")
+        self.assertEqual((told["events"], told["items"][0][:2]), (1, [65536, "osc 65533:" + "61" * 24 + "…"]))
+        told = self.told("/api/read?reading=extended", b"\x1b]" + b"a" * 65534)
+        self.assertEqual((told["events"], told["waits"]), (65535, None))
 
     def test_waits(self):
         """What stays buffered, and what it may become, for each kind."""
@@ -370,18 +479,17 @@ class Answers(WithServer):
 
     def test_what_is_named_is_so(self):
         """Each key that bytes are said to begin is read from the named bytes."""
-        for rest in RESTS:
-            waits = self.told("/api/read", rest)["waits"] or {}
+        for reading, rest in itertools.product(meanings.READINGS, RESTS + BEGINNINGS):
+            waits = self.told(f"/api/read?reading={reading}", rest)["waits"] or {}
             named = [
                 *waits.get("named", []),
                 *([waits["mouse"]] if waits.get("mouse") else []),
                 *([waits["alt"]] if waits.get("alt") else []),
             ]
             for text, *lines in named:
-                self.assertTrue(bytes.fromhex(text).startswith(rest))
+                self.assertTrue(bytes.fromhex(text).startswith(rest[len(rest) - waits["length"] :]))
                 if "InternalPasteStart" not in lines[0]:
-                    with InputParser() as parser:
-                        self.assertEqual([meanings.line(it) for it in parser.parse(bytes.fromhex(text), False)][-len(lines) :], lines)
+                    self.assertEqual(meanings.lines(bytes.fromhex(text), reading)[-len(lines) :], lines)
 
     def test_table(self):
         status, _, body = self.ask("GET", "/api/table")
@@ -441,6 +549,17 @@ class Answers(WithServer):
                 began = used()
                 self.assertLess(len(self.ask("POST", path, data)[2]), 1 << 16)
                 self.assertLess(used() - began, 2, piece)
+
+    def test_a_megabyte_in_other_readings(self):
+        """By the extended parser it takes at most twice as long."""
+        pieces = [b"a", b"\x1b[A", b"\x1b", b"\xff", b"\x1b[200~a\x1b[201~", b"\x1b[97;5:3u", b"\x1b]11;#fff\a", b"\x1b]" + b"a" * 65536]
+        for piece in pieces:
+            data = (piece * (MOST // len(piece) + 1))[:MOST]
+            for path in ("/api/read", "/api/reads", "/api/cut?at=5000"):
+                began = time.process_time()
+                status, _, body = self.ask("POST", f"{path}{'&' if '?' in path else '?'}reading=kitty", data)
+                self.assertLess(time.process_time() - began, 4, (path, piece[:20]))
+                self.assertEqual((status, len(body) < 1 << 16), (200, True))
 
 
 class Program(unittest.TestCase):

@@ -4,23 +4,36 @@ from __future__ import annotations
 
 import itertools
 import re
-from typing import Any, Dict, Iterator, List, Optional, Tuple
+from typing import Any, Callable, Dict, Iterable, Iterator, List, Optional, Tuple, Union
 
 from hedrugal import (
+    Apc,
+    Completions,
+    Csi,
+    CursorPosition,
+    Dcs,
     EncodeError,
-    Event,
+    ExtendedEvent,
+    ExtendedParser,
+    FocusGained,
+    FocusLost,
     Function,
     InputParser,
     Key,
     KeyboardEncoding,
+    KeyboardFlags,
     KeyCode,
     KeyCodeEncodeModes,
     KeyEvent,
+    KeyReport,
     Modifiers,
-    MouseButtons,
     MouseEvent,
+    Osc,
     Paste,
+    ReportedKey,
+    Resize,
     Row,
+    Rows,
     Waiting,
     __version__,
     encode,
@@ -30,8 +43,8 @@ from hedrugal import (
 ITEMS, STEPS, LINES = 300, 300, 40
 # How many bytes are read in pieces too, to compare the events.
 COMPARED = 1 << 14
-# The bytes and the characters of a paste that are shown.
-PASTED = 24
+# The bytes and the characters of a text that are shown.
+SHOWN = 24
 # How many keys are named that bytes may become.
 NAMED = 6
 
@@ -41,6 +54,19 @@ REPORT = b"\x1b[<0;3;4M"
 # What may come after the bytes: more bytes, nothing (a flush), or nothing and the end of an open paste.
 ENDS = ("more", "flush", "paste")
 
+AnyParser = Union[InputParser, ExtendedParser]
+
+# How the bytes are read, and what makes the parser: by the sequence table alone, with replies and reports, for Kitty's keyboard protocol.
+READINGS: Dict[str, Callable[[], AnyParser]] = {
+    "table": InputParser,
+    "extended": lambda: ExtendedParser(Rows.PORT),
+    "kitty": lambda: ExtendedParser(Rows.KITTY),
+}
+
+# What bytes may begin that begin no row of the sequence table, by the event that they become; and what may end them.
+BEGUN = {Csi: "csi", Osc: "osc", Dcs: "dcs", Apc: "apc", KeyReport: "report"}
+ENDINGS = (b"\\", b"\x1b\\", b"\a", b"A")
+
 Json = Dict[str, Any]
 
 
@@ -48,11 +74,13 @@ class Wrong(ValueError):
     """A request names something that isn't there."""
 
 
-def key_name(key: Key) -> str:
-    """The name of a key: `U+0041` for a character, `F5`, `UpArrow`."""
+def key_name(key: ReportedKey) -> str:
+    """The name of a key: `U+0041` for a character, `F5`, `UpArrow`, `functional 57414` for one without a name."""
     if isinstance(key, Function):
         return f"F{key.number}"
-    return key.name if isinstance(key, KeyCode) else f"U+{ord(key):04X}"
+    if isinstance(key, KeyCode):
+        return key.name
+    return f"U+{ord(key):04X}" if isinstance(key, str) else f"functional {key}"
 
 
 def set_name(flags: Any) -> str:
@@ -64,27 +92,62 @@ def key_line(key: Key, modifiers: Modifiers) -> str:
     return f"key {key_name(key)} {set_name(modifiers)}"
 
 
-def line(event: Event) -> str:
-    """The line that keyshow prints for an event. A long paste is cut."""
+def text_line(name: str, text: bytes) -> str:
+    """The number of the bytes of a text, and the first of them."""
+    return f"{name} {len(text)}:{text[:SHOWN].hex()}{'…' if len(text) > SHOWN else ''}"
+
+
+def report_line(report: KeyReport) -> str:
+    parts = ["report", key_name(report.key), set_name(report.modifiers), report.action.name.lower()]
+    parts += [f"shifted {key_name(report.shifted)}"] if report.shifted is not None else []
+    parts += [f"base {key_name(report.base)}"] if report.base is not None else []
+    parts += [text_line("text", report.text.encode())] if report.text else []
+    return " ".join(parts)
+
+
+# The lines of the events that the sequence table doesn't know.
+EXTENDED_LINES: Dict[type, Callable[[Any], str]] = {
+    KeyReport: report_line,
+    FocusGained: lambda _: "focus gained",
+    FocusLost: lambda _: "focus lost",
+    CursorPosition: lambda it: f"cursor {it.row} {it.column}",
+    Resize: lambda it: f"resize {it.rows} {it.columns} {it.height} {it.width}",
+    KeyboardFlags: lambda it: f"keyboard flags {it.flags.value}",
+    Csi: lambda it: text_line("csi", it.data),
+    Osc: lambda it: text_line("osc", it.data),
+    Dcs: lambda it: text_line("dcs", it.data),
+    Apc: lambda it: text_line("apc", it.data),
+}
+
+
+def line(event: ExtendedEvent) -> str:
+    """The line that keyshow prints for an event, or else the one that hedrugal-keys shows. A long text is cut."""
     if isinstance(event, KeyEvent):
         return key_line(event.key, event.modifiers)
     if isinstance(event, MouseEvent):
         return f"mouse {event.x} {event.y} {set_name(event.buttons)} {set_name(event.modifiers)}"
-    text = event.text.encode()
-    return f"paste {len(text)}:{text[:PASTED].hex()}{'…' if len(text) > PASTED else ''}"
+    if isinstance(event, Paste):
+        return text_line("paste", event.text.encode())
+    return EXTENDED_LINES[type(event)](event)
 
 
-def glyphs(event: Event) -> str:
-    """The character of a key, or the beginning of a pasted text, as far as they can be printed."""
-    if isinstance(event, KeyEvent):
+def glyphs(event: ExtendedEvent) -> str:
+    """The character of a key, or the beginning of the text that an event brings, as far as they can be printed."""
+    if isinstance(event, KeyReport) and event.text:
+        return printed(event.text)
+    if isinstance(event, (KeyEvent, KeyReport)):
         return event.key if isinstance(event.key, str) and event.key.isprintable() else ""
     if isinstance(event, Paste):
-        shown = "".join(it if it.isprintable() else " " for it in event.text[:PASTED])
-        return shown + ("…" if len(event.text) > PASTED else "")
-    return ""
+        return printed(event.text)
+    return printed(event.data.decode(errors="replace")) if isinstance(event, (Csi, Osc, Dcs, Apc)) else ""
 
 
-def items(parser: InputParser, more: bool) -> Iterator[Tuple[int, Event]]:
+def printed(text: str) -> str:
+    shown = "".join(it if it.isprintable() else " " for it in text[:SHOWN])
+    return shown + ("…" if len(text) > SHOWN else "")
+
+
+def items(parser: AnyParser, more: bool) -> Iterator[Tuple[int, ExtendedEvent]]:
     """The events that are next, each with the number of bytes that it consumed."""
     before = parser.waiting_len
     while True:
@@ -96,13 +159,50 @@ def items(parser: InputParser, more: bool) -> Iterator[Tuple[int, Event]]:
         before = after
 
 
-def finish(parser: InputParser, end: str) -> List[Event]:
+def skip(parser: AnyParser, more: bool, most: int) -> int:
+    """Consumes at most so many events, without making them, and returns how many there were."""
+    if isinstance(parser, InputParser):
+        return parser._skip(more, most)
+    count = 0
+    while count < most and parser._find_front(more):
+        parser._leave_front()
+        count += 1
+    return count
+
+
+def finish(parser: AnyParser, end: str) -> List[ExtendedEvent]:
     """The events that come of the end of the input."""
     if end == "more":
         return []
-    events = parser.flush()
+    events = [*parser.flush()]
     paste = parser.end_paste() if end == "paste" else None
     return events + ([paste] if paste else [])
+
+
+def lines(data: bytes, reading: str) -> List[str]:
+    """The lines of the events of these bytes, if no more come."""
+    with READINGS[reading]() as parser:
+        return [line(event) for event in parser.parse(data, False)]
+
+
+def became(rest: bytes, ends: Iterable[bytes], kind: Tuple[type, ...], reading: str) -> Optional[Tuple[bytes, ExtendedEvent]]:
+    """The rest and one of these ends, if the library reads an event of this kind from the rest on, and the event. None if it does so with
+    none of the ends. Before the event there may be an Escape key, and nothing else."""
+    with READINGS[reading]() as parser:
+        for end in ends:
+            parser.feed(rest + end)
+            for length, event in itertools.islice(items(parser, True), 2):
+                if isinstance(event, kind) and length > len(end) and not parser.waiting_len:
+                    return rest + end, event
+            parser.reset()
+    return None
+
+
+def completions(rest: bytes) -> Completions:
+    """The rows of the sequence table that would complete these bytes."""
+    with InputParser() as parser:
+        parser.feed(rest)
+        return parser.completions()
 
 
 def key_of(name: str) -> Key:
@@ -183,9 +283,9 @@ class Meanings:
             "rows": [[row.bytes.hex(), key_name(row.key), set_name(row.modifiers)] for row in self.rows],
         }
 
-    def read(self, data: bytes, end: str, first: int) -> Json:
+    def read(self, data: bytes, reading: str, end: str, first: int) -> Json:
         """The items of the bytes from the first one on, how many there are, and what stays buffered."""
-        with InputParser() as parser:
+        with READINGS[reading]() as parser:
             parser.feed(data)
             count = at = 0
             listed: List[Any] = []
@@ -193,22 +293,22 @@ class Meanings:
             for more in (True,) if end == "more" else (True, False):
                 if not more:
                     flushed = count
-                count += parser._skip(more, max(0, first - count))
+                count += skip(parser, more, max(0, first - count))
                 if not listed:
                     at = len(data) - parser.waiting_len
                 for length, event in itertools.islice(items(parser, more), ITEMS - len(listed)):
                     listed.append([length, line(event), glyphs(event)])
                     count += 1
-                count += parser._skip(more, len(data))
+                count += skip(parser, more, len(data))
             if end == "paste" and parser.is_paste_open:
                 length, paste = parser.waiting_len, parser.end_paste()
                 if paste and count >= first and len(listed) < ITEMS:
                     listed.append([length, line(paste), glyphs(paste)])
                 count += 1
-            waits = self.waits(parser, data)
+            waits = self.waits(parser, data, reading)
         return {"bytes": len(data), "events": count, "first": first, "at": at, "items": listed, "flushed": flushed, "waits": waits}
 
-    def waits(self, parser: InputParser, data: bytes) -> Optional[Json]:
+    def waits(self, parser: AnyParser, data: bytes, reading: str) -> Optional[Json]:
         """What stays buffered, what it may become, and what a flush makes of it. The flush is made here."""
         kind, length = parser.waiting, parser.waiting_len
         if kind is Waiting.Nothing:
@@ -216,52 +316,55 @@ class Meanings:
         told: Json = {"kind": kind.name, "length": length}
         if kind is Waiting.Paste:
             paste = parser.end_paste()
-            told.update(text=length - len(self.start), start=self.start.hex(), end=self.end.hex(), flushed=[line(paste)] if paste else [])
+            ended = [line(paste)] if paste else []
+            told.update(text=length - len(self.start), start=self.start.hex(), end=self.end.hex(), flushed=ended, emits=len(ended))
             return told
         rest = data[len(data) - length :]
         if kind is not Waiting.Character:
-            found = parser.completions()
-            alt = Modifiers.ALT if found.with_alt else Modifiers.NONE
-            before = rest[:1] if found.with_alt else b""
-            named = [[(before + row.bytes).hex(), key_line(row.key, row.modifiers | alt)] for row in self.named(found.rows)]
-            told.update(count=len(found.rows), with_alt=found.with_alt, named=named, mouse=self.report(rest))
+            told.update(self.may_become(rest, reading))
         if kind is Waiting.Escape:
-            told["alt"] = [(rest + b"q").hex(), *self.lines(rest + b"q")]
-        told["flushed"] = [line(event) for event in parser.flush()]
+            told["alt"] = [(rest + b"q").hex(), *lines(rest + b"q", reading)]
+        flushed = [line(event) for _, event in itertools.islice(items(parser, False), LINES)]
+        told.update(flushed=flushed, emits=len(flushed) + skip(parser, False, length))
         return told
 
-    def named(self, places: range) -> List[Row]:
-        """Some of these rows, each of another key: first those that most readers know."""
+    def may_become(self, rest: bytes, reading: str) -> Json:
+        """What the beginning of a sequence may become: rows of the table, of which some are named, what else it begins, a mouse report."""
+        found = completions(rest)
+        begun = became(rest, ENDINGS, tuple(BEGUN), reading)
+        mouse = became(rest, (REPORT[at:] for at in range(len(REPORT))), (MouseEvent,), reading)
+        return {
+            "count": len(found.rows),
+            "with_alt": found.with_alt,
+            "named": self.named(found, rest, reading),
+            "begins": begun and BEGUN[type(begun[1])],
+            "mouse": mouse and [mouse[0].hex(), line(mouse[1])],
+        }
+
+    def named(self, found: Completions, rest: bytes, reading: str) -> List[List[str]]:
+        """Bytes that complete the rest, and what they are read as: of some of these rows, each of another key. First are those that most
+        readers know."""
         chosen: Dict[Key, Row] = {}
-        for row in sorted(self.rows[places.start : places.stop], key=rank):
+        for row in sorted(self.rows[found.rows.start : found.rows.stop], key=rank):
             chosen.setdefault(row.key, row)
             if len(chosen) == NAMED:
                 break
-        return list(chosen.values())
+        before, alt = (rest[:1], Modifiers.ALT) if found.with_alt else (b"", Modifiers.NONE)
+        told = []
+        for row in chosen.values():
+            data = before + row.bytes
+            # The start of a paste is no event.
+            told.append([data.hex(), *(lines(data, reading) or [key_line(row.key, row.modifiers | alt)])])
+        return told
 
-    def report(self, rest: bytes) -> Optional[List[str]]:
-        """A mouse report that the library reads from the rest on, and its event. None if there is none."""
-        with InputParser() as parser:
-            for at in range(len(REPORT)):
-                parser.feed(rest + REPORT[at:])
-                for length, event in items(parser, True):
-                    if isinstance(event, MouseEvent) and length > len(REPORT) - at:
-                        return [(rest + REPORT[at:]).hex(), line(event)]
-                parser.reset()
-        return None
-
-    def lines(self, data: bytes) -> List[str]:
-        with InputParser() as parser:
-            return [line(event) for event in parser.parse(data, False)]
-
-    def reads(self, data: bytes, end: str) -> Json:
+    def reads(self, data: bytes, reading: str, end: str) -> Json:
         """The same bytes in reads of one byte, and whether the events are those of one read."""
         head, end = self.head(data, end)
-        with InputParser() as parser:
-            wanted = parser.parse(head) + finish(parser, end)
+        with READINGS[reading]() as parser:
+            wanted = [*parser.parse(head), *finish(parser, end)]
             parser.reset()
             steps: List[List[Any]] = []
-            events: List[Event] = []
+            events: List[ExtendedEvent] = []
             for at in range(len(head)):
                 came = parser.parse(head[at : at + 1])
                 events += came
@@ -272,16 +375,16 @@ class Meanings:
         flushed = [line(event) for event in last] if len(steps) == len(head) else []
         return {"bytes": len(head), "events": len(events), "same": events == wanted, "steps": steps, "flushed": flushed}
 
-    def cut(self, data: bytes, end: str, at: int) -> Json:
+    def cut(self, data: bytes, reading: str, end: str, at: int) -> Json:
         """The same bytes in two reads, the first of so many bytes, and whether the events are those of one read."""
         head, end = self.head(data, end)
         at = min(at, len(head))
-        with InputParser() as parser:
-            wanted = parser.parse(head) + finish(parser, end)
+        with READINGS[reading]() as parser:
+            wanted = [*parser.parse(head), *finish(parser, end)]
             parser.reset()
-            first = parser.parse(head[:at])
+            first = [*parser.parse(head[:at])]
             kind, length = parser.waiting.name, parser.waiting_len
-            second = parser.parse(head[at:]) + finish(parser, end)
+            second = [*parser.parse(head[at:]), *finish(parser, end)]
         reads = [{"events": len(it), "lines": [line(event) for event in it[:LINES]]} for it in (first, second)]
         return {"bytes": len(head), "at": at, "same": first + second == wanted, "reads": reads, "kind": kind, "length": length}
 

@@ -196,12 +196,24 @@ function chips(bytes, color = () => [], most = SHOWN) {
   return row;
 }
 
-const linkTo = (hex) => `#bytes=${hex}`;
+// The choice of a group of radio buttons.
+const chosen = (name) => document.querySelector(`input[name="${name}"]:checked`).value;
+const choose = (name, value) => { document.querySelector(`input[name="${name}"][value="${value}"]`).checked = true; };
 
-// A sequence and its event, as a link that puts the sequence into the field.
-const example = ([hex, ...lines]) => [
-  el('a', { class: 'sequence', href: linkTo(hex) }, sequence(fromHex(hex))), ' is ', el('code', {}, lines.join(', ')),
-];
+// The fragment of an input: what is as at first isn't in it.
+function fragmentOf(hex, cut = null, end = 'more') {
+  const words = new URLSearchParams({ bytes: hex }), reading = chosen('reading');
+  if (cut !== null) words.set('cut', cut);
+  if (end !== 'more') words.set('end', end);
+  if (reading !== 'table') words.set('reading', reading);
+  return `#${words}`;
+}
+
+// A link that puts a sequence into the field.
+const linkTo = (hex, attributes = {}) => el('a', { ...attributes, href: fragmentOf(hex), 'data-hex': hex }, sequence(fromHex(hex)));
+
+// A sequence, and what it is read as.
+const example = ([hex, ...lines]) => [linkTo(hex, { class: 'sequence' }), ' is ', el('code', {}, lines.join(', '))];
 
 // ---- The server
 
@@ -223,13 +235,13 @@ function failed(error) {
 const state = { bytes: new Uint8Array(), end: 'more', cut: null, owners: [], lines: [], waits: null, table: null };
 let asking = new AbortController();
 
-const notation = () => document.querySelector('input[name="notation"]:checked').value;
-const choose = (name) => { document.querySelector(`input[name="notation"][value="${name}"]`).checked = true; };
+const notation = () => chosen('notation');
 
 function readField() {
   const { bytes, used, wrong } = bytesOf($('text').value, notation());
   const how = NOTATIONS[used];
-  set('read-as', $('text').value ? `Read as ${how.name}${notation() === 'auto' ? how.why : ''}: ${many(bytes.length, 'byte')}.` : '');
+  const why = notation() === 'auto' ? how.why : '';
+  set('written-as', $('text').value ? `Written as ${how.name}${why}: ${many(bytes.length, 'byte')}.` : '');
   const names = wrong.map((part) => `‘${part}’`).join(', ');
   const isHex = used === 'hex';
   set('fault', !wrong.length ? '' : isHex ? `${names} is no pair of hexadecimal digits.` : `${names} is no escape, and stands for itself.`);
@@ -248,8 +260,8 @@ function fill(bytes) {
   if (notation() === 'hex') $('text').value = hexOf(bytes).join(' ');
   else {
     $('text').value = textOf(bytes);
-    if (notation() === 'names') choose('auto');
-    if (!same(bytesOf($('text').value, notation()).bytes, bytes)) choose('text');
+    if (notation() === 'names') choose('notation', 'auto');
+    if (!same(bytesOf($('text').value, notation()).bytes, bytes)) choose('notation', 'text');
   }
   readField();
 }
@@ -260,7 +272,7 @@ const head = (bytes) => bytes.subarray(0, COMPARED + 1);
 async function show() {
   asking.abort();
   asking = new AbortController();
-  const { signal } = asking, { bytes, end } = state;
+  const { signal } = asking, { bytes, end } = state, reading = chosen('reading');
   writeLink();
   if (bytes.length > MOST) {
     set('fault', `At most ${MOST.toLocaleString('en')} bytes can be read, and these are ${bytes.length.toLocaleString('en')}.`);
@@ -268,9 +280,9 @@ async function show() {
   }
   document.body.setAttribute('aria-busy', 'true');
   try {
-    const read = await ask('read', { end, first: 0 }, bytes, signal);
+    const read = await ask('read', { reading, end, first: 0 }, bytes, signal);
     showRead(read);
-    const [reads] = await Promise.all([ask('reads', { end }, head(bytes), signal), showCut(signal)]);
+    const [reads] = await Promise.all([ask('reads', { reading, end }, head(bytes), signal), showCut(signal)]);
     showReads(reads);
     document.body.setAttribute('aria-busy', 'false');
   } catch (error) {
@@ -308,7 +320,8 @@ function addItems(read) {
   $('more-items').replaceChildren();
   if (left > 0) {
     const button = el('button', { type: 'button' }, `Show the next ${Math.min(left, 300)} of ${many(left, 'more event')}`);
-    button.onclick = () => ask('read', { end: state.end, first: listed }, state.bytes, asking.signal).then((next) => {
+    const words = { reading: chosen('reading'), end: state.end, first: listed };
+    button.onclick = () => ask('read', words, state.bytes, asking.signal).then((next) => {
       const before = $('items').lastElementChild;
       addItems(next);
       before.nextElementSibling?.setAttribute('tabindex', '-1');
@@ -331,17 +344,27 @@ function whyEscape(waits, rest) {
     waits.named,
     ['A character after it is that character with Alt: ', ...example(waits.alt), '.'],
     waits.mouse && ['It may become a mouse report: ', ...example(waits.mouse), '.'],
+    chosen('reading') !== 'table' && [`A reply or a report may begin with ${isAlone ? 'it' : 'the second one'}, too.`],
     ['So only the next byte tells, or a pause. A program waits for some 50 ms, and flushes if nothing came.'],
   ];
 }
 
+const BEGUN = {
+  csi: 'a control sequence', osc: 'a command (OSC)', dcs: 'a device control string (DCS)', apc: 'an application command (APC)',
+  report: 'a key report',
+};
+
 function whySequence(waits) {
   const keys = waits.count === 1 ? 'this key' : `one of ${many(waits.count, 'key')}`;
-  const mouse = waits.count ? 'They may become a mouse report, too: ' : 'They begin a mouse report, whose end is still to come: ';
+  const begun = BEGUN[waits.begins], half = begun && !waits.count ? 'a reply or a report' : 'a key';
+  const mouse = waits.count || begun ? 'They may become a mouse report, too: ' : 'They begin a mouse report, whose end is still to come: ';
+  const other = waits.count ? `Or they begin ${begun} that the table doesn’t have.`
+    : `They are the beginning of ${begun}, whose end is still to come.`;
   return [
     waits.count && [`More bytes may make ${keys} of them:`], waits.count && waits.named,
+    begun && [other],
     waits.mouse && [mouse, ...example(waits.mouse), '.'],
-    ['They may be half of a key on a slow line. A flush breaks them, so a program flushes them after a long pause, or never.'],
+    [`They may be half of ${half} on a slow line. A flush breaks them, so a program flushes them after a long pause, or never.`],
   ];
 }
 
@@ -384,12 +407,29 @@ function showWaits(waits) {
   }
   const isPaste = waits.kind === 'Paste';
   $('flush').textContent = isPaste ? 'End the paste here' : 'Flush: no more bytes come';
-  $('flush-means').replaceChildren('That emits ', el('code', {}, waits.flushed.join(', ')), '.');
+  const more = waits.emits - waits.flushed.length;
+  const others = more > 0 ? `, and ${many(more, 'more event')}.` : '.';
+  $('flush-means').replaceChildren('That emits ', el('code', {}, waits.flushed.join(', ')), others);
 }
 
 function flush(end, focus) {
   const isWaiting = state.end === 'more';
   setBytes(state.bytes, isWaiting ? end : 'more').then(() => { if (!$(focus).closest('[hidden]')) $(focus).focus(); });
+}
+
+// What each reading is for, and the parser of a report.
+const READINGS = {
+  table: { means: 'An InputParser reads so. Replies and reports are typed text to it.' },
+  extended: { means: 'An ExtendedParser reads so, for a program that asks its terminal questions.', parser: 'ExtendedParser, Rows::Port' },
+  kitty: {
+    means: 'An ExtendedParser with Rows::Kitty reads so, for a program that turns the protocol on.', parser: 'ExtendedParser, Rows::Kitty',
+  },
+};
+
+// Says what the reading is for. The links of the page keep it.
+function showReading() {
+  set('reading-means', READINGS[chosen('reading')].means);
+  for (const link of document.querySelectorAll('a[data-hex]')) link.href = fragmentOf(link.dataset.hex);
 }
 
 // ---- The same bytes in two reads, and in reads of one byte
@@ -412,7 +452,7 @@ function listOf(read) {
 
 async function showCut(signal) {
   const { bytes, end } = state, at = state.cut ?? bytes.length >> 1;
-  const cut = await ask('cut', { end, at }, head(bytes), signal);
+  const cut = await ask('cut', { reading: chosen('reading'), end, at }, head(bytes), signal);
   const slider = $('cut');
   slider.max = String(cut.bytes);
   slider.value = String(cut.at);
@@ -446,12 +486,7 @@ function showReads(reads) {
 
 // ---- The link
 
-function fragment() {
-  const words = new URLSearchParams({ bytes: hexOf(state.bytes).join('') });
-  if (state.cut !== null) words.set('cut', state.cut);
-  if (state.end !== 'more') words.set('end', state.end);
-  return `#${words}`;
-}
+const fragment = () => fragmentOf(hexOf(state.bytes).join(''), state.cut, state.end);
 
 function writeLink() {
   const fits = state.bytes.length <= LINKED;
@@ -469,8 +504,10 @@ function loadLink() {
     return false;
   }
   if (!hex) return false;
-  const cut = words.get('cut') ?? '', end = words.get('end') ?? '';
+  const cut = words.get('cut') ?? '', end = words.get('end') ?? '', reading = words.get('reading') ?? '';
   state.cut = /^[0-9]{1,8}$/.test(cut) ? Number(cut) : null;
+  choose('reading', Object.hasOwn(READINGS, reading) ? reading : 'table');
+  showReading();
   fill(fromHex(hex));
   setBytes(fromHex(hex), ['flush', 'paste'].includes(end) ? end : 'more');
   return true;
@@ -479,7 +516,8 @@ function loadLink() {
 function report() {
   const after = { more: 'more bytes may come', flush: 'a flush', paste: 'a flush, and the end of the open paste' }[state.end];
   const cut = state.cut === null ? 'at once' : `cut after byte ${state.cut}`;
-  return [`bytes: ${hexOf(state.bytes).join(' ')}`, `then: ${after}`, `read: ${cut}`, ...state.lines,
+  const { parser } = READINGS[chosen('reading')];
+  return [`bytes: ${hexOf(state.bytes).join(' ')}`, `then: ${after}`, `read: ${cut}`, ...(parser ? [`by: ${parser}`] : []), ...state.lines,
     ...(state.waits ? [`waiting ${state.waits.length}`] : []), `hedrugal ${state.table?.version ?? ''}`, ''].join('\n');
 }
 
@@ -578,11 +616,11 @@ function showSent(answer) {
       const names = mode.map((value, at) => (matters[at] ? MODE_NAMES[at][value] : '')).filter(Boolean).join(', ') || 'every mode';
       const read = answer.reads[hex].join(', '), isSame = read === answer.line;
       return el('tr', isNow ? { class: 'now' } : {}, el('th', { scope: 'row' }, names, isNow && rows.length > 1 ? ' (chosen above)' : ''),
-        el('td', {}, hex ? el('a', { href: linkTo(hex) }, sequence(fromHex(hex))) : 'nothing'),
+        el('td', {}, hex ? linkTo(hex) : 'nothing'),
         el('td', {}, !hex ? '' : isSame ? `✓ ${read}` : `≠ ${read}`));
     })));
-  const chosen = modesNow().map((value, at) => (value ? MODE_NAMES[at][value] : '')).filter(Boolean);
-  set('modes-now', chosen.length ? chosen.join(', ') : 'xterm, all off');
+  const names = modesNow().map((value, at) => (value ? MODE_NAMES[at][value] : '')).filter(Boolean);
+  set('modes-now', names.length ? names.join(', ') : 'xterm, all off');
 }
 
 // ---- The table of sequences
@@ -637,8 +675,7 @@ function addRows() {
   for (const [hex, key, modifiers] of found.slice(listed, listed + PORTION)) {
     const isShown = /^U\+00[2-7]/.test(key) && key !== 'U+007F';
     const glyph = !isShown ? '' : key === 'U+0020' ? 'space' : String.fromCodePoint(parseInt(key.slice(2), 16));
-    const link = el('a', { href: linkTo(hex) }, sequence(fromHex(hex)));
-    body.append(el('tr', {}, el('td', {}, link), el('td', {}, `${key} ${modifiers} `, el('span', { class: 'quiet' }, glyph))));
+    body.append(el('tr', {}, el('td', {}, linkTo(hex)), el('td', {}, `${key} ${modifiers} `, el('span', { class: 'quiet' }, glyph))));
   }
   listed = Math.min(found.length, listed + PORTION);
   $('rows').closest('.wide').hidden = !found.length;
@@ -693,6 +730,10 @@ const writeLater = delayed(200, writeLink);
 $('text').addEventListener('input', showTyped);
 $('text').addEventListener('paste', paste);
 $('notation').addEventListener('change', showTyped);
+$('reading').addEventListener('change', () => {
+  showReading();
+  show();
+});
 $('press').addEventListener('keydown', press);
 $('flush').addEventListener('click', () => flush(state.waits?.kind === 'Paste' ? 'paste' : 'flush', 'unflush'));
 $('unflush').addEventListener('click', () => flush('more', 'flush'));
@@ -704,7 +745,9 @@ $('clear').addEventListener('click', () => {
 });
 for (const button of document.querySelectorAll('[data-try]')) {
   button.addEventListener('click', () => {
-    if (notation() !== 'auto') choose('auto');
+    choose('notation', 'auto');
+    if (button.dataset.reading) choose('reading', button.dataset.reading);
+    showReading();
     $('text').value = button.dataset.try;
     state.cut = null;
     setBytes(readField());
@@ -723,6 +766,7 @@ $('modifiers').addEventListener('change', showKey);
 $('find').addEventListener('input', delayed(40, showFound));
 window.addEventListener('hashchange', () => { if (loadLink()) $('text').focus(); });
 
+showReading();
 if (!loadLink()) {
   $('text').value = '\\e[1;5Aq\\e';
   setBytes(readField());

@@ -13,10 +13,10 @@ import sys
 import threading
 import time
 from http.server import BaseHTTPRequestHandler, ThreadingHTTPServer
-from typing import Any, Dict, List, Optional, Tuple
+from typing import Any, Dict, Iterable, List, Optional, Tuple
 from urllib.parse import parse_qs, urlsplit
 
-from .meanings import ENDS, Meanings, Wrong, texts
+from .meanings import ENDS, READINGS, Meanings, Wrong, texts
 
 ADDRESS = "127.0.0.1"
 # The bytes that a request may have, and the bytes and the seconds for which one that was refused is read on.
@@ -162,14 +162,12 @@ class Handler(BaseHTTPRequestHandler):
         words = {name: values[-1] for name, values in named.items()}
         if path == "/api/encode":
             return texts(words.get("key", ""), words.get("modifiers", "NONE"))
-        end = words.get("end", "more")
-        if end not in ENDS:
-            raise Wrong(f"end is one of {', '.join(ENDS)}")
+        reading, end = one_of(READINGS, words, "reading"), one_of(ENDS, words, "end")
         if path == "/api/read":
-            return self.server.meanings.read(data, end, number(words, "first"))
+            return self.server.meanings.read(data, reading, end, number(words, "first"))
         if path == "/api/reads":
-            return self.server.meanings.reads(data, end)
-        return self.server.meanings.cut(data, end, number(words, "at"))
+            return self.server.meanings.reads(data, reading, end)
+        return self.server.meanings.cut(data, reading, end, number(words, "at"))
 
     def length(self) -> int:
         """The length of the request's body."""
@@ -229,6 +227,15 @@ def number(words: Dict[str, str], name: str) -> int:
     if not (text.isascii() and text.isdigit() and len(text) < 10):
         raise Wrong(f"{name} is a number")
     return int(text)
+
+
+def one_of(names: Iterable[str], words: Dict[str, str], name: str) -> str:
+    """The one of these names that a word of the query has, the first of them if there is no such word."""
+    known = [*names]
+    word = words.get(name, known[0])
+    if word not in known:
+        raise Wrong(f"{name} is one of {', '.join(known)}")
+    return word
 
 
 def at_port(port: int) -> Tuple[Optional[Server], str]:
