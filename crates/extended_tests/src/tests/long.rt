@@ -1,7 +1,7 @@
 // Input at the limits of the forms and far past any small bound.
 use super::calls::EVERY_CALL;
 use super::line::line_of;
-use super::{BOTH, ExtendedParser, LAST, MORE, Rows, read_cut};
+use super::{BOTH, ExtendedParser, KITTY, LAST, MORE, PORT, Rows, read_cut};
 use std::alloc::{AllocError, Global};
 use std::process::Abort;
 use std::test::Fail;
@@ -12,23 +12,15 @@ type Parts = &'static [(&'static [u8], usize)];
 // A text, and the line that it gives with more to come.
 type LongExample = (Parts, Parts);
 
-// The longest string of each kind, and strings that are a byte longer, which are typed text.
+// The longest string of each kind, also after an ESC, and the longest text that waits.
 const STRINGS: &[LongExample] = &[
     (
         &[(b"\x1b]", 1), (b"x", 65533), (b"\x07", 1)],
         &[(b"Osc(", 1), (b"x", 65533), (b")", 1)],
     ),
     (
-        &[(b"\x1b]", 1), (b"x", 65534), (b"\x07", 1)],
-        &[(b"] ALT", 1), (b"; x", 65534), (b"; g CTRL", 1)],
-    ),
-    (
         &[(b"\x1b]", 1), (b"x", 65532), (b"\x1b\\", 1)],
         &[(b"Osc(", 1), (b"x", 65532), (b")", 1)],
-    ),
-    (
-        &[(b"\x1b]", 1), (b"x", 65533), (b"\x1b\\", 1)],
-        &[(b"] ALT", 1), (b"; x", 65533), (b"; \\ ALT", 1)],
     ),
     (
         &[(b"\x1bP", 1), (b"x", 65532), (b"\x1b\\", 1)],
@@ -39,8 +31,33 @@ const STRINGS: &[LongExample] = &[
         &[(b"Apc(", 1), (b"x", 65532), (b")", 1)],
     ),
     (
+        &[(b"\x1b\x1b]", 1), (b"x", 65533), (b"\x07", 1)],
+        &[(b"Escape; Osc(", 1), (b"x", 65533), (b")", 1)],
+    ),
+    (&[(b"\x1b\x1b]", 1), (b"x", 65533)], &[(b"waits 65536", 1)]),
+];
+
+// Strings that are a byte longer, ended or not: they are typed text.
+const TYPED_STRINGS: &[LongExample] = &[
+    (
+        &[(b"\x1b]", 1), (b"x", 65534), (b"\x07", 1)],
+        &[(b"] ALT", 1), (b"; x", 65534), (b"; g CTRL", 1)],
+    ),
+    (
+        &[(b"\x1b]", 1), (b"x", 65533), (b"\x1b\\", 1)],
+        &[(b"] ALT", 1), (b"; x", 65533), (b"; \\ ALT", 1)],
+    ),
+    (
         &[(b"\x1b_", 1), (b"x", 65533), (b"\x1b\\", 1)],
         &[(b"_ ALT", 1), (b"; x", 65533), (b"; \\ ALT", 1)],
+    ),
+    (
+        &[(b"\x1b\x1b]", 1), (b"x", 65534)],
+        &[(b"Escape ALT; ]", 1), (b"; x", 65534)],
+    ),
+    (
+        &[(b"\x1bP", 1), (b"x", 65533), (b"\x1b", 1)],
+        &[(b"P ALT", 1), (b"; x", 65533), (b"; waits 1", 1)],
     ),
 ];
 
@@ -98,7 +115,7 @@ fn joined(alloc: Global, parts: Parts) -> Result<Vec<u8>, AllocError> {
     Ok(text)
 }
 
-// The parser reads the text of an example by one call, and in pieces of 64 bytes.
+// The parser reads the text of an example by one call, and in pieces of 64 bytes, with its last byte alone or not.
 fn check_long(
     rt: &impl Abort,
     alloc: Global,
@@ -107,7 +124,7 @@ fn check_long(
 ) -> Result<(), Fail> {
     let text = joined(alloc, parts)?;
     let wanted = joined(alloc, wanted)?;
-    for place in [0, text.len()] {
+    for place in [0, text.len().saturating_sub(1), text.len()] {
         parser.reset();
         let events = read_cut(alloc, parser, &text, MORE, place, 64)?;
         let line = line_of(alloc, events.as_slice(), parser)?;
@@ -116,8 +133,13 @@ fn check_long(
     Ok(())
 }
 
-fn check_all_long(rt: &impl Abort, alloc: Global, examples: &[LongExample]) -> Result<(), Fail> {
-    for rows in BOTH {
+fn check_all_long(
+    rt: &impl Abort,
+    alloc: Global,
+    readings: &[Rows],
+    examples: &[LongExample],
+) -> Result<(), Fail> {
+    for rows in readings {
         let mut parser = ExtendedParser::new(alloc, *rows)?;
         for example in examples {
             check_long(rt, alloc, &mut parser, example)?;
@@ -128,17 +150,27 @@ fn check_all_long(rt: &impl Abort, alloc: Global, examples: &[LongExample]) -> R
 
 #[test]
 fn reads_strings_up_to_their_limit(rt: HostRuntime) -> Result<(), Fail> {
-    check_all_long(&rt, rt.alloc(), STRINGS)
+    check_all_long(&rt, rt.alloc(), BOTH, STRINGS)
+}
+
+#[test]
+fn reads_longer_strings_as_typed_text(rt: HostRuntime) -> Result<(), Fail> {
+    check_all_long(&rt, rt.alloc(), PORT, TYPED_STRINGS)
+}
+
+#[test]
+fn reads_longer_strings_as_typed_text_with_kitty(rt: HostRuntime) -> Result<(), Fail> {
+    check_all_long(&rt, rt.alloc(), KITTY, TYPED_STRINGS)
 }
 
 #[test]
 fn reads_control_sequences_up_to_their_limit(rt: HostRuntime) -> Result<(), Fail> {
-    check_all_long(&rt, rt.alloc(), CONTROLS)
+    check_all_long(&rt, rt.alloc(), BOTH, CONTROLS)
 }
 
 #[test]
 fn reads_100000_bytes(rt: HostRuntime) -> Result<(), Fail> {
-    check_all_long(&rt, rt.alloc(), &[MIXED, PASTE])
+    check_all_long(&rt, rt.alloc(), BOTH, &[MIXED, PASTE])
 }
 
 // Each way to call the parser reads many events at once.

@@ -1,4 +1,4 @@
-use Rattle.std.proofs.Common.{[], ◌∷◌, arith, length}
+use Rattle.std.proofs.Common.{[], ◌∷◌, arith}
 use Rattle.extended_tests.proofs.tests.calls.pulled.Goals as goal
 
 pub loop-events-smaller : goal.loop-events-smaller
