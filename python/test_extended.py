@@ -519,15 +519,18 @@ LINES = [
     "attributes: 62;22",
     "typed: 0",
 ]
-NO_ANSWER = "no answer to the last question in 1 s"
+NO_ANSWER = "no answer to the last question in 3 s"
 
 
 class Ask(unittest.TestCase):
     """The example on a pseudo-terminal, of which the test plays the terminal."""
 
     def setUp(self):
+        self.ask(str(SECONDS))
+
+    def ask(self, *seconds):
         words = [shutil.which("env"), f"PYTHONPATH={HERE}", f"HEDRUGAL_LIBRARY={LIBRARY}", sys.executable, "-B", "-W", "error"]
-        self.terminal = Terminal([*words, ASK])
+        self.terminal = Terminal([*words, ASK, *seconds])
         self.addCleanup(self.terminal.close)
         self.terminal.wait_for(lambda: self.terminal.output == QUESTIONS, "question")
         self.assertTrue(self.terminal.is_raw())
@@ -553,6 +556,7 @@ class Ask(unittest.TestCase):
 
     def test_no_answer(self):
         start = time.monotonic()
+        self.ask("3")
         self.assert_end(["typed: 0", NO_ANSWER], 1)
         self.assertLess(time.monotonic() - start, SECONDS)
 
@@ -562,6 +566,7 @@ class Ask(unittest.TestCase):
         self.assert_end(["attributes: 6", "typed: 0"])
 
     def test_a_cut_answer(self):
+        self.ask("3")
         self.terminal.send(b"\x1b[?24;80R\x1b[?6")
         self.assert_end(["cursor: row 24, column 80", "typed: 3", NO_ANSWER], 1)
 

@@ -216,6 +216,7 @@ if wants cargo; then
     ! wants rustfmt || check 'layout of the Rust crate' bash -c rust_layout
     ! wants serde || check 'Rust crate with serde' bash -c rust_serde_tests
     check 'live program in Rust' tools/live_test.sh "$work/target/debug/examples/live"
+    check 'asking program in Rust' tools/ask_test.sh "$work/target/debug/examples/ask"
     if wants valgrind; then
         check 'Rust crate under valgrind' bash -c 'rust_memcheck --test parser --test keymap -- --skip streams --skip recorded'
     fi

@@ -4,15 +4,15 @@ import sys
 import time
 
 sys.path.insert(0, os.path.join(os.path.dirname(os.path.dirname(os.path.realpath(__file__))), "live"))
-from runs import expect, run_all  # noqa: E402
+from runs import expect, run_all, run_tries  # noqa: E402
 from terminal import Failed, Terminal, run_without_terminal  # noqa: E402
 
 # The question that every terminal answers, and so the last.
 LAST_QUESTION = b"\033[c"
 POSITION, TEXT, GROUND = b"\033[?12;40R", b"\033]10;rgb:dada/dada/dada\033\\", b"\033]11;rgb:1e1e/1e1e/1e1e\007"
 FLAGS, ATTRIBUTES = b"\033[?5u", b"\033[?62;22c"
-# What a reply has to appear as in some line that is printed.
-ALL = [b"12", b"40", b"10;rgb:dada/dada/dada", b"11;rgb:1e1e/1e1e/1e1e", b"5", b"?62;22c"]
+# What has to be printed of the replies. A program may ask for the colour of the background alone.
+ALL = [b"12", b"40", b"rgb:1e1e/1e1e/1e1e", b"5", b"62;22"]
 
 
 def words_of(program):
@@ -54,7 +54,7 @@ def answers_byte_by_byte(program):
 def answers_few(program):
     """A terminal that knows neither colours nor Kitty's protocol."""
     printed = asked(program, [POSITION, ATTRIBUTES], 0)
-    has_all(printed, [b"12", b"40", b"?62;22c"])
+    has_all(printed, [b"12", b"40", b"62;22"])
 
 
 def types_meanwhile(program):
@@ -75,16 +75,22 @@ def answers_half(program):
 
 
 def has_no_terminal(program):
-    expect("status", run_without_terminal(words_of(program))[0], 2)
+    if run_without_terminal(words_of(program))[0] not in (1, 2):
+        raise Failed("it doesn't fail")
+
+
+def in_time(case):
+    """A case in which the replies have to come within a second: a machine with much to do may be late."""
+    return lambda program: run_tries(case, program)
 
 
 CASES = [
-    ("all replies", answers),
-    ("all replies, byte by byte", answers_byte_by_byte),
-    ("few replies", answers_few),
-    ("keys between the replies", types_meanwhile),
+    ("all replies", in_time(answers)),
+    ("all replies, byte by byte", in_time(answers_byte_by_byte)),
+    ("few replies", in_time(answers_few)),
+    ("keys between the replies", in_time(types_meanwhile)),
     ("no reply", answers_nothing),
-    ("half of the last reply", answers_half),
+    ("half of the last reply", in_time(answers_half)),
     ("no terminal", has_no_terminal),
 ]
 

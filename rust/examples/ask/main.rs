@@ -130,7 +130,11 @@ fn main() -> ExitCode {
     match asked {
         Ok(replies) => {
             replies.print();
-            ExitCode::SUCCESS
+            if replies.is_whole {
+                ExitCode::SUCCESS
+            } else {
+                ExitCode::FAILURE
+            }
         }
         Err(error) => {
             eprintln!("ask: {error}");
