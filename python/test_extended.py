@@ -49,6 +49,7 @@ from terminal import SECONDS, Terminal  # noqa: E402
 
 CTRL, SHIFT = Held.CTRL, Held.SHIFT
 RELEASE, REPEAT = KeyAction.RELEASE, KeyAction.REPEAT
+UP, DOWN, RIGHT, LEFT = KeyCode.UpArrow, KeyCode.DownArrow, KeyCode.RightArrow, KeyCode.LeftArrow
 ALT_BRACKET = KeyEvent("[", Modifiers.ALT)
 
 
@@ -105,7 +106,10 @@ CASES = {
     "actions": [
         (b"\x1b[97;1:1u\x1b[97;1:2u\x1b[97;1:3u", [KeyReport("a"), KeyReport("a", action=REPEAT), KeyReport("a", action=RELEASE)]),
         (b"\x1b[1;2:3A\x1b[3;5:2~", [KeyReport(KeyCode.UpArrow, SHIFT, RELEASE), KeyReport(KeyCode.Delete, CTRL, REPEAT)]),
-        (b"\x1b[1;1:3P\x1b[15;1:3~", [KeyReport(Function(1), action=RELEASE), KeyReport(Function(5), action=RELEASE)]),
+        (b"\x1b[1;:3A\x1b[;1:3B\x1b[;:3C\x1b[1;1:3D", [KeyReport(key, action=RELEASE) for key in (UP, DOWN, RIGHT, LEFT)]),
+        (b"\x1b[;:3H\x1b[;:3F\x1b[;:3E", [KeyReport(key, action=RELEASE) for key in (KeyCode.Home, KeyCode.End, KeyCode.KeyPadBegin)]),
+        (b"\x1b[;:3P\x1b[;:3Q\x1b[;:3S", [KeyReport(Function(number), action=RELEASE) for number in (1, 2, 4)]),
+        (b"\x1b[15;:3~\x1b[42;:3~\x1b[57376;:3~", [KeyReport(Function(number), action=RELEASE) for number in (5, 21, 13)]),
     ],
     "modifiers": [
         (b"\x1b[97;9u\x1b[97;17u\x1b[97;33u", [KeyReport("a", Held.SUPER), KeyReport("a", Held.HYPER), KeyReport("a", Held.META)]),

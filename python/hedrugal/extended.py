@@ -24,7 +24,6 @@ from . import (
     _declare,
     _EventParser,
     _fault,
-    _fields_of,
     _Flags,
     _key,
     _library,
@@ -257,7 +256,6 @@ class ExtendedParser(_EventParser[ExtendedEvent]):
         end_paste=_library.tw_extended_end_paste,
         reset=_library.tw_extended_reset,
     )
-    _kinds_with_text = frozenset([_EVENT_PASTE, _EVENT_REPORT, *_of_data])
 
     def __init__(self, rows: Rows = Rows.PORT) -> None:
         if not isinstance(rows, Rows):
@@ -274,7 +272,7 @@ class ExtendedParser(_EventParser[ExtendedEvent]):
         front = self._front
         kind = front.kind
         if kind in (_EVENT_KEY, _EVENT_MOUSE, _EVENT_PASTE):
-            return self._input_event(*_fields_of(front, _INPUT_AT))
+            return self._input_event(_INPUT_AT)
         if kind == _EVENT_REPORT:
             text = self._text(front.text_len).decode("utf-8") if front.text_len else ""
             return _key_report(*_report_fields_of(front, _REPORT_AT), text)
