@@ -580,6 +580,14 @@ class Ask(unittest.TestCase):
         self.assertIn("KeyboardInterrupt", self.terminal.printed_errors())
         self.assertEqual(self.terminal.settings(), self.terminal.before)
 
+    def test_terminate(self):
+        self.terminal.kill(signal.SIGTERM)
+        self.assert_end([], 128 + signal.SIGTERM)
+
+    def test_hangup(self):
+        self.terminal.kill(signal.SIGHUP)
+        self.assert_end([], 128 + signal.SIGHUP)
+
 
 class AskWithoutATerminal(unittest.TestCase):
     def test_it(self):
@@ -587,4 +595,4 @@ class AskWithoutATerminal(unittest.TestCase):
         text = f"import os, runpy\nos.setsid()\nrunpy.run_path({ASK!r}, run_name='__main__')"
         status, printed, errors = run_python(text, {"HEDRUGAL_LIBRARY": LIBRARY})
         self.assertEqual((status, printed), (1, ""))
-        self.assertIn("/dev/tty", errors)
+        self.assertRegex(errors, "^ask: .*/dev/tty'\n$")

@@ -7,6 +7,7 @@ The last question is the one for the terminal's attributes (DA1). Every terminal
 before won't be. The program ends with that answer, or after a second. What is typed meanwhile is counted."""
 import os
 import select
+import signal
 import sys
 import termios
 import time
@@ -62,14 +63,20 @@ def described(event: ExtendedEvent) -> Optional[str]:
     if isinstance(event, Osc) and event.data.startswith(b"11;"):
         return f"background: {event.data[3:].decode(errors='replace')}"
     if isinstance(event, KeyboardFlags):
-        return f"keyboard: {event.flags}"
+        return f"keyboard: {event.flags!r}"
     if isinstance(event, Csi) and is_attributes(event):
         return f"attributes: {event.data[1:-1].decode()}"
     return None
 
 
 def main() -> int:
-    terminal = os.open("/dev/tty", os.O_RDWR | os.O_NOCTTY)
+    # These would end the program at once, and leave the terminal in raw mode.
+    for number in (signal.SIGHUP, signal.SIGTERM):
+        signal.signal(number, lambda number, _: sys.exit(128 + number))
+    try:
+        terminal = os.open("/dev/tty", os.O_RDWR | os.O_NOCTTY)
+    except OSError as error:
+        sys.exit(f"ask: {error}")
     try:
         events = ask_in_raw_mode(terminal)
     finally:

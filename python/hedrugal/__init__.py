@@ -794,6 +794,7 @@ class _EventParser(_Closable, Generic[_AnyEvent]):
         return self._has_front
 
     def _front_event(self) -> _AnyEvent:
+        """The event at the front."""
         raise NotImplementedError
 
     def _leave_front(self) -> None:
@@ -803,7 +804,7 @@ class _EventParser(_Closable, Generic[_AnyEvent]):
             self._calls.drop_text(self._raw)
 
     def _input_event(self, offset: int = 0) -> Event:
-        """The event of an InputParser whose struct is at this place of the event at the front."""
+        """The key, mouse event or paste of which the front has the struct at this place."""
         kind, buttons, modifiers, key, x, y, detail, paste_len = _fields_of(self._front, offset)
         if kind == _KIND_KEY:
             return _key_event(key, detail, modifiers)
@@ -847,6 +848,7 @@ class InputParser(_EventParser[Event]):
         end_paste=_library.tw_parser_end_paste,
         reset=_library.tw_parser_reset,
     )
+    _front_event = _EventParser._input_event
 
     def __init__(self) -> None:
         super().__init__(_RawParser(), _RawEvent(), _library.tw_parser_init, _library.tw_parser_free)
@@ -908,8 +910,6 @@ class InputParser(_EventParser[Event]):
             while count < most and _next_untyped(parser, more, front) == _NEXT_EVENT:
                 count += 1
         return count
-
-    _front_event = _EventParser._input_event
 
 
 # The answers of a lookup that say nothing of a key.
@@ -1068,7 +1068,7 @@ def encode(
     _fault()
 
 
-# The extended parser has a file of its own, which stands on the names above.
+# The extended parser has a file of its own, which imports names of this one: so these lines come last.
 from .extended import (  # noqa: E402
     Apc,
     Csi,
