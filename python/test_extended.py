@@ -1,4 +1,4 @@
-"""Tests of hedrugal.ExtendedParser and of examples/ask.py. tools/python_test.sh runs them after those of test_hedrugal.py, of which many are
+"""Tests of hedrugal.ExtendedParser and of examples/ask.py. tools/python_test.sh runs them with those of test_hedrugal.py, of which many are
 made here with an ExtendedParser."""
 import ctypes
 import os
@@ -321,7 +321,8 @@ class Events(WithParsers):
         (event,) = self.parsers[Rows.PORT].parse(b"\x1b[97:65;6:2;65u")
         wanted = "KeyReport(key='a', modifiers=Held.SHIFT|CTRL, action=KeyAction.REPEAT, shifted='A', base=None, text='A')"
         self.assertEqual(repr(event), wanted)
-        events = [KeyReport(57414), FocusGained(), CursorPosition(1, 2), Resize(1, 2, 3, 4), KeyboardFlags(KittyKeyboardFlags(1)), Dcs(b"\xff")]
+        flags = KeyboardFlags(KittyKeyboardFlags.DISAMBIGUATE_ESCAPE_CODES)
+        events = [KeyReport(57414), FocusGained(), CursorPosition(1, 2), Resize(1, 2, 3, 4), flags, Dcs(b"\xff")]
         wanted = "[KeyReport(key=57414, modifiers=Held.NONE, action=KeyAction.PRESS, shifted=None, base=None, text=''), FocusGained(), "
         wanted += "CursorPosition(row=1, column=2), Resize(rows=1, columns=2, height=3, width=4), "
         wanted += "KeyboardFlags(flags=KittyKeyboardFlags.DISAMBIGUATE_ESCAPE_CODES), Dcs(data=b'\\xff')]"
@@ -341,8 +342,9 @@ class Events(WithParsers):
 
     def test_unknown_numbers(self):
         parser = self.parsers[Rows.PORT]
-        for change in ({"kind": 0}, {"kind": 14}, {"kind": 4, "report": extended._RawReport(4, 0, 1, 97, 1, 1)}, {"kind": 10, "text_len": 5}):
-            parser._front = extended._RawExtendedEvent(**change)
+        report = extended._RawReport(action=4, key=1, detail=97)
+        for fields in ({"kind": 0}, {"kind": 14}, {"kind": 4, "report": report}, {"kind": 10, "text_len": 5}):
+            parser._front = extended._RawExtendedEvent(**fields)
             self.assertRaises(RuntimeError, parser._front_event)
 
 

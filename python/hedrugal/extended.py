@@ -1,5 +1,5 @@
-r"""What terminals send beyond the sequence table, as events: replies to questions, focus reports, other mouse reports, control sequences and
-strings, and Kitty's keyboard protocol.
+r"""What terminals send beyond the sequence table, as events: replies to questions, focus reports, other mouse reports, control sequences
+and strings, and Kitty's keyboard protocol.
 
     >>> with ExtendedParser() as parser:
     ...     parser.parse(b"q\x1b[24;80R\x1b]11;rgb:0/0/0\x07")
@@ -260,7 +260,11 @@ class ExtendedParser(_EventParser[ExtendedEvent]):
     def __init__(self, rows: Rows = Rows.PORT) -> None:
         if not isinstance(rows, Rows):
             raise TypeError(f"Rows are required, not {type(rows).__name__}")
-        super().__init__(_RawExtended(), _RawExtendedEvent(), lambda raw: _library.tw_extended_init(raw, rows.value), _library.tw_extended_free)
+
+        def init(raw: _RawExtended) -> bool:
+            return bool(_library.tw_extended_init(raw, rows.value))
+
+        super().__init__(_RawExtended(), _RawExtendedEvent(), init, _library.tw_extended_free)
         self._rows = rows
 
     @property
@@ -296,8 +300,8 @@ _REPORTED = [(Modifiers.SHIFT, Held.SHIFT), (Modifiers.ALT, Held.ALT), (Modifier
 
 
 def key_report(event: ExtendedEvent) -> Optional[KeyReport]:
-    r"""Returns the report of a key, so that a program needs one case for keys. A KeyReport is returned as it is, and for a KeyEvent a press of
-    its key with its SHIFT, ALT and CTRL. Returns None for any other event.
+    r"""Returns the report of a key, so that a program needs one case for keys: a KeyReport as it is, and for a KeyEvent a press of its key
+    with its SHIFT, ALT and CTRL. Returns None for any other event.
 
         >>> with ExtendedParser() as parser:
         ...     events = parser.parse(b"\x03\x1b[99;5:3u")
