@@ -525,18 +525,16 @@ LINES = [
     "attributes: 62;22",
     "typed: 0",
 ]
-NO_ANSWER = "no answer to the last question in 1 s"
 
 
-class Ask(unittest.TestCase):
+class WithTerminal(unittest.TestCase):
     """The example on a pseudo-terminal, of which the test plays the terminal."""
 
-    def setUp(self):
-        words = [shutil.which("env"), f"PYTHONPATH={HERE}", f"HEDRUGAL_LIBRARY={LIBRARY}", sys.executable, "-B", "-W", "error"]
-        self.terminal = Terminal([*words, ASK])
+    def start(self, *words):
+        env = [shutil.which("env"), f"PYTHONPATH={HERE}", f"HEDRUGAL_LIBRARY={LIBRARY}"]
+        self.terminal = Terminal([*env, sys.executable, "-B", "-W", "error", ASK, *words])
         self.addCleanup(self.terminal.close)
-        self.terminal.wait_for(lambda: self.terminal.output == QUESTIONS, "question")
-        self.assertTrue(self.terminal.is_raw())
+        self.terminal.wait_for(lambda: self.terminal.output.startswith(QUESTIONS), "question")
 
     def assert_end(self, lines, status=0):
         """The program ends with this status, has printed these lines, and left the terminal as it was."""
@@ -546,6 +544,32 @@ class Ask(unittest.TestCase):
         printed = self.terminal.output[len(QUESTIONS) :].decode()
         self.assertEqual(printed, "".join(f"{line}\r\n" for line in lines))
         self.assertEqual(self.terminal.settings(), self.terminal.before)
+
+
+class NoAnswer(WithTerminal):
+    def test_no_answer(self):
+        self.start()
+        self.assert_end(["typed: 0", "no answer to the last question in 1 s"], 1)
+
+    def test_a_cut_answer(self):
+        self.start("4")
+        self.terminal.send(b"\x1b[?24;80R\x1b[?6")
+        self.assert_end(["cursor: row 24, column 80", "typed: 3", "no answer to the last question in 4 s"], 1)
+
+    def test_no_terminal(self):
+        """Without a terminal nothing is asked."""
+        text = f"import os, runpy\nos.setsid()\nrunpy.run_path({ASK!r}, run_name='__main__')"
+        status, printed, errors = run_python(text, {"HEDRUGAL_LIBRARY": LIBRARY})
+        self.assertEqual((status, printed), (1, ""))
+        self.assertRegex(errors, "^ask: .*/dev/tty'\n$")
+
+
+class Answers(WithTerminal):
+    """The program waits for its answers as long as the test may take."""
+
+    def setUp(self):
+        self.start(str(SECONDS))
+        self.assertTrue(self.terminal.is_raw())
 
     def test_answers(self):
         self.terminal.send(ANSWERS)
@@ -557,23 +581,13 @@ class Ask(unittest.TestCase):
             time.sleep(0.002)
         self.assert_end(LINES)
 
-    def test_no_answer(self):
-        start = time.monotonic()
-        self.assert_end(["typed: 0", NO_ANSWER], 1)
-        self.assertLess(time.monotonic() - start, SECONDS)
-
-    def test_some_answers(self):
-        """A terminal that knows the last question alone; and one whose last answer is cut off."""
+    def test_the_last_answer_alone(self):
         self.terminal.send(b"\x1b[?6c")
         self.assert_end(["attributes: 6", "typed: 0"])
 
-    def test_a_cut_answer(self):
-        self.terminal.send(b"\x1b[?24;80R\x1b[?6")
-        self.assert_end(["cursor: row 24, column 80", "typed: 3", NO_ANSWER], 1)
-
     def test_typed_meanwhile(self):
-        self.terminal.send(b"q\x1b[A" + ANSWERS[:9] + b"\x1b[I" + ANSWERS[9:] + b"\x1b")
-        self.assert_end([*LINES[:4], "typed: 4"])
+        self.terminal.send(b"q\x1b[A" + ANSWERS[:9] + b"\x1b[I" + ANSWERS[9:])
+        self.assert_end([*LINES[:4], "typed: 3"])
 
     def test_interrupt(self):
         """The modes are restored if the program ends by an exception."""
@@ -589,12 +603,3 @@ class Ask(unittest.TestCase):
     def test_hangup(self):
         self.terminal.kill(signal.SIGHUP)
         self.assert_end([], 128 + signal.SIGHUP)
-
-
-class AskWithoutATerminal(unittest.TestCase):
-    def test_it(self):
-        """Without a terminal nothing is asked."""
-        text = f"import os, runpy\nos.setsid()\nrunpy.run_path({ASK!r}, run_name='__main__')"
-        status, printed, errors = run_python(text, {"HEDRUGAL_LIBRARY": LIBRARY})
-        self.assertEqual((status, printed), (1, ""))
-        self.assertRegex(errors, "^ask: .*/dev/tty'\n$")

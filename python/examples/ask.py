@@ -1,10 +1,10 @@
 """Asks the terminal where its cursor is, which background colour it has and which flags of Kitty's keyboard protocol are set, and prints
 what it replies:
 
-    python3 python/examples/ask.py
+    python3 python/examples/ask.py [SECONDS]
 
 The last question is the one for the terminal's attributes (DA1). Every terminal answers it, and answers in order, so what wasn't answered
-before won't be. The program ends with that answer, or after a second. What is typed meanwhile is counted."""
+before won't be. The program ends with that answer, or after so many seconds, one if none are named. What is typed meanwhile is counted."""
 import os
 import select
 import signal
@@ -17,7 +17,6 @@ from typing import List, Optional
 from hedrugal import Csi, CursorPosition, ExtendedEvent, ExtendedParser, KeyboardFlags, Osc
 
 CURSOR, BACKGROUND, KEYBOARD, ATTRIBUTES = b"\x1b[?6n", b"\x1b]11;?\x1b\\", b"\x1b[?u", b"\x1b[c"
-SECONDS = 1
 
 
 def is_attributes(event: ExtendedEvent) -> bool:
@@ -32,11 +31,11 @@ def read_within(terminal: int, seconds: float) -> bytes:
     return os.read(terminal, 4096)
 
 
-def ask(terminal: int) -> List[ExtendedEvent]:
+def ask(terminal: int, seconds: float) -> List[ExtendedEvent]:
     """Asks all questions at once. Returns the events until the last answer, or until the time is over."""
     os.write(terminal, CURSOR + BACKGROUND + KEYBOARD + ATTRIBUTES)
     events: List[ExtendedEvent] = []
-    end = time.monotonic() + SECONDS
+    end = time.monotonic() + seconds
     with ExtendedParser() as parser:
         while not any(is_attributes(event) for event in events):
             data = read_within(terminal, end - time.monotonic())
@@ -46,12 +45,12 @@ def ask(terminal: int) -> List[ExtendedEvent]:
         return events + parser.flush()
 
 
-def ask_in_raw_mode(terminal: int) -> List[ExtendedEvent]:
+def ask_in_raw_mode(terminal: int, seconds: float) -> List[ExtendedEvent]:
     """Asks while the terminal passes each byte on, and then restores its modes. An answer that comes too late is thrown away."""
     saved = termios.tcgetattr(terminal)
     try:
         tty.setraw(terminal)
-        return ask(terminal)
+        return ask(terminal, seconds)
     finally:
         termios.tcsetattr(terminal, termios.TCSAFLUSH, saved)
 
@@ -70,6 +69,7 @@ def described(event: ExtendedEvent) -> Optional[str]:
 
 
 def main() -> int:
+    seconds = float(sys.argv[1]) if len(sys.argv) > 1 else 1
     # These would end the program at once, and leave the terminal in raw mode.
     for number in (signal.SIGHUP, signal.SIGTERM):
         signal.signal(number, lambda number, _: sys.exit(128 + number))
@@ -78,7 +78,7 @@ def main() -> int:
     except OSError as error:
         sys.exit(f"ask: {error}")
     try:
-        events = ask_in_raw_mode(terminal)
+        events = ask_in_raw_mode(terminal, seconds)
     finally:
         os.close(terminal)
     lines = [described(event) for event in events]
@@ -87,7 +87,7 @@ def main() -> int:
             print(line)
     print(f"typed: {lines.count(None)}")
     if not any(is_attributes(event) for event in events):
-        print(f"no answer to the last question in {SECONDS} s")
+        print(f"no answer to the last question in {seconds:g} s")
         return 1
     return 0
 
