@@ -531,6 +531,8 @@ class WithTerminal(unittest.TestCase):
     """The example on a pseudo-terminal, of which the test plays the terminal."""
 
     def start(self, *words):
+        # If a shell runs the tests in the background, they ignore SIGINT, and so would the program.
+        self.addCleanup(signal.signal, signal.SIGINT, signal.signal(signal.SIGINT, signal.default_int_handler))
         env = [shutil.which("env"), f"PYTHONPATH={HERE}", f"HEDRUGAL_LIBRARY={LIBRARY}"]
         self.terminal = Terminal([*env, sys.executable, "-B", "-W", "error", ASK, *words])
         self.addCleanup(self.terminal.close)
