@@ -93,6 +93,7 @@ CASES = {
         (b"\x1b[?2026;2$y", [Csi(b"?2026;2$y")]),
         (b"\x1b[2D", [Csi(b"2D")]),
         (b"\x1b[55296u\x1b[97;257u\x1b[97;1:4u", [Csi(b"55296u"), Csi(b"97;257u"), Csi(b"97;1:4u")]),
+        (b"\x1b[97:u\x1b[97;5:u\x1b[1;:A", [Csi(b"97:u"), Csi(b"97;5:u"), Csi(b"1;:A")]),
     ],
     "strings": [
         (b"\x1b]11;rgb:1e1e/1e1e/2e2e\x1b\\", [Osc(b"11;rgb:1e1e/1e1e/2e2e")]),
