@@ -1,4 +1,4 @@
-"""Tests of hedrugal.ExtendedParser and of examples/ask.py. tools/python_test.sh runs them after those of test_hedrugal.py, of which many are
+"""Tests of hedrugal.ExtendedParser and of examples/ask.py. tools/python_test.sh runs them with those of test_hedrugal.py, of which many are
 made here with an ExtendedParser."""
 import ctypes
 import os
@@ -49,6 +49,7 @@ from terminal import SECONDS, Terminal  # noqa: E402
 
 CTRL, SHIFT = Held.CTRL, Held.SHIFT
 RELEASE, REPEAT = KeyAction.RELEASE, KeyAction.REPEAT
+UP, DOWN, RIGHT, LEFT = KeyCode.UpArrow, KeyCode.DownArrow, KeyCode.RightArrow, KeyCode.LeftArrow
 ALT_BRACKET = KeyEvent("[", Modifiers.ALT)
 
 
@@ -92,6 +93,7 @@ CASES = {
         (b"\x1b[?2026;2$y", [Csi(b"?2026;2$y")]),
         (b"\x1b[2D", [Csi(b"2D")]),
         (b"\x1b[55296u\x1b[97;257u\x1b[97;1:4u", [Csi(b"55296u"), Csi(b"97;257u"), Csi(b"97;1:4u")]),
+        (b"\x1b[97:u\x1b[97;5:u\x1b[1;:A", [Csi(b"97:u"), Csi(b"97;5:u"), Csi(b"1;:A")]),
     ],
     "strings": [
         (b"\x1b]11;rgb:1e1e/1e1e/2e2e\x1b\\", [Osc(b"11;rgb:1e1e/1e1e/2e2e")]),
@@ -105,7 +107,10 @@ CASES = {
     "actions": [
         (b"\x1b[97;1:1u\x1b[97;1:2u\x1b[97;1:3u", [KeyReport("a"), KeyReport("a", action=REPEAT), KeyReport("a", action=RELEASE)]),
         (b"\x1b[1;2:3A\x1b[3;5:2~", [KeyReport(KeyCode.UpArrow, SHIFT, RELEASE), KeyReport(KeyCode.Delete, CTRL, REPEAT)]),
-        (b"\x1b[1;1:3P\x1b[15;1:3~", [KeyReport(Function(1), action=RELEASE), KeyReport(Function(5), action=RELEASE)]),
+        (b"\x1b[1;:3A\x1b[;1:3B\x1b[;:3C\x1b[1;1:3D", [KeyReport(key, action=RELEASE) for key in (UP, DOWN, RIGHT, LEFT)]),
+        (b"\x1b[;:3H\x1b[;:3F\x1b[;:3E", [KeyReport(key, action=RELEASE) for key in (KeyCode.Home, KeyCode.End, KeyCode.KeyPadBegin)]),
+        (b"\x1b[;:3P\x1b[;:3Q\x1b[;:3S", [KeyReport(Function(number), action=RELEASE) for number in (1, 2, 4)]),
+        (b"\x1b[15;:3~\x1b[42;:3~\x1b[57376;:3~", [KeyReport(Function(number), action=RELEASE) for number in (5, 21, 13)]),
     ],
     "modifiers": [
         (b"\x1b[97;9u\x1b[97;17u\x1b[97;33u", [KeyReport("a", Held.SUPER), KeyReport("a", Held.HYPER), KeyReport("a", Held.META)]),
@@ -317,7 +322,8 @@ class Events(WithParsers):
         (event,) = self.parsers[Rows.PORT].parse(b"\x1b[97:65;6:2;65u")
         wanted = "KeyReport(key='a', modifiers=Held.SHIFT|CTRL, action=KeyAction.REPEAT, shifted='A', base=None, text='A')"
         self.assertEqual(repr(event), wanted)
-        events = [KeyReport(57414), FocusGained(), CursorPosition(1, 2), Resize(1, 2, 3, 4), KeyboardFlags(KittyKeyboardFlags(1)), Dcs(b"\xff")]
+        flags = KeyboardFlags(KittyKeyboardFlags.DISAMBIGUATE_ESCAPE_CODES)
+        events = [KeyReport(57414), FocusGained(), CursorPosition(1, 2), Resize(1, 2, 3, 4), flags, Dcs(b"\xff")]
         wanted = "[KeyReport(key=57414, modifiers=Held.NONE, action=KeyAction.PRESS, shifted=None, base=None, text=''), FocusGained(), "
         wanted += "CursorPosition(row=1, column=2), Resize(rows=1, columns=2, height=3, width=4), "
         wanted += "KeyboardFlags(flags=KittyKeyboardFlags.DISAMBIGUATE_ESCAPE_CODES), Dcs(data=b'\\xff')]"
@@ -337,8 +343,9 @@ class Events(WithParsers):
 
     def test_unknown_numbers(self):
         parser = self.parsers[Rows.PORT]
-        for change in ({"kind": 0}, {"kind": 14}, {"kind": 4, "report": extended._RawReport(4, 0, 1, 97, 1, 1)}, {"kind": 10, "text_len": 5}):
-            parser._front = extended._RawExtendedEvent(**change)
+        report = extended._RawReport(action=4, key=1, detail=97)
+        for fields in ({"kind": 0}, {"kind": 14}, {"kind": 4, "report": report}, {"kind": 10, "text_len": 5}):
+            parser._front = extended._RawExtendedEvent(**fields)
             self.assertRaises(RuntimeError, parser._front_event)
 
 
@@ -519,21 +526,18 @@ LINES = [
     "attributes: 62;22",
     "typed: 0",
 ]
-NO_ANSWER = "no answer to the last question in 3 s"
 
 
-class Ask(unittest.TestCase):
+class WithTerminal(unittest.TestCase):
     """The example on a pseudo-terminal, of which the test plays the terminal."""
 
-    def setUp(self):
-        self.ask(str(SECONDS))
-
-    def ask(self, *seconds):
-        words = [shutil.which("env"), f"PYTHONPATH={HERE}", f"HEDRUGAL_LIBRARY={LIBRARY}", sys.executable, "-B", "-W", "error"]
-        self.terminal = Terminal([*words, ASK, *seconds])
+    def start(self, *words):
+        # If a shell runs the tests in the background, they ignore SIGINT, and so would the program.
+        self.addCleanup(signal.signal, signal.SIGINT, signal.signal(signal.SIGINT, signal.default_int_handler))
+        env = [shutil.which("env"), f"PYTHONPATH={HERE}", f"HEDRUGAL_LIBRARY={LIBRARY}"]
+        self.terminal = Terminal([*env, sys.executable, "-B", "-W", "error", ASK, *words])
         self.addCleanup(self.terminal.close)
-        self.terminal.wait_for(lambda: self.terminal.output == QUESTIONS, "question")
-        self.assertTrue(self.terminal.is_raw())
+        self.terminal.wait_for(lambda: self.terminal.output.startswith(QUESTIONS), "question")
 
     def assert_end(self, lines, status=0):
         """The program ends with this status, has printed these lines, and left the terminal as it was."""
@@ -543,6 +547,32 @@ class Ask(unittest.TestCase):
         printed = self.terminal.output[len(QUESTIONS) :].decode()
         self.assertEqual(printed, "".join(f"{line}\r\n" for line in lines))
         self.assertEqual(self.terminal.settings(), self.terminal.before)
+
+
+class NoAnswer(WithTerminal):
+    def test_no_answer(self):
+        self.start()
+        self.assert_end(["typed: 0", "no answer to the last question in 1 s"], 1)
+
+    def test_a_cut_answer(self):
+        self.start("4")
+        self.terminal.send(b"\x1b[?24;80R\x1b[?6")
+        self.assert_end(["cursor: row 24, column 80", "typed: 3", "no answer to the last question in 4 s"], 1)
+
+    def test_no_terminal(self):
+        """Without a terminal nothing is asked."""
+        text = f"import os, runpy\nos.setsid()\nrunpy.run_path({ASK!r}, run_name='__main__')"
+        status, printed, errors = run_python(text, {"HEDRUGAL_LIBRARY": LIBRARY})
+        self.assertEqual((status, printed), (1, ""))
+        self.assertRegex(errors, "^ask: .*/dev/tty'\n$")
+
+
+class Answers(WithTerminal):
+    """The program waits for its answers as long as the test may take."""
+
+    def setUp(self):
+        self.start(str(SECONDS))
+        self.assertTrue(self.terminal.is_raw())
 
     def test_answers(self):
         self.terminal.send(ANSWERS)
@@ -554,25 +584,13 @@ class Ask(unittest.TestCase):
             time.sleep(0.002)
         self.assert_end(LINES)
 
-    def test_no_answer(self):
-        start = time.monotonic()
-        self.ask("3")
-        self.assert_end(["typed: 0", NO_ANSWER], 1)
-        self.assertLess(time.monotonic() - start, SECONDS)
-
-    def test_some_answers(self):
-        """A terminal that knows the last question alone; and one whose last answer is cut off."""
+    def test_the_last_answer_alone(self):
         self.terminal.send(b"\x1b[?6c")
         self.assert_end(["attributes: 6", "typed: 0"])
 
-    def test_a_cut_answer(self):
-        self.ask("3")
-        self.terminal.send(b"\x1b[?24;80R\x1b[?6")
-        self.assert_end(["cursor: row 24, column 80", "typed: 3", NO_ANSWER], 1)
-
     def test_typed_meanwhile(self):
-        self.terminal.send(b"q\x1b[A" + ANSWERS[:9] + b"\x1b[I" + ANSWERS[9:] + b"\x1b")
-        self.assert_end([*LINES[:4], "typed: 4"])
+        self.terminal.send(b"q\x1b[A" + ANSWERS[:9] + b"\x1b[I" + ANSWERS[9:])
+        self.assert_end([*LINES[:4], "typed: 3"])
 
     def test_interrupt(self):
         """The modes are restored if the program ends by an exception."""
@@ -581,11 +599,10 @@ class Ask(unittest.TestCase):
         self.assertIn("KeyboardInterrupt", self.terminal.printed_errors())
         self.assertEqual(self.terminal.settings(), self.terminal.before)
 
+    def test_terminate(self):
+        self.terminal.kill(signal.SIGTERM)
+        self.assert_end([], 128 + signal.SIGTERM)
 
-class AskWithoutATerminal(unittest.TestCase):
-    def test_it(self):
-        """Without a terminal nothing is asked."""
-        text = f"import os, runpy\nos.setsid()\nrunpy.run_path({ASK!r}, run_name='__main__')"
-        status, printed, errors = run_python(text, {"HEDRUGAL_LIBRARY": LIBRARY})
-        self.assertEqual((status, printed), (1, ""))
-        self.assertIn("/dev/tty", errors)
+    def test_hangup(self):
+        self.terminal.kill(signal.SIGHUP)
+        self.assert_end([], 128 + signal.SIGHUP)

@@ -6,8 +6,8 @@
 # DIR is a folder that tools/c_library.sh wrote. The tests, in python/test_hedrugal.py, make each call, replay every recorded answer in
 # crates/replay/data, cut a stream at each place, refuse memory, load the library from each place where it is looked for, and run the
 # listings of docs/python.md, one of them on a pseudo-terminal. Those in python/test_keymap.py compare the key map with a plain dict. Those
-# in python/test_extended.py read the examples of docs/EXTENDED.md, and run python/examples/ask.py on a pseudo-terminal. The last line is
-# 'N passed, N failed', the status 1 if a test failed.
+# in python/test_extended.py read sequences of each form in docs/EXTENDED.md, and run python/examples/ask.py on a pseudo-terminal. The last
+# line is 'N passed, N failed', the status 1 if a test failed.
 #
 # It needs python3, 3.9 or later, and nothing beyond its standard library. If mypy is installed, a test checks the module's types with it;
 # otherwise that test is listed as skipped.

@@ -4,9 +4,10 @@ what it replies:
     python3 python/examples/ask.py [SECONDS]
 
 The last question is the one for the terminal's attributes (DA1). Every terminal answers it, and answers in order, so what wasn't answered
-before won't be. The program ends with that answer, or after a second, if no other time is given. What is typed meanwhile is counted."""
+before won't be. The program ends with that answer, or after so many seconds, one if none are named. What is typed meanwhile is counted."""
 import os
 import select
+import signal
 import sys
 import termios
 import time
@@ -16,7 +17,6 @@ from typing import List, Optional
 from hedrugal import Csi, CursorPosition, ExtendedEvent, ExtendedParser, KeyboardFlags, Osc
 
 CURSOR, BACKGROUND, KEYBOARD, ATTRIBUTES = b"\x1b[?6n", b"\x1b]11;?\x1b\\", b"\x1b[?u", b"\x1b[c"
-SECONDS = 1.0
 
 
 def is_attributes(event: ExtendedEvent) -> bool:
@@ -62,15 +62,21 @@ def described(event: ExtendedEvent) -> Optional[str]:
     if isinstance(event, Osc) and event.data.startswith(b"11;"):
         return f"background: {event.data[3:].decode(errors='replace')}"
     if isinstance(event, KeyboardFlags):
-        return f"keyboard: {event.flags}"
+        return f"keyboard: {event.flags!r}"
     if isinstance(event, Csi) and is_attributes(event):
         return f"attributes: {event.data[1:-1].decode()}"
     return None
 
 
 def main() -> int:
-    seconds = float(sys.argv[1]) if len(sys.argv) > 1 else SECONDS
-    terminal = os.open("/dev/tty", os.O_RDWR | os.O_NOCTTY)
+    seconds = float(sys.argv[1]) if len(sys.argv) > 1 else 1
+    # These would end the program at once, and leave the terminal in raw mode.
+    for number in (signal.SIGHUP, signal.SIGTERM):
+        signal.signal(number, lambda number, _: sys.exit(128 + number))
+    try:
+        terminal = os.open("/dev/tty", os.O_RDWR | os.O_NOCTTY)
+    except OSError as error:
+        sys.exit(f"ask: {error}")
     try:
         events = ask_in_raw_mode(terminal, seconds)
     finally:

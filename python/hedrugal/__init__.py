@@ -27,7 +27,7 @@ import struct
 import sys
 import weakref
 from dataclasses import dataclass
-from typing import Any, ClassVar, Dict, FrozenSet, Generic, Iterator, List, NamedTuple, NoReturn, Optional, Tuple, TypeVar, Union, cast
+from typing import Any, ClassVar, Dict, Generic, Iterator, List, NamedTuple, NoReturn, Optional, Tuple, TypeVar, Union, cast
 
 __version__ = "0.1.0"
 
@@ -643,15 +643,18 @@ _AnyEvent = TypeVar("_AnyEvent")
 
 
 class _EventParser(_Closable, Generic[_AnyEvent]):
-    """What both parsers have in common. Each names the library's calls, and the kinds of events whose text the library keeps."""
+    """What both parsers have in common. Each names the library's calls for it, and makes its events."""
 
     _calls: ClassVar[_ParserCalls]
-    _kinds_with_text: ClassVar[FrozenSet[int]]
 
     def __init__(self, raw: Any, front: Any, init: Any, free: Any) -> None:
         super().__init__("parser", raw, init, free)
         # The event that the library wrote last, and whether the caller has yet to get it: it stays until memory for it is granted.
         self._front, self._has_front = front, False
+        # Whether the library may keep a text of that event.
+        self._has_text = False
+        # The call that is made for each event: to find it once makes a loop a little quicker.
+        self._next = self._calls.next
         # Events that `parse` found before it was refused memory. They come before that at the front.
         self._kept: List[_AnyEvent] = []
 
@@ -787,19 +790,22 @@ class _EventParser(_Closable, Generic[_AnyEvent]):
     def _find_front(self, maybe_more: bool) -> bool:
         """Whether there is an event at the front. It stays there until `_leave_front`."""
         if not self._has_front:
-            self._has_front = _is_event(self._calls.next(self._raw, maybe_more, self._front))
+            self._has_front = _is_event(self._next(self._raw, maybe_more, self._front))
         return self._has_front
 
     def _front_event(self) -> _AnyEvent:
+        """The event at the front."""
         raise NotImplementedError
 
     def _leave_front(self) -> None:
         self._has_front = False
-        if self._front.kind in self._kinds_with_text:
+        if self._has_text:
+            self._has_text = False
             self._calls.drop_text(self._raw)
 
-    def _input_event(self, kind: int, buttons: int, modifiers: int, key: int, x: int, y: int, detail: int, paste_len: int) -> Event:
-        """The event at the front, if it is one of an InputParser."""
+    def _input_event(self, offset: int = 0) -> Event:
+        """The key, mouse event or paste of which the front has the struct at this place."""
+        kind, buttons, modifiers, key, x, y, detail, paste_len = _fields_of(self._front, offset)
         if kind == _KIND_KEY:
             return _key_event(key, detail, modifiers)
         if kind == _KIND_MOUSE:
@@ -810,6 +816,7 @@ class _EventParser(_Closable, Generic[_AnyEvent]):
 
     def _text(self, length: int) -> bytearray:
         """The text of the event at the front, which the library keeps until `_leave_front`."""
+        self._has_text = True
         room = bytearray(length)
         pointer, _ = _borrowed(room)
         if self._calls.text(self._raw, pointer, length) != length:
@@ -841,7 +848,7 @@ class InputParser(_EventParser[Event]):
         end_paste=_library.tw_parser_end_paste,
         reset=_library.tw_parser_reset,
     )
-    _kinds_with_text = frozenset([_KIND_PASTE])
+    _front_event = _EventParser._input_event
 
     def __init__(self) -> None:
         super().__init__(_RawParser(), _RawEvent(), _library.tw_parser_init, _library.tw_parser_free)
@@ -903,9 +910,6 @@ class InputParser(_EventParser[Event]):
             while count < most and _next_untyped(parser, more, front) == _NEXT_EVENT:
                 count += 1
         return count
-
-    def _front_event(self) -> Event:
-        return self._input_event(*_fields_of(self._front))
 
 
 # The answers of a lookup that say nothing of a key.
@@ -1064,7 +1068,7 @@ def encode(
     _fault()
 
 
-# The extended parser has a file of its own, which stands on the names above.
+# The extended parser has a file of its own, which imports names of this one: so these lines come last.
 from .extended import (  # noqa: E402
     Apc,
     Csi,

@@ -1,5 +1,5 @@
-r"""What terminals send beyond the sequence table, as events: replies to questions, focus reports, other mouse reports, control sequences and
-strings, and Kitty's keyboard protocol.
+r"""What terminals send beyond the sequence table, as events: replies to questions, focus reports, other mouse reports, control sequences
+and strings, and Kitty's keyboard protocol.
 
     >>> with ExtendedParser() as parser:
     ...     parser.parse(b"q\x1b[24;80R\x1b]11;rgb:0/0/0\x07")
@@ -24,7 +24,6 @@ from . import (
     _declare,
     _EventParser,
     _fault,
-    _fields_of,
     _Flags,
     _key,
     _library,
@@ -257,12 +256,15 @@ class ExtendedParser(_EventParser[ExtendedEvent]):
         end_paste=_library.tw_extended_end_paste,
         reset=_library.tw_extended_reset,
     )
-    _kinds_with_text = frozenset([_EVENT_PASTE, _EVENT_REPORT, *_of_data])
 
     def __init__(self, rows: Rows = Rows.PORT) -> None:
         if not isinstance(rows, Rows):
             raise TypeError(f"Rows are required, not {type(rows).__name__}")
-        super().__init__(_RawExtended(), _RawExtendedEvent(), lambda raw: _library.tw_extended_init(raw, rows.value), _library.tw_extended_free)
+
+        def init(raw: _RawExtended) -> bool:
+            return bool(_library.tw_extended_init(raw, rows.value))
+
+        super().__init__(_RawExtended(), _RawExtendedEvent(), init, _library.tw_extended_free)
         self._rows = rows
 
     @property
@@ -274,7 +276,7 @@ class ExtendedParser(_EventParser[ExtendedEvent]):
         front = self._front
         kind = front.kind
         if kind in (_EVENT_KEY, _EVENT_MOUSE, _EVENT_PASTE):
-            return self._input_event(*_fields_of(front, _INPUT_AT))
+            return self._input_event(_INPUT_AT)
         if kind == _EVENT_REPORT:
             text = self._text(front.text_len).decode("utf-8") if front.text_len else ""
             return _key_report(*_report_fields_of(front, _REPORT_AT), text)
@@ -298,8 +300,8 @@ _REPORTED = [(Modifiers.SHIFT, Held.SHIFT), (Modifiers.ALT, Held.ALT), (Modifier
 
 
 def key_report(event: ExtendedEvent) -> Optional[KeyReport]:
-    r"""Returns the report of a key, so that a program needs one case for keys. A KeyReport is returned as it is, and for a KeyEvent a press of
-    its key with its SHIFT, ALT and CTRL. Returns None for any other event.
+    r"""Returns the report of a key, so that a program needs one case for keys: a KeyReport as it is, and for a KeyEvent a press of its key
+    with its SHIFT, ALT and CTRL. Returns None for any other event.
 
         >>> with ExtendedParser() as parser:
         ...     events = parser.parse(b"\x03\x1b[99;5:3u")
