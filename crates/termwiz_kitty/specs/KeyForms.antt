@@ -1,11 +1,11 @@
 -- How kitty's keyboard protocol writes keys: by a letter, by a number and a tilde, or by a number and the letter u. From the table
 -- of functional keys of the protocol ("Comprehensive keyboard handling in terminals", "Functional key definitions").
-use Rattle.std.specs.Prelude.{ℕ, Bool, true, false, ◌+◌, ◌&&◌, ◌||◌, List, [], ◌∷◌, nat_le, Option, Some, None, if◌then◌else◌}
+use Rattle.std.specs.Prelude.{ℕ, ◌+◌, ◌&&◌, List, [], ◌∷◌, nat_le, Option, Some, None, if◌then◌else◌}
 use Rattle.termwiz_keys.specs.declared.types.KeyCode.{KeyCode}
 use Rattle.termwiz_keys.specs.declared.types.KeyCode.TheVariants.{Char, Function, Tab, Enter, Escape, Backspace, UpArrow, DownArrow, RightArrow, LeftArrow, KeyPadBegin, End, Home, Insert, Delete, PageUp, PageDown, CapsLock, ScrollLock, NumLock, PrintScreen, Pause, Applications, Numpad0, Numpad1, Numpad2, Numpad3, Numpad4, Numpad5, Numpad6, Numpad7, Numpad8, Numpad9, Decimal, Divide, Multiply, Subtract, Add, Separator, KeyPadPageUp, KeyPadPageDown, KeyPadHome, KeyPadEnd, MediaPlayPause, MediaStop, MediaNextTrack, MediaPrevTrack, VolumeDown, VolumeUp, VolumeMute, LeftShift, LeftControl, LeftAlt, LeftWindows, RightShift, RightControl, RightAlt, RightWindows}
 use Rattle.termwiz_extended_events.specs.declared.types.ReportedKey.{ReportedKey}
 use Rattle.termwiz_extended_events.specs.declared.types.ReportedKey.TheVariants.{Named, Functional}
-use Rattle.termwiz_extended_events.specs.ReportedKeys.{entry_at, is_functional, is_high_function, key_of, functional_key}
+use Rattle.termwiz_extended_events.specs.ReportedKeys.{entry_at, is_functional, key_of, functional_key}
 use Rattle.termwiz_kitty.specs.declared.key_forms.KeyForm.{KeyForm}
 use Rattle.termwiz_kitty.specs.declared.key_forms.KeyForm.TheVariants.{Letter, Number, Code}
 

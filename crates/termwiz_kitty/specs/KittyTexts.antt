@@ -1,10 +1,10 @@
 -- The bytes that a terminal writes for a key under kitty's keyboard protocol.
-use Rattle.std.specs.Prelude.{◌≡◌, ◌<◌, ◌≤◌, length, ℕ, Bool, true, false, ◌+◌, ◌==◌, ◌&&◌, List, [], ◌∷◌, ◌++◌, flat_map, codes, decimal, Option, Some, None, option_map, unwrap_or, bit_and, encode_utf8, if◌then◌else◌}
+use Rattle.std.specs.Prelude.{◌≡◌, ◌<◌, ◌≤◌, length, ℕ, Bool, false, ◌+◌, ◌==◌, ◌&&◌, List, [], ◌∷◌, ◌++◌, flat_map, codes, decimal, Option, Some, None, option_map, unwrap_or, bit_and, encode_utf8, if◌then◌else◌}
 use Rattle.std.specs.Str.{chars}
 use Rattle.termwiz_base.specs.declared.modifiers.Modifiers.{Modifiers}
 use Rattle.termwiz_keys.specs.Introducers.{CSI}
 use Rattle.termwiz_keys.specs.Encoding.{enc}
-use Rattle.termwiz_keys.specs.declared.types.KeyCode.TheVariants.{Char, Enter, Tab, Backspace}
+use Rattle.termwiz_keys.specs.declared.types.KeyCode.TheVariants.{Char, Tab, Backspace}
 use Rattle.termwiz_keys.specs.declared.encode.KeyCodeEncodeModes.{KeyCodeEncodeModes}
 use Rattle.termwiz_keys.specs.declared.encode.KeyboardEncoding.TheVariants.{Xterm}
 use Rattle.termwiz_extended_events.specs.declared.types.KeyReport.{KeyReport}

@@ -1,17 +1,17 @@
 -- What a terminal tells of a key under kitty's keyboard protocol, by the flags that the program asked for. From the protocol
 -- ("Comprehensive keyboard handling in terminals", "Progressive enhancement").
-use Rattle.std.specs.Prelude.{ℕ, Bool, true, false, not, ◌==◌, ◌&&◌, ◌||◌, List, [], ◌∷◌, nat_le, Option, Some, None, unwrap_or, bit_and, encode_utf8, if◌then◌else◌}
+use Rattle.std.specs.Prelude.{ℕ, Bool, true, false, not, ◌==◌, ◌&&◌, ◌||◌, List, [], nat_le, Option, Some, None, bit_and, if◌then◌else◌}
 use Rattle.termwiz_keys.specs.KeyCodes.{holds}
 use Rattle.termwiz_keys.specs.declared.types.KeyCode.TheVariants.{Char, Enter, Tab, Backspace}
 use Rattle.termwiz_extended_events.specs.declared.types.KeyReport.{KeyReport}
 use Rattle.termwiz_extended_events.specs.declared.types.KeyEventKind.{KeyEventKind}
-use Rattle.termwiz_extended_events.specs.declared.types.KeyEventKind.TheVariants.{Press, Repeat, Release}
+use Rattle.termwiz_extended_events.specs.declared.types.KeyEventKind.TheVariants.{Press, Release}
 use Rattle.termwiz_extended_events.specs.declared.types.ReportedKey.{ReportedKey}
-use Rattle.termwiz_extended_events.specs.declared.types.ReportedKey.TheVariants.{Named, Functional}
+use Rattle.termwiz_extended_events.specs.declared.types.ReportedKey.TheVariants.{Named}
 use Rattle.termwiz_kitty.specs.declared.telling.Telling.{Telling}
 use Rattle.termwiz_kitty.specs.declared.telling.Telling.TheVariants.{Nothing, Typed, Legacy, Reported}
 use Rattle.termwiz_kitty.specs.declared.key_forms.KeyForm.{KeyForm}
-use Rattle.termwiz_kitty.specs.declared.key_forms.KeyForm.TheVariants.{Letter, Number, Code}
+use Rattle.termwiz_kitty.specs.declared.key_forms.KeyForm.TheVariants.{Code}
 use Rattle.termwiz_kitty.specs.KeyForms.{form_of, normal_key}
 
 -- the flags of the protocol

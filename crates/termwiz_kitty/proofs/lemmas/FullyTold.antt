@@ -1,11 +1,10 @@
 -- Under all five flags a report that a terminal can write is told whole.
-use Rattle.std.proofs.Common.{◌≡◌, ◌⊎◌, inl, inr, ⊎_elim, ℕ, Bool, true, false, not, ◌&&◌, List, [], ◌∷◌, refl, sym, ap, ap₂, ◌∙◌, Option, Some, None}
+use Rattle.std.proofs.Common.{◌≡◌, ◌⊎◌, inl, inr, ⊎_elim, ℕ, Bool, true, false, not, ◌&&◌, List, [], refl, sym, ap, ap₂, ◌∙◌, Option, None}
 use Rattle.std.specs.Prelude.{if◌then◌else◌}
 use Rattle.termwiz_extended_events.specs.declared.types.KeyReport.{KeyReport}
 use Rattle.termwiz_extended_events.specs.declared.types.KeyEventKind.{KeyEventKind}
 use Rattle.termwiz_extended_events.specs.declared.types.ReportedKey.{ReportedKey}
-use Rattle.termwiz_kitty.specs.declared.telling.Telling.TheVariants.{Reported}
-use Rattle.termwiz_kitty.specs.KeyForms.{form_of, normal_key}
+use Rattle.termwiz_kitty.specs.KeyForms.{form_of}
 use Rattle.termwiz_kitty.specs.Telling.{is_release, is_shifted, is_character, is_modifier_form, has_text, without_locks, telling, reported}
 use Rattle.termwiz_kitty.specs.KittyLaws.{IsWritable, FullyTold}
 

@@ -1,5 +1,5 @@
 -- Which keys have no text in xterm's encoding.
-use Rattle.std.proofs.Common.{◌≡◌, ℕ, Option, Some, None, List, refl, sym, ap, ◌∙◌}
+use Rattle.std.proofs.Common.{◌≡◌, ℕ, Option, Some, None, refl}
 use Rattle.termwiz_keys.specs.declared.types.KeyCode.{KeyCode}
 use Rattle.termwiz_keys.specs.declared.encode.KeyCodeEncodeModes.{KeyCodeEncodeModes}
 use Rattle.termwiz_base.specs.declared.modifiers.Modifiers.{Modifiers}

@@ -1,5 +1,5 @@
 -- The fields behind the first one, as they are written one after another.
-use Rattle.std.proofs.Common.{◌≡◌, ℕ, ◌+◌, List, [], ◌∷◌, ◌++◌, map, refl, sym, ap, ◌∙◌, append_assoc, flat_map, decimal, codes, Ok, Err}
+use Rattle.std.proofs.Common.{◌≡◌, ℕ, List, [], ◌∷◌, ◌++◌, map, refl, sym, ap, ◌∙◌, append_assoc, flat_map, decimal, Ok, Err}
 use Rattle.std.specs.Prelude.{OnOk, Result}
 use Rattle.termwiz_extended_events.specs.declared.types.KeyEventKind.{KeyEventKind}
 use Rattle.termwiz_kitty.specs.KittyTexts.{manner_behind, further_character, characters_text, first_text, fields_behind}

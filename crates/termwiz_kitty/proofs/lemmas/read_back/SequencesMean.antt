@@ -1,6 +1,6 @@
 -- A written sequence means its report.
-use Rattle.std.proofs.Common.{◌≡◌, ◌≢◌, ℕ, ◌+◌, ◌<◌, ◌≤◌, Bool, true, false, not, ◌&&◌, List, [], ◌∷◌, ◌++◌, length, refl, sym, ap, ap₂, ◌∙◌, subst, arith, nat_le, decimal, Option, Some, None, append-nil, append_assoc, lit≤}
-use Rattle.std.specs.Prelude.{◌==◌, option_map, encode_utf8, encode_utf8_all, if◌then◌else◌}
+use Rattle.std.proofs.Common.{◌≡◌, ◌≢◌, ℕ, ◌<◌, ◌≤◌, Bool, true, false, not, ◌&&◌, List, [], ◌∷◌, ◌++◌, length, refl, sym, ap, ap₂, ◌∙◌, subst, arith, nat_le, decimal, Option, Some, None, append-nil}
+use Rattle.std.specs.Prelude.{◌==◌, option_map, encode_utf8_all, if◌then◌else◌}
 use Rattle.std.specs.Str.{chars, IsUtf8, all_scalars}
 use Rattle.std.specs.List.{AllByRecursion}
 use Rattle.std.proofs.lemmas.Nat.{and_le_l}
@@ -20,7 +20,6 @@ use Rattle.termwiz_extended_events.specs.declared.types.Rows.TheVariants.{Kitty}
 use Rattle.termwiz_extended_events.specs.Numbers.{is_scalar}
 use Rattle.termwiz_extended_events.specs.ReportedKeys.{entry_at, lettered_keys, key_of, tilde_key}
 use Rattle.termwiz_extended_events.specs.KeyReports.{key_report}
-use Rattle.termwiz_extended_events.specs.Meanings.{event_of}
 use Rattle.termwiz_extended_grammar.specs.ExtraSequences.{IsExtra}
 use Rattle.termwiz_extended_grammar.specs.ExtendedGrammar.{Means}
 use Rattle.termwiz_extended_grammar.proofs.lemmas.cuts.SequencesStand.{sequence_stands}
@@ -36,7 +35,7 @@ use Rattle.termwiz_kitty.specs.KittyLaws.{IsReport, IsScalarOrMissing, KittyRead
 use Rattle.termwiz_kitty.proofs.lemmas.read_back.FieldSplits.{IsFieldByte, digit_in_field}
 use Rattle.termwiz_kitty.proofs.lemmas.read_back.WrittenFields.{decimal_small, manner_bytes, IsCharacterOrMissing, codes_bytes, AreCharacters, characters_bytes}
 use Rattle.termwiz_kitty.proofs.lemmas.read_back.WrittenReports.{behind_none, behind_some, built, bare, carried, character_back, lettered_back, numbered_back, report_by_character, report_by_letter, report_by_tilde, event_back}
-use Rattle.termwiz_kitty.proofs.lemmas.read_back.KeysOfForms.{key_read, is_sound, reads, sound, Reads, form_reads, scalar_is}
+use Rattle.termwiz_kitty.proofs.lemmas.read_back.KeysOfForms.{key_read, is_sound, sound, Reads, form_reads, scalar_is}
 use Rattle.termwiz_kitty.proofs.lemmas.read_back.SequenceForms.{IsParameter, IsKeyEnd, written, is_extra}
 
 -- an extra sequence alone means its event

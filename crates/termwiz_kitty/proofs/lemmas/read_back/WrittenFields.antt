@@ -1,5 +1,5 @@
 -- What the fields of a written sequence say.
-use Rattle.std.proofs.Common.{◌≡◌, ◌≢◌, ℕ, ◌+◌, ◌-◌, ◌<◌, ◌≤◌, ◌^◌, Bool, true, false, List, [], ◌∷◌, ◌++◌, length, map, refl, sym, ap, ◌∙◌, subst, arith, lit<, decimal, Option, Some, None, append-nil, append_assoc, length-append, codes, flat_map}
+use Rattle.std.proofs.Common.{◌≡◌, ℕ, ◌+◌, ◌-◌, ◌<◌, true, List, [], ◌∷◌, ◌++◌, length, map, refl, ap, ◌∙◌, arith, decimal, Option, Some, None, append-nil, append_assoc, length-append, flat_map}
 use Rattle.std.specs.Prelude.{option_map, encode_utf8_all}
 use Rattle.std.specs.List.{AllByRecursion}
 use Rattle.termwiz_grammar.specs.MouseReports.{IsDigit}

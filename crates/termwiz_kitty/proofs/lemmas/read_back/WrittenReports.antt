@@ -1,6 +1,6 @@
 -- What a written sequence reports.
-use Rattle.std.proofs.Common.{◌≡◌, ◌≢◌, ℕ, ◌+◌, ◌-◌, ◌<◌, ◌≤◌, Bool, true, false, ◌&&◌, List, [], ◌∷◌, ◌++◌, length, take, refl, sym, ap, ap₂, ◌∙◌, subst, arith, decimal, Option, Some, None, append-nil, append_assoc, codes}
-use Rattle.std.specs.Prelude.{◌==◌, option_map, encode_utf8_all}
+use Rattle.std.proofs.Common.{◌≡◌, ◌≢◌, ℕ, ◌<◌, ◌≤◌, Bool, true, false, List, [], ◌∷◌, ◌++◌, refl, sym, ap, ap₂, ◌∙◌, subst, arith, decimal, Option, Some, None, append-nil, append_assoc}
+use Rattle.std.specs.Prelude.{◌==◌, encode_utf8_all}
 use Rattle.std.specs.List.{AllByRecursion}
 use Rattle.std.proofs.Math.Seq.{take-append_seam}
 use Rattle.std.proofs.lemmas.Bool.{and_parts}
@@ -12,14 +12,14 @@ use Rattle.termwiz_extended_events.specs.declared.types.KeyEventKind.TheVariants
 use Rattle.termwiz_extended_events.specs.declared.types.ReportedKey.{ReportedKey}
 use Rattle.termwiz_extended_events.specs.declared.types.ReportedKey.TheVariants.{Named}
 use Rattle.termwiz_extended_events.specs.declared.types.ExtendedEvent.TheVariants.{Key}
-use Rattle.termwiz_extended_events.specs.Numbers.{fields, number, is_scalar, before_end}
+use Rattle.termwiz_extended_events.specs.Numbers.{fields, number, is_scalar}
 use Rattle.termwiz_extended_events.specs.ReportedKeys.{entry_at, lettered_keys, key_of, tilde_key, last_functional}
-use Rattle.termwiz_extended_events.specs.KeyReports.{manner_with, manner_of, report_behind, character_of_fields, character_key, lettered_of_fields, lettered_key, numbered_of_fields, numbered_key, key_report}
+use Rattle.termwiz_extended_events.specs.KeyReports.{manner_with, manner_of, character_of_fields, character_key, lettered_of_fields, lettered_key, numbered_of_fields, numbered_key, key_report}
 use Rattle.termwiz_extended_events.specs.Replies.{focus}
 use Rattle.termwiz_extended_events.specs.Meanings.{reported, event_after, event_of}
 use Rattle.termwiz_kitty.specs.KittyTexts.{manner_text, is_plain, manner_behind, codes_text, characters_text, fields_behind}
 use Rattle.termwiz_kitty.proofs.lemmas.read_back.Decimals.{number_decimal}
-use Rattle.termwiz_kitty.proofs.lemmas.read_back.FieldSplits.{IsFieldByte, digit_in_field, one_field, more_fields, without_last, before_end_here, before_other_end, last_byte}
+use Rattle.termwiz_kitty.proofs.lemmas.read_back.FieldSplits.{IsFieldByte, one_field, more_fields, without_last, before_end_here, before_other_end, last_byte}
 use Rattle.termwiz_kitty.proofs.lemmas.read_back.WrittenFields.{manner_back, empty_manner, manner_bytes, IsCharacterOrMissing, codes_back, codes_bytes, AreCharacters, text_back, characters_bytes}
 
 -- a report by its parts
