@@ -5,3 +5,5 @@ pub mod encode;
 mod key_forms;
 pub mod laws;
 mod telling;
+#[cfg(test)]
+mod tests;
