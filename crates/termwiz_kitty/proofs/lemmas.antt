@@ -1,0 +1,4 @@
+pub mod FullyTold
+pub mod LegacyTexts
+pub mod PushedFields
+pub mod read_back

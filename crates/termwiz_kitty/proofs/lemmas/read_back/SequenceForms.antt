@@ -1,0 +1,76 @@
+-- A written sequence has the form of a control sequence, and no row of the port that it may be keeps its key.
+use Rattle.std.proofs.Common.{◌≡◌, ◌≢◌, ℕ, ◌<◌, ◌≤◌, List, [], ◌∷◌, ◌++◌, length, refl, sym, subst, arith}
+use Rattle.std.specs.List.{AllByRecursion}
+use Rattle.termwiz_keymap.proofs.lemmas.lists.CommonPrefixes.{true_from}
+use Rattle.termwiz_grammar.specs.Sequences.{IsSequence}
+use Rattle.termwiz_grammar.specs.Sequences.Meaning.{Row, Report}
+use Rattle.termwiz_grammar.proofs.lemmas.mouse.OneReport.{report_plain}
+use Rattle.termwiz_extended_events.specs.declared.types.KeyReport.{KeyReport}
+use Rattle.termwiz_extended_events.specs.declared.types.ExtendedEvent.TheVariants.{Key}
+use Rattle.termwiz_extended_events.specs.declared.types.Rows.TheVariants.{Kitty}
+use Rattle.termwiz_extended_events.specs.Meanings.{event_of, IsKeyOrPosition}
+use Rattle.termwiz_extended_grammar.specs.Forms.{IsInner, IsControl}
+use Rattle.termwiz_extended_grammar.specs.Forms.IsForm.{control}
+use Rattle.termwiz_extended_grammar.specs.ExtraSequences.{IsFree, IsExtra}
+
+-- a digit, a colon or a semicolon
+abbrev pub IsParameter : ℕ → Type 0
+IsParameter b = (48 ≤ b) × (b ≤ 59)
+
+-- the last byte: no M or [, by which other sequences begin
+abbrev pub IsKeyEnd : ℕ → Type 0
+IsKeyEnd l = (64 ≤ l) × (l ≤ 126) × (l ≢ 77) × (l ≢ 91)
+
+-- a written sequence: parameters and the last byte
+abbrev pub written : List ℕ → ℕ → List ℕ
+written body l = 27 ∷ 91 ∷ (body ++ l ∷ [])
+
+inner : (b : ℕ) → IsParameter b → IsInner b
+inner b p = (omega arith, omega arith)
+
+-- what the text doesn't begin with
+no_sign : (body : List ℕ) (l : ℕ) (t : List ℕ) → AllByRecursion IsParameter body → IsKeyEnd l → body ++ l ∷ [] ≡ 60 ∷ t → ⊥
+no_sign [] l t a end e = let same : l ≡ 60 = cc (e) in omega (arith, end.0)
+no_sign (y ∷ body) l t a end e = let same : y ≡ 60 = cc (e) in let is : IsParameter y = a.0 in omega arith
+
+no_dollar : (body : List ℕ) (l x : ℕ) (t : List ℕ) → AllByRecursion IsParameter body → IsKeyEnd l
+    → body ++ l ∷ [] ≡ x ∷ 36 ∷ t → ⊥
+no_dollar [] l x t a end e = cc (e)
+no_dollar (y ∷ []) l x t a end e = let same : l ≡ 36 = cc (e) in omega (arith, end.0)
+no_dollar (y ∷ z ∷ body) l x t a end e = let same : z ≡ 36 = cc (e) in let is : IsParameter z = a.1.0 in omega arith
+
+no_letter : (body : List ℕ) (l x : ℕ) (t : List ℕ) → AllByRecursion IsParameter body → 59 < x → l ≢ x
+    → body ++ l ∷ [] ≡ x ∷ t → ⊥
+no_letter [] l x t a high n e = n (cc (e))
+no_letter (y ∷ body) l x t a high n e = let same : y ≡ x = cc (e) in let is : IsParameter y = a.0 in omega arith
+
+pub is_control : (body : List ℕ) (l : ℕ) → AllByRecursion IsParameter body → IsKeyEnd l → length (written body l) ≤ 256
+    → IsControl (written body l)
+is_control body l a end short = record {
+  inner = body;
+  last = l;
+  form = refl;
+  each = true_from IsParameter IsInner inner body a;
+  last_is = (end.0, end.1);
+  short = short;
+  no_mouse = λ (t, e). no_letter body l 77 t a (omega arith) end.2 (cc (e));
+  no_console = λ (t, e). no_letter body l 91 t a (omega arith) end.3 (cc (e));
+  no_row = λ digit is. λ (t, e). no_dollar body l digit t a end (cc (e));
+}
+
+-- where the sequence is read as a key, a row is too
+pub is_free : (body : List ℕ) (l : ℕ) (r : KeyReport) → AllByRecursion IsParameter body → IsKeyEnd l
+    → event_of (written body l) ≡ Key r → IsFree Kitty (written body l)
+unfolding IsSequence
+is_free body l r a end e (Row key) s = (key, refl, subst IsKeyOrPosition (sym e) tt)
+is_free body l r a end e (Report report) s =
+    let plain = report_plain (written body l) report s in
+    absurd (no_sign body l plain.0 a end (cc (plain.1)))
+
+pub is_extra : (body : List ℕ) (l : ℕ) (r : KeyReport) → AllByRecursion IsParameter body → IsKeyEnd l
+    → length (written body l) ≤ 256 → event_of (written body l) ≡ Key r → IsExtra Kitty (written body l) (Key r)
+is_extra body l r a end short e = record {
+  is_form = control (is_control body l a end short);
+  is_free = is_free body l r a end e;
+  means = sym e;
+}

@@ -1,0 +1,51 @@
+-- The laws of the encoder: the extended parser reads back what is written.
+use Rattle.std.specs.Prelude.{◌≡◌, ⊤, ℕ, ◌<◌, ◌≤◌, List, [], ◌∷◌, false, length, Option, Some, None}
+use Rattle.std.specs.Char.{IsScalar}
+use Rattle.std.specs.Str.{IsUtf8}
+use Rattle.termwiz_keys.specs.declared.types.KeyCode.TheVariants.{Char}
+use Rattle.termwiz_extended_events.specs.declared.types.KeyReport.{KeyReport}
+use Rattle.termwiz_extended_events.specs.declared.types.ReportedKey.{ReportedKey}
+use Rattle.termwiz_extended_events.specs.declared.types.ReportedKey.TheVariants.{Named}
+use Rattle.termwiz_extended_events.specs.declared.types.ExtendedEvent.TheVariants.{Key}
+use Rattle.termwiz_extended_events.specs.declared.types.Rows.TheVariants.{Kitty}
+use Rattle.termwiz_extended_grammar.specs.ExtendedGrammar.{Means}
+use Rattle.termwiz_kitty.specs.declared.telling.Telling.TheVariants.{Reported}
+use Rattle.termwiz_kitty.specs.KeyForms.{form_of, normal_key}
+use Rattle.termwiz_kitty.specs.Telling.{telling, reported, is_shifted, is_character, has_text, all_flags}
+use Rattle.termwiz_kitty.specs.KittyTexts.{kitty_text, most_bytes}
+
+-- the character of a key is one
+abbrev pub IsKey : ReportedKey → Type 0
+IsKey (Named (Char c)) = IsScalar c
+IsKey key = ⊤
+
+-- a character that may be missing
+abbrev pub IsScalarOrMissing : Option ℕ → Type 0
+IsScalarOrMissing None = ⊤
+IsScalarOrMissing (Some c) = IsScalar c
+
+-- what the type of a report says of it: its characters are characters, its text is UTF-8, and its modifiers are a byte
+pub record IsReport (r : KeyReport) : Type 0 where
+  pub key_is : IsKey r.key
+  pub fits : r.modifiers < 256
+  pub shifted_is : IsScalarOrMissing r.shifted
+  pub base_is : IsScalarOrMissing r.base
+  pub text_is : IsUtf8 r.text
+
+-- The sequence of a report that isn't too long means that report, and nothing else.
+abbrev pub KittyReadBack : Type 0
+KittyReadBack = (r : KeyReport) (flags : ℕ) (text : List ℕ) → IsReport r → telling r flags ≡ Reported
+    → kitty_text r flags ≡ Some text → length text ≤ most_bytes
+    → Means Kitty text false (Key (reported r flags) ∷ []) []
+
+-- What a terminal can write: the key in its normal form; what it types with Shift only while Shift is held, and this and what its place
+-- types only of a key that types a character; and a text only in a sequence that has room for one.
+pub record IsWritable (r : KeyReport) : Type 0 where
+  pub normal : normal_key r.key ≡ r.key
+  pub shifted : is_shifted r.modifiers ≡ false → r.shifted ≡ None
+  pub alternates : is_character r.key ≡ false → (r.shifted ≡ None) × (r.base ≡ None)
+  pub text : has_text (form_of r.key) ≡ false → r.text ≡ []
+
+-- Under all five flags such a report is told whole.
+abbrev pub FullyTold : Type 0
+FullyTold = (r : KeyReport) → IsWritable r → (telling r all_flags ≡ Reported) × (reported r all_flags ≡ r)

@@ -1,0 +1,4 @@
+pub mod KeyForms
+pub mod Telling
+pub mod KittyTexts
+pub mod KittyLaws

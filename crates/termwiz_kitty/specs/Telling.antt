@@ -1,0 +1,161 @@
+-- What a terminal tells of a key under kitty's keyboard protocol, by the flags that the program asked for. From the protocol
+-- ("Comprehensive keyboard handling in terminals", "Progressive enhancement").
+use Rattle.std.specs.Prelude.{ℕ, Bool, true, false, not, ◌==◌, ◌&&◌, ◌||◌, List, [], nat_le, Option, Some, None, bit_and, if◌then◌else◌}
+use Rattle.termwiz_keys.specs.KeyCodes.{holds}
+use Rattle.termwiz_keys.specs.declared.types.KeyCode.TheVariants.{Char, Enter, Tab, Backspace}
+use Rattle.termwiz_extended_events.specs.declared.types.KeyReport.{KeyReport}
+use Rattle.termwiz_extended_events.specs.declared.types.KeyEventKind.{KeyEventKind}
+use Rattle.termwiz_extended_events.specs.declared.types.KeyEventKind.TheVariants.{Press, Release}
+use Rattle.termwiz_extended_events.specs.declared.types.ReportedKey.{ReportedKey}
+use Rattle.termwiz_extended_events.specs.declared.types.ReportedKey.TheVariants.{Named}
+use Rattle.termwiz_kitty.specs.declared.telling.Telling.{Telling}
+use Rattle.termwiz_kitty.specs.declared.telling.Telling.TheVariants.{Nothing, Typed, Legacy, Reported}
+use Rattle.termwiz_kitty.specs.declared.key_forms.KeyForm.{KeyForm}
+use Rattle.termwiz_kitty.specs.declared.key_forms.KeyForm.TheVariants.{Code}
+use Rattle.termwiz_kitty.specs.KeyForms.{form_of, normal_key}
+
+-- the flags of the protocol
+abbrev pub DISAMBIGUATE : ℕ
+DISAMBIGUATE = 1
+
+abbrev pub EVENT_TYPES : ℕ
+EVENT_TYPES = 2
+
+abbrev pub ALTERNATE_KEYS : ℕ
+ALTERNATE_KEYS = 4
+
+abbrev pub ALL_KEYS : ℕ
+ALL_KEYS = 8
+
+abbrev pub ASSOCIATED_TEXT : ℕ
+ASSOCIATED_TEXT = 16
+
+-- all five of them
+abbrev pub all_flags : ℕ
+all_flags = 31
+
+-- the program asked for reports of all keys
+abbrev pub tells_all_keys : ℕ → Bool
+tells_all_keys flags = holds flags ALL_KEYS
+
+-- the program asked for repeats and releases
+abbrev pub tells_event_types : ℕ → Bool
+tells_event_types flags = holds flags EVENT_TYPES
+
+-- the bits of the modifiers but those of the locks
+abbrev pub without_locks : ℕ → ℕ
+without_locks bits = bit_and bits 63
+
+-- Shift is held
+abbrev pub is_shifted : ℕ → Bool
+is_shifted bits = not (bit_and bits 1 == 0)
+
+-- no modifier but the locks
+abbrev pub is_bare : ℕ → Bool
+is_bare bits = without_locks bits == 0
+
+-- no modifier but Shift and the locks
+abbrev pub is_at_most_shifted : ℕ → Bool
+is_at_most_shifted bits = bit_and bits 62 == 0
+
+abbrev pub is_release : KeyEventKind → Bool
+is_release Release = true
+is_release kind = false
+
+abbrev pub is_press : KeyEventKind → Bool
+is_press Press = true
+is_press kind = false
+
+-- the number of a modifier key or of a lock
+abbrev pub is_modifier_number : ℕ → Bool
+is_modifier_number n = (nat_le 57358 n && nat_le n 57360) || (nat_le 57441 n && nat_le n 57454)
+
+abbrev pub is_modifier_form : Option KeyForm → Bool
+is_modifier_form (Some (Code n)) = is_modifier_number n
+is_modifier_form form = false
+
+-- the key types a character, or has its number
+abbrev pub is_character : ReportedKey → Bool
+is_character (Named (Char c)) = true
+is_character key = false
+
+-- a modifier key, or the key of a lock
+abbrev pub is_modifier : ReportedKey → Bool
+is_modifier key = not (is_character key) && is_modifier_form (form_of key)
+
+-- a key that sends a control character which a shell needs: Enter, Tab and Backspace
+abbrev pub sends_control : ReportedKey → Bool
+sends_control (Named Enter) = true
+sends_control (Named Tab) = true
+sends_control (Named Backspace) = true
+sends_control key = false
+
+-- the key types a character with these modifiers
+abbrev pub types : ReportedKey → ℕ → Bool
+types (Named (Char c)) bits = nat_le 32 c && not (c == 127) && is_at_most_shifted bits
+types key bits = sends_control key && is_bare bits
+
+-- What happened to the key, as it is told: without the types of events a repeat is a press.
+abbrev pub told_kind : ℕ → KeyEventKind → KeyEventKind
+told_kind flags kind = if tells_event_types flags then kind else Press
+
+-- a release, which isn't told
+abbrev pub is_silent_release : KeyReport → ℕ → Bool
+is_silent_release r flags = is_release r.kind && not (tells_event_types flags)
+
+-- a modifier key, which isn't told
+abbrev pub is_silent_modifier : KeyReport → ℕ → Bool
+is_silent_modifier r flags = is_modifier r.key && not (tells_all_keys flags)
+
+-- how a key is told if not all keys are reported
+abbrev pub telling_some : KeyReport → ℕ → Telling
+telling_some r flags =
+    if sends_control r.key && is_release r.kind then Nothing
+    else (if types r.key r.modifiers && not (is_release r.kind) then Typed
+    else (if is_press (told_kind flags r.kind) && not (holds flags DISAMBIGUATE) then Legacy
+    else Reported))
+
+-- how a key is told
+unfoldable pub telling : KeyReport → ℕ → Telling
+telling r flags =
+    if is_silent_release r flags then Nothing
+    else (if is_silent_modifier r flags then Nothing
+    else (if tells_all_keys flags then Reported
+    else telling_some r flags))
+
+-- the modifiers as they are told: without all keys the locks aren't told of keys that type
+abbrev pub told_modifiers : KeyReport → ℕ → ℕ
+told_modifiers r flags =
+    if is_character r.key && not (tells_all_keys flags) then without_locks r.modifiers else r.modifiers
+
+-- what the key types with Shift and what its place types are told
+abbrev pub tells_alternates : KeyReport → ℕ → Bool
+tells_alternates r flags = holds flags ALTERNATE_KEYS && is_character r.key
+
+abbrev pub told_shifted : KeyReport → ℕ → Option ℕ
+told_shifted r flags = if tells_alternates r flags && is_shifted r.modifiers then r.shifted else None
+
+abbrev pub told_base : KeyReport → ℕ → Option ℕ
+told_base r flags = if tells_alternates r flags then r.base else None
+
+-- the form has room for a text
+abbrev pub has_text : Option KeyForm → Bool
+has_text (Some (Code n)) = true
+has_text form = false
+
+abbrev pub tells_text : KeyReport → ℕ → Bool
+tells_text r flags = holds flags ASSOCIATED_TEXT && tells_all_keys flags && has_text (form_of r.key)
+
+abbrev pub told_text : KeyReport → ℕ → List ℕ
+told_text r flags = if tells_text r flags then r.text else []
+
+-- the report that a sequence carries
+unfoldable pub reported : KeyReport → ℕ → KeyReport
+reported r flags = record {
+  key = normal_key r.key;
+  modifiers = told_modifiers r flags;
+  kind = told_kind flags r.kind;
+  shifted = told_shifted r flags;
+  base = told_base r flags;
+  text = told_text r flags;
+}

@@ -1,0 +1,13 @@
+//! Laws of the encoder, each the contract of a function without effect.
+ghost use Rattle.termwiz_kitty.specs.KittyLaws.{FullyTold, KittyReadBack};
+
+/// If a key is told by a key report, and its sequence has at most 256 bytes, then the extended parser under `Rows::Kitty` reads it
+/// as exactly that report.
+pub fn kitty_read_back()
+    ensures { KittyReadBack }
+{}
+
+/// With all five flags a report that a terminal can write is told whole. So what is written for it is read as that report.
+pub fn fully_told()
+    ensures { FullyTold }
+{}

@@ -1,0 +1,220 @@
+// What a terminal tells of a key, by the flags of Kitty's keyboard protocol.
+ghost use Rattle.std.specs.Prelude.{◌≡◌};
+ghost use Rattle.termwiz_kitty.specs.Telling as rules;
+
+use crate::key_forms::{KeyForm, form_of};
+use termwiz_base::{Flags, KittyKeyboardFlags};
+use termwiz_extended_events::types::{KeyEventKind, KeyReport, ReportedKey};
+use termwiz_keys::types::KeyCode;
+
+// How a key is told.
+#[derive(Clone, Copy, PartialEq, Eq, Debug)]
+pub(crate) enum Telling {
+    // Not at all.
+    Nothing,
+    // By the text that it types.
+    Typed,
+    // As before the protocol.
+    Legacy,
+    // By a key report.
+    Reported,
+}
+
+// Kitty's bit of Shift.
+const SHIFT: u8 = 1;
+
+// The bits of all modifiers but the locks.
+const ALL_BUT_LOCKS: u8 = 63;
+
+// The same without Shift.
+const ALL_BUT_SHIFT_AND_LOCKS: u8 = 62;
+
+// Whether the key was released.
+fn is_release(kind: KeyEventKind) -> bool
+    ensures { result ≡ rules.is_release kind }
+{
+    matches!(kind, KeyEventKind::Release)
+}
+
+// Whether the key was pressed.
+pub(crate) fn is_press(kind: KeyEventKind) -> bool
+    ensures { result ≡ rules.is_press kind }
+{
+    matches!(kind, KeyEventKind::Press)
+}
+
+// Whether Shift is held.
+pub(crate) fn is_shifted(modifiers: u8) -> bool
+    ensures { result ≡ rules.is_shifted modifiers }
+{
+    modifiers & SHIFT != 0
+}
+
+// Whether no modifier is held, but maybe a lock is on.
+fn is_bare(modifiers: u8) -> bool
+    ensures { result ≡ rules.is_bare modifiers }
+{
+    modifiers & ALL_BUT_LOCKS == 0
+}
+
+// Whether the key types a character.
+fn is_character(key: ReportedKey) -> bool
+    ensures { result ≡ rules.is_character key }
+{
+    matches!(key, ReportedKey::Named(KeyCode::Char(_)))
+}
+
+// Whether the key is a modifier key or that of a lock.
+fn is_modifier(key: ReportedKey) -> bool
+    ensures { result ≡ rules.is_modifier key }
+{
+    !is_character(key)
+        && matches!(
+            form_of(key),
+            Some(KeyForm::Code(57358..=57360 | 57441..=57454))
+        )
+}
+
+// Whether the key is Enter, Tab or Backspace.
+fn sends_control(key: ReportedKey) -> bool
+    ensures { result ≡ rules.sends_control key }
+{
+    matches!(
+        key,
+        ReportedKey::Named(KeyCode::Enter | KeyCode::Tab | KeyCode::Backspace)
+    )
+}
+
+// Whether the key types a text with these modifiers.
+fn types(key: ReportedKey, modifiers: u8) -> bool
+    ensures { result ≡ rules.types key modifiers }
+{
+    match key {
+        ReportedKey::Named(KeyCode::Char(c)) => {
+            ' ' <= c && c != '\x7f' && modifiers & ALL_BUT_SHIFT_AND_LOCKS == 0
+        }
+        _ => sends_control(key) && is_bare(modifiers),
+    }
+}
+
+// Whether the program asked for reports of all keys.
+fn tells_all_keys(flags: KittyKeyboardFlags) -> bool
+    ensures { result ≡ rules.tells_all_keys flags.0 }
+{
+    flags.contains(KittyKeyboardFlags::REPORT_ALL_KEYS_AS_ESCAPE_CODES)
+}
+
+// Whether the program asked for repeats and releases.
+fn tells_event_types(flags: KittyKeyboardFlags) -> bool
+    ensures { result ≡ rules.tells_event_types flags.0 }
+{
+    flags.contains(KittyKeyboardFlags::REPORT_EVENT_TYPES)
+}
+
+// What happened to the key, as it is told.
+pub(crate) fn told_kind(kind: KeyEventKind, flags: KittyKeyboardFlags) -> KeyEventKind
+    ensures { result ≡ rules.told_kind flags.0 kind }
+{
+    if tells_event_types(flags) {
+        kind
+    } else {
+        KeyEventKind::Press
+    }
+}
+
+// How a key is told if not all keys are reported.
+fn telling_some(report: &KeyReport, flags: KittyKeyboardFlags) -> Telling
+    ensures { result ≡ rules.telling_some report.now flags.0 }
+{
+    let is_release = is_release(report.kind);
+    if sends_control(report.key) && is_release {
+        return Telling::Nothing;
+    }
+    if types(report.key, report.modifiers) && !is_release {
+        return Telling::Typed;
+    }
+    if is_press(told_kind(report.kind, flags))
+        && !flags.contains(KittyKeyboardFlags::DISAMBIGUATE_ESCAPE_CODES)
+    {
+        return Telling::Legacy;
+    }
+    Telling::Reported
+}
+
+// How a key is told.
+#[tactic(auto, unfolding(crate::specs::Telling::telling))]
+pub(crate) fn telling_of(report: &KeyReport, flags: KittyKeyboardFlags) -> Telling
+    ensures { result ≡ rules.telling report.now flags.0 }
+{
+    if is_release(report.kind) && !tells_event_types(flags) {
+        return Telling::Nothing;
+    }
+    let all = tells_all_keys(flags);
+    if is_modifier(report.key) && !all {
+        return Telling::Nothing;
+    }
+    if all {
+        return Telling::Reported;
+    }
+    telling_some(report, flags)
+}
+
+// The modifiers, as they are told.
+pub(crate) fn told_modifiers(report: &KeyReport, flags: KittyKeyboardFlags) -> u8
+    ensures { result ≡ rules.told_modifiers report.now flags.0 }
+{
+    if is_character(report.key) && !tells_all_keys(flags) {
+        report.modifiers & ALL_BUT_LOCKS
+    } else {
+        report.modifiers
+    }
+}
+
+// Whether it is told what the key types with Shift, and what its place types.
+fn tells_alternates(report: &KeyReport, flags: KittyKeyboardFlags) -> bool
+    ensures { result ≡ rules.tells_alternates report.now flags.0 }
+{
+    flags.contains(KittyKeyboardFlags::REPORT_ALTERNATE_KEYS) && is_character(report.key)
+}
+
+// What the key types with Shift, if it is told.
+pub(crate) fn told_shifted(report: &KeyReport, flags: KittyKeyboardFlags) -> Option<char>
+    ensures { result ≡ rules.told_shifted report.now flags.0 }
+{
+    if tells_alternates(report, flags) && is_shifted(report.modifiers) {
+        report.shifted
+    } else {
+        None
+    }
+}
+
+// What the place of the key types on the standard layout, if it is told.
+pub(crate) fn told_base(report: &KeyReport, flags: KittyKeyboardFlags) -> Option<char>
+    ensures { result ≡ rules.told_base report.now flags.0 }
+{
+    if tells_alternates(report, flags) {
+        report.base
+    } else {
+        None
+    }
+}
+
+// Whether the text of a key is told.
+fn tells_text(report: &KeyReport, flags: KittyKeyboardFlags) -> bool
+    ensures { result ≡ rules.tells_text report.now flags.0 }
+{
+    flags.contains(KittyKeyboardFlags::REPORT_ASSOCIATED_TEXT)
+        && tells_all_keys(flags)
+        && matches!(form_of(report.key), Some(KeyForm::Code(_)))
+}
+
+// The text of the key, if it is told, and else an empty one.
+pub(crate) fn told_text<'a>(report: &'a KeyReport, flags: KittyKeyboardFlags) -> &'a str
+    ensures { result.now ≡ rules.told_text report.now flags.0 }
+{
+    if tells_text(report, flags) {
+        report.text.as_str()
+    } else {
+        ""
+    }
+}
