@@ -579,7 +579,8 @@ size_t tw_extended_text(const tw_extended *parser, uint8_t *out, size_t len);
 /* Frees these bytes: tw_extended_text returns 0 until the next such event. If there are none or there is no parser, it does nothing. */
 void tw_extended_drop_text(tw_extended *parser);
 
-/* Returns the number of bytes that are buffered, 0 if there is no parser. Without an open paste it is at most 65536. */
+/* Returns the number of bytes that are buffered, 0 if there is no parser. Once tw_extended_next returned TW_NONE, it is at most 65536, or
+ * the buffer begins with the start of a paste. */
 size_t tw_extended_waiting(const tw_extended *parser);
 
 /* Returns what stays buffered, an enum tw_waiting, as tw_parser_waiting_kind does. The beginning of a control sequence or of a string is a
