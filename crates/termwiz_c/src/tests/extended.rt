@@ -215,7 +215,7 @@ fn flushes_the_escape_key(rt: HostRuntime) -> Result<(), Fail> {
 }
 
 #[test]
-fn takes_long_pastes_and_strings(rt: HostRuntime) -> Result<(), Fail> {
+fn takes_a_long_paste(rt: HostRuntime) -> Result<(), Fail> {
     let alloc = rt.alloc();
     let body = b"ab".repeat(alloc, 50_000)?;
     let mut out = b".".repeat(alloc, 100_001)?;
@@ -229,24 +229,37 @@ fn takes_long_pastes_and_strings(rt: HostRuntime) -> Result<(), Fail> {
     assert!(rt; event.kind == 3 && event.text_len == 100_000);
     assert_eq!(rt; event.input.paste_len, 100_000);
     assert_eq!(rt; tw_extended_text(&mut parser, out.as_mut_slice()), 100_000);
-    assert!(rt; out.starts_with(&body) && out[100_000] == b'.');
+    assert!(rt; out.starts_with(&body) && out.ends_with(b"b."));
+    tw_extended_free(alloc, &mut parser);
+    parser.close();
+    Ok(())
+}
 
-    // A paste without an end, and a string of 300 bytes in three pieces.
+#[test]
+fn takes_a_string_in_pieces(rt: HostRuntime) -> Result<(), Fail> {
+    let alloc = rt.alloc();
+    let mut out = [b'.'; 4];
+    let mut parser = ExtendedHandle::empty();
+    let mut event = NO_EXTENDED_EVENT;
+    assert!(rt; tw_extended_init(alloc, &mut parser, PORT));
+
+    // A paste without an end comes before.
     assert_eq!(rt; tw_extended_end_paste(&mut parser, &mut event), NONE);
     assert!(rt; tw_extended_feed(&mut parser, b"\x1b[200~xyz"));
     assert_eq!(rt; tw_extended_end_paste(&mut parser, &mut event), EVENT);
     assert!(rt; event.kind == 3 && event.text_len == 3);
     assert_eq!(rt; tw_extended_waiting(&mut parser), 0);
-    assert_eq!(rt; tw_extended_text(&mut parser, out.as_mut_slice()), 3);
-    assert!(rt; out.starts_with(b"xyzb"));
+    assert_eq!(rt; tw_extended_text(&mut parser, &mut out), 3);
+    assert!(rt; out.starts_with(b"xyz."));
+
     assert!(rt; tw_extended_feed(&mut parser, b"\x1b]"));
-    assert!(rt; tw_extended_feed(&mut parser, &body[..300]));
+    assert!(rt; tw_extended_feed(&mut parser, &[b'a'; 300]));
     assert_eq!(rt; tw_extended_next(&mut parser, MORE, &mut event), NONE);
     assert!(rt; tw_extended_feed(&mut parser, b"\x1b\\"));
     assert_eq!(rt; tw_extended_next(&mut parser, MORE, &mut event), EVENT);
     assert!(rt; event.kind == 11 && event.text_len == 300);
-    assert_eq!(rt; tw_extended_text(&mut parser, &mut out[..4]), 300);
-    assert!(rt; out.starts_with(b"abab"));
+    assert_eq!(rt; tw_extended_text(&mut parser, &mut out), 300);
+    assert!(rt; out.starts_with(b"aaaa"));
     tw_extended_free(alloc, &mut parser);
     parser.close();
     Ok(())
