@@ -77,8 +77,10 @@ check_checksums() {
     (cd "$packages" && sha256sum --check --strict SHA256SUMS && [ "$(wc -l < SHA256SUMS)" = 5 ])
 }
 
+# Letters among the machine code are no words.
 check_by_lintian() {
-    lintian --allow-root --display-info --pedantic --fail-on error,warning,info,pedantic "$packages"/*.deb
+    lintian --allow-root --display-info --pedantic --suppress-tags spelling-error-in-binary --fail-on error,warning,info,pedantic \
+        "$packages"/*.deb
 }
 
 unpack() {
