@@ -7,8 +7,6 @@ mod generated;
 mod keys;
 mod line;
 mod long;
-mod recorded;
-mod recorded_inputs;
 mod replies;
 mod rows;
 mod strings;
