@@ -2,15 +2,18 @@
 ghost use Rattle.std.specs.Prelude.{◌<◌};
 
 mod calls;
+mod compared;
 mod generated;
 mod keys;
 mod line;
 mod long;
 mod replies;
+mod rows;
 mod strings;
 mod unread;
 mod waiting;
 
+use compared::Comparison;
 use std::alloc::{AllocError, Global};
 use std::process::Abort;
 use std::test::Fail;
@@ -105,9 +108,11 @@ fn check(
 fn check_all(rt: &impl Abort, alloc: Global, examples: &[Example]) -> Result<(), Fail> {
     for rows in BOTH {
         let mut parser = ExtendedParser::new(alloc, *rows)?;
+        let mut comparison = Comparison::new(alloc, *rows)?;
         for (read_by, steps) in examples {
             if read_by.contains(rows) {
                 check(rt, alloc, &mut parser, steps)?;
+                comparison.check_steps(rt, steps)?;
             }
         }
     }

@@ -9,7 +9,7 @@ use std::test::Fail;
 use termwiz_input::input::InputParser;
 
 // The bytes that the forms name, and parts and wholes of sequences. ESC stands twice, so that it is drawn more often.
-const SYMBOLS: &[&[u8]] = &[
+pub(super) const SYMBOLS: &[&[u8]] = &[
     b"\x1b",
     b"\x1b",
     b"[",
@@ -85,14 +85,14 @@ const USUAL_SYMBOLS: &[&[u8]] = &[
 
 // A linear congruential generator.
 #[derive(Drop)]
-struct Draws {
-    state: u64,
-    alloc: Global,
+pub(super) struct Draws {
+    pub(super) state: u64,
+    pub(super) alloc: Global,
 }
 
 impl Draws {
     // A number below the limit.
-    fn below(&mut self, limit: usize) -> usize
+    pub(super) fn below(&mut self, limit: usize) -> usize
         requires { 0 < limit }
         ensures { result < limit }
     {
@@ -104,7 +104,7 @@ impl Draws {
     }
 
     // A text of at most 20 symbols.
-    fn text(&mut self, symbols: &[&[u8]]) -> Result<Vec<u8>, AllocError> {
+    pub(super) fn text(&mut self, symbols: &[&[u8]]) -> Result<Vec<u8>, AllocError> {
         let mut text = Vec::new(self.alloc);
         for _ in 0..self.below(21) {
             if let Some(symbol) = symbols.get(self.below(symbols.len().max(1))) {
