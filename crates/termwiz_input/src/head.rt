@@ -21,9 +21,9 @@ pub(crate) enum MatchedHead<'k> {
     Broken,
 }
 
-// The character that begins the text, and the number of its bytes.
+/// The character of UTF-8 at the front of a text, and the number of its bytes. `None` if no whole character is there.
 #[tactic(auto, unfolding(crate::specs::Matches::character_of))]
-pub(crate) fn character_at(text: &[u8]) -> Option<(char, usize)>
+pub fn character_at(text: &[u8]) -> Option<(char, usize)>
     ensures { result ≡ character_of text.now }
 {
     let (found, len) = decode_utf8(text);

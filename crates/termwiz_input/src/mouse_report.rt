@@ -13,14 +13,14 @@ use termwiz_base::{MouseReport, sgr_mouse};
 use termwiz_keymap::bytes::begins_with;
 use termwiz_keys::types::{MouseButtons, MouseEvent};
 
-// What a text begins with, as far as mouse reports go.
+/// What a text begins with, as far as mouse reports go.
 #[derive(Drop)]
-pub(crate) enum FrontReport {
-    // A mouse report, by its event and its length.
+pub enum FrontReport {
+    /// A mouse report: its event, and the number of its bytes.
     Whole(MouseEvent, usize),
-    // The whole text properly begins a mouse report.
+    /// The whole text is a proper prefix of a mouse report.
     Begun,
-    // No mouse report begins the text, and none can by what follows it.
+    /// No mouse report is a prefix of the text, and no bytes after the text can complete one.
     Absent,
 }
 
@@ -110,9 +110,10 @@ fn event_at(text: &[u8]) -> Result<(MouseEvent, &[u8]), Unread>
     }
 }
 
-// What the text begins with, as far as mouse reports go. Inlined, so that a key pays for no call.
+/// Looks for a mouse report of xterm's SGR mode 1006 at the front of a text, for a parser over [`InputParser`](crate::input::InputParser).
+// Inlined, so that a key pays for no call.
 #[inline(always)]
-pub(crate) fn mouse_report_at(text: &[u8]) -> FrontReport
+pub fn mouse_report_at(text: &[u8]) -> FrontReport
     ensures { IsMouseReportAnswer text.now result }
 {
     if begins_with(text, INTRODUCER) {
