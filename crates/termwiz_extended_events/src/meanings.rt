@@ -1,5 +1,5 @@
 // What a sequence means that the port doesn't know.
-ghost use Rattle.std.specs.Prelude.{◌≡◌, ◌↔◌, IfOk, IsSomeAnd, IsTrue};
+ghost use Rattle.std.specs.Prelude.{◌≡◌, ◌↔◌, IfOk, IfSome, IfNone, IsSomeAnd, IsTrue, Some};
 ghost use Rattle.termwiz_extended_events.specs.Meanings as meaning;
 ghost use Rattle.termwiz_extended_events.specs.Meanings.{reported, command_text, string_text, event_after, IsKeyOrPosition};
 
@@ -140,9 +140,57 @@ pub fn is_key_or_position(alloc: Global, text: &[u8]) -> bool
     }
 }
 
+// The event, if it is a report of a key or of the position of the cursor.
+fn if_key_or_position(event: ExtendedEvent) -> Option<ExtendedEvent>
+    ensures some { IfSome result (λ found. IsKeyOrPosition event × (found ≡ event)) }
+    ensures none { IfNone result (¬ IsKeyOrPosition event) }
+{
+    if is_of_key_or_position(&event) {
+        Some(event)
+    } else {
+        None
+    }
+}
+
+// The event of what follows ESC [, if it reports a key or the position of the cursor.
+#[tactic(auto, unfolding(crate::specs::Meanings::reported))]
+fn report_of_key_or_position(alloc: Global, t: &[u8]) -> Result<Option<ExtendedEvent>, AllocError>
+    ensures some { IfOk result (λ found. IfSome found (λ event. IsKeyOrPosition event × (reported t.now ≡ Some event))) }
+    ensures none { IfOk result (λ found. IfNone found (¬ IsSomeAnd (reported t.now) IsKeyOrPosition)) }
+{
+    if let Some(event) = focus(t) {
+        return Ok(if_key_or_position(event));
+    }
+    if let Some(report) = key_report(alloc, t)? {
+        return Ok(Some(ExtendedEvent::Key(report)));
+    }
+    if let Some(event) = reply(t) {
+        return Ok(if_key_or_position(event));
+    }
+    if mouse_report(t).is_some() {
+        return Ok(None);
+    }
+    Ok(console_key(alloc, t).map(ExtendedEvent::Key))
+}
+
+/// The event of a whole sequence, if it reports a key or the position of the cursor. Otherwise it is `None`.
+///
+/// Only the text of a key report needs memory.
+#[tactic(auto, unfolding(crate::specs::Meanings::event_of, crate::specs::Meanings::event_after))]
+pub fn key_or_position(alloc: Global, text: &[u8]) -> Result<Option<ExtendedEvent>, AllocError>
+    ensures some { IfOk result (λ found. IfSome found (λ event. IsKeyOrPosition event × (event ≡ meaning.event_of text.now))) }
+    ensures none { IfOk result (λ found. IfNone found (¬ IsKeyOrPosition (meaning.event_of text.now))) }
+{
+    match text {
+        [0x1b, b'[', t @ ..] => report_of_key_or_position(alloc, t),
+        [0x1b, b'O', t @ ..] => Ok(keypad_key(alloc, t).map(ExtendedEvent::Key)),
+        _ => Ok(None),
+    }
+}
+
 #[cfg(test)]
 mod tests {
-    use super::event_of;
+    use super::{event_of, key_or_position};
     use crate::types::{ExtendedEvent, KeyEventKind, ReportedKey};
     use std::alloc::AllocError;
     use termwiz_keys::types::{InputEvent, KeyCode};
@@ -181,6 +229,30 @@ mod tests {
             panic!(rt; "no key");
         };
         assert!(rt; report.key == ReportedKey::Named(KeyCode::UpArrow) && report.modifiers == 8);
+        Ok(())
+    }
+
+    #[test]
+    fn tells_keys_and_positions(rt: HostRuntime) -> Result<(), AllocError> {
+        let alloc = rt.alloc();
+        for text in [
+            b"\x1b[1;9A".as_slice(),
+            b"\x1b[97;1;65u".as_slice(),
+            b"\x1b[24;80R".as_slice(),
+            b"\x1b[[A".as_slice(),
+            b"\x1bOM".as_slice(),
+        ] {
+            assert!(rt; key_or_position(alloc, text)? == Some(event_of(alloc, text)?));
+        }
+        for text in [
+            b"\x1b[I".as_slice(),
+            b"\x1b[?5u".as_slice(),
+            b"\x1b[32;30;40M".as_slice(),
+            b"\x1b[2D".as_slice(),
+            b"\x1b]0;a\x07".as_slice(),
+        ] {
+            assert!(rt; key_or_position(alloc, text)?.is_none());
+        }
         Ok(())
     }
 
