@@ -1,29 +1,32 @@
 -- What is at the front of a text, as far as extra sequences go.
-use Rattle.std.specs.Prelude.{◌≡◌, ◌⊎◌, ℕ, ◌≤◌, ◌-◌, Bool, List, [], ◌∷◌, ◌++◌, length, take, Contains, Option, Result, IfOk, IfSome, IfNone, OnErr}
+use Rattle.std.specs.Prelude.{◌≡◌, ◌⊎◌, ℕ, ◌<◌, ◌≤◌, ◌-◌, Bool, List, [], ◌∷◌, ◌++◌, length, take, Contains, Option, Result, IfOk, IfSome, IfNone, OnErr}
 use Rattle.termwiz_keymap.specs.Bytes.{Begins}
-use Rattle.termwiz_keys.specs.Introducers.{ESC}
+use Rattle.termwiz_keys.specs.Introducers.{ESC, START}
+use Rattle.termwiz_keys.specs.Keys.{plain as plain_key}
+use Rattle.termwiz_keys.specs.declared.types.KeyEvent.{KeyEvent}
+use Rattle.termwiz_keys.specs.declared.types.MouseEvent.{MouseEvent}
 use Rattle.termwiz_keys.specs.declared.types.InputEvent.{InputEvent}
-use Rattle.termwiz_keys.specs.declared.types.InputEvent.TheVariants.{Key as PortsKey, Paste}
-use Rattle.termwiz_input.specs.Matches.{IsItemAt}
+use Rattle.termwiz_keys.specs.declared.types.InputEvent.TheVariants.{Key as PortsKey, Mouse, Paste}
+use Rattle.termwiz_grammar.specs.MouseReports.{IsMouseReport}
+use Rattle.termwiz_input.specs.Matches.{HasRow, IsItemAt}
 use Rattle.termwiz_input.specs.PasteSearch.{IsPasteSoFar}
 use Rattle.termwiz_extended_events.specs.declared.types.ExtendedEvent.{ExtendedEvent}
 use Rattle.termwiz_extended_events.specs.declared.types.ExtendedEvent.TheVariants.{Input}
 use Rattle.termwiz_extended_events.specs.declared.types.Rows.{Rows}
-use Rattle.termwiz_extended_events.specs.declared.types.Rows.TheVariants.{Kitty}
+use Rattle.termwiz_extended_events.specs.declared.types.Rows.TheVariants.{Port, Kitty}
 use Rattle.termwiz_extended_events.specs.Meanings.{event_of, IsKeyOrPosition}
+use Rattle.termwiz_grammar.specs.Grammar.{IsOpen}
 use Rattle.termwiz_grammar.specs.Table.{rows as table_rows}
-use Rattle.termwiz_extended_grammar.specs.Forms.{IsForm}
-use Rattle.termwiz_extended_grammar.specs.ExtraSequences.{IsExtra, StartsWithExtra, IsUnfinishedExtra}
+use Rattle.termwiz_extended_grammar.specs.Forms.{IsForm, IsUnfinishedForm}
+use Rattle.termwiz_extended_grammar.specs.ExtraSequences.{IsExtra, StartsWithExtra}
 use Rattle.termwiz_extended_grammar.specs.ExtendedGrammar.{IsRest, Stands, Steps}
 use Rattle.termwiz_extended_grammar.specs.ExtendedLaws.{HasNoExtra}
-use Rattle.termwiz_input_extended.specs.declared.front.FormKind.{FormKind}
-use Rattle.termwiz_input_extended.specs.declared.front.FormKind.TheVariants as kind
-use Rattle.termwiz_input_extended.specs.declared.front.ExtraAt.{ExtraAt}
-use Rattle.termwiz_input_extended.specs.declared.front.ExtraAt.TheVariants as at
+use Rattle.termwiz_input_extended.specs.declared.front.FormFront.{FormFront}
+use Rattle.termwiz_input_extended.specs.declared.front.FormFront.TheVariants as front
 use Rattle.termwiz_input_extended.specs.declared.front.ExtendedFront.{ExtendedFront}
-use Rattle.termwiz_input_extended.specs.declared.front.ExtendedFront.TheVariants.{Key, Extra, Escape, Usual, Incomplete}
+use Rattle.termwiz_input_extended.specs.declared.front.ExtendedFront.TheVariants.{Key, Form, MouseReport, Escape, Usual, Incomplete}
 use Rattle.termwiz_input_extended.specs.Buffered.{Buffered}
-use Rattle.termwiz_input_extended.specs.FormAnswers.{IsScanned}
+use Rattle.termwiz_input_extended.specs.FormAnswers.{IsScanned, NoFormBegins}
 
 -- the text is read as a report of a key or of the cursor's position, even if it is a row
 abbrev pub IsReported : Rows → List ℕ → Type 0
@@ -33,19 +36,24 @@ IsReported rows text = (rows ≡ Kitty) × IsKeyOrPosition (event_of text)
 abbrev pub IsSomeExtra : Rows → List ℕ → Type 0
 IsSomeExtra rows text = (event : ExtendedEvent) × IsExtra rows text event
 
--- what a form is
-abbrev pub IsFormKind : Rows → List ℕ → FormKind → Type 0
-IsFormKind rows form kind.Extra = IsSomeExtra rows form
-IsFormKind rows form (kind.Row key) = Contains table_rows (form, key.now) × (¬ IsSomeExtra rows form)
-IsFormKind rows form kind.Report = ¬ IsSomeExtra rows form
+-- the event of a form that is no mouse report: as an extra sequence, or else as a row of the sequence table
+abbrev pub IsFormEvent : Rows → List ℕ → ExtendedEvent → Type 0
+IsFormEvent rows form event =
+    IsExtra rows form event
+    ⊎ ((key : KeyEvent) × (event ≡ Input (PortsKey key)) × Contains table_rows (form, key) × (¬ IsSomeExtra rows form))
 
--- what extra sequence is at the front of a text
-abbrev pub HasExtra : Rows → List ℕ → ExtraAt → Type 0
-HasExtra rows u (at.Whole len) = (len ≤ length u) × IsSomeExtra rows (take len u)
-HasExtra rows u (at.Row key len) = (len ≤ length u) × IsForm (take len u) × Contains table_rows (take len u, key.now)
-    × (¬ StartsWithExtra rows u) × (¬ IsUnfinishedExtra rows u)
-HasExtra rows u at.Unfinished = (¬ StartsWithExtra rows u) × IsUnfinishedExtra rows u
-HasExtra rows u at.Absent = (¬ StartsWithExtra rows u) × (¬ IsUnfinishedExtra rows u)
+-- the first so many bytes of the text are a form that is no mouse report
+pub record IsPlainForm (u : List ℕ) (len : ℕ) : Type 0 where
+  pub within : len ≤ length u
+  pub form : IsForm (take len u)
+  pub no_mouse : (event : MouseEvent) → ¬ IsMouseReport (take len u) event
+
+-- what form is at the front of a text
+abbrev pub HasFormFront : List ℕ → FormFront → Type 0
+HasFormFront u (front.Form len) = IsPlainForm u len
+HasFormFront u (front.MouseReport event len) = (len ≤ length u) × IsMouseReport (take len u) event
+HasFormFront u front.Unfinished = NoFormBegins u × IsUnfinishedForm u
+HasFormFront u front.Absent = NoFormBegins u × (¬ IsUnfinishedForm u)
 
 -- neither the text nor what follows its ESC begins with an extra sequence, or is open but to the port
 pub record IsPortsOwn (rows : Rows) (u : List ℕ) (more : Bool) : Type 0 where
@@ -58,10 +66,31 @@ pub record IsScannedTo (u : List ℕ) (place : ℕ) : Type 0 where
   pub here : (¬ Begins (ESC ++ ESC) u) → IsScanned u place
   pub after : (v : List ℕ) → u ≡ ESC ++ v → Begins ESC v → IsScanned v (place - 1)
 
+-- the first so many bytes of the text are a form that is no mouse report, after one ESC alone, and no start of a paste
+pub record IsFormAt (u : List ℕ) (len : ℕ) : Type 0 where
+  pub plain : IsPlainForm u len
+  pub escape : Begins ESC u
+  pub one : ¬ Begins (ESC ++ ESC) u
+  pub no_paste : ¬ Begins START u
+
+-- the character at the front, of so many bytes, is an item, whatever follows it
+pub record IsOwnCharacter (rows : Rows) (u : List ℕ) (more : Bool) (character len : ℕ) : Type 0 where
+  pub own : IsPortsOwn rows u more
+  pub item : IsItemAt u more (PortsKey (plain_key character)) len
+
+-- under `Rows::Port`, the longest sequence that begins the text is the row of this key, of so many bytes, and three or more; nothing that
+-- comes changes it
+pub record IsLongRowAt (rows : Rows) (u : List ℕ) (more : Bool) (key : KeyEvent) (len : ℕ) : Type 0 where
+  pub port : rows ≡ Port
+  pub long : 2 < len
+  pub row : HasRow u key len
+  pub closed : ¬ IsOpen u more
+
 -- this is at the front of the text, under this flag. Of an incomplete sequence the search goes on from a place.
 abbrev pub IsExtendedFront : Rows → List ℕ → Bool → ExtendedFront → Type 0
 IsExtendedFront rows u more (Key key len) = IsPortsOwn rows u more × IsItemAt u more (PortsKey key) len
-IsExtendedFront rows u more (Extra len) = (len ≤ length u) × IsSomeExtra rows (take len u)
+IsExtendedFront rows u more (Form len) = IsFormAt u len
+IsExtendedFront rows u more (MouseReport event len) = IsPortsOwn rows u more × IsItemAt u more (Mouse event) len
 IsExtendedFront rows u more Escape = (v : List ℕ) × (u ≡ ESC ++ v) × StartsWithExtra rows v
 IsExtendedFront rows u more Usual = IsPortsOwn rows u more
 IsExtendedFront rows u more (Incomplete place) = IsRest rows u more × IsScannedTo u place

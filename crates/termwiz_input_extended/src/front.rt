@@ -1,81 +1,56 @@
 // What is at the front of a text: an extra sequence, the Escape key before one, or what the port finds there.
-ghost use Rattle.std.specs.Prelude.{◌≡◌, ◌≢◌, ◌↔◌, ◌++◌, [], IsTrue, IfSome, IfNone, Contains};
+ghost use Rattle.std.specs.Prelude.{◌≡◌, ◌≢◌, ◌↔◌, ◌++◌, Bool, [], IsTrue, IfOk, OnErr, IfSome, IfNone, Contains};
 ghost use Rattle.termwiz_keymap.specs.Bytes.{Begins};
-ghost use Rattle.termwiz_keys.specs.Introducers.{ESC};
+ghost use Rattle.termwiz_keys.specs.Introducers.{ESC, START};
 ghost use Rattle.termwiz_keys.specs.Keys.{plain};
 ghost use Rattle.termwiz_keys.specs.declared.types.KeyEvent.{KeyEvent as Key};
+ghost use Rattle.termwiz_keys.specs.declared.types.MouseEvent.{MouseEvent as Mouse};
+ghost use Rattle.termwiz_grammar.specs.MouseReports.{IsMouseReport};
 ghost use Rattle.termwiz_grammar.specs.Table.{rows as table_rows};
+ghost use Rattle.termwiz_input.specs.MouseReportAnswers.{HasNoPartInMouseReports};
 ghost use Rattle.termwiz_input.specs.PrintableAscii.{IsPrintableAscii};
+ghost use Rattle.termwiz_extended_events.specs.Meanings as meaning;
 ghost use Rattle.termwiz_extended_grammar.specs.Forms.{IsForm};
 ghost use Rattle.termwiz_input_extended.specs.FormAnswers.{IsScanned};
-ghost use Rattle.termwiz_input_extended.specs.ExtendedFronts.{HasExtra, IsExtendedFront, IsFormKind, IsReported, IsScannedTo};
+ghost use Rattle.termwiz_input_extended.specs.ExtendedFronts.{HasFormFront, IsExtendedFront, IsFormEvent, IsLongRowAt, IsOwnCharacter, IsReported, IsScannedTo, IsSomeExtra};
 
 use crate::form::{FormAt, form_at, next_scan};
-use std::alloc::Global;
+use std::alloc::{AllocError, Global};
 use termwiz_base::{Flags, Modifiers};
-use termwiz_extended_events::meanings::is_key_or_position;
-use termwiz_extended_events::types::Rows;
-use termwiz_input::input::{InputParser, is_mouse_report};
+use termwiz_extended_events::meanings::{event_of, is_key_or_position, key_or_position};
+use termwiz_extended_events::types::{ExtendedEvent, Rows};
+use termwiz_input::input::{FrontReport, InputParser, character_at, mouse_report_at};
 use termwiz_input::keymap::Found;
-use termwiz_keymap::bytes::begins_with;
-use termwiz_keys::types::{KeyCode, KeyEvent};
+use termwiz_keys::types::{InputEvent, KeyCode, KeyEvent, MouseEvent};
 
-// What a form is.
+// What form is at the front of a text. A `usize` is the number of its bytes.
 #[derive(Drop)]
-pub(crate) enum FormKind<'k> {
-    // An extra sequence.
-    Extra,
-    // A row of the sequence table that is read as its key, borrowed from the key map.
-    Row(&'k KeyEvent),
-    // A mouse report of the port.
-    Report,
-}
-
-// What extra sequence is at the front of a text.
-#[derive(Drop)]
-pub(crate) enum ExtraAt<'k> {
-    // A whole one, by the number of its bytes.
-    Whole(usize),
-    // None, but a row that has the form of one, with its key and the number of its bytes.
-    Row(&'k KeyEvent, usize),
-    // The whole text properly begins one.
+pub(crate) enum FormFront {
+    // A form that is no mouse report: an extra sequence, or a row of the sequence table.
+    Form(usize),
+    // A mouse report, which has the form of a control sequence.
+    MouseReport(MouseEvent, usize),
+    // The whole text properly begins a form.
     Unfinished,
     // None begins the text, and the text begins none.
     Absent,
 }
 
-// What is at the front of a text. A `usize` is the number of its bytes, but for `Incomplete`.
+// What is at the front of a text that neither a character nor a paste begins. A `usize` is the number of its bytes, but for `Incomplete`.
 #[derive(Drop)]
 pub(crate) enum ExtendedFront {
-    // A key that the port finds there too.
+    // A row of the sequence table that is read as its key.
     Key(KeyEvent, usize),
-    // An extra sequence.
-    Extra(usize),
+    // A form that is no mouse report: an extra sequence, or a row of the sequence table.
+    Form(usize),
+    // A mouse report, which the port finds there too.
+    MouseReport(MouseEvent, usize),
     // The Escape key before an extra sequence.
     Escape,
     // What the port finds there, whatever it is.
     Usual,
     // No item: more bytes may complete an extra sequence. The search for its end goes on from this place.
     Incomplete(usize),
-}
-
-const PASTE_START: &[u8] = b"\x1b[200~";
-
-// The key of a character, without modifiers.
-fn plain_key(character: char) -> KeyEvent
-    ensures { result ≡ plain character }
-{
-    KeyEvent {
-        key: KeyCode::Char(character),
-        modifiers: Modifiers::NONE,
-    }
-}
-
-// Whether a byte is a character from SPACE to `~`. Such a character is an item, whatever follows it.
-fn is_printable_ascii(byte: u8) -> bool
-    ensures { IsTrue result ↔ IsPrintableAscii byte }
-{
-    byte >= b' ' && byte <= b'~'
 }
 
 // A copy of the key.
@@ -112,43 +87,79 @@ fn is_reported(alloc: Global, rows: Rows, form: &[u8]) -> bool
     }
 }
 
-// What a form is. Most forms that are reports are rows too, so the table is looked up last.
-fn kind_of_form<'k>(alloc: Global, parser: &'k InputParser, rows: Rows, form: &[u8]) -> FormKind<'k>
-    requires { IsForm form.now }
-    ensures { IsFormKind rows form.now result }
+// The event of such a form.
+#[inline(always)]
+fn reported_event(
+    alloc: Global,
+    rows: Rows,
+    form: &[u8],
+) -> Result<Option<ExtendedEvent>, AllocError>
+    ensures some { IfOk result (λ found. IfSome found (λ event. IsReported rows form.now × (event ≡ meaning.event_of form.now))) }
+    ensures none { IfOk result (λ found. IfNone found (¬ IsReported rows form.now)) }
+    ensures refused { OnErr result (IsReported rows form.now) }
 {
-    if is_mouse_report(form) {
-        return FormKind::Report;
-    }
-    if is_reported(alloc, rows, form) {
-        return FormKind::Extra;
-    }
-    match row_of(parser, form) {
-        Some(key) => FormKind::Row(key),
-        None => FormKind::Extra,
+    match rows {
+        Rows::Port => Ok(None),
+        Rows::Kitty => match key_or_position(alloc, form) {
+            Ok(found) => Ok(found),
+            Err(refusal) if is_key_or_position(alloc, form) => Err(refusal),
+            Err(_) => Ok(None),
+        },
     }
 }
 
-// The extra sequence at the front of a text. The bytes before `scanned` were looked at before.
-fn extra_at<'k>(
+// The event of a form that is no mouse report. Most forms that are reports are rows too, so the table is looked up later.
+#[inline(always)]
+pub(crate) fn form_event(
     alloc: Global,
-    parser: &'k InputParser,
+    parser: &InputParser,
     rows: Rows,
-    text: &[u8],
-    scanned: usize,
-) -> ExtraAt<'k>
+    form: &[u8],
+) -> Result<ExtendedEvent, AllocError>
+    requires form { IsForm form.now }
+    requires no_mouse { (event : Mouse) → ¬ IsMouseReport form.now event }
+    ensures event { IfOk result (IsFormEvent rows form.now) }
+    ensures refused { OnErr result (IsSomeExtra rows form.now) }
+{
+    match reported_event(alloc, rows, form)? {
+        Some(event) => Ok(event),
+        None => match row_of(parser, form) {
+            Some(key) => Ok(ExtendedEvent::Input(InputEvent::Key(copied(key)))),
+            None => event_of(alloc, form),
+        },
+    }
+}
+
+// Whether a form that is no mouse report is an extra sequence.
+fn is_extra(alloc: Global, parser: &InputParser, rows: Rows, form: &[u8]) -> bool
+    requires form { IsForm form.now }
+    requires no_mouse { (event : Mouse) → ¬ IsMouseReport form.now event }
+    ensures { IsTrue result ↔ IsSomeExtra rows form.now }
+{
+    if is_reported(alloc, rows, form) {
+        return true;
+    }
+    match row_of(parser, form) {
+        Some(_) => false,
+        None => true,
+    }
+}
+
+// What form is at the front of a text. The bytes before `scanned` were looked at before.
+#[inline(always)]
+fn form_front(text: &[u8], scanned: usize) -> FormFront
     requires some { text.now ≢ [] }
     requires scanned { IsScanned text.now scanned }
-    ensures { HasExtra rows text.now result }
+    ensures { HasFormFront text.now result }
 {
-    match form_at(text, scanned) {
-        FormAt::Whole(len) => match kind_of_form(alloc, parser, rows, &text[..len]) {
-            FormKind::Extra => ExtraAt::Whole(len),
-            FormKind::Row(key) => ExtraAt::Row(key, len),
-            FormKind::Report => ExtraAt::Absent,
+    match mouse_report_at(text) {
+        FrontReport::Whole(event, len) => FormFront::MouseReport(event, len),
+        FrontReport::Begun => FormFront::Unfinished,
+        FrontReport::Absent => match form_at(text, scanned) {
+            FormAt::Whole(len) => FormFront::Form(len),
+            FormAt::Unfinished => FormFront::Unfinished,
+            FormAt::Absent => FormFront::Absent,
         },
-        FormAt::Unfinished => ExtraAt::Unfinished,
-        FormAt::Absent => ExtraAt::Absent,
     }
 }
 
@@ -165,18 +176,59 @@ fn front_of_two_escapes(
     requires scanned { IsScanned after.now scanned }
     ensures { IsExtendedFront rows (ESC ++ after.now) maybe_more result }
 {
-    match extra_at(alloc, parser, rows, after, scanned) {
-        ExtraAt::Whole(_) => ExtendedFront::Escape,
-        ExtraAt::Row(..) => ExtendedFront::Usual,
-        ExtraAt::Unfinished if maybe_more => ExtendedFront::Incomplete(1 + next_scan(after)),
-        ExtraAt::Unfinished => ExtendedFront::Usual,
-        ExtraAt::Absent => ExtendedFront::Usual,
+    match form_front(after, scanned) {
+        FormFront::Form(len) if is_extra(alloc, parser, rows, &after[..len]) =>
+            ExtendedFront::Escape,
+        FormFront::Form(_) => ExtendedFront::Usual,
+        FormFront::MouseReport(..) => ExtendedFront::Usual,
+        FormFront::Unfinished if maybe_more => ExtendedFront::Incomplete(1 + next_scan(after)),
+        FormFront::Unfinished => ExtendedFront::Usual,
+        FormFront::Absent => ExtendedFront::Usual,
     }
 }
 
-// What is at the front of a text that begins with one ESC alone. A paste is the port's, so no form is looked for where one begins.
+// What is at the front of a text that begins with one ESC alone, and with no paste and no part of a mouse report.
+#[inline(always)]
+fn front_of_form(text: &[u8], scanned: usize, maybe_more: bool) -> ExtendedFront
+    requires escape { Begins ESC text.now }
+    requires one { ¬ Begins (ESC ++ ESC) text.now }
+    requires no_paste { ¬ Begins START text.now }
+    requires no_mouse { HasNoPartInMouseReports text.now }
+    requires scanned { IsScanned text.now scanned }
+    ensures { (rows : Rows) → IsExtendedFront rows text.now maybe_more result }
+{
+    match form_at(text, scanned) {
+        FormAt::Whole(len) => ExtendedFront::Form(len),
+        FormAt::Unfinished if maybe_more => ExtendedFront::Incomplete(next_scan(text)),
+        FormAt::Unfinished => ExtendedFront::Usual,
+        FormAt::Absent => ExtendedFront::Usual,
+    }
+}
+
+// The row of the sequence table at the front of a text, with its key and the number of its bytes, if it has three or more: under
+// `Rows::Port` nothing that is longer begins there. `None` says nothing.
+#[inline(always)]
+fn long_row_at<'k>(
+    parser: &'k InputParser,
+    rows: Rows,
+    text: &[u8],
+    maybe_more: bool,
+) -> Option<(&'k KeyEvent, usize)>
+    requires { HasNoPartInMouseReports text.now }
+    ensures { IfSome result (λ found. IsLongRowAt rows text.now maybe_more found.0.now found.1) }
+{
+    match rows {
+        Rows::Port => match parser.lookup(text, maybe_more) {
+            Found::Exact(len, key) if len > 2 => Some((key, len)),
+            _ => None,
+        },
+        Rows::Kitty => None,
+    }
+}
+
+// What is at the front of a text that begins with one ESC alone, and with no paste.
+#[inline(always)]
 fn front_of_one_escape(
-    alloc: Global,
     parser: &InputParser,
     rows: Rows,
     text: &[u8],
@@ -185,18 +237,18 @@ fn front_of_one_escape(
 ) -> ExtendedFront
     requires escape { Begins ESC text.now }
     requires one { ¬ Begins (ESC ++ ESC) text.now }
+    requires no_paste { ¬ Begins START text.now }
     requires scanned { IsScanned text.now scanned }
     ensures { IsExtendedFront rows text.now maybe_more result }
 {
-    if begins_with(text, PASTE_START) {
-        return ExtendedFront::Usual;
-    }
-    match extra_at(alloc, parser, rows, text, scanned) {
-        ExtraAt::Whole(len) => ExtendedFront::Extra(len),
-        ExtraAt::Row(key, len) => ExtendedFront::Key(copied(key), len),
-        ExtraAt::Unfinished if maybe_more => ExtendedFront::Incomplete(next_scan(text)),
-        ExtraAt::Unfinished => ExtendedFront::Usual,
-        ExtraAt::Absent => ExtendedFront::Usual,
+    match mouse_report_at(text) {
+        FrontReport::Whole(event, len) => ExtendedFront::MouseReport(event, len),
+        FrontReport::Begun if maybe_more => ExtendedFront::Incomplete(next_scan(text)),
+        FrontReport::Begun => ExtendedFront::Usual,
+        FrontReport::Absent => match long_row_at(parser, rows, text, maybe_more) {
+            Some((key, len)) => ExtendedFront::Key(copied(key), len),
+            None => front_of_form(text, scanned, maybe_more),
+        },
     }
 }
 
@@ -211,8 +263,9 @@ fn after_escape(text: &[u8]) -> Option<&[u8]>
     }
 }
 
-// What is at the front of any text. `front` is quicker for printable ASCII.
-fn front_of_sequence(
+// What is at the front of a text that no paste begins. Ask `character_front` first. The bytes before `scanned` were looked at before.
+#[inline(always)]
+pub(crate) fn front(
     alloc: Global,
     parser: &InputParser,
     rows: Rows,
@@ -220,7 +273,8 @@ fn front_of_sequence(
     scanned: usize,
     maybe_more: bool,
 ) -> ExtendedFront
-    requires { IsScannedTo text.now scanned }
+    requires scanned { IsScannedTo text.now scanned }
+    requires no_paste { ¬ Begins START text.now }
     ensures { IsExtendedFront rows text.now maybe_more result }
 {
     match after_escape(text) {
@@ -236,29 +290,7 @@ fn front_of_sequence(
                     maybe_more,
                 )
             }
-            None => front_of_one_escape(alloc, parser, rows, text, scanned, maybe_more),
+            None => front_of_one_escape(parser, rows, text, scanned, maybe_more),
         },
-    }
-}
-
-// What is at the front of a text. The bytes before `scanned` were looked at before.
-#[inline(always)]
-pub(crate) fn front(
-    alloc: Global,
-    parser: &InputParser,
-    rows: Rows,
-    text: &[u8],
-    scanned: usize,
-    maybe_more: bool,
-) -> ExtendedFront
-    requires { IsScannedTo text.now scanned }
-    ensures { IsExtendedFront rows text.now maybe_more result }
-{
-    match text {
-        [first, ..] if is_printable_ascii(*first) => ExtendedFront::Key(
-            plain_key(char::from(*first)),
-            1,
-        ),
-        _ => front_of_sequence(alloc, parser, rows, text, scanned, maybe_more),
     }
 }

@@ -1,21 +1,20 @@
 //! The extended parser.
-ghost use Rattle.std.specs.Prelude.{◌≡◌, ◌≢◌, ◌++◌, ◌+◌, ◌≤◌, ℕ, Bool, List, [], ◌∷◌, length, drop, take, true, false, OnErr, IfOk, IfErr, IfSome, IfNone, IsSome, IsTrue, ◌↔◌, ◌⊎◌, OnOk, IsOk, IsErrOf};
+ghost use Rattle.std.specs.Prelude.{◌≡◌, ◌≢◌, ◌++◌, ◌+◌, ◌≤◌, ℕ, Bool, List, [], ◌∷◌, length, drop, take, true, false, OnErr, IfOk, IfErr, IfSome, IfNone, IsSome, IsTrue, ◌↔◌, ◌⊎◌, OnOk, IsOk, IsErrOf, vec_len, vec_capacity};
 ghost use Rattle.termwiz_keymap.specs.Bytes.{Begins};
 ghost use Rattle.termwiz_keys.specs.Introducers.{START};
 ghost use Rattle.termwiz_keys.specs.Keys.{escape};
 ghost use Rattle.termwiz_keys.specs.declared.types.InputEvent.TheVariants as Port;
 ghost use Rattle.termwiz_grammar.specs.WaitingKinds.{IsOneOrTwoEscapes, IsOpenPaste};
 ghost use Rattle.termwiz_extended_events.specs.declared.types.ExtendedEvent.{ExtendedEvent as Event};
-ghost use Rattle.termwiz_extended_grammar.specs.ExtraSequences.{IsExtra};
 ghost use Rattle.termwiz_extended_grammar.specs.ExtendedGrammar.{IsRest, Means, Steps};
 ghost use Rattle.termwiz_input_extended.specs.EventCallbacks.{MayBeCalledOn, WasCalledOn};
-ghost use Rattle.termwiz_input_extended.specs.ExtendedFronts.{Emits, GivesNoneThatNeedsMemory, HasItemThatNeedsMemory, IsExtendedFront, IsPasteEvent, IsPortsOwn};
+ghost use Rattle.termwiz_input_extended.specs.ExtendedFronts.{Emits, GivesNoneThatNeedsMemory, HasItemThatNeedsMemory, IsExtendedFront, IsFormAt, IsPasteEvent, IsPortsOwn};
 ghost use Rattle.termwiz_input_extended.specs.ExtendedKinds.{IsBoundedOrOpenPaste, IsKind};
 
-use crate::front::{ExtendedFront, front};
+use crate::characters::{append_characters, character_front, plain_key};
+use crate::front::{ExtendedFront, form_event, front};
 use std::alloc::{AllocError, Global};
 use std::marker::Model;
-use termwiz_extended_events::meanings::event_of;
 use termwiz_extended_events::types::{ExtendedEvent, Rows};
 pub use termwiz_input::input::{ParseError, Waiting};
 use termwiz_input::input::{InputEvent, InputParser, KeyCode, KeyEvent, Modifiers};
@@ -54,6 +53,9 @@ impl Model for ExtendedParser {
 
     ghost invariant = { λ p. IsScannedTo p.parser p.scanned };
 }
+
+// How many bytes a short text has: as many as a read of a keyboard seldom passes.
+const SHORT_TEXT: usize = 64;
 
 // The Escape key, alone.
 fn escape_key() -> ExtendedEvent
@@ -107,9 +109,10 @@ impl ExtendedParser {
         self.parser.is_paste_open()
     }
 
-    // What is at the front of the waiting text.
+    // What is at the front of the waiting text, which no paste begins.
     #[inline(always)]
     fn front(&self, maybe_more: bool) -> ExtendedFront
+        requires { ¬ Begins START self.now.text }
         ensures { IsExtendedFront self.now.rows self.now.text maybe_more result }
     {
         front(
@@ -167,20 +170,23 @@ impl ExtendedParser {
         }
     }
 
-    // Takes the extra sequence of so many bytes at the front of the waiting text.
-    fn next_extra(&mut self, len: usize) -> Result<Option<ExtendedEvent>, AllocError>
-        requires within { len ≤ length self.old.text }
-        requires extra { (event : Event) × IsExtra self.old.rows (take len self.old.text) event }
+    // Consumes the form of so many bytes at the front of the waiting text, and returns its event.
+    #[inline(always)]
+    fn next_form(&mut self, len: usize) -> Result<Option<ExtendedEvent>, AllocError>
+        requires { IsFormAt self.old.text len }
         ensures { (more : Bool) → Emits self.old more self.new result }
     {
-        let event = event_of(self.alloc, &self.waiting_text()[..len])?;
+        let form = &self.waiting_text()[..len];
+        let event = form_event(self.alloc, &self.parser, self.rows, form)?;
         self.consume(len);
         Ok(Some(event))
     }
 
-    // Consumes the item at the front of the waiting text, and returns its event. `None` if no item is there.
-    #[inline(always)]
+    // Consumes the item at the front of the waiting text, which no paste begins, and returns its event. `None` if no item is there.
+    // `next_event` is quicker for characters.
+    #[inline(never)]
     fn emit_front(&mut self, maybe_more: bool) -> Result<Option<ExtendedEvent>, AllocError>
+        requires { ¬ Begins START self.old.text }
         ensures { Emits self.old maybe_more self.new result }
     {
         match self.front(maybe_more) {
@@ -188,7 +194,11 @@ impl ExtendedParser {
                 self.consume(len);
                 Ok(Some(ExtendedEvent::Input(InputEvent::Key(key))))
             }
-            ExtendedFront::Extra(len) => self.next_extra(len),
+            ExtendedFront::Form(len) => self.next_form(len),
+            ExtendedFront::MouseReport(event, len) => {
+                self.consume(len);
+                Ok(Some(ExtendedEvent::Input(InputEvent::Mouse(event))))
+            }
             ExtendedFront::Escape => {
                 self.consume(1);
                 Ok(Some(escape_key()))
@@ -221,7 +231,14 @@ impl ExtendedParser {
         // In any case at most 65536 bytes wait, or an open paste.
         ensures waits { IfOk result (λ found. IfNone found (IsBoundedOrOpenPaste self.new.text)) }
     {
-        self.emit_front(maybe_more)
+        match character_front(self.waiting_text()) {
+            Some((character, len)) => {
+                self.consume(len);
+                Ok(Some(ExtendedEvent::Input(InputEvent::Key(plain_key(character)))))
+            }
+            None if self.is_paste_open() => self.next_of_port(maybe_more),
+            None => self.emit_front(maybe_more),
+        }
     }
 
     /// What kind of bytes stays buffered, once [`ExtendedParser::next_event`] returned `None`, or `parse` succeeded.
@@ -357,6 +374,30 @@ impl ExtendedParser {
         }
     }
 
+    // Asks for room for one more event. At first it asks for as many as a short text may have, but for one while a paste is open.
+    fn make_room(&self, events: &mut Vec<ExtendedEvent>) -> Result<(), AllocError>
+        ensures items { events.new.items ≡ events.old.items }
+        ensures room { OnOk result (vec_len events.new + 1 ≤ vec_capacity events.new) }
+    {
+        if events.capacity() > 0 || self.is_paste_open() {
+            return events.reserve(1);
+        }
+        events.reserve(self.waiting_len().min(SHORT_TEXT).max(1))
+    }
+
+    // Moves the events of the characters at the front of the waiting text to the list, as far as it has room.
+    fn store_characters(&mut self, events: &mut Vec<ExtendedEvent>)
+        ensures stored { (text : List ℕ) (more : Bool) → Steps self.old.rows text more events.old.items self.old.text
+            → Steps self.old.rows text more events.new.items self.new.text }
+        ensures same_rows { self.new.rows ≡ self.old.rows }
+        ensures fewer { length self.new.text ≤ length self.old.text }
+    {
+        let len = append_characters(events, self.waiting_text());
+        if len > 0 {
+            self.consume(len);
+        }
+    }
+
     // Moves the events of the waiting text to an empty list, in order. An event's bytes are consumed only after there is room for it.
     fn store_events(
         &mut self,
@@ -370,11 +411,12 @@ impl ExtendedParser {
         ensures few { length events.new.items + length self.new.text ≤ length self.old.text }
     {
         loop {
-            events.reserve(1)?;
+            self.make_room(events)?;
             match self.next_event(maybe_more)? {
                 Some(event) => events.push_reserved(event),
                 None => return Ok(()),
             }
+            self.store_characters(events);
         }
     }
 

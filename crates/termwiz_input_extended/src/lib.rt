@@ -1,6 +1,7 @@
 //! The extended parser: bytes of a terminal to events, of the port's and of what terminals send beyond it.
 #![tactic(auto)]
 
+mod characters;
 mod form;
 mod front;
 pub mod input;

@@ -5,5 +5,6 @@ pub mod FrontItems
 pub mod KindsByBytes
 pub mod KnownFronts
 pub mod LeftBounded
+pub mod MouseForms
 pub mod ScannedPlaces
 pub mod WholeRows

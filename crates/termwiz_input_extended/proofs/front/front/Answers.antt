@@ -1,15 +1,18 @@
-use Rattle.std.proofs.Common.{◌∙◌, ap, sym, subst, arith}
-use Rattle.termwiz_keys.specs.Keys.{plain}
-use Rattle.termwiz_keys.specs.declared.types.InputEvent.TheVariants.{Key}
-use Rattle.termwiz_input.specs.Matches.{IsItemAt}
-use Rattle.termwiz_input_extended.proofs.lemmas.fronts.KnownFronts.{own_printable, printable_item}
+use Rattle.termwiz_input_extended.proofs.lemmas.fronts.FrontItems.{own_without_escape}
+use Rattle.termwiz_input_extended.proofs.lemmas.fronts.ScannedPlaces.{no_second_escape}
 use Rattle.termwiz_input_extended.proofs.front.front.Goals as goal
 
-pub returns-in-len1-up : goal.returns-in-len1-up
-returns-in-len1-up c =
-    let is = c.is_printable_ascii.ensures.0 c.if-is_printable_ascii.true in (
-      own_printable c.args.rows c.args.text.now c.args.maybe_more is,
-      subst (λ key. IsItemAt c.args.text.now c.args.maybe_more (Key key) 1)
-          (sym (c.plain_key.ensures ∙ ap plain c.from.ensures))
-          (printable_item c.args.text.now c.args.maybe_more (omega arith) is),
-    )
+pub returns-in-None : goal.returns-in-None
+returns-in-None c = own_without_escape c.args.rows c.args.text.now c.args.maybe_more c.in-None.ensures.none
+
+pub front_of_two_escapes-requires-clause-scanned : goal.front_of_two_escapes-requires-clause-scanned
+front_of_two_escapes-requires-clause-scanned c =
+    rw c.saturating_sub.ensures (c.requires.scanned.after c.in-Some.after.now c.in-Some.ensures.some
+    (c.in-Some-after_escape.field-0.now, c.in-Some-after_escape.ensures.some))
+
+pub front_of_one_escape-requires-clause-scanned : goal.front_of_one_escape-requires-clause-scanned
+front_of_one_escape-requires-clause-scanned c = c.requires.scanned.here
+    (no_second_escape c.args.text.now c.in-Some.after.now c.in-Some.ensures.some c.in-None-after_escape.ensures.none)
+
+pub returns-in-Some-after_escape : goal.returns-in-Some-after_escape
+returns-in-Some-after_escape c = rw c.in-Some.ensures.some c.front_of_two_escapes.ensures

@@ -1,32 +1,48 @@
 use Rattle.std.proofs.Common.{sym, subst}
 use Rattle.termwiz_keys.specs.declared.types.InputEvent.TheVariants.{Key}
-use Rattle.termwiz_keymap.proofs.lemmas.lists.PrefixTest.{denied}
 use Rattle.termwiz_input.specs.Matches.{IsItemAt}
+use Rattle.termwiz_extended_grammar.proofs.lemmas.forms.ExtraFacts.{unfinished_from_form}
+use Rattle.termwiz_input_extended.proofs.lemmas.fronts.ExtraAnswers.{no_extra_without_form}
 use Rattle.termwiz_input_extended.proofs.lemmas.fronts.FrontItems.{own_after_escape, waits_for_extra}
-use Rattle.termwiz_input_extended.proofs.lemmas.fronts.KnownFronts.{own_start, row_item}
+use Rattle.termwiz_input_extended.proofs.lemmas.fronts.KnownFronts.{long_row_item, long_row_own}
+use Rattle.termwiz_input_extended.proofs.lemmas.fronts.MouseForms.{begun_no_form, begun_unfinished, report_item, report_no_extra, report_not_unfinished}
 use Rattle.termwiz_input_extended.proofs.lemmas.fronts.ScannedPlaces.{scanned_once}
 use Rattle.termwiz_input_extended.proofs.front.front_of_one_escape.Goals as goal
 
-pub returns-in-Unfinished : goal.returns-in-Unfinished
-returns-in-Unfinished c = (
-  waits_for_extra c.args.rows c.args.text.now c.args.maybe_more c.requires.escape c.requires.one c.in-Unfinished.ensures.0
-      c.if-maybe_more.true c.in-Unfinished.ensures.1,
+pub next_scan-requires : goal.next_scan-requires
+next_scan-requires c = begun_unfinished c.args.text.now c.in-Begun.ensures
+
+pub returns-in-Whole : goal.returns-in-Whole
+returns-in-Whole c = (
+  own_after_escape c.args.rows c.args.text.now c.args.maybe_more c.requires.escape c.requires.one
+      (report_no_extra c.args.rows c.args.text.now c.in-Whole.len c.in-Whole.event c.in-Whole.ensures.1)
+      (λ m. report_not_unfinished c.args.rows c.args.text.now c.in-Whole.len c.in-Whole.event c.in-Whole.ensures.1),
+  report_item c.args.rows c.args.text.now c.in-Whole.len c.in-Whole.event c.in-Whole.ensures.1 c.args.maybe_more
+      c.in-Whole.ensures.0,
+)
+
+pub returns-in-Begun : goal.returns-in-Begun
+returns-in-Begun c = (
+  waits_for_extra c.args.rows c.args.text.now c.args.maybe_more c.requires.escape c.requires.one
+      (no_extra_without_form c.args.rows c.args.text.now (begun_no_form c.args.text.now c.in-Begun.ensures)) c.if-maybe_more.true
+      (unfinished_from_form c.args.rows c.args.text.now (begun_unfinished c.args.text.now c.in-Begun.ensures)),
   scanned_once c.args.text.now c.next_scan.result c.requires.one c.next_scan.ensures.within c.next_scan.ensures.place,
 )
 
-pub returns-in-Absent : goal.returns-in-Absent
-returns-in-Absent c =
-    own_after_escape c.args.rows c.args.text.now c.args.maybe_more c.requires.escape c.requires.one c.in-Absent.ensures.0
-    (λ m. c.in-Absent.ensures.1)
+pub returns-in-Begun-2 : goal.returns-in-Begun-2
+returns-in-Begun-2 c =
+    own_after_escape c.args.rows c.args.text.now c.args.maybe_more c.requires.escape c.requires.one
+    (no_extra_without_form c.args.rows c.args.text.now (begun_no_form c.args.text.now c.in-Begun-2.ensures))
+    (λ m. absurd (cc (m, c.if-maybe_more.false)))
 
-pub returns-then-begins_with : goal.returns-then-begins_with
-returns-then-begins_with c = own_start c.args.rows c.args.text.now c.args.maybe_more (c.begins_with.ensures.0 c.if-begins_with.true)
-
-pub returns-in-Row : goal.returns-in-Row
-returns-in-Row c = (
-  own_after_escape c.args.rows c.args.text.now c.args.maybe_more c.requires.escape c.requires.one c.in-Row.ensures.3
-      (λ m. c.in-Row.ensures.4),
-  subst (λ key. IsItemAt c.args.text.now c.args.maybe_more (Key key) c.in-Row.len) (sym c.copied.ensures)
-      (row_item c.args.text.now c.in-Row.key.now c.in-Row.len c.in-Row.ensures.1 c.in-Row.ensures.2 c.args.maybe_more
-      c.in-Row.ensures.0 (denied c.begins_with.ensures.1 c.if-begins_with.false)),
+pub returns-in-Some : goal.returns-in-Some
+returns-in-Some c = (
+  long_row_own c.args.rows c.args.text.now c.args.maybe_more c.in-Some.key.now c.in-Some.len c.in-Some.ensures c.requires.escape
+      c.requires.one,
+  subst (λ key. IsItemAt c.args.text.now c.args.maybe_more (Key key) c.in-Some.len) (sym c.copied.ensures)
+      (long_row_item c.args.rows c.args.text.now c.args.maybe_more c.in-Some.key.now c.in-Some.len c.in-Some.ensures
+      c.requires.no_paste),
 )
+
+pub returns-in-None : goal.returns-in-None
+returns-in-None c = c.front_of_form.ensures c.args.rows

@@ -1,5 +1,6 @@
 -- What a call answers that consumes the item at the front.
 use Rattle.std.proofs.Common.{◌≡◌, ℕ, Bool, List, [], ◌∷◌, ap, ◌∙◌, Option, Some, None, Result, Ok, Err, IsErr}
+use Rattle.std.specs.Prelude.{OnErr}
 use Rattle.termwiz_extended_events.specs.declared.types.ExtendedEvent.{ExtendedEvent}
 use Rattle.termwiz_extended_events.specs.declared.types.Rows.{Rows}
 use Rattle.termwiz_extended_grammar.specs.ExtendedGrammar.{IsRest, Steps}
@@ -29,3 +30,8 @@ module _ {F : Type 0} (old new : Buffered) (more : Bool) where
   emits_refused (Ok found) is item same = absurd (cc (is))
   emits_refused (Err fault) is item same =
       record { event = tt; rows = ap (λ (b : Buffered). b.rows) same; none = tt; none_same = tt; refused = item; refused_same = same }
+
+-- what is so is so after a refusal
+pub on_refusal : {A F : Type 0} {P : Type 0} (result : Result A F) → P → OnErr result P
+on_refusal (Ok value) p = tt
+on_refusal (Err fault) p = p

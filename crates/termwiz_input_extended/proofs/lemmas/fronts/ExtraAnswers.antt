@@ -1,5 +1,6 @@
 -- Whether a form is an extra sequence, and what extra sequence begins a text by the form that does.
-use Rattle.std.proofs.Common.{◌≡◌, ℕ, List, [], ◌++◌, take, drop, refl, sym, ap, ◌∙◌, subst, append_assoc, append-nil, take-append-drop, Contains}
+use Rattle.std.specs.Prelude.{Result, Ok, Err, IfOk}
+use Rattle.std.proofs.Common.{◌≡◌, inl, ℕ, List, [], ◌++◌, take, drop, refl, sym, ap, ◌∙◌, subst, append_assoc, append-nil, take-append-drop, Contains}
 use Rattle.termwiz_keymap.specs.Bytes.{Begins}
 use Rattle.termwiz_keymap.proofs.lemmas.lists.CommonPrefixes.{Overlaps, overlap, append-some}
 use Rattle.termwiz_keymap.proofs.lemmas.lists.CommonPrefixes.Overlaps.{within, past}
@@ -15,7 +16,7 @@ use Rattle.termwiz_extended_events.specs.declared.types.Rows.TheVariants.{Port, 
 use Rattle.termwiz_extended_events.specs.Meanings.{event_of, IsKeyOrPosition}
 use Rattle.termwiz_extended_grammar.specs.Forms.{IsForm}
 use Rattle.termwiz_extended_grammar.specs.ExtraSequences.{IsFree, IsExtra, StartsWithExtra, IsUnfinishedExtra}
-use Rattle.termwiz_input_extended.specs.ExtendedFronts.{IsReported, IsSomeExtra}
+use Rattle.termwiz_input_extended.specs.ExtendedFronts.{IsFormEvent, IsReported, IsSomeExtra}
 use Rattle.termwiz_extended_grammar.proofs.lemmas.forms.FormEnds.{form_ends}
 use Rattle.termwiz_extended_grammar.proofs.lemmas.forms.ExtraFacts.{free_from_none}
 
@@ -70,10 +71,22 @@ reported_is_extra rows text form no_report (kitty, reported) =
     let found = reported_row_is_extra text form no_report reported in
     (found.0, subst (λ r. IsExtra r text found.0) (sym kitty) found.1)
 
+pub reported_event_is : (rows : Rows) (text : List ℕ) (event : ExtendedEvent) → IsForm text
+    → (((r : MouseEvent) × IsMouseReport text r) → ⊥) → IsReported rows text → event ≡ event_of text → IsExtra rows text event
+reported_event_is rows text event form no_report reported means =
+    let is = reported_is_extra rows text form no_report reported in
+    record { is_form = form; is_free = is.1.is_free; means = means }
+
 pub row_not_extra : (rows : Rows) (text : List ℕ) (key : KeyEvent) → Contains table_rows (text, key)
     → (IsReported rows text → ⊥) → IsSomeExtra rows text → ⊥
 row_not_extra Port text key row never h = row_is_no_extra text key h.0 row h.1
 row_not_extra Kitty text key row never h = never (refl, extra_row_is_reported text key h.0 row h.1)
+
+-- what is read of a form that is extra is its event
+pub extra_event : {F : Type 0} (rows : Rows) (text : List ℕ) (result : Result ExtendedEvent F) → IsSomeExtra rows text
+    → IfOk result (λ event. event ≡ event_of text) → IfOk result (IsFormEvent rows text)
+extra_event rows text (Ok event) h means = inl (record { is_form = h.1.is_form; is_free = h.1.is_free; means = means })
+extra_event rows text (Err fault) h means = tt
 
 module _ (rows : Rows) (u : List ℕ) (len : ℕ) (form : IsForm (take len u)) where
   -- a form that begins the text is the only one

@@ -1,12 +1,13 @@
 -- Where a sequence of the port is at the front of a text, or a character, the text is the port's own.
-use Rattle.std.proofs.Common.{◌≡◌, ◌≢◌, ◌⊎◌, ⊎_elim, ℕ, ◌<◌, ◌≤◌, Bool, List, [], ◌∷◌, ◌++◌, length, take, drop, refl, sym, ap, ◌∙◌, subst, arith, append_assoc, append-nil, take-append-drop, length-append, get_or, Contains}
-use Rattle.std.specs.Prelude.{codes}
+use Rattle.std.proofs.Common.{◌≡◌, ◌≢◌, ◌⊎◌, inl, inr, ⊎_elim, ℕ, ◌<◌, ◌≤◌, Bool, List, [], ◌∷◌, ◌++◌, length, take, drop, refl, sym, ap, ◌∙◌, subst, arith, append_assoc, append-nil, take-append-drop, length-append, length-take-le, get_or, Contains}
+use Rattle.std.specs.Prelude.{codes, slice_index_or, Option, Some, None, IfSome}
 use Rattle.termwiz_keymap.specs.Bytes.{Begins}
 use Rattle.termwiz_keymap.proofs.lemmas.lists.CommonPrefixes.{Overlaps, overlap, append-some}
 use Rattle.termwiz_keymap.proofs.lemmas.lists.CommonPrefixes.Overlaps.{within, past}
 use Rattle.termwiz_keys.specs.Introducers.{ESC, START}
 use Rattle.termwiz_keys.specs.Keys.{plain}
 use Rattle.termwiz_keys.specs.declared.types.KeyEvent.{KeyEvent}
+use Rattle.termwiz_keys.specs.declared.types.InputEvent.{InputEvent}
 use Rattle.termwiz_keys.specs.declared.types.InputEvent.TheVariants.{Key}
 use Rattle.termwiz_grammar.specs.Sequences.{Meaning, IsSequence}
 use Rattle.termwiz_grammar.specs.Sequences.Meaning.{Row}
@@ -14,9 +15,11 @@ use Rattle.termwiz_grammar.specs.Table.{rows as table_rows}
 use Rattle.termwiz_grammar.specs.Grammar.{IsOpen, IsUnfinishedSequence, IsUnfinishedCharacter}
 use Rattle.termwiz_grammar.proofs.lemmas.characters.CharacterPrefixes.{sequence_finished}
 use Rattle.termwiz_grammar.proofs.lemmas.table.SequenceFacts.{start, start_is_sequence}
-use Rattle.termwiz_input.specs.Matches.{IsItemAt}
+use Rattle.termwiz_input.specs.Matches.{IsItemAt, character_of}
 use Rattle.termwiz_input.specs.PrintableAscii.{IsPrintableAscii}
-use Rattle.termwiz_input.proofs.lemmas.items.ItemByHead.{row_stands}
+use Rattle.termwiz_input.proofs.lemmas.heads.HeadLookup.{character_closed, character_front}
+use Rattle.termwiz_input.proofs.lemmas.heads.StartsNoSequence.{apart_from_sequences}
+use Rattle.termwiz_input.proofs.lemmas.items.ItemByHead.{character_stands, row_stands}
 use Rattle.termwiz_input.proofs.lemmas.items.PrintableAscii.{printable_run}
 use Rattle.termwiz_extended_events.specs.declared.types.ExtendedEvent.{ExtendedEvent}
 use Rattle.termwiz_extended_events.specs.declared.types.ExtendedEvent.TheVariants.{Input, Csi}
@@ -29,8 +32,9 @@ use Rattle.termwiz_extended_grammar.specs.ExtraSequences.{IsExtra, StartsWithExt
 use Rattle.termwiz_extended_grammar.specs.ExtendedGrammar.{Steps}
 use Rattle.termwiz_extended_grammar.proofs.lemmas.forms.FormBytes.{form_shape}
 use Rattle.termwiz_extended_grammar.proofs.lemmas.forms.FormEnds.{sequence_after_form, form_after_sequence}
-use Rattle.termwiz_input_extended.specs.ExtendedFronts.{IsPortsOwn}
-use Rattle.termwiz_input_extended.proofs.lemmas.fronts.FrontItems.{own_after_escape, own_item, own_without_escape}
+use Rattle.termwiz_input_extended.specs.ExtendedFronts.{IsFormAt, IsFormEvent, IsLongRowAt, IsOwnCharacter, IsPortsOwn}
+use Rattle.termwiz_input_extended.proofs.lemmas.fronts.ExtraAnswers.{no_extra_starts, no_extra_unfinished}
+use Rattle.termwiz_input_extended.proofs.lemmas.fronts.FrontItems.{extra_step, own_after_escape, own_item, own_without_escape}
 
 -- a sequence of more than two bytes properly begins no form
 long_ends : (y tail : List ℕ) (m : Meaning) → 2 < length y → IsSequence y m → tail ≢ [] → IsForm (y ++ tail) → ⊥
@@ -93,13 +97,34 @@ pub own_printable : (rows : Rows) (u : List ℕ) (f : Bool) → IsPrintableAscii
 own_printable rows u f is = own_without_escape rows u f
     (λ b. let first : get_or u 0 0 ≡ 27 = ap (λ z. get_or z 0 0) b.1 in omega (arith, is.0))
 
--- a key of the port's is one step
-pub key_step : (rows : Rows) (u : List ℕ) (key : KeyEvent) (len : ℕ) (f : Bool) → IsPortsOwn rows u f → IsItemAt u f (Key key) len
-    → Steps rows u f (Input (Key key) ∷ []) (drop len u)
-key_step rows u key len f own is = (
+-- a character whose first byte is from 0x80 on, at the front
+pub character_item : (u : List ℕ) (f : Bool) (c n : ℕ) → 0 < length u → 0x80 ≤ slice_index_or u 0 0 → character_of u ≡ Some (c, n)
+    → IsItemAt u f (Key (plain c)) n
+character_item u f c n some high is =
+    let apart = apart_from_sequences u some (omega arith) (λ e. omega arith) in
+    character_stands u f c n (character_closed u f c n (λ m. apart.finished) is) (character_front u c n apart.no_sequence is)
+
+pub own_high : (rows : Rows) (u : List ℕ) (f : Bool) → 0x80 ≤ slice_index_or u 0 0 → IsPortsOwn rows u f
+own_high rows u f high = own_without_escape rows u f
+    (λ b. let first : slice_index_or u 0 0 ≡ 27 = ap (λ z. slice_index_or z 0 0) b.1 in omega (arith, high))
+
+-- where the first byte is from 0x80 on, a character is an item
+pub high_character : (u : List ℕ) → 0 < length u → 0x80 ≤ slice_index_or u 0 0
+    → IfSome (character_of u) (λ found. (rows : Rows) (more : Bool) → IsOwnCharacter rows u more found.0 found.1)
+high_character u some high = go (character_of u) refl
+  where
+    go : (found : Option (ℕ × ℕ)) → character_of u ≡ found
+        → IfSome found (λ found. (rows : Rows) (more : Bool) → IsOwnCharacter rows u more found.0 found.1)
+    go None e = tt
+    go (Some (c, n)) e = λ rows more. record { own = own_high rows u more high; item = character_item u more c n some high e }
+
+-- an item of the port's is one step
+pub item_step : (rows : Rows) (u : List ℕ) (event : InputEvent) (len : ℕ) (f : Bool) → IsPortsOwn rows u f → IsItemAt u f event len
+    → Steps rows u f (Input event ∷ []) (drop len u)
+item_step rows u event len f own is = (
   take len u,
   drop len u,
-  own_item rows u (take len u) (Key key) f own is.1,
+  own_item rows u (take len u) event f own is.1,
   sym (take-append-drop len u),
   refl,
 )
@@ -134,3 +159,31 @@ module _ (u : List ℕ) (k : KeyEvent) (len : ℕ) (form : IsForm (take len u)) 
   row_item f inside never = row_stands u f k len (row_closed f)
       (inside, record { is_sequence = known; begins = there; longest = at_most }) never
       (λ e. let s = form_shape (take len u) form in absurd (cc (e, s.2)))
+
+-- a row of three or more bytes is the port's own under `Rows::Port`, and an item
+module _ (rows : Rows) (u : List ℕ) (f : Bool) (key : KeyEvent) (len : ℕ) (is : IsLongRowAt rows u f key len) where
+  longer_than_two : 2 < length (take len u)
+  longer_than_two = omega (arith, is.long, is.row.0, length-take-le len u is.row.0)
+
+  row_is_never_extra : (rows : Rows) → rows ≡ Port → ((event : ExtendedEvent) × IsExtra rows (take len u) event) → ⊥
+  unfolding IsSequence
+  row_is_never_extra Port e h = h.1.is_free (Row key) is.row.1.is_sequence
+  row_is_never_extra Kitty e h = cc (e)
+
+  pub long_row_own : Begins ESC u → (Begins (ESC ++ ESC) u → ⊥) → IsPortsOwn rows u f
+  long_row_own escape one = own_by_sequence rows u (take len u) (Row key) longer_than_two is.row.1.is_sequence is.row.1.begins f
+      escape one (row_is_never_extra rows is.port)
+
+  pub long_row_item : (Begins START u → ⊥) → IsItemAt u f (Key key) len
+  long_row_item no_paste = row_stands u f key len is.closed is.row no_paste
+      (λ e. let one : length (take len u) ≡ 1 = ap length e in absurd (omega (arith, one, longer_than_two)))
+
+-- a form at the front is one step, as an extra sequence or as a row
+pub form_step : (rows : Rows) (u : List ℕ) (len : ℕ) (event : ExtendedEvent) (f : Bool) → IsFormAt u len
+    → IsFormEvent rows (take len u) event → Steps rows u f (event ∷ []) (drop len u)
+form_step rows u len event f at (inl is) = extra_step rows u len event f is event is.means
+form_step rows u len event f at (inr (key, same, row, never)) =
+    let own = own_after_escape rows u f at.escape at.one (no_extra_starts rows u len at.plain.form never)
+    (λ m. no_extra_unfinished rows u len at.plain.form) in
+    subst (λ e. Steps rows u f (e ∷ []) (drop len u)) (sym same)
+    (item_step rows u (Key key) len f own (row_item u key len at.plain.form row f at.plain.within at.no_paste))

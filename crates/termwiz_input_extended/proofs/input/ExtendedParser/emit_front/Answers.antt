@@ -1,24 +1,32 @@
 use Rattle.std.proofs.Common.{◌∷◌, [], sym, ap, subst}
 use Rattle.termwiz_keys.specs.Keys.{escape}
-use Rattle.termwiz_keys.specs.declared.types.InputEvent.TheVariants.{Key}
+use Rattle.termwiz_keys.specs.declared.types.InputEvent.TheVariants.{Key, Mouse}
 use Rattle.termwiz_extended_events.specs.declared.types.ExtendedEvent.TheVariants.{Input}
 use Rattle.termwiz_extended_grammar.specs.ExtendedGrammar.{Steps}
 use Rattle.termwiz_input_extended.specs.Buffered.{Buffered}
 use Rattle.termwiz_input_extended.proofs.lemmas.fronts.EmittedItems.{emits_event, emits_none}
 use Rattle.termwiz_input_extended.proofs.lemmas.fronts.FrontItems.{escape_step}
-use Rattle.termwiz_input_extended.proofs.lemmas.fronts.KnownFronts.{key_step}
+use Rattle.termwiz_input_extended.proofs.lemmas.fronts.KnownFronts.{item_step}
 use Rattle.termwiz_input_extended.proofs.input.ExtendedParser.emit_front.Goals as goal
+
+pub returns-in-Form : goal.returns-in-Form
+returns-in-Form c = c.next_form.ensures c.args.maybe_more
 
 pub returns-in-Key : goal.returns-in-Key
 returns-in-Key c = emits_event c.args.self.now _ c.args.maybe_more _
     (subst (λ t. Steps c.args.self.now.rows c.args.self.now.text c.args.maybe_more (Input (Key c.in-Key.key) ∷ []) t)
     (sym (ap (λ (b : Buffered). b.text) c.consume.ensures))
-    (key_step c.args.self.now.rows c.args.self.now.text c.in-Key.key c.in-Key.len c.args.maybe_more c.in-Key.ensures.0
+    (item_step c.args.self.now.rows c.args.self.now.text (Key c.in-Key.key) c.in-Key.len c.args.maybe_more c.in-Key.ensures.0
     c.in-Key.ensures.1))
     (ap (λ (b : Buffered). b.rows) c.consume.ensures)
 
-pub returns-in-Extra : goal.returns-in-Extra
-returns-in-Extra c = c.next_extra.ensures c.args.maybe_more
+pub returns-in-MouseReport : goal.returns-in-MouseReport
+returns-in-MouseReport c = emits_event c.args.self.now _ c.args.maybe_more _
+    (subst (λ t. Steps c.args.self.now.rows c.args.self.now.text c.args.maybe_more (Input (Mouse c.in-MouseReport.event) ∷ []) t)
+    (sym (ap (λ (b : Buffered). b.text) c.consume-in-MouseReport.ensures))
+    (item_step c.args.self.now.rows c.args.self.now.text (Mouse c.in-MouseReport.event) c.in-MouseReport.len c.args.maybe_more
+    c.in-MouseReport.ensures.0 c.in-MouseReport.ensures.1))
+    (ap (λ (b : Buffered). b.rows) c.consume-in-MouseReport.ensures)
 
 pub returns-in-Escape : goal.returns-in-Escape
 returns-in-Escape c = emits_event c.args.self.now _ c.args.maybe_more _

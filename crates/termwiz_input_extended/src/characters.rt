@@ -1,0 +1,63 @@
+// Characters at the front of a text: those from SPACE to `~`, and those of several bytes. Each is an event of its own.
+ghost use Rattle.std.specs.Prelude.{◌≡◌, ◌≤◌, ◌↔◌, ℕ, Bool, List, length, drop, IfSome, IsTrue};
+ghost use Rattle.termwiz_keys.specs.Keys.{plain};
+ghost use Rattle.termwiz_input.specs.PrintableAscii.{IsPrintableAscii};
+ghost use Rattle.termwiz_extended_grammar.specs.ExtendedGrammar.{Steps};
+ghost use Rattle.termwiz_input_extended.specs.ExtendedFronts.{IsOwnCharacter};
+
+use termwiz_base::{Flags, Modifiers};
+use termwiz_extended_events::types::{ExtendedEvent, Rows};
+use termwiz_input::input::character_at;
+use termwiz_keys::types::{InputEvent, KeyCode, KeyEvent};
+
+// The first byte that isn't ASCII.
+const HIGH: u8 = 0x80;
+
+// The key of a character, without modifiers.
+pub(crate) fn plain_key(character: char) -> KeyEvent
+    ensures { result ≡ plain character }
+{
+    KeyEvent {
+        key: KeyCode::Char(character),
+        modifiers: Modifiers::NONE,
+    }
+}
+
+// Whether a byte is a character from SPACE to `~`. Such a character is an item, whatever follows it.
+fn is_printable_ascii(byte: u8) -> bool
+    ensures { IsTrue result ↔ IsPrintableAscii byte }
+{
+    byte >= b' ' && byte <= b'~'
+}
+
+// The character at the front of a text, and the number of its bytes: a character from SPACE to `~`, or one of several bytes. It is an item,
+// whatever follows it.
+#[inline(always)]
+pub(crate) fn character_front(text: &[u8]) -> Option<(char, usize)>
+    ensures { IfSome result (λ found. (rows : Rows) (more : Bool) → IsOwnCharacter rows text.now more found.0 found.1) }
+{
+    match text {
+        [first, ..] if is_printable_ascii(*first) => Some((char::from(*first), 1)),
+        [first, ..] if *first >= HIGH => character_at(text),
+        _ => None,
+    }
+}
+
+// Appends the events of the characters at the front of a text, as far as the list has room, and returns the number of their bytes.
+pub(crate) fn append_characters(events: &mut Vec<ExtendedEvent>, text: &[u8]) -> usize
+    ensures within { result ≤ length text.now }
+    ensures stored { (rows : Rows) (before : List ℕ) (more : Bool) → Steps rows before more events.old.items text.now
+        → Steps rows before more events.new.items (drop result text.now) }
+{
+    let mut len = 0;
+    for _ in 0..events.capacity() - events.len() {
+        match character_front(&text[len..]) {
+            Some((character, size)) => {
+                events.push_reserved(ExtendedEvent::Input(InputEvent::Key(plain_key(character))));
+                len += size;
+            }
+            None => return len,
+        }
+    }
+    len
+}
