@@ -1,12 +1,15 @@
 #!/usr/bin/env bash
 # Measures the parser in process, on this machine, and another commit's beside it.
 #
-#     tools/measure.sh [--against COMMIT] [--reads LIST] [--runs N] [--keep FOLDER] [new | CORPUS[:MEGABYTES]]..
+#     tools/measure.sh [--against COMMIT | --extended ROWS] [--reads LIST] [--runs N] [--keep FOLDER] [new | CORPUS[:MEGABYTES]]..
 #
 # It builds a static library over termwiz_input (tools/measure/feed.rt.txt) and a C program that times it (measure.c), from the files
 # here and, with --against, from those of COMMIT; all of it in a temporary folder, or in FOLDER, which is kept. Then it runs the
 # programs in turn, N times each (9), one pass a process, and prints a table: the least time, the middle one, and the least per event and
 # in megabytes per second.
+#
+# With --extended it measures the extended parser, which reads the rows of the sequence table as ROWS says (port or kitty), and beside it
+# InputParser.
 #
 # `new` is InputParser::new, and the drop of a parser that read nothing: the first in its process, and the least of twenty more. A CORPUS
 # is that many megabytes (1 if none are given) of typed, utf8, keys, csiu, mouse, mixed, escapes, cut or paste (see
@@ -17,11 +20,12 @@
 set -eu
 . "$(dirname "$0")/common.sh"
 top=$(cd "$(dirname "$0")/.." && pwd)
-against='' reads=64,4096 runs=9 keep=''
+against='' extended='' reads=64,4096 runs=9 keep=''
 while [ $# -gt 0 ]; do
     case $1 in
         --help) show_help; exit ;;
         --against) want_next "$@"; against=$2; shift 2 ;;
+        --extended) want_next "$@"; extended=$2; shift 2 ;;
         --reads) want_next "$@"; reads=$2; shift 2 ;;
         --runs) want_next "$@"; runs=$2; shift 2 ;;
         --keep) want_next "$@"; keep=$2; shift 2 ;;
@@ -29,6 +33,8 @@ while [ $# -gt 0 ]; do
         *) break ;;
     esac
 done
+case $extended in '' | port | kitty) ;; *) refuse_word "$extended" ;; esac
+[ -z "$against" ] || [ -z "$extended" ] || refuse '--against and --extended do not go together'
 # (--runs 0 only builds and writes the corpora, for c_measure.sh.)
 [ "$runs" = 0 ] || want_number "$runs" --runs
 for read in ${reads//,/ }; do want_number "$read" --reads; done
@@ -55,13 +61,22 @@ fi
 
 # The crates of the parser; an older commit may have fewer of them.
 crates='termwiz_base termwiz_keymap termwiz_keys termwiz_grammar termwiz_table termwiz_input'
+[ -z "$extended" ] || crates="$crates termwiz_extended_events termwiz_extended_grammar termwiz_input_extended"
 
-# Builds the program of the sources that lie in a folder.
-build() { # folder
+# Builds the program of the sources that lie in a folder. The second word says how the extended parser reads the rows, if it is the one.
+build() { # folder [port | kitty]
     mkdir -p "$1/crates/feed/src"
-    cp "$top/tools/measure/feed.rt.txt" "$1/crates/feed/src/lib.rt"
     grep -E "^(${crates// /|}):" "$1/listed" > "$1/crates.txt"
-    echo 'feed staticlib: termwiz_input' >> "$1/crates.txt"
+    if [ -n "${2:-}" ]; then
+        [ "$2" = port ] && rows=Port || rows=Kitty
+        sed -e 's/^use termwiz_input::input::InputParser;/use termwiz_input_extended::input::ExtendedParser;\nuse termwiz_input_extended::types::Rows;/' \
+            -e "s/InputParser::new(alloc)/ExtendedParser::new(alloc, Rows::$rows)/" -e 's/InputParser/ExtendedParser/g' \
+            "$top/tools/measure/feed.rt.txt" > "$1/crates/feed/src/lib.rt"
+        echo 'feed staticlib: termwiz_input_extended' >> "$1/crates.txt"
+    else
+        cp "$top/tools/measure/feed.rt.txt" "$1/crates/feed/src/lib.rt"
+        echo 'feed staticlib: termwiz_input' >> "$1/crates.txt"
+    fi
     (cd "$1/crates/feed" && rt lib) > "$1/log" 2>&1 || { cat "$1/log" >&2; exit 1; }
     cc -O2 -o "$1/measure" "$top/tools/measure/measure.c" "$1/crates/feed/out/libfeed.a" "$(dirname "$(rt doc)")/c/liblibc_c.a"
 }
@@ -85,7 +100,15 @@ emptied "$work/here"
 cp "$top/crates.txt" "$work/here/listed"
 warm "$work/here"
 progress 'proving and building what is here, which takes some seconds after a first build, and else minutes'
-build "$work/here"
+build "$work/here" "$extended"
+if [ -n "$extended" ]; then
+    trees="here other"
+    emptied "$work/other"
+    cp -a "$work/here/crates" "$work/here/listed" "$work/other/"
+    rm -rf "$work/other/crates/feed"
+    progress 'building InputParser beside it'
+    build "$work/other"
+fi
 if [ -n "$against" ]; then
     trees="here other"
     emptied "$work/other"
@@ -117,4 +140,4 @@ for run in $(seq "$runs"); do
         done
     done
 done
-[ "$runs" = 0 ] || python3 "$top/tools/measure/table.py" "$work" "${against:-}"
+[ "$runs" = 0 ] || python3 "$top/tools/measure/table.py" "$work" "${extended:+InputParser}$against"
