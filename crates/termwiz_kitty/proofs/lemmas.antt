@@ -2,3 +2,4 @@ pub mod FullyTold
 pub mod LegacyTexts
 pub mod PushedFields
 pub mod read_back
+pub mod typed

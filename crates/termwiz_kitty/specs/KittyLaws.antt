@@ -1,17 +1,21 @@
 -- The laws of the encoder: the extended parser reads back what is written.
-use Rattle.std.specs.Prelude.{◌≡◌, ⊤, ℕ, ◌<◌, ◌≤◌, List, [], ◌∷◌, false, length, Option, Some, None}
+use Rattle.std.specs.Prelude.{◌≡◌, ⊤, ℕ, ◌<◌, ◌≤◌, Bool, List, [], ◌∷◌, false, length, map, Option, Some, None}
 use Rattle.std.specs.Char.{IsScalar}
-use Rattle.std.specs.Str.{IsUtf8}
-use Rattle.termwiz_keys.specs.declared.types.KeyCode.TheVariants.{Char}
+use Rattle.std.specs.Str.{chars, IsUtf8}
+use Rattle.termwiz_keys.specs.Keys.{NONE, key_with}
+use Rattle.termwiz_keys.specs.declared.types.KeyCode.{KeyCode}
+use Rattle.termwiz_keys.specs.declared.types.KeyCode.TheVariants.{Char, Enter, Tab, Backspace}
+use Rattle.termwiz_keys.specs.declared.types.InputEvent.TheVariants as input
 use Rattle.termwiz_extended_events.specs.declared.types.KeyReport.{KeyReport}
 use Rattle.termwiz_extended_events.specs.declared.types.ReportedKey.{ReportedKey}
 use Rattle.termwiz_extended_events.specs.declared.types.ReportedKey.TheVariants.{Named}
-use Rattle.termwiz_extended_events.specs.declared.types.ExtendedEvent.TheVariants.{Key}
+use Rattle.termwiz_extended_events.specs.declared.types.ExtendedEvent.{ExtendedEvent}
+use Rattle.termwiz_extended_events.specs.declared.types.ExtendedEvent.TheVariants.{Input, Key}
 use Rattle.termwiz_extended_events.specs.declared.types.Rows.TheVariants.{Kitty}
 use Rattle.termwiz_extended_grammar.specs.ExtendedGrammar.{Means}
-use Rattle.termwiz_kitty.specs.declared.telling.Telling.TheVariants.{Reported}
+use Rattle.termwiz_kitty.specs.declared.telling.Telling.TheVariants.{Typed, Reported}
 use Rattle.termwiz_kitty.specs.KeyForms.{form_of, normal_key}
-use Rattle.termwiz_kitty.specs.Telling.{telling, reported, is_shifted, is_character, has_text, all_flags}
+use Rattle.termwiz_kitty.specs.Telling.{telling, reported, is_shifted, is_character, has_text, has_control, all_flags}
 use Rattle.termwiz_kitty.specs.KittyTexts.{kitty_text, most_bytes}
 
 -- the character of a key is one
@@ -39,13 +43,30 @@ KittyReadBack = (r : KeyReport) (flags : ℕ) (text : List ℕ) → IsReport r �
     → Means Kitty text false (Key (reported r flags) ∷ []) []
 
 -- What a terminal can write: the key in its normal form; what it types with Shift only while Shift is held, and this and what its place
--- types only of a key that types a character; and a text only in a sequence that has room for one.
+-- types only of a key that types a character; and a text only in a sequence that has room for one, and without control characters.
 pub record IsWritable (r : KeyReport) : Type 0 where
   pub normal : normal_key r.key ≡ r.key
   pub shifted : is_shifted r.modifiers ≡ false → r.shifted ≡ None
   pub alternates : is_character r.key ≡ false → (r.shifted ≡ None) × (r.base ≡ None)
   pub text : has_text (form_of r.key) ≡ false → r.text ≡ []
+  pub no_control : has_control r.text ≡ false
 
 -- Under all five flags such a report is told whole.
 abbrev pub FullyTold : Type 0
 FullyTold = (r : KeyReport) → IsWritable r → (telling r all_flags ≡ Reported) × (reported r all_flags ≡ r)
+
+-- the event of a key without modifiers, as it is before the protocol
+abbrev pub pressed : KeyCode → ExtendedEvent
+pressed key = Input (input.Key (key_with key NONE))
+
+-- what a typed text is read as: Enter, Tab, Backspace, or each of its characters
+abbrev pub typed_events : ReportedKey → List ℕ → List ExtendedEvent
+typed_events (Named Enter) text = pressed Enter ∷ []
+typed_events (Named Tab) text = pressed Tab ∷ []
+typed_events (Named Backspace) text = pressed Backspace ∷ []
+typed_events key text = map (λ c. pressed (Char c)) (chars text)
+
+-- A key that is told by its text: the text means exactly these events, whether or not more may come, and nothing waits.
+abbrev pub TypedReadBack : Type 0
+TypedReadBack = (r : KeyReport) (flags : ℕ) (text : List ℕ) (more : Bool) → IsReport r → telling r flags ≡ Typed
+    → kitty_text r flags ≡ Some text → Means Kitty text more (typed_events r.key text) []

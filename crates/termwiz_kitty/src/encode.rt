@@ -10,7 +10,8 @@ mod sequences;
 
 use crate::key_forms::{KeyForm, form_of};
 use crate::telling::{
-    Telling, is_shifted, telling_of, told_base, told_kind, told_modifiers, told_shifted, told_text,
+    Telling, has_control, is_shifted, telling_of, told_base, told_kind, told_modifiers,
+    told_shifted, told_text,
 };
 use sequences::{Codes, Manner, push_coded, push_lettered, push_numbered};
 use std::alloc::{AllocError, Global};
@@ -77,17 +78,24 @@ pub fn encode_kitty(
     }
 }
 
-// The text of a character's key: its own, or what it types with Shift, or its character.
+// The character, unless it is a control character.
+fn without_control(c: Option<char>) -> Option<char>
+    ensures { result ≡ texts.without_control c }
+{
+    c.filter(|c| !c.is_control())
+}
+
+// The text of a character's key: its own, or what it types with Shift, or its character. What has control characters is left aside.
 fn push_character(text: &mut String, c: char, report: &KeyReport) -> Result<(), AllocError>
     ensures { OnOk result (string_bytes text.new ≡ string_bytes text.old
         ++ texts.character_typed c report.now.modifiers report.now.shifted report.now.text) }
 {
     let typed = report.text.as_str();
-    if !typed.is_empty() {
+    if !typed.is_empty() && !has_control(typed) {
         return text.push_str(typed);
     }
     if is_shifted(report.modifiers) {
-        return text.push(report.shifted.unwrap_or(c));
+        return text.push(without_control(report.shifted).unwrap_or(c));
     }
     text.push(c)
 }
