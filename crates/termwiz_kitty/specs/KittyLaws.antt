@@ -1,22 +1,26 @@
 -- The laws of the encoder: the extended parser reads back what is written.
-use Rattle.std.specs.Prelude.{◌≡◌, ⊤, ℕ, ◌<◌, ◌≤◌, Bool, List, [], ◌∷◌, false, length, map, Option, Some, None}
+use Rattle.std.specs.Prelude.{◌≡◌, ⊤, ℕ, ◌<◌, ◌≤◌, ◌==◌, ◌&&◌, not, Bool, List, [], ◌∷◌, false, length, map, bit_and, Option, Some, None}
 use Rattle.std.specs.Char.{IsScalar}
 use Rattle.std.specs.Str.{chars, IsUtf8}
 use Rattle.termwiz_keys.specs.Keys.{NONE, key_with}
 use Rattle.termwiz_keys.specs.declared.types.KeyCode.{KeyCode}
-use Rattle.termwiz_keys.specs.declared.types.KeyCode.TheVariants.{Char, Enter, Tab, Backspace}
+use Rattle.termwiz_keys.specs.declared.types.KeyCode.TheVariants.{Char, Function, Enter, Tab, Backspace}
 use Rattle.termwiz_keys.specs.declared.types.InputEvent.TheVariants as input
+use Rattle.termwiz_laws.specs.FurtherKeys.{ReadsBackToo}
 use Rattle.termwiz_extended_events.specs.declared.types.KeyReport.{KeyReport}
+use Rattle.termwiz_extended_events.specs.declared.types.KeyEventKind.TheVariants.{Press}
 use Rattle.termwiz_extended_events.specs.declared.types.ReportedKey.{ReportedKey}
 use Rattle.termwiz_extended_events.specs.declared.types.ReportedKey.TheVariants.{Named}
 use Rattle.termwiz_extended_events.specs.declared.types.ExtendedEvent.{ExtendedEvent}
 use Rattle.termwiz_extended_events.specs.declared.types.ExtendedEvent.TheVariants.{Input, Key}
 use Rattle.termwiz_extended_events.specs.declared.types.Rows.TheVariants.{Kitty}
+use Rattle.termwiz_extended_events.specs.EventKeys.{key_of_event}
+use Rattle.termwiz_extended_events.specs.KeyReports.{report_of}
 use Rattle.termwiz_extended_grammar.specs.ExtendedGrammar.{Means}
-use Rattle.termwiz_kitty.specs.declared.telling.Telling.TheVariants.{Typed, Reported}
+use Rattle.termwiz_kitty.specs.declared.telling.Telling.TheVariants.{Typed, Legacy, Reported}
 use Rattle.termwiz_kitty.specs.KeyForms.{form_of, normal_key}
 use Rattle.termwiz_kitty.specs.Telling.{telling, reported, is_shifted, is_character, has_text, has_control, all_flags}
-use Rattle.termwiz_kitty.specs.KittyTexts.{kitty_text, most_bytes}
+use Rattle.termwiz_kitty.specs.KittyTexts.{kitty_text, most_bytes, port_modifiers, xterm_modes}
 
 -- the character of a key is one
 abbrev pub IsKey : ReportedKey → Type 0
@@ -70,3 +74,25 @@ typed_events key text = map (λ c. pressed (Char c)) (chars text)
 abbrev pub TypedReadBack : Type 0
 TypedReadBack = (r : KeyReport) (flags : ℕ) (text : List ℕ) (more : Bool) → IsReport r → telling r flags ≡ Typed
     → kitty_text r flags ≡ Some text → Means Kitty text more (typed_events r.key text) []
+
+-- the press of a key with these of kitty's bits
+abbrev pub press_of : KeyCode → ℕ → KeyReport
+press_of key bits = report_of (Named key) (record { modifiers = bits; kind = Press })
+
+-- With no more to come the text is one event, a key with this report, and nothing waits.
+abbrev pub IsReadAs : List ℕ → KeyReport → Type 0
+IsReadAs text report = (event : ExtendedEvent) × Means Kitty text false (event ∷ []) [] × (key_of_event event ≡ Some report)
+
+-- F3 with Shift, Alt or Ctrl: what it sends is also the reply to a question for the cursor's position
+abbrev pub is_modified_f3 : KeyCode → ℕ → Bool
+is_modified_f3 (Function n) held = (n == 3) && not (held == NONE)
+is_modified_f3 key held = false
+
+-- A key that is told as before the protocol, and that the port reads back: its text is the press of that key, with Shift, Alt and Ctrl as in
+-- the report. But F3 with modifiers isn't.
+abbrev pub LegacyReadBack : Type 0
+LegacyReadBack = (r : KeyReport) (key : KeyCode) (flags : ℕ) (text : List ℕ) → IsReport r → r.key ≡ Named key
+    → telling r flags ≡ Legacy → kitty_text r flags ≡ Some text
+    → ReadsBackToo key (port_modifiers r.modifiers).0 xterm_modes
+    → is_modified_f3 key (port_modifiers r.modifiers).0 ≡ false
+    → IsReadAs text (press_of key (bit_and r.modifiers 7))

@@ -1,0 +1,5 @@
+use Rattle.termwiz_kitty.proofs.lemmas.legacy.LegacyKeys as lemmas
+use Rattle.termwiz_kitty.proofs.laws.legacy_read_back.Goals as goal
+
+pub returns : goal.returns
+returns c = lemmas.legacy_read_back

@@ -1,0 +1,3 @@
+pub mod ReadAsOne
+pub mod ComputedReports
+pub mod LegacyKeys
