@@ -1,13 +1,15 @@
 -- What the texts of keys report under Rows::Kitty, computed over lists of keys with modifiers.
 use Rattle.std.proofs.Common.{◌≡◌, ℕ, Bool, true, false, List, [], ◌∷◌, map, drop, Option, Some, None, refl, sym, ap, ◌∙◌, subst, Contains}
 use Rattle.std.specs.Prelude.{if◌then◌else◌}
+use Rattle.std.specs.Fmt.{digits}
 use Rattle.termwiz_base.specs.declared.modifiers.Modifiers.{Modifiers}
 use Rattle.termwiz_keys.specs.Encoding.{enc}
 use Rattle.termwiz_keys.specs.Introducers.{ESC}
-use Rattle.termwiz_keys.specs.Keys.{ALT, key_with}
-use Rattle.termwiz_keys.specs.declared.types.KeyCode.TheVariants.{Char}
+use Rattle.termwiz_keys.specs.Keys.{ALT, SHIFT, key_with}
+use Rattle.termwiz_keys.specs.declared.types.KeyCode.TheVariants.{Char, UpArrow, Function, Home}
 use Rattle.termwiz_keys.specs.declared.types.KeyEvent.{KeyEvent}
 use Rattle.termwiz_keys.specs.declared.types.InputEvent.TheVariants as input
+use Rattle.termwiz_grammar.specs.Table.{numbers}
 use Rattle.termwiz_grammar.proofs.lemmas.lists.ListMembers.{same_on}
 use Rattle.termwiz_laws.proofs.lemmas.further_keys.ComputedReadings as computed
 use Rattle.termwiz_laws.proofs.lemmas.further_keys.ComputedReadings.{Held, enc_written_out}
@@ -104,48 +106,72 @@ told_in cases p text test here sends other =
     ∙ rw other refl
 
 pub named_told : AllTold computed.named
-unfolding enc_written_out written_out
+unfolding enc_written_out written_out numbers digits
 named_told = refl
 
 pub modified_arrows_told : AllTold computed.modified_arrows
-unfolding enc_written_out written_out
+unfolding enc_written_out written_out numbers digits
 modified_arrows_told = refl
 
 pub without_modifiers_told : AllTold computed.without_modifiers
-unfolding enc_written_out written_out
+unfolding enc_written_out written_out numbers digits
 without_modifiers_told = refl
 
 pub escape_and_backspace_told : AllTold computed.escape_and_backspace
-unfolding enc_written_out written_out
+unfolding enc_written_out written_out numbers digits
 escape_and_backspace_told = refl
 
 pub printable_with_alt_told : AllTold computed.printable_with_alt
-unfolding enc_written_out written_out
+unfolding enc_written_out written_out numbers digits
 printable_with_alt_told = refl
 
 pub arrows_alone_told : AllTold computed.arrows_alone
-unfolding enc_written_out written_out
+unfolding enc_written_out written_out numbers digits
 arrows_alone_told = refl
 
 pub enter_alone_told : AllTold computed.enter_alone
-unfolding enc_written_out written_out
+unfolding enc_written_out written_out numbers digits
 enter_alone_told = refl
 
 pub letters_told : AllTold computed.own_letters
-unfolding enc_written_out written_out
+unfolding enc_written_out written_out numbers digits
 letters_told = refl
 
 pub tabs_told : AllTold computed.tabs
-unfolding enc_written_out written_out
+unfolding enc_written_out written_out numbers digits
 tabs_told = refl
 
 pub low_with_alt_told : AllTold computed.low_with_alt
-unfolding enc_written_out written_out
+unfolding enc_written_out written_out numbers digits
 low_with_alt_told = refl
 
 abbrev pub zero_with_alt : List Held
 zero_with_alt = (Char 0, ALT) ∷ []
 
 pub zero_with_alt_told : AllTold zero_with_alt
-unfolding enc_written_out written_out
+unfolding enc_written_out written_out numbers digits
 zero_with_alt_told = refl
+
+one_told : AllTold ((UpArrow, SHIFT) ∷ [])
+unfolding enc_written_out written_out numbers digits
+one_told = refl
+
+f5_told : AllTold ((Function 5, SHIFT) ∷ [])
+unfolding enc_written_out written_out numbers digits
+f5_told = refl
+
+f5_alone_told : AllTold ((Function 5, 0) ∷ [])
+unfolding enc_written_out written_out numbers digits
+f5_alone_told = refl
+
+f1_told : AllTold ((Function 1, 0) ∷ [])
+unfolding enc_written_out written_out numbers digits
+f1_told = refl
+
+f3_told : AllTold ((Function 3, SHIFT) ∷ [])
+unfolding enc_written_out written_out numbers digits
+f3_told = refl
+
+home_told : AllTold ((Home, 0) ∷ [])
+unfolding enc_written_out written_out numbers digits
+home_told = refl

@@ -51,8 +51,8 @@ Back key held text = IsReadAs text (pressed_key (key_with key held))
 -- by what was computed
 by_list : (cases : List Held) (key : KeyCode) (held : ℕ) (text : List ℕ) → AllTold cases → Contains cases (key, held)
     → Sends key held text → is_modified_f3 key held ≡ false → ReadAs text (key_with key held) → Back key held text
-by_list cases key held text test here sends other as =
-    told_is_read text (key_with key held) as (told_in cases (key, held) text test here sends other)
+by_list cases key held text test here sends other found =
+    told_is_read text (key_with key held) found (told_in cases (key, held) text test here sends other)
 
 -- characters by their numbers
 at_number : (from count c : ℕ) → from ≤ c → c < from + count → Contains (numbers from count) c
@@ -139,53 +139,53 @@ same_text s t e = cc (e)
 
 line_back : (k : KeyCode) (h : ℕ) (m : KeyCodeEncodeModes) (text : List ℕ) → ReadsBackToo k h m → m ≡ xterm_modes
     → Sends k h text → is_modified_f3 k h ≡ false → ReadAs text (key_with k h) → Back k h text
-line_back k h m text (any_modifiers key held modes a b) off sends other as =
-    by_list computed.named key held text told.named_told (in_pairs named_keys any_of_three key held a b) sends other as
-line_back k h m text (modified_arrow key held modes a b) off sends other as =
+line_back k h m text (any_modifiers key held modes a b) off sends other found =
+    by_list computed.named key held text told.named_told (in_pairs named_keys any_of_three key held a b) sends other found
+line_back k h m text (modified_arrow key held modes a b) off sends other found =
     by_list computed.modified_arrows key held text told.modified_arrows_told (in_pairs arrows some_of_three key held a b)
-    sends other as
-line_back k h m text (alone key modes a) off sends other as =
+    sends other found
+line_back k h m text (alone key modes a) off sends other found =
     by_list computed.without_modifiers key NONE text told.without_modifiers_told
-    (in_pairs keys_alone (NONE ∷ []) key NONE a (only NONE)) sends other as
-line_back k h m text (none_or_alt key held modes a b) off sends other as =
+    (in_pairs keys_alone (NONE ∷ []) key NONE a (only NONE)) sends other found
+line_back k h m text (none_or_alt key held modes a b) off sends other found =
     by_list computed.escape_and_backspace key held text told.escape_and_backspace_told
-    (in_pairs (Escape ∷ Backspace ∷ []) (NONE ∷ ALT ∷ []) key held a b) sends other as
-line_back k h m text (character c modes scalar low del) off sends other as =
+    (in_pairs (Escape ∷ Backspace ∷ []) (NONE ∷ ALT ∷ []) key held a b) sends other found
+line_back k h m text (character c modes scalar low del) off sends other found =
     let no_backspace : c ≢ 8 = λ e. ⊎_elim (λ (z : c ≡ 0). omega arith) (λ (high : 28 ≤ c). omega arith) low in
-    alone_back c text scalar (same_text (encode_utf8 c) text (sym (char_alone c del no_backspace) ∙ sends)) as
-line_back k h m text (alt_character c modes a) off sends other as =
+    alone_back c text scalar (same_text (encode_utf8 c) text (sym (char_alone c del no_backspace) ∙ sends)) found
+line_back k h m text (alt_character c modes a) off sends other found =
     by_list computed.printable_with_alt (Char c) ALT text told.printable_with_alt_told
-    (in_chars (numbers 33 94) (ALT ∷ []) c ALT (printable_here c a) (only ALT)) sends other as
-line_back k h m text (arrow_alone key modes e a) off sends other as =
+    (in_chars (numbers 33 94) (ALT ∷ []) c ALT (printable_here c a) (only ALT)) sends other found
+line_back k h m text (arrow_alone key modes e a) off sends other found =
     by_list computed.arrows_alone key NONE text told.arrows_alone_told
-    (in_pairs arrows (NONE ∷ []) key NONE a (only NONE)) sends other as
-line_back k h m text (enter held modes e a) off sends other as =
+    (in_pairs arrows (NONE ∷ []) key NONE a (only NONE)) sends other found
+line_back k h m text (enter held modes e a) off sends other found =
     by_list computed.enter_alone Enter held text told.enter_alone_told
-    (in_pairs (Enter ∷ []) (NONE ∷ ALT ∷ []) Enter held (0, lit< tt, refl) a) sends other as
-line_back k h m text (ctrl_letter c held modes never small own a) off sends other as =
+    (in_pairs (Enter ∷ []) (NONE ∷ ALT ∷ []) Enter held (0, lit< tt, refl) a) sends other found
+line_back k h m text (ctrl_letter c held modes never small own a) off sends other found =
     by_list computed.own_letters (Char c) held text told.letters_told
     (in_chars (filter computed.own_letter (numbers 97 26)) ctrl_or_ctrl_alt c held (own_letter_here c small own) a)
-    sends other as
-line_back k h m text (tab held modes is a) off sends other as =
+    sends other found
+line_back k h m text (tab held modes is a) off sends other found =
     by_list computed.tabs Tab held text told.tabs_told
     (in_pairs (Tab ∷ []) (ALT ∷ SHIFT ∷ (ALT + SHIFT) ∷ (CTRL + SHIFT) ∷ (CTRL + ALT + SHIFT) ∷ []) Tab held
-    (0, lit< tt, refl) a) sends other as
-line_back k h m text (alt_beyond_ascii c modes is scalar high) off sends other as =
-    alt_back c text scalar high (same_text (27 ∷ encode_utf8 c) text (sym (char_with_alt c high) ∙ sends)) as
-line_back k h m text (alt_control_or_space c modes is apart' (inl zero')) off sends other as =
+    (0, lit< tt, refl) a) sends other found
+line_back k h m text (alt_beyond_ascii c modes is scalar high) off sends other found =
+    alt_back c text scalar high (same_text (27 ∷ encode_utf8 c) text (sym (char_with_alt c high) ∙ sends)) found
+line_back k h m text (alt_control_or_space c modes is apart' (inl zero')) off sends other found =
     subst (λ d. Sends (Char d) ALT text → ReadAs text (key_with (Char d) ALT) → Back (Char d) ALT text) (sym zero')
-    (λ sends' as'. by_list told.zero_with_alt (Char 0) ALT text told.zero_with_alt_told (0, lit< tt, refl) sends' refl as')
-    sends as
-line_back k h m text (alt_control_or_space c modes is apart' (inr range)) off sends other as =
+    (λ sends' found'. by_list told.zero_with_alt (Char 0) ALT text told.zero_with_alt_told (0, lit< tt, refl) sends' refl found')
+    sends found
+line_back k h m text (alt_control_or_space c modes is apart' (inr range)) off sends other found =
     by_list computed.low_with_alt (Char c) ALT text told.low_with_alt_told
-    (in_chars (numbers 28 5) (ALT ∷ []) c ALT (at_number 28 5 c range.0 (omega (arith, range.1))) (only ALT)) sends other as
-line_back k h m text (tab_by_code held modes on apart' a) off sends other as = absurd (never_on modes off on)
-line_back k h m text (enter_by_code held modes on apart' a) off sends other as = absurd (never_on modes off on)
-line_back k h m text (escape_or_backspace_by_code key held modes on never apart' a b) off sends other as =
+    (in_chars (numbers 28 5) (ALT ∷ []) c ALT (at_number 28 5 c range.0 (omega (arith, range.1))) (only ALT)) sends other found
+line_back k h m text (tab_by_code held modes on apart' a) off sends other found = absurd (never_on modes off on)
+line_back k h m text (enter_by_code held modes on apart' a) off sends other found = absurd (never_on modes off on)
+line_back k h m text (escape_or_backspace_by_code key held modes on never apart' a b) off sends other found =
     absurd (never_on modes off on)
-line_back k h m text (by_code c held modes sent (inl csi)) off sends other as =
+line_back k h m text (by_code c held modes sent (inl csi)) off sends other found =
     absurd (let is : Xterm ≡ CsiU = ap (λ (x : KeyCodeEncodeModes). x.encoding) (sym off) ∙ csi in cc (is))
-line_back k h m text (by_code c held modes sent (inr (apart', on, own))) off sends other as = absurd (never_on modes off on)
+line_back k h m text (by_code c held modes sent (inr (apart', on, own))) off sends other found = absurd (never_on modes off on)
 
 -- Shift, Alt and Ctrl keep their numbers
 bits_computed : map (λ b. xterm_number (port_modifiers b).0) (numbers 0 256) ≡ map (λ b. bit_and b 7) (numbers 0 256)

@@ -173,8 +173,8 @@ read_as text k means = go (starts_or_not Kitty text)
         at (inl s) =
             let it = after_first c v text k e (single text k means) s in
             apart v (e ∙ ap (λ x. x ∷ v) it.escape) it.report
-        at (inr no) = as_key (as_in_port text k means none
-            (λ w split s. no (subst (StartsWithExtra Kitty) (let same : w ≡ v = cc (split, e) in same) s)))
+        at (inr never) = as_key (as_in_port text k means none
+            (λ w split s. never (subst (StartsWithExtra Kitty) (let same : w ≡ v = cc (split, e) in same) s)))
 
     go : Decision (StartsWithExtra Kitty text) → ReadAs text k
     go (inl s) = let is = starts_whole text k (single text k means) s in as_report is (report_means text is)
