@@ -1,5 +1,5 @@
 -- The laws of the encoder: the extended parser reads back what is written.
-use Rattle.std.specs.Prelude.{◌≡◌, ⊤, ℕ, ◌<◌, ◌≤◌, ◌==◌, ◌&&◌, not, Bool, List, [], ◌∷◌, false, length, map, bit_and, Option, Some, None}
+use Rattle.std.specs.Prelude.{◌≡◌, ◌≢◌, ⊤, ℕ, ◌+◌, ◌<◌, ◌≤◌, ◌==◌, ◌&&◌, not, Bool, List, [], ◌∷◌, false, length, map, bit_and, Option, Some, None}
 use Rattle.std.specs.Char.{IsScalar}
 use Rattle.std.specs.Str.{chars, IsUtf8}
 use Rattle.termwiz_keys.specs.Keys.{NONE, key_with}
@@ -12,7 +12,7 @@ use Rattle.termwiz_extended_events.specs.declared.types.KeyEventKind.TheVariants
 use Rattle.termwiz_extended_events.specs.declared.types.ReportedKey.{ReportedKey}
 use Rattle.termwiz_extended_events.specs.declared.types.ReportedKey.TheVariants.{Named}
 use Rattle.termwiz_extended_events.specs.declared.types.ExtendedEvent.{ExtendedEvent}
-use Rattle.termwiz_extended_events.specs.declared.types.ExtendedEvent.TheVariants.{Input, Key}
+use Rattle.termwiz_extended_events.specs.declared.types.ExtendedEvent.TheVariants.{Input, Key, CursorPosition}
 use Rattle.termwiz_extended_events.specs.declared.types.Rows.TheVariants.{Kitty}
 use Rattle.termwiz_extended_events.specs.EventKeys.{key_of_event}
 use Rattle.termwiz_extended_events.specs.KeyReports.{report_of}
@@ -96,3 +96,9 @@ LegacyReadBack = (r : KeyReport) (key : KeyCode) (flags : ℕ) (text : List ℕ)
     → ReadsBackToo key (port_modifiers r.modifiers).0 xterm_modes
     → is_modified_f3 key (port_modifiers r.modifiers).0 ≡ false
     → IsReadAs text (press_of key (bit_and r.modifiers 7))
+
+-- F3 with modifiers is told by the reply to a question for the cursor's position: row 1, and the column is one more than the bits.
+abbrev pub ModifiedF3IsPosition : Type 0
+ModifiedF3IsPosition = (r : KeyReport) (flags : ℕ) (text : List ℕ) → IsReport r → r.key ≡ Named (Function 3)
+    → telling r flags ≡ Legacy → kitty_text r flags ≡ Some text → bit_and r.modifiers 7 ≢ 0
+    → Means Kitty text false (CursorPosition 1 (1 + bit_and r.modifiers 7) ∷ []) []

@@ -1,5 +1,5 @@
 //! Laws of the encoder, each the contract of a function without effect.
-ghost use Rattle.termwiz_kitty.specs.KittyLaws.{FullyTold, KittyReadBack, LegacyReadBack, TypedReadBack};
+ghost use Rattle.termwiz_kitty.specs.KittyLaws.{FullyTold, KittyReadBack, LegacyReadBack, ModifiedF3IsPosition, TypedReadBack};
 
 /// If a key is told by a key report, and its sequence has at most 256 bytes, then the extended parser under `Rows::Kitty` reads it
 /// as exactly that report.
@@ -18,9 +18,10 @@ pub fn typed_read_back()
     ensures { TypedReadBack }
 {}
 
-/// A key that is told as before the protocol is read back as its press, with Shift, Alt and Ctrl as they were held, if no more is to come.
-/// That holds of each key that reads back to the port (`ReadsBackToo` of `termwiz_laws`), but not of F3 with one of these modifiers:
-/// xterm's text for it is read as the position of the cursor.
+/// A key that is told as before the protocol is read back as its press, with Shift, Alt and Ctrl as they were held, if no more is to
+/// come (`keys`). That holds of each key that reads back to the port (`ReadsBackToo` of `termwiz_laws`), but not of F3 with one of these
+/// modifiers: what xterm sends for it is read as the position of the cursor (`modified_f3`).
 pub fn legacy_read_back()
-    ensures { LegacyReadBack }
+    ensures keys { LegacyReadBack }
+    ensures modified_f3 { ModifiedF3IsPosition }
 {}

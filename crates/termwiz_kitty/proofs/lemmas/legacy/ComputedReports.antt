@@ -5,8 +5,8 @@ use Rattle.std.specs.Fmt.{digits}
 use Rattle.termwiz_base.specs.declared.modifiers.Modifiers.{Modifiers}
 use Rattle.termwiz_keys.specs.Encoding.{enc}
 use Rattle.termwiz_keys.specs.Introducers.{ESC}
-use Rattle.termwiz_keys.specs.Keys.{ALT, SHIFT, key_with}
-use Rattle.termwiz_keys.specs.declared.types.KeyCode.TheVariants.{Char, UpArrow, Function, Home}
+use Rattle.termwiz_keys.specs.Keys.{ALT, key_with}
+use Rattle.termwiz_keys.specs.declared.types.KeyCode.TheVariants.{Char}
 use Rattle.termwiz_keys.specs.declared.types.KeyEvent.{KeyEvent}
 use Rattle.termwiz_keys.specs.declared.types.InputEvent.TheVariants as input
 use Rattle.termwiz_grammar.specs.Table.{numbers}
@@ -151,27 +151,3 @@ zero_with_alt = (Char 0, ALT) ∷ []
 pub zero_with_alt_told : AllTold zero_with_alt
 unfolding enc_written_out written_out numbers digits
 zero_with_alt_told = refl
-
-one_told : AllTold ((UpArrow, SHIFT) ∷ [])
-unfolding enc_written_out written_out numbers digits
-one_told = refl
-
-f5_told : AllTold ((Function 5, SHIFT) ∷ [])
-unfolding enc_written_out written_out numbers digits
-f5_told = refl
-
-f5_alone_told : AllTold ((Function 5, 0) ∷ [])
-unfolding enc_written_out written_out numbers digits
-f5_alone_told = refl
-
-f1_told : AllTold ((Function 1, 0) ∷ [])
-unfolding enc_written_out written_out numbers digits
-f1_told = refl
-
-f3_told : AllTold ((Function 3, SHIFT) ∷ [])
-unfolding enc_written_out written_out numbers digits
-f3_told = refl
-
-home_told : AllTold ((Home, 0) ∷ [])
-unfolding enc_written_out written_out numbers digits
-home_told = refl

@@ -55,7 +55,7 @@ by_list cases key held text test here sends other found =
     told_is_read text (key_with key held) found (told_in cases (key, held) text test here sends other)
 
 -- characters by their numbers
-at_number : (from count c : ℕ) → from ≤ c → c < from + count → Contains (numbers from count) c
+pub at_number : (from count c : ℕ) → from ≤ c → c < from + count → Contains (numbers from count) c
 at_number from count c low high = subst (λ n. Contains (numbers from count) n)
     (let e : from + (c - from) ≡ c = omega arith in e) (in_numbers from count (c - from) (omega arith))
 
@@ -192,16 +192,16 @@ bits_computed : map (λ b. xterm_number (port_modifiers b).0) (numbers 0 256) �
 unfolding numbers
 bits_computed = refl
 
-same_bits : (b : ℕ) → b < 256 → xterm_number (port_modifiers b).0 ≡ bit_and b 7
+pub same_bits : (b : ℕ) → b < 256 → xterm_number (port_modifiers b).0 ≡ bit_and b 7
 same_bits b h =
     same_on (λ b. xterm_number (port_modifiers b).0) (λ b. bit_and b 7) (numbers 0 256) b bits_computed
     (at_number 0 256 b (omega arith) (omega arith))
 
-written_as : (r : KeyReport) (flags : ℕ) → telling r flags ≡ Legacy → kitty_text r flags ≡ legacy_text r.key r.modifiers
+pub written_as : (r : KeyReport) (flags : ℕ) → telling r flags ≡ Legacy → kitty_text r flags ≡ legacy_text r.key r.modifiers
 unfolding kitty_text
 written_as r flags tells = rw tells refl
 
-named_as : (r : KeyReport) (key : KeyCode) → r.key ≡ Named key
+pub named_as : (r : KeyReport) (key : KeyCode) → r.key ≡ Named key
     → legacy_text r.key r.modifiers ≡ enc key (port_modifiers r.modifiers) xterm_modes
 unfolding legacy_text
 named_as r key named = rw named refl

@@ -26,12 +26,12 @@ use Rattle.termwiz_extended_events.specs.Meanings.{event_of, IsKeyOrPosition}
 use Rattle.termwiz_extended_grammar.specs.ExtraSequences.{IsExtra, StartsWithExtra}
 use Rattle.termwiz_extended_grammar.specs.ExtendedGrammar.{IsUsual, Steps, Means}
 use Rattle.termwiz_extended_grammar.specs.ExtendedGrammar.Stands.{usual}
-use Rattle.termwiz_extended_grammar.proofs.lemmas.cuts.SequencesStand.{sequence_stands}
 use Rattle.termwiz_extended_grammar.proofs.lemmas.forms.FormBytes.{IsSecond, form_shape}
 use Rattle.termwiz_extended_grammar.proofs.lemmas.forms.ExtraFacts.{starts_or_not}
 use Rattle.termwiz_extended_grammar.proofs.lemmas.items.ExtendedItems.{starts_shape}
 use Rattle.termwiz_extended_grammar.proofs.lemmas.items.ExtendedRests.{empty_is_rest}
 use Rattle.termwiz_extended_grammar.proofs.lemmas.items.ExtraHeads.{extra_is_longest}
+use Rattle.termwiz_kitty.proofs.lemmas.read_back.SequencesMean.{means_alone}
 
 -- the whole text is one extra sequence, a row that reports a key or the cursor's position
 pub record IsReport (text : List ℕ) : Type 0 where
@@ -130,15 +130,6 @@ after_first c v text k e (plainly p) s = absurd (go p)
         (encode_forms d scalar)
     go (by_broken_byte b is g) = cc (is, all)
 
--- an extra sequence alone means its event
-report_means : (text : List ℕ) → IsReport text → Means Kitty text false (event_of text ∷ []) []
-report_means text is =
-    subst (λ t. Means Kitty t false (event_of text ∷ []) []) (append-nil text)
-    (sequence_stands Kitty [] text [] [] [] [] (event_of text) false nothing is.is_extra nothing)
-  where
-    nothing : Means Kitty [] false [] []
-    nothing = record { steps = refl; rest = empty_is_rest Kitty false }
-
 -- where no extra sequence begins the text, nor what follows its ESC, the port's key is the event
 usual_at : (u : List ℕ) → ¬ StartsWithExtra Kitty u → IsUsual Kitty u false
 usual_at u none = record { none = none; closed = λ h. cc (h.more_comes) }
@@ -177,5 +168,5 @@ read_as text k means = go (starts_or_not Kitty text)
             (λ w split s. never (subst (StartsWithExtra Kitty) (let same : w ≡ v = cc (split, e) in same) s)))
 
     go : Decision (StartsWithExtra Kitty text) → ReadAs text k
-    go (inl s) = let is = starts_whole text k (single text k means) s in as_report is (report_means text is)
+    go (inl s) = let is = starts_whole text k (single text k means) s in as_report is (means_alone text (event_of text) is.is_extra)
     go (inr none) = behind none text refl

@@ -15,6 +15,7 @@ use Rattle.termwiz_extended_events.specs.declared.types.KeyReport.{KeyReport}
 use Rattle.termwiz_extended_events.specs.declared.types.KeyEventKind.{KeyEventKind}
 use Rattle.termwiz_extended_events.specs.declared.types.ReportedKey.{ReportedKey}
 use Rattle.termwiz_extended_events.specs.declared.types.ReportedKey.TheVariants.{Named, Functional}
+use Rattle.termwiz_extended_events.specs.declared.types.ExtendedEvent.{ExtendedEvent}
 use Rattle.termwiz_extended_events.specs.declared.types.ExtendedEvent.TheVariants.{Key}
 use Rattle.termwiz_extended_events.specs.declared.types.Rows.TheVariants.{Kitty}
 use Rattle.termwiz_extended_events.specs.Numbers.{is_scalar}
@@ -39,10 +40,10 @@ use Rattle.termwiz_kitty.proofs.lemmas.read_back.KeysOfForms.{key_read, is_sound
 use Rattle.termwiz_kitty.proofs.lemmas.read_back.SequenceForms.{IsParameter, IsKeyEnd, written, is_extra}
 
 -- an extra sequence alone means its event
-means_alone : (text : List ℕ) (r : KeyReport) → IsExtra Kitty text (Key r) → Means Kitty text false (Key r ∷ []) []
-means_alone text r is =
-    subst (λ t. Means Kitty t false (Key r ∷ []) []) (append-nil text)
-    (sequence_stands Kitty [] text [] [] [] [] (Key r) false nothing is nothing)
+pub means_alone : (text : List ℕ) (e : ExtendedEvent) → IsExtra Kitty text e → Means Kitty text false (e ∷ []) []
+means_alone text e is =
+    subst (λ t. Means Kitty t false (e ∷ []) []) (append-nil text)
+    (sequence_stands Kitty [] text [] [] [] [] e false nothing is nothing)
   where
     nothing : Means Kitty [] false [] []
     nothing = record { steps = refl; rest = empty_is_rest Kitty false }
@@ -52,7 +53,7 @@ written_means : (body : List ℕ) (l : ℕ) (r : KeyReport) → AllByRecursion I
     → length (written body l) ≤ 256 → key_report (body ++ l ∷ []) ≡ Some r
     → Means Kitty (written body l) false (Key r ∷ []) []
 written_means body l r a end gained lost short e =
-    means_alone (written body l) r (is_extra body l r a end short (event_back body l r gained lost e))
+    means_alone (written body l) (Key r) (is_extra body l (Key r) a end short tt (event_back body l r gained lost e))
 
 in_parameters : (b : ℕ) → IsFieldByte b → IsParameter b
 in_parameters b f = (omega arith, omega arith)
