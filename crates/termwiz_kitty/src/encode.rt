@@ -55,7 +55,8 @@ const XTERM_MODES: KeyCodeEncodeModes = KeyCodeEncodeModes {
 };
 
 /// What a terminal writes for a key if the program asked for these flags of Kitty's keyboard protocol. It is empty for a key that
-/// isn't told, as the release of a key without `REPORT_EVENT_TYPES`.
+/// isn't told, as the release of a key without `REPORT_EVENT_TYPES`. The protocol sends no control characters as text, so a text that
+/// has some counts as none.
 ///
 /// `UnknownKey` comes exactly for a key that has no text in the encoding that the flags choose. `TooLong` comes only for a sequence
 /// of more than [`MOST_BYTES`] bytes, and such a sequence never comes. The only other error is `Memory`.
