@@ -1,11 +1,11 @@
 -- Keys that are told as before the protocol, and that the port reads back, are read back.
-use Rattle.std.proofs.Common.{◌≡◌, ◌≢◌, inl, inr, ⊎_elim, ℕ, ◌+◌, ◌-◌, ◌<◌, ◌≤◌, Bool, true, false, List, [], ◌∷◌, ◌++◌, map, filter, refl, sym, ap, ◌∙◌, subst, arith, Option, Some, None, Contains, lit<, ◌==◌, ◌&&◌, ◌||◌, nat_lt, bit_and}
+use Rattle.std.proofs.Common.{◌≡◌, ◌≢◌, inl, inr, ⊎_elim, ℕ, ◌+◌, ◌-◌, ◌<◌, ◌≤◌, Bool, true, false, List, [], ◌∷◌, ◌++◌, map, filter, refl, sym, ap, ◌∙◌, subst, arith, Some, Contains, lit<, ◌==◌, ◌&&◌, ◌||◌, bit_and}
 use Rattle.std.specs.Prelude.{if◌then◌else◌}
 use Rattle.std.specs.Char.{IsScalar, encode_utf8, is_ascii_lowercase, is_ascii_alphanumeric, is_ascii_punctuation}
 use Rattle.std.proofs.lemmas.Bool.{and_right}
 use Rattle.std.proofs.lemmas.Bool.Decides.{nat_tests}
 use Rattle.termwiz_base.specs.Modifiers.{xterm_number}
-use Rattle.termwiz_keys.specs.Encoding.{enc, is_csi_u, key_text, normal_key, normal_held, shows_shift, named_key, char_text, plain_char_text, other_text}
+use Rattle.termwiz_keys.specs.Encoding.{enc, key_text, normal_key, normal_held, shows_shift, named_key, char_text, plain_char_text, other_text}
 use Rattle.termwiz_keys.specs.Introducers.{ESC}
 use Rattle.termwiz_keys.specs.KeyCodes.{shifted}
 use Rattle.termwiz_keys.specs.Keys.{NONE, SHIFT, ALT, CTRL, key_with}
@@ -29,7 +29,6 @@ use Rattle.termwiz_extended_events.specs.declared.types.KeyReport.{KeyReport}
 use Rattle.termwiz_extended_events.specs.declared.types.ReportedKey.TheVariants.{Named}
 use Rattle.termwiz_extended_events.specs.declared.types.ExtendedEvent.TheVariants.{Input}
 use Rattle.termwiz_extended_events.specs.EventKeys.{pressed_key}
-use Rattle.termwiz_extended_events.specs.Meanings.{event_of}
 use Rattle.termwiz_extended_grammar.proofs.lemmas.forms.FormBytes.{form_shape}
 use Rattle.termwiz_kitty.specs.declared.telling.Telling.TheVariants.{Legacy}
 use Rattle.termwiz_kitty.specs.Telling.{telling}

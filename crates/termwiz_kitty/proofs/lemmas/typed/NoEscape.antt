@@ -1,5 +1,5 @@
 -- A text without ESC means what it means to the port.
-use Rattle.std.proofs.Common.{◌≡◌, ◌≢◌, inl, inr, ℕ, Bool, List, [], ◌∷◌, ◌++◌, map, refl, subst}
+use Rattle.std.proofs.Common.{◌≢◌, inl, inr, ℕ, Bool, List, [], ◌∷◌, ◌++◌, map, refl, subst}
 use Rattle.std.specs.List.{AllByRecursion}
 use Rattle.termwiz_keys.specs.Introducers.{ESC}
 use Rattle.termwiz_keys.specs.declared.types.InputEvent.{InputEvent}

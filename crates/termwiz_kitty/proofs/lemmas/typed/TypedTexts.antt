@@ -14,7 +14,7 @@ use Rattle.termwiz_grammar.specs.Grammar.{IsBeginning}
 use Rattle.termwiz_grammar.specs.Laws.{IsHeldEscape}
 use Rattle.termwiz_laws.specs.FurtherKeys.{ReadsBackToo}
 use Rattle.termwiz_laws.specs.FurtherKeys.ReadsBackToo.{enter, alone, none_or_alt}
-use Rattle.termwiz_laws.specs.KeyStreams.{Press, Sends, event_of, MayGoOn}
+use Rattle.termwiz_laws.specs.KeyStreams.{Press, event_of, MayGoOn}
 use Rattle.termwiz_laws.proofs.lemmas.further_keys.FurtherReadings.{further_keys_read_back}
 use Rattle.termwiz_laws.proofs.lemmas.key_streams.NoFlush.{first_byte, means_at_once}
 use Rattle.termwiz_laws.proofs.lemmas.shared_texts.TwinKeys.{sent_means}
@@ -23,12 +23,11 @@ use Rattle.termwiz_extended_events.specs.declared.types.ReportedKey.{ReportedKey
 use Rattle.termwiz_extended_events.specs.declared.types.ReportedKey.TheVariants.{Named, Functional}
 use Rattle.termwiz_extended_events.specs.declared.types.Rows.TheVariants.{Kitty}
 use Rattle.termwiz_extended_grammar.specs.ExtendedGrammar.{Means}
-use Rattle.termwiz_kitty.specs.declared.telling.Telling.{Telling}
 use Rattle.termwiz_kitty.specs.declared.telling.Telling.TheVariants.{Nothing, Typed, Legacy, Reported}
 use Rattle.termwiz_kitty.specs.Telling.{DISAMBIGUATE, is_shifted, is_release, is_at_most_shifted, is_silent_release, is_silent_modifier, is_press, has_control, types, told_kind, sends_control, tells_all_keys, telling}
 use Rattle.termwiz_kitty.specs.KittyTexts.{xterm_modes, without_control, shown, character_typed, typed_by, typed_text, kitty_text}
 use Rattle.termwiz_kitty.specs.KittyLaws.{IsKey, IsScalarOrMissing, IsReport, pressed, typed_events, TypedReadBack}
-use Rattle.termwiz_kitty.proofs.lemmas.typed.NoEscape.{HasNoEscape, same_without_escape}
+use Rattle.termwiz_kitty.proofs.lemmas.typed.NoEscape.{same_without_escape}
 use Rattle.termwiz_kitty.proofs.lemmas.typed.TypedCharacters.{characters_mean, character_means}
 
 -- a character that is sent as text
