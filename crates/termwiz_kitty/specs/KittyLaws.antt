@@ -1,12 +1,13 @@
 -- The laws of the encoder: the extended parser reads back what is written.
-use Rattle.std.specs.Prelude.{◌≡◌, ◌≢◌, ⊤, ℕ, ◌+◌, ◌<◌, ◌≤◌, ◌==◌, ◌&&◌, not, Bool, List, [], ◌∷◌, false, length, map, bit_and, Option, Some, None}
+use Rattle.std.specs.Prelude.{◌≡◌, ◌≢◌, ⊤, ℕ, ◌+◌, ◌<◌, ◌≤◌, ◌==◌, ◌&&◌, not, Bool, List, [], ◌∷◌, ◌++◌, true, false, length, Contains, map, bit_and, Option, Some, None}
 use Rattle.std.specs.Char.{IsScalar}
 use Rattle.std.specs.Str.{chars, IsUtf8}
-use Rattle.termwiz_keys.specs.Keys.{NONE, key_with}
+use Rattle.termwiz_keys.specs.Keys.{NONE, ALT, key_with}
 use Rattle.termwiz_keys.specs.declared.types.KeyCode.{KeyCode}
 use Rattle.termwiz_keys.specs.declared.types.KeyCode.TheVariants.{Char, Function, Enter, Tab, Backspace}
 use Rattle.termwiz_keys.specs.declared.types.InputEvent.TheVariants as input
 use Rattle.termwiz_laws.specs.FurtherKeys.{ReadsBackToo}
+use Rattle.termwiz_laws.specs.KeyStreams.{keys_that_need_a_flush}
 use Rattle.termwiz_extended_events.specs.declared.types.KeyReport.{KeyReport}
 use Rattle.termwiz_extended_events.specs.declared.types.KeyEventKind.TheVariants.{Press}
 use Rattle.termwiz_extended_events.specs.declared.types.ReportedKey.{ReportedKey}
@@ -79,9 +80,14 @@ TypedReadBack = (r : KeyReport) (flags : ℕ) (text : List ℕ) (more : Bool) �
 abbrev pub press_of : KeyCode → ℕ → KeyReport
 press_of key bits = report_of (Named key) (record { modifiers = bits; kind = Press })
 
--- With no more to come the text is one event, a key with this report, and nothing waits.
-abbrev pub IsReadAs : List ℕ → KeyReport → Type 0
-IsReadAs text report = (event : ExtendedEvent) × Means Kitty text false (event ∷ []) [] × (key_of_event event ≡ Some report)
+-- The text is one event, a key with this report, and nothing waits.
+abbrev pub IsReadAs : List ℕ → Bool → KeyReport → Type 0
+IsReadAs text more report = (event : ExtendedEvent) × Means Kitty text more (event ∷ []) [] × (key_of_event event ≡ Some report)
+
+-- The keys whose texts begin sequences, with the bits of the modifiers that are held: those of the port (Escape, Escape with ALT, and [ and O
+-- with ALT), and P, ] and _ with ALT.
+abbrev pub keys_that_wait : List (KeyCode × ℕ)
+keys_that_wait = keys_that_need_a_flush ++ (Char 80, ALT) ∷ (Char 93, ALT) ∷ (Char 95, ALT) ∷ []
 
 -- F3 with Shift, Alt or Ctrl: what it sends is also the reply to a question for the cursor's position
 abbrev pub is_modified_f3 : KeyCode → ℕ → Bool
@@ -89,16 +95,17 @@ is_modified_f3 (Function n) held = (n == 3) && not (held == NONE)
 is_modified_f3 key held = false
 
 -- A key that is told as before the protocol, and that the port reads back: its text is the press of that key, with Shift, Alt and Ctrl as in
--- the report. But F3 with modifiers isn't.
+-- the report. But F3 with modifiers isn't. With more to come it is so for the keys whose texts begin no sequence.
 abbrev pub LegacyReadBack : Type 0
-LegacyReadBack = (r : KeyReport) (key : KeyCode) (flags : ℕ) (text : List ℕ) → IsReport r → r.key ≡ Named key
+LegacyReadBack = (r : KeyReport) (key : KeyCode) (flags : ℕ) (text : List ℕ) (more : Bool) → IsReport r → r.key ≡ Named key
     → telling r flags ≡ Legacy → kitty_text r flags ≡ Some text
     → ReadsBackToo key (port_modifiers r.modifiers).0 xterm_modes
     → is_modified_f3 key (port_modifiers r.modifiers).0 ≡ false
-    → IsReadAs text (press_of key (bit_and r.modifiers 7))
+    → (more ≡ true → ¬ Contains keys_that_wait (key, (port_modifiers r.modifiers).0))
+    → IsReadAs text more (press_of key (bit_and r.modifiers 7))
 
 -- F3 with modifiers is told by the reply to a question for the cursor's position: row 1, and the column is one more than the bits.
 abbrev pub ModifiedF3IsPosition : Type 0
-ModifiedF3IsPosition = (r : KeyReport) (flags : ℕ) (text : List ℕ) → IsReport r → r.key ≡ Named (Function 3)
+ModifiedF3IsPosition = (r : KeyReport) (flags : ℕ) (text : List ℕ) (more : Bool) → IsReport r → r.key ≡ Named (Function 3)
     → telling r flags ≡ Legacy → kitty_text r flags ≡ Some text → bit_and r.modifiers 7 ≢ 0
-    → Means Kitty text false (CursorPosition 1 (1 + bit_and r.modifiers 7) ∷ []) []
+    → Means Kitty text more (CursorPosition 1 (1 + bit_and r.modifiers 7) ∷ []) []

@@ -18,9 +18,10 @@ pub fn typed_read_back()
     ensures { TypedReadBack }
 {}
 
-/// A key that is told as before the protocol is read back as its press, with Shift, Alt and Ctrl as they were held, if no more is to
-/// come (`keys`). That holds of each key that reads back to the port (`ReadsBackToo` of `termwiz_laws`), but not of F3 with one of these
-/// modifiers: what xterm sends for it is read as the position of the cursor (`modified_f3`).
+/// A key that is told as before the protocol is read back as its press, with Shift, Alt and Ctrl as they were held (`keys`). That holds of
+/// each key that reads back to the port (`ReadsBackToo` of `termwiz_laws`), but not of F3 with one of these modifiers: what xterm sends
+/// for it is read as the position of the cursor (`modified_f3`). Escape, and `[`, `O`, `P`, `]` and `_` with Alt, are read so only if no
+/// more is to come, since their texts begin sequences.
 pub fn legacy_read_back()
     ensures keys { LegacyReadBack }
     ensures modified_f3 { ModifiedF3IsPosition }

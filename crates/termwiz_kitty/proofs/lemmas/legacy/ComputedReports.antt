@@ -68,13 +68,13 @@ some_if true o r e = cc (e)
 some_if false o r e = (refl, e)
 
 -- a text whose report is that of its key is read as that key
-pub told_is_read : (text : List ℕ) (k : KeyEvent) → ReadAs text k → told_report text (pressed_key k) ≡ Some (pressed_key k)
-    → IsReadAs text (pressed_key k)
-told_is_read text k (as_key means) e = (Input (input.Key k), means, refl)
-told_is_read text k (as_report is means) e =
+pub told_is_read : (text : List ℕ) (k : KeyEvent) (more : Bool) → ReadAs text k more
+    → told_report text (pressed_key k) ≡ Some (pressed_key k) → IsReadAs text more (pressed_key k)
+told_is_read text k more (as_key means) e = (Input (input.Key k), means, refl)
+told_is_read text k more (as_report is means) e =
     let both = some_if (is_report (event_of (drop 1 text))) (report_or (event_of text) (pressed_key k)) (pressed_key k) e in
     (event_of text, means, key_is (event_of text) (pressed_key k) is.reports both.1)
-told_is_read text k (apart v splits is) e =
+told_is_read text k more (apart v splits is) e =
     let both = some_if (is_report (event_of (drop 1 text))) (report_or (event_of text) (pressed_key k)) (pressed_key k) e in
     let test : is_report (event_of v) ≡ false = subst (λ t. is_report (event_of (drop 1 t)) ≡ false) splits both.0 in
     let no = reports_tested (event_of v) is.reports in absurd (cc (test, no))

@@ -1,5 +1,5 @@
 -- F3 with modifiers is read as the position of the cursor.
-use Rattle.std.proofs.Common.{◌≡◌, ◌≢◌, ℕ, ◌+◌, ◌<◌, ◌≤◌, ◌==◌, false, List, [], ◌∷◌, ◌++◌, map, refl, sym, ◌∙◌, subst, arith, Option, Some, bit_and}
+use Rattle.std.proofs.Common.{◌≡◌, ◌≢◌, Bool, ℕ, ◌+◌, ◌<◌, ◌≤◌, ◌==◌, false, List, [], ◌∷◌, ◌++◌, map, refl, sym, ◌∙◌, subst, arith, Option, Some, bit_and}
 use Rattle.std.specs.Prelude.{if◌then◌else◌, codes}
 use Rattle.std.specs.Fmt.{digits}
 use Rattle.std.proofs.lemmas.Nat.{and_le_r}
@@ -47,9 +47,9 @@ f3_sends b h some =
     let held : (bit_and b 7 == 0) ≡ false = grind (arith, nat_tests) in
     same_on sent expected (numbers 0 256) b texts_computed (at_number 0 256 b (omega arith) (omega arith)) ∙ rw held refl
 
-position_means : (n : ℕ) → n ≢ 0 → n ≤ 7 → Means Kitty (position_text n) false (CursorPosition 1 (1 + n) ∷ []) []
-position_means n some few =
-    means_alone (position_text n) (CursorPosition 1 (1 + n))
+position_means : (n : ℕ) (more : Bool) → n ≢ 0 → n ≤ 7 → Means Kitty (position_text n) more (CursorPosition 1 (1 + n) ∷ []) []
+position_means n more some few =
+    means_alone (position_text n) more (CursorPosition 1 (1 + n))
     (is_extra (body_of n) 82 (CursorPosition 1 (1 + n))
     ((omega arith, omega arith), ((omega arith, omega arith), ((omega arith, omega arith), tt)))
     (omega arith, omega arith, (λ same. omega arith), (λ same. omega arith)) (omega arith) tt
@@ -57,9 +57,9 @@ position_means n some few =
     (at_number 1 7 n (omega arith) (omega arith))))
 
 pub modified_f3_is_position : ModifiedF3IsPosition
-modified_f3_is_position r flags text is named tells writes some =
+modified_f3_is_position r flags text more is named tells writes some =
     let sends : Some (position_text (bit_and r.modifiers 7)) ≡ Some text =
     sym (f3_sends r.modifiers is.fits some) ∙ sym (named_as r (Function 3) named) ∙ sym (written_as r flags tells) ∙ writes in
     let same : position_text (bit_and r.modifiers 7) ≡ text = cc (sends) in
-    subst (λ t. Means Kitty t false (CursorPosition 1 (1 + bit_and r.modifiers 7) ∷ []) []) same
-    (position_means (bit_and r.modifiers 7) some (and_le_r r.modifiers 7))
+    subst (λ t. Means Kitty t more (CursorPosition 1 (1 + bit_and r.modifiers 7) ∷ []) []) same
+    (position_means (bit_and r.modifiers 7) more some (and_le_r r.modifiers 7))

@@ -1,5 +1,5 @@
 -- A text that the port reads as one key is, under Rows::Kitty, that key, or one extra sequence, or ESC before one.
-use Rattle.std.proofs.Common.{◌≡◌, ◌≢◌, inl, inr, ⊎_elim, ℕ, ◌<◌, ◌≤◌, false, List, [], ◌∷◌, ◌++◌, length, refl, sym, ap, ◌∙◌, subst, arith, Contains, append-nil, length-append}
+use Rattle.std.proofs.Common.{◌≡◌, ◌≢◌, inl, inr, ⊎_elim, ℕ, ◌<◌, ◌≤◌, Bool, false, List, [], ◌∷◌, ◌++◌, length, refl, sym, ap, ◌∙◌, subst, arith, Contains, append-nil, length-append}
 use Rattle.std.specs.Char.{IsScalar, encode_utf8}
 use Rattle.termwiz_keymap.proofs.lemmas.lists.CommonPrefixes.{append-some_left}
 use Rattle.termwiz_keys.specs.Introducers.{ESC}
@@ -22,7 +22,7 @@ use Rattle.termwiz_extended_events.specs.declared.types.ExtendedEvent.TheVariant
 use Rattle.termwiz_extended_events.specs.declared.types.Rows.TheVariants.{Kitty}
 use Rattle.termwiz_extended_events.specs.Meanings.{event_of, IsKeyOrPosition}
 use Rattle.termwiz_extended_grammar.specs.ExtraSequences.{IsExtra, StartsWithExtra}
-use Rattle.termwiz_extended_grammar.specs.ExtendedGrammar.{IsUsual, Steps, Means}
+use Rattle.termwiz_extended_grammar.specs.ExtendedGrammar.{IsOpen, IsUsual, Steps, Means}
 use Rattle.termwiz_extended_grammar.specs.ExtendedGrammar.Stands.{usual}
 use Rattle.termwiz_extended_grammar.proofs.lemmas.forms.FormBytes.{IsSecond, form_shape}
 use Rattle.termwiz_extended_grammar.proofs.lemmas.forms.ExtraFacts.{starts_or_not}
@@ -36,7 +36,7 @@ pub record IsReport (text : List ℕ) : Type 0 where
   pub is_extra : IsExtra Kitty text (event_of text)
   pub reports : IsKeyOrPosition (event_of text)
 
-row_is : (s : List ℕ) (k : KeyEvent) → Contains rows (s, k) → IsSequence s (Row k)
+pub row_is : (s : List ℕ) (k : KeyEvent) → Contains rows (s, k) → IsSequence s (Row k)
 unfolding IsSequence
 row_is s k is = is
 
@@ -71,7 +71,7 @@ pub second_range : (b : ℕ) → IsSecond b → (79 ≤ b) × (b ≤ 95)
 second_range b h = (omega arith, omega arith)
 
 -- the byte after its ESC begins no key
-second_byte : (b : ℕ) (r t : List ℕ) (j : KeyEvent) → IsSecond b → r ≢ [] → t ≡ b ∷ r → Plainly t j → ⊥
+pub second_byte : (b : ℕ) (r t : List ℕ) (j : KeyEvent) → IsSecond b → r ≢ [] → t ≡ b ∷ r → Plainly t j → ⊥
 second_byte b r t j second some e (by_row c) =
     let range = second_range b second in
     ⊎_elim (λ (low : (0 < b) × (b < 28)). omega (arith, low.1, range.0)) (λ (last : b ≡ 127). omega (arith, range.1))
@@ -128,43 +128,50 @@ after_first c v text k e (plainly p) s = absurd (go p)
         (encode_forms d scalar)
     go (by_broken_byte b is g) = cc (is, all)
 
--- where no extra sequence begins the text, nor what follows its ESC, the port's key is the event
-usual_at : (u : List ℕ) → ¬ StartsWithExtra Kitty u → IsUsual Kitty u false
-usual_at u none = record { none = none; closed = λ h. cc (h.more_comes) }
-
-as_in_port : (text : List ℕ) (k : KeyEvent) → port.Means text false (input.Key k ∷ []) [] → ¬ StartsWithExtra Kitty text
-    → ((v : List ℕ) → text ≡ ESC ++ v → ¬ StartsWithExtra Kitty v) → Means Kitty text false (Input (input.Key k) ∷ []) []
-as_in_port text k means none after = record { steps = from means.steps; rest = empty_is_rest Kitty false }
+-- where no extra sequence begins the text, nor what follows its ESC, and neither is open, the port's key is the event
+as_in_port : (text : List ℕ) (k : KeyEvent) (f : Bool) → port.Means text f (input.Key k ∷ []) [] → IsUsual Kitty text f
+    → ((v : List ℕ) → text ≡ ESC ++ v → IsUsual Kitty v f) → Means Kitty text f (Input (input.Key k) ∷ []) []
+as_in_port text k f means whole' after = record { steps = from means.steps; rest = empty_is_rest Kitty f }
   where
-    from : port.Steps text false (input.Key k ∷ []) [] → Steps Kitty text false (Input (input.Key k) ∷ []) []
-    from (bytes, rest, stands, splits, nothing) = (
-      bytes,
-      rest,
-      usual bytes (input.Key k) stands (usual_at text none) (λ v e. usual_at v (after v e)),
-      splits,
-      nothing,
-    )
+    from : port.Steps text f (input.Key k ∷ []) [] → Steps Kitty text f (Input (input.Key k) ∷ []) []
+    from (bytes, rest, stands, splits, nothing) =
+        (bytes, rest, usual bytes (input.Key k) stands whole' after, splits, nothing)
 
 -- what a text that the port reads as one key is read as
-pub data ReadAs (text : List ℕ) (k : KeyEvent) : Type 0 where
-  as_key : Means Kitty text false (Input (input.Key k) ∷ []) [] → ReadAs text k
-  as_report : IsReport text → Means Kitty text false (event_of text ∷ []) [] → ReadAs text k
-  apart : (v : List ℕ) → text ≡ ESC ++ v → IsReport v → ReadAs text k
+pub data ReadAs (text : List ℕ) (k : KeyEvent) (f : Bool) : Type 0 where
+  as_key : Means Kitty text f (Input (input.Key k) ∷ []) [] → ReadAs text k f
+  as_report : IsReport text → Means Kitty text f (event_of text ∷ []) [] → ReadAs text k f
+  apart : (v : List ℕ) → text ≡ ESC ++ v → IsReport v → ReadAs text k f
 
-pub read_as : (text : List ℕ) (k : KeyEvent) → port.Means text false (input.Key k ∷ []) [] → ReadAs text k
-read_as text k means = go (starts_or_not Kitty text)
+-- The port reads the text as the key, also if more may come; and neither the text nor what follows its ESC is open.
+pub record IsRead (text : List ℕ) (k : KeyEvent) (f : Bool) : Type 0 where
+  pub flushed : port.Means text false (input.Key k ∷ []) []
+  pub means : port.Means text f (input.Key k ∷ []) []
+  pub closed : ¬ IsOpen Kitty text f
+  pub closed_after : (v : List ℕ) → text ≡ ESC ++ v → ¬ IsOpen Kitty v f
+
+pub read_as : (text : List ℕ) (k : KeyEvent) (f : Bool) → IsRead text k f → ReadAs text k f
+read_as text k f is = go (starts_or_not Kitty text)
   where
-    behind : ¬ StartsWithExtra Kitty text → (u : List ℕ) → text ≡ u → ReadAs text k
-    behind none [] e = as_key (as_in_port text k means none (λ v split. absurd (cc (e, split))))
+    is_single : Single text k
+    is_single = single text k is.flushed
+
+    key_where : ¬ StartsWithExtra Kitty text → ((v : List ℕ) → text ≡ ESC ++ v → ¬ StartsWithExtra Kitty v) → ReadAs text k f
+    key_where none after = as_key (as_in_port text k f is.means (record { none = none; closed = is.closed })
+        (λ v split. record { none = after v split; closed = is.closed_after v split }))
+
+    behind : ¬ StartsWithExtra Kitty text → (u : List ℕ) → text ≡ u → ReadAs text k f
+    behind none [] e = key_where none (λ v split. absurd (cc (e, split)))
     behind none (c ∷ v) e = at (starts_or_not Kitty v)
       where
-        at : Decision (StartsWithExtra Kitty v) → ReadAs text k
+        at : Decision (StartsWithExtra Kitty v) → ReadAs text k f
         at (inl s) =
-            let it = after_first c v text k e (single text k means) s in
+            let it = after_first c v text k e is_single s in
             apart v (e ∙ ap (λ x. x ∷ v) it.escape) it.report
-        at (inr never) = as_key (as_in_port text k means none
-            (λ w split s. never (subst (StartsWithExtra Kitty) (let same : w ≡ v = cc (split, e) in same) s)))
+        at (inr never) = key_where none
+            (λ w split s. never (subst (StartsWithExtra Kitty) (let same : w ≡ v = cc (split, e) in same) s))
 
-    go : Decision (StartsWithExtra Kitty text) → ReadAs text k
-    go (inl s) = let is = starts_whole text k (single text k means) s in as_report is (means_alone text (event_of text) is.is_extra)
+    go : Decision (StartsWithExtra Kitty text) → ReadAs text k f
+    go (inl s) =
+        let report = starts_whole text k is_single s in as_report report (means_alone text f (event_of text) report.is_extra)
     go (inr none) = behind none text refl
