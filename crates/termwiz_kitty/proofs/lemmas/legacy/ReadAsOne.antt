@@ -32,7 +32,7 @@ use Rattle.termwiz_extended_grammar.proofs.lemmas.items.ExtraHeads.{extra_is_lon
 use Rattle.termwiz_kitty.proofs.lemmas.read_back.SequencesMean.{means_alone}
 
 -- the whole text is one extra sequence, a row that reports a key or the cursor's position
-pub record IsReport (text : List ℕ) : Type 0 where
+pub record IsReportText (text : List ℕ) : Type 0 where
   pub is_extra : IsExtra Kitty text (event_of text)
   pub reports : IsKeyOrPosition (event_of text)
 
@@ -53,7 +53,7 @@ no_escape_before c b r scalar e = ⊎_elim
     (encode_forms c scalar)
 
 -- an extra sequence that begins what is read as one key is all of it
-whole : (v : List ℕ) (j : KeyEvent) → Plainly v j → StartsWithExtra Kitty v → IsReport v
+whole : (v : List ℕ) (j : KeyEvent) → Plainly v j → StartsWithExtra Kitty v → IsReportText v
 whole v j (by_row c) s =
     let is = row_is v j c in
     let longest = (extra_is_longest Kitty v s.text s.event s.is_extra s.begins).0 v (Row j) is ([], sym (append-nil v)) in
@@ -91,14 +91,14 @@ not_behind t j p s =
     let text : 27 ∷ t ≡ 27 ∷ shape.0 ∷ (shape.1 ++ s.begins.0) = s.begins.1 ∙ ap (λ x. x ++ s.begins.0) shape.2 in
     second_byte shape.0 (shape.1 ++ s.begins.0) t j shape.4 (append-some_left shape.1 s.begins.0 shape.3) (cc (text)) p
 
-starts_whole : (text : List ℕ) (k : KeyEvent) → Single text k → StartsWithExtra Kitty text → IsReport text
+starts_whole : (text : List ℕ) (k : KeyEvent) → Single text k → StartsWithExtra Kitty text → IsReportText text
 starts_whole text k (plainly p) s = whole text k p s
 starts_whole text k (after_escape t j e p g) s = absurd (not_behind t j p (subst (StartsWithExtra Kitty) e s))
 
 -- an extra sequence after the first byte: that is ESC, and the sequence is the rest
 record AfterEscape (c : ℕ) (v : List ℕ) : Type 0 where
   escape : c ≡ 27
-  report : IsReport v
+  report : IsReportText v
 
 no_second_escape : (c b : ℕ) (r : List ℕ) → Bytes (c ∷ 27 ∷ b ∷ r) → ⊥
 no_second_escape c b r (one y l e) = cc (e)
@@ -140,8 +140,8 @@ as_in_port text k f means whole' after = record { steps = from means.steps; rest
 -- what a text that the port reads as one key is read as
 pub data ReadAs (text : List ℕ) (k : KeyEvent) (f : Bool) : Type 0 where
   as_key : Means Kitty text f (Input (input.Key k) ∷ []) [] → ReadAs text k f
-  as_report : IsReport text → Means Kitty text f (event_of text ∷ []) [] → ReadAs text k f
-  apart : (v : List ℕ) → text ≡ ESC ++ v → IsReport v → ReadAs text k f
+  as_report : IsReportText text → Means Kitty text f (event_of text ∷ []) [] → ReadAs text k f
+  apart : (v : List ℕ) → text ≡ ESC ++ v → IsReportText v → ReadAs text k f
 
 -- The port reads the text as the key, also if more may come; and neither the text nor what follows its ESC is open.
 pub record IsRead (text : List ℕ) (k : KeyEvent) (f : Bool) : Type 0 where

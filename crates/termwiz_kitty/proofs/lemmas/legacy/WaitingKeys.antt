@@ -1,12 +1,11 @@
 -- The keys whose texts, alone or after an ESC, properly begin a sequence.
-use Rattle.std.proofs.Common.{◌≡◌, ◌≢◌, ◌⊎◌, inl, inr, ⊎_elim, ℕ, zero, ◌<◌, ◌≤◌, false, List, [], ◌∷◌, ◌++◌, refl, sym, ap, ◌∙◌, subst, arith, Some, Contains, lit<, codes}
-use Rattle.std.specs.Prelude.{IsTrue}
-use Rattle.std.specs.Char.{IsScalar, encode_utf8, is_ascii_alphanumeric, is_ascii_punctuation}
+use Rattle.std.proofs.Common.{◌≡◌, ◌≢◌, ◌⊎◌, inl, inr, ⊎_elim, ℕ, zero, false, List, [], ◌∷◌, ◌++◌, refl, sym, ap, ◌∙◌, subst, arith, Some, Contains, lit<, codes}
+use Rattle.std.specs.Char.{IsScalar, encode_utf8}
 use Rattle.termwiz_keys.specs.Encoding.{enc}
 use Rattle.termwiz_keys.specs.Introducers.{ESC, CSI, SS3}
 use Rattle.termwiz_keys.specs.Keys.{NONE, ALT, escape, with_alt, key_with}
 use Rattle.termwiz_keys.specs.declared.types.KeyCode.{KeyCode}
-use Rattle.termwiz_keys.specs.declared.types.KeyCode.TheVariants.{Char, Escape, Backspace}
+use Rattle.termwiz_keys.specs.declared.types.KeyCode.TheVariants.{Char, Escape}
 use Rattle.termwiz_keys.specs.declared.types.KeyEvent.{KeyEvent}
 use Rattle.termwiz_keys.specs.declared.types.InputEvent.TheVariants as input
 use Rattle.termwiz_grammar.specs.Grammar as port
@@ -19,7 +18,6 @@ use Rattle.termwiz_grammar.proofs.lemmas.read_back.WholeTexts.{row_means}
 use Rattle.termwiz_laws.specs.FurtherKeys.{ReadsBackToo}
 use Rattle.termwiz_laws.specs.FurtherKeys.ReadsBackToo.{alt_character, none_or_alt}
 use Rattle.termwiz_laws.specs.KeyStreams.{Press, MayGoOn}
-use Rattle.termwiz_laws.proofs.lemmas.first_bytes.EncodedBytes.{IsSeveral, encode_forms}
 use Rattle.termwiz_laws.proofs.lemmas.further_keys.ComputedReadings.{enc_written_out}
 use Rattle.termwiz_laws.proofs.lemmas.further_keys.FurtherReadings.{further_keys_read_back}
 use Rattle.termwiz_laws.proofs.lemmas.further_keys.SingleKey.{Plainly, Single, single}
