@@ -1,5 +1,6 @@
 -- The bytes that a terminal writes for a key under kitty's keyboard protocol.
 use Rattle.std.specs.Prelude.{◌≡◌, ◌<◌, ◌≤◌, length, ℕ, Bool, false, ◌+◌, ◌==◌, ◌&&◌, List, [], ◌∷◌, ◌++◌, flat_map, codes, decimal, Option, Some, None, option_map, unwrap_or, bit_and, encode_utf8, if◌then◌else◌}
+use Rattle.std.specs.Char.{is_control}
 use Rattle.std.specs.Str.{chars}
 use Rattle.termwiz_base.specs.declared.modifiers.Modifiers.{Modifiers}
 use Rattle.termwiz_keys.specs.Introducers.{CSI}
@@ -17,7 +18,7 @@ use Rattle.termwiz_kitty.specs.declared.telling.Telling.TheVariants.{Nothing, Ty
 use Rattle.termwiz_kitty.specs.declared.key_forms.KeyForm.{KeyForm}
 use Rattle.termwiz_kitty.specs.declared.key_forms.KeyForm.TheVariants.{Letter, Number, Code}
 use Rattle.termwiz_kitty.specs.KeyForms.{form_of}
-use Rattle.termwiz_kitty.specs.Telling.{telling, reported, is_press, is_shifted}
+use Rattle.termwiz_kitty.specs.Telling.{telling, reported, is_press, is_shifted, has_control}
 
 -- what happened to the key, behind the number of the modifiers
 abbrev pub kind_text : KeyEventKind → List ℕ
@@ -84,10 +85,19 @@ sequence_text (Code n) r = coded_text n r.shifted r.base r.modifiers r.kind r.te
 abbrev pub most_bytes : ℕ
 most_bytes = 256
 
--- what a character's key types: its text, or what it types with Shift, or its character
+-- the character, unless it is a control character
+abbrev pub without_control : Option ℕ → Option ℕ
+without_control None = None
+without_control (Some c) = if is_control c then None else Some c
+
+-- the character that a key shows: what it types with Shift, if that is held, or else its own
+abbrev pub shown : ℕ → ℕ → Option ℕ → ℕ
+shown c bits shifted = if is_shifted bits then unwrap_or (without_control shifted) c else c
+
+-- What a character's key types: its text, or what it types with Shift, or its character. What has control characters is left aside.
 abbrev pub character_typed : ℕ → ℕ → Option ℕ → List ℕ → List ℕ
-character_typed c bits shifted [] = encode_utf8 (if is_shifted bits then unwrap_or shifted c else c)
-character_typed c bits shifted (b ∷ bs) = b ∷ bs
+character_typed c bits shifted [] = encode_utf8 (shown c bits shifted)
+character_typed c bits shifted (b ∷ bs) = if has_control (b ∷ bs) then encode_utf8 (shown c bits shifted) else b ∷ bs
 
 -- what a key types by itself: Enter, Tab and Backspace a control character
 abbrev pub typed_by : ReportedKey → KeyReport → List ℕ

@@ -1,6 +1,9 @@
 -- What a terminal tells of a key under kitty's keyboard protocol, by the flags that the program asked for. From the protocol
 -- ("Comprehensive keyboard handling in terminals", "Progressive enhancement").
 use Rattle.std.specs.Prelude.{ℕ, Bool, true, false, not, ◌==◌, ◌&&◌, ◌||◌, List, [], nat_le, Option, Some, None, bit_and, if◌then◌else◌}
+use Rattle.std.specs.Char.{is_control}
+use Rattle.std.specs.List.{list_any}
+use Rattle.std.specs.Str.{chars}
 use Rattle.termwiz_keys.specs.KeyCodes.{holds}
 use Rattle.termwiz_keys.specs.declared.types.KeyCode.TheVariants.{Char, Enter, Tab, Backspace}
 use Rattle.termwiz_extended_events.specs.declared.types.KeyReport.{KeyReport}
@@ -90,9 +93,14 @@ sends_control (Named Tab) = true
 sends_control (Named Backspace) = true
 sends_control key = false
 
+-- The text has a control character: one below U+0020, or from U+007F to U+009F. The protocol never sends one as text ("Text as code
+-- points").
+abbrev pub has_control : List ℕ → Bool
+has_control text = list_any is_control (chars text)
+
 -- the key types a character with these modifiers
 abbrev pub types : ReportedKey → ℕ → Bool
-types (Named (Char c)) bits = nat_le 32 c && not (c == 127) && is_at_most_shifted bits
+types (Named (Char c)) bits = not (is_control c) && is_at_most_shifted bits
 types key bits = sends_control key && is_bare bits
 
 -- What happened to the key, as it is told: without the types of events a repeat is a press.
@@ -144,7 +152,8 @@ has_text (Some (Code n)) = true
 has_text form = false
 
 abbrev pub tells_text : KeyReport → ℕ → Bool
-tells_text r flags = holds flags ASSOCIATED_TEXT && tells_all_keys flags && has_text (form_of r.key)
+tells_text r flags =
+    holds flags ASSOCIATED_TEXT && tells_all_keys flags && has_text (form_of r.key) && not (has_control r.text)
 
 abbrev pub told_text : KeyReport → ℕ → List ℕ
 told_text r flags = if tells_text r flags then r.text else []

@@ -10,7 +10,8 @@ mod sequences;
 
 use crate::key_forms::{KeyForm, form_of};
 use crate::telling::{
-    Telling, is_shifted, telling_of, told_base, told_kind, told_modifiers, told_shifted, told_text,
+    Telling, has_control, is_shifted, telling_of, told_base, told_kind, told_modifiers,
+    told_shifted, told_text,
 };
 use sequences::{Codes, Manner, push_coded, push_lettered, push_numbered};
 use std::alloc::{AllocError, Global};
@@ -54,7 +55,8 @@ const XTERM_MODES: KeyCodeEncodeModes = KeyCodeEncodeModes {
 };
 
 /// What a terminal writes for a key if the program asked for these flags of Kitty's keyboard protocol. It is empty for a key that
-/// isn't told, as the release of a key without `REPORT_EVENT_TYPES`.
+/// isn't told, as the release of a key without `REPORT_EVENT_TYPES`. The protocol sends no control characters as text, so a text that
+/// has some counts as none.
 ///
 /// `UnknownKey` comes exactly for a key that has no text in the encoding that the flags choose. `TooLong` comes only for a sequence
 /// of more than [`MOST_BYTES`] bytes, and such a sequence never comes. The only other error is `Memory`.
@@ -77,17 +79,24 @@ pub fn encode_kitty(
     }
 }
 
-// The text of a character's key: its own, or what it types with Shift, or its character.
+// The character, unless it is a control character.
+fn without_control(c: Option<char>) -> Option<char>
+    ensures { result ≡ texts.without_control c }
+{
+    c.filter(|c| !c.is_control())
+}
+
+// The text of a character's key: its own, or what it types with Shift, or its character. What has control characters is left aside.
 fn push_character(text: &mut String, c: char, report: &KeyReport) -> Result<(), AllocError>
     ensures { OnOk result (string_bytes text.new ≡ string_bytes text.old
         ++ texts.character_typed c report.now.modifiers report.now.shifted report.now.text) }
 {
     let typed = report.text.as_str();
-    if !typed.is_empty() {
+    if !typed.is_empty() && !has_control(typed) {
         return text.push_str(typed);
     }
     if is_shifted(report.modifiers) {
-        return text.push(report.shifted.unwrap_or(c));
+        return text.push(without_control(report.shifted).unwrap_or(c));
     }
     text.push(c)
 }

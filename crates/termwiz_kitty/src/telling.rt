@@ -85,13 +85,20 @@ fn sends_control(key: ReportedKey) -> bool
     )
 }
 
+// Whether the text has a control character. Kitty's protocol never sends one as text.
+pub(crate) fn has_control(text: &str) -> bool
+    ensures { result ≡ rules.has_control text.now }
+{
+    text.chars().any(|c| c.is_control())
+}
+
 // Whether the key types a text with these modifiers.
 fn types(key: ReportedKey, modifiers: u8) -> bool
     ensures { result ≡ rules.types key modifiers }
 {
     match key {
         ReportedKey::Named(KeyCode::Char(c)) => {
-            ' ' <= c && c != '\x7f' && modifiers & ALL_BUT_SHIFT_AND_LOCKS == 0
+            !c.is_control() && modifiers & ALL_BUT_SHIFT_AND_LOCKS == 0
         }
         _ => sends_control(key) && is_bare(modifiers),
     }
@@ -206,6 +213,7 @@ fn tells_text(report: &KeyReport, flags: KittyKeyboardFlags) -> bool
     flags.contains(KittyKeyboardFlags::REPORT_ASSOCIATED_TEXT)
         && tells_all_keys(flags)
         && matches!(form_of(report.key), Some(KeyForm::Code(_)))
+        && !has_control(report.text.as_str())
 }
 
 // The text of the key, if it is told, and else an empty one.

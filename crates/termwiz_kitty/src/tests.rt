@@ -98,6 +98,20 @@ const EXAMPLES: &[Example] = &[
         DISAMBIGUATE,
         "\x1b[57376u",
     ),
+    (
+        KeyCode::Char('\u{85}'),
+        0,
+        KeyEventKind::Press,
+        DISAMBIGUATE,
+        "\x1b[133u",
+    ),
+    (
+        KeyCode::Function(3),
+        SHIFT,
+        KeyEventKind::Press,
+        NONE,
+        "\x1b[1;2R",
+    ),
     (KeyCode::Enter, 0, KeyEventKind::Press, DISAMBIGUATE, "\r"),
     (KeyCode::Enter, 0, KeyEventKind::Release, EVENT_TYPES, ""),
     (KeyCode::Enter, 0, KeyEventKind::Press, ALL_KEYS, "\x1b[13u"),
@@ -179,6 +193,25 @@ fn texts_are_written(rt: HostRuntime) -> Result<(), Fail> {
     assert_eq!(rt; text.len(), 190);
     let refused = encode_kitty(alloc, &shift_a(letters(alloc, 200)?), all);
     assert!(rt; matches!(refused, Err(KittyEncodeError::TooLong)));
+    Ok(())
+}
+
+#[test]
+fn control_characters_are_no_text(rt: HostRuntime) -> Result<(), Fail> {
+    let alloc = rt.alloc();
+    let all = KittyKeyboardFlags::from_bits_retain(31);
+    for c in ['\x1b', '\x7f', '\u{9b}'] {
+        let mut text = letters(alloc, 1)?;
+        text.push(c)?;
+        let mut report = shift_a(text);
+        let typed = encode_kitty(alloc, &report, DISAMBIGUATE)?;
+        assert_eq!(rt; typed.as_str(), "A", "{c:?}");
+        let told = encode_kitty(alloc, &report, all)?;
+        assert_eq!(rt; told.as_str(), "\x1b[97:65;2u", "{c:?}");
+        report.shifted = Some(c);
+        let typed = encode_kitty(alloc, &report, DISAMBIGUATE)?;
+        assert_eq!(rt; typed.as_str(), "a", "{c:?}");
+    }
     Ok(())
 }
 

@@ -5,8 +5,7 @@ use Rattle.termwiz_keymap.proofs.lemmas.lists.CommonPrefixes.{true_from}
 use Rattle.termwiz_grammar.specs.Sequences.{IsSequence}
 use Rattle.termwiz_grammar.specs.Sequences.Meaning.{Row, Report}
 use Rattle.termwiz_grammar.proofs.lemmas.mouse.OneReport.{report_plain}
-use Rattle.termwiz_extended_events.specs.declared.types.KeyReport.{KeyReport}
-use Rattle.termwiz_extended_events.specs.declared.types.ExtendedEvent.TheVariants.{Key}
+use Rattle.termwiz_extended_events.specs.declared.types.ExtendedEvent.{ExtendedEvent}
 use Rattle.termwiz_extended_events.specs.declared.types.Rows.TheVariants.{Kitty}
 use Rattle.termwiz_extended_events.specs.Meanings.{event_of, IsKeyOrPosition}
 use Rattle.termwiz_extended_grammar.specs.Forms.{IsInner, IsControl}
@@ -58,19 +57,19 @@ is_control body l a end short = record {
   no_row = λ digit is. λ (t, e). no_dollar body l digit t a end (cc (e));
 }
 
--- where the sequence is read as a key, a row is too
-pub is_free : (body : List ℕ) (l : ℕ) (r : KeyReport) → AllByRecursion IsParameter body → IsKeyEnd l
-    → event_of (written body l) ≡ Key r → IsFree Kitty (written body l)
+-- where the sequence is read as a key or the cursor's position, a row is too
+is_free : (body : List ℕ) (l : ℕ) (e : ExtendedEvent) → AllByRecursion IsParameter body → IsKeyEnd l → IsKeyOrPosition e
+    → event_of (written body l) ≡ e → IsFree Kitty (written body l)
 unfolding IsSequence
-is_free body l r a end e (Row key) s = (key, refl, subst IsKeyOrPosition (sym e) tt)
-is_free body l r a end e (Report report) s =
+is_free body l e a end reports same (Row key) s = (key, refl, subst IsKeyOrPosition (sym same) reports)
+is_free body l e a end reports same (Report report) s =
     let plain = report_plain (written body l) report s in
     absurd (no_sign body l plain.0 a end (cc (plain.1)))
 
-pub is_extra : (body : List ℕ) (l : ℕ) (r : KeyReport) → AllByRecursion IsParameter body → IsKeyEnd l
-    → length (written body l) ≤ 256 → event_of (written body l) ≡ Key r → IsExtra Kitty (written body l) (Key r)
-is_extra body l r a end short e = record {
+pub is_extra : (body : List ℕ) (l : ℕ) (e : ExtendedEvent) → AllByRecursion IsParameter body → IsKeyEnd l
+    → length (written body l) ≤ 256 → IsKeyOrPosition e → event_of (written body l) ≡ e → IsExtra Kitty (written body l) e
+is_extra body l e a end short reports same = record {
   is_form = control (is_control body l a end short);
-  is_free = is_free body l r a end e;
-  means = sym e;
+  is_free = is_free body l e a end reports same;
+  means = sym same;
 }

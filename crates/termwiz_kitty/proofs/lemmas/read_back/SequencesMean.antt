@@ -15,6 +15,7 @@ use Rattle.termwiz_extended_events.specs.declared.types.KeyReport.{KeyReport}
 use Rattle.termwiz_extended_events.specs.declared.types.KeyEventKind.{KeyEventKind}
 use Rattle.termwiz_extended_events.specs.declared.types.ReportedKey.{ReportedKey}
 use Rattle.termwiz_extended_events.specs.declared.types.ReportedKey.TheVariants.{Named, Functional}
+use Rattle.termwiz_extended_events.specs.declared.types.ExtendedEvent.{ExtendedEvent}
 use Rattle.termwiz_extended_events.specs.declared.types.ExtendedEvent.TheVariants.{Key}
 use Rattle.termwiz_extended_events.specs.declared.types.Rows.TheVariants.{Kitty}
 use Rattle.termwiz_extended_events.specs.Numbers.{is_scalar}
@@ -39,20 +40,20 @@ use Rattle.termwiz_kitty.proofs.lemmas.read_back.KeysOfForms.{key_read, is_sound
 use Rattle.termwiz_kitty.proofs.lemmas.read_back.SequenceForms.{IsParameter, IsKeyEnd, written, is_extra}
 
 -- an extra sequence alone means its event
-means_alone : (text : List ℕ) (r : KeyReport) → IsExtra Kitty text (Key r) → Means Kitty text false (Key r ∷ []) []
-means_alone text r is =
-    subst (λ t. Means Kitty t false (Key r ∷ []) []) (append-nil text)
-    (sequence_stands Kitty [] text [] [] [] [] (Key r) false nothing is nothing)
+pub means_alone : (text : List ℕ) (more : Bool) (e : ExtendedEvent) → IsExtra Kitty text e → Means Kitty text more (e ∷ []) []
+means_alone text more e is =
+    subst (λ t. Means Kitty t more (e ∷ []) []) (append-nil text)
+    (sequence_stands Kitty [] text [] [] [] [] e more (nothing false) is (nothing more))
   where
-    nothing : Means Kitty [] false [] []
-    nothing = record { steps = refl; rest = empty_is_rest Kitty false }
+    nothing : (f : Bool) → Means Kitty [] f [] []
+    nothing f = record { steps = refl; rest = empty_is_rest Kitty f }
 
 -- parameters and a last byte that a rule reads as a key mean that key
 written_means : (body : List ℕ) (l : ℕ) (r : KeyReport) → AllByRecursion IsParameter body → IsKeyEnd l → l ≢ 73 → l ≢ 79
     → length (written body l) ≤ 256 → key_report (body ++ l ∷ []) ≡ Some r
     → Means Kitty (written body l) false (Key r ∷ []) []
 written_means body l r a end gained lost short e =
-    means_alone (written body l) r (is_extra body l r a end short (event_back body l r gained lost e))
+    means_alone (written body l) false (Key r) (is_extra body l (Key r) a end short tt (event_back body l r gained lost e))
 
 in_parameters : (b : ℕ) → IsFieldByte b → IsParameter b
 in_parameters b f = (omega arith, omega arith)

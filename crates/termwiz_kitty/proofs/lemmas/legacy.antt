@@ -1,0 +1,5 @@
+pub mod ReadAsOne
+pub mod WaitingKeys
+pub mod ComputedReports
+pub mod LegacyKeys
+pub mod ModifiedF3

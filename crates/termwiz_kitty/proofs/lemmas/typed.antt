@@ -1,0 +1,3 @@
+pub mod NoEscape
+pub mod TypedCharacters
+pub mod TypedTexts

@@ -1,0 +1,52 @@
+-- A text without ESC means what it means to the port.
+use Rattle.std.proofs.Common.{◌≢◌, inl, inr, ℕ, Bool, List, [], ◌∷◌, ◌++◌, map, refl, subst}
+use Rattle.std.specs.List.{AllByRecursion}
+use Rattle.termwiz_keys.specs.Introducers.{ESC}
+use Rattle.termwiz_keys.specs.declared.types.InputEvent.{InputEvent}
+use Rattle.termwiz_grammar.specs.Grammar as port
+use Rattle.termwiz_grammar.specs.Grammar.{IsBeginning}
+use Rattle.termwiz_extended_events.specs.declared.types.ExtendedEvent.TheVariants.{Input}
+use Rattle.termwiz_extended_events.specs.declared.types.Rows.{Rows}
+use Rattle.termwiz_extended_grammar.specs.ExtendedGrammar.{BeginsKnown, Means}
+use Rattle.termwiz_extended_grammar.specs.ExtendedLaws.{HasNoExtra, LooksAt}
+use Rattle.termwiz_extended_grammar.specs.ExtendedLaws.LooksAt.{at_item, after_escape}
+use Rattle.termwiz_extended_grammar.proofs.lemmas.forms.FormBytes.{form_shape}
+use Rattle.termwiz_extended_grammar.proofs.lemmas.forms.ExtraFacts.{none_at_end}
+use Rattle.termwiz_extended_grammar.proofs.lemmas.items.ExtendedItems.{starts_shape}
+use Rattle.termwiz_extended_grammar.proofs.lemmas.cuts.SameAsPort.{conservative}
+
+-- no byte is ESC
+abbrev pub HasNoEscape : List ℕ → Type 0
+HasNoEscape text = AllByRecursion (λ b. b ≢ 27) text
+
+after_front : (s t : List ℕ) → HasNoEscape (s ++ t) → HasNoEscape t
+after_front [] t a = a
+after_front (x ∷ s) t a = after_front s t a.1
+
+-- what is left after items
+left_over : (E : List InputEvent) (T u : List ℕ) (f : Bool) → port.Steps T f E u → HasNoEscape T → HasNoEscape u
+left_over [] T u f e a = subst HasNoEscape e a
+left_over (event ∷ E) T u f (bytes, rest, stands, splits, steps) a =
+    left_over E rest u f steps (after_front bytes rest (subst HasNoEscape splits a))
+
+looked_at : (T u : List ℕ) (f : Bool) → HasNoEscape T → LooksAt T f u → HasNoEscape u
+looked_at T u f a (at_item E steps) = left_over E T u f steps a
+looked_at T u f a (after_escape E before steps is splits) =
+    after_front ESC u (subst HasNoEscape splits (left_over E T before f steps a))
+
+-- no extra sequence begins without ESC
+has_no_extra : (rows : Rows) (u : List ℕ) (f : Bool) → HasNoEscape u → HasNoExtra rows u f
+has_no_extra rows [] f a = record { none = none_at_end rows; open_to_port = λ h. absurd (h.some refl) }
+has_no_extra rows (c ∷ t) f a = record {
+  none = λ h. (let s = starts_shape rows (c ∷ t) h in a.0 (cc (s.2)));
+  open_to_port = λ h. record { more_comes = h.more_comes; some = h.some; beginning = to_port h.beginning };
+}
+  where
+    to_port : BeginsKnown rows (c ∷ t) → IsBeginning (c ∷ t)
+    to_port (inl b) = b
+    to_port (inr x) = (let s = form_shape (c ∷ t ++ x.tail) x.is_extra.is_form in absurd (a.0 (cc (s.2))))
+
+pub same_without_escape : (rows : Rows) (T W : List ℕ) (E : List InputEvent) (f : Bool) → HasNoEscape T → port.Means T f E W
+    → Means rows T f (map (λ e. Input e) E) W
+same_without_escape rows T W E f a means =
+    conservative rows T W E f (λ u looks. has_no_extra rows u f (looked_at T u f a looks)) means
