@@ -87,7 +87,7 @@ fn is_character_key(t: &[u8]) -> bool
     fields.next().map_or(true, is_text) && fields.next().is_none()
 }
 
-// The report of a key in the manner that the fields behind the first one say.
+// The report of a key in the manner that the fields after the first one say.
 fn report_behind(alloc: Global, key: ReportedKey, mut fields: Fields) -> Option<KeyReport>
     ensures { result ≡ report_behind key (fields_left fields.entry) }
 {
@@ -192,7 +192,7 @@ pub(crate) fn console_key(alloc: Global, t: &[u8]) -> Option<KeyReport>
     }
 }
 
-// A letter behind ESC O: a key of the keypad in application mode.
+// A letter after ESC O: a key of the keypad in application mode.
 #[tactic(auto, unfolding(crate::specs::KeyReports::keypad_key))]
 pub(crate) fn keypad_key(alloc: Global, t: &[u8]) -> Option<KeyReport>
     ensures { result ≡ rules.keypad_key t.now }

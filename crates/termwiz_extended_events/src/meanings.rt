@@ -87,8 +87,8 @@ fn event_after(alloc: Global, byte: u8, t: &[u8]) -> Result<ExtendedEvent, Alloc
 
 /// The event of one whole sequence, which begins with ESC.
 ///
-/// It is the event of the first rule that fits. What no rule reads is a control sequence, `Csi`, of the bytes behind the first
-/// two. Only the bytes of `Csi`, `Osc`, `Dcs` and `Apc` and the text of a key report take memory, so only these can fail.
+/// It is the event of the first rule that fits. What no rule reads is a control sequence, `Csi`, of the bytes after the first
+/// two. The code asks for memory only for the bytes of `Csi`, `Osc`, `Dcs` and `Apc` and the text of a key report; no contract says so.
 #[tactic(auto, unfolding(crate::specs::Meanings::event_of))]
 pub fn event_of(alloc: Global, text: &[u8]) -> Result<ExtendedEvent, AllocError>
     ensures { IfOk result (λ event. event ≡ meaning.event_of text.now) }
@@ -128,7 +128,7 @@ fn is_report_of_key_or_position(alloc: Global, t: &[u8]) -> bool
     mouse_report(t).is_none() && console_key(alloc, t).is_some()
 }
 
-/// Whether a whole sequence reports a key, or the position of the cursor. It asks for no memory.
+/// Whether a whole sequence reports a key, or the position of the cursor. `alloc` makes empty texts alone, which need no memory.
 #[tactic(auto, unfolding(crate::specs::Meanings::event_of, crate::specs::Meanings::event_after))]
 pub fn is_key_or_position(alloc: Global, text: &[u8]) -> bool
     ensures { IsTrue result ↔ IsKeyOrPosition (meaning.event_of text.now) }
@@ -153,29 +153,16 @@ fn if_key_or_position(event: ExtendedEvent) -> Option<ExtendedEvent>
 }
 
 // The event of what follows ESC [, if it reports a key or the position of the cursor.
-#[tactic(auto, unfolding(crate::specs::Meanings::reported))]
 fn report_of_key_or_position(alloc: Global, t: &[u8]) -> Result<Option<ExtendedEvent>, AllocError>
     ensures some { IfOk result (λ found. IfSome found (λ event. IsKeyOrPosition event × (reported t.now ≡ Some event))) }
     ensures none { IfOk result (λ found. IfNone found (¬ IsSomeAnd (reported t.now) IsKeyOrPosition)) }
 {
-    if let Some(event) = focus(t) {
-        return Ok(if_key_or_position(event));
-    }
-    if let Some(report) = key_report(alloc, t)? {
-        return Ok(Some(ExtendedEvent::Key(report)));
-    }
-    if let Some(event) = reply(t) {
-        return Ok(if_key_or_position(event));
-    }
-    if mouse_report(t).is_some() {
-        return Ok(None);
-    }
-    Ok(console_key(alloc, t).map(ExtendedEvent::Key))
+    Ok(reported(alloc, t)?.and_then(if_key_or_position))
 }
 
 /// The event of a whole sequence, if it reports a key or the position of the cursor. Otherwise it is `None`.
 ///
-/// Only the text of a key report needs memory.
+/// The code asks for memory only for the text of a key report; no contract says so.
 #[tactic(auto, unfolding(crate::specs::Meanings::event_of, crate::specs::Meanings::event_after))]
 pub fn key_or_position(alloc: Global, text: &[u8]) -> Result<Option<ExtendedEvent>, AllocError>
     ensures some { IfOk result (λ found. IfSome found (λ event. IsKeyOrPosition event × (event ≡ meaning.event_of text.now))) }
