@@ -51,7 +51,7 @@ pub record IsPlainForm (u : List ℕ) (len : ℕ) : Type 0 where
 -- what form is at the front of a text
 abbrev pub HasFormFront : List ℕ → FormFront → Type 0
 HasFormFront u (front.Form len) = IsPlainForm u len
-HasFormFront u (front.MouseReport event len) = (len ≤ length u) × IsMouseReport (take len u) event
+HasFormFront u front.MouseReport = (event : MouseEvent) × (len : ℕ) × (len ≤ length u) × IsMouseReport (take len u) event
 HasFormFront u front.Unfinished = NoFormBegins u × IsUnfinishedForm u
 HasFormFront u front.Absent = NoFormBegins u × (¬ IsUnfinishedForm u)
 

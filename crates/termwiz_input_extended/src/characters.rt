@@ -27,7 +27,7 @@ pub(crate) fn plain_key(character: char) -> KeyEvent
 fn is_printable_ascii(byte: u8) -> bool
     ensures { IsTrue result ↔ IsPrintableAscii byte }
 {
-    byte >= b' ' && byte <= b'~'
+    matches!(byte, b' '..=b'~')
 }
 
 // The character at the front of a text, and the number of its bytes: a character from SPACE to `~`, or one of several bytes. It is an item,

@@ -27,7 +27,7 @@ pub(crate) enum FormAt {
     Absent,
 }
 
-const ESCAPE: u8 = 0x1b;
+pub(crate) const ESCAPE: u8 = 0x1b;
 
 const BELL: u8 = 0x07;
 
@@ -49,14 +49,14 @@ const MOST_FIXED: usize = 5;
 fn is_inner(byte: u8) -> bool
     ensures { IsTrue result ↔ IsInner byte }
 {
-    byte >= 0x20 && byte <= 0x3f
+    matches!(byte, 0x20..=0x3f)
 }
 
 // Whether a byte ends a control sequence.
 fn is_final(byte: u8) -> bool
     ensures { IsTrue result ↔ IsFinal byte }
 {
-    byte >= 0x40 && byte <= 0x7e
+    matches!(byte, 0x40..=0x7e)
 }
 
 // Whether a byte may stand in a string.
@@ -70,21 +70,21 @@ fn is_data(byte: u8) -> bool
 fn is_console_letter(byte: u8) -> bool
     ensures { IsTrue result ↔ IsConsoleLetter byte }
 {
-    byte >= b'A' && byte <= b'E'
+    matches!(byte, b'A'..=b'E')
 }
 
 // Whether a byte is the letter of a key of the application keypad.
 fn is_keypad_letter(byte: u8) -> bool
     ensures { IsTrue result ↔ IsKeypadLetter byte }
 {
-    byte == b'M' || byte == b'X' || byte == b'E' || byte >= b'j' && byte <= b'y'
+    matches!(byte, b'M' | b'X' | b'E' | b'j'..=b'y')
 }
 
 // Whether what follows ESC [ begins like a row with `$`: a digit from 1 to 8, and `$`.
 fn is_row(rest: &[u8]) -> bool
     ensures { IsTrue result ↔ IsRow rest.now }
 {
-    rest.len() >= 2 && rest[0] >= b'1' && rest[0] <= b'8' && rest[1] == b'$'
+    matches!(rest, [b'1'..=b'8', b'$', ..])
 }
 
 // The form at the front of ESC [ and the rest, where neither M nor [ comes first.
@@ -243,8 +243,8 @@ pub(crate) fn form_at(text: &[u8], scanned: usize) -> FormAt
     }
 }
 
-// Where to look on, once the text is unfinished and more bytes come: at its last byte, which may begin the end of a string, or,
-// as long as the form may be of a fixed length, from the start.
+// Where the next search starts once more bytes come. It starts at the last byte, which may begin the end of a string. A short text is
+// searched from the start, since its form may have a fixed length.
 pub(crate) fn next_scan(text: &[u8]) -> usize
     requires { IsUnfinishedForm text.now }
     ensures place { IsScanned text.now result }

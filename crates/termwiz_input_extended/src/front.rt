@@ -14,7 +14,7 @@ ghost use Rattle.termwiz_extended_grammar.specs.Forms.{IsForm};
 ghost use Rattle.termwiz_input_extended.specs.FormAnswers.{IsScanned};
 ghost use Rattle.termwiz_input_extended.specs.ExtendedFronts.{HasFormFront, IsExtendedFront, IsFormEvent, IsLongRowAt, IsOwnCharacter, IsReported, IsScannedTo, IsSomeExtra};
 
-use crate::form::{FormAt, form_at, next_scan};
+use crate::form::{ESCAPE, FormAt, form_at, next_scan};
 use std::alloc::{AllocError, Global};
 use termwiz_base::{Flags, Modifiers};
 use termwiz_extended_events::meanings::{event_of, is_key_or_position, key_or_position};
@@ -29,7 +29,7 @@ pub(crate) enum FormFront {
     // A form that is no mouse report: an extra sequence, or a row of the sequence table.
     Form(usize),
     // A mouse report, which has the form of a control sequence.
-    MouseReport(MouseEvent, usize),
+    MouseReport,
     // The whole text properly begins a form.
     Unfinished,
     // None begins the text, and the text begins none.
@@ -87,7 +87,7 @@ fn is_reported(alloc: Global, rows: Rows, form: &[u8]) -> bool
     }
 }
 
-// The event of such a form.
+// The event of a form that is read as such a report, and `None` for any other form. A refusal is passed on only for such a report.
 #[inline(always)]
 fn reported_event(
     alloc: Global,
@@ -108,7 +108,7 @@ fn reported_event(
     }
 }
 
-// The event of a form that is no mouse report. Most forms that are reports are rows too, so the table is looked up later.
+// The event of a form that is no mouse report. Reports are tried first, so that they cost no lookup in the table.
 #[inline(always)]
 pub(crate) fn form_event(
     alloc: Global,
@@ -153,7 +153,7 @@ fn form_front(text: &[u8], scanned: usize) -> FormFront
     ensures { HasFormFront text.now result }
 {
     match mouse_report_at(text) {
-        FrontReport::Whole(event, len) => FormFront::MouseReport(event, len),
+        FrontReport::Whole(..) => FormFront::MouseReport,
         FrontReport::Begun => FormFront::Unfinished,
         FrontReport::Absent => match form_at(text, scanned) {
             FormAt::Whole(len) => FormFront::Form(len),
@@ -163,7 +163,7 @@ fn form_front(text: &[u8], scanned: usize) -> FormFront
     }
 }
 
-// What is at the front of a text that begins ESC ESC, by what follows the first one.
+// What is at the front of a text that starts with ESC ESC, by what follows the first one.
 fn front_of_two_escapes(
     alloc: Global,
     parser: &InputParser,
@@ -180,7 +180,7 @@ fn front_of_two_escapes(
         FormFront::Form(len) if is_extra(alloc, parser, rows, &after[..len]) =>
             ExtendedFront::Escape,
         FormFront::Form(_) => ExtendedFront::Usual,
-        FormFront::MouseReport(..) => ExtendedFront::Usual,
+        FormFront::MouseReport => ExtendedFront::Usual,
         FormFront::Unfinished if maybe_more => ExtendedFront::Incomplete(1 + next_scan(after)),
         FormFront::Unfinished => ExtendedFront::Usual,
         FormFront::Absent => ExtendedFront::Usual,
@@ -205,8 +205,8 @@ fn front_of_form(text: &[u8], scanned: usize, maybe_more: bool) -> ExtendedFront
     }
 }
 
-// The row of the sequence table at the front of a text, with its key and the number of its bytes, if it has three or more: under
-// `Rows::Port` nothing that is longer begins there. `None` says nothing.
+// Under `Rows::Port`, the row of three or more bytes at the front of a text, with its key and the number of its bytes. No longer sequence
+// can begin there. `None` decides nothing.
 #[inline(always)]
 fn long_row_at<'k>(
     parser: &'k InputParser,
@@ -258,12 +258,13 @@ fn after_escape(text: &[u8]) -> Option<&[u8]>
     ensures none { IfNone result (¬ Begins ESC text.now) }
 {
     match text {
-        [b'\x1b', after @ ..] => Some(after),
+        [ESCAPE, after @ ..] => Some(after),
         _ => None,
     }
 }
 
-// What is at the front of a text that no paste begins. Ask `character_front` first. The bytes before `scanned` were looked at before.
+// What is at the front of a text that no paste begins. `character_front` is quicker for characters. The bytes before `scanned` were looked
+// at before.
 #[inline(always)]
 pub(crate) fn front(
     alloc: Global,

@@ -19,8 +19,8 @@ use termwiz_extended_events::types::{ExtendedEvent, Rows};
 pub use termwiz_input::input::{ParseError, Waiting};
 use termwiz_input::input::{InputEvent, InputParser, KeyCode, KeyEvent, Modifiers};
 
-/// A call of [`ExtendedParser::parse_as_vec`] was refused memory. No event is lost: the parser stands after `events`, and the next call goes
-/// on from there. Call again with the same bytes if `taken` is false, and with no bytes if it is true.
+/// A call of [`ExtendedParser::parse_as_vec`] was refused memory. No event is lost: the parser has consumed exactly what `events` came from,
+/// and the next call goes on from there. Call again with the same bytes if `taken` is false, and with no bytes if it is true.
 #[derive(PartialEq, Eq, Debug, Drop)]
 pub struct ExtendedVecError {
     /// The events so far.
@@ -32,7 +32,7 @@ pub struct ExtendedVecError {
 /// Reads events from the bytes that a terminal sends, however they are cut: those of [`InputParser`], and the sequences that it doesn't know,
 /// such as replies, focus reports and Kitty's keyboard protocol.
 ///
-/// Contracts see a parser as how it reads the rows, and the text that waits: what it has taken and not turned into events.
+/// Contracts see a parser as its `Rows` and its buffered bytes.
 #[derive(Debug, Drop)]
 pub struct ExtendedParser {
     // Its waiting text is that of this parser.
@@ -54,7 +54,7 @@ impl Model for ExtendedParser {
     ghost invariant = { λ p. IsScannedTo p.parser p.scanned };
 }
 
-// How many bytes a short text has: as many as a read of a keyboard seldom passes.
+// More bytes than most reads of typed keys have.
 const SHORT_TEXT: usize = 64;
 
 // The Escape key, alone.
@@ -156,7 +156,7 @@ impl ExtendedParser {
         self.parser.feed(bytes)
     }
 
-    // Takes what the port finds at the front of the waiting text.
+    // Consumes what the port finds at the front of the waiting text.
     fn next_of_port(&mut self, maybe_more: bool) -> Result<Option<ExtendedEvent>, AllocError>
         requires { IsPortsOwn self.old.rows self.old.text maybe_more }
         ensures { Emits self.old maybe_more self.new result }
@@ -211,8 +211,8 @@ impl ExtendedParser {
         }
     }
 
-    /// Takes the item at the front of the waiting text, and returns its event. `None` if no item stands there: what waits is
-    /// the rest, and the parser is unchanged.
+    /// Consumes the item at the front of the buffer, and returns its event. `None` if there is no item: then all buffered bytes are the
+    /// rest, and the parser is unchanged.
     ///
     /// Pass `maybe_more` as for [`ExtendedParser::parse`]. Memory is needed for the text of a paste or of a key, and for the bytes of a
     /// sequence. If it is refused, the parser is unchanged and the item still at its front, and the same call may be made again.
@@ -225,10 +225,10 @@ impl ExtendedParser {
         ensures refused { OnErr result (HasItemThatNeedsMemory self.old.rows self.old.text maybe_more) }
         ensures refused_same { OnErr result (self.new ≡ self.old) }
 
-        // Without more to come nothing waits but an open paste.
+        // Without more to come only an open paste stays buffered.
         ensures flushed { maybe_more ≡ false → IfOk result (λ found. IfNone found ((self.new.text ≡ []) ⊎ Begins START self.new.text)) }
 
-        // In any case at most 65536 bytes wait, or an open paste.
+        // At most 65536 bytes stay buffered, or an open paste.
         ensures waits { IfOk result (λ found. IfNone found (IsBoundedOrOpenPaste self.new.text)) }
     {
         match character_front(self.waiting_text()) {
@@ -308,13 +308,13 @@ impl ExtendedParser {
             × WasCalledOn F.step callback.old events callback.new) }
         ensures rows { self.new.rows ≡ self.old.rows }
 
-        // Without more to come nothing waits but an open paste.
+        // Without more to come only an open paste stays buffered.
         ensures flushed { maybe_more ≡ false → OnOk result ((self.new.text ≡ []) ⊎ Begins START self.new.text) }
 
-        // In any case at most 65536 bytes wait, or an open paste.
+        // At most 65536 bytes stay buffered, or an open paste.
         ensures waits { OnOk result (IsBoundedOrOpenPaste self.new.text) }
 
-        // The parser stands after the events that were given, and an item whose event needs memory is at its front.
+        // Exactly the emitted events were consumed, and an item whose event needs memory is at the front.
         ensures refused { OnErr result ((events : List Event) × Steps self.old.rows self.old.text maybe_more events self.new.text
             × WasCalledOn F.step callback.old events callback.new) }
         ensures refused_item { OnErr result (HasItemThatNeedsMemory self.new.rows self.new.text maybe_more) }
@@ -327,7 +327,7 @@ impl ExtendedParser {
         }
     }
 
-    /// Appends `bytes` to the waiting text, and calls `callback` with each of its events in order. What is no event yet waits.
+    /// Appends `bytes` to the waiting text, and calls `callback` with each of its events in order. What is no event yet stays buffered.
     ///
     /// Pass `maybe_more` as true while more bytes may come: then a text that may yet become a longer sequence or a character
     /// stays buffered. After a pause call [`ExtendedParser::flush_escape`]. Pass false at the end of the input: then only an open
@@ -345,10 +345,10 @@ impl ExtendedParser {
             × WasCalledOn F.step callback.old events callback.new) }
         ensures rows { self.new.rows ≡ self.old.rows }
 
-        // Without more to come nothing waits but an open paste.
+        // Without more to come only an open paste stays buffered.
         ensures flushed { maybe_more ≡ false → OnOk result ((self.new.text ≡ []) ⊎ Begins START self.new.text) }
 
-        // In any case at most 65536 bytes wait, or an open paste.
+        // At most 65536 bytes stay buffered, or an open paste.
         ensures waits { OnOk result (IsBoundedOrOpenPaste self.new.text) }
 
         // If the bytes weren't taken, nothing happened.
@@ -356,7 +356,7 @@ impl ExtendedParser {
         ensures not_taken_quiet { IsErrOf result ParseError.NotTaken → callback.new ≡ callback.old }
         ensures not_taken_some { IsErrOf result ParseError.NotTaken → bytes.now ≢ [] }
 
-        // If they were, the parser stands after the events that were given, and an item whose event needs memory is at its front.
+        // If they were, exactly the emitted events were consumed, and an item whose event needs memory is at the front.
         ensures taken { IsErrOf result ParseError.Taken
             → (events : List Event) × Steps self.old.rows (self.old.text ++ bytes.now) maybe_more events self.new.text
             × WasCalledOn F.step callback.old events callback.new }
@@ -420,7 +420,7 @@ impl ExtendedParser {
         }
     }
 
-    /// Appends `bytes` to the waiting text, and returns its events in order. What is no event yet waits.
+    /// Appends `bytes` to the waiting text, and returns its events in order. What is no event yet stays buffered.
     ///
     /// Pass `maybe_more` as true while more bytes may come: then a text that may yet become a longer sequence or a character
     /// stays buffered. After a pause call [`ExtendedParser::flush_escape`]. Pass false at the end of the input: then only an open
@@ -435,10 +435,10 @@ impl ExtendedParser {
         ensures few { IfOk result (λ events. length events.items + length self.new.text ≤ length self.old.text + length bytes.now) }
         ensures rows { self.new.rows ≡ self.old.rows }
 
-        // Without more to come nothing waits but an open paste.
+        // Without more to come only an open paste stays buffered.
         ensures flushed { maybe_more ≡ false → OnOk result ((self.new.text ≡ []) ⊎ Begins START self.new.text) }
 
-        // In any case at most 65536 bytes wait, or an open paste.
+        // At most 65536 bytes stay buffered, or an open paste.
         ensures waits { OnOk result (IsBoundedOrOpenPaste self.new.text) }
 
         // If the bytes weren't taken, nothing happened.
@@ -446,7 +446,7 @@ impl ExtendedParser {
         ensures not_taken_same { IfErr result (λ e. e.taken ≡ false → self.new ≡ self.old) }
         ensures not_taken_some { IfErr result (λ e. e.taken ≡ false → bytes.now ≢ []) }
 
-        // If they were, the parser stands after the events of the error.
+        // If they were, exactly the events of the error were consumed.
         ensures taken { IfErr result (λ e. e.taken ≡ true
             → Steps self.old.rows (self.old.text ++ bytes.now) maybe_more e.events.items self.new.text) }
         ensures taken_few { IfErr result (λ e. e.taken ≡ true

@@ -30,9 +30,9 @@ returns-in-Form-2 c =
 pub returns-in-MouseReport : goal.returns-in-MouseReport
 returns-in-MouseReport c =
     own_after_two_escapes c.args.rows c.args.after.now c.args.maybe_more c.requires.escape
-    (report_no_extra c.args.rows c.args.after.now c.in-MouseReport.field-1 c.in-MouseReport.field-0 c.in-MouseReport.ensures.1)
-    (λ m. report_not_unfinished c.args.rows c.args.after.now c.in-MouseReport.field-1 c.in-MouseReport.field-0
-    c.in-MouseReport.ensures.1)
+    (report_no_extra c.args.rows c.args.after.now c.in-MouseReport.ensures.1 c.in-MouseReport.ensures.0 c.in-MouseReport.ensures.3)
+    (λ m. report_not_unfinished c.args.rows c.args.after.now c.in-MouseReport.ensures.1 c.in-MouseReport.ensures.0
+    c.in-MouseReport.ensures.3)
 
 pub returns-in-Unfinished : goal.returns-in-Unfinished
 returns-in-Unfinished c = (
