@@ -21,14 +21,15 @@ use termwiz_keys::encode::{EncodeError, KeyCodeEncodeModes, KeyboardEncoding};
 use termwiz_keys::types::KeyCode;
 use thiserror::Error;
 
-/// How many bytes a sequence may have: no parser here reads a longer one.
+/// How many bytes a control sequence may have: the extended parser reads no longer one.
 pub const MOST_BYTES: usize = 256;
 
 /// Why [`encode_kitty`] made no bytes.
 #[derive(Clone, Copy, PartialEq, Eq, Debug, Error)]
 pub enum KittyEncodeError {
-    /// The encoding has no text for the key: the protocol has no number for it, or xterm's encoding doesn't know it.
-    #[error("the protocol has no number for the key")]
+    /// The encoding that the flags choose has no text for the key. Without `DISAMBIGUATE_ESCAPE_CODES` that is a `Functional` key, or a
+    /// function key other than F1 to F24.
+    #[error("the encoding has no text for the key")]
     UnknownKey,
     /// The sequence would have more than [`MOST_BYTES`] bytes. Only a key with a long text has such a sequence.
     #[error("the text of the key is too long")]
@@ -54,12 +55,12 @@ const XTERM_MODES: KeyCodeEncodeModes = KeyCodeEncodeModes {
     modify_other_keys: None,
 };
 
-/// What a terminal writes for a key if the program asked for these flags of Kitty's keyboard protocol. It is empty for a key that
-/// isn't told, as the release of a key without `REPORT_EVENT_TYPES`. The protocol sends no control characters as text, so a text that
-/// has some counts as none.
+/// What a terminal writes for a key if the program asked for these flags of Kitty's keyboard protocol. It is empty for a key that isn't
+/// sent, such as a release without `REPORT_EVENT_TYPES`, and for a key that sends nothing in xterm's encoding. The protocol sends no
+/// control characters as text, so a text that has some counts as none.
 ///
 /// `UnknownKey` comes exactly for a key that has no text in the encoding that the flags choose. `TooLong` comes only for a sequence
-/// of more than [`MOST_BYTES`] bytes, and such a sequence never comes. The only other error is `Memory`.
+/// of more than [`MOST_BYTES`] bytes, and no returned sequence is longer. The only other error is `Memory`.
 #[tactic(auto, unfolding(crate::specs::KittyTexts::kitty_text))]
 pub fn encode_kitty(
     alloc: Global,

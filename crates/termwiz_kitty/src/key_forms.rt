@@ -45,7 +45,7 @@ fn entry_of(table: &[(u8, KeyForm)], number: u8) -> Option<KeyForm>
 fn function_form(number: u8) -> Option<KeyForm>
     ensures { result ≡ forms.function_form number }
 {
-    if 13 <= number && number <= 35 {
+    if matches!(number, 13..=35) {
         return Some(KeyForm::Code(57363 + u32::from(number)));
     }
     entry_of(FUNCTION_FORMS, number)

@@ -1,4 +1,4 @@
-// What a terminal tells of a key, by the flags of Kitty's keyboard protocol.
+// What a terminal sends for a key, by the flags of Kitty's keyboard protocol.
 ghost use Rattle.std.specs.Prelude.{◌≡◌};
 ghost use Rattle.termwiz_kitty.specs.Telling as rules;
 
@@ -7,16 +7,16 @@ use termwiz_base::{Flags, KittyKeyboardFlags};
 use termwiz_extended_events::types::{KeyEventKind, KeyReport, ReportedKey};
 use termwiz_keys::types::KeyCode;
 
-// How a key is told.
+// How a key is sent.
 #[derive(Clone, Copy, PartialEq, Eq, Debug)]
 pub(crate) enum Telling {
-    // Not at all.
+    // Nothing is sent.
     Nothing,
-    // By the text that it types.
+    // As the text that it types.
     Typed,
     // As before the protocol.
     Legacy,
-    // By a key report.
+    // As a key report.
     Reported,
 }
 
@@ -148,7 +148,7 @@ fn telling_some(report: &KeyReport, flags: KittyKeyboardFlags) -> Telling
     Telling::Reported
 }
 
-// How a key is told.
+// How a key is sent.
 #[tactic(auto, unfolding(crate::specs::Telling::telling))]
 pub(crate) fn telling_of(report: &KeyReport, flags: KittyKeyboardFlags) -> Telling
     ensures { result ≡ rules.telling report.now flags.0 }

@@ -114,6 +114,13 @@ const EXAMPLES: &[Example] = &[
     ),
     (KeyCode::Enter, 0, KeyEventKind::Press, DISAMBIGUATE, "\r"),
     (KeyCode::Enter, 0, KeyEventKind::Release, EVENT_TYPES, ""),
+    (
+        KeyCode::Char('a'),
+        0,
+        KeyEventKind::Release,
+        EVENT_TYPES,
+        "\x1b[97;1:3u",
+    ),
     (KeyCode::Enter, 0, KeyEventKind::Press, ALL_KEYS, "\x1b[13u"),
     (KeyCode::Tab, 0, KeyEventKind::Press, DISAMBIGUATE, "\t"),
     (

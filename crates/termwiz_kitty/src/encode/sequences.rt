@@ -36,7 +36,7 @@ fn push_manner(text: &mut String, manner: Manner) -> Result<(), AllocError>
     }
 }
 
-// Appends the manner behind a front, and nothing for a press with no modifier.
+// Appends the manner after a front, and nothing for a press with no modifier.
 fn push_manner_behind(text: &mut String, front: &str, manner: Manner) -> Result<(), AllocError>
     ensures { OnOk result (string_bytes text.new ≡ string_bytes text.old ++ manner_behind front.now manner.modifiers manner.kind) }
 {
@@ -110,7 +110,7 @@ fn push_first(text: &mut String, manner: Manner, first: char) -> Result<(), Allo
     write!(text, ";{}", u32::from(first))
 }
 
-// Appends the numbers of the characters after the first one, each behind a colon.
+// Appends the numbers of the characters after the first one, each after a colon.
 fn push_further(text: &mut String, rest: &str) -> Result<(), AllocError>
     ensures { OnOk result (string_bytes text.new ≡ string_bytes text.old ++ flat_map further_character (chars rest.now)) }
 {
@@ -120,7 +120,7 @@ fn push_further(text: &mut String, rest: &str) -> Result<(), AllocError>
     Ok(())
 }
 
-// Appends the fields behind the first one: the manner, and the numbers of the characters that the key types.
+// Appends the fields after the first one: the manner, and the numbers of the characters that the key types.
 #[tactic(auto, unfolding(crate::specs::KittyTexts::fields_behind, crate::specs::KittyTexts::characters_text))]
 fn push_fields(text: &mut String, manner: Manner, typed: &str) -> Result<(), AllocError>
     ensures { OnOk result (string_bytes text.new ≡ string_bytes text.old ++ fields_behind manner.modifiers manner.kind (chars typed.now)) }
