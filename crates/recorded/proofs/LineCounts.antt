@@ -6,10 +6,11 @@ use Rattle.std.specs.Str.Lines.{lines, lines_of_parts}
 use Rattle.std.proofs.lemmas.List.Splits.{length-slice_split}
 use Rattle.std.proofs.lemmas.List.Sums.{count_by-le-length}
 use Rattle.recorded.specs.declared.cases.Case.{Case}
+use Rattle.recorded.specs.declared.readers.Reader.{Reader}
 use Rattle.recorded.specs.declared.replay.Difference.{Difference}
 use Rattle.recorded.specs.Holds.{Holds}
 use Rattle.recorded.specs.Lines.{Records}
-use Rattle.recorded.specs.Reports.{Counts, CountsCase, CountsLine, records_nothing}
+use Rattle.recorded.specs.Reports.{Counts, CountsCase, CountsLine, CountsOne, CountsSame, records_nothing}
 
 parts_fit : (parts : List (List ℕ)) → length (lines_of_parts parts) ≤ length parts
 parts_fit [] = omega arith
@@ -37,18 +38,20 @@ if_false true P Q is q = absurd (cc)
 if_false false P Q is q = q
 
 -- a line that records nothing isn't counted
-pub not_counted : (line : List ℕ) (before : Counts) → records_nothing line ≡ true → CountsLine before line before
-not_counted line before is = if_true (records_nothing line) (before ≡ before) (CountsCase line before before) is refl
+pub not_counted : (reader : Reader) (line : List ℕ) (before : Counts) → records_nothing line ≡ true
+    → CountsLine reader before line before
+not_counted reader line before is =
+    if_true (records_nothing line) (before ≡ before) (CountsCase reader line before before) is refl
 
 -- what a line records is counted, and so is the difference, if there is one
-pub case_counted : (line : List ℕ) (before after : Counts) (case : Case) (difference : Option Difference)
+pub case_counted : (reader : Reader) (line : List ℕ) (before after : Counts) (case : Case) (difference : Option Difference)
     → records_nothing line ≡ false → Records line case
-    → IfNone difference (Holds case) → IfSome difference (λ shown. ¬ Holds case) → after.lines ≡ before.lines + 1
-    → IfNone difference (after.differing ≡ before.differing)
-    → IfSome difference (λ shown. after.differing ≡ before.differing + 1) → CountsLine before line after
-case_counted line before after case None something recorded holds fails one same more =
-    if_false (records_nothing line) (after ≡ before) (CountsCase line before after) something
+    → IfNone difference (Holds reader case) → IfSome difference (λ shown. ¬ Holds reader case)
+    → after.lines ≡ before.lines + 1 → IfNone difference (CountsSame before after)
+    → IfSome difference (λ shown. CountsOne reader before after) → CountsLine reader before line after
+case_counted reader line before after case None something recorded holds fails one same more =
+    if_false (records_nothing line) (after ≡ before) (CountsCase reader line before after) something
     (record { case = case; recorded = recorded; lines = one; differing = inl (holds, same) })
-case_counted line before after case (Some difference) something recorded holds fails one same more =
-    if_false (records_nothing line) (after ≡ before) (CountsCase line before after) something
+case_counted reader line before after case (Some difference) something recorded holds fails one same more =
+    if_false (records_nothing line) (after ≡ before) (CountsCase reader line before after) something
     (record { case = case; recorded = recorded; lines = one; differing = inr (fails, more) })

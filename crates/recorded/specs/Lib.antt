@@ -4,3 +4,4 @@ pub mod Holds
 pub mod Keys
 pub mod Lines
 pub mod Reports
+pub mod Waiting

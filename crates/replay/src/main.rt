@@ -1,9 +1,10 @@
-//! Replays what termwiz itself answers, as it was recorded, and says where the answers of this parser and encoder differ.
+//! Replays what termwiz itself answers, as it was recorded, and says where the answers of the parsers and the encoder differ.
 //!
 //! It is called as `replay [FILE..]`, and without a word replays the recorded files, which it looks for where it runs. For each file
 //! it prints how many of its lines were replayed, how often the parser and the encoder were asked, and how many lines differ; then
-//! the first twenty lines that differ, with what came instead. The status is 0 if no line differs, and 1 if one does, or if a line can't be
-//! read.
+//! the first twenty lines that differ, with what came instead. If the file has lines for a parser, the extended parser replays it too:
+//! then also how many lines it answers otherwise because of an extra sequence. The status is 0 if no line differs, and 1 if one
+//! does, or if a line can't be read.
 #![tactic(auto)]
 
 #[cfg(test)]
@@ -11,6 +12,7 @@ mod tests;
 
 use recorded::encodings::Encoder;
 use recorded::feeder::Feeder;
+use recorded::readers::Reader;
 use recorded::replay::Replayer;
 use recorded::report::{LineDifference, LineError, Report, replay_lines};
 use std::alloc::AllocError;
@@ -70,28 +72,49 @@ fn replay_own_files(rt: &HostRuntime) -> Result<usize, Failure> {
     Ok(differing)
 }
 
-// Replays a file, and prints what came of it. Returns how many lines differ.
+// Replays a file by both parsers, and prints what came of it. Returns how many lines differ.
 fn replay_file(rt: &HostRuntime, name: &str) -> Result<usize, Failure> {
     let text = fs::read_to_string(rt, name)?;
-    let mut replayer = Replayer {
+    let mut replayer = new_replayer(rt)?;
+    let report = replay_lines(rt.alloc(), &mut replayer, Reader::Port, text.as_str())?;
+    let fed = replayer.feeder.feedings;
+    let asked = fed.saturating_add(replayer.encoder.encodings);
+    println!(
+        rt;
+        "{name}: {} lines, {asked} feedings, {} differ", report.lines, report.differing
+    )?;
+    let differing = show(rt, name, report)?;
+    if fed == 0 {
+        return Ok(differing);
+    }
+    Ok(differing.saturating_add(replay_extended(rt, name, text.as_str())?))
+}
+
+// Replays a file by the extended parser, and prints what came of it. Returns how many lines differ.
+fn replay_extended(rt: &HostRuntime, name: &str, text: &str) -> Result<usize, Failure> {
+    let mut replayer = new_replayer(rt)?;
+    let report = replay_lines(rt.alloc(), &mut replayer, Reader::Extended, text)?;
+    println!(
+        rt;
+        "{name} by the extended parser: {} lines, {} feedings, {} with extra sequences, {} differ",
+        report.lines, replayer.feeder.feedings, report.extra, report.differing
+    )?;
+    show(rt, name, report)
+}
+
+fn new_replayer(rt: &HostRuntime) -> Result<Replayer, Failure> {
+    Ok(Replayer {
         feeder: Feeder::new(rt.alloc())?,
         encoder: Encoder {
             alloc: rt.alloc(),
             encodings: 0,
         },
-    };
-    let report = replay_lines(rt.alloc(), &mut replayer, text.as_str())?;
-    let Report {
-        lines,
-        differing,
-        shown,
-    } = report;
-    let asked = replayer
-        .feeder
-        .feedings
-        .saturating_add(replayer.encoder.encodings);
-    println!(rt; "{name}: {lines} lines, {asked} feedings, {differing} differ")?;
-    for LineDifference { number, difference } in shown {
+    })
+}
+
+// Prints the lines that a report shows. Returns how many lines differ.
+fn show(rt: &HostRuntime, name: &str, report: Report) -> Result<usize, Failure> {
+    for LineDifference { number, difference } in report.shown {
         let mut out = io::writer(rt);
         write!(out, "{name}:{number}: ")?;
         out.write_all(difference.given.as_slice())?;
@@ -99,5 +122,5 @@ fn replay_file(rt: &HostRuntime, name: &str) -> Result<usize, Failure> {
         out.write_all(difference.came.as_slice())?;
         writeln!(out)?;
     }
-    Ok(differing)
+    Ok(report.differing)
 }

@@ -3,11 +3,14 @@
 use recorded::encodings::Encoder;
 use recorded::feeder::Feeder;
 use recorded::format::Fault;
+use recorded::readers::Reader;
 use recorded::replay::Replayer;
 use recorded::report::{LineDifference, LineError, replay_lines};
 use std::alloc::{AllocError, Global};
 use std::process::Abort;
 use std::test::Fail;
+
+const READERS: [Reader; 2] = [Reader::Port, Reader::Extended];
 
 fn replayer(alloc: Global) -> Result<Replayer, AllocError> {
     Ok(Replayer {
@@ -33,11 +36,14 @@ fn lines_that_hold(rt: HostRuntime) -> Result<(), Fail> {
         F25 NONE,ALT+CTRL = refused\n\
         Hyper SHIFT+SUPER = -\n\
         U+0061 ALT+CTRL = 1b01@0fff0fff 1b5b32373b373b39377e@0000f000 1b5b39373b3775@f0000000\n";
-    let mut replayer = replayer(rt.alloc())?;
-    let report = replay_lines(rt.alloc(), &mut replayer, text)?;
-    assert_eq!(rt; report.lines, 11);
-    assert_eq!(rt; report.differing, 0);
-    assert!(rt; report.shown.is_empty());
+    for reader in READERS {
+        let mut replayer = replayer(rt.alloc())?;
+        let report = replay_lines(rt.alloc(), &mut replayer, reader, text)?;
+        assert_eq!(rt; report.lines, 11);
+        assert_eq!(rt; report.extra, 0);
+        assert_eq!(rt; report.differing, 0);
+        assert!(rt; report.shown.is_empty());
+    }
     Ok(())
 }
 
@@ -45,11 +51,13 @@ fn lines_that_hold(rt: HostRuntime) -> Result<(), Fail> {
 fn check_differs(
     rt: &impl Abort,
     replayer: &mut Replayer,
+    reader: Reader,
     line: &str,
     given: &str,
     came: &str,
 ) -> Result<(), Fail> {
-    let report = replay_lines(replayer.feeder.alloc, replayer, line)?;
+    let report = replay_lines(replayer.feeder.alloc, replayer, reader, line)?;
+    assert_eq!(rt; report.extra, 0, "{line}");
     assert_eq!(rt; report.differing, 1, "{line}");
     let [LineDifference { number, difference }] = report.shown.as_slice() else {
         panic!(rt; "{line}");
@@ -60,7 +68,7 @@ fn check_differs(
     Ok(())
 }
 
-// Each line differs, and this is what was given and what came.
+// Each line differs, to both parsers, and this is what was given and what came.
 fn check_each_differs(
     rt: &impl Abort,
     alloc: Global,
@@ -68,7 +76,9 @@ fn check_each_differs(
 ) -> Result<(), Fail> {
     let mut replayer = replayer(alloc)?;
     for (line, given, came) in cases {
-        check_differs(rt, &mut replayer, line, given, came)?;
+        for reader in READERS {
+            check_differs(rt, &mut replayer, reader, line, given, came)?;
+        }
     }
     Ok(())
 }
@@ -138,11 +148,33 @@ fn changed_keys(rt: HostRuntime) -> Result<(), Fail> {
     check_each_differs(&rt, rt.alloc(), &cases)
 }
 
+// Lines with extra sequences, as the port answers them: a control sequence, one after a row, one after ESC, a console key, and
+// strings and a control sequence that wait.
+#[test]
+fn extra_sequences(rt: HostRuntime) -> Result<(), Fail> {
+    let text = "*1b5b49 = key U+005B ALT,key U+0049 NONE\n\
+        1b5b = 71 = - = - = key U+005B ALT,key U+0071 NONE\n\
+        *1b1b5b49 = key U+005B ALT,key U+0049 NONE\n\
+        *1b5b5b41 = key U+005B ALT,key U+005B NONE,key U+0041 NONE\n\
+        +1b5d71 = key U+005D ALT,key U+0071 NONE\n\
+        +711b1b5f = key U+0071 NONE,key Escape ALT,key U+005F NONE\n\
+        +1b5b +3b = ; 1b5b | key U+005B ALT,key U+003B NONE\n";
+    let mut replayer = replayer(rt.alloc())?;
+    for (reader, extra) in [(Reader::Port, 0), (Reader::Extended, 7)] {
+        let report = replay_lines(rt.alloc(), &mut replayer, reader, text)?;
+        assert_eq!(rt; report.lines, 7);
+        assert_eq!(rt; report.extra, extra);
+        assert_eq!(rt; report.differing, 0);
+        assert!(rt; report.shown.is_empty());
+    }
+    Ok(())
+}
+
 #[test]
 fn shows_twenty(rt: HostRuntime) -> Result<(), Fail> {
     let mut replayer = replayer(rt.alloc())?;
     let lines = "*71 = nothing\n".repeat(rt.alloc(), 30)?;
-    let report = replay_lines(rt.alloc(), &mut replayer, lines.as_str())?;
+    let report = replay_lines(rt.alloc(), &mut replayer, Reader::Port, lines.as_str())?;
     assert_eq!(rt; report.lines, 30);
     assert_eq!(rt; report.differing, 30);
     assert_eq!(rt; report.shown.len(), 20);
@@ -173,7 +205,7 @@ fn lines_of_no_form(rt: HostRuntime) -> Result<(), Fail> {
     ];
     for (line, fault) in cases {
         let text = format!(in rt.alloc(); "# a title\n{line}\n")?;
-        let Err(error) = replay_lines(rt.alloc(), &mut replayer, text.as_str()) else {
+        let Err(error) = replay_lines(rt.alloc(), &mut replayer, Reader::Port, text.as_str()) else {
             panic!(rt; "{line}");
         };
         assert_eq!(rt; error, LineError { number: 2, fault }, "{line}");

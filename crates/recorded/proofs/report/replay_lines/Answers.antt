@@ -20,10 +20,11 @@ loop-line-preserved c =
     let (so_far, number, fewer) = c.loop-line.invariant in
     let here = rw c.in_default.is at c.replay_line.ensures.counts in
     let lines = rw c.in_default.is at c.replay_line.ensures.lines in
-    let after = counted c.replay_line.new.report.lines c.replay_line.new.report.differing in
-    let all = FoldsTo-push CountsLine no_lines (map (λ line. line.now) c.loop-line.yielded)
-    (counted c.loop-line.report.lines c.loop-line.report.differing) c.in-Some.line.now after so_far here in (
-      subst (λ l. CountsLines l after) (sym (map_push (λ line. line.now) c.loop-line.yielded c.in-Some.line)) all,
+    let after = counted c.replay_line.new.report.lines c.replay_line.new.report.extra
+    c.replay_line.new.report.differing in
+    let all = FoldsTo-push (CountsLine c.args.reader) no_lines (map (λ line. line.now) c.loop-line.yielded)
+    (counted c.loop-line.report.lines c.loop-line.report.extra c.loop-line.report.differing) c.in-Some.line.now after so_far here in (
+      subst (λ l. CountsLines c.args.reader l after) (sym (map_push (λ line. line.now) c.loop-line.yielded c.in-Some.line)) all,
       omega (arith, length_push c.loop-line.yielded c.in-Some.line),
       omega arith,
     )
@@ -35,13 +36,13 @@ returns-in-Err-clause-ends c =
     let turn = YieldsList-turn road c.loop-line.yielded _ c.loop-line.yielded_by _ _ c.in-Some.line c.in-Some.is
     c.next.ensures.steps in
     let front = YieldsList-so_far road c.loop-line.yielded _ c.loop-line.yielded_by in
-    let counts = counted c.loop-line.report.lines c.loop-line.report.differing in
+    let counts = counted c.loop-line.report.lines c.loop-line.report.extra c.loop-line.report.differing in
     let before : length c.loop-line.yielded ≡ c.loop-line.number + 1 - 1 = omega arith in (
       omega arith,
       omega (arith, turn.0),
       counts,
-      subst (λ n. CountsLines (take n (lines c.args.text.now)) counts) before
-          (subst (λ l. CountsLines l counts) front so_far),
+      subst (λ n. CountsLines c.args.reader (take n (lines c.args.text.now)) counts) before
+          (subst (λ l. CountsLines c.args.reader l counts) front so_far),
     )
 
 pub returns-clause-counts : goal.returns-clause-counts
@@ -49,4 +50,4 @@ returns-clause-counts c =
     let (so_far, number, fewer) = c.loop-line.invariant in
     let end = YieldsList-end (YieldsList-from_lines {s = c.into_iter-line-iterator.result} c.args.text.now (cc))
     c.loop-line.yielded _ c.loop-line.yielded_by _ _ c.in-None.is c.next.ensures.steps in
-    subst (λ l. CountsLines l (counted c.loop-line.report.lines c.loop-line.report.differing)) end.0 so_far
+    subst (λ l. CountsLines c.args.reader l (counted c.loop-line.report.lines c.loop-line.report.extra c.loop-line.report.differing)) end.0 so_far

@@ -2,7 +2,7 @@ use Rattle.std.proofs.Common.{◌++◌, ◌∙◌, map, map-id, sym, ap, subst}
 use Rattle.termwiz_input.specs.Grammar.{Means}
 use denote.Param.Always.{mut_total}
 use Rattle.recorded.proofs.Collected.{collected, kept}
-use Rattle.recorded.proofs.feeder.events_of_call.Goals as goal
+use Rattle.recorded.proofs.port.events_of_call.Goals as goal
 
 pub parse-parsed-requires : goal.parse-parsed-requires
 parse-parsed-requires c = λ events rest steps. (mut_total _ _ (λ s a. tt)).at _

@@ -3,7 +3,7 @@ use Rattle.termwiz_input.specs.Grammar.{Means}
 use Rattle.termwiz_input.specs.Pieces.{events_of, join, texts}
 use denote.Param.Always.{mut_total}
 use Rattle.recorded.proofs.Collected.{collected, kept}
-use Rattle.recorded.proofs.feeder.events_of_pieces.Goals as goal
+use Rattle.recorded.proofs.port.events_of_pieces.Goals as goal
 
 pub parse_pieces-parsed-requires : goal.parse_pieces-parsed-requires
 parse_pieces-parsed-requires c = λ taken given rest reads. (mut_total _ _ (λ s a. tt)).at _
