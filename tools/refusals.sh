@@ -135,7 +135,11 @@ check_keyshow() {
     note keyshow "$number" "$wrong"
 }
 
-for case in new extend_with insert clone-map clone-event encode parse parse_as_vec parse_as_vec-paste parse_as_vec-long parse_pieces end_paste; do
+cases=(
+    new extend_with insert clone-map clone-event encode parse parse_as_vec parse_as_vec-paste parse_as_vec-long parse_pieces end_paste
+    extended-new extended-feed extended-next_event extended-for_each_event extended-parse extended-parse_as_vec extended-end_paste
+)
+for case in "${cases[@]}"; do
     check_case "$case"
 done
 check_keyshow

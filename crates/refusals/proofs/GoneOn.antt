@@ -6,35 +6,53 @@ use Rattle.std.proofs.lemmas.List.Concat.{flat_map-append}
 use denote.Ref.{Bor}
 use Rattle.termwiz_input.specs.InputEvent.{InputEvent}
 use Rattle.termwiz_input.specs.Grammar.{Steps, Means}
-use Rattle.termwiz_input.specs.Laws.{Resumes}
+use Rattle.termwiz_input.specs.Laws as port
 use Rattle.termwiz_input.specs.Pieces.{AreNumbered, NumberedEvent, ReadsFirst, events_of, flag_at, join, pieces_or_one, taken_or_one, texts}
 use Rattle.refusals.specs.declared.parses.Stop.{Stop}
 use Rattle.refusals.specs.declared.parses.PiecesStop.{PiecesStop}
-use Rattle.refusals.specs.GoingOn.{StopsAt, Describes, GoesOn, GoesOnWithPieces}
+use Rattle.termwiz_extended_events.specs.declared.types.ExtendedEvent.{ExtendedEvent}
+use Rattle.termwiz_extended_events.specs.declared.types.Rows.{Rows}
+use Rattle.termwiz_extended_grammar.specs.ExtendedGrammar as extended
+use Rattle.termwiz_extended_grammar.specs.ExtendedLaws as extended_laws
+use Rattle.refusals.specs.GoingOn.{StopsAt, Describes, GoesOn, GoesOnWithPieces, Reading}
 
-module _ (before bytes left waiting : List ℕ) (stop : Stop) (tells : Describes left stop.left) where
+module _ {Event : Type 0} (Items Meaning : Reading Event) (before bytes left waiting : List ℕ) (stop : Stop)
+    (tells : Describes left stop.left) where
   -- the same call again, if the bytes weren't taken
-  pub again : (given later : List InputEvent) → stop.taken ≡ false → given ≡ [] → left ≡ before
-      → Means (left ++ bytes) false later waiting
-      → GoesOn before bytes (Some stop) given later waiting
+  pub again : (given later : List Event) → stop.taken ≡ false → given ≡ [] → left ≡ before
+      → Meaning (left ++ bytes) false later waiting
+      → GoesOn Items Meaning before bytes (Some stop) given later waiting
   again given later not_taken none same means = record {
-    means = rw none (subst (λ text. Means (text ++ bytes) false later waiting) same means);
+    means = rw none (subst (λ text. Meaning (text ++ bytes) false later waiting) same means);
     at_once = tt;
-    stopped = (left, subst (λ taken. StopsAt before bytes taken given left) (sym not_taken) (none, same), tells);
+    stopped =
+        (left, subst (λ taken. StopsAt Items before bytes taken given left) (sym not_taken) (none, same), tells);
   }
 
-  -- a call without bytes, if they were
-  pub without_bytes : Resumes → (given later : List InputEvent) → stop.taken ≡ true
-      → Steps (before ++ bytes) false given left
-      → Means (left ++ []) false later waiting → GoesOn before bytes (Some stop) given later waiting
+  -- a call without bytes, if they were; reading that stops between two items may go on
+  pub without_bytes
+      : ((text middle rest : List ℕ) (E D : List Event) → Items text false E middle → Meaning middle false D rest
+      → Meaning text false (E ++ D) rest)
+      → (given later : List Event) → stop.taken ≡ true → Items (before ++ bytes) false given left
+      → Meaning (left ++ []) false later waiting → GoesOn Items Meaning before bytes (Some stop) given later waiting
   without_bytes resumes given later taken steps means = record {
-    means = (resumes (before ++ bytes) [] left waiting given later false).1 steps (rw append-nil at means);
+    means = resumes (before ++ bytes) left waiting given later steps (rw append-nil at means);
     at_once = tt;
-    stopped = (left, subst (λ taken. StopsAt before bytes taken given left) (sym taken) steps, tells);
+    stopped = (left, subst (λ taken. StopsAt Items before bytes taken given left) (sym taken) steps, tells);
   }
+
+-- the first half of a text's items, and what is left of it, by the laws on the resumption of reading
+pub resumes_port : port.Resumes → (text middle rest : List ℕ) (E D : List InputEvent) → Steps text false E middle
+    → Means middle false D rest → Means text false (E ++ D) rest
+resumes_port resumes text middle rest E D = (resumes text [] middle rest E D false).1
+
+pub resumes_extended : extended_laws.Resumes → (rows : Rows) (text middle rest : List ℕ) (E D : List ExtendedEvent)
+    → extended.Steps rows text false E middle → extended.Means rows middle false D rest
+    → extended.Means rows text false (E ++ D) rest
+resumes_extended resumes rows text middle rest E D = (resumes rows text [] middle rest E D false).1
 
 -- the first k pieces, which were read so far, and then the others
-joined : Resumes → (before : List ℕ) (pieces : List (List ℕ)) (k : ℕ) (left waiting : List ℕ) (E D : List InputEvent)
+joined : port.Resumes → (before : List ℕ) (pieces : List (List ℕ)) (k : ℕ) (left waiting : List ℕ) (E D : List InputEvent)
     → k ≤ length pieces
     → Steps (before ++ join (take (taken_or_one pieces k) (pieces_or_one pieces)))
     (flag_at (pieces_or_one pieces) false (taken_or_one pieces k)) E left
@@ -65,7 +83,7 @@ joined resumes before (piece ∷ pieces) k left waiting E D within steps means =
         (rw other.0 at steps) means)
 
 -- the pieces from the first on that wasn't taken
-pub others_given : Resumes → (before : List ℕ) (pieces : List (Bor (List ℕ))) (stop : PiecesStop)
+pub others_given : port.Resumes → (before : List ℕ) (pieces : List (Bor (List ℕ))) (stop : PiecesStop)
     (given later : List NumberedEvent) (left waiting : List ℕ)
     → stop.taken ≤ length pieces
     → ReadsFirst before (pieces_or_one (texts pieces)) false (taken_or_one (texts pieces) stop.taken) given left

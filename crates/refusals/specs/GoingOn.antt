@@ -1,18 +1,21 @@
--- Calls of the parser that may be refused memory, and the calls that go on after them.
+-- Calls of a parser that may be refused memory, and the calls that go on after them.
 use Rattle.std.specs.Prelude.{◌≡◌, ◌↔◌, ℕ, Bool, true, false, IsTrue, List, [], ◌++◌, length, drop, Option, IfSome, IfNone}
 use Rattle.termwiz_input.specs.Bytes.{Begins, START}
-use Rattle.termwiz_input.specs.InputEvent.{InputEvent}
-use Rattle.termwiz_input.specs.Grammar.{Steps, Means}
+use Rattle.termwiz_input.specs.Grammar.{Means}
 use Rattle.termwiz_input.specs.Pieces.{AreNumbered, NumberedEvent, ReadsFirst, events_of, join, pieces_or_one, taken_or_one}
 use Rattle.refusals.specs.declared.parses.Left.{Left}
 use Rattle.refusals.specs.declared.parses.Stop.{Stop}
 use Rattle.refusals.specs.declared.parses.PiecesStop.{PiecesStop}
 
+-- which items a text has, under a flag, and what is left after them; or what it means
+abbrev pub Reading : Type 0 → Type 1
+Reading Event = List ℕ → Bool → List Event → List ℕ → Type 0
+
 -- A call on these bytes, with no more to come, stopped: it gave these events and left this text. If the bytes weren't
 -- taken, there are no events, and the text that waited is left.
-abbrev pub StopsAt : List ℕ → List ℕ → Bool → List InputEvent → List ℕ → Type 0
-StopsAt before bytes true given left = Steps (before ++ bytes) false given left
-StopsAt before bytes false given left = (given ≡ []) × (left ≡ before)
+abbrev pub StopsAt : {Event : Type 0} → Reading Event → List ℕ → List ℕ → Bool → List Event → List ℕ → Type 0
+StopsAt Items before bytes true given left = Items (before ++ bytes) false given left
+StopsAt Items before bytes false given left = (given ≡ []) × (left ≡ before)
 
 -- what is told of the text that a call left
 pub record Describes (text : List ℕ) (left : Left) : Type 0 where
@@ -21,11 +24,12 @@ pub record Describes (text : List ℕ) (left : Left) : Type 0 where
 
 -- A call on these bytes and, if it stopped, the call that goes on gave the events that the bytes mean,
 -- with no more to come.
-pub record GoesOn (before bytes : List ℕ) (stop : Option Stop) (first later : List InputEvent)
-    (waiting : List ℕ) : Type 0 where
-  pub means : Means (before ++ bytes) false (first ++ later) waiting
+pub record GoesOn {Event : Type 0} (Items Meaning : Reading Event) (before bytes : List ℕ) (stop : Option Stop)
+    (first later : List Event) (waiting : List ℕ) : Type 0 where
+  pub means : Meaning (before ++ bytes) false (first ++ later) waiting
   pub at_once : IfNone stop (later ≡ [])
-  pub stopped : IfSome stop (λ s. (left : List ℕ) × StopsAt before bytes s.taken first left × Describes left s.left)
+  pub stopped : IfSome stop
+      (λ s. (left : List ℕ) × StopsAt Items before bytes s.taken first left × Describes left s.left)
 
 -- The same of a call on pieces. The events of each call have the numbers of its pieces.
 pub record GoesOnWithPieces (before : List ℕ) (pieces : List (List ℕ)) (stop : Option PiecesStop)

@@ -8,6 +8,8 @@
 //! refused twice or nothing could be printed.
 #![tactic(auto)]
 
+mod extended;
+mod extended_cases;
 mod parses;
 mod parts;
 
@@ -82,7 +84,7 @@ fn show(rt: &HostRuntime, case: &str) -> Result<(), Failure> {
         "parse_as_vec-long" => show_long_parse_as_vec(rt),
         "parse_pieces" => show_parse_pieces(rt),
         "end_paste" => show_end_paste(rt),
-        _ => Err(Failure::NoSuchCase),
+        _ => extended_cases::show(rt, case),
     }
 }
 

@@ -4,6 +4,7 @@
 ghost use Rattle.std.specs.Prelude.{◌≡◌, List, IfOk, IfSome};
 ghost use Rattle.termwiz_input.specs.InputEvent.{InputEvent as Event};
 ghost use Rattle.termwiz_input.specs.Callbacks.{WasCalledOn, WasCalledOnNumbered};
+ghost use Rattle.termwiz_input.specs.Grammar.{Means, Steps};
 ghost use Rattle.termwiz_input.specs.Pieces.{NumberedEvent, texts};
 ghost use Rattle.refusals.specs.GoingOn.{Describes, GoesOn, GoesOnWithPieces};
 
@@ -61,7 +62,7 @@ pub fn parse<F: FnMut(InputEvent), G: FnMut(InputEvent)>(
     ensures { IfOk result (λ stop. (given going_on : List Event)
         × WasCalledOn F.step first.old given first.new
         × WasCalledOn G.step later.old going_on later.new
-        × GoesOn parser.old bytes.now stop given going_on parser.new) }
+        × GoesOn Steps Means parser.old bytes.now stop given going_on parser.new) }
 {
     // The law by which the events of both calls are the events of the bytes.
     resumes();
@@ -98,7 +99,8 @@ pub fn parse_as_vec(
     parser: &mut InputParser,
     bytes: &[u8],
 ) -> Result<Lists, ParseVecError>
-    ensures { IfOk result (λ lists. GoesOn parser.old bytes.now lists.stop lists.first.items lists.later.items parser.new) }
+    ensures { IfOk result (λ lists.
+        GoesOn Steps Means parser.old bytes.now lists.stop lists.first.items lists.later.items parser.new) }
 {
     resumes();
     let (first, taken) = match parser.parse_as_vec(bytes, false) {

@@ -1,5 +1,5 @@
 use Rattle.std.proofs.Common.{[], refl, sym}
-use Rattle.refusals.proofs.GoneOn.{again, without_bytes}
+use Rattle.refusals.proofs.GoneOn.{again, resumes_port, without_bytes}
 use Rattle.refusals.proofs.parses.parse.Goals as goal
 
 pub parse-requires : goal.parse-requires
@@ -20,7 +20,7 @@ returns-in_ok-parse-in-Err-NotTaken g c =
       events,
       sym (refused.not_taken_quiet (cc (is))),
       calls,
-      again _ _ _ _ _ c.of-left.ensures [] events refl refl (refused.not_taken_same (cc (is))) means,
+      again _ _ _ _ _ _ _ c.of-left.ensures [] events refl refl (refused.not_taken_same (cc (is))) means,
     )
 
 pub returns-in_ok-parse-in-Err-Taken : goal.returns-in_ok-parse-in-Err-Taken
@@ -31,5 +31,6 @@ returns-in_ok-parse-in-Err-Taken g c =
       events,
       first,
       calls,
-      without_bytes _ _ _ _ _ c.of-left-in-Err-Taken.ensures c.resumes.ensures given events refl steps means,
+      without_bytes _ _ _ _ _ _ _ c.of-left-in-Err-Taken.ensures (resumes_port c.resumes.ensures) given events refl steps
+          means,
     )
