@@ -1,4 +1,4 @@
-use Rattle.std.proofs.Common.{[], refl, sym}
+use Rattle.std.proofs.Common.{[], refl, sym, ap}
 use Rattle.refusals.proofs.GoneOn.{again, resumes_extended, without_bytes}
 use Rattle.refusals.proofs.extended.parse.Goals as goal
 
@@ -21,7 +21,8 @@ returns-in_ok-parse-in-Err-NotTaken g c =
       events,
       sym (refused.not_taken_quiet (cc (is))),
       calls,
-      again _ _ _ _ _ _ _ c.left_in-left.ensures [] events refl refl (ap (λ p. p.text) same) (rw same at means),
+      again _ _ _ _ _ _ _ c.left_in-left.ensures [] events refl refl (ap (λ p. p.text) same)
+          (rw refused.rows at means),
     )
 
 pub returns-in_ok-parse-in-Err-Taken : goal.returns-in_ok-parse-in-Err-Taken
