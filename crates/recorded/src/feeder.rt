@@ -1,6 +1,6 @@
 // Texts given to the parsers, and the answers that come.
 
-ghost use Rattle.std.specs.Prelude.{◌≡◌, ◌≢◌, ◌≤◌, ◌-◌, ◌++◌, ◌↔◌, [], length, IfOk, IfSome, IfNone, IsTrue};
+ghost use Rattle.std.specs.Prelude.{◌≡◌, ◌≢◌, ◌≤◌, ◌++◌, ◌↔◌, [], false, length, IfOk, IfSome, IfNone, IsTrue};
 ghost use Rattle.termwiz_input.specs.Pieces.{join, texts};
 ghost use Rattle.recorded.specs.Answers.{Answers, IsAnswer, Waits};
 ghost use Rattle.recorded.specs.Waiting.{waiting_of};
@@ -86,13 +86,8 @@ impl Feeder {
         }
     }
 
-    /// Gives the pieces of a text to this parser while nothing waits in it, the last of them with no more to come. Returns the answer.
-    fn read(
-        &mut self,
-        reader: Reader,
-        text: &[u8],
-        pieces: &[&[u8]],
-    ) -> Result<Vec<u8>, AllocError>
+    // Gives the pieces of a text to this parser while nothing waits in it, the last of them with no more to come. Returns the answer.
+    fn read(&mut self, reader: Reader, text: &[u8], pieces: &[&[u8]]) -> Result<Vec<u8>, AllocError>
         requires { join (texts pieces.now) ≡ text.now }
         ensures { IfOk result (λ answer. IsAnswer reader text.now answer.items) }
     {

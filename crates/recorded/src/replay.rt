@@ -83,17 +83,18 @@ pub struct Replayer {
 impl Replayer {
     /// Gives what a line records to this parser or the encoder, in every way. Returns `None` if it is so, and otherwise the first
     /// answer that isn't the recorded one.
-    pub fn replay(
-        &mut self,
-        reader: Reader,
-        case: &Case,
-    ) -> Result<Option<Difference>, AllocError>
+    pub fn replay(&mut self, reader: Reader, case: &Case) -> Result<Option<Difference>, AllocError>
         ensures same { IfOk result (λ difference. IfNone difference (Holds reader case.now)) }
         ensures other { IfOk result (λ difference. IfSome difference (λ shown. ¬ Holds reader case.now)) }
     {
         match case {
             Case::Text { bytes, answer } => {
-                replay_bytes(&mut self.feeder, reader, bytes.as_slice(), answer.as_slice())
+                replay_bytes(
+                    &mut self.feeder,
+                    reader,
+                    bytes.as_slice(),
+                    answer.as_slice(),
+                )
             }
             Case::Calls(calls) => replay_calls(&mut self.feeder, reader, calls.as_slice()),
             Case::Rows { all, row } => replay_rows(&mut self.feeder, reader, all.as_slice(), row),
