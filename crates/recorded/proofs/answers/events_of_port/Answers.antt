@@ -1,7 +1,6 @@
-use Rattle.std.proofs.Common.{lit<, sym, map, map-id, ◌∙◌}
+use Rattle.std.proofs.Common.{sym, ◌∙◌}
 use Rattle.std.proofs.lemmas.Iterator.Adapters.{YieldsList-from_vec}
-use Rattle.std.proofs.lemmas.Iterator.Consumers.{YieldsList-turn, YieldsList-end}
-use Rattle.recorded.specs.Answers.{own_event}
+use Rattle.std.proofs.lemmas.Iterator.Consumers.{YieldsList-turn}
 use Rattle.recorded.proofs.OwnEvents.{own_more, own_stops}
 use Rattle.recorded.proofs.answers.events_of_port.Goals as goal
 
