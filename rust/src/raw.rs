@@ -317,4 +317,13 @@ extern "C" {
     pub fn tw_extended_is_paste_open(parser: *mut Extended) -> bool;
     pub fn tw_extended_end_paste(parser: *mut Extended, event: *mut ExtendedEvent) -> u32;
     pub fn tw_extended_reset(parser: *mut Extended) -> usize;
+    pub fn tw_encode_kitty(
+        report: *const KeyReport,
+        text: *const u8,
+        text_len: usize,
+        flags: u8,
+        out: *mut u8,
+        len: usize,
+        sent_len: *mut usize,
+    ) -> u32;
 }
