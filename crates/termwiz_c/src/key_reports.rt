@@ -6,9 +6,7 @@ ghost use Rattle.termwiz_extended_events.specs.declared.types.ReportedKey.{Repor
 ghost use Rattle.termwiz_c.specs.ExtendedEvents.{action_number};
 ghost use Rattle.termwiz_c.specs.KittyCalls.{IsCode, StandForReport, StandForReported};
 
-use crate::extended_events::{
-    ACTION_PRESS, ACTION_RELEASE, ACTION_REPEAT, CKeyReport, NO_CODE,
-};
+use crate::extended_events::{ACTION_PRESS, ACTION_RELEASE, ACTION_REPEAT, CKeyReport, NO_CODE};
 use crate::keys::key_of;
 use std::alloc::Global;
 use termwiz_input_extended::types::{KeyEventKind, KeyReport, KeyText, ReportedKey};

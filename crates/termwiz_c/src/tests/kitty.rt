@@ -60,7 +60,12 @@ fn encodes_key_reports(rt: HostRuntime) -> Result<(), Fail> {
     check(&rt, alloc, (letter(1, 4), b"", 1), (TEXT, b"\x1b[97;5u"));
     check(&rt, alloc, (letter(3, 4), b"", 3), (TEXT, b"\x1b[97;5:3u"));
     check(&rt, alloc, (press(60, 3), b"", 1), (TEXT, b"\x1b[13~"));
-    check(&rt, alloc, (press(0, 57428), b"", 1), (TEXT, b"\x1b[57428u"));
+    check(
+        &rt,
+        alloc,
+        (press(0, 57428), b"", 1),
+        (TEXT, b"\x1b[57428u"),
+    );
     check(&rt, alloc, (press(9, 0), b"", 8), (TEXT, b"\x1b[13u"));
     Ok(())
 }
@@ -78,12 +83,20 @@ fn tells_all_of_a_report(rt: HostRuntime) -> Result<(), Fail> {
     check(&rt, alloc, (whole, b"", 1), (TEXT, b"A"));
     check(&rt, alloc, (whole, text, 8), (TEXT, b"\x1b[97;2u"));
     check(&rt, alloc, (whole, text, 12), (TEXT, b"\x1b[97:65:98;2u"));
-    check(&rt, alloc, (whole, text, ALL), (TEXT, b"\x1b[97:65:98;2;65:8364u"));
+    check(
+        &rt,
+        alloc,
+        (whole, text, ALL),
+        (TEXT, b"\x1b[97:65:98;2;65:8364u"),
+    );
 
     // A sequence for which there is no room is told by its length.
     let mut out = [b'.'; 4];
     let mut len = 0;
-    assert_eq!(rt; tw_encode_kitty(alloc, &whole, text, 8, &mut out[..3], &mut len), TEXT);
+    assert_eq!(rt;
+        tw_encode_kitty(alloc, &whole, text, 8, &mut out[..3], &mut len),
+        TEXT
+    );
     assert!(rt; len == 7 && out == *b"\x1b[9.");
     Ok(())
 }
@@ -103,8 +116,14 @@ fn refuses_what_no_terminal_sends(rt: HostRuntime) -> Result<(), Fail> {
         press(91, 0),
         press(1, 0xd800),
         press(60, 256),
-        CKeyReport { shifted: 0xd800, ..a },
-        CKeyReport { base: 0x11_0000, ..a },
+        CKeyReport {
+            shifted: 0xd800,
+            ..a
+        },
+        CKeyReport {
+            base: 0x11_0000,
+            ..a
+        },
     ] {
         check(&rt, alloc, (bad, b"", 1), (BAD_NUMBER, b""));
     }

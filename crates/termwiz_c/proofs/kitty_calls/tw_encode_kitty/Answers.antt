@@ -99,7 +99,7 @@ returns-in-Err-UnknownKey-clause-refused_key c = λ is.
         asked.1,
       ),
       subst (λ flags. kitty_text told flags ≡ None) asked.0 (c.encode_kitty.ensures.unknown.0
-      (c.in-Err-UnknownKey.is ∙ ap Err c.in-Err-UnknownKey.field-0-is)),
+          (c.in-Err-UnknownKey.is ∙ ap Err c.in-Err-UnknownKey.field-0-is)),
     )
 
 pub returns-in-Err-UnknownKey-clause-bad_number : goal.returns-in-Err-UnknownKey-clause-bad_number
@@ -119,7 +119,7 @@ returns-in-Err-TooLong-clause-too_long c = λ is.
         asked.1,
       ),
       subst (λ flags. IsTooLong told flags) asked.0 (c.encode_kitty.ensures.too_long
-      (c.in-Err-TooLong.is ∙ ap Err c.in-Err-TooLong.field-0-is)),
+          (c.in-Err-TooLong.is ∙ ap Err c.in-Err-TooLong.field-0-is)),
     )
 
 pub returns-in-Err-TooLong-clause-bad_number : goal.returns-in-Err-TooLong-clause-bad_number
