@@ -615,7 +615,8 @@ size_t tw_extended_reset(tw_extended *parser);
  * keyboard handling in terminals" (https://sw.kovidgoyal.net/kitty/keyboard-protocol/), as docs/EXTENDED.md lists them.
  *
  * report has the key as tw_extended_next writes it, and detail isn't read for a key that has none. text is what the key types, text_len bytes
- * of UTF-8, or nothing if that isn't known. flags is a set of TW_KITTY_... What no flag asks for isn't sent.
+ * of UTF-8, or nothing if that isn't known; a text with control characters counts as none. flags is a set of TW_KITTY_... What no flag asks
+ * for isn't sent.
  *
  * Returns an enum tw_encoded. With TW_TEXT *sent_len is the number of all these bytes, and out has as many of them as len says: if *sent_len
  * is above len, call again with more room. The rest of out is unchanged. A sequence has at most 256 bytes; a key that is sent as its text

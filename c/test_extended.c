@@ -351,6 +351,9 @@ static const struct encoding encodings[] = {
   { WHOLE_LETTER, "A", TW_KITTY_REPORT_ALL_KEYS_AS_ESCAPE_CODES | TW_KITTY_REPORT_ALTERNATE_KEYS, TW_TEXT, "\033[97:65:98;2u" },
   { WHOLE_LETTER, "A", TW_KITTY_REPORT_ALL_KEYS_AS_ESCAPE_CODES | TW_KITTY_REPORT_ASSOCIATED_TEXT, TW_TEXT, "\033[97;2;65u" },
   { WHOLE_LETTER, "A\342\202\254", ALL_FLAGS, TW_TEXT, "\033[97:65:98;2;65:8364u" },
+  /* a text with control characters counts as none */
+  { LETTER(TW_ACTION_PRESS, 0), "b\t", TW_KITTY_NONE, TW_TEXT, "a" },
+  { LETTER(TW_ACTION_PRESS, 0), "b\t", ALL_FLAGS, TW_TEXT, "\033[97u" },
   /* keys that have nothing */
   { PRESS(0, TW_KEY_COPY, 0), "", ALL_FLAGS, TW_REFUSED_KEY, "" },
   { PRESS(0, TW_KEY_FUNCTION, 36), "", ALL_FLAGS, TW_REFUSED_KEY, "" },

@@ -519,6 +519,8 @@ class EncodedReports(WithParsers):
             (self.SHIFT_A, all_keys | alternates, b"\x1b[97:65:98;2u"),
             (self.SHIFT_A, all_keys | texts, b"\x1b[97;2;65:8364u"),
             (self.SHIFT_A, self.ALL, b"\x1b[97:65:98;2;65:8364u"),
+            (KeyReport("a", text="b\t"), none, b"a"),
+            (KeyReport("a", text="b\t"), self.ALL, b"\x1b[97u"),
         ]:
             self.assertEqual(report.encode(flags), wanted, (report, flags))
 

@@ -102,8 +102,9 @@ class KeyReport:
             >>> released.encode(KittyKeyboardFlags.NONE)
             b''
 
-        There are none for a key that isn't told. Of the report only what a flag asks for is sent. The rules are those of Kitty's page
-        "Comprehensive keyboard handling in terminals", https://sw.kovidgoyal.net/kitty/keyboard-protocol/.
+        There are none for a key that isn't told. Of the report only what a flag asks for is sent, and a text with control characters counts
+        as none. The rules are those of Kitty's page "Comprehensive keyboard handling in terminals",
+        https://sw.kovidgoyal.net/kitty/keyboard-protocol/.
 
         Raises EncodeError, which is a ValueError, for a key that the flags leave without bytes, for a text too long for a sequence of 256
         bytes, and for what names nothing, as encode does. Raises MemoryError if memory is refused."""

@@ -38,8 +38,8 @@ const ROOM: usize = 256;
 
 impl KeyReport {
     /// Returns what a terminal sends for the key, if the program asked for these flags of Kitty's keyboard protocol. It is empty for a key
-    /// that isn't told, as a release without `REPORT_EVENT_TYPES`. Of the report only what a flag asks for is sent. Bits of `flags` that no
-    /// flag has don't count. A terminal or a multiplexer calls it.
+    /// that isn't told, as a release without `REPORT_EVENT_TYPES`. Of the report only what a flag asks for is sent, and a text with
+    /// control characters counts as none. Bits of `flags` that no flag has don't count. A terminal or a multiplexer calls it.
     ///
     /// The rules are those of Kitty's page ["Comprehensive keyboard handling in terminals"][page]. Under all flags an
     /// [`ExtendedParser`](super::ExtendedParser) with [`Rows::Kitty`](super::Rows::Kitty) reads back each report that a terminal can send.
@@ -112,7 +112,7 @@ impl KeyReport {
         let report = self.raw();
         let flags = u8::try_from((flags & KittyKeyboardFlags::all()).bits()).expect("each flag is below 256");
         let mut len = 0;
-        // SAFETY: the pointers lead to values of their types that live through the call, and the text and `out` have as many bytes as they say.
+        // SAFETY: the pointers lead to values of their types that live through the call, with as many bytes as the lengths say.
         let answer = unsafe {
             raw::tw_encode_kitty(
                 &report,

@@ -61,6 +61,10 @@ fn each_flag() {
     check(&shift_a("A€"), all_keys | Flags::REPORT_ASSOCIATED_TEXT, "\x1b[97;2;65:8364u");
     check(&shift_a("A€"), Flags::all(), "\x1b[97:65:98;2;65:8364u");
 
+    // A text with control characters counts as none.
+    check(&shift_a("A\t"), Flags::NONE, "A");
+    check(&shift_a("A\u{85}"), Flags::all(), "\x1b[97:65:98;2u");
+
     // A bit that no flag has doesn't count.
     check(&escape, Flags::from_bits_retain(0xff20), "\x1b");
     check(&escape, Flags::from_bits_retain(0xff21), "\x1b[27u");
