@@ -331,7 +331,7 @@ enum tw_encoding {
   /* numbers.txt: end */
 };
 
-/* The flags of kitty's keyboard protocol, as bits of a set: the field kitty_flags of a tw_modes. */
+/* The flags of kitty's keyboard protocol, as bits of a set: the field kitty_flags of a tw_modes, and what tw_encode_kitty is given. */
 enum tw_kitty {
   /* numbers.txt: kitty c */
   TW_KITTY_NONE = 0, /* Nothing is asked for. */
@@ -353,13 +353,15 @@ typedef struct tw_modes {
   bool has_modify_other_keys;   /* modifyOtherKeys is on, at the level above */
 } tw_modes;
 
-/* What tw_encode returns. */
+/* What tw_encode and tw_encode_kitty return. */
 enum tw_encoded {
   /* numbers.txt: encoded c */
   TW_TEXT = 0, /* The key's text, which may be empty. */
-  TW_REFUSED_KEY = 1, /* A function key that has no text: only F1 to F24 have one. */
+  TW_REFUSED_KEY = 1, /* The key has no text. Of tw_encode it is a function key, since only F1 to F24 have one. */
   TW_REFUSED_MEMORY = 2, /* Memory was refused. The call may be made again. */
-  TW_BAD_NUMBER = 3 /* A number names nothing. */
+  TW_BAD_NUMBER = 3, /* A number names nothing. */
+  TW_TOO_LONG = 4, /* The key's sequence would have more than 256 bytes. Only a key report with a long text has such a one. */
+  TW_BAD_TEXT = 5 /* The text of the key report isn't UTF-8. */
   /* numbers.txt: end */
 };
 
@@ -606,6 +608,24 @@ uint32_t tw_extended_end_paste(tw_extended *parser, tw_extended_event *event);
  *
  * Returns the number of bytes that were buffered, 0 if there is no parser. */
 size_t tw_extended_reset(tw_extended *parser);
+
+/* Writes what a terminal sends for a key to out, and the number of these bytes to *sent_len, if the program asked for these flags of Kitty's
+ * keyboard protocol: the other way from a TW_EVENT_REPORT. A terminal or a multiplexer calls it. The bytes are UTF-8 without a final 0. There
+ * are none for a key that isn't told, as a release without TW_KITTY_REPORT_EVENT_TYPES. The rules are those of Kitty's page "Comprehensive
+ * keyboard handling in terminals" (https://sw.kovidgoyal.net/kitty/keyboard-protocol/), as docs/EXTENDED.md lists them.
+ *
+ * report has the key as tw_extended_next writes it, and detail isn't read for a key that has none. text is what the key types, text_len bytes
+ * of UTF-8, or nothing if that isn't known; a text with control characters counts as none. flags is a set of TW_KITTY_... What no flag asks
+ * for isn't sent.
+ *
+ * Returns an enum tw_encoded. With TW_TEXT *sent_len is the number of all these bytes, and out has as many of them as len says: if *sent_len
+ * is above len, call again with more room. The rest of out is unchanged. A sequence has at most 256 bytes; a key that is sent as its text
+ * alone may have more. Otherwise *sent_len is 0 and out is unchanged: TW_REFUSED_KEY if the protocol has no number for the key, or without
+ * TW_KITTY_DISAMBIGUATE_ESCAPE_CODES xterm no sequence; TW_REFUSED_MEMORY if memory was refused; TW_TOO_LONG if the sequence would have more
+ * than 256 bytes; TW_BAD_TEXT if the text isn't UTF-8; TW_BAD_NUMBER if action is no enum tw_action, no key has the number, detail, shifted
+ * or base is no Unicode scalar value, a function key's number is above 255, or a bit of flags has no name. */
+uint32_t tw_encode_kitty(const tw_key_report *report, const uint8_t *text, size_t text_len, uint8_t flags, uint8_t *out, size_t len,
+                         size_t *sent_len);
 
 /* Returns the version of the library that is linked, as TW_VERSION_NUMBER has that of the header. */
 uint32_t tw_version(void);

@@ -1,5 +1,5 @@
 /* A test of the calls of the extended parser. Events are told as lines, and compared for texts that are read whole, byte by byte and cut at
- * each place. */
+ * each place. Key reports are encoded and read back. */
 #define _DEFAULT_SOURCE
 #include "expect.h"
 #include "termwiz_input.h"
@@ -304,6 +304,153 @@ static void reads_from_a_page_that_is_read_only(void) {
   munmap(parser, 4096);
 }
 
+enum { ALL_FLAGS = 31, KEYS = 90, KEYS_OF_KITTY = 58 };
+
+/* A key report with its text, the flags, what tw_encode_kitty returns, and the bytes. */
+struct encoding {
+  tw_key_report report;
+  const char *text;
+  unsigned flags;
+  uint32_t answer;
+  const char *bytes;
+};
+
+#define KEY(action, held, key, detail) { (action), (held), (key), (detail), TW_NO_CODE, TW_NO_CODE }
+#define PRESS(held, key, detail) KEY(TW_ACTION_PRESS, held, key, detail)
+#define LETTER(action, held) KEY(action, held, TW_KEY_CHAR, 'a')
+#define WHOLE_LETTER { TW_ACTION_PRESS, TW_HELD_SHIFT, TW_KEY_CHAR, 'a', 'A', 'b' }
+
+static const struct encoding encodings[] = {
+  /* nothing is asked for */
+  { PRESS(0, TW_KEY_ESCAPE, 0), "", TW_KITTY_NONE, TW_TEXT, "\033" },
+  { PRESS(0, TW_KEY_UP_ARROW, 7), "", TW_KITTY_NONE, TW_TEXT, "\033[A" },
+  { KEY(TW_ACTION_REPEAT, 0, TW_KEY_UP_ARROW, 0), "", TW_KITTY_NONE, TW_TEXT, "\033[A" },
+  { KEY(TW_ACTION_RELEASE, 0, TW_KEY_UP_ARROW, 0), "", TW_KITTY_NONE, TW_TEXT, "" },
+  { LETTER(TW_ACTION_PRESS, TW_HELD_CTRL), "", TW_KITTY_NONE, TW_TEXT, "\001" },
+  { PRESS(TW_HELD_SHIFT, TW_KEY_LEFT_SHIFT, 0), "", TW_KITTY_NONE, TW_TEXT, "" },
+  /* keys whose text is ambiguous */
+  { PRESS(0, TW_KEY_ESCAPE, 0), "", TW_KITTY_DISAMBIGUATE_ESCAPE_CODES, TW_TEXT, "\033[27u" },
+  { LETTER(TW_ACTION_PRESS, TW_HELD_CTRL), "", TW_KITTY_DISAMBIGUATE_ESCAPE_CODES, TW_TEXT, "\033[97;5u" },
+  { LETTER(TW_ACTION_PRESS, TW_HELD_NUM_LOCK), "", TW_KITTY_DISAMBIGUATE_ESCAPE_CODES, TW_TEXT, "a" },
+  { PRESS(0, TW_KEY_ENTER, 0), "", TW_KITTY_DISAMBIGUATE_ESCAPE_CODES, TW_TEXT, "\r" },
+  { PRESS(0, TW_KEY_FUNCTION, 3), "", TW_KITTY_DISAMBIGUATE_ESCAPE_CODES, TW_TEXT, "\033[13~" },
+  { PRESS(TW_HELD_SUPER, TW_KEY_DELETE, 0), "", TW_KITTY_DISAMBIGUATE_ESCAPE_CODES, TW_TEXT, "\033[3;9~" },
+  { PRESS(0, 0, 57428), "", TW_KITTY_DISAMBIGUATE_ESCAPE_CODES, TW_TEXT, "\033[57428u" },
+  /* repeats and releases */
+  { KEY(TW_ACTION_REPEAT, 0, TW_KEY_UP_ARROW, 0), "", TW_KITTY_REPORT_EVENT_TYPES, TW_TEXT, "\033[1;1:2A" },
+  { KEY(TW_ACTION_RELEASE, 0, TW_KEY_UP_ARROW, 0), "", TW_KITTY_REPORT_EVENT_TYPES, TW_TEXT, "\033[1;1:3A" },
+  { KEY(TW_ACTION_RELEASE, 0, TW_KEY_TAB, 0), "", TW_KITTY_REPORT_EVENT_TYPES, TW_TEXT, "" },
+  /* all keys */
+  { PRESS(0, TW_KEY_ENTER, 0), "", TW_KITTY_REPORT_ALL_KEYS_AS_ESCAPE_CODES, TW_TEXT, "\033[13u" },
+  { PRESS(TW_HELD_SHIFT, TW_KEY_LEFT_SHIFT, 0), "", TW_KITTY_REPORT_ALL_KEYS_AS_ESCAPE_CODES, TW_TEXT, "\033[57441;2u" },
+  { LETTER(TW_ACTION_PRESS, TW_HELD_NUM_LOCK), "", TW_KITTY_REPORT_ALL_KEYS_AS_ESCAPE_CODES, TW_TEXT, "\033[97;129u" },
+  /* other codes, and the text */
+  { WHOLE_LETTER, "A\342\202\254", TW_KITTY_NONE, TW_TEXT, "A\342\202\254" },
+  { WHOLE_LETTER, "", TW_KITTY_NONE, TW_TEXT, "A" },
+  { WHOLE_LETTER, "A", TW_KITTY_REPORT_ALL_KEYS_AS_ESCAPE_CODES, TW_TEXT, "\033[97;2u" },
+  { WHOLE_LETTER, "A", TW_KITTY_REPORT_ALL_KEYS_AS_ESCAPE_CODES | TW_KITTY_REPORT_ALTERNATE_KEYS, TW_TEXT, "\033[97:65:98;2u" },
+  { WHOLE_LETTER, "A", TW_KITTY_REPORT_ALL_KEYS_AS_ESCAPE_CODES | TW_KITTY_REPORT_ASSOCIATED_TEXT, TW_TEXT, "\033[97;2;65u" },
+  { WHOLE_LETTER, "A\342\202\254", ALL_FLAGS, TW_TEXT, "\033[97:65:98;2;65:8364u" },
+  /* a text with control characters counts as none */
+  { LETTER(TW_ACTION_PRESS, 0), "b\t", TW_KITTY_NONE, TW_TEXT, "a" },
+  { LETTER(TW_ACTION_PRESS, 0), "b\t", ALL_FLAGS, TW_TEXT, "\033[97u" },
+  /* keys that have nothing */
+  { PRESS(0, TW_KEY_COPY, 0), "", ALL_FLAGS, TW_REFUSED_KEY, "" },
+  { PRESS(0, TW_KEY_FUNCTION, 36), "", ALL_FLAGS, TW_REFUSED_KEY, "" },
+  { PRESS(0, TW_KEY_FUNCTION, 25), "", TW_KITTY_NONE, TW_REFUSED_KEY, "" },
+  { PRESS(0, 0, 57343), "", ALL_FLAGS, TW_REFUSED_KEY, "" },
+  { PRESS(0, 0, 63744), "", ALL_FLAGS, TW_REFUSED_KEY, "" },
+  /* what stands for nothing */
+  { LETTER(0, 0), "", ALL_FLAGS, TW_BAD_NUMBER, "" },
+  { LETTER(4, 0), "", ALL_FLAGS, TW_BAD_NUMBER, "" },
+  { PRESS(0, KEYS + 1, 0), "", ALL_FLAGS, TW_BAD_NUMBER, "" },
+  { PRESS(0, 0xffff, 0), "", ALL_FLAGS, TW_BAD_NUMBER, "" },
+  { PRESS(0, TW_KEY_CHAR, 0xd800), "", ALL_FLAGS, TW_BAD_NUMBER, "" },
+  { PRESS(0, TW_KEY_CHAR, 0x110000), "", ALL_FLAGS, TW_BAD_NUMBER, "" },
+  { PRESS(0, TW_KEY_FUNCTION, 256), "", ALL_FLAGS, TW_BAD_NUMBER, "" },
+  { { TW_ACTION_PRESS, 0, TW_KEY_CHAR, 'a', 0xdfff, TW_NO_CODE }, "", ALL_FLAGS, TW_BAD_NUMBER, "" },
+  { { TW_ACTION_PRESS, 0, TW_KEY_CHAR, 'a', TW_NO_CODE, 0xfffffffe }, "", ALL_FLAGS, TW_BAD_NUMBER, "" },
+  { LETTER(TW_ACTION_PRESS, 0), "a", 32, TW_BAD_NUMBER, "" },
+  { LETTER(TW_ACTION_PRESS, 0), "a", 255, TW_BAD_NUMBER, "" },
+  { LETTER(TW_ACTION_PRESS, 0), "a\377", ALL_FLAGS, TW_BAD_TEXT, "" },
+  { LETTER(TW_ACTION_PRESS, 0), "\355\240\200", TW_KITTY_NONE, TW_BAD_TEXT, "" },
+  { LETTER(0, 0), "\377", ALL_FLAGS, TW_BAD_NUMBER, "" },
+};
+
+/* The call with a room of so many bytes, which it writes and no more. */
+static uint32_t encode_in(const struct encoding *it, uint8_t room[64], size_t len, size_t *sent_len) {
+  memset(room, '.', 64);
+  *sent_len = 99;
+  return tw_encode_kitty(&it->report, (const uint8_t *)it->text, strlen(it->text), (uint8_t)it->flags, room, len, sent_len);
+}
+
+static void encodes_in(const struct encoding *it, size_t len) {
+  uint8_t room[64];
+  size_t wanted = strlen(it->bytes), kept = wanted < len ? wanted : len, sent_len;
+  EXPECT(encode_in(it, room, len, &sent_len) == it->answer && sent_len == wanted);
+  EXPECT(memcmp(room, it->bytes, kept) == 0 && room[kept] == '.' && room[63] == '.');
+}
+
+static void encodes_examples(void) {
+  for (size_t i = 0; i < sizeof encodings / sizeof *encodings; i++)
+    for (size_t len = 0; len <= strlen(encodings[i].bytes) + 1; len++) encodes_in(&encodings[i], len);
+}
+
+/* A text of 300 bytes is sent as it is, but no sequence carries it. */
+static void encodes_a_long_text(void) {
+  static const tw_key_report letter = LETTER(TW_ACTION_PRESS, 0);
+  uint8_t text[300], room[301];
+  size_t sent_len = 99;
+  memset(text, 'x', sizeof text);
+  memset(room, '.', sizeof room);
+  EXPECT(tw_encode_kitty(&letter, text, sizeof text, ALL_FLAGS, room, sizeof room, &sent_len) == TW_TOO_LONG);
+  EXPECT(sent_len == 0 && room[0] == '.');
+  EXPECT(tw_encode_kitty(&letter, text, sizeof text, TW_KITTY_DISAMBIGUATE_ESCAPE_CODES, room, sizeof room, &sent_len) == TW_TEXT);
+  EXPECT(sent_len == sizeof text && memcmp(room, text, sizeof text) == 0 && room[300] == '.');
+  EXPECT(tw_encode_kitty(&letter, NULL, 0, ALL_FLAGS, NULL, 0, &sent_len) == TW_TEXT && sent_len == 5);
+}
+
+static bool is_report(const tw_extended_event *event, const tw_key_report *report) {
+  const tw_key_report *is = &event->report;
+  return event->kind == TW_EVENT_REPORT && is->action == report->action && is->modifiers == report->modifiers && is->key == report->key
+         && is->detail == report->detail && is->shifted == report->shifted && is->base == report->base;
+}
+
+/* What is sent under all flags is read as the report. Returns whether the key has bytes. */
+static bool reads_back(tw_extended *parser, const tw_key_report *report, const char *text) {
+  uint8_t room[256];
+  size_t sent_len;
+  tw_extended_event event;
+  uint32_t answer = tw_encode_kitty(report, (const uint8_t *)text, strlen(text), ALL_FLAGS, room, sizeof room, &sent_len);
+  if (answer == TW_REFUSED_KEY) return false;
+  EXPECT(answer == TW_TEXT && sent_len > 0 && sent_len <= sizeof room && tw_extended_feed(parser, room, sent_len));
+  EXPECT(tw_extended_next(parser, true, &event) == TW_EVENT && is_report(&event, report) && event.text_len == strlen(text));
+  EXPECT(tw_extended_text(parser, room, sizeof room) == event.text_len && memcmp(room, text, event.text_len) == 0);
+  EXPECT(tw_extended_next(parser, true, &event) == TW_NONE && tw_extended_waiting(parser) == 0);
+  return true;
+}
+
+/* A key with each set of modifiers, pressed, held down and released. */
+static bool reads_key_back(tw_extended *parser, uint16_t key, uint32_t detail) {
+  bool is_sent = true;
+  for (unsigned held = 0; held < 256; held++)
+    for (unsigned action = TW_ACTION_PRESS; action <= TW_ACTION_RELEASE; action++) {
+      tw_key_report report = KEY((uint8_t)action, (uint8_t)held, key, detail);
+      if (!reads_back(parser, &report, "")) is_sent = false;
+    }
+  return is_sent;
+}
+
+static void reads_keys_back(tw_extended *parser) {
+  static const tw_key_report whole = WHOLE_LETTER, with_base = { TW_ACTION_REPEAT, TW_HELD_CTRL, TW_KEY_CHAR, 0x10ffff, TW_NO_CODE, 0xe9 };
+  unsigned count = 0;
+  for (uint16_t key = 1; key <= KEYS; key++) count += reads_key_back(parser, key, key == TW_KEY_CHAR ? 'a' : key == TW_KEY_FUNCTION ? 1 : 0);
+  EXPECT(count == KEYS_OF_KITTY);
+  for (uint32_t number = 2; number <= 35; number++) EXPECT(reads_key_back(parser, TW_KEY_FUNCTION, number));
+  EXPECT(reads_key_back(parser, 0, 57344) && reads_key_back(parser, 0, 57414) && reads_key_back(parser, 0, 63743));
+  EXPECT(reads_back(parser, &whole, "A") && reads_back(parser, &whole, "\303\251\364\217\277\277") && reads_back(parser, &with_base, ""));
+}
+
 int main(void) {
   tw_extended parser = TW_EXTENDED_NONE;
   answers_before_init_and_after_free();
@@ -317,5 +464,10 @@ int main(void) {
   tw_extended_free(&parser);
   tw_extended_free(&parser);
   reads_from_a_page_that_is_read_only();
+  encodes_examples();
+  encodes_a_long_text();
+  EXPECT(tw_extended_init(&parser, TW_ROWS_KITTY));
+  reads_keys_back(&parser);
+  tw_extended_free(&parser);
   return expected("test_extended");
 }

@@ -1,5 +1,5 @@
-/* Refuses each request for memory of the extended parser's calls in turn, one in each run, and makes the refused call again: the answers
- * must be those of a run without a refusal, and each refusal must be told once.
+/* Refuses each request for memory of the extended parser's calls and of tw_encode_kitty in turn, one in each run, and makes the refused call
+ * again: the answers must be those of a run without a refusal, and each refusal must be told once.
  *
  *     cc -Wl,--wrap=malloc -Wl,--wrap=realloc test_extended_refusals.c libtermwiz_c.a && ./a.out [STEP]
  *
@@ -126,6 +126,31 @@ static void refuse_while_ending(void) {
   printf("end of a paste: %ld refusals\n", number - 1);
 }
 
+/* A key report, with each request refused in turn: nothing is written, and the call may be made again. */
+static void refuse_while_encoding(void) {
+  static const tw_key_report report = { TW_ACTION_PRESS, TW_HELD_SHIFT, TW_KEY_CHAR, 'a', 'A', TW_NO_CODE };
+  static const uint8_t text[] = "A, and some more text";
+  static const uint8_t flags[] = { TW_KITTY_NONE, 31 };
+  for (size_t i = 0; i < sizeof flags; i++) {
+    unsigned met;
+    long number = 0;
+    do {
+      uint8_t room[256] = { '.' };
+      size_t sent_len = 99;
+      refuse(++number);
+      uint32_t answer = tw_encode_kitty(&report, text, sizeof text - 1, flags[i], room, sizeof room, &sent_len);
+      met = refused;
+      refuse(0);
+      EXPECT(answer == (met ? TW_REFUSED_MEMORY : TW_TEXT));
+      EXPECT(!met || (sent_len == 0 && room[0] == '.'));
+      EXPECT(!met || tw_encode_kitty(&report, text, sizeof text - 1, flags[i], room, sizeof room, &sent_len) == TW_TEXT);
+      EXPECT(flags[i] ? sent_len > 2 * sizeof text && room[0] == '\033' : sent_len == sizeof text - 1 && memcmp(room, text, sent_len) == 0);
+    } while (met);
+    EXPECT(number > 1);
+    printf("key report: %ld refusals\n", number - 1);
+  }
+}
+
 /* Every STEPth request of init refused: what was there stays. */
 static void refuse_init(long step) {
   tw_extended parser = TW_EXTENDED_NONE, none = TW_EXTENDED_NONE;
@@ -164,6 +189,7 @@ int main(int argc, char **argv) {
   if (step < 1) return 2;
   for (size_t piece = 1; piece < 2 * sizeof stream; piece = piece * 3 + 1) refuse_while_reading(piece);
   refuse_while_ending();
+  refuse_while_encoding();
   need_no_memory();
   refuse_init(step);
   return expected("test_extended_refusals");

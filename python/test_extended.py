@@ -18,6 +18,7 @@ from hedrugal import (
     Csi,
     CursorPosition,
     Dcs,
+    EncodeError,
     ExtendedParser,
     FocusGained,
     FocusLost,
@@ -489,6 +490,88 @@ class KeyReports(WithParsers):
                 self.assertEqual(key_report(event) is None, not isinstance(event, (KeyEvent, KeyReport)))
 
 
+class EncodedReports(WithParsers):
+    """Key reports to bytes, and back."""
+
+    SHIFT_A = KeyReport("a", SHIFT, shifted="A", base="b", text="A€")
+    ALL = KittyKeyboardFlags(31)
+
+    def test_each_flag(self):
+        none, alternates = KittyKeyboardFlags.NONE, KittyKeyboardFlags.REPORT_ALTERNATE_KEYS
+        ambiguous, types = KittyKeyboardFlags.DISAMBIGUATE_ESCAPE_CODES, KittyKeyboardFlags.REPORT_EVENT_TYPES
+        all_keys, texts = KittyKeyboardFlags.REPORT_ALL_KEYS_AS_ESCAPE_CODES, KittyKeyboardFlags.REPORT_ASSOCIATED_TEXT
+        for report, flags, wanted in [
+            (KeyReport(KeyCode.Escape), none, b"\x1b"),
+            (KeyReport(KeyCode.Escape), ambiguous, b"\x1b[27u"),
+            (KeyReport("a", CTRL), none, b"\x01"),
+            (KeyReport("a", CTRL), ambiguous, b"\x1b[97;5u"),
+            (KeyReport(UP, action=REPEAT), none, b"\x1b[A"),
+            (KeyReport(UP, action=REPEAT), types, b"\x1b[1;1:2A"),
+            (KeyReport(KeyCode.Delete, Held.SUPER, RELEASE), none, b""),
+            (KeyReport(KeyCode.Delete, Held.SUPER, RELEASE), types, b"\x1b[3;9:3~"),
+            (KeyReport(KeyCode.Enter), ambiguous, b"\r"),
+            (KeyReport(KeyCode.Enter), all_keys, b"\x1b[13u"),
+            (KeyReport(Function(3)), ambiguous, b"\x1b[13~"),
+            (KeyReport(57428), ambiguous, b"\x1b[57428u"),
+            (KeyReport("a", SHIFT, shifted="A"), none, b"A"),
+            (self.SHIFT_A, none, "A€".encode()),
+            (self.SHIFT_A, all_keys, b"\x1b[97;2u"),
+            (self.SHIFT_A, all_keys | alternates, b"\x1b[97:65:98;2u"),
+            (self.SHIFT_A, all_keys | texts, b"\x1b[97;2;65:8364u"),
+            (self.SHIFT_A, self.ALL, b"\x1b[97:65:98;2;65:8364u"),
+            (KeyReport("a", text="b\t"), none, b"a"),
+            (KeyReport("a", text="b\t"), self.ALL, b"\x1b[97u"),
+        ]:
+            self.assertEqual(report.encode(flags), wanted, (report, flags))
+
+    def test_read_back(self):
+        keys = ["a", "\U0010ffff", KeyCode.Escape, KeyCode.Tab, UP, KeyCode.Delete, Function(1), Function(35), KeyCode.RightAlt, 57344, 63743]
+        reports = [KeyReport(key, Held(bits), action) for key in keys for bits in range(256) for action in KeyAction]
+        for report in [self.SHIFT_A, KeyReport("é", CTRL, REPEAT, base="2"), *reports]:
+            self.assertEqual(self.parsers[Rows.KITTY].parse(report.encode(self.ALL)), [report])
+
+    def test_keys_without_bytes(self):
+        for key in (KeyCode.Copy, Function(0), Function(36), 0, 57343, 63744, 0xFFFFFFFF):
+            with self.assertRaisesRegex(EncodeError, "has no bytes under these flags"):
+                KeyReport(key).encode(self.ALL)
+        with self.assertRaisesRegex(EncodeError, "has no bytes"):
+            KeyReport(Function(25)).encode(KittyKeyboardFlags.NONE)
+
+    def test_long_texts(self):
+        for length in (257, 5000):
+            report = KeyReport("x", text="x" * length)
+            self.assertEqual(report.encode(KittyKeyboardFlags.NONE), b"x" * length)
+            with self.assertRaisesRegex(EncodeError, "at most 256 bytes"):
+                report.encode(self.ALL)
+
+    def test_what_names_nothing(self):
+        for report in [
+            *(KeyReport(key) for key in ("", "ab", "\ud800", Function(256), Function(-1), -1, 2**32)),
+            KeyReport("a", Held(256)),
+            *(KeyReport("a", shifted=wrong) for wrong in ("", "ab", "\udfff")),
+            *(KeyReport("a", base=wrong) for wrong in ("", "ab", "\ud800")),
+            KeyReport("a", text="a\ud800"),
+        ]:
+            with self.assertRaises(EncodeError):
+                report.encode(self.ALL)
+        for flags in (32, 128, 256):
+            with self.assertRaises(EncodeError):
+                KeyReport("a").encode(KittyKeyboardFlags(flags))
+
+    def test_wrong_types(self):
+        for wrong in (None, 0, CTRL):
+            with self.assertRaisesRegex(TypeError, "^KittyKeyboardFlags are required, not"):
+                KeyReport("a").encode(wrong)
+        for report in (KeyReport("a", 1), KeyReport("a", action=1), KeyReport(None), KeyReport("a", shifted=65)):
+            self.assertRaises(TypeError, report.encode, self.ALL)
+
+    def test_refused_memory(self):
+        with mock.patch.object(hedrugal._library, "tw_encode_kitty", lambda *_: 2), self.assertRaises(MemoryError):
+            KeyReport("a").encode(self.ALL)
+        with mock.patch.object(hedrugal._library, "tw_encode_kitty", lambda *_: 6), self.assertRaises(RuntimeError):
+            KeyReport("a").encode(self.ALL)
+
+
 class RefusedReports(WithParsers):
     """Memory for the bytes of an event is refused in Python: the event stays at the front."""
 
@@ -511,9 +594,10 @@ class RefusedReports(WithParsers):
 
 
 class Listing(unittest.TestCase):
-    def test_listing(self):
-        text, wanted = listings()[2]
-        self.assertEqual(run_python(text, {"HEDRUGAL_LIBRARY": LIBRARY}), (0, wanted, ""))
+    def test_listings(self):
+        self.assertEqual(len(listings()), 4)
+        for text, wanted in listings()[2:]:
+            self.assertEqual(run_python(text, {"HEDRUGAL_LIBRARY": LIBRARY}), (0, wanted, ""))
 
 
 ASK = os.path.join(HERE, "examples", "ask.py")

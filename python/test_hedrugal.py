@@ -138,7 +138,7 @@ class Numbers(WithNumbers):
 
     def test_other_numbers(self):
         groups = {"kind": "_KIND_", "next": "_NEXT_", "encoded": "_ENCODED_", "key": "_KEY_", "found": "_FOUND_"}
-        self.assertEqual(self.check_other_numbers(hedrugal, groups), 18)
+        self.assertEqual(self.check_other_numbers(hedrugal, groups), 20)
 
     def test_key_names(self):
         names = {int(number): name for group, name, number, _ in numbers() if group == "key"}
@@ -1128,7 +1128,8 @@ class Threads(unittest.TestCase):
 
 
 def listings():
-    """The listings in Python of docs/python.md, each with what it prints: an event loop, a key map and the extended parser."""
+    """The listings in Python of docs/python.md, each with what it prints: an event loop, a key map, the extended parser and the
+    encoder of key reports."""
     return re.findall(r"^```python\n(.*?)^```\n.*?<!-- prints -->\n```\n(.*?)^```", read("docs/python.md"), flags=re.M | re.S)
 
 

@@ -27,7 +27,7 @@ import struct
 import sys
 import weakref
 from dataclasses import dataclass
-from typing import Any, ClassVar, Dict, Generic, Iterator, List, NamedTuple, NoReturn, Optional, Tuple, TypeVar, Union, cast
+from typing import Any, Callable, ClassVar, Dict, Generic, Iterator, List, NamedTuple, NoReturn, Optional, Tuple, TypeVar, Union, cast
 
 __version__ = "0.1.0"
 
@@ -361,7 +361,8 @@ Found = Union[Nothing, Exact[Value], Ambiguous[Value], NeedData]
 
 
 class EncodeError(ValueError):
-    """A key has no text: it is a function key other than F1 to F24, or a number, a text or a flag names nothing."""
+    """A key has no text: it is a function key other than F1 to F24, or Kitty's protocol has no number for it. Or a number, a text or a flag
+    names nothing."""
 
 
 class ParseError(MemoryError):
@@ -425,7 +426,7 @@ class _RawRows(ctypes.Structure):
 # The numbers of termwiz_input.h that no enum above has.
 _KIND_KEY, _KIND_MOUSE, _KIND_PASTE = 1, 2, 3
 _NEXT_NONE, _NEXT_EVENT, _NEXT_NO_MEMORY, _NEXT_NO_PARSER = 0, 1, 2, 3
-_ENCODED_TEXT, _ENCODED_REFUSED_KEY, _ENCODED_REFUSED_MEMORY, _ENCODED_BAD_NUMBER = 0, 1, 2, 3
+_ENCODED_TEXT, _ENCODED_REFUSED_KEY, _ENCODED_REFUSED_MEMORY, _ENCODED_BAD_NUMBER, _ENCODED_TOO_LONG, _ENCODED_BAD_TEXT = 0, 1, 2, 3, 4, 5
 _KEY_CHAR, _KEY_FUNCTION = 1, 60
 _FOUND_NONE, _FOUND_EXACT, _FOUND_AMBIGUOUS, _FOUND_NEED_DATA, _FOUND_NO_MAP = 0, 1, 2, 3, 4
 
@@ -1037,6 +1038,17 @@ def _raw_modes(modes: KeyCodeEncodeModes) -> _RawModes:
     )
 
 
+def _sent(call: Callable[[Any, int, ctypes.c_size_t], int]) -> Tuple[int, bytes]:
+    """What a call of the library that encodes a key answers, and the bytes that it writes: it is made again if the room was too short."""
+    length, room = ctypes.c_size_t(), bytearray(_ROOM)
+    while True:
+        pointer, size = _borrowed(room)
+        answer = call(pointer, size, length)
+        if answer != _ENCODED_TEXT or length.value <= size:
+            return answer, bytes(room[: length.value])
+        room = bytearray(length.value)
+
+
 def encode(
     key: Key, modifiers: Modifiers = Modifiers.NONE, modes: KeyCodeEncodeModes = KeyCodeEncodeModes(), is_down: bool = True
 ) -> bytes:
@@ -1050,15 +1062,14 @@ def encode(
     if not isinstance(modifiers, Modifiers):
         raise TypeError(f"Modifiers are required, not {type(modifiers).__name__}")
     held = _whole(modifiers.value, 0, 0xFFFF)
-    raw_modes, length, room = _raw_modes(modes), ctypes.c_size_t(), bytearray(_ROOM)
-    while True:
-        pointer, size = _borrowed(room)
-        answer = _library.tw_encode(number, detail, held, is_down, raw_modes, pointer, size, length)
-        if answer != _ENCODED_TEXT:
-            break
-        if length.value <= size:
-            return bytes(room[: length.value])
-        room = bytearray(length.value)
+    raw_modes = _raw_modes(modes)
+
+    def call(out: Any, size: int, length: ctypes.c_size_t) -> int:
+        return int(_library.tw_encode(number, detail, held, is_down, raw_modes, out, size, length))
+
+    answer, sent = _sent(call)
+    if answer == _ENCODED_TEXT:
+        return sent
     if answer == _ENCODED_REFUSED_KEY:
         raise EncodeError(f"F{detail} has no text: only F1 to F24 have one")
     if answer == _ENCODED_REFUSED_MEMORY:

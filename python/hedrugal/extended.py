@@ -16,11 +16,19 @@ from typing import Any, Callable, Dict, List, Optional, Tuple, Union
 
 from . import (
     _BYTES,
+    _ENCODED_BAD_NUMBER,
+    _ENCODED_BAD_TEXT,
+    _ENCODED_REFUSED_KEY,
+    _ENCODED_REFUSED_MEMORY,
+    _ENCODED_TEXT,
+    _ENCODED_TOO_LONG,
+    EncodeError,
     Event,
     Key,
     KeyEvent,
     KittyKeyboardFlags,
     Modifiers,
+    _borrowed,
     _declare,
     _EventParser,
     _fault,
@@ -28,8 +36,12 @@ from . import (
     _key,
     _library,
     _Named,
+    _number_and_detail,
     _ParserCalls,
     _RawEvent,
+    _refused,
+    _sent,
+    _whole,
 )
 
 
@@ -79,6 +91,44 @@ class KeyReport:
     shifted: Optional[str] = None
     base: Optional[str] = None
     text: str = ""
+
+    def encode(self, flags: KittyKeyboardFlags) -> bytes:
+        r"""Returns the bytes, in UTF-8, that a terminal sends for the key, if the program asked for these flags of Kitty's keyboard protocol:
+        the other way from an ExtendedParser. A terminal or a multiplexer calls it.
+
+            >>> released = KeyReport("a", Held.CTRL, KeyAction.RELEASE)
+            >>> released.encode(KittyKeyboardFlags.REPORT_EVENT_TYPES)
+            b'\x1b[97;5:3u'
+            >>> released.encode(KittyKeyboardFlags.NONE)
+            b''
+
+        There are none for a key that isn't told. Of the report only what a flag asks for is sent, and a text with control characters counts
+        as none. The rules are those of Kitty's page "Comprehensive keyboard handling in terminals",
+        https://sw.kovidgoyal.net/kitty/keyboard-protocol/.
+
+        Raises EncodeError, which is a ValueError, for a key that the flags leave without bytes, for a text too long for a sequence of 256
+        bytes, and for what names nothing, as encode does. Raises MemoryError if memory is refused."""
+        if not isinstance(flags, KittyKeyboardFlags):
+            raise TypeError(f"KittyKeyboardFlags are required, not {type(flags).__name__}")
+        report, bits = _raw_report(self), _whole(flags.value, 0, 255)
+        # A surrogate is passed on: the library refuses it.
+        text, length = _borrowed(self.text.encode("utf-8", "surrogatepass"))
+
+        def call(out: Any, size: int, sent: ctypes.c_size_t) -> int:
+            return int(_library.tw_encode_kitty(report, text, length, bits, out, size, sent))
+
+        answer, sent = _sent(call)
+        if answer == _ENCODED_TEXT:
+            return sent
+        if answer == _ENCODED_REFUSED_KEY:
+            raise EncodeError(f"{self.key!r} has no bytes under these flags")
+        if answer == _ENCODED_TOO_LONG:
+            raise EncodeError("the text is too long: a sequence has at most 256 bytes")
+        if answer in (_ENCODED_BAD_NUMBER, _ENCODED_BAD_TEXT):
+            raise EncodeError("a surrogate, or a bit that no flag has, names nothing")
+        if answer == _ENCODED_REFUSED_MEMORY:
+            raise _refused()
+        _fault()
 
 
 @dataclass(frozen=True)
@@ -191,6 +241,7 @@ _EVENT_CURSOR_POSITION, _EVENT_RESIZE, _EVENT_KEYBOARD_FLAGS, _EVENT_CSI, _EVENT
 _NO_CODE = 0xFFFFFFFF
 
 _PARSER = ctypes.POINTER(_RawExtended)
+_REPORT = ctypes.POINTER(_RawReport)
 _EVENT = ctypes.POINTER(_RawExtendedEvent)
 
 # The calls of termwiz_input.h: the type of the result, and those of the arguments.
@@ -207,6 +258,10 @@ _CALLS: Dict[str, Tuple[Any, List[Any]]] = {
     "tw_extended_is_paste_open": (ctypes.c_bool, [_PARSER]),
     "tw_extended_end_paste": (ctypes.c_uint32, [_PARSER, _EVENT]),
     "tw_extended_reset": (ctypes.c_size_t, [_PARSER]),
+    "tw_encode_kitty": (
+        ctypes.c_uint32,
+        [_REPORT, _BYTES, ctypes.c_size_t, ctypes.c_uint8, _BYTES, ctypes.c_size_t, ctypes.POINTER(ctypes.c_size_t)],
+    ),
 }
 _declare(_library, _CALLS)
 
@@ -217,6 +272,23 @@ _actions = {action.value: action for action in KeyAction}
 
 def _character(code: int) -> Optional[str]:
     return None if code == _NO_CODE else chr(code)
+
+
+def _code(character: Optional[str]) -> int:
+    if character is None:
+        return _NO_CODE
+    if not isinstance(character, str):
+        raise TypeError(f"a character or None is required, not {type(character).__name__}")
+    return _number_and_detail(character)[1]
+
+
+def _raw_report(report: KeyReport) -> _RawReport:
+    """The numbers of a report. What no enum or set of flags has is refused, since ctypes would cut a number that is too large."""
+    key, held, action = report.key, report.modifiers, report.action
+    if not isinstance(held, Held) or not isinstance(action, KeyAction):
+        raise TypeError("a KeyReport has Held modifiers and a KeyAction")
+    number, detail = (0, _whole(key, 0, 0xFFFFFFFF)) if isinstance(key, int) else _number_and_detail(key)
+    return _RawReport(action.value, _whole(held.value, 0, 255), number, detail, _code(report.shifted), _code(report.base))
 
 
 @functools.lru_cache(maxsize=4096)

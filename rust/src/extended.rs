@@ -2,7 +2,8 @@
 //!
 //! It reads what [`InputParser`](crate::input::InputParser) reads, and what terminals send beyond termwiz's sequence table: the position of
 //! the cursor, focus reports, colours and other strings, further mouse reports, control sequences, and Kitty's keyboard protocol.
-//! docs/EXTENDED.md of the repository says what bytes mean to it.
+//! docs/EXTENDED.md of the repository says what bytes mean to it. [`KeyReport::encode`] is the other way: what a terminal sends for a key
+//! under Kitty's keyboard protocol.
 //!
 //! ```
 //! use hedrugal::extended::{ExtendedEvent, ExtendedParser, Rows};
@@ -16,9 +17,11 @@
 //!     }
 //! }
 //! ```
+mod encode;
 mod events;
 mod parser;
 
 pub use crate::input::flags::KittyModifiers;
+pub use encode::KittyEncodeError;
 pub use events::{ExtendedEvent, KeyEventKind, KeyReport, ReportedKey};
 pub use parser::{ExtendedParser, Rows};

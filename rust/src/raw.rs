@@ -33,12 +33,16 @@ pub const WAITING_PASTE: u32 = 4;
 // numbers.txt: encoded const
 /// The key's text, which may be empty.
 pub const ENCODED_TEXT: u32 = 0;
-/// A function key that has no text: only F1 to F24 have one.
+/// The key has no text. Of tw_encode it is a function key, since only F1 to F24 have one.
 pub const ENCODED_REFUSED_KEY: u32 = 1;
 /// Memory was refused. The call may be made again.
 pub const ENCODED_REFUSED_MEMORY: u32 = 2;
 /// A number names nothing.
 pub const ENCODED_BAD_NUMBER: u32 = 3;
+/// The key's sequence would have more than 256 bytes. Only a key report with a long text has such a one.
+pub const ENCODED_TOO_LONG: u32 = 4;
+/// The text of the key report isn't UTF-8.
+pub const ENCODED_BAD_TEXT: u32 = 5;
 // numbers.txt: end
 
 // numbers.txt: found const
@@ -313,4 +317,13 @@ extern "C" {
     pub fn tw_extended_is_paste_open(parser: *mut Extended) -> bool;
     pub fn tw_extended_end_paste(parser: *mut Extended, event: *mut ExtendedEvent) -> u32;
     pub fn tw_extended_reset(parser: *mut Extended) -> usize;
+    pub fn tw_encode_kitty(
+        report: *const KeyReport,
+        text: *const u8,
+        text_len: usize,
+        flags: u8,
+        out: *mut u8,
+        len: usize,
+        sent_len: *mut usize,
+    ) -> u32;
 }

@@ -3,9 +3,9 @@
 //
 // `malloc` and `realloc` are this program's own, over the C library's (glibc's names for them), so all requests come here. What a thread of
 // the tests asks for is refused if that thread said so.
-use hedrugal::extended::{ExtendedEvent, ExtendedParser, Rows};
+use hedrugal::extended::{ExtendedEvent, ExtendedParser, KeyEventKind, KeyReport, KittyEncodeError, KittyModifiers, ReportedKey, Rows};
 use hedrugal::input::{AllocError, EncodeError, InputEvent, InputParser, KeyCode, KeyCodeEncodeModes, KeyboardEncoding};
-use hedrugal::input::{Modifiers, ParseError, Waiting};
+use hedrugal::input::{KittyKeyboardFlags, Modifiers, ParseError, Waiting};
 use hedrugal::keymap::{Found, InsertError, KeyMap};
 use std::cell::Cell;
 use std::ffi::c_void;
@@ -306,6 +306,35 @@ fn encodes_after_a_refusal() {
     }
     assert!(number > 2);
     assert_eq!(encode().as_deref(), Ok("\x1b[1;3D"));
+}
+
+#[test]
+fn encodes_reports_after_a_refusal() {
+    let report = KeyReport {
+        key: ReportedKey::Named(KeyCode::Char('a')),
+        modifiers: KittyModifiers::SHIFT,
+        kind: KeyEventKind::Press,
+        shifted: Some('A'),
+        base: None,
+        text: "A".to_string(),
+    };
+    let long = KeyReport {
+        text: "x".repeat(300),
+        ..report.clone()
+    };
+    for (report, flags, wanted) in [
+        (&report, KittyKeyboardFlags::all(), "\x1b[97:65;2;65u"),
+        (&long, KittyKeyboardFlags::NONE, &long.text[..]),
+    ] {
+        let encode = || report.try_encode(flags);
+        let mut number = 1;
+        while refusing(number, encode).1 > 0 {
+            assert_eq!(refusing(number, encode).0, Err(KittyEncodeError::Memory));
+            number += 1;
+        }
+        assert!(number > 2);
+        assert_eq!(encode().as_deref(), Ok(wanted));
+    }
 }
 
 // A map of so many keys, each with its number.

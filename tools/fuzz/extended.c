@@ -1,4 +1,4 @@
-/* The events of the extended parser don't depend on how a stream is cut.
+/* The events of the extended parser don't depend on how a stream is cut, and its keys can be encoded and read back.
  *
  * An input is a byte whose five low bits are a number of pieces, a byte for each of them, and the stream. The five low bits of a piece's
  * byte are its size. If another bit is set, a flush of the Escape key is asked for after the piece, which has to leave any rest but ESC and
@@ -6,11 +6,15 @@
  * Kitty's reading of the rows.
  *
  * The stream is read whole and in these pieces. Then nothing more comes, and an open paste is ended. Events, the bytes that they bring and
- * rests have to be the same each time. A flush leaves nothing outside a paste. */
+ * rests have to be the same each time. A flush leaves nothing outside a paste.
+ *
+ * The first keys of the stream are encoded. Under all flags of Kitty's protocol what is sent is read as one key report, and that is then
+ * read back whole. Under other flags, one set for each key, a room that is too short gets the front of what is sent. */
 #include "fuzz.h"
 #include <string.h>
 
 enum { STREAM_MAX = 4096, LAST_BY_BYTE = 0x20, KITTY = 0x40, SIZE = 0x1f, LONGEST_REST = 65536 };
+enum { ALL_FLAGS = 2 * TW_KITTY_REPORT_ASSOCIATED_TEXT - 1, SENT_MAX = 256, ENCODED_KEYS = 40 };
 
 /* What a reading gave. */
 typedef struct reading {
@@ -24,6 +28,16 @@ static reading whole, cut;
 static tw_extended parsers[2] = { TW_EXTENDED_NONE, TW_EXTENDED_NONE };
 static tw_extended *parser;
 static room given, taken, text;
+
+/* What is sent for a key. */
+typedef struct sent {
+  uint32_t encoded;
+  size_t len;
+  uint8_t bytes[3 * STREAM_MAX];
+} sent;
+
+static tw_extended back = TW_EXTENDED_NONE;
+static room told, typed, out, out_len;
 
 static bool is_key(const tw_extended_event *event) { return event->kind == TW_EVENT_KEY || event->kind == TW_EVENT_REPORT; }
 
@@ -129,6 +143,7 @@ static void read_end(reading *it, const uint8_t *stream, size_t len) {
 static void begin(reading *it) {
   it->count = it->texts_len = it->rest = 0;
   given.is_at_end = taken.is_at_end = text.is_at_end = false;
+  told.is_at_end = typed.is_at_end = out.is_at_end = out_len.is_at_end = false;
   tw_extended_reset(parser);
   tw_extended_drop_text(parser);
 }
@@ -159,6 +174,74 @@ static void compare(void) {
   HOLDS(whole.rest == cut.rest && whole.flushed_rest == cut.flushed_rest);
 }
 
+/* Encodes a key into a room of `capacity` bytes, and checks what was written. */
+static void encode(sent *it, const tw_key_report *report, const uint8_t *of_key, size_t len, uint8_t flags, size_t capacity) {
+  room_with(&told, report, sizeof *report);
+  room_with(&typed, of_key, len);
+  room_of(&out, capacity);
+  room_of(&out_len, sizeof(size_t));
+  const tw_key_report *passed = (const tw_key_report *)told.at;
+  it->encoded = tw_encode_kitty(passed, pointer_to(&typed), len, flags, pointer_to(&out), capacity, (size_t *)out_len.at);
+  memcpy(&it->len, out_len.at, sizeof it->len);
+  HOLDS(is_unchanged(&told, report) && is_unchanged(&typed, of_key) && is_untouched(&out_len, sizeof(size_t)));
+  HOLDS(it->encoded == TW_TEXT || it->encoded == TW_REFUSED_KEY || it->encoded == TW_TOO_LONG);
+  HOLDS(it->encoded == TW_TEXT || it->len == 0);
+  HOLDS(it->encoded != TW_TOO_LONG || len > 0);
+  HOLDS(it->len <= SENT_MAX || it->len == len);
+  size_t written = it->len < capacity ? it->len : capacity;
+  HOLDS(is_untouched(&out, written) && written <= sizeof it->bytes);
+  memcpy(it->bytes, out.at, written);
+}
+
+static bool same_sent(const sent *one, const sent *other, size_t len) {
+  return one->encoded == other->encoded && one->len == other->len && memcmp(one->bytes, other->bytes, len) == 0;
+}
+
+/* Encodes a key under all flags, and reads what is sent as one key report. Returns false if nothing is sent. */
+static bool send_and_read(const tw_extended_event *event, const uint8_t *of_key, tw_extended_event *read, uint8_t *of_read) {
+  static sent it;
+  tw_extended_event more;
+  encode(&it, &event->report, of_key, event->text_len, ALL_FLAGS, SENT_MAX);
+  note(0x70000u | it.encoded, event->report.key);
+  HOLDS(it.encoded != TW_REFUSED_KEY || event->kind == TW_EVENT_KEY);
+  if (it.encoded != TW_TEXT) return false;
+  HOLDS(it.len > 0 && it.len <= SENT_MAX && tw_extended_feed(&back, it.bytes, it.len));
+  HOLDS(tw_extended_next(&back, true, read) == TW_EVENT && read->kind == TW_EVENT_REPORT);
+  HOLDS(read->report.action == event->report.action && read->report.modifiers == event->report.modifiers);
+  HOLDS(tw_extended_text(&back, of_read, SENT_MAX) == read->text_len && (read->text_len == event->text_len || read->text_len == 0));
+  HOLDS(memcmp(of_read, of_key, read->text_len) == 0);
+  HOLDS(tw_extended_next(&back, true, &more) == TW_NONE && tw_extended_waiting(&back) == 0);
+  return true;
+}
+
+/* What was read has the names that the numbers of keys have, and nothing that isn't sent. So it is read back whole. */
+static void read_back(const tw_extended_event *event, const uint8_t *of_key) {
+  static uint8_t of_first[SENT_MAX], of_second[SENT_MAX];
+  tw_extended_event first, second;
+  if (!send_and_read(event, of_key, &first, of_first)) return;
+  HOLDS(send_and_read(&first, of_first, &second, of_second));
+  HOLDS(same_extended_event(&first, &second));
+}
+
+/* A key under some flags, into a room that has enough and into one that may not. */
+static void encode_cut(const tw_extended_event *event, const uint8_t *of_key, uint8_t flags) {
+  static sent all, front;
+  encode(&all, &event->report, of_key, event->text_len, flags, sizeof all.bytes);
+  encode(&front, &event->report, of_key, event->text_len, flags, flags / 2);
+  HOLDS(same_sent(&all, &front, front.len < flags / 2u ? front.len : flags / 2u));
+  note(0x80000u | all.encoded, flags);
+}
+
+static void encode_keys(void) {
+  const uint8_t *of_event = whole.texts;
+  uint8_t count = 0;
+  for (size_t i = 0; i < whole.count && count < ENCODED_KEYS; of_event += whole.events[i++].text_len) {
+    if (!is_key(&whole.events[i])) continue;
+    read_back(&whole.events[i], of_event);
+    encode_cut(&whole.events[i], of_event, count++ & ALL_FLAGS);
+  }
+}
+
 int LLVMFuzzerTestOneInput(const uint8_t *bytes, size_t len) {
   input it = { bytes, len };
   size_t count, stream_len;
@@ -167,8 +250,10 @@ int LLVMFuzzerTestOneInput(const uint8_t *bytes, size_t len) {
   const uint8_t *stream = take_bytes(&it, STREAM_MAX, &stream_len);
   parser = &parsers[(first & KITTY) != 0];
   if (!parser->live) HOLDS(tw_extended_init(parser, first & KITTY ? TW_ROWS_KITTY : TW_ROWS_PORT));
+  if (!back.live) HOLDS(tw_extended_init(&back, TW_ROWS_KITTY));
   read_whole(stream, stream_len);
   read_cut(pieces, count, first & LAST_BY_BYTE, stream, stream_len);
   compare();
+  encode_keys();
   return 0;
 }

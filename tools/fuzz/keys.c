@@ -1,8 +1,10 @@
-/* Texts and names of keys, into rooms of every size.
+/* Texts and names of keys, into rooms of every size, and what is sent for key reports.
  *
  * An input is the arguments of one call of tw_encode: the key (2 bytes), the detail (4), the modifiers (2), flags of bool (1), the
  * encoding (1), kitty's flags (1), the level of modifyOtherKeys (8), and which request for memory is refused (1). If the flags haven't
- * 0x80, numbers that name nothing become others that name something, since few numbers do.
+ * 0x80, numbers that name nothing become others that name something, since few numbers do. The same key and kitty's flags are those of a
+ * call of tw_encode_kitty, with what happened to the key (1; 0x80 makes it a functional key without a name), the modifiers (1), shifted
+ * (4), base (4), and the text, which is what is left.
  *
  * The answer has to be the one that the header promises for these numbers. A room that is too short gets as much of the text as it has
  * room for, and the rest of a longer one stays as it was. What isn't read makes no difference. A refused call writes nothing, and made
@@ -11,7 +13,7 @@
 #include "fuzz.h"
 #include <string.h>
 
-enum { TEXT_MAX = 64, NAME_MAX = 21, KEYS = TW_KEY_INTERNAL_PASTE_END };
+enum { TEXT_MAX = 128, TYPED_MAX = 12, NAME_MAX = 21, KEYS = TW_KEY_INTERNAL_PASTE_END };
 enum { ALL_MODIFIERS = 2 * TW_MOD_RIGHT_SHIFT - TW_MOD_SHIFT, ALL_KITTY = 2 * TW_KITTY_REPORT_ASSOCIATED_TEXT - 1, FUNCTIONS = 24 };
 
 typedef struct press {
@@ -28,7 +30,15 @@ typedef struct answer {
   uint8_t text[TEXT_MAX];
 } answer;
 
-static room out, out_len, modes;
+/* A key report with its text, and the flags. */
+typedef struct told_key {
+  tw_key_report report;
+  uint8_t flags;
+  size_t len;
+  uint8_t text[TYPED_MAX];
+} told_key;
+
+static room out, out_len, modes, told, typed;
 
 static bool is_scalar(uint32_t code) { return code <= 0x10ffff && (code < 0xd800 || code > 0xdfff); }
 
@@ -44,7 +54,7 @@ static press named(press is) {
   return is;
 }
 
-static press take_press(input *it) {
+static press take_press(input *it, bool *stays) {
   press is = {.key = (uint16_t)take_number(it, 2)};
   is.detail = (uint32_t)take_number(it, 4);
   is.modifiers = (uint16_t)take_number(it, 2);
@@ -56,7 +66,8 @@ static press take_press(input *it) {
   is.modes.encoding = take_byte(it);
   is.modes.kitty_flags = take_byte(it);
   is.modes.modify_other_keys = (int64_t)take_number(it, 8);
-  return flags & 0x80 ? is : named(is);
+  *stays = flags & 0x80;
+  return *stays ? is : named(is);
 }
 
 /* Makes the call with a room of `room` bytes, and checks what it wrote. */
@@ -154,6 +165,104 @@ static void check_encoding(const press *is, unsigned number) {
   note_press(is, &whole);
 }
 
+static told_key take_report(input *it, const press *is, bool stays) {
+  told_key key = {.flags = is->modes.kitty_flags};
+  tw_key_report *report = &key.report;
+  report->key = is->key;
+  report->detail = is->detail;
+  report->action = take_byte(it);
+  report->modifiers = take_byte(it);
+  report->shifted = (uint32_t)take_number(it, 4);
+  report->base = (uint32_t)take_number(it, 4);
+  const uint8_t *text = take_bytes(it, TYPED_MAX, &key.len);
+  if (key.len > 0) memcpy(key.text, text, key.len);
+  if (stays) return key;
+  if (report->action & 0x80) {
+    report->key = 0;
+    report->detail = 57344 + report->detail % 128;
+  }
+  report->action = report->action % 3 + TW_ACTION_PRESS;
+  if (!is_scalar(report->shifted)) report->shifted = TW_NO_CODE;
+  if (!is_scalar(report->base)) report->base = TW_NO_CODE;
+  return key;
+}
+
+/* Makes the call with a room of `room` bytes, and checks what it wrote. */
+static answer encode_report(const told_key *key, size_t room) {
+  answer got = {.len = 0};
+  room_of(&out, room);
+  room_of(&out_len, sizeof(size_t));
+  room_with(&told, &key->report, sizeof key->report);
+  room_with(&typed, key->text, key->len);
+  const tw_key_report *report = (const tw_key_report *)told.at;
+  got.encoded = tw_encode_kitty(report, pointer_to(&typed), key->len, key->flags, pointer_to(&out), room, (size_t *)out_len.at);
+  memcpy(&got.len, out_len.at, sizeof got.len);
+  HOLDS(is_unchanged(&told, &key->report) && is_unchanged(&typed, key->text) && is_untouched(&out_len, sizeof(size_t)));
+  HOLDS(got.len <= TEXT_MAX && (got.encoded == TW_TEXT || got.len == 0));
+  size_t written = got.len < room ? got.len : room;
+  HOLDS(is_untouched(&out, written));
+  memcpy(got.text, out.at, written);
+  return got;
+}
+
+/* How many bytes at the front are a character in UTF-8, 0 if they aren't one. */
+static size_t character_len(const uint8_t *text, size_t len) {
+  size_t more = *text < 0x80 ? 0 : *text < 0xc2 ? len : *text < 0xe0 ? 1 : *text < 0xf0 ? 2 : *text < 0xf5 ? 3 : len;
+  uint32_t code = more == 0 ? *text : *text & (0x3fu >> more);
+  if (more >= len) return 0;
+  for (size_t i = 1; i <= more; i++) {
+    if ((text[i] & 0xc0) != 0x80) return 0;
+    code = code << 6 | (text[i] & 0x3f);
+  }
+  bool is_short = (more == 2 && code < 0x800) || (more == 3 && code < 0x10000);
+  return is_scalar(code) && !is_short ? more + 1 : 0;
+}
+
+static bool is_utf8(const uint8_t *text, size_t len) {
+  size_t at = 0, step = 1;
+  for (; at < len && step > 0; at += step) step = character_len(text + at, len - at);
+  return step > 0;
+}
+
+static bool is_bad_report(const told_key *key) {
+  const tw_key_report *report = &key->report;
+  if (report->action < TW_ACTION_PRESS || report->action > TW_ACTION_RELEASE || report->key > KEYS || key->flags & ~ALL_KITTY) return true;
+  if (report->key == TW_KEY_CHAR && !is_scalar(report->detail)) return true;
+  if (report->key == TW_KEY_FUNCTION && report->detail > 255) return true;
+  if (report->shifted != TW_NO_CODE && !is_scalar(report->shifted)) return true;
+  return report->base != TW_NO_CODE && !is_scalar(report->base);
+}
+
+/* Checks the answer that the header promises. A key without bytes is refused: that can't be told from the numbers alone. */
+static void check_told(const told_key *key, const answer *whole) {
+  if (is_bad_report(key)) HOLDS(whole->encoded == TW_BAD_NUMBER);
+  else if (!is_utf8(key->text, key->len)) HOLDS(whole->encoded == TW_BAD_TEXT);
+  else HOLDS(whole->encoded == TW_TEXT || whole->encoded == TW_REFUSED_KEY);
+  HOLDS(whole->encoded != TW_REFUSED_KEY || key->report.key != TW_KEY_CHAR);
+  note(0x70000u | whole->encoded, (unsigned)whole->len);
+  note(0x80000u | key->report.key << 5 | key->flags, key->report.action);
+}
+
+static void check_report(const told_key *key, unsigned number) {
+  told_key other = *key;
+  if (key->report.key > TW_KEY_CHAR && key->report.key != TW_KEY_FUNCTION) other.report.detail = ~other.report.detail;
+  answer whole = encode_report(key, TEXT_MAX), others = encode_report(&other, TEXT_MAX);
+  check_told(key, &whole);
+  HOLDS(same_answer(&whole, &others, TEXT_MAX));
+  for (size_t room = 0; room <= whole.len + 2; room++) {
+    answer part = encode_report(key, room);
+    HOLDS(same_answer(&part, &whole, room));
+  }
+  refuse_request(number);
+  answer got = encode_report(key, TEXT_MAX);
+  bool is_refused = refusals() > 0;
+  HOLDS(requests() == 0 || (whole.encoded != TW_BAD_NUMBER && whole.encoded != TW_BAD_TEXT));
+  refuse_request(0);
+  HOLDS((got.encoded == TW_REFUSED_MEMORY) == is_refused);
+  if (is_refused) got = encode_report(key, TEXT_MAX);
+  HOLDS(same_answer(&got, &whole, TEXT_MAX));
+}
+
 /* Asks for the name of a key in a room, and checks that the room has as much of it as fits, and a zero after it if that fits too. For a
  * number that is no key's nothing is written. */
 static size_t name_of(uint16_t key, size_t room) {
@@ -178,10 +287,14 @@ static void check_name(uint16_t key) {
 
 int LLVMFuzzerTestOneInput(const uint8_t *bytes, size_t len) {
   input it = {bytes, len};
-  press is = take_press(&it);
+  bool stays;
+  press is = take_press(&it, &stays);
   refuse_request(0);
-  out.is_at_end = out_len.is_at_end = modes.is_at_end = false;
-  check_encoding(&is, 1 + take_byte(&it) % 8u);
+  out.is_at_end = out_len.is_at_end = modes.is_at_end = told.is_at_end = typed.is_at_end = false;
+  unsigned refused = 1 + take_byte(&it) % 8u;
+  check_encoding(&is, refused);
+  told_key key = take_report(&it, &is, stays);
+  check_report(&key, refused);
   check_name(is.key);
   HOLDS(blocks_of(TESTED) == 0);
   return 0;

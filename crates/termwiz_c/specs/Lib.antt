@@ -4,6 +4,7 @@ pub mod ExtendedCalls
 pub mod ExtendedEvents
 pub mod KeymapCalls
 pub mod Keys
+pub mod KittyCalls
 pub mod Lent
 pub mod Owned
 pub mod Presses

@@ -1,5 +1,6 @@
 -- What the numbers of a key that is to be encoded stand for, and the text that it has.
 use Rattle.std.specs.Prelude.{◌≡◌, ℕ, Bool, true, List, [], Option, Some, None, length, if◌then◌else◌}
+use Rattle.termwiz_base.specs.declared.kitty.KittyKeyboardFlags.{KittyKeyboardFlags}
 use Rattle.termwiz_base.specs.declared.modifiers.Modifiers.{Modifiers}
 use Rattle.termwiz_base.specs.Bits.{HasEvery}
 use Rattle.termwiz_base.specs.Kitty as kitty
@@ -17,12 +18,16 @@ use Rattle.termwiz_c.specs.Keys.{StandFor}
 abbrev pub AreModifiers : Modifiers → ℕ → Type 0
 AreModifiers held bits = (held.0 ≡ bits) × HasEvery modifiers.every_flag bits
 
+-- these flags of kitty's protocol have the bits, and each of the bits has a name
+abbrev pub AreFlags : KittyKeyboardFlags → ℕ → Type 0
+AreFlags asked bits = (asked.0 ≡ bits) × HasEvery kitty.every_flag bits
+
 -- this encoding has the number, and kitty's the flags, of which each has a name
 abbrev pub IsEncoding : KeyboardEncoding → ℕ → ℕ → Type 0
 IsEncoding Xterm number flags = number ≡ 0
 IsEncoding CsiU number flags = number ≡ 1
 IsEncoding Win32 number flags = number ≡ 2
-IsEncoding (Kitty asked) number flags = (number ≡ 3) × (asked.0 ≡ flags) × HasEvery kitty.every_flag flags
+IsEncoding (Kitty asked) number flags = (number ≡ 3) × AreFlags asked flags
 
 -- these are the modes that the numbers stand for
 abbrev pub AreModes : KeyCodeEncodeModes → CModes → Type 0

@@ -38,14 +38,14 @@ const EVENT_DCS: u8 = 12;
 const EVENT_APC: u8 = 13;
 
 // What happened to a key.
-const ACTION_PRESS: u8 = 1;
+pub(crate) const ACTION_PRESS: u8 = 1;
 
-const ACTION_REPEAT: u8 = 2;
+pub(crate) const ACTION_REPEAT: u8 = 2;
 
-const ACTION_RELEASE: u8 = 3;
+pub(crate) const ACTION_RELEASE: u8 = 3;
 
 // What stands for a code point that the terminal didn't report.
-const NO_CODE: u32 = 0xffff_ffff;
+pub(crate) const NO_CODE: u32 = 0xffff_ffff;
 
 /// `tw_key_report`: a key report in numbers.
 #[repr(C)]

@@ -2,7 +2,8 @@
 //! flags and answers, as the C header lists them.
 //!
 //! The caller keeps a `tw_parser`, all zero at first, gives bytes to it by `tw_parser_feed` and takes the events, one at a time,
-//! by `tw_parser_next`. A `tw_keymap` is kept in the same way.
+//! by `tw_parser_next`. A `tw_keymap` is kept in the same way. `tw_encode` and `tw_encode_kitty` go the other way, from a key to the
+//! bytes that a terminal sends for it.
 #![tactic(auto)]
 
 ghost use Rattle.std.specs.Prelude.{◌≡◌, ◌≢◌, ◌≤◌, ◌↔◌, ◌+◌, ◌*◌, ◌++◌, [], ◌∷◌, length, true, false, None, IsTrue};
@@ -19,9 +20,11 @@ mod extended_and_text;
 mod extended_calls;
 mod extended_events;
 mod extended_handle;
+mod key_reports;
 mod keymap_calls;
 mod keymap_handle;
 mod keys;
+mod kitty_calls;
 mod modes;
 mod owned_extended;
 mod owned_keymap;
@@ -70,7 +73,7 @@ const WAITING_CHARACTER: u32 = 3;
 
 const WAITING_PASTE: u32 = 4;
 
-// The answers of `tw_encode`.
+// The answers of `tw_encode` and `tw_encode_kitty`.
 const TEXT: u32 = 0;
 
 const REFUSED_KEY: u32 = 1;
@@ -78,6 +81,10 @@ const REFUSED_KEY: u32 = 1;
 const REFUSED_MEMORY: u32 = 2;
 
 const BAD_NUMBER: u32 = 3;
+
+const TOO_LONG: u32 = 4;
+
+const BAD_TEXT: u32 = 5;
 
 /// Makes a parser, and frees the one that was there. If memory is refused, the answer is false and nothing changes.
 #[unsafe(no_mangle)]

@@ -1,10 +1,11 @@
 // What the numbers of a key that is to be encoded stand for.
 ghost use Rattle.std.specs.Prelude.{◌≡◌, ◌↔◌, Some};
+ghost use Rattle.termwiz_base.specs.declared.kitty.KittyKeyboardFlags.{KittyKeyboardFlags as Asked};
 ghost use Rattle.termwiz_base.specs.declared.modifiers.Modifiers.{Modifiers as Held};
 ghost use Rattle.termwiz_input.specs.KeyboardEncoding.{KeyboardEncoding as Encoding};
 ghost use Rattle.termwiz_input.specs.KeyCodeEncodeModes.{KeyCodeEncodeModes as Modes};
 ghost use Rattle.termwiz_c.specs.declared.modes.Press.{Press as Pressed};
-ghost use Rattle.termwiz_c.specs.Presses.{AreModes, AreModifiers, IsEncoding, IsPress};
+ghost use Rattle.termwiz_c.specs.Presses.{AreFlags, AreModes, AreModifiers, IsEncoding, IsPress};
 
 use crate::keys::key_of;
 use bitflags::Flags;
@@ -45,8 +46,15 @@ fn modifiers_of(bits: u16) -> Option<Modifiers>
     Modifiers::from_bits(bits)
 }
 
-// The encoding with this number. `None` if there is none, or a bit of kitty's flags has no name.
+// The flags of kitty's protocol with these bits. `None` if a bit has no name.
 #[tactic(auto, using(std::proofs::lemmas::Nat::and_comm), unfolding(bitflags::proofs::OnLiterals::bitflags_on_literals))]
+pub(crate) fn flags_of(bits: u8) -> Option<KittyKeyboardFlags>
+    ensures { (asked : Asked) → (result ≡ Some asked) ↔ AreFlags asked bits }
+{
+    KittyKeyboardFlags::from_bits(u16::from(bits))
+}
+
+// The encoding with this number. `None` if there is none, or a bit of kitty's flags has no name.
 fn encoding_of(number: u8, kitty_flags: u8) -> Option<KeyboardEncoding>
     ensures { (encoding : Encoding) → (result ≡ Some encoding) ↔ IsEncoding encoding number kitty_flags }
 {
@@ -54,7 +62,7 @@ fn encoding_of(number: u8, kitty_flags: u8) -> Option<KeyboardEncoding>
         0 => Some(KeyboardEncoding::Xterm),
         1 => Some(KeyboardEncoding::CsiU),
         2 => Some(KeyboardEncoding::Win32),
-        3 => Some(KeyboardEncoding::Kitty(KittyKeyboardFlags::from_bits(u16::from(kitty_flags))?)),
+        3 => Some(KeyboardEncoding::Kitty(flags_of(kitty_flags)?)),
         _ => None,
     }
 }

@@ -1,6 +1,7 @@
 // The calls, as a C program makes them.
 mod extended;
 mod keymaps;
+mod kitty;
 mod rows;
 
 use crate::events::NO_EVENT;

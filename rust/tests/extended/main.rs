@@ -1,4 +1,5 @@
 // The extended parser, by the crate's public calls alone.
+mod encode;
 mod examples;
 mod lines;
 mod long;

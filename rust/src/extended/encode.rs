@@ -1,0 +1,155 @@
+// Key reports to the bytes that a terminal sends for them.
+use super::{KeyEventKind, KeyReport, ReportedKey};
+use crate::input::{KittyKeyboardFlags, FAULT};
+use crate::raw;
+use std::{error, fmt};
+
+/// Why [`KeyReport::try_encode`] made no text.
+///
+/// ```
+/// use hedrugal::extended::KittyEncodeError;
+///
+/// assert_eq!(KittyEncodeError::UnknownKey.to_string(), "the protocol has no number for the key");
+/// ```
+#[derive(Debug, Clone, Copy, PartialEq, Eq)]
+pub enum KittyEncodeError {
+    /// The protocol has no number for the key, or without `DISAMBIGUATE_ESCAPE_CODES` xterm no sequence.
+    UnknownKey,
+    /// The sequence would have more than 256 bytes. Only a report with a long text has such a one.
+    TooLong,
+    /// Memory was refused. The call may be made again.
+    Memory,
+}
+
+impl fmt::Display for KittyEncodeError {
+    fn fmt(&self, f: &mut fmt::Formatter<'_>) -> fmt::Result {
+        f.write_str(match self {
+            KittyEncodeError::UnknownKey => "the protocol has no number for the key",
+            KittyEncodeError::TooLong => "the text of the key is too long",
+            KittyEncodeError::Memory => "out of memory",
+        })
+    }
+}
+
+impl error::Error for KittyEncodeError {}
+
+// As many bytes as a sequence may have.
+const ROOM: usize = 256;
+
+impl KeyReport {
+    /// Returns what a terminal sends for the key, if the program asked for these flags of Kitty's keyboard protocol. It is empty for a key
+    /// that isn't told, as a release without `REPORT_EVENT_TYPES`. Of the report only what a flag asks for is sent, and a text with
+    /// control characters counts as none. Bits of `flags` that no flag has don't count. A terminal or a multiplexer calls it.
+    ///
+    /// The rules are those of Kitty's page ["Comprehensive keyboard handling in terminals"][page]. Under all flags an
+    /// [`ExtendedParser`](super::ExtendedParser) with [`Rows::Kitty`](super::Rows::Kitty) reads back each report that a terminal can send.
+    ///
+    /// ```
+    /// use hedrugal::extended::{KeyEventKind, KeyReport, KittyModifiers, ReportedKey};
+    /// use hedrugal::input::{KeyCode, KittyKeyboardFlags};
+    ///
+    /// let released = KeyReport {
+    ///     key: ReportedKey::Named(KeyCode::UpArrow),
+    ///     modifiers: KittyModifiers::CTRL,
+    ///     kind: KeyEventKind::Release,
+    ///     shifted: None,
+    ///     base: None,
+    ///     text: String::new(),
+    /// };
+    /// assert_eq!(released.encode(KittyKeyboardFlags::REPORT_EVENT_TYPES).as_deref(), Ok("\x1b[1;5:3A"));
+    /// assert_eq!(released.encode(KittyKeyboardFlags::NONE).as_deref(), Ok(""));
+    /// ```
+    ///
+    /// # Errors
+    ///
+    /// `UnknownKey` for a key that the flags leave without bytes, and `TooLong` for a text that no sequence can carry.
+    ///
+    /// # Panics
+    ///
+    /// If memory is refused.
+    ///
+    /// [page]: https://sw.kovidgoyal.net/kitty/keyboard-protocol/
+    pub fn encode(&self, flags: KittyKeyboardFlags) -> Result<String, KittyEncodeError> {
+        let sent = self.try_encode(flags);
+        assert!(sent != Err(KittyEncodeError::Memory), "out of memory");
+        sent
+    }
+
+    /// Returns what [`KeyReport::encode`] returns.
+    ///
+    /// ```
+    /// use hedrugal::extended::{ExtendedParser, KittyEncodeError, ReportedKey, Rows};
+    /// use hedrugal::input::{KeyCode, KittyKeyboardFlags};
+    ///
+    /// let events = ExtendedParser::new(Rows::Kitty).parse_as_vec(b"\x1b[97;5u", true);
+    /// let mut report = events[0].key().unwrap();
+    /// assert_eq!(report.try_encode(KittyKeyboardFlags::all()).as_deref(), Ok("\x1b[97;5u"));
+    /// report.key = ReportedKey::Named(KeyCode::Copy);
+    /// assert_eq!(report.try_encode(KittyKeyboardFlags::all()), Err(KittyEncodeError::UnknownKey));
+    /// ```
+    ///
+    /// # Errors
+    ///
+    /// The same, and `Memory` if memory is refused.
+    pub fn try_encode(&self, flags: KittyKeyboardFlags) -> Result<String, KittyEncodeError> {
+        let mut room = [0; ROOM];
+        let len = self.encode_to(flags, &mut room)?;
+        let mut bytes = Vec::new();
+        bytes.try_reserve_exact(len).map_err(|_| KittyEncodeError::Memory)?;
+        match room.get(..len) {
+            Some(sent) => bytes.extend_from_slice(sent),
+            None => {
+                // The text alone is sent, and it is longer than a sequence may be.
+                bytes.resize(len, 0);
+                assert_eq!(self.encode_to(flags, &mut bytes)?, len, "{FAULT}");
+            }
+        }
+        Ok(String::from_utf8(bytes).expect(FAULT))
+    }
+
+    // Writes as many of the bytes as there is room for, and returns how many they are.
+    fn encode_to(&self, flags: KittyKeyboardFlags, out: &mut [u8]) -> Result<usize, KittyEncodeError> {
+        let report = self.raw();
+        let flags = u8::try_from((flags & KittyKeyboardFlags::all()).bits()).expect("each flag is below 256");
+        let mut len = 0;
+        // SAFETY: the pointers lead to values of their types that live through the call, with as many bytes as the lengths say.
+        let answer = unsafe {
+            raw::tw_encode_kitty(
+                &report,
+                self.text.as_ptr(),
+                self.text.len(),
+                flags,
+                out.as_mut_ptr(),
+                out.len(),
+                &mut len,
+            )
+        };
+        match answer {
+            raw::ENCODED_TEXT => Ok(len),
+            raw::ENCODED_REFUSED_KEY => Err(KittyEncodeError::UnknownKey),
+            raw::ENCODED_TOO_LONG => Err(KittyEncodeError::TooLong),
+            raw::ENCODED_REFUSED_MEMORY => Err(KittyEncodeError::Memory),
+            _ => unreachable!("{FAULT}"),
+        }
+    }
+
+    // The report as the library has it. Its text is passed beside it.
+    fn raw(&self) -> raw::KeyReport {
+        let (key, detail) = match self.key {
+            ReportedKey::Named(key) => (key.number(), key.detail()),
+            ReportedKey::Functional(number) => (0, number),
+        };
+        raw::KeyReport {
+            action: match self.kind {
+                KeyEventKind::Press => raw::ACTION_PRESS,
+                KeyEventKind::Repeat => raw::ACTION_REPEAT,
+                KeyEventKind::Release => raw::ACTION_RELEASE,
+            },
+            modifiers: self.modifiers.bits(),
+            key,
+            detail,
+            shifted: self.shifted.map_or(raw::NO_CODE, u32::from),
+            base: self.base.map_or(raw::NO_CODE, u32::from),
+        }
+    }
+}
