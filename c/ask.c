@@ -2,7 +2,7 @@
  *
  *     cc ask.c $(pkg-config --cflags --libs termwiz_c) -o ask && ./ask
  *
- * The last question is what the terminal is (DA1), which every terminal answers. Replies come in the order of the questions, so a reply
+ * The last question is what the terminal is (DA1), which nearly every terminal answers. Replies come in the order of the questions, so a reply
  * that hasn't come before that one won't come. Without any the program gives up after a second. Keys that are typed meanwhile are read as
  * keys, and no byte of a reply is taken for one. The terminal's settings are restored, also by a signal that ends the program. */
 #define _POSIX_C_SOURCE 200809L

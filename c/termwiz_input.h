@@ -32,7 +32,7 @@
  *
  * The caller owns all memory that it passes. The library keeps no pointer to it, and reads and writes nothing else of the caller's. A call
  * with a const pointer to a parser or a map changes neither the struct nor what it leads to. What a parser or a map owns it gets from
- * malloc and realloc, and tw_parser_free or tw_keymap_free frees it.
+ * malloc and realloc, and tw_parser_free, tw_extended_free or tw_keymap_free frees it.
  *
  * The library is built for Linux on x86-64, and so are its layouts: for anything else this header doesn't compile. The numbers are those
  * of c/numbers.txt, and a number never changes its meaning. */
@@ -548,8 +548,8 @@ typedef struct tw_extended_event {
   size_t text_len;      /* the number of bytes that the event brought, which tw_extended_text copies: see there */
 } tw_extended_event;
 
-/* Makes an extended parser with an empty buffer. If there was one, it is freed. The caller owes a tw_extended_free. Pass TW_ROWS_KITTY to a
- * program that turns Kitty's keyboard protocol on, and TW_ROWS_PORT to any other. It costs what a tw_parser costs.
+/* Makes an extended parser with an empty buffer. If there was one, it is freed. The caller owes a tw_extended_free. Pass TW_ROWS_KITTY
+ * if the program turns Kitty's keyboard protocol on, and TW_ROWS_PORT otherwise. It costs what a tw_parser costs.
  *
  * Returns false if memory is refused or rows is no enum tw_rows_read: then the parser is unchanged. */
 bool tw_extended_init(tw_extended *parser, uint32_t rows);
@@ -566,19 +566,20 @@ bool tw_extended_feed(tw_extended *parser, const uint8_t *bytes, size_t len);
 /* Consumes the item at the front of the buffer, and writes its event to *event. The caller calls this until it returns TW_NONE, and passes
  * more as to tw_parser_next.
  *
- * Returns an enum tw_next. *event is written only with TW_EVENT. With TW_NO_MEMORY, which only an event with bytes of its own can meet,
- * nothing changed. */
+ * Returns an enum tw_next. *event is written only with TW_EVENT. TW_NO_MEMORY comes only if a paste or an extra sequence is at the
+ * front. Then nothing changed. */
 uint32_t tw_extended_next(tw_extended *parser, bool more, tw_extended_event *event);
 
-/* Copies the bytes that the last such event brought to out, at most len of them: the text of a TW_EVENT_PASTE, the text that the key of a
- * TW_EVENT_REPORT types, if the terminal reported it, and the bytes of a TW_EVENT_CSI, _OSC, _DCS or _APC after ESC and the byte that
- * introduces it, those of a string without its end. The two texts are UTF-8. The rest of out is unchanged.
+/* Copies the bytes of the last event that brought some to out, at most len of them. A TW_EVENT_PASTE brings its text. A TW_EVENT_REPORT
+ * brings the text that the key types, if the terminal reported it. A TW_EVENT_CSI, _OSC, _DCS or _APC brings its bytes after ESC and the
+ * byte that introduces it, without the end of a string. The two texts are UTF-8. The rest of out is unchanged.
  *
  * Returns the number of all these bytes, as text_len has it: the parser keeps them until the next event of one of these kinds or
  * tw_extended_drop_text. Returns 0 if there are none, or if there is no parser. */
 size_t tw_extended_text(const tw_extended *parser, uint8_t *out, size_t len);
 
-/* Frees these bytes: tw_extended_text returns 0 until the next such event. If there are none or there is no parser, it does nothing. */
+/* Frees these bytes: tw_extended_text returns 0 until the next event that brings some. If there are none or there is no parser, it does
+ * nothing. */
 void tw_extended_drop_text(tw_extended *parser);
 
 /* Returns the number of bytes that are buffered, 0 if there is no parser. Once tw_extended_next returned TW_NONE, it is at most 65536, or

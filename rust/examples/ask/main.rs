@@ -2,8 +2,8 @@
 //!
 //!     TERMWIZ_C_DIR=DIR cargo run --example ask
 //!
-//! A terminal leaves a question without a reply if it doesn't know it. So the last question is for its attributes (DA1), which every
-//! terminal answers: once that reply came, no other will. The program waits for a second at most.
+//! A terminal leaves a question without a reply if it doesn't know it. So the last question is for its attributes (DA1), which
+//! nearly every terminal answers: once that reply came, no other will. The program waits for a second at most.
 //!
 //! What is typed meanwhile comes as events like any other. This program counts them; an editor would handle them. The terminal is restored
 //! whenever the program ends, also by SIGHUP, SIGINT, SIGQUIT and SIGTERM. A SIGTSTP stops it once the terminal is restored.
