@@ -79,9 +79,9 @@ fn replay_file(rt: &HostRuntime, name: &str) -> Result<usize, Failure> {
     let report = replay_lines(rt.alloc(), &mut replayer, Reader::Port, text.as_str())?;
     let fed = replayer.feeder.feedings;
     let asked = fed.saturating_add(replayer.encoder.encodings);
-    println!(
-        rt;
-        "{name}: {} lines, {asked} feedings, {} differ", report.lines, report.differing
+    println!(rt;
+        "{name}: {} lines, {asked} feedings, {} differ",
+        report.lines, report.differing
     )?;
     let differing = show(rt, name, report)?;
     if fed == 0 {
@@ -94,8 +94,7 @@ fn replay_file(rt: &HostRuntime, name: &str) -> Result<usize, Failure> {
 fn replay_extended(rt: &HostRuntime, name: &str, text: &str) -> Result<usize, Failure> {
     let mut replayer = new_replayer(rt)?;
     let report = replay_lines(rt.alloc(), &mut replayer, Reader::Extended, text)?;
-    println!(
-        rt;
+    println!(rt;
         "{name} by the extended parser: {} lines, {} feedings, {} with extra sequences, {} differ",
         report.lines, replayer.feeder.feedings, report.extra, report.differing
     )?;
