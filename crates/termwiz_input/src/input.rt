@@ -23,7 +23,7 @@ use crate::front::{AtFront, front, is_escape};
 pub use crate::head::character_at;
 use crate::key::{alt_key, copied, escape_key, plain_key};
 pub use crate::mouse_report::{FrontReport, is_mouse_report, mouse_report_at};
-use crate::paste::{begins_paste, lossy_text, next_search, paste_so_far};
+use crate::paste::{begins_paste, lacks_end, lossy_text, next_search, paste_so_far};
 use crate::printable_ascii::append_printable_ascii;
 use crate::waiting::kind_of;
 use std::alloc::{AllocError, Global};
@@ -45,8 +45,8 @@ pub enum ParseError {
     /// The bytes weren't taken: no event was given, and the parser is unchanged. Call again with the same bytes.
     #[error("input not taken: out of memory")]
     NotTaken,
-    /// The bytes were taken, and memory for the text of a paste was refused. The paste is still at the front of what waits:
-    /// call again with no bytes.
+    /// The bytes were taken, and memory for an event was refused: for the text of a paste, and in the extended parser for the text of a key
+    /// or the bytes of a sequence too. That item is still at the front of what is buffered: call again with no bytes.
     #[error("input taken: out of memory")]
     Taken,
 }
@@ -229,6 +229,22 @@ impl InputParser {
         if self.is_paste_open() {
             self.searched = next_search(self.buffer.as_slice());
         }
+    }
+
+    /// Whether an open paste is buffered: the waiting text begins with the start of a paste, and its end isn't there yet. Then no event needs
+    /// room, whatever flag is passed.
+    ///
+    /// It notes how far it searched, so that no call searches these bytes again.
+    pub fn awaits_paste_end(&mut self) -> bool
+        ensures open { IsTrue result ↔ IsOpenPaste self.old }
+        ensures same { self.new ≡ self.old }
+    {
+        let text = self.buffer.as_slice();
+        if !begins_paste(text) || !lacks_end(text, self.searched) {
+            return false;
+        }
+        self.searched = next_search(text);
+        true
     }
 
     /// Emits the Escape key, with ALT if ESC ESC stays buffered. `None` if anything else stays buffered; the parser is then unchanged.

@@ -48,6 +48,15 @@ pub(crate) fn pasted_bytes(text: &[u8], searched: usize) -> Option<(&[u8], usize
     }
 }
 
+// Whether the paste that begins a text is open: its end isn't there.
+pub(crate) fn lacks_end(text: &[u8], searched: usize) -> bool
+    requires begins { Begins START text.now }
+    requires searched { NoEndBefore text.now searched }
+    ensures { IsTrue result ↔ IsOpenPaste text.now }
+{
+    find_from(text, searched.max(PASTE_START.len()), PASTE_END).is_none()
+}
+
 // The text so far of an open paste. `None` if the text is none, or has the end of its paste.
 #[tactic(auto, using(crate::proofs::lemmas::pastes::EndSearch::still_open))]
 pub(crate) fn paste_so_far(alloc: Global, text: &[u8]) -> Result<Option<InputEvent>, AllocError>

@@ -114,6 +114,37 @@ fn ends_an_open_paste(rt: HostRuntime) -> Result<(), Fail> {
     Ok(())
 }
 
+// Texts, and whether each is a paste whose end isn't there.
+const OPEN: &[(&[u8], bool)] = &[
+    (b"\x1b[200~", true),
+    (b"\x1b[200~ab\x1b[201", true),
+    (b"\x1b[200~ab\x1b[201~", false),
+    (b"\x1b[200~\x1b[201~q", false),
+    (b"\x1b[200", false),
+    (b"q\x1b[200~", false),
+    (b"", false),
+];
+
+#[test]
+fn awaits_the_end_of_a_paste(rt: HostRuntime) -> Result<(), Fail> {
+    let alloc = rt.alloc();
+    for (text, awaits) in OPEN {
+        let mut parser = InputParser::new(alloc)?;
+        parser.feed(text)?;
+        assert_eq!(rt; parser.awaits_paste_end(), *awaits, "{text:?}");
+        assert_eq!(rt; parser.waiting_len(), text.len(), "{text:?}");
+    }
+    let text = open_paste(alloc, LONG)?;
+    let mut parser = InputParser::new(alloc)?;
+    parser.feed(&text)?;
+    assert!(rt; parser.awaits_paste_end());
+    parser.feed(b"\x1b[201~")?;
+    assert!(rt; !parser.awaits_paste_end());
+    assert!(rt; matches!(parser.next_event(MORE)?, Some(InputEvent::Paste(_))));
+    assert_eq!(rt; parser.waiting_len(), 0);
+    Ok(())
+}
+
 // A paste without an end, of so many bytes after its start.
 fn open_paste(alloc: Global, len: usize) -> Result<Vec<u8>, AllocError> {
     let mut text = b"\x1b[200~".to_vec(alloc)?;

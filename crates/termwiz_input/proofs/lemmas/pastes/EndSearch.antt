@@ -1,5 +1,5 @@
 -- Where the end marker of a paste first occurs in a text.
-use Rattle.std.proofs.Common.{◌≡◌, ℕ, ◌+◌, ◌-◌, ◌<◌, ◌≤◌, List, [], ◌++◌, length, take, drop, sym, ap, ◌∙◌, arith, append_assoc, length-append, length-drop, length-take-le, take-append-drop, drop-drop, ⊎_elim, Some, None}
+use Rattle.std.proofs.Common.{◌≡◌, ◌↔◌, ℕ, ◌+◌, ◌-◌, ◌<◌, ◌≤◌, Bool, true, false, not, IsTrue, Option, is_some, refl, List, [], ◌++◌, length, take, drop, sym, ap, ◌∙◌, arith, append_assoc, length-append, length-drop, length-take-le, take-append-drop, drop-drop, ⊎_elim, Some, None}
 use Rattle.std.proofs.lemmas.Bool.{cases_lt}
 use Rattle.std.proofs.lemmas.Grind.{common_steps}
 use Rattle.std.proofs.lemmas.List.{nil_from_length}
@@ -103,6 +103,14 @@ pub still_open : (u : List ℕ) → Begins START u → FindsNeedle u END 6 None 
 still_open u begins never =
     let split : u ≡ START ++ drop 6 u = begins.1 ∙ ap (λ t. START ++ t) (sym (ap (drop 6) begins.1)) in
     record { body = drop 6 u; splits = split; endless = endless u begins never (drop 6 u) split }
+
+-- a search tells whether a paste is open
+pub open_by_search : (u : List ℕ) (found : Option ℕ) (none : Bool) → Begins START u → FindsNeedle u END 6 found → is_some found ≡ not none
+    → IsTrue none ↔ IsOpenPaste u
+open_by_search u None true begins never e = (λ is. still_open u begins never, λ paste. refl)
+open_by_search u None false begins never e = absurd (cc (e))
+open_by_search u (Some k) true begins found e = absurd (cc (e))
+open_by_search u (Some k) false begins found e = (λ is. absurd (cc (is)), λ paste. absurd (ended u k begins found paste))
 
 -- the text of a paste whose end isn't found
 pub so_far : (u : List ℕ) (event : InputEvent) → Begins START u → FindsNeedle u END 6 None

@@ -1,5 +1,5 @@
 -- Where a search for the end of a paste may go on.
-use Rattle.std.proofs.Common.{◌≡◌, ℕ, ◌+◌, ◌-◌, ◌≤◌, Bool, List, [], ◌∷◌, ◌++◌, length, take, drop, max, get_or, sym, ap, ◌∙◌, arith, append_assoc, append-nil, length-append, length-take-le, take-append-drop, Option, Some, None}
+use Rattle.std.proofs.Common.{◌≡◌, ℕ, ◌+◌, ◌-◌, ◌≤◌, Bool, List, [], ◌∷◌, ◌++◌, length, take, drop, max, get_or, sym, ap, ◌∙◌, subst, arith, append_assoc, append-nil, length-append, length-take-le, take-append-drop, Option, Some, None}
 use Rattle.std.specs.Str.Lossy.{utf8_lossy}
 use Rattle.memchr.specs.Find.{OccursAt, FindsNeedle}
 use Rattle.memchr.proofs.lemmas.MatchLemmas.{OccursAt-split}
@@ -8,12 +8,13 @@ use Rattle.termwiz_keymap.specs.Bytes.{Begins, Occurs}
 use Rattle.termwiz_keys.specs.Introducers.{START, END}
 use Rattle.termwiz_grammar.specs.Grammar.{IsRest}
 use Rattle.termwiz_grammar.specs.Grammar.Item.{paste}
+use Rattle.termwiz_grammar.specs.WaitingKinds.{IsOpenPaste}
 use Rattle.termwiz_input.specs.PasteSearch.{NoEndBefore}
 use Rattle.termwiz_keymap.proofs.lemmas.lists.CommonPrefixes.{Overlaps, overlap, length-some}
 use Rattle.termwiz_keymap.proofs.lemmas.lists.CommonPrefixes.Overlaps.{within, past}
 use Rattle.termwiz_grammar.proofs.lemmas.pastes.FirstEnd.{Ends, find_end}
 use Rattle.termwiz_grammar.proofs.lemmas.pastes.FirstEnd.Ends.{ends, endless}
-use Rattle.termwiz_input.proofs.lemmas.items.ItemByHead.{start_closed}
+use Rattle.termwiz_input.proofs.lemmas.items.ItemByHead.{paste_rest, start_closed}
 
 -- a search of an open paste, from the place on but after START, begins in the text
 pub search_within : (u : List ℕ) (place from : ℕ) → Begins START u → NoEndBefore u place → from ≡ max place 6
@@ -65,6 +66,11 @@ paste_ends u rest more waits begins there = go (find_end rest)
           item = paste body (after, begins ∙ ap (λ t. START ++ t) e) first;
         })
     go (endless none) = none there
+
+-- an open paste is the rest
+pub open_waits : (u : List ℕ) (more : Bool) → IsOpenPaste u → IsRest u more
+open_waits u more is = paste_rest u more (is.body, is.splits) (λ body split.
+    let same : is.body ≡ body = cc (is.splits, split) in subst (λ b. ¬ Occurs END b) same is.endless)
 
 -- where an open paste waits, END begins in none but its last five bytes
 pub waits_place : (u : List ℕ) (more : Bool) (place : ℕ) → IsRest u more → Begins START u → place ≤ length u - 5
