@@ -155,16 +155,18 @@ fn other_key(alloc: Global, t: &[u8]) -> Option<KeyReport>
     Some(report_of(alloc, ReportedKey::Named(key_of_code(c)), manner))
 }
 
-// The report of a key by the first of these rules that fits.
-#[tactic(auto, unfolding(crate::specs::KeyReports::key_report))]
+// The report of a key by the first of these rules that fits. The last byte tells which of them can.
 pub(crate) fn key_report(alloc: Global, t: &[u8]) -> Result<Option<KeyReport>, AllocError>
     ensures { IfOk result (λ report. report ≡ rules.key_report t.now) }
 {
-    let report = character_key(alloc, t)?
-        .or_else(|| lettered_key(alloc, t))
-        .or_else(|| numbered_key(alloc, t))
-        .or_else(|| other_key(alloc, t));
-    Ok(report)
+    let Some(last) = t.last() else {
+        return Ok(None);
+    };
+    match *last {
+        b'u' => character_key(alloc, t),
+        b'~' => Ok(numbered_key(alloc, t).or_else(|| other_key(alloc, t))),
+        _ => Ok(lettered_key(alloc, t)),
+    }
 }
 
 // Whether one of these rules fits. It asks for no memory.

@@ -1,5 +1,5 @@
 -- What is at the front of a text, as far as extra sequences go.
-use Rattle.std.specs.Prelude.{◌≡◌, ◌⊎◌, ℕ, ◌<◌, ◌≤◌, ◌-◌, Bool, List, [], ◌∷◌, ◌++◌, length, take, Contains, Option, Result, IfOk, IfSome, IfNone, OnErr}
+use Rattle.std.specs.Prelude.{◌≡◌, ◌⊎◌, ℕ, ◌<◌, ◌≤◌, ◌-◌, Bool, true, false, List, [], ◌∷◌, ◌++◌, length, take, Contains, Option, Result, IfOk, IfSome, IfNone, OnErr}
 use Rattle.termwiz_keymap.specs.Bytes.{Begins}
 use Rattle.termwiz_keys.specs.Introducers.{ESC, START}
 use Rattle.termwiz_keys.specs.Keys.{plain as plain_key}
@@ -115,6 +115,14 @@ pub record Emits {F : Type 0} (old : Buffered) (more : Bool) (new : Buffered) (r
   pub none_same : IfOk result (λ found. IfNone found (new ≡ old))
   pub refused : OnErr result (HasItemThatNeedsMemory old.rows old.text more)
   pub refused_same : OnErr result (new ≡ old)
+
+-- What a call answers that moves the event of the item at the front to a list: whether an item is there. A refusal leaves both as they are.
+pub record Stores {F : Type 0} (old : Buffered) (more : Bool) (before : List ExtendedEvent) (new : Buffered) (after : List ExtendedEvent)
+    (result : Result Bool F) : Type 0 where
+  pub stored : (text : List ℕ) → Steps old.rows text more before old.text → Steps old.rows text more after new.text
+  pub rows : new.rows ≡ old.rows
+  pub fewer : IfOk result (λ found. found ≡ true → length new.text < length old.text)
+  pub rest : IfOk result (λ found. found ≡ false → IsRest new.rows new.text more)
 
 -- the paste whose text is what an open paste has so far
 abbrev pub IsPasteEvent : List ℕ → ExtendedEvent → Type 0

@@ -43,6 +43,23 @@ pub(crate) fn character_front(text: &[u8]) -> Option<(char, usize)>
     }
 }
 
+// Appends the events of the characters from SPACE to `~` at the front of a text, as far as the list has room, and returns their number.
+pub(crate) fn append_printable_ascii(events: &mut Vec<ExtendedEvent>, text: &[u8]) -> usize
+    ensures within { result ≤ length text.now }
+    ensures stored { (rows : Rows) (before : List ℕ) (more : Bool) → Steps rows before more events.old.items text.now
+        → Steps rows before more events.new.items (drop result text.now) }
+{
+    let limit = text.len().min(events.capacity() - events.len());
+    for len in 0..limit {
+        if !is_printable_ascii(text[len]) {
+            return len;
+        }
+        let key = plain_key(char::from(text[len]));
+        events.push_reserved(ExtendedEvent::Input(InputEvent::Key(key)));
+    }
+    limit
+}
+
 // Appends the events of the characters at the front of a text, as far as the list has room, and returns the number of their bytes.
 pub(crate) fn append_characters(events: &mut Vec<ExtendedEvent>, text: &[u8]) -> usize
     ensures within { result ≤ length text.now }

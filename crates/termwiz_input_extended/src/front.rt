@@ -5,9 +5,11 @@ ghost use Rattle.termwiz_keys.specs.Introducers.{ESC, START};
 ghost use Rattle.termwiz_keys.specs.Keys.{plain};
 ghost use Rattle.termwiz_keys.specs.declared.types.KeyEvent.{KeyEvent as Key};
 ghost use Rattle.termwiz_keys.specs.declared.types.MouseEvent.{MouseEvent as Mouse};
+ghost use Rattle.termwiz_keys.specs.declared.types.InputEvent.TheVariants.{Key as PortsKey};
 ghost use Rattle.termwiz_grammar.specs.MouseReports.{IsMouseReport};
 ghost use Rattle.termwiz_grammar.specs.Table.{rows as table_rows};
 ghost use Rattle.termwiz_input.specs.MouseReportAnswers.{HasNoPartInMouseReports};
+ghost use Rattle.termwiz_input.specs.Matches.{IsItemAt};
 ghost use Rattle.termwiz_input.specs.PrintableAscii.{IsPrintableAscii};
 ghost use Rattle.termwiz_extended_events.specs.Meanings as meaning;
 ghost use Rattle.termwiz_extended_grammar.specs.Forms.{IsForm};
@@ -252,6 +254,39 @@ fn front_of_one_escape(
     }
 }
 
+// The row at the front of a text that begins with no ESC, with its key and the number of its bytes: a control character. `None` decides
+// nothing.
+#[inline(always)]
+fn control_character_at<'k>(
+    parser: &'k InputParser,
+    text: &[u8],
+    maybe_more: bool,
+) -> Option<(&'k KeyEvent, usize)>
+    requires some { text.now ≢ [] }
+    requires unescaped { ¬ Begins ESC text.now }
+    ensures { IfSome result (λ found. IsItemAt text.now maybe_more (PortsKey found.0.now) found.1) }
+{
+    match parser.lookup(text, maybe_more) {
+        Found::Exact(len, key) => Some((key, len)),
+        _ => None,
+    }
+}
+
+// What is at the front of a text that begins with no ESC.
+#[inline(always)]
+fn front_without_escape(parser: &InputParser, text: &[u8], maybe_more: bool) -> ExtendedFront
+    requires { ¬ Begins ESC text.now }
+    ensures { (rows : Rows) → IsExtendedFront rows text.now maybe_more result }
+{
+    if text.is_empty() {
+        return ExtendedFront::Incomplete(0);
+    }
+    match control_character_at(parser, text, maybe_more) {
+        Some((key, len)) => ExtendedFront::Key(copied(key), len),
+        None => ExtendedFront::Usual,
+    }
+}
+
 // What follows a first ESC.
 fn after_escape(text: &[u8]) -> Option<&[u8]>
     ensures some { IfSome result (λ after. text.now ≡ ESC ++ after.now) }
@@ -279,7 +314,7 @@ pub(crate) fn front(
     ensures { IsExtendedFront rows text.now maybe_more result }
 {
     match after_escape(text) {
-        None => ExtendedFront::Usual,
+        None => front_without_escape(parser, text, maybe_more),
         Some(after) => match after_escape(after) {
             Some(_) => {
                 front_of_two_escapes(

@@ -8,10 +8,10 @@ ghost use Rattle.termwiz_grammar.specs.WaitingKinds.{IsOneOrTwoEscapes, IsOpenPa
 ghost use Rattle.termwiz_extended_events.specs.declared.types.ExtendedEvent.{ExtendedEvent as Event};
 ghost use Rattle.termwiz_extended_grammar.specs.ExtendedGrammar.{IsRest, Means, Steps};
 ghost use Rattle.termwiz_input_extended.specs.EventCallbacks.{MayBeCalledOn, WasCalledOn};
-ghost use Rattle.termwiz_input_extended.specs.ExtendedFronts.{Emits, GivesNoneThatNeedsMemory, HasItemThatNeedsMemory, IsExtendedFront, IsFormAt, IsPasteEvent, IsPortsOwn};
+ghost use Rattle.termwiz_input_extended.specs.ExtendedFronts.{Emits, GivesNoneThatNeedsMemory, HasItemThatNeedsMemory, IsExtendedFront, IsFormAt, IsPasteEvent, IsPortsOwn, Stores};
 ghost use Rattle.termwiz_input_extended.specs.ExtendedKinds.{IsBoundedOrOpenPaste, IsKind};
 
-use crate::characters::{append_characters, character_front, plain_key};
+use crate::characters::{append_characters, append_printable_ascii, character_front, plain_key};
 use crate::front::{ExtendedFront, form_event, front};
 use std::alloc::{AllocError, Global};
 use std::marker::Model;
@@ -170,14 +170,24 @@ impl ExtendedParser {
         }
     }
 
+    // The event of the form of so many bytes at the front of the waiting text.
+    #[inline(always)]
+    fn event_of_form(&self, len: usize) -> Result<ExtendedEvent, AllocError>
+        requires { IsFormAt self.now.text len }
+        ensures event { IfOk result (λ event. (more : Bool) → Steps self.now.rows self.now.text more (event ∷ []) (drop len self.now.text)) }
+        ensures refused { OnErr result ((more : Bool) → HasItemThatNeedsMemory self.now.rows self.now.text more) }
+    {
+        let form = &self.waiting_text()[..len];
+        form_event(self.alloc, &self.parser, self.rows, form)
+    }
+
     // Consumes the form of so many bytes at the front of the waiting text, and returns its event.
     #[inline(always)]
     fn next_form(&mut self, len: usize) -> Result<Option<ExtendedEvent>, AllocError>
         requires { IsFormAt self.old.text len }
         ensures { (more : Bool) → Emits self.old more self.new result }
     {
-        let form = &self.waiting_text()[..len];
-        let event = form_event(self.alloc, &self.parser, self.rows, form)?;
+        let event = self.event_of_form(len)?;
         self.consume(len);
         Ok(Some(event))
     }
@@ -374,15 +384,98 @@ impl ExtendedParser {
         }
     }
 
-    // Asks for room for one more event. At first it asks for as many as a short text may have, but for one while a paste is open.
+    // Asks for room for one more event. The first request is for as many as a short text may have.
+    #[inline(always)]
     fn make_room(&self, events: &mut Vec<ExtendedEvent>) -> Result<(), AllocError>
         ensures items { events.new.items ≡ events.old.items }
         ensures room { OnOk result (vec_len events.new + 1 ≤ vec_capacity events.new) }
     {
-        if events.capacity() > 0 || self.is_paste_open() {
+        if events.capacity() > 0 {
             return events.reserve(1);
         }
         events.reserve(self.waiting_len().min(SHORT_TEXT).max(1))
+    }
+
+    // Appends the event of the first `len` bytes of the waiting text, and consumes them.
+    #[inline(always)]
+    fn store(
+        &mut self,
+        events: &mut Vec<ExtendedEvent>,
+        event: ExtendedEvent,
+        len: usize,
+    ) -> Result<bool, AllocError>
+        requires { len ≤ length self.old.text }
+        ensures stores { (more : Bool) → Steps self.old.rows self.old.text more (event ∷ []) (drop len self.old.text)
+            → Stores self.old more events.old.items self.new events.new.items result }
+        ensures found { IfOk result (λ found. found ≡ true) }
+    {
+        self.make_room(events)?;
+        events.push_reserved(event);
+        self.consume(len);
+        Ok(true)
+    }
+
+    // Moves the event of what the port finds at the front of the waiting text to the list.
+    fn store_of_port(
+        &mut self,
+        events: &mut Vec<ExtendedEvent>,
+        maybe_more: bool,
+    ) -> Result<bool, AllocError>
+        requires { IsPortsOwn self.old.rows self.old.text maybe_more }
+        ensures { Stores self.old maybe_more events.old.items self.new events.new.items result }
+    {
+        self.make_room(events)?;
+        match self.next_of_port(maybe_more)? {
+            Some(event) => {
+                events.push_reserved(event);
+                Ok(true)
+            }
+            None => Ok(false),
+        }
+    }
+
+    // The same for a text that a paste begins. An open paste needs no room.
+    fn store_paste(
+        &mut self,
+        events: &mut Vec<ExtendedEvent>,
+        maybe_more: bool,
+    ) -> Result<bool, AllocError>
+        requires { Begins START self.old.text }
+        ensures { Stores self.old maybe_more events.old.items self.new events.new.items result }
+    {
+        if self.parser.awaits_paste_end() {
+            return Ok(false);
+        }
+        self.store_of_port(events, maybe_more)
+    }
+
+    // The same for a text that no paste begins. Each arm builds the event that it stores.
+    fn store_front(
+        &mut self,
+        events: &mut Vec<ExtendedEvent>,
+        maybe_more: bool,
+    ) -> Result<bool, AllocError>
+        requires { ¬ Begins START self.old.text }
+        ensures { Stores self.old maybe_more events.old.items self.new events.new.items result }
+    {
+        match self.front(maybe_more) {
+            ExtendedFront::Key(key, len) => {
+                self.store(events, ExtendedEvent::Input(InputEvent::Key(key)), len)
+            }
+            ExtendedFront::Form(len) => {
+                let event = self.event_of_form(len)?;
+                self.store(events, event, len)
+            }
+            ExtendedFront::MouseReport(event, len) => {
+                self.store(events, ExtendedEvent::Input(InputEvent::Mouse(event)), len)
+            }
+            ExtendedFront::Escape => self.store(events, escape_key(), 1),
+            ExtendedFront::Usual => self.store_of_port(events, maybe_more),
+            ExtendedFront::Incomplete(place) => {
+                self.scanned = place;
+                Ok(false)
+            }
+        }
     }
 
     // Moves the events of the characters at the front of the waiting text to the list, as far as it has room.
@@ -392,9 +485,33 @@ impl ExtendedParser {
         ensures same_rows { self.new.rows ≡ self.old.rows }
         ensures fewer { length self.new.text ≤ length self.old.text }
     {
-        let len = append_characters(events, self.waiting_text());
+        let text = self.waiting_text();
+        let run = append_printable_ascii(events, text);
+        let len = run + append_characters(events, &text[run..]);
         if len > 0 {
             self.consume(len);
+        }
+    }
+
+    // Moves the event of the item at the front of the waiting text to the list, and if it is a character, those of the characters after it.
+    // False if no item is there.
+    #[inline(always)]
+    fn store_next(
+        &mut self,
+        events: &mut Vec<ExtendedEvent>,
+        maybe_more: bool,
+    ) -> Result<bool, AllocError>
+        ensures { Stores self.old maybe_more events.old.items self.new events.new.items result }
+    {
+        match character_front(self.waiting_text()) {
+            Some((character, len)) => {
+                let event = ExtendedEvent::Input(InputEvent::Key(plain_key(character)));
+                self.store(events, event, len)?;
+                self.store_characters(events);
+                Ok(true)
+            }
+            None if self.is_paste_open() => self.store_paste(events, maybe_more),
+            None => self.store_front(events, maybe_more),
         }
     }
 
@@ -410,14 +527,8 @@ impl ExtendedParser {
         ensures rest { OnOk result (IsRest self.new.rows self.new.text maybe_more) }
         ensures few { length events.new.items + length self.new.text ≤ length self.old.text }
     {
-        loop {
-            self.make_room(events)?;
-            match self.next_event(maybe_more)? {
-                Some(event) => events.push_reserved(event),
-                None => return Ok(()),
-            }
-            self.store_characters(events);
-        }
+        while self.store_next(events, maybe_more)? {}
+        Ok(())
     }
 
     /// Appends `bytes` to the waiting text, and returns its events in order. What is no event yet stays buffered.

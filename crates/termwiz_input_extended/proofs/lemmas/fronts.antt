@@ -1,3 +1,4 @@
+pub mod ControlCharacters
 pub mod EmittedItems
 pub mod EscapesFlushed
 pub mod ExtraAnswers
@@ -7,4 +8,5 @@ pub mod KnownFronts
 pub mod LeftBounded
 pub mod MouseForms
 pub mod ScannedPlaces
+pub mod StoredItems
 pub mod WholeRows

@@ -1,9 +1,8 @@
-use Rattle.termwiz_input_extended.proofs.lemmas.fronts.FrontItems.{own_without_escape}
 use Rattle.termwiz_input_extended.proofs.lemmas.fronts.ScannedPlaces.{no_second_escape}
 use Rattle.termwiz_input_extended.proofs.front.front.Goals as goal
 
 pub returns-in-None : goal.returns-in-None
-returns-in-None c = own_without_escape c.args.rows c.args.text.now c.args.maybe_more c.in-None.ensures.none
+returns-in-None c = c.front_without_escape.ensures c.args.rows
 
 pub front_of_two_escapes-requires-clause-scanned : goal.front_of_two_escapes-requires-clause-scanned
 front_of_two_escapes-requires-clause-scanned c =

@@ -1,6 +1,6 @@
 -- What a call answers that consumes the item at the front.
 use Rattle.std.proofs.Common.{◌≡◌, ℕ, Bool, List, [], ◌∷◌, ap, ◌∙◌, Option, Some, None, Result, Ok, Err, IsErr}
-use Rattle.std.specs.Prelude.{OnErr}
+use Rattle.std.specs.Prelude.{IfOk, OnErr}
 use Rattle.termwiz_extended_events.specs.declared.types.ExtendedEvent.{ExtendedEvent}
 use Rattle.termwiz_extended_events.specs.declared.types.Rows.{Rows}
 use Rattle.termwiz_extended_grammar.specs.ExtendedGrammar.{IsRest, Steps}
@@ -30,6 +30,15 @@ module _ {F : Type 0} (old new : Buffered) (more : Bool) where
   emits_refused (Ok found) is item same = absurd (cc (is))
   emits_refused (Err fault) is item same =
       record { event = tt; rows = ap (λ (b : Buffered). b.rows) same; none = tt; none_same = tt; refused = item; refused_same = same }
+
+-- what follows from what a call answers holds of it too
+pub if_ok : {A F : Type 0} {P Q : A → Type 0} (result : Result A F) → ((x : A) → P x → Q x) → IfOk result P → IfOk result Q
+if_ok (Ok value) then p = then value p
+if_ok (Err fault) then p = tt
+
+pub if_refused : {A F : Type 0} {P Q : Type 0} (result : Result A F) → (P → Q) → OnErr result P → OnErr result Q
+if_refused (Ok value) then p = tt
+if_refused (Err fault) then p = then p
 
 -- what is so is so after a refusal
 pub on_refusal : {A F : Type 0} {P : Type 0} (result : Result A F) → P → OnErr result P

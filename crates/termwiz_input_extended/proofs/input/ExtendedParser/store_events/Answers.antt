@@ -1,32 +1,34 @@
-use Rattle.std.proofs.Common.{◌∷◌, [], ◌∙◌, subst, arith}
+use Rattle.std.proofs.Common.{◌≡◌, ◌∙◌, sym, subst, arith}
 use Rattle.termwiz_extended_grammar.specs.ExtendedGrammar.{Steps}
-use Rattle.termwiz_extended_grammar.proofs.lemmas.cuts.ExtendedCuts.{few_events, join_steps}
+use Rattle.termwiz_extended_grammar.proofs.lemmas.cuts.ExtendedCuts.{few_events}
 use Rattle.termwiz_input_extended.proofs.input.ExtendedParser.store_events.Goals as goal
 
-pub loop-self-smaller : goal.loop-self-smaller
-loop-self-smaller c =
-    let step = rw c.in-Some.is at c.in_ok-event.ensures.event in
-    omega (
-      arith,
-      few_events c.loop-self.self.rows c.loop-self.self.text c.next_event.new.self.text (c.in-Some.event ∷ []) c.args.maybe_more step,
-      c.store_characters.ensures.fewer,
-    )
+pub loop-smaller : goal.loop-smaller
+loop-smaller c = omega (arith, c.in_ok-store_next.ensures.fewer c.if-branch.true)
 
-pub loop-self-preserved : goal.loop-self-preserved
-loop-self-preserved c =
+pub loop-preserved : goal.loop-preserved
+loop-preserved c =
     let rows = c.args.self.now.rows in
-    let same = c.in_ok-event.ensures.rows ∙ c.loop-self.invariant.rows in
-    let step = subst (λ r. Steps r c.loop-self.self.text c.args.maybe_more (c.in-Some.event ∷ []) c.next_event.new.self.text)
-    c.loop-self.invariant.rows (rw c.in-Some.is at c.in_ok-event.ensures.event) in
-    let there : Steps rows c.args.self.now.text c.args.maybe_more c.push_reserved.new.self.items c.next_event.new.self.text =
-    rw (c.push_reserved.ensures.items, c.make_room.ensures.items) (join_steps rows c.loop-self.events.items (c.in-Some.event ∷ [])
-    c.args.self.now.text c.loop-self.self.text c.next_event.new.self.text c.args.maybe_more c.loop-self.invariant.steps step) in
-    let then = subst (λ r. Steps r c.args.self.now.text c.args.maybe_more c.push_reserved.new.self.items c.next_event.new.self.text
-    → Steps r c.args.self.now.text c.args.maybe_more c.store_characters.new.events.items c.store_characters.new.self.text) same
-    (c.store_characters.ensures.stored c.args.self.now.text c.args.maybe_more) there in
+    let text = c.args.self.now.text in
+    let more = c.args.maybe_more in
+    let next = c.store_next.new.self in
+    let there : Steps rows text more c.store_next.new.events.items next.text = subst (λ r. Steps r text more c.store_next.new.events.items next.text)
+    c.loop.invariant.rows (c.in_ok-store_next.ensures.stored text
+    (subst (λ r. Steps r text more c.loop.events.items c.loop.self.text) (sym c.loop.invariant.rows) c.loop.invariant.steps)) in
     record {
-      rows = c.store_characters.ensures.same_rows ∙ same;
-      steps = then;
-      few = few_events rows c.args.self.now.text c.store_characters.new.self.text c.store_characters.new.events.items
-          c.args.maybe_more then;
+      rows = c.in_ok-store_next.ensures.rows ∙ c.loop.invariant.rows;
+      steps = there;
+      few = few_events rows text next.text c.store_next.new.events.items more there;
     }
+
+pub returns-in_err-store_next-clause-few : goal.returns-in_err-store_next-clause-few
+returns-in_err-store_next-clause-few c =
+    few_events c.loop.self.rows c.args.self.now.text c.store_next.new.self.text c.store_next.new.events.items c.args.maybe_more
+    (c.store_next.ensures.stored c.args.self.now.text
+    (subst (λ r. Steps r c.args.self.now.text c.args.maybe_more c.loop.events.items c.loop.self.text) (sym c.loop.invariant.rows) c.loop.invariant.steps))
+
+pub returns-clause-few : goal.returns-clause-few
+returns-clause-few c =
+    few_events c.loop.self.rows c.args.self.now.text c.store_next.new.self.text c.store_next.new.events.items c.args.maybe_more
+    (c.store_next.ensures.stored c.args.self.now.text
+    (subst (λ r. Steps r c.args.self.now.text c.args.maybe_more c.loop.events.items c.loop.self.text) (sym c.loop.invariant.rows) c.loop.invariant.steps))
