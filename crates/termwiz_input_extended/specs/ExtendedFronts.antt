@@ -24,7 +24,7 @@ use Rattle.termwiz_extended_grammar.specs.ExtendedLaws.{HasNoExtra}
 use Rattle.termwiz_input_extended.specs.declared.front.FormFront.{FormFront}
 use Rattle.termwiz_input_extended.specs.declared.front.FormFront.TheVariants as front
 use Rattle.termwiz_input_extended.specs.declared.front.ExtendedFront.{ExtendedFront}
-use Rattle.termwiz_input_extended.specs.declared.front.ExtendedFront.TheVariants.{Key, Form, MouseReport, Escape, Usual, Incomplete}
+use Rattle.termwiz_input_extended.specs.declared.front.ExtendedFront.TheVariants.{Key, Form, MouseReport, Escape, Paste as FrontPaste, Usual, Incomplete}
 use Rattle.termwiz_input_extended.specs.Buffered.{Buffered}
 use Rattle.termwiz_input_extended.specs.FormAnswers.{IsScanned, NoFormBegins}
 
@@ -92,6 +92,7 @@ IsExtendedFront rows u more (Key key len) = IsPortsOwn rows u more × IsItemAt u
 IsExtendedFront rows u more (Form len) = IsFormAt u len
 IsExtendedFront rows u more (MouseReport event len) = IsPortsOwn rows u more × IsItemAt u more (Mouse event) len
 IsExtendedFront rows u more Escape = (v : List ℕ) × (u ≡ ESC ++ v) × StartsWithExtra rows v
+IsExtendedFront rows u more FrontPaste = Begins START u
 IsExtendedFront rows u more Usual = IsPortsOwn rows u more
 IsExtendedFront rows u more (Incomplete place) = IsRest rows u more × IsScannedTo u place
 

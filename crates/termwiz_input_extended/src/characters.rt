@@ -1,5 +1,5 @@
 // Characters at the front of a text: those from SPACE to `~`, and those of several bytes. Each is an event of its own.
-ghost use Rattle.std.specs.Prelude.{◌≡◌, ◌≤◌, ◌↔◌, ℕ, Bool, List, length, drop, IfSome, IsTrue};
+ghost use Rattle.std.specs.Prelude.{◌≡◌, ◌≤◌, ◌<◌, ◌↔◌, slice_index_or, vec_len, vec_capacity, ℕ, Bool, List, length, drop, IfSome, IsTrue};
 ghost use Rattle.termwiz_keys.specs.Keys.{plain};
 ghost use Rattle.termwiz_input.specs.PrintableAscii.{IsPrintableAscii};
 ghost use Rattle.termwiz_extended_grammar.specs.ExtendedGrammar.{Steps};
@@ -24,7 +24,7 @@ pub(crate) fn plain_key(character: char) -> KeyEvent
 }
 
 // Whether a byte is a character from SPACE to `~`. Such a character is an item, whatever follows it.
-fn is_printable_ascii(byte: u8) -> bool
+pub(crate) fn is_printable_ascii(byte: u8) -> bool
     ensures { IsTrue result ↔ IsPrintableAscii byte }
 {
     matches!(byte, b' '..=b'~')
@@ -48,6 +48,10 @@ pub(crate) fn append_printable_ascii(events: &mut Vec<ExtendedEvent>, text: &[u8
     ensures within { result ≤ length text.now }
     ensures stored { (rows : Rows) (before : List ℕ) (more : Bool) → Steps rows before more events.old.items text.now
         → Steps rows before more events.new.items (drop result text.now) }
+
+    // At least one, if there is one, and room for it.
+    ensures some { vec_len events.old < vec_capacity events.old → 0 < length text.now
+        → IsPrintableAscii (slice_index_or text.now 0 0) → 0 < result }
 {
     let limit = text.len().min(events.capacity() - events.len());
     for len in 0..limit {

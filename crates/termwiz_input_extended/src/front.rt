@@ -23,7 +23,11 @@ use termwiz_extended_events::meanings::{event_of, is_key_or_position, key_or_pos
 use termwiz_extended_events::types::{ExtendedEvent, Rows};
 use termwiz_input::input::{FrontReport, InputParser, character_at, mouse_report_at};
 use termwiz_input::keymap::Found;
+use termwiz_keymap::bytes::begins_with;
 use termwiz_keys::types::{InputEvent, KeyCode, KeyEvent, MouseEvent};
+
+// What comes before a pasted text.
+const PASTE_START: &[u8] = b"\x1b[200~";
 
 // What form is at the front of a text. A `usize` is the number of its bytes.
 #[derive(Drop)]
@@ -38,7 +42,7 @@ pub(crate) enum FormFront {
     Absent,
 }
 
-// What is at the front of a text that neither a character nor a paste begins. A `usize` is the number of its bytes, but for `Incomplete`.
+// What is at the front of a text that no character begins. A `usize` is the number of its bytes, but for `Incomplete`.
 #[derive(Drop)]
 pub(crate) enum ExtendedFront {
     // A row of the sequence table that is read as its key.
@@ -49,6 +53,8 @@ pub(crate) enum ExtendedFront {
     MouseReport(MouseEvent, usize),
     // The Escape key before an extra sequence.
     Escape,
+    // The start of a paste.
+    Paste,
     // What the port finds there, whatever it is.
     Usual,
     // No item: more bytes may complete an extra sequence. The search for its end goes on from this place.
@@ -228,7 +234,7 @@ fn long_row_at<'k>(
     }
 }
 
-// What is at the front of a text that begins with one ESC alone, and with no paste.
+// What is at the front of a text that begins with one ESC alone. A mouse report is looked for first.
 #[inline(always)]
 fn front_of_one_escape(
     parser: &InputParser,
@@ -239,7 +245,6 @@ fn front_of_one_escape(
 ) -> ExtendedFront
     requires escape { Begins ESC text.now }
     requires one { ¬ Begins (ESC ++ ESC) text.now }
-    requires no_paste { ¬ Begins START text.now }
     requires scanned { IsScanned text.now scanned }
     ensures { IsExtendedFront rows text.now maybe_more result }
 {
@@ -247,6 +252,7 @@ fn front_of_one_escape(
         FrontReport::Whole(event, len) => ExtendedFront::MouseReport(event, len),
         FrontReport::Begun if maybe_more => ExtendedFront::Incomplete(next_scan(text)),
         FrontReport::Begun => ExtendedFront::Usual,
+        FrontReport::Absent if begins_with(text, PASTE_START) => ExtendedFront::Paste,
         FrontReport::Absent => match long_row_at(parser, rows, text, maybe_more) {
             Some((key, len)) => ExtendedFront::Key(copied(key), len),
             None => front_of_form(text, scanned, maybe_more),
@@ -298,8 +304,7 @@ fn after_escape(text: &[u8]) -> Option<&[u8]>
     }
 }
 
-// What is at the front of a text that no paste begins. `character_front` is quicker for characters. The bytes before `scanned` were looked
-// at before.
+// What is at the front of a text. `character_front` is quicker for characters. The bytes before `scanned` were looked at before.
 #[inline(always)]
 pub(crate) fn front(
     alloc: Global,
@@ -309,8 +314,7 @@ pub(crate) fn front(
     scanned: usize,
     maybe_more: bool,
 ) -> ExtendedFront
-    requires scanned { IsScannedTo text.now scanned }
-    requires no_paste { ¬ Begins START text.now }
+    requires { IsScannedTo text.now scanned }
     ensures { IsExtendedFront rows text.now maybe_more result }
 {
     match after_escape(text) {

@@ -1,17 +1,20 @@
 //! The extended parser.
-ghost use Rattle.std.specs.Prelude.{◌≡◌, ◌≢◌, ◌++◌, ◌+◌, ◌≤◌, ℕ, Bool, List, [], ◌∷◌, length, drop, take, true, false, OnErr, IfOk, IfErr, IfSome, IfNone, IsSome, IsTrue, ◌↔◌, ◌⊎◌, OnOk, IsOk, IsErrOf, vec_len, vec_capacity};
+ghost use Rattle.std.specs.Prelude.{◌≡◌, ◌≢◌, ◌++◌, ◌+◌, ◌≤◌, ℕ, Bool, List, [], ◌∷◌, length, drop, take, true, false, OnErr, IfOk, IfErr, IfSome, IfNone, IsSome, IsTrue, ◌↔◌, ◌⊎◌, ◌<◌, slice_index_or, OnOk, IsOk, IsErrOf, vec_len, vec_capacity};
 ghost use Rattle.termwiz_keymap.specs.Bytes.{Begins};
 ghost use Rattle.termwiz_keys.specs.Introducers.{START};
 ghost use Rattle.termwiz_keys.specs.Keys.{escape};
 ghost use Rattle.termwiz_keys.specs.declared.types.InputEvent.TheVariants as Port;
 ghost use Rattle.termwiz_grammar.specs.WaitingKinds.{IsOneOrTwoEscapes, IsOpenPaste};
+ghost use Rattle.termwiz_input.specs.PrintableAscii.{IsPrintableAscii};
 ghost use Rattle.termwiz_extended_events.specs.declared.types.ExtendedEvent.{ExtendedEvent as Event};
 ghost use Rattle.termwiz_extended_grammar.specs.ExtendedGrammar.{IsRest, Means, Steps};
 ghost use Rattle.termwiz_input_extended.specs.EventCallbacks.{MayBeCalledOn, WasCalledOn};
 ghost use Rattle.termwiz_input_extended.specs.ExtendedFronts.{Emits, GivesNoneThatNeedsMemory, HasItemThatNeedsMemory, IsExtendedFront, IsFormAt, IsPasteEvent, IsPortsOwn, Stores};
 ghost use Rattle.termwiz_input_extended.specs.ExtendedKinds.{IsBoundedOrOpenPaste, IsKind};
 
-use crate::characters::{append_characters, append_printable_ascii, character_front, plain_key};
+use crate::characters::{
+    append_characters, append_printable_ascii, character_front, is_printable_ascii, plain_key,
+};
 use crate::front::{ExtendedFront, form_event, front};
 use std::alloc::{AllocError, Global};
 use std::marker::Model;
@@ -54,8 +57,8 @@ impl Model for ExtendedParser {
     ghost invariant = { λ p. IsScannedTo p.parser p.scanned };
 }
 
-// More bytes than most reads of typed keys have.
-const SHORT_TEXT: usize = 64;
+// More events than most reads have.
+const FIRST_ROOM: usize = 256;
 
 // The Escape key, alone.
 fn escape_key() -> ExtendedEvent
@@ -109,10 +112,9 @@ impl ExtendedParser {
         self.parser.is_paste_open()
     }
 
-    // What is at the front of the waiting text, which no paste begins.
+    // What is at the front of the waiting text.
     #[inline(always)]
     fn front(&self, maybe_more: bool) -> ExtendedFront
-        requires { ¬ Begins START self.now.text }
         ensures { IsExtendedFront self.now.rows self.now.text maybe_more result }
     {
         front(
@@ -192,11 +194,10 @@ impl ExtendedParser {
         Ok(Some(event))
     }
 
-    // Consumes the item at the front of the waiting text, which no paste begins, and returns its event. `None` if no item is there.
-    // `next_event` is quicker for characters.
+    // Consumes the item at the front of the waiting text, and returns its event. `None` if no item is there. `next_event` is quicker for
+    // characters.
     #[inline(never)]
     fn emit_front(&mut self, maybe_more: bool) -> Result<Option<ExtendedEvent>, AllocError>
-        requires { ¬ Begins START self.old.text }
         ensures { Emits self.old maybe_more self.new result }
     {
         match self.front(maybe_more) {
@@ -213,6 +214,7 @@ impl ExtendedParser {
                 self.consume(1);
                 Ok(Some(escape_key()))
             }
+            ExtendedFront::Paste => self.next_of_port(maybe_more),
             ExtendedFront::Usual => self.next_of_port(maybe_more),
             ExtendedFront::Incomplete(place) => {
                 self.scanned = place;
@@ -246,7 +248,6 @@ impl ExtendedParser {
                 self.consume(len);
                 Ok(Some(ExtendedEvent::Input(InputEvent::Key(plain_key(character)))))
             }
-            None if self.is_paste_open() => self.next_of_port(maybe_more),
             None => self.emit_front(maybe_more),
         }
     }
@@ -384,16 +385,18 @@ impl ExtendedParser {
         }
     }
 
-    // Asks for room for one more event. The first request is for as many as a short text may have.
+    // Asks for room for one more event. The first request is for as many as the text has bytes, up to `FIRST_ROOM`. A later one makes the
+    // list at most four times as large, since an event has 64 bytes, and a larger list is a copy.
     #[inline(always)]
     fn make_room(&self, events: &mut Vec<ExtendedEvent>) -> Result<(), AllocError>
         ensures items { events.new.items ≡ events.old.items }
         ensures room { OnOk result (vec_len events.new + 1 ≤ vec_capacity events.new) }
     {
-        if events.capacity() > 0 {
-            return events.reserve(1);
+        if events.len() < events.capacity() {
+            return Ok(());
         }
-        events.reserve(self.waiting_len().min(SHORT_TEXT).max(1))
+        let most = events.len().saturating_mul(3).max(FIRST_ROOM);
+        events.reserve(self.waiting_len().min(most).max(1))
     }
 
     // Appends the event of the first `len` bytes of the waiting text, and consumes them.
@@ -449,13 +452,13 @@ impl ExtendedParser {
         self.store_of_port(events, maybe_more)
     }
 
-    // The same for a text that no paste begins. Each arm builds the event that it stores.
+    // Moves the event of the item at the front of the waiting text to the list. False if no item is there. Each arm builds the event that it
+    // stores. `store_next` is quicker for characters.
     fn store_front(
         &mut self,
         events: &mut Vec<ExtendedEvent>,
         maybe_more: bool,
     ) -> Result<bool, AllocError>
-        requires { ¬ Begins START self.old.text }
         ensures { Stores self.old maybe_more events.old.items self.new events.new.items result }
     {
         match self.front(maybe_more) {
@@ -470,12 +473,26 @@ impl ExtendedParser {
                 self.store(events, ExtendedEvent::Input(InputEvent::Mouse(event)), len)
             }
             ExtendedFront::Escape => self.store(events, escape_key(), 1),
+            ExtendedFront::Paste => self.store_paste(events, maybe_more),
             ExtendedFront::Usual => self.store_of_port(events, maybe_more),
             ExtendedFront::Incomplete(place) => {
                 self.scanned = place;
                 Ok(false)
             }
         }
+    }
+
+    // Moves the events of the characters from SPACE to `~` at the front of the waiting text to the list, as far as it has room.
+    #[inline(always)]
+    fn store_printable_ascii(&mut self, events: &mut Vec<ExtendedEvent>) -> Result<bool, AllocError>
+        requires some { 0 < length self.old.text }
+        requires first { IsPrintableAscii (slice_index_or self.old.text 0 0) }
+        ensures { (more : Bool) → Stores self.old more events.old.items self.new events.new.items result }
+    {
+        self.make_room(events)?;
+        let len = append_printable_ascii(events, self.waiting_text());
+        self.consume(len);
+        Ok(true)
     }
 
     // Moves the events of the characters at the front of the waiting text to the list, as far as it has room.
@@ -485,9 +502,7 @@ impl ExtendedParser {
         ensures same_rows { self.new.rows ≡ self.old.rows }
         ensures fewer { length self.new.text ≤ length self.old.text }
     {
-        let text = self.waiting_text();
-        let run = append_printable_ascii(events, text);
-        let len = run + append_characters(events, &text[run..]);
+        let len = append_characters(events, self.waiting_text());
         if len > 0 {
             self.consume(len);
         }
@@ -503,15 +518,18 @@ impl ExtendedParser {
     ) -> Result<bool, AllocError>
         ensures { Stores self.old maybe_more events.old.items self.new events.new.items result }
     {
-        match character_front(self.waiting_text()) {
-            Some((character, len)) => {
-                let event = ExtendedEvent::Input(InputEvent::Key(plain_key(character)));
-                self.store(events, event, len)?;
-                self.store_characters(events);
-                Ok(true)
-            }
-            None if self.is_paste_open() => self.store_paste(events, maybe_more),
-            None => self.store_front(events, maybe_more),
+        let text = self.waiting_text();
+        match text {
+            [first, ..] if is_printable_ascii(*first) => self.store_printable_ascii(events),
+            _ => match character_front(text) {
+                Some((character, len)) => {
+                    let event = ExtendedEvent::Input(InputEvent::Key(plain_key(character)));
+                    self.store(events, event, len)?;
+                    self.store_characters(events);
+                    Ok(true)
+                }
+                None => self.store_front(events, maybe_more),
+            },
         }
     }
 

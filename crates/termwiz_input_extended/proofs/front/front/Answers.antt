@@ -6,11 +6,11 @@ returns-in-None c = c.front_without_escape.ensures c.args.rows
 
 pub front_of_two_escapes-requires-clause-scanned : goal.front_of_two_escapes-requires-clause-scanned
 front_of_two_escapes-requires-clause-scanned c =
-    rw c.saturating_sub.ensures (c.requires.scanned.after c.in-Some.after.now c.in-Some.ensures.some
+    rw c.saturating_sub.ensures (c.requires.after c.in-Some.after.now c.in-Some.ensures.some
     (c.in-Some-after_escape.field-0.now, c.in-Some-after_escape.ensures.some))
 
 pub front_of_one_escape-requires-clause-scanned : goal.front_of_one_escape-requires-clause-scanned
-front_of_one_escape-requires-clause-scanned c = c.requires.scanned.here
+front_of_one_escape-requires-clause-scanned c = c.requires.here
     (no_second_escape c.args.text.now c.in-Some.after.now c.in-Some.ensures.some c.in-None-after_escape.ensures.none)
 
 pub returns-in-Some-after_escape : goal.returns-in-Some-after_escape

@@ -1,4 +1,5 @@
 use Rattle.std.proofs.Common.{sym, subst}
+use Rattle.termwiz_keymap.proofs.lemmas.lists.PrefixTest.{denied}
 use Rattle.termwiz_keys.specs.declared.types.InputEvent.TheVariants.{Key}
 use Rattle.termwiz_input.specs.Matches.{IsItemAt}
 use Rattle.termwiz_extended_grammar.proofs.lemmas.forms.ExtraFacts.{unfinished_from_form}
@@ -41,8 +42,11 @@ returns-in-Some c = (
       c.requires.one,
   subst (λ key. IsItemAt c.args.text.now c.args.maybe_more (Key key) c.in-Some.len) (sym c.copied.ensures)
       (long_row_item c.args.rows c.args.text.now c.args.maybe_more c.in-Some.key.now c.in-Some.len c.in-Some.ensures
-      c.requires.no_paste),
+      (denied c.begins_with.ensures.1 c.if-begins_with.false)),
 )
 
 pub returns-in-None : goal.returns-in-None
 returns-in-None c = c.front_of_form.ensures c.args.rows
+
+pub front_of_form-requires-clause-no_paste : goal.front_of_form-requires-clause-no_paste
+front_of_form-requires-clause-no_paste c = denied c.begins_with.ensures.1 c.if-begins_with.false

@@ -4,7 +4,7 @@ use Rattle.termwiz_extended_events.specs.declared.types.ExtendedEvent.TheVariant
 use Rattle.termwiz_extended_grammar.specs.ExtendedGrammar.{Steps}
 use Rattle.termwiz_input_extended.specs.Buffered.{Buffered}
 use Rattle.termwiz_input_extended.specs.ExtendedFronts.{IsOwnCharacter}
-use Rattle.termwiz_input_extended.proofs.lemmas.fronts.KnownFronts.{item_step, own_start}
+use Rattle.termwiz_input_extended.proofs.lemmas.fronts.KnownFronts.{item_step}
 use Rattle.termwiz_input_extended.proofs.input.ExtendedParser.next_event.Goals as goal
 
 pub consume-requires : goal.consume-requires
@@ -22,7 +22,3 @@ returns-in-Some-clause-event c =
     (subst (λ key. Steps c.args.self.now.rows c.args.self.now.text c.args.maybe_more (Input (Key key) ∷ []) (drop c.in-Some.len c.args.self.now.text))
     (sym c.plain_key.ensures)
     (item_step c.args.self.now.rows c.args.self.now.text _ c.in-Some.len c.args.maybe_more is.own is.item))
-
-pub next_of_port-requires : goal.next_of_port-requires
-next_of_port-requires c = own_start c.args.self.now.rows c.args.self.now.text c.args.maybe_more
-    (c.is_paste_open.ensures.0 c.if-is_paste_open.true)
