@@ -5,17 +5,16 @@ ghost use Rattle.termwiz_keys.specs.Introducers.{ESC, START};
 ghost use Rattle.termwiz_keys.specs.Keys.{plain};
 ghost use Rattle.termwiz_keys.specs.declared.types.KeyEvent.{KeyEvent as Key};
 ghost use Rattle.termwiz_keys.specs.declared.types.MouseEvent.{MouseEvent as Mouse};
-ghost use Rattle.termwiz_keys.specs.declared.types.InputEvent.TheVariants.{Key as PortsKey};
 ghost use Rattle.termwiz_grammar.specs.MouseReports.{IsMouseReport};
 ghost use Rattle.termwiz_grammar.specs.Table.{rows as table_rows};
 ghost use Rattle.termwiz_input.specs.MouseReportAnswers.{HasNoPartInMouseReports};
-ghost use Rattle.termwiz_input.specs.Matches.{IsItemAt};
 ghost use Rattle.termwiz_input.specs.PrintableAscii.{IsPrintableAscii};
 ghost use Rattle.termwiz_extended_events.specs.Meanings as meaning;
 ghost use Rattle.termwiz_extended_grammar.specs.Forms.{IsForm};
 ghost use Rattle.termwiz_input_extended.specs.FormAnswers.{IsScanned};
 ghost use Rattle.termwiz_input_extended.specs.ExtendedFronts.{HasFormFront, IsExtendedFront, IsFormEvent, IsLongRowAt, IsOwnCharacter, IsReported, IsScannedTo, IsSomeExtra};
 
+use crate::characters::control_key;
 use crate::form::{ESCAPE, FormAt, form_at, next_scan};
 use std::alloc::{AllocError, Global};
 use termwiz_base::{Flags, Modifiers};
@@ -260,36 +259,18 @@ fn front_of_one_escape(
     }
 }
 
-// The row at the front of a text that begins with no ESC, with its key and the number of its bytes: a control character. `None` decides
-// nothing.
-#[inline(always)]
-fn control_character_at<'k>(
-    parser: &'k InputParser,
-    text: &[u8],
-    maybe_more: bool,
-) -> Option<(&'k KeyEvent, usize)>
-    requires some { text.now ≢ [] }
-    requires unescaped { ¬ Begins ESC text.now }
-    ensures { IfSome result (λ found. IsItemAt text.now maybe_more (PortsKey found.0.now) found.1) }
-{
-    match parser.lookup(text, maybe_more) {
-        Found::Exact(len, key) => Some((key, len)),
-        _ => None,
-    }
-}
-
 // What is at the front of a text that begins with no ESC.
 #[inline(always)]
-fn front_without_escape(parser: &InputParser, text: &[u8], maybe_more: bool) -> ExtendedFront
+fn front_without_escape(text: &[u8]) -> ExtendedFront
     requires { ¬ Begins ESC text.now }
-    ensures { (rows : Rows) → IsExtendedFront rows text.now maybe_more result }
+    ensures { (rows : Rows) (more : Bool) → IsExtendedFront rows text.now more result }
 {
-    if text.is_empty() {
-        return ExtendedFront::Incomplete(0);
-    }
-    match control_character_at(parser, text, maybe_more) {
-        Some((key, len)) => ExtendedFront::Key(copied(key), len),
-        None => ExtendedFront::Usual,
+    match text {
+        [] => ExtendedFront::Incomplete(0),
+        [first, ..] => match control_key(*first) {
+            Some(key) => ExtendedFront::Key(key, 1),
+            None => ExtendedFront::Usual,
+        },
     }
 }
 
@@ -318,7 +299,7 @@ pub(crate) fn front(
     ensures { IsExtendedFront rows text.now maybe_more result }
 {
     match after_escape(text) {
-        None => front_without_escape(parser, text, maybe_more),
+        None => front_without_escape(text),
         Some(after) => match after_escape(after) {
             Some(_) => {
                 front_of_two_escapes(

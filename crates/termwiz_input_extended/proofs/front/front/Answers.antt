@@ -2,7 +2,7 @@ use Rattle.termwiz_input_extended.proofs.lemmas.fronts.ScannedPlaces.{no_second_
 use Rattle.termwiz_input_extended.proofs.front.front.Goals as goal
 
 pub returns-in-None : goal.returns-in-None
-returns-in-None c = c.front_without_escape.ensures c.args.rows
+returns-in-None c = c.front_without_escape.ensures c.args.rows c.args.maybe_more
 
 pub front_of_two_escapes-requires-clause-scanned : goal.front_of_two_escapes-requires-clause-scanned
 front_of_two_escapes-requires-clause-scanned c =
