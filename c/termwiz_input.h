@@ -612,7 +612,7 @@ size_t tw_extended_reset(tw_extended *parser);
 
 /* Writes what a terminal sends for a key to out, and the number of these bytes to *sent_len, if the program asked for these flags of Kitty's
  * keyboard protocol: the other way from a TW_EVENT_REPORT. A terminal or a multiplexer calls it. The bytes are UTF-8 without a final 0. There
- * are none for a key that isn't told, as a release without TW_KITTY_REPORT_EVENT_TYPES. The rules are those of Kitty's page "Comprehensive
+ * are none for a key that isn't sent, such as a release without TW_KITTY_REPORT_EVENT_TYPES. The rules are those of Kitty's page "Comprehensive
  * keyboard handling in terminals" (https://sw.kovidgoyal.net/kitty/keyboard-protocol/), as docs/EXTENDED.md lists them.
  *
  * report has the key as tw_extended_next writes it, and detail isn't read for a key that has none. text is what the key types, text_len bytes

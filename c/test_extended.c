@@ -360,7 +360,7 @@ static const struct encoding encodings[] = {
   { PRESS(0, TW_KEY_FUNCTION, 25), "", TW_KITTY_NONE, TW_REFUSED_KEY, "" },
   { PRESS(0, 0, 57343), "", ALL_FLAGS, TW_REFUSED_KEY, "" },
   { PRESS(0, 0, 63744), "", ALL_FLAGS, TW_REFUSED_KEY, "" },
-  /* what stands for nothing */
+  /* what names nothing */
   { LETTER(0, 0), "", ALL_FLAGS, TW_BAD_NUMBER, "" },
   { LETTER(4, 0), "", ALL_FLAGS, TW_BAD_NUMBER, "" },
   { PRESS(0, KEYS + 1, 0), "", ALL_FLAGS, TW_BAD_NUMBER, "" },

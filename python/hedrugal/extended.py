@@ -102,7 +102,7 @@ class KeyReport:
             >>> released.encode(KittyKeyboardFlags.NONE)
             b''
 
-        There are none for a key that isn't told. Of the report only what a flag asks for is sent, and a text with control characters counts
+        There are none for a key that isn't sent. Of the report only what a flag asks for is sent, and a text with control characters counts
         as none. The rules are those of Kitty's page "Comprehensive keyboard handling in terminals",
         https://sw.kovidgoyal.net/kitty/keyboard-protocol/.
 

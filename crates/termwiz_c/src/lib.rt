@@ -299,7 +299,7 @@ pub extern "C" fn tw_parser_drop_paste(alloc: Global, parser: &mut ParserHandle)
 
 /// Encodes a key that is pressed while `modifiers` are held, or that is up. The answer is 0 if `out` has as much of the text as it
 /// has room for, and `text_len` its whole length. It is 1 for a function key that has no text, 2 if memory is refused, and 3 if a
-/// number stands for nothing; then `text_len` is 0.
+/// number names nothing; then `text_len` is 0.
 #[tactic(auto, using(crate::proofs::Pressed::not_bad))]
 #[unsafe(no_mangle)]
 pub extern "C" fn tw_encode(

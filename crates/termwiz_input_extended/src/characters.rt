@@ -31,7 +31,9 @@ pub(crate) fn is_printable_ascii(byte: u8) -> bool
     matches!(byte, b' '..=b'~')
 }
 
-// The key of a control character but ESC, if it has one: its row in the sequence table, which this finds without a lookup.
+// The key of a control character but ESC, if it has one: its row in the sequence table, which this finds without a lookup. Inlined, its
+// match would be made for sequences too.
+#[inline(never)]
 pub(crate) fn control_key(byte: u8) -> Option<KeyEvent>
     ensures { IfSome result (λ key. (byte ≢ 27) × Contains table_rows (byte ∷ [], key)) }
 {

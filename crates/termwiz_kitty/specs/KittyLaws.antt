@@ -56,7 +56,7 @@ pub record IsWritable (r : KeyReport) : Type 0 where
   pub text : has_text (form_of r.key) ≡ false → r.text ≡ []
   pub no_control : has_control r.text ≡ false
 
--- Under all five flags such a report is told whole.
+-- Under all five flags such a report is sent whole.
 abbrev pub FullyTold : Type 0
 FullyTold = (r : KeyReport) → IsWritable r → (telling r all_flags ≡ Reported) × (reported r all_flags ≡ r)
 
@@ -71,7 +71,7 @@ typed_events (Named Tab) text = pressed Tab ∷ []
 typed_events (Named Backspace) text = pressed Backspace ∷ []
 typed_events key text = map (λ c. pressed (Char c)) (chars text)
 
--- A key that is told by its text: the text means exactly these events, whether or not more may come, and nothing waits.
+-- A key that is sent as its text: the text means exactly these events, whether or not more may come, and nothing waits.
 abbrev pub TypedReadBack : Type 0
 TypedReadBack = (r : KeyReport) (flags : ℕ) (text : List ℕ) (more : Bool) → IsReport r → telling r flags ≡ Typed
     → kitty_text r flags ≡ Some text → Means Kitty text more (typed_events r.key text) []
@@ -94,7 +94,7 @@ abbrev pub is_modified_f3 : KeyCode → ℕ → Bool
 is_modified_f3 (Function n) held = (n == 3) && not (held == NONE)
 is_modified_f3 key held = false
 
--- A key that is told as before the protocol, and that the port reads back: its text is the press of that key, with Shift, Alt and Ctrl as in
+-- A key that is sent as before the protocol, and that the port reads back: its text is the press of that key, with Shift, Alt and Ctrl as in
 -- the report. But F3 with modifiers isn't. With more to come it is so for the keys whose texts begin no sequence.
 abbrev pub LegacyReadBack : Type 0
 LegacyReadBack = (r : KeyReport) (key : KeyCode) (flags : ℕ) (text : List ℕ) (more : Bool) → IsReport r → r.key ≡ Named key
@@ -104,7 +104,7 @@ LegacyReadBack = (r : KeyReport) (key : KeyCode) (flags : ℕ) (text : List ℕ)
     → (more ≡ true → ¬ Contains keys_that_wait (key, (port_modifiers r.modifiers).0))
     → IsReadAs text more (press_of key (bit_and r.modifiers 7))
 
--- F3 with modifiers is told by the reply to a question for the cursor's position: row 1, and the column is one more than the bits.
+-- F3 with modifiers is sent as the reply to a question for the cursor's position: row 1, and the column is one more than the bits.
 abbrev pub ModifiedF3IsPosition : Type 0
 ModifiedF3IsPosition = (r : KeyReport) (flags : ℕ) (text : List ℕ) (more : Bool) → IsReport r → r.key ≡ Named (Function 3)
     → telling r flags ≡ Legacy → kitty_text r flags ≡ Some text → bit_and r.modifiers 7 ≢ 0

@@ -129,11 +129,11 @@ unfoldable pub legacy_text : ReportedKey → ℕ → Option (List ℕ)
 legacy_text (Named key) bits = enc key (port_modifiers bits) xterm_modes
 legacy_text (Functional n) bits = None
 
--- the sequence of what is told of a report
+-- the sequence of what is sent of a report
 abbrev pub report_text : KeyReport → ℕ → Option (List ℕ)
 report_text r flags = option_map (λ form. sequence_text form (reported r flags)) (form_of r.key)
 
--- the bytes of a key that is told so
+-- the bytes of a key that is sent so
 abbrev pub text_as : Telling → KeyReport → ℕ → Option (List ℕ)
 text_as Nothing r flags = Some []
 text_as Typed r flags = Some (typed_text r)
@@ -148,10 +148,10 @@ kitty_text r flags = text_as (telling r flags) r flags
 abbrev pub IsWithin : KeyReport → ℕ → List ℕ → Type 0
 IsWithin r flags text = telling r flags ≡ Reported → length text ≤ most_bytes
 
--- the sequence of what is told of a report would be longer
+-- the sequence of what is sent of a report would be longer
 abbrev pub IsTooLongReport : KeyReport → ℕ → Type 0
 IsTooLongReport r flags = (text : List ℕ) × (report_text r flags ≡ Some text) × (most_bytes < length text)
 
--- the key is told by such a report
+-- the key is sent as such a report
 abbrev pub IsTooLong : KeyReport → ℕ → Type 0
 IsTooLong r flags = (telling r flags ≡ Reported) × IsTooLongReport r flags

@@ -103,19 +103,19 @@ abbrev pub types : ReportedKey → ℕ → Bool
 types (Named (Char c)) bits = not (is_control c) && is_at_most_shifted bits
 types key bits = sends_control key && is_bare bits
 
--- What happened to the key, as it is told: without the types of events a repeat is a press.
+-- What happened to the key, as it is reported: without the types of events a repeat is a press.
 abbrev pub told_kind : ℕ → KeyEventKind → KeyEventKind
 told_kind flags kind = if tells_event_types flags then kind else Press
 
--- a release, which isn't told
+-- a release, which isn't reported
 abbrev pub is_silent_release : KeyReport → ℕ → Bool
 is_silent_release r flags = is_release r.kind && not (tells_event_types flags)
 
--- a modifier key, which isn't told
+-- a modifier key, which isn't reported
 abbrev pub is_silent_modifier : KeyReport → ℕ → Bool
 is_silent_modifier r flags = is_modifier r.key && not (tells_all_keys flags)
 
--- how a key is told if not all keys are reported
+-- how a key is reported if not all keys are reported
 abbrev pub telling_some : KeyReport → ℕ → Telling
 telling_some r flags =
     if sends_control r.key && is_release r.kind then Nothing
@@ -123,7 +123,7 @@ telling_some r flags =
     else (if is_press (told_kind flags r.kind) && not (holds flags DISAMBIGUATE) then Legacy
     else Reported))
 
--- how a key is told
+-- how a key is reported
 unfoldable pub telling : KeyReport → ℕ → Telling
 telling r flags =
     if is_silent_release r flags then Nothing
@@ -131,12 +131,12 @@ telling r flags =
     else (if tells_all_keys flags then Reported
     else telling_some r flags))
 
--- the modifiers as they are told: without all keys the locks aren't told of keys that type
+-- the modifiers as they are reported: without all keys the locks aren't reported of keys that type
 abbrev pub told_modifiers : KeyReport → ℕ → ℕ
 told_modifiers r flags =
     if is_character r.key && not (tells_all_keys flags) then without_locks r.modifiers else r.modifiers
 
--- what the key types with Shift and what its place types are told
+-- what the key types with Shift and what its place types are reported
 abbrev pub tells_alternates : KeyReport → ℕ → Bool
 tells_alternates r flags = holds flags ALTERNATE_KEYS && is_character r.key
 

@@ -145,7 +145,7 @@ fn legacy_text(alloc: Global, key: ReportedKey, bits: u8) -> Result<String, Kitt
     }
 }
 
-// Appends the sequence of what is told of a report.
+// Appends the sequence of what is sent of a report.
 #[tactic(auto, unfolding(crate::specs::KittyTexts::sequence_text, crate::specs::Telling::reported))]
 fn push_sequence(
     text: &mut String,
@@ -173,7 +173,7 @@ fn push_sequence(
     }
 }
 
-// The sequence of what is told of a report.
+// The sequence of what is sent of a report.
 fn sequence(
     alloc: Global,
     report: &KeyReport,

@@ -118,7 +118,7 @@ fn tells_event_types(flags: KittyKeyboardFlags) -> bool
     flags.contains(KittyKeyboardFlags::REPORT_EVENT_TYPES)
 }
 
-// What happened to the key, as it is told.
+// What happened to the key, as it is reported.
 pub(crate) fn told_kind(kind: KeyEventKind, flags: KittyKeyboardFlags) -> KeyEventKind
     ensures { result ≡ rules.told_kind flags.0 kind }
 {
@@ -129,7 +129,7 @@ pub(crate) fn told_kind(kind: KeyEventKind, flags: KittyKeyboardFlags) -> KeyEve
     }
 }
 
-// How a key is told if not all keys are reported.
+// How a key is reported if not all keys are reported.
 fn telling_some(report: &KeyReport, flags: KittyKeyboardFlags) -> Telling
     ensures { result ≡ rules.telling_some report.now flags.0 }
 {
@@ -166,7 +166,7 @@ pub(crate) fn telling_of(report: &KeyReport, flags: KittyKeyboardFlags) -> Telli
     telling_some(report, flags)
 }
 
-// The modifiers, as they are told.
+// The modifiers, as they are reported.
 pub(crate) fn told_modifiers(report: &KeyReport, flags: KittyKeyboardFlags) -> u8
     ensures { result ≡ rules.told_modifiers report.now flags.0 }
 {
@@ -177,14 +177,14 @@ pub(crate) fn told_modifiers(report: &KeyReport, flags: KittyKeyboardFlags) -> u
     }
 }
 
-// Whether it is told what the key types with Shift, and what its place types.
+// Whether it is reported what the key types with Shift, and what its place types.
 fn tells_alternates(report: &KeyReport, flags: KittyKeyboardFlags) -> bool
     ensures { result ≡ rules.tells_alternates report.now flags.0 }
 {
     flags.contains(KittyKeyboardFlags::REPORT_ALTERNATE_KEYS) && is_character(report.key)
 }
 
-// What the key types with Shift, if it is told.
+// What the key types with Shift, if it is reported.
 pub(crate) fn told_shifted(report: &KeyReport, flags: KittyKeyboardFlags) -> Option<char>
     ensures { result ≡ rules.told_shifted report.now flags.0 }
 {
@@ -195,7 +195,7 @@ pub(crate) fn told_shifted(report: &KeyReport, flags: KittyKeyboardFlags) -> Opt
     }
 }
 
-// What the place of the key types on the standard layout, if it is told.
+// What the place of the key types on the standard layout, if it is reported.
 pub(crate) fn told_base(report: &KeyReport, flags: KittyKeyboardFlags) -> Option<char>
     ensures { result ≡ rules.told_base report.now flags.0 }
 {
@@ -206,7 +206,7 @@ pub(crate) fn told_base(report: &KeyReport, flags: KittyKeyboardFlags) -> Option
     }
 }
 
-// Whether the text of a key is told.
+// Whether the text of a key is reported.
 fn tells_text(report: &KeyReport, flags: KittyKeyboardFlags) -> bool
     ensures { result ≡ rules.tells_text report.now flags.0 }
 {
@@ -216,7 +216,7 @@ fn tells_text(report: &KeyReport, flags: KittyKeyboardFlags) -> bool
         && !has_control(report.text.as_str())
 }
 
-// The text of the key, if it is told, and else an empty one.
+// The text of the key, if it is reported, and else an empty one.
 pub(crate) fn told_text<'a>(report: &'a KeyReport, flags: KittyKeyboardFlags) -> &'a str
     ensures { result.now ≡ rules.told_text report.now flags.0 }
 {

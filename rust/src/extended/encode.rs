@@ -38,7 +38,7 @@ const ROOM: usize = 256;
 
 impl KeyReport {
     /// Returns what a terminal sends for the key, if the program asked for these flags of Kitty's keyboard protocol. It is empty for a key
-    /// that isn't told, as a release without `REPORT_EVENT_TYPES`. Of the report only what a flag asks for is sent, and a text with
+    /// that isn't sent, such as a release without `REPORT_EVENT_TYPES`. Of the report only what a flag asks for is sent, and a text with
     /// control characters counts as none. Bits of `flags` that no flag has don't count. A terminal or a multiplexer calls it.
     ///
     /// The rules are those of Kitty's page ["Comprehensive keyboard handling in terminals"][page]. Under all flags an
