@@ -115,7 +115,7 @@ is_silent_release r flags = is_release r.kind && not (tells_event_types flags)
 abbrev pub is_silent_modifier : KeyReport → ℕ → Bool
 is_silent_modifier r flags = is_modifier r.key && not (tells_all_keys flags)
 
--- how a key is reported if not all keys are reported
+-- how a key is sent if not all keys are reported as escape codes
 abbrev pub telling_some : KeyReport → ℕ → Telling
 telling_some r flags =
     if sends_control r.key && is_release r.kind then Nothing
@@ -123,7 +123,7 @@ telling_some r flags =
     else (if is_press (told_kind flags r.kind) && not (holds flags DISAMBIGUATE) then Legacy
     else Reported))
 
--- how a key is reported
+-- how a key is sent
 unfoldable pub telling : KeyReport → ℕ → Telling
 telling r flags =
     if is_silent_release r flags then Nothing
@@ -136,7 +136,7 @@ abbrev pub told_modifiers : KeyReport → ℕ → ℕ
 told_modifiers r flags =
     if is_character r.key && not (tells_all_keys flags) then without_locks r.modifiers else r.modifiers
 
--- what the key types with Shift and what its place types are reported
+-- what the key types with Shift, and what its place types, are reported
 abbrev pub tells_alternates : KeyReport → ℕ → Bool
 tells_alternates r flags = holds flags ALTERNATE_KEYS && is_character r.key
 

@@ -129,7 +129,7 @@ pub(crate) fn told_kind(kind: KeyEventKind, flags: KittyKeyboardFlags) -> KeyEve
     }
 }
 
-// How a key is reported if not all keys are reported.
+// How a key is sent if not all keys are reported as escape codes.
 fn telling_some(report: &KeyReport, flags: KittyKeyboardFlags) -> Telling
     ensures { result ≡ rules.telling_some report.now flags.0 }
 {
@@ -177,7 +177,7 @@ pub(crate) fn told_modifiers(report: &KeyReport, flags: KittyKeyboardFlags) -> u
     }
 }
 
-// Whether it is reported what the key types with Shift, and what its place types.
+// Whether what the key types with Shift, and what its place types, is reported.
 fn tells_alternates(report: &KeyReport, flags: KittyKeyboardFlags) -> bool
     ensures { result ≡ rules.tells_alternates report.now flags.0 }
 {
