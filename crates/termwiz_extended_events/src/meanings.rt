@@ -140,24 +140,16 @@ pub fn is_key_or_position(alloc: Global, text: &[u8]) -> bool
     }
 }
 
-// The event, if it is a report of a key or of the position of the cursor.
-fn if_key_or_position(event: ExtendedEvent) -> Option<ExtendedEvent>
-    ensures some { IfSome result (λ found. IsKeyOrPosition event × (found ≡ event)) }
-    ensures none { IfNone result (¬ IsKeyOrPosition event) }
-{
-    if is_of_key_or_position(&event) {
-        Some(event)
-    } else {
-        None
-    }
-}
-
 // The event of what follows ESC [, if it reports a key or the position of the cursor.
 fn report_of_key_or_position(alloc: Global, t: &[u8]) -> Result<Option<ExtendedEvent>, AllocError>
     ensures some { IfOk result (λ found. IfSome found (λ event. IsKeyOrPosition event × (reported t.now ≡ Some event))) }
     ensures none { IfOk result (λ found. IfNone found (¬ IsSomeAnd (reported t.now) IsKeyOrPosition)) }
 {
-    Ok(reported(alloc, t)?.and_then(if_key_or_position))
+    let found = reported(alloc, t);
+    match &found {
+        Ok(Some(event)) if !is_of_key_or_position(event) => Ok(None),
+        _ => found,
+    }
 }
 
 /// The event of a whole sequence, if it reports a key or the position of the cursor. Otherwise it is `None`.
