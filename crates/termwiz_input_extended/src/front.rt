@@ -96,7 +96,7 @@ fn is_reported(alloc: Global, rows: Rows, form: &[u8]) -> bool
 
 // The event of a form that is read as such a report, and `None` for any other form. A refusal is passed on only for such a report.
 #[inline(always)]
-fn reported_event(
+pub(crate) fn reported_event(
     alloc: Global,
     rows: Rows,
     form: &[u8],
@@ -107,33 +107,31 @@ fn reported_event(
 {
     match rows {
         Rows::Port => Ok(None),
-        Rows::Kitty => match key_or_position(alloc, form) {
-            Ok(found) => Ok(found),
-            Err(refusal) if is_key_or_position(alloc, form) => Err(refusal),
-            Err(_) => Ok(None),
-        },
+        Rows::Kitty => {
+            let found = key_or_position(alloc, form);
+            if found.is_err() && !is_key_or_position(alloc, form) {
+                return Ok(None);
+            }
+            found
+        }
     }
 }
 
-// The event of a form that is no mouse report. Reports are tried first, so that they cost no lookup in the table.
+// The event of a form that is no mouse report, and isn't read as a report of a key or a position.
 #[inline(always)]
-pub(crate) fn form_event(
+pub(crate) fn other_event(
     alloc: Global,
     parser: &InputParser,
-    rows: Rows,
     form: &[u8],
 ) -> Result<ExtendedEvent, AllocError>
     requires form { IsForm form.now }
     requires no_mouse { (event : Mouse) → ¬ IsMouseReport form.now event }
-    ensures event { IfOk result (IsFormEvent rows form.now) }
-    ensures refused { OnErr result (IsSomeExtra rows form.now) }
+    ensures event { IfOk result (λ event. (rows : Rows) → ¬ IsReported rows form.now → IsFormEvent rows form.now event) }
+    ensures refused { OnErr result ((rows : Rows) → IsSomeExtra rows form.now) }
 {
-    match reported_event(alloc, rows, form)? {
-        Some(event) => Ok(event),
-        None => match row_of(parser, form) {
-            Some(key) => Ok(ExtendedEvent::Input(InputEvent::Key(copied(key)))),
-            None => event_of(alloc, form),
-        },
+    match row_of(parser, form) {
+        Some(key) => Ok(ExtendedEvent::Input(InputEvent::Key(copied(key)))),
+        None => event_of(alloc, form),
     }
 }
 

@@ -9,13 +9,13 @@ ghost use Rattle.termwiz_input.specs.PrintableAscii.{IsPrintableAscii};
 ghost use Rattle.termwiz_extended_events.specs.declared.types.ExtendedEvent.{ExtendedEvent as Event};
 ghost use Rattle.termwiz_extended_grammar.specs.ExtendedGrammar.{IsRest, Means, Steps};
 ghost use Rattle.termwiz_input_extended.specs.EventCallbacks.{MayBeCalledOn, WasCalledOn};
-ghost use Rattle.termwiz_input_extended.specs.ExtendedFronts.{Emits, GivesNoneThatNeedsMemory, HasItemThatNeedsMemory, IsExtendedFront, IsFormAt, IsPasteEvent, IsPortsOwn, Stores};
+ghost use Rattle.termwiz_input_extended.specs.ExtendedFronts.{Emits, GivesNoneThatNeedsMemory, HasItemThatNeedsMemory, IsExtendedFront, IsFormAt, IsPasteEvent, IsPortsOwn, IsReported, Stores};
 ghost use Rattle.termwiz_input_extended.specs.ExtendedKinds.{IsBoundedOrOpenPaste, IsKind};
 
 use crate::characters::{
     append_characters, append_printable_ascii, character_front, is_printable_ascii, plain_key,
 };
-use crate::front::{ExtendedFront, form_event, front};
+use crate::front::{ExtendedFront, front, other_event, reported_event};
 use std::alloc::{AllocError, Global};
 use std::marker::Model;
 use termwiz_extended_events::types::{ExtendedEvent, Rows};
@@ -172,15 +172,27 @@ impl ExtendedParser {
         }
     }
 
-    // The event of the form of so many bytes at the front of the waiting text.
+    // The event of the form of so many bytes at the front of the waiting text, if it is read as a report of a key or a position.
     #[inline(always)]
-    fn event_of_form(&self, len: usize) -> Result<ExtendedEvent, AllocError>
+    fn report_at(&self, len: usize) -> Result<Option<ExtendedEvent>, AllocError>
         requires { IsFormAt self.now.text len }
+        ensures some { IfOk result (λ found. IfSome found (λ event. (more : Bool)
+            → Steps self.now.rows self.now.text more (event ∷ []) (drop len self.now.text))) }
+        ensures none { IfOk result (λ found. IfNone found (¬ IsReported self.now.rows (take len self.now.text))) }
+        ensures refused { OnErr result ((more : Bool) → HasItemThatNeedsMemory self.now.rows self.now.text more) }
+    {
+        reported_event(self.alloc, self.rows, &self.waiting_text()[..len])
+    }
+
+    // The event of any other such form.
+    #[inline(always)]
+    fn other_form_at(&self, len: usize) -> Result<ExtendedEvent, AllocError>
+        requires form { IsFormAt self.now.text len }
+        requires other { ¬ IsReported self.now.rows (take len self.now.text) }
         ensures event { IfOk result (λ event. (more : Bool) → Steps self.now.rows self.now.text more (event ∷ []) (drop len self.now.text)) }
         ensures refused { OnErr result ((more : Bool) → HasItemThatNeedsMemory self.now.rows self.now.text more) }
     {
-        let form = &self.waiting_text()[..len];
-        form_event(self.alloc, &self.parser, self.rows, form)
+        other_event(self.alloc, &self.parser, &self.waiting_text()[..len])
     }
 
     // Consumes the form of so many bytes at the front of the waiting text, and returns its event.
@@ -189,9 +201,17 @@ impl ExtendedParser {
         requires { IsFormAt self.old.text len }
         ensures { (more : Bool) → Emits self.old more self.new result }
     {
-        let event = self.event_of_form(len)?;
-        self.consume(len);
-        Ok(Some(event))
+        match self.report_at(len)? {
+            Some(event) => {
+                self.consume(len);
+                Ok(Some(event))
+            }
+            None => {
+                let event = self.other_form_at(len)?;
+                self.consume(len);
+                Ok(Some(event))
+            }
+        }
     }
 
     // Consumes the item at the front of the waiting text, and returns its event. `None` if no item is there. `next_event` is quicker for
@@ -418,6 +438,25 @@ impl ExtendedParser {
         Ok(true)
     }
 
+    // Moves the event of the form of so many bytes at the front of the waiting text to the list.
+    #[inline(always)]
+    fn store_form(
+        &mut self,
+        events: &mut Vec<ExtendedEvent>,
+        len: usize,
+    ) -> Result<bool, AllocError>
+        requires { IsFormAt self.old.text len }
+        ensures { (more : Bool) → Stores self.old more events.old.items self.new events.new.items result }
+    {
+        match self.report_at(len)? {
+            Some(event) => self.store(events, event, len),
+            None => {
+                let event = self.other_form_at(len)?;
+                self.store(events, event, len)
+            }
+        }
+    }
+
     // Moves the event of what the port finds at the front of the waiting text to the list.
     fn store_of_port(
         &mut self,
@@ -465,10 +504,7 @@ impl ExtendedParser {
             ExtendedFront::Key(key, len) => {
                 self.store(events, ExtendedEvent::Input(InputEvent::Key(key)), len)
             }
-            ExtendedFront::Form(len) => {
-                let event = self.event_of_form(len)?;
-                self.store(events, event, len)
-            }
+            ExtendedFront::Form(len) => self.store_form(events, len),
             ExtendedFront::MouseReport(event, len) => {
                 self.store(events, ExtendedEvent::Input(InputEvent::Mouse(event)), len)
             }

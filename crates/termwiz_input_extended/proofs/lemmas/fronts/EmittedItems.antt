@@ -1,6 +1,6 @@
 -- What a call answers that consumes the item at the front.
 use Rattle.std.proofs.Common.{◌≡◌, ℕ, Bool, List, [], ◌∷◌, ap, ◌∙◌, Option, Some, None, Result, Ok, Err, IsErr}
-use Rattle.std.specs.Prelude.{IfOk, OnErr}
+use Rattle.std.specs.Prelude.{IfOk, IfSome, OnErr}
 use Rattle.termwiz_extended_events.specs.declared.types.ExtendedEvent.{ExtendedEvent}
 use Rattle.termwiz_extended_events.specs.declared.types.Rows.{Rows}
 use Rattle.termwiz_extended_grammar.specs.ExtendedGrammar.{IsRest, Steps}
@@ -35,6 +35,10 @@ module _ {F : Type 0} (old new : Buffered) (more : Bool) where
 pub if_ok : {A F : Type 0} {P Q : A → Type 0} (result : Result A F) → ((x : A) → P x → Q x) → IfOk result P → IfOk result Q
 if_ok (Ok value) then p = then value p
 if_ok (Err fault) then p = tt
+
+pub if_some : {A : Type 0} {P Q : A → Type 0} (found : Option A) → ((x : A) → P x → Q x) → IfSome found P → IfSome found Q
+if_some (Some value) then p = then value p
+if_some None then p = tt
 
 pub if_refused : {A F : Type 0} {P Q : Type 0} (result : Result A F) → (P → Q) → OnErr result P → OnErr result Q
 if_refused (Ok value) then p = tt

@@ -82,12 +82,6 @@ pub row_not_extra : (rows : Rows) (text : List ℕ) (key : KeyEvent) → Contain
 row_not_extra Port text key row never h = row_is_no_extra text key h.0 row h.1
 row_not_extra Kitty text key row never h = never (refl, extra_row_is_reported text key h.0 row h.1)
 
--- what is read of a form that is extra is its event
-pub extra_event : {F : Type 0} (rows : Rows) (text : List ℕ) (result : Result ExtendedEvent F) → IsSomeExtra rows text
-    → IfOk result (λ event. event ≡ event_of text) → IfOk result (IsFormEvent rows text)
-extra_event rows text (Ok event) h means = inl (record { is_form = h.1.is_form; is_free = h.1.is_free; means = means })
-extra_event rows text (Err fault) h means = tt
-
 module _ (rows : Rows) (u : List ℕ) (len : ℕ) (form : IsForm (take len u)) where
   -- a form that begins the text is the only one
   form_same : (text : List ℕ) → IsForm text → Begins text u → text ≡ take len u

@@ -11,9 +11,8 @@ returns-in-Key c = c.store.ensures.stores c.args.maybe_more
     (item_step c.args.self.now.rows c.args.self.now.text (Key c.in-Key.key) c.in-Key.len c.args.maybe_more c.in-Key.ensures.0
     c.in-Key.ensures.1)
 
-pub returns-in_ok-event-in-Form : goal.returns-in_ok-event-in-Form
-returns-in_ok-event-in-Form c =
-    c.store-in-Form.ensures.stores c.args.maybe_more (c.in_ok-event-in-Form.ensures.event c.args.maybe_more)
+pub returns-in-Form : goal.returns-in-Form
+returns-in-Form c = c.store_form.ensures c.args.maybe_more
 
 pub returns-in-MouseReport : goal.returns-in-MouseReport
 returns-in-MouseReport c = c.store-in-MouseReport.ensures.stores c.args.maybe_more
