@@ -140,16 +140,38 @@ pub fn is_key_or_position(alloc: Global, text: &[u8]) -> bool
     }
 }
 
-// The event of what follows ESC [, if it reports a key or the position of the cursor.
+// The event of a reply, if it is the position of the cursor.
+fn if_position(event: ExtendedEvent) -> Option<ExtendedEvent>
+    ensures some { IfSome result (λ found. IsKeyOrPosition event × (found ≡ event)) }
+    ensures none { IfNone result (¬ IsKeyOrPosition event) }
+{
+    if is_of_key_or_position(&event) {
+        Some(event)
+    } else {
+        None
+    }
+}
+
+// The event of what follows ESC [, if it reports a key or the position of the cursor: the rules of `reported`, in their order.
+#[tactic(auto, unfolding(crate::specs::Meanings::reported))]
+#[inline(always)]
 fn report_of_key_or_position(alloc: Global, t: &[u8]) -> Result<Option<ExtendedEvent>, AllocError>
     ensures some { IfOk result (λ found. IfSome found (λ event. IsKeyOrPosition event × (reported t.now ≡ Some event))) }
     ensures none { IfOk result (λ found. IfNone found (¬ IsSomeAnd (reported t.now) IsKeyOrPosition)) }
 {
-    let found = reported(alloc, t);
-    match &found {
-        Ok(Some(event)) if !is_of_key_or_position(event) => Ok(None),
-        _ => found,
+    if let Some(event) = focus(t) {
+        return Ok(if_position(event));
     }
+    if let Some(report) = key_report(alloc, t)? {
+        return Ok(Some(ExtendedEvent::Key(report)));
+    }
+    if let Some(event) = reply(t) {
+        return Ok(if_position(event));
+    }
+    if mouse_report(t).is_some() {
+        return Ok(None);
+    }
+    Ok(console_key(alloc, t).map(ExtendedEvent::Key))
 }
 
 /// The event of a whole sequence, if it reports a key or the position of the cursor. Otherwise it is `None`.
