@@ -9,6 +9,7 @@ use Rattle.termwiz_extended_events.specs.declared.types.ReportedKey.{ReportedKey
 use Rattle.termwiz_extended_events.specs.declared.types.ReportedKey.TheVariants.{Named}
 use Rattle.termwiz_extended_events.specs.declared.key_fields.Manner.{Manner}
 use Rattle.termwiz_extended_events.specs.declared.key_fields.Codes.{Codes}
+use Rattle.termwiz_extended_events.specs.declared.key_reports.PlainReport.{PlainReport}
 use Rattle.termwiz_extended_events.specs.Numbers.{fields, parts, before_end, first_some, number, scalar}
 use Rattle.termwiz_extended_events.specs.ReportedKeys.{last_functional, entry_at, lettered_keys, key_of, tilde_key, keypad_keys, console_keys}
 
@@ -92,6 +93,10 @@ report_of key manner = record {
   base = None;
   text = [];
 }
+
+-- such a report by its two parts
+abbrev pub plain_report : PlainReport → KeyReport
+plain_report plain = report_of plain.key plain.manner
 
 -- the report of a character's key, if all its fields are there
 abbrev pub character_report : Option Codes → Option Manner → Option (List ℕ) → Option KeyReport

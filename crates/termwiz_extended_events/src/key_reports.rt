@@ -1,7 +1,9 @@
 // The sequences that report a key.
-ghost use Rattle.std.specs.Prelude.{◌≡◌, IfOk, is_some};
+ghost use Rattle.std.specs.Prelude.{◌≡◌, ◌∷◌, [], IfOk, is_some, option_map};
+ghost use Rattle.termwiz_extended_events.specs.declared.types.ReportedKey.{ReportedKey as Key};
+ghost use Rattle.termwiz_extended_events.specs.Numbers.{first_some};
 ghost use Rattle.termwiz_extended_events.specs.KeyReports as rules;
-ghost use Rattle.termwiz_extended_events.specs.KeyReports.{report_of, report_behind};
+ghost use Rattle.termwiz_extended_events.specs.KeyReports.{report_of, report_behind, plain_report};
 ghost use Rattle.termwiz_grammar.specs.Table.{key_of_code};
 ghost use Rattle.termwiz_extended_events.specs.FieldsLeft.{fields_left};
 
@@ -87,38 +89,52 @@ fn is_character_key(t: &[u8]) -> bool
     fields.next().map_or(true, is_text) && fields.next().is_none()
 }
 
-// The report of a key in the manner that the fields after the first one say.
-fn report_behind(alloc: Global, key: ReportedKey, mut fields: Fields) -> Option<KeyReport>
-    ensures { result ≡ report_behind key (fields_left fields.entry) }
+// A key and its manner: a report that says no more. It is small, and the report is made of it once.
+#[derive(Clone, Copy)]
+pub(crate) struct PlainReport {
+    pub key: ReportedKey,
+    pub manner: Manner,
+}
+
+// The manner that the fields after the first one say.
+fn manner_behind(mut fields: Fields) -> Option<Manner>
+    ensures { (key : Key) → option_map (rules.report_of key) result ≡ report_behind key (fields_left fields.entry) }
 {
     let manner = fields.next().map_or(Some(PRESSED), manner_of)?;
     match fields.next() {
         Some(_) => None,
-        None => Some(report_of(alloc, key, manner)),
+        None => Some(manner),
     }
 }
 
 // 1 ; modifiers : kind and a letter, of which only the letter must be there: a key by its letter.
 #[tactic(auto, unfolding(crate::specs::KeyReports::lettered_key))]
-fn lettered_key(alloc: Global, t: &[u8]) -> Option<KeyReport>
-    ensures { result ≡ rules.lettered_key t.now }
+fn lettered_key(t: &[u8]) -> Option<PlainReport>
+    ensures { option_map plain_report result ≡ rules.lettered_key t.now }
 {
     let key = reported_keys::lettered_key(*t.last()?)?;
     let mut fields = Fields::new(&t[..t.len() - 1], b';');
     match fields.next()? {
-        [] | [b'1'] => report_behind(alloc, ReportedKey::Named(key), fields),
+        [] | [b'1'] => {
+            let manner = manner_behind(fields)?;
+            Some(PlainReport {
+                key: ReportedKey::Named(key),
+                manner,
+            })
+        }
         _ => None,
     }
 }
 
 // n ; modifiers : kind ~, of which only n must be there: a key by its number.
 #[tactic(auto, unfolding(crate::specs::KeyReports::numbered_key))]
-fn numbered_key(alloc: Global, t: &[u8]) -> Option<KeyReport>
-    ensures { result ≡ rules.numbered_key t.now }
+fn numbered_key(t: &[u8]) -> Option<PlainReport>
+    ensures { option_map plain_report result ≡ rules.numbered_key t.now }
 {
     let mut fields = Fields::new(before_end(t, b"~")?, b';');
     let key = reported_keys::tilde_key(number(fields.next()?, 0, LAST_FUNCTIONAL)?)?;
-    report_behind(alloc, key, fields)
+    let manner = manner_behind(fields)?;
+    Some(PlainReport { key, manner })
 }
 
 // The key of a character's number as xterm reports it, as in the sequence table.
@@ -136,8 +152,8 @@ fn key_of_code(c: char) -> KeyCode
 
 // 27 ; m ; c ~: the key of c, as xterm's modifyOtherKeys reports it.
 #[tactic(auto, unfolding(crate::specs::KeyReports::other_key))]
-fn other_key(alloc: Global, t: &[u8]) -> Option<KeyReport>
-    ensures { result ≡ rules.other_key t.now }
+fn other_key(t: &[u8]) -> Option<PlainReport>
+    ensures { option_map plain_report result ≡ rules.other_key t.now }
 {
     let mut fields = Fields::new(before_end(t, b"~")?, b';');
     if fields.next()? != b"27".as_slice() {
@@ -152,7 +168,28 @@ fn other_key(alloc: Global, t: &[u8]) -> Option<KeyReport>
         modifiers: (one_more - 1) as u8,
         kind: KeyEventKind::Press,
     };
-    Some(report_of(alloc, ReportedKey::Named(key_of_code(c)), manner))
+    Some(PlainReport {
+        key: ReportedKey::Named(key_of_code(c)),
+        manner,
+    })
+}
+
+// The report of a key that a tilde ends.
+fn tilde_report(t: &[u8]) -> Option<PlainReport>
+    ensures { option_map plain_report result ≡ first_some (rules.numbered_key t.now ∷ rules.other_key t.now ∷ []) }
+{
+    match numbered_key(t) {
+        Some(report) => Some(report),
+        None => other_key(t),
+    }
+}
+
+// The report of its two parts.
+#[inline(always)]
+fn whole_report(alloc: Global, plain: Option<PlainReport>) -> Option<KeyReport>
+    ensures { result ≡ option_map plain_report plain }
+{
+    plain.map(|report| report_of(alloc, report.key, report.manner))
 }
 
 // The report of a key by the first of these rules that fits. The last byte tells which of them can.
@@ -164,20 +201,20 @@ pub(crate) fn key_report(alloc: Global, t: &[u8]) -> Result<Option<KeyReport>, A
     };
     match *last {
         b'u' => character_key(alloc, t),
-        b'~' => Ok(numbered_key(alloc, t).or_else(|| other_key(alloc, t))),
-        _ => Ok(lettered_key(alloc, t)),
+        b'~' => Ok(whole_report(alloc, tilde_report(t))),
+        _ => Ok(whole_report(alloc, lettered_key(t))),
     }
 }
 
 // Whether one of these rules fits. It asks for no memory.
 #[tactic(auto, unfolding(crate::specs::KeyReports::key_report))]
-pub(crate) fn is_key_report(alloc: Global, t: &[u8]) -> bool
+pub(crate) fn is_key_report(t: &[u8]) -> bool
     ensures { result ≡ is_some (rules.key_report t.now) }
 {
     is_character_key(t)
-        || lettered_key(alloc, t).is_some()
-        || numbered_key(alloc, t).is_some()
-        || other_key(alloc, t).is_some()
+        || lettered_key(t).is_some()
+        || numbered_key(t).is_some()
+        || other_key(t).is_some()
 }
 
 // [ and a letter from A to E: F1 to F5, as the Linux console reports them.

@@ -119,7 +119,7 @@ fn is_report_of_key_or_position(alloc: Global, t: &[u8]) -> bool
     if let Some(event) = focus(t) {
         return is_of_key_or_position(&event);
     }
-    if is_key_report(alloc, t) {
+    if is_key_report(t) {
         return true;
     }
     if let Some(event) = reply(t) {

@@ -1,4 +1,4 @@
-use Rattle.std.proofs.Common.{◌≡◌, ◌-◌, length, sym, Some, rules}
+use Rattle.std.proofs.Common.{◌≡◌, ◌-◌, length, sym, ◌∙◌, Some}
 use Rattle.std.specs.List.{slice_get}
 use Rattle.termwiz_extended_events.proofs.ReportEnds.{ends_nowhere, ends_otherwise, ends_with_tilde, ends_with_u}
 use Rattle.termwiz_extended_events.proofs.key_reports.key_report.Goals as goal
@@ -14,9 +14,9 @@ returns-in-117 c =
 pub returns-in-126 : goal.returns-in-126
 returns-in-126 c =
     let e : slice_get c.args.t.now (length c.args.t.now - 1) ≡ Some 126 = cc (c.in-Some.ensures.value, c.in-126.is) in
-    rw (ends_with_tilde c.args.t.now e) (search rules)
+    c.whole_report.ensures ∙ c.tilde_report.ensures ∙ sym (ends_with_tilde c.args.t.now e)
 
 pub returns-in_default-last : goal.returns-in_default-last
 returns-in_default-last c =
-    rw (ends_otherwise c.args.t.now c.in-Some.last.now (sym c.in-Some.ensures.value) c.in_default-last.in_default-last-own.rest.0.1 c.in_default-last.in_default-last-own.rest.1)
-    c.lettered_key.ensures
+    c.whole_report-in_default-last.ensures ∙ c.lettered_key.ensures
+    ∙ sym (ends_otherwise c.args.t.now c.in-Some.last.now (sym c.in-Some.ensures.value) c.in_default-last.in_default-last-own.rest.0.1 c.in_default-last.in_default-last-own.rest.1)
