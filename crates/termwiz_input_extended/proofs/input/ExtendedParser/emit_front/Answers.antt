@@ -6,7 +6,7 @@ use Rattle.termwiz_extended_grammar.specs.ExtendedGrammar.{Steps}
 use Rattle.termwiz_input_extended.specs.Buffered.{Buffered}
 use Rattle.termwiz_input_extended.proofs.lemmas.fronts.EmittedItems.{emits_event, emits_none}
 use Rattle.termwiz_input_extended.proofs.lemmas.fronts.FrontItems.{escape_step}
-use Rattle.termwiz_input_extended.proofs.lemmas.fronts.KnownFronts.{item_step, own_start}
+use Rattle.termwiz_input_extended.proofs.lemmas.fronts.KnownFronts.{item_step}
 use Rattle.termwiz_input_extended.proofs.input.ExtendedParser.emit_front.Goals as goal
 
 pub returns-in-Form : goal.returns-in-Form
@@ -40,6 +40,3 @@ returns-in-Escape c = emits_event c.args.self.now _ c.args.maybe_more _
 
 pub returns-in-Incomplete : goal.returns-in-Incomplete
 returns-in-Incomplete c = emits_none c.args.self.now _ c.args.maybe_more c.in-Incomplete.ensures.0 c.self.view_is
-
-pub next_of_port-requires : goal.next_of_port-requires
-next_of_port-requires c = own_start c.args.self.now.rows c.args.self.now.text c.args.maybe_more c.in-Paste.ensures
