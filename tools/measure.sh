@@ -1,7 +1,8 @@
 #!/usr/bin/env bash
 # Measures the parser in process, on this machine, and another commit's beside it.
 #
-#     tools/measure.sh [--against COMMIT | --extended ROWS] [--reads LIST] [--runs N] [--keep FOLDER] [new | CORPUS[:MEGABYTES]]..
+#     tools/measure.sh [--against COMMIT | --extended ROWS] [--by-event] [--reads LIST] [--runs N] [--keep FOLDER]
+#                      [new | CORPUS[:MEGABYTES]]..
 #
 # It builds a static library over termwiz_input (tools/measure/feed.rt.txt) and a C program that times it (measure.c), from the files
 # here and, with --against, from those of COMMIT; all of it in a temporary folder, or in FOLDER, which is kept. Then it runs the
@@ -9,7 +10,7 @@
 # in megabytes per second.
 #
 # With --extended it measures the extended parser, which reads the rows of the sequence table as ROWS says (port or kitty), and beside it
-# InputParser.
+# InputParser. With --by-event a loop over next_event is timed (next.rt.txt) in place of parse_as_vec.
 #
 # `new` is InputParser::new, and the drop of a parser that read nothing: the first in its process, and the least of twenty more. A CORPUS
 # is that many megabytes (1 if none are given) of typed, utf8, keys, csiu, mouse, mixed, escapes, cut or paste (see
@@ -20,12 +21,13 @@
 set -eu
 . "$(dirname "$0")/common.sh"
 top=$(cd "$(dirname "$0")/.." && pwd)
-against='' extended='' reads=64,4096 runs=9 keep=''
+against='' extended='' source=feed.rt.txt reads=64,4096 runs=9 keep=''
 while [ $# -gt 0 ]; do
     case $1 in
         --help) show_help; exit ;;
         --against) want_next "$@"; against=$2; shift 2 ;;
         --extended) want_next "$@"; extended=$2; shift 2 ;;
+        --by-event) source=next.rt.txt; shift ;;
         --reads) want_next "$@"; reads=$2; shift 2 ;;
         --runs) want_next "$@"; runs=$2; shift 2 ;;
         --keep) want_next "$@"; keep=$2; shift 2 ;;
@@ -70,11 +72,13 @@ build() { # folder [port | kitty]
     if [ -n "${2:-}" ]; then
         [ "$2" = port ] && rows=Port || rows=Kitty
         sed -e 's/^use termwiz_input::input::InputParser;/use termwiz_input_extended::input::ExtendedParser;\nuse termwiz_input_extended::types::Rows;/' \
-            -e "s/InputParser::new(alloc)/ExtendedParser::new(alloc, Rows::$rows)/" -e 's/InputParser/ExtendedParser/g' \
-            "$top/tools/measure/feed.rt.txt" > "$1/crates/feed/src/lib.rt"
+            -e 's/^use termwiz_input::input::{InputEvent, InputParser};/use termwiz_input_extended::input::ExtendedParser;\nuse termwiz_input_extended::types::{ExtendedEvent, Rows};/' \
+            -e "s/InputParser::new(alloc)/ExtendedParser::new(alloc, Rows::$rows)/" \
+            -e 's/InputParser/ExtendedParser/g; s/InputEvent/ExtendedEvent/g' \
+            "$top/tools/measure/$source" > "$1/crates/feed/src/lib.rt"
         echo 'feed staticlib: termwiz_input_extended' >> "$1/crates.txt"
     else
-        cp "$top/tools/measure/feed.rt.txt" "$1/crates/feed/src/lib.rt"
+        cp "$top/tools/measure/$source" "$1/crates/feed/src/lib.rt"
         echo 'feed staticlib: termwiz_input' >> "$1/crates.txt"
     fi
     (cd "$1/crates/feed" && rt lib) > "$1/log" 2>&1 || { cat "$1/log" >&2; exit 1; }

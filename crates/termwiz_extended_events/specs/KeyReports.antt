@@ -7,9 +7,9 @@ use Rattle.termwiz_extended_events.specs.declared.types.KeyEventKind.{KeyEventKi
 use Rattle.termwiz_extended_events.specs.declared.types.KeyEventKind.TheVariants.{Press, Repeat, Release}
 use Rattle.termwiz_extended_events.specs.declared.types.ReportedKey.{ReportedKey}
 use Rattle.termwiz_extended_events.specs.declared.types.ReportedKey.TheVariants.{Named}
-use Rattle.termwiz_extended_events.specs.declared.key_fields.Manner.{Manner}
+use Rattle.termwiz_extended_events.specs.declared.types.Manner.{Manner}
 use Rattle.termwiz_extended_events.specs.declared.key_fields.Codes.{Codes}
-use Rattle.termwiz_extended_events.specs.declared.key_reports.PlainReport.{PlainReport}
+use Rattle.termwiz_extended_events.specs.declared.types.PlainReport.{PlainReport}
 use Rattle.termwiz_extended_events.specs.Numbers.{fields, parts, before_end, first_some, number, scalar}
 use Rattle.termwiz_extended_events.specs.ReportedKeys.{last_functional, entry_at, lettered_keys, key_of, tilde_key, keypad_keys, console_keys}
 

@@ -2,9 +2,8 @@
 ghost use Rattle.std.specs.Prelude.{◌≡◌, [], IfOk, IsOk};
 ghost use Rattle.termwiz_extended_events.specs.EventKeys.{pressed_key, key_of_event, text_of_event};
 
-use crate::key_fields::Manner;
 use crate::key_reports::report_of;
-use crate::types::{ExtendedEvent, KeyEventKind, KeyReport, KeyText, ReportedKey};
+use crate::types::{ExtendedEvent, KeyEventKind, KeyReport, KeyText, Manner, ReportedKey};
 use std::alloc::{AllocError, Global};
 use termwiz_keys::types::{InputEvent, KeyEvent};
 

@@ -4,15 +4,8 @@ ghost use Rattle.termwiz_extended_events.specs.KeyReports.{modifiers_of, kind_of
 
 use crate::fields::Fields;
 use crate::numbers::{number, scalar};
-use crate::types::{KeyEventKind, KeyText};
+use crate::types::{KeyEventKind, KeyText, Manner};
 use std::alloc::{AllocError, Global};
-
-// Which modifiers are held, as kitty's bits, and what happened to the key.
-#[derive(Clone, Copy)]
-pub(crate) struct Manner {
-    pub modifiers: u8,
-    pub kind: KeyEventKind,
-}
 
 // The character of a key, what it types with Shift, and what the key at its place types on the standard layout.
 #[derive(Clone, Copy)]

@@ -1,5 +1,5 @@
 // The sequences that report a key.
-ghost use Rattle.std.specs.Prelude.{◌≡◌, ◌∷◌, [], IfOk, is_some, option_map};
+ghost use Rattle.std.specs.Prelude.{◌≡◌, ◌∷◌, [], IfOk, IfSome, IfNone, Some, is_some, option_map};
 ghost use Rattle.termwiz_extended_events.specs.declared.types.ReportedKey.{ReportedKey as Key};
 ghost use Rattle.termwiz_extended_events.specs.Numbers.{first_some};
 ghost use Rattle.termwiz_extended_events.specs.KeyReports as rules;
@@ -8,11 +8,11 @@ ghost use Rattle.termwiz_grammar.specs.Table.{key_of_code};
 ghost use Rattle.termwiz_extended_events.specs.FieldsLeft.{fields_left};
 
 use crate::fields::{Fields, before_end};
-use crate::key_fields::{Manner, codes_of, is_text, manner_of, text_of};
+use crate::key_fields::{codes_of, is_text, manner_of, text_of};
 use crate::numbers::{number, scalar};
 use crate::reported_keys;
 use crate::reported_keys::LAST_FUNCTIONAL;
-use crate::types::{KeyEventKind, KeyReport, KeyText, ReportedKey};
+use crate::types::{KeyEventKind, KeyReport, KeyText, Manner, PlainReport, ReportedKey};
 use std::alloc::{AllocError, Global};
 use termwiz_keys::types::KeyCode;
 
@@ -26,14 +26,7 @@ const PRESSED: Manner = Manner {
 pub(crate) fn report_of(alloc: Global, key: ReportedKey, manner: Manner) -> KeyReport
     ensures { result ≡ report_of key manner }
 {
-    KeyReport {
-        key,
-        modifiers: manner.modifiers,
-        kind: manner.kind,
-        shifted: None,
-        base: None,
-        text: KeyText::new(String::new(alloc)),
-    }
+    PlainReport { key, manner }.whole(alloc)
 }
 
 // c : shifted : base ; modifiers : kind ; text u, of which only c must be there: the key of c.
@@ -89,18 +82,14 @@ fn is_character_key(t: &[u8]) -> bool
     fields.next().map_or(true, is_text) && fields.next().is_none()
 }
 
-// A key and its manner: a report that says no more. It is small, and the report is made of it once.
-#[derive(Clone, Copy)]
-pub(crate) struct PlainReport {
-    pub key: ReportedKey,
-    pub manner: Manner,
-}
-
 // The manner that the fields after the first one say.
 fn manner_behind(mut fields: Fields) -> Option<Manner>
     ensures { (key : Key) → option_map (rules.report_of key) result ≡ report_behind key (fields_left fields.entry) }
 {
-    let manner = fields.next().map_or(Some(PRESSED), manner_of)?;
+    let Some(field) = fields.next() else {
+        return Some(PRESSED);
+    };
+    let manner = manner_of(field)?;
     match fields.next() {
         Some(_) => None,
         None => Some(manner),
@@ -184,37 +173,51 @@ fn tilde_report(t: &[u8]) -> Option<PlainReport>
     }
 }
 
-// The report of its two parts.
-#[inline(always)]
-fn whole_report(alloc: Global, plain: Option<PlainReport>) -> Option<KeyReport>
-    ensures { result ≡ option_map plain_report plain }
+// c ; modifiers : kind u, of which only c must be there: the key of c, if it is reported with no other character and no text.
+#[tactic(auto, unfolding(crate::specs::KeyReports::character_key))]
+fn plain_character_key(t: &[u8]) -> Option<PlainReport>
+    ensures { IfSome result (λ report. rules.character_key t.now ≡ Some (plain_report report)) }
 {
-    plain.map(|report| report_of(alloc, report.key, report.manner))
+    let mut fields = Fields::new(before_end(t, b"u")?, b';');
+    let own = scalar(fields.next()?)?;
+    let manner = manner_behind(fields)?;
+    Some(PlainReport {
+        key: reported_keys::key_of(own),
+        manner,
+    })
 }
 
-// The report of a key by the first of these rules that fits. The last byte tells which of them can.
+// The report of a key, if it says no more than its manner. The last byte tells which rules can fit. If it is `None`, only that of a
+// character's key can.
+pub(crate) fn plain_report(t: &[u8]) -> Option<PlainReport>
+    ensures some { IfSome result (λ report. rules.key_report t.now ≡ Some (plain_report report)) }
+    ensures none { IfNone result (rules.key_report t.now ≡ rules.character_key t.now) }
+{
+    let last = *t.last()?;
+    if last == b'u' {
+        return plain_character_key(t);
+    }
+    if last == b'~' {
+        return tilde_report(t);
+    }
+    lettered_key(t)
+}
+
+// The report of a key by the first of these rules that fits.
 pub(crate) fn key_report(alloc: Global, t: &[u8]) -> Result<Option<KeyReport>, AllocError>
     ensures { IfOk result (λ report. report ≡ rules.key_report t.now) }
 {
-    let Some(last) = t.last() else {
-        return Ok(None);
-    };
-    match *last {
-        b'u' => character_key(alloc, t),
-        b'~' => Ok(whole_report(alloc, tilde_report(t))),
-        _ => Ok(whole_report(alloc, lettered_key(t))),
+    match plain_report(t) {
+        Some(report) => Ok(Some(report.whole(alloc))),
+        None => character_key(alloc, t),
     }
 }
 
 // Whether one of these rules fits. It asks for no memory.
-#[tactic(auto, unfolding(crate::specs::KeyReports::key_report))]
 pub(crate) fn is_key_report(t: &[u8]) -> bool
     ensures { result ≡ is_some (rules.key_report t.now) }
 {
-    is_character_key(t)
-        || lettered_key(t).is_some()
-        || numbered_key(t).is_some()
-        || other_key(t).is_some()
+    plain_report(t).is_some() || is_character_key(t)
 }
 
 // [ and a letter from A to E: F1 to F5, as the Linux console reports them.

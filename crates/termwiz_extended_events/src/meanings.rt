@@ -1,12 +1,15 @@
 // What a sequence means that the port doesn't know.
 ghost use Rattle.std.specs.Prelude.{◌≡◌, ◌↔◌, IfOk, IfSome, IfNone, IsSomeAnd, IsTrue, Some};
+ghost use Rattle.termwiz_extended_events.specs.KeyReports.{plain_report};
 ghost use Rattle.termwiz_extended_events.specs.Meanings as meaning;
+ghost use Rattle.termwiz_extended_events.specs.declared.types.ExtendedEvent.TheVariants.{Key};
 ghost use Rattle.termwiz_extended_events.specs.Meanings.{reported, command_text, string_text, event_after, IsKeyOrPosition};
 
 use crate::fields::before_end;
+use crate::key_reports;
 use crate::key_reports::{console_key, is_key_report, key_report, keypad_key};
 use crate::replies::{focus, mouse_report, reply};
-use crate::types::{ExtendedEvent, SequenceBytes};
+use crate::types::{ExtendedEvent, PlainReport, SequenceBytes};
 use std::alloc::{AllocError, Global};
 use termwiz_keys::types::InputEvent;
 
@@ -174,6 +177,27 @@ fn report_of_key_or_position(alloc: Global, t: &[u8]) -> Result<Option<ExtendedE
     Ok(console_key(alloc, t).map(ExtendedEvent::Key))
 }
 
+// The key report of what follows ESC [, if it says no more than a key and its manner.
+#[tactic(auto, using(crate::proofs::PlainReports::plain_event))]
+#[inline(always)]
+fn plain_report_behind(t: &[u8]) -> Option<PlainReport>
+    ensures { IfSome result (λ report. reported t.now ≡ Some (Key (plain_report report))) }
+{
+    key_reports::plain_report(t)
+}
+
+/// The key report of a whole sequence, if it says no more than a key and its manner. It is quicker than [`key_or_position`], and asks for
+/// no memory. `None` decides nothing: the sequence may still be a key report.
+#[tactic(auto, unfolding(crate::specs::Meanings::event_of, crate::specs::Meanings::event_after))]
+pub fn plain_report(text: &[u8]) -> Option<PlainReport>
+    ensures { IfSome result (λ report. meaning.event_of text.now ≡ Key (plain_report report)) }
+{
+    match text {
+        [0x1b, b'[', t @ ..] => plain_report_behind(t),
+        _ => None,
+    }
+}
+
 /// The event of a whole sequence, if it reports a key or the position of the cursor. Otherwise it is `None`.
 ///
 /// The code asks for memory only for the text of a key report; no contract says so.
@@ -191,7 +215,7 @@ pub fn key_or_position(alloc: Global, text: &[u8]) -> Result<Option<ExtendedEven
 
 #[cfg(test)]
 mod tests {
-    use super::{event_of, key_or_position};
+    use super::{event_of, key_or_position, plain_report};
     use crate::types::{ExtendedEvent, KeyEventKind, ReportedKey};
     use std::alloc::AllocError;
     use termwiz_keys::types::{InputEvent, KeyCode};
@@ -231,6 +255,21 @@ mod tests {
         };
         assert!(rt; report.key == ReportedKey::Named(KeyCode::UpArrow) && report.modifiers == 8);
         Ok(())
+    }
+
+    #[test]
+    fn reads_plain_reports(rt: HostRuntime) {
+        let alloc = rt.alloc();
+        let Some(report) = plain_report(b"\x1b[97;3:3u") else {
+            panic!(rt; "no report");
+        };
+        assert!(rt; report.key == ReportedKey::Named(KeyCode::Char('a')));
+        assert!(rt; report.manner.modifiers == 2 && report.manner.kind == KeyEventKind::Release);
+        let whole = report.whole(alloc);
+        assert!(rt; whole.key == report.key && whole.modifiers == 2);
+        assert!(rt; whole.kind == KeyEventKind::Release && whole.text.as_str() == "");
+        assert!(rt; plain_report(b"\x1b[5~").is_some() && plain_report(b"\x1b[H").is_some());
+        assert!(rt; plain_report(b"\x1b[97;1;65u").is_none() && plain_report(b"\x1b[I").is_none());
     }
 
     #[test]

@@ -3,7 +3,9 @@ ghost use Rattle.std.specs.Prelude.{◌≡◌, ◌==◌, string_bytes};
 ghost use Rattle.std.specs.Cmp.Rules.{comparing};
 ghost use Rattle.std.specs.Cmp.Lexicographic.{pointwise};
 ghost use Rattle.std.proofs.Common.{rules};
+ghost use Rattle.termwiz_extended_events.specs.KeyReports.{plain_report};
 
+use std::alloc::Global;
 use std::marker::Model;
 use termwiz_keys::types::{InputEvent, KeyCode};
 
@@ -35,6 +37,24 @@ pub enum ReportedKey {
     Named(KeyCode),
     /// A key for which [`KeyCode`] has no name, by its number in Kitty's table of functional keys.
     Functional(u32),
+}
+
+/// Which modifiers were held, and what happened to the key.
+#[derive(Clone, Copy, PartialEq, Eq, Debug)]
+pub struct Manner {
+    /// The modifiers as Kitty's bits, as in [`KeyReport`].
+    pub modifiers: u8,
+    /// Whether the key was pressed, held or released.
+    pub kind: KeyEventKind,
+}
+
+/// A key and its manner: a key report with no other characters of the key and no text. It holds no memory.
+#[derive(Clone, Copy, PartialEq, Eq, Debug)]
+pub struct PlainReport {
+    /// The key.
+    pub key: ReportedKey,
+    /// The modifiers, and what happened to the key.
+    pub manner: Manner,
 }
 
 /// The text that a key types. Contracts see it as its bytes.
@@ -156,6 +176,23 @@ pub struct KeyReport {
     pub base: Option<char>,
     /// The text that the key types, if the terminal reported it; otherwise empty.
     pub text: KeyText,
+}
+
+impl PlainReport {
+    /// Returns it as a [`KeyReport`]. `alloc` makes an empty text, which needs no memory.
+    #[inline(always)]
+    pub fn whole(self, alloc: Global) -> KeyReport
+        ensures { result ≡ plain_report self }
+    {
+        KeyReport {
+            key: self.key,
+            modifiers: self.manner.modifiers,
+            kind: self.manner.kind,
+            shifted: None,
+            base: None,
+            text: KeyText::new(String::new(alloc)),
+        }
+    }
 }
 
 /// Something that happened at the terminal, or that it replied.

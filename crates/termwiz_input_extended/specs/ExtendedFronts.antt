@@ -1,5 +1,5 @@
 -- What is at the front of a text, as far as extra sequences go.
-use Rattle.std.specs.Prelude.{◌≡◌, ◌⊎◌, ℕ, ◌<◌, ◌≤◌, ◌-◌, Bool, true, false, List, [], ◌∷◌, ◌++◌, length, take, Contains, Option, Result, IfOk, IfSome, IfNone, OnErr}
+use Rattle.std.specs.Prelude.{◌≡◌, ◌≢◌, ◌⊎◌, ℕ, ◌<◌, ◌≤◌, ◌-◌, Bool, true, false, List, [], ◌∷◌, ◌++◌, length, take, Contains, Option, Result, IfOk, IfSome, IfNone, OnErr, slice_index}
 use Rattle.termwiz_keymap.specs.Bytes.{Begins}
 use Rattle.termwiz_keys.specs.Introducers.{ESC, START}
 use Rattle.termwiz_keys.specs.Keys.{plain as plain_key}
@@ -11,9 +11,11 @@ use Rattle.termwiz_grammar.specs.MouseReports.{IsMouseReport}
 use Rattle.termwiz_input.specs.Matches.{HasRow, IsItemAt}
 use Rattle.termwiz_input.specs.PasteSearch.{IsPasteSoFar}
 use Rattle.termwiz_extended_events.specs.declared.types.ExtendedEvent.{ExtendedEvent}
-use Rattle.termwiz_extended_events.specs.declared.types.ExtendedEvent.TheVariants.{Input}
+use Rattle.termwiz_extended_events.specs.declared.types.ExtendedEvent.TheVariants.{Input, Key as Report}
+use Rattle.termwiz_extended_events.specs.declared.types.PlainReport.{PlainReport}
 use Rattle.termwiz_extended_events.specs.declared.types.Rows.{Rows}
 use Rattle.termwiz_extended_events.specs.declared.types.Rows.TheVariants.{Port, Kitty}
+use Rattle.termwiz_extended_events.specs.KeyReports.{plain_report}
 use Rattle.termwiz_extended_events.specs.Meanings.{event_of, IsKeyOrPosition}
 use Rattle.termwiz_grammar.specs.Grammar.{IsOpen}
 use Rattle.termwiz_grammar.specs.Table.{rows as table_rows}
@@ -72,6 +74,20 @@ pub record IsFormAt (u : List ℕ) (len : ℕ) : Type 0 where
   pub escape : Begins ESC u
   pub one : ¬ Begins (ESC ++ ESC) u
   pub no_paste : ¬ Begins START u
+
+-- after ESC [, a byte that begins no mouse report and no key of the console
+abbrev pub IsReportStart : ℕ → Type 0
+IsReportStart b = (b ≢ 60) × (b ≢ 77) × (b ≢ 91)
+
+-- the text has such a byte there
+pub record MayBeReport (u : List ℕ) : Type 0 where
+  pub long : 2 < length u
+  pub start : IsReportStart (slice_index u 2)
+
+-- the form of so many bytes at the front is the report of a key that says no more than the key and its manner
+pub record IsPlainReportAt (u : List ℕ) (report : PlainReport) (len : ℕ) : Type 0 where
+  pub form : IsPlainForm u len
+  pub means : Report (plain_report report) ≡ event_of (take len u)
 
 -- the character at the front, of so many bytes, is an item, whatever follows it
 pub record IsOwnCharacter (rows : Rows) (u : List ℕ) (more : Bool) (character len : ℕ) : Type 0 where

@@ -88,7 +88,8 @@ fn is_row(rest: &[u8]) -> bool
 }
 
 // The form at the front of ESC [ and the rest, where neither M nor [ comes first.
-fn control_at(rest: &[u8], scanned: usize) -> FormAt
+#[inline(always)]
+pub(crate) fn control_at(rest: &[u8], scanned: usize) -> FormAt
     requires no_mouse { slice_index rest.now 0 ≢ 77 }
     requires no_console { slice_index rest.now 0 ≢ 91 }
     requires scanned { AllByRecursion IsInner (take scanned rest.now) }

@@ -12,14 +12,16 @@ ghost use Rattle.termwiz_input.specs.PrintableAscii.{IsPrintableAscii};
 ghost use Rattle.termwiz_extended_events.specs.Meanings as meaning;
 ghost use Rattle.termwiz_extended_grammar.specs.Forms.{IsForm};
 ghost use Rattle.termwiz_input_extended.specs.FormAnswers.{IsScanned};
-ghost use Rattle.termwiz_input_extended.specs.ExtendedFronts.{HasFormFront, IsExtendedFront, IsFormEvent, IsLongRowAt, IsOwnCharacter, IsReported, IsScannedTo, IsSomeExtra};
+ghost use Rattle.termwiz_input_extended.specs.ExtendedFronts.{HasFormFront, IsExtendedFront, IsFormAt, IsFormEvent, IsLongRowAt, IsOwnCharacter, IsPlainReportAt, IsReported, IsReportStart, MayBeReport, IsScannedTo, IsSomeExtra};
 
 use crate::characters::control_key;
-use crate::form::{ESCAPE, FormAt, form_at, next_scan};
+use crate::form::{ESCAPE, FormAt, control_at, form_at, next_scan};
 use std::alloc::{AllocError, Global};
 use termwiz_base::{Flags, Modifiers};
-use termwiz_extended_events::meanings::{event_of, is_key_or_position, key_or_position};
-use termwiz_extended_events::types::{ExtendedEvent, Rows};
+use termwiz_extended_events::meanings::{
+    event_of, is_key_or_position, key_or_position, plain_report,
+};
+use termwiz_extended_events::types::{ExtendedEvent, PlainReport, Rows};
 use termwiz_input::input::{FrontReport, InputParser, character_at, mouse_report_at};
 use termwiz_input::keymap::Found;
 use termwiz_keymap::bytes::begins_with;
@@ -269,6 +271,37 @@ fn front_without_escape(text: &[u8]) -> ExtendedFront
             Some(key) => ExtendedFront::Key(key, 1),
             None => ExtendedFront::Usual,
         },
+    }
+}
+
+// Whether a byte may come after ESC [ in the report of a key: a digit, a semicolon or a letter but M.
+fn may_begin_report(byte: u8) -> bool
+    ensures { IsTrue result → IsReportStart byte }
+{
+    matches!(byte, b'0'..=b'9' | b';' | b'A'..=b'L' | b'N'..=b'Z')
+}
+
+// Whether the third byte of a text tells that the report of a key may be at its front.
+#[inline(always)]
+pub(crate) fn may_be_report(text: &[u8]) -> bool
+    ensures { IsTrue result → MayBeReport text.now }
+{
+    text.len() > 2 && may_begin_report(text[2])
+}
+
+// The report of a key at the front of a text, if it says no more than a key and its manner, and the number of its bytes. `None` decides
+// nothing.
+#[inline(always)]
+pub(crate) fn plain_report_front(text: &[u8]) -> Option<(PlainReport, usize)>
+    requires { MayBeReport text.now }
+    ensures { IfSome result (λ found. IsPlainReportAt text.now found.0 found.1) }
+{
+    if text[0] != ESCAPE || text[1] != b'[' {
+        return None;
+    }
+    match control_at(&text[2..], 0) {
+        FormAt::Whole(len) => Some((plain_report(&text[..len])?, len)),
+        _ => None,
     }
 }
 

@@ -7,18 +7,22 @@ ghost use Rattle.termwiz_keys.specs.declared.types.InputEvent.TheVariants as Por
 ghost use Rattle.termwiz_grammar.specs.WaitingKinds.{IsOneOrTwoEscapes, IsOpenPaste};
 ghost use Rattle.termwiz_input.specs.PrintableAscii.{IsPrintableAscii};
 ghost use Rattle.termwiz_extended_events.specs.declared.types.ExtendedEvent.{ExtendedEvent as Event};
+ghost use Rattle.termwiz_extended_events.specs.declared.types.Rows.TheVariants.{Kitty};
+ghost use Rattle.termwiz_extended_events.specs.KeyReports.{plain_report};
 ghost use Rattle.termwiz_extended_grammar.specs.ExtendedGrammar.{IsRest, Means, Steps};
 ghost use Rattle.termwiz_input_extended.specs.EventCallbacks.{MayBeCalledOn, WasCalledOn};
-ghost use Rattle.termwiz_input_extended.specs.ExtendedFronts.{Emits, GivesNoneThatNeedsMemory, HasItemThatNeedsMemory, IsExtendedFront, IsFormAt, IsPasteEvent, IsPortsOwn, IsReported, Stores};
+ghost use Rattle.termwiz_input_extended.specs.ExtendedFronts.{Emits, GivesNoneThatNeedsMemory, HasItemThatNeedsMemory, IsExtendedFront, IsFormAt, IsPasteEvent, IsPortsOwn, IsReported, MayBeReport, Stores};
 ghost use Rattle.termwiz_input_extended.specs.ExtendedKinds.{IsBoundedOrOpenPaste, IsKind};
 
 use crate::characters::{
     append_characters, append_printable_ascii, character_front, is_printable_ascii, plain_key,
 };
-use crate::front::{ExtendedFront, front, other_event, reported_event};
+use crate::front::{
+    ExtendedFront, front, may_be_report, other_event, plain_report_front, reported_event,
+};
 use std::alloc::{AllocError, Global};
 use std::marker::Model;
-use termwiz_extended_events::types::{ExtendedEvent, Rows};
+use termwiz_extended_events::types::{ExtendedEvent, PlainReport, Rows};
 pub use termwiz_input::input::{ParseError, Waiting};
 use termwiz_input::input::{InputEvent, InputParser, KeyCode, KeyEvent, Modifiers};
 
@@ -184,6 +188,32 @@ impl ExtendedParser {
         self.next_of_port(maybe_more)
     }
 
+    // Whether the report of a key may be at the front of the waiting text, under `Rows::Kitty`. A text that was looked at before isn't looked
+    // at again from its start.
+    #[inline(always)]
+    fn may_be_report(&self) -> bool
+        ensures kitty { IsTrue result → self.now.rows ≡ Kitty }
+        ensures start { IsTrue result → MayBeReport self.now.text }
+    {
+        match self.rows {
+            Rows::Port => false,
+            Rows::Kitty => self.scanned == 0 && may_be_report(self.waiting_text()),
+        }
+    }
+
+    // The report of a key at the front of the waiting text, if it says no more than a key and its manner, and the number of its bytes.
+    // `None` decides nothing.
+    #[inline(always)]
+    fn plain_report_front(&self) -> Option<(PlainReport, usize)>
+        requires kitty { self.now.rows ≡ Kitty }
+        requires start { MayBeReport self.now.text }
+        ensures within { IfSome result (λ found. found.1 ≤ length self.now.text) }
+        ensures event { IfSome result (λ found. (more : Bool)
+            → Steps self.now.rows self.now.text more (Event.Key (plain_report found.0) ∷ []) (drop found.1 self.now.text)) }
+    {
+        plain_report_front(self.waiting_text())
+    }
+
     // The event of the form of so many bytes at the front of the waiting text, if it is read as a report of a key or a position.
     #[inline(always)]
     fn report_at(&self, len: usize) -> Result<Option<ExtendedEvent>, AllocError>
@@ -255,6 +285,22 @@ impl ExtendedParser {
         }
     }
 
+    // The same where the report of a key may be at the front: quicker if it is.
+    #[inline(never)]
+    fn emit_report(&mut self, maybe_more: bool) -> Result<Option<ExtendedEvent>, AllocError>
+        requires kitty { self.old.rows ≡ Kitty }
+        requires start { MayBeReport self.old.text }
+        ensures { Emits self.old maybe_more self.new result }
+    {
+        match self.plain_report_front() {
+            Some((report, len)) => {
+                self.consume(len);
+                Ok(Some(ExtendedEvent::Key(report.whole(self.alloc))))
+            }
+            None => self.emit_front(maybe_more),
+        }
+    }
+
     /// Consumes the item at the front of the buffer, and returns its event. `None` if there is no item: then all buffered bytes are the
     /// rest, and the parser is unchanged.
     ///
@@ -280,6 +326,7 @@ impl ExtendedParser {
                 self.consume(len);
                 Ok(Some(ExtendedEvent::Input(InputEvent::Key(plain_key(character)))))
             }
+            None if self.may_be_report() => self.emit_report(maybe_more),
             None => self.emit_front(maybe_more),
         }
     }
@@ -530,6 +577,26 @@ impl ExtendedParser {
         }
     }
 
+    // The same where the report of a key may be at the front: quicker if it is.
+    #[inline(never)]
+    fn store_report(
+        &mut self,
+        events: &mut Vec<ExtendedEvent>,
+        maybe_more: bool,
+    ) -> Result<bool, AllocError>
+        requires kitty { self.old.rows ≡ Kitty }
+        requires start { MayBeReport self.old.text }
+        ensures { Stores self.old maybe_more events.old.items self.new events.new.items result }
+    {
+        match self.plain_report_front() {
+            Some((report, len)) => {
+                let event = ExtendedEvent::Key(report.whole(self.alloc));
+                self.store(events, event, len)
+            }
+            None => self.store_front(events, maybe_more),
+        }
+    }
+
     // Moves the events of the characters from SPACE to `~` at the front of the waiting text to the list, as far as it has room.
     #[inline(always)]
     fn store_printable_ascii(&mut self, events: &mut Vec<ExtendedEvent>) -> Result<bool, AllocError>
@@ -576,6 +643,7 @@ impl ExtendedParser {
                     self.store_characters(events);
                     Ok(true)
                 }
+                None if self.may_be_report() => self.store_report(events, maybe_more),
                 None => self.store_front(events, maybe_more),
             },
         }

@@ -1,6 +1,5 @@
 -- Whether a form is an extra sequence, and what extra sequence begins a text by the form that does.
-use Rattle.std.specs.Prelude.{Result, Ok, Err, IfOk}
-use Rattle.std.proofs.Common.{◌≡◌, inl, ℕ, List, [], ◌++◌, take, drop, refl, sym, ap, ◌∙◌, subst, append_assoc, append-nil, take-append-drop, Contains}
+use Rattle.std.proofs.Common.{◌≡◌, ℕ, List, [], ◌++◌, take, drop, refl, sym, ap, ◌∙◌, subst, append_assoc, append-nil, take-append-drop, Contains}
 use Rattle.termwiz_keymap.specs.Bytes.{Begins}
 use Rattle.termwiz_keymap.proofs.lemmas.lists.CommonPrefixes.{Overlaps, overlap, append-some}
 use Rattle.termwiz_keymap.proofs.lemmas.lists.CommonPrefixes.Overlaps.{within, past}
@@ -16,7 +15,7 @@ use Rattle.termwiz_extended_events.specs.declared.types.Rows.TheVariants.{Port, 
 use Rattle.termwiz_extended_events.specs.Meanings.{event_of, IsKeyOrPosition}
 use Rattle.termwiz_extended_grammar.specs.Forms.{IsForm}
 use Rattle.termwiz_extended_grammar.specs.ExtraSequences.{IsFree, IsExtra, StartsWithExtra, IsUnfinishedExtra}
-use Rattle.termwiz_input_extended.specs.ExtendedFronts.{IsFormEvent, IsReported, IsSomeExtra}
+use Rattle.termwiz_input_extended.specs.ExtendedFronts.{IsReported, IsSomeExtra}
 use Rattle.termwiz_extended_grammar.proofs.lemmas.forms.FormEnds.{form_ends}
 use Rattle.termwiz_extended_grammar.proofs.lemmas.forms.ExtraFacts.{free_from_none}
 

@@ -22,7 +22,9 @@ use Rattle.termwiz_input.proofs.lemmas.heads.StartsNoSequence.{apart_from_sequen
 use Rattle.termwiz_input.proofs.lemmas.items.ItemByHead.{character_stands, row_stands}
 use Rattle.termwiz_input.proofs.lemmas.items.PrintableAscii.{printable_run}
 use Rattle.termwiz_extended_events.specs.declared.types.ExtendedEvent.{ExtendedEvent}
-use Rattle.termwiz_extended_events.specs.declared.types.ExtendedEvent.TheVariants.{Input, Csi}
+use Rattle.termwiz_extended_events.specs.declared.types.ExtendedEvent.TheVariants.{Input, Csi, Key as Report}
+use Rattle.termwiz_extended_events.specs.declared.types.PlainReport.{PlainReport}
+use Rattle.termwiz_extended_events.specs.KeyReports.{plain_report}
 use Rattle.termwiz_extended_events.specs.declared.types.Rows.{Rows}
 use Rattle.termwiz_extended_events.specs.declared.types.Rows.TheVariants.{Port, Kitty}
 use Rattle.termwiz_extended_events.specs.Meanings.{event_of, IsKeyOrPosition}
@@ -32,8 +34,8 @@ use Rattle.termwiz_extended_grammar.specs.ExtraSequences.{IsExtra, StartsWithExt
 use Rattle.termwiz_extended_grammar.specs.ExtendedGrammar.{Steps}
 use Rattle.termwiz_extended_grammar.proofs.lemmas.forms.FormBytes.{form_shape}
 use Rattle.termwiz_extended_grammar.proofs.lemmas.forms.FormEnds.{sequence_after_form, form_after_sequence}
-use Rattle.termwiz_input_extended.specs.ExtendedFronts.{IsFormAt, IsFormEvent, IsLongRowAt, IsOwnCharacter, IsPortsOwn}
-use Rattle.termwiz_input_extended.proofs.lemmas.fronts.ExtraAnswers.{no_extra_starts, no_extra_unfinished}
+use Rattle.termwiz_input_extended.specs.ExtendedFronts.{IsFormAt, IsFormEvent, IsLongRowAt, IsOwnCharacter, IsPlainReportAt, IsPortsOwn}
+use Rattle.termwiz_input_extended.proofs.lemmas.fronts.ExtraAnswers.{no_extra_starts, no_extra_unfinished, reported_event_is}
 use Rattle.termwiz_input_extended.proofs.lemmas.fronts.FrontItems.{extra_step, own_after_escape, own_item, own_without_escape}
 
 -- a sequence of more than two bytes properly begins no form
@@ -187,3 +189,12 @@ form_step rows u len event f at (inr (key, same, row, never)) =
     (λ m. no_extra_unfinished rows u len at.plain.form) in
     subst (λ e. Steps rows u f (e ∷ []) (drop len u)) (sym same)
     (item_step rows u (Key key) len f own (row_item u key len at.plain.form row f at.plain.within at.no_paste))
+
+-- a report of a key that says no more than its manner is one step
+pub plain_report_step : (u : List ℕ) (report : PlainReport) (len : ℕ) (f : Bool) → IsPlainReportAt u report len
+    → Steps Kitty u f (Report (plain_report report) ∷ []) (drop len u)
+plain_report_step u report len f at =
+    let event = Report (plain_report report) in
+    extra_step Kitty u len event f
+    (reported_event_is Kitty (take len u) event at.form.form (λ h. at.form.no_mouse h.0 h.1)
+    (refl, subst IsKeyOrPosition at.means tt) at.means) event at.means

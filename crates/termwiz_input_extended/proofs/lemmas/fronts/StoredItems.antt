@@ -1,5 +1,5 @@
 -- What a call answers that moves the event of the item at the front to a list.
-use Rattle.std.proofs.Common.{◌≡◌, ℕ, ◌<◌, ◌≤◌, Bool, true, false, List, [], ◌∷◌, ◌++◌, length, refl, sym, ap, ◌∙◌, subst, arith, Result, Ok, Err, IsErr}
+use Rattle.std.proofs.Common.{◌≡◌, ℕ, ◌≤◌, Bool, true, false, List, [], ◌∷◌, ◌++◌, length, refl, sym, ap, ◌∙◌, subst, arith, Result, Ok, Err, IsErr}
 use Rattle.termwiz_extended_events.specs.declared.types.ExtendedEvent.{ExtendedEvent}
 use Rattle.termwiz_extended_grammar.specs.ExtendedGrammar.{IsRest, Steps}
 use Rattle.termwiz_extended_grammar.proofs.lemmas.cuts.ExtendedCuts.{few_events, join_steps}
