@@ -281,12 +281,12 @@ fn may_begin_report(byte: u8) -> bool
     matches!(byte, b'0'..=b'9' | b';' | b'A'..=b'L' | b'N'..=b'Z')
 }
 
-// Whether the third byte of a text tells that the report of a key may be at its front.
+// Whether the report of a key may be at the front of a text, as far as the third byte tells. An open paste isn't looked through for one.
 #[inline(always)]
 pub(crate) fn may_be_report(text: &[u8]) -> bool
     ensures { IsTrue result → MayBeReport text.now }
 {
-    text.len() > 2 && may_begin_report(text[2])
+    text.len() > 2 && may_begin_report(text[2]) && !begins_with(text, PASTE_START)
 }
 
 // The report of a key at the front of a text, if it says no more than a key and its manner, and the number of its bytes. `None` decides

@@ -551,8 +551,9 @@ impl ExtendedParser {
     }
 
     // Moves the event of the item at the front of the waiting text to the list. False if no item is there. Each arm builds the event that it
-    // stores. `store_next` is quicker for characters.
-    fn store_front(
+    // stores.
+    #[inline(always)]
+    fn store_item(
         &mut self,
         events: &mut Vec<ExtendedEvent>,
         maybe_more: bool,
@@ -577,24 +578,21 @@ impl ExtendedParser {
         }
     }
 
-    // The same where the report of a key may be at the front: quicker if it is.
-    #[inline(never)]
-    fn store_report(
+    // The same, but quicker if the report of a key is at the front. `store_next` is quicker for characters.
+    fn store_front(
         &mut self,
         events: &mut Vec<ExtendedEvent>,
         maybe_more: bool,
     ) -> Result<bool, AllocError>
-        requires kitty { self.old.rows ≡ Kitty }
-        requires start { MayBeReport self.old.text }
         ensures { Stores self.old maybe_more events.old.items self.new events.new.items result }
     {
-        match self.plain_report_front() {
-            Some((report, len)) => {
+        if self.may_be_report() {
+            if let Some((report, len)) = self.plain_report_front() {
                 let event = ExtendedEvent::Key(report.whole(self.alloc));
-                self.store(events, event, len)
+                return self.store(events, event, len);
             }
-            None => self.store_front(events, maybe_more),
         }
+        self.store_item(events, maybe_more)
     }
 
     // Moves the events of the characters from SPACE to `~` at the front of the waiting text to the list, as far as it has room.
@@ -643,7 +641,6 @@ impl ExtendedParser {
                     self.store_characters(events);
                     Ok(true)
                 }
-                None if self.may_be_report() => self.store_report(events, maybe_more),
                 None => self.store_front(events, maybe_more),
             },
         }
