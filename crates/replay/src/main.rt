@@ -7,9 +7,6 @@
 //! does, or if a line can't be read.
 #![tactic(auto)]
 
-#[cfg(test)]
-mod tests;
-
 use recorded::encodings::Encoder;
 use recorded::feeder::Feeder;
 use recorded::readers::Reader;

@@ -111,6 +111,8 @@ const CTRL_BIT: u16 = 16;
 /// `m`.
 ///
 /// See "Mouse Tracking" and "Extended coordinates" in xterm's "Control Sequences".
+// Inlined, so that a mouse report pays for no call.
+#[inline(always)]
 #[tactic(auto, unfolding(crate::specs::Mouse::button_of))]
 pub fn sgr_mouse(code: u16, x: u16, y: u16, last: u8) -> Option<MouseReport>
     ensures { SomeIff result (IsReport code last) (report_of code x y last) }

@@ -11,6 +11,7 @@ ghost use Rattle.termwiz_input.specs.MouseReportAnswers.{HasNoPartInMouseReports
 ghost use Rattle.termwiz_input.specs.PrintableAscii.{IsPrintableAscii};
 ghost use Rattle.termwiz_extended_events.specs.Meanings as meaning;
 ghost use Rattle.termwiz_extended_grammar.specs.Forms.{IsForm};
+ghost use Rattle.termwiz_input_extended.specs.declared.front.ReportStart.TheVariants as Start;
 ghost use Rattle.termwiz_input_extended.specs.FormAnswers.{IsScanned};
 ghost use Rattle.termwiz_input_extended.specs.ExtendedFronts.{HasFormFront, IsExtendedFront, IsFormAt, IsFormEvent, IsLongRowAt, IsOwnCharacter, IsPlainReportAt, IsReported, IsReportStart, MayBeReport, IsScannedTo, IsSomeExtra};
 
@@ -41,6 +42,16 @@ pub(crate) enum FormFront {
     Unfinished,
     // None begins the text, and the text begins none.
     Absent,
+}
+
+// Which report may be at the front of a text.
+#[derive(Drop)]
+pub(crate) enum ReportStart {
+    // The report of a key.
+    Key,
+    // A mouse report.
+    Mouse,
+    Neither,
 }
 
 // What is at the front of a text that no character begins. A `usize` is the number of its bytes, but for `Incomplete`.
@@ -287,6 +298,19 @@ pub(crate) fn may_be_report(text: &[u8]) -> bool
     ensures { IsTrue result → MayBeReport text.now }
 {
     text.len() > 2 && may_begin_report(text[2]) && !begins_with(text, PASTE_START)
+}
+
+// Which report may be at the front of a text, as far as its first three bytes tell.
+#[inline(always)]
+pub(crate) fn report_start(text: &[u8]) -> ReportStart
+    ensures { result ≡ Start.Key → MayBeReport text.now }
+{
+    match text {
+        [ESCAPE, b'[', b'<', ..] => ReportStart::Mouse,
+        [ESCAPE, b'[', b'M' | b'[', ..] => ReportStart::Neither,
+        [ESCAPE, b'[', _, ..] => ReportStart::Key,
+        _ => ReportStart::Neither,
+    }
 }
 
 // The report of a key at the front of a text, if it says no more than a key and its manner, and the number of its bytes. `None` decides

@@ -18,13 +18,16 @@ use crate::characters::{
     append_characters, append_printable_ascii, character_front, is_printable_ascii, plain_key,
 };
 use crate::front::{
-    ExtendedFront, front, may_be_report, other_event, plain_report_front, reported_event,
+    ExtendedFront, ReportStart, front, may_be_report, other_event, plain_report_front,
+    report_start, reported_event,
 };
 use std::alloc::{AllocError, Global};
 use std::marker::Model;
 use termwiz_extended_events::types::{ExtendedEvent, PlainReport, Rows};
 pub use termwiz_input::input::{ParseError, Waiting};
-use termwiz_input::input::{InputEvent, InputParser, KeyCode, KeyEvent, Modifiers};
+use termwiz_input::input::{
+    FrontReport, InputEvent, InputParser, KeyCode, KeyEvent, Modifiers, mouse_report_at,
+};
 
 /// A call of [`ExtendedParser::parse_as_vec`] was refused memory. No event is lost: the parser has consumed exactly what `events` came from,
 /// and the next call goes on from there. Call again with the same bytes if `taken` is false, and with no bytes if it is true.
@@ -63,6 +66,9 @@ impl Model for ExtendedParser {
 
 // More events than most reads have.
 const FIRST_ROOM: usize = 256;
+
+// A text of at most so many bytes may be looked at from its start in each call.
+const SHORT_TEXT: usize = 32;
 
 // The Escape key, alone.
 fn escape_key() -> ExtendedEvent
@@ -188,17 +194,25 @@ impl ExtendedParser {
         self.next_of_port(maybe_more)
     }
 
-    // Whether the report of a key may be at the front of the waiting text, under `Rows::Kitty`. A text that was looked at before isn't looked
-    // at again from its start.
+    // Whether to look for the report of a key: under `Rows::Kitty`. A long text that was looked at before isn't looked at again from its
+    // start.
+    #[inline(always)]
+    fn reads_reports(&self) -> bool
+        ensures { IsTrue result → self.now.rows ≡ Kitty }
+    {
+        match self.rows {
+            Rows::Port => false,
+            Rows::Kitty => self.scanned == 0 || self.waiting_len() <= SHORT_TEXT,
+        }
+    }
+
+    // Whether to look for it, and it may be at the front of the waiting text.
     #[inline(always)]
     fn may_be_report(&self) -> bool
         ensures kitty { IsTrue result → self.now.rows ≡ Kitty }
         ensures start { IsTrue result → MayBeReport self.now.text }
     {
-        match self.rows {
-            Rows::Port => false,
-            Rows::Kitty => self.scanned == 0 && may_be_report(self.waiting_text()),
-        }
+        self.reads_reports() && may_be_report(self.waiting_text())
     }
 
     // The report of a key at the front of the waiting text, if it says no more than a key and its manner, and the number of its bytes.
@@ -578,7 +592,7 @@ impl ExtendedParser {
         }
     }
 
-    // The same, but quicker if the report of a key is at the front. `store_next` is quicker for characters.
+    // The same, but quicker if the report of a key or the mouse is at the front. `store_next` is quicker for characters.
     fn store_front(
         &mut self,
         events: &mut Vec<ExtendedEvent>,
@@ -586,11 +600,19 @@ impl ExtendedParser {
     ) -> Result<bool, AllocError>
         ensures { Stores self.old maybe_more events.old.items self.new events.new.items result }
     {
-        if self.may_be_report() {
-            if let Some((report, len)) = self.plain_report_front() {
-                let event = ExtendedEvent::Key(report.whole(self.alloc));
-                return self.store(events, event, len);
+        match report_start(self.waiting_text()) {
+            ReportStart::Key if self.reads_reports() => {
+                if let Some((report, len)) = self.plain_report_front() {
+                    let event = ExtendedEvent::Key(report.whole(self.alloc));
+                    return self.store(events, event, len);
+                }
             }
+            ReportStart::Mouse => {
+                if let FrontReport::Whole(event, len) = mouse_report_at(self.waiting_text()) {
+                    return self.store(events, ExtendedEvent::Input(InputEvent::Mouse(event)), len);
+                }
+            }
+            _ => {}
         }
         self.store_item(events, maybe_more)
     }

@@ -5,5 +5,3 @@ pub mod encode;
 mod key_forms;
 pub mod laws;
 mod telling;
-#[cfg(test)]
-mod tests;

@@ -7,8 +7,10 @@ use Rattle.termwiz_keymap.proofs.lemmas.lists.CommonPrefixes.Overlaps.{within, p
 use Rattle.termwiz_keys.specs.Introducers.{ESC, START}
 use Rattle.termwiz_keys.specs.Keys.{plain}
 use Rattle.termwiz_keys.specs.declared.types.KeyEvent.{KeyEvent}
+use Rattle.termwiz_keys.specs.declared.types.MouseEvent.{MouseEvent}
 use Rattle.termwiz_keys.specs.declared.types.InputEvent.{InputEvent}
-use Rattle.termwiz_keys.specs.declared.types.InputEvent.TheVariants.{Key}
+use Rattle.termwiz_keys.specs.declared.types.InputEvent.TheVariants.{Key, Mouse}
+use Rattle.termwiz_grammar.specs.MouseReports.{IsMouseReport}
 use Rattle.termwiz_grammar.specs.Sequences.{Meaning, IsSequence}
 use Rattle.termwiz_grammar.specs.Sequences.Meaning.{Row}
 use Rattle.termwiz_grammar.specs.Table.{rows as table_rows}
@@ -37,6 +39,7 @@ use Rattle.termwiz_extended_grammar.proofs.lemmas.forms.FormEnds.{sequence_after
 use Rattle.termwiz_input_extended.specs.ExtendedFronts.{IsFormAt, IsFormEvent, IsLongRowAt, IsOwnCharacter, IsPlainReportAt, IsPortsOwn}
 use Rattle.termwiz_input_extended.proofs.lemmas.fronts.ExtraAnswers.{no_extra_starts, no_extra_unfinished, reported_event_is}
 use Rattle.termwiz_input_extended.proofs.lemmas.fronts.FrontItems.{extra_step, own_after_escape, own_item, own_without_escape}
+use Rattle.termwiz_input_extended.proofs.lemmas.fronts.MouseForms.{report_escape, report_item, report_no_extra, report_not_unfinished, report_one}
 
 -- a sequence of more than two bytes properly begins no form
 long_ends : (y tail : List ℕ) (m : Meaning) → 2 < length y → IsSequence y m → tail ≢ [] → IsForm (y ++ tail) → ⊥
@@ -198,3 +201,11 @@ plain_report_step u report len f at =
     extra_step Kitty u len event f
     (reported_event_is Kitty (take len u) event at.form.form (λ h. at.form.no_mouse h.0 h.1)
     (refl, subst IsKeyOrPosition at.means tt) at.means) event at.means
+
+-- a mouse report is one step
+pub mouse_report_step : (rows : Rows) (u : List ℕ) (event : MouseEvent) (len : ℕ) (f : Bool) → len ≤ length u
+    → IsMouseReport (take len u) event → Steps rows u f (Input (Mouse event) ∷ []) (drop len u)
+mouse_report_step rows u event len f inside is =
+    let own = own_after_escape rows u f (report_escape rows u len event is) (report_one rows u len event is)
+    (report_no_extra rows u len event is) (λ m. report_not_unfinished rows u len event is) in
+    item_step rows u (Mouse event) len f own (report_item rows u len event is f inside)

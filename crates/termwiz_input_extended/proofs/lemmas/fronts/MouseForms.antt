@@ -1,8 +1,9 @@
 -- A mouse report has the form of a control sequence. Where one begins a text, no extra sequence does.
-use Rattle.std.proofs.Common.{◌≡◌, ℕ, ◌≤◌, Bool, List, [], ◌∷◌, ◌++◌, length, take, sym, ap, ◌∙◌, subst, arith, append_assoc, length-append}
+use Rattle.std.proofs.Common.{◌≡◌, ℕ, ◌≤◌, Bool, List, [], ◌∷◌, ◌++◌, length, take, drop, take-append-drop, sym, ap, ◌∙◌, subst, arith, append_assoc, length-append}
 use Rattle.std.specs.List.{AllByRecursion}
 use Rattle.termwiz_keymap.specs.Bytes.{Begins}
 use Rattle.termwiz_keymap.proofs.lemmas.lists.CommonPrefixes.{append-some, true_from}
+use Rattle.termwiz_keys.specs.Introducers.{ESC}
 use Rattle.termwiz_keys.specs.declared.types.MouseEvent.{MouseEvent}
 use Rattle.termwiz_keys.specs.declared.types.InputEvent.TheVariants.{Mouse}
 use Rattle.termwiz_base.specs.Mouse as mouse
@@ -80,6 +81,17 @@ module _ (rows : Rows) (u : List ℕ) (len : ℕ) (r : MouseEvent) (is : IsMouse
   pub report_no_extra : StartsWithExtra rows u → ⊥
   report_no_extra = no_extra_starts rows u len (report_is_form (take len u) r is)
       (λ h. report_not_extra rows (take len u) r h.0 is h.1)
+
+  -- the text begins with one ESC alone
+  introduced : u ≡ 27 ∷ 91 ∷ ((inner_of is.code is.x is.y ++ is.last ∷ []) ++ drop len u)
+  introduced = sym (take-append-drop len u)
+      ∙ ap (λ t. t ++ drop len u) (layout (take len u) r is ∙ grouped is.code is.x is.y is.last)
+
+  pub report_escape : Begins ESC u
+  report_escape = (91 ∷ ((inner_of is.code is.x is.y ++ is.last ∷ []) ++ drop len u), introduced)
+
+  pub report_one : Begins (ESC ++ ESC) u → ⊥
+  report_one two = let second : ◌≡◌ {A = ℕ} 91 27 = cc (introduced, two.1) in omega arith
 
   pub report_not_unfinished : IsUnfinishedExtra rows u → ⊥
   report_not_unfinished = no_extra_unfinished rows u len (report_is_form (take len u) r is)

@@ -1,11 +1,11 @@
 // Keys to bytes: examples of the protocol's page, a long text, and each error.
-use crate::encode::{KittyEncodeError, encode_kitty};
 use std::alloc::Global;
 use std::process::Abort;
 use std::test::Fail;
 use termwiz_base::{Flags, KittyKeyboardFlags};
 use termwiz_extended_events::types::{KeyEventKind, KeyReport, KeyText, ReportedKey};
 use termwiz_keys::types::KeyCode;
+use termwiz_kitty::encode::{KittyEncodeError, encode_kitty};
 
 const SHIFT: u8 = 1;
 

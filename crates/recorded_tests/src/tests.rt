@@ -1,5 +1,4 @@
 // Lines that hold, lines that were changed by hand, and lines of no form.
-
 use recorded::encodings::Encoder;
 use recorded::feeder::Feeder;
 use recorded::format::Fault;
