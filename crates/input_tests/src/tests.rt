@@ -43,6 +43,15 @@ fn renew(alloc: Global, parser: &mut InputParser) -> Result<(), AllocError> {
     Ok(())
 }
 
+// After this text so many bytes wait.
+fn check_waiting_len(rt: &impl Abort, parser: &InputParser, len: usize, text: &[u8]) {
+    assert_eq!(rt; parser.waiting_len(), len, "{text:?}");
+}
+
+fn check_nothing_waits(rt: &impl Abort, parser: &InputParser) {
+    assert_eq!(rt; parser.waiting_len(), 0);
+}
+
 // The bytes of all calls of an example.
 fn bytes_of(alloc: Global, steps: &[Step]) -> Result<Vec<u8>, AllocError> {
     let mut text = Vec::new(alloc);
@@ -52,10 +61,15 @@ fn bytes_of(alloc: Global, steps: &[Step]) -> Result<Vec<u8>, AllocError> {
     Ok(text)
 }
 
+fn check_clone(rt: &impl Abort, alloc: Global, event: &InputEvent) -> Result<(), Fail> {
+    assert_eq!(rt; event.clone(alloc)?, *event);
+    Ok(())
+}
+
 // A clone of each event equals it.
 fn check_clones(rt: &impl Abort, alloc: Global, events: &[InputEvent]) -> Result<(), Fail> {
     for event in events {
-        assert_eq!(rt; event.clone(alloc)?, *event);
+        check_clone(rt, alloc, event)?;
     }
     Ok(())
 }
@@ -94,6 +108,27 @@ impl Calls {
     }
 }
 
+// Makes a call of an example.
+fn check_step(
+    rt: &impl Abort,
+    alloc: Global,
+    calls: Calls,
+    parser: &mut InputParser,
+    (bytes, more, wanted): &Step,
+    (name, number): (&str, usize),
+) -> Result<(), Fail> {
+    let events = calls.events(rt, alloc, parser, bytes, *more)?;
+    check_clones(rt, alloc, events.as_slice())?;
+    let line = line::line_of(alloc, events.as_slice(), parser)?;
+    assert_eq!(rt;
+        line.as_str(),
+        *wanted,
+        "{name}, step {number}, by {calls:?}"
+    );
+    cuts::check_few_wait(rt, parser, name);
+    Ok(())
+}
+
 // Makes the calls of an example with a fresh parser.
 fn check_steps(
     rt: &impl Abort,
@@ -103,16 +138,8 @@ fn check_steps(
     steps: &[Step],
 ) -> Result<(), Fail> {
     let mut parser = InputParser::new(alloc)?;
-    for (number, (bytes, more, wanted)) in steps.iter().enumerate() {
-        let events = calls.events(rt, alloc, &mut parser, bytes, *more)?;
-        check_clones(rt, alloc, events.as_slice())?;
-        let line = line::line_of(alloc, events.as_slice(), &parser)?;
-        assert_eq!(rt;
-            line.as_str(),
-            *wanted,
-            "{name}, step {number}, by {calls:?}"
-        );
-        cuts::check_few_wait(rt, &parser, name);
+    for (number, step) in steps.iter().enumerate() {
+        check_step(rt, alloc, calls, &mut parser, step, (name, number))?;
     }
     Ok(())
 }

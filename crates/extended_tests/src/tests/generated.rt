@@ -157,6 +157,18 @@ fn check_calls(
     Ok(())
 }
 
+// Checks a text that is drawn.
+fn check_drawn(
+    rt: &impl Abort,
+    draws: &mut Draws,
+    parser: &mut ExtendedParser,
+) -> Result<(), Fail> {
+    let text = draws.text(SYMBOLS)?;
+    let more = draws.below(2) == 0;
+    check_cuts(rt, draws, parser, &text, more)?;
+    check_calls(rt, draws.alloc, parser, &text, more)
+}
+
 #[test]
 fn reads_2000_texts_however_cut(rt: HostRuntime) -> Result<(), Fail> {
     let alloc = rt.alloc();
@@ -164,10 +176,7 @@ fn reads_2000_texts_however_cut(rt: HostRuntime) -> Result<(), Fail> {
         let mut parser = ExtendedParser::new(alloc, *rows)?;
         let mut draws = Draws { state: 1, alloc };
         for _ in 0..2000 {
-            let text = draws.text(SYMBOLS)?;
-            let more = draws.below(2) == 0;
-            check_cuts(&rt, &mut draws, &mut parser, &text, more)?;
-            check_calls(&rt, alloc, &mut parser, &text, more)?;
+            check_drawn(&rt, &mut draws, &mut parser)?;
         }
     }
     Ok(())
@@ -187,6 +196,21 @@ fn events_of_port(
     Ok(events)
 }
 
+// Both parsers read the text alike.
+fn check_as_port(
+    rt: &impl Abort,
+    alloc: Global,
+    port: &mut InputParser,
+    parser: &mut ExtendedParser,
+    text: &[u8],
+) -> Result<(), Fail> {
+    parser.reset();
+    let events = parser.parse_as_vec(text, LAST)?;
+    assert_eq!(rt; events, events_of_port(alloc, port, text)?, "{text:?}");
+    assert_eq!(rt; parser.waiting_len(), port.waiting_len(), "{text:?}");
+    Ok(())
+}
+
 // A text without extra sequences is read as the port reads it.
 #[test]
 fn reads_2000_usual_texts_as_the_port(rt: HostRuntime) -> Result<(), Fail> {
@@ -196,14 +220,7 @@ fn reads_2000_usual_texts_as_the_port(rt: HostRuntime) -> Result<(), Fail> {
     let mut draws = Draws { state: 2, alloc };
     for _ in 0..2000 {
         let text = draws.text(USUAL_SYMBOLS)?;
-        parser.reset();
-        let events = parser.parse_as_vec(&text, LAST)?;
-        assert_eq!(rt;
-            events,
-            events_of_port(alloc, &mut port, &text)?,
-            "{text:?}"
-        );
-        assert_eq!(rt; parser.waiting_len(), port.waiting_len(), "{text:?}");
+        check_as_port(&rt, alloc, &mut port, &mut parser, &text)?;
     }
     Ok(())
 }

@@ -3,6 +3,8 @@ use super::line::line_of;
 use super::{
     BOTH, Example, ExtendedEvent, ExtendedParser, KITTY, LAST, MORE, PORT, Rows, check_all,
 };
+use std::alloc::Global;
+use std::process::Abort;
 use std::test::Fail;
 
 const ROWS: &[Example] = &[
@@ -163,20 +165,42 @@ fn reads_key_reports(rt: HostRuntime) -> Result<(), Fail> {
     check_all(&rt, rt.alloc(), FIELDS)
 }
 
-// Each key is found as a report, also a key of the port, and equals its clone; other events have no key.
-#[test]
-fn finds_keys_of_events(rt: HostRuntime) -> Result<(), Fail> {
-    let alloc = rt.alloc();
-    let mut parser = ExtendedParser::new(alloc, Rows::Port)?;
-    let text = b"a\x1b[97;5u\x1b[I\x1b[1;2:3A\x1b[200~p\x1b[201~\x1b[97;;65u\x1bOP";
+// The key of an event as a report, if it has one. It equals its clone.
+fn key_of(
+    rt: &impl Abort,
+    alloc: Global,
+    event: &ExtendedEvent,
+) -> Result<Option<ExtendedEvent>, Fail> {
+    let Some(report) = event.key(alloc)? else {
+        return Ok(None);
+    };
+    assert_eq!(rt; report.clone(alloc)?, report);
+    Ok(Some(ExtendedEvent::Key(report)))
+}
+
+// The keys of the events.
+fn keys_of(
+    rt: &impl Abort,
+    alloc: Global,
+    events: &[ExtendedEvent],
+) -> Result<Vec<ExtendedEvent>, Fail> {
     let mut keys = Vec::new(alloc);
-    for event in parser.parse_as_vec(text, LAST)? {
-        if let Some(report) = event.key(alloc)? {
-            assert_eq!(rt; report.clone(alloc)?, report);
-            keys.push(ExtendedEvent::Key(report))?;
+    for event in events {
+        if let Some(key) = key_of(rt, alloc, event)? {
+            keys.push(key)?;
         }
     }
-    let line = line_of(alloc, keys.as_slice(), &parser)?;
+    Ok(keys)
+}
+
+// Each key is found as a report, also a key of the port; other events have no key.
+#[test]
+fn finds_keys_of_events(rt: HostRuntime) -> Result<(), Fail> {
+    let mut parser = ExtendedParser::new(rt.alloc(), Rows::Port)?;
+    let text = b"a\x1b[97;5u\x1b[I\x1b[1;2:3A\x1b[200~p\x1b[201~\x1b[97;;65u\x1bOP";
+    let events = parser.parse_as_vec(text, LAST)?;
+    let keys = keys_of(&rt, rt.alloc(), &events)?;
+    let line = line_of(rt.alloc(), &keys, &parser)?;
     assert_eq!(rt;
         line.as_str(),
         "Key(a); Key(a, CTRL); Key(UpArrow, SHIFT, Release); Key(a, text A); Key(F1)"

@@ -1,5 +1,5 @@
 // Input at the limits of the forms and far past any small bound.
-use super::calls::EVERY_CALL;
+use super::calls::{Calls, EVERY_CALL};
 use super::line::line_of;
 use super::{BOTH, ExtendedParser, KITTY, LAST, MORE, PORT, Rows, read_cut};
 use std::alloc::{AllocError, Global};
@@ -173,19 +173,30 @@ fn reads_100000_bytes(rt: HostRuntime) -> Result<(), Fail> {
     check_all_long(&rt, rt.alloc(), BOTH, &[MIXED, PASTE])
 }
 
+// The parser reads the text of `MIXED` by these calls.
+fn check_mixed(
+    rt: &impl Abort,
+    alloc: Global,
+    parser: &mut ExtendedParser,
+    calls: Calls,
+    (text, wanted): (&[u8], &[u8]),
+) -> Result<(), Fail> {
+    let events = calls.events(rt, alloc, parser, text, LAST)?;
+    assert_eq!(rt; events.len(), 24001, "{calls:?}");
+    let line = line_of(alloc, events.as_slice(), parser)?;
+    assert!(rt; line.as_bytes() == wanted, "{calls:?}");
+    Ok(())
+}
+
 // Each way to call the parser reads many events at once.
 #[test]
 fn reads_100000_bytes_by_each_call(rt: HostRuntime) -> Result<(), Fail> {
-    let alloc = rt.alloc();
     let (parts, wanted) = MIXED;
-    let text = joined(alloc, parts)?;
-    let wanted = joined(alloc, wanted)?;
-    let mut parser = ExtendedParser::new(alloc, Rows::Kitty)?;
+    let text = joined(rt.alloc(), parts)?;
+    let wanted = joined(rt.alloc(), wanted)?;
+    let mut parser = ExtendedParser::new(rt.alloc(), Rows::Kitty)?;
     for calls in EVERY_CALL {
-        let events = calls.events(&rt, alloc, &mut parser, &text, LAST)?;
-        assert_eq!(rt; events.len(), 24001, "{calls:?}");
-        let line = line_of(alloc, events.as_slice(), &parser)?;
-        assert!(rt; line.as_bytes() == wanted.as_slice(), "{calls:?}");
+        check_mixed(&rt, rt.alloc(), &mut parser, *calls, (&text, &wanted))?;
     }
     Ok(())
 }

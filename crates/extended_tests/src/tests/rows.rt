@@ -68,6 +68,22 @@ impl Counts {
         }
         Ok(())
     }
+
+    // Counts a row, if it has an event in both readings.
+    fn add_row(
+        &mut self,
+        rt: &impl Abort,
+        alloc: Global,
+        (port, kitty): (&mut ExtendedParser, &mut ExtendedParser),
+        bytes: &[u8],
+    ) -> Result<(), Fail> {
+        let first = only_event(rt, port, bytes)?;
+        let second = only_event(rt, kitty, bytes)?;
+        if let (Some(first), Some(second)) = (first, second) {
+            self.add(alloc, &first, &second)?;
+        }
+        Ok(())
+    }
 }
 
 #[test]
@@ -83,11 +99,7 @@ fn counts_rows_that_kitty_reads_as_reports(rt: HostRuntime) -> Result<(), Fail> 
     };
     for place in 0..ROW_COUNT {
         if let Some((bytes, _)) = table.row(place) {
-            let first = only_event(&rt, &mut port, bytes)?;
-            let second = only_event(&rt, &mut kitty, bytes)?;
-            if let (Some(first), Some(second)) = (first, second) {
-                counts.add(alloc, &first, &second)?;
-            }
+            counts.add_row(&rt, alloc, (&mut port, &mut kitty), bytes)?;
         }
     }
     assert!(rt; table.row(ROW_COUNT).is_none());

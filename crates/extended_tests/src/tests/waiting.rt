@@ -43,6 +43,18 @@ fn ended(alloc: Global, parser: &mut ExtendedParser) -> Result<Vec<ExtendedEvent
     Ok(events)
 }
 
+// The whole text waits.
+fn check_text(rt: &impl Abort, parser: &ExtendedParser, text: &[u8]) {
+    assert!(rt; parser.waiting_text() == text, "{text:?}");
+    assert_eq!(rt; parser.waiting_len(), text.len(), "{text:?}");
+}
+
+// The text that waits is of this kind.
+fn check_kind(rt: &impl Abort, parser: &ExtendedParser, text: &[u8], kind: Waiting) {
+    assert_eq!(rt; parser.waiting(), kind, "{text:?}");
+    assert_eq!(rt; parser.is_paste_open(), kind == Waiting::Paste, "{text:?}");
+}
+
 // Reads a text, all of which waits.
 fn read_rest(
     rt: &impl Abort,
@@ -52,10 +64,8 @@ fn read_rest(
 ) -> Result<(), Fail> {
     let events = parser.parse_as_vec(text, MORE)?;
     assert!(rt; events.is_empty(), "{text:?}");
-    assert!(rt; parser.waiting_text() == text, "{text:?}");
-    assert_eq!(rt; parser.waiting_len(), text.len(), "{text:?}");
-    assert_eq!(rt; parser.waiting(), kind, "{text:?}");
-    assert_eq!(rt; parser.is_paste_open(), kind == Waiting::Paste, "{text:?}");
+    check_text(rt, parser, text);
+    check_kind(rt, parser, text, kind);
     Ok(())
 }
 
@@ -89,22 +99,46 @@ fn ends_and_forgets_what_waits(rt: HostRuntime) -> Result<(), Fail> {
     Ok(())
 }
 
-// A paste of 300 KB that was ended; what the terminal still sends of it is read as typed text.
+// Opens a paste of 300 KB.
+fn open_long_paste(
+    rt: &impl Abort,
+    alloc: Global,
+    parser: &mut ExtendedParser,
+) -> Result<(), Fail> {
+    parser.parse_as_vec(b"\x1b[200~", MORE)?;
+    parser.parse_as_vec(&b"x".repeat(alloc, 300_000)?, MORE)?;
+    assert_eq!(rt; parser.waiting_len(), 300_006);
+    Ok(())
+}
+
+// The line of a paste of 300 KB.
+fn check_long_line(rt: &impl Abort, line: &str) {
+    assert_eq!(rt; line.len(), 300_007);
+    assert!(rt; line.starts_with("Paste(xx") && line.ends_with("xx)"));
+}
+
+// What the terminal still sends of the paste is read as typed text.
+fn check_typed(rt: &impl Abort, alloc: Global, parser: &mut ExtendedParser) -> Result<(), Fail> {
+    let events = parser.parse_as_vec(b"q\x1b[I\x1b[201~", LAST)?;
+    let line = line_of(alloc, events.as_slice(), parser)?;
+    assert_eq!(rt; line.as_str(), "q; FocusGained; InternalPasteEnd");
+    Ok(())
+}
+
+// A parser ends a long paste, and reads on.
+fn check_long_end(rt: &impl Abort, alloc: Global, parser: &mut ExtendedParser) -> Result<(), Fail> {
+    open_long_paste(rt, alloc, parser)?;
+    let events = ended(alloc, parser)?;
+    check_long_line(rt, &line_of(alloc, events.as_slice(), parser)?);
+    check_typed(rt, alloc, parser)
+}
+
+// A long paste is ended under both `Rows`.
 #[test]
 fn ends_a_long_paste_and_reads_on(rt: HostRuntime) -> Result<(), Fail> {
-    let alloc = rt.alloc();
     for rows in BOTH {
-        let mut parser = ExtendedParser::new(alloc, *rows)?;
-        parser.parse_as_vec(b"\x1b[200~", MORE)?;
-        parser.parse_as_vec(&b"x".repeat(alloc, 300_000)?, MORE)?;
-        assert_eq!(rt; parser.waiting_len(), 300_006);
-        let events = ended(alloc, &mut parser)?;
-        let line = line_of(alloc, events.as_slice(), &parser)?;
-        assert_eq!(rt; line.len(), 300_007);
-        assert!(rt; line.as_str().starts_with("Paste(xx") && line.as_str().ends_with("xx)"));
-        let events = parser.parse_as_vec(b"q\x1b[I\x1b[201~", LAST)?;
-        let line = line_of(alloc, events.as_slice(), &parser)?;
-        assert_eq!(rt; line.as_str(), "q; FocusGained; InternalPasteEnd");
+        let mut parser = ExtendedParser::new(rt.alloc(), *rows)?;
+        check_long_end(&rt, rt.alloc(), &mut parser)?;
     }
     Ok(())
 }

@@ -1,7 +1,9 @@
 // Texts that are cut or flushed, and bytes that wait.
 use super::long::read_in_pieces;
 use super::plain::PlainReader;
-use super::{Example, InputParser, LAST, MORE, Waiting, check_all, renew};
+use super::{
+    Example, InputEvent, InputParser, LAST, MORE, Waiting, check_all, check_waiting_len, renew,
+};
 use std::alloc::Global;
 use std::process::Abort;
 use std::test::Fail;
@@ -218,6 +220,26 @@ pub(super) fn check_few_wait(rt: &impl Abort, parser: &InputParser, name: &str) 
 // The lengths of the pieces in which the text of each example is read.
 const SIZES: &[usize] = &[1, 2, 3, 7, 64];
 
+// In pieces of this size the text has these events, and so many bytes wait.
+fn check_size(
+    rt: &impl Abort,
+    alloc: Global,
+    parser: &mut InputParser,
+    name: &str,
+    (text, size): (&[u8], usize),
+    (whole, waiting_len): (&[InputEvent], usize),
+) -> Result<(), Fail> {
+    assert!(rt; 0 < size);
+    let events = read_in_pieces(rt, alloc, parser, text, size)?;
+    assert!(rt; events.as_slice() == whole, "{name}, in pieces of {size}");
+    assert_eq!(rt;
+        parser.waiting_len(),
+        waiting_len,
+        "{name}, in pieces of {size}"
+    );
+    Ok(())
+}
+
 // In pieces of each size the text has the same events as whole, and as many bytes wait.
 pub(super) fn check_sizes(
     rt: &impl Abort,
@@ -228,21 +250,23 @@ pub(super) fn check_sizes(
     let mut parser = InputParser::new(alloc)?;
     let whole = parser.parse_as_vec(text, LAST)?;
     let waiting_len = parser.waiting_len();
+    let wanted = (whole.as_slice(), waiting_len);
     for size in SIZES {
-        assert!(rt; 0 < *size);
         renew(alloc, &mut parser)?;
-        let events = read_in_pieces(rt, alloc, &mut parser, text, *size)?;
-        assert!(rt; events == whole, "{name}, in pieces of {size}");
-        assert_eq!(rt;
-            parser.waiting_len(),
-            waiting_len,
-            "{name}, in pieces of {size}"
-        );
+        check_size(rt, alloc, &mut parser, name, (text, *size), wanted)?;
     }
     Ok(())
 }
 
 // The text waits as a whole and is of this kind, and a paste is open if and only if it is one.
+fn check_kind(rt: &impl Abort, parser: &InputParser, text: &[u8], kind: Waiting) {
+    check_waiting_len(rt, parser, text.len(), text);
+    assert!(rt; may_wait(Some(kind), text.len()), "{text:?}");
+    assert_eq!(rt; parser.is_paste_open(), kind == Waiting::Paste, "{text:?}");
+    assert_eq!(rt; parser.waiting(), kind, "{text:?}");
+}
+
+// A fresh parser takes the text, which has no event.
 fn check_rest(
     rt: &impl Abort,
     alloc: Global,
@@ -253,10 +277,7 @@ fn check_rest(
     let mut parser = InputParser::new(alloc)?;
     let events = parser.parse_as_vec(text, more)?;
     assert!(rt; events.is_empty(), "{text:?}");
-    assert_eq!(rt; parser.waiting_len(), text.len(), "{text:?}");
-    assert!(rt; may_wait(Some(kind), text.len()), "{text:?}");
-    assert_eq!(rt; parser.is_paste_open(), kind == Waiting::Paste, "{text:?}");
-    assert_eq!(rt; parser.waiting(), kind, "{text:?}");
+    check_kind(rt, &parser, text, kind);
     Ok(())
 }
 

@@ -59,6 +59,11 @@ struct Reading<'a> {
     kind: Waiting,
 }
 
+// The rest may wait.
+fn check_rest(rt: &impl Abort, kind: Option<Waiting>, rest: &[u8], name: &str) {
+    assert!(rt; may_wait(kind, rest.len()), "{rest:?} waits, {name}");
+}
+
 // As many bytes wait in the parser as after this reading, and they are of the same kind.
 fn check_waiting(rt: &impl Abort, parser: &InputParser, reading: &Reading, name: &str) {
     assert_eq!(rt; parser.waiting_len(), reading.waiting_len, "{name}");
@@ -225,7 +230,7 @@ impl Comparison {
         waiting.extend_from_slice(bytes)?;
         let (events, rest) = self.reader.read(waiting.as_slice(), more)?;
         let kind = self.reader.kind_of(rest, more)?;
-        assert!(rt; may_wait(kind, rest.len()), "{rest:?} waits, {name}");
+        check_rest(rt, kind, rest, name);
         let rest = rest.to_vec(self.alloc)?;
         let waiting_len = rest.len();
         *waiting = rest;
@@ -251,6 +256,34 @@ impl Comparison {
         }
         readings.push(self.reading(rt, &mut waiting, b"", LAST, name)?)?;
         Ok(readings)
+    }
+
+    // Checks a text that is drawn.
+    fn check_next(&mut self, rt: &impl Abort) -> Result<(), Fail> {
+        let text = self.draws.text()?;
+        self.check(rt, &text)
+    }
+
+    // Checks a text of 200 symbols that are drawn.
+    fn check_next_long(&mut self, rt: &impl Abort) -> Result<(), Fail> {
+        let text = self.draws.symbols(200)?;
+        self.check(rt, &text)
+    }
+
+    // Checks so many texts.
+    fn check_texts(&mut self, rt: &impl Abort, count: usize) -> Result<(), Fail> {
+        for _ in 0..count {
+            self.check_next(rt)?;
+        }
+        Ok(())
+    }
+
+    // Checks so many long texts.
+    fn check_long_texts(&mut self, rt: &impl Abort, count: usize) -> Result<(), Fail> {
+        for _ in 0..count {
+            self.check_next_long(rt)?;
+        }
+        Ok(())
     }
 
     // The parser reads the text in pieces as the plain reader does, by each of its calls.
@@ -294,12 +327,7 @@ impl Comparison {
 const TEXTS: usize = 5000;
 
 fn check_texts(rt: &impl Abort, alloc: Global, seed: u64) -> Result<(), Fail> {
-    let mut comparison = Comparison::new(alloc, seed)?;
-    for _ in 0..TEXTS {
-        let text = comparison.draws.text()?;
-        comparison.check(rt, &text)?;
-    }
-    Ok(())
+    Comparison::new(alloc, seed)?.check_texts(rt, TEXTS)
 }
 
 #[test]
@@ -324,10 +352,5 @@ fn reads_as_the_plain_reader_4(rt: HostRuntime) -> Result<(), Fail> {
 
 #[test]
 fn reads_long_texts_as_the_plain_reader(rt: HostRuntime) -> Result<(), Fail> {
-    let mut comparison = Comparison::new(rt.alloc(), 5)?;
-    for _ in 0..20 {
-        let text = comparison.draws.symbols(200)?;
-        comparison.check(&rt, &text)?;
-    }
-    Ok(())
+    Comparison::new(rt.alloc(), 5)?.check_long_texts(&rt, 20)
 }

@@ -1,8 +1,8 @@
 // Pastes, whole and cut.
 use super::cuts::check_few_wait;
 use super::line::line_of;
-use super::{Example, InputEvent, InputParser, LAST, MORE, check_all};
-use std::alloc::Global;
+use super::{Example, InputEvent, InputParser, LAST, MORE, check_all, check_nothing_waits};
+use std::alloc::{AllocError, Global};
 use std::process::Abort;
 use std::test::Fail;
 
@@ -85,7 +85,33 @@ fn gives_the_text_of_a_paste(rt: HostRuntime) -> Result<(), Fail> {
         event => panic!(rt; "{event:?}"),
     }
     assert!(rt; events.is_empty());
-    assert_eq!(rt; parser.waiting_len(), 0);
+    check_nothing_waits(&rt, &parser);
+    Ok(())
+}
+
+// A paste of these bytes, without the last byte of its end.
+fn paste_but_one_byte(alloc: Global, body: &[u8]) -> Result<Vec<u8>, AllocError> {
+    let mut text = b"\x1b[200~".to_vec(alloc)?;
+    text.extend_from_slice(body)?;
+    text.extend_from_slice(b"\x1b[201")?;
+    Ok(text)
+}
+
+// Reads the text byte by byte. No byte has an event.
+fn check_quiet(rt: &impl Abort, parser: &mut InputParser, text: &[u8]) -> Result<(), Fail> {
+    for byte in text.chunks(1) {
+        assert!(rt; parser.parse_as_vec(byte, MORE)?.is_empty());
+        check_few_wait(rt, parser, "a byte of a paste");
+    }
+    Ok(())
+}
+
+// The last byte gives a paste of these bytes.
+fn check_last_byte(rt: &impl Abort, parser: &mut InputParser, body: &[u8]) -> Result<(), Fail> {
+    match parser.parse_as_vec(b"~", MORE)?.as_slice() {
+        [InputEvent::Paste(text)] => assert!(rt; text.as_str().as_bytes() == body),
+        events => panic!(rt; "{events:?}"),
+    }
     Ok(())
 }
 
@@ -93,47 +119,55 @@ fn gives_the_text_of_a_paste(rt: HostRuntime) -> Result<(), Fail> {
 #[test]
 fn reads_a_paste_byte_by_byte(rt: HostRuntime) -> Result<(), Fail> {
     let body = b"a".repeat(rt.alloc(), 200)?;
-    let mut text = b"\x1b[200~".to_vec(rt.alloc())?;
-    text.extend_from_slice(&body)?;
-    text.extend_from_slice(b"\x1b[201")?;
+    let text = paste_but_one_byte(rt.alloc(), &body)?;
     let mut parser = InputParser::new(rt.alloc())?;
-    for byte in text.chunks(1) {
-        assert!(rt; parser.parse_as_vec(byte, MORE)?.is_empty());
-        check_few_wait(&rt, &parser, "a byte of a paste");
-    }
-    match parser.parse_as_vec(b"~", MORE)?.as_slice() {
-        [InputEvent::Paste(text)] => assert!(rt; text.as_str().as_bytes() == body.as_slice()),
-        events => panic!(rt; "{events:?}"),
-    }
-    assert_eq!(rt; parser.waiting_len(), 0);
+    check_quiet(&rt, &mut parser, &text)?;
+    check_last_byte(&rt, &mut parser, &body)?;
+    check_nothing_waits(&rt, &parser);
     Ok(())
 }
 
 const CUT_PASTE: &[u8] = b"\x1b[200~a\x1b[201~";
 
-// The paste in three parts, by a fresh parser, comes once.
-fn check_parts(rt: &impl Abort, alloc: Global, parts: [&[u8]; 3]) -> Result<(), Fail> {
-    let mut parser = InputParser::new(alloc)?;
+// Reads a part of the paste. Returns how many events it has: any is the paste.
+fn check_part(
+    rt: &impl Abort,
+    alloc: Global,
+    parser: &mut InputParser,
+    part: &[u8],
+    parts: [&[u8]; 3],
+) -> Result<usize, Fail> {
+    let events = parser.parse_as_vec(part, MORE)?;
+    check_few_wait(rt, parser, "a part of a paste");
+    if !events.is_empty() {
+        let line = line_of(alloc, events.as_slice(), parser)?;
+        assert_eq!(rt; line.as_str(), "Paste(a)", "{parts:?}");
+    }
+    Ok(events.len())
+}
+
+// The paste in three parts comes once.
+fn check_parts(
+    rt: &impl Abort,
+    alloc: Global,
+    parser: &mut InputParser,
+    parts: [&[u8]; 3],
+) -> Result<(), Fail> {
     let mut given = 0_usize;
     for part in parts {
-        let events = parser.parse_as_vec(part, MORE)?;
-        check_few_wait(rt, &parser, "a part of a paste");
-        given = given.saturating_add(events.len());
-        if !events.is_empty() {
-            let line = line_of(alloc, events.as_slice(), &parser)?;
-            assert_eq!(rt; line.as_str(), "Paste(a)", "{parts:?}");
-        }
+        given = given.saturating_add(check_part(rt, alloc, parser, part, parts)?);
     }
     assert_eq!(rt; given, 1, "{parts:?}");
     assert_eq!(rt; parser.waiting_len(), 0, "{parts:?}");
     Ok(())
 }
 
-// Cuts the first part at every place.
+// Cuts the first part at every place, and reads the parts by a fresh parser.
 fn check_cuts(rt: &impl Abort, alloc: Global, first: &[u8], last: &[u8]) -> Result<(), Fail> {
     for place in 0..first.len() + 1 {
         let (start, middle) = first.split_at(place);
-        check_parts(rt, alloc, [start, middle, last])?;
+        let mut parser = InputParser::new(alloc)?;
+        check_parts(rt, alloc, &mut parser, [start, middle, last])?;
     }
     Ok(())
 }

@@ -2,7 +2,7 @@
 use super::cuts::{check_few_wait, check_sizes};
 use super::line::{push_comma, push_event, push_waiting};
 use super::long::{KEYS, wanted_at};
-use super::{InputEvent, InputParser, LAST, MORE};
+use super::{InputEvent, InputParser, LAST, MORE, check_nothing_waits};
 use std::alloc::{AllocError, Global};
 use std::fmt::Write;
 use std::process::Abort;
@@ -154,19 +154,69 @@ const CALLS: &[Call] = &[
     ),
 ];
 
+// The parser takes what comes before the pieces. It has no event.
+fn check_before(
+    rt: &impl Abort,
+    alloc: Global,
+    parser: &mut InputParser,
+    before: &[u8],
+    name: &str,
+) -> Result<(), Fail> {
+    let events = parsed(rt, alloc, parser, before, MORE)?;
+    assert!(rt; events.is_empty(), "{name}");
+    Ok(())
+}
+
+// The pieces give the line.
+fn check_pieces(
+    rt: &impl Abort,
+    alloc: Global,
+    parser: &mut InputParser,
+    (pieces, more): (&[&[u8]], bool),
+    wanted: &str,
+    name: &str,
+) -> Result<(), Fail> {
+    let events = parsed_pieces(rt, alloc, parser, pieces, more)?;
+    let line = numbered_line_of(alloc, events.as_slice(), parser)?;
+    assert_eq!(rt; line.as_str(), wanted, "{name}");
+    check_few_wait(rt, parser, name);
+    Ok(())
+}
+
+// What comes before the pieces, and then the pieces.
+fn whole_text(alloc: Global, before: &[u8], pieces: &[&[u8]]) -> Result<Vec<u8>, AllocError> {
+    let mut text = before.to_vec(alloc)?;
+    text.append(&mut pieces.concat(alloc)?)?;
+    Ok(text)
+}
+
+// Makes the call of an example with a parser in which nothing waits.
+fn check_call(
+    rt: &impl Abort,
+    alloc: Global,
+    parser: &mut InputParser,
+    (name, before, pieces, more, wanted): &Call,
+) -> Result<(), Fail> {
+    check_before(rt, alloc, parser, before, name)?;
+    check_pieces(rt, alloc, parser, (pieces, *more), wanted, name)
+}
+
+// Reads all bytes of an example in pieces of other sizes.
+fn check_whole(
+    rt: &impl Abort,
+    alloc: Global,
+    (name, before, pieces, _, _): &Call,
+) -> Result<(), Fail> {
+    let text = whole_text(alloc, before, pieces)?;
+    check_sizes(rt, alloc, name, &text)
+}
+
 #[test]
 fn reads_pieces(rt: HostRuntime) -> Result<(), Fail> {
-    for (name, before, pieces, more, wanted) in CALLS {
+    for call in CALLS {
         let mut parser = InputParser::new(rt.alloc())?;
-        let events = parsed(&rt, rt.alloc(), &mut parser, before, MORE)?;
-        assert!(rt; events.is_empty(), "{name}");
-        let events = parsed_pieces(&rt, rt.alloc(), &mut parser, pieces, *more)?;
-        let line = numbered_line_of(rt.alloc(), events.as_slice(), &parser)?;
-        assert_eq!(rt; line.as_str(), *wanted, "{name}");
-        check_few_wait(&rt, &parser, name);
-        let mut text = before.to_vec(rt.alloc())?;
-        text.append(&mut pieces.concat(rt.alloc())?)?;
-        check_sizes(&rt, rt.alloc(), name, &text)?;
+        check_call(&rt, rt.alloc(), &mut parser, call)?;
+        check_whole(&rt, rt.alloc(), call)?;
     }
     Ok(())
 }
@@ -193,16 +243,33 @@ fn keys_by_bytes(alloc: Global, times: u16) -> Result<Vec<(usize, InputEvent)>, 
     Ok(events)
 }
 
-#[test]
-fn reads_70000_pieces(rt: HostRuntime) -> Result<(), Fail> {
-    let text = KEYS.repeat(rt.alloc(), 17500)?;
-    let mut pieces = Vec::new(rt.alloc());
+// Each byte of the text as a piece.
+fn pieces_of_a_byte(alloc: Global, text: &[u8]) -> Result<Vec<&[u8]>, AllocError> {
+    let mut pieces = Vec::new(alloc);
     for piece in text.chunks(1) {
         pieces.push(piece)?;
     }
-    let mut parser = InputParser::new(rt.alloc())?;
-    let events = parsed_pieces(&rt, rt.alloc(), &mut parser, pieces.as_slice(), LAST)?;
-    assert!(rt; events == keys_by_bytes(rt.alloc(), 17500)?);
-    assert_eq!(rt; parser.waiting_len(), 0);
+    Ok(pieces)
+}
+
+// Reads `KEYS` as often as this, in pieces of a byte.
+fn check_keys_by_bytes(
+    rt: &impl Abort,
+    alloc: Global,
+    parser: &mut InputParser,
+    pieces: &[&[u8]],
+    times: u16,
+) -> Result<(), Fail> {
+    let events = parsed_pieces(rt, alloc, parser, pieces, LAST)?;
+    assert!(rt; events == keys_by_bytes(alloc, times)?);
+    check_nothing_waits(rt, parser);
     Ok(())
+}
+
+#[test]
+fn reads_70000_pieces(rt: HostRuntime) -> Result<(), Fail> {
+    let text = KEYS.repeat(rt.alloc(), 17500)?;
+    let pieces = pieces_of_a_byte(rt.alloc(), &text)?;
+    let mut parser = InputParser::new(rt.alloc())?;
+    check_keys_by_bytes(&rt, rt.alloc(), &mut parser, &pieces, 17500)
 }

@@ -1,6 +1,8 @@
 // The calls by which a program pulls its events: `feed`, `next_event` and the loop over it; and lookups in the sequence table.
 use super::line::line_of;
-use super::{InputEvent, InputParser, KeyCode, KeyEvent, LAST, MORE, Modifiers};
+use super::{
+    InputEvent, InputParser, KeyCode, KeyEvent, LAST, MORE, Modifiers, check_nothing_waits,
+};
 use std::alloc::{AllocError, Global};
 use std::process::Abort;
 use std::test::Fail;
@@ -41,25 +43,27 @@ fn check_next(
     Ok(())
 }
 
+// The bytes that are fed, if there are any, the flag of the next call, and its line.
+const ITEMS: &[(Option<&[u8]>, bool, &str)] = &[
+    (None, MORE, ""),
+    (Some(b"a\x1b[A\x1b"), MORE, "a, waits 4"),
+    (Some(b"[<0;1;2M\x1b"), MORE, "UpArrow, waits 10"),
+    (None, MORE, "Mouse 1 2 LEFT NONE, waits 1"),
+    (None, MORE, "waits 1"),
+    (None, LAST, "Escape"),
+    (None, LAST, ""),
+];
+
 #[test]
 fn takes_one_item_at_a_time(rt: HostRuntime) -> Result<(), Fail> {
-    let alloc = rt.alloc();
-    let mut parser = InputParser::new(alloc)?;
-    check_next(&rt, alloc, &mut parser, MORE, "")?;
-    parser.feed(b"a\x1b[A\x1b")?;
-    check_next(&rt, alloc, &mut parser, MORE, "a, waits 4")?;
-    parser.feed(b"[<0;1;2M\x1b")?;
-    check_next(&rt, alloc, &mut parser, MORE, "UpArrow, waits 10")?;
-    check_next(
-        &rt,
-        alloc,
-        &mut parser,
-        MORE,
-        "Mouse 1 2 LEFT NONE, waits 1",
-    )?;
-    check_next(&rt, alloc, &mut parser, MORE, "waits 1")?;
-    check_next(&rt, alloc, &mut parser, LAST, "Escape")?;
-    check_next(&rt, alloc, &mut parser, LAST, "")
+    let mut parser = InputParser::new(rt.alloc())?;
+    for (fed, more, wanted) in ITEMS {
+        if let Some(bytes) = fed {
+            parser.feed(bytes)?;
+        }
+        check_next(&rt, rt.alloc(), &mut parser, *more, wanted)?;
+    }
+    Ok(())
 }
 
 // The lines of the events that the loop over `next_event` emits, one after another, and of what waits after them.
@@ -81,21 +85,46 @@ fn looped(
     Ok(line_of(alloc, events.as_slice(), parser)?)
 }
 
+fn check_looped(
+    rt: &impl Abort,
+    alloc: Global,
+    parser: &mut InputParser,
+    more: bool,
+    wanted: &str,
+) -> Result<(), Fail> {
+    assert_eq!(rt; looped(rt, alloc, parser, more)?.as_str(), wanted);
+    Ok(())
+}
+
 #[test]
 fn loops_over_all_items(rt: HostRuntime) -> Result<(), Fail> {
     let alloc = rt.alloc();
     let mut parser = InputParser::new(alloc)?;
-    assert_eq!(rt; looped(&rt, alloc, &mut parser, MORE)?.as_str(), "");
+    check_looped(&rt, alloc, &mut parser, MORE, "")?;
     parser.feed(b"a\x1b[A\x1b[200~b\x1b[201~\x1b")?;
-    assert_eq!(rt;
-        looped(&rt, alloc, &mut parser, MORE)?.as_str(),
-        "a, UpArrow, Paste(b), waits 1"
-    );
-    assert_eq!(rt; looped(&rt, alloc, &mut parser, LAST)?.as_str(), "Escape");
-    Ok(())
+    check_looped(
+        &rt,
+        alloc,
+        &mut parser,
+        MORE,
+        "a, UpArrow, Paste(b), waits 1",
+    )?;
+    check_looped(&rt, alloc, &mut parser, LAST, "Escape")
 }
 
-// A lookup answers with the length of a row, and its key.
+// Bytes, and the length and the key of the row that a lookup finds at their front.
+const FOUND: &[(&[u8], usize, KeyCode, Modifiers)] = &[
+    (b"\x1b[Aq", 3, KeyCode::UpArrow, Modifiers::NONE),
+    (b"\x1b[1;5A", 6, KeyCode::UpArrow, Modifiers::CTRL),
+    (b"\x1b[1;5", 2, KeyCode::Char('['), Modifiers::ALT),
+    (
+        b"\x1b[200~",
+        6,
+        KeyCode::InternalPasteStart,
+        Modifiers::NONE,
+    ),
+];
+
 fn check_row(
     rt: &impl Abort,
     parser: &InputParser,
@@ -108,50 +137,31 @@ fn check_row(
     assert_eq!(rt; parser.lookup(bytes, LAST), Found::Exact(len, &event));
 }
 
-#[test]
-fn looks_rows_up(rt: HostRuntime) -> Result<(), Fail> {
-    let parser = InputParser::new(rt.alloc())?;
-    check_row(
-        &rt,
-        &parser,
-        b"\x1b[Aq",
-        3,
-        KeyCode::UpArrow,
-        Modifiers::NONE,
-    );
-    check_row(
-        &rt,
-        &parser,
-        b"\x1b[1;5A",
-        6,
-        KeyCode::UpArrow,
-        Modifiers::CTRL,
-    );
-    check_row(
-        &rt,
-        &parser,
-        b"\x1b[1;5",
-        2,
-        KeyCode::Char('['),
-        Modifiers::ALT,
-    );
-    check_row(
-        &rt,
-        &parser,
-        b"\x1b[200~",
-        6,
-        KeyCode::InternalPasteStart,
-        Modifiers::NONE,
-    );
+// ESC is a row, and longer rows begin with it.
+fn check_escape_row(rt: &impl Abort, parser: &InputParser) {
     let escape = KeyEvent {
         key: KeyCode::Escape,
         modifiers: Modifiers::NONE,
     };
     assert_eq!(rt; parser.lookup(b"\x1b", MORE), Found::Ambiguous(1, &escape));
     assert_eq!(rt; parser.lookup(b"\x1bq", MORE), Found::Exact(1, &escape));
+}
+
+// No row begins these bytes, or the bytes are none.
+fn check_no_row(rt: &impl Abort, parser: &InputParser) {
     assert_eq!(rt; parser.lookup(b"q", MORE), Found::None);
     assert_eq!(rt; parser.lookup(b"\xc3", MORE), Found::None);
     assert_eq!(rt; parser.lookup(b"", MORE), Found::NeedData);
-    assert_eq!(rt; parser.waiting_len(), 0);
+}
+
+#[test]
+fn looks_rows_up(rt: HostRuntime) -> Result<(), Fail> {
+    let parser = InputParser::new(rt.alloc())?;
+    for (bytes, len, key, modifiers) in FOUND {
+        check_row(&rt, &parser, bytes, *len, *key, *modifiers);
+    }
+    check_escape_row(&rt, &parser);
+    check_no_row(&rt, &parser);
+    check_nothing_waits(&rt, &parser);
     Ok(())
 }

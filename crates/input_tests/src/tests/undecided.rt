@@ -23,6 +23,28 @@ fn flushed_events(
     Ok(events)
 }
 
+// The text waits as a whole, and it is short.
+fn check_waits(rt: &impl Abort, parser: &mut InputParser, text: &[u8]) -> Result<(), Fail> {
+    let events = parser.parse_as_vec(text, MORE)?;
+    assert!(rt; events.is_empty(), "{text:?}");
+    assert_eq!(rt; parser.waiting_len(), text.len());
+    assert!(rt; text.len() <= MOST, "{text:?}");
+    Ok(())
+}
+
+// The events of what waits, flushed, and then those of the end.
+fn events_with_flush(
+    rt: &impl Abort,
+    parser: &mut InputParser,
+    end: &[u8],
+) -> Result<Vec<InputEvent>, Fail> {
+    let mut events = flushed_events(rt, parser, b"")?;
+    for event in flushed_events(rt, parser, end)? {
+        events.push(event)?;
+    }
+    Ok(events)
+}
+
 // Parts a sequence or a character in two, behind what is held. The first part waits as a whole, and the events of both parts at
 // once aren't those of the first, flushed, and of the second.
 fn check_parted(
@@ -35,14 +57,8 @@ fn check_parted(
     let (beginning, end) = parts;
     let mut text = held.to_vec(alloc)?;
     text.extend_from_slice(beginning)?;
-    let events = parser.parse_as_vec(&text, MORE)?;
-    assert!(rt; events.is_empty(), "{text:?}");
-    assert_eq!(rt; parser.waiting_len(), text.len());
-    assert!(rt; text.len() <= MOST, "{text:?}");
-    let mut with_flush = flushed_events(rt, parser, b"")?;
-    for event in flushed_events(rt, parser, end)? {
-        with_flush.push(event)?;
-    }
+    check_waits(rt, parser, &text)?;
+    let with_flush = events_with_flush(rt, parser, end)?;
     text.extend_from_slice(end)?;
     let whole = flushed_events(rt, parser, &text)?;
     assert!(rt; whole.as_slice() != with_flush.as_slice(), "{text:?}");

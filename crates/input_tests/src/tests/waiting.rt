@@ -3,10 +3,37 @@ use super::cuts::RESTS;
 use super::draws::Draws;
 use super::line::line_of;
 use super::plain::PlainReader;
-use super::{InputEvent, InputParser, LAST, MORE, Waiting, renew};
+use super::{
+    InputEvent, InputParser, LAST, MORE, Waiting, check_nothing_waits, check_waiting_len, renew,
+};
 use std::alloc::{AllocError, Global};
 use std::process::Abort;
 use std::test::Fail;
+
+// The event is the one that a fresh parser gives for the text, flushed.
+fn check_flushed(
+    rt: &impl Abort,
+    alloc: Global,
+    event: Option<&InputEvent>,
+    text: &[u8],
+) -> Result<(), Fail> {
+    let flushed = InputParser::new(alloc)?.parse_as_vec(text, LAST)?;
+    assert!(rt; event == flushed.first(), "{text:?}");
+    Ok(())
+}
+
+// There is no event, and the text still waits.
+fn check_kept(
+    rt: &impl Abort,
+    parser: &InputParser,
+    event: Option<&InputEvent>,
+    text: &[u8],
+    kind: Waiting,
+) {
+    assert!(rt; event.is_none(), "{text:?}");
+    check_waiting_len(rt, parser, text.len(), text);
+    assert_eq!(rt; parser.waiting(), kind, "{text:?}");
+}
 
 // Flushes the Escape key. It is an event if ESC or ESC ESC waits, and else nothing changes.
 fn check_escape(
@@ -20,13 +47,10 @@ fn check_escape(
     parser.parse_as_vec(text, more)?;
     let event = parser.flush_escape();
     if kind == Waiting::Escape {
-        let flushed = InputParser::new(alloc)?.parse_as_vec(text, LAST)?;
-        assert!(rt; event.as_ref() == flushed.first(), "{text:?}");
-        assert_eq!(rt; parser.waiting_len(), 0, "{text:?}");
+        check_flushed(rt, alloc, event.as_ref(), text)?;
+        check_waiting_len(rt, &parser, 0, text);
     } else {
-        assert!(rt; event.is_none(), "{text:?}");
-        assert_eq!(rt; parser.waiting_len(), text.len(), "{text:?}");
-        assert_eq!(rt; parser.waiting(), kind, "{text:?}");
+        check_kept(rt, &parser, event.as_ref(), text, kind);
     }
     Ok(())
 }
@@ -65,6 +89,35 @@ fn events_with_pauses(
     Ok(events)
 }
 
+// The events are the plain reader's of the text, and as many bytes wait.
+fn check_read(
+    rt: &impl Abort,
+    reader: &PlainReader,
+    parser: &InputParser,
+    events: &[InputEvent],
+    text: &[u8],
+) -> Result<(), Fail> {
+    let (wanted, rest) = reader.read(text, LAST)?;
+    assert_eq!(rt; events, wanted.as_slice(), "{text:?}");
+    check_waiting_len(rt, parser, rest.len(), text);
+    Ok(())
+}
+
+// Reads a text that is drawn, with such pauses.
+fn check_pauses(
+    rt: &impl Abort,
+    alloc: Global,
+    reader: &PlainReader,
+    draws: &mut Draws,
+    parser: &mut InputParser,
+) -> Result<(), Fail> {
+    let text = draws.text()?;
+    let pieces = draws.pieces(&text)?;
+    let ends = reader.ends_of(&text, LAST)?;
+    let events = events_with_pauses(alloc, parser, &pieces, &ends)?;
+    check_read(rt, reader, parser, &events, &text)
+}
+
 // Such pauses change no event.
 #[test]
 fn pauses_between_items_change_nothing(rt: HostRuntime) -> Result<(), Fail> {
@@ -73,13 +126,7 @@ fn pauses_between_items_change_nothing(rt: HostRuntime) -> Result<(), Fail> {
     let mut draws = Draws::new(alloc, &reader, 6)?;
     let mut parser = InputParser::new(alloc)?;
     for _ in 0..3000 {
-        let text = draws.text()?;
-        let pieces = draws.pieces(&text)?;
-        let ends = reader.ends_of(&text, LAST)?;
-        let events = events_with_pauses(alloc, &mut parser, &pieces, &ends)?;
-        let (wanted, rest) = reader.read(&text, LAST)?;
-        assert_eq!(rt; events, wanted, "{text:?}");
-        assert_eq!(rt; parser.waiting_len(), rest.len(), "{text:?}");
+        check_pauses(&rt, alloc, &reader, &mut draws, &mut parser)?;
         renew(alloc, &mut parser)?;
     }
     Ok(())
@@ -95,21 +142,29 @@ const ENDED: &[(&[u8], &str)] = &[
     (b"q", ""),
 ];
 
+// The event of `end_paste`, if there is one, and what waits after it give the line.
+fn check_end(
+    rt: &impl Abort,
+    alloc: Global,
+    parser: &mut InputParser,
+    line: &str,
+    text: &[u8],
+) -> Result<(), Fail> {
+    let mut events = Vec::new(alloc);
+    if let Some(event) = parser.end_paste()? {
+        events.push(event)?;
+    }
+    assert_eq!(rt; line_of(alloc, &events, parser)?.as_str(), line, "{text:?}");
+    Ok(())
+}
+
 #[test]
 fn ends_an_open_paste(rt: HostRuntime) -> Result<(), Fail> {
     let alloc = rt.alloc();
     for (text, line) in ENDED {
         let mut parser = InputParser::new(alloc)?;
         parser.parse_as_vec(text, MORE)?;
-        let mut events = Vec::new(alloc);
-        if let Some(event) = parser.end_paste()? {
-            events.push(event)?;
-        }
-        assert_eq!(rt;
-            line_of(alloc, &events, &parser)?.as_str(),
-            *line,
-            "{text:?}"
-        );
+        check_end(&rt, alloc, &mut parser, line, text)?;
     }
     Ok(())
 }
@@ -125,24 +180,38 @@ const OPEN: &[(&[u8], bool)] = &[
     (b"", false),
 ];
 
-#[test]
-fn awaits_the_end_of_a_paste(rt: HostRuntime) -> Result<(), Fail> {
-    let alloc = rt.alloc();
-    for (text, awaits) in OPEN {
-        let mut parser = InputParser::new(alloc)?;
-        parser.feed(text)?;
-        assert_eq!(rt; parser.awaits_paste_end(), *awaits, "{text:?}");
-        assert_eq!(rt; parser.waiting_len(), text.len(), "{text:?}");
-    }
-    let text = open_paste(alloc, LONG)?;
-    let mut parser = InputParser::new(alloc)?;
-    parser.feed(&text)?;
+// The parser takes the text, and says whether it awaits the end of a paste.
+fn check_awaits(
+    rt: &impl Abort,
+    parser: &mut InputParser,
+    text: &[u8],
+    awaits: bool,
+) -> Result<(), Fail> {
+    parser.feed(text)?;
+    assert_eq!(rt; parser.awaits_paste_end(), awaits, "{text:?}");
+    check_waiting_len(rt, parser, text.len(), text);
+    Ok(())
+}
+
+// The parser takes an open paste, and then its end: the paste is the next event.
+fn check_awaited_end(rt: &impl Abort, parser: &mut InputParser, paste: &[u8]) -> Result<(), Fail> {
+    parser.feed(paste)?;
     assert!(rt; parser.awaits_paste_end());
     parser.feed(b"\x1b[201~")?;
     assert!(rt; !parser.awaits_paste_end());
     assert!(rt; matches!(parser.next_event(MORE)?, Some(InputEvent::Paste(_))));
-    assert_eq!(rt; parser.waiting_len(), 0);
+    check_nothing_waits(rt, parser);
     Ok(())
+}
+
+#[test]
+fn awaits_the_end_of_a_paste(rt: HostRuntime) -> Result<(), Fail> {
+    for (text, awaits) in OPEN {
+        let mut parser = InputParser::new(rt.alloc())?;
+        check_awaits(&rt, &mut parser, text, *awaits)?;
+    }
+    let mut parser = InputParser::new(rt.alloc())?;
+    check_awaited_end(&rt, &mut parser, &open_paste(rt.alloc(), LONG)?)
 }
 
 // A paste without an end, of so many bytes after its start.
@@ -154,12 +223,9 @@ fn open_paste(alloc: Global, len: usize) -> Result<Vec<u8>, AllocError> {
 
 const LONG: usize = 300_000;
 
-#[test]
-fn ends_a_long_paste_and_reads_on(rt: HostRuntime) -> Result<(), Fail> {
-    let alloc = rt.alloc();
-    let text = open_paste(alloc, LONG)?;
-    let mut parser = InputParser::new(alloc)?;
-    parser.parse_as_vec(&text, MORE)?;
+// The open paste waits as a whole, and its text so far is the event of `end_paste`.
+fn check_long_end(rt: &impl Abort, parser: &mut InputParser, text: &[u8]) -> Result<(), Fail> {
+    parser.parse_as_vec(text, MORE)?;
     assert_eq!(rt; parser.waiting_len(), text.len());
     match parser.end_paste()? {
         Some(InputEvent::Paste(pasted)) => {
@@ -167,12 +233,35 @@ fn ends_a_long_paste_and_reads_on(rt: HostRuntime) -> Result<(), Fail> {
         }
         _ => panic!(rt; "no paste"),
     }
-    let events = parser.parse_as_vec(b"q\x1b[201~", LAST)?;
-    assert_eq!(rt;
-        line_of(alloc, &events, &parser)?.as_str(),
-        "q, InternalPasteEnd"
-    );
     Ok(())
+}
+
+// The flushed bytes give the line.
+fn check_flushed_line(
+    rt: &impl Abort,
+    alloc: Global,
+    parser: &mut InputParser,
+    bytes: &[u8],
+    line: &str,
+) -> Result<(), Fail> {
+    let events = parser.parse_as_vec(bytes, LAST)?;
+    assert_eq!(rt; line_of(alloc, &events, parser)?.as_str(), line);
+    Ok(())
+}
+
+#[test]
+fn ends_a_long_paste_and_reads_on(rt: HostRuntime) -> Result<(), Fail> {
+    let alloc = rt.alloc();
+    let text = open_paste(alloc, LONG)?;
+    let mut parser = InputParser::new(alloc)?;
+    check_long_end(&rt, &mut parser, &text)?;
+    check_flushed_line(
+        &rt,
+        alloc,
+        &mut parser,
+        b"q\x1b[201~",
+        "q, InternalPasteEnd",
+    )
 }
 
 // The parser forgets all of these bytes, which wait in it.
@@ -196,7 +285,5 @@ fn forgets_what_waits(rt: HostRuntime) -> Result<(), Fail> {
         check_reset(&rt, &mut parser, text, *more)?;
     }
     check_reset(&rt, &mut parser, &open_paste(alloc, LONG)?, MORE)?;
-    let events = parser.parse_as_vec(b"\x1b", LAST)?;
-    assert_eq!(rt; line_of(alloc, &events, &parser)?.as_str(), "Escape");
-    Ok(())
+    check_flushed_line(&rt, alloc, &mut parser, b"\x1b", "Escape")
 }
