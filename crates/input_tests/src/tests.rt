@@ -43,7 +43,7 @@ fn renew(alloc: Global, parser: &mut InputParser) -> Result<(), AllocError> {
     Ok(())
 }
 
-// After this text so many bytes wait.
+// After this text so many bytes stay buffered.
 fn check_waiting_len(rt: &impl Abort, parser: &InputParser, len: usize, text: &[u8]) {
     assert_eq!(rt; parser.waiting_len(), len, "{text:?}");
 }

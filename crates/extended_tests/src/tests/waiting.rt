@@ -43,13 +43,13 @@ fn ended(alloc: Global, parser: &mut ExtendedParser) -> Result<Vec<ExtendedEvent
     Ok(events)
 }
 
-// The whole text waits.
+// The whole text stays buffered.
 fn check_text(rt: &impl Abort, parser: &ExtendedParser, text: &[u8]) {
     assert!(rt; parser.waiting_text() == text, "{text:?}");
     assert_eq!(rt; parser.waiting_len(), text.len(), "{text:?}");
 }
 
-// The text that waits is of this kind.
+// What stays buffered is of this kind.
 fn check_kind(rt: &impl Abort, parser: &ExtendedParser, text: &[u8], kind: Waiting) {
     assert_eq!(rt; parser.waiting(), kind, "{text:?}");
     assert_eq!(rt; parser.is_paste_open(), kind == Waiting::Paste, "{text:?}");

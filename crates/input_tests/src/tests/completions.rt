@@ -46,7 +46,7 @@ const COMPLETIONS: &[(&[u8], usize, bool)] = &[
     (b"\x1b[200~text", 0, false),
 ];
 
-// So many rows would complete what waits, with ALT or without.
+// So many rows would complete what is buffered, with ALT or without.
 fn check_count(rt: &impl Abort, parser: &InputParser, count: usize, with_alt: bool, text: &[u8]) {
     let found = parser.completions();
     assert_eq!(rt; found.rows.end - found.rows.start, count, "{text:?}");

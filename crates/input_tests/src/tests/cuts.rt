@@ -220,7 +220,7 @@ pub(super) fn check_few_wait(rt: &impl Abort, parser: &InputParser, name: &str) 
 // The lengths of the pieces in which the text of each example is read.
 const SIZES: &[usize] = &[1, 2, 3, 7, 64];
 
-// In pieces of this size the text has these events, and so many bytes wait.
+// In pieces of this size the text has these events, and so many bytes stay buffered.
 fn check_size(
     rt: &impl Abort,
     alloc: Global,
@@ -266,7 +266,7 @@ fn check_kind(rt: &impl Abort, parser: &InputParser, text: &[u8], kind: Waiting)
     assert_eq!(rt; parser.waiting(), kind, "{text:?}");
 }
 
-// A fresh parser takes the text, which has no event.
+// A fresh parser buffers the whole text, and emits nothing.
 fn check_rest(
     rt: &impl Abort,
     alloc: Global,

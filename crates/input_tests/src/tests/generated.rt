@@ -59,7 +59,7 @@ struct Reading<'a> {
     kind: Waiting,
 }
 
-// The rest may wait.
+// The rest may stay buffered.
 fn check_rest(rt: &impl Abort, kind: Option<Waiting>, rest: &[u8], name: &str) {
     assert!(rt; may_wait(kind, rest.len()), "{rest:?} waits, {name}");
 }

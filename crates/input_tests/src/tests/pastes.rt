@@ -106,7 +106,7 @@ fn check_quiet(rt: &impl Abort, parser: &mut InputParser, text: &[u8]) -> Result
     Ok(())
 }
 
-// The last byte gives a paste of these bytes.
+// The last byte completes a paste of these bytes.
 fn check_last_byte(rt: &impl Abort, parser: &mut InputParser, body: &[u8]) -> Result<(), Fail> {
     match parser.parse_as_vec(b"~", MORE)?.as_slice() {
         [InputEvent::Paste(text)] => assert!(rt; text.as_str().as_bytes() == body),

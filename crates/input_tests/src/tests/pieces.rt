@@ -154,7 +154,7 @@ const CALLS: &[Call] = &[
     ),
 ];
 
-// The parser takes what comes before the pieces. It has no event.
+// The parser buffers what comes before the pieces, and emits nothing.
 fn check_before(
     rt: &impl Abort,
     alloc: Global,
@@ -167,7 +167,7 @@ fn check_before(
     Ok(())
 }
 
-// The pieces give the line.
+// The line is of the events of the pieces.
 fn check_pieces(
     rt: &impl Abort,
     alloc: Global,

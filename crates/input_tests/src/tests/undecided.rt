@@ -23,7 +23,7 @@ fn flushed_events(
     Ok(events)
 }
 
-// The text waits as a whole, and it is short.
+// The whole text stays buffered, and it is short.
 fn check_waits(rt: &impl Abort, parser: &mut InputParser, text: &[u8]) -> Result<(), Fail> {
     let events = parser.parse_as_vec(text, MORE)?;
     assert!(rt; events.is_empty(), "{text:?}");

@@ -10,7 +10,7 @@ use std::alloc::{AllocError, Global};
 use std::process::Abort;
 use std::test::Fail;
 
-// The event is the one that a fresh parser gives for the text, flushed.
+// The event is what a fresh parser emits for the text, flushed.
 fn check_flushed(
     rt: &impl Abort,
     alloc: Global,
@@ -22,7 +22,7 @@ fn check_flushed(
     Ok(())
 }
 
-// There is no event, and the text still waits.
+// There is no event, and the text stays buffered.
 fn check_kept(
     rt: &impl Abort,
     parser: &InputParser,
@@ -142,7 +142,7 @@ const ENDED: &[(&[u8], &str)] = &[
     (b"q", ""),
 ];
 
-// The event of `end_paste`, if there is one, and what waits after it give the line.
+// The line is of the event of `end_paste`, if there is one, and of what stays buffered after it.
 fn check_end(
     rt: &impl Abort,
     alloc: Global,
@@ -180,7 +180,7 @@ const OPEN: &[(&[u8], bool)] = &[
     (b"", false),
 ];
 
-// The parser takes the text, and says whether it awaits the end of a paste.
+// Feeds the text. Returns whether the parser awaits the end of a paste.
 fn check_awaits(
     rt: &impl Abort,
     parser: &mut InputParser,
@@ -193,7 +193,7 @@ fn check_awaits(
     Ok(())
 }
 
-// The parser takes an open paste, and then its end: the paste is the next event.
+// Feeds an open paste, and then its end: the paste is the next event.
 fn check_awaited_end(rt: &impl Abort, parser: &mut InputParser, paste: &[u8]) -> Result<(), Fail> {
     parser.feed(paste)?;
     assert!(rt; parser.awaits_paste_end());
@@ -236,7 +236,7 @@ fn check_long_end(rt: &impl Abort, parser: &mut InputParser, text: &[u8]) -> Res
     Ok(())
 }
 
-// The flushed bytes give the line.
+// The line is of the events of the flushed bytes.
 fn check_flushed_line(
     rt: &impl Abort,
     alloc: Global,
