@@ -1,8 +1,8 @@
 // The cases of the extended parser.
 
 use super::{Failure, print_event, print_left, print_refused};
-use crate::extended;
-use crate::parses::Stop;
+use retried_calls::extended;
+use retried_calls::parses::Stop;
 use std::fmt::Display;
 use std::io;
 use termwiz_input_extended::input::ExtendedParser;

@@ -8,12 +8,10 @@
 //! refused twice or nothing could be printed.
 #![tactic(auto)]
 
-mod extended;
 mod extended_cases;
-mod parses;
-mod parts;
 
-use parses::{Left, PiecesStop, Stop};
+use retried_calls::parses::{Left, PiecesStop, Stop};
+use retried_calls::{parses, parts};
 use std::alloc::AllocError;
 use std::fmt::Display;
 use std::process::ExitCode;

@@ -79,9 +79,15 @@ pub record IsFormAt (u : List ℕ) (len : ℕ) : Type 0 where
 abbrev pub IsReportStart : ℕ → Type 0
 IsReportStart b = (b ≢ 60) × (b ≢ 77) × (b ≢ 91)
 
--- the text has such a byte there
-pub record MayBeReport (u : List ℕ) : Type 0 where
+-- the text begins with ESC [ and a third byte
+pub record IsIntroduced (u : List ℕ) : Type 0 where
   pub long : 2 < length u
+  pub escape : slice_index u 0 ≡ 27
+  pub bracket : slice_index u 1 ≡ 91
+
+-- that byte may begin the report of a key
+pub record MayBeReport (u : List ℕ) : Type 0 where
+  pub introduced : IsIntroduced u
   pub start : IsReportStart (slice_index u 2)
 
 -- the form of so many bytes at the front is the report of a key that says no more than the key and its manner

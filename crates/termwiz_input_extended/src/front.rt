@@ -4,16 +4,18 @@ ghost use Rattle.termwiz_keymap.specs.Bytes.{Begins};
 ghost use Rattle.termwiz_keys.specs.Introducers.{ESC, START};
 ghost use Rattle.termwiz_keys.specs.Keys.{plain};
 ghost use Rattle.termwiz_keys.specs.declared.types.KeyEvent.{KeyEvent as Key};
+ghost use Rattle.termwiz_keys.specs.declared.types.InputEvent.TheVariants as Port;
 ghost use Rattle.termwiz_keys.specs.declared.types.MouseEvent.{MouseEvent as Mouse};
 ghost use Rattle.termwiz_grammar.specs.MouseReports.{IsMouseReport};
 ghost use Rattle.termwiz_grammar.specs.Table.{rows as table_rows};
+ghost use Rattle.termwiz_input.specs.Matches.{IsItemAt};
 ghost use Rattle.termwiz_input.specs.MouseReportAnswers.{HasNoPartInMouseReports};
 ghost use Rattle.termwiz_input.specs.PrintableAscii.{IsPrintableAscii};
 ghost use Rattle.termwiz_extended_events.specs.Meanings as meaning;
 ghost use Rattle.termwiz_extended_grammar.specs.Forms.{IsForm};
 ghost use Rattle.termwiz_input_extended.specs.declared.front.ReportStart.TheVariants as Start;
 ghost use Rattle.termwiz_input_extended.specs.FormAnswers.{IsScanned};
-ghost use Rattle.termwiz_input_extended.specs.ExtendedFronts.{HasFormFront, IsExtendedFront, IsFormAt, IsFormEvent, IsLongRowAt, IsOwnCharacter, IsPlainReportAt, IsReported, IsReportStart, MayBeReport, IsScannedTo, IsSomeExtra};
+ghost use Rattle.termwiz_input_extended.specs.ExtendedFronts.{HasFormFront, IsExtendedFront, IsFormAt, IsFormEvent, IsIntroduced, IsLongRowAt, IsOwnCharacter, IsPlainReportAt, IsPortsOwn, IsReported, MayBeReport, IsScannedTo, IsSomeExtra};
 
 use crate::characters::control_key;
 use crate::form::{ESCAPE, FormAt, control_at, form_at, next_scan};
@@ -285,25 +287,11 @@ fn front_without_escape(text: &[u8]) -> ExtendedFront
     }
 }
 
-// Whether a byte may come after ESC [ in the report of a key: a digit, a semicolon or a letter but M.
-fn may_begin_report(byte: u8) -> bool
-    ensures { IsTrue result → IsReportStart byte }
-{
-    matches!(byte, b'0'..=b'9' | b';' | b'A'..=b'L' | b'N'..=b'Z')
-}
-
-// Whether the report of a key may be at the front of a text, as far as the third byte tells. An open paste isn't looked through for one.
-#[inline(always)]
-pub(crate) fn may_be_report(text: &[u8]) -> bool
-    ensures { IsTrue result → MayBeReport text.now }
-{
-    text.len() > 2 && may_begin_report(text[2]) && !begins_with(text, PASTE_START)
-}
-
 // Which report may be at the front of a text, as far as its first three bytes tell.
 #[inline(always)]
 pub(crate) fn report_start(text: &[u8]) -> ReportStart
-    ensures { result ≡ Start.Key → MayBeReport text.now }
+    ensures key { result ≡ Start.Key → MayBeReport text.now }
+    ensures mouse { result ≡ Start.Mouse → IsIntroduced text.now }
 {
     match text {
         [ESCAPE, b'[', b'<', ..] => ReportStart::Mouse,
@@ -320,13 +308,28 @@ pub(crate) fn plain_report_front(text: &[u8]) -> Option<(PlainReport, usize)>
     requires { MayBeReport text.now }
     ensures { IfSome result (λ found. IsPlainReportAt text.now found.0 found.1) }
 {
-    if text[0] != ESCAPE || text[1] != b'[' {
-        return None;
-    }
     match control_at(&text[2..], 0) {
         FormAt::Whole(len) => Some((plain_report(&text[..len])?, len)),
         _ => None,
     }
+}
+
+// Under `Rows::Port`, the key of the row of three or more bytes at the front of a text, and the number of its bytes. `None` decides nothing.
+#[inline(always)]
+pub(crate) fn long_row_front(
+    parser: &InputParser,
+    rows: Rows,
+    text: &[u8],
+    maybe_more: bool,
+) -> Option<(KeyEvent, usize)>
+    requires { MayBeReport text.now }
+    ensures { IfSome result (λ found. IsPortsOwn rows text.now maybe_more × IsItemAt text.now maybe_more (Port.Key found.0) found.1) }
+{
+    if begins_with(text, PASTE_START) {
+        return None;
+    }
+    let (key, len) = long_row_at(parser, rows, text, maybe_more)?;
+    Some((copied(key), len))
 }
 
 // What follows a first ESC.

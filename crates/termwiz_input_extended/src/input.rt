@@ -2,7 +2,7 @@
 ghost use Rattle.std.specs.Prelude.{◌≡◌, ◌≢◌, ◌++◌, ◌+◌, ◌≤◌, ℕ, Bool, List, [], ◌∷◌, length, drop, take, true, false, OnErr, IfOk, IfErr, IfSome, IfNone, IsSome, IsTrue, ◌↔◌, ◌⊎◌, ◌<◌, slice_index_or, OnOk, IsOk, IsErrOf, vec_len, vec_capacity};
 ghost use Rattle.termwiz_keymap.specs.Bytes.{Begins};
 ghost use Rattle.termwiz_keys.specs.Introducers.{START};
-ghost use Rattle.termwiz_keys.specs.Keys.{escape};
+ghost use Rattle.termwiz_keys.specs.Keys.{escape, plain};
 ghost use Rattle.termwiz_keys.specs.declared.types.InputEvent.TheVariants as Port;
 ghost use Rattle.termwiz_grammar.specs.WaitingKinds.{IsOneOrTwoEscapes, IsOpenPaste};
 ghost use Rattle.termwiz_input.specs.PrintableAscii.{IsPrintableAscii};
@@ -17,8 +17,9 @@ ghost use Rattle.termwiz_input_extended.specs.ExtendedKinds.{IsBoundedOrOpenPast
 use crate::characters::{
     append_characters, append_printable_ascii, character_front, is_printable_ascii, plain_key,
 };
+use crate::form::next_scan;
 use crate::front::{
-    ExtendedFront, ReportStart, front, may_be_report, other_event, plain_report_front,
+    ExtendedFront, ReportStart, front, long_row_front, other_event, plain_report_front,
     report_start, reported_event,
 };
 use std::alloc::{AllocError, Global};
@@ -26,7 +27,7 @@ use std::marker::Model;
 use termwiz_extended_events::types::{ExtendedEvent, PlainReport, Rows};
 pub use termwiz_input::input::{ParseError, Waiting};
 use termwiz_input::input::{
-    FrontReport, InputEvent, InputParser, KeyCode, KeyEvent, Modifiers, mouse_report_at,
+    FrontReport, InputEvent, InputParser, KeyCode, KeyEvent, Modifiers, MouseEvent, mouse_report_at,
 };
 
 /// A call of [`ExtendedParser::parse_as_vec`] was refused memory. No event is lost: the parser has consumed exactly what `events` came from,
@@ -206,15 +207,6 @@ impl ExtendedParser {
         }
     }
 
-    // Whether to look for it, and it may be at the front of the waiting text.
-    #[inline(always)]
-    fn may_be_report(&self) -> bool
-        ensures kitty { IsTrue result → self.now.rows ≡ Kitty }
-        ensures start { IsTrue result → MayBeReport self.now.text }
-    {
-        self.reads_reports() && may_be_report(self.waiting_text())
-    }
-
     // The report of a key at the front of the waiting text, if it says no more than a key and its manner, and the number of its bytes.
     // `None` decides nothing.
     #[inline(always)]
@@ -226,6 +218,18 @@ impl ExtendedParser {
             → Steps self.now.rows self.now.text more (Event.Key (plain_report found.0) ∷ []) (drop found.1 self.now.text)) }
     {
         plain_report_front(self.waiting_text())
+    }
+
+    // The key of the row of three or more bytes at the front of the waiting text, and the number of its bytes, if it is read as its key
+    // and no longer sequence can begin there. `None` decides nothing.
+    #[inline(always)]
+    fn long_row_front(&self, maybe_more: bool) -> Option<(KeyEvent, usize)>
+        requires { MayBeReport self.now.text }
+        ensures within { IfSome result (λ found. found.1 ≤ length self.now.text) }
+        ensures event { IfSome result (λ found. Steps self.now.rows self.now.text maybe_more
+            (Event.Input (Port.Key found.0) ∷ []) (drop found.1 self.now.text)) }
+    {
+        long_row_front(&self.parser, self.rows, self.waiting_text(), maybe_more)
     }
 
     // The event of the form of so many bytes at the front of the waiting text, if it is read as a report of a key or a position.
@@ -270,6 +274,21 @@ impl ExtendedParser {
         }
     }
 
+    // Consumes so many bytes, whose event this is.
+    #[inline(always)]
+    fn emit(
+        &mut self,
+        event: ExtendedEvent,
+        len: usize,
+    ) -> Result<Option<ExtendedEvent>, AllocError>
+        requires { len ≤ length self.old.text }
+        ensures event { result ≡ Ok (Some event) }
+        ensures consumed { self.new ≡ record self.old { text = drop len self.old.text } }
+    {
+        self.consume(len);
+        Ok(Some(event))
+    }
+
     // Consumes the item at the front of the waiting text, and returns its event. `None` if no item is there. `next_event` is quicker for
     // characters.
     #[inline(never)]
@@ -299,20 +318,53 @@ impl ExtendedParser {
         }
     }
 
-    // The same where the report of a key may be at the front: quicker if it is.
+    // Consumes so many bytes, whose event is that this character was typed.
     #[inline(never)]
-    fn emit_report(&mut self, maybe_more: bool) -> Result<Option<ExtendedEvent>, AllocError>
-        requires kitty { self.old.rows ≡ Kitty }
-        requires start { MayBeReport self.old.text }
+    fn emit_character(
+        &mut self,
+        character: char,
+        len: usize,
+    ) -> Result<Option<ExtendedEvent>, AllocError>
+        requires { len ≤ length self.old.text }
+        ensures event { result ≡ Ok (Some (Event.Input (Port.Key (plain character)))) }
+        ensures consumed { self.new ≡ record self.old { text = drop len self.old.text } }
+    {
+        self.emit(
+            ExtendedEvent::Input(InputEvent::Key(plain_key(character))),
+            len,
+        )
+    }
+
+    // As `emit_front`, but quicker if the report of a key or of the mouse is at the front.
+    #[inline(never)]
+    fn emit_sequence(&mut self, maybe_more: bool) -> Result<Option<ExtendedEvent>, AllocError>
         ensures { Emits self.old maybe_more self.new result }
     {
-        match self.plain_report_front() {
-            Some((report, len)) => {
-                self.consume(len);
-                Ok(Some(ExtendedEvent::Key(report.whole(self.alloc))))
+        match report_start(self.waiting_text()) {
+            ReportStart::Key if self.reads_reports() => {
+                if let Some((report, len)) = self.plain_report_front() {
+                    return self.emit(ExtendedEvent::Key(report.whole(self.alloc)), len);
+                }
             }
-            None => self.emit_front(maybe_more),
+            ReportStart::Key => {
+                if let Some((key, len)) = self.long_row_front(maybe_more) {
+                    return self.emit(ExtendedEvent::Input(InputEvent::Key(key)), len);
+                }
+            }
+            ReportStart::Mouse => match mouse_report_at(self.waiting_text()) {
+                FrontReport::Whole(event, len) => {
+                    return self.emit(ExtendedEvent::Input(InputEvent::Mouse(event)), len);
+                }
+                FrontReport::Begun if maybe_more => {
+                    self.scanned = next_scan(self.waiting_text());
+                    return Ok(None);
+                }
+                _ => {}
+            },
+            ReportStart::Neither => {}
         }
+        // Passed on as it is, the result would share its memory with the events above, and each of them would be copied once more.
+        Ok(self.emit_front(maybe_more)?)
     }
 
     /// Consumes the item at the front of the buffer, and returns its event. `None` if there is no item: then all buffered bytes are the
@@ -336,12 +388,8 @@ impl ExtendedParser {
         ensures waits { IfOk result (λ found. IfNone found (IsBoundedOrOpenPaste self.new.text)) }
     {
         match character_front(self.waiting_text()) {
-            Some((character, len)) => {
-                self.consume(len);
-                Ok(Some(ExtendedEvent::Input(InputEvent::Key(plain_key(character)))))
-            }
-            None if self.may_be_report() => self.emit_report(maybe_more),
-            None => self.emit_front(maybe_more),
+            Some((character, len)) => self.emit_character(character, len),
+            None => self.emit_sequence(maybe_more),
         }
     }
 

@@ -4,14 +4,10 @@ ghost use Rattle.std.specs.Prelude.{◌≡◌, ◌↔◌, IsTrue, IfOk, IfSome, 
 ghost use Rattle.std.specs.FinMap as map;
 
 mod gap_buffer;
-#[cfg(test)]
-mod plain;
 mod range;
 mod remembered;
 mod row;
 mod search;
-#[cfg(test)]
-mod tests;
 mod text_range;
 
 use gap_buffer::GapBuffer;

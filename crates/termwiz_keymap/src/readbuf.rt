@@ -2,9 +2,6 @@
 ghost use Rattle.std.specs.Prelude.{◌≡◌, ◌≤◌, ◌++◌, ◌↔◌, [], length, drop, IsTrue, OnOk, OnErr, IsOk, Some};
 ghost use Rattle.memchr.specs.Find.{FindsNeedle};
 
-#[cfg(test)]
-mod tests;
-
 use crate::bytes::find_from;
 use std::alloc::{AllocError, Global};
 use std::marker::Model;
@@ -62,9 +59,10 @@ impl ReadBuffer {
         self.len() == 0
     }
 
-    // How many bytes the buffer's memory has room for, those that it holds included.
-    #[cfg(test)]
-    fn capacity(&self) -> usize {
+    /// How many bytes the buffer's memory has room for: those that it holds, and those that it can take before it asks for more.
+    pub fn capacity(&self) -> usize
+        ensures { length self.now ≤ result }
+    {
         self.bytes.capacity()
     }
 

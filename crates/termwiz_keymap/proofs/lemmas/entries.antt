@@ -1,5 +1,5 @@
 pub mod ClonedEntries
 pub mod EntriesInOrder
-pub mod EntryLookups
 pub mod ExactStays
 pub mod KeysInEntries
+pub mod ReplacedEntries

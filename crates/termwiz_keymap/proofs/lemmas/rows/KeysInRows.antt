@@ -13,7 +13,7 @@ use Rattle.termwiz_keymap.specs.declared.keymap.row.Row.{Row}
 use Rattle.termwiz_keymap.specs.Entries.{Entries, IsFirstPlace}
 use Rattle.termwiz_keymap.specs.KeyRows.{key_of, value_of, row_entries, AreAscending, IsAt, IsGapFor, IsRowOf}
 use Rattle.termwiz_keymap.proofs.lemmas.entries.KeysInEntries.{found, found-append, find_here, find_later, tied, tied_same, get-entries, key_set}
-use Rattle.termwiz_keymap.proofs.lemmas.entries.EntryLookups.{replaced}
+use Rattle.termwiz_keymap.proofs.lemmas.entries.ReplacedEntries.{replaced}
 use Rattle.termwiz_keymap.proofs.lemmas.rows.KeyOrder.{Before, not_itself}
 
 module _ {V : Type 0} where

@@ -1,0 +1,21 @@
+use Rattle.retried_calls.proofs.GoneOn.{others_given}
+use Rattle.retried_calls.proofs.parses.parse_pieces.Goals as goal
+
+pub parse_pieces-requires : goal.parse_pieces-requires
+parse_pieces-requires g c = λ taken given rest reads. c.requires.first.at _
+
+pub parse_pieces-requires-in-Err : goal.parse_pieces-requires-in-Err
+parse_pieces-requires-in-Err g c = λ taken given rest reads. c.requires.later.at _
+
+pub returns-in_ok-parse_pieces-in-Err : goal.returns-in_ok-parse_pieces-in-Err
+returns-in_ok-parse_pieces-in-Err g c =
+    let refused = c.in-Err.ensures in
+    let (given, reads, first) = refused.taken in
+    let (events, means, numbered, calls) = c.in_ok-parse_pieces-in-Err.ensures.ok in (
+      given,
+      events,
+      first,
+      calls,
+      others_given c.resumes.ensures _ c.args.pieces.now _ given events _ _ refused.within reads c.of-left.ensures
+          means numbered,
+    )
