@@ -41,20 +41,27 @@ fn check_answers(rt: &impl Abort, map: &KeyMap<bool>, case: &Case) {
     }
 }
 
-// Checks a case whose keys are all different: in a map, in a clone of it, and in a map whose keys were put
-// in in reverse order; then in these maps with remembered ranges.
+// Checks the answers of a map and of its clone.
+fn check_clone(rt: &impl Abort, map: &KeyMap<bool>, case: &Case) -> Result<(), AllocError> {
+    check_answers(rt, map, case);
+    let copy = map.clone()?;
+    check_answers(rt, &copy, case);
+    Ok(())
+}
+
+// Checks a map before and after it remembers its ranges.
+fn check_map(rt: &impl Abort, map: &mut KeyMap<bool>, case: &Case) -> Result<(), AllocError> {
+    check_clone(rt, map, case)?;
+    map.remember()?;
+    check_clone(rt, map, case)
+}
+
+// Checks a case whose keys are all different: in a map, and in one whose keys were put in in reverse order.
 fn check(rt: &impl Abort, alloc: Global, case: &Case) -> Result<(), AllocError> {
     let mut map = filled(alloc, case)?;
+    check_map(rt, &mut map, case)?;
     let mut backwards = filled_backwards(alloc, case)?;
-    check_answers(rt, &map, case);
-    check_answers(rt, &map.clone()?, case);
-    check_answers(rt, &backwards, case);
-    map.remember()?;
-    backwards.remember()?;
-    check_answers(rt, &map, case);
-    check_answers(rt, &map.clone()?, case);
-    check_answers(rt, &backwards, case);
-    Ok(())
+    check_map(rt, &mut backwards, case)
 }
 
 #[test]
@@ -214,35 +221,41 @@ fn numbered(alloc: Global, limit: u32) -> Result<KeyMap<u32>, AllocError> {
     Ok(map)
 }
 
-#[test]
-fn many_keys(rt: HostRuntime) -> Result<(), Fail> {
-    let map = numbered(rt.alloc(), 3000)?;
-    let copy = map.clone()?;
-    for number in 0u32..3000 {
-        let key = two_bytes(number);
-        assert_eq!(rt; map.lookup(&key, true), Found::Exact(2, &number));
-        assert_eq!(rt; copy.lookup(&key, true), Found::Exact(2, &number));
-    }
-    assert_eq!(rt; copy.lookup(&two_bytes(3000), true), Found::None);
-    Ok(())
-}
-
-// Keys that come alternately from both ends of their order, so that each insert is far from the one before.
-#[test]
-fn keys_far_apart_in_memory_asked_for_before(rt: HostRuntime) -> Result<(), Fail> {
-    let mut map = KeyMap::new(rt.alloc());
-    map.reserve(6000)?;
-    for number in 0u32..3000 {
-        map.insert(&two_bytes(number), number)?;
-        map.insert(&two_bytes(5999 - number), 5999 - number)?;
-    }
-    map.reserve(1)?;
-    for number in 0u32..6000 {
+// Each number below a limit is found under its two bytes.
+fn check_numbers(rt: &impl Abort, map: &KeyMap<u32>, limit: u32) {
+    for number in 0..limit {
         assert_eq!(rt;
             map.lookup(&two_bytes(number), true),
             Found::Exact(2, &number)
         );
     }
+}
+
+#[test]
+fn many_keys(rt: HostRuntime) -> Result<(), Fail> {
+    let map = numbered(rt.alloc(), 3000)?;
+    let copy = map.clone()?;
+    check_numbers(&rt, &map, 3000);
+    check_numbers(&rt, &copy, 3000);
+    assert_eq!(rt; copy.lookup(&two_bytes(3000), true), Found::None);
+    Ok(())
+}
+
+// Puts keys in alternately from both ends of their order, so that each insert is far from the one before. Memory is asked for first.
+fn insert_far_apart(map: &mut KeyMap<u32>) -> Result<(), AllocError> {
+    map.reserve(6000)?;
+    for number in 0u32..3000 {
+        map.insert(&two_bytes(number), number)?;
+        map.insert(&two_bytes(5999 - number), 5999 - number)?;
+    }
+    map.reserve(1)
+}
+
+#[test]
+fn keys_far_apart_in_memory_asked_for_before(rt: HostRuntime) -> Result<(), Fail> {
+    let mut map = KeyMap::new(rt.alloc());
+    insert_far_apart(&mut map)?;
+    check_numbers(&rt, &map, 6000);
     Ok(())
 }
 
@@ -255,21 +268,32 @@ fn check_places(rt: &impl Abort, map: &KeyMap<u32>, keys: &[&[u8]]) {
     assert!(rt; map.get_index(keys.len()).is_none());
 }
 
-#[test]
-fn places_of_keys(rt: HostRuntime) -> Result<(), Fail> {
-    let mut map = KeyMap::new(rt.alloc());
-    check_places(&rt, &map, &[]);
-    assert_eq!(rt; map.extensions(b""), 0..0);
-    for key in [b"b".as_slice(), b"ab", b"", b"a", b"abc", b"\xff"] {
-        map.insert(key, 7)?;
-    }
-    check_places(&rt, &map, &[b"", b"a", b"ab", b"abc", b"b", b"\xff"]);
+// The extensions of texts in a map of six keys.
+fn check_extensions(rt: &impl Abort, map: &KeyMap<u32>) {
     assert_eq!(rt; map.extensions(b""), 1..6);
     assert_eq!(rt; map.extensions(b"a"), 2..4);
     assert_eq!(rt; map.extensions(b"ab"), 3..4);
     assert!(rt; map.extensions(b"abc").is_empty());
     assert!(rt; map.extensions(b"c").is_empty());
     assert!(rt; map.extensions(b"\xff").is_empty());
+}
+
+// Puts six keys into a map.
+fn insert_six(map: &mut KeyMap<u32>) -> Result<(), AllocError> {
+    for key in [b"b".as_slice(), b"ab", b"", b"a", b"abc", b"\xff"] {
+        map.insert(key, 7)?;
+    }
+    Ok(())
+}
+
+#[test]
+fn places_of_keys(rt: HostRuntime) -> Result<(), Fail> {
+    let mut map = KeyMap::new(rt.alloc());
+    check_places(&rt, &map, &[]);
+    assert_eq!(rt; map.extensions(b""), 0..0);
+    insert_six(&mut map)?;
+    check_places(&rt, &map, &[b"", b"a", b"ab", b"abc", b"b", b"\xff"]);
+    check_extensions(&rt, &map);
     Ok(())
 }
 
@@ -290,26 +314,52 @@ fn places_of_many_keys(rt: HostRuntime) -> Result<(), Fail> {
     Ok(())
 }
 
+// Sets the text of a key.
+fn set_text(
+    alloc: Global,
+    map: &mut KeyMap<String>,
+    key: &[u8],
+    text: &str,
+) -> Result<(), AllocError> {
+    map.insert(key, String::from_str(alloc, text)?)
+}
+
+// The key has this text.
+fn check_text(rt: &impl Abort, map: &KeyMap<String>, key: &[u8], wanted: &str) {
+    match map.lookup(key, false) {
+        Found::Exact(len, text) => {
+            assert_eq!(rt; len, key.len());
+            assert_eq!(rt; text.as_str(), wanted);
+        }
+        found => panic!(rt; "{key:?}: {found:?}"),
+    }
+}
+
+// A clone of a map of texts keeps the texts that it was made with.
+fn check_cloned_texts(
+    rt: &impl Abort,
+    alloc: Global,
+    map: &mut KeyMap<String>,
+) -> Result<(), AllocError> {
+    let copy = map.clone()?;
+    set_text(alloc, map, b"a", "three")?;
+    check_text(rt, &copy, b"a", "one");
+    check_text(rt, &copy, b"ab", "two");
+    check_text(rt, map, b"a", "three");
+    Ok(())
+}
+
+// Checks a clone of a map that is empty before.
+fn check_texts(rt: &impl Abort, alloc: Global, map: &mut KeyMap<String>) -> Result<(), AllocError> {
+    set_text(alloc, map, b"a", "one")?;
+    set_text(alloc, map, b"ab", "two")?;
+    check_cloned_texts(rt, alloc, map)
+}
+
 #[test]
 fn clones_its_texts(rt: HostRuntime) -> Result<(), Fail> {
     let mut map = KeyMap::new(rt.alloc());
-    map.insert(b"a", String::from_str(rt.alloc(), "one")?)?;
-    map.insert(b"ab", String::from_str(rt.alloc(), "two")?)?;
-    let copy = map.clone()?;
-    map.insert(b"a", String::from_str(rt.alloc(), "three")?)?;
-    assert_eq!(rt;
-        copy.lookup(b"a", false),
-        Found::Exact(1, &String::from_str(rt.alloc(), "one")?)
-    );
-    assert_eq!(rt;
-        copy.lookup(b"ab", false),
-        Found::Exact(2, &String::from_str(rt.alloc(), "two")?)
-    );
-    assert_eq!(rt;
-        map.lookup(b"a", false),
-        Found::Exact(1, &String::from_str(rt.alloc(), "three")?)
-    );
-    Ok(())
+    Ok(check_texts(&rt, rt.alloc(), &mut map)?)
 }
 
 #[test]
@@ -319,14 +369,25 @@ fn clones_an_answer(rt: HostRuntime) -> Result<(), Fail> {
     Ok(())
 }
 
+// The key of two bytes has this number.
+fn check_number(rt: &impl Abort, map: &KeyMap<u32>, key: &[u8], number: u32) {
+    assert_eq!(rt; map.lookup(key, true), Found::Exact(2, &number));
+}
+
+// A later value of a key takes the place of the one before, in a clone too.
+fn check_later_insert(rt: &impl Abort, map: &mut KeyMap<u32>) -> Result<(), AllocError> {
+    map.insert(b"ab", 1)?;
+    map.insert(b"ab", 2)?;
+    check_number(rt, map, b"ab", 2);
+    let copy = map.clone()?;
+    check_number(rt, &copy, b"ab", 2);
+    Ok(())
+}
+
 #[test]
 fn later_insert_wins(rt: HostRuntime) -> Result<(), Fail> {
     let mut map = KeyMap::new(rt.alloc());
-    map.insert(b"ab", 1u32)?;
-    map.insert(b"ab", 2u32)?;
-    assert_eq!(rt; map.lookup(b"ab", true), Found::Exact(2, &2));
-    assert_eq!(rt; map.clone()?.lookup(b"ab", true), Found::Exact(2, &2));
-    Ok(())
+    Ok(check_later_insert(&rt, &mut map)?)
 }
 
 // Numbers that look random, from a linear congruential generator.
@@ -414,6 +475,42 @@ enum When {
     After,
 }
 
+// A key map, and the plain one that it is compared with.
+#[derive(Drop)]
+struct Both {
+    map: KeyMap<u32>,
+    plain: PlainMap<u32>,
+}
+
+impl Both {
+    fn new(alloc: Global) -> Both {
+        Both {
+            map: KeyMap::new(alloc),
+            plain: PlainMap::new(alloc),
+        }
+    }
+
+    // Sets the value of a key in both maps.
+    fn insert(&mut self, key: &[u8], value: u32) -> Result<(), AllocError> {
+        self.map.insert(key, value)?;
+        self.plain.insert(key, value)
+    }
+}
+
+// Looks a text up in both maps.
+fn check_lookup(
+    rt: &impl Abort,
+    map: &KeyMap<u32>,
+    plain: &PlainMap<u32>,
+    text: &[u8],
+    maybe_more: bool,
+) {
+    assert_eq!(rt;
+        map.lookup(text, maybe_more),
+        plain.lookup(text, maybe_more)
+    );
+}
+
 // Looks ten texts up in both maps.
 fn assert_alike(
     rt: &impl Abort,
@@ -426,54 +523,84 @@ fn assert_alike(
     for _ in 0..10 {
         let text = numbers.draw(alloc, kind)?;
         let maybe_more = numbers.below(2) == 0;
-        assert_eq!(rt;
-            map.lookup(&text, maybe_more),
-            plain.lookup(&text, maybe_more)
-        );
+        check_lookup(rt, map, plain, &text, maybe_more);
     }
     Ok(())
 }
 
-// Puts the empty key and sixty others into both maps, and looks texts up after each of these.
+// Sets the value of a key that is drawn, in both maps.
+fn insert_drawn(
+    alloc: Global,
+    numbers: &mut Numbers,
+    kind: Kind,
+    both: &mut Both,
+    value: u32,
+) -> Result<(), AllocError> {
+    let key = numbers.draw(alloc, kind)?;
+    both.insert(&key, value)
+}
+
+// Puts sixty keys that are drawn into both maps, and looks texts up after each of these.
 fn assert_grow_alike(
     rt: &impl Abort,
     alloc: Global,
     numbers: &mut Numbers,
     kind: Kind,
     when: When,
+    both: &mut Both,
 ) -> Result<(), AllocError> {
-    let mut map = KeyMap::new(alloc);
-    let mut plain = PlainMap::new(alloc);
-    if matches!(when, When::Before) {
-        map.remember()?;
-    }
-    map.insert(b"", 60)?;
-    plain.insert(b"", 60)?;
     for value in 0u32..60 {
-        let key = numbers.draw(alloc, kind)?;
-        map.insert(&key, value)?;
-        plain.insert(&key, value)?;
+        insert_drawn(alloc, numbers, kind, both, value)?;
         if matches!(when, When::Between) && value % 7 < 4 {
-            map.remember()?;
+            both.map.remember()?;
         }
-        assert_alike(rt, alloc, numbers, kind, &map, &plain)?;
+        assert_alike(rt, alloc, numbers, kind, &both.map, &both.plain)?;
     }
+    Ok(())
+}
+
+// Looks texts up in both maps, and in a clone of the key map.
+fn assert_clone_alike(
+    rt: &impl Abort,
+    alloc: Global,
+    numbers: &mut Numbers,
+    kind: Kind,
+    both: &Both,
+) -> Result<(), AllocError> {
+    assert_alike(rt, alloc, numbers, kind, &both.map, &both.plain)?;
+    let copy = both.map.clone()?;
+    assert_alike(rt, alloc, numbers, kind, &copy, &both.plain)
+}
+
+// Puts the empty key and sixty others into two maps that are empty.
+fn assert_kind_alike(
+    rt: &impl Abort,
+    alloc: Global,
+    numbers: &mut Numbers,
+    kind: Kind,
+    when: When,
+) -> Result<(), AllocError> {
+    let mut both = Both::new(alloc);
+    if matches!(when, When::Before) {
+        both.map.remember()?;
+    }
+    both.insert(b"", 60)?;
+    assert_grow_alike(rt, alloc, numbers, kind, when, &mut both)?;
     if matches!(when, When::After) {
-        map.remember()?;
+        both.map.remember()?;
     }
-    assert_alike(rt, alloc, numbers, kind, &map, &plain)?;
-    assert_alike(rt, alloc, numbers, kind, &map.clone()?, &plain)
+    assert_clone_alike(rt, alloc, numbers, kind, &both)
 }
 
 // The same for each kind of texts, several times.
 fn assert_kinds_alike(rt: &impl Abort, alloc: Global, when: When) -> Result<(), AllocError> {
     let mut numbers = Numbers(1);
     for _ in 0..8 {
-        assert_grow_alike(rt, alloc, &mut numbers, Kind::Letters, when)?;
-        assert_grow_alike(rt, alloc, &mut numbers, Kind::Nested, when)?;
-        assert_grow_alike(rt, alloc, &mut numbers, Kind::Bytes, when)?;
+        assert_kind_alike(rt, alloc, &mut numbers, Kind::Letters, when)?;
+        assert_kind_alike(rt, alloc, &mut numbers, Kind::Nested, when)?;
+        assert_kind_alike(rt, alloc, &mut numbers, Kind::Bytes, when)?;
     }
-    assert_grow_alike(rt, alloc, &mut numbers, Kind::Long, when)
+    assert_kind_alike(rt, alloc, &mut numbers, Kind::Long, when)
 }
 
 #[test]
@@ -496,49 +623,72 @@ fn map_that_remembers_last_and_plain_map_agree(rt: HostRuntime) -> Result<(), Fa
     Ok(assert_kinds_alike(&rt, rt.alloc(), When::After)?)
 }
 
-// Looks up each decimal number below a limit, with a byte before it, and with one of two after it.
-fn assert_decimals_alike(
+// Looks a decimal number up, with a byte before it, and with one of two after it.
+fn check_decimal(
     rt: &impl Abort,
     alloc: Global,
-    limit: u32,
+    number: u32,
     map: &KeyMap<u32>,
     plain: &PlainMap<u32>,
 ) -> Result<(), AllocError> {
-    for number in 0..limit {
-        let text = format!(in alloc; "#{number}")?;
-        let after = format!(in alloc; "#{number}~#")?;
-        for maybe_more in [true, false] {
-            assert_eq!(rt;
-                map.lookup(text.as_bytes(), maybe_more),
-                plain.lookup(text.as_bytes(), maybe_more)
-            );
-            assert_eq!(rt;
-                map.lookup(after.as_bytes(), maybe_more),
-                plain.lookup(after.as_bytes(), maybe_more)
-            );
-        }
+    let text = format!(in alloc; "#{number}")?;
+    let after = format!(in alloc; "#{number}~#")?;
+    for maybe_more in [true, false] {
+        check_lookup(rt, map, plain, text.as_bytes(), maybe_more);
+        check_lookup(rt, map, plain, after.as_bytes(), maybe_more);
     }
     Ok(())
 }
 
-#[test]
-fn keys_in_reverse_order(rt: HostRuntime) -> Result<(), Fail> {
-    let alloc = rt.alloc();
-    let mut map = KeyMap::new(alloc);
-    let mut plain = PlainMap::new(alloc);
+// Looks up each decimal number below 310.
+fn assert_decimals_alike(
+    rt: &impl Abort,
+    alloc: Global,
+    map: &KeyMap<u32>,
+    plain: &PlainMap<u32>,
+) -> Result<(), AllocError> {
+    for number in 0..310 {
+        check_decimal(rt, alloc, number, map, plain)?;
+    }
+    Ok(())
+}
+
+// Sets a value under a decimal number.
+fn insert_decimal(
+    alloc: Global,
+    both: &mut Both,
+    number: u32,
+    value: u32,
+) -> Result<(), AllocError> {
+    let key = format!(in alloc; "#{number}~")?;
+    both.insert(key.as_bytes(), value)
+}
+
+// Both maps with 300 decimal numbers, put in in reverse order. Ranges are remembered half way.
+fn decimals_backwards(alloc: Global) -> Result<Both, AllocError> {
+    let mut both = Both::new(alloc);
     for number in 0u32..300 {
-        let key = format!(in alloc; "#{}~", 299 - number)?;
-        map.insert(key.as_bytes(), number)?;
-        plain.insert(key.as_bytes(), number)?;
+        insert_decimal(alloc, &mut both, 299 - number, number)?;
         if number == 150 {
-            map.remember()?;
+            both.map.remember()?;
         }
     }
-    assert_decimals_alike(&rt, alloc, 310, &map, &plain)?;
-    map.remember()?;
-    assert_decimals_alike(&rt, alloc, 310, &map, &plain)?;
-    assert_decimals_alike(&rt, alloc, 310, &map.clone()?, &plain)?;
-    Ok(())
+    Ok(both)
+}
+
+// Looks the decimal numbers up before and after the key map remembers its ranges, and in its clone.
+fn check_decimals(rt: &impl Abort, alloc: Global, both: &mut Both) -> Result<(), AllocError> {
+    assert_decimals_alike(rt, alloc, &both.map, &both.plain)?;
+    both.map.remember()?;
+    assert_decimals_alike(rt, alloc, &both.map, &both.plain)?;
+    let copy = both.map.clone()?;
+    assert_decimals_alike(rt, alloc, &copy, &both.plain)
+}
+
+#[test]
+fn keys_in_reverse_order(rt: HostRuntime) -> Result<(), Fail> {
+    let mut both = decimals_backwards(rt.alloc())?;
+    Ok(check_decimals(&rt, rt.alloc(), &mut both)?)
 }
 
 #[test]
