@@ -314,7 +314,8 @@ pub(crate) fn plain_report_front(text: &[u8]) -> Option<(PlainReport, usize)>
     }
 }
 
-// Under `Rows::Port`, the key of the row of three or more bytes at the front of a text, and the number of its bytes. `None` decides nothing.
+// Under `Rows::Port`, the key of the row of three or more bytes at the front of a text, and the number of its bytes. `None` decides
+// nothing.
 #[inline(always)]
 pub(crate) fn long_row_front(
     parser: &InputParser,

@@ -27,7 +27,7 @@ use std::marker::Model;
 use termwiz_extended_events::types::{ExtendedEvent, PlainReport, Rows};
 pub use termwiz_input::input::{ParseError, Waiting};
 use termwiz_input::input::{
-    FrontReport, InputEvent, InputParser, KeyCode, KeyEvent, Modifiers, MouseEvent, mouse_report_at,
+    FrontReport, InputEvent, InputParser, KeyCode, KeyEvent, Modifiers, mouse_report_at,
 };
 
 /// A call of [`ExtendedParser::parse_as_vec`] was refused memory. No event is lost: the parser has consumed exactly what `events` came from,
@@ -335,7 +335,7 @@ impl ExtendedParser {
         )
     }
 
-    // As `emit_front`, but quicker if the report of a key or of the mouse is at the front.
+    // As `emit_front`, but quicker if the report of a key, a mouse report or, under `Rows::Port`, a row of three or more bytes is at the front.
     #[inline(never)]
     fn emit_sequence(&mut self, maybe_more: bool) -> Result<Option<ExtendedEvent>, AllocError>
         ensures { Emits self.old maybe_more self.new result }

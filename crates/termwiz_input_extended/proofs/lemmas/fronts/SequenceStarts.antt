@@ -1,5 +1,5 @@
 -- A text that begins with ESC [ and a third byte.
-use Rattle.std.proofs.Common.{◌≡◌, ◌≢◌, ◌<◌, ◌∙◌, ℕ, List, [], ◌∷◌, ◌++◌, length, sym, ap, arith}
+use Rattle.std.proofs.Common.{◌≡◌, ◌∙◌, ℕ, List, [], ◌∷◌, ◌++◌, ap, arith}
 use Rattle.std.specs.Prelude.{slice_index}
 use Rattle.termwiz_keymap.specs.Bytes.{Begins}
 use Rattle.termwiz_keys.specs.Introducers.{ESC}

@@ -2,14 +2,12 @@ use Rattle.std.proofs.Common.{◌≡◌, ◌∷◌, [], drop, refl, sym, ap, sub
 use Rattle.termwiz_keys.specs.declared.types.InputEvent.TheVariants.{Mouse}
 use Rattle.termwiz_input.specs.MouseReportAnswers.{IsBegun, IsMouseReportAnswer}
 use Rattle.termwiz_input.specs.declared.mouse_report.FrontReport.TheVariants.{Whole}
-use Rattle.termwiz_extended_events.specs.KeyReports.{plain_report}
 use Rattle.termwiz_extended_events.specs.declared.types.ExtendedEvent.TheVariants.{Input, Key}
 use Rattle.termwiz_extended_grammar.specs.ExtendedGrammar.{Steps}
 use Rattle.termwiz_extended_grammar.specs.Forms.{IsUnfinishedForm}
 use Rattle.termwiz_extended_grammar.proofs.lemmas.forms.ExtraFacts.{unfinished_from_form}
 use Rattle.termwiz_input_extended.specs.Buffered.{Buffered}
 use Rattle.termwiz_input_extended.specs.ExtendedFronts.{IsIntroduced, IsScannedTo}
-use Rattle.termwiz_input_extended.specs.FormAnswers.{IsScanned}
 use Rattle.termwiz_input_extended.proofs.lemmas.fronts.ExtraAnswers.{no_extra_without_form}
 use Rattle.termwiz_input_extended.proofs.lemmas.fronts.FrontItems.{waits_for_extra}
 use Rattle.termwiz_input_extended.proofs.lemmas.fronts.MouseForms.{begun_no_form, begun_unfinished}
