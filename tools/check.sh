@@ -115,7 +115,7 @@ while read -r name below; do
     fi
 done < <(crates_from "$crate")
 if [ "$with_edits" = yes ]; then
-    step "$crate's must-fail edits" rt must-fail "$crate"
+    step "$crate's must-fail edits" tools/edits.sh "$crate"
 fi
 echo "$passed passed, $failed failed"
 [ "$failed" = 0 ]

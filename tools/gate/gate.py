@@ -2,9 +2,13 @@
 
     tools/gate.sh
 
-It runs `rt ci`, which proves every crate from nothing, tries each must-fail edit, and runs the tests and the programs. Beside it run the
-scripts of this folder, one after another: each starts once the programs and libraries that it tests are proved, and runs over those, so
-that nothing is proved for the scripts but two static libraries.
+It runs `rt ci`, which proves every crate and its tests from nothing, and runs the tests and the programs. Beside it run the scripts of this
+folder, one after another: each starts once the programs and libraries that it tests are proved, and runs over those, so that nothing is
+proved for the scripts but a static library.
+
+`rt ci` would try the must-fail edits one by one, each in a check of its own. tools/edits.sh tries them here, many in one check, crate by
+crate, once `rt ci` has proved the crate. So `rt ci` works on a copy of the tree without the edits, and everything else on a whole copy, in
+which the programs that `rt ci` built are put. The tree itself isn't written to.
 
 At the end it prints a table: when each part began and ended, and how much processor time it took. The parts of `rt ci` are found by
 looking at its processes once a second. The last line is 'N passed, N failed' over all parts, the status 1 if one failed.
@@ -37,6 +41,9 @@ LEFT_OUT = [
 ]
 TICKS = os.sysconf("SC_CLK_TCK")
 STARTED = time.monotonic()
+# How many crates' edits are tried side by side, beside the checks of `rt ci`, one for each processor. These come first where all are busy.
+EDIT_LANES = 3
+YIELDING = ["nice", "-n", "10"]
 printing = threading.Lock()
 
 
@@ -59,14 +66,19 @@ def left_out(part):
     return [word for name, word, thing in LEFT_OUT if name == part and not is_there(thing)]
 
 
-def libraries_below(name):
-    """Returns the libraries of this repository that a crate stands on."""
+def listed_crates():
+    """Returns of each line of crates.txt the libraries that it names."""
     below = {}
     with open(f"{ROOT}/crates.txt", encoding="utf-8") as lines:
         for line in lines:
             head, _, names = line.partition("#")[0].partition(":")
             if head.split():
                 below[head.split()[0]] = names.split()
+    return below
+
+
+def libraries_below(below, name):
+    """Returns the libraries of this repository that a crate stands on."""
     found = []
 
     def visit(crate):
@@ -80,10 +92,10 @@ def libraries_below(name):
 
 
 class Part:
-    """A command of the gate: the crates and parts that it needs, what it printed, when it ran, and how it ended."""
+    """A command of the gate: the folder that it runs in, the crates and parts that it needs, what it printed, when it ran, and how it ended."""
 
-    def __init__(self, name, needs, *words):
-        self.name, self.needs, self.words = name, {*needs}, words
+    def __init__(self, folder, name, needs, *words):
+        self.folder, self.name, self.needs, self.words = folder, name, {*needs}, words
         self.passed, self.failed, self.why_not_run = 0, 1, ""
         self.began = self.ended = self.processor = 0
         self.process, self.lines = None, []
@@ -91,7 +103,7 @@ class Part:
     def run(self, each_line):
         """Runs the command, and calls each_line with each line that it prints, when it comes."""
         self.began = now()
-        how = {"cwd": ROOT, "stdin": subprocess.DEVNULL, "stdout": subprocess.PIPE, "stderr": subprocess.STDOUT, "text": True}
+        how = {"cwd": self.folder, "stdin": subprocess.DEVNULL, "stdout": subprocess.PIPE, "stderr": subprocess.STDOUT, "text": True}
         self.process = subprocess.Popen(self.words, errors="replace", start_new_session=True, **how)
         for line in self.process.stdout:
             self.lines.append(line.rstrip("\n"))
@@ -115,9 +127,9 @@ class Part:
     def result(self):
         return self.why_not_run or (f"{self.passed} passed, {self.failed} failed" if self.ended else "not run")
 
-    def run_quietly(self):
+    def run_quietly(self, each_line):
         """Runs the command, and shows what it printed when it has ended."""
-        passed = self.run(lambda line: None)
+        passed = self.run(each_line)
         with printing:
             print("\n".join([f"== {self.name}", *self.lines]))
             word = self.why_not_run or ("FAILED" if self.failed else "passed")
@@ -133,7 +145,7 @@ class Part:
 
 
 class Watch:
-    """The checks that `rt ci` runs: for each crate and kind of check when it was seen first and last, and its processor time."""
+    """The checks that `rt ci` runs: for each crate, and for its tests, when they were seen first and last, and their processor time."""
 
     def __init__(self):
         self.seen, self.used = {}, {}
@@ -165,21 +177,18 @@ class Watch:
                 words = it.read().split("\0")
             if not words[0].endswith("rattle") or "--crate-name" not in words:
                 return None
-            crate = words[words.index("--crate-name") + 1]
-            is_edit = os.path.basename(os.readlink(f"/proc/{pid}/cwd")).startswith("rt-edit-")
+            return words[words.index("--crate-name") + 1], "tests" if "--test" in words else "proof"
         except (OSError, IndexError):
             return None
-        return crate, "edits" if is_edit else "tests" if "--test" in words else "proof"
 
     def rows(self):
         for (crate, kind), (first, last) in sorted(self.seen.items(), key=lambda it: it[1][0]):
-            number = edits_of(crate) if kind == "edits" else 0
-            yield f"  {crate}, {f'{number} edits' if number else kind}", first, last, sum(self.used[crate, kind].values())
+            yield f"  {crate}, {kind}", first, last, sum(self.used[crate, kind].values())
 
 
 def edits_of(crate):
-    folder = f"{ROOT}/crates/{crate}/must-fail"
-    return sum(it.endswith(".edit") for it in os.listdir(folder)) if os.path.isdir(folder) else 0
+    """Returns how many must-fail edits a crate has."""
+    return len(glob.glob(f"{ROOT}/crates/{crate}/must-fail/*.edit"))
 
 
 def link_or_copy(source, target):
@@ -191,44 +200,57 @@ def link_or_copy(source, target):
 
 class Gate:
     def __init__(self, room):
-        self.library, self.rlibs = f"{room}/library", f"{room}/rlibs"
-        self.libraries = libraries_below("termwiz_c")
-        self.ci = Part("rt ci", [], "rt", "ci")
-        over = ["--library", self.library]
+        # the tree as it is, and the tree without the edits
+        self.whole, self.tree = f"{room}/whole", f"{room}/tree"
+        shutil.copytree(ROOT, self.whole, ignore=shutil.ignore_patterns("out", "target", ".git"))
+        shutil.copytree(self.whole, self.tree, ignore=shutil.ignore_patterns("must-fail"))
+        self.rlibs, self.kept, library = f"{room}/rlibs", f"{room}/kept", f"{room}/library"
+        os.mkdir(self.rlibs)
+        below = listed_crates()
+        self.ci = Part(self.tree, "rt ci", [], "rt", "ci")
+        over = ["--library", library]
+        script = lambda *words: Part(self.whole, *words)
         self.scripts = [
-            Part("c_numbers", [], "tools/c_numbers.sh", "--check"),
-            Part("c_library", self.libraries, "tools/c_library.sh", "--over", self.rlibs, self.library),
-            Part("growth", ["c_library"], "tools/growth.sh", *over, "--over", self.rlibs),
-            Part("c_test", ["c_library", "keyshow"], "tools/c_test.sh", "--built", *over, *left_out("c_test")),
-            Part("keys_test", ["c_library"], "tools/keys_test.sh", *over),
-            Part("python_test", ["c_library"], "tools/python_test.sh", self.library),
-            Part("page_test", ["c_library"], "tools/page_test.sh", "--if-chromium", *over),
-            Part("fuzz", ["c_library"], "tools/fuzz.sh", "--if-clang", *over, "30"),
-            Part("keyshow_test", ["keyshow"], "tools/keyshow_test.sh", "--built"),
-            Part("refusals", ["refusals", "keyshow"], "tools/refusals.sh", "--built"),
-            Part("package_test", ["c_library", "keyshow"], "tools/package_test.sh", *over, "--keyshow", "crates/keyshow/out/keyshow",
-                 *left_out("package_test")),
-            Part("docs", ["c_library", "keyshow", "example"], "tools/docs.sh", "--built", *over),
+            script("c_numbers", [], "tools/c_numbers.sh", "--check"),
+            script("c_library", ["kept termwiz_c"], "tools/c_library.sh", "--over", self.rlibs, "--kept", f"{self.kept}/termwiz_c", library),
+            script("growth", ["c_library"], "tools/growth.sh", *over, "--over", self.rlibs),
+            script("c_test", ["c_library", "keyshow"], "tools/c_test.sh", "--built", *over, *left_out("c_test")),
+            script("keys_test", ["c_library"], "tools/keys_test.sh", *over),
+            script("python_test", ["c_library"], "tools/python_test.sh", library),
+            script("page_test", ["c_library"], "tools/page_test.sh", "--if-chromium", *over),
+            script("fuzz", ["c_library"], "tools/fuzz.sh", "--if-clang", *over, "30"),
+            script("keyshow_test", ["keyshow"], "tools/keyshow_test.sh", "--built"),
+            script("refusals", ["refusals", "keyshow"], "tools/refusals.sh", "--built"),
+            script("package_test", ["c_library", "keyshow"], "tools/package_test.sh", *over, "--keyshow", "crates/keyshow/out/keyshow",
+                   *left_out("package_test")),
+            script("docs", ["c_library", "keyshow", "example"], "tools/docs.sh", "--built", *over),
         ]
-        self.parts = [self.ci, *self.scripts]
-        self.watch, self.well, self.is_over = Watch(), set(), False
+        # the crate first over whose library the scripts run, and then those with the most edits
+        edited = sorted(below, key=lambda it: (it != "termwiz_c", -edits_of(it)))
+        self.edits = [
+            script(f"edits of {name}", libraries_below(below, name), *([] if name == "termwiz_c" else YIELDING),
+                   "tools/edits.sh", "--over", self.rlibs, "--kept", self.kept, name)
+            for name in edited
+            if edits_of(name)
+        ]
+        self.parts = [self.ci, *self.edits, *self.scripts]
+        self.watch, self.well, self.is_over, self.taking = Watch(), set(), False, threading.Lock()
 
-    def run_scripts(self):
-        """Runs the scripts in turn, each once what it needs is proved or has passed. When rt ci is over, the others aren't run."""
-        left = [*self.scripts]
+    def run_in_turn(self, left):
+        """Runs parts in turn, each once what it needs is proved or has passed. When rt ci is over, the others aren't run."""
         while left:
             is_over = self.is_over
-            ready = next((it for it in left if it.needs <= self.well), None)
+            with self.taking:
+                ready = next((it for it in left if it.needs <= self.well), None)
+                if ready:
+                    left.remove(ready)
             if ready:
-                left.remove(ready)
-                if ready.run_quietly():
+                if ready.run_quietly(self.note_kept):
                     self.well.add(ready.name)
             elif is_over:
                 break
             else:
                 time.sleep(1)
-        for it in left:
-            say(f"gate: {it.name}: NOT RUN, since {', '.join(sorted(it.needs - self.well))} failed")
 
     def note(self, line):
         """Shows a line of `rt ci`, and notes what it proved, or an earlier run on this machine did."""
@@ -238,24 +260,37 @@ class Gate:
             self.keep(proved[1])
             self.well.add(proved[1])
 
+    def note_kept(self, line):
+        """Notes that what the proof of a crate kept is there for a build."""
+        proved = re.match(r"edits: (\w+) is proved,", line)
+        if proved:
+            self.well.add(f"kept {proved[1]}")
+
     def keep(self, crate):
-        """Keeps a library that the scripts need, as `rt ci` proved it: at its end rt puts back what earlier runs left."""
-        if crate in self.libraries:
-            made = f"{ROOT}/crates/{crate}/out/rlib/{crate}.rlib"
-            shutil.copytree(made, f"{self.rlibs}/{crate}.rlib", copy_function=link_or_copy)
+        """Keeps what `rt ci` made of a crate for the other parts: a library, or a program."""
+        made = f"{self.tree}/crates/{crate}/out"
+        if os.path.isdir(f"{made}/rlib/{crate}.rlib"):
+            shutil.copytree(f"{made}/rlib/{crate}.rlib", f"{self.rlibs}/{crate}.rlib", copy_function=link_or_copy)
+        if os.path.isfile(f"{made}/{crate}"):
+            os.makedirs(f"{self.whole}/crates/{crate}/out", exist_ok=True)
+            shutil.copy2(f"{made}/{crate}", f"{self.whole}/crates/{crate}/out/{crate}")
 
     def run(self):
+        scripts, edits = [*self.scripts], [*self.edits]
         ci = threading.Thread(target=self.ci.run, args=[self.note], daemon=True)
-        scripts = threading.Thread(target=self.run_scripts, daemon=True)
-        ci.start()
-        scripts.start()
+        others = [threading.Thread(target=self.run_in_turn, args=[it], daemon=True) for it in [scripts, *[edits] * EDIT_LANES]]
+        for it in [ci, *others]:
+            it.start()
         while ci.is_alive():
             ci.join(1)
             if self.ci.process:
                 self.watch.look(self.ci.process.pid)
         self.is_over = True
-        while scripts.is_alive():
-            scripts.join(1)
+        for it in others:
+            while it.is_alive():
+                it.join(1)
+        for it in [*edits, *scripts]:
+            say(f"gate: {it.name}: NOT RUN, since {', '.join(sorted(it.needs - self.well))} failed")
 
     def table(self):
         yield f"{'part':32} {'from':>7} {'to':>7} {'takes':>7} {'processor':>10}  result"
@@ -279,8 +314,10 @@ def main():
         print(f"gate: what is '{sys.argv[1]}'? --help says what it does", file=sys.stderr)
         return 2
     signal.signal(signal.SIGTERM, lambda *_: sys.exit(143))
+    # the date of what is packed
+    dated = subprocess.run(["git", "log", "-1", "--format=%ct"], cwd=ROOT, stdout=subprocess.PIPE, text=True)
+    os.environ.setdefault("SOURCE_DATE_EPOCH", dated.stdout.strip() or str(int(time.time())))
     with tempfile.TemporaryDirectory(prefix="gate-") as room:
-        os.mkdir(f"{room}/rlibs")
         gate = Gate(room)
         try:
             gate.run()

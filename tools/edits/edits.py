@@ -1,0 +1,459 @@
+"""Tries the must-fail edits of crates, many in one check.
+
+    tools/edits.sh [--over RLIBS [--kept FOLDER]] [--lanes N] [CRATE..]
+
+A must-fail edit plants a bug, and the prover has to refuse the function that it changes. A check of a crate says of each function whether it
+is proved, and if not, which of its own goals is left. So bugs in several functions are planted in one copy of the crate, and one check judges
+them all:
+
+    refused      the prover couldn't prove a goal of the changed function itself
+    unjudged     the function calls another one that isn't proved, or reads as proved
+
+What is unjudged is planted again, with fewer others; at last alone. An edit that is planted alone is refused if the crate isn't proved, as
+`rt must-fail` has it. An edit of a constant changes the functions that name it. No two edits of one check change the same function. Alone
+from the first are edits of which it can't be told what they change, as of a `const fn`, or of a constant that another one names.
+
+The crate itself has to be proved first. What that proved is kept, and each check proves only what its edits change. Without --over the
+libraries below a crate, and the crate, are proved by `rt check` over what earlier runs kept in out/. With --over everything is proved from
+nothing, over the libraries that lie as NAME.rlib in the folder RLIBS, where the gate puts those that `rt ci` proved. Then --kept names a
+folder: what the proof of a crate kept is copied there, as CRATE, for a build of that crate.
+
+CRATE is a crate of this repository, and without a word every crate that has edits. N crates are worked on side by side, by default one for
+each processor. A line tells of each edit what refused it. The last line is 'N passed, N failed', the status 1 if an edit wasn't refused."""
+import concurrent.futures
+import glob
+import os
+import re
+import shutil
+import subprocess
+import sys
+import tempfile
+import threading
+import time
+
+ROOT = os.path.dirname(os.path.dirname(os.path.dirname(os.path.realpath(__file__))))
+PARTS = ("src", "specs", "proofs")
+printing = threading.Lock()
+
+
+def say(text):
+    with printing:
+        print(text, flush=True)
+
+
+def progress(text):
+    with printing:
+        print(f"edits: {text}", file=sys.stderr, flush=True)
+
+
+class BadEdit(Exception):
+    """An edit that can't be planted, or whose check said nothing of a contract."""
+
+
+class NotProved(Exception):
+    """A crate that isn't proved as it is, or a library below it."""
+
+
+# A function's head in the layout of `rt fmt`, and that of an impl, and of a module that is written in its file.
+FUNCTION = re.compile(r"^( *)(?:pub(?:\([^)]*\))? )?(const )?(?:unsafe )?(?:extern \"C\" )?fn (\w+)")
+IMPL = re.compile(r"^( *)(?:unsafe )?impl\b(.*)")
+MODULE = re.compile(r"^( *)(?:pub(?:\([^)]*\))? )?mod (\w+) \{$")
+
+
+def without_parameters(text):
+    """Returns the text without what is between < and >."""
+    while True:
+        shorter = re.sub(r"<[^<>]*>", "", text)
+        if shorter == text:
+            return text
+        text = shorter
+
+
+def impl_names(head):
+    """Returns the names of the type and of the trait, or of no trait, of an impl's head without its first word."""
+    words = without_parameters(head.replace("->", "")).partition(" where ")[0].partition("{")[0]
+    trait, is_of_trait, owner = words.partition(" for ")
+    last = lambda text: re.sub(r".*::", "", text.strip()).strip("&* ")
+    return (last(owner), last(trait)) if is_of_trait else (last(trait), "")
+
+
+class Function:
+    """A function of a file: its first and last line, and the parts of its name in a check's output."""
+
+    def __init__(self, first, last, is_const, scope, name):
+        self.first, self.last, self.is_const, self.scope, self.name = first, last, is_const, scope, name
+
+    def named(self, names):
+        """Returns this function's name among those of a check, or None if there is none or more than one."""
+        path, owner, trait = self.scope
+        last = f"{re.escape(owner + trait)}\\w*::{self.name}" if trait else f"{owner}::{self.name}" if owner else self.name
+        # a method's name has the module of its type, and not that of its impl
+        for first in (path, f"{path.partition('::')[0]}::(?:\\w+::)*") if owner else (path,):
+            found = [it for it in names if re.fullmatch(first + last, it)]
+            if found:
+                return found[0] if len(found) == 1 else None
+        return None
+
+
+def closing_line(lines, at, indent):
+    """Returns the line that closes the item which begins at a line, by its indentation."""
+    for end in range(at, len(lines)):
+        if lines[end].startswith((f"{indent}}}", f"{indent}{{}}")) or end == at and lines[at].endswith(("{}", ";")):
+            return end
+    return len(lines) - 1
+
+
+def functions_of(crate, path, text):
+    """Returns the functions of a source file, in the layout of `rt fmt`."""
+    lines, found, impls, modules = text.split("\n"), [], [], []
+    inner = [it for it in path[: -len(".rt")].split("/")[1:] if it not in ("lib", "main")]
+    for at, line in enumerate(lines):
+        module, block, function = MODULE.match(line), IMPL.match(line), FUNCTION.match(line)
+        if module:
+            modules.append((at, closing_line(lines, at, module[1]), module[2]))
+        if block:
+            head = block[2]
+            for more in lines[at + 1 : at + 12]:
+                if "{" in head:
+                    break
+                head += " " + more.strip()
+            impls.append((at, closing_line(lines, at, block[1]), impl_names(head)))
+        if function:
+            around = [it for it in impls if it[0] < at <= it[1]]
+            owner, trait = around[-1][2] if around else ("", "")
+            names = [crate, *inner, *[it[2] for it in modules if it[0] < at <= it[1]]]
+            scope = "".join(f"{it}::" for it in names), owner, trait
+            found.append(Function(at, closing_line(lines, at, function[1]), bool(function[2]), scope, function[3]))
+    return found
+
+
+def lines_of(text, match):
+    """Returns the numbers of the lines of a match in a text."""
+    first = text.count("\n", 0, match.start())
+    return range(first, first + 1 + match[0].count("\n"))
+
+
+# A constant's head, up to its value.
+CONSTANT = re.compile(r"^ *(?:pub(?:\([^)]*\))? )?(?:const|static) (\w+):")
+
+
+class Sources:
+    """The source files of a crate, and the functions in them."""
+
+    def __init__(self, crate, folder, names):
+        self.names, self.texts, self.functions = names, {}, {}
+        for file in glob.glob(f"{folder}/src/**/*.rt", recursive=True):
+            path = os.path.relpath(file, folder)
+            with open(file, encoding="utf-8") as it:
+                self.texts[path] = it.read()
+            self.functions[path] = functions_of(crate, path, self.texts[path])
+
+    def changed_by(self, path, old):
+        """Returns the names of the functions that a change of this text changes, or None if that can't be told."""
+        text = self.texts[path]
+        line = text[: text.index(old)].count("\n")
+        around = [it for it in self.functions[path] if it.first <= line <= it.last]
+        if around:
+            named = None if around[0].is_const else around[0].named(self.names)
+            return {named} if named else None
+        return self.naming(text.split("\n"), line)
+
+    def naming(self, lines, line):
+        """Returns the names of the functions that name the constant which a line is in, or None if something else names it too."""
+        while line and not CONSTANT.match(lines[line]) and lines[line].startswith((" ", "]", ")", "}")):
+            line -= 1
+        constant = CONSTANT.match(lines[line])
+        if not constant:
+            return None
+        found, elsewhere = set(), 0
+        for path, text in self.texts.items():
+            imported = {at for it in re.finditer(r"(?ms)^ *(?:pub )?use [^;]*;", text) for at in lines_of(text, it)}
+            for it in re.finditer(rf"\b{constant[1]}\b", text):
+                at = lines_of(text, it)[0]
+                around = [it for it in self.functions[path] if it.first <= at <= it.last]
+                found |= {None if it.is_const else it.named(self.names) for it in around}
+                elsewhere += not around and at not in imported
+        # elsewhere it is named where it is declared
+        return found if elsewhere == 1 and found and None not in found else None
+
+
+class Edit:
+    """A must-fail edit: its name, and the texts that it replaces in files of its crate."""
+
+    def __init__(self, file):
+        self.name = os.path.basename(file)
+        self.pairs, path, old = [], "", None
+        with open(file, encoding="utf-8") as it:
+            for line in it.read().split("\n"):
+                if line.startswith("file: "):
+                    path = line[len("file: ") :].strip()
+                elif line.startswith("old: "):
+                    old = line[len("old: ") :]
+                elif line.startswith("new:") and path and old:
+                    self.pairs.append((path, old, re.sub(r"\A ", "", line[len("new:") :])))
+                    old = None
+        # the functions that it changes, if that can be told
+        self.functions = set()
+
+    def planted(self, texts):
+        """Returns texts of files with this edit, or None if a text that it replaces isn't there exactly once."""
+        texts = dict(texts)
+        for path, old, new in self.pairs:
+            if texts.get(path, "").count(old) != 1:
+                return None
+            texts[path] = texts[path].replace(old, new)
+        return texts
+
+    def find_functions(self, sources):
+        """Notes the functions that this edit changes, if it can be judged among others."""
+        found = set()
+        for path, old, _ in self.pairs:
+            changed = sources.changed_by(path, old) if sources.texts.get(path, "").count(old) == 1 else None
+            if not changed:
+                return
+            found |= changed
+        self.functions = found
+
+
+class Check:
+    """What a check of a crate said: a line for each function, and its last line."""
+
+    def __init__(self, status, text):
+        self.status, self.text = status, text
+        self.lines = text.rstrip("\n").split("\n")
+        self.functions = dict(re.findall(r"^fn ([^:\s]+(?:::[^:\s]+)*): (.*)$", text, re.M))
+
+    def own_goal(self, function):
+        """Returns the goal of a function itself that isn't proved, or None."""
+        said = self.functions.get(function, "")
+        found = re.search(r"`search` did not prove ([^;]*)", said)
+        if found:
+            return found[1]
+        return self.refused_answer(function) if said.startswith("not proved") else None
+
+    def refused_answer(self, function):
+        """Returns the answer in a function's own proof files that the prover refuses. One that names what isn't there any more says nothing."""
+        folder = "/".join(function.split("::")[1:])
+        for line in self.lines:
+            found = re.match(rf"(?:\./)?proofs/{re.escape(folder)}/\w+\.antt:\d+:\d+: error: (`[^`]+`: .*)", line)
+            if found and not re.search(r"has no field|is not in scope|has no `|was not admitted|which was rejected", found[1]):
+                return found[1]
+        return None
+
+    def first_told(self):
+        told = [it for it in self.lines if re.match(r"(note: )?\S+:\d+:\d+:", it)]
+        told = [it for it in told if ": error" in it or it.startswith("note: ")] or told or [""]
+        return told[0]
+
+    def is_unread(self, changed):
+        """Returns whether the prover couldn't read an edited text, so that no contract was tried."""
+        for line in self.lines:
+            at = re.match(r"(?:\./)?(\S+?):\d+:\d+: error: (?:(`[^`]*`): )?(.*)", line)
+            if at and (at[1] in changed or at[1].startswith(("src/", "specs/"))):
+                said = re.sub(r"`[^`]*`", "", at[3])
+                if not at[2] or re.search(r"is not in scope|has no field|is no name|operand is missing|expected the end|cannot continue", said):
+                    return True
+        return False
+
+
+class Crate:
+    """A crate with must-fail edits, of which a copy is checked."""
+
+    def __init__(self, name, listed, over, keep, room):
+        self.name, self.listed, self.over, self.keep, self.folder = name, listed, over, keep, f"{room}/{name}"
+        self.source = f"{ROOT}/crates/{name}"
+        self.is_static = listed[name][0]
+        self.edits = [Edit(it) for it in sorted(glob.glob(f"{self.source}/must-fail/*.edit"))]
+        self.texts = {}
+
+    def prepare(self):
+        """Makes the copy, and proves it as it is."""
+        for part in PARTS:
+            if os.path.isdir(f"{self.source}/{part}"):
+                shutil.copytree(f"{self.source}/{part}", f"{self.folder}/{part}")
+        for path in {path for edit in self.edits for path, _, _ in edit.pairs}:
+            with open(f"{self.folder}/{path}", encoding="utf-8") as it:
+                self.texts[path] = it.read()
+        if not self.over:
+            ran = subprocess.run(["rt", "check"], cwd=self.source, stdin=subprocess.DEVNULL, capture_output=True, text=True)
+            if ran.returncode:
+                raise NotProved(ran.stdout[-3000:] + ran.stderr[-1000:])
+            shutil.copytree(f"{self.source}/out/incremental", f"{self.folder}/kept")
+        # one edit alone has nothing to build on, and `rt ci` proves the crate
+        if len(self.edits) == 1 and self.over:
+            return
+        began = time.monotonic()
+        check = self.check({})
+        if check.status:
+            raise NotProved(check.text[-3000:])
+        if self.keep:
+            shutil.copytree(f"{self.folder}/kept", f"{self.keep}/{self.name}")
+        progress(f"{self.name} is proved, {time.monotonic() - began:.0f} s; tries {len(self.edits)} edits")
+        sources = Sources(self.name, self.folder, check.functions)
+        for edit in self.edits:
+            edit.find_functions(sources)
+
+    def rlib(self, library):
+        """Returns the folder in which a built library of this repository or of the kit lies."""
+        if library not in self.listed:
+            return f"{KIT}/rlibs/{library}.rlib"
+        return f"{self.over}/{library}.rlib" if self.over else f"{ROOT}/crates/{library}/out/rlib/{library}.rlib"
+
+    def words(self):
+        root = "main" if os.path.isfile(f"{self.folder}/src/main.rt") else "lib"
+        words = [f"{KIT}/bin/rattle", "check", "--crate-name", self.name, f"src/{root}.rt"]
+        for library in ["std", *self.listed[self.name][1]]:
+            words += ["--extern", f"{library}={self.rlib(library)}"]
+        for folder in {os.path.dirname(self.rlib(it)) for it in ["std", *self.listed]}:
+            words += ["-L", f"dependency={folder}"] if os.path.isdir(folder) else []
+        words += ["--antt-project", f"{KIT}/rattle/logic/antt-project.json", "--logic-built", f"{KIT}/logic_built"]
+        words += ["--links", f"{self.name}=", *["--crate-type", "staticlib"] * self.is_static]
+        return [*words, "--jobs", "1", "--incremental", f"{self.folder}/kept"]
+
+    def check(self, texts):
+        """Checks the copy with some texts in the place of its own."""
+        for path, text in {**self.texts, **texts}.items():
+            with open(f"{self.folder}/{path}", "w", encoding="utf-8") as it:
+                it.write(text)
+        ran = subprocess.run(
+            self.words(), cwd=self.folder, stdin=subprocess.DEVNULL, stdout=subprocess.PIPE, stderr=subprocess.STDOUT, text=True, errors="replace"
+        )
+        return Check(ran.returncode, ran.stdout)
+
+    def alone(self, edit):
+        """Returns what refuses an edit that is planted alone, or None if the crate is still proved."""
+        texts = edit.planted(self.texts)
+        check = self.check(texts)
+        if check.is_unread(texts):
+            raise BadEdit("the prover cannot read the edited text, so no contract was tried")
+        if check.status == 1 and check.lines[-1].startswith("logic=not-proved"):
+            return check.first_told()
+        if check.status == 0:
+            return None
+        raise BadEdit("it did not reach the prover: " + " / ".join(check.lines[:6]))
+
+    def together(self, edits):
+        """Plants edits of different functions. Returns those that were refused, each with the goal, those unjudged, and those not planted."""
+        texts, planted, left, functions = self.texts, [], [], set()
+        for edit in edits:
+            more = None if functions & edit.functions else edit.planted(texts)
+            if more:
+                texts = more
+                planted.append(edit)
+                functions |= edit.functions
+            else:
+                left.append(edit)
+        check = self.check(texts)
+        judged = {}
+        if check.status == 1 and check.lines[-1].startswith("logic=not-proved") and not check.is_unread(texts):
+            goals = {it: [f"{name}: {goal}" for name in sorted(it.functions) for goal in [check.own_goal(name)] if goal] for it in planted}
+            judged = {it: found[0] for it, found in goals.items() if found}
+        return judged, [it for it in planted if it not in judged], left
+
+    def judge(self):
+        """Tries all edits, and yields each with what refused it, or None, and whether it was planted with others."""
+        groups, alone = [[it for it in self.edits if it.functions]], [it for it in self.edits if not it.functions]
+        while groups:
+            edits = groups.pop(0)
+            if len(edits) == 1:
+                alone += edits
+                continue
+            judged, unjudged, left = self.together(edits)
+            for edit, goal in judged.items():
+                yield edit, goal, len(judged) + len(unjudged)
+            # what no goal of its own refused is planted with what wasn't planted yet, or, if nothing was judged, with fewer others
+            if judged:
+                groups.append(left + unjudged)
+            elif len(unjudged) == 1:
+                alone += unjudged
+                groups.append(left)
+            else:
+                groups += [unjudged[::2], unjudged[1::2] + left]
+            groups = [it for it in groups if it]
+        for edit in alone:
+            try:
+                yield edit, self.alone(edit), 1
+            except BadEdit as why:
+                yield edit, why, 1
+
+
+def listed_crates():
+    """Returns of each line of crates.txt whether the crate is a static library, and the libraries that it names."""
+    found = {}
+    with open(f"{ROOT}/crates.txt", encoding="utf-8") as lines:
+        for line in lines:
+            head, _, names = line.partition("#")[0].partition(":")
+            if head.split():
+                found[head.split()[0]] = "staticlib" in head.split()[1:], names.split()
+    return found
+
+
+def try_crate(name, listed, over, keep):
+    """Tries a crate's edits, and returns how many were refused and how many weren't."""
+    began, passed, failed = time.monotonic(), 0, 0
+    with tempfile.TemporaryDirectory(prefix="edits-") as room:
+        crate = Crate(name, listed, over, keep, room)
+        bad = [it for it in crate.edits if not it.pairs]
+        try:
+            crate.prepare()
+        except NotProved as why:
+            say(f"must-fail {name}: the crate isn't proved as it is:\n{why}")
+            return 0, len(crate.edits)
+        for edit in [it for it in crate.edits if it.planted(crate.texts) is None or it in bad]:
+            say(f"must-fail {name}/{edit.name}: BAD EDIT: a text that it replaces isn't there exactly once")
+            crate.edits.remove(edit)
+            failed += 1
+        for edit, goal, number in crate.judge():
+            label = f"must-fail {name}/{edit.name}"
+            beside = f", with {number - 1} others" if number > 1 else ""
+            if isinstance(goal, BadEdit):
+                say(f"{label}: BAD EDIT: {goal}")
+            elif goal is None:
+                say(f"{label}: NOT REFUSED: the crate is still proved with this edit")
+            else:
+                say(f"{label}: refused, as it must be{beside}: {goal[:160]}")
+            is_refused = isinstance(goal, str)
+            passed, failed = passed + is_refused, failed + (not is_refused)
+    progress(f"{name}: {passed} refused, {failed} not, {time.monotonic() - began:.0f} s")
+    return passed, failed
+
+
+def main(words):
+    listed, over, keep, lanes, names = listed_crates(), "", "", os.cpu_count(), []
+    while words:
+        word = words.pop(0)
+        if word == "--help":
+            print(__doc__)
+            return 0
+        if word in ("--over", "--kept", "--lanes") and not words:
+            print(f"edits: {word} wants a value after it; --help says more", file=sys.stderr)
+            return 2
+        if word == "--over":
+            over = os.path.abspath(words.pop(0))
+        elif word == "--kept":
+            keep = os.path.abspath(words.pop(0))
+        elif word == "--lanes":
+            lanes = words.pop(0)
+            if not re.fullmatch("[1-9][0-9]{0,2}", lanes):
+                print(f"edits: --lanes wants a number from 1 on, and not '{lanes}'; --help says more", file=sys.stderr)
+                return 2
+        elif word in listed:
+            names.append(word)
+        else:
+            print(f"edits: what is '{word}'? --help lists the words", file=sys.stderr)
+            return 2
+    if keep and not over:
+        print("edits: --kept goes with --over; --help says more", file=sys.stderr)
+        return 2
+    names = [it for it in names or listed if glob.glob(f"{ROOT}/crates/{it}/must-fail/*.edit")]
+    names.sort(key=lambda it: -len(glob.glob(f"{ROOT}/crates/{it}/must-fail/*.edit")))
+    with concurrent.futures.ThreadPoolExecutor(int(lanes)) as pool:
+        counts = [*pool.map(lambda it: try_crate(it, listed, over, keep), names)]
+    passed, failed = (sum(it) for it in zip((0, 0), *counts))
+    print(f"{passed} passed, {failed} failed")
+    return 1 if failed else 0
+
+
+if __name__ == "__main__":
+    KIT = os.path.dirname(subprocess.run(["rt", "doc"], stdout=subprocess.PIPE, text=True, check=True).stdout.strip())
+    sys.exit(main(sys.argv[1:]))
