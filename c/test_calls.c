@@ -8,13 +8,19 @@
 
 static tw_event taken;
 
-/* Feeds a text and returns what the first tw_parser_next answers; its event is in `taken`. */
-static uint32_t next_of(tw_parser *parser, const char *text, size_t len, bool more) {
-  EXPECT(tw_parser_feed(parser, (const uint8_t *)text, len));
+/* Returns what tw_parser_next answers; its event is in `taken`. */
+static uint32_t take(tw_parser *parser, bool more) {
   memset(&taken, 0xaa, sizeof taken);
   return tw_parser_next(parser, more, &taken);
 }
 
+/* Feeds a text and returns what the first tw_parser_next answers. */
+static uint32_t next_of(tw_parser *parser, const char *text, size_t len, bool more) {
+  EXPECT(tw_parser_feed(parser, (const uint8_t *)text, len));
+  return take(parser, more);
+}
+
+#define FEED(parser, text) tw_parser_feed(parser, (const uint8_t *)text, sizeof text - 1)
 #define NEXT(parser, text, more) next_of(parser, text, sizeof text - 1, more)
 
 static bool is_key(uint16_t key, uint32_t detail, uint16_t modifiers) {
@@ -93,6 +99,22 @@ static void moves(void) {
   tw_parser_free(&second);
 }
 
+/* The events of one text, from a parser that was just made. */
+static void gives_events_in_turn(void) {
+  tw_parser parser = TW_PARSER_NONE;
+  EXPECT(!FEED(&parser, "a") && take(&parser, true) == TW_NO_PARSER);
+  EXPECT(tw_parser_init(&parser) && take(&parser, true) == TW_NONE);
+  EXPECT(FEED(&parser, "\033[1;3A\033[<0;7;9M\342\202\254\033"));
+  EXPECT(take(&parser, true) == TW_EVENT && is_key(TW_KEY_UP_ARROW, 0, TW_MOD_ALT));
+  EXPECT(take(&parser, true) == TW_EVENT && taken.kind == TW_MOUSE && taken.buttons == TW_BUTTON_LEFT && taken.x == 7 && taken.y == 9);
+  EXPECT(take(&parser, true) == TW_EVENT && is_key(TW_KEY_CHAR, 0x20ac, TW_MOD_NONE));
+  EXPECT(take(&parser, true) == TW_NONE && tw_parser_waiting(&parser) == 1);
+  EXPECT(take(&parser, false) == TW_EVENT && is_key(TW_KEY_ESCAPE, 0, TW_MOD_NONE));
+  tw_parser_free(&parser);
+  EXPECT(take(&parser, true) == TW_NO_PARSER);
+  tw_parser_free(&parser);
+}
+
 static void gives_keys(tw_parser *parser) {
   EXPECT(tw_parser_feed(parser, (const uint8_t *)"", 0));
   EXPECT(NEXT(parser, "", true) == TW_NONE);
@@ -143,15 +165,41 @@ static void gives_pastes(tw_parser *parser) {
   EXPECT(tw_parser_paste(parser, room, 8) == 0 && memcmp(room, "abc\303\251...", 8) == 0);
 }
 
-/* A paste of 100 KB is one event, and its whole text is copied. */
+/* An open paste is known before an event is asked for. Its text is kept past the next event, and a new parser has none. */
+static void keeps_the_text_of_a_paste(void) {
+  tw_parser parser = TW_PARSER_NONE;
+  uint8_t room[3] = "...";
+  EXPECT(tw_parser_init(&parser) && FEED(&parser, "\033[200~ab"));
+  EXPECT(tw_parser_is_paste_open(&parser) && tw_parser_waiting(&parser) == 8);
+  EXPECT(FEED(&parser, "\033[201~c") && take(&parser, true) == TW_EVENT && taken.kind == TW_PASTE && taken.paste_len == 2);
+  EXPECT(take(&parser, true) == TW_EVENT && is_key(TW_KEY_CHAR, 'c', TW_MOD_NONE));
+  EXPECT(tw_parser_paste(&parser, room, 3) == 2 && memcmp(room, "ab.", 3) == 0);
+  EXPECT(tw_parser_paste(&parser, room, 1) == 2 && memcmp(room, "ab.", 3) == 0);
+  EXPECT(tw_parser_init(&parser) && tw_parser_paste(&parser, room, 3) == 0 && memcmp(room, "ab.", 3) == 0);
+  EXPECT(!tw_parser_is_paste_open(&parser));
+  tw_parser_free(&parser);
+}
+
+/* A paste of 100 KB is one event, fed in pieces or at once, and its whole text is copied. */
 static void gives_a_long_paste(tw_parser *parser) {
-  static uint8_t body[102400], room[102400];
-  for (size_t at = 0; at < sizeof body; at++) body[at] = (uint8_t)"0123456789abcdef"[at % 16];
-  EXPECT(NEXT(parser, "\033[200~", true) == TW_NONE);
-  EXPECT(tw_parser_feed(parser, body, sizeof body));
-  EXPECT(NEXT(parser, "\033[201~", true) == TW_EVENT && taken.kind == TW_PASTE && taken.paste_len == sizeof body);
-  EXPECT(tw_parser_paste(parser, room, sizeof room) == sizeof body && memcmp(room, body, sizeof body) == 0);
-  EXPECT(NEXT(parser, "", true) == TW_NONE && tw_parser_waiting(parser) == 0);
+  enum { BODY = 102400, MARK = 6 };
+  static uint8_t paste[MARK + BODY + MARK], room[BODY];
+  uint8_t *body = paste + MARK;
+  memcpy(paste, "\033[200~", MARK);
+  for (size_t at = 0; at < BODY; at++) body[at] = (uint8_t)"0123456789abcdef"[at % 16];
+  memcpy(body + BODY, "\033[201~", MARK);
+  for (int in_pieces = 0; in_pieces < 2; in_pieces++) {
+    if (in_pieces) {
+      EXPECT(NEXT(parser, "\033[200~", true) == TW_NONE);
+      EXPECT(tw_parser_feed(parser, body, BODY) && FEED(parser, "\033[201~"));
+    } else {
+      EXPECT(tw_parser_feed(parser, paste, sizeof paste));
+    }
+    memset(room, '.', sizeof room);
+    EXPECT(take(parser, true) == TW_EVENT && taken.kind == TW_PASTE && taken.paste_len == BODY);
+    EXPECT(tw_parser_paste(parser, room, sizeof room) == BODY && memcmp(room, body, BODY) == 0);
+    EXPECT(NEXT(parser, "", true) == TW_NONE && tw_parser_waiting(parser) == 0);
+  }
 }
 
 /* What stays buffered of a text, and its kind. */
@@ -167,6 +215,7 @@ static const struct rest rests[] = {
     {"\033[", TW_WAITING_SEQUENCE},
     {"\033O", TW_WAITING_SEQUENCE},
     {"\033[1;5", TW_WAITING_SEQUENCE},
+    {"\033[<0;1", TW_WAITING_SEQUENCE},
     {"\033[<0;3", TW_WAITING_SEQUENCE},
     {"\033[200", TW_WAITING_SEQUENCE},
     {"\033\033[", TW_WAITING_SEQUENCE},
@@ -175,9 +224,11 @@ static const struct rest rests[] = {
     {"\342\202", TW_WAITING_CHARACTER},
     {"\360\237\230", TW_WAITING_CHARACTER},
     {"\033\303", TW_WAITING_CHARACTER},
+    {"\033\342\202", TW_WAITING_CHARACTER},
     {"\033\360\237\230", TW_WAITING_CHARACTER},
     {"\033[200~", TW_WAITING_PASTE},
     {"\033[200~\033", TW_WAITING_PASTE},
+    {"\033[200~ab", TW_WAITING_PASTE},
     {"\033[200~ab\033\033", TW_WAITING_PASTE},
     {"\033[200~\303", TW_WAITING_PASTE},
     {"\033[200~ab\033[201", TW_WAITING_PASTE},
@@ -253,6 +304,15 @@ static void flushes_escapes(tw_parser *parser) {
   EXPECT(NEXT(parser, "", true) == TW_EVENT && is_key(TW_KEY_CHAR, 'A', TW_MOD_NONE));
   EXPECT(NEXT(parser, "q\033", true) == TW_EVENT && is_key(TW_KEY_CHAR, 'q', TW_MOD_NONE));
   EXPECT(call(tw_parser_flush_escape, parser) == TW_EVENT && is_key(TW_KEY_ESCAPE, 0, TW_MOD_NONE));
+}
+
+/* The same before an event is asked for, and of a parser that was just made. */
+static void flushes_what_was_fed(void) {
+  tw_parser parser = TW_PARSER_NONE;
+  EXPECT(tw_parser_init(&parser) && call(tw_parser_flush_escape, &parser) == TW_NONE);
+  EXPECT(FEED(&parser, "\033\033") && call(tw_parser_flush_escape, &parser) == TW_EVENT && is_key(TW_KEY_ESCAPE, 0, TW_MOD_ALT));
+  EXPECT(FEED(&parser, "\033[") && call(tw_parser_flush_escape, &parser) == TW_NONE && tw_parser_waiting(&parser) == 2);
+  tw_parser_free(&parser);
 }
 
 /* Every other rest is as it was after it. */
@@ -411,6 +471,37 @@ static void has_no_other_rows(tw_parser *parser) {
   EXPECT(row_key.modifiers == TW_MOD_CTRL && is_rest(parser, 8, TW_WAITING_PASTE) && tw_parser_reset(parser) == 8);
 }
 
+/* Row 706 is the up arrow with CTRL, and 2936, the byte 0x7f, is the last. Nothing is written past a row, nor of one that isn't there. */
+static void has_rows_at_their_places(void) {
+  tw_parser parser = TW_PARSER_NONE;
+  uint8_t room[12];
+  memset(room, 7, sizeof room);
+  EXPECT(tw_row(&parser, 0, room, sizeof room, &taken) == 0 && room[0] == 7);
+  EXPECT(tw_parser_init(&parser) && tw_row(&parser, 706, room, sizeof room, &taken) == 6);
+  EXPECT(memcmp(room, "\033[1;5A\007\007\007\007\007\007", sizeof room) == 0 && is_key(TW_KEY_UP_ARROW, 0, TW_MOD_CTRL));
+  EXPECT(tw_row(&parser, 2936, room, 0, &taken) == 1 && is_key(TW_KEY_BACKSPACE, 0, TW_MOD_NONE));
+  EXPECT(tw_row(&parser, 2937, room, sizeof room, &taken) == 0 && is_key(TW_KEY_BACKSPACE, 0, TW_MOD_NONE));
+  EXPECT(memcmp(room, "\033[1;5A\007\007\007\007\007\007", sizeof room) == 0);
+  tw_parser_free(&parser);
+}
+
+/* Whether the rows that would complete what is buffered are these. */
+static bool is_completed_by(const tw_parser *parser, size_t first, size_t count, bool with_alt) {
+  tw_rows rows;
+  memset(&rows, 0xaa, sizeof rows);
+  return tw_parser_completions(parser, &rows) && rows.first == first && rows.count == count && rows.with_alt == with_alt;
+}
+
+/* While nothing is buffered all rows are told, and after ESC [ 1 ; 5 twelve, whether an ESC was before it or not. */
+static void has_completions_at_their_places(void) {
+  tw_parser parser = TW_PARSER_NONE;
+  EXPECT(tw_parser_init(&parser) && is_completed_by(&parser, 0, 2937, false));
+  EXPECT(FEED(&parser, "\033[1;5") && is_completed_by(&parser, 706, 12, false));
+  tw_parser_free(&parser);
+  EXPECT(tw_parser_init(&parser) && FEED(&parser, "\033\033[1;5") && is_completed_by(&parser, 706, 12, true));
+  tw_parser_free(&parser);
+}
+
 /* A text that stays buffered, and what would complete it. The counts are those of docs/GRAMMAR.md. */
 struct begun {
   const char *text;
@@ -512,6 +603,22 @@ static void ends_a_long_paste(tw_parser *parser) {
   EXPECT(NEXT(parser, "q", true) == TW_EVENT && is_key(TW_KEY_CHAR, 'q', TW_MOD_NONE));
 }
 
+/* A paste of 100 KB is ended before an event is asked for, and its text is copied as far as there is room. */
+static void ends_a_paste_that_was_fed(void) {
+  static uint8_t body[100000];
+  tw_parser parser = TW_PARSER_NONE;
+  uint8_t room[3] = "...";
+  for (size_t at = 0; at < sizeof body; at++) body[at] = (uint8_t)"ab"[at % 2];
+  EXPECT(tw_parser_init(&parser) && call(tw_parser_end_paste, &parser) == TW_NONE);
+  EXPECT(FEED(&parser, "\033[200~") && tw_parser_feed(&parser, body, sizeof body));
+  EXPECT(call(tw_parser_end_paste, &parser) == TW_EVENT && taken.kind == TW_PASTE && taken.paste_len == sizeof body);
+  EXPECT(tw_parser_waiting(&parser) == 0);
+  EXPECT(tw_parser_paste(&parser, room, sizeof room) == sizeof body && memcmp(room, "aba", 3) == 0);
+  tw_parser_drop_paste(&parser);
+  EXPECT(tw_parser_paste(&parser, room, sizeof room) == 0);
+  tw_parser_free(&parser);
+}
+
 /* A text of 70,000 keys in one call, an arrow and a letter in turn. */
 static void gives_many_keys(tw_parser *parser) {
   static uint8_t keys[140000];
@@ -591,6 +698,20 @@ static void names_keys(const char *numbers) {
   EXPECT(tw_key_name(0, &room, 1) == 0 && tw_key_name(65535, &room, 1) == 0 && room == '.');
 }
 
+/* Some numbers of the header, which programs in other languages may have too, and the last key. */
+static void has_numbers(void) {
+  uint8_t room = '.';
+  EXPECT(TW_KEY == 1 && TW_MOUSE == 2 && TW_PASTE == 3 && TW_BUTTON_LEFT == 2);
+  EXPECT(TW_MOD_SHIFT == 2 && TW_MOD_ALT == 4 && TW_MOD_CTRL == 8);
+  EXPECT(TW_KEY_CHAR == 1 && TW_KEY_BACKSPACE == 6 && TW_KEY_ENTER == 9 && TW_KEY_ESCAPE == 11 && TW_KEY_UP_ARROW == 31);
+  EXPECT(TW_KEY_FUNCTION == 60 && TW_KEY_APPLICATION_LEFT_ARROW == 80);
+  EXPECT(TW_XTERM == 0 && TW_CSI_U == 1 && TW_WIN32 == 2 && TW_KITTY == 3);
+  check_name(1, "Char");
+  check_name(31, "UpArrow");
+  check_name(90, "InternalPasteEnd");
+  EXPECT(tw_key_name(91, &room, 1) == 0 && room == '.');
+}
+
 static tw_modes modes;
 static uint8_t text[16];
 static size_t text_len;
@@ -625,6 +746,44 @@ static void encodes(void) {
   EXPECT(encode(TW_KEY_FUNCTION, 24, TW_MOD_SHIFT, true, 16) == TW_TEXT && is_text("\033[45;2~", 16));
   EXPECT(encode(TW_KEY_ENTER, 0xffffffff, TW_MOD_NONE, true, 16) == TW_TEXT && is_text("\r", 16));
   EXPECT(encode(TW_KEY_CHAR, 0x10ffff, TW_MOD_NONE, true, 16) == TW_TEXT && is_text("\364\217\277\277", 16));
+}
+
+/* A key with its details and modifiers, an encoding, Kitty's flags, what tw_encode returns, and the text. */
+struct press {
+  uint16_t key;
+  uint32_t detail;
+  uint16_t modifiers;
+  uint8_t encoding, kitty_flags;
+  uint32_t answer;
+  const char *text;
+};
+
+/* Flags count only with kitty's encoding, and a detail only with a key that has one. */
+static const struct press presses[] = {
+    {TW_KEY_UP_ARROW, 7, TW_MOD_NONE, TW_XTERM, 0, TW_TEXT, "\033[A"},
+    {TW_KEY_UP_ARROW, 7, TW_MOD_NONE, TW_CSI_U, 32, TW_TEXT, "\033[A"},
+    {TW_KEY_CHAR, 'a', TW_MOD_ALT, TW_XTERM, 0, TW_TEXT, "\033a"},
+    {TW_KEY_FUNCTION, 5, TW_MOD_SHIFT, TW_XTERM, 0, TW_TEXT, "\033[15;2~"},
+    {TW_KEY_FUNCTION, 25, TW_MOD_NONE, TW_XTERM, 0, TW_REFUSED_KEY, ""},
+    {0, 0, TW_MOD_NONE, TW_XTERM, 0, TW_BAD_NUMBER, ""},
+    {91, 0, TW_MOD_NONE, TW_XTERM, 0, TW_BAD_NUMBER, ""},
+    {TW_KEY_CHAR, 0xd800, TW_MOD_NONE, TW_XTERM, 0, TW_BAD_NUMBER, ""},
+    {TW_KEY_FUNCTION, 256, TW_MOD_NONE, TW_XTERM, 0, TW_BAD_NUMBER, ""},
+    {TW_KEY_UP_ARROW, 0, 1, TW_XTERM, 0, TW_BAD_NUMBER, ""},
+    {TW_KEY_UP_ARROW, 0, TW_MOD_NONE, 4, 0, TW_BAD_NUMBER, ""},
+    {TW_KEY_UP_ARROW, 0, TW_MOD_NONE, TW_KITTY, 32, TW_BAD_NUMBER, ""},
+};
+
+/* Each with a level of modifyOtherKeys that isn't on, and with room for none of its bytes, for some and for all. */
+static void encodes_presses(void) {
+  for (const struct press *it = presses; it < presses + sizeof presses / sizeof presses[0]; it++) {
+    memset(&modes, 0, sizeof modes);
+    modes.modify_other_keys = 2;
+    modes.encoding = it->encoding;
+    modes.kitty_flags = it->kitty_flags;
+    for (size_t room = 0; room <= sizeof text; room++)
+      EXPECT(encode(it->key, it->detail, it->modifiers, true, room) == it->answer && is_text(it->text, room));
+  }
 }
 
 static void encodes_in_modes(void) {
@@ -708,6 +867,7 @@ static bool is_unwritten(void) { return is_found(unwritten.len, unwritten.value)
 /* There is no map before init and after free, and each call says so. */
 static void no_map_answers(tw_keymap *map) {
   EXPECT(LOOK_UP(map, "", true) == TW_FOUND_NO_MAP && is_unwritten());
+  EXPECT(LOOK_UP(map, "a", true) == TW_FOUND_NO_MAP && is_unwritten());
   EXPECT(LOOK_UP(map, "a", false) == TW_FOUND_NO_MAP && is_unwritten());
   EXPECT(!INSERT(map, "a", 1) && tw_keymap_len(map) == 0);
   tw_keymap_free(map);
@@ -746,6 +906,41 @@ static void finds_keys(void) {
   EXPECT(INSERT(&map, "", 9) && tw_keymap_len(&map) == 4);
   EXPECT(LOOK_UP(&map, "", true) == TW_FOUND_AMBIGUOUS && is_found(0, 9));
   EXPECT(LOOK_UP(&map, "box", true) == TW_FOUND_EXACT && is_found(0, 9));
+  tw_keymap_free(&map);
+}
+
+/* A text, whether more may come, what is returned for it among the keys boa, boo and boom, and what is written. */
+struct lookup {
+  const char *text;
+  size_t len;
+  bool maybe_more;
+  uint32_t answer;
+  tw_match match;
+};
+
+static const struct lookup lookups[] = {
+    {"", 0, true, TW_FOUND_NEED_DATA, {77, 777}},
+    {"bo", 2, true, TW_FOUND_NEED_DATA, {77, 777}},
+    {"bo", 2, false, TW_FOUND_NEED_DATA, {77, 777}},
+    {"boa", 3, true, TW_FOUND_EXACT, {3, 1}},
+    {"boo", 3, true, TW_FOUND_AMBIGUOUS, {3, 4}},
+    {"boo", 3, false, TW_FOUND_EXACT, {3, 4}},
+    {"boo!", 4, true, TW_FOUND_EXACT, {3, 4}},
+    {"boom!", 5, true, TW_FOUND_EXACT, {4, UINT64_MAX}},
+    {"box", 3, true, TW_FOUND_NONE, {77, 777}},
+    {"bo\0", 3, true, TW_FOUND_NONE, {77, 777}},
+};
+
+/* Words, before and after the empty key, which is a prefix of every text, and in a new map. */
+static void finds_words(void) {
+  tw_keymap map = TW_KEYMAP_NONE;
+  EXPECT(tw_keymap_init(&map) && INSERT(&map, "boom", UINT64_MAX) && INSERT(&map, "boo", 2) && INSERT(&map, "boa", 1));
+  EXPECT(INSERT(&map, "boo", 4) && tw_keymap_len(&map) == 3);
+  for (const struct lookup *it = lookups; it < lookups + sizeof lookups / sizeof lookups[0]; it++)
+    EXPECT(look_up(&map, it->text, it->len, it->maybe_more) == it->answer && is_found(it->match.len, it->match.value));
+  EXPECT(INSERT(&map, "", 9) && LOOK_UP(&map, "", true) == TW_FOUND_AMBIGUOUS && is_found(0, 9));
+  EXPECT(LOOK_UP(&map, "x", true) == TW_FOUND_EXACT && is_found(0, 9));
+  EXPECT(tw_keymap_init(&map) && tw_keymap_len(&map) == 0 && LOOK_UP(&map, "boa", true) == TW_FOUND_NONE && is_unwritten());
   tw_keymap_free(&map);
 }
 
@@ -857,6 +1052,31 @@ static void keeps_many_keys(void) {
   tw_keymap_free(&map);
 }
 
+/* The two bytes of a number, the higher one first. */
+static const uint8_t *two_bytes(uint32_t number) {
+  static uint8_t bytes[2];
+  bytes[0] = (uint8_t)(number >> 8);
+  bytes[1] = (uint8_t)number;
+  return bytes;
+}
+
+/* Six thousand keys of two bytes, and one of 300. */
+static void keeps_short_keys(void) {
+  uint8_t digits[300];
+  tw_keymap map = TW_KEYMAP_NONE;
+  for (size_t at = 0; at < sizeof digits; at++) digits[at] = (uint8_t)"0123456789"[at % 10];
+  EXPECT(tw_keymap_init(&map) && tw_keymap_insert(&map, digits, sizeof digits, 5));
+  for (uint32_t number = 0; number < 6000; number++) EXPECT(tw_keymap_insert(&map, two_bytes(number), 2, number * 7));
+  EXPECT(tw_keymap_len(&map) == 6001);
+  for (uint32_t number = 0; number < 6000; number++) {
+    EXPECT(look_up(&map, two_bytes(number), 1, true) == TW_FOUND_NEED_DATA && is_unwritten());
+    EXPECT(look_up(&map, two_bytes(number), 2, true) == TW_FOUND_EXACT && is_found(2, number * 7));
+  }
+  EXPECT(look_up(&map, digits, 300, true) == TW_FOUND_EXACT && is_found(300, 5));
+  EXPECT(look_up(&map, digits, 290, true) == TW_FOUND_NEED_DATA && is_unwritten());
+  tw_keymap_free(&map);
+}
+
 /* A pointer of length 0 may be NULL. */
 static void takes_null_for_no_bytes(void) {
   tw_parser parser = TW_PARSER_NONE;
@@ -918,6 +1138,8 @@ int main(int argc, char **argv) {
   answers_before_init_and_after_free();
   makes_anew();
   moves();
+  gives_events_in_turn();
+  keeps_the_text_of_a_paste();
   EXPECT(tw_parser_init(&parser));
   gives_keys(&parser);
   gives_mouse_reports(&parser);
@@ -939,18 +1161,26 @@ int main(int argc, char **argv) {
   tells_completions(&parser);
   completes_every_rest(&parser);
   tw_parser_free(&parser);
+  flushes_what_was_fed();
+  ends_a_paste_that_was_fed();
+  has_rows_at_their_places();
+  has_completions_at_their_places();
   cuts_make_no_difference();
   names_keys(argv[1]);
+  has_numbers();
   encodes();
+  encodes_presses();
   encodes_in_modes();
   refuses_function_keys();
   refuses_numbers_that_stand_for_nothing();
   encodes_every_key();
   answers_without_a_map();
   finds_keys();
+  finds_words();
   moves_and_makes_maps_anew();
   agrees_with_a_plain_map();
   keeps_many_keys();
+  keeps_short_keys();
   takes_null_for_no_bytes();
   reads_from_a_page_that_is_read_only();
   tells_the_version();

@@ -108,6 +108,8 @@ static void tell_events(tw_extended *parser, bool more) {
   EXPECT(next == TW_NONE);
 }
 
+#define FEED(parser, text) tw_extended_feed(parser, (const uint8_t *)text, sizeof text - 1)
+
 static void feed(tw_extended *parser, const char *text, size_t len, bool more) {
   EXPECT(tw_extended_feed(parser, (const uint8_t *)text, len));
   tell_events(parser, more);
@@ -189,6 +191,96 @@ static void reads_examples(void) {
   }
 }
 
+static bool same_report(const tw_key_report *one, const tw_key_report *other) {
+  return one->action == other->action && one->modifiers == other->modifiers && one->key == other->key && one->detail == other->detail
+         && one->shifted == other->shifted && one->base == other->base;
+}
+
+static bool same_input(const tw_event *one, const tw_event *other) {
+  return one->kind == other->kind && one->buttons == other->buttons && one->modifiers == other->modifiers && one->key == other->key
+         && one->x == other->x && one->y == other->y && one->detail == other->detail && one->paste_len == other->paste_len;
+}
+
+/* Whether all fields but the number of bytes are the same. */
+static bool same_event(const tw_extended_event *one, const tw_extended_event *other) {
+  return one->kind == other->kind && one->flags == other->flags && one->row == other->row && one->column == other->column
+         && one->rows == other->rows && one->columns == other->columns && one->height == other->height && one->width == other->width
+         && same_report(&one->report, &other->report) && same_input(&one->input, &other->input);
+}
+
+#define KEY(action, held, key, detail) { (action), (held), (key), (detail), TW_NO_CODE, TW_NO_CODE }
+#define PRESS(held, key, detail) KEY(TW_ACTION_PRESS, held, key, detail)
+
+/* How the rows are read, a text, the one event that it is, and the bytes that the event brings. */
+struct reading {
+  uint32_t rows;
+  const char *text;
+  size_t len;
+  tw_extended_event event;
+  const char *bytes;
+};
+
+/* Fields that aren't named are 0. */
+static const struct reading readings[] = {
+  { TW_ROWS_PORT, TEXT("\033[1;3A"),
+    { .kind = TW_EVENT_KEY, .report = PRESS(TW_HELD_ALT, TW_KEY_UP_ARROW, 0),
+      .input = { .kind = TW_KEY, .modifiers = TW_MOD_ALT, .key = TW_KEY_UP_ARROW } }, "" },
+  { TW_ROWS_PORT, TEXT("\033[<0;7;9M"),
+    { .kind = TW_EVENT_MOUSE, .input = { .kind = TW_MOUSE, .buttons = TW_BUTTON_LEFT, .x = 7, .y = 9 } }, "" },
+  { TW_ROWS_PORT, TEXT("\033[200~ab\033[201~"), { .kind = TW_EVENT_PASTE, .input = { .kind = TW_PASTE, .paste_len = 2 } }, "ab" },
+  { TW_ROWS_PORT, TEXT("\033[I"), { .kind = TW_EVENT_FOCUS_GAINED }, "" },
+  { TW_ROWS_PORT, TEXT("\033[O"), { .kind = TW_EVENT_FOCUS_LOST }, "" },
+  { TW_ROWS_PORT, TEXT("\033[?24;80R"), { .kind = TW_EVENT_CURSOR_POSITION, .row = 24, .column = 80 }, "" },
+  { TW_ROWS_PORT, TEXT("\033[48;24;80;480;800t"),
+    { .kind = TW_EVENT_RESIZE, .rows = 24, .columns = 80, .height = 480, .width = 800 }, "" },
+  { TW_ROWS_PORT, TEXT("\033[?31u"), { .kind = TW_EVENT_KEYBOARD_FLAGS, .flags = 31 }, "" },
+  { TW_ROWS_PORT, TEXT("\033[?62;22c"), { .kind = TW_EVENT_CSI }, "?62;22c" },
+  { TW_ROWS_PORT, TEXT("\033]11;rgb:0/0/0\007"), { .kind = TW_EVENT_OSC }, "11;rgb:0/0/0" },
+  { TW_ROWS_PORT, TEXT("\033P>|kitty\033\\"), { .kind = TW_EVENT_DCS }, ">|kitty" },
+  { TW_ROWS_PORT, TEXT("\033_Gi=31;OK\033\\"), { .kind = TW_EVENT_APC }, "Gi=31;OK" },
+  { TW_ROWS_KITTY, TEXT("\033[97:65:98;2:2;65:8364u"),
+    { .kind = TW_EVENT_REPORT, .report = { TW_ACTION_REPEAT, TW_HELD_SHIFT, TW_KEY_CHAR, 'a', 'A', 'b' } }, "A\342\202\254" },
+  { TW_ROWS_KITTY, TEXT("\033[57414;129:3u"),
+    { .kind = TW_EVENT_REPORT, .report = KEY(TW_ACTION_RELEASE, TW_HELD_NUM_LOCK, 0, 57414) }, "" },
+  { TW_ROWS_KITTY, TEXT("\033[57376u"), { .kind = TW_EVENT_REPORT, .report = PRESS(0, TW_KEY_FUNCTION, 13) }, "" },
+  { TW_ROWS_KITTY, TEXT("\033[27u"), { .kind = TW_EVENT_REPORT, .report = PRESS(0, TW_KEY_ESCAPE, 0) }, "" },
+  { TW_ROWS_PORT, TEXT("\033[27u"),
+    { .kind = TW_EVENT_KEY, .report = PRESS(0, TW_KEY_CHAR, 27), .input = { .kind = TW_KEY, .key = TW_KEY_CHAR, .detail = 27 } }, "" },
+};
+
+/* Reads a text by a parser that is made in place of the last one. After its one event nothing is written. */
+static void reads_fields(tw_extended *parser, const struct reading *it) {
+  uint8_t room[20];
+  size_t len = strlen(it->bytes);
+  tw_extended_event event, next, before;
+  memset(room, '.', sizeof room);
+  memset(&next, 0x55, sizeof next);
+  memset(&before, 0x55, sizeof before);
+  EXPECT(tw_extended_init(parser, it->rows) && tw_extended_feed(parser, (const uint8_t *)it->text, it->len));
+  EXPECT(tw_extended_next(parser, false, &event) == TW_EVENT && same_event(&event, &it->event) && event.text_len == len);
+  EXPECT(tw_extended_next(parser, false, &next) == TW_NONE && memcmp(&next, &before, sizeof next) == 0);
+  EXPECT(tw_extended_text(parser, room, sizeof room) == len && memcmp(room, it->bytes, len) == 0);
+  for (size_t at = len; at < sizeof room; at++) EXPECT(room[at] == '.');
+}
+
+static void reads_all_fields(void) {
+  tw_extended parser = TW_EXTENDED_NONE;
+  for (size_t i = 0; i < sizeof readings / sizeof *readings; i++) reads_fields(&parser, &readings[i]);
+  tw_extended_free(&parser);
+}
+
+/* Some numbers of the header, which programs in other languages may have too. */
+static void has_numbers(void) {
+  EXPECT(TW_ROWS_PORT == 0 && TW_ROWS_KITTY == 1 && TW_NO_CODE == 0xffffffff);
+  EXPECT(TW_EVENT_KEY == 1 && TW_EVENT_MOUSE == 2 && TW_EVENT_PASTE == 3 && TW_EVENT_REPORT == 4 && TW_EVENT_FOCUS_GAINED == 5);
+  EXPECT(TW_EVENT_FOCUS_LOST == 6 && TW_EVENT_CURSOR_POSITION == 7 && TW_EVENT_RESIZE == 8 && TW_EVENT_KEYBOARD_FLAGS == 9);
+  EXPECT(TW_EVENT_CSI == 10 && TW_EVENT_OSC == 11 && TW_EVENT_DCS == 12 && TW_EVENT_APC == 13);
+  EXPECT(TW_ACTION_PRESS == 1 && TW_ACTION_REPEAT == 2 && TW_ACTION_RELEASE == 3);
+  EXPECT(TW_HELD_SHIFT == 1 && TW_HELD_ALT == 2 && TW_HELD_CTRL == 4 && TW_HELD_NUM_LOCK == 128);
+  EXPECT(TW_KITTY_DISAMBIGUATE_ESCAPE_CODES == 1 && TW_KITTY_REPORT_EVENT_TYPES == 2 && TW_KITTY_REPORT_ALTERNATE_KEYS == 4);
+  EXPECT(TW_KITTY_REPORT_ALL_KEYS_AS_ESCAPE_CODES == 8 && TW_KITTY_REPORT_ASSOCIATED_TEXT == 16);
+}
+
 /* Nothing is there before init and after free, and each call says so. */
 static void none_answers(tw_extended *parser) {
   tw_extended_event event, before;
@@ -209,10 +301,13 @@ static void none_answers(tw_extended *parser) {
 }
 
 static void answers_before_init_and_after_free(void) {
+  static const uint32_t no_rows[] = { 2, 256, 65536, UINT32_MAX };
   tw_extended parser = TW_EXTENDED_NONE, moved;
   none_answers(&parser);
-  EXPECT(!tw_extended_init(&parser, 2) && !parser.live && !tw_extended_init(&parser, UINT32_MAX));
-  EXPECT(tw_extended_init(&parser, TW_ROWS_PORT) && tw_extended_feed(&parser, (const uint8_t *)"\033[1;", 4));
+  for (size_t i = 0; i < 4; i++) EXPECT(!tw_extended_init(&parser, no_rows[i]) && !parser.live);
+  EXPECT(tw_extended_init(&parser, TW_ROWS_KITTY) && FEED(&parser, "\033["));
+  for (size_t i = 0; i < 4; i++) EXPECT(!tw_extended_init(&parser, no_rows[i]) && tw_extended_waiting(&parser) == 2);
+  EXPECT(tw_extended_init(&parser, TW_ROWS_PORT) && tw_extended_waiting(&parser) == 0 && FEED(&parser, "\033[1;"));
   EXPECT(!tw_extended_init(&parser, 2) && tw_extended_waiting(&parser) == 4);
   memcpy(&moved, &parser, sizeof moved);
   EXPECT(tw_extended_waiting(&moved) == 4 && tw_extended_init(&moved, TW_ROWS_KITTY) && tw_extended_waiting(&moved) == 0);
@@ -220,12 +315,13 @@ static void answers_before_init_and_after_free(void) {
   none_answers(&moved);
 }
 
-/* What stays buffered, by kind; a lone ESC is flushed, and nothing else is. */
+/* What stays buffered, by kind; a lone ESC is flushed, and nothing else is. All of it can be forgotten. */
 static void tells_kinds(tw_extended *parser) {
   static const struct { const char *text; size_t len; uint32_t kind; } rests[] = {
-    { TEXT("\033"), TW_WAITING_ESCAPE }, { TEXT("\033\033"), TW_WAITING_ESCAPE }, { TEXT("\033[1;"), TW_WAITING_SEQUENCE },
-    { TEXT("\033]0;a"), TW_WAITING_SEQUENCE }, { TEXT("\033\033P"), TW_WAITING_SEQUENCE }, { TEXT("\303"), TW_WAITING_CHARACTER },
-    { TEXT("\033[200~a"), TW_WAITING_PASTE },
+    { TEXT(""), TW_WAITING_NOTHING }, { TEXT("\033"), TW_WAITING_ESCAPE }, { TEXT("\033\033"), TW_WAITING_ESCAPE },
+    { TEXT("\033[1;"), TW_WAITING_SEQUENCE }, { TEXT("\033[97;2"), TW_WAITING_SEQUENCE }, { TEXT("\033]0;a"), TW_WAITING_SEQUENCE },
+    { TEXT("\033]11;rgb"), TW_WAITING_SEQUENCE }, { TEXT("\033\033P"), TW_WAITING_SEQUENCE }, { TEXT("\303"), TW_WAITING_CHARACTER },
+    { TEXT("\033\342\202"), TW_WAITING_CHARACTER }, { TEXT("\033[200~a"), TW_WAITING_PASTE }, { TEXT("\033[200~ab"), TW_WAITING_PASTE },
   };
   for (size_t i = 0; i < sizeof rests / sizeof *rests; i++) {
     tw_extended_event event;
@@ -237,6 +333,8 @@ static void tells_kinds(tw_extended *parser) {
     EXPECT(!is_escape || (event.kind == TW_EVENT_KEY && event.input.key == TW_KEY_ESCAPE && event.report.key == TW_KEY_ESCAPE));
     EXPECT(!is_escape || event.input.modifiers == (rests[i].len == 2 ? TW_MOD_ALT : TW_MOD_NONE));
     EXPECT(tw_extended_reset(parser) == (is_escape ? 0 : rests[i].len) && tw_extended_waiting(parser) == 0);
+    feed(parser, rests[i].text, rests[i].len, true);
+    EXPECT(tw_extended_reset(parser) == rests[i].len && tw_extended_waiting(parser) == 0);
   }
 }
 
@@ -256,6 +354,26 @@ static void keeps_texts(tw_extended *parser) {
   EXPECT(tw_extended_text(parser, NULL, 0) == 2 && tw_extended_feed(parser, NULL, 0));
 }
 
+/* A character and a focus report leave the bytes that are kept. A key report without a text leaves none. */
+static void keeps_texts_past_other_events(void) {
+  uint8_t room[4] = "....";
+  tw_extended parser = TW_EXTENDED_NONE;
+  tw_extended_event event;
+  EXPECT(tw_extended_init(&parser, TW_ROWS_KITTY) && tw_extended_text(&parser, room, 4) == 0);
+  EXPECT(FEED(&parser, "\033[200~abc\033[201~q\033[I\033[98u"));
+  EXPECT(tw_extended_next(&parser, true, &event) == TW_EVENT && event.kind == TW_EVENT_PASTE);
+  EXPECT(tw_extended_text(&parser, room, 2) == 3 && memcmp(room, "ab..", 4) == 0);
+  EXPECT(tw_extended_next(&parser, true, &event) == TW_EVENT && event.kind == TW_EVENT_KEY);
+  EXPECT(tw_extended_next(&parser, true, &event) == TW_EVENT && event.kind == TW_EVENT_FOCUS_GAINED);
+  EXPECT(tw_extended_text(&parser, room, 4) == 3 && memcmp(room, "abc.", 4) == 0);
+  EXPECT(tw_extended_next(&parser, true, &event) == TW_EVENT && event.kind == TW_EVENT_REPORT && event.text_len == 0);
+  EXPECT(tw_extended_text(&parser, room, 4) == 0);
+  EXPECT(FEED(&parser, "\033[x") && tw_extended_next(&parser, true, &event) == TW_EVENT && tw_extended_text(&parser, room, 4) == 1);
+  tw_extended_drop_text(&parser);
+  EXPECT(tw_extended_text(&parser, room, 4) == 0);
+  tw_extended_free(&parser);
+}
+
 /* An open paste is ended where it is. */
 static void ends_pastes(tw_extended *parser) {
   uint8_t room[4] = "....";
@@ -266,17 +384,55 @@ static void ends_pastes(tw_extended *parser) {
   EXPECT(tw_extended_text(parser, room, 4) == 3 && memcmp(room, "ab\033.", 4) == 0 && tw_extended_waiting(parser) == 0);
 }
 
-/* A long paste and a long string come whole, and a string past its limit is typed text. */
-static void reads_long_texts(tw_extended *parser) {
+/* Before an event is asked for, the Escape key is flushed and an open paste is ended. A parser that was just made has neither. */
+static void ends_what_was_fed(uint32_t rows) {
+  static const tw_key_report escape = { TW_ACTION_PRESS, TW_HELD_ALT, TW_KEY_ESCAPE, 0, TW_NO_CODE, TW_NO_CODE };
+  uint8_t room[4] = "....";
+  tw_extended parser = TW_EXTENDED_NONE;
+  tw_extended_event event;
+  EXPECT(tw_extended_init(&parser, rows) && tw_extended_text(&parser, room, 4) == 0);
+  EXPECT(tw_extended_flush_escape(&parser, &event) == TW_NONE && tw_extended_end_paste(&parser, &event) == TW_NONE);
+  EXPECT(FEED(&parser, "\033\033") && tw_extended_flush_escape(&parser, &event) == TW_EVENT && event.kind == TW_EVENT_KEY);
+  EXPECT(event.input.key == TW_KEY_ESCAPE && event.input.modifiers == TW_MOD_ALT && same_report(&event.report, &escape));
+  EXPECT(FEED(&parser, "\033]") && tw_extended_flush_escape(&parser, &event) == TW_NONE && tw_extended_waiting(&parser) == 2);
+  EXPECT(tw_extended_reset(&parser) == 2 && FEED(&parser, "\033[200~xyz"));
+  EXPECT(tw_extended_end_paste(&parser, &event) == TW_EVENT && event.kind == TW_EVENT_PASTE && event.text_len == 3);
+  EXPECT(tw_extended_waiting(&parser) == 0 && tw_extended_text(&parser, room, 4) == 3 && memcmp(room, "xyz.", 4) == 0);
+  tw_extended_free(&parser);
+}
+
+/* A paste of 100000 bytes comes whole, whether events are asked for before its end or not. Nothing is written past it. */
+static void reads_a_long_paste(tw_extended *parser, bool is_asked) {
+  static uint8_t body[100000], copy[sizeof body + 1];
+  tw_extended_event event;
+  for (size_t at = 0; at < sizeof body; at++) body[at] = (uint8_t)"ab"[at % 2];
+  memset(copy, '.', sizeof copy);
+  EXPECT(FEED(parser, "\033[200~") && tw_extended_feed(parser, body, sizeof body));
+  EXPECT(!is_asked || tw_extended_next(parser, true, &event) == TW_NONE);
+  EXPECT(FEED(parser, "\033[201~") && tw_extended_next(parser, true, &event) == TW_EVENT && event.kind == TW_EVENT_PASTE);
+  EXPECT(event.text_len == sizeof body && event.input.paste_len == sizeof body);
+  EXPECT(tw_extended_text(parser, copy, sizeof copy) == sizeof body && memcmp(copy, body, sizeof body) == 0);
+  EXPECT(copy[sizeof body] == '.');
+}
+
+/* A string that comes in pieces is told by its whole length, and copied as far as there is room. */
+static void reads_a_string_in_pieces(tw_extended *parser) {
+  uint8_t text[300], room[4];
+  tw_extended_event event;
+  memset(text, 'a', sizeof text);
+  EXPECT(FEED(parser, "\033]") && tw_extended_feed(parser, text, sizeof text) && tw_extended_next(parser, true, &event) == TW_NONE);
+  EXPECT(FEED(parser, "\033\\") && tw_extended_next(parser, true, &event) == TW_EVENT);
+  EXPECT(event.kind == TW_EVENT_OSC && event.text_len == sizeof text);
+  EXPECT(tw_extended_text(parser, room, sizeof room) == sizeof text && memcmp(room, "aaaa", 4) == 0);
+}
+
+/* A long string comes whole, and a string past its limit is typed text. */
+static void reads_long_strings(tw_extended *parser) {
   enum { LONG = 100000, STRING = 60000 };
   uint8_t *text = malloc(LONG), *copy = malloc(LONG);
   tw_extended_event event;
   if (!text || !copy) abort();
   memset(text, 'x', LONG);
-  EXPECT(tw_extended_feed(parser, (const uint8_t *)"\033[200~", 6) && tw_extended_feed(parser, text, LONG));
-  EXPECT(tw_extended_next(parser, true, &event) == TW_NONE && tw_extended_feed(parser, (const uint8_t *)"\033[201~", 6));
-  EXPECT(tw_extended_next(parser, true, &event) == TW_EVENT && event.kind == TW_EVENT_PASTE && event.text_len == LONG);
-  EXPECT(tw_extended_text(parser, copy, LONG) == LONG && memcmp(copy, text, LONG) == 0);
   EXPECT(tw_extended_feed(parser, (const uint8_t *)"\033]", 2) && tw_extended_feed(parser, text, STRING));
   EXPECT(tw_extended_next(parser, true, &event) == TW_NONE && tw_extended_waiting(parser) == STRING + 2);
   EXPECT(tw_extended_feed(parser, (const uint8_t *)"\033\\", 2));
@@ -315,8 +471,6 @@ struct encoding {
   const char *bytes;
 };
 
-#define KEY(action, held, key, detail) { (action), (held), (key), (detail), TW_NO_CODE, TW_NO_CODE }
-#define PRESS(held, key, detail) KEY(TW_ACTION_PRESS, held, key, detail)
 #define LETTER(action, held) KEY(action, held, TW_KEY_CHAR, 'a')
 #define WHOLE_LETTER { TW_ACTION_PRESS, TW_HELD_SHIFT, TW_KEY_CHAR, 'a', 'A', 'b' }
 
@@ -326,6 +480,8 @@ static const struct encoding encodings[] = {
   { PRESS(0, TW_KEY_UP_ARROW, 7), "", TW_KITTY_NONE, TW_TEXT, "\033[A" },
   { KEY(TW_ACTION_REPEAT, 0, TW_KEY_UP_ARROW, 0), "", TW_KITTY_NONE, TW_TEXT, "\033[A" },
   { KEY(TW_ACTION_RELEASE, 0, TW_KEY_UP_ARROW, 0), "", TW_KITTY_NONE, TW_TEXT, "" },
+  { KEY(TW_ACTION_RELEASE, 0, TW_KEY_UP_ARROW, 7), "", TW_KITTY_NONE, TW_TEXT, "" },
+  { LETTER(TW_ACTION_PRESS, 0), "", TW_KITTY_NONE, TW_TEXT, "a" },
   { LETTER(TW_ACTION_PRESS, TW_HELD_CTRL), "", TW_KITTY_NONE, TW_TEXT, "\001" },
   { PRESS(TW_HELD_SHIFT, TW_KEY_LEFT_SHIFT, 0), "", TW_KITTY_NONE, TW_TEXT, "" },
   /* keys whose text is ambiguous */
@@ -339,7 +495,11 @@ static const struct encoding encodings[] = {
   /* repeats and releases */
   { KEY(TW_ACTION_REPEAT, 0, TW_KEY_UP_ARROW, 0), "", TW_KITTY_REPORT_EVENT_TYPES, TW_TEXT, "\033[1;1:2A" },
   { KEY(TW_ACTION_RELEASE, 0, TW_KEY_UP_ARROW, 0), "", TW_KITTY_REPORT_EVENT_TYPES, TW_TEXT, "\033[1;1:3A" },
+  { KEY(TW_ACTION_REPEAT, 0, TW_KEY_UP_ARROW, 7), "", TW_KITTY_REPORT_EVENT_TYPES, TW_TEXT, "\033[1;1:2A" },
+  { KEY(TW_ACTION_RELEASE, 0, TW_KEY_UP_ARROW, 7), "", TW_KITTY_REPORT_EVENT_TYPES, TW_TEXT, "\033[1;1:3A" },
   { KEY(TW_ACTION_RELEASE, 0, TW_KEY_TAB, 0), "", TW_KITTY_REPORT_EVENT_TYPES, TW_TEXT, "" },
+  { LETTER(TW_ACTION_RELEASE, TW_HELD_CTRL), "", TW_KITTY_DISAMBIGUATE_ESCAPE_CODES | TW_KITTY_REPORT_EVENT_TYPES, TW_TEXT,
+    "\033[97;5:3u" },
   /* all keys */
   { PRESS(0, TW_KEY_ENTER, 0), "", TW_KITTY_REPORT_ALL_KEYS_AS_ESCAPE_CODES, TW_TEXT, "\033[13u" },
   { PRESS(TW_HELD_SHIFT, TW_KEY_LEFT_SHIFT, 0), "", TW_KITTY_REPORT_ALL_KEYS_AS_ESCAPE_CODES, TW_TEXT, "\033[57441;2u" },
@@ -347,8 +507,13 @@ static const struct encoding encodings[] = {
   /* other codes, and the text */
   { WHOLE_LETTER, "A\342\202\254", TW_KITTY_NONE, TW_TEXT, "A\342\202\254" },
   { WHOLE_LETTER, "", TW_KITTY_NONE, TW_TEXT, "A" },
+  { WHOLE_LETTER, "A\342\202\254", TW_KITTY_DISAMBIGUATE_ESCAPE_CODES, TW_TEXT, "A\342\202\254" },
+  { WHOLE_LETTER, "", TW_KITTY_DISAMBIGUATE_ESCAPE_CODES, TW_TEXT, "A" },
   { WHOLE_LETTER, "A", TW_KITTY_REPORT_ALL_KEYS_AS_ESCAPE_CODES, TW_TEXT, "\033[97;2u" },
+  { WHOLE_LETTER, "A\342\202\254", TW_KITTY_REPORT_ALL_KEYS_AS_ESCAPE_CODES, TW_TEXT, "\033[97;2u" },
   { WHOLE_LETTER, "A", TW_KITTY_REPORT_ALL_KEYS_AS_ESCAPE_CODES | TW_KITTY_REPORT_ALTERNATE_KEYS, TW_TEXT, "\033[97:65:98;2u" },
+  { WHOLE_LETTER, "A\342\202\254", TW_KITTY_REPORT_ALL_KEYS_AS_ESCAPE_CODES | TW_KITTY_REPORT_ALTERNATE_KEYS, TW_TEXT,
+    "\033[97:65:98;2u" },
   { WHOLE_LETTER, "A", TW_KITTY_REPORT_ALL_KEYS_AS_ESCAPE_CODES | TW_KITTY_REPORT_ASSOCIATED_TEXT, TW_TEXT, "\033[97;2;65u" },
   { WHOLE_LETTER, "A\342\202\254", ALL_FLAGS, TW_TEXT, "\033[97:65:98;2;65:8364u" },
   /* a text with control characters counts as none */
@@ -356,8 +521,11 @@ static const struct encoding encodings[] = {
   { LETTER(TW_ACTION_PRESS, 0), "b\t", ALL_FLAGS, TW_TEXT, "\033[97u" },
   /* keys that have nothing */
   { PRESS(0, TW_KEY_COPY, 0), "", ALL_FLAGS, TW_REFUSED_KEY, "" },
+  { PRESS(0, TW_KEY_APPLICATION_LEFT_ARROW, 0), "", TW_KITTY_DISAMBIGUATE_ESCAPE_CODES, TW_REFUSED_KEY, "" },
+  { PRESS(0, TW_KEY_FUNCTION, 36), "", TW_KITTY_DISAMBIGUATE_ESCAPE_CODES, TW_REFUSED_KEY, "" },
   { PRESS(0, TW_KEY_FUNCTION, 36), "", ALL_FLAGS, TW_REFUSED_KEY, "" },
   { PRESS(0, TW_KEY_FUNCTION, 25), "", TW_KITTY_NONE, TW_REFUSED_KEY, "" },
+  { PRESS(0, 0, 57343), "", TW_KITTY_DISAMBIGUATE_ESCAPE_CODES, TW_REFUSED_KEY, "" },
   { PRESS(0, 0, 57343), "", ALL_FLAGS, TW_REFUSED_KEY, "" },
   { PRESS(0, 0, 63744), "", ALL_FLAGS, TW_REFUSED_KEY, "" },
   /* what names nothing */
@@ -368,9 +536,13 @@ static const struct encoding encodings[] = {
   { PRESS(0, TW_KEY_CHAR, 0xd800), "", ALL_FLAGS, TW_BAD_NUMBER, "" },
   { PRESS(0, TW_KEY_CHAR, 0x110000), "", ALL_FLAGS, TW_BAD_NUMBER, "" },
   { PRESS(0, TW_KEY_FUNCTION, 256), "", ALL_FLAGS, TW_BAD_NUMBER, "" },
+  { { TW_ACTION_PRESS, 0, TW_KEY_CHAR, 'a', 0xd800, TW_NO_CODE }, "", ALL_FLAGS, TW_BAD_NUMBER, "" },
   { { TW_ACTION_PRESS, 0, TW_KEY_CHAR, 'a', 0xdfff, TW_NO_CODE }, "", ALL_FLAGS, TW_BAD_NUMBER, "" },
+  { { TW_ACTION_PRESS, 0, TW_KEY_CHAR, 'a', TW_NO_CODE, 0x110000 }, "", ALL_FLAGS, TW_BAD_NUMBER, "" },
   { { TW_ACTION_PRESS, 0, TW_KEY_CHAR, 'a', TW_NO_CODE, 0xfffffffe }, "", ALL_FLAGS, TW_BAD_NUMBER, "" },
   { LETTER(TW_ACTION_PRESS, 0), "a", 32, TW_BAD_NUMBER, "" },
+  { LETTER(TW_ACTION_PRESS, 0), "a", 64, TW_BAD_NUMBER, "" },
+  { LETTER(TW_ACTION_PRESS, 0), "a", 128, TW_BAD_NUMBER, "" },
   { LETTER(TW_ACTION_PRESS, 0), "a", 255, TW_BAD_NUMBER, "" },
   { LETTER(TW_ACTION_PRESS, 0), "a\377", ALL_FLAGS, TW_BAD_TEXT, "" },
   { LETTER(TW_ACTION_PRESS, 0), "\355\240\200", TW_KITTY_NONE, TW_BAD_TEXT, "" },
@@ -396,6 +568,15 @@ static void encodes_examples(void) {
     for (size_t len = 0; len <= strlen(encodings[i].bytes) + 1; len++) encodes_in(&encodings[i], len);
 }
 
+/* A number that names nothing is bad under all sets of flags. */
+static void refuses_numbers_under_all_flags(void) {
+  for (size_t i = 0; i < sizeof encodings / sizeof *encodings; i++) {
+    struct encoding it = encodings[i];
+    if (it.answer == TW_BAD_NUMBER && it.flags == ALL_FLAGS)
+      for (it.flags = 0; it.flags <= ALL_FLAGS; it.flags++) encodes_in(&it, 24);
+  }
+}
+
 /* A text of 300 bytes is sent as it is, but no sequence carries it. */
 static void encodes_a_long_text(void) {
   static const tw_key_report letter = LETTER(TW_ACTION_PRESS, 0);
@@ -410,12 +591,6 @@ static void encodes_a_long_text(void) {
   EXPECT(tw_encode_kitty(&letter, NULL, 0, ALL_FLAGS, NULL, 0, &sent_len) == TW_TEXT && sent_len == 5);
 }
 
-static bool is_report(const tw_extended_event *event, const tw_key_report *report) {
-  const tw_key_report *is = &event->report;
-  return event->kind == TW_EVENT_REPORT && is->action == report->action && is->modifiers == report->modifiers && is->key == report->key
-         && is->detail == report->detail && is->shifted == report->shifted && is->base == report->base;
-}
-
 /* What is sent under all flags is read as the report. Returns whether the key has bytes. */
 static bool reads_back(tw_extended *parser, const tw_key_report *report, const char *text) {
   uint8_t room[256];
@@ -424,7 +599,8 @@ static bool reads_back(tw_extended *parser, const tw_key_report *report, const c
   uint32_t answer = tw_encode_kitty(report, (const uint8_t *)text, strlen(text), ALL_FLAGS, room, sizeof room, &sent_len);
   if (answer == TW_REFUSED_KEY) return false;
   EXPECT(answer == TW_TEXT && sent_len > 0 && sent_len <= sizeof room && tw_extended_feed(parser, room, sent_len));
-  EXPECT(tw_extended_next(parser, true, &event) == TW_EVENT && is_report(&event, report) && event.text_len == strlen(text));
+  EXPECT(tw_extended_next(parser, true, &event) == TW_EVENT && event.kind == TW_EVENT_REPORT && event.text_len == strlen(text));
+  EXPECT(same_report(&event.report, report));
   EXPECT(tw_extended_text(parser, room, sizeof room) == event.text_len && memcmp(room, text, event.text_len) == 0);
   EXPECT(tw_extended_next(parser, true, &event) == TW_NONE && tw_extended_waiting(parser) == 0);
   return true;
@@ -455,16 +631,26 @@ int main(void) {
   tw_extended parser = TW_EXTENDED_NONE;
   answers_before_init_and_after_free();
   reads_examples();
-  EXPECT(tw_extended_init(&parser, TW_ROWS_KITTY));
-  told[0] = '\0';
-  tells_kinds(&parser);
-  keeps_texts(&parser);
-  ends_pastes(&parser);
-  reads_long_texts(&parser);
+  reads_all_fields();
+  has_numbers();
+  for (uint32_t rows = TW_ROWS_PORT; rows <= TW_ROWS_KITTY; rows++) {
+    EXPECT(tw_extended_init(&parser, rows));
+    told[0] = '\0';
+    tells_kinds(&parser);
+    keeps_texts(&parser);
+    ends_pastes(&parser);
+    reads_a_long_paste(&parser, false);
+    reads_a_long_paste(&parser, true);
+    reads_a_string_in_pieces(&parser);
+    reads_long_strings(&parser);
+    ends_what_was_fed(rows);
+  }
   tw_extended_free(&parser);
   tw_extended_free(&parser);
+  keeps_texts_past_other_events();
   reads_from_a_page_that_is_read_only();
   encodes_examples();
+  refuses_numbers_under_all_flags();
   encodes_a_long_text();
   EXPECT(tw_extended_init(&parser, TW_ROWS_KITTY));
   reads_keys_back(&parser);

@@ -106,7 +106,7 @@ const NO_REPORT: CKeyReport = CKeyReport {
 };
 
 // All zero: what an event of no kind has.
-pub(crate) const NO_EXTENDED_EVENT: CExtendedEvent = CExtendedEvent {
+const NO_EXTENDED_EVENT: CExtendedEvent = CExtendedEvent {
     kind: EVENT_OTHER,
     flags: 0,
     row: 0,

@@ -8,15 +8,15 @@ use std::alloc::Global;
 use termwiz_input::keymap::Found;
 
 // The answers of `tw_keymap_lookup`.
-pub(crate) const FOUND_NONE: u32 = 0;
+const FOUND_NONE: u32 = 0;
 
-pub(crate) const FOUND_EXACT: u32 = 1;
+const FOUND_EXACT: u32 = 1;
 
-pub(crate) const FOUND_AMBIGUOUS: u32 = 2;
+const FOUND_AMBIGUOUS: u32 = 2;
 
-pub(crate) const FOUND_NEED_DATA: u32 = 3;
+const FOUND_NEED_DATA: u32 = 3;
 
-pub(crate) const FOUND_NO_MAP: u32 = 4;
+const FOUND_NO_MAP: u32 = 4;
 
 /// `tw_match`: the key that a lookup found.
 #[repr(C)]

@@ -33,8 +33,6 @@ mod parser_and_paste;
 mod parser_handle;
 mod raw_box;
 mod row_calls;
-#[cfg(test)]
-mod tests;
 
 use crate::copying::{copy_prefix, copy_with_zero};
 use crate::events::CEvent;
