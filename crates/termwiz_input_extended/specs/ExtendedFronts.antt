@@ -1,5 +1,5 @@
 -- What is at the front of a text, as far as extra sequences go.
-use Rattle.std.specs.Prelude.{◌≡◌, ◌≢◌, ◌⊎◌, ℕ, ◌<◌, ◌≤◌, ◌-◌, Bool, true, false, List, [], ◌∷◌, ◌++◌, length, take, Contains, Option, Result, IfOk, IfSome, IfNone, OnErr, slice_index}
+use Rattle.std.specs.Prelude.{◌≡◌, ◌≢◌, ◌⊎◌, ℕ, ◌<◌, ◌≤◌, ◌-◌, Bool, true, false, List, [], ◌∷◌, ◌++◌, length, take, drop, Contains, Option, Result, IfOk, IfSome, IfNone, OnErr, slice_index}
 use Rattle.termwiz_keymap.specs.Bytes.{Begins}
 use Rattle.termwiz_keys.specs.Introducers.{ESC, START}
 use Rattle.termwiz_keys.specs.Keys.{plain as plain_key}
@@ -17,7 +17,7 @@ use Rattle.termwiz_extended_events.specs.declared.types.Rows.{Rows}
 use Rattle.termwiz_extended_events.specs.declared.types.Rows.TheVariants.{Port, Kitty}
 use Rattle.termwiz_extended_events.specs.KeyReports.{plain_report}
 use Rattle.termwiz_extended_events.specs.Meanings.{event_of, IsKeyOrPosition}
-use Rattle.termwiz_grammar.specs.Grammar.{IsOpen}
+use Rattle.termwiz_grammar.specs.Grammar.{IsOpen, IsUnfinishedSequence}
 use Rattle.termwiz_grammar.specs.Table.{rows as table_rows}
 use Rattle.termwiz_extended_grammar.specs.Forms.{IsForm, IsUnfinishedForm}
 use Rattle.termwiz_extended_grammar.specs.ExtraSequences.{IsExtra, StartsWithExtra}
@@ -27,6 +27,8 @@ use Rattle.termwiz_input_extended.specs.declared.front.FormFront.{FormFront}
 use Rattle.termwiz_input_extended.specs.declared.front.FormFront.TheVariants as front
 use Rattle.termwiz_input_extended.specs.declared.front.ExtendedFront.{ExtendedFront}
 use Rattle.termwiz_input_extended.specs.declared.front.ExtendedFront.TheVariants.{Key, Form, MouseReport, Escape, Paste as FrontPaste, Usual, Incomplete}
+use Rattle.termwiz_input_extended.specs.declared.front.LongRow.{LongRow}
+use Rattle.termwiz_input_extended.specs.declared.front.LongRow.TheVariants.{Whole, Begun, Absent}
 use Rattle.termwiz_input_extended.specs.Buffered.{Buffered}
 use Rattle.termwiz_input_extended.specs.FormAnswers.{IsScanned, NoFormBegins}
 
@@ -107,6 +109,19 @@ pub record IsLongRowAt (rows : Rows) (u : List ℕ) (more : Bool) (key : KeyEven
   pub long : 2 < len
   pub row : HasRow u key len
   pub closed : ¬ IsOpen u more
+
+-- what a look for such a row finds: the row, or that more comes and the text properly begins a sequence
+abbrev pub IsLongRow : Rows → List ℕ → Bool → LongRow → Type 0
+IsLongRow rows u more (Whole key len) = IsLongRowAt rows u more key len
+IsLongRow rows u more Begun = (more ≡ true) × IsUnfinishedSequence u
+IsLongRow rows u more Absent = Unit {0}
+
+-- what that says of the front of the text: its first so many bytes are read as the key, or no item is there
+abbrev pub IsLongRowFront : Rows → List ℕ → Bool → LongRow → Type 0
+IsLongRowFront rows u more (Whole key len) =
+    (len ≤ length u) × Steps rows u more (Input (PortsKey key) ∷ []) (drop len u)
+IsLongRowFront rows u more Begun = IsRest rows u more
+IsLongRowFront rows u more Absent = Unit {0}
 
 -- this is at the front of the text, under this flag. Of an incomplete sequence the search goes on from a place.
 abbrev pub IsExtendedFront : Rows → List ℕ → Bool → ExtendedFront → Type 0

@@ -4,18 +4,16 @@ ghost use Rattle.termwiz_keymap.specs.Bytes.{Begins};
 ghost use Rattle.termwiz_keys.specs.Introducers.{ESC, START};
 ghost use Rattle.termwiz_keys.specs.Keys.{plain};
 ghost use Rattle.termwiz_keys.specs.declared.types.KeyEvent.{KeyEvent as Key};
-ghost use Rattle.termwiz_keys.specs.declared.types.InputEvent.TheVariants as Port;
 ghost use Rattle.termwiz_keys.specs.declared.types.MouseEvent.{MouseEvent as Mouse};
 ghost use Rattle.termwiz_grammar.specs.MouseReports.{IsMouseReport};
 ghost use Rattle.termwiz_grammar.specs.Table.{rows as table_rows};
-ghost use Rattle.termwiz_input.specs.Matches.{IsItemAt};
 ghost use Rattle.termwiz_input.specs.MouseReportAnswers.{HasNoPartInMouseReports};
 ghost use Rattle.termwiz_input.specs.PrintableAscii.{IsPrintableAscii};
 ghost use Rattle.termwiz_extended_events.specs.Meanings as meaning;
 ghost use Rattle.termwiz_extended_grammar.specs.Forms.{IsForm};
 ghost use Rattle.termwiz_input_extended.specs.declared.front.ReportStart.TheVariants as Start;
 ghost use Rattle.termwiz_input_extended.specs.FormAnswers.{IsScanned};
-ghost use Rattle.termwiz_input_extended.specs.ExtendedFronts.{HasFormFront, IsExtendedFront, IsFormAt, IsFormEvent, IsIntroduced, IsLongRowAt, IsOwnCharacter, IsPlainReportAt, IsPortsOwn, IsReported, MayBeReport, IsScannedTo, IsSomeExtra};
+ghost use Rattle.termwiz_input_extended.specs.ExtendedFronts.{HasFormFront, IsExtendedFront, IsFormAt, IsFormEvent, IsIntroduced, IsLongRow, IsLongRowFront, IsOwnCharacter, IsPlainReportAt, IsReported, MayBeReport, IsScannedTo, IsSomeExtra};
 
 use crate::characters::control_key;
 use crate::form::{ESCAPE, FormAt, control_at, form_at, next_scan};
@@ -56,6 +54,17 @@ pub(crate) enum ReportStart {
     Neither,
 }
 
+// What a look for a row of three or more bytes at the front of a text finds.
+#[derive(Drop)]
+pub(crate) enum LongRow {
+    // The row of this key, of so many bytes. No longer sequence can begin there.
+    Whole(KeyEvent, usize),
+    // More may come, and the whole text properly begins a row.
+    Begun,
+    // This decides nothing.
+    Absent,
+}
+
 // What is at the front of a text that no character begins. A `usize` is the number of its bytes, but for `Incomplete`.
 #[derive(Drop)]
 pub(crate) enum ExtendedFront {
@@ -71,7 +80,7 @@ pub(crate) enum ExtendedFront {
     Paste,
     // What the port finds there, whatever it is.
     Usual,
-    // No item: more bytes may complete an extra sequence. The search for its end goes on from this place.
+    // No item: more bytes may complete a sequence. The search for the end of an extra one goes on from this place.
     Incomplete(usize),
 }
 
@@ -225,24 +234,19 @@ fn front_of_form(text: &[u8], scanned: usize, maybe_more: bool) -> ExtendedFront
     }
 }
 
-// Under `Rows::Port`, the row of three or more bytes at the front of a text, with its key and the number of its bytes. No longer sequence
-// can begin there. `None` decides nothing.
+// Looks for a row of three or more bytes at the front of a text, under `Rows::Port`.
 #[inline(always)]
-fn long_row_at<'k>(
-    parser: &'k InputParser,
-    rows: Rows,
-    text: &[u8],
-    maybe_more: bool,
-) -> Option<(&'k KeyEvent, usize)>
+fn long_row_at(parser: &InputParser, rows: Rows, text: &[u8], maybe_more: bool) -> LongRow
     requires { HasNoPartInMouseReports text.now }
-    ensures { IfSome result (λ found. IsLongRowAt rows text.now maybe_more found.0.now found.1) }
+    ensures { IsLongRow rows text.now maybe_more result }
 {
     match rows {
         Rows::Port => match parser.lookup(text, maybe_more) {
-            Found::Exact(len, key) if len > 2 => Some((key, len)),
-            _ => None,
+            Found::Exact(len, key) if len > 2 => LongRow::Whole(copied(key), len),
+            Found::Ambiguous(..) => LongRow::Begun,
+            _ => LongRow::Absent,
         },
-        Rows::Kitty => None,
+        Rows::Kitty => LongRow::Absent,
     }
 }
 
@@ -266,8 +270,9 @@ fn front_of_one_escape(
         FrontReport::Begun => ExtendedFront::Usual,
         FrontReport::Absent if begins_with(text, PASTE_START) => ExtendedFront::Paste,
         FrontReport::Absent => match long_row_at(parser, rows, text, maybe_more) {
-            Some((key, len)) => ExtendedFront::Key(copied(key), len),
-            None => front_of_form(text, scanned, maybe_more),
+            LongRow::Whole(key, len) => ExtendedFront::Key(key, len),
+            LongRow::Begun => ExtendedFront::Incomplete(0),
+            LongRow::Absent => front_of_form(text, scanned, maybe_more),
         },
     }
 }
@@ -314,23 +319,22 @@ pub(crate) fn plain_report_front(text: &[u8]) -> Option<(PlainReport, usize)>
     }
 }
 
-// Under `Rows::Port`, the key of the row of three or more bytes at the front of a text, and the number of its bytes. `None` decides
-// nothing.
+// Looks for a row of three or more bytes at the front of a text that may begin the report of a key, under `Rows::Port`. The start of a
+// paste isn't read as its key.
 #[inline(always)]
 pub(crate) fn long_row_front(
     parser: &InputParser,
     rows: Rows,
     text: &[u8],
     maybe_more: bool,
-) -> Option<(KeyEvent, usize)>
+) -> LongRow
     requires { MayBeReport text.now }
-    ensures { IfSome result (λ found. IsPortsOwn rows text.now maybe_more × IsItemAt text.now maybe_more (Port.Key found.0) found.1) }
+    ensures { IsLongRowFront rows text.now maybe_more result }
 {
     if begins_with(text, PASTE_START) {
-        return None;
+        return LongRow::Absent;
     }
-    let (key, len) = long_row_at(parser, rows, text, maybe_more)?;
-    Some((copied(key), len))
+    long_row_at(parser, rows, text, maybe_more)
 }
 
 // What follows a first ESC.

@@ -11,7 +11,7 @@ ghost use Rattle.termwiz_extended_events.specs.declared.types.Rows.TheVariants.{
 ghost use Rattle.termwiz_extended_events.specs.KeyReports.{plain_report};
 ghost use Rattle.termwiz_extended_grammar.specs.ExtendedGrammar.{IsRest, Means, Steps};
 ghost use Rattle.termwiz_input_extended.specs.EventCallbacks.{MayBeCalledOn, WasCalledOn};
-ghost use Rattle.termwiz_input_extended.specs.ExtendedFronts.{Emits, GivesNoneThatNeedsMemory, HasItemThatNeedsMemory, IsExtendedFront, IsFormAt, IsPasteEvent, IsPortsOwn, IsReported, MayBeReport, Stores};
+ghost use Rattle.termwiz_input_extended.specs.ExtendedFronts.{Emits, GivesNoneThatNeedsMemory, HasItemThatNeedsMemory, IsExtendedFront, IsFormAt, IsLongRowFront, IsPasteEvent, IsPortsOwn, IsReported, MayBeReport, Stores};
 ghost use Rattle.termwiz_input_extended.specs.ExtendedKinds.{IsBoundedOrOpenPaste, IsKind};
 
 use crate::characters::{
@@ -19,7 +19,7 @@ use crate::characters::{
 };
 use crate::form::next_scan;
 use crate::front::{
-    ExtendedFront, ReportStart, front, long_row_front, other_event, plain_report_front,
+    ExtendedFront, LongRow, ReportStart, front, long_row_front, other_event, plain_report_front,
     report_start, reported_event,
 };
 use std::alloc::{AllocError, Global};
@@ -220,14 +220,11 @@ impl ExtendedParser {
         plain_report_front(self.waiting_text())
     }
 
-    // The key of the row of three or more bytes at the front of the waiting text, and the number of its bytes, if it is read as its key
-    // and no longer sequence can begin there. `None` decides nothing.
+    // Looks for a row of three or more bytes at the front of the waiting text, under `Rows::Port`.
     #[inline(always)]
-    fn long_row_front(&self, maybe_more: bool) -> Option<(KeyEvent, usize)>
+    fn long_row_front(&self, maybe_more: bool) -> LongRow
         requires { MayBeReport self.now.text }
-        ensures within { IfSome result (λ found. found.1 ≤ length self.now.text) }
-        ensures event { IfSome result (λ found. Steps self.now.rows self.now.text maybe_more
-            (Event.Input (Port.Key found.0) ∷ []) (drop found.1 self.now.text)) }
+        ensures { IsLongRowFront self.now.rows self.now.text maybe_more result }
     {
         long_row_front(&self.parser, self.rows, self.waiting_text(), maybe_more)
     }
@@ -335,7 +332,8 @@ impl ExtendedParser {
         )
     }
 
-    // As `emit_front`, but quicker if the report of a key, a mouse report or, under `Rows::Port`, a row of three or more bytes is at the front.
+    // As `emit_front`, but quicker if the report of a key, a mouse report or, under `Rows::Port`, a row of three or more bytes is at the front,
+    // or if more may come and the text properly begins one of the last two.
     #[inline(never)]
     fn emit_sequence(&mut self, maybe_more: bool) -> Result<Option<ExtendedEvent>, AllocError>
         ensures { Emits self.old maybe_more self.new result }
@@ -346,11 +344,13 @@ impl ExtendedParser {
                     return self.emit(ExtendedEvent::Key(report.whole(self.alloc)), len);
                 }
             }
-            ReportStart::Key => {
-                if let Some((key, len)) = self.long_row_front(maybe_more) {
+            ReportStart::Key => match self.long_row_front(maybe_more) {
+                LongRow::Whole(key, len) => {
                     return self.emit(ExtendedEvent::Input(InputEvent::Key(key)), len);
                 }
-            }
+                LongRow::Begun => return Ok(None),
+                LongRow::Absent => {}
+            },
             ReportStart::Mouse => match mouse_report_at(self.waiting_text()) {
                 FrontReport::Whole(event, len) => {
                     return self.emit(ExtendedEvent::Input(InputEvent::Mouse(event)), len);

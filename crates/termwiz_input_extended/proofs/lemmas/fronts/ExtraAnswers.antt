@@ -9,6 +9,7 @@ use Rattle.termwiz_grammar.specs.Table.{rows as table_rows}
 use Rattle.termwiz_grammar.specs.MouseReports.{IsMouseReport}
 use Rattle.termwiz_grammar.specs.Sequences.{Meaning, IsSequence}
 use Rattle.termwiz_grammar.specs.Sequences.Meaning.{Row, Report}
+use Rattle.termwiz_grammar.specs.Grammar.{IsUnfinishedSequence}
 use Rattle.termwiz_extended_events.specs.declared.types.ExtendedEvent.{ExtendedEvent}
 use Rattle.termwiz_extended_events.specs.declared.types.Rows.{Rows}
 use Rattle.termwiz_extended_events.specs.declared.types.Rows.TheVariants.{Port, Kitty}
@@ -16,7 +17,7 @@ use Rattle.termwiz_extended_events.specs.Meanings.{event_of, IsKeyOrPosition}
 use Rattle.termwiz_extended_grammar.specs.Forms.{IsForm}
 use Rattle.termwiz_extended_grammar.specs.ExtraSequences.{IsFree, IsExtra, StartsWithExtra, IsUnfinishedExtra}
 use Rattle.termwiz_input_extended.specs.ExtendedFronts.{IsReported, IsSomeExtra}
-use Rattle.termwiz_extended_grammar.proofs.lemmas.forms.FormEnds.{form_ends}
+use Rattle.termwiz_extended_grammar.proofs.lemmas.forms.FormEnds.{form_ends, sequence_after_form}
 use Rattle.termwiz_extended_grammar.proofs.lemmas.forms.ExtraFacts.{free_from_none}
 
 -- a mouse report is no extra sequence
@@ -106,3 +107,9 @@ module _ (rows : Rows) (u : List ℕ) (len : ℕ) (form : IsForm (take len u)) w
 pub no_extra_without_form : (rows : Rows) (u : List ℕ) → ((text : List ℕ) → IsForm text → Begins text u → ⊥)
     → StartsWithExtra rows u → ⊥
 no_extra_without_form rows u never h = never h.text h.is_extra.is_form h.begins
+
+-- no form begins a text that properly begins a sequence of the port
+pub no_form_within : (u : List ℕ) → IsUnfinishedSequence u → (text : List ℕ) → IsForm text → Begins text u → ⊥
+no_form_within u h text form b =
+    append-some b.0 h.tail h.longer (sequence_after_form text (b.0 ++ h.tail) h.meaning form
+    (subst (λ t. IsSequence t h.meaning) (ap (λ t. t ++ h.tail) b.1 ∙ append_assoc text b.0 h.tail) h.is_sequence))

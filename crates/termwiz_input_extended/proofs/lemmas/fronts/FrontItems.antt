@@ -6,19 +6,20 @@ use Rattle.termwiz_keys.specs.Keys.{escape}
 use Rattle.termwiz_keys.specs.declared.types.InputEvent.{InputEvent}
 use Rattle.termwiz_keys.specs.declared.types.InputEvent.TheVariants.{Key, Paste}
 use Rattle.termwiz_grammar.specs.Grammar as port
-use Rattle.termwiz_grammar.specs.Grammar.{IsBeginning}
+use Rattle.termwiz_grammar.specs.Grammar.{IsBeginning, IsUnfinishedSequence}
 use Rattle.termwiz_extended_events.specs.declared.types.ExtendedEvent.{ExtendedEvent}
 use Rattle.termwiz_extended_events.specs.declared.types.ExtendedEvent.TheVariants.{Input}
 use Rattle.termwiz_extended_events.specs.declared.types.Rows.{Rows}
 use Rattle.termwiz_extended_events.specs.Meanings.{event_of}
 use Rattle.termwiz_extended_grammar.specs.ExtraSequences.{IsExtra, StartsWithExtra, IsUnfinishedExtra}
-use Rattle.termwiz_extended_grammar.specs.ExtendedGrammar.{IsRest, Stands, Steps}
+use Rattle.termwiz_extended_grammar.specs.ExtendedGrammar.{BeginsKnown, IsRest, Stands, Steps}
 use Rattle.termwiz_extended_grammar.specs.ExtendedGrammar.Stands.{extra, lone_escape, usual}
 use Rattle.termwiz_extended_grammar.specs.ExtendedLaws.{HasNoExtra}
 use Rattle.termwiz_extended_grammar.proofs.lemmas.forms.FormBytes.{form_shape}
 use Rattle.termwiz_extended_grammar.proofs.lemmas.items.ExtendedItems.{starts_shape, second_not_escape}
 use Rattle.termwiz_extended_grammar.proofs.lemmas.cuts.SameAsPort.{usual_item, rest_of_port}
 use Rattle.termwiz_input_extended.specs.ExtendedFronts.{HasItemThatNeedsMemory, IsPortsOwn}
+use Rattle.termwiz_input_extended.proofs.lemmas.fronts.ExtraAnswers.{no_extra_without_form, no_form_within}
 
 -- no extra sequence begins a text that doesn't begin with ESC, nor one that begins ESC ESC
 pub not_escaped : (rows : Rows) (u : List ℕ) → (Begins ESC u → ⊥) → StartsWithExtra rows u → ⊥
@@ -131,15 +132,25 @@ own_after_two_escapes rows v f b none finished = record {
       (none_open rows v f none (λ m some h. finished m h));
 }
 
--- nothing stands at a text that waits for an extra sequence
+-- nothing stands at an open text that begins with one ESC, if no extra sequence begins it
+waits_for_known : (rows : Rows) (u : List ℕ) (f : Bool) → Begins ESC u → (Begins (ESC ++ ESC) u → ⊥)
+    → (StartsWithExtra rows u → ⊥) → f ≡ true → BeginsKnown rows u → IsRest rows u f
+waits_for_known rows u f b one none m h bytes event (extra text e is at) =
+    none (record { text = text; event = e; is_extra = is; begins = at })
+waits_for_known rows u f b one none m h bytes event (lone_escape v split after) =
+    let s = starts_shape rows v after in one (s.0 ∷ s.1, split ∙ ap (λ x. 27 ∷ x) s.2)
+waits_for_known rows u f b one none m h bytes event (usual s e stands is gap) =
+    is.closed (record { more_comes = m; some = (λ e. cc (e, b.1)); beginning = h })
+
+-- so nothing stands where it waits for an extra sequence, or for one of the port
 pub waits_for_extra : (rows : Rows) (u : List ℕ) (f : Bool) → Begins ESC u → (Begins (ESC ++ ESC) u → ⊥)
     → (StartsWithExtra rows u → ⊥) → f ≡ true → IsUnfinishedExtra rows u → IsRest rows u f
-waits_for_extra rows u f b one none m h bytes event (extra text e is at) =
-    none (record { text = text; event = e; is_extra = is; begins = at })
-waits_for_extra rows u f b one none m h bytes event (lone_escape v split after) =
-    let s = starts_shape rows v after in one (s.0 ∷ s.1, split ∙ ap (λ x. 27 ∷ x) s.2)
-waits_for_extra rows u f b one none m h bytes event (usual s e stands is gap) =
-    is.closed (record { more_comes = m; some = (λ e. cc (e, b.1)); beginning = inr h })
+waits_for_extra rows u f b one none m h = waits_for_known rows u f b one none m (inr h)
+
+pub waits_for_sequence : (rows : Rows) (u : List ℕ) (f : Bool) → Begins ESC u → (Begins (ESC ++ ESC) u → ⊥)
+    → f ≡ true → IsUnfinishedSequence u → IsRest rows u f
+waits_for_sequence rows u f b one m h =
+    waits_for_known rows u f b one (no_extra_without_form rows u (no_form_within u h)) m (inl (inl h))
 
 pub waits_after_escape : (rows : Rows) (v : List ℕ) (f : Bool) → Begins ESC v
     → (StartsWithExtra rows v → ⊥) → f ≡ true → IsUnfinishedExtra rows v → IsRest rows (27 ∷ v) f

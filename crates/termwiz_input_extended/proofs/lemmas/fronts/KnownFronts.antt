@@ -36,9 +36,11 @@ use Rattle.termwiz_extended_grammar.specs.ExtraSequences.{IsExtra, StartsWithExt
 use Rattle.termwiz_extended_grammar.specs.ExtendedGrammar.{Steps}
 use Rattle.termwiz_extended_grammar.proofs.lemmas.forms.FormBytes.{form_shape}
 use Rattle.termwiz_extended_grammar.proofs.lemmas.forms.FormEnds.{sequence_after_form, form_after_sequence}
-use Rattle.termwiz_input_extended.specs.ExtendedFronts.{IsFormAt, IsFormEvent, IsLongRowAt, IsOwnCharacter, IsPlainReportAt, IsPortsOwn}
+use Rattle.termwiz_input_extended.specs.declared.front.LongRow.{LongRow}
+use Rattle.termwiz_input_extended.specs.declared.front.LongRow.TheVariants.{Whole, Begun, Absent}
+use Rattle.termwiz_input_extended.specs.ExtendedFronts.{IsFormAt, IsFormEvent, IsLongRow, IsLongRowAt, IsLongRowFront, IsOwnCharacter, IsPlainReportAt, IsPortsOwn}
 use Rattle.termwiz_input_extended.proofs.lemmas.fronts.ExtraAnswers.{no_extra_starts, no_extra_unfinished, reported_event_is}
-use Rattle.termwiz_input_extended.proofs.lemmas.fronts.FrontItems.{extra_step, own_after_escape, own_item, own_without_escape}
+use Rattle.termwiz_input_extended.proofs.lemmas.fronts.FrontItems.{extra_step, own_after_escape, own_item, own_without_escape, waits_for_sequence}
 use Rattle.termwiz_input_extended.proofs.lemmas.fronts.MouseForms.{report_escape, report_item, report_no_extra, report_not_unfinished, report_one}
 
 -- a sequence of more than two bytes properly begins no form
@@ -182,6 +184,16 @@ module _ (rows : Rows) (u : List ℕ) (f : Bool) (key : KeyEvent) (len : ℕ) (i
   pub long_row_item : (Begins START u → ⊥) → IsItemAt u f (Key key) len
   long_row_item no_paste = row_stands u f key len is.closed is.row no_paste
       (λ e. let one : length (take len u) ≡ 1 = ap length e in absurd (omega (arith, one, longer_than_two)))
+
+-- so a look for such a row tells what stands at the text
+pub long_row_found : (rows : Rows) (u : List ℕ) (f : Bool) (found : LongRow) → Begins ESC u → (Begins (ESC ++ ESC) u → ⊥)
+    → (Begins START u → ⊥) → IsLongRow rows u f found → IsLongRowFront rows u f found
+long_row_found rows u f (Whole key len) escape one no_paste is = (
+  is.row.0,
+  item_step rows u (Key key) len f (long_row_own rows u f key len is escape one) (long_row_item rows u f key len is no_paste),
+)
+long_row_found rows u f Begun escape one no_paste is = waits_for_sequence rows u f escape one is.0 is.1
+long_row_found rows u f Absent escape one no_paste is = tt
 
 -- a form at the front is one step, as an extra sequence or as a row
 pub form_step : (rows : Rows) (u : List ℕ) (len : ℕ) (event : ExtendedEvent) (f : Bool) → IsFormAt u len

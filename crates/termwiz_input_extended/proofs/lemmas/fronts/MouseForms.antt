@@ -2,7 +2,7 @@
 use Rattle.std.proofs.Common.{◌≡◌, ℕ, ◌≤◌, Bool, List, [], ◌∷◌, ◌++◌, length, take, drop, take-append-drop, sym, ap, ◌∙◌, subst, arith, append_assoc, length-append}
 use Rattle.std.specs.List.{AllByRecursion}
 use Rattle.termwiz_keymap.specs.Bytes.{Begins}
-use Rattle.termwiz_keymap.proofs.lemmas.lists.CommonPrefixes.{append-some, true_from}
+use Rattle.termwiz_keymap.proofs.lemmas.lists.CommonPrefixes.{true_from}
 use Rattle.termwiz_keys.specs.Introducers.{ESC}
 use Rattle.termwiz_keys.specs.declared.types.MouseEvent.{MouseEvent}
 use Rattle.termwiz_keys.specs.declared.types.InputEvent.TheVariants.{Mouse}
@@ -20,8 +20,7 @@ use Rattle.termwiz_extended_grammar.specs.Forms.{IsInner, IsFinal, IsForm, IsUnf
 use Rattle.termwiz_extended_grammar.specs.Forms.IsForm.{control}
 use Rattle.termwiz_extended_grammar.specs.ExtraSequences.{StartsWithExtra, IsUnfinishedExtra}
 use Rattle.termwiz_extended_grammar.proofs.lemmas.forms.FormBytes.{all_append}
-use Rattle.termwiz_extended_grammar.proofs.lemmas.forms.FormEnds.{sequence_after_form}
-use Rattle.termwiz_input_extended.proofs.lemmas.fronts.ExtraAnswers.{no_extra_starts, no_extra_unfinished, report_not_extra}
+use Rattle.termwiz_input_extended.proofs.lemmas.fronts.ExtraAnswers.{no_extra_starts, no_extra_unfinished, no_form_within, report_not_extra}
 
 digits_inner : (t : List ℕ) → AllByRecursion IsDigit t → AllByRecursion IsInner t
 digits_inner t a = true_from IsDigit IsInner (λ b d. (omega arith, omega arith)) t a
@@ -103,9 +102,8 @@ module _ (rows : Rows) (u : List ℕ) (len : ℕ) (r : MouseEvent) (is : IsMouse
 
 -- what properly begins a mouse report properly begins a form too, and no form begins it
 pub begun_no_form : (u : List ℕ) → IsBegun u → (text : List ℕ) → IsForm text → Begins text u → ⊥
-begun_no_form u (tail, r, some, is) text form b =
-    append-some b.0 tail some (sequence_after_form text (b.0 ++ tail) (Report r) form
-    (subst (λ t. IsSequence t (Report r)) (ap (λ t. t ++ tail) b.1 ∙ append_assoc text b.0 tail) (report_known (u ++ tail) r is)))
+begun_no_form u (tail, r, some, is) = no_form_within u
+    (record { tail = tail; longer = some; meaning = Report r; is_sequence = report_known (u ++ tail) r is })
 
 pub begun_unfinished : (u : List ℕ) → IsBegun u → IsUnfinishedForm u
 begun_unfinished u (tail, r, some, is) = record { tail = tail; longer = some; is_form = report_is_form (u ++ tail) r is }

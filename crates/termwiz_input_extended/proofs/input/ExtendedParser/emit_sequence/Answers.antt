@@ -26,34 +26,36 @@ returns-in-Some c = rw c.emit-in-Some.ensures.event
     (sym c.whole.ensures) (c.in-Some.ensures.event c.args.maybe_more)))
     (ap (λ (b : Buffered). b.rows) c.emit-in-Some.ensures.consumed))
 
-pub returns-in-Whole : goal.returns-in-Whole
-returns-in-Whole c =
-    let is = subst (λ t. IsMouseReportAnswer t (Whole c.in-Whole.event c.in-Whole.len))
-    c.waiting_text-in-Mouse.ensures c.in-Whole.ensures in
-    rw c.emit-in-Whole.ensures.event
-    (emits_event c.args.self.now _ c.args.maybe_more (Input (Mouse c.in-Whole.event))
-    (subst (λ t. Steps c.args.self.now.rows c.args.self.now.text c.args.maybe_more (Input (Mouse c.in-Whole.event) ∷ []) t)
-    (sym (ap (λ (b : Buffered). b.text) c.emit-in-Whole.ensures.consumed))
-    (mouse_report_step c.args.self.now.rows c.args.self.now.text c.in-Whole.event c.in-Whole.len c.args.maybe_more is.0 is.1))
-    (ap (λ (b : Buffered). b.rows) c.emit-in-Whole.ensures.consumed))
+pub returns-in-Whole-mouse_report_at : goal.returns-in-Whole-mouse_report_at
+returns-in-Whole-mouse_report_at c =
+    let whole = c.in-Whole-mouse_report_at in
+    let emitted = c.emit-in-Whole-mouse_report_at.ensures in
+    let is = subst (λ t. IsMouseReportAnswer t (Whole whole.event whole.len)) c.waiting_text-in-Mouse.ensures whole.ensures in
+    rw emitted.event
+    (emits_event c.args.self.now _ c.args.maybe_more (Input (Mouse whole.event))
+    (subst (λ t. Steps c.args.self.now.rows c.args.self.now.text c.args.maybe_more (Input (Mouse whole.event) ∷ []) t)
+    (sym (ap (λ (b : Buffered). b.text) emitted.consumed))
+    (mouse_report_step c.args.self.now.rows c.args.self.now.text whole.event whole.len c.args.maybe_more is.0 is.1))
+    (ap (λ (b : Buffered). b.rows) emitted.consumed))
 
 pub next_scan-self-inside-requires : goal.next_scan-self-inside-requires
-next_scan-self-inside-requires c = subst IsUnfinishedForm (sym c.waiting_text-in-Begun.ensures)
-    (begun_unfinished c.args.self.now.text (subst IsBegun c.waiting_text-in-Mouse.ensures c.in-Begun.ensures))
+next_scan-self-inside-requires c = subst IsUnfinishedForm (sym c.waiting_text-in-Begun-mouse_report_at.ensures)
+    (begun_unfinished c.args.self.now.text (subst IsBegun c.waiting_text-in-Mouse.ensures c.in-Begun-mouse_report_at.ensures))
 
 pub invariant_of-self : goal.invariant_of-self
 invariant_of-self c =
     let introduced = subst IsIntroduced c.waiting_text.ensures (c.in-Mouse.ensures.mouse refl) in
-    let text : c.waiting_text-in-Begun.result.now ≡ c.args.self.now.text = c.waiting_text-in-Begun.ensures in
+    let waiting = c.waiting_text-in-Begun-mouse_report_at in
+    let text : waiting.result.now ≡ c.args.self.now.text = waiting.ensures in
     subst (λ t. IsScannedTo t c.next_scan-self-inside.result) (sym (ap (λ (b : Buffered). b.text) c.self.view_is))
     (scanned_once c.args.self.now.text c.next_scan-self-inside.result (introduced_one c.args.self.now.text introduced)
     (rw text at c.next_scan-self-inside.ensures.within) (rw text at c.next_scan-self-inside.ensures.place))
 
-pub returns-in-Begun : goal.returns-in-Begun
-returns-in-Begun c =
+pub returns-in-Begun-mouse_report_at : goal.returns-in-Begun-mouse_report_at
+returns-in-Begun-mouse_report_at c =
     let u = c.args.self.now.text in
     let introduced = subst IsIntroduced c.waiting_text.ensures (c.in-Mouse.ensures.mouse refl) in
-    let begun = subst IsBegun c.waiting_text-in-Mouse.ensures c.in-Begun.ensures in
+    let begun = subst IsBegun c.waiting_text-in-Mouse.ensures c.in-Begun-mouse_report_at.ensures in
     emits_none c.args.self.now _ c.args.maybe_more
     (waits_for_extra c.args.self.now.rows u c.args.maybe_more (introduced_escape u introduced) (introduced_one u introduced)
     (no_extra_without_form c.args.self.now.rows u (begun_no_form u begun)) c.if-maybe_more.true
