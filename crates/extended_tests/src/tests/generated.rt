@@ -211,16 +211,30 @@ fn check_as_port(
     Ok(())
 }
 
-// A text without extra sequences is read as the port reads it.
-#[test]
-fn reads_2000_usual_texts_as_the_port(rt: HostRuntime) -> Result<(), Fail> {
-    let alloc = rt.alloc();
-    let mut port = InputParser::new(alloc)?;
-    let mut parser = ExtendedParser::new(alloc, Rows::Port)?;
+// Reads 2000 texts that are drawn by both parsers.
+fn check_all_as_port(
+    rt: &impl Abort,
+    alloc: Global,
+    port: &mut InputParser,
+    parser: &mut ExtendedParser,
+) -> Result<(), Fail> {
     let mut draws = Draws { state: 2, alloc };
     for _ in 0..2000 {
         let text = draws.text(USUAL_SYMBOLS)?;
-        check_as_port(&rt, alloc, &mut port, &mut parser, &text)?;
+        check_as_port(rt, alloc, port, parser, &text)?;
     }
     Ok(())
+}
+
+// Reads them beside the port's parser.
+fn check_beside(rt: &impl Abort, alloc: Global, port: &mut InputParser) -> Result<(), Fail> {
+    let mut parser = ExtendedParser::new(alloc, Rows::Port)?;
+    check_all_as_port(rt, alloc, port, &mut parser)
+}
+
+// A text without extra sequences is read as the port reads it.
+#[test]
+fn reads_2000_usual_texts_as_the_port(rt: HostRuntime) -> Result<(), Fail> {
+    let mut port = InputParser::new(rt.alloc())?;
+    check_beside(&rt, rt.alloc(), &mut port)
 }

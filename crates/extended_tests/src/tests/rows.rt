@@ -86,12 +86,13 @@ impl Counts {
     }
 }
 
-#[test]
-fn counts_rows_that_kitty_reads_as_reports(rt: HostRuntime) -> Result<(), Fail> {
-    let alloc = rt.alloc();
-    let table = InputParser::new(alloc)?;
-    let mut port = ExtendedParser::new(alloc, Rows::Port)?;
-    let mut kitty = ExtendedParser::new(alloc, Rows::Kitty)?;
+// Counts the rows by two parsers that nothing is buffered in.
+fn count_rows(
+    rt: &impl Abort,
+    alloc: Global,
+    table: &InputParser,
+    (port, kitty): (&mut ExtendedParser, &mut ExtendedParser),
+) -> Result<Counts, Fail> {
     let mut counts = Counts {
         reports: 0,
         renamed: 0,
@@ -99,9 +100,33 @@ fn counts_rows_that_kitty_reads_as_reports(rt: HostRuntime) -> Result<(), Fail> 
     };
     for place in 0..ROW_COUNT {
         if let Some((bytes, _)) = table.row(place) {
-            counts.add_row(&rt, alloc, (&mut port, &mut kitty), bytes)?;
+            counts.add_row(rt, alloc, (&mut *port, &mut *kitty), bytes)?;
         }
     }
+    Ok(counts)
+}
+
+// Counts the rows beside a parser that reads them as the port does.
+fn count_beside(
+    rt: &impl Abort,
+    alloc: Global,
+    table: &InputParser,
+    port: &mut ExtendedParser,
+) -> Result<Counts, Fail> {
+    let mut kitty = ExtendedParser::new(alloc, Rows::Kitty)?;
+    count_rows(rt, alloc, table, (port, &mut kitty))
+}
+
+// Counts the rows of the table.
+fn counts_of(rt: &impl Abort, alloc: Global, table: &InputParser) -> Result<Counts, Fail> {
+    let mut port = ExtendedParser::new(alloc, Rows::Port)?;
+    count_beside(rt, alloc, table, &mut port)
+}
+
+#[test]
+fn counts_rows_that_kitty_reads_as_reports(rt: HostRuntime) -> Result<(), Fail> {
+    let table = InputParser::new(rt.alloc())?;
+    let counts = counts_of(&rt, rt.alloc(), &table)?;
     assert!(rt; table.row(ROW_COUNT).is_none());
     assert_eq!(rt;
         counts,

@@ -3,7 +3,7 @@ use super::cuts::may_wait;
 use super::draws::Draws;
 use super::pieces::parsed_pieces;
 use super::plain::PlainReader;
-use super::{Calls, InputEvent, InputParser, LAST, MORE, Waiting, renew};
+use super::{Calls, InputEvent, InputParser, LAST, MORE, Waiting};
 use std::alloc::{AllocError, Global};
 use std::fmt::Write;
 use std::process::Abort;
@@ -156,37 +156,10 @@ fn check_by_pieces(
     check_call(rt, alloc, parser, (&[], LAST), of_flush, name)
 }
 
-// A parser for each way to call it, in which nothing waits before a text.
-#[derive(Drop)]
-struct Parsers {
-    by_list: InputParser,
-    by_callback: InputParser,
-    by_event: InputParser,
-    by_pieces: InputParser,
-}
-
-impl Parsers {
-    fn new(alloc: Global) -> Result<Parsers, AllocError> {
-        Ok(Parsers {
-            by_list: InputParser::new(alloc)?,
-            by_callback: InputParser::new(alloc)?,
-            by_event: InputParser::new(alloc)?,
-            by_pieces: InputParser::new(alloc)?,
-        })
-    }
-
-    fn renew(&mut self, alloc: Global) -> Result<(), AllocError> {
-        renew(alloc, &mut self.by_list)?;
-        renew(alloc, &mut self.by_callback)?;
-        renew(alloc, &mut self.by_event)?;
-        renew(alloc, &mut self.by_pieces)
-    }
-}
-
 // The parser, what it is compared with, and what draws the texts.
 #[derive(Drop)]
 struct Comparison {
-    parsers: Parsers,
+    parser: InputParser,
     reader: PlainReader,
     draws: Draws,
     alloc: Global,
@@ -197,7 +170,7 @@ impl Comparison {
         let reader = PlainReader::new(alloc)?;
         let draws = Draws::new(alloc, &reader, seed)?;
         Ok(Comparison {
-            parsers: Parsers::new(alloc)?,
+            parser: InputParser::new(alloc)?,
             reader,
             draws,
             alloc,
@@ -290,37 +263,25 @@ impl Comparison {
     fn check(&mut self, rt: &impl Abort, text: &[u8]) -> Result<(), Fail> {
         let case = self.case(text)?;
         let readings = self.readings(rt, &case)?;
-        let parsers = &mut self.parsers;
-        let name = case.name.as_str();
-        let alloc = self.alloc;
-        check_readings(
-            rt,
-            alloc,
-            Calls::List,
-            &mut parsers.by_list,
-            &readings,
-            name,
-        )?;
-        check_readings(
-            rt,
-            alloc,
-            Calls::Callback,
-            &mut parsers.by_callback,
-            &readings,
-            name,
-        )?;
-        check_readings(
-            rt,
-            alloc,
-            Calls::Event,
-            &mut parsers.by_event,
-            &readings,
-            name,
-        )?;
-        check_by_pieces(rt, alloc, &mut parsers.by_pieces, &case, &readings)?;
-        parsers.renew(alloc)?;
-        Ok(())
+        check_by_each_call(rt, self.alloc, &mut self.parser, &case, &readings)
     }
+}
+
+// The calls give the readings to a parser in which nothing waits, and leave it so.
+fn check_by_each_call(
+    rt: &impl Abort,
+    alloc: Global,
+    parser: &mut InputParser,
+    case: &Case,
+    readings: &[Reading],
+) -> Result<(), Fail> {
+    for calls in [Calls::List, Calls::Callback, Calls::Event] {
+        check_readings(rt, alloc, calls, parser, readings, case.name.as_str())?;
+        parser.reset();
+    }
+    check_by_pieces(rt, alloc, parser, case, readings)?;
+    parser.reset();
+    Ok(())
 }
 
 // How many texts are drawn by each seed.
