@@ -10,13 +10,13 @@ them all:
     unjudged     the function calls another one that isn't proved, or reads as proved
 
 What is unjudged is planted again, with fewer others; at last alone. An edit that is planted alone is refused if the crate isn't proved, as
-`rt must-fail` has it. An edit of a constant changes the functions that name it. No two edits of one check change the same function. Alone
-from the first are edits of which it can't be told what they change, as of a `const fn`, or of a constant that another one names.
+`rt must-fail` has it. An edit of a constant changes the functions that name it, or a constant that does. No two edits of one check change
+the same function. Alone from the first are edits of which it can't be told what they change, as of a `const fn`.
 
-The crate itself has to be proved first. What that proved is kept, and each check proves only what its edits change. Without --over the
-libraries below a crate, and the crate, are proved by `rt check` over what earlier runs kept in out/. With --over everything is proved from
-nothing, over the libraries that lie as NAME.rlib in the folder RLIBS, where the gate puts those that `rt ci` proved. Then --kept names a
-folder: what the proof of a crate kept is copied there, as CRATE, for a build of that crate.
+What a check proved is kept, so each of the next ones proves only what its edits change. The first begins with what `rt check` keeps in
+out/, by which the crate and the libraries below it are proved before. With --over it begins with nothing, over the libraries that lie as
+NAME.rlib in the folder RLIBS: the gate puts those there that `rt ci` proved, which proves the crate itself too. With --kept the crate is
+proved here as well, and what that kept is copied to the folder FOLDER, as CRATE, for a build of the crate.
 
 CRATE is a crate of this repository, and without a word every crate that has edits. N crates are worked on side by side, by default one for
 each processor. A line tells of each edit what refused it. The last line is 'N passed, N failed', the status 1 if an edit wasn't refused."""
@@ -140,8 +140,8 @@ CONSTANT = re.compile(r"^ *(?:pub(?:\([^)]*\))? )?(?:const|static) (\w+):")
 class Sources:
     """The source files of a crate, and the functions in them."""
 
-    def __init__(self, crate, folder, names):
-        self.names, self.texts, self.functions = names, {}, {}
+    def __init__(self, crate, folder):
+        self.texts, self.functions = {}, {}
         for file in glob.glob(f"{folder}/src/**/*.rt", recursive=True):
             path = os.path.relpath(file, folder)
             with open(file, encoding="utf-8") as it:
@@ -149,32 +149,40 @@ class Sources:
             self.functions[path] = functions_of(crate, path, self.texts[path])
 
     def changed_by(self, path, old):
-        """Returns the names of the functions that a change of this text changes, or None if that can't be told."""
+        """Returns the functions that a change of this text changes, or None if that can't be told."""
         text = self.texts[path]
         line = text[: text.index(old)].count("\n")
-        around = [it for it in self.functions[path] if it.first <= line <= it.last]
-        if around:
-            named = None if around[0].is_const else around[0].named(self.names)
-            return {named} if named else None
-        return self.naming(text.split("\n"), line)
+        around = [it for it in self.functions[path] if it.first <= line <= it.last][:1]
+        found = {*around} or self.naming(path, line)
+        return None if not found or any(it.is_const for it in found) else found
 
-    def naming(self, lines, line):
-        """Returns the names of the functions that name the constant which a line is in, or None if something else names it too."""
+    def naming(self, path, line):
+        """Returns the functions that name the constant which a line is in, or another that names it; none if it is in no constant."""
+        found, left, seen = set(), [self.constant_at(path, line)], set()
+        while left:
+            constant = left.pop()
+            if not constant:
+                return set()
+            seen.add(constant)
+            for path, text in self.texts.items():
+                imported = {at for it in re.finditer(r"(?ms)^ *(?:pub )?use [^;]*;", text) for at in lines_of(text, it)}
+                for it in re.finditer(rf"\b{constant}\b", text):
+                    at = lines_of(text, it)[0]
+                    around = [it for it in self.functions[path] if it.first <= at <= it.last]
+                    found |= {*around}
+                    # elsewhere it is named where it is declared, or by another constant
+                    other = None if around or at in imported else self.constant_at(path, at)
+                    if other and other not in seen and other not in left:
+                        left.append(other)
+        return found
+
+    def constant_at(self, path, line):
+        """Returns the name of the constant that a line is in, if it is in one."""
+        lines = self.texts[path].split("\n")
         while line and not CONSTANT.match(lines[line]) and lines[line].startswith((" ", "]", ")", "}")):
             line -= 1
         constant = CONSTANT.match(lines[line])
-        if not constant:
-            return None
-        found, elsewhere = set(), 0
-        for path, text in self.texts.items():
-            imported = {at for it in re.finditer(r"(?ms)^ *(?:pub )?use [^;]*;", text) for at in lines_of(text, it)}
-            for it in re.finditer(rf"\b{constant[1]}\b", text):
-                at = lines_of(text, it)[0]
-                around = [it for it in self.functions[path] if it.first <= at <= it.last]
-                found |= {None if it.is_const else it.named(self.names) for it in around}
-                elsewhere += not around and at not in imported
-        # elsewhere it is named where it is declared
-        return found if elsewhere == 1 and found and None not in found else None
+        return constant and constant[1]
 
 
 class Edit:
@@ -223,13 +231,15 @@ class Check:
         self.lines = text.rstrip("\n").split("\n")
         self.functions = dict(re.findall(r"^fn ([^:\s]+(?:::[^:\s]+)*): (.*)$", text, re.M))
 
-    def own_goal(self, function):
-        """Returns the goal of a function itself that isn't proved, or None."""
-        said = self.functions.get(function, "")
-        found = re.search(r"`search` did not prove ([^;]*)", said)
-        if found:
-            return found[1]
-        return self.refused_answer(function) if said.startswith("not proved") else None
+    def own_goal(self, functions):
+        """Returns a goal of one of these functions itself that isn't proved, after the function's name, or None."""
+        for name in sorted(filter(None, (it.named(self.functions) for it in functions))):
+            said = self.functions[name]
+            found = re.search(r"`search` did not prove ([^;]*)", said)
+            goal = found[1] if found else self.refused_answer(name) if said.startswith("not proved") else None
+            if goal:
+                return f"{name}: {goal}"
+        return None
 
     def refused_answer(self, function):
         """Returns the answer in a function's own proof files that the prover refuses. One that names what isn't there any more says nothing."""
@@ -264,34 +274,32 @@ class Crate:
         self.source = f"{ROOT}/crates/{name}"
         self.is_static = listed[name][0]
         self.edits = [Edit(it) for it in sorted(glob.glob(f"{self.source}/must-fail/*.edit"))]
-        self.texts = {}
+        # the texts of the files that edits change, and the names of the crate's functions, once a check has told them
+        self.texts, self.names = {}, []
 
     def prepare(self):
-        """Makes the copy, and proves it as it is."""
+        """Makes the copy, and proves the crate as it is where that is asked for."""
         for part in PARTS:
             if os.path.isdir(f"{self.source}/{part}"):
                 shutil.copytree(f"{self.source}/{part}", f"{self.folder}/{part}")
         for path in {path for edit in self.edits for path, _, _ in edit.pairs}:
             with open(f"{self.folder}/{path}", encoding="utf-8") as it:
                 self.texts[path] = it.read()
+        sources = Sources(self.name, self.folder)
+        for edit in self.edits:
+            edit.find_functions(sources)
         if not self.over:
             ran = subprocess.run(["rt", "check"], cwd=self.source, stdin=subprocess.DEVNULL, capture_output=True, text=True)
             if ran.returncode:
                 raise NotProved(ran.stdout[-3000:] + ran.stderr[-1000:])
             shutil.copytree(f"{self.source}/out/incremental", f"{self.folder}/kept")
-        # one edit alone has nothing to build on, and `rt ci` proves the crate
-        if len(self.edits) == 1 and self.over:
-            return
-        began = time.monotonic()
-        check = self.check({})
-        if check.status:
-            raise NotProved(check.text[-3000:])
         if self.keep:
+            check = self.check({})
+            if check.status:
+                raise NotProved(check.text[-3000:])
             shutil.copytree(f"{self.folder}/kept", f"{self.keep}/{self.name}")
-        progress(f"{self.name} is proved, {time.monotonic() - began:.0f} s; tries {len(self.edits)} edits")
-        sources = Sources(self.name, self.folder, check.functions)
-        for edit in self.edits:
-            edit.find_functions(sources)
+        if self.keep or not self.over:
+            progress(f"{self.name} is proved; tries {len(self.edits)} edits")
 
     def rlib(self, library):
         """Returns the folder in which a built library of this repository or of the kit lies."""
@@ -310,18 +318,24 @@ class Crate:
         words += ["--links", f"{self.name}=", *["--crate-type", "staticlib"] * self.is_static]
         return [*words, "--jobs", "1", "--incremental", f"{self.folder}/kept"]
 
-    def check(self, texts):
-        """Checks the copy with some texts in the place of its own."""
+    def check(self, texts, functions=()):
+        """Checks the copy with some texts in the place of its own, and of its functions only these, with those that they call, if any are given."""
         for path, text in {**self.texts, **texts}.items():
             with open(f"{self.folder}/{path}", "w", encoding="utf-8") as it:
                 it.write(text)
-        ran = subprocess.run(
-            self.words(), cwd=self.folder, stdin=subprocess.DEVNULL, stdout=subprocess.PIPE, stderr=subprocess.STDOUT, text=True, errors="replace"
-        )
-        return Check(ran.returncode, ran.stdout)
+        names = [it.named(self.names) for it in functions]
+        only = [word for it in names for word in ("--only", it.partition("::")[2])] if all(names) else []
+        how = {"cwd": self.folder, "stdin": subprocess.DEVNULL, "stdout": subprocess.PIPE, "stderr": subprocess.STDOUT}
+        ran = subprocess.run([*self.words(), *only], text=True, errors="replace", **how)
+        check = Check(ran.returncode, ran.stdout)
+        self.names = self.names or [*check.functions]
+        return check
 
     def alone(self, edit):
         """Returns what refuses an edit that is planted alone, or None if the crate is still proved."""
+        judged, _, _ = self.together([edit]) if edit.functions else ({}, [], [])
+        if judged:
+            return judged[edit]
         texts = edit.planted(self.texts)
         check = self.check(texts)
         if check.is_unread(texts):
@@ -343,11 +357,10 @@ class Crate:
                 functions |= edit.functions
             else:
                 left.append(edit)
-        check = self.check(texts)
+        check = self.check(texts, functions)
         judged = {}
-        if check.status == 1 and check.lines[-1].startswith("logic=not-proved") and not check.is_unread(texts):
-            goals = {it: [f"{name}: {goal}" for name in sorted(it.functions) for goal in [check.own_goal(name)] if goal] for it in planted}
-            judged = {it: found[0] for it, found in goals.items() if found}
+        if check.status == 1 and check.lines[-1].startswith(("logic=not-proved", "only=")) and not check.is_unread(texts):
+            judged = {it: goal for it in planted for goal in [check.own_goal(it.functions)] if goal}
         return judged, [it for it in planted if it not in judged], left
 
     def judge(self):

@@ -41,8 +41,8 @@ LEFT_OUT = [
 ]
 TICKS = os.sysconf("SC_CLK_TCK")
 STARTED = time.monotonic()
-# How many crates' edits are tried side by side, beside the checks of `rt ci`, one for each processor. These come first where all are busy.
-EDIT_LANES = 3
+# How many crates' edits are tried side by side, beside the checks of `rt ci`. Those come first where all processors are busy.
+EDIT_LANES = os.cpu_count()
 YIELDING = ["nice", "-n", "10"]
 printing = threading.Lock()
 
@@ -226,12 +226,11 @@ class Gate:
             script("docs", ["c_library", "keyshow", "example"], "tools/docs.sh", "--built", *over),
         ]
         # the crate first over whose library the scripts run, and then those with the most edits
-        edited = sorted(below, key=lambda it: (it != "termwiz_c", -edits_of(it)))
+        edited = sorted(filter(edits_of, below), key=lambda it: (it != "termwiz_c", -edits_of(it)))
+        first, tried = ["--kept", self.kept], ["tools/edits.sh", "--over", self.rlibs]
         self.edits = [
-            script(f"edits of {name}", libraries_below(below, name), *([] if name == "termwiz_c" else YIELDING),
-                   "tools/edits.sh", "--over", self.rlibs, "--kept", self.kept, name)
+            script(f"edits of {name}", libraries_below(below, name), *(tried + first if name == "termwiz_c" else YIELDING + tried), name)
             for name in edited
-            if edits_of(name)
         ]
         self.parts = [self.ci, *self.edits, *self.scripts]
         self.watch, self.well, self.is_over, self.taking = Watch(), set(), False, threading.Lock()
@@ -262,7 +261,7 @@ class Gate:
 
     def note_kept(self, line):
         """Notes that what the proof of a crate kept is there for a build."""
-        proved = re.match(r"edits: (\w+) is proved,", line)
+        proved = re.match(r"edits: (\w+) is proved;", line)
         if proved:
             self.well.add(f"kept {proved[1]}")
 
