@@ -9,9 +9,10 @@ them all:
     refused      the prover couldn't prove a goal of the changed function itself
     unjudged     the function calls another one that isn't proved, or reads as proved
 
-What is unjudged is planted again, with fewer others; at last alone. An edit that is planted alone is refused if the crate isn't proved, as
-`rt must-fail` has it. An edit of a constant changes the functions that name it, or a constant that does. No two edits of one check change
-the same function. Alone from the first are edits of which it can't be told what they change, as of a `const fn`.
+If a goal of a function that no edit changes isn't proved, all are unjudged. What is unjudged is planted again, with fewer others; at last
+alone. An edit that is planted alone is refused if the crate isn't proved, as `rt must-fail` has it. An edit of a constant changes the
+functions that name it, or a constant that does. No two edits of one check change the same function. Alone from the first are edits of which
+it can't be told what they change, as of a `const fn`.
 
 What a check proved is kept, so each of the next ones proves only what its edits change. The first begins with what `rt check` keeps in
 out/, by which the crate and the libraries below it are proved before. With --over it begins with nothing, over the libraries that lie as
@@ -231,15 +232,15 @@ class Check:
         self.lines = text.rstrip("\n").split("\n")
         self.functions = dict(re.findall(r"^fn ([^:\s]+(?:::[^:\s]+)*): (.*)$", text, re.M))
 
-    def own_goal(self, functions):
-        """Returns a goal of one of these functions itself that isn't proved, after the function's name, or None."""
-        for name in sorted(filter(None, (it.named(self.functions) for it in functions))):
-            said = self.functions[name]
-            found = re.search(r"`search` did not prove ([^;]*)", said)
-            goal = found[1] if found else self.refused_answer(name) if said.startswith("not proved") else None
+    def own_goals(self):
+        """Returns for each function of which a goal of its own isn't proved such a goal, by the function's name."""
+        found = {}
+        for name, said in self.functions.items():
+            searched = re.search(r"`search` did not prove ([^;]*)", said)
+            goal = searched[1] if searched else self.refused_answer(name) if said.startswith("not proved") else None
             if goal:
-                return f"{name}: {goal}"
-        return None
+                found[name] = goal
+        return found
 
     def refused_answer(self, function):
         """Returns the answer in a function's own proof files that the prover refuses. One that names what isn't there any more says nothing."""
@@ -249,6 +250,12 @@ class Check:
             if found and not re.search(r"has no field|is not in scope|has no `|was not admitted|which was rejected", found[1]):
                 return found[1]
         return None
+
+    def is_refusal(self, changed):
+        """Returns whether the prover judged the crate, or some of its functions, with these texts, and refused it."""
+        is_stale = re.search(r"module .Rattle-\w+-.*Run the lower steps again", self.text)
+        has_ended = self.status == 1 and self.lines[-1].startswith(("logic=not-proved", "only="))
+        return has_ended and not is_stale and not self.is_unread(changed)
 
     def first_told(self):
         told = [it for it in self.lines if re.match(r"(note: )?\S+:\d+:\d+:", it)]
@@ -338,13 +345,11 @@ class Crate:
             return judged[edit]
         texts = edit.planted(self.texts)
         check = self.check(texts)
-        if check.is_unread(texts):
-            raise BadEdit("the prover cannot read the edited text, so no contract was tried")
-        if check.status == 1 and check.lines[-1].startswith("logic=not-proved"):
+        if check.is_refusal(texts):
             return check.first_told()
         if check.status == 0:
             return None
-        raise BadEdit("it did not reach the prover: " + " / ".join(check.lines[:6]))
+        raise BadEdit("no contract was tried: " + " / ".join([check.first_told(), *check.lines[-3:]]))
 
     def together(self, edits):
         """Plants edits of different functions. Returns those that were refused, each with the goal, those unjudged, and those not planted."""
@@ -358,10 +363,23 @@ class Crate:
             else:
                 left.append(edit)
         check = self.check(texts, functions)
-        judged = {}
-        if check.status == 1 and check.lines[-1].startswith(("logic=not-proved", "only=")) and not check.is_unread(texts):
-            judged = {it: goal for it in planted for goal in [check.own_goal(it.functions)] if goal}
+        judged = self.judged(check, planted) if check.is_refusal(texts) else {}
         return judged, [it for it in planted if it not in judged], left
+
+    @staticmethod
+    def judged(check, planted):
+        """Returns the edits that left a goal of a function that they change, each with that goal."""
+        owners = {it.named(check.functions): edit for edit in planted for it in edit.functions}
+        found = {}
+        for name, goal in check.own_goals().items():
+            # a closure is its function's
+            plain = name.replace("::fn::", "::")
+            owner = next((edit for it, edit in owners.items() if it and f"{plain}::".startswith(f"{it}::")), None)
+            # a goal of another function says that the edits can't be told apart
+            if not owner:
+                return {}
+            found.setdefault(owner, f"{name}: {goal}")
+        return found
 
     def judge(self):
         """Tries all edits, and yields each with what refused it, or None, and whether it was planted with others."""

@@ -94,8 +94,11 @@ def libraries_below(below, name):
 class Part:
     """A command of the gate: the folder that it runs in, the crates and parts that it needs, what it printed, when it ran, and how it ended."""
 
-    def __init__(self, folder, name, needs, *words):
+    def __init__(self, folder, name, needs, *words, has_session=True):
         self.folder, self.name, self.needs, self.words = folder, name, {*needs}, words
+        # Linux shares the processors among sessions first, so what yields is in one session with what it yields to. (Python 3.11 can do that.)
+        # A script has a session of its own, in which it has no terminal.
+        self.group = {"start_new_session": True} if has_session or sys.version_info < (3, 11) else {"process_group": 0}
         self.passed, self.failed, self.why_not_run = 0, 1, ""
         self.began = self.ended = self.processor = 0
         self.process, self.lines = None, []
@@ -104,7 +107,7 @@ class Part:
         """Runs the command, and calls each_line with each line that it prints, when it comes."""
         self.began = now()
         how = {"cwd": self.folder, "stdin": subprocess.DEVNULL, "stdout": subprocess.PIPE, "stderr": subprocess.STDOUT, "text": True}
-        self.process = subprocess.Popen(self.words, errors="replace", start_new_session=True, **how)
+        self.process = subprocess.Popen(self.words, errors="replace", **self.group, **how)
         for line in self.process.stdout:
             self.lines.append(line.rstrip("\n"))
             each_line(self.lines[-1])
@@ -207,7 +210,7 @@ class Gate:
         self.rlibs, self.kept, library = f"{room}/rlibs", f"{room}/kept", f"{room}/library"
         os.mkdir(self.rlibs)
         below = listed_crates()
-        self.ci = Part(self.tree, "rt ci", [], "rt", "ci")
+        self.ci = Part(self.tree, "rt ci", [], "rt", "ci", has_session=False)
         over = ["--library", library]
         script = lambda *words: Part(self.whole, *words)
         self.scripts = [
@@ -229,7 +232,8 @@ class Gate:
         edited = sorted(filter(edits_of, below), key=lambda it: (it != "termwiz_c", -edits_of(it)))
         first, tried = ["--kept", self.kept], ["tools/edits.sh", "--over", self.rlibs]
         self.edits = [
-            script(f"edits of {name}", libraries_below(below, name), *(tried + first if name == "termwiz_c" else YIELDING + tried), name)
+            Part(self.whole, f"edits of {name}", libraries_below(below, name), *(tried + first if name == "termwiz_c" else YIELDING + tried),
+                 name, has_session=False)
             for name in edited
         ]
         self.parts = [self.ci, *self.edits, *self.scripts]
