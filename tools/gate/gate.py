@@ -279,9 +279,10 @@ class Gate:
             shutil.copy2(f"{made}/{crate}", f"{self.whole}/crates/{crate}/out/{crate}")
 
     def run(self):
-        scripts, edits = [*self.scripts], [*self.edits]
+        # the first edits begin with a proof for the scripts, and wait for no other
+        scripts, first, edits = [*self.scripts], self.edits[:1], self.edits[1:]
         ci = threading.Thread(target=self.ci.run, args=[self.note], daemon=True)
-        others = [threading.Thread(target=self.run_in_turn, args=[it], daemon=True) for it in [scripts, *[edits] * EDIT_LANES]]
+        others = [threading.Thread(target=self.run_in_turn, args=[it], daemon=True) for it in [scripts, first, *[edits] * EDIT_LANES]]
         for it in [ci, *others]:
             it.start()
         while ci.is_alive():
@@ -292,7 +293,7 @@ class Gate:
         for it in others:
             while it.is_alive():
                 it.join(1)
-        for it in [*edits, *scripts]:
+        for it in [*first, *edits, *scripts]:
             say(f"gate: {it.name}: NOT RUN, since {', '.join(sorted(it.needs - self.well))} failed")
 
     def table(self):
