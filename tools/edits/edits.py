@@ -15,14 +15,19 @@ functions that name it, or a constant that does. No two edits of one check chang
 it can't be told what they change, as of a `const fn`.
 
 What a check proved is kept, so each of the next ones proves only what its edits change. The first begins with what `rt check` keeps in
-out/, by which the crate and the libraries below it are proved before. With --over it begins with nothing, over the libraries that lie as
-NAME.rlib in the folder RLIBS: the gate puts those there that `rt ci` proved, which proves the crate itself too. With --kept the crate is
-proved here as well, and what that kept is copied to the folder FOLDER, as CRATE, for a build of the crate.
+out/, by which the crate and the libraries below it are proved before.
+
+With --over it begins with nothing, over the libraries that lie as NAME.rlib in the folder RLIBS. The gate puts those there that `rt ci`
+proved, the crate itself among them. So nothing is proved again: a function that no edit of a check changes has a hole for its proof
+there, and those that call it are judged by its contract. The crate of a program has no library, and is proved.
+
+With --kept the crate is proved without holes, and what that kept is copied to the folder FOLDER, as CRATE, for a build of the crate.
 
 CRATE is a crate of this repository, and without a word every crate that has edits. N crates are worked on side by side, by default one for
 each processor. A line tells of each edit what refused it. The last line is 'N passed, N failed', the status 1 if an edit wasn't refused."""
 import concurrent.futures
 import glob
+import json
 import os
 import re
 import shutil
@@ -149,12 +154,10 @@ class Sources:
                 self.texts[path] = it.read()
             self.functions[path] = functions_of(crate, path, self.texts[path])
 
-    def changed_by(self, path, old):
-        """Returns the functions that a change of this text changes, or None if that can't be told."""
-        text = self.texts[path]
-        line = text[: text.index(old)].count("\n")
-        around = [it for it in self.functions[path] if it.first <= line <= it.last][:1]
-        found = {*around} or self.naming(path, line)
+    def changed_at(self, path, line):
+        """Returns the functions that a change of this line changes, or None if that can't be told."""
+        around = [it for it in self.functions.get(path, []) if it.first <= line <= it.last][:1]
+        found = {*around} or (self.naming(path, line) if path in self.texts else set())
         return None if not found or any(it.is_const for it in found) else found
 
     def naming(self, path, line):
@@ -215,12 +218,15 @@ class Edit:
 
     def find_functions(self, sources):
         """Notes the functions that this edit changes, if it can be judged among others."""
-        found = set()
-        for path, old, _ in self.pairs:
-            changed = sources.changed_by(path, old) if sources.texts.get(path, "").count(old) == 1 else None
+        texts, found = sources.texts, set()
+        for path, old, new in self.pairs:
+            text = texts.get(path, "")
+            # an edit replaces a line by a line, so the next pair finds each function where it was
+            changed = sources.changed_at(path, text.count("\n", 0, text.index(old))) if text.count(old) == 1 else None
             if not changed:
                 return
             found |= changed
+            texts = {**texts, path: text.replace(old, new)}
         self.functions = found
 
 
@@ -273,6 +279,14 @@ class Check:
         return False
 
 
+# What is put in the place of a function's proof. The prover takes the function by its contract then.
+HOLE = """use Rattle.{crate}.proofs.{path}.Statement.{{statement}}
+
+pub {name}_spec : {{M : Type 1}} → statement M
+{name}_spec = ?
+"""
+
+
 class Crate:
     """A crate with must-fail edits, of which a copy is checked."""
 
@@ -281,8 +295,10 @@ class Crate:
         self.source = f"{ROOT}/crates/{name}"
         self.is_static = listed[name][0]
         self.edits = [Edit(it) for it in sorted(glob.glob(f"{self.source}/must-fail/*.edit"))]
-        # the texts of the files that edits change, and the names of the crate's functions, once a check has told them
-        self.texts, self.names = {}, []
+        # the texts of the files that edits change, and the names of the crate's functions, once its library or a check has told them
+        self.texts, self.names = {}, self.built_names()
+        # the functions whose proofs are holes just now, and whether there may be any
+        self.holes, self.has_holes = set(), bool(self.names) and not self.keep
 
     def prepare(self):
         """Makes the copy, and proves the crate as it is where that is asked for."""
@@ -308,6 +324,37 @@ class Crate:
         if self.keep or not self.over:
             progress(f"{self.name} is proved; tries {len(self.edits)} edits")
 
+    def built_names(self):
+        """Returns the names of the functions in the crate's library, if that lies among those that were built."""
+        try:
+            with open(f"{self.over}/{self.name}.rlib/toolchain/mir.json", encoding="utf-8") as it:
+                return [name for name, *_ in json.load(it) if name.startswith(f"{self.name}::")] if self.over else []
+        except (OSError, ValueError):
+            return []
+
+    def put_holes(self, proved):
+        """Puts a hole in the place of each function's proof but for those that are to be proved, and puts back the proofs of these."""
+        # a closure, and what has no plain name, keeps its proof
+        plain = {it for it in self.names if re.fullmatch(r"\w+(::\w+)*", it) and "::fn::" not in it}
+        for name in self.holes & {*proved}:
+            folder = self.proof_folder(name)
+            shutil.rmtree(f"{self.folder}/{folder}")
+            if os.path.isdir(f"{self.source}/{folder}"):
+                shutil.copytree(f"{self.source}/{folder}", f"{self.folder}/{folder}")
+        for name in plain - self.holes - {*proved}:
+            folder = self.proof_folder(name)
+            shutil.rmtree(f"{self.folder}/{folder}", ignore_errors=True)
+            os.makedirs(f"{self.folder}/{folder}")
+            with open(f"{self.folder}/{folder}/Proof.antt", "w", encoding="utf-8") as it:
+                _, *path, last = name.split("::")
+                it.write(HOLE.format(crate=self.name, path=".".join([*path, last]), name=last))
+        self.holes = plain - {*proved}
+
+    @staticmethod
+    def proof_folder(name):
+        """Returns the folder of a function's proof, by the function's name."""
+        return "/".join(["proofs", *name.split("::")[1:]])
+
     def rlib(self, library):
         """Returns the folder in which a built library of this repository or of the kit lies."""
         if library not in self.listed:
@@ -332,6 +379,9 @@ class Crate:
                 it.write(text)
         names = [it.named(self.names) for it in functions]
         only = [word for it in names for word in ("--only", it.partition("::")[2])] if all(names) else []
+        if self.has_holes:
+            self.put_holes(names if only else self.names)
+        only += ["--allow-holes"] * bool(self.holes)
         how = {"cwd": self.folder, "stdin": subprocess.DEVNULL, "stdout": subprocess.PIPE, "stderr": subprocess.STDOUT}
         ran = subprocess.run([*self.words(), *only], text=True, errors="replace", **how)
         check = Check(ran.returncode, ran.stdout)

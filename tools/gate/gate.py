@@ -189,6 +189,12 @@ class Watch:
             yield f"  {crate}, {kind}", first, last, sum(self.used[crate, kind].values())
 
 
+def needed_by_edits(below, name):
+    """Returns the libraries that have to be proved before a crate's edits are tried: its own too, whose functions' names are read from it."""
+    is_built = name != "termwiz_c" and os.path.isfile(f"{ROOT}/crates/{name}/src/lib.rt")
+    return [*libraries_below(below, name), *[name] * is_built]
+
+
 def edits_of(crate):
     """Returns how many must-fail edits a crate has."""
     return len(glob.glob(f"{ROOT}/crates/{crate}/must-fail/*.edit"))
@@ -231,11 +237,8 @@ class Gate:
         # the crate first over whose library the scripts run, and then those with the most edits
         edited = sorted(filter(edits_of, below), key=lambda it: (it != "termwiz_c", -edits_of(it)))
         first, tried = ["--kept", self.kept], ["tools/edits.sh", "--over", self.rlibs]
-        self.edits = [
-            Part(self.whole, f"edits of {name}", libraries_below(below, name), *(tried + first if name == "termwiz_c" else YIELDING + tried),
-                 name, has_session=False)
-            for name in edited
-        ]
+        words = lambda name: tried + first if name == "termwiz_c" else YIELDING + tried
+        self.edits = [Part(self.whole, f"edits of {it}", needed_by_edits(below, it), *words(it), it, has_session=False) for it in edited]
         self.parts = [self.ci, *self.edits, *self.scripts]
         self.watch, self.well, self.is_over, self.taking = Watch(), set(), False, threading.Lock()
 

@@ -74,6 +74,18 @@ impl Feeder {
         }
     }
 
+    // Gives a text to this parser, with no more to come, by the call that returns a list. Returns the answer.
+    fn answer_to_text(&mut self, reader: Reader, text: &[u8]) -> Result<Vec<u8>, AllocError>
+        ensures { IfOk result (λ answer.
+            Answers reader (waiting_of reader self.old ++ text.now) false (waiting_of reader self.new) answer.items) }
+    {
+        self.feedings = self.feedings.saturating_add(1);
+        match reader {
+            Reader::Port => port::answer_to_text(self.alloc, &mut self.port, text),
+            Reader::Extended => self.extended.answer_to_call(self.alloc, text, false),
+        }
+    }
+
     // Gives the pieces to this parser, the last of them with no more to come. Returns the answer.
     fn answer_to_pieces(&mut self, reader: Reader, pieces: &[&[u8]]) -> Result<Vec<u8>, AllocError>
         ensures { IfOk result (λ answer.
@@ -84,6 +96,14 @@ impl Feeder {
             Reader::Port => port::answer_to_pieces(self.alloc, &mut self.port, pieces),
             Reader::Extended => self.extended.answer_to_pieces(self.alloc, pieces),
         }
+    }
+
+    // Gives a text to this parser while nothing waits in it, with no more to come, by the call that returns a list. Returns the answer.
+    fn read_whole(&mut self, reader: Reader, text: &[u8]) -> Result<Vec<u8>, AllocError>
+        ensures { IfOk result (λ answer. IsAnswer reader text.now answer.items) }
+    {
+        self.renew(reader);
+        self.answer_to_text(reader, text)
     }
 
     // Gives the pieces of a text to this parser while nothing waits in it, the last of them with no more to come. Returns the answer.
@@ -137,7 +157,8 @@ impl Feeder {
     }
 
     /// Gives a text to this parser whole and cut in two at each place, each both with no more to come at its end and with more to
-    /// come and then a flush; and by single bytes and then a flush. Returns the first answer that isn't the recorded one.
+    /// come and then a flush; and by single bytes and then a flush. Whole and with no more to come it is read as a list. Returns the
+    /// first answer that isn't the recorded one.
     pub fn replay_text(
         &mut self,
         reader: Reader,
@@ -148,8 +169,9 @@ impl Feeder {
         ensures other { IfOk result (λ instead. IfSome instead (λ came.
             IsAnswer reader text.now came.items × (came.items ≢ recorded.now))) }
     {
-        if let Some(came) = self.unlike(reader, text, &[text], recorded)? {
-            return Ok(Some(came));
+        let whole = self.read_whole(reader, text)?;
+        if whole.as_slice() != recorded {
+            return Ok(Some(whole));
         }
         if let Some(came) = self.unlike(reader, text, &[text, b""], recorded)? {
             return Ok(Some(came));

@@ -86,6 +86,20 @@ pub fn answer_to_pieces(
     answer_of(alloc, events.as_slice(), parser.waiting_text())
 }
 
+/// The answer to a text that is read as a list, with no more to come.
+pub fn answer_to_text(
+    alloc: Global,
+    parser: &mut InputParser,
+    text: &[u8],
+) -> Result<Vec<u8>, AllocError>
+    ensures { IfOk result (λ answer. Answers Reader.Port (parser.old ++ text.now) false parser.new answer.items) }
+{
+    match parser.parse_as_vec(text, false) {
+        Ok(events) => answer_of(alloc, events.as_slice(), parser.waiting_text()),
+        Err(_) => Err(AllocError),
+    }
+}
+
 /// Whether a text gives no event, while more may come: then all of it waits.
 pub fn waits(parser: &mut InputParser, text: &[u8]) -> Result<bool, AllocError>
     ensures { IfOk result (λ waits. IsTrue waits ↔ IsRest (parser.old ++ text.now) true) }
