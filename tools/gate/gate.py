@@ -3,7 +3,7 @@
     tools/gate.sh
 
 It runs `rt ci`, which proves every crate and its tests from nothing, and runs the tests and the programs. Beside it run the scripts of this
-folder, one after another: each starts once the programs and libraries that it tests are proved, and runs over those, so that nothing is
+folder, two at a time: each starts once the programs and libraries that it tests are proved, and runs over those, so that nothing is
 proved for the scripts but a static library.
 
 `rt ci` would try the must-fail edits one by one, each in a check of its own. tools/edits.sh tries them here, many in one check, crate by
@@ -41,8 +41,9 @@ LEFT_OUT = [
 ]
 TICKS = os.sysconf("SC_CLK_TCK")
 STARTED = time.monotonic()
-# How many crates' edits are tried side by side, beside the checks of `rt ci`. Those come first where all processors are busy.
-EDIT_LANES = os.cpu_count()
+# How many crates' edits are tried side by side, and how many scripts run, beside the checks of `rt ci`. Those come first where all
+# processors are busy, and before the edits.
+EDIT_LANES, SCRIPT_LANES = os.cpu_count(), 2
 YIELDING = ["nice", "-n", "10"]
 printing = threading.Lock()
 
@@ -240,23 +241,34 @@ class Gate:
         words = lambda name: tried + first if name == "termwiz_c" else YIELDING + tried
         self.edits = [Part(self.whole, f"edits of {it}", needed_by_edits(below, it), *words(it), it, has_session=False) for it in edited]
         self.parts = [self.ci, *self.edits, *self.scripts]
-        self.watch, self.well, self.is_over, self.taking = Watch(), set(), False, threading.Lock()
+        # what is proved or has passed; whether rt ci is over, and how many other parts run
+        self.watch, self.well, self.is_over, self.running, self.taking = Watch(), set(), False, 0, threading.Lock()
+        # the parts that run side by side: the first edits begin with a proof for the scripts, and wait for no other
+        self.lanes = [self.edits[:1], *[[*self.scripts]] * SCRIPT_LANES, *[self.edits[1:]] * EDIT_LANES]
 
     def run_in_turn(self, left):
-        """Runs parts in turn, each once what it needs is proved or has passed. When rt ci is over, the others aren't run."""
+        """Runs parts in turn, each once what it needs is proved or has passed. Those of which that can't happen any more aren't run."""
         while left:
-            is_over = self.is_over
             with self.taking:
-                ready = next((it for it in left if it.needs <= self.well), None)
+                # what is noted meanwhile is seen at the next turn
+                can_change = not self.is_over or self.running or any(self.next_of(it) for it in self.lanes)
+                ready = self.next_of(left)
                 if ready:
                     left.remove(ready)
+                    self.running += 1
             if ready:
                 if ready.run_quietly(self.note_kept):
                     self.well.add(ready.name)
-            elif is_over:
+                with self.taking:
+                    self.running -= 1
+            elif not can_change:
                 break
             else:
                 time.sleep(1)
+
+    def next_of(self, left):
+        """Returns the first of these parts of which all that it needs is proved or has passed."""
+        return next((it for it in left if it.needs <= self.well), None)
 
     def note(self, line):
         """Shows a line of `rt ci`, and notes what it proved, or an earlier run on this machine did."""
@@ -282,10 +294,8 @@ class Gate:
             shutil.copy2(f"{made}/{crate}", f"{self.whole}/crates/{crate}/out/{crate}")
 
     def run(self):
-        # the first edits begin with a proof for the scripts, and wait for no other
-        scripts, first, edits = [*self.scripts], self.edits[:1], self.edits[1:]
         ci = threading.Thread(target=self.ci.run, args=[self.note], daemon=True)
-        others = [threading.Thread(target=self.run_in_turn, args=[it], daemon=True) for it in [scripts, first, *[edits] * EDIT_LANES]]
+        others = [threading.Thread(target=self.run_in_turn, args=[it], daemon=True) for it in self.lanes]
         for it in [ci, *others]:
             it.start()
         while ci.is_alive():
@@ -296,7 +306,7 @@ class Gate:
         for it in others:
             while it.is_alive():
                 it.join(1)
-        for it in [*first, *edits, *scripts]:
+        for it in dict.fromkeys(part for lane in self.lanes for part in lane):
             say(f"gate: {it.name}: NOT RUN, since {', '.join(sorted(it.needs - self.well))} failed")
 
     def table(self):

@@ -4,7 +4,7 @@ use termwiz_base::Modifiers;
 use termwiz_input::input::KeyCode;
 
 /// What a line records.
-#[derive(PartialEq, Eq, Debug, Drop)]
+#[derive(Drop)]
 pub enum Case {
     /// Bytes, and the answer to all of them with no more to come.
     Text { bytes: Vec<u8>, answer: Vec<u8> },
@@ -17,7 +17,7 @@ pub enum Case {
 }
 
 /// A call of the parser, and its answer.
-#[derive(PartialEq, Eq, Debug, Drop)]
+#[derive(Drop)]
 pub struct Call {
     pub bytes: Vec<u8>,
     pub maybe_more: bool,
@@ -25,7 +25,7 @@ pub struct Call {
 }
 
 /// The answers to a row of the sequence table, as far as they are recorded.
-#[derive(PartialEq, Eq, Debug, Drop)]
+#[derive(Drop)]
 pub struct Row {
     /// The text that comes after it in the third answer.
     pub next: Vec<u8>,
@@ -35,7 +35,7 @@ pub struct Row {
 }
 
 /// What keys send, each with each of the sets of modifiers.
-#[derive(PartialEq, Eq, Debug, Drop)]
+#[derive(Drop)]
 pub struct Keys {
     pub keys: Vec<KeyCode>,
     pub modifiers: Vec<Modifiers>,
@@ -43,14 +43,14 @@ pub struct Keys {
 }
 
 /// What is sent in some of the 32 modes: those whose bit is set.
-#[derive(PartialEq, Eq, Debug, Drop)]
+#[derive(Drop)]
 pub struct InModes {
     pub sent: Sent,
     pub modes: u32,
 }
 
 /// What the encoder answers.
-#[derive(PartialEq, Eq, Debug, Drop)]
+#[derive(Drop)]
 pub enum Sent {
     /// A text.
     Text(Vec<u8>),

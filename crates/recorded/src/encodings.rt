@@ -9,7 +9,7 @@ use termwiz_base::Modifiers;
 use termwiz_input::input::{EncodeError, KeyCode, KeyCodeEncodeModes, KeyboardEncoding};
 
 /// A key that sends something else than what is recorded.
-#[derive(Debug, Drop)]
+#[derive(Drop)]
 pub struct KeyDifference {
     pub key: KeyCode,
     pub modifiers: Modifiers,
@@ -22,7 +22,7 @@ pub struct KeyDifference {
 }
 
 /// The encoder, and how often it was asked.
-#[derive(Debug, Drop)]
+#[derive(Drop)]
 pub struct Encoder {
     pub alloc: Global,
     pub encodings: usize,

@@ -14,7 +14,7 @@ use termwiz_input_extended::laws::{cut_independent, one_meaning};
 use termwiz_input_extended::types::{ExtendedEvent, Rows};
 
 /// An extended parser that reads the rows of the sequence table as the port does. Contracts see the text that waits.
-#[derive(Debug, Drop)]
+#[derive(Drop)]
 pub struct PortRowsParser {
     parser: ExtendedParser,
 }

@@ -12,7 +12,7 @@ use std::alloc::{AllocError, Global};
 use termwiz_input::input::InputParser;
 
 /// Parsers that are given one text after another.
-#[derive(Debug, Drop)]
+#[derive(Drop)]
 pub struct Feeder {
     pub alloc: Global,
     port: InputParser,

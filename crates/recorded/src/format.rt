@@ -15,7 +15,7 @@ use termwiz_input::input::KeyCode;
 use thiserror::Error;
 
 /// What is wrong with a line.
-#[derive(Clone, Copy, PartialEq, Eq, Debug, Error)]
+#[derive(Clone, Copy, Debug, Error)]
 pub enum Fault {
     #[error("no form of a line")]
     Form,

@@ -1,7 +1,7 @@
 // Which parser reads.
 
 /// A parser whose answers are compared with the recorded ones.
-#[derive(Clone, Copy, PartialEq, Eq, Debug)]
+#[derive(Clone, Copy, PartialEq, Eq)]
 pub enum Reader {
     /// `InputParser`.
     Port,

@@ -17,7 +17,7 @@ use std::alloc::{AllocError, Global};
 use std::io::Write;
 
 /// What was given, and what came that isn't what is recorded. Both are texts.
-#[derive(Debug, Drop)]
+#[derive(Drop)]
 pub struct Difference {
     pub given: Vec<u8>,
     pub came: Vec<u8>,
@@ -74,7 +74,7 @@ impl Difference {
 }
 
 /// The parsers and the encoder, for one line after another.
-#[derive(Debug, Drop)]
+#[derive(Drop)]
 pub struct Replayer {
     pub feeder: Feeder,
     pub encoder: Encoder,

@@ -14,7 +14,7 @@ use thiserror::Error;
 const MOST_SHOWN: usize = 20;
 
 /// A line that can't be read or replayed, by its number, from 1.
-#[derive(Clone, Copy, PartialEq, Eq, Debug, Error)]
+#[derive(Clone, Copy, Debug, Error)]
 #[error("line {number}: {fault}")]
 pub struct LineError {
     pub number: usize,
@@ -22,14 +22,14 @@ pub struct LineError {
 }
 
 /// A line that differs, by its number, from 1.
-#[derive(Debug, Drop)]
+#[derive(Drop)]
 pub struct LineDifference {
     pub number: usize,
     pub difference: Difference,
 }
 
 /// What the lines of a file come to.
-#[derive(Debug, Drop)]
+#[derive(Drop)]
 pub struct Report {
     /// How many lines were replayed.
     pub lines: usize,
