@@ -133,17 +133,13 @@ def prints(text, lines):
 def long_texts(program):
     """A paste of 100 KB, and 70,000 keys."""
     with file_of(LONG_TEXT) as source:
-        output, errors, status = run(program, ["4096"], source)
-    expect("the lines are the right ones", output == LONG_LINES, True)
-    expect("end", (errors, status), (b"", 0))
+        expect("run", run(program, ["4096"], source), (LONG_LINES, b"", 0))
 
 
 def million_reads(program):
     """A million reads of one byte each, with a line of 16 bytes for each of them."""
     with file_of(b"q" * 1_000_000) as source:
-        output, errors, status = run(program, ["1"], source)
-    expect("the lines are the right ones", output == LINE_OF_Q * 1_000_000, True)
-    expect("end", (errors, status), (b"", 0))
+        expect("run", run(program, ["1"], source), (LINE_OF_Q * 1_000_000, b"", 0))
 
 
 def reads_fail(program):

@@ -1,6 +1,6 @@
 // The cases of the extended parser.
 
-use super::{Failure, print_event, print_new, print_stop, print_waited};
+use super::{Failure, print_event, print_new, print_stop, print_waited, print_waiting};
 use retried_calls::extended;
 use std::io;
 use termwiz_input_extended::input::ExtendedParser;
@@ -42,16 +42,13 @@ fn show_feed(rt: &HostRuntime, parser: &mut ExtendedParser) -> Result<(), Failur
         return Err(Failure::Failed);
     };
     print_waited(rt, refused)?;
-    Ok(print!(rt; " / waiting {}", parser.waiting_len())?)
+    Ok(print_waiting(rt, parser.waiting_len())?)
 }
 
-// Prints bytes after a name.
+// Prints bytes, which are ASCII, after a name.
 fn print_bytes(rt: &HostRuntime, name: &str, bytes: &[u8]) -> io::Result<()> {
-    print!(rt; "{name}(")?;
-    for byte in bytes {
-        print!(rt; "{}", char::from(*byte))?;
-    }
-    print!(rt; ")")
+    let text = str::from_utf8(bytes).unwrap_or("no text");
+    print!(rt; "{name}({text})")
 }
 
 // Prints an event.
@@ -73,13 +70,18 @@ fn print_given(rt: &HostRuntime, call: &str, event: &ExtendedEvent) {
     let _ = print_extended(rt, event);
 }
 
+// The same for an event that a callback is given.
+fn take(rt: &HostRuntime, call: &str, event: ExtendedEvent) {
+    print_given(rt, call, &event);
+}
+
 // Takes up to six events.
 fn show_next_event(rt: &HostRuntime, parser: &mut ExtendedParser) -> Result<(), Failure> {
     parser.feed(ALL_KINDS)?;
     for _ in 0..6 {
         show_one_event(rt, parser)?;
     }
-    Ok(print!(rt; " / waiting {}", parser.waiting_len())?)
+    Ok(print_waiting(rt, parser.waiting_len())?)
 }
 
 // Takes the next event, and prints it, after what waited if it was refused.
@@ -105,8 +107,8 @@ fn print_next(
 
 fn show_for_each_event(rt: &HostRuntime, parser: &mut ExtendedParser) -> Result<(), Failure> {
     parser.feed(ALL_KINDS)?;
-    let mut first = |event: ExtendedEvent| print_given(rt, "first", &event);
-    let mut later = |event: ExtendedEvent| print_given(rt, "later", &event);
+    let mut first = |event: ExtendedEvent| take(rt, "first", event);
+    let mut later = |event: ExtendedEvent| take(rt, "later", event);
     let Ok(stop) = extended::for_each_event(parser, &mut first, &mut later) else {
         return Err(Failure::Failed);
     };
@@ -114,8 +116,8 @@ fn show_for_each_event(rt: &HostRuntime, parser: &mut ExtendedParser) -> Result<
 }
 
 fn show_parse(rt: &HostRuntime, parser: &mut ExtendedParser) -> Result<(), Failure> {
-    let mut first = |event: ExtendedEvent| print_given(rt, "first", &event);
-    let mut later = |event: ExtendedEvent| print_given(rt, "later", &event);
+    let mut first = |event: ExtendedEvent| take(rt, "first", event);
+    let mut later = |event: ExtendedEvent| take(rt, "later", event);
     let Ok(stop) = extended::parse(parser, ALL_KINDS, &mut first, &mut later) else {
         return Err(Failure::Failed);
     };
@@ -158,5 +160,5 @@ fn print_ended(
         print!(rt; " / ")?;
         print_extended(rt, event)?;
     }
-    Ok(print!(rt; " / waiting {waiting}")?)
+    Ok(print_waiting(rt, waiting)?)
 }

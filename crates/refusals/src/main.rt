@@ -123,10 +123,15 @@ fn show_new(rt: &HostRuntime) -> Result<(), Failure> {
     print_new(rt, refused, parser.waiting_len())
 }
 
+// Prints how many bytes wait in the end.
+fn print_waiting(rt: &HostRuntime, waiting: usize) -> io::Result<()> {
+    print!(rt; " / waiting {waiting}")
+}
+
 // Prints whether the call that makes a parser was refused, and what waits in the parser.
 fn print_new(rt: &HostRuntime, refused: bool, waiting: usize) -> Result<(), Failure> {
     print_refused(rt, refused)?;
-    Ok(print!(rt; " / waiting {waiting}")?)
+    Ok(print_waiting(rt, waiting)?)
 }
 
 fn show_extend(rt: &HostRuntime) -> Result<(), Failure> {
@@ -262,7 +267,7 @@ fn print_stop(rt: &HostRuntime, stop: Option<Stop>, waiting: usize) -> Result<()
         print!(rt; " / refused {error}")?;
         print_left(rt, &left)?;
     }
-    Ok(print!(rt; " / waiting {waiting}")?)
+    Ok(print_waiting(rt, waiting)?)
 }
 
 // An ESC that is held, a paste and a key.
@@ -326,7 +331,7 @@ fn print_pieces_stop(
         print!(rt; " / refused after {taken} pieces")?;
         print_left(rt, &left)?;
     }
-    Ok(print!(rt; " / waiting {waiting}")?)
+    Ok(print_waiting(rt, waiting)?)
 }
 
 fn show_end_paste(rt: &HostRuntime, parser: &mut InputParser) -> Result<(), Failure> {
@@ -349,7 +354,7 @@ fn print_ended(
         print!(rt; " / ")?;
         print_event(rt, event)?;
     }
-    Ok(print!(rt; " / waiting {waiting}")?)
+    Ok(print_waiting(rt, waiting)?)
 }
 
 // Prints how many bytes waited after a refusal, if there was one.
