@@ -230,6 +230,7 @@ class Gate:
             script("page_test", ["c_library"], "tools/page_test.sh", "--if-chromium", *over),
             script("fuzz", ["c_library"], "tools/fuzz.sh", "--if-clang", *over, "30"),
             script("keyshow_test", ["keyshow"], "tools/keyshow_test.sh", "--built"),
+            script("replay_test", ["replay"], "tools/replay_test.sh", "--built"),
             script("refusals", ["refusals", "keyshow"], "tools/refusals.sh", "--built"),
             script("package_test", ["c_library", "keyshow"], "tools/package_test.sh", *over, "--keyshow", "crates/keyshow/out/keyshow",
                    *left_out("package_test")),

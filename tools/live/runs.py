@@ -9,8 +9,9 @@ TRIES = 20
 
 
 def expect(what, found, wanted):
+    """Fails the case if something isn't the wanted one. The beginnings of both are shown."""
     if found != wanted:
-        raise Failed(f"{what}: {found!r} in place of {wanted!r}")
+        raise Failed(f"{what}: {found!r:.2000} in place of {wanted!r:.2000}")
 
 
 def run_tries(case, program):

@@ -1,327 +1,153 @@
-// The texts of lines, the words of the program, and runs over readers and writers in memory.
-
-mod faults;
-mod texts;
+// Runs over a reader and a writer that fail, and the lines of events that no bytes mean.
 
 use crate::lines::push_line;
 use crate::pump::{RunError, run};
-use crate::{Failure, ending_of, fault_line, piece_of, show};
 use bitflags::Flags;
-use std::alloc::{AllocError, Global};
-use std::cell::Cell;
+use std::alloc::Global;
 use std::io;
 use std::io::{Error, ErrorKind, Read, Write};
 use std::process::Abort;
 use std::test::Fail;
 use termwiz_base::Modifiers;
-use termwiz_input::types::{
-    InputEvent, KeyCode, KeyEvent, MouseButtons, MouseEvent, PastedText, PixelMouseEvent,
-};
+use termwiz_input::types::{InputEvent, KeyCode, KeyEvent, MouseButtons, PixelMouseEvent};
 
-fn line_of(alloc: Global, event: &InputEvent) -> Result<Vec<u8>, AllocError> {
-    let mut out = Vec::new(alloc);
-    push_line(&mut out, event)?;
-    Ok(out)
-}
+// A key after a held Escape, a paste that isn't UTF-8, a mouse report, characters, and an Escape that only the end decides.
+const TYPED: &[u8] = b"\x1b\x1b[A\x1b[200~a\xff\x1b[201~\x1b[<0;1;2M\xc3\xa9\x03\x1b";
 
-#[test]
-fn lines_of_keys(rt: HostRuntime) -> Result<(), Fail> {
-    let chord = Modifiers::CTRL
-        .union(Modifiers::ALT)
-        .union(Modifiers::SHIFT);
-    let sides = Modifiers::RIGHT_SHIFT.union(Modifiers::LEFT_ALT);
-    let unnamed = Modifiers::from_bits_retain(1 << 15 | 1);
-    let cases = [
-        (KeyCode::UpArrow, Modifiers::NONE, "key UpArrow NONE\n"),
-        (KeyCode::Char('q'), Modifiers::NONE, "key U+0071 NONE\n"),
-        (KeyCode::Char('\u{a}'), Modifiers::CTRL, "key U+000A CTRL\n"),
-        (
-            KeyCode::Char('\u{1f600}'),
-            Modifiers::NONE,
-            "key U+1F600 NONE\n",
-        ),
-        (
-            KeyCode::Char('\u{10ffff}'),
-            Modifiers::SUPER,
-            "key U+10FFFF SUPER\n",
-        ),
-        (KeyCode::Function(12), chord, "key F12 SHIFT+ALT+CTRL\n"),
-        (KeyCode::Function(0), Modifiers::LEADER, "key F0 LEADER\n"),
-        (
-            KeyCode::Numpad0,
-            sides,
-            "key Numpad0 LEFT_ALT+RIGHT_SHIFT\n",
-        ),
-        (
-            KeyCode::InternalPasteEnd,
-            unnamed,
-            "key InternalPasteEnd NONE\n",
-        ),
-    ];
-    for (key, modifiers, wanted) in cases {
-        let event = InputEvent::Key(KeyEvent { key, modifiers });
-        let line = line_of(rt.alloc(), &event)?;
-        assert_eq!(rt; line.as_slice(), wanted.as_bytes(), "{wanted}");
-    }
-    Ok(())
-}
+const TYPED_LINES: &[u8] =
+    b"key UpArrow ALT\npaste 4:61efbfbd\nmouse 1 2 LEFT NONE\nkey U+00E9 NONE\nkey U+0063 CTRL\nkey Escape NONE\n";
 
-#[test]
-fn lines_of_other_events(rt: HostRuntime) -> Result<(), Fail> {
-    let cases = [
-        (
-            InputEvent::Mouse(MouseEvent {
-                x: 1,
-                y: 2,
-                mouse_buttons: MouseButtons::LEFT,
-                modifiers: Modifiers::NONE,
-            }),
-            "mouse 1 2 LEFT NONE\n",
-        ),
-        (
-            InputEvent::PixelMouse(PixelMouseEvent {
-                x_pixels: 65535,
-                y_pixels: 0,
-                mouse_buttons: MouseButtons::WHEEL_POSITIVE.union(MouseButtons::VERT_WHEEL),
-                modifiers: Modifiers::ALT,
-            }),
-            "pixelmouse 65535 0 VERT_WHEEL+WHEEL_POSITIVE ALT\n",
-        ),
-        (
-            InputEvent::Resized { cols: 80, rows: 24 },
-            "resized 80 24\n",
-        ),
-        (pasted(rt.alloc(), "\u{fffd}a")?, "paste 4:efbfbd61\n"),
-        (pasted(rt.alloc(), "")?, "paste 0:\n"),
-        (InputEvent::Wake, "wake\n"),
-    ];
-    for (event, wanted) in &cases {
-        let line = line_of(rt.alloc(), event)?;
-        assert_eq!(rt; line.as_slice(), wanted.as_bytes(), "{wanted}");
-    }
-    Ok(())
-}
-
-fn pasted(alloc: Global, text: &str) -> Result<InputEvent, AllocError> {
-    let text = String::from_str(alloc, text)?;
-    Ok(InputEvent::Paste(PastedText::new(text)))
-}
-
-// The words of a line, separated by spaces.
-fn words_of(alloc: Global, line: &str) -> Result<Vec<String>, AllocError> {
-    let mut words = Vec::new(alloc);
-    for word in line.split_whitespace() {
-        words.push(String::from_str(alloc, word)?)?;
-    }
-    Ok(words)
-}
-
-#[test]
-fn pieces_of_words(rt: HostRuntime) -> Result<(), Fail> {
-    let cases = [
-        ("", Some(64)),
-        ("1", Some(1)),
-        ("4096", Some(4096)),
-        ("0064", Some(64)),
-        ("0", None),
-        ("0000", None),
-        ("4097", None),
-        ("00001", None),
-        ("x", None),
-        ("6x", None),
-        ("+5", None),
-        ("-5", None),
-        ("\u{664}", None),
-        ("1 2", None),
-        ("x 2 3", None),
-    ];
-    for (line, wanted) in cases {
-        let words = words_of(rt.alloc(), line)?;
-        assert_eq!(rt; piece_of(words.as_slice()), wanted, "{line}");
-    }
-    let empty = [String::new(rt.alloc())];
-    assert_eq!(rt; piece_of(&empty), None);
-    Ok(())
-}
-
-#[test]
-fn lines_of_faults(rt: HostRuntime) -> Result<(), Fail> {
-    let cases = [
-        (RunError::Read, "read failed"),
-        (RunError::Write, "write failed"),
-        (RunError::Memory, "out of memory"),
-    ];
-    for (fault, wanted) in cases {
-        let message = format!(in rt.alloc(); "{fault}")?;
-        assert_eq!(rt; message.as_str(), wanted);
-        let line = format!(in rt.alloc(); "keyshow: {wanted}")?;
-        assert_eq!(rt; fault_line(&fault), line.as_str());
-    }
-    Ok(())
-}
-
-// Every way in which the program can end, with the status and the line on standard error.
-#[test]
-fn endings(rt: HostRuntime) {
-    let cases = [
-        (Ok(()), 0, None),
-        (Err(Failure::WrongWords), 2, Some("usage: keyshow [PIECE]")),
-        (
-            Err(Failure::Run(RunError::Read)),
-            1,
-            Some("keyshow: read failed"),
-        ),
-        (
-            Err(Failure::Run(RunError::Write)),
-            1,
-            Some("keyshow: write failed"),
-        ),
-        (
-            Err(Failure::Run(RunError::Memory)),
-            1,
-            Some("keyshow: out of memory"),
-        ),
-    ];
-    for (outcome, status, line) in cases {
-        let ending = ending_of(outcome);
-        assert_eq!(rt; ending.status, status);
-        assert_eq!(rt; ending.line, line);
-    }
-}
-
-// Gives its text at most `most` bytes a read, and fails once its reads are used up. It keeps the largest number of bytes
-// that it was asked for, and counts its reads where the writer sees it.
+// Gives its text at most `most` bytes a read, and fails once its reads are used up.
 #[derive(Drop)]
 struct TestReader<'a> {
     text: &'a [u8],
     most: usize,
     reads_left: usize,
-    most_asked: usize,
-    reads: &'a Cell<usize>,
 }
 
 impl<'a> Read for TestReader<'a> {
     fn read(&mut self, buf: &mut [u8]) -> io::Result<usize> {
-        self.most_asked = self.most_asked.max(buf.len());
         if self.reads_left == 0 {
             return Err(Error::from(ErrorKind::BrokenPipe));
         }
         self.reads_left -= 1;
-        self.reads.set(self.reads.get().wrapping_add(1));
         let count = buf.len().min(self.most);
         self.text.read(&mut buf[..count])
     }
 }
 
-// Takes at most `most` bytes a write. Once its writes are used up it fails, or takes no byte; it fails once its flushes are
-// used up. It records how many reads came before each write, and how many bytes it had at each flush.
+// Takes at most `most` bytes a write, which have to be the next of the lines that it wants. Once its writes are used up it fails, or
+// takes no byte. It wants no flush before the last line, and counts the flushes.
 #[derive(Drop)]
 struct TestWriter<'a> {
-    written: Vec<u8>,
+    wanted: &'a [u8],
     most: usize,
     writes_left: usize,
-    fails: bool,
-    flushes_left: usize,
-    reads: &'a Cell<usize>,
-    reads_at_writes: Vec<usize>,
-    length_at_flushes: Vec<usize>,
+    takes_none: bool,
+    is_flushable: bool,
+    flushes: usize,
+    differs: bool,
 }
 
 impl<'a> Write for TestWriter<'a> {
     fn write(&mut self, buf: &[u8]) -> io::Result<usize> {
-        if self.writes_left == 0 && self.fails {
-            return Err(Error::from(ErrorKind::BrokenPipe));
+        if self.writes_left == 0 && self.takes_none {
+            return Ok(0);
         }
         if self.writes_left == 0 {
-            return Ok(0);
+            return Err(Error::from(ErrorKind::BrokenPipe));
         }
         self.writes_left -= 1;
         let count = buf.len().min(self.most);
-        self.written.extend_from_slice(&buf[..count])?;
-        self.reads_at_writes.push(self.reads.get())?;
+        match self.wanted.strip_prefix(&buf[..count]) {
+            Some(others) => self.wanted = others,
+            None => self.differs = true,
+        }
         Ok(count)
     }
 
     fn flush(&mut self) -> io::Result<()> {
-        if self.flushes_left == 0 {
+        if !self.is_flushable {
             return Err(Error::from(ErrorKind::BrokenPipe));
         }
-        self.flushes_left -= 1;
-        self.length_at_flushes.push(self.written.len())?;
+        self.flushes = self.flushes.saturating_add(1);
+        self.differs |= !self.wanted.is_empty();
         Ok(())
     }
 }
 
-// A reader that gives `most` bytes a read and never fails.
-fn reader<'a>(text: &'a [u8], most: usize, reads: &'a Cell<usize>) -> TestReader<'a> {
+fn reader(text: &[u8], most: usize) -> TestReader<'_> {
     TestReader {
         text,
         most,
         reads_left: usize::MAX,
-        most_asked: 0,
-        reads,
     }
 }
 
-// A writer that takes `most` bytes a write and never fails.
-fn writer<'a>(alloc: Global, most: usize, reads: &'a Cell<usize>) -> TestWriter<'a> {
+fn writer(wanted: &[u8], most: usize) -> TestWriter<'_> {
     TestWriter {
-        written: Vec::new(alloc),
+        wanted,
         most,
         writes_left: usize::MAX,
-        fails: true,
-        flushes_left: usize::MAX,
-        reads,
-        reads_at_writes: Vec::new(alloc),
-        length_at_flushes: Vec::new(alloc),
+        takes_none: false,
+        is_flushable: true,
+        flushes: 0,
+        differs: false,
     }
 }
 
-const ARROW_AND_Q: &[u8] = b"\x1b[Aq";
-
-const ARROW_AND_Q_LINES: &[u8] = b"key UpArrow NONE\nkey U+0071 NONE\n";
-
-// A key after a held Escape, a paste that isn't UTF-8, a mouse report, characters, and a byte that begins none.
-const MIXED: &[u8] = b"\x1b\x1b[A\x1b[200~a\xff\x1b[201~\x1b[<0;1;2M\xc3\xa9\x03\xff";
-
-const MIXED_LINES: &[u8] =
-    b"key UpArrow ALT\npaste 4:61efbfbd\nmouse 1 2 LEFT NONE\nkey U+00E9 NONE\nkey U+0063 CTRL\nkey U+FFFD NONE\n";
-
-// Runs over the text in pieces of several sizes, with a reader and a writer that take one byte a call or many. All lines
-// have to be written before the one flush.
-fn assert_runs(alloc: Global, rt: &impl Abort, text: &[u8], wanted: &[u8]) {
-    for (piece, most) in [
-        (1, 1),
-        (1, 4096),
-        (2, 1),
-        (2, 4096),
-        (3, 4096),
-        (7, 4096),
-        (64, 1),
-        (64, 4096),
-        (4096, 4096),
-    ] {
-        let reads = Cell::new(0);
-        let mut source = reader(text, most, &reads);
-        let mut target = writer(alloc, most, &reads);
-        let result = run(alloc, &mut source, &mut target, piece);
-        assert_eq!(rt; result, Ok(()));
-        assert_eq!(rt; target.written.as_slice(), wanted, "piece {piece}");
-        assert_eq!(rt;
-            target.length_at_flushes.as_slice(),
-            [wanted.len()].as_slice()
-        );
-        assert_eq!(rt; source.most_asked, piece);
-    }
+// A run ends so, and has written so many bytes. It flushes the writer once after all lines, and never if it fails.
+fn assert_run(
+    alloc: Global,
+    rt: &impl Abort,
+    piece: usize,
+    mut source: TestReader<'_>,
+    mut target: TestWriter<'_>,
+    outcome: Result<(), RunError>,
+    written: usize,
+) {
+    let left = target.wanted.len().saturating_sub(written);
+    let result = run_over(alloc, piece, &mut source, &mut target);
+    assert_eq!(rt; result, outcome, "piece {piece}, {written} bytes");
+    assert!(rt; !target.differs, "piece {piece}, {written} bytes");
+    assert_eq!(rt; target.wanted.len(), left, "piece {piece}, {written} bytes");
+    assert_eq!(rt; target.flushes, usize::from(result.is_ok()));
 }
+
+// Runs without the contract of `run`, of which the assertions need nothing, so that they are proved soon.
+fn run_over(
+    alloc: Global,
+    piece: usize,
+    source: &mut TestReader<'_>,
+    target: &mut TestWriter<'_>,
+) -> Result<(), RunError> {
+    run(alloc, source, target, piece.clamp(1, 4096))
+}
+
+// Pieces, and how many bytes a read and a write take.
+const CUTS: [(usize, usize); 9] = [
+    (1, 1),
+    (1, 4096),
+    (2, 1),
+    (2, 4096),
+    (3, 4096),
+    (7, 4096),
+    (64, 1),
+    (64, 4096),
+    (4096, 4096),
+];
 
 #[test]
-fn runs_to_the_end(rt: HostRuntime) -> Result<(), Fail> {
-    let cases: [(&[u8], &[u8]); 9] = [
+fn runs_to_the_end(rt: HostRuntime) {
+    let cases: [(&[u8], &[u8]); 10] = [
         (b"", b""),
-        (MIXED, MIXED_LINES),
+        (TYPED, TYPED_LINES),
+        (
+            b"\x1b\x1b[A\x1b[200~a\xff\x1b[201~\x1b[<0;1;2M\xc3\xa9\x03\xff",
+            b"key UpArrow ALT\npaste 4:61efbfbd\nmouse 1 2 LEFT NONE\nkey U+00E9 NONE\nkey U+0063 CTRL\nkey U+FFFD NONE\n",
+        ),
         (b"\x1b[200~\xe2\x82a\x1b[201~", b"paste 4:efbfbd61\n"),
-        (ARROW_AND_Q, ARROW_AND_Q_LINES),
+        (b"\x1b[Aq", b"key UpArrow NONE\nkey U+0071 NONE\n"),
         (b"\xc3\xa9\x1b", b"key U+00E9 NONE\nkey Escape NONE\n"),
         (b"\x1b[", b"key U+005B ALT\n"),
         (b"\x1b[B\xff", b"key DownArrow NONE\nkey U+FFFD NONE\n"),
@@ -331,126 +157,157 @@ fn runs_to_the_end(rt: HostRuntime) -> Result<(), Fail> {
             b"key F24 SHIFT+ALT+CTRL\nkey End NONE\n",
         ),
     ];
-    for (text, wanted) in cases {
-        assert_runs(rt.alloc(), &rt, text, wanted);
-    }
-    Ok(())
-}
-
-// Returns the bytes `q` one at a time, so many times, and then the end.
-#[derive(Drop)]
-struct QReader {
-    left: usize,
-}
-
-impl Read for QReader {
-    fn read(&mut self, buf: &mut [u8]) -> io::Result<usize> {
-        if self.left == 0 || buf.is_empty() {
-            return Ok(0);
+    for (text, lines) in cases {
+        for (piece, most) in CUTS {
+            let (source, target) = (reader(text, most), writer(lines, most));
+            assert_run(rt.alloc(), &rt, piece, source, target, Ok(()), lines.len());
         }
-        self.left -= 1;
-        buf[0] = b'q';
-        Ok(1)
     }
 }
 
-// Counts the bytes that are written to it.
-#[derive(Drop)]
-struct CountingWriter {
+// How many bytes of `TYPED` decide so many bytes of its lines while more may come.
+const DECIDED: [(usize, usize); 5] = [(4, 16), (18, 33), (27, 53), (29, 69), (30, 85)];
+
+// How many bytes of lines so many bytes of `TYPED` decide.
+fn decided_by(count: usize) -> usize {
+    let mut decided = 0;
+    for (needed, written) in DECIDED {
+        if needed <= count {
+            decided = written;
+        }
+    }
+    decided
+}
+
+// The read after so many fails, also the one that would have told the end.
+#[test]
+fn reads_fail(rt: HostRuntime) {
+    for (piece, most) in [(1, 31), (2, 16), (3, 11), (7, 5), (64, 1)] {
+        for count in 0..=most {
+            let mut source = reader(TYPED, 4096);
+            source.reads_left = count;
+            let target = writer(TYPED_LINES, 4096);
+            let written = decided_by(count.saturating_mul(piece));
+            assert_run(
+                rt.alloc(),
+                &rt,
+                piece,
+                source,
+                target,
+                Err(RunError::Read),
+                written,
+            );
+        }
+    }
+}
+
+// After so many writes of at most `most` bytes the next fails, or takes no byte. Then so many bytes are written.
+fn assert_write_fails(
+    alloc: Global,
+    rt: &impl Abort,
+    piece: usize,
+    most: usize,
+    count: usize,
     written: usize,
+) {
+    let ends = written == TYPED_LINES.len();
+    let outcome = if ends { Ok(()) } else { Err(RunError::Write) };
+    for takes_none in [false, true] {
+        let mut target = writer(TYPED_LINES, most);
+        target.writes_left = count;
+        target.takes_none = takes_none;
+        assert_run(
+            alloc,
+            rt,
+            piece,
+            reader(TYPED, 4096),
+            target,
+            outcome,
+            written,
+        );
+    }
 }
 
-impl Write for CountingWriter {
-    fn write(&mut self, buf: &[u8]) -> io::Result<usize> {
-        self.written = self.written.saturating_add(buf.len());
-        Ok(buf.len())
-    }
-
-    fn flush(&mut self) -> io::Result<()> {
-        Ok(())
-    }
-}
-
-// A million reads of one byte each, with a line of 16 bytes for each of them.
+// How many bytes are written after no write, after one write and so on, for each piece. There is one write for each piece that
+// decides an event, and one at the end.
 #[test]
-fn reads_a_million_times(rt: HostRuntime) {
-    let mut source = QReader { left: 1_000_000 };
-    let mut target = CountingWriter { written: 0 };
-    let result = run(rt.alloc(), &mut source, &mut target, 64);
-    assert_eq!(rt; result, Ok(()));
-    assert_eq!(rt; source.left, 0);
-    assert_eq!(rt; target.written, 16_000_000);
-}
-
-// The lines of each piece are one write, which comes before the next read.
-#[test]
-fn writes_before_the_next_read(rt: HostRuntime) -> Result<(), Fail> {
-    let cases: [(usize, &[usize]); 3] = [(1, &[1, 2, 5, 6]), (2, &[1, 3]), (4096, &[1])];
-    for (most, wanted) in cases {
-        let reads = Cell::new(0);
-        let mut source = reader(b"ab\x1b[Ac", most, &reads);
-        let mut target = writer(rt.alloc(), 4096, &reads);
-        let result = run(rt.alloc(), &mut source, &mut target, 64);
-        assert_eq!(rt; result, Ok(()));
-        assert_eq!(rt; target.reads_at_writes.as_slice(), wanted, "{most}");
-    }
-    Ok(())
-}
-
-// Gives its text, and records how many bytes each read asked for.
-#[derive(Drop)]
-struct AskedReader<'a> {
-    text: &'a [u8],
-    asked: Vec<usize>,
-}
-
-impl<'a> Read for AskedReader<'a> {
-    fn read(&mut self, buf: &mut [u8]) -> io::Result<usize> {
-        self.asked.push(buf.len())?;
-        self.text.read(buf)
-    }
-}
-
-// Each read asks for a whole piece: single bytes where the piece is 1, and never more than 7 where it is 7.
-#[test]
-fn asks_for_a_piece(rt: HostRuntime) -> Result<(), Fail> {
-    let cases: [(usize, &[usize]); 3] = [
-        (1, &[1, 1, 1, 1, 1, 1, 1, 1, 1, 1]),
-        (7, &[7, 7, 7]),
-        (4096, &[4096, 4096]),
+fn writes_fail(rt: HostRuntime) {
+    let cases: [(usize, &[usize]); 5] = [
+        (1, &[0, 16, 33, 53, 69, 85, 101]),
+        (2, &[0, 16, 33, 53, 85, 101]),
+        (3, &[0, 16, 33, 53, 85, 101]),
+        (7, &[0, 16, 33, 53, 85, 101]),
+        (64, &[0, 85, 101]),
     ];
-    for (piece, wanted) in cases {
-        let reads = Cell::new(0);
-        let mut source = AskedReader {
-            text: b"\x1b[Aqwerty",
-            asked: Vec::new(rt.alloc()),
-        };
-        let mut target = writer(rt.alloc(), 4096, &reads);
-        let result = run(rt.alloc(), &mut source, &mut target, piece);
-        assert_eq!(rt; result, Ok(()));
-        assert_eq!(rt; source.asked.as_slice(), wanted, "piece {piece}");
+    for (piece, lengths) in cases {
+        for (count, written) in lengths.iter().enumerate() {
+            assert_write_fails(rt.alloc(), &rt, piece, 4096, count, *written);
+        }
     }
-    Ok(())
 }
 
-// The words give the piece that is read at a time. Wrong words read and write nothing.
 #[test]
-fn shows_by_words(rt: HostRuntime) -> Result<(), Fail> {
-    let cases = [
-        ("", Ok(()), 64, ARROW_AND_Q_LINES),
-        ("2", Ok(()), 2, ARROW_AND_Q_LINES),
-        ("0", Err(Failure::WrongWords), 0, b""),
-        ("1 2", Err(Failure::WrongWords), 0, b""),
-    ];
-    for (line, wanted, piece, lines) in cases {
-        let words = words_of(rt.alloc(), line)?;
-        let reads = Cell::new(0);
-        let mut source = reader(ARROW_AND_Q, 4096, &reads);
-        let mut target = writer(rt.alloc(), 4096, &reads);
-        let outcome = show(rt.alloc(), words.as_slice(), &mut source, &mut target);
-        assert_eq!(rt; outcome, wanted, "{line}");
-        assert_eq!(rt; source.most_asked, piece, "{line}");
-        assert_eq!(rt; target.written.as_slice(), lines, "{line}");
+fn writes_of_one_byte_fail(rt: HostRuntime) {
+    for count in 0..=TYPED_LINES.len() {
+        assert_write_fails(rt.alloc(), &rt, 7, 1, count, count);
     }
+}
+
+// The flush comes after all lines.
+#[test]
+fn the_flush_fails(rt: HostRuntime) {
+    for piece in [1, 2, 3, 7, 64] {
+        let mut target = writer(TYPED_LINES, 4096);
+        target.is_flushable = false;
+        let source = reader(TYPED, 4096);
+        assert_run(
+            rt.alloc(),
+            &rt,
+            piece,
+            source,
+            target,
+            Err(RunError::Write),
+            TYPED_LINES.len(),
+        );
+    }
+}
+
+#[test]
+fn lines_of_events_that_no_bytes_mean(rt: HostRuntime) -> Result<(), Fail> {
+    let keys = [
+        (KeyCode::Char('\u{a}'), Modifiers::CTRL),
+        (KeyCode::Char('\u{10ffff}'), Modifiers::SUPER),
+        (KeyCode::Function(0), Modifiers::LEADER),
+        (
+            KeyCode::Numpad0,
+            Modifiers::RIGHT_SHIFT.union(Modifiers::LEFT_ALT),
+        ),
+        (
+            KeyCode::InternalPasteEnd,
+            Modifiers::from_bits_retain(1 << 15 | 1),
+        ),
+    ];
+    let mut lines = Vec::new(rt.alloc());
+    for (key, modifiers) in keys {
+        push_line(&mut lines, &InputEvent::Key(KeyEvent { key, modifiers }))?;
+    }
+    let pixels = PixelMouseEvent {
+        x_pixels: 65535,
+        y_pixels: 0,
+        mouse_buttons: MouseButtons::WHEEL_POSITIVE.union(MouseButtons::VERT_WHEEL),
+        modifiers: Modifiers::ALT,
+    };
+    push_line(&mut lines, &InputEvent::PixelMouse(pixels))?;
+    push_line(&mut lines, &InputEvent::Resized { cols: 80, rows: 24 })?;
+    push_line(&mut lines, &InputEvent::Wake)?;
+    let wanted = "key U+000A CTRL\n\
+        key U+10FFFF SUPER\n\
+        key F0 LEADER\n\
+        key Numpad0 LEFT_ALT+RIGHT_SHIFT\n\
+        key InternalPasteEnd NONE\n\
+        pixelmouse 65535 0 VERT_WHEEL+WHEEL_POSITIVE ALT\n\
+        resized 80 24\n\
+        wake\n";
+    assert_eq!(rt; lines.as_slice(), wanted.as_bytes());
     Ok(())
 }

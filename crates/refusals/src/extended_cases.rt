@@ -1,9 +1,7 @@
 // The cases of the extended parser.
 
-use super::{Failure, print_event, print_left, print_refused};
+use super::{Failure, print_event, print_new, print_stop, print_waited, print_waiting};
 use retried_calls::extended;
-use retried_calls::parses::Stop;
-use std::fmt::Display;
 use std::io;
 use termwiz_input_extended::input::ExtendedParser;
 use termwiz_input_extended::types::{ExtendedEvent, Rows};
@@ -11,44 +9,46 @@ use termwiz_input_extended::types::{ExtendedEvent, Rows};
 // An ESC that is held, a paste, the reply with a colour, a control sequence that has no event of its own, and a key with its text.
 const ALL_KINDS: &[u8] = b"\x1b\x1b[200~ab\x1b[201~\x1b]4;1\x07\x1b[?62c\x1b[97;;98u";
 
-// Makes the calls of a case, and prints what was seen.
+// Lends a parser to a case.
 pub fn show(rt: &HostRuntime, case: &str) -> Result<(), Failure> {
+    let Ok(mut parser) = ExtendedParser::new(rt.alloc(), Rows::Kitty) else {
+        return Err(Failure::TooEarly);
+    };
+    show_lent(rt, &mut parser, case)
+}
+
+// Makes the calls of a case, and prints what was seen.
+fn show_lent(rt: &HostRuntime, parser: &mut ExtendedParser, case: &str) -> Result<(), Failure> {
     match case {
-        "extended-new" => show_new(rt),
-        "extended-feed" => show_feed(rt),
-        "extended-next_event" => show_next_event(rt),
-        "extended-for_each_event" => show_for_each_event(rt),
-        "extended-parse" => show_parse(rt),
-        "extended-parse_as_vec" => show_parse_as_vec(rt),
-        "extended-end_paste" => show_end_paste(rt),
+        "extended-feed" => show_feed(rt, parser),
+        "extended-next_event" => show_next_event(rt, parser),
+        "extended-for_each_event" => show_for_each_event(rt, parser),
+        "extended-parse" => show_parse(rt, parser),
+        "extended-parse_as_vec" => show_parse_as_vec(rt, parser),
+        "extended-end_paste" => show_end_paste(rt, parser),
         _ => Err(Failure::NoSuchCase),
     }
 }
 
-fn show_new(rt: &HostRuntime) -> Result<(), Failure> {
-    let (parser, refused) = extended::make_parser(rt.alloc(), Rows::Kitty).map_err(
-        |_| Failure::Failed,
-    )?;
-    print_refused(rt, refused)?;
-    Ok(print!(rt; " / waiting {}", parser.waiting_len())?)
+pub fn show_new(rt: &HostRuntime) -> Result<(), Failure> {
+    let Ok((parser, refused)) = extended::make_parser(rt.alloc(), Rows::Kitty) else {
+        return Err(Failure::Failed);
+    };
+    print_new(rt, refused, parser.waiting_len())
 }
 
-fn show_feed(rt: &HostRuntime) -> Result<(), Failure> {
-    let mut parser = ExtendedParser::new(rt.alloc(), Rows::Kitty)?;
-    let refused = extended::feed(&mut parser, ALL_KINDS).map_err(|_| Failure::Failed)?;
-    if let Some(len) = refused {
-        print!(rt; " / refused, waiting {len}")?;
-    }
-    Ok(print!(rt; " / waiting {}", parser.waiting_len())?)
+fn show_feed(rt: &HostRuntime, parser: &mut ExtendedParser) -> Result<(), Failure> {
+    let Ok(refused) = extended::feed(parser, ALL_KINDS) else {
+        return Err(Failure::Failed);
+    };
+    print_waited(rt, refused)?;
+    Ok(print_waiting(rt, parser.waiting_len())?)
 }
 
-// Prints bytes after a name.
+// Prints bytes, which are ASCII, after a name.
 fn print_bytes(rt: &HostRuntime, name: &str, bytes: &[u8]) -> io::Result<()> {
-    print!(rt; "{name}(")?;
-    for byte in bytes {
-        print!(rt; "{}", char::from(*byte))?;
-    }
-    print!(rt; ")")
+    let text = str::from_utf8(bytes).unwrap_or("no text");
+    print!(rt; "{name}({text})")
 }
 
 // Prints an event.
@@ -65,82 +65,100 @@ fn print_extended(rt: &HostRuntime, event: &ExtendedEvent) -> io::Result<()> {
 }
 
 // Prints an event, after the name of its call. A callback has no error to return: what can't be printed is missing from the line.
-fn print_given<D: Display + Drop>(rt: &HostRuntime, call: D, event: &ExtendedEvent) {
+fn print_given(rt: &HostRuntime, call: &str, event: &ExtendedEvent) {
     let _ = print!(rt; " / {call} ");
     let _ = print_extended(rt, event);
 }
 
-// Takes up to six events, and prints each, after what waited if it was refused.
-fn show_next_event(rt: &HostRuntime) -> Result<(), Failure> {
-    let mut parser = ExtendedParser::new(rt.alloc(), Rows::Kitty)?;
+// The same for an event that a callback is given.
+fn take(rt: &HostRuntime, call: &str, event: ExtendedEvent) {
+    print_given(rt, call, &event);
+}
+
+// Takes up to six events.
+fn show_next_event(rt: &HostRuntime, parser: &mut ExtendedParser) -> Result<(), Failure> {
     parser.feed(ALL_KINDS)?;
     for _ in 0..6 {
-        let (event, refused) = extended::next_event(&mut parser).map_err(|_| Failure::Failed)?;
-        if let Some(len) = refused {
-            print!(rt; " / refused, waiting {len}")?;
-        }
-        if let Some(event) = event {
-            print_given(rt, "next", &event);
-        }
+        show_one_event(rt, parser)?;
     }
-    Ok(print!(rt; " / waiting {}", parser.waiting_len())?)
+    Ok(print_waiting(rt, parser.waiting_len())?)
 }
 
-// Prints what stood after a refusal, if there was one, and what waits in the end.
-fn print_stop(rt: &HostRuntime, stop: Option<Stop>, parser: &ExtendedParser) -> io::Result<()> {
-    if let Some(Stop { taken, left }) = stop {
-        let error = if taken { "Taken" } else { "NotTaken" };
-        print!(rt; " / refused {error}")?;
-        print_left(rt, &left)?;
-    }
-    print!(rt; " / waiting {}", parser.waiting_len())
+// Takes the next event, and prints it, after what waited if it was refused.
+fn show_one_event(rt: &HostRuntime, parser: &mut ExtendedParser) -> Result<(), Failure> {
+    let Ok((event, refused)) = extended::next_event(parser) else {
+        return Err(Failure::Failed);
+    };
+    print_next(rt, refused, event.as_ref())
 }
 
-fn show_for_each_event(rt: &HostRuntime) -> Result<(), Failure> {
-    let mut parser = ExtendedParser::new(rt.alloc(), Rows::Kitty)?;
+// Prints what waited after a refusal, if there was one, and an event, if there is one.
+fn print_next(
+    rt: &HostRuntime,
+    refused: Option<usize>,
+    event: Option<&ExtendedEvent>,
+) -> Result<(), Failure> {
+    print_waited(rt, refused)?;
+    if let Some(event) = event {
+        print_given(rt, "next", event);
+    }
+    Ok(())
+}
+
+fn show_for_each_event(rt: &HostRuntime, parser: &mut ExtendedParser) -> Result<(), Failure> {
     parser.feed(ALL_KINDS)?;
-    let mut first = |event: ExtendedEvent| print_given(rt, "first", &event);
-    let mut later = |event: ExtendedEvent| print_given(rt, "later", &event);
-    let stop = extended::for_each_event(&mut parser, &mut first, &mut later).map_err(
-        |_| Failure::Failed,
-    )?;
-    Ok(print_stop(rt, stop, &parser)?)
+    let mut first = |event: ExtendedEvent| take(rt, "first", event);
+    let mut later = |event: ExtendedEvent| take(rt, "later", event);
+    let Ok(stop) = extended::for_each_event(parser, &mut first, &mut later) else {
+        return Err(Failure::Failed);
+    };
+    print_stop(rt, stop, parser.waiting_len())
 }
 
-fn show_parse(rt: &HostRuntime) -> Result<(), Failure> {
-    let mut parser = ExtendedParser::new(rt.alloc(), Rows::Kitty)?;
-    let mut first = |event: ExtendedEvent| print_given(rt, "first", &event);
-    let mut later = |event: ExtendedEvent| print_given(rt, "later", &event);
-    let stop = extended::parse(&mut parser, ALL_KINDS, &mut first, &mut later).map_err(
-        |_| Failure::Failed,
-    )?;
-    Ok(print_stop(rt, stop, &parser)?)
+fn show_parse(rt: &HostRuntime, parser: &mut ExtendedParser) -> Result<(), Failure> {
+    let mut first = |event: ExtendedEvent| take(rt, "first", event);
+    let mut later = |event: ExtendedEvent| take(rt, "later", event);
+    let Ok(stop) = extended::parse(parser, ALL_KINDS, &mut first, &mut later) else {
+        return Err(Failure::Failed);
+    };
+    print_stop(rt, stop, parser.waiting_len())
 }
 
-fn show_parse_as_vec(rt: &HostRuntime) -> Result<(), Failure> {
-    let mut parser = ExtendedParser::new(rt.alloc(), Rows::Kitty)?;
-    let lists = extended::parse_as_vec(rt.alloc(), &mut parser, ALL_KINDS).map_err(
-        |_| Failure::Failed,
-    )?;
-    for event in &lists.first {
-        print_given(rt, "first", event);
+fn show_parse_as_vec(rt: &HostRuntime, parser: &mut ExtendedParser) -> Result<(), Failure> {
+    let Ok(lists) = extended::parse_as_vec(rt.alloc(), parser, ALL_KINDS) else {
+        return Err(Failure::Failed);
+    };
+    print_events(rt, "first", lists.first.as_slice());
+    print_events(rt, "later", lists.later.as_slice());
+    print_stop(rt, lists.stop, parser.waiting_len())
+}
+
+// Prints the events of a call.
+fn print_events(rt: &HostRuntime, call: &str, events: &[ExtendedEvent]) {
+    for event in events {
+        print_given(rt, call, event);
     }
-    for event in &lists.later {
-        print_given(rt, "later", event);
-    }
-    Ok(print_stop(rt, lists.stop, &parser)?)
 }
 
-fn show_end_paste(rt: &HostRuntime) -> Result<(), Failure> {
-    let mut parser = ExtendedParser::new(rt.alloc(), Rows::Kitty)?;
+fn show_end_paste(rt: &HostRuntime, parser: &mut ExtendedParser) -> Result<(), Failure> {
     parser.feed(b"\x1b[200~ab")?;
-    let (event, refused) = extended::end_paste(&mut parser).map_err(|_| Failure::Failed)?;
-    if let Some(len) = refused {
-        print!(rt; " / refused, waiting {len}")?;
-    }
+    let Ok((event, refused)) = extended::end_paste(parser) else {
+        return Err(Failure::Failed);
+    };
+    print_ended(rt, refused, event.as_ref(), parser.waiting_len())
+}
+
+// Prints what waited after a refusal, if there was one, the event of a paste, and what waits in the end.
+fn print_ended(
+    rt: &HostRuntime,
+    refused: Option<usize>,
+    event: Option<&ExtendedEvent>,
+    waiting: usize,
+) -> Result<(), Failure> {
+    print_waited(rt, refused)?;
     if let Some(event) = event {
         print!(rt; " / ")?;
-        print_extended(rt, &event)?;
+        print_extended(rt, event)?;
     }
-    Ok(print!(rt; " / waiting {}", parser.waiting_len())?)
+    Ok(print_waiting(rt, waiting)?)
 }

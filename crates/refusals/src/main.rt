@@ -13,7 +13,6 @@ mod extended_cases;
 use retried_calls::parses::{Left, PiecesStop, Stop};
 use retried_calls::{parses, parts};
 use std::alloc::AllocError;
-use std::fmt::Display;
 use std::process::ExitCode;
 use std::{env, io};
 use termwiz_input::encode::KeyboardEncoding;
@@ -57,14 +56,21 @@ fn main(rt: HostRuntime) -> ExitCode {
 
 // Shows each case that the program was called with.
 fn show_all(rt: &HostRuntime) -> Result<(), Failure> {
-    let mut cases = env::args(rt).map_err(|_| Failure::TooEarly)?;
+    let Ok(mut cases) = env::args(rt) else {
+        return Err(Failure::TooEarly);
+    };
     let _name = cases.next();
     for case in cases {
-        print!(rt; "{case}")?;
-        show(rt, case.as_str())?;
-        println!(rt)?;
+        show_line(rt, case.as_str())?;
     }
     Ok(())
+}
+
+// Prints the line of a case.
+fn show_line(rt: &HostRuntime, case: &str) -> Result<(), Failure> {
+    print!(rt; "{case}")?;
+    show(rt, case)?;
+    Ok(println!(rt)?)
 }
 
 // Makes the calls of a case, and prints what was seen.
@@ -76,13 +82,29 @@ fn show(rt: &HostRuntime, case: &str) -> Result<(), Failure> {
         "clone-map" => show_map_clone(rt),
         "clone-event" => show_event_clone(rt),
         "encode" => show_encode(rt),
-        "parse" => show_parse(rt),
-        "parse_as_vec" => show_parse_as_vec(rt, b"hello"),
-        "parse_as_vec-paste" => show_parse_as_vec(rt, HELD_AND_PASTE),
-        "parse_as_vec-long" => show_long_parse_as_vec(rt),
-        "parse_pieces" => show_parse_pieces(rt),
-        "end_paste" => show_end_paste(rt),
-        _ => extended_cases::show(rt, case),
+        "extended-new" => extended_cases::show_new(rt),
+        _ if case.starts_with("extended-") => extended_cases::show(rt, case),
+        _ => show_with_parser(rt, case),
+    }
+}
+
+// Lends a parser to a case.
+fn show_with_parser(rt: &HostRuntime, case: &str) -> Result<(), Failure> {
+    let Ok(mut parser) = InputParser::new(rt.alloc()) else {
+        return Err(Failure::TooEarly);
+    };
+    show_lent(rt, &mut parser, case)
+}
+
+fn show_lent(rt: &HostRuntime, parser: &mut InputParser, case: &str) -> Result<(), Failure> {
+    match case {
+        "parse" => show_parse(rt, parser),
+        "parse_as_vec" => show_parse_as_vec(rt, parser, b"hello"),
+        "parse_as_vec-paste" => show_parse_as_vec(rt, parser, HELD_AND_PASTE),
+        "parse_as_vec-long" => show_parse_as_vec(rt, parser, MANY_KEYS),
+        "parse_pieces" => show_parse_pieces(rt, parser),
+        "end_paste" => show_end_paste(rt, parser),
+        _ => Err(Failure::NoSuchCase),
     }
 }
 
@@ -95,54 +117,97 @@ fn print_refused(rt: &HostRuntime, refused: bool) -> io::Result<()> {
 }
 
 fn show_new(rt: &HostRuntime) -> Result<(), Failure> {
-    let (parser, refused) = parts::make_parser(rt.alloc()).map_err(|_| Failure::Failed)?;
-    print_refused(rt, refused)?;
-    Ok(print!(rt; " / waiting {}", parser.waiting_len())?)
+    let Ok((parser, refused)) = parts::make_parser(rt.alloc()) else {
+        return Err(Failure::Failed);
+    };
+    print_new(rt, refused, parser.waiting_len())
 }
 
-// Appends the alphabet from its third letter on.
+// Prints how many bytes wait in the end.
+fn print_waiting(rt: &HostRuntime, waiting: usize) -> io::Result<()> {
+    print!(rt; " / waiting {waiting}")
+}
+
+// Prints whether the call that makes a parser was refused, and what waits in the parser.
+fn print_new(rt: &HostRuntime, refused: bool, waiting: usize) -> Result<(), Failure> {
+    print_refused(rt, refused)?;
+    Ok(print_waiting(rt, waiting)?)
+}
+
 fn show_extend(rt: &HostRuntime) -> Result<(), Failure> {
     let mut buffer = ReadBuffer::new(rt.alloc());
     buffer.extend_with(b"ab")?;
-    let refused = parts::extend(&mut buffer, b"cdefghijklmnopqrstuvwxyz").map_err(
-        |_| Failure::Failed,
-    )?;
+    extend(rt, &mut buffer)
+}
+
+// Appends the alphabet from its third letter on.
+fn extend(rt: &HostRuntime, buffer: &mut ReadBuffer) -> Result<(), Failure> {
+    let Ok(refused) = parts::extend(buffer, b"cdefghijklmnopqrstuvwxyz") else {
+        return Err(Failure::Failed);
+    };
     if let Some(len) = refused {
         print!(rt; " / refused, length {len}")?;
     }
     Ok(print!(rt; " / length {}", buffer.len())?)
 }
 
-// Sets a key beside `boo` that goes on after it, and looks `boo` up. The key is so long that it takes memory of its own.
 fn show_insert(rt: &HostRuntime) -> Result<(), Failure> {
     let mut keys = KeyMap::new(rt.alloc());
     keys.insert(b"boo", 1u8)?;
-    let refused = parts::insert(&mut keys, b"boomerang thrower", 2, b"boo").map_err(
-        |_| Failure::Failed,
-    )?;
+    insert(rt, &mut keys)
+}
+
+// Sets a key beside `boo` that goes on after it, and looks `boo` up. The key is so long that it takes memory of its own.
+fn insert(rt: &HostRuntime, keys: &mut KeyMap<u8>) -> Result<(), Failure> {
+    let Ok(refused) = parts::insert(keys, b"boomerang thrower", 2, b"boo") else {
+        return Err(Failure::Failed);
+    };
     if let Some(found) = refused {
         print!(rt; " / refused, boo {found:?}")?;
     }
-    Ok(print!(rt; " / boo {:?}", parts::look_up(&keys, b"boo"))?)
+    Ok(print!(rt; " / boo {:?}", parts::look_up(keys, b"boo"))?)
 }
 
 fn show_map_clone(rt: &HostRuntime) -> Result<(), Failure> {
     let mut keys = KeyMap::new(rt.alloc());
     keys.insert(b"boo", 1u8)?;
     keys.insert(b"boom", 2u8)?;
-    let (copy, refused) = parts::clone_map(&keys).map_err(|_| Failure::Failed)?;
+    clone_map(rt, &keys)
+}
+
+fn clone_map(rt: &HostRuntime, keys: &KeyMap<u8>) -> Result<(), Failure> {
+    let Ok((copy, refused)) = parts::clone_map(keys) else {
+        return Err(Failure::Failed);
+    };
+    print_map(rt, refused, &copy)
+}
+
+// Prints whether a map's clone was refused, and what is found in the clone.
+fn print_map(rt: &HostRuntime, refused: bool, keys: &KeyMap<u8>) -> Result<(), Failure> {
     print_refused(rt, refused)?;
-    print!(rt; " / boo {:?}", parts::look_up(&copy, b"boo"))?;
-    Ok(print!(rt; " / boom {:?}", parts::look_up(&copy, b"boom"))?)
+    print!(rt; " / boo {:?}", parts::look_up(keys, b"boo"))?;
+    Ok(print!(rt; " / boom {:?}", parts::look_up(keys, b"boom"))?)
 }
 
 fn show_event_clone(rt: &HostRuntime) -> Result<(), Failure> {
-    let text = String::from_str(rt.alloc(), "ab")?;
-    let event = InputEvent::Paste(PastedText::new(text));
-    let (copy, refused) = parts::clone_event(rt.alloc(), &event).map_err(|_| Failure::Failed)?;
+    let Ok(text) = String::from_str(rt.alloc(), "ab") else {
+        return Err(Failure::TooEarly);
+    };
+    clone_event(rt, &InputEvent::Paste(PastedText::new(text)))
+}
+
+fn clone_event(rt: &HostRuntime, event: &InputEvent) -> Result<(), Failure> {
+    let Ok((copy, refused)) = parts::clone_event(rt.alloc(), event) else {
+        return Err(Failure::Failed);
+    };
+    print_copy(rt, refused, &copy)
+}
+
+// Prints whether an event's clone was refused, and the clone.
+fn print_copy(rt: &HostRuntime, refused: bool, event: &InputEvent) -> Result<(), Failure> {
     print_refused(rt, refused)?;
     print!(rt; " / ")?;
-    Ok(print_event(rt, &copy)?)
+    Ok(print_event(rt, event)?)
 }
 
 fn show_encode(rt: &HostRuntime) -> Result<(), Failure> {
@@ -152,12 +217,15 @@ fn show_encode(rt: &HostRuntime) -> Result<(), Failure> {
         newline_mode: false,
         modify_other_keys: None,
     };
-    let (text, refused) = parts::encode(
-        rt.alloc(),
-        KeyCode::LeftArrow,
-        Modifiers::ALT,
-        modes,
-    ).map_err(|_| Failure::Failed)?;
+    let encoded = parts::encode(rt.alloc(), KeyCode::LeftArrow, Modifiers::ALT, modes);
+    let Ok((text, refused)) = encoded else {
+        return Err(Failure::Failed);
+    };
+    print_text(rt, refused, text.as_str())
+}
+
+// Prints whether the encoding was refused, and the text.
+fn print_text(rt: &HostRuntime, refused: bool, text: &str) -> Result<(), Failure> {
     print_refused(rt, refused)?;
     Ok(print!(rt; " / {text:?}")?)
 }
@@ -172,8 +240,14 @@ fn print_event(rt: &HostRuntime, event: &InputEvent) -> io::Result<()> {
 }
 
 // Prints an event, after the name of its call. A callback has no error to return: what can't be printed is missing from the line.
-fn print_given<D: Display + Drop>(rt: &HostRuntime, call: D, event: &InputEvent) {
+fn print_given(rt: &HostRuntime, call: &str, event: &InputEvent) {
     let _ = print!(rt; " / {call} ");
+    let _ = print_event(rt, event);
+}
+
+// The same for an event with a number.
+fn print_numbered(rt: &HostRuntime, call: &str, number: usize, event: &InputEvent) {
+    let _ = print!(rt; " / {call} {number} ");
     let _ = print_event(rt, event);
 }
 
@@ -187,26 +261,42 @@ fn print_left(rt: &HostRuntime, left: &Left) -> io::Result<()> {
 }
 
 // Prints what stood after a refusal of the bytes, if there was one, and what waits in the end.
-fn print_stop(rt: &HostRuntime, stop: Option<Stop>, parser: &InputParser) -> io::Result<()> {
+fn print_stop(rt: &HostRuntime, stop: Option<Stop>, waiting: usize) -> Result<(), Failure> {
     if let Some(Stop { taken, left }) = stop {
         let error = if taken { "Taken" } else { "NotTaken" };
         print!(rt; " / refused {error}")?;
         print_left(rt, &left)?;
     }
-    print!(rt; " / waiting {}", parser.waiting_len())
+    Ok(print_waiting(rt, waiting)?)
 }
 
 // An ESC that is held, a paste and a key.
 const HELD_AND_PASTE: &[u8] = b"\x1b\x1b[200~ab\x1b[201~q";
 
-fn show_parse(rt: &HostRuntime) -> Result<(), Failure> {
-    let mut parser = InputParser::new(rt.alloc())?;
+// More keys than the list of events has room for at first: it grows after 64 of them are stored.
+const MANY_KEYS: &[u8] = b"\t\t\t\t\t\t\t\t\t\t\t\t\t\t\t\t\t\t\t\t\t\t\t\t\t\t\t\t\t\t\t\t\
+    \t\t\t\t\t\t\t\t\t\t\t\t\t\t\t\t\t\t\t\t\t\t\t\t\t\t\t\t\t\t\t\tab";
+
+fn show_parse(rt: &HostRuntime, parser: &mut InputParser) -> Result<(), Failure> {
     let mut first = |event: InputEvent| print_given(rt, "first", &event);
     let mut later = |event: InputEvent| print_given(rt, "later", &event);
-    let stop = parses::parse(&mut parser, HELD_AND_PASTE, &mut first, &mut later).map_err(
-        |_| Failure::Failed,
-    )?;
-    Ok(print_stop(rt, stop, &parser)?)
+    let Ok(stop) = parses::parse(parser, HELD_AND_PASTE, &mut first, &mut later) else {
+        return Err(Failure::Failed);
+    };
+    print_stop(rt, stop, parser.waiting_len())
+}
+
+fn show_parse_as_vec(
+    rt: &HostRuntime,
+    parser: &mut InputParser,
+    text: &[u8],
+) -> Result<(), Failure> {
+    let Ok(lists) = parses::parse_as_vec(rt.alloc(), parser, text) else {
+        return Err(Failure::Failed);
+    };
+    print_events(rt, "first", lists.first.as_slice());
+    print_events(rt, "later", lists.later.as_slice());
+    print_stop(rt, lists.stop, parser.waiting_len())
 }
 
 // Prints the events of a call.
@@ -216,51 +306,61 @@ fn print_events(rt: &HostRuntime, call: &str, events: &[InputEvent]) {
     }
 }
 
-fn show_parse_as_vec(rt: &HostRuntime, text: &[u8]) -> Result<(), Failure> {
-    let mut parser = InputParser::new(rt.alloc())?;
-    let lists = parses::parse_as_vec(rt.alloc(), &mut parser, text).map_err(|_| Failure::Failed)?;
-    print_events(rt, "first", lists.first.as_slice());
-    print_events(rt, "later", lists.later.as_slice());
-    Ok(print_stop(rt, lists.stop, &parser)?)
-}
-
-// More keys than the list of events has room for at first: it grows after 64 of them are stored.
-fn show_long_parse_as_vec(rt: &HostRuntime) -> Result<(), Failure> {
-    let mut text = b"\t".repeat(rt.alloc(), 64)?;
-    text.extend_from_slice(b"ab")?;
-    show_parse_as_vec(rt, text.as_slice())
-}
-
 // An ESC that is held, a paste whose end is a piece of its own, and a key.
-fn show_parse_pieces(rt: &HostRuntime) -> Result<(), Failure> {
-    let mut parser = InputParser::new(rt.alloc())?;
+fn show_parse_pieces(rt: &HostRuntime, parser: &mut InputParser) -> Result<(), Failure> {
     let mut first = |number: usize, event: InputEvent| {
-        print_given(rt, format_args!("first {number}"), &event);
+        print_numbered(rt, "first", number, &event);
     };
     let mut later = |number: usize, event: InputEvent| {
-        print_given(rt, format_args!("later {number}"), &event);
+        print_numbered(rt, "later", number, &event);
     };
     let pieces: &[&[u8]] = &[b"\x1b\x1b[200~a", b"\x1b[201~", b"z"];
-    let stop = parses::parse_pieces(&mut parser, pieces, &mut first, &mut later).map_err(
-        |_| Failure::Failed,
-    )?;
+    let Ok(stop) = parses::parse_pieces(parser, pieces, &mut first, &mut later) else {
+        return Err(Failure::Failed);
+    };
+    print_pieces_stop(rt, stop, parser.waiting_len())
+}
+
+// Prints what stood after a refusal of the pieces, if there was one, and what waits in the end.
+fn print_pieces_stop(
+    rt: &HostRuntime,
+    stop: Option<PiecesStop>,
+    waiting: usize,
+) -> Result<(), Failure> {
     if let Some(PiecesStop { taken, left }) = stop {
         print!(rt; " / refused after {taken} pieces")?;
         print_left(rt, &left)?;
     }
-    Ok(print!(rt; " / waiting {}", parser.waiting_len())?)
+    Ok(print_waiting(rt, waiting)?)
 }
 
-fn show_end_paste(rt: &HostRuntime) -> Result<(), Failure> {
-    let mut parser = InputParser::new(rt.alloc())?;
+fn show_end_paste(rt: &HostRuntime, parser: &mut InputParser) -> Result<(), Failure> {
     parser.feed(b"\x1b[200~ab")?;
-    let (event, refused) = parts::end_paste(&mut parser).map_err(|_| Failure::Failed)?;
+    let Ok((event, refused)) = parts::end_paste(parser) else {
+        return Err(Failure::Failed);
+    };
+    print_ended(rt, refused, event.as_ref(), parser.waiting_len())
+}
+
+// Prints what waited after a refusal, if there was one, the event of a paste, and what waits in the end.
+fn print_ended(
+    rt: &HostRuntime,
+    refused: Option<usize>,
+    event: Option<&InputEvent>,
+    waiting: usize,
+) -> Result<(), Failure> {
+    print_waited(rt, refused)?;
+    if let Some(event) = event {
+        print!(rt; " / ")?;
+        print_event(rt, event)?;
+    }
+    Ok(print_waiting(rt, waiting)?)
+}
+
+// Prints how many bytes waited after a refusal, if there was one.
+fn print_waited(rt: &HostRuntime, refused: Option<usize>) -> io::Result<()> {
     if let Some(len) = refused {
         print!(rt; " / refused, waiting {len}")?;
     }
-    if let Some(event) = event {
-        print!(rt; " / ")?;
-        print_event(rt, &event)?;
-    }
-    Ok(print!(rt; " / waiting {}", parser.waiting_len())?)
+    Ok(())
 }
