@@ -115,6 +115,18 @@ static void gives_events_in_turn(void) {
   tw_parser_free(&parser);
 }
 
+/* Bytes may be fed while events are still to be taken. */
+static void takes_one_event_at_a_time(tw_parser *parser) {
+  EXPECT(take(parser, true) == TW_NONE && tw_parser_waiting(parser) == 0);
+  EXPECT(NEXT(parser, "a\033[A\033", true) == TW_EVENT && is_key(TW_KEY_CHAR, 'a', TW_MOD_NONE) && tw_parser_waiting(parser) == 4);
+  EXPECT(NEXT(parser, "[<0;1;2M\033", true) == TW_EVENT && is_key(TW_KEY_UP_ARROW, 0, TW_MOD_NONE) && tw_parser_waiting(parser) == 10);
+  EXPECT(take(parser, true) == TW_EVENT && taken.kind == TW_MOUSE && taken.buttons == TW_BUTTON_LEFT && taken.modifiers == TW_MOD_NONE);
+  EXPECT(taken.x == 1 && taken.y == 2 && tw_parser_waiting(parser) == 1);
+  EXPECT(take(parser, true) == TW_NONE && tw_parser_waiting(parser) == 1);
+  EXPECT(take(parser, false) == TW_EVENT && is_key(TW_KEY_ESCAPE, 0, TW_MOD_NONE) && tw_parser_waiting(parser) == 0);
+  EXPECT(take(parser, false) == TW_NONE && tw_parser_waiting(parser) == 0);
+}
+
 static void gives_keys(tw_parser *parser) {
   EXPECT(tw_parser_feed(parser, (const uint8_t *)"", 0));
   EXPECT(NEXT(parser, "", true) == TW_NONE);
@@ -1141,6 +1153,7 @@ int main(int argc, char **argv) {
   gives_events_in_turn();
   keeps_the_text_of_a_paste();
   EXPECT(tw_parser_init(&parser));
+  takes_one_event_at_a_time(&parser);
   gives_keys(&parser);
   gives_mouse_reports(&parser);
   waits(&parser);

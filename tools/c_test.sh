@@ -11,8 +11,8 @@
 # pseudo-terminal, as tools/live_test.sh says, and so do the programs that ask their terminal, as tools/ask_test.sh says. All is installed
 # and removed again, as tools/install_test.sh says. The last line is 'N passed, N failed', the status 1 if a case failed.
 #
-# DIR is a folder that tools/c_library.sh wrote; without --library the library is built. With --built the keyshow that `rt ci` left in
-# crates/keyshow/out is run; otherwise it is built.
+# DIR is a folder that tools/c_library.sh wrote; without --library the library is built. With --built the programs that `rt ci` left in
+# crates/keyshow/out and crates/replay/out are run; otherwise they are built.
 #
 # It needs rt, cc, binutils, python3, c++, pkg-config, cargo with clippy and rustfmt, Debian's packages of serde and valgrind, and fails if
 # one isn't there. A word --without-PROGRAM leaves out the tests that need that program; without cc there are none. All that is built lies
@@ -203,9 +203,12 @@ if wants valgrind; then
     check 'refusals of extended calls under valgrind' $memcheck --errors-for-leak-kinds=all "$work/extended_refusals" 1000
 fi
 
-# The streams of the Rust crate's tests are compared with what keyshow prints, and keyshow is installed too.
+# The Rust crate's tests compare their streams with what keyshow prints, and replay reads the cases that they write. keyshow is installed too.
 if [ "$is_built" = no ] && { wants cargo || wants pkg-config; }; then
     (cd crates/keyshow && rt run < stdin) > "$work/log" 2>&1 || { cat "$work/log" >&2; exit 1; }
+fi
+if [ "$is_built" = no ] && wants cargo; then
+    (cd crates/replay && rt run -- data/*.txt) > "$work/log" 2>&1 || { cat "$work/log" >&2; exit 1; }
 fi
 if wants cargo; then
     check 'listings in Rust' bash -c 'check_listings rust'
@@ -218,7 +221,8 @@ if wants cargo; then
     check 'live program in Rust' tools/live_test.sh "$work/target/debug/examples/live"
     check 'asking program in Rust' tools/ask_test.sh "$work/target/debug/examples/ask"
     if wants valgrind; then
-        check 'Rust crate under valgrind' bash -c 'rust_memcheck --test parser --test keymap -- --skip streams --skip recorded'
+        check 'Rust crate under valgrind' bash -c \
+            'rust_memcheck --test parser --test keymap -- --skip streams --skip recorded --skip generated --skip undecided --skip long::reads'
     fi
 
     # The ways in which it finds the library, and what it says if there is none.

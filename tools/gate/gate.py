@@ -224,7 +224,7 @@ class Gate:
             script("c_numbers", [], "tools/c_numbers.sh", "--check"),
             script("c_library", ["kept termwiz_c"], "tools/c_library.sh", "--over", self.rlibs, "--kept", f"{self.kept}/termwiz_c", library),
             script("growth", ["c_library"], "tools/growth.sh", *over, "--over", self.rlibs),
-            script("c_test", ["c_library", "keyshow"], "tools/c_test.sh", "--built", *over, *left_out("c_test")),
+            script("c_test", ["c_library", "keyshow", "replay"], "tools/c_test.sh", "--built", *over, *left_out("c_test")),
             script("keys_test", ["c_library"], "tools/keys_test.sh", *over),
             script("python_test", ["c_library"], "tools/python_test.sh", library),
             script("page_test", ["c_library"], "tools/page_test.sh", "--if-chromium", *over),

@@ -1,5 +1,4 @@
-//! Tests over the public calls of `termwiz_input`: worked examples, every row of the sequence table, every beginning that
-//! waits, long input, and comparisons with a plain slow reader.
+//! Tests of the calls of `termwiz_input` that only a program in Rattle can make.
 #![tactic(auto)]
 
 ghost use Rattle.std.specs.Prelude.{◌≡◌, length};
@@ -7,8 +6,6 @@ ghost use Rattle.std.specs.List.{AllPairs};
 ghost use Rattle.termwiz_input.specs.Laws.{HasOtherBytes};
 ghost use Rattle.termwiz_input.specs.Table.{rows};
 
-#[cfg(test)]
-mod plain;
 #[cfg(test)]
 mod tests;
 

@@ -1,6 +1,6 @@
 //! Replays what termwiz itself answers, as it was recorded, and says where the answers of the parsers and the encoder differ.
 //!
-//! It is called as `replay [FILE..]`, and without a word replays the recorded files, which it looks for where it runs. For each file
+//! It is called as `replay [FILE..]`, and without a word replays its own files, which it looks for where it runs. For each file
 //! it prints how many of its lines were replayed, how often the parser and the encoder were asked, and how many lines differ; then
 //! the first twenty lines that differ, with what came instead. If the file has lines for a parser, the extended parser replays it too:
 //! then also how many lines it answers otherwise because of an extra sequence. The status is 0 if no line differs, and 1 if one
@@ -19,7 +19,13 @@ use std::{env, fs, io};
 use thiserror::Error;
 
 // The files that are replayed if none is named. They lie in the crate's folder data.
-const FILES: [&str; 3] = ["parse-rows.txt", "parse-cases.txt", "encode.txt"];
+const FILES: [&str; 5] = [
+    "parse-rows.txt",
+    "parse-cases.txt",
+    "encode.txt",
+    "rules.txt",
+    "examples.txt",
+];
 
 /// Why not all lines were replayed.
 #[derive(Debug, Drop, Error)]

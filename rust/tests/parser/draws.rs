@@ -1,5 +1,5 @@
 // Texts that look random, and are the same in each run.
-use crate::lines::bytes;
+use crate::plain::PlainReader;
 
 // The bytes that the grammar names, parts and wholes of sequences, and beginnings of characters. ESC stands twice, so that it is drawn
 // more often.
@@ -39,30 +39,36 @@ const SYMBOLS: &[&[u8]] = &[
     b"\x1b[<95;65535;65535M",
 ];
 
-// A linear congruential generator, and the rows of the sequence table.
+// Limits of the lengths of pieces: below 2 a piece is a byte or empty, and below 61 most texts are one piece or two.
+const LIMITS: &[usize] = &[2, 4, 8, 16, 61];
+
+// A linear congruential generator, and the rows of the sequence table, from which texts are made.
 pub struct Draws {
     state: u64,
     rows: Vec<Vec<u8>>,
 }
 
 impl Draws {
-    // `recorded` has the rows, as crates/replay/data/parse-rows.txt.
-    pub fn new(seed: u64, recorded: &str) -> Draws {
-        let lists = recorded.lines().filter_map(|line| line.split(" = ").next());
+    pub fn new(seed: u64, reader: &PlainReader) -> Draws {
         Draws {
             state: seed,
-            rows: lists.flat_map(|rows| rows.split(',').map(bytes)).collect(),
+            rows: reader.rows().keys().cloned().collect(),
         }
     }
 
     // A number below the limit.
-    fn below(&mut self, limit: usize) -> usize {
+    pub fn below(&mut self, limit: usize) -> usize {
         self.state = self.state.wrapping_mul(6364136223846793005).wrapping_add(1442695040888963407);
         (self.state >> 33) as usize % limit
     }
 
     fn symbol(&mut self) -> &'static [u8] {
         SYMBOLS[self.below(SYMBOLS.len())]
+    }
+
+    // A text of `count` symbols.
+    pub fn symbols(&mut self, count: usize) -> Vec<u8> {
+        (0..count).flat_map(|_| self.symbol()).copied().collect()
     }
 
     fn row(&mut self) -> Vec<u8> {
@@ -130,5 +136,22 @@ impl Draws {
         }
         text.truncate(len);
         text
+    }
+    // The text in pieces shorter than a limit, some of them empty. The last has what is left.
+    pub fn pieces<'a>(&mut self, text: &'a [u8]) -> Vec<&'a [u8]> {
+        let limit = LIMITS[self.below(LIMITS.len())];
+        let mut pieces = Vec::new();
+        let mut left = text;
+        for _ in 0..text.len() {
+            let len = self.below(limit);
+            if len > left.len() {
+                break;
+            }
+            let (piece, after) = left.split_at(len);
+            pieces.push(piece);
+            left = after;
+        }
+        pieces.push(left);
+        pieces
     }
 }

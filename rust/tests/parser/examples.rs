@@ -1,8 +1,8 @@
 // Examples: what each call of a fresh parser gives.
 
-const MORE: bool = true;
+pub const MORE: bool = true;
 
-const LAST: bool = false;
+pub const LAST: bool = false;
 
 // The bytes of one call, its flag, and what it gives: the events as keyshow's lines, and how many bytes wait then, if any do.
 pub type Step = (&'static [u8], bool, &'static str);
@@ -390,5 +390,47 @@ pub const CUTS: &[Example] = &[
     (
         "alt-beginning-flushed",
         &[(b"\x1b\x1b[1", MORE, "; 4"), (b"", LAST, "key U+005B ALT,key U+0031 NONE")],
+    ),
+];
+
+// The inputs of docs/DIFFERENCES.md on which the crate termwiz gives other events.
+pub const DIFFERENCES: &[Example] = &[
+    (
+        "past_a_dead_end",
+        &[
+            (b"\x1b[11q", MORE, "key U+005B ALT,key U+0031 NONE,key U+0031 NONE,key U+0071 NONE"),
+            (b"", LAST, ""),
+        ],
+    ),
+    (
+        "mouse_report_cut",
+        &[
+            (b"\x1b[<66;42", MORE, "; 8"),
+            (b";12M", MORE, "mouse 42 12 HORZ_WHEEL+WHEEL_POSITIVE NONE"),
+        ],
+    ),
+    (
+        "mouse_report_after_escape",
+        &[(b"\x1b\x1b[<0;1;1M", LAST, "key Escape NONE,mouse 1 1 LEFT NONE")],
+    ),
+    (
+        "paste_that_is_not_utf_8",
+        &[(b"\x1b[200~\xff\x1b[201~z", LAST, "paste 3:efbfbd,key U+007A NONE")],
+    ),
+    (
+        "half_a_character_in_a_paste",
+        &[(b"\x1b[200~\xc3\x1b[201~", LAST, "paste 3:efbfbd")],
+    ),
+    (
+        "escape_by_its_code",
+        &[(b"\x1b[27;1;27~a", MORE, "key Escape NONE,key U+0061 NONE")],
+    ),
+    (
+        "escape_by_its_code_at_the_end_of_a_read",
+        &[(b"\x1b[27;1;27~", MORE, "key Escape NONE"), (b"a", LAST, "key U+0061 NONE")],
+    ),
+    (
+        "byte_that_begins_no_character",
+        &[(b"\xff", MORE, "key U+FFFD NONE"), (b"a", LAST, "key U+0061 NONE")],
     ),
 ];

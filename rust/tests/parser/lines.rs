@@ -61,6 +61,16 @@ pub fn lines(events: &[InputEvent]) -> String {
     lines.join(",")
 }
 
+// The events of a call and what waits after it, as the files of crates/replay/data have them.
+pub fn answer(events: &[InputEvent], waiting: &[u8]) -> String {
+    match (events, waiting) {
+        ([], []) => "nothing".to_string(),
+        (events, []) => lines(events),
+        ([], waiting) => format!("; {}", hex(waiting)),
+        (events, waiting) => format!("{} ; {}", lines(events), hex(waiting)),
+    }
+}
+
 // The modifiers of names joined by +.
 pub fn modifiers_named(names: &str) -> Modifiers {
     let mut held = Modifiers::NONE;

@@ -1,12 +1,20 @@
 // The parser and the text of keys, by the crate's public calls alone.
+mod calls;
 mod draws;
 mod encode;
 mod examples;
 mod flags;
+mod generated;
+mod instances;
 mod lines;
+mod long;
 mod names;
 mod parser;
+mod pastes;
+mod plain;
 mod recorded;
+mod replay;
 mod rows;
 mod streams;
+mod undecided;
 mod waiting;

@@ -1,5 +1,5 @@
 // What termwiz 0.23.3 answered, as crates/replay/data has it: each recorded text, fed in every way that was recorded.
-use crate::lines::{bytes, hex, key_named, lines, modifiers_named};
+use crate::lines::{answer, bytes, hex, key_named, modifiers_named};
 use hedrugal::input::{EncodeError, InputEvent, InputParser, KeyCode, KeyCodeEncodeModes, KeyboardEncoding, Modifiers};
 use std::fs;
 use std::path::Path;
@@ -43,12 +43,7 @@ impl Feeder {
     // The events and what waits, as the files have them.
     fn answer(&self, events: &[InputEvent]) -> String {
         let waiting = &self.fed[self.fed.len() - self.parser.waiting_len()..];
-        match (events, waiting) {
-            ([], []) => "nothing".to_string(),
-            (events, []) => lines(events),
-            ([], waiting) => format!("; {}", hex(waiting)),
-            (events, waiting) => format!("{} ; {}", lines(events), hex(waiting)),
-        }
+        answer(events, waiting)
     }
 
     // Feeds parts, each with its flag, and compares all that they give.
@@ -139,11 +134,10 @@ fn cases() {
     println!("{} lines, {} feedings", cases().count(), feeder.feedings);
 }
 
-// Answers that were written down from docs/GRAMMAR.md, in the forms of both files.
-#[test]
-fn rules() {
+// Answers that weren't recorded, in the forms of both files.
+fn check_written(file: &str) {
     let mut feeder = Feeder::new();
-    let file = data("rules.txt");
+    let file = data(file);
     let lines = || file.lines().filter(|line| !line.starts_with('#'));
     for line in lines() {
         if line.starts_with(['*', '+', '-']) {
@@ -153,6 +147,17 @@ fn rules() {
         }
     }
     println!("{} lines, {} feedings", lines().count(), feeder.feedings);
+}
+
+// They were written down from docs/GRAMMAR.md.
+#[test]
+fn rules() {
+    check_written("rules.txt");
+}
+
+#[test]
+fn examples() {
+    check_written("examples.txt");
 }
 
 // The modes of a number, as crates/recorded/src/encodings.rt numbers them.

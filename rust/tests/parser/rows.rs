@@ -1,5 +1,7 @@
-// The rows of the sequence table, and those that would complete what stays buffered.
+// The rows of the sequence table, against those of the plain reader, and the rows that would complete what stays buffered.
+use crate::calls::Call;
 use crate::lines::hex;
+use crate::plain::PlainReader;
 use hedrugal::input::{InputEvent, InputParser, KeyCode, KeyEvent, Modifiers, Waiting};
 
 const ROW_COUNT: usize = 2937;
@@ -48,6 +50,53 @@ fn tells_rows() {
     assert_eq!(rows.iter().map(|(bytes, _)| bytes.len()).max(), Some(11));
 }
 
+// The plain reader has as many rows as the parser's table, with different bytes, and they are the same.
+#[test]
+fn has_the_rows_of_the_plain_reader() {
+    let reader = PlainReader::new();
+    assert_eq!(reader.row_count(), ROW_COUNT);
+    assert_eq!(reader.rows().len(), ROW_COUNT, "all bytes differ");
+    let rows = rows(&InputParser::new());
+    assert!(rows.iter().map(|(bytes, key)| (bytes, key)).eq(reader.rows()));
+}
+
+// The text of a row has this one event, after which nothing waits.
+fn check_event(parser: &mut InputParser, text: &[u8], event: KeyEvent) {
+    assert_eq!(Call::List.events(parser, text, false), [InputEvent::Key(event)], "{}", hex(text));
+    assert_eq!(parser.waiting_len(), 0, "{}", hex(text));
+}
+
+// Alone each row of the plain reader is read as its key, and after one ESC as its key with ALT. Only the start of a paste isn't a key.
+#[test]
+fn reads_rows_of_the_plain_reader() {
+    let mut parser = InputParser::new();
+    for (bytes, key) in PlainReader::new().rows() {
+        if key.key != KeyCode::InternalPasteStart {
+            check_event(&mut parser, bytes, key.clone());
+            check_event(&mut parser, &[b"\x1b", &bytes[..]].concat(), with_alt(key, true));
+        }
+    }
+}
+
+// Cut in two at every place, the row is read as it is whole.
+fn check_cuts(parser: &mut InputParser, bytes: &[u8]) {
+    let wanted = (Call::List.events(parser, bytes, false), parser.reset());
+    for place in 0..=bytes.len() {
+        let (first, second) = bytes.split_at(place);
+        let mut events = Call::List.events(parser, first, true);
+        events.append(&mut Call::List.events(parser, second, false));
+        assert_eq!((events, parser.reset()), wanted, "{}|{}", hex(first), hex(second));
+    }
+}
+
+#[test]
+fn reads_rows_cut_in_two() {
+    let mut parser = InputParser::new();
+    for bytes in PlainReader::new().rows().keys() {
+        check_cuts(&mut parser, bytes);
+    }
+}
+
 #[test]
 fn has_no_other_rows() {
     let mut parser = InputParser::new();
@@ -66,16 +115,23 @@ const BEGUN: &[(&[u8], usize, bool)] = &[
     (b"\x1b", ROW_COUNT - 28, false),
     (b"\x1b\x1b", ROW_COUNT - 28, true),
     (b"\x1b[", 2832, false),
+    (b"\x1b\x1b[", 2832, true),
     (b"\x1bO", 50, false),
     (b"\x1b[1", 662, false),
+    (b"\x1b[15", 26, false),
+    (b"\x1b[1;5", 12, false),
+    (b"\x1b\x1b[1;5", 12, true),
     (b"\x1b\x1b[1;", 169, true),
     (b"\x1b[20", 28, false),
     (b"\x1b\x1b[20", 28, true),
+    (b"\x1b[200", 1, false),
     (b"\x1b[<0;3", 0, false),
     (b"\x1b\x1b[<", 0, false),
     (b"\xc3", 0, false),
+    (b"\xe2\x82", 0, false),
     (b"\x1b\xf0\x9f", 0, false),
     (b"\x1b[200~te", 0, false),
+    (b"\x1b[200~text", 0, false),
 ];
 
 #[test]
@@ -98,6 +154,18 @@ fn tells_completions() {
             }
         }
     }
+}
+
+// The first row that would complete ESC [ 1 ; 5 is the one of the up arrow with CTRL.
+#[test]
+fn tells_the_first_completion() {
+    let mut parser = InputParser::new();
+    parser.parse(b"\x1b[1;5", |_| {}, true);
+    let (bytes, key) = parser.row(parser.completions().rows.start).expect("there is a first row");
+    assert_eq!(
+        (&bytes[..], key.key, key.modifiers),
+        (&b"\x1b[1;5A"[..], KeyCode::UpArrow, Modifiers::CTRL)
+    );
 }
 
 // Threads read the table of one parser at once.

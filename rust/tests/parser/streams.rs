@@ -5,7 +5,7 @@
 // flush does in the middle of a sequence is tested on some of the streams, each in a process of its own.
 use crate::draws::Draws;
 use crate::lines::{hex, line};
-use crate::recorded::data;
+use crate::plain::PlainReader;
 use hedrugal::input::{InputEvent, InputParser};
 use std::io::Write;
 use std::path::PathBuf;
@@ -65,7 +65,7 @@ fn parsed(text: &[u8], piece: usize) -> Vec<String> {
 }
 
 fn streams() -> Vec<Vec<u8>> {
-    let mut draws = Draws::new(22, &data("parse-rows.txt"));
+    let mut draws = Draws::new(22, &PlainReader::new());
     (0..STREAMS).map(|_| draws.text()).collect()
 }
 

@@ -1,7 +1,7 @@
 // What stays buffered, and what a pause, a limit for pastes and a reset do with it.
 use crate::draws::Draws;
 use crate::lines::{hex, lines};
-use crate::recorded::data;
+use crate::plain::PlainReader;
 use hedrugal::input::{InputEvent, InputParser, Waiting};
 
 const PASTE_START: &[u8] = b"\x1b[200~";
@@ -16,12 +16,16 @@ const RESTS: &[(&[u8], Waiting)] = &[
     (b"\x1b[1;5", Waiting::Sequence),
     (b"\x1b[<0;3", Waiting::Sequence),
     (b"\x1b[200", Waiting::Sequence),
+    (b"\x1b[<00095;65535;65535", Waiting::Sequence),
     (b"\x1b\x1b[", Waiting::Sequence),
+    (b"\x1b\x1b[27;8;127", Waiting::Sequence),
     (b"\x1b\x1b[<00095;65535;65535", Waiting::Sequence),
     (b"\xc3", Waiting::Character),
     (b"\xe2\x82", Waiting::Character),
     (b"\xf0\x9f\x98", Waiting::Character),
+    (b"\xf4\x8f\xbf", Waiting::Character),
     (b"\x1b\xc3", Waiting::Character),
+    (b"\x1b\xe2\x82", Waiting::Character),
     (b"\x1b\xf0\x9f\x98", Waiting::Character),
     (b"\x1b[200~", Waiting::Paste),
     (b"\x1b[200~\x1b", Waiting::Paste),
@@ -56,9 +60,10 @@ fn parse_rest(parser: &mut InputParser, rest: &[u8], kind: Waiting) {
 
 #[test]
 fn tells_kinds() {
-    let mut parser = InputParser::new();
+    let (mut parser, reader) = (InputParser::new(), PlainReader::new());
     for (rest, kind) in RESTS {
         assert_eq!(kind_of(rest), *kind, "{}", hex(rest));
+        assert_eq!(reader.kind_of(rest, true), Some(*kind), "{}", hex(rest));
         parse_rest(&mut parser, rest, *kind);
         assert_eq!(parser.reset(), rest.len());
         for byte in rest.chunks(1) {
@@ -67,6 +72,20 @@ fn tells_kinds() {
         check_rest(&parser, rest, *kind);
         assert_eq!((parser.reset(), parser.reset()), (rest.len(), 0));
         assert_eq!(lines(&parser.parse_as_vec(b"q", true)), "key U+0071 NONE");
+    }
+    assert_eq!(lines(&parser.parse_as_vec(b"\x1b", false)), "key Escape NONE");
+}
+
+// With no more to come nothing stays buffered but an open paste.
+#[test]
+fn keeps_open_pastes_under_either_flag() {
+    let (mut parser, reader) = (InputParser::new(), PlainReader::new());
+    for (rest, kind) in RESTS.iter().filter(|(_, kind)| matches!(kind, Waiting::Nothing | Waiting::Paste)) {
+        assert_eq!(reader.kind_of(rest, false), Some(*kind), "{}", hex(rest));
+        assert_eq!(parser.parse_as_vec(rest, false), []);
+        check_rest(&parser, rest, *kind);
+        assert_eq!(parser.flush_escape(), None);
+        assert_eq!(parser.reset(), rest.len());
     }
 }
 
@@ -139,9 +158,11 @@ fn flushes_escapes_before_mouse_reports_and_pastes() {
 #[test]
 fn ends_pastes() {
     let mut parser = InputParser::new();
-    let texts: [(&[u8], &str); 4] = [
+    let texts: [(&[u8], &str); 6] = [
         (b"", ""),
         (b"ab\n", "ab\n"),
+        (b"ab\x1b[20", "ab\x1b[20"),
+        (b"a\xe2\x82", "a\u{fffd}"),
         (b"\xc3\xa9\xe2\x82", "é\u{fffd}"),
         (b"ab\x1b[201", "ab\x1b[201"),
     ];
@@ -171,9 +192,9 @@ fn ends_open_pastes_alone() {
 fn ends_a_long_paste() {
     let text = "täxt \x1b[201".repeat(30000);
     let mut parser = InputParser::new();
-    for is_ended in [true, false, true] {
+    for (piece, is_ended) in [(4096, true), (4096, false), (text.len(), true), (text.len(), false), (4096, true)] {
         assert_eq!(parser.parse_as_vec(PASTE_START, true), []);
-        for bytes in text.as_bytes().chunks(4096) {
+        for bytes in text.as_bytes().chunks(piece) {
             assert_eq!(parser.parse_as_vec(bytes, true), []);
         }
         assert_eq!((parser.waiting_len(), parser.waiting()), (text.len() + 6, Waiting::Paste));
@@ -183,12 +204,13 @@ fn ends_a_long_paste() {
             assert_eq!(parser.reset(), text.len() + 6);
         }
         check_rest(&parser, b"", Waiting::Nothing);
-        assert_eq!(lines(&parser.parse_as_vec(b"q", true)), "key U+0071 NONE");
+        let after = parser.parse_as_vec(b"q\x1b[201~", false);
+        assert_eq!(lines(&after), "key U+0071 NONE,key InternalPasteEnd NONE");
     }
 }
 
 fn streams() -> Vec<Vec<u8>> {
-    let mut draws = Draws::new(27, &data("parse-rows.txt"));
+    let mut draws = Draws::new(27, &PlainReader::new());
     (0..5000).map(|_| draws.text()).collect()
 }
 

@@ -1,11 +1,11 @@
 // The calls with a callback: what `parse` and `parse_pieces` give, the numbers of the pieces, and the messages of errors.
-use super::cuts::{check_few_wait, check_sizes};
-use super::line::{push_comma, push_event, push_waiting};
+ghost use Rattle.std.specs.Prelude.{◌<◌};
+
 use super::long::{KEYS, wanted_at};
-use super::{InputEvent, InputParser, LAST, MORE, check_nothing_waits};
+use super::{InputEvent, InputParser, LAST, MORE, line_of};
 use std::alloc::{AllocError, Global};
-use std::fmt::Write;
 use std::process::Abort;
+use std::str;
 use std::test::Fail;
 use termwiz_input::input::{ParseError, PiecesError};
 
@@ -49,40 +49,7 @@ pub(super) fn parsed_pieces(
     Ok(events)
 }
 
-// The events of a call of `parse_pieces` with the two halves of the bytes.
-pub(super) fn parsed_halves(
-    rt: &impl Abort,
-    alloc: Global,
-    parser: &mut InputParser,
-    bytes: &[u8],
-    more: bool,
-) -> Result<Vec<InputEvent>, Fail> {
-    let (first, second) = bytes.split_at(bytes.len() / 2);
-    let mut events = Vec::new(alloc);
-    for (_, event) in parsed_pieces(rt, alloc, parser, &[first, second], more)? {
-        events.push(event)?;
-    }
-    Ok(events)
-}
-
-// The events of a call, each after the number of its piece, and what waits after it.
-fn numbered_line_of(
-    alloc: Global,
-    events: &[(usize, InputEvent)],
-    parser: &InputParser,
-) -> Result<String, AllocError> {
-    let mut line = String::new(alloc);
-    for (number, event) in events {
-        push_comma(&mut line)?;
-        write!(line, "{number}: ")?;
-        push_event(&mut line, event)?;
-    }
-    push_waiting(&mut line, parser)?;
-    Ok(line)
-}
-
-// The name of an example, the bytes that a fresh parser takes first, with more to come, the pieces, the flag, and the
-// line that they give.
+// The name of an example, the bytes that a fresh parser takes first, with more to come, the pieces, the flag, and what they give.
 type Call = (
     &'static str,
     &'static [u8],
@@ -92,131 +59,102 @@ type Call = (
 );
 
 const CALLS: &[Call] = &[
-    ("no-pieces", b"", &[], MORE, ""),
-    ("flush-by-no-pieces", b"\x1b", &[], LAST, "0: Escape"),
-    ("no-pieces-with-more-to-come", b"\x1b", &[], MORE, "waits 1"),
+    ("no-pieces", b"", &[], MORE, "0 wait"),
+    (
+        "flush-by-no-pieces",
+        b"\x1b",
+        &[],
+        LAST,
+        "0 key Escape NONE, 0 wait",
+    ),
+    ("no-pieces-with-more-to-come", b"\x1b", &[], MORE, "1 wait"),
     (
         "empty-pieces",
         b"",
         &[b"", b"\x1b", b"", b"[", b"A"],
         MORE,
-        "4: UpArrow",
+        "4 key UpArrow NONE, 0 wait",
     ),
     (
         "mouse-in-pieces",
         b"",
         &[b"\x1b[", b"<0;1;2M"],
         LAST,
-        "1: Mouse 1 2 LEFT NONE",
+        "1 mouse 1 2 LEFT NONE, 0 wait",
     ),
-    ("alt-in-pieces", b"", &[b"\x1b", b"["], LAST, "1: [ ALT"),
+    (
+        "alt-in-pieces",
+        b"",
+        &[b"\x1b", b"["],
+        LAST,
+        "1 key U+005B ALT, 0 wait",
+    ),
     (
         "numbers",
         b"",
         &[b"a", b"\x1b", b"[Ab"],
         LAST,
-        "0: a, 2: UpArrow, 2: b",
+        "0 key U+0061 NONE, 2 key UpArrow NONE, 2 key U+0062 NONE, 0 wait",
     ),
     (
         "pieces-paste",
         b"",
         &[b"\x1b[2", b"00~ab\x1b[", b"201~"],
         MORE,
-        "2: Paste(ab)",
+        "2 paste 2:6162, 0 wait",
     ),
     (
         "only-the-last-piece-is-flushed",
         b"",
         &[b"\x1b", b"x\x1b", b"[1"],
         LAST,
-        "1: x ALT, 2: [ ALT, 2: 1",
+        "1 key U+0078 ALT, 2 key U+005B ALT, 2 key U+0031 NONE, 0 wait",
     ),
     (
         "empty-last-piece",
         b"",
         &[b"\x1b[1", b""],
         LAST,
-        "1: [ ALT, 1: 1",
+        "1 key U+005B ALT, 1 key U+0031 NONE, 0 wait",
     ),
     (
         "held-before",
         b"\x1b[<0;1",
         &[b";2", b"M"],
         MORE,
-        "1: Mouse 1 2 LEFT NONE",
+        "1 mouse 1 2 LEFT NONE, 0 wait",
     ),
     (
         "pieces-of-an-open-paste",
         b"\x1b[200~a",
         &[b"b", b"c"],
         LAST,
-        "waits 9 in a paste",
+        "9 wait",
     ),
 ];
 
-// The parser buffers what comes before the pieces, and emits nothing.
-fn check_before(
-    rt: &impl Abort,
-    alloc: Global,
-    parser: &mut InputParser,
-    before: &[u8],
-    name: &str,
-) -> Result<(), Fail> {
-    let events = parsed(rt, alloc, parser, before, MORE)?;
-    assert!(rt; events.is_empty(), "{name}");
-    Ok(())
-}
-
-// The line is of the events of the pieces.
-fn check_pieces(
-    rt: &impl Abort,
-    alloc: Global,
-    parser: &mut InputParser,
-    (pieces, more): (&[&[u8]], bool),
-    wanted: &str,
-    name: &str,
-) -> Result<(), Fail> {
-    let events = parsed_pieces(rt, alloc, parser, pieces, more)?;
-    let line = numbered_line_of(alloc, events.as_slice(), parser)?;
-    assert_eq!(rt; line.as_str(), wanted, "{name}");
-    check_few_wait(rt, parser, name);
-    Ok(())
-}
-
-// What comes before the pieces, and then the pieces.
-fn whole_text(alloc: Global, before: &[u8], pieces: &[&[u8]]) -> Result<Vec<u8>, AllocError> {
-    let mut text = before.to_vec(alloc)?;
-    text.append(&mut pieces.concat(alloc)?)?;
-    Ok(text)
-}
-
-// Makes the call of an example with a parser in which nothing waits.
+// Makes the call of an example with a parser in which nothing waits, and leaves it so.
 fn check_call(
     rt: &impl Abort,
     alloc: Global,
     parser: &mut InputParser,
     (name, before, pieces, more, wanted): &Call,
 ) -> Result<(), Fail> {
-    check_before(rt, alloc, parser, before, name)?;
-    check_pieces(rt, alloc, parser, (pieces, *more), wanted, name)
-}
-
-// Reads all bytes of an example in pieces of other sizes.
-fn check_whole(
-    rt: &impl Abort,
-    alloc: Global,
-    (name, before, pieces, _, _): &Call,
-) -> Result<(), Fail> {
-    let text = whole_text(alloc, before, pieces)?;
-    check_sizes(rt, alloc, name, &text)
+    assert!(rt;
+        parsed(rt, alloc, parser, before, MORE)?.is_empty(),
+        "{name}"
+    );
+    let events = parsed_pieces(rt, alloc, parser, pieces, *more)?;
+    let line = line_of(alloc, events.as_slice(), parser.reset())?;
+    assert_eq!(rt; str::from_utf8(&line).ok(), Some(*wanted), "{name}");
+    Ok(())
 }
 
 #[test]
 fn reads_pieces(rt: HostRuntime) -> Result<(), Fail> {
+    let mut parser = InputParser::new(rt.alloc())?;
     for call in CALLS {
-        let mut parser = InputParser::new(rt.alloc())?;
         check_call(&rt, rt.alloc(), &mut parser, call)?;
-        check_whole(&rt, rt.alloc(), call)?;
     }
     Ok(())
 }
@@ -232,44 +170,34 @@ fn error_messages(rt: HostRuntime) -> Result<(), Fail> {
     Ok(())
 }
 
-// The events of `KEYS` as often as this, a byte a piece: the first key ends at the third byte, and the second at the fourth.
-fn keys_by_bytes(alloc: Global, times: u16) -> Result<Vec<(usize, InputEvent)>, AllocError> {
-    let mut events = Vec::new(alloc);
-    for time in 0..times {
-        let first = time as usize * 4;
-        events.push((first + 2, wanted_at(0)))?;
-        events.push((first + 3, wanted_at(1)))?;
-    }
-    Ok(events)
-}
-
-// Each byte of the text as a piece.
-fn pieces_of_a_byte(alloc: Global, text: &[u8]) -> Result<Vec<&[u8]>, AllocError> {
+// The text in pieces of this length.
+pub(super) fn pieces_of(alloc: Global, text: &[u8], len: usize) -> Result<Vec<&[u8]>, AllocError>
+    requires { 0 < len }
+{
     let mut pieces = Vec::new(alloc);
-    for piece in text.chunks(1) {
+    for piece in text.chunks(len) {
         pieces.push(piece)?;
     }
     Ok(pieces)
 }
 
-// Reads `KEYS` as often as this, in pieces of a byte.
-fn check_keys_by_bytes(
-    rt: &impl Abort,
-    alloc: Global,
-    parser: &mut InputParser,
-    pieces: &[&[u8]],
-    times: u16,
-) -> Result<(), Fail> {
-    let events = parsed_pieces(rt, alloc, parser, pieces, LAST)?;
-    assert!(rt; events == keys_by_bytes(alloc, times)?);
-    check_nothing_waits(rt, parser);
-    Ok(())
+// The events of `KEYS`, again and again, a byte a piece: the first key ends at the third byte, and the second at the fourth.
+fn check_numbers(rt: &impl Abort, events: &[(usize, InputEvent)]) {
+    for (place, (number, event)) in events.iter().enumerate() {
+        assert_eq!(rt; *number, place / 2 * 4 + 2 + place % 2);
+        assert_eq!(rt; *event, wanted_at(place));
+    }
 }
 
 #[test]
 fn reads_70000_pieces(rt: HostRuntime) -> Result<(), Fail> {
-    let text = KEYS.repeat(rt.alloc(), 17500)?;
-    let pieces = pieces_of_a_byte(rt.alloc(), &text)?;
-    let mut parser = InputParser::new(rt.alloc())?;
-    check_keys_by_bytes(&rt, rt.alloc(), &mut parser, &pieces, 17500)
+    let alloc = rt.alloc();
+    let text = KEYS.repeat(alloc, 17500)?;
+    let mut parser = InputParser::new(alloc)?;
+    let pieces = pieces_of(alloc, &text, 1)?;
+    let events = parsed_pieces(&rt, alloc, &mut parser, &pieces, LAST)?;
+    assert_eq!(rt; events.len(), 35000);
+    check_numbers(&rt, &events);
+    assert_eq!(rt; parser.waiting_len(), 0);
+    Ok(())
 }

@@ -1,126 +1,70 @@
-// The sequence table against the rows of the plain reader.
-use super::cuts::check_few_wait;
-use super::plain::{PlainReader, event_of};
-use super::{
-    Flags, InputEvent, InputParser, KeyCode, KeyEvent, LAST, MORE, Modifiers, check_waiting_len,
-    renew,
-};
+// Lookups in the sequence table, and the test for a paste without an end.
+use super::{InputEvent, InputParser, KeyCode, KeyEvent, LAST, MORE, Modifiers};
 use crate::table_rows;
-use std::alloc::Global;
 use std::process::Abort;
 use std::test::Fail;
 use termwiz_input::keymap::{Found, KeyMap};
 
-// The event of a row after one ESC.
-fn event_with_alt(row: &KeyEvent) -> InputEvent {
-    InputEvent::Key(KeyEvent {
-        key: row.key,
-        modifiers: row.modifiers.union(Modifiers::ALT),
-    })
-}
+// Bytes, and the length and the key of the row that a lookup finds at their front.
+const FOUND: &[(&[u8], usize, KeyCode, Modifiers)] = &[
+    (b"\x1b[Aq", 3, KeyCode::UpArrow, Modifiers::NONE),
+    (b"\x1b[1;5A", 6, KeyCode::UpArrow, Modifiers::CTRL),
+    (b"\x1b[1;5", 2, KeyCode::Char('['), Modifiers::ALT),
+    (
+        b"\x1b[200~",
+        6,
+        KeyCode::InternalPasteStart,
+        Modifiers::NONE,
+    ),
+    (b"\x1bq", 1, KeyCode::Escape, Modifiers::NONE),
+];
 
-// The text of a row has this one event.
-fn check_event(
-    rt: &impl Abort,
-    parser: &mut InputParser,
-    text: &[u8],
-    event: InputEvent,
-    bytes: &[u8],
-) -> Result<(), Fail> {
-    let events = parser.parse_as_vec(text, LAST)?;
-    assert_eq!(rt; events.as_slice(), [event].as_slice(), "{bytes:?}");
-    Ok(())
-}
-
-// Alone the row is read as its key, and after one ESC as its key with Alt, each as one event after which nothing waits. So
-// the parser's table has the row: other bytes would be read as their characters, or joined to the ESC one by one.
 fn check_row(
     rt: &impl Abort,
-    alloc: Global,
-    parser: &mut InputParser,
-    bytes: &[u8],
-    row: &KeyEvent,
-) -> Result<(), Fail> {
-    check_event(rt, parser, bytes, event_of(row), bytes)?;
-    let mut after_escape = b"\x1b".to_vec(alloc)?;
-    after_escape.extend_from_slice(bytes)?;
-    check_event(rt, parser, &after_escape, event_with_alt(row), bytes)?;
-    check_waiting_len(rt, parser, 0, bytes);
-    Ok(())
+    parser: &InputParser,
+    (bytes, len, key, modifiers): &(&[u8], usize, KeyCode, Modifiers),
+) {
+    let event = KeyEvent {
+        key: *key,
+        modifiers: *modifiers,
+    };
+    assert_eq!(rt;
+        parser.lookup(bytes, LAST),
+        Found::Exact(*len, &event),
+        "{bytes:?}"
+    );
 }
 
-// The plain reader has as many rows as the parser's table, with different bytes.
-fn check_counts(rt: &impl Abort, reader: &PlainReader) {
-    assert_eq!(rt; reader.row_count(), table_rows());
-    assert_eq!(rt; reader.rows().len(), table_rows(), "all bytes differ");
-}
-
-// Each row of the plain reader is a row of the parser's table; only the start of a paste isn't a key. Both have as many,
-// with different bytes, so the parser's table has no other row.
+// ESC is a row, and longer rows begin with it. No row begins the last three texts, of which one is empty.
 #[test]
-fn has_the_rows_and_no_other(rt: HostRuntime) -> Result<(), Fail> {
-    let reader = PlainReader::new(rt.alloc())?;
-    check_counts(&rt, &reader);
-    let mut parser = InputParser::new(rt.alloc())?;
-    for (bytes, row) in reader.rows() {
-        if row.key != KeyCode::InternalPasteStart {
-            check_row(&rt, rt.alloc(), &mut parser, bytes, row)?;
-        }
+fn looks_rows_up(rt: HostRuntime) -> Result<(), Fail> {
+    let parser = InputParser::new(rt.alloc())?;
+    for row in FOUND {
+        check_row(&rt, &parser, row);
     }
+    let escape = KeyEvent {
+        key: KeyCode::Escape,
+        modifiers: Modifiers::NONE,
+    };
+    assert_eq!(rt; parser.lookup(b"\x1b", MORE), Found::Ambiguous(1, &escape));
+    assert_eq!(rt; parser.lookup(b"\x1bq", MORE), Found::Exact(1, &escape));
+    assert_eq!(rt; parser.lookup(b"q", MORE), Found::None);
+    assert_eq!(rt; parser.lookup(b"\xc3", MORE), Found::None);
+    assert_eq!(rt; parser.lookup(b"", MORE), Found::NeedData);
+    assert_eq!(rt; parser.waiting_len(), 0);
     Ok(())
 }
 
-// The events of the two parts, the first with more to come.
-fn events_of_parts(
-    rt: &impl Abort,
-    parser: &mut InputParser,
-    first: &[u8],
-    second: &[u8],
-) -> Result<Vec<InputEvent>, Fail> {
-    let mut events = parser.parse_as_vec(first, MORE)?;
-    check_few_wait(rt, parser, "a beginning of a row");
-    events.append(&mut parser.parse_as_vec(second, LAST)?)?;
-    Ok(events)
-}
-
-// The two parts have these events, and then as many bytes wait.
-fn check_parts(
-    rt: &impl Abort,
-    parser: &mut InputParser,
-    (first, second): (&[u8], &[u8]),
-    wanted: &[InputEvent],
-    waiting_len: usize,
-) -> Result<(), Fail> {
-    let events = events_of_parts(rt, parser, first, second)?;
-    assert_eq!(rt; events.as_slice(), wanted, "{first:?}, {second:?}");
-    assert_eq!(rt; parser.waiting_len(), waiting_len, "{first:?}, {second:?}");
-    Ok(())
-}
-
-// Cut in two at every place, the row is read as it is whole.
-fn check_cuts(
-    rt: &impl Abort,
-    alloc: Global,
-    parser: &mut InputParser,
-    bytes: &[u8],
-) -> Result<(), Fail> {
-    let wanted = parser.parse_as_vec(bytes, LAST)?;
-    let waiting_len = parser.waiting_len();
-    for place in 0..bytes.len() + 1 {
-        renew(alloc, parser)?;
-        check_parts(rt, parser, bytes.split_at(place), &wanted, waiting_len)?;
-    }
-    renew(alloc, parser)?;
-    Ok(())
-}
-
+// A lookup of the bytes of each row finds the whole row, and past the last place there is none.
 #[test]
-fn reads_rows_cut_in_two(rt: HostRuntime) -> Result<(), Fail> {
-    let reader = PlainReader::new(rt.alloc())?;
-    let mut parser = InputParser::new(rt.alloc())?;
-    for bytes in reader.rows().keys() {
-        check_cuts(&rt, rt.alloc(), &mut parser, bytes)?;
+fn finds_each_row(rt: HostRuntime) -> Result<(), Fail> {
+    let parser = InputParser::new(rt.alloc())?;
+    for place in 0..table_rows() {
+        let (bytes, key) = parser.row(place).expect(&rt, "a row at each place");
+        assert_eq!(rt; parser.lookup(bytes, LAST), Found::Exact(bytes.len(), key));
     }
+    assert!(rt; parser.row(table_rows()).is_none());
+    assert!(rt; parser.row(usize::MAX).is_none());
     Ok(())
 }
 
@@ -134,5 +78,41 @@ fn clones_key_events(rt: HostRuntime) -> Result<(), Fail> {
     let mut keys = KeyMap::new(rt.alloc());
     keys.insert(b"\r", enter.clone()?)?;
     assert_eq!(rt; keys.clone()?.lookup(b"\r", true), Found::Exact(1, &enter));
+    Ok(())
+}
+
+// Texts, and whether each is a paste whose end isn't there.
+const OPEN: &[(&[u8], bool)] = &[
+    (b"\x1b[200~", true),
+    (b"\x1b[200~ab\x1b[201", true),
+    (b"\x1b[200~ab\x1b[201~", false),
+    (b"\x1b[200~\x1b[201~q", false),
+    (b"\x1b[200", false),
+    (b"q\x1b[200~", false),
+    (b"", false),
+];
+
+#[test]
+fn awaits_the_end_of_a_paste(rt: HostRuntime) -> Result<(), Fail> {
+    let mut parser = InputParser::new(rt.alloc())?;
+    for (text, awaits) in OPEN {
+        parser.feed(text)?;
+        assert_eq!(rt; parser.awaits_paste_end(), *awaits, "{text:?}");
+        assert_eq!(rt; parser.reset(), text.len(), "{text:?}");
+    }
+    Ok(())
+}
+
+// An open paste of 300 KB is awaited, and then its end makes it the next event.
+#[test]
+fn awaits_the_end_of_a_long_paste(rt: HostRuntime) -> Result<(), Fail> {
+    let mut parser = InputParser::new(rt.alloc())?;
+    parser.feed(b"\x1b[200~")?;
+    parser.feed(&b"x".repeat(rt.alloc(), 300_000)?)?;
+    assert!(rt; parser.awaits_paste_end());
+    parser.feed(b"\x1b[201~")?;
+    assert!(rt; !parser.awaits_paste_end());
+    assert!(rt; matches!(parser.next_event(MORE)?, Some(InputEvent::Paste(_))));
+    assert_eq!(rt; parser.waiting_len(), 0);
     Ok(())
 }

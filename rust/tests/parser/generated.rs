@@ -1,0 +1,201 @@
+// Generated texts in pieces, as the plain reader and the parsers read them: this crate's by its own calls, and Rattle's by the program replay.
+use crate::calls::{Call, CALLS, MOST};
+use crate::draws::Draws;
+use crate::lines::{answer, hex};
+use crate::plain::PlainReader;
+use crate::replay;
+use hedrugal::input::{InputEvent, InputParser, Waiting};
+
+// What the plain reader finds in a call with these bytes.
+struct Reading<'a> {
+    bytes: &'a [u8],
+    more: bool,
+    events: Vec<InputEvent>,
+    rest: Vec<u8>,
+    kind: Waiting,
+}
+
+impl<'a> Reading<'a> {
+    // How the reader reads these bytes after a waiting text. What it leaves may stay buffered.
+    fn new(reader: &PlainReader, waiting: &[u8], bytes: &'a [u8], more: bool) -> Reading<'a> {
+        let text = [waiting, bytes].concat();
+        let (events, rest) = reader.read(&text, more);
+        let kind = reader.kind_of(rest, more);
+        let kind = kind.unwrap_or_else(|| panic!("{} waits of {}", hex(rest), hex(&text)));
+        assert!(
+            rest.len() <= MOST || kind == Waiting::Paste,
+            "{} waits of {}",
+            hex(rest),
+            hex(&text)
+        );
+        Reading {
+            bytes,
+            more,
+            events,
+            rest: rest.to_vec(),
+            kind,
+        }
+    }
+
+    fn answer(&self) -> String {
+        answer(&self.events, &self.rest)
+    }
+
+    // The call in a line of cases.
+    fn call(&self) -> String {
+        let mark = if self.more { '+' } else { '-' };
+        format!("{mark}{}", hex(self.bytes))
+    }
+}
+
+// The line of calls that follow one another, in the form that `case_of` in crates/recorded reads.
+fn line_of_calls(readings: &[Reading]) -> String {
+    let calls: Vec<String> = readings.iter().map(Reading::call).collect();
+    let answers: Vec<String> = readings.iter().map(Reading::answer).collect();
+    format!("{} = {}", calls.join(" "), answers.join(" | "))
+}
+
+// The line of a text that is read in every way.
+fn line_of_text(reading: &Reading) -> String {
+    format!("*{} = {}", hex(reading.bytes), reading.answer())
+}
+
+// A parser in which nothing waits gives each reading by this call.
+fn check_readings(parser: &mut InputParser, call: Call, readings: &[Reading]) {
+    for (number, reading) in readings.iter().enumerate() {
+        let name = || format!("call {number} by {call:?}, {}", line_of_calls(readings));
+        assert_eq!(call.events(parser, reading.bytes, reading.more), reading.events, "{}", name());
+        assert_eq!(parser.waiting_len(), reading.rest.len(), "{}", name());
+        assert_eq!(parser.waiting(), reading.kind, "{}", name());
+        assert_eq!(parser.is_paste_open(), reading.kind == Waiting::Paste, "{}", name());
+    }
+    parser.reset();
+}
+
+// The parser, what it is compared with, what draws the texts, and the lines of cases for replay.
+struct Comparison {
+    parser: InputParser,
+    reader: PlainReader,
+    draws: Draws,
+    lines: Vec<String>,
+}
+
+impl Comparison {
+    fn new(seed: u64) -> Comparison {
+        let reader = PlainReader::new();
+        let draws = Draws::new(seed, &reader);
+        Comparison {
+            parser: InputParser::new(),
+            reader,
+            draws,
+            lines: Vec::new(),
+        }
+    }
+
+    // How the plain reader reads the pieces, all but the last with more to come, and then a flush.
+    fn readings<'a>(&self, pieces: &[&'a [u8]], more: bool) -> Vec<Reading<'a>> {
+        let flags = (1..=pieces.len()).map(|number| more || number < pieces.len());
+        let calls = pieces.iter().copied().zip(flags).chain([(&b""[..], false)]);
+        let mut readings: Vec<Reading> = Vec::new();
+        for (bytes, more) in calls {
+            let waiting = readings.last().map_or(&b""[..], |reading| &reading.rest);
+            readings.push(Reading::new(&self.reader, waiting, bytes, more));
+        }
+        readings
+    }
+
+    // The parser reads the text in pieces that are drawn as the plain reader does, by each of its calls.
+    fn check_in_pieces(&mut self, text: &[u8]) {
+        let pieces = self.draws.pieces(text);
+        let more = self.draws.below(2) == 0;
+        let readings = self.readings(&pieces, more);
+        self.lines.push(line_of_calls(&readings));
+        for call in CALLS {
+            check_readings(&mut self.parser, call, &readings);
+        }
+    }
+
+    // The same of the text as a whole, which replay also cuts in two at each place.
+    fn check_whole(&mut self, text: &[u8]) {
+        let reading = Reading::new(&self.reader, b"", text, false);
+        self.lines.push(line_of_text(&reading));
+        check_readings(&mut self.parser, Call::List, &[reading]);
+    }
+
+    fn check(&mut self, text: &[u8]) {
+        self.check_in_pieces(text);
+        self.check_whole(text);
+    }
+}
+
+// How many texts are drawn by each seed.
+const TEXTS: usize = 5000;
+
+// Compares the texts that this seed draws.
+fn check_texts(seed: u64) {
+    let mut comparison = Comparison::new(seed);
+    for _ in 0..TEXTS {
+        let text = comparison.draws.text();
+        comparison.check(&text);
+    }
+    replay::check_lines(&format!("generated-{seed}.txt"), &comparison.lines);
+}
+
+#[test]
+fn reads_as_the_plain_reader_1() {
+    check_texts(1);
+}
+
+#[test]
+fn reads_as_the_plain_reader_2() {
+    check_texts(2);
+}
+
+#[test]
+fn reads_as_the_plain_reader_3() {
+    check_texts(3);
+}
+
+#[test]
+fn reads_as_the_plain_reader_4() {
+    check_texts(4);
+}
+
+#[test]
+fn reads_long_texts_as_the_plain_reader() {
+    let mut comparison = Comparison::new(5);
+    for _ in 0..20 {
+        let text = comparison.draws.symbols(200);
+        comparison.check(&text);
+    }
+    replay::check_lines("generated-5.txt", &comparison.lines);
+}
+
+// Reads the pieces of a text, and a flush. Where an item of the whole text ends, and ESC or ESC ESC waits, the Escape key is flushed.
+fn read_with_pauses(parser: &mut InputParser, pieces: &[&[u8]], ends: &[usize]) -> Vec<InputEvent> {
+    let mut events = Vec::new();
+    let mut place = 0;
+    for piece in pieces {
+        place += piece.len();
+        events.append(&mut Call::List.events(parser, piece, true));
+        if ends.contains(&place) {
+            events.extend(parser.flush_escape());
+        }
+    }
+    events.append(&mut Call::List.events(parser, b"", false));
+    events
+}
+
+// A pause where an item ends changes no event.
+#[test]
+fn pauses_between_items() {
+    let (mut parser, reader) = (InputParser::new(), PlainReader::new());
+    let mut draws = Draws::new(6, &reader);
+    for _ in 0..3000 {
+        let text = draws.text();
+        let events = read_with_pauses(&mut parser, &draws.pieces(&text), &reader.ends_of(&text, false));
+        let (wanted, rest) = reader.read(&text, false);
+        assert_eq!(events, wanted, "{}", hex(&text));
+        assert_eq!(parser.reset(), rest.len(), "{}", hex(&text));
+    }
+}
