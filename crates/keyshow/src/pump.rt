@@ -16,15 +16,19 @@ use std::io::{Read, Write};
 use termwiz_input::input::InputParser;
 use termwiz_input::laws;
 use termwiz_input::types::InputEvent;
+use thiserror::Error;
 
 /// Why a run ended early.
-#[derive(Clone, Copy, PartialEq, Eq, Debug)]
+#[derive(Clone, Copy, PartialEq, Eq, Debug, Error)]
 pub enum RunError {
     /// A read failed, or 2^64 - 1 reads came without the end.
+    #[error("read failed")]
     Read,
     /// A write failed or took no byte, or the writer could not be flushed.
+    #[error("write failed")]
     Write,
     /// Memory was refused.
+    #[error("out of memory")]
     Memory,
 }
 

@@ -1,5 +1,6 @@
-// Runs over a reader and a writer that fail, and the lines of events that no bytes mean.
+// Runs over a reader and a writer that fail, the lines of events that no bytes mean, and those of faults.
 
+use crate::fault_line;
 use crate::lines::push_line;
 use crate::pump::{RunError, run};
 use bitflags::Flags;
@@ -309,5 +310,21 @@ fn lines_of_events_that_no_bytes_mean(rt: HostRuntime) -> Result<(), Fail> {
         resized 80 24\n\
         wake\n";
     assert_eq!(rt; lines.as_slice(), wanted.as_bytes());
+    Ok(())
+}
+
+#[test]
+fn lines_of_faults(rt: HostRuntime) -> Result<(), Fail> {
+    let cases = [
+        (RunError::Read, "read failed"),
+        (RunError::Write, "write failed"),
+        (RunError::Memory, "out of memory"),
+    ];
+    for (fault, wanted) in cases {
+        let message = format!(in rt.alloc(); "{fault}")?;
+        assert_eq!(rt; message.as_str(), wanted);
+        let line = format!(in rt.alloc(); "keyshow: {wanted}")?;
+        assert_eq!(rt; fault_line(&fault), line.as_str());
+    }
     Ok(())
 }
