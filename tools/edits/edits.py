@@ -334,8 +334,7 @@ class Crate:
 
     def put_holes(self, proved):
         """Puts a hole in the place of each function's proof but for those that are to be proved, and puts back the proofs of these."""
-        # a closure, and what has no plain name, keeps its proof
-        plain = {it for it in self.names if re.fullmatch(r"\w+(::\w+)*", it) and "::fn::" not in it}
+        plain = {it for it in self.names if self.may_be_hole(it)}
         for name in self.holes & {*proved}:
             folder = self.proof_folder(name)
             shutil.rmtree(f"{self.folder}/{folder}")
@@ -349,6 +348,11 @@ class Crate:
                 _, *path, last = name.split("::")
                 it.write(HOLE.format(crate=self.name, path=".".join([*path, last]), name=last))
         self.holes = plain - {*proved}
+
+    def may_be_hole(self, name):
+        """Returns whether a function's proof may be a hole: not that of a closure, of what has no plain name, or of what calls itself."""
+        folder, last = os.path.split(self.proof_folder(name))
+        return bool(re.fullmatch(r"\w+(::\w+)*", name)) and "::fn::" not in name and not os.path.isdir(f"{self.source}/{folder}/+{last}")
 
     @staticmethod
     def proof_folder(name):
