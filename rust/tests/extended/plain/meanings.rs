@@ -1,0 +1,328 @@
+// "Events": the event of a text of a form. `t` is what follows ESC `[`.
+use super::forms::string_of;
+use super::keys::{console_key_of, key_of, key_of_letter, key_of_number, keypad_key_of, other_key_of};
+use hedrugal::extended::{ExtendedEvent, KeyEventKind, KeyReport, KittyModifiers, ReportedKey};
+use hedrugal::input::{InputEvent, Modifiers, MouseButtons, MouseEvent};
+use std::str;
+
+// A number of at most so many digits.
+fn number_of(text: &[u8], most_digits: usize) -> Option<u32> {
+    if text.len() > most_digits || !text.iter().all(u8::is_ascii_digit) {
+        return None;
+    }
+    str::from_utf8(text).ok()?.parse().ok()
+}
+
+// A number of at most seven digits, from 1 to a limit.
+fn number_up_to(text: &[u8], limit: u32) -> Option<u32> {
+    number_of(text, 7).filter(|number| (1..=limit).contains(number))
+}
+
+// A number of at most five digits, up to 65535.
+fn short_number(text: &[u8]) -> Option<u16> {
+    u16::try_from(number_of(text, 5)?).ok()
+}
+
+fn scalar_of(text: &[u8]) -> Option<char> {
+    char::from_u32(number_of(text, 7)?)
+}
+
+// The modifiers and the type: [mods] [`:` type].
+#[derive(Clone, Copy)]
+struct Manner {
+    modifiers: KittyModifiers,
+    kind: KeyEventKind,
+}
+
+const PRESSED: Manner = Manner {
+    modifiers: KittyModifiers::NONE,
+    kind: KeyEventKind::Press,
+};
+
+// The bits of a number that is one more than they are.
+fn modifiers_before(number: u32) -> Option<KittyModifiers> {
+    Some(KittyModifiers::from_bits_retain(u8::try_from(number - 1).ok()?))
+}
+
+// mods: one more than the bits. Missing, it is 1.
+fn modifiers_of(text: &[u8]) -> Option<KittyModifiers> {
+    if text.is_empty() {
+        return Some(KittyModifiers::NONE);
+    }
+    modifiers_before(number_up_to(text, 256)?)
+}
+
+fn kind_of(text: &[u8]) -> Option<KeyEventKind> {
+    match number_up_to(text, 3)? {
+        1 => Some(KeyEventKind::Press),
+        2 => Some(KeyEventKind::Repeat),
+        _ => Some(KeyEventKind::Release),
+    }
+}
+
+fn manner_of(field: &[u8]) -> Option<Manner> {
+    let mut parts = field.split(|byte| *byte == b':');
+    let modifiers = modifiers_of(parts.next()?)?;
+    let kind = match parts.next() {
+        Some(part) => kind_of(part)?,
+        None => KeyEventKind::Press,
+    };
+    parts.next().is_none().then_some(Manner { modifiers, kind })
+}
+
+// [`;` [mods] [`:` type]].
+fn manner_after(tail: &[u8]) -> Option<Manner> {
+    match tail {
+        [] => Some(PRESSED),
+        [b';', field @ ..] => manner_of(field),
+        _ => None,
+    }
+}
+
+fn report_of(key: ReportedKey, manner: Manner) -> KeyReport {
+    KeyReport {
+        key,
+        modifiers: manner.modifiers,
+        kind: manner.kind,
+        shifted: None,
+        base: None,
+        text: String::new(),
+    }
+}
+
+// c [`:` [shifted] [`:` base]].
+struct Codes {
+    c: char,
+    shifted: Option<char>,
+    base: Option<char>,
+}
+
+fn codes_of(field: &[u8]) -> Option<Codes> {
+    let mut parts = field.split(|byte| *byte == b':');
+    let c = scalar_of(parts.next()?)?;
+    let shifted_part = parts.next();
+    let base_part = parts.next();
+    if parts.next().is_some() {
+        return None;
+    }
+    // `c:` alone is none.
+    let shifted = match shifted_part {
+        Some([]) if base_part.is_some() => None,
+        Some(part) => Some(scalar_of(part)?),
+        None => None,
+    };
+    let base = match base_part {
+        Some(part) => Some(scalar_of(part)?),
+        None => None,
+    };
+    Some(Codes { c, shifted, base })
+}
+
+// [text].
+fn text_of(field: &[u8]) -> Option<String> {
+    if field.is_empty() {
+        return Some(String::new());
+    }
+    field.split(|byte| *byte == b':').map(scalar_of).collect()
+}
+
+// The line of the keys that end in `u`.
+fn character_key(t: &[u8]) -> Option<KeyReport> {
+    let mut fields = t.strip_suffix(b"u")?.split(|byte| *byte == b';');
+    let codes = codes_of(fields.next().unwrap_or(b""))?;
+    let manner = manner_of(fields.next().unwrap_or(b""))?;
+    let text = text_of(fields.next().unwrap_or(b""))?;
+    if fields.next().is_some() {
+        return None;
+    }
+    Some(KeyReport {
+        shifted: codes.shifted,
+        base: codes.base,
+        text,
+        ..report_of(key_of(codes.c), manner)
+    })
+}
+
+// The line of the keys that end in a letter.
+fn lettered_key(t: &[u8]) -> Option<KeyReport> {
+    let (letter, body) = t.split_last()?;
+    let tail = body.strip_prefix(b"1").unwrap_or(body);
+    Some(report_of(key_of_letter(*letter)?, manner_after(tail)?))
+}
+
+// The line of the keys that end in `~`.
+fn numbered_key(t: &[u8]) -> Option<KeyReport> {
+    let body = t.strip_suffix(b"~")?;
+    let len = body.split(|byte| *byte == b';').next()?.len();
+    let (number, tail) = body.split_at(len);
+    Some(report_of(key_of_number(number_of(number, 7)?)?, manner_after(tail)?))
+}
+
+// The line `27;` m `;` c `~`.
+fn other_key(t: &[u8]) -> Option<KeyReport> {
+    let body = t.strip_prefix(b"27;")?.strip_suffix(b"~")?;
+    let mut fields = body.split(|byte| *byte == b';');
+    let m = number_up_to(fields.next()?, 8)?;
+    let c = scalar_of(fields.next()?)?;
+    if fields.next().is_some() {
+        return None;
+    }
+    let manner = Manner {
+        modifiers: modifiers_before(m)?,
+        kind: KeyEventKind::Press,
+    };
+    Some(report_of(other_key_of(c), manner))
+}
+
+// The lines of keys.
+fn key_event(t: &[u8]) -> Option<ExtendedEvent> {
+    let report = character_key(t)
+        .or_else(|| lettered_key(t))
+        .or_else(|| numbered_key(t))
+        .or_else(|| other_key(t));
+    report.map(ExtendedEvent::Key)
+}
+
+// The lines of cursor positions.
+fn cursor_position(t: &[u8]) -> Option<ExtendedEvent> {
+    let body = t.strip_suffix(b"R")?;
+    let is_marked = body.starts_with(b"?");
+    let mut fields = body.strip_prefix(b"?").unwrap_or(body).split(|byte| *byte == b';');
+    let row = short_number(fields.next()?)?;
+    let column = short_number(fields.next()?)?;
+    if let Some(page) = fields.next() {
+        if !is_marked {
+            return None;
+        }
+        short_number(page)?;
+    }
+    match fields.next() {
+        Some(_) => None,
+        None => Some(ExtendedEvent::CursorPosition { row, column }),
+    }
+}
+
+// The line of the flags of the keyboard.
+fn keyboard_flags(t: &[u8]) -> Option<ExtendedEvent> {
+    let flags = short_number(t.strip_prefix(b"?")?.strip_suffix(b"u")?)?;
+    Some(ExtendedEvent::KeyboardFlags(u8::try_from(flags).ok()?))
+}
+
+// The line of sizes.
+fn resize(t: &[u8]) -> Option<ExtendedEvent> {
+    let body = t.strip_prefix(b"48;")?.strip_suffix(b"t")?;
+    let mut fields = body.split(|byte| *byte == b';');
+    let rows = short_number(fields.next()?)?;
+    let columns = short_number(fields.next()?)?;
+    let height = short_number(fields.next()?)?;
+    let width = short_number(fields.next()?)?;
+    match fields.next() {
+        Some(_) => None,
+        None => Some(ExtendedEvent::Resize {
+            rows,
+            columns,
+            height,
+            width,
+        }),
+    }
+}
+
+// "Mouse events" of docs/GRAMMAR.md: the buttons of a base at `M`.
+fn buttons_of(base: u16) -> MouseButtons {
+    match base {
+        0 | 32 => MouseButtons::LEFT,
+        1 | 33 => MouseButtons::MIDDLE,
+        2 | 34 => MouseButtons::RIGHT,
+        64 => MouseButtons::VERT_WHEEL | MouseButtons::WHEEL_POSITIVE,
+        65 => MouseButtons::VERT_WHEEL,
+        66 => MouseButtons::HORZ_WHEEL | MouseButtons::WHEEL_POSITIVE,
+        67 => MouseButtons::HORZ_WHEEL,
+        _ => MouseButtons::NONE,
+    }
+}
+
+// The mouse event of code b - 32 at x, y; b is from 32 to 127.
+fn mouse_event(b: u16, x: u16, y: u16) -> Option<ExtendedEvent> {
+    if !(32..=127).contains(&b) {
+        return None;
+    }
+    let code = b - 32;
+    let mut modifiers = Modifiers::NONE;
+    modifiers.set(Modifiers::SHIFT, code & 4 != 0);
+    modifiers.set(Modifiers::ALT, code & 8 != 0);
+    modifiers.set(Modifiers::CTRL, code & 16 != 0);
+    Some(ExtendedEvent::Input(InputEvent::Mouse(MouseEvent {
+        x,
+        y,
+        mouse_buttons: buttons_of(code & !(4 | 8 | 16)),
+        modifiers,
+    })))
+}
+
+// The line of urxvt's mouse reports.
+fn urxvt_report(t: &[u8]) -> Option<ExtendedEvent> {
+    let mut fields = t.strip_suffix(b"M")?.split(|byte| *byte == b';');
+    let b = short_number(fields.next()?)?;
+    let x = short_number(fields.next()?)?;
+    let y = short_number(fields.next()?)?;
+    match fields.next() {
+        Some(_) => None,
+        None => mouse_event(b, x, y),
+    }
+}
+
+// The line of X10 mouse reports. Each byte is at least 32.
+fn x10_report(t: &[u8]) -> Option<ExtendedEvent> {
+    match t {
+        [b'M', b, x, y] => mouse_event(u16::from(*b), u16::from(*x) - 32, u16::from(*y) - 32),
+        _ => None,
+    }
+}
+
+// The line of the Linux console's keys.
+fn console_key(t: &[u8]) -> Option<ExtendedEvent> {
+    match t {
+        [b'[', letter] => Some(ExtendedEvent::Key(report_of(console_key_of(*letter)?, PRESSED))),
+        _ => None,
+    }
+}
+
+// The first line that fits.
+fn event_of_control(t: &[u8]) -> ExtendedEvent {
+    match t {
+        [b'I'] => return ExtendedEvent::FocusGained,
+        [b'O'] => return ExtendedEvent::FocusLost,
+        _ => (),
+    }
+    key_event(t)
+        .or_else(|| cursor_position(t))
+        .or_else(|| keyboard_flags(t))
+        .or_else(|| resize(t))
+        .or_else(|| urxvt_report(t))
+        .or_else(|| x10_report(t))
+        .or_else(|| console_key(t))
+        .unwrap_or_else(|| ExtendedEvent::Csi(t.to_vec()))
+}
+
+// A string.
+fn event_of_string(introducer: u8, data: &[u8]) -> ExtendedEvent {
+    match introducer {
+        b']' => ExtendedEvent::Osc(data.to_vec()),
+        b'P' => ExtendedEvent::Dcs(data.to_vec()),
+        _ => ExtendedEvent::Apc(data.to_vec()),
+    }
+}
+
+// The event of a text of a form.
+pub fn event_of(text: &[u8]) -> Option<ExtendedEvent> {
+    if let Some((introducer, data)) = string_of(text) {
+        return Some(event_of_string(introducer, data));
+    }
+    if let Some(t) = text.strip_prefix(b"\x1b[") {
+        return Some(event_of_control(t));
+    }
+    match text {
+        [0x1b, b'O', letter] => Some(ExtendedEvent::Key(report_of(keypad_key_of(*letter)?, PRESSED))),
+        _ => None,
+    }
+}
