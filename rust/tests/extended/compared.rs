@@ -91,3 +91,21 @@ fn reads_as_the_plain_reader_1() {
 fn reads_as_the_plain_reader_2() {
     check_texts(4);
 }
+
+// Each number that may name a key, and each letter.
+#[test]
+fn reads_keys_as_the_plain_reader() {
+    for rows in BOTH {
+        let mut comparison = Comparison::new(*rows);
+        for number in (0..=300).chain(57300..=57500).chain(63740..=63750) {
+            for text in [format!("\x1b[{number}u"), format!("\x1b[{number}~"), format!("\x1b[27;5;{number}~")] {
+                comparison.check_text(text.as_bytes(), 3);
+            }
+        }
+        for letter in '@'..='~' {
+            for start in ["\x1b[", "\x1b[1;2", "\x1b[[", "\x1bO"] {
+                comparison.check_text(format!("{start}{letter}").as_bytes(), start.len());
+            }
+        }
+    }
+}
