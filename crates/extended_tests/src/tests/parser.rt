@@ -4,8 +4,6 @@ use super::{
     Waiting, joined,
 };
 
-const BOTH: &[Rows] = &[Rows::Port, Rows::Kitty];
-
 // Texts, and how many events they have.
 const TEXTS: &[(Parts, usize)] = &[
     (
@@ -34,15 +32,22 @@ fn check_text(
     Ok(())
 }
 
-#[test]
-fn reads_texts(rt: HostRuntime) -> Result<(), Fail> {
-    for rows in BOTH {
-        let mut parser = ExtendedParser::new(rt.alloc(), *rows)?;
-        for (parts, count) in TEXTS {
-            check_text(&rt, rt.alloc(), &mut parser, parts, *count)?;
-        }
+fn check_texts(rt: &impl Abort, alloc: Global, rows: Rows) -> Result<(), Fail> {
+    let mut parser = ExtendedParser::new(alloc, rows)?;
+    for (parts, count) in TEXTS {
+        check_text(rt, alloc, &mut parser, parts, *count)?;
     }
     Ok(())
+}
+
+#[test]
+fn reads_texts_as_the_port(rt: HostRuntime) -> Result<(), Fail> {
+    check_texts(&rt, rt.alloc(), Rows::Port)
+}
+
+#[test]
+fn reads_texts_with_kitty(rt: HostRuntime) -> Result<(), Fail> {
+    check_texts(&rt, rt.alloc(), Rows::Kitty)
 }
 
 // An open paste of 100 KB is ended.
@@ -68,9 +73,9 @@ fn check_waiting(rt: &impl Abort, parser: &mut ExtendedParser) -> Result<(), Fai
 
 #[test]
 fn ends_what_waits(rt: HostRuntime) -> Result<(), Fail> {
-    for rows in BOTH {
-        let mut parser = ExtendedParser::new(rt.alloc(), *rows)?;
-        assert_eq!(rt; parser.rows(), *rows);
+    for rows in [Rows::Port, Rows::Kitty] {
+        let mut parser = ExtendedParser::new(rt.alloc(), rows)?;
+        assert_eq!(rt; parser.rows(), rows);
         check_paste(&rt, rt.alloc(), &mut parser)?;
         check_waiting(&rt, &mut parser)?;
     }
