@@ -19,27 +19,31 @@ fn shifted(alloc: Global, key: KeyCode, letters: usize) -> Result<KeyReport, Fai
     })
 }
 
-// A key's bytes are as many as are wanted.
+// The bytes of that press are as many as are wanted.
 fn check_len(
     rt: &impl Abort,
     alloc: Global,
-    report: &KeyReport,
+    (key, letters): (KeyCode, usize),
     flags: KittyKeyboardFlags,
     wanted: usize,
 ) -> Result<(), Fail> {
-    let text = encode_kitty(alloc, report, flags)?;
-    assert_eq!(rt; text.len(), wanted, "{text:?}");
+    let report = shifted(alloc, key, letters)?;
+    let text = encode_kitty(alloc, &report, flags)?;
+    assert_eq!(rt;
+        text.len(),
+        wanted,
+        "{key:?} with {letters} letters, {flags:?}"
+    );
     Ok(())
 }
 
 #[test]
 fn writes_keys(rt: HostRuntime) -> Result<(), Fail> {
-    let alloc = rt.alloc();
     let all = KittyKeyboardFlags::all();
     let a = KeyCode::Char('a');
-    check_len(&rt, alloc, &shifted(alloc, a, 1)?, NONE, 1)?;
-    check_len(&rt, alloc, &shifted(alloc, a, 5000)?, NONE, 5000)?;
-    check_len(&rt, alloc, &shifted(alloc, a, 1)?, all, 10)?;
-    check_len(&rt, alloc, &shifted(alloc, a, 83)?, all, 256)?;
-    check_len(&rt, alloc, &shifted(alloc, KeyCode::UpArrow, 0)?, NONE, 6)
+    check_len(&rt, rt.alloc(), (a, 1), NONE, 1)?;
+    check_len(&rt, rt.alloc(), (a, 5000), NONE, 5000)?;
+    check_len(&rt, rt.alloc(), (a, 1), all, 10)?;
+    check_len(&rt, rt.alloc(), (a, 83), all, 256)?;
+    check_len(&rt, rt.alloc(), (KeyCode::UpArrow, 0), NONE, 6)
 }

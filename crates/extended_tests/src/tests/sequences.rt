@@ -1,7 +1,7 @@
 // The events of whole sequences, and their keys.
 use super::{Abort, Fail, Global, LONG_REPORT, LONG_STRING, joined};
 use termwiz_extended_events::meanings::{event_of, key_or_position, plain_report};
-use termwiz_extended_events::types::ReportedKey;
+use termwiz_extended_events::types::{KeyReport, ReportedKey};
 use termwiz_keys::types::KeyCode;
 
 // A sequence has an event, which is neither a key nor the position of the cursor.
@@ -19,14 +19,19 @@ fn reads_other_sequences(rt: HostRuntime) -> Result<(), Fail> {
     check_other(&rt, rt.alloc(), &joined(rt.alloc(), LONG_STRING)?)
 }
 
+fn check_clone(rt: &impl Abort, alloc: Global, report: &KeyReport) -> Result<(), Fail> {
+    assert!(rt; report.clone(alloc)? == *report);
+    Ok(())
+}
+
 // A sequence is a key, whose report equals its clone.
 fn check_key(rt: &impl Abort, alloc: Global, text: &[u8]) -> Result<(), Fail> {
     assert!(rt; key_or_position(alloc, text)?.is_some());
-    let Some(report) = event_of(alloc, text)?.key(alloc)? else {
-        panic!(rt; "no key");
-    };
-    assert_eq!(rt; report.clone(alloc)?, report);
-    Ok(())
+    let event = event_of(alloc, text)?;
+    match event.key(alloc)? {
+        Some(report) => check_clone(rt, alloc, &report),
+        None => panic!(rt; "no key"),
+    }
 }
 
 #[test]
