@@ -1,8 +1,6 @@
-//! Tests over the public calls of `termwiz_input_extended`: worked examples, long input, what waits, generated texts, and
-//! comparisons with a plain slow reader.
+//! Each call of the extended parser, of the events and of the encoder for Kitty's protocol that may be refused memory succeeds, on few
+//! bytes and on as many as it may have.
 #![tactic(auto)]
 
-#[cfg(test)]
-mod plain;
 #[cfg(test)]
 mod tests;

@@ -1,9 +1,9 @@
 // Examples: what each call of a fresh parser gives.
 use hedrugal::extended::Rows;
 
-const MORE: bool = true;
+pub const MORE: bool = true;
 
-const LAST: bool = false;
+pub const LAST: bool = false;
 
 pub const PORT: &[Rows] = &[Rows::Port];
 
@@ -21,9 +21,9 @@ pub const REPLIES: &[Example] = &[
     (
         BOTH,
         &[(
-            b"\x1b[24;80R\x1b[?24;80R\x1b[?24;80;1R",
+            b"\x1b[24;80R\x1b[20;10R\x1b[?24;80R\x1b[?24;80;1R",
             LAST,
-            "cursor 24 80, cursor 24 80, cursor 24 80",
+            "cursor 24 80, cursor 20 10, cursor 24 80, cursor 24 80",
         )],
     ),
     (PORT, &[(b"\x1b[1;5R\x1b[?1;5R", LAST, "key Function(3) CTRL, cursor 1 5")]),
@@ -33,7 +33,10 @@ pub const REPLIES: &[Example] = &[
     (BOTH, &[(b"\x1b[I\x1b[O", MORE, "focus gained, focus lost")]),
     (BOTH, &[(b"\x1b\x1b[I", MORE, "key Escape NONE, focus gained")]),
     (BOTH, &[(b"\x1b[?62;22c\x1b[>1;10;0c", MORE, "csi ?62;22c, csi >1;10;0c")]),
-    (BOTH, &[(b"\x1b[?2026;2$y\x1b[?997;1n", MORE, "csi ?2026;2$y, csi ?997;1n")]),
+    (
+        BOTH,
+        &[(b"\x1b[?2026;2$y\x1b[?997;1n\x1b[?5u", MORE, "csi ?2026;2$y, csi ?997;1n, flags 5")],
+    ),
     (
         BOTH,
         &[(
@@ -47,7 +50,8 @@ pub const REPLIES: &[Example] = &[
         BOTH,
         &[(b"\x1b[48;24;80;480t\x1b[8;24;80t", MORE, "csi 48;24;80;480t, csi 8;24;80t")],
     ),
-    (BOTH, &[(b"\x1b[x\x1b[2D", LAST, "csi x, csi 2D")]),
+    (BOTH, &[(b"\x1b[x", MORE, "csi x")]),
+    (BOTH, &[(b"\x1b[2D", LAST, "csi 2D")]),
 ];
 
 pub const STRINGS: &[Example] = &[
@@ -55,6 +59,9 @@ pub const STRINGS: &[Example] = &[
     (BOTH, &[(b"\x1b]10;#fff\x07q", LAST, "osc 10;#fff, key Char('q') NONE")]),
     (BOTH, &[(b"\x1b]0;\xc3\xa9\x1b", MORE, "; 7"), (b"\\", MORE, r"osc 0;\xc3\xa9")]),
     (BOTH, &[(b"\x1b]\x07\x1b]\x1b\\", LAST, "osc , osc ")]),
+    (BOTH, &[(b"\x1b]0;a\x07", MORE, "osc 0;a")]),
+    (BOTH, &[(b"\x1bP>", MORE, "; 3")]),
+    (BOTH, &[(b"\x1bP>|kitty\x1b\\", LAST, "dcs >|kitty")]),
     (BOTH, &[(b"\x1bP>|kitty(0.39.1)\x1b\\", LAST, "dcs >|kitty(0.39.1)")]),
     (BOTH, &[(b"\x1b_Gi=31;OK\x1b\\", MORE, "apc Gi=31;OK")]),
     (BOTH, &[(b"\x1b\x1b]0;t\x07", LAST, "key Escape NONE, osc 0;t")]),
@@ -75,6 +82,27 @@ pub const STRINGS: &[Example] = &[
     ),
     (
         BOTH,
+        &[
+            (b"\x1b]abc", MORE, "; 5"),
+            (
+                b"",
+                LAST,
+                "key Char(']') ALT, key Char('a') NONE, key Char('b') NONE, key Char('c') NONE",
+            ),
+        ],
+    ),
+    (
+        BOTH,
+        &[(
+            b"\x1b]ab\r",
+            MORE,
+            "key Char(']') ALT, key Char('a') NONE, key Char('b') NONE, key Enter NONE",
+        )],
+    ),
+    (BOTH, &[(b"\x1b]", MORE, "; 2"), (b"", LAST, "key Char(']') ALT")]),
+    (BOTH, &[(b"\x1bP", MORE, "; 2"), (b"", LAST, "key Char('P') ALT")]),
+    (
+        BOTH,
         &[(b"\x1b^a\x1b\\", MORE, "key Char('^') ALT, key Char('a') NONE, key Char('\\\\') ALT")],
     ),
 ];
@@ -83,36 +111,63 @@ pub const KEYS: &[Example] = &[
     (
         KITTY,
         &[(
-            b"\x1b[97u\x1b[97;2u\x1b[97;7u\x1b[13u\x1b[27u",
+            b"\x1b[97u\x1b[97;2u\x1b[97;7u\x1b[97;1u",
             MORE,
-            "report Char('a') NONE, report Char('a') SHIFT, report Char('a') ALT|CTRL, report Enter NONE, report Escape NONE",
+            "report Char('a') NONE, report Char('a') SHIFT, report Char('a') ALT|CTRL, report Char('a') NONE",
         )],
     ),
-    (PORT, &[(b"\x1b[97;5u\x1b[27u\x1b[1;9A", MORE, "key Char('a') CTRL, key Char('\\u{1b}') NONE, key UpArrow ALT")]),
+    (
+        PORT,
+        &[(
+            b"\x1b[97;5u\x1b[27u\x1b[1;9A",
+            MORE,
+            r"key Char('a') CTRL, key Char('\u{1b}') NONE, key UpArrow ALT",
+        )],
+    ),
     (
         KITTY,
         &[(
-            b"\x1b[1;9A\x1b[D\x1b[3;2~\x1b[1;2P",
+            b"\x1b[13u\x1b[27u\x1b[1;9A",
             MORE,
-            "report UpArrow SUPER, report LeftArrow NONE, report Delete SHIFT, report Function(1) SHIFT",
+            "report Enter NONE, report Escape NONE, report UpArrow SUPER",
         )],
     ),
+    (
+        KITTY,
+        &[(
+            b"\x1b[D\x1b[3~\x1b[3;2~\x1b[1;2P",
+            MORE,
+            "report LeftArrow NONE, report Delete NONE, report Delete SHIFT, report Function(1) SHIFT",
+        )],
+    ),
+    (KITTY, &[(b"\x1b[5~\x1b[H", MORE, "report PageUp NONE, report Home NONE")]),
     (KITTY, &[(b"\x1b\x1b[97;5u", MORE, "key Escape NONE, report Char('a') CTRL")]),
     (PORT, &[(b"\x1b\x1b[97;5u", MORE, "key Char('a') ALT|CTRL")]),
+];
+
+pub const KINDS_AND_MODIFIERS: &[Example] = &[
     (
         BOTH,
         &[(
-            b"\x1b[97;5:1u\x1b[97;1:2u\x1b[97;1:3u",
+            b"\x1b[97;1:1u\x1b[97;5:1u\x1b[97;1:2u\x1b[97;1:3u",
             MORE,
-            "report Char('a') CTRL, report Char('a') NONE Repeat, report Char('a') NONE Release",
+            "report Char('a') NONE, report Char('a') CTRL, report Char('a') NONE Repeat, report Char('a') NONE Release",
         )],
     ),
     (
         BOTH,
         &[(
-            b"\x1b[1;2:3A\x1b[;1:3B\x1b[3;5:2~",
+            b"\x1b[;1:3B\x1b[1;1:3B",
             MORE,
-            "report UpArrow SHIFT Release, report DownArrow NONE Release, report Delete CTRL Repeat",
+            "report DownArrow NONE Release, report DownArrow NONE Release",
+        )],
+    ),
+    (
+        BOTH,
+        &[(
+            b"\x1b[1;2:3A\x1b[3;5:2~\x1b[97;3:3u",
+            MORE,
+            "report UpArrow SHIFT Release, report Delete CTRL Repeat, report Char('a') ALT Release",
         )],
     ),
     (
@@ -126,11 +181,22 @@ pub const KEYS: &[Example] = &[
     (
         BOTH,
         &[(
+            b"\x1b[97;65u\x1b[49;129u",
+            MORE,
+            "report Char('a') CAPS_LOCK, report Char('1') NUM_LOCK",
+        )],
+    ),
+    (
+        BOTH,
+        &[(
             b"\x1b[97;256:1u",
             MORE,
             "report Char('a') SHIFT|ALT|CTRL|SUPER|HYPER|META|CAPS_LOCK|NUM_LOCK",
         )],
     ),
+];
+
+pub const NAMES_AND_FIELDS: &[Example] = &[
     (
         BOTH,
         &[(
@@ -142,28 +208,60 @@ pub const KEYS: &[Example] = &[
     (
         BOTH,
         &[(
-            b"\x1b[233;5u\x1b[0;;229:128512u\x1b[27;5;233~",
+            b"\x1b[97:65:99;2:3;65u\x1b[97;1;65u",
             MORE,
-            "report Char('é') CTRL, report Char('\\0') NONE text \"å😀\", report Char('é') CTRL",
+            "report Char('a') SHIFT Release shifted 'A' base 'c' text \"A\", report Char('a') NONE text \"A\"",
         )],
     ),
     (
         BOTH,
         &[(
-            b"\x1b[57358u\x1b[57376u\x1b[57399u\x1b[57428u\x1b[57441;2:3u",
+            b"\x1b[233;5u\x1b[0;;229:230u\x1b[27;5;233~\x1b[0;;229:128512u",
             MORE,
-            "report CapsLock NONE, report Function(13) NONE, report Numpad0 NONE, report 57428 NONE, report LeftShift SHIFT Release",
+            r#"report Char('é') CTRL, report Char('\0') NONE text "åæ", report Char('é') CTRL, report Char('\0') NONE text "å😀""#,
         )],
     ),
     (
         BOTH,
         &[(
-            b"\x1b[[A\x1b[[E\x1bOM\x1bOX\x1bOE\x1bOq",
+            b"\x1b[57358u\x1b[57376u\x1b[57428u\x1b[57441;2:3u",
             MORE,
-            "report Function(1) NONE, report Function(5) NONE, report 57414 NONE, report 57415 NONE, report KeyPadBegin NONE, report Numpad1 NONE",
+            "report CapsLock NONE, report Function(13) NONE, report 57428 NONE, report LeftShift SHIFT Release",
         )],
     ),
-    (BOTH, &[(b"\x1b[55296u\x1b[97;257u\x1b[97;1:4u", MORE, "csi 55296u, csi 97;257u, csi 97;1:4u")]),
+    (BOTH, &[(b"\x1b[57399u\x1b[57419u", MORE, "report Numpad0 NONE, report 57419 NONE")]),
+    (
+        BOTH,
+        &[(
+            b"\x1b[57441u\x1b[57449u\x1b[57449;3:3u",
+            MORE,
+            "report LeftShift NONE, report RightAlt NONE, report RightAlt ALT Release",
+        )],
+    ),
+    (
+        BOTH,
+        &[(
+            b"\x1b[57450u\x1b[57451u\x1b[57452u",
+            MORE,
+            "report RightWindows NONE, report 57451 NONE, report 57452 NONE",
+        )],
+    ),
+    (
+        BOTH,
+        &[(
+            b"\x1b[[A\x1bOM\x1bOq\x1b[[E\x1bOX\x1bOE",
+            MORE,
+            "report Function(1) NONE, report 57414 NONE, report Numpad1 NONE, report Function(5) NONE, report 57415 NONE, report KeyPadBegin NONE",
+        )],
+    ),
+    (
+        BOTH,
+        &[(
+            b"\x1b[55296u\x1b[97;257u\x1b[97;1:4u",
+            MORE,
+            "csi 55296u, csi 97;257u, csi 97;1:4u",
+        )],
+    ),
 ];
 
 pub const MOUSE_REPORTS: &[Example] = &[
@@ -189,13 +287,19 @@ pub const MOUSE_REPORTS: &[Example] = &[
             "mouse 30 40 LEFT NONE, mouse 30 40 NONE NONE",
         )],
     ),
-    (
-        BOTH,
-        &[(b"\x1b[32;30;40;M\x1b[<128;20;10M", MORE, "csi 32;30;40;M, csi <128;20;10M")],
-    ),
+    (BOTH, &[(b"\x1b[32;30;40;M", MORE, "csi 32;30;40;M")]),
+    (BOTH, &[(b"\x1b[<0;20;10;M\x1b[<0;20;10;m", MORE, "csi <0;20;10;M, csi <0;20;10;m")]),
+    (BOTH, &[(b"\x1b[<128;20;10M\x1b[<0;-5;10M", MORE, "csi <128;20;10M, csi <0;-5;10M")]),
 ];
 
 pub const PASTES: &[Example] = &[
+    (
+        BOTH,
+        &[
+            (b"\x1b[200~\x1b[I\x1b]0;a", MORE, "; 14 in a paste"),
+            (b"\x07\x1b[201~", MORE, r#"paste "\u{1b}[I\u{1b}]0;a\u{7}""#),
+        ],
+    ),
     (
         BOTH,
         &[
@@ -210,7 +314,11 @@ pub const PASTES: &[Example] = &[
     (
         BOTH,
         &[
-            (b"\x1b[200~one\x1b[201~\x1b[200~o", LAST, "paste \"one\"; 7 in a paste"),
+            (
+                b"\x1b[200~on and on and on\x1b[201~\x1b[200~o",
+                LAST,
+                "paste \"on and on and on\"; 7 in a paste",
+            ),
             (b"\x1b[2D", LAST, "; 11 in a paste"),
             (b"\x1b[201~", LAST, r#"paste "o\u{1b}[2D""#),
         ],
@@ -244,6 +352,14 @@ pub const OTHERS: &[Example] = &[
             b"\x1b[24\r",
             MORE,
             "key Char('[') ALT, key Char('2') NONE, key Char('4') NONE, key Enter NONE",
+        )],
+    ),
+    (
+        PORT,
+        &[(
+            b"\x1b[24\x1b[A",
+            LAST,
+            "key Char('[') ALT, key Char('2') NONE, key Char('4') NONE, key UpArrow NONE",
         )],
     ),
     (BOTH, &[(b"\xc2\x9bI", MORE, "key Char('\\u{9b}') NONE, key Char('I') NONE")]),

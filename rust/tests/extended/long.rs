@@ -1,7 +1,9 @@
 // Long texts, by each way to call the parser.
-use crate::examples::BOTH;
+use crate::examples::{BOTH, LAST};
+use crate::limits::{check_all, joined, LongExample};
+use crate::lines::lines;
 use crate::parser::{parsed, CALLS};
-use hedrugal::extended::{ExtendedEvent, ExtendedParser};
+use hedrugal::extended::{ExtendedEvent, ExtendedParser, Rows};
 use hedrugal::input::InputEvent;
 
 // A text of one event, by each call as a whole, and in reads of 4096 bytes.
@@ -64,5 +66,48 @@ fn events_70000_at_once() {
             assert_eq!(events.len(), 70000);
             assert!(events.chunks(2).all(|pair| pair == wanted), "{rows:?}, call {call}");
         }
+    }
+}
+
+// A key, and 2000 times 50 bytes, whose 12 events are the same under both readings of the rows.
+const MIXED: LongExample = (
+    &[
+        (b"s", 1),
+        (
+            b"a\x1bOA\x1b[I\x1b[97;5:3u\x1b]0;t\x07\xc3\xa9b\x1b[200~p\x1b[201~\x1b[<0;1;2Mcde",
+            2000,
+        ),
+    ],
+    &[
+        ("key Char('s') NONE", 1),
+        (
+            ", key Char('a') NONE, key ApplicationUpArrow NONE, focus gained, report Char('a') CTRL Release, osc 0;t, key Char('é') NONE\
+             , key Char('b') NONE, paste \"p\", mouse 1 2 LEFT NONE, key Char('c') NONE, key Char('d') NONE, key Char('e') NONE",
+            2000,
+        ),
+    ],
+);
+
+const PASTE: LongExample = (
+    &[(b"\x1b[200~", 1), (b"x", 100_000), (b"\x1b[201~", 1)],
+    &[("paste \"", 1), ("x", 100_000), ("\"", 1)],
+);
+
+#[test]
+fn reads_of_100000_bytes() {
+    check_all(BOTH, &[MIXED, PASTE]);
+}
+
+// Each way to call the parser reads many events at once.
+#[test]
+fn mixed_events_at_once() {
+    let (parts, wanted) = MIXED;
+    let (text, wanted) = (joined(parts), joined(wanted));
+    assert_eq!(text.len(), 100_001);
+    let mut parser = ExtendedParser::new(Rows::Kitty);
+    for call in 0..CALLS {
+        let events = parsed(call, &mut parser, &text, LAST);
+        assert_eq!(events.len(), 24001, "call {call}");
+        assert!(lines(&events).as_bytes() == wanted, "call {call}");
     }
 }

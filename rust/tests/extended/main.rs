@@ -1,8 +1,22 @@
 // The extended parser, by the crate's public calls alone.
+mod compared;
+mod cuts;
+mod draws;
 mod encode;
 mod examples;
+mod generated;
+mod limits;
 mod lines;
 mod long;
 mod parser;
+mod plain;
+mod rows;
 mod streams;
 mod waiting;
+
+// The plain reader of the port. The tests of the port use more of it.
+#[allow(dead_code)]
+#[path = "../parser"]
+mod port {
+    pub mod plain;
+}

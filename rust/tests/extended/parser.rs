@@ -1,11 +1,13 @@
 // The extended parser on worked examples.
-use crate::examples::{Example, Step, BOTH, KEYS, MOUSE_REPORTS, OTHERS, PASTES, REPLIES, STRINGS};
+use crate::compared::Comparison;
+use crate::cuts::check_cuts;
+use crate::examples::{Example, Step, BOTH, KEYS, KINDS_AND_MODIFIERS, MOUSE_REPORTS, NAMES_AND_FIELDS, OTHERS, PASTES, REPLIES, STRINGS};
 use crate::lines::lines;
 use hedrugal::extended::{ExtendedEvent, ExtendedParser, KeyEventKind, KeyReport, KittyModifiers, ReportedKey, Rows};
 use hedrugal::input::{InputEvent, InputParser, KeyCode, KittyKeyboardFlags, Waiting};
 
 // What a call gave, and how many bytes wait after it.
-fn given(events: &[ExtendedEvent], parser: &ExtendedParser) -> String {
+pub fn given(events: &[ExtendedEvent], parser: &ExtendedParser) -> String {
     let mut given = lines(events);
     if parser.waiting_len() > 0 {
         given += &format!("; {}", parser.waiting_len());
@@ -86,11 +88,13 @@ fn check_pieces(parser: &mut ExtendedParser, steps: &[Step]) {
 
 fn check_all(examples: &[Example]) {
     for rows in BOTH {
-        let mut parser = ExtendedParser::new(*rows);
+        let (mut parser, mut comparison) = (ExtendedParser::new(*rows), Comparison::new(*rows));
         assert_eq!(parser.rows(), *rows);
         for (_, steps) in examples.iter().filter(|(read, _)| read.contains(rows)) {
             check_steps(&mut parser, steps);
+            check_cuts(&mut parser, steps);
             check_pieces(&mut parser, steps);
+            comparison.check_steps(steps);
         }
     }
 }
@@ -108,6 +112,8 @@ fn strings() {
 #[test]
 fn keys() {
     check_all(KEYS);
+    check_all(KINDS_AND_MODIFIERS);
+    check_all(NAMES_AND_FIELDS);
 }
 
 #[test]
@@ -156,26 +162,17 @@ fn finds_keys_of_events() {
     assert_eq!(keys, [Some(plain), Some(up), None, Some(released), None, None, None, None]);
 }
 
-// Each row is read as `InputParser` reads it, or under `Rows::Kitty` as a report. The start of a paste alone has no event.
+// Each key is found as a report, also one with a text and a key of the port.
 #[test]
-fn reads_each_row() {
-    let mut plain = InputParser::new();
-    let (mut port, mut kitty) = (ExtendedParser::new(Rows::Port), ExtendedParser::new(Rows::Kitty));
-    let mut reported = 0;
-    for place in 0.. {
-        let Some((row, key)) = plain.row(place) else { break };
-        let wanted: Vec<ExtendedEvent> = plain.parse_as_vec(&row, false).into_iter().map(ExtendedEvent::Input).collect();
-        assert_eq!(port.parse_as_vec(&row, false), wanted, "{row:?}");
-        let events = kitty.parse_as_vec(&row, false);
-        match &events[..] {
-            [ExtendedEvent::Key(_) | ExtendedEvent::CursorPosition { .. }] => reported += 1,
-            events => assert_eq!(events, wanted, "{row:?}"),
-        }
-        assert_eq!(wanted.is_empty(), key.key == KeyCode::InternalPasteStart);
-        let left = plain.reset();
-        assert_eq!((port.reset(), kitty.reset()), (left, left));
-    }
-    assert!(reported > 100, "{reported}");
+fn finds_keys_of_reports() {
+    let mut parser = ExtendedParser::new(Rows::Port);
+    let events = parser.parse_as_vec(b"a\x1b[97;5u\x1b[I\x1b[1;2:3A\x1b[200~p\x1b[201~\x1b[97;;65u\x1bOP", false);
+    let keys: Vec<ExtendedEvent> = events.iter().filter_map(ExtendedEvent::key).map(ExtendedEvent::Key).collect();
+    assert_eq!(
+        lines(&keys),
+        "report Char('a') NONE, report Char('a') CTRL, report UpArrow SHIFT Release, report Char('a') NONE text \"A\", \
+         report Function(1) NONE"
+    );
 }
 
 // The flags of a reply are those that a program pushes.

@@ -1,4 +1,5 @@
 // Random streams of sequences and their beginnings: how they are cut changes no event.
+use crate::draws::Draws;
 use crate::examples::BOTH;
 use hedrugal::extended::{ExtendedEvent, ExtendedParser};
 
@@ -39,23 +40,6 @@ const SYMBOLS: &[&[u8]] = &[
     b"\x1b[201~",
 ];
 
-// A linear congruential generator.
-struct Draws(u64);
-
-impl Draws {
-    // A number below the limit.
-    fn below(&mut self, limit: usize) -> usize {
-        self.0 = self.0.wrapping_mul(6364136223846793005).wrapping_add(1442695040888963407);
-        (self.0 >> 33) as usize % limit
-    }
-
-    // A text of 1 to 20 symbols.
-    fn text(&mut self) -> Vec<u8> {
-        let count = 1 + self.below(20);
-        (0..count).flat_map(|_| SYMBOLS[self.below(SYMBOLS.len())]).copied().collect()
-    }
-}
-
 // The events of a text in pieces, and of a flush at its end; then what an open paste gives. What waits is as long after each cut.
 fn read(parser: &mut ExtendedParser, text: &[u8], piece: usize) -> (Vec<ExtendedEvent>, usize) {
     let mut events = Vec::new();
@@ -72,10 +56,11 @@ fn read(parser: &mut ExtendedParser, text: &[u8], piece: usize) -> (Vec<Extended
 #[test]
 fn cuts_change_nothing() {
     for rows in BOTH {
-        let (mut draws, mut parser) = (Draws(31), ExtendedParser::new(*rows));
+        let (mut draws, mut parser) = (Draws::new(31), ExtendedParser::new(*rows));
         let mut extra = 0;
         for _ in 0..5000 {
-            let text = draws.text();
+            let count = 1 + draws.below(20);
+            let text = draws.text(count, SYMBOLS);
             let whole = read(&mut parser, &text, text.len());
             for piece in [1, 2, 3, 7] {
                 assert_eq!(

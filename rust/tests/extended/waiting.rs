@@ -134,3 +134,19 @@ fn goes_on_after_a_pause() {
         }
     }
 }
+
+// What the terminal still sends of a paste that was ended is read as typed text.
+#[test]
+fn ends_a_long_paste_and_reads_on() {
+    for rows in BOTH {
+        let mut parser = ExtendedParser::new(*rows);
+        assert_eq!(parser.parse_as_vec(b"\x1b[200~", true), []);
+        assert_eq!(parser.parse_as_vec(&b"x".repeat(300_000), true), []);
+        assert_eq!(parser.waiting_len(), 300_006);
+        let paste = ExtendedEvent::Input(InputEvent::Paste("x".repeat(300_000)));
+        assert!(parser.end_paste() == Some(paste));
+        assert_eq!(parser.waiting_len(), 0);
+        let events = parser.parse_as_vec(b"q\x1b[I\x1b[201~", false);
+        assert_eq!(lines(&events), "key Char('q') NONE, focus gained, key InternalPasteEnd NONE");
+    }
+}

@@ -53,7 +53,7 @@ fn number_of(text: &[u8], limit: u16) -> Option<u16> {
 }
 
 // 2 and 3: the mouse event of a text that is a mouse report.
-fn report_of(text: &[u8]) -> Option<MouseEvent> {
+pub fn report_of(text: &[u8]) -> Option<MouseEvent> {
     let (last, front) = text.split_last()?;
     let mut numbers = front.strip_prefix(b"\x1b[<")?.split(|byte| *byte == b';');
     let code = number_of(numbers.next()?, 95)?;
@@ -194,7 +194,7 @@ impl PlainReader {
     }
 
     // 5: whether the text is open.
-    fn is_open(&self, text: &[u8], more: bool) -> bool {
+    pub fn is_open(&self, text: &[u8], more: bool) -> bool {
         more && !text.is_empty() && (self.rows.extend(text) || begins_report(text) || begins_character(text))
     }
 
@@ -213,7 +213,7 @@ impl PlainReader {
     }
 
     // 6: the item at a text, by its event and what follows its bytes.
-    fn item_at<'a>(&self, text: &'a [u8], more: bool) -> Option<(InputEvent, &'a [u8])> {
+    pub fn item_at<'a>(&self, text: &'a [u8], more: bool) -> Option<(InputEvent, &'a [u8])> {
         if self.is_open(text, more) {
             return None;
         }

@@ -1,6 +1,6 @@
 // The keys of "Events", by their letters and numbers. The names of functional keys are those of Kitty's table.
-use termwiz_input::input::KeyCode;
-use termwiz_input_extended::types::ReportedKey;
+use hedrugal::extended::ReportedKey;
+use hedrugal::input::KeyCode;
 
 const LETTERS: &[(u8, KeyCode)] = &[
     (b'A', KeyCode::UpArrow),
@@ -78,22 +78,23 @@ const FUNCTIONAL_KEYS: &[(u32, KeyCode)] = &[
     (57450, KeyCode::RightWindows),
 ];
 
+// The key that a table has for a code.
+fn listed<Code: PartialEq>(table: &[(Code, KeyCode)], wanted: Code) -> Option<ReportedKey> {
+    let (_, key) = table.iter().find(|(code, _)| *code == wanted)?;
+    Some(ReportedKey::Named(*key))
+}
+
 // The key of a number from 57344 to 63743.
 fn functional_key(number: u32) -> ReportedKey {
-    for (code, key) in FUNCTIONAL_KEYS {
-        if *code == number {
-            return ReportedKey::Named(*key);
-        }
-    }
-    match u8::try_from(number.saturating_sub(57363)) {
-        Ok(place @ 13..=35) => ReportedKey::Named(KeyCode::Function(place)),
+    listed(FUNCTIONAL_KEYS, number).unwrap_or(match number {
+        57376..=57398 => ReportedKey::Named(KeyCode::Function((number - 57376) as u8 + 13)),
         _ => ReportedKey::Functional(number),
-    }
+    })
 }
 
 // The key of c.
-pub(super) fn key_of(c: char) -> ReportedKey {
-    let key = match c as u32 {
+pub fn key_of(c: char) -> ReportedKey {
+    let key = match u32::from(c) {
         9 => KeyCode::Tab,
         13 => KeyCode::Enter,
         27 => KeyCode::Escape,
@@ -105,8 +106,8 @@ pub(super) fn key_of(c: char) -> ReportedKey {
 }
 
 // The key of the rule `modify_other_keys`, and `Char` of c from 128 on.
-pub(super) fn other_key_of(c: char) -> ReportedKey {
-    let key = match c as u32 {
+pub fn other_key_of(c: char) -> ReportedKey {
+    let key = match u32::from(c) {
         8 | 127 => KeyCode::Backspace,
         27 => KeyCode::Escape,
         9 => KeyCode::Tab,
@@ -117,35 +118,25 @@ pub(super) fn other_key_of(c: char) -> ReportedKey {
 }
 
 // The key of a letter.
-pub(super) fn key_of_letter(letter: u8) -> Option<ReportedKey> {
-    for (known, key) in LETTERS {
-        if *known == letter {
-            return Some(ReportedKey::Named(*key));
-        }
-    }
-    None
+pub fn key_of_letter(letter: u8) -> Option<ReportedKey> {
+    listed(LETTERS, letter)
+}
+
+// The key of a code of the rules of function keys.
+fn function_key(number: u32) -> Option<ReportedKey> {
+    let place = FUNCTION_CODES.iter().position(|code| *code == number)?;
+    Some(ReportedKey::Named(KeyCode::Function(place as u8 + 1)))
 }
 
 // The key of n before `~`.
-pub(super) fn key_of_number(number: u32) -> Option<ReportedKey> {
-    for (code, key) in EDIT_KEYS {
-        if *code == number {
-            return Some(ReportedKey::Named(*key));
-        }
-    }
-    for (code, place) in FUNCTION_CODES.iter().zip(1..) {
-        if *code == number {
-            return Some(ReportedKey::Named(KeyCode::Function(place)));
-        }
-    }
-    match number {
-        57344..=63743 => Some(functional_key(number)),
-        _ => None,
-    }
+pub fn key_of_number(number: u32) -> Option<ReportedKey> {
+    listed(EDIT_KEYS, number)
+        .or_else(|| function_key(number))
+        .or_else(|| (57344..=63743).contains(&number).then(|| functional_key(number)))
 }
 
 // The key of a letter of the Linux console.
-pub(super) fn console_key_of(letter: u8) -> Option<ReportedKey> {
+pub fn console_key_of(letter: u8) -> Option<ReportedKey> {
     let place = match letter {
         b'A' => 1,
         b'B' => 2,
@@ -158,7 +149,7 @@ pub(super) fn console_key_of(letter: u8) -> Option<ReportedKey> {
 }
 
 // The key of a letter of the keypad.
-pub(super) fn keypad_key_of(letter: u8) -> Option<ReportedKey> {
+pub fn keypad_key_of(letter: u8) -> Option<ReportedKey> {
     let key = match letter {
         b'M' => return Some(ReportedKey::Functional(57414)),
         b'X' => return Some(ReportedKey::Functional(57415)),

@@ -1,30 +1,21 @@
 // "Events": the event of a text of a form. `t` is what follows ESC `[`.
 use super::forms::string_of;
-use super::keys::{
-    console_key_of, key_of, key_of_letter, key_of_number, keypad_key_of, other_key_of,
-};
-use std::alloc::{AllocError, Global};
+use super::keys::{console_key_of, key_of, key_of_letter, key_of_number, keypad_key_of, other_key_of};
+use hedrugal::extended::{ExtendedEvent, KeyEventKind, KeyReport, KittyModifiers, ReportedKey};
+use hedrugal::input::{InputEvent, Modifiers, MouseButtons, MouseEvent};
 use std::str;
-use termwiz_input::input::{Flags, InputEvent, Modifiers, MouseButtons, MouseEvent};
-use termwiz_input_extended::types::{
-    ExtendedEvent, KeyEventKind, KeyReport, KeyText, ReportedKey, SequenceBytes,
-};
 
 // A number of at most so many digits.
 fn number_of(text: &[u8], most_digits: usize) -> Option<u32> {
-    if text.len() > most_digits || !text.iter().all(|byte| byte.is_ascii_digit()) {
+    if text.len() > most_digits || !text.iter().all(u8::is_ascii_digit) {
         return None;
     }
-    str::from_utf8(text).ok()?.parse::<u32>().ok()
+    str::from_utf8(text).ok()?.parse().ok()
 }
 
 // A number of at most seven digits, from 1 to a limit.
 fn number_up_to(text: &[u8], limit: u32) -> Option<u32> {
-    match number_of(text, 7)? {
-        0 => None,
-        number if number <= limit => Some(number),
-        _ => None,
-    }
+    number_of(text, 7).filter(|number| (1..=limit).contains(number))
 }
 
 // A number of at most five digits, up to 65535.
@@ -39,21 +30,26 @@ fn scalar_of(text: &[u8]) -> Option<char> {
 // The modifiers and the type: [mods] [`:` type].
 #[derive(Clone, Copy)]
 struct Manner {
-    modifiers: u8,
+    modifiers: KittyModifiers,
     kind: KeyEventKind,
 }
 
 const PRESSED: Manner = Manner {
-    modifiers: 0,
+    modifiers: KittyModifiers::NONE,
     kind: KeyEventKind::Press,
 };
 
+// The bits of a number that is one more than they are.
+fn modifiers_before(number: u32) -> Option<KittyModifiers> {
+    Some(KittyModifiers::from_bits_retain(u8::try_from(number - 1).ok()?))
+}
+
 // mods: one more than the bits. Missing, it is 1.
-fn modifiers_of(text: &[u8]) -> Option<u8> {
+fn modifiers_of(text: &[u8]) -> Option<KittyModifiers> {
     if text.is_empty() {
-        return Some(0);
+        return Some(KittyModifiers::NONE);
     }
-    u8::try_from(number_up_to(text, 256)?.saturating_sub(1)).ok()
+    modifiers_before(number_up_to(text, 256)?)
 }
 
 fn kind_of(text: &[u8]) -> Option<KeyEventKind> {
@@ -71,10 +67,7 @@ fn manner_of(field: &[u8]) -> Option<Manner> {
         Some(part) => kind_of(part)?,
         None => KeyEventKind::Press,
     };
-    if parts.next().is_some() {
-        return None;
-    }
-    Some(Manner { modifiers, kind })
+    parts.next().is_none().then_some(Manner { modifiers, kind })
 }
 
 // [`;` [mods] [`:` type]].
@@ -86,19 +79,18 @@ fn manner_after(tail: &[u8]) -> Option<Manner> {
     }
 }
 
-fn report_of(alloc: Global, key: ReportedKey, manner: Manner) -> KeyReport {
+fn report_of(key: ReportedKey, manner: Manner) -> KeyReport {
     KeyReport {
         key,
         modifiers: manner.modifiers,
         kind: manner.kind,
         shifted: None,
         base: None,
-        text: KeyText::new(String::new(alloc)),
+        text: String::new(),
     }
 }
 
 // c [`:` [shifted] [`:` base]].
-#[derive(Clone, Copy)]
 struct Codes {
     c: char,
     shifted: Option<char>,
@@ -127,63 +119,47 @@ fn codes_of(field: &[u8]) -> Option<Codes> {
 }
 
 // [text].
-fn text_of(alloc: Global, field: &[u8]) -> Result<Option<KeyText>, AllocError> {
-    let mut text = String::new(alloc);
+fn text_of(field: &[u8]) -> Option<String> {
     if field.is_empty() {
-        return Ok(Some(KeyText::new(text)));
+        return Some(String::new());
     }
-    for part in field.split(|byte| *byte == b':') {
-        let Some(character) = scalar_of(part) else {
-            return Ok(None);
-        };
-        text.push(character)?;
-    }
-    Ok(Some(KeyText::new(text)))
+    field.split(|byte| *byte == b':').map(scalar_of).collect()
 }
 
 // The line of the keys that end in `u`.
-fn character_key(alloc: Global, t: &[u8]) -> Result<Option<KeyReport>, AllocError> {
-    let Some(body) = t.strip_suffix(b"u") else {
-        return Ok(None);
-    };
-    let mut fields = body.split(|byte| *byte == b';');
-    let codes = codes_of(fields.next().unwrap_or(b""));
-    let manner = manner_of(fields.next().unwrap_or(b""));
-    let text = text_of(alloc, fields.next().unwrap_or(b""))?;
-    let (Some(codes), Some(manner), Some(text), None) = (codes, manner, text, fields.next()) else {
-        return Ok(None);
-    };
-    Ok(Some(KeyReport {
-        key: key_of(codes.c),
-        modifiers: manner.modifiers,
-        kind: manner.kind,
+fn character_key(t: &[u8]) -> Option<KeyReport> {
+    let mut fields = t.strip_suffix(b"u")?.split(|byte| *byte == b';');
+    let codes = codes_of(fields.next().unwrap_or(b""))?;
+    let manner = manner_of(fields.next().unwrap_or(b""))?;
+    let text = text_of(fields.next().unwrap_or(b""))?;
+    if fields.next().is_some() {
+        return None;
+    }
+    Some(KeyReport {
         shifted: codes.shifted,
         base: codes.base,
         text,
-    }))
+        ..report_of(key_of(codes.c), manner)
+    })
 }
 
 // The line of the keys that end in a letter.
-fn lettered_key(alloc: Global, t: &[u8]) -> Option<KeyReport> {
+fn lettered_key(t: &[u8]) -> Option<KeyReport> {
     let (letter, body) = t.split_last()?;
     let tail = body.strip_prefix(b"1").unwrap_or(body);
-    Some(report_of(alloc, key_of_letter(*letter)?, manner_after(tail)?))
+    Some(report_of(key_of_letter(*letter)?, manner_after(tail)?))
 }
 
 // The line of the keys that end in `~`.
-fn numbered_key(alloc: Global, t: &[u8]) -> Option<KeyReport> {
+fn numbered_key(t: &[u8]) -> Option<KeyReport> {
     let body = t.strip_suffix(b"~")?;
     let len = body.split(|byte| *byte == b';').next()?.len();
-    let (number, tail) = body.split_at_checked(len)?;
-    Some(report_of(
-        alloc,
-        key_of_number(number_of(number, 7)?)?,
-        manner_after(tail)?,
-    ))
+    let (number, tail) = body.split_at(len);
+    Some(report_of(key_of_number(number_of(number, 7)?)?, manner_after(tail)?))
 }
 
 // The line `27;` m `;` c `~`.
-fn other_key(alloc: Global, t: &[u8]) -> Option<KeyReport> {
+fn other_key(t: &[u8]) -> Option<KeyReport> {
     let body = t.strip_prefix(b"27;")?.strip_suffix(b"~")?;
     let mut fields = body.split(|byte| *byte == b';');
     let m = number_up_to(fields.next()?, 8)?;
@@ -192,32 +168,26 @@ fn other_key(alloc: Global, t: &[u8]) -> Option<KeyReport> {
         return None;
     }
     let manner = Manner {
-        modifiers: u8::try_from(m.saturating_sub(1)).ok()?,
+        modifiers: modifiers_before(m)?,
         kind: KeyEventKind::Press,
     };
-    Some(report_of(alloc, other_key_of(c), manner))
+    Some(report_of(other_key_of(c), manner))
 }
 
 // The lines of keys.
-fn key_event(alloc: Global, t: &[u8]) -> Result<Option<ExtendedEvent>, AllocError> {
-    let report = character_key(alloc, t)?
-        .or_else(|| lettered_key(alloc, t))
-        .or_else(|| numbered_key(alloc, t))
-        .or_else(|| other_key(alloc, t));
-    match report {
-        Some(report) => Ok(Some(ExtendedEvent::Key(report))),
-        None => Ok(None),
-    }
+fn key_event(t: &[u8]) -> Option<ExtendedEvent> {
+    let report = character_key(t)
+        .or_else(|| lettered_key(t))
+        .or_else(|| numbered_key(t))
+        .or_else(|| other_key(t));
+    report.map(ExtendedEvent::Key)
 }
 
 // The lines of cursor positions.
 fn cursor_position(t: &[u8]) -> Option<ExtendedEvent> {
     let body = t.strip_suffix(b"R")?;
     let is_marked = body.starts_with(b"?");
-    let mut fields = body
-        .strip_prefix(b"?")
-        .unwrap_or(body)
-        .split(|byte| *byte == b';');
+    let mut fields = body.strip_prefix(b"?").unwrap_or(body).split(|byte| *byte == b';');
     let row = short_number(fields.next()?)?;
     let column = short_number(fields.next()?)?;
     if let Some(page) = fields.next() {
@@ -263,9 +233,9 @@ fn buttons_of(base: u16) -> MouseButtons {
         0 | 32 => MouseButtons::LEFT,
         1 | 33 => MouseButtons::MIDDLE,
         2 | 34 => MouseButtons::RIGHT,
-        64 => MouseButtons::VERT_WHEEL.union(MouseButtons::WHEEL_POSITIVE),
+        64 => MouseButtons::VERT_WHEEL | MouseButtons::WHEEL_POSITIVE,
         65 => MouseButtons::VERT_WHEEL,
-        66 => MouseButtons::HORZ_WHEEL.union(MouseButtons::WHEEL_POSITIVE),
+        66 => MouseButtons::HORZ_WHEEL | MouseButtons::WHEEL_POSITIVE,
         67 => MouseButtons::HORZ_WHEEL,
         _ => MouseButtons::NONE,
     }
@@ -273,10 +243,10 @@ fn buttons_of(base: u16) -> MouseButtons {
 
 // The mouse event of code b - 32 at x, y; b is from 32 to 127.
 fn mouse_event(b: u16, x: u16, y: u16) -> Option<ExtendedEvent> {
-    if b < 32 || b > 127 {
+    if !(32..=127).contains(&b) {
         return None;
     }
-    let code = b.saturating_sub(32);
+    let code = b - 32;
     let mut modifiers = Modifiers::NONE;
     modifiers.set(Modifiers::SHIFT, code & 4 != 0);
     modifiers.set(Modifiers::ALT, code & 8 != 0);
@@ -301,76 +271,58 @@ fn urxvt_report(t: &[u8]) -> Option<ExtendedEvent> {
     }
 }
 
-// The line of X10 mouse reports.
+// The line of X10 mouse reports. Each byte is at least 32.
 fn x10_report(t: &[u8]) -> Option<ExtendedEvent> {
     match t {
-        [b'M', b, x, y] => mouse_event(
-            u16::from(*b),
-            u16::from(*x).saturating_sub(32),
-            u16::from(*y).saturating_sub(32),
-        ),
+        [b'M', b, x, y] => mouse_event(u16::from(*b), u16::from(*x) - 32, u16::from(*y) - 32),
         _ => None,
     }
 }
 
 // The line of the Linux console's keys.
-fn console_key(alloc: Global, t: &[u8]) -> Option<ExtendedEvent> {
+fn console_key(t: &[u8]) -> Option<ExtendedEvent> {
     match t {
-        [b'[', letter] => {
-            let key = console_key_of(*letter)?;
-            Some(ExtendedEvent::Key(report_of(alloc, key, PRESSED)))
-        }
+        [b'[', letter] => Some(ExtendedEvent::Key(report_of(console_key_of(*letter)?, PRESSED))),
         _ => None,
     }
 }
 
 // The first line that fits.
-fn event_of_control(alloc: Global, t: &[u8]) -> Result<ExtendedEvent, AllocError> {
+fn event_of_control(t: &[u8]) -> ExtendedEvent {
     match t {
-        [b'I'] => return Ok(ExtendedEvent::FocusGained),
-        [b'O'] => return Ok(ExtendedEvent::FocusLost),
+        [b'I'] => return ExtendedEvent::FocusGained,
+        [b'O'] => return ExtendedEvent::FocusLost,
         _ => (),
     }
-    let event = key_event(alloc, t)?
+    key_event(t)
         .or_else(|| cursor_position(t))
         .or_else(|| keyboard_flags(t))
         .or_else(|| resize(t))
         .or_else(|| urxvt_report(t))
         .or_else(|| x10_report(t))
-        .or_else(|| console_key(alloc, t));
-    match event {
-        Some(event) => Ok(event),
-        None => Ok(ExtendedEvent::Csi(SequenceBytes::new(t.to_vec(alloc)?))),
-    }
+        .or_else(|| console_key(t))
+        .unwrap_or_else(|| ExtendedEvent::Csi(t.to_vec()))
 }
 
 // A string.
-fn event_of_string(
-    alloc: Global,
-    introducer: u8,
-    data: &[u8],
-) -> Result<ExtendedEvent, AllocError> {
-    let bytes = SequenceBytes::new(data.to_vec(alloc)?);
+fn event_of_string(introducer: u8, data: &[u8]) -> ExtendedEvent {
     match introducer {
-        b']' => Ok(ExtendedEvent::Osc(bytes)),
-        b'P' => Ok(ExtendedEvent::Dcs(bytes)),
-        _ => Ok(ExtendedEvent::Apc(bytes)),
+        b']' => ExtendedEvent::Osc(data.to_vec()),
+        b'P' => ExtendedEvent::Dcs(data.to_vec()),
+        _ => ExtendedEvent::Apc(data.to_vec()),
     }
 }
 
 // The event of a text of a form.
-pub(super) fn event_of(alloc: Global, text: &[u8]) -> Result<Option<ExtendedEvent>, AllocError> {
+pub fn event_of(text: &[u8]) -> Option<ExtendedEvent> {
     if let Some((introducer, data)) = string_of(text) {
-        return Ok(Some(event_of_string(alloc, introducer, data)?));
+        return Some(event_of_string(introducer, data));
     }
     if let Some(t) = text.strip_prefix(b"\x1b[") {
-        return Ok(Some(event_of_control(alloc, t)?));
+        return Some(event_of_control(t));
     }
     match text {
-        [b'\x1b', b'O', letter] => match keypad_key_of(*letter) {
-            Some(key) => Ok(Some(ExtendedEvent::Key(report_of(alloc, key, PRESSED)))),
-            None => Ok(None),
-        },
-        _ => Ok(None),
+        [0x1b, b'O', letter] => Some(ExtendedEvent::Key(report_of(keypad_key_of(*letter)?, PRESSED))),
+        _ => None,
     }
 }

@@ -1,0 +1,83 @@
+// The calls of the parser, under both `Rows`.
+use super::{
+    Abort, EVERY_CALL, ExtendedParser, Fail, Global, LONG_REPORT, LONG_STRING, MORE, Parts, Rows,
+    Waiting, joined,
+};
+
+// Texts, and how many events they have.
+const TEXTS: &[(Parts, usize)] = &[
+    (
+        &[(b"a\x1b[I\x1b[200~p\x1b[201~\x1b[97;1:3u\x1b]0;t\x07", 1)],
+        5,
+    ),
+    (&[(b"\x1b[200~", 1), (b"x", 100000), (b"\x1b[201~", 1)], 1),
+    (LONG_STRING, 1),
+    (LONG_REPORT, 1),
+    (&[(b"\x1b[I\x1b]a\x07", 35000)], 70000),
+];
+
+// The parser reads the text by each call.
+fn check_text(
+    rt: &impl Abort,
+    alloc: Global,
+    parser: &mut ExtendedParser,
+    parts: Parts,
+    count: usize,
+) -> Result<(), Fail> {
+    let text = joined(alloc, parts)?;
+    for calls in EVERY_CALL {
+        let events = calls.events(rt, alloc, parser, &text, MORE)?;
+        assert_eq!(rt; events.len(), count, "{parts:?}, by {calls:?}");
+    }
+    Ok(())
+}
+
+fn check_texts(rt: &impl Abort, alloc: Global, rows: Rows) -> Result<(), Fail> {
+    let mut parser = ExtendedParser::new(alloc, rows)?;
+    for (parts, count) in TEXTS {
+        check_text(rt, alloc, &mut parser, parts, *count)?;
+    }
+    Ok(())
+}
+
+#[test]
+fn reads_texts_as_the_port(rt: HostRuntime) -> Result<(), Fail> {
+    check_texts(&rt, rt.alloc(), Rows::Port)
+}
+
+#[test]
+fn reads_texts_with_kitty(rt: HostRuntime) -> Result<(), Fail> {
+    check_texts(&rt, rt.alloc(), Rows::Kitty)
+}
+
+// An open paste of 100 KB is ended.
+fn check_paste(rt: &impl Abort, alloc: Global, parser: &mut ExtendedParser) -> Result<(), Fail> {
+    parser.feed(b"\x1b[200~")?;
+    parser.feed(&b"x".repeat(alloc, 100000)?)?;
+    assert!(rt; parser.is_paste_open());
+    assert!(rt; parser.end_paste()?.is_some());
+    Ok(())
+}
+
+// An Escape waits and is flushed, and the beginning of a sequence is forgotten.
+fn check_waiting(rt: &impl Abort, parser: &mut ExtendedParser) -> Result<(), Fail> {
+    parser.feed(b"\x1b")?;
+    assert_eq!(rt; parser.waiting(), Waiting::Escape);
+    assert!(rt; parser.flush_escape().is_some());
+    parser.feed(b"\x1b]0;a")?;
+    assert!(rt; parser.waiting_text() == b"\x1b]0;a".as_slice());
+    assert_eq!(rt; parser.reset(), 5);
+    assert_eq!(rt; parser.waiting_len(), 0);
+    Ok(())
+}
+
+#[test]
+fn ends_what_waits(rt: HostRuntime) -> Result<(), Fail> {
+    for rows in [Rows::Port, Rows::Kitty] {
+        let mut parser = ExtendedParser::new(rt.alloc(), rows)?;
+        assert_eq!(rt; parser.rows(), rows);
+        check_paste(&rt, rt.alloc(), &mut parser)?;
+        check_waiting(&rt, &mut parser)?;
+    }
+    Ok(())
+}

@@ -1,0 +1,54 @@
+// The events of whole sequences, and their keys.
+use super::{Abort, Fail, Global, LONG_REPORT, LONG_STRING, joined};
+use termwiz_extended_events::meanings::{event_of, key_or_position, plain_report};
+use termwiz_extended_events::types::{KeyReport, ReportedKey};
+use termwiz_keys::types::KeyCode;
+
+// A sequence has an event, which is neither a key nor the position of the cursor.
+fn check_other(rt: &impl Abort, alloc: Global, text: &[u8]) -> Result<(), Fail> {
+    event_of(alloc, text)?;
+    assert!(rt; key_or_position(alloc, text)?.is_none());
+    Ok(())
+}
+
+#[test]
+fn reads_other_sequences(rt: HostRuntime) -> Result<(), Fail> {
+    check_other(&rt, rt.alloc(), b"\x1b[O")?;
+    check_other(&rt, rt.alloc(), b"\x1b[M0\x60\x70")?;
+    check_other(&rt, rt.alloc(), b"\x1b[2D")?;
+    check_other(&rt, rt.alloc(), &joined(rt.alloc(), LONG_STRING)?)
+}
+
+fn check_clone(rt: &impl Abort, alloc: Global, report: &KeyReport) -> Result<(), Fail> {
+    assert!(rt; report.clone(alloc)? == *report);
+    Ok(())
+}
+
+// A sequence is a key, whose report equals its clone.
+fn check_key(rt: &impl Abort, alloc: Global, text: &[u8]) -> Result<(), Fail> {
+    assert!(rt; key_or_position(alloc, text)?.is_some());
+    let event = event_of(alloc, text)?;
+    match event.key(alloc)? {
+        Some(report) => check_clone(rt, alloc, &report),
+        None => panic!(rt; "no key"),
+    }
+}
+
+#[test]
+fn reads_keys(rt: HostRuntime) -> Result<(), Fail> {
+    check_key(&rt, rt.alloc(), b"\x1b[1;9A")?;
+    check_key(&rt, rt.alloc(), b"\x1b[97:65:99;2:3;65u")?;
+    check_key(&rt, rt.alloc(), &joined(rt.alloc(), LONG_REPORT)?)
+}
+
+// The contract leaves open which keys have a plain report.
+#[test]
+fn reads_plain_reports(rt: HostRuntime) {
+    let Some(report) = plain_report(b"\x1b[97;3:3u") else {
+        panic!(rt; "no report");
+    };
+    assert!(rt; report.key == ReportedKey::Named(KeyCode::Char('a')));
+    assert!(rt; report.whole(rt.alloc()).modifiers == 2);
+    assert!(rt; plain_report(b"\x1b[5~").is_some() && plain_report(b"\x1b[H").is_some());
+    assert!(rt; plain_report(b"\x1b[97;1;65u").is_none() && plain_report(b"\x1b[I").is_none());
+}

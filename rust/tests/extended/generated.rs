@@ -1,0 +1,148 @@
+// Texts that look random: how they are cut, by which call they are read, and what the port reads of them.
+use crate::cuts::read_cut;
+use crate::draws::Draws;
+use crate::examples::BOTH;
+use crate::parser::{parsed, CALLS};
+use hedrugal::extended::{ExtendedEvent, ExtendedParser, Rows};
+use hedrugal::input::InputParser;
+
+// The bytes that the forms name, and parts and wholes of sequences. ESC stands twice, so that it is drawn more often.
+const SYMBOLS: &[&[u8]] = &[
+    b"\x1b",
+    b"\x1b",
+    b"[",
+    b"[",
+    b"O",
+    b"]",
+    b"P",
+    b"_",
+    b"\\",
+    b"\x07",
+    b"<",
+    b"?",
+    b":",
+    b";",
+    b"$",
+    b"0",
+    b"1",
+    b"2",
+    b"7",
+    b"9",
+    b"M",
+    b"R",
+    b"u",
+    b"~",
+    b"A",
+    b"j",
+    b"a",
+    b"\xc3",
+    b"\xa9",
+    b"\r",
+    b"\x1b[",
+    b"\x1b]",
+    b"\x1b\\",
+    b"\x1b[97;5",
+    b"\x1b[200~",
+    b"\x1b[201~",
+];
+
+// Of these no text has an extra sequence: neither ST nor BEL ends a string, and no byte that ends a control sequence comes after the
+// beginning of one.
+const USUAL_SYMBOLS: &[&[u8]] = &[
+    b"\x1b",
+    b"\x1b",
+    b"]",
+    b"P",
+    b"_",
+    b";",
+    b"1",
+    b"2",
+    b"5",
+    b"M",
+    b"m",
+    b"u",
+    b"~",
+    b"A",
+    b"a",
+    b"<",
+    b"\xc3",
+    b"\xa9",
+    b"\xff",
+    b"\r",
+    b"\x1b[\r",
+    b"\x1b[24;8\r",
+    b"\x1b[A",
+    b"\x1b[1;5R",
+    b"\x1b[97;5u",
+    b"\x1b[2$",
+    b"\x1bOA",
+    b"\x1b[<0;20;10M",
+    b"\x1b[200~",
+    b"\x1b[201~",
+];
+
+// A text of at most 20 symbols.
+fn drawn(draws: &mut Draws, symbols: &[&[u8]]) -> Vec<u8> {
+    let count = draws.below(21);
+    draws.text(count, symbols)
+}
+
+// A text in which there may be anything.
+pub fn any_text(draws: &mut Draws) -> Vec<u8> {
+    drawn(draws, SYMBOLS)
+}
+
+// The text has the same events, and as many bytes wait, in whatever pieces it is read.
+fn check_cuts(draws: &mut Draws, parser: &mut ExtendedParser, text: &[u8], more: bool) {
+    parser.reset();
+    let wanted = parser.parse_as_vec(text, more);
+    let waiting_len = parser.waiting_len();
+    for limit in [1, 2, 4, 16] {
+        let place = draws.place_in(text);
+        let size = 1 + draws.below(limit);
+        parser.reset();
+        let events = read_cut(parser, text, more, place, size);
+        assert_eq!(events, wanted, "{}, to {place} in pieces of {size}", text.escape_ascii());
+        assert_eq!(parser.waiting_len(), waiting_len, "{}", text.escape_ascii());
+    }
+}
+
+// The text has the same events, and as many bytes wait, by whatever call it is read.
+fn check_calls(parser: &mut ExtendedParser, text: &[u8], more: bool) {
+    parser.reset();
+    let wanted = parser.parse_as_vec(text, more);
+    let waiting_len = parser.waiting_len();
+    for call in 0..CALLS {
+        parser.reset();
+        assert_eq!(parsed(call, parser, text, more), wanted, "{}, call {call}", text.escape_ascii());
+        assert_eq!(parser.waiting_len(), waiting_len, "{}, call {call}", text.escape_ascii());
+    }
+}
+
+#[test]
+fn reads_2000_texts_however_cut() {
+    for rows in BOTH {
+        let (mut draws, mut parser) = (Draws::new(1), ExtendedParser::new(*rows));
+        for _ in 0..2000 {
+            let text = any_text(&mut draws);
+            let more = draws.below(2) == 0;
+            check_cuts(&mut draws, &mut parser, &text, more);
+            check_calls(&mut parser, &text, more);
+        }
+    }
+}
+
+// A text without extra sequences is read as the port reads it.
+#[test]
+fn reads_2000_usual_texts_as_the_port() {
+    let (mut port, mut parser) = (InputParser::new(), ExtendedParser::new(Rows::Port));
+    let mut draws = Draws::new(2);
+    for _ in 0..2000 {
+        let text = drawn(&mut draws, USUAL_SYMBOLS);
+        port.reset();
+        parser.reset();
+        let wanted: Vec<ExtendedEvent> = port.parse_as_vec(&text, false).into_iter().map(ExtendedEvent::Input).collect();
+        assert_eq!(parser.parse_as_vec(&text, false), wanted, "{}", text.escape_ascii());
+        assert_eq!(parser.waiting_len(), port.waiting_len(), "{}", text.escape_ascii());
+    }
+}

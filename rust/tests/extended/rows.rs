@@ -1,0 +1,61 @@
+// The rows of the sequence table, read in both ways.
+use hedrugal::extended::{ExtendedEvent, ExtendedParser, KeyReport, Rows};
+use hedrugal::input::{InputParser, KeyCode};
+
+// How many rows the sequence table has, as docs/GRAMMAR.md lists them.
+const ROW_COUNT: usize = 2937;
+
+// How many rows are read otherwise under `Rows::Kitty`.
+#[derive(Default, PartialEq, Debug)]
+struct Counts {
+    // Key reports.
+    reports: usize,
+    // Of these, those whose key or modifiers aren't the port's.
+    renamed: usize,
+    // Cursor positions.
+    positions: usize,
+}
+
+// Whether both are of one key with one set of modifiers.
+fn same_key(first: &KeyReport, second: &KeyReport) -> bool {
+    first.key == second.key && first.modifiers == second.modifiers
+}
+
+impl Counts {
+    // Counts the reading of a row, which is the port's unless it is a report.
+    fn add(&mut self, port: &[ExtendedEvent], kitty: &[ExtendedEvent]) {
+        match kitty {
+            [ExtendedEvent::Key(report)] => {
+                self.reports += 1;
+                let key = port[0].key().expect("the row has a key");
+                self.renamed += usize::from(!same_key(&key, report));
+            }
+            [ExtendedEvent::CursorPosition { .. }] => self.positions += 1,
+            events => assert_eq!(events, port),
+        }
+    }
+}
+
+// Each row is read as `InputParser` reads it, or under `Rows::Kitty` as a report. The start of a paste alone has no event.
+#[test]
+fn reads_each_row() {
+    let mut plain = InputParser::new();
+    let (mut port, mut kitty) = (ExtendedParser::new(Rows::Port), ExtendedParser::new(Rows::Kitty));
+    let mut counts = Counts::default();
+    for place in 0..ROW_COUNT {
+        let (row, key) = plain.row(place).expect("there are so many rows");
+        let wanted: Vec<ExtendedEvent> = plain.parse_as_vec(&row, false).into_iter().map(ExtendedEvent::Input).collect();
+        assert_eq!(wanted.len(), usize::from(key.key != KeyCode::InternalPasteStart), "{row:?}");
+        assert_eq!(port.parse_as_vec(&row, false), wanted, "{row:?}");
+        counts.add(&wanted, &kitty.parse_as_vec(&row, false));
+        let left = plain.reset();
+        assert_eq!((port.reset(), kitty.reset()), (left, left));
+    }
+    assert_eq!(plain.row(ROW_COUNT), None);
+    let wanted = Counts {
+        reports: 2783,
+        renamed: 300,
+        positions: 16,
+    };
+    assert_eq!(counts, wanted);
+}
