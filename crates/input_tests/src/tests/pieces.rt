@@ -183,6 +183,7 @@ pub(super) fn pieces_of(alloc: Global, text: &[u8], len: usize) -> Result<Vec<&[
 
 // The events of `KEYS`, again and again, a byte a piece: the first key ends at the third byte, and the second at the fourth.
 fn check_numbers(rt: &impl Abort, events: &[(usize, InputEvent)]) {
+    assert_eq!(rt; events.len(), 35000);
     for (place, (number, event)) in events.iter().enumerate() {
         assert_eq!(rt; *number, place / 2 * 4 + 2 + place % 2);
         assert_eq!(rt; *event, wanted_at(place));
@@ -191,12 +192,10 @@ fn check_numbers(rt: &impl Abort, events: &[(usize, InputEvent)]) {
 
 #[test]
 fn reads_70000_pieces(rt: HostRuntime) -> Result<(), Fail> {
-    let alloc = rt.alloc();
-    let text = KEYS.repeat(alloc, 17500)?;
-    let mut parser = InputParser::new(alloc)?;
-    let pieces = pieces_of(alloc, &text, 1)?;
-    let events = parsed_pieces(&rt, alloc, &mut parser, &pieces, LAST)?;
-    assert_eq!(rt; events.len(), 35000);
+    let text = KEYS.repeat(rt.alloc(), 17500)?;
+    let pieces = pieces_of(rt.alloc(), &text, 1)?;
+    let mut parser = InputParser::new(rt.alloc())?;
+    let events = parsed_pieces(&rt, rt.alloc(), &mut parser, &pieces, LAST)?;
     check_numbers(&rt, &events);
     assert_eq!(rt; parser.waiting_len(), 0);
     Ok(())

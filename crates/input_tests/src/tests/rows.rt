@@ -1,6 +1,7 @@
 // Lookups in the sequence table, and the test for a paste without an end.
 use super::{InputEvent, InputParser, KeyCode, KeyEvent, LAST, MORE, Modifiers};
 use crate::table_rows;
+use std::alloc::Global;
 use std::process::Abort;
 use std::test::Fail;
 use termwiz_input::keymap::{Found, KeyMap};
@@ -35,13 +36,8 @@ fn check_row(
     );
 }
 
-// ESC is a row, and longer rows begin with it. No row begins the last three texts, of which one is empty.
-#[test]
-fn looks_rows_up(rt: HostRuntime) -> Result<(), Fail> {
-    let parser = InputParser::new(rt.alloc())?;
-    for row in FOUND {
-        check_row(&rt, &parser, row);
-    }
+// ESC is a row, and longer rows begin with it. No row begins the other bytes, or they are none.
+fn check_short_texts(rt: &impl Abort, parser: &InputParser) {
     let escape = KeyEvent {
         key: KeyCode::Escape,
         modifiers: Modifiers::NONE,
@@ -52,6 +48,15 @@ fn looks_rows_up(rt: HostRuntime) -> Result<(), Fail> {
     assert_eq!(rt; parser.lookup(b"\xc3", MORE), Found::None);
     assert_eq!(rt; parser.lookup(b"", MORE), Found::NeedData);
     assert_eq!(rt; parser.waiting_len(), 0);
+}
+
+#[test]
+fn looks_rows_up(rt: HostRuntime) -> Result<(), Fail> {
+    let parser = InputParser::new(rt.alloc())?;
+    for row in FOUND {
+        check_row(&rt, &parser, row);
+    }
+    check_short_texts(&rt, &parser);
     Ok(())
 }
 
@@ -92,6 +97,18 @@ const OPEN: &[(&[u8], bool)] = &[
     (b"", false),
 ];
 
+// Feeds an open paste of 300 KB, which is awaited, and then its end: the paste is the next event.
+fn check_awaited_end(rt: &impl Abort, alloc: Global, parser: &mut InputParser) -> Result<(), Fail> {
+    parser.feed(b"\x1b[200~")?;
+    parser.feed(&b"x".repeat(alloc, 300_000)?)?;
+    assert!(rt; parser.awaits_paste_end());
+    parser.feed(b"\x1b[201~")?;
+    assert!(rt; !parser.awaits_paste_end());
+    assert!(rt; matches!(parser.next_event(MORE)?, Some(InputEvent::Paste(_))));
+    assert_eq!(rt; parser.waiting_len(), 0);
+    Ok(())
+}
+
 #[test]
 fn awaits_the_end_of_a_paste(rt: HostRuntime) -> Result<(), Fail> {
     let mut parser = InputParser::new(rt.alloc())?;
@@ -100,19 +117,5 @@ fn awaits_the_end_of_a_paste(rt: HostRuntime) -> Result<(), Fail> {
         assert_eq!(rt; parser.awaits_paste_end(), *awaits, "{text:?}");
         assert_eq!(rt; parser.reset(), text.len(), "{text:?}");
     }
-    Ok(())
-}
-
-// An open paste of 300 KB is awaited, and then its end makes it the next event.
-#[test]
-fn awaits_the_end_of_a_long_paste(rt: HostRuntime) -> Result<(), Fail> {
-    let mut parser = InputParser::new(rt.alloc())?;
-    parser.feed(b"\x1b[200~")?;
-    parser.feed(&b"x".repeat(rt.alloc(), 300_000)?)?;
-    assert!(rt; parser.awaits_paste_end());
-    parser.feed(b"\x1b[201~")?;
-    assert!(rt; !parser.awaits_paste_end());
-    assert!(rt; matches!(parser.next_event(MORE)?, Some(InputEvent::Paste(_))));
-    assert_eq!(rt; parser.waiting_len(), 0);
-    Ok(())
+    check_awaited_end(&rt, rt.alloc(), &mut parser)
 }
