@@ -190,13 +190,24 @@ fn check_numbers(rt: &impl Abort, events: &[(usize, InputEvent)]) {
     }
 }
 
+// Reads `KEYS` as often as makes 70000 pieces of a byte.
+fn check_keys_by_bytes(
+    rt: &impl Abort,
+    alloc: Global,
+    parser: &mut InputParser,
+    pieces: &[&[u8]],
+) -> Result<(), Fail> {
+    assert_eq!(rt; pieces.len(), 70000);
+    let events = parsed_pieces(rt, alloc, parser, pieces, LAST)?;
+    check_numbers(rt, &events);
+    assert_eq!(rt; parser.waiting_len(), 0);
+    Ok(())
+}
+
 #[test]
 fn reads_70000_pieces(rt: HostRuntime) -> Result<(), Fail> {
     let text = KEYS.repeat(rt.alloc(), 17500)?;
     let pieces = pieces_of(rt.alloc(), &text, 1)?;
     let mut parser = InputParser::new(rt.alloc())?;
-    let events = parsed_pieces(&rt, rt.alloc(), &mut parser, &pieces, LAST)?;
-    check_numbers(&rt, &events);
-    assert_eq!(rt; parser.waiting_len(), 0);
-    Ok(())
+    check_keys_by_bytes(&rt, rt.alloc(), &mut parser, &pieces)
 }
