@@ -8,7 +8,7 @@ use std::test::Fail;
 
 // By which calls bytes are read.
 #[derive(Clone, Copy, Debug)]
-enum Calls {
+pub(super) enum Calls {
     // `parse_as_vec`.
     List,
     // `parse`.
@@ -109,7 +109,7 @@ fn reads_70000_keys_at_once(rt: HostRuntime) -> Result<(), Fail> {
 }
 
 // Reads a paste of this text by one call: its one event, after which nothing waits.
-fn check_paste(
+pub(super) fn check_paste(
     rt: &impl Abort,
     alloc: Global,
     parser: &mut InputParser,

@@ -183,21 +183,31 @@ pub(super) fn pieces_of(alloc: Global, text: &[u8], len: usize) -> Result<Vec<&[
 
 // The events of `KEYS`, again and again, a byte a piece: the first key ends at the third byte, and the second at the fourth.
 fn check_numbers(rt: &impl Abort, events: &[(usize, InputEvent)]) {
+    assert_eq!(rt; events.len(), 35000);
     for (place, (number, event)) in events.iter().enumerate() {
         assert_eq!(rt; *number, place / 2 * 4 + 2 + place % 2);
         assert_eq!(rt; *event, wanted_at(place));
     }
 }
 
-#[test]
-fn reads_70000_pieces(rt: HostRuntime) -> Result<(), Fail> {
-    let alloc = rt.alloc();
-    let text = KEYS.repeat(alloc, 17500)?;
-    let mut parser = InputParser::new(alloc)?;
-    let pieces = pieces_of(alloc, &text, 1)?;
-    let events = parsed_pieces(&rt, alloc, &mut parser, &pieces, LAST)?;
-    assert_eq!(rt; events.len(), 35000);
-    check_numbers(&rt, &events);
+// Reads `KEYS` as often as makes 70000 pieces of a byte.
+fn check_keys_by_bytes(
+    rt: &impl Abort,
+    alloc: Global,
+    parser: &mut InputParser,
+    pieces: &[&[u8]],
+) -> Result<(), Fail> {
+    assert_eq!(rt; pieces.len(), 70000);
+    let events = parsed_pieces(rt, alloc, parser, pieces, LAST)?;
+    check_numbers(rt, &events);
     assert_eq!(rt; parser.waiting_len(), 0);
     Ok(())
+}
+
+#[test]
+fn reads_70000_pieces(rt: HostRuntime) -> Result<(), Fail> {
+    let text = KEYS.repeat(rt.alloc(), 17500)?;
+    let pieces = pieces_of(rt.alloc(), &text, 1)?;
+    let mut parser = InputParser::new(rt.alloc())?;
+    check_keys_by_bytes(&rt, rt.alloc(), &mut parser, &pieces)
 }

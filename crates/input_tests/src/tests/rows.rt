@@ -1,6 +1,8 @@
 // Lookups in the sequence table, and the test for a paste without an end.
-use super::{InputEvent, InputParser, KeyCode, KeyEvent, LAST, MORE, Modifiers};
+use super::long::{Calls, check_paste};
+use super::{InputParser, KeyCode, KeyEvent, LAST, MORE, Modifiers};
 use crate::table_rows;
+use std::alloc::Global;
 use std::process::Abort;
 use std::test::Fail;
 use termwiz_input::keymap::{Found, KeyMap};
@@ -19,38 +21,44 @@ const FOUND: &[(&[u8], usize, KeyCode, Modifiers)] = &[
     (b"\x1bq", 1, KeyCode::Escape, Modifiers::NONE),
 ];
 
-fn check_row(
+fn check_lookup(
     rt: &impl Abort,
     parser: &InputParser,
-    (bytes, len, key, modifiers): &(&[u8], usize, KeyCode, Modifiers),
+    bytes: &[u8],
+    more: bool,
+    wanted: Found<&KeyEvent>,
 ) {
-    let event = KeyEvent {
-        key: *key,
-        modifiers: *modifiers,
-    };
-    assert_eq!(rt;
-        parser.lookup(bytes, LAST),
-        Found::Exact(*len, &event),
-        "{bytes:?}"
-    );
+    assert_eq!(rt; parser.lookup(bytes, more), wanted, "{bytes:?}");
 }
 
-// ESC is a row, and longer rows begin with it. No row begins the last three texts, of which one is empty.
-#[test]
-fn looks_rows_up(rt: HostRuntime) -> Result<(), Fail> {
-    let parser = InputParser::new(rt.alloc())?;
-    for row in FOUND {
-        check_row(&rt, &parser, row);
+fn check_found(rt: &impl Abort, parser: &InputParser) {
+    for (bytes, len, key, modifiers) in FOUND {
+        let event = KeyEvent {
+            key: *key,
+            modifiers: *modifiers,
+        };
+        check_lookup(rt, parser, bytes, LAST, Found::Exact(*len, &event));
     }
+}
+
+// ESC is a row, and longer rows begin with it. No row begins the other bytes, or they are none.
+fn check_short_texts(rt: &impl Abort, parser: &InputParser) {
     let escape = KeyEvent {
         key: KeyCode::Escape,
         modifiers: Modifiers::NONE,
     };
-    assert_eq!(rt; parser.lookup(b"\x1b", MORE), Found::Ambiguous(1, &escape));
-    assert_eq!(rt; parser.lookup(b"\x1bq", MORE), Found::Exact(1, &escape));
-    assert_eq!(rt; parser.lookup(b"q", MORE), Found::None);
-    assert_eq!(rt; parser.lookup(b"\xc3", MORE), Found::None);
-    assert_eq!(rt; parser.lookup(b"", MORE), Found::NeedData);
+    check_lookup(rt, parser, b"\x1b", MORE, Found::Ambiguous(1, &escape));
+    check_lookup(rt, parser, b"\x1bq", MORE, Found::Exact(1, &escape));
+    check_lookup(rt, parser, b"q", MORE, Found::None);
+    check_lookup(rt, parser, b"\xc3", MORE, Found::None);
+    check_lookup(rt, parser, b"", MORE, Found::NeedData);
+}
+
+#[test]
+fn looks_rows_up(rt: HostRuntime) -> Result<(), Fail> {
+    let parser = InputParser::new(rt.alloc())?;
+    check_found(&rt, &parser);
+    check_short_texts(&rt, &parser);
     assert_eq!(rt; parser.waiting_len(), 0);
     Ok(())
 }
@@ -92,27 +100,38 @@ const OPEN: &[(&[u8], bool)] = &[
     (b"", false),
 ];
 
+// Feeds the text, after which the parser awaits the end of a paste, or doesn't.
+fn check_awaits(
+    rt: &impl Abort,
+    parser: &mut InputParser,
+    text: &[u8],
+    awaits: bool,
+) -> Result<(), Fail> {
+    parser.feed(text)?;
+    assert_eq!(rt; parser.awaits_paste_end(), awaits);
+    Ok(())
+}
+
+// Feeds an open paste of this text, and then its end: the paste is the next event.
+fn check_awaited_end(
+    rt: &impl Abort,
+    alloc: Global,
+    parser: &mut InputParser,
+    body: &[u8],
+) -> Result<(), Fail> {
+    check_awaits(rt, parser, b"\x1b[200~", true)?;
+    check_awaits(rt, parser, body, true)?;
+    check_awaits(rt, parser, b"\x1b[201~", false)?;
+    check_paste(rt, alloc, parser, Calls::Event, (body, b""))
+}
+
 #[test]
 fn awaits_the_end_of_a_paste(rt: HostRuntime) -> Result<(), Fail> {
     let mut parser = InputParser::new(rt.alloc())?;
     for (text, awaits) in OPEN {
-        parser.feed(text)?;
-        assert_eq!(rt; parser.awaits_paste_end(), *awaits, "{text:?}");
+        check_awaits(&rt, &mut parser, text, *awaits)?;
         assert_eq!(rt; parser.reset(), text.len(), "{text:?}");
     }
-    Ok(())
-}
-
-// An open paste of 300 KB is awaited, and then its end makes it the next event.
-#[test]
-fn awaits_the_end_of_a_long_paste(rt: HostRuntime) -> Result<(), Fail> {
-    let mut parser = InputParser::new(rt.alloc())?;
-    parser.feed(b"\x1b[200~")?;
-    parser.feed(&b"x".repeat(rt.alloc(), 300_000)?)?;
-    assert!(rt; parser.awaits_paste_end());
-    parser.feed(b"\x1b[201~")?;
-    assert!(rt; !parser.awaits_paste_end());
-    assert!(rt; matches!(parser.next_event(MORE)?, Some(InputEvent::Paste(_))));
-    assert_eq!(rt; parser.waiting_len(), 0);
-    Ok(())
+    let body = b"x".repeat(rt.alloc(), 300_000)?;
+    check_awaited_end(&rt, rt.alloc(), &mut parser, &body)
 }
