@@ -98,9 +98,9 @@ fn insert_all(
 
 // Checks the number of keys, and the answers.
 fn check_answers(rt: &impl Abort, map: &KeyMap<bool>, (entries, lookups): Case) {
-    assert_eq!(rt; map.len(), entries.len());
+    assert!(rt; map.len() == entries.len());
     for (text, maybe_more, answer) in lookups {
-        assert_eq!(rt; map.lookup(text, *maybe_more), *answer);
+        assert!(rt; map.lookup(text, *maybe_more) == *answer, "{text:?}");
     }
 }
 
@@ -141,15 +141,19 @@ fn lookups(rt: HostRuntime) -> Result<(), Fail> {
     Ok(())
 }
 
-// The first bytes of a key of 300 bytes are another key, and all texts the first bytes of one.
+// The first 300 bytes of a text are a key, and so are the first 100.
 fn check_long_keys(rt: &impl Abort, alloc: Global, text: &[u8]) -> Result<(), AllocError> {
     assert!(rt; text.len() == 301);
-    let entries = [(&text[..300], true), (&text[..100], false)];
+    let (before_short, _) = text.split_at(99);
+    let (short, _) = text.split_at(100);
+    let (before_long, _) = text.split_at(299);
+    let (long, _) = text.split_at(300);
+    let entries = [(long, true), (short, false)];
     let lookups = [
-        (&text[..99], true, Found::NeedData),
-        (&text[..100], true, Found::Ambiguous(100, &false)),
-        (&text[..299], true, Found::Ambiguous(100, &false)),
-        (&text[..300], true, Found::Exact(300, &true)),
+        (before_short, true, Found::NeedData),
+        (short, true, Found::Ambiguous(100, &false)),
+        (before_long, true, Found::Ambiguous(100, &false)),
+        (long, true, Found::Exact(300, &true)),
         (text, true, Found::Exact(300, &true)),
     ];
     check(rt, alloc, (&entries, &lookups))
@@ -190,13 +194,10 @@ fn insert_further(map: &mut KeyMap<u32>) -> Result<(), AllocError> {
 fn check_numbers(rt: &impl Abort, map: &KeyMap<u32>, limit: u32) {
     for number in 0..limit {
         let key = two_bytes(number);
-        assert_eq!(rt; map.lookup(&key, true), Found::Exact(2, &number));
-        assert_eq!(rt;
-            map.get_index(number as usize),
-            Some((key.as_slice(), &number))
-        );
+        assert!(rt; map.lookup(&key, true) == Found::Exact(2, &number));
+        assert!(rt; map.get_index(number as usize) == Some((key.as_slice(), &number)));
     }
-    assert_eq!(rt; map.lookup(&two_bytes(limit), true), Found::None);
+    assert!(rt; map.lookup(&two_bytes(limit), true) == Found::None);
     assert!(rt; map.get_index(limit as usize).is_none());
 }
 
@@ -208,7 +209,7 @@ fn check_many_keys(rt: &impl Abort, map: &mut KeyMap<u32>) -> Result<(), AllocEr
     insert_further(map)?;
     map.remember()?;
     check_numbers(rt, map, 60_000);
-    assert_eq!(rt; map.extensions(&[3]), 768..1024);
+    assert!(rt; map.extensions(&[3]) == (768..1024));
     let copy = map.clone()?;
     check_numbers(rt, &copy, 60_000);
     Ok(())
@@ -245,7 +246,10 @@ const EXTENSIONS: &[(&[u8], Range<usize>)] = &[
 // Each key with its place, and after them no more.
 fn check_places(rt: &impl Abort, map: &KeyMap<bool>, keys: &[&[u8]]) {
     for place in 0..keys.len() {
-        assert_eq!(rt; map.get_index(place), Some((keys[place], &true)));
+        assert!(rt;
+            map.get_index(place) == Some((keys[place], &true)),
+            "{place}"
+        );
     }
     assert!(rt; map.get_index(keys.len()).is_none());
 }
@@ -258,17 +262,22 @@ fn check_extensions(rt: &impl Abort, map: &KeyMap<bool>) {
     }
 }
 
-#[test]
-fn places(rt: HostRuntime) -> Result<(), Fail> {
-    let mut map = KeyMap::new(rt.alloc());
-    check_places(&rt, &map, &[]);
-    assert_eq!(rt; map.extensions(b""), 0..0);
+// Inserts the keys into a map that is empty before.
+fn check_six(rt: &impl Abort, map: &mut KeyMap<bool>) -> Result<(), AllocError> {
+    check_places(rt, map, &[]);
+    assert!(rt; map.extensions(b"") == (0..0));
     for key in SIX {
         map.insert(key, true)?;
     }
-    check_places(&rt, &map, &[b"", b"a", b"ab", b"abc", b"b", b"\xff"]);
-    check_extensions(&rt, &map);
+    check_places(rt, map, &[b"", b"a", b"ab", b"abc", b"b", b"\xff"]);
+    check_extensions(rt, map);
     Ok(())
+}
+
+#[test]
+fn places(rt: HostRuntime) -> Result<(), Fail> {
+    let mut map = KeyMap::new(rt.alloc());
+    Ok(check_six(&rt, &mut map)?)
 }
 
 // A clone keeps the texts that it was made with, also when the map then has another.
@@ -287,7 +296,10 @@ fn check_texts(rt: &impl Abort, alloc: Global, map: &mut KeyMap<String>) -> Resu
 fn check_text(rt: &impl Abort, map: &KeyMap<String>, key: &[u8], wanted: &str) {
     match map.lookup(key, false) {
         Found::Exact(len, text) => {
-            assert_eq!(rt; (len, text.as_str()), (key.len(), wanted));
+            assert!(rt;
+                len == key.len() && text.as_str() == wanted,
+                "{key:?}: {text}"
+            );
         }
         found => panic!(rt; "{key:?}: {found:?}"),
     }
@@ -302,6 +314,6 @@ fn clones_its_texts(rt: HostRuntime) -> Result<(), Fail> {
 #[test]
 fn clones_an_answer(rt: HostRuntime) -> Result<(), Fail> {
     let answer = Found::Ambiguous(2, 7u32);
-    assert_eq!(rt; answer.clone()?, answer);
+    assert!(rt; answer.clone()? == answer);
     Ok(())
 }

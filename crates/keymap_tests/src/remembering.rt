@@ -100,10 +100,8 @@ fn check_lookup(
     text: &[u8],
     maybe_more: bool,
 ) {
-    assert_eq!(rt;
-        map.lookup(text, maybe_more),
-        other.lookup(text, maybe_more)
-    );
+    let answer = map.lookup(text, maybe_more);
+    assert!(rt; answer == other.lookup(text, maybe_more), "{text:?}");
 }
 
 // Looks ten texts up in both maps.

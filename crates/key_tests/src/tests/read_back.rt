@@ -154,7 +154,7 @@ pub fn check_read_as(
     })];
     assert!(rt;
         reading.events.as_slice() == wanted.as_slice() && reading.waiting_len == 0,
-        "{key:?} {bits} {modes:?}: {reading:?}"
+        "{key:?} {bits} {modes:?}"
     );
     Ok(())
 }
