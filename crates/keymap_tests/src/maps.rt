@@ -280,12 +280,22 @@ fn places(rt: HostRuntime) -> Result<(), Fail> {
     Ok(check_six(&rt, &mut map)?)
 }
 
+// Sets the text of a key.
+fn set_text(
+    alloc: Global,
+    map: &mut KeyMap<String>,
+    key: &[u8],
+    text: &str,
+) -> Result<(), AllocError> {
+    map.insert(key, String::from_str(alloc, text)?)
+}
+
 // A clone keeps the texts that it was made with, also when the map then has another.
 fn check_texts(rt: &impl Abort, alloc: Global, map: &mut KeyMap<String>) -> Result<(), AllocError> {
-    map.insert(b"a", String::from_str(alloc, "one")?)?;
-    map.insert(b"ab", String::from_str(alloc, "two")?)?;
+    set_text(alloc, map, b"a", "one")?;
+    set_text(alloc, map, b"ab", "two")?;
     let copy = map.clone()?;
-    map.insert(b"a", String::from_str(alloc, "three")?)?;
+    set_text(alloc, map, b"a", "three")?;
     check_text(rt, &copy, b"a", "one");
     check_text(rt, &copy, b"ab", "two");
     check_text(rt, map, b"a", "three");

@@ -92,6 +92,17 @@ impl Draws {
     }
 }
 
+// Sets the value of a key in both maps.
+fn insert(
+    map: &mut KeyMap<u32>,
+    other: &mut KeyMap<u32>,
+    key: &[u8],
+    value: u32,
+) -> Result<(), AllocError> {
+    map.insert(key, value)?;
+    other.insert(key, value)
+}
+
 // Looks a text up in both maps.
 fn check_lookup(
     rt: &impl Abort,
@@ -131,8 +142,7 @@ fn check_growing(
 ) -> Result<(), AllocError> {
     for value in 0u32..60 {
         draws.draw(kind)?;
-        map.insert(&draws.text, value)?;
-        other.insert(&draws.text, value)?;
+        insert(map, other, &draws.text, value)?;
         if matches!(when, When::Between) && value % 7 < 4 {
             map.remember()?;
         }
@@ -153,8 +163,7 @@ fn check_maps(
     if matches!(when, When::Before) {
         map.remember()?;
     }
-    map.insert(b"", 60)?;
-    other.insert(b"", 60)?;
+    insert(map, other, b"", 60)?;
     check_growing(rt, draws, kind, when, map, other)?;
     if matches!(when, When::After) {
         map.remember()?;
@@ -212,8 +221,7 @@ fn insert_decimals(
 ) -> Result<(), AllocError> {
     for value in 0u32..300 {
         let key = format!(in alloc; "#{}~", 299 - value)?;
-        map.insert(key.as_bytes(), value)?;
-        other.insert(key.as_bytes(), value)?;
+        insert(map, other, key.as_bytes(), value)?;
         if value == 150 {
             map.remember()?;
         }
