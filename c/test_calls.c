@@ -968,7 +968,7 @@ static void moves_and_makes_maps_anew(void) {
 }
 
 /* A plain map to compare with: a list of keys, all of which each lookup goes through. */
-enum { MOST_BYTES = 6, MOST_KEYS = 2000 };
+enum { MOST_BYTES = 303, MOST_KEYS = 2000 };
 
 struct plain {
   uint8_t key[MOST_BYTES];
@@ -1010,18 +1010,43 @@ static uint32_t number_below(uint32_t limit) {
   return (seed >> 16) % limit;
 }
 
-/* Writes at most MOST_BYTES bytes, each one of four, and returns how many. */
-static size_t make_bytes(uint8_t *bytes) {
-  size_t len = number_below(MOST_BYTES + 1);
-  for (size_t at = 0; at < len; at++) bytes[at] = (uint8_t)"\0a\033\377"[number_below(4)];
+/* One of the numbers from the least to the most. */
+static uint32_t number_from(uint32_t least, uint32_t most) {
+  return least == most ? least : least + number_below(most - least + 1);
+}
+
+/* How the texts of a kind are made: from the first bytes of a text, so many at least and at most, and then from some of these bytes. */
+struct kind {
+  const char *beginning;
+  uint32_t least_beginning, most_beginning;
+  const char *bytes;
+  uint32_t bytes_len, least, most;
+};
+
+static char long_text[301];
+
+static const struct kind any_kind = {"", 0, 0, "\0a\033\377", 4, 0, 6};
+static const struct kind kinds[] = {
+    {"", 0, 0, "abc", 3, 0, 6},
+    {"a common beginning", 0, 18, "\0\1\376\377", 4, 0, 3},
+    {"\0\377", 2, 2, "\0\1\376\377", 4, 3, 3},
+    {long_text, 298, 301, "\0\377", 2, 0, 2},
+};
+
+/* Writes at most MOST_BYTES bytes of a kind, and returns how many. */
+static size_t make_bytes(const struct kind *kind, uint8_t *bytes) {
+  size_t begun = number_from(kind->least_beginning, kind->most_beginning);
+  size_t len = begun + number_from(kind->least, kind->most);
+  memcpy(bytes, kind->beginning, begun);
+  for (size_t at = begun; at < len; at++) bytes[at] = (uint8_t)kind->bytes[number_below(kind->bytes_len)];
   return len;
 }
 
 /* The answers are those of the plain map. */
-static void compare_lookups(tw_keymap *map, int lookups) {
+static void compare_lookups(tw_keymap *map, const struct kind *kind, int lookups) {
   uint8_t bytes[MOST_BYTES];
   for (; lookups > 0; lookups--) {
-    size_t len = make_bytes(bytes);
+    size_t len = make_bytes(kind, bytes);
     bool maybe_more = number_below(2);
     tw_match match = unwritten;
     uint32_t answer = plain_lookup(bytes, len, maybe_more, &match);
@@ -1029,18 +1054,26 @@ static void compare_lookups(tw_keymap *map, int lookups) {
   }
 }
 
-static void agrees_with_a_plain_map(void) {
+/* Inserts so many keys of a kind, some of them several times, and compares lookups after each and at last. */
+static void compare_maps(const struct kind *kind, uint64_t inserts, int lookups, int last_lookups) {
   uint8_t key[MOST_BYTES];
   tw_keymap map = TW_KEYMAP_NONE;
+  plain_len = 0;
   EXPECT(tw_keymap_init(&map));
-  for (uint64_t value = 0; value < MOST_KEYS; value++) {
-    size_t len = make_bytes(key);
+  for (uint64_t value = 0; value < inserts; value++) {
+    size_t len = make_bytes(kind, key);
     plain_insert(key, len, value << 40);
     EXPECT(tw_keymap_insert(&map, key, len, value << 40) && tw_keymap_len(&map) == plain_len);
-    compare_lookups(&map, 3);
+    compare_lookups(&map, kind, lookups);
   }
-  compare_lookups(&map, 5000);
+  compare_lookups(&map, kind, last_lookups);
   tw_keymap_free(&map);
+}
+
+static void agrees_with_a_plain_map(void) {
+  compare_maps(&any_kind, MOST_KEYS, 3, 5000);
+  for (size_t at = 0; at < sizeof long_text; at++) long_text[at] = (char)(at % 251);
+  for (size_t at = 0; at < 25; at++) compare_maps(&kinds[at < 24 ? at % 3 : 3], 60, 10, 10);
 }
 
 /* Five thousand keys, and one of 300 bytes. */

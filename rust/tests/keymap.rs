@@ -6,16 +6,16 @@ use std::ops::Bound::{Excluded, Unbounded};
 use std::rc::Rc;
 
 // Entries that are inserted one after another, and what lookups then return: the text, whether more of it may follow, and the answer.
-struct Case {
-    entries: &'static [(&'static str, bool)],
-    lookups: &'static [(&'static str, bool, Found<bool>)],
+struct Case<'a, Key> {
+    entries: &'a [(Key, bool)],
+    lookups: &'a [(Key, bool, Found<bool>)],
 }
 
 // Three keys of which each is a prefix of the next, and one that is apart.
 const NESTED: &[(&str, bool)] = &[("boa", false), ("boo", false), ("boom", true), ("boom!!", false)];
 
 // Inserts the entries, from the first to the last or backwards.
-fn filled<'a>(entries: impl Iterator<Item = &'a (&'a str, bool)>) -> KeyMap<bool> {
+fn filled<'a, Key: AsRef<[u8]> + 'a>(entries: impl Iterator<Item = &'a (Key, bool)>) -> KeyMap<bool> {
     let mut map = KeyMap::new();
     for (key, value) in entries {
         map.insert(key, *value);
@@ -24,11 +24,12 @@ fn filled<'a>(entries: impl Iterator<Item = &'a (&'a str, bool)>) -> KeyMap<bool
 }
 
 // Checks a case whose keys are all different in a map, in a clone of it, and in a map whose keys were inserted in reverse order.
-fn check(case: &Case) {
+fn check<Key: AsRef<[u8]>>(case: &Case<Key>) {
     let map = filled(case.entries.iter());
     for map in [&map, &map.clone(), &filled(case.entries.iter().rev())] {
         for (text, maybe_more, answer) in case.lookups {
-            assert_eq!(map.lookup(text, *maybe_more), *answer, "{text} {maybe_more}");
+            let shown = text.as_ref().escape_ascii();
+            assert_eq!(map.lookup(text, *maybe_more), *answer, "{shown} {maybe_more}");
         }
     }
 }
@@ -96,6 +97,10 @@ fn lookup_past_dead_ends() {
             ("", true, Found::NeedData),
         ],
     });
+    check(&Case {
+        entries: &[("boa", true), ("boo", true), ("boom", true)],
+        lookups: &[("bz", true, Found::None), ("bo", true, Found::NeedData)],
+    });
 }
 
 #[test]
@@ -103,6 +108,10 @@ fn lookup_of_the_empty_key() {
     check(&Case {
         entries: &[],
         lookups: &[("", true, Found::None)],
+    });
+    check(&Case {
+        entries: &[("", true)],
+        lookups: &[("x", true, Found::Exact(0, true))],
     });
     check(&Case {
         entries: &[("", true), ("ab", false)],
@@ -114,6 +123,65 @@ fn lookup_of_the_empty_key() {
             ("ab", true, Found::Exact(2, false)),
         ],
     });
+}
+
+// The first bytes of a text that doesn't repeat before 251 of them.
+fn long_text(len: usize) -> Vec<u8> {
+    (0..=250).cycle().take(len).collect()
+}
+
+// A key of 300 bytes, and one of 100 bytes that is a prefix of it.
+#[test]
+fn lookup_of_long_keys() {
+    check(&Case {
+        entries: &[(long_text(300), true), (long_text(100), false)],
+        lookups: &[
+            (long_text(99), true, Found::NeedData),
+            (long_text(100), true, Found::Ambiguous(100, false)),
+            (long_text(299), true, Found::Ambiguous(100, false)),
+            (long_text(300), true, Found::Exact(300, true)),
+            (long_text(301), true, Found::Exact(300, true)),
+        ],
+    });
+}
+
+#[test]
+fn later_insert_wins() {
+    let mut map = KeyMap::new();
+    map.insert("ab", 1);
+    map.insert("ab", 2);
+    assert_eq!(map.lookup("ab", true), Found::Exact(2, 2));
+    assert_eq!(map.clone().lookup("ab", true), Found::Exact(2, 2));
+}
+
+// Numbers under their two bytes, in the order in which they are inserted.
+fn numbered(numbers: impl Iterator<Item = u16>) -> KeyMap<u16> {
+    let mut map = KeyMap::new();
+    for number in numbers {
+        map.insert(number.to_be_bytes(), number);
+    }
+    map
+}
+
+// The map has the numbers below a limit, and no other.
+fn check_numbers(map: &KeyMap<u16>, limit: u16) {
+    for number in 0..limit {
+        assert_eq!(map.lookup(number.to_be_bytes(), true), Found::Exact(2, number));
+    }
+    assert_eq!(map.lookup(limit.to_be_bytes(), true), Found::None);
+}
+
+#[test]
+fn has_many_keys() {
+    let map = numbered(0..3000);
+    check_numbers(&map, 3000);
+    check_numbers(&map.clone(), 3000);
+}
+
+// Keys come alternately from both ends of their order, so that each insert is far from the one before.
+#[test]
+fn has_keys_that_were_inserted_far_apart() {
+    check_numbers(&numbered((0..3000).flat_map(|number| [number, 5999 - number])), 6000);
 }
 
 #[test]
@@ -169,6 +237,27 @@ impl Draws {
         (0..self.below(len + 1)).map(|_| of[self.below(of.len())]).collect()
     }
 
+    // A text of at most six bytes, of three different ones.
+    fn letters(&mut self) -> Vec<u8> {
+        self.bytes(6, b"abc")
+    }
+
+    // A text that begins as all of its kind do, and goes on with at most three of four bytes.
+    fn nested(&mut self) -> Vec<u8> {
+        [&b"a common beginning"[..self.below(19)], &self.bytes(3, b"\x00\x01\xfe\xff")].concat()
+    }
+
+    // Five bytes, of which the last three are any of four.
+    fn five(&mut self) -> Vec<u8> {
+        let last = [(); 3].map(|()| b"\x00\x01\xfe\xff"[self.below(4)]);
+        [&b"\x00\xff"[..], &last].concat()
+    }
+
+    // A text of some 300 bytes.
+    fn long(&mut self) -> Vec<u8> {
+        [long_text(298 + self.below(4)), self.bytes(2, b"\x00\xff")].concat()
+    }
+
     // A text: few different bytes, a common beginning, or a long one.
     fn text(&mut self) -> Vec<u8> {
         match self.below(8) {
@@ -178,6 +267,9 @@ impl Draws {
         }
     }
 }
+
+// Draws a text of one kind.
+type Kind = fn(&mut Draws) -> Vec<u8>;
 
 // A lookup by the rule itself: the longest key that is a prefix of the text, and whether the text is a prefix of a longer key.
 fn plain_lookup(map: &BTreeMap<Vec<u8>, u32>, text: &[u8], maybe_more: bool) -> Found<u32> {
@@ -227,23 +319,25 @@ impl Plain {
         assert_eq!(Rc::strong_count(&self.token), 1 + self.map.len());
     }
 
-    // Looks texts up in both.
-    fn check(&mut self, map: &KeyMap<Counted>, draws: &mut Draws, count: usize) {
+    // Looks a text up in both.
+    fn check_text(&mut self, map: &KeyMap<Counted>, text: &[u8], maybe_more: bool) {
+        let answer = plain_lookup(&self.map, text, maybe_more);
+        self.answers[place_of(&answer)] += 1;
+        let shown = text.escape_ascii();
+        assert_eq!(number(map.lookup(text, maybe_more)), answer, "{shown} {maybe_more}");
+    }
+
+    // Looks texts of a kind up in both.
+    fn check(&mut self, map: &KeyMap<Counted>, draws: &mut Draws, kind: Kind, count: usize) {
         for _ in 0..count {
-            let (text, maybe_more) = (draws.text(), draws.below(2) == 0);
-            let answer = plain_lookup(&self.map, &text, maybe_more);
-            self.answers[kind(&answer)] += 1;
-            assert_eq!(
-                number(map.lookup(&text, maybe_more)),
-                answer,
-                "{:?} {maybe_more}",
-                text.escape_ascii()
-            );
+            let text = kind(draws);
+            self.check_text(map, &text, draws.below(2) == 0);
         }
     }
 }
 
-fn kind(found: &Found<u32>) -> usize {
+// The place of an answer's kind among the counts.
+fn place_of(found: &Found<u32>) -> usize {
     match found {
         Found::None => 0,
         Found::Exact(..) => 1,
@@ -277,7 +371,7 @@ fn grown(plain: &mut Plain, draws: &mut Draws, has_empty: bool) -> KeyMap<Counte
         if has_empty || !key.is_empty() {
             plain.insert(&mut map, key, value);
         }
-        plain.check(&map, draws, 4);
+        plain.check(&map, draws, Draws::text, 4);
     }
     assert!((40..100).contains(&plain.map.len()), "{} keys", plain.map.len());
     map
@@ -289,11 +383,52 @@ fn check_clone(mut map: KeyMap<Counted>, plain: &mut Plain, draws: &mut Draws) {
     assert_eq!(Rc::strong_count(&plain.token), 1 + 2 * plain.map.len());
     map.insert("", plain.counted(100));
     map.insert("a new key", plain.counted(101));
-    plain.check(&copy, draws, 100);
+    plain.check(&copy, draws, Draws::text, 100);
     assert_ne!(number(copy.lookup("", false)), Found::Exact(0, 100));
     assert_eq!(number(map.lookup("a new key", false)), Found::Exact(9, 101));
     drop(map);
-    plain.check(&copy, draws, 100);
+    plain.check(&copy, draws, Draws::text, 100);
+}
+
+// Keys and texts of one kind: the empty key and sixty others, with lookups after each of these, and in a clone.
+fn check_kind(draws: &mut Draws, kind: Kind) {
+    let (mut plain, mut map) = (Plain::default(), KeyMap::new());
+    plain.insert(&mut map, Vec::new(), 60);
+    for value in 0..60 {
+        plain.insert(&mut map, kind(draws), value);
+        plain.check(&map, draws, kind, 10);
+    }
+    plain.check(&map, draws, kind, 10);
+    plain.check(&map.clone(), draws, kind, 10);
+}
+
+// The tests in crates/keymap_tests draw the same texts, and compare a map that remembers ranges with one that doesn't.
+#[test]
+fn agrees_with_a_plain_map_on_each_kind_of_texts() {
+    let mut draws = Draws(1);
+    for _ in 0..8 {
+        for kind in [Draws::letters, Draws::nested, Draws::five] {
+            check_kind(&mut draws, kind);
+        }
+    }
+    check_kind(&mut draws, Draws::long);
+}
+
+// Decimal numbers are inserted in reverse order. They are looked up without their last byte, and with a byte after it.
+#[test]
+fn agrees_with_a_plain_map_on_decimal_numbers() {
+    let (mut plain, mut map) = (Plain::default(), KeyMap::new());
+    for value in 0..300 {
+        plain.insert(&mut map, format!("#{}~", 299 - value).into_bytes(), value);
+    }
+    for map in [&map, &map.clone()] {
+        for number in 0..310 {
+            for text in [format!("#{number}"), format!("#{number}~#")] {
+                plain.check_text(map, text.as_bytes(), true);
+                plain.check_text(map, text.as_bytes(), false);
+            }
+        }
+    }
 }
 
 // A type without bytes, a large one, and one that owns memory.

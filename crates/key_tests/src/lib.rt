@@ -20,7 +20,7 @@ use termwiz_input::input::{
 use termwiz_input::laws::{one_meaning, read_back};
 
 /// What a fresh parser reads in a whole text.
-#[derive(Debug, Drop)]
+#[derive(Drop)]
 pub struct WholeReading {
     /// The events of the text.
     pub events: Vec<InputEvent>,

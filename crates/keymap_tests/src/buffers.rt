@@ -4,28 +4,45 @@ use std::process::Abort;
 use std::test::Fail;
 use termwiz_keymap::readbuf::ReadBuffer;
 
+// Bytes that are appended, how many are dropped from the front then, and what is left.
+type Step<'a> = (&'a [u8], usize, &'a [u8]);
+
+const STEPS: &[Step] = &[
+    (b"", 0, b""),
+    (b"abc", 0, b"abc"),
+    (b"de", 0, b"abcde"),
+    (b"", 2, b"cde"),
+    (b"", 0, b"cde"),
+    (b"", 3, b""),
+];
+
+fn check_step(
+    rt: &impl Abort,
+    buffer: &mut ReadBuffer,
+    (bytes, dropped, left): Step,
+) -> Result<(), AllocError> {
+    buffer.extend_with(bytes)?;
+    assert!(rt; dropped <= buffer.len());
+    buffer.advance(dropped);
+    assert!(rt; buffer.as_slice() == left);
+    assert!(rt; buffer.len() == left.len() && buffer.is_empty() == left.is_empty());
+    Ok(())
+}
+
 #[test]
 fn appends_and_drops(rt: HostRuntime) -> Result<(), Fail> {
     let mut buffer = ReadBuffer::new(rt.alloc());
     assert!(rt; buffer.is_empty());
-    buffer.extend_with(b"")?;
-    assert!(rt; buffer.is_empty());
-    buffer.extend_with(b"abc")?;
-    buffer.extend_with(b"de")?;
-    assert_eq!(rt; buffer.as_slice(), b"abcde".as_slice());
-    assert_eq!(rt; buffer.len(), 5);
-    assert!(rt; !buffer.is_empty());
-    buffer.advance(2);
-    buffer.advance(0);
-    assert_eq!(rt; buffer.as_slice(), b"cde".as_slice());
-    buffer.advance(3);
-    assert!(rt; buffer.is_empty());
-    assert_eq!(rt; buffer.len(), 0);
+    for step in STEPS {
+        check_step(&rt, &mut buffer, *step)?;
+    }
     Ok(())
 }
 
 // The bytes of a buffer, an offset, a needle, and where it occurs first.
-const SEARCHES: &[(&[u8], usize, &[u8], Option<usize>)] = &[
+type Search<'a> = (&'a [u8], usize, &'a [u8], Option<usize>);
+
+const SEARCHES: &[Search] = &[
     (b"abcabc", 0, b"abc", Some(0)),
     (b"abcabc", 1, b"abc", Some(3)),
     (b"abcabc", 3, b"abc", Some(3)),
@@ -42,58 +59,74 @@ const SEARCHES: &[(&[u8], usize, &[u8], Option<usize>)] = &[
     (b"abc", 3, b"", Some(3)),
 ];
 
+// Searches a buffer that has these bytes in place of those that it had.
+fn check_search(
+    rt: &impl Abort,
+    buffer: &mut ReadBuffer,
+    (bytes, offset, needle, wanted): Search,
+) -> Result<(), AllocError> {
+    buffer.advance(buffer.len());
+    buffer.extend_with(bytes)?;
+    assert!(rt; offset <= buffer.len());
+    let found = buffer.find_subsequence(offset, needle);
+    assert!(rt; found == wanted, "{needle:?} in {bytes:?} from {offset}");
+    Ok(())
+}
+
 #[test]
 fn finds_the_first_place(rt: HostRuntime) -> Result<(), Fail> {
-    for (bytes, offset, needle, wanted) in SEARCHES {
-        let mut buffer = ReadBuffer::new(rt.alloc());
-        buffer.extend_with(bytes)?;
-        assert!(rt; *offset <= buffer.len());
-        let found = buffer.find_subsequence(*offset, needle);
-        assert_eq!(rt; found, *wanted, "{needle:?} in {bytes:?} from {offset}");
+    let mut buffer = ReadBuffer::new(rt.alloc());
+    for search in SEARCHES {
+        check_search(&rt, &mut buffer, *search)?;
     }
     Ok(())
 }
 
-// As many bytes of one value.
-fn filled(alloc: Global, byte: u8, len: usize) -> Result<Vec<u8>, AllocError> {
-    let mut bytes = Vec::new(alloc);
-    for _ in 0..len {
-        bytes.push(byte)?;
+// The byte `a` 100,000 times, and then `b` 5000 times.
+fn long_text(alloc: Global) -> Result<Vec<u8>, AllocError> {
+    let mut text = Vec::new(alloc);
+    for place in 0..105_000u32 {
+        text.push(if place < 100_000 { b'a' } else { b'b' })?;
     }
-    Ok(bytes)
+    Ok(text)
+}
+
+// The long text comes in two parts, and the first of these is dropped.
+fn check_long(rt: &impl Abort, buffer: &mut ReadBuffer, text: &[u8]) -> Result<(), AllocError> {
+    assert!(rt; text.len() == 105_000);
+    let (first, second) = text.split_at(100_000);
+    check_step(rt, buffer, (first, 0, first))?;
+    check_step(rt, buffer, (second, 0, text))?;
+    assert!(rt; buffer.find_subsequence(0, b"ab") == Some(99_999));
+    assert!(rt; buffer.len() == 105_000);
+    assert!(rt; buffer.find_subsequence(100_000, b"ab").is_none());
+    check_step(rt, buffer, (b"", 100_000, second))
 }
 
 #[test]
 fn takes_100_kilobytes(rt: HostRuntime) -> Result<(), Fail> {
-    let mut wanted = filled(rt.alloc(), b'a', 100_000)?;
-    let more = filled(rt.alloc(), b'b', 5000)?;
     let mut buffer = ReadBuffer::new(rt.alloc());
-    buffer.extend_with(wanted.as_slice())?;
-    assert!(rt; buffer.as_slice() == wanted.as_slice());
-    buffer.extend_with(more.as_slice())?;
-    wanted.extend_from_slice(more.as_slice())?;
-    assert!(rt; buffer.as_slice() == wanted.as_slice());
-    assert_eq!(rt; buffer.len(), 105_000);
-    assert_eq!(rt; buffer.find_subsequence(0, b"ab"), Some(99_999));
-    assert_eq!(rt; buffer.find_subsequence(100_000, b"ab"), None);
-    buffer.advance(100_000);
-    assert!(rt; buffer.as_slice() == more.as_slice());
+    let text = long_text(rt.alloc())?;
+    Ok(check_long(&rt, &mut buffer, &text)?)
+}
+
+// Bytes that are left move to the front, where all 100 have room again.
+fn check_closes_up(rt: &impl Abort, buffer: &mut ReadBuffer) -> Result<(), AllocError> {
+    buffer.extend_with(&[b'a'; 100])?;
+    let capacity = buffer.capacity();
+    check_step(rt, buffer, (b"", 90, b"aaaaaaaaaa"))?;
+    buffer.extend_with(&[b'b'; 90])?;
+    assert!(rt; buffer.capacity() == capacity);
+    assert!(rt; buffer.as_slice().starts_with(b"aaaaaaaaaab"));
+    check_step(rt, buffer, (b"", 100, b""))?;
+    assert!(rt; buffer.capacity() == capacity);
     Ok(())
 }
 
 #[test]
 fn closes_up_for_room(rt: HostRuntime) -> Result<(), Fail> {
     let mut buffer = ReadBuffer::new(rt.alloc());
-    buffer.extend_with(&[b'a'; 100])?;
-    let capacity = buffer.capacity();
-    buffer.advance(90);
-    buffer.extend_with(&[b'b'; 90])?;
-    assert_eq!(rt; buffer.capacity(), capacity);
-    assert_eq!(rt; buffer.len(), 100);
-    assert!(rt; buffer.as_slice().starts_with(b"aaaaaaaaaab"));
-    buffer.advance(100);
-    assert_eq!(rt; buffer.capacity(), capacity);
-    Ok(())
+    Ok(check_closes_up(&rt, &mut buffer)?)
 }
 
 // 1000 reads of 64 bytes, of which less than five are left each time: from the second on the buffer takes no more memory.
@@ -108,7 +141,7 @@ fn keeps_its_memory(rt: HostRuntime) -> Result<(), Fail> {
             capacity = buffer.capacity();
         }
     }
-    assert_eq!(rt; buffer.capacity(), capacity);
+    assert!(rt; buffer.capacity() == capacity);
     Ok(())
 }
 
@@ -127,14 +160,14 @@ const READS: &[(usize, usize)] = &[
 // Reads and drops as the table says. Returns the longest that the buffer's text was, or `longest` if that is more.
 fn check_reads(
     rt: &impl Abort,
-    alloc: Global,
     buffer: &mut ReadBuffer,
+    text: &[u8],
     longest: usize,
-) -> Result<usize, Fail> {
+) -> Result<usize, AllocError> {
     let mut longest = longest;
     for (read, left) in READS {
-        let bytes = filled(alloc, b'a', *read)?;
-        buffer.extend_with(bytes.as_slice())?;
+        assert!(rt; *read <= text.len());
+        buffer.extend_with(&text[..*read])?;
         longest = longest.max(buffer.len());
         buffer.advance(buffer.len().saturating_sub(*left));
         assert!(rt; buffer.capacity() / 2 <= longest);
@@ -145,9 +178,10 @@ fn check_reads(
 #[test]
 fn has_room_for_twice_the_longest(rt: HostRuntime) -> Result<(), Fail> {
     let mut buffer = ReadBuffer::new(rt.alloc());
+    let text = long_text(rt.alloc())?;
     let mut longest = 0;
     for _ in 0..20 {
-        longest = check_reads(&rt, rt.alloc(), &mut buffer, longest)?;
+        longest = check_reads(&rt, &mut buffer, &text, longest)?;
     }
     Ok(())
 }

@@ -1,4 +1,4 @@
-//! Tests of the public calls of `termwiz_keymap`: the key map against a plain one, and the buffer.
+//! Tests of the public calls of `termwiz_keymap`: what the library for C can't reach of the key map, and the buffer.
 #![tactic(auto)]
 
 #[cfg(test)]
@@ -6,4 +6,4 @@ mod buffers;
 #[cfg(test)]
 mod maps;
 #[cfg(test)]
-mod plain;
+mod remembering;

@@ -203,6 +203,59 @@ fn encodes_function_keys() {
     );
 }
 
+// Keys that no example has, with SHIFT.
+const SHIFTED: &[Example] = &[
+    (KeyCode::Hyper, SHIFT, ""),
+    (KeyCode::Clear, SHIFT, ""),
+    (KeyCode::Shift, SHIFT, ""),
+    (KeyCode::Backspace, SHIFT, "\x7f"),
+    (KeyCode::Escape, SHIFT, "\x1b"),
+    (KeyCode::DownArrow, SHIFT, "\x1b[1;2B"),
+    (KeyCode::RightArrow, SHIFT, "\x1b[1;2C"),
+    (KeyCode::ApplicationLeftArrow, SHIFT, "\x1b[1;2D"),
+    (KeyCode::ApplicationRightArrow, SHIFT, "\x1b[1;2C"),
+    (KeyCode::ApplicationUpArrow, SHIFT, "\x1b[1;2A"),
+    (KeyCode::ApplicationDownArrow, SHIFT, "\x1b[1;2B"),
+    (KeyCode::Insert, SHIFT, "\x1b[2;2~"),
+    (KeyCode::Delete, SHIFT, "\x1b[3;2~"),
+    (KeyCode::PageDown, SHIFT, "\x1b[6;2~"),
+    (KeyCode::KeyPadHome, SHIFT, "\x1b[1;2H"),
+    (KeyCode::KeyPadEnd, SHIFT, "\x1b[1;2F"),
+    (KeyCode::KeyPadPageUp, SHIFT, "\x1b[5;2~"),
+    (KeyCode::KeyPadPageDown, SHIFT, "\x1b[6;2~"),
+    (KeyCode::KeyPadBegin, SHIFT, "\x1b[1;2E"),
+    (KeyCode::Numpad2, SHIFT, "\x1b[1;2B"),
+    (KeyCode::Numpad3, SHIFT, "\x1b[6;2~"),
+    (KeyCode::Numpad4, SHIFT, "\x1b[1;2D"),
+    (KeyCode::Numpad5, SHIFT, "\x1b[1;2E"),
+    (KeyCode::Numpad6, SHIFT, "\x1b[1;2C"),
+    (KeyCode::Numpad7, SHIFT, "\x1b[1;2H"),
+    (KeyCode::Numpad8, SHIFT, "\x1b[1;2A"),
+    (KeyCode::Decimal, SHIFT, "\x1b[3;2~"),
+    (KeyCode::CapsLock, SHIFT, ""),
+    (KeyCode::VolumeUp, SHIFT, ""),
+    (KeyCode::InternalPasteEnd, SHIFT, ""),
+];
+
+#[test]
+fn encodes_keys_with_shift() {
+    check(XTERM, SHIFTED);
+}
+
+// The texts of F1 to F24.
+const FUNCTION_KEYS: [&str; 24] = [
+    "\x1bOP", "\x1bOQ", "\x1bOR", "\x1bOS", "\x1b[15~", "\x1b[17~", "\x1b[18~", "\x1b[19~", "\x1b[20~", "\x1b[21~", "\x1b[23~", "\x1b[24~",
+    "\x1b[25~", "\x1b[26~", "\x1b[28~", "\x1b[29~", "\x1b[31~", "\x1b[32~", "\x1b[33~", "\x1b[34~", "\x1b[42~", "\x1b[43~", "\x1b[44~",
+    "\x1b[45~",
+];
+
+#[test]
+fn encodes_every_function_key() {
+    for (number, wanted) in (1..).zip(FUNCTION_KEYS) {
+        check(XTERM, &[(KeyCode::Function(number), NONE, wanted)]);
+    }
+}
+
 // Only a function key outside F1 to F24 is refused, and only while it is down.
 #[test]
 fn refuses_unknown_function_keys() {
@@ -211,6 +264,7 @@ fn refuses_unknown_function_keys() {
         assert_eq!(key.encode(NONE, XTERM, true), Err(EncodeError::UnhandledFunctionKey(number)));
         assert_eq!(key.encode(NONE, XTERM, false), Ok(String::new()));
     }
+    assert_eq!(KeyCode::Char('a').encode(NONE, XTERM, false), Ok(String::new()));
 }
 
 // A key that is up has the empty text, and every key but a function key has a text.

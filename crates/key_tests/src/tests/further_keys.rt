@@ -1,61 +1,12 @@
 // Instances of the laws of `termwiz_laws` on keys that docs/GRAMMAR.md doesn't list. Some read back too (`further_keys_read_back`); any
 // other is read as another key (`only_these_read_back`), as a listed one if that sends the same text (`unlisted_twins_read_as_listed`).
+use super::read_back::check_read_as;
+use super::{ALT, APPLICATION, CSI_U, CTRL, LEVEL_1, LEVEL_2, NONE, Press, SHIFT, SUPER, XTERM};
 use crate::listed::is_listed;
-use crate::read_encoded;
 use std::alloc::Global;
 use std::process::Abort;
 use std::test::Fail;
-use termwiz_input::input::{
-    Flags, InputEvent, KeyCode, KeyCodeEncodeModes, KeyEvent, KeyboardEncoding, Modifiers,
-};
-
-const XTERM: KeyCodeEncodeModes = KeyCodeEncodeModes {
-    encoding: KeyboardEncoding::Xterm,
-    application_cursor_keys: false,
-    newline_mode: false,
-    modify_other_keys: None,
-};
-
-const APPLICATION_CURSOR_KEYS: KeyCodeEncodeModes = KeyCodeEncodeModes {
-    encoding: KeyboardEncoding::Xterm,
-    application_cursor_keys: true,
-    newline_mode: false,
-    modify_other_keys: None,
-};
-
-const LEVEL_1: KeyCodeEncodeModes = KeyCodeEncodeModes {
-    encoding: KeyboardEncoding::Xterm,
-    application_cursor_keys: false,
-    newline_mode: false,
-    modify_other_keys: Some(1),
-};
-
-const LEVEL_2: KeyCodeEncodeModes = KeyCodeEncodeModes {
-    encoding: KeyboardEncoding::Xterm,
-    application_cursor_keys: false,
-    newline_mode: false,
-    modify_other_keys: Some(2),
-};
-
-const CSI_U: KeyCodeEncodeModes = KeyCodeEncodeModes {
-    encoding: KeyboardEncoding::CsiU,
-    application_cursor_keys: false,
-    newline_mode: false,
-    modify_other_keys: None,
-};
-
-// A key with the bits of the modifiers that are held.
-type Press = (KeyCode, u16);
-
-const NONE: u16 = 0;
-
-const SHIFT: u16 = 1 << 1;
-
-const ALT: u16 = 1 << 2;
-
-const CTRL: u16 = 1 << 3;
-
-const SUPER: u16 = 1 << 4;
+use termwiz_input::input::{Flags, KeyCode, KeyCodeEncodeModes, Modifiers};
 
 // Keys that aren't listed, and that read back.
 const READ_BACK: &[(Press, KeyCodeEncodeModes)] = &[
@@ -66,7 +17,7 @@ const READ_BACK: &[(Press, KeyCodeEncodeModes)] = &[
     ((KeyCode::Char('\u{e9}'), ALT), XTERM),
     ((KeyCode::Char('i'), CTRL), CSI_U),
     ((KeyCode::Char('\u{1b}'), CTRL), CSI_U),
-    ((KeyCode::UpArrow, CTRL), APPLICATION_CURSOR_KEYS),
+    ((KeyCode::UpArrow, CTRL), APPLICATION),
     ((KeyCode::PageUp, CTRL | SHIFT), LEVEL_2),
     ((KeyCode::Function(24), CTRL), LEVEL_1),
 ];
@@ -87,38 +38,24 @@ const READ_OTHERWISE: &[(Press, KeyCodeEncodeModes, Press)] = &[
     ),
     (
         (KeyCode::UpArrow, NONE),
-        APPLICATION_CURSOR_KEYS,
+        APPLICATION,
         (KeyCode::ApplicationUpArrow, NONE),
     ),
     ((KeyCode::UpArrow, SUPER), XTERM, (KeyCode::UpArrow, NONE)),
     ((KeyCode::Escape, SHIFT), LEVEL_1, (KeyCode::Escape, NONE)),
 ];
 
-// Checks that a key isn't listed, and that its text is read as a key.
+// A key isn't listed, and its text is read as a key.
 fn check_unlisted(
     rt: &impl Abort,
     alloc: Global,
-    (key, bits): Press,
+    press: Press,
     modes: KeyCodeEncodeModes,
-    (wanted, wanted_bits): Press,
+    wanted: Press,
 ) -> Result<(), Fail> {
-    let modifiers = Modifiers::from_bits_retain(bits);
-    assert!(rt;
-        !is_listed(key, modifiers, modes),
-        "{key:?} {modifiers:?} {modes:?}"
-    );
-    let reading = read_encoded(alloc, key, modifiers, modes)?;
-    let wanted = [InputEvent::Key(KeyEvent {
-        key: wanted,
-        modifiers: Modifiers::from_bits_retain(wanted_bits),
-    })];
-    assert_eq!(rt;
-        reading.events.as_slice(),
-        wanted.as_slice(),
-        "{key:?} {modifiers:?} {modes:?}"
-    );
-    assert_eq!(rt; reading.waiting_len, 0, "{key:?} {modifiers:?} {modes:?}");
-    Ok(())
+    let listed = is_listed(press.0, Modifiers::from_bits_retain(press.1), modes);
+    assert!(rt; !listed, "{press:?} {modes:?}");
+    check_read_as(rt, alloc, press, modes, wanted)
 }
 
 #[test]

@@ -1,60 +1,50 @@
 // Every listed key is encoded and read back, as docs/GRAMMAR.md lists them under "Keys that read back". Each case is
 // asserted to be listed: a yes of `is_listed` is proved.
+use super::{ALT, APPLICATION, CTRL, LEVEL_1, LEVEL_2, NONE, Press, SHIFT, XTERM};
 use crate::listed::is_listed;
 use crate::read_encoded;
 use std::alloc::Global;
 use std::process::Abort;
 use std::test::Fail;
-use termwiz_input::input::{
-    Flags, InputEvent, KeyCode, KeyCodeEncodeModes, KeyEvent, KeyboardEncoding, Modifiers,
-};
+use termwiz_input::input::{Flags, InputEvent, KeyCode, KeyCodeEncodeModes, KeyEvent, Modifiers};
 
-// Which of Shift, Alt and Ctrl are held.
-type Held = (bool, bool, bool);
+// Sets of Shift, Alt and Ctrl.
+type Held = &'static [u16];
 
-const NONE: &[Held] = &[(false, false, false)];
+const NONE_OR_ALT: Held = &[NONE, ALT];
 
-const ALT: &[Held] = &[(false, true, false)];
+const ALT_AND_SHIFT: Held = &[NONE, ALT, SHIFT, SHIFT | ALT];
 
-const NONE_OR_ALT: &[Held] = &[(false, false, false), (false, true, false)];
+const WITH_CTRL: Held = &[CTRL, ALT | CTRL];
 
-const ALT_AND_SHIFT: &[Held] = &[
-    (false, false, false),
-    (false, true, false),
-    (true, false, false),
-    (true, true, false),
+const CTRL_AND_SHIFT: Held = &[SHIFT | CTRL, SHIFT | ALT | CTRL];
+
+const ANY: Held = &[
+    NONE,
+    CTRL,
+    ALT,
+    ALT | CTRL,
+    SHIFT,
+    SHIFT | CTRL,
+    SHIFT | ALT,
+    SHIFT | ALT | CTRL,
 ];
 
-const CTRL: &[Held] = &[(false, false, true), (false, true, true)];
+// Modes, which but for one are levels of modifyOtherKeys.
+type Modes = &'static [KeyCodeEncodeModes];
 
-const CTRL_AND_SHIFT: &[Held] = &[(true, false, true), (true, true, true)];
+const ALL: Modes = &[XTERM, LEVEL_1, LEVEL_2];
 
-const ANY: &[Held] = &[
-    (false, false, false),
-    (false, false, true),
-    (false, true, false),
-    (false, true, true),
-    (true, false, false),
-    (true, false, true),
-    (true, true, false),
-    (true, true, true),
-];
+const OFF: Modes = &[XTERM];
 
-// Levels of modifyOtherKeys.
-type Levels = &'static [Option<i64>];
+const NOT_TWO: Modes = &[XTERM, LEVEL_1];
 
-const ALL: Levels = &[None, Some(1), Some(2)];
+const ON: Modes = &[LEVEL_1, LEVEL_2];
 
-const OFF: Levels = &[None];
+const TWO: Modes = &[LEVEL_2];
 
-const NOT_TWO: Levels = &[None, Some(1)];
-
-const ON: Levels = &[Some(1), Some(2)];
-
-const TWO: Levels = &[Some(2)];
-
-// Keys other than characters, with the modifiers and levels at which they are listed.
-const LINES: &[(&[KeyCode], &[Held], Levels)] = &[
+// Keys other than characters, with the modifiers and modes at which they are listed.
+const KEYS: &[(&[KeyCode], Held, Modes)] = &[
     (
         &[
             KeyCode::LeftArrow,
@@ -63,6 +53,26 @@ const LINES: &[(&[KeyCode], &[Held], Levels)] = &[
             KeyCode::DownArrow,
             KeyCode::Home,
             KeyCode::End,
+            KeyCode::Function(1),
+            KeyCode::Function(2),
+            KeyCode::Function(3),
+            KeyCode::Function(4),
+            KeyCode::Function(5),
+            KeyCode::Function(6),
+            KeyCode::Function(7),
+            KeyCode::Function(8),
+            KeyCode::Function(9),
+            KeyCode::Function(10),
+            KeyCode::Function(11),
+            KeyCode::Function(12),
+            KeyCode::Function(13),
+            KeyCode::Function(14),
+            KeyCode::Function(15),
+            KeyCode::Function(16),
+            KeyCode::Function(17),
+            KeyCode::Function(18),
+            KeyCode::Function(19),
+            KeyCode::Function(20),
         ],
         ANY,
         ALL,
@@ -78,7 +88,7 @@ const LINES: &[(&[KeyCode], &[Held], Levels)] = &[
             KeyCode::Insert,
             KeyCode::Delete,
         ],
-        NONE,
+        &[NONE],
         ALL,
     ),
     (
@@ -94,167 +104,130 @@ const LINES: &[(&[KeyCode], &[Held], Levels)] = &[
             KeyCode::PageDown,
             KeyCode::Insert,
             KeyCode::Delete,
+            KeyCode::Function(21),
+            KeyCode::Function(22),
+            KeyCode::Function(23),
+            KeyCode::Function(24),
         ],
         ANY,
         OFF,
     ),
     (&[KeyCode::Tab, KeyCode::Enter], ANY, ON),
     (&[KeyCode::Escape, KeyCode::Backspace], ANY, TWO),
+    (&[KeyCode::Home, KeyCode::End], ANY, &[APPLICATION]),
 ];
 
-// Characters beyond ASCII: the first and the last of each length in UTF-8, and U+FFFD.
-const BEYOND_ASCII: &[char] = &[
-    '\u{80}',
-    '\u{7ff}',
-    '\u{800}',
-    '\u{fffd}',
-    '\u{10000}',
-    '\u{10ffff}',
+const LETTERS_BUT_HIJM: &str = "abcdefgklnopqrstuvwxyz";
+
+const ALPHANUMERIC: &str = "0123456789ABCDEFGHIJKLMNOPQRSTUVWXYZabcdefghijklmnopqrstuvwxyz";
+
+const PUNCTUATION: &str = "!\"#$%&'()*+,-./:;<=>?@[\\]^_`{|}~";
+
+// The first and the last character of each length in UTF-8 beyond ASCII, and U+FFFD.
+const BEYOND_ASCII: &str = "\u{80}\u{7ff}\u{800}\u{fffd}\u{10000}\u{10ffff}";
+
+// Characters, with the modifiers and modes at which they are listed.
+const CHARACTERS: &[(&str, Held, Modes)] = &[
+    (" ", &[NONE], ALL),
+    (ALPHANUMERIC, NONE_OR_ALT, ALL),
+    (PUNCTUATION, NONE_OR_ALT, ALL),
+    (BEYOND_ASCII, &[NONE], ALL),
+    (LETTERS_BUT_HIJM, WITH_CTRL, NOT_TWO),
+    (" ", WITH_CTRL, TWO),
+    (ALPHANUMERIC, WITH_CTRL, TWO),
+    (PUNCTUATION, WITH_CTRL, TWO),
+    (" 0123456789", CTRL_AND_SHIFT, TWO),
 ];
 
-// The modifiers, by which of the three are held.
-fn modifiers_of((shift, alt, ctrl): Held) -> Modifiers {
-    let mut modifiers = Modifiers::NONE;
-    modifiers.set(Modifiers::SHIFT, shift);
-    modifiers.set(Modifiers::ALT, alt);
-    modifiers.set(Modifiers::CTRL, ctrl);
-    modifiers
-}
-
-fn check_key(
+// A key that is pressed is read as a key, and nothing is left.
+pub fn check_read_as(
     rt: &impl Abort,
     alloc: Global,
-    key: KeyCode,
-    held: Held,
+    (key, bits): Press,
     modes: KeyCodeEncodeModes,
+    (wanted, wanted_bits): Press,
 ) -> Result<(), Fail> {
-    let modifiers = modifiers_of(held);
+    let reading = read_encoded(alloc, key, Modifiers::from_bits_retain(bits), modes)?;
+    let wanted = [InputEvent::Key(KeyEvent {
+        key: wanted,
+        modifiers: Modifiers::from_bits_retain(wanted_bits),
+    })];
     assert!(rt;
-        is_listed(key, modifiers, modes),
-        "{key:?} {modifiers:?} {modes:?}"
+        reading.events.as_slice() == wanted.as_slice() && reading.waiting_len == 0,
+        "{key:?} {bits} {modes:?}"
     );
-    let reading = read_encoded(alloc, key, modifiers, modes)?;
-    let wanted = [InputEvent::Key(KeyEvent { key, modifiers })];
-    assert_eq!(rt; reading.events.as_slice(), wanted.as_slice(), "{modes:?}");
-    assert_eq!(rt; reading.waiting_len, 0, "{modes:?}");
     Ok(())
 }
 
-// The modes that are listed: whether application cursor keys are on, at a level of modifyOtherKeys.
-fn modes_at(application_cursor_keys: bool, level: Option<i64>) -> KeyCodeEncodeModes {
-    KeyCodeEncodeModes {
-        encoding: KeyboardEncoding::Xterm,
-        application_cursor_keys,
-        newline_mode: false,
-        modify_other_keys: level,
-    }
-}
-
-// A key with these modifiers, at each of the levels.
-fn check_at_levels(
+// A key is listed in each of the modes, and read back.
+fn check_in_modes(
     rt: &impl Abort,
     alloc: Global,
-    key: KeyCode,
-    held: Held,
-    levels: &[Option<i64>],
+    press: Press,
+    modes: &[KeyCodeEncodeModes],
 ) -> Result<(), Fail> {
-    for level in levels {
-        check_key(rt, alloc, key, held, modes_at(false, *level))?;
+    for modes in modes {
+        let listed = is_listed(press.0, Modifiers::from_bits_retain(press.1), *modes);
+        assert!(rt; listed, "{press:?} {modes:?}");
+        check_read_as(rt, alloc, press, *modes, press)?;
     }
     Ok(())
 }
 
-// A key with each of the modifiers, at each of the levels.
+// A key with each of the modifiers, in each of the modes.
 fn check_listed(
     rt: &impl Abort,
     alloc: Global,
     key: KeyCode,
-    held: &[Held],
-    levels: &[Option<i64>],
+    held: &[u16],
+    modes: &[KeyCodeEncodeModes],
 ) -> Result<(), Fail> {
-    for each in held {
-        check_at_levels(rt, alloc, key, *each, levels)?;
+    for bits in held {
+        check_in_modes(rt, alloc, (key, *bits), modes)?;
     }
     Ok(())
 }
 
-// Each of the keys with each of the modifiers, at each of the levels.
-fn check_line(
+// Each of the keys, with each of the modifiers and in each of the modes.
+fn check_keys(
     rt: &impl Abort,
     alloc: Global,
     keys: &[KeyCode],
-    held: &[Held],
-    levels: &[Option<i64>],
+    held: &[u16],
+    modes: &[KeyCodeEncodeModes],
 ) -> Result<(), Fail> {
     for key in keys {
-        check_listed(rt, alloc, *key, held, levels)?;
+        check_listed(rt, alloc, *key, held, modes)?;
     }
     Ok(())
 }
 
-fn check_character(rt: &impl Abort, alloc: Global, c: char) -> Result<(), Fail> {
-    let key = KeyCode::Char(c);
-    check_listed(rt, alloc, key, NONE, ALL)?;
-    if c.is_ascii_alphanumeric() || c.is_ascii_punctuation() {
-        check_listed(rt, alloc, key, ALT, ALL)?;
-    }
-    if c.is_ascii_lowercase() && !matches!(c, 'h' | 'i' | 'j' | 'm') {
-        check_listed(rt, alloc, key, CTRL, NOT_TWO)?;
-    }
-    if c.is_ascii() {
-        check_listed(rt, alloc, key, CTRL, TWO)?;
-    }
-    if c.is_ascii_digit() || c == ' ' {
-        check_listed(rt, alloc, key, CTRL_AND_SHIFT, TWO)?;
+// Each of the characters, with each of the modifiers and in each of the modes.
+fn check_characters(
+    rt: &impl Abort,
+    alloc: Global,
+    characters: &str,
+    held: &[u16],
+    modes: &[KeyCodeEncodeModes],
+) -> Result<(), Fail> {
+    for c in characters.chars() {
+        check_listed(rt, alloc, KeyCode::Char(c), held, modes)?;
     }
     Ok(())
 }
 
 #[test]
 fn reads_listed_keys_back(rt: HostRuntime) -> Result<(), Fail> {
-    for (keys, held, levels) in LINES {
-        check_line(&rt, rt.alloc(), keys, held, levels)?;
+    for (keys, held, modes) in KEYS {
+        check_keys(&rt, rt.alloc(), keys, held, modes)?;
     }
     Ok(())
 }
 
 #[test]
-fn reads_function_keys_back(rt: HostRuntime) -> Result<(), Fail> {
-    for number in 1..21 {
-        check_listed(&rt, rt.alloc(), KeyCode::Function(number), ANY, ALL)?;
-    }
-    Ok(())
-}
-
-#[test]
-fn reads_high_function_keys_back(rt: HostRuntime) -> Result<(), Fail> {
-    for number in 21..25 {
-        check_listed(&rt, rt.alloc(), KeyCode::Function(number), ANY, OFF)?;
-    }
-    Ok(())
-}
-
-#[test]
-fn reads_home_and_end_back_in_application_mode(rt: HostRuntime) -> Result<(), Fail> {
-    for held in ANY {
-        check_key(&rt, rt.alloc(), KeyCode::Home, *held, modes_at(true, None))?;
-        check_key(&rt, rt.alloc(), KeyCode::End, *held, modes_at(true, None))?;
-    }
-    Ok(())
-}
-
-#[test]
-fn reads_ascii_back(rt: HostRuntime) -> Result<(), Fail> {
-    for code in 0x20..0x7f_u8 {
-        check_character(&rt, rt.alloc(), code as char)?;
-    }
-    Ok(())
-}
-
-#[test]
-fn reads_characters_beyond_ascii_back(rt: HostRuntime) -> Result<(), Fail> {
-    for c in BEYOND_ASCII {
-        check_character(&rt, rt.alloc(), *c)?;
+fn reads_listed_characters_back(rt: HostRuntime) -> Result<(), Fail> {
+    for (characters, held, modes) in CHARACTERS {
+        check_characters(&rt, rt.alloc(), characters, held, modes)?;
     }
     Ok(())
 }

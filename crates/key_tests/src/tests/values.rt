@@ -79,11 +79,10 @@ fn check_equality(
     let copy = event.clone(alloc)?;
     for (other_place, other) in events.iter().enumerate() {
         let same = place == other_place;
-        assert_eq!(rt; event == other, same, "{event:?} and {other:?}");
-        assert_eq!(rt;
-            copy == *other,
-            same,
-            "the clone of {event:?} and {other:?}"
+        assert!(rt; (event == other) == same, "{place} and {other_place}");
+        assert!(rt;
+            (copy == *other) == same,
+            "the clone of {place} and {other_place}"
         );
     }
     Ok(())
@@ -101,8 +100,8 @@ fn equal_events_and_clones(rt: HostRuntime) -> Result<(), Fail> {
 #[test]
 fn gives_back_a_pasted_text(rt: HostRuntime) -> Result<(), Fail> {
     let text = PastedText::new(String::from_str(rt.alloc(), "two\nlines")?);
-    assert_eq!(rt; text.as_str(), "two\nlines");
+    assert!(rt; text.as_str() == "two\nlines");
     let whole = text.into_string();
-    assert_eq!(rt; whole.as_str(), "two\nlines");
+    assert!(rt; whole.as_str() == "two\nlines");
     Ok(())
 }

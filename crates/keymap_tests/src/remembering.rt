@@ -1,0 +1,276 @@
+// A map that remembers ranges, and its clones, beside a map that remembers nothing. The latter is compared with a plain map in
+// rust/tests/keymap.rs, on the same texts.
+ghost use Rattle.std.specs.Prelude.{◌<◌, length};
+
+use std::alloc::{AllocError, Global};
+use std::process::Abort;
+use std::test::Fail;
+use termwiz_keymap::keymap::KeyMap;
+
+// Which texts a test draws.
+#[derive(Clone, Copy)]
+enum Kind {
+    // At most six bytes, of three different ones.
+    Letters,
+    // A text that begins as all of its kind do, and goes on with at most three of four bytes.
+    Nested,
+    // Five bytes, of which the last three are any of four.
+    Five,
+    // Some 300 bytes.
+    Long,
+}
+
+// When a test has the map remember its ranges.
+#[derive(Clone, Copy)]
+enum When {
+    Never,
+    Before,
+    Between,
+    After,
+}
+
+// Appends the first bytes of a text that doesn't repeat before 251 of them.
+pub fn push_long(text: &mut Vec<u8>, len: usize) -> Result<(), AllocError> {
+    for place in 0..len {
+        text.push((place % 251) as u8)?;
+    }
+    Ok(())
+}
+
+// Numbers that look random, from a linear congruential generator, and the text that was drawn last.
+#[derive(Drop)]
+struct Draws {
+    number: u64,
+    text: Vec<u8>,
+}
+
+impl Draws {
+    // A number below a limit.
+    fn below(&mut self, limit: u64) -> u64
+        requires { 0 < limit }
+        ensures { result < limit }
+    {
+        self.number = self
+            .number
+            .wrapping_mul(6364136223846793005)
+            .wrapping_add(1442695040888963407);
+        (self.number >> 33) % limit
+    }
+
+    // Appends so many bytes, each one of these.
+    fn push_some(&mut self, count: u64, of: &[u8]) -> Result<(), AllocError>
+        requires { 0 < length of.now }
+    {
+        for _ in 0..count {
+            let place = self.below(of.len() as u64);
+            self.text.push(of[place as usize])?;
+        }
+        Ok(())
+    }
+
+    // Draws a text.
+    fn draw(&mut self, kind: Kind) -> Result<(), AllocError> {
+        self.text.clear();
+        let (count, of) = match kind {
+            Kind::Letters => (self.below(7), b"abc".as_slice()),
+            Kind::Nested => {
+                let len = self.below(19) as usize;
+                self.text.extend_from_slice(&b"a common beginning"[..len])?;
+                (self.below(4), b"\x00\x01\xfe\xff".as_slice())
+            }
+            Kind::Five => {
+                self.text.extend_from_slice(b"\x00\xff")?;
+                (3, b"\x00\x01\xfe\xff".as_slice())
+            }
+            Kind::Long => {
+                let len = 298 + self.below(4) as usize;
+                push_long(&mut self.text, len)?;
+                (self.below(3), b"\x00\xff".as_slice())
+            }
+        };
+        self.push_some(count, of)
+    }
+}
+
+// Sets the value of a key in both maps.
+fn insert(
+    map: &mut KeyMap<u32>,
+    other: &mut KeyMap<u32>,
+    key: &[u8],
+    value: u32,
+) -> Result<(), AllocError> {
+    map.insert(key, value)?;
+    other.insert(key, value)
+}
+
+// Looks a text up in both maps.
+fn check_lookup(
+    rt: &impl Abort,
+    map: &KeyMap<u32>,
+    other: &KeyMap<u32>,
+    text: &[u8],
+    maybe_more: bool,
+) {
+    let answer = map.lookup(text, maybe_more);
+    assert!(rt; answer == other.lookup(text, maybe_more), "{text:?}");
+}
+
+// Looks ten texts up in both maps.
+fn check_drawn(
+    rt: &impl Abort,
+    draws: &mut Draws,
+    kind: Kind,
+    map: &KeyMap<u32>,
+    other: &KeyMap<u32>,
+) -> Result<(), AllocError> {
+    for _ in 0..10 {
+        draws.draw(kind)?;
+        let maybe_more = draws.below(2) == 0;
+        check_lookup(rt, map, other, &draws.text, maybe_more);
+    }
+    Ok(())
+}
+
+// Inserts sixty keys that are drawn into both maps, and looks texts up after each of these.
+fn check_growing(
+    rt: &impl Abort,
+    draws: &mut Draws,
+    kind: Kind,
+    when: When,
+    map: &mut KeyMap<u32>,
+    other: &mut KeyMap<u32>,
+) -> Result<(), AllocError> {
+    for value in 0u32..60 {
+        draws.draw(kind)?;
+        insert(map, other, &draws.text, value)?;
+        if matches!(when, When::Between) && value % 7 < 4 {
+            map.remember()?;
+        }
+        check_drawn(rt, draws, kind, map, other)?;
+    }
+    Ok(())
+}
+
+// Inserts the empty key and sixty others into two maps that are empty. At last texts are looked up in a clone too.
+fn check_maps(
+    rt: &impl Abort,
+    draws: &mut Draws,
+    kind: Kind,
+    when: When,
+    map: &mut KeyMap<u32>,
+    other: &mut KeyMap<u32>,
+) -> Result<(), AllocError> {
+    if matches!(when, When::Before) {
+        map.remember()?;
+    }
+    insert(map, other, b"", 60)?;
+    check_growing(rt, draws, kind, when, map, other)?;
+    if matches!(when, When::After) {
+        map.remember()?;
+    }
+    check_drawn(rt, draws, kind, map, other)?;
+    let copy = map.clone()?;
+    check_drawn(rt, draws, kind, &copy, other)
+}
+
+// The same with two maps that are made for it.
+fn check_kind(
+    rt: &impl Abort,
+    alloc: Global,
+    draws: &mut Draws,
+    kind: Kind,
+    when: When,
+) -> Result<(), AllocError> {
+    let mut map = KeyMap::new(alloc);
+    let mut other = KeyMap::new(alloc);
+    check_maps(rt, draws, kind, when, &mut map, &mut other)
+}
+
+// Texts of each kind, several times.
+fn check_kinds(
+    rt: &impl Abort,
+    alloc: Global,
+    draws: &mut Draws,
+    when: When,
+) -> Result<(), AllocError> {
+    for _ in 0..8 {
+        for kind in [Kind::Letters, Kind::Nested, Kind::Five] {
+            check_kind(rt, alloc, draws, kind, when)?;
+        }
+    }
+    check_kind(rt, alloc, draws, Kind::Long, when)
+}
+
+#[test]
+fn drawn_keys(rt: HostRuntime) -> Result<(), Fail> {
+    for when in [When::Never, When::Before, When::Between, When::After] {
+        let mut draws = Draws {
+            number: 1,
+            text: Vec::new(rt.alloc()),
+        };
+        check_kinds(&rt, rt.alloc(), &mut draws, when)?;
+    }
+    Ok(())
+}
+
+// Inserts 300 decimal numbers in reverse order into both maps. Ranges are remembered half way.
+fn insert_decimals(
+    alloc: Global,
+    map: &mut KeyMap<u32>,
+    other: &mut KeyMap<u32>,
+) -> Result<(), AllocError> {
+    for value in 0u32..300 {
+        let key = format!(in alloc; "#{}~", 299 - value)?;
+        insert(map, other, key.as_bytes(), value)?;
+        if value == 150 {
+            map.remember()?;
+        }
+    }
+    Ok(())
+}
+
+// Looks each number below 310 up without its last byte, and with a byte after it.
+fn check_decimals(
+    rt: &impl Abort,
+    alloc: Global,
+    map: &KeyMap<u32>,
+    other: &KeyMap<u32>,
+) -> Result<(), AllocError> {
+    for number in 0..310 {
+        let text = format!(in alloc; "#{number}~#")?;
+        let bytes = text.as_bytes();
+        for maybe_more in [true, false] {
+            check_lookup(rt, map, other, bytes, maybe_more);
+            check_lookup(
+                rt,
+                map,
+                other,
+                &bytes[..bytes.len().saturating_sub(2)],
+                maybe_more,
+            );
+        }
+    }
+    Ok(())
+}
+
+// Checks two maps that are empty before and after one of them remembers its ranges, and its clone.
+fn check_decimal_maps(
+    rt: &impl Abort,
+    alloc: Global,
+    map: &mut KeyMap<u32>,
+    other: &mut KeyMap<u32>,
+) -> Result<(), AllocError> {
+    insert_decimals(alloc, map, other)?;
+    check_decimals(rt, alloc, map, other)?;
+    map.remember()?;
+    check_decimals(rt, alloc, map, other)?;
+    let copy = map.clone()?;
+    check_decimals(rt, alloc, &copy, other)
+}
+
+#[test]
+fn decimal_keys_in_reverse_order(rt: HostRuntime) -> Result<(), Fail> {
+    let mut map = KeyMap::new(rt.alloc());
+    let mut other = KeyMap::new(rt.alloc());
+    Ok(check_decimal_maps(&rt, rt.alloc(), &mut map, &mut other)?)
+}
