@@ -18,8 +18,9 @@ What a check proved is kept, so each of the next ones proves only what its edits
 out/, by which the crate and the libraries below it are proved before.
 
 With --over it begins with nothing, over the libraries that lie as NAME.rlib in the folder RLIBS. The gate puts those there that `rt ci`
-proved, the crate itself among them. So nothing is proved again: a function that no edit of a check changes has a hole for its proof
-there, and those that call it are judged by its contract. The crate of a program has no library, and is proved.
+proved, the crate itself among them, or in NAME.functions the names of the crate's functions. So nothing is proved again: a function
+that no edit of a check changes has a hole for its proof there, and those that call it are judged by its contract. Without either the
+crate is proved.
 
 With --kept the crate is proved without holes, and what that kept is copied to the folder FOLDER, as CRATE, for a build of the crate.
 
@@ -326,12 +327,15 @@ class Crate:
             progress(f"{self.name} is proved; tries {len(self.edits)} edits")
 
     def built_names(self):
-        """Returns the names of the functions in the crate's library, if that lies among those that were built."""
-        try:
-            with open(f"{self.over}/{self.name}.rlib/toolchain/mir.json", encoding="utf-8") as it:
-                return [name for name, *_ in json.load(it) if name.startswith(f"{self.name}::")] if self.over else []
-        except (OSError, ValueError):
-            return []
+        """Returns the names of the crate's functions, if they or the crate's library lie among what was built."""
+        listed, built = f"{self.over}/{self.name}.functions", f"{self.over}/{self.name}.rlib/toolchain/mir.json"
+        if self.over and os.path.isfile(listed):
+            with open(listed, encoding="utf-8") as it:
+                return it.read().split()
+        if self.over and os.path.isfile(built):
+            with open(built, encoding="utf-8") as it:
+                return [name for name, *_ in json.load(it) if name.startswith(f"{self.name}::")]
+        return []
 
     def put_holes(self, proved):
         """Puts a hole in the place of each function's proof but for those that are to be proved, and puts back the proofs of these."""

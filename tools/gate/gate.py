@@ -191,9 +191,8 @@ class Watch:
 
 
 def needed_by_edits(below, name):
-    """Returns the libraries that have to be proved before a crate's edits are tried: its own too, whose functions' names are read from it."""
-    is_built = name != "termwiz_c" and os.path.isfile(f"{ROOT}/crates/{name}/src/lib.rt")
-    return [*libraries_below(below, name), *[name] * is_built]
+    """Returns the crates that have to be proved before a crate's edits are tried: itself too, but for the one whose proof is kept."""
+    return [*libraries_below(below, name), *[name] * (name != "termwiz_c")]
 
 
 def edits_of(crate):
@@ -242,6 +241,8 @@ class Gate:
         words = lambda name: tried + first if name == "termwiz_c" else YIELDING + tried
         self.edits = [Part(self.whole, f"edits of {it}", needed_by_edits(below, it), *words(it), it, has_session=False) for it in edited]
         self.parts = [self.ci, *self.edits, *self.scripts]
+        # the check of which rt ci tells just now, and the functions that it proved
+        self.check, self.functions = "", []
         # what is proved or has passed; whether rt ci is over, and how many other parts run
         self.watch, self.well, self.is_over, self.running, self.taking = Watch(), set(), False, 0, threading.Lock()
         # the parts that run side by side: the first edits begin with a proof for the scripts, and wait for no other
@@ -274,7 +275,11 @@ class Gate:
     def note(self, line):
         """Shows a line of `rt ci`, and notes what it proved, or an earlier run on this machine did."""
         say(line)
-        proved = re.match(r"rt: (\w+) (?:proved$|is kept: )", line)
+        function, proved = re.match(r"fn (\S+): proved", line), re.match(r"rt: (\w+) (?:proved$|is kept: )", line)
+        if line.startswith("== "):
+            self.check, self.functions = line[len("== ") :], []
+        if function:
+            self.functions.append(function[1])
         if proved:
             self.keep(proved[1])
             self.well.add(proved[1])
@@ -293,6 +298,9 @@ class Gate:
         if os.path.isfile(f"{made}/{crate}"):
             os.makedirs(f"{self.whole}/crates/{crate}/out", exist_ok=True)
             shutil.copy2(f"{made}/{crate}", f"{self.whole}/crates/{crate}/out/{crate}")
+        if crate == self.check:
+            with open(f"{self.rlibs}/{crate}.functions", "w", encoding="utf-8") as it:
+                it.write("\n".join(self.functions))
 
     def run(self):
         ci = threading.Thread(target=self.ci.run, args=[self.note], daemon=True)
