@@ -81,6 +81,18 @@ pub struct Replayer {
 }
 
 impl Replayer {
+    /// A replayer that has read no line.
+    pub fn new(alloc: Global) -> Result<Replayer, AllocError> {
+        let encoder = Encoder {
+            alloc,
+            encodings: 0,
+        };
+        Ok(Replayer {
+            feeder: Feeder::new(alloc)?,
+            encoder,
+        })
+    }
+
     /// Gives what a line records to this parser or the encoder, in every way. Returns `None` if it is so, and otherwise the first
     /// answer that isn't the recorded one.
     pub fn replay(&mut self, reader: Reader, case: &Case) -> Result<Option<Difference>, AllocError>

@@ -7,8 +7,6 @@
 //! does, or if a line can't be read.
 #![tactic(auto)]
 
-use recorded::encodings::Encoder;
-use recorded::feeder::Feeder;
 use recorded::readers::Reader;
 use recorded::replay::Replayer;
 use recorded::report::{LineDifference, LineError, Report, replay_lines};
@@ -78,7 +76,7 @@ fn replay_own_files(rt: &HostRuntime) -> Result<usize, Failure> {
 // Replays a file by both parsers, and prints what came of it. Returns how many lines differ.
 fn replay_file(rt: &HostRuntime, name: &str) -> Result<usize, Failure> {
     let text = fs::read_to_string(rt, name)?;
-    let mut replayer = new_replayer(rt)?;
+    let mut replayer = Replayer::new(rt.alloc())?;
     let report = replay_lines(rt.alloc(), &mut replayer, Reader::Port, text.as_str())?;
     let fed = replayer.feeder.feedings;
     let asked = fed.saturating_add(replayer.encoder.encodings);
@@ -95,23 +93,13 @@ fn replay_file(rt: &HostRuntime, name: &str) -> Result<usize, Failure> {
 
 // Replays a file by the extended parser, and prints what came of it. Returns how many lines differ.
 fn replay_extended(rt: &HostRuntime, name: &str, text: &str) -> Result<usize, Failure> {
-    let mut replayer = new_replayer(rt)?;
+    let mut replayer = Replayer::new(rt.alloc())?;
     let report = replay_lines(rt.alloc(), &mut replayer, Reader::Extended, text)?;
     println!(rt;
         "{name} by the extended parser: {} lines, {} feedings, {} with extra sequences, {} differ",
         report.lines, replayer.feeder.feedings, report.extra, report.differing
     )?;
     show(rt, name, report)
-}
-
-fn new_replayer(rt: &HostRuntime) -> Result<Replayer, Failure> {
-    Ok(Replayer {
-        feeder: Feeder::new(rt.alloc())?,
-        encoder: Encoder {
-            alloc: rt.alloc(),
-            encodings: 0,
-        },
-    })
 }
 
 // Prints the lines that a report shows. Returns how many lines differ.
