@@ -318,8 +318,7 @@ class Crate:
                 raise NotProved(ran.stdout[-3000:] + ran.stderr[-1000:])
             shutil.copytree(f"{self.source}/out/incremental", f"{self.folder}/kept")
         if self.keep:
-            # what is built over it waits for this proof
-            check = self.check({}, jobs=2)
+            check = self.check({})
             if check.status:
                 raise NotProved(check.text[-3000:])
             shutil.copytree(f"{self.folder}/kept", f"{self.keep}/{self.name}")
@@ -370,7 +369,7 @@ class Crate:
             return f"{KIT}/rlibs/{library}.rlib"
         return f"{self.over}/{library}.rlib" if self.over else f"{ROOT}/crates/{library}/out/rlib/{library}.rlib"
 
-    def words(self, jobs=1):
+    def words(self):
         root = "main" if os.path.isfile(f"{self.folder}/src/main.rt") else "lib"
         words = [f"{KIT}/bin/rattle", "check", "--crate-name", self.name, f"src/{root}.rt"]
         for library in ["std", *self.listed[self.name][1]]:
@@ -379,9 +378,9 @@ class Crate:
             words += ["-L", f"dependency={folder}"] if os.path.isdir(folder) else []
         words += ["--antt-project", f"{KIT}/rattle/logic/antt-project.json", "--logic-built", f"{KIT}/logic_built"]
         words += ["--links", f"{self.name}=", *["--crate-type", "staticlib"] * self.is_static]
-        return [*words, "--jobs", str(jobs), "--incremental", f"{self.folder}/kept"]
+        return [*words, "--jobs", "1", "--incremental", f"{self.folder}/kept"]
 
-    def check(self, texts, functions=(), jobs=1):
+    def check(self, texts, functions=()):
         """Checks the copy with some texts in the place of its own, and of its functions only these, with those that they call, if any are given."""
         for path, text in {**self.texts, **texts}.items():
             with open(f"{self.folder}/{path}", "w", encoding="utf-8") as it:
@@ -392,7 +391,7 @@ class Crate:
             self.put_holes(names if only else self.names)
         only += ["--allow-holes"] * bool(self.holes)
         how = {"cwd": self.folder, "stdin": subprocess.DEVNULL, "stdout": subprocess.PIPE, "stderr": subprocess.STDOUT}
-        ran = subprocess.run([*self.words(jobs), *only], text=True, errors="replace", **how)
+        ran = subprocess.run([*self.words(), *only], text=True, errors="replace", **how)
         check = Check(ran.returncode, ran.stdout)
         self.names = self.names or [*check.functions]
         return check

@@ -200,6 +200,11 @@ def edits_of(crate):
     return len(glob.glob(f"{ROOT}/crates/{crate}/must-fail/*.edit"))
 
 
+def weight_of_edits(crate):
+    """Returns how long a crate's edits take, about, in those of a library. A program's checks also read the code of all that it calls."""
+    return edits_of(crate) + 8 * os.path.isfile(f"{ROOT}/crates/{crate}/src/main.rt")
+
+
 def link_or_copy(source, target):
     try:
         os.link(source, target)
@@ -235,8 +240,8 @@ class Gate:
                    *left_out("package_test")),
             script("docs", ["c_library", "keyshow", "example"], "tools/docs.sh", "--built", *over),
         ]
-        # the crate first over whose library the scripts run, and then those with the most edits
-        edited = sorted(filter(edits_of, below), key=lambda it: (it != "termwiz_c", -edits_of(it)))
+        # the crate first over whose library the scripts run, and then those whose edits take longest
+        edited = sorted(filter(edits_of, below), key=lambda it: (it != "termwiz_c", -weight_of_edits(it)))
         first, tried = ["--kept", self.kept], ["tools/edits.sh", "--over", self.rlibs]
         words = lambda name: tried + first if name == "termwiz_c" else YIELDING + tried
         self.edits = [Part(self.whole, f"edits of {it}", needed_by_edits(below, it), *words(it), it, has_session=False) for it in edited]

@@ -109,10 +109,13 @@ fn assert_run(
 ) {
     let left = target.wanted.len().saturating_sub(written);
     let result = run_over(alloc, piece, &mut source, &mut target);
-    assert_eq!(rt; result, outcome, "piece {piece}, {written} bytes");
+    assert!(rt; result == outcome, "piece {piece}, {written} bytes");
     assert!(rt; !target.differs, "piece {piece}, {written} bytes");
-    assert_eq!(rt; target.wanted.len(), left, "piece {piece}, {written} bytes");
-    assert_eq!(rt; target.flushes, usize::from(result.is_ok()));
+    assert!(rt;
+        target.wanted.len() == left,
+        "piece {piece}, {written} bytes"
+    );
+    assert!(rt; target.flushes == usize::from(result.is_ok()));
 }
 
 // Runs without the contract of `run`, of which the assertions need nothing, so that they are proved soon.

@@ -56,7 +56,7 @@ fn check_looped(
         events.push((0, event))?;
     }
     let line = line_of(alloc, &events, parser.waiting_len())?;
-    assert_eq!(rt; str::from_utf8(&line).ok(), Some(wanted));
+    assert!(rt; str::from_utf8(&line).ok() == Some(wanted));
     Ok(())
 }
 
