@@ -325,9 +325,8 @@ fn lines_of_faults(rt: HostRuntime) -> Result<(), Fail> {
     ];
     for (fault, wanted) in cases {
         let message = format!(in rt.alloc(); "{fault}")?;
-        assert_eq!(rt; message.as_str(), wanted);
-        let line = format!(in rt.alloc(); "keyshow: {wanted}")?;
-        assert_eq!(rt; fault_line(&fault), line.as_str());
+        assert!(rt; message.as_str() == wanted);
+        assert!(rt; fault_line(&fault).strip_prefix("keyshow: ") == Some(wanted));
     }
     Ok(())
 }
