@@ -1,7 +1,8 @@
-// A map that remembers ranges, and its clones, beside a map that remembers nothing. The latter is compared with a plain map in
-// rust/tests/keymap.rs, on the same texts.
+// A map that remembers ranges before, between or after inserts or never, and its clone, beside a plain map. rust/tests/keymap.rs draws
+// the same texts.
 ghost use Rattle.std.specs.Prelude.{◌<◌, length};
 
+use crate::plain::PlainMap;
 use std::alloc::{AllocError, Global};
 use std::process::Abort;
 use std::test::Fail;
@@ -95,24 +96,24 @@ impl Draws {
 // Sets the value of a key in both maps.
 fn insert(
     map: &mut KeyMap<u32>,
-    other: &mut KeyMap<u32>,
+    plain: &mut PlainMap<u32>,
     key: &[u8],
     value: u32,
 ) -> Result<(), AllocError> {
     map.insert(key, value)?;
-    other.insert(key, value)
+    plain.insert(key, value)
 }
 
 // Looks a text up in both maps.
 fn check_lookup(
     rt: &impl Abort,
     map: &KeyMap<u32>,
-    other: &KeyMap<u32>,
+    plain: &PlainMap<u32>,
     text: &[u8],
     maybe_more: bool,
 ) {
     let answer = map.lookup(text, maybe_more);
-    assert!(rt; answer == other.lookup(text, maybe_more), "{text:?}");
+    assert!(rt; answer == plain.lookup(text, maybe_more), "{text:?}");
 }
 
 // Looks ten texts up in both maps.
@@ -121,12 +122,12 @@ fn check_drawn(
     draws: &mut Draws,
     kind: Kind,
     map: &KeyMap<u32>,
-    other: &KeyMap<u32>,
+    plain: &PlainMap<u32>,
 ) -> Result<(), AllocError> {
     for _ in 0..10 {
         draws.draw(kind)?;
         let maybe_more = draws.below(2) == 0;
-        check_lookup(rt, map, other, &draws.text, maybe_more);
+        check_lookup(rt, map, plain, &draws.text, maybe_more);
     }
     Ok(())
 }
@@ -138,15 +139,15 @@ fn check_growing(
     kind: Kind,
     when: When,
     map: &mut KeyMap<u32>,
-    other: &mut KeyMap<u32>,
+    plain: &mut PlainMap<u32>,
 ) -> Result<(), AllocError> {
     for value in 0u32..60 {
         draws.draw(kind)?;
-        insert(map, other, &draws.text, value)?;
+        insert(map, plain, &draws.text, value)?;
         if matches!(when, When::Between) && value % 7 < 4 {
             map.remember()?;
         }
-        check_drawn(rt, draws, kind, map, other)?;
+        check_drawn(rt, draws, kind, map, plain)?;
     }
     Ok(())
 }
@@ -158,19 +159,19 @@ fn check_maps(
     kind: Kind,
     when: When,
     map: &mut KeyMap<u32>,
-    other: &mut KeyMap<u32>,
+    plain: &mut PlainMap<u32>,
 ) -> Result<(), AllocError> {
     if matches!(when, When::Before) {
         map.remember()?;
     }
-    insert(map, other, b"", 60)?;
-    check_growing(rt, draws, kind, when, map, other)?;
+    insert(map, plain, b"", 60)?;
+    check_growing(rt, draws, kind, when, map, plain)?;
     if matches!(when, When::After) {
         map.remember()?;
     }
-    check_drawn(rt, draws, kind, map, other)?;
+    check_drawn(rt, draws, kind, map, plain)?;
     let copy = map.clone()?;
-    check_drawn(rt, draws, kind, &copy, other)
+    check_drawn(rt, draws, kind, &copy, plain)
 }
 
 // The same with two maps that are made for it.
@@ -182,8 +183,8 @@ fn check_kind(
     when: When,
 ) -> Result<(), AllocError> {
     let mut map = KeyMap::new(alloc);
-    let mut other = KeyMap::new(alloc);
-    check_maps(rt, draws, kind, when, &mut map, &mut other)
+    let mut plain = PlainMap::new(alloc);
+    check_maps(rt, draws, kind, when, &mut map, &mut plain)
 }
 
 // Texts of each kind, several times.
@@ -217,11 +218,11 @@ fn drawn_keys(rt: HostRuntime) -> Result<(), Fail> {
 fn insert_decimals(
     alloc: Global,
     map: &mut KeyMap<u32>,
-    other: &mut KeyMap<u32>,
+    plain: &mut PlainMap<u32>,
 ) -> Result<(), AllocError> {
     for value in 0u32..300 {
         let key = format!(in alloc; "#{}~", 299 - value)?;
-        insert(map, other, key.as_bytes(), value)?;
+        insert(map, plain, key.as_bytes(), value)?;
         if value == 150 {
             map.remember()?;
         }
@@ -234,17 +235,17 @@ fn check_decimals(
     rt: &impl Abort,
     alloc: Global,
     map: &KeyMap<u32>,
-    other: &KeyMap<u32>,
+    plain: &PlainMap<u32>,
 ) -> Result<(), AllocError> {
     for number in 0..310 {
         let text = format!(in alloc; "#{number}~#")?;
         let bytes = text.as_bytes();
         for maybe_more in [true, false] {
-            check_lookup(rt, map, other, bytes, maybe_more);
+            check_lookup(rt, map, plain, bytes, maybe_more);
             check_lookup(
                 rt,
                 map,
-                other,
+                plain,
                 &bytes[..bytes.len().saturating_sub(2)],
                 maybe_more,
             );
@@ -258,19 +259,19 @@ fn check_decimal_maps(
     rt: &impl Abort,
     alloc: Global,
     map: &mut KeyMap<u32>,
-    other: &mut KeyMap<u32>,
+    plain: &mut PlainMap<u32>,
 ) -> Result<(), AllocError> {
-    insert_decimals(alloc, map, other)?;
-    check_decimals(rt, alloc, map, other)?;
+    insert_decimals(alloc, map, plain)?;
+    check_decimals(rt, alloc, map, plain)?;
     map.remember()?;
-    check_decimals(rt, alloc, map, other)?;
+    check_decimals(rt, alloc, map, plain)?;
     let copy = map.clone()?;
-    check_decimals(rt, alloc, &copy, other)
+    check_decimals(rt, alloc, &copy, plain)
 }
 
 #[test]
 fn decimal_keys_in_reverse_order(rt: HostRuntime) -> Result<(), Fail> {
     let mut map = KeyMap::new(rt.alloc());
-    let mut other = KeyMap::new(rt.alloc());
-    Ok(check_decimal_maps(&rt, rt.alloc(), &mut map, &mut other)?)
+    let mut plain = PlainMap::new(rt.alloc());
+    Ok(check_decimal_maps(&rt, rt.alloc(), &mut map, &mut plain)?)
 }
