@@ -30,7 +30,7 @@ fn modifiers_of(shift: bool, alt: bool, ctrl: bool) -> Modifiers {
 }
 
 // "Mouse events": the buttons of a base at `M`.
-fn buttons_of(base: u16) -> MouseButtons {
+pub fn buttons_of(base: u16) -> MouseButtons {
     match base {
         0 | 32 => MouseButtons::LEFT,
         1 | 33 => MouseButtons::MIDDLE,

@@ -1,8 +1,9 @@
 // "Events": the event of a text of a form. `t` is what follows ESC `[`.
 use super::forms::string_of;
 use super::keys::{console_key_of, key_of, key_of_letter, key_of_number, keypad_key_of, other_key_of};
+use crate::port::plain::buttons_of;
 use hedrugal::extended::{ExtendedEvent, KeyEventKind, KeyReport, KittyModifiers, ReportedKey};
-use hedrugal::input::{InputEvent, Modifiers, MouseButtons, MouseEvent};
+use hedrugal::input::{InputEvent, Modifiers, MouseEvent};
 use std::str;
 
 // A number of at most so many digits.
@@ -224,20 +225,6 @@ fn resize(t: &[u8]) -> Option<ExtendedEvent> {
             height,
             width,
         }),
-    }
-}
-
-// "Mouse events" of docs/GRAMMAR.md: the buttons of a base at `M`.
-fn buttons_of(base: u16) -> MouseButtons {
-    match base {
-        0 | 32 => MouseButtons::LEFT,
-        1 | 33 => MouseButtons::MIDDLE,
-        2 | 34 => MouseButtons::RIGHT,
-        64 => MouseButtons::VERT_WHEEL | MouseButtons::WHEEL_POSITIVE,
-        65 => MouseButtons::VERT_WHEEL,
-        66 => MouseButtons::HORZ_WHEEL | MouseButtons::WHEEL_POSITIVE,
-        67 => MouseButtons::HORZ_WHEEL,
-        _ => MouseButtons::NONE,
     }
 }
 
