@@ -1,6 +1,6 @@
 """Tries the must-fail edits of crates, many in one check.
 
-    tools/edits.sh [--over RLIBS [--kept FOLDER]] [--lanes N] [CRATE..]
+    tools/edits.sh [--over RLIBS [--kept FOLDER]] [--lanes N] [--unedited] [CRATE..]
 
 A must-fail edit plants a bug, and the prover has to refuse the function that it changes. A check of a crate says of each function whether it
 is proved, and if not, which of its own goals is left. So bugs in several functions are planted in one copy of the crate, and one check judges
@@ -11,18 +11,26 @@ them all:
 
 If a goal of a function that no edit changes isn't proved, all are unjudged. What is unjudged is planted again, with fewer others; at last
 alone. An edit that is planted alone is refused if the crate isn't proved, as `rt must-fail` has it. An edit of a constant changes the
-functions that name it, or a constant that does. No two edits of one check change the same function. Alone from the first are edits of which
-it can't be told what they change, as of a `const fn`.
+functions that name it, or a constant that does. Alone from the first are edits of which it can't be told what they change, as of a
+`const fn`.
+
+No two edits of one check change the same function. Where two edits lie within one function, the second is planted in a copy of it, which
+has another name, the same contract and the same proof; a third has a copy of its own. Nothing calls a copy. Not copied are a method of a
+trait, a function that calls itself, one with a proof that is more than answers and invariants, and one of which another proof names more
+than its theorem.
 
 What a check proved is kept, so each of the next ones proves only what its edits change. The first begins with what `rt check` keeps in
 out/, by which the crate and the libraries below it are proved before.
 
-With --over it begins with nothing, over the libraries that lie as NAME.rlib in the folder RLIBS. The gate puts those there that `rt ci`
-proved, the crate itself among them, or in NAME.functions the names of the crate's functions. So nothing is proved again: a function
+With --over nothing is kept, and the checks are over the libraries that lie as NAME.rlib in the folder RLIBS. The gate puts those there that
+`rt ci` proved, the crate itself among them, or in NAME.functions the names of the crate's functions. So nothing is proved again: a function
 that no edit of a check changes has a hole for its proof there, and those that call it are judged by its contract. Without either the
-crate is proved.
+crate is proved, and that is kept.
 
 With --kept the crate is proved without holes, and what that kept is copied to the folder FOLDER, as CRATE, for a build of the crate.
+
+With --unedited the edits' places are kept and their bugs left out, so what is checked are holes and copies alone. No goal may be left then.
+Run it after a change of this script, and where a function gets a second edit.
 
 CRATE is a crate of this repository, and without a word every crate that has edits. N crates are worked on side by side, by default one for
 each processor. A line tells of each edit what refused it. The last line is 'N passed, N failed', the status 1 if an edit wasn't refused."""
@@ -85,10 +93,21 @@ def impl_names(head):
 
 
 class Function:
-    """A function of a file: its first and last line, and the parts of its name in a check's output."""
+    """A function of a file: the line of its head, its last line, and the parts of its name in a check's output."""
 
     def __init__(self, first, last, is_const, scope, name):
         self.first, self.last, self.is_const, self.scope, self.name = first, last, is_const, scope, name
+
+    def renamed(self, name):
+        return Function(self.first, self.last, self.is_const, self.scope, name)
+
+    def text_as(self, name, lines):
+        """Returns this function's lines among those of its file, with its attributes, under another name."""
+        first = self.first
+        while lines[first - 1].lstrip().startswith("#["):
+            first -= 1
+        head = re.sub(rf"\bfn {self.name}\b", f"fn {name}", lines[self.first], count=1)
+        return [*lines[first : self.first], head, *lines[self.first + 1 : self.last + 1]]
 
     def named(self, names):
         """Returns this function's name among those of a check, or None if there is none or more than one."""
@@ -205,8 +224,8 @@ class Edit:
                 elif line.startswith("new:") and path and old:
                     self.pairs.append((path, old, re.sub(r"\A ", "", line[len("new:") :])))
                     old = None
-        # the functions that it changes, if that can be told
-        self.functions = set()
+        # the functions that it changes, if that can be told, and the file of the one within which it lies, if it lies within one
+        self.functions, self.file = set(), None
 
     def planted(self, texts):
         """Returns texts of files with this edit, or None if a text that it replaces isn't there exactly once."""
@@ -219,16 +238,42 @@ class Edit:
 
     def find_functions(self, sources):
         """Notes the functions that this edit changes, if it can be judged among others."""
-        texts, found = sources.texts, set()
+        texts, found, places = sources.texts, set(), []
         for path, old, new in self.pairs:
             text = texts.get(path, "")
             # an edit replaces a line by a line, so the next pair finds each function where it was
-            changed = sources.changed_at(path, text.count("\n", 0, text.index(old))) if text.count(old) == 1 else None
+            line = text.count("\n", 0, text.index(old)) if text.count(old) == 1 else None
+            changed = None if line is None else sources.changed_at(path, line)
             if not changed:
                 return
             found |= changed
+            places.append((path, line))
             texts = {**texts, path: text.replace(old, new)}
         self.functions = found
+        if len(found) == 1 and all(it.first <= line <= it.last for _, line in places for it in found):
+            self.file = places[0][0]
+
+
+class Copy:
+    """A function's copy, in which an edit is planted that lies within that function: the copy, its original, and the names of both in a check's output."""
+
+    def __init__(self, edit, original, name, number):
+        self.edit, self.original, self.of = edit, original, name
+        self.function = original.renamed(f"{original.name}_copy_{number}")
+        self.name = f"{name[: -len(original.name)]}{self.function.name}"
+
+    def put_proof(self, crate, source, folder):
+        """Puts the proof of the original, under the copy's name, in a folder."""
+        renamed = lambda text: text.replace(f"Rattle.{dotted(crate, self.of)}.", f"Rattle.{dotted(crate, self.name)}.")
+        for file in glob.glob(f"{source}/*.antt"):
+            os.makedirs(folder, exist_ok=True)
+            with open(file, encoding="utf-8") as it, open(f"{folder}/{os.path.basename(file)}", "w", encoding="utf-8") as to:
+                to.write(renamed(it.read()))
+
+
+def dotted(crate, function):
+    """Returns the module of a function's proof, by the function's name in a check's output."""
+    return ".".join([crate, "proofs", *function.split("::")[1:]])
 
 
 class Check:
@@ -257,6 +302,11 @@ class Check:
             if found and not re.search(r"has no field|is not in scope|has no `|was not admitted|which was rejected", found[1]):
                 return found[1]
         return None
+
+    def is_clean(self):
+        """Returns whether the crate is proved, or each function that was asked for but for the holes of others."""
+        has_ended = self.status == 1 and self.lines[-1].startswith("only=")
+        return self.status == 0 or has_ended and not self.own_goals() and not self.is_unread(())
 
     def is_refusal(self, changed):
         """Returns whether the prover judged the crate, or some of its functions, with these texts, and refused it."""
@@ -298,6 +348,8 @@ class Crate:
         self.edits = [Edit(it) for it in sorted(glob.glob(f"{self.source}/must-fail/*.edit"))]
         # the texts of the files that edits change, and the names of the crate's functions, once its library or a check has told them
         self.texts, self.names = {}, self.built_names()
+        # its proof files, by their paths
+        self.proofs = {}
         # the functions whose proofs are holes just now, and whether there may be any
         self.holes, self.has_holes = set(), bool(self.names) and not self.keep
 
@@ -309,6 +361,9 @@ class Crate:
         for path in {path for edit in self.edits for path, _, _ in edit.pairs}:
             with open(f"{self.folder}/{path}", encoding="utf-8") as it:
                 self.texts[path] = it.read()
+        for file in glob.glob(f"{self.source}/proofs/**/*.antt", recursive=True):
+            with open(file, encoding="utf-8") as it:
+                self.proofs[file] = it.read()
         sources = Sources(self.name, self.folder)
         for edit in self.edits:
             edit.find_functions(sources)
@@ -377,21 +432,50 @@ class Crate:
         for folder in {os.path.dirname(self.rlib(it)) for it in ["std", *self.listed]}:
             words += ["-L", f"dependency={folder}"] if os.path.isdir(folder) else []
         words += ["--antt-project", f"{KIT}/rattle/logic/antt-project.json", "--logic-built", f"{KIT}/logic_built"]
-        words += ["--links", f"{self.name}=", *["--crate-type", "staticlib"] * self.is_static]
-        return [*words, "--jobs", "1", "--incremental", f"{self.folder}/kept"]
+        words += ["--links", f"{self.name}=", *["--crate-type", "staticlib"] * self.is_static, "--jobs", "1"]
+        # over holes there is little to keep, and keeping it takes longer than to check it again
+        return words if self.has_holes else [*words, "--incremental", f"{self.folder}/kept"]
 
-    def check(self, texts, functions=()):
+    def copy_of(self, edit, number):
+        """Returns the copy in which an edit within one function is planted, or None if that function can't be copied."""
+        (function,) = edit.functions
+        _, _, trait = function.scope
+        name = function.named(self.names)
+        if trait or not name or not self.may_be_hole(name):
+            return None
+        source = f"{self.source}/{self.proof_folder(name)}"
+        own = {*os.listdir(source)} if os.path.isdir(source) else set()
+        # another proof may cite the theorem alone
+        cited = re.compile(re.escape(f"Rattle.{dotted(self.name, name)}.") + r"(?!Met\b)")
+        others = [it for it in self.proofs if not it.startswith(f"{source}/") and cited.search(self.proofs[it])]
+        return None if own - {"Answers.antt", "Invariants.antt"} or others else Copy(edit, function, name, number)
+
+    def with_copies(self, texts, copies):
+        """Returns texts with copies of functions, each after its original."""
+        texts = dict(texts)
+        for copy in sorted(copies, key=lambda it: -it.original.last):
+            path, original = copy.edit.file, copy.original
+            lines = texts[path].split("\n")
+            lines[original.last + 1 : original.last + 1] = original.text_as(copy.function.name, copy.edit.planted(self.texts)[path].split("\n"))
+            texts[path] = "\n".join(lines)
+        return texts
+
+    def check(self, texts, functions=(), copies=()):
         """Checks the copy with some texts in the place of its own, and of its functions only these, with those that they call, if any are given."""
         for path, text in {**self.texts, **texts}.items():
             with open(f"{self.folder}/{path}", "w", encoding="utf-8") as it:
                 it.write(text)
-        names = [it.named(self.names) for it in functions]
+        names = [*[it.named(self.names) for it in functions], *[it.name for it in copies]]
         only = [word for it in names for word in ("--only", it.partition("::")[2])] if all(names) else []
         if self.has_holes:
             self.put_holes(names if only else self.names)
         only += ["--allow-holes"] * bool(self.holes)
+        for it in copies:
+            it.put_proof(self.name, f"{self.source}/{self.proof_folder(it.of)}", f"{self.folder}/{self.proof_folder(it.name)}")
         how = {"cwd": self.folder, "stdin": subprocess.DEVNULL, "stdout": subprocess.PIPE, "stderr": subprocess.STDOUT}
         ran = subprocess.run([*self.words(), *only], text=True, errors="replace", **how)
+        for it in copies:
+            shutil.rmtree(f"{self.folder}/{self.proof_folder(it.name)}", ignore_errors=True)
         check = Check(ran.returncode, ran.stdout)
         self.names = self.names or [*check.functions]
         return check
@@ -409,25 +493,36 @@ class Crate:
             return None
         raise BadEdit("no contract was tried: " + " / ".join([check.first_told(), *check.lines[-3:]]))
 
-    def together(self, edits):
-        """Plants edits of different functions. Returns those that were refused, each with the goal, those unjudged, and those not planted."""
-        texts, planted, left, functions = self.texts, [], [], set()
+    def plant(self, edits):
+        """Plants edits of different functions, and further ones of a function in copies of it. Returns the texts, the edits by the functions that
+        they change there, the copies, and the edits that aren't planted."""
+        texts, planted, copies, left = self.texts, {}, [], []
         for edit in edits:
-            more = None if functions & edit.functions else edit.planted(texts)
+            there = [planted[it] for it in edit.functions if it in planted]
+            more = None if there else edit.planted(texts)
+            # in a copy nothing else may be changed
+            copy = self.copy_of(edit, len(copies)) if there and edit.file and there[0].file else None
             if more:
                 texts = more
-                planted.append(edit)
-                functions |= edit.functions
+                planted.update(dict.fromkeys(edit.functions, edit))
+            elif copy:
+                copies.append(copy)
             else:
                 left.append(edit)
-        check = self.check(texts, functions)
-        judged = self.judged(check, planted) if check.is_refusal(texts) else {}
-        return judged, [it for it in planted if it not in judged], left
+        return self.with_copies(texts, copies), planted, copies, left
+
+    def together(self, edits):
+        """Plants edits in one check. Returns those that were refused, each with the goal, those unjudged, and those not planted."""
+        texts, planted, copies, left = self.plant(edits)
+        check = self.check(texts, planted, copies)
+        judged = self.judged(check, planted, copies) if check.is_refusal(texts) else {}
+        tried = [*dict.fromkeys(planted.values()), *[it.edit for it in copies]]
+        return judged, [it for it in tried if it not in judged], left
 
     @staticmethod
-    def judged(check, planted):
+    def judged(check, planted, copies):
         """Returns the edits that left a goal of a function that they change, each with that goal."""
-        owners = {it.named(check.functions): edit for edit in planted for it in edit.functions}
+        owners = {it.named(check.functions): edit for it, edit in planted.items()} | {it.name: it.edit for it in copies}
         found = {}
         for name, goal in check.own_goals().items():
             # a closure is its function's
@@ -438,6 +533,16 @@ class Crate:
                 return {}
             found.setdefault(owner, f"{name}: {goal}")
         return found
+
+    def unedited(self):
+        """Checks the edits' places without their bugs, many at once. Yields what each check said, and the number of functions, copies among them."""
+        for edit in self.edits:
+            edit.pairs = [(path, old, old) for path, old, _ in edit.pairs]
+        # a text of a further pair may stand there twice then
+        left = [it for it in self.edits if it.functions and it.planted(self.texts)]
+        while left:
+            texts, planted, copies, left = self.plant(left)
+            yield self.check(texts, planted, copies), len(planted) + len(copies)
 
     def judge(self):
         """Tries all edits, and yields each with what refused it, or None, and whether it was planted with others."""
@@ -477,8 +582,8 @@ def listed_crates():
     return found
 
 
-def try_crate(name, listed, over, keep):
-    """Tries a crate's edits, and returns how many were refused and how many weren't."""
+def try_crate(name, listed, over, keep, is_unedited):
+    """Tries a crate's edits, or their places without their bugs, and returns how many passed and how many didn't."""
     began, passed, failed = time.monotonic(), 0, 0
     with tempfile.TemporaryDirectory(prefix="edits-") as room:
         crate = Crate(name, listed, over, keep, room)
@@ -492,7 +597,11 @@ def try_crate(name, listed, over, keep):
             say(f"must-fail {name}/{edit.name}: BAD EDIT: a text that it replaces isn't there exactly once")
             crate.edits.remove(edit)
             failed += 1
-        for edit, goal, number in crate.judge():
+        for check, number in crate.unedited() if is_unedited else ():
+            clean = check.is_clean()
+            say(f"unedited {name}: {f'{number} functions are proved' if clean else f'FAILED: {check.own_goals() or check.first_told()}'}")
+            passed, failed = passed + clean, failed + (not clean)
+        for edit, goal, number in () if is_unedited else crate.judge():
             label = f"must-fail {name}/{edit.name}"
             beside = f", with {number - 1} others" if number > 1 else ""
             if isinstance(goal, BadEdit):
@@ -503,12 +612,12 @@ def try_crate(name, listed, over, keep):
                 say(f"{label}: refused, as it must be{beside}: {goal[:160]}")
             is_refused = isinstance(goal, str)
             passed, failed = passed + is_refused, failed + (not is_refused)
-    progress(f"{name}: {passed} refused, {failed} not, {time.monotonic() - began:.0f} s")
+    progress(f"{name}: {passed} {'checks passed' if is_unedited else 'refused'}, {failed} not, {time.monotonic() - began:.0f} s")
     return passed, failed
 
 
 def main(words):
-    listed, over, keep, lanes, names = listed_crates(), "", "", os.cpu_count(), []
+    listed, over, keep, lanes, is_unedited, names = listed_crates(), "", "", os.cpu_count(), False, []
     while words:
         word = words.pop(0)
         if word == "--help":
@@ -526,6 +635,8 @@ def main(words):
             if not re.fullmatch("[1-9][0-9]{0,2}", lanes):
                 print(f"edits: --lanes wants a number from 1 on, and not '{lanes}'; --help says more", file=sys.stderr)
                 return 2
+        elif word == "--unedited":
+            is_unedited = True
         elif word in listed:
             names.append(word)
         else:
@@ -537,7 +648,7 @@ def main(words):
     names = [it for it in names or listed if glob.glob(f"{ROOT}/crates/{it}/must-fail/*.edit")]
     names.sort(key=lambda it: -len(glob.glob(f"{ROOT}/crates/{it}/must-fail/*.edit")))
     with concurrent.futures.ThreadPoolExecutor(int(lanes)) as pool:
-        counts = [*pool.map(lambda it: try_crate(it, listed, over, keep), names)]
+        counts = [*pool.map(lambda it: try_crate(it, listed, over, keep, is_unedited), names)]
     passed, failed = (sum(it) for it in zip((0, 0), *counts))
     print(f"{passed} passed, {failed} failed")
     return 1 if failed else 0

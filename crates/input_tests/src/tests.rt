@@ -1,4 +1,6 @@
 // Each call that takes a callback or returns a list, on its happy path and on large input, and lookups in the sequence table.
+mod extended;
+mod keys;
 mod long;
 mod pieces;
 mod pulled;

@@ -1,7 +1,7 @@
 // Lookups in the sequence table, and the test for a paste without an end.
 use super::long::{Calls, check_paste};
 use super::{InputParser, KeyCode, KeyEvent, LAST, MORE, Modifiers};
-use crate::table_rows;
+use checked_calls::table_rows;
 use std::alloc::Global;
 use std::process::Abort;
 use std::test::Fail;

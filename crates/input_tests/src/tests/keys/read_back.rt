@@ -1,8 +1,8 @@
 // Every listed key is encoded and read back, as docs/GRAMMAR.md lists them under "Keys that read back". Each case is
 // asserted to be listed: a yes of `is_listed` is proved.
 use super::{ALT, APPLICATION, CTRL, LEVEL_1, LEVEL_2, NONE, Press, SHIFT, XTERM};
-use crate::listed::is_listed;
-use crate::read_encoded;
+use checked_calls::listed::is_listed;
+use checked_calls::read_encoded;
 use std::alloc::Global;
 use std::process::Abort;
 use std::test::Fail;

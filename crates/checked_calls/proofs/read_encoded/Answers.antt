@@ -2,7 +2,7 @@ use Rattle.std.proofs.Common.{◌≡◌, ◌∙◌, ap, sym, subst, false, lengt
 use Rattle.termwiz_input.specs.InputEvent.{InputEvent}
 use Rattle.termwiz_input.specs.Grammar.{Means}
 use Rattle.termwiz_input.specs.Laws.{OneMeaning}
-use Rattle.key_tests.proofs.read_encoded.Goals as goal
+use Rattle.checked_calls.proofs.read_encoded.Goals as goal
 
 -- two meanings of the text that a key has are the same
 same_meaning : (text : Option (List ℕ)) (s t : List ℕ) (D E : List InputEvent) (V W : List ℕ) → OneMeaning

@@ -2,7 +2,7 @@
 // other is read as another key (`only_these_read_back`), as a listed one if that sends the same text (`unlisted_twins_read_as_listed`).
 use super::read_back::check_read_as;
 use super::{ALT, APPLICATION, CSI_U, CTRL, LEVEL_1, LEVEL_2, NONE, Press, SHIFT, SUPER, XTERM};
-use crate::listed::is_listed;
+use checked_calls::listed::is_listed;
 use std::alloc::Global;
 use std::process::Abort;
 use std::test::Fail;

@@ -1,5 +1,5 @@
 use Rattle.std.proofs.Common.{[], ◌∷◌, arith}
-use Rattle.extended_tests.proofs.tests.calls.pulled.Goals as goal
+use Rattle.input_tests.proofs.tests.extended.calls.pulled.Goals as goal
 
 pub loop-events-smaller : goal.loop-events-smaller
 loop-events-smaller c =
