@@ -494,14 +494,15 @@ class Crate:
         raise BadEdit("no contract was tried: " + " / ".join([check.first_told(), *check.lines[-3:]]))
 
     def plant(self, edits):
-        """Plants edits of different functions, and further ones of a function in copies of it. Returns the texts, the edits by the functions that
-        they change there, the copies, and the edits that aren't planted."""
+        """Plants edits of different functions, and in copies of functions what can't be planted beside those. Returns the texts, the edits by the
+        functions that they change there, the copies, and the edits that aren't planted."""
         texts, planted, copies, left = self.texts, {}, [], []
         for edit in edits:
             there = [planted[it] for it in edit.functions if it in planted]
-            more = None if there else edit.planted(texts)
+            is_free = not there and edit.functions.isdisjoint(it.original for it in copies)
+            more = edit.planted(texts) if is_free else None
             # in a copy nothing else may be changed
-            copy = self.copy_of(edit, len(copies)) if there and edit.file and there[0].file else None
+            copy = self.copy_of(edit, len(copies)) if not more and edit.file and all(it.file for it in there) else None
             if more:
                 texts = more
                 planted.update(dict.fromkeys(edit.functions, edit))
@@ -546,7 +547,9 @@ class Crate:
 
     def judge(self):
         """Tries all edits, and yields each with what refused it, or None, and whether it was planted with others."""
-        groups, alone = [[it for it in self.edits if it.functions]], [it for it in self.edits if not it.functions]
+        # those within one function first, since they can be planted in copies
+        groups = [sorted((it for it in self.edits if it.functions), key=lambda it: not it.file)]
+        alone = [it for it in self.edits if not it.functions]
         while groups:
             edits = groups.pop(0)
             if len(edits) == 1:

@@ -221,7 +221,8 @@ class Gate:
         self.rlibs, self.kept, library = f"{room}/rlibs", f"{room}/kept", f"{room}/library"
         os.mkdir(self.rlibs)
         below = listed_crates()
-        self.ci = Part(self.tree, "rt ci", [], "rt", "ci", has_session=False)
+        # one job for each check, also for the last ones: what is tried beside them needs the processors, and more jobs take more of their time
+        self.ci = Part(self.tree, "rt ci", [], "env", f"RT_JOBS={os.cpu_count()}", "rt", "ci", has_session=False)
         over = ["--library", library]
         script = lambda *words: Part(self.whole, *words)
         self.scripts = [
