@@ -98,9 +98,6 @@ class Function:
     def __init__(self, first, last, is_const, scope, name):
         self.first, self.last, self.is_const, self.scope, self.name = first, last, is_const, scope, name
 
-    def renamed(self, name):
-        return Function(self.first, self.last, self.is_const, self.scope, name)
-
     def text_as(self, name, lines):
         """Returns this function's lines among those of its file, with its attributes, under another name."""
         first = self.first
@@ -255,16 +252,16 @@ class Edit:
 
 
 class Copy:
-    """A function's copy, in which an edit is planted that lies within that function: the copy, its original, and the names of both in a check's output."""
+    """A copy of a function, in which an edit within that function is planted: the copy's name, and those of both in a check's output."""
 
-    def __init__(self, edit, original, name, number):
-        self.edit, self.original, self.of = edit, original, name
-        self.function = original.renamed(f"{original.name}_copy_{number}")
-        self.name = f"{name[: -len(original.name)]}{self.function.name}"
+    def __init__(self, edit, original, of, number):
+        self.edit, self.original, self.of = edit, original, of
+        self.name = f"{original.name}_copy_{number}"
+        self.path = of[: -len(original.name)] + self.name
 
     def put_proof(self, crate, source, folder):
         """Puts the proof of the original, under the copy's name, in a folder."""
-        renamed = lambda text: text.replace(f"Rattle.{dotted(crate, self.of)}.", f"Rattle.{dotted(crate, self.name)}.")
+        renamed = lambda text: text.replace(f"Rattle.{dotted(crate, self.of)}.", f"Rattle.{dotted(crate, self.path)}.")
         for file in glob.glob(f"{source}/*.antt"):
             os.makedirs(folder, exist_ok=True)
             with open(file, encoding="utf-8") as it, open(f"{folder}/{os.path.basename(file)}", "w", encoding="utf-8") as to:
@@ -456,7 +453,7 @@ class Crate:
         for copy in sorted(copies, key=lambda it: -it.original.last):
             path, original = copy.edit.file, copy.original
             lines = texts[path].split("\n")
-            lines[original.last + 1 : original.last + 1] = original.text_as(copy.function.name, copy.edit.planted(self.texts)[path].split("\n"))
+            lines[original.last + 1 : original.last + 1] = original.text_as(copy.name, copy.edit.planted(self.texts)[path].split("\n"))
             texts[path] = "\n".join(lines)
         return texts
 
@@ -465,17 +462,17 @@ class Crate:
         for path, text in {**self.texts, **texts}.items():
             with open(f"{self.folder}/{path}", "w", encoding="utf-8") as it:
                 it.write(text)
-        names = [*[it.named(self.names) for it in functions], *[it.name for it in copies]]
+        names = [*[it.named(self.names) for it in functions], *[it.path for it in copies]]
         only = [word for it in names for word in ("--only", it.partition("::")[2])] if all(names) else []
         if self.has_holes:
             self.put_holes(names if only else self.names)
         only += ["--allow-holes"] * bool(self.holes)
         for it in copies:
-            it.put_proof(self.name, f"{self.source}/{self.proof_folder(it.of)}", f"{self.folder}/{self.proof_folder(it.name)}")
+            it.put_proof(self.name, f"{self.source}/{self.proof_folder(it.of)}", f"{self.folder}/{self.proof_folder(it.path)}")
         how = {"cwd": self.folder, "stdin": subprocess.DEVNULL, "stdout": subprocess.PIPE, "stderr": subprocess.STDOUT}
         ran = subprocess.run([*self.words(), *only], text=True, errors="replace", **how)
         for it in copies:
-            shutil.rmtree(f"{self.folder}/{self.proof_folder(it.name)}", ignore_errors=True)
+            shutil.rmtree(f"{self.folder}/{self.proof_folder(it.path)}", ignore_errors=True)
         check = Check(ran.returncode, ran.stdout)
         self.names = self.names or [*check.functions]
         return check
@@ -523,7 +520,7 @@ class Crate:
     @staticmethod
     def judged(check, planted, copies):
         """Returns the edits that left a goal of a function that they change, each with that goal."""
-        owners = {it.named(check.functions): edit for it, edit in planted.items()} | {it.name: it.edit for it in copies}
+        owners = {it.named(check.functions): edit for it, edit in planted.items()} | {it.path: it.edit for it in copies}
         found = {}
         for name, goal in check.own_goals().items():
             # a closure is its function's
