@@ -27,8 +27,8 @@ use Rattle.termwiz_input_extended.specs.declared.front.FormFront.{FormFront}
 use Rattle.termwiz_input_extended.specs.declared.front.FormFront.TheVariants as front
 use Rattle.termwiz_input_extended.specs.declared.front.ExtendedFront.{ExtendedFront}
 use Rattle.termwiz_input_extended.specs.declared.front.ExtendedFront.TheVariants.{Key, Form, MouseReport, Escape, Paste as FrontPaste, Usual, Incomplete}
-use Rattle.termwiz_input_extended.specs.declared.front.LongRow.{LongRow}
-use Rattle.termwiz_input_extended.specs.declared.front.LongRow.TheVariants.{Whole, Begun, Absent}
+use Rattle.termwiz_input_extended.specs.declared.front.FrontRow.{FrontRow}
+use Rattle.termwiz_input_extended.specs.declared.front.FrontRow.TheVariants.{Long, Short, Begun, Absent}
 use Rattle.termwiz_input_extended.specs.Buffered.{Buffered}
 use Rattle.termwiz_input_extended.specs.FormAnswers.{IsScanned, NoFormBegins}
 
@@ -110,18 +110,26 @@ pub record IsLongRowAt (rows : Rows) (u : List ℕ) (more : Bool) (key : KeyEven
   pub row : HasRow u key len
   pub closed : ¬ IsOpen u more
 
--- what a look for such a row finds: the row, or that more comes and the text properly begins a sequence
-abbrev pub IsLongRow : Rows → List ℕ → Bool → LongRow → Type 0
-IsLongRow rows u more (Whole key len) = IsLongRowAt rows u more key len
-IsLongRow rows u more Begun = (more ≡ true) × IsUnfinishedSequence u
-IsLongRow rows u more Absent = Unit {0}
+-- the longest sequence that begins the text is the row of this key, of two bytes; nothing that comes changes it
+pub record IsShortRowAt (u : List ℕ) (more : Bool) (key : KeyEvent) : Type 0 where
+  pub row : HasRow u key 2
+  pub closed : ¬ IsOpen u more
 
--- what that says of the front of the text: its first so many bytes are read as the key, or no item is there
-abbrev pub IsLongRowFront : Rows → List ℕ → Bool → LongRow → Type 0
-IsLongRowFront rows u more (Whole key len) =
-    (len ≤ length u) × Steps rows u more (Input (PortsKey key) ∷ []) (drop len u)
-IsLongRowFront rows u more Begun = IsRest rows u more
-IsLongRowFront rows u more Absent = Unit {0}
+-- what a look for a row finds: such a row, or that more comes and the text properly begins a sequence
+abbrev pub IsFrontRow : Rows → List ℕ → Bool → FrontRow → Type 0
+IsFrontRow rows u more (Long key len) = IsLongRowAt rows u more key.now len
+IsFrontRow rows u more (Short key) = IsShortRowAt u more key.now
+IsFrontRow rows u more Begun = (more ≡ true) × IsUnfinishedSequence u
+IsFrontRow rows u more Absent = Unit {0}
+
+-- What that says of the front of the text: its first so many bytes are read as the key, or no item is there. A row of two bytes is an item
+-- of the port alone: a form may be there.
+abbrev pub IsRowFront : Rows → List ℕ → Bool → FrontRow → Type 0
+IsRowFront rows u more (Long key len) =
+    (len ≤ length u) × Steps rows u more (Input (PortsKey key.now) ∷ []) (drop len u)
+IsRowFront rows u more (Short key) = IsItemAt u more (PortsKey key.now) 2
+IsRowFront rows u more Begun = IsRest rows u more
+IsRowFront rows u more Absent = Unit {0}
 
 -- this is at the front of the text, under this flag. Of an incomplete sequence the search goes on from a place.
 abbrev pub IsExtendedFront : Rows → List ℕ → Bool → ExtendedFront → Type 0

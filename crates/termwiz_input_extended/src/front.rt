@@ -3,17 +3,19 @@ ghost use Rattle.std.specs.Prelude.{◌≡◌, ◌≢◌, ◌↔◌, ◌++◌, B
 ghost use Rattle.termwiz_keymap.specs.Bytes.{Begins};
 ghost use Rattle.termwiz_keys.specs.Introducers.{ESC, START};
 ghost use Rattle.termwiz_keys.specs.Keys.{plain};
+ghost use Rattle.termwiz_keys.specs.declared.types.InputEvent.TheVariants.{Key as PortsKey};
 ghost use Rattle.termwiz_keys.specs.declared.types.KeyEvent.{KeyEvent as Key};
 ghost use Rattle.termwiz_keys.specs.declared.types.MouseEvent.{MouseEvent as Mouse};
 ghost use Rattle.termwiz_grammar.specs.MouseReports.{IsMouseReport};
 ghost use Rattle.termwiz_grammar.specs.Table.{rows as table_rows};
+ghost use Rattle.termwiz_input.specs.Matches.{IsItemAt};
 ghost use Rattle.termwiz_input.specs.MouseReportAnswers.{HasNoPartInMouseReports};
 ghost use Rattle.termwiz_input.specs.PrintableAscii.{IsPrintableAscii};
 ghost use Rattle.termwiz_extended_events.specs.Meanings as meaning;
 ghost use Rattle.termwiz_extended_grammar.specs.Forms.{IsForm};
 ghost use Rattle.termwiz_input_extended.specs.declared.front.ReportStart.TheVariants as Start;
 ghost use Rattle.termwiz_input_extended.specs.FormAnswers.{IsScanned};
-ghost use Rattle.termwiz_input_extended.specs.ExtendedFronts.{HasFormFront, IsExtendedFront, IsFormAt, IsFormEvent, IsIntroduced, IsLongRow, IsLongRowFront, IsOwnCharacter, IsPlainReportAt, IsReported, MayBeReport, IsScannedTo, IsSomeExtra};
+ghost use Rattle.termwiz_input_extended.specs.ExtendedFronts.{HasFormFront, IsExtendedFront, IsFormAt, IsFormEvent, IsFrontRow, IsIntroduced, IsOwnCharacter, IsPlainReportAt, IsReported, IsRowFront, IsScannedTo, IsSomeExtra, MayBeReport};
 
 use crate::characters::control_key;
 use crate::form::{ESCAPE, FormAt, control_at, form_at, next_scan};
@@ -25,11 +27,7 @@ use termwiz_extended_events::meanings::{
 use termwiz_extended_events::types::{ExtendedEvent, PlainReport, Rows};
 use termwiz_input::input::{FrontReport, InputParser, character_at, mouse_report_at};
 use termwiz_input::keymap::Found;
-use termwiz_keymap::bytes::begins_with;
 use termwiz_keys::types::{InputEvent, KeyCode, KeyEvent, MouseEvent};
-
-// What comes before a pasted text.
-const PASTE_START: &[u8] = b"\x1b[200~";
 
 // What form is at the front of a text. A `usize` is the number of its bytes.
 #[derive(Drop)]
@@ -54,11 +52,13 @@ pub(crate) enum ReportStart {
     Neither,
 }
 
-// What a look for a row of three or more bytes at the front of a text finds.
+// What a look for a row of two or more bytes at the front of a text finds.
 #[derive(Drop)]
-pub(crate) enum LongRow {
-    // The row of this key, of so many bytes. No longer sequence can begin there.
-    Whole(KeyEvent, usize),
+pub(crate) enum FrontRow<'k> {
+    // The row of this key, of so many bytes: three or more. No longer sequence can begin there.
+    Long(&'k KeyEvent, usize),
+    // The row of this key, of two bytes. No longer row can begin there, but a form can.
+    Short(&'k KeyEvent),
     // More may come, and the whole text properly begins a row.
     Begun,
     // This decides nothing.
@@ -84,8 +84,16 @@ pub(crate) enum ExtendedFront {
     Incomplete(usize),
 }
 
+// Whether the start of a paste begins a text. Most sequences differ from it in the third byte.
+#[inline(always)]
+fn begins_paste(text: &[u8]) -> bool
+    ensures { IsTrue result ↔ Begins START text.now }
+{
+    matches!(text, [ESCAPE, b'[', b'2', b'0', b'0', b'~', ..])
+}
+
 // A copy of the key.
-fn copied(key: &KeyEvent) -> KeyEvent
+pub(crate) fn copied(key: &KeyEvent) -> KeyEvent
     ensures { result ≡ key.now }
 {
     KeyEvent {
@@ -234,19 +242,42 @@ fn front_of_form(text: &[u8], scanned: usize, maybe_more: bool) -> ExtendedFront
     }
 }
 
-// Looks for a row of three or more bytes at the front of a text, under `Rows::Port`.
+// What is at the front of such a text, if it also begins with the row of this key, of two bytes: a form, or else the row.
 #[inline(always)]
-fn long_row_at(parser: &InputParser, rows: Rows, text: &[u8], maybe_more: bool) -> LongRow
+fn front_of_short_row(
+    text: &[u8],
+    key: &KeyEvent,
+    scanned: usize,
+    maybe_more: bool,
+) -> ExtendedFront
+    requires escape { Begins ESC text.now }
+    requires one { ¬ Begins (ESC ++ ESC) text.now }
+    requires no_paste { ¬ Begins START text.now }
+    requires no_mouse { HasNoPartInMouseReports text.now }
+    requires scanned { IsScanned text.now scanned }
+    requires row { IsItemAt text.now maybe_more (PortsKey key.now) 2 }
+    ensures { (rows : Rows) → IsExtendedFront rows text.now maybe_more result }
+{
+    match front_of_form(text, scanned, maybe_more) {
+        ExtendedFront::Usual => ExtendedFront::Key(copied(key), 2),
+        form => form,
+    }
+}
+
+// Looks for a row of two or more bytes at the front of a text, under `Rows::Port`.
+#[inline(always)]
+fn row_at<'k>(parser: &'k InputParser, rows: Rows, text: &[u8], maybe_more: bool) -> FrontRow<'k>
     requires { HasNoPartInMouseReports text.now }
-    ensures { IsLongRow rows text.now maybe_more result }
+    ensures { IsFrontRow rows text.now maybe_more result }
 {
     match rows {
         Rows::Port => match parser.lookup(text, maybe_more) {
-            Found::Exact(len, key) if len > 2 => LongRow::Whole(copied(key), len),
-            Found::Ambiguous(..) => LongRow::Begun,
-            _ => LongRow::Absent,
+            Found::Exact(2, key) => FrontRow::Short(key),
+            Found::Exact(len, key) if len > 2 => FrontRow::Long(key, len),
+            Found::Ambiguous(..) => FrontRow::Begun,
+            _ => FrontRow::Absent,
         },
-        Rows::Kitty => LongRow::Absent,
+        Rows::Kitty => FrontRow::Absent,
     }
 }
 
@@ -268,11 +299,12 @@ fn front_of_one_escape(
         FrontReport::Whole(event, len) => ExtendedFront::MouseReport(event, len),
         FrontReport::Begun if maybe_more => ExtendedFront::Incomplete(next_scan(text)),
         FrontReport::Begun => ExtendedFront::Usual,
-        FrontReport::Absent if begins_with(text, PASTE_START) => ExtendedFront::Paste,
-        FrontReport::Absent => match long_row_at(parser, rows, text, maybe_more) {
-            LongRow::Whole(key, len) => ExtendedFront::Key(key, len),
-            LongRow::Begun => ExtendedFront::Incomplete(0),
-            LongRow::Absent => front_of_form(text, scanned, maybe_more),
+        FrontReport::Absent if begins_paste(text) => ExtendedFront::Paste,
+        FrontReport::Absent => match row_at(parser, rows, text, maybe_more) {
+            FrontRow::Long(key, len) => ExtendedFront::Key(copied(key), len),
+            FrontRow::Short(key) => front_of_short_row(text, key, scanned, maybe_more),
+            FrontRow::Begun => ExtendedFront::Incomplete(0),
+            FrontRow::Absent => front_of_form(text, scanned, maybe_more),
         },
     }
 }
@@ -319,22 +351,22 @@ pub(crate) fn plain_report_front(text: &[u8]) -> Option<(PlainReport, usize)>
     }
 }
 
-// Looks for a row of three or more bytes at the front of a text that may begin the report of a key, under `Rows::Port`. The start of a
+// Looks for a row of two or more bytes at the front of a text that may begin the report of a key, under `Rows::Port`. The start of a
 // paste isn't read as its key.
 #[inline(always)]
-pub(crate) fn long_row_front(
-    parser: &InputParser,
+pub(crate) fn row_front<'k>(
+    parser: &'k InputParser,
     rows: Rows,
     text: &[u8],
     maybe_more: bool,
-) -> LongRow
+) -> FrontRow<'k>
     requires { MayBeReport text.now }
-    ensures { IsLongRowFront rows text.now maybe_more result }
+    ensures { IsRowFront rows text.now maybe_more result }
 {
-    if begins_with(text, PASTE_START) {
-        return LongRow::Absent;
+    if begins_paste(text) {
+        return FrontRow::Absent;
     }
-    long_row_at(parser, rows, text, maybe_more)
+    row_at(parser, rows, text, maybe_more)
 }
 
 // What follows a first ESC.

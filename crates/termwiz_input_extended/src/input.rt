@@ -11,16 +11,16 @@ ghost use Rattle.termwiz_extended_events.specs.declared.types.Rows.TheVariants.{
 ghost use Rattle.termwiz_extended_events.specs.KeyReports.{plain_report};
 ghost use Rattle.termwiz_extended_grammar.specs.ExtendedGrammar.{IsRest, Means, Steps};
 ghost use Rattle.termwiz_input_extended.specs.EventCallbacks.{MayBeCalledOn, WasCalledOn};
-ghost use Rattle.termwiz_input_extended.specs.ExtendedFronts.{Emits, GivesNoneThatNeedsMemory, HasItemThatNeedsMemory, IsExtendedFront, IsFormAt, IsLongRowFront, IsPasteEvent, IsPortsOwn, IsReported, MayBeReport, Stores};
+ghost use Rattle.termwiz_input_extended.specs.ExtendedFronts.{Emits, GivesNoneThatNeedsMemory, HasItemThatNeedsMemory, IsExtendedFront, IsFormAt, IsPasteEvent, IsPortsOwn, IsReported, IsRowFront, MayBeReport, Stores};
 ghost use Rattle.termwiz_input_extended.specs.ExtendedKinds.{IsBoundedOrOpenPaste, IsKind};
 
 use crate::characters::{
     append_characters, append_printable_ascii, character_front, is_printable_ascii, plain_key,
 };
-use crate::form::next_scan;
+use crate::form::{FormAt, form_at, next_scan};
 use crate::front::{
-    ExtendedFront, LongRow, ReportStart, front, long_row_front, other_event, plain_report_front,
-    report_start, reported_event,
+    ExtendedFront, FrontRow, ReportStart, copied, front, other_event, plain_report_front,
+    report_start, reported_event, row_front,
 };
 use std::alloc::{AllocError, Global};
 use std::marker::Model;
@@ -220,13 +220,26 @@ impl ExtendedParser {
         plain_report_front(self.waiting_text())
     }
 
-    // Looks for a row of three or more bytes at the front of the waiting text, under `Rows::Port`.
+    // Looks for a row of two or more bytes at the front of the waiting text, under `Rows::Port`.
     #[inline(always)]
-    fn long_row_front(&self, maybe_more: bool) -> LongRow
+    fn row_front(&self, maybe_more: bool) -> FrontRow<'_>
         requires { MayBeReport self.now.text }
-        ensures { IsLongRowFront self.now.rows self.now.text maybe_more result }
+        ensures { IsRowFront self.now.rows self.now.text maybe_more result }
     {
-        long_row_front(&self.parser, self.rows, self.waiting_text(), maybe_more)
+        row_front(&self.parser, self.rows, self.waiting_text(), maybe_more)
+    }
+
+    // Whether no form begins the waiting text, and the text begins none: then what is there is the port's, whatever comes. Inlined, it would
+    // need a register more in `emit_sequence`, for every sequence.
+    #[inline(never)]
+    fn has_no_form(&self) -> bool
+        requires { MayBeReport self.now.text }
+        ensures { IsTrue result → (more : Bool) → IsPortsOwn self.now.rows self.now.text more }
+    {
+        match form_at(self.waiting_text(), self.scanned) {
+            FormAt::Absent => true,
+            FormAt::Whole(_) | FormAt::Unfinished => false,
+        }
     }
 
     // The event of the form of so many bytes at the front of the waiting text, if it is read as a report of a key or a position.
@@ -332,8 +345,8 @@ impl ExtendedParser {
         )
     }
 
-    // As `emit_front`, but quicker if the report of a key, a mouse report or, under `Rows::Port`, a row of three or more bytes is at the front,
-    // or if more may come and the text properly begins one of the last two.
+    // As `emit_front`, but quicker for the report of a key, a mouse report and, under `Rows::Port`, a row that begins with ESC [. Also quicker
+    // if more may come and the text properly begins one of the last two.
     #[inline(never)]
     fn emit_sequence(&mut self, maybe_more: bool) -> Result<Option<ExtendedEvent>, AllocError>
         ensures { Emits self.old maybe_more self.new result }
@@ -344,12 +357,17 @@ impl ExtendedParser {
                     return self.emit(ExtendedEvent::Key(report.whole(self.alloc)), len);
                 }
             }
-            ReportStart::Key => match self.long_row_front(maybe_more) {
-                LongRow::Whole(key, len) => {
-                    return self.emit(ExtendedEvent::Input(InputEvent::Key(key)), len);
+            ReportStart::Key => match self.row_front(maybe_more) {
+                FrontRow::Long(key, len) => {
+                    let event = ExtendedEvent::Input(InputEvent::Key(copied(key)));
+                    return self.emit(event, len);
                 }
-                LongRow::Begun => return Ok(None),
-                LongRow::Absent => {}
+                FrontRow::Short(key) if self.has_no_form() => {
+                    let event = ExtendedEvent::Input(InputEvent::Key(copied(key)));
+                    return self.emit(event, 2);
+                }
+                FrontRow::Begun => return Ok(None),
+                FrontRow::Short(_) | FrontRow::Absent => {}
             },
             ReportStart::Mouse => match mouse_report_at(self.waiting_text()) {
                 FrontReport::Whole(event, len) => {

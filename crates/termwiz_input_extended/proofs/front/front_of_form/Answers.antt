@@ -1,7 +1,7 @@
 use Rattle.std.proofs.Common.{take, drop, sym, take-append-drop}
-use Rattle.termwiz_extended_grammar.proofs.lemmas.forms.ExtraFacts.{form_from_unfinished, unfinished_from_form}
+use Rattle.termwiz_extended_grammar.proofs.lemmas.forms.ExtraFacts.{unfinished_from_form}
 use Rattle.termwiz_input_extended.proofs.lemmas.fronts.ExtraAnswers.{no_extra_without_form}
-use Rattle.termwiz_input_extended.proofs.lemmas.fronts.FrontItems.{own_after_escape, waits_for_extra}
+use Rattle.termwiz_input_extended.proofs.lemmas.fronts.FrontItems.{own_without_form, waits_for_extra}
 use Rattle.termwiz_input_extended.proofs.lemmas.fronts.ScannedPlaces.{scanned_once}
 use Rattle.termwiz_input_extended.proofs.front.front_of_form.Goals as goal
 
@@ -28,12 +28,10 @@ returns-in-Unfinished c = λ rows. (
 
 pub returns-in-Unfinished-2 : goal.returns-in-Unfinished-2
 returns-in-Unfinished-2 c = λ rows.
-    own_after_escape rows c.args.text.now c.args.maybe_more c.requires.escape c.requires.one
-    (no_extra_without_form rows c.args.text.now c.in-Unfinished-2.ensures.0)
+    own_without_form rows c.args.text.now c.args.maybe_more c.requires.escape c.requires.one c.in-Unfinished-2.ensures.0
     (λ m. absurd (cc (m, c.if-maybe_more.false)))
 
 pub returns-in-Absent : goal.returns-in-Absent
 returns-in-Absent c = λ rows.
-    own_after_escape rows c.args.text.now c.args.maybe_more c.requires.escape c.requires.one
-    (no_extra_without_form rows c.args.text.now c.in-Absent.ensures.0)
-    (λ m h. c.in-Absent.ensures.1 (form_from_unfinished rows c.args.text.now h))
+    own_without_form rows c.args.text.now c.args.maybe_more c.requires.escape c.requires.one c.in-Absent.ensures.0
+    (λ m. c.in-Absent.ensures.1)

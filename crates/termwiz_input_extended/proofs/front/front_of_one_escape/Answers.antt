@@ -2,7 +2,7 @@ use Rattle.termwiz_keymap.proofs.lemmas.lists.PrefixTest.{denied}
 use Rattle.termwiz_extended_grammar.proofs.lemmas.forms.ExtraFacts.{unfinished_from_form}
 use Rattle.termwiz_input_extended.proofs.lemmas.fronts.ExtraAnswers.{no_extra_without_form}
 use Rattle.termwiz_input_extended.proofs.lemmas.fronts.FrontItems.{own_after_escape, waits_for_extra, waits_for_sequence}
-use Rattle.termwiz_input_extended.proofs.lemmas.fronts.KnownFronts.{long_row_item, long_row_own}
+use Rattle.termwiz_input_extended.proofs.lemmas.fronts.KnownFronts.{long_row_item, long_row_own, short_row_item}
 use Rattle.termwiz_input_extended.proofs.lemmas.fronts.MouseForms.{begun_no_form, begun_unfinished, report_item, report_no_extra, report_not_unfinished}
 use Rattle.termwiz_input_extended.proofs.lemmas.fronts.ScannedPlaces.{scanned_none, scanned_once}
 use Rattle.termwiz_input_extended.proofs.front.front_of_one_escape.Goals as goal
@@ -33,23 +33,35 @@ returns-in-Begun-2 c =
     (no_extra_without_form c.args.rows c.args.text.now (begun_no_form c.args.text.now c.in-Begun-2.ensures))
     (λ m. absurd (cc (m, c.if-maybe_more.false)))
 
-pub returns-in-Whole-long_row_at : goal.returns-in-Whole-long_row_at
-returns-in-Whole-long_row_at c =
-    let row = c.in-Whole-long_row_at in (
-      long_row_own c.args.rows c.args.text.now c.args.maybe_more row.key row.len row.ensures c.requires.escape c.requires.one,
-      long_row_item c.args.rows c.args.text.now c.args.maybe_more row.key row.len row.ensures
-          (denied c.begins_with.ensures.1 c.if-begins_with.false),
+pub returns-in-Long : goal.returns-in-Long
+returns-in-Long c =
+    let row = c.in-Long in
+    rw c.copied.ensures (
+      long_row_own c.args.rows c.args.text.now c.args.maybe_more row.key.now row.len row.ensures c.requires.escape c.requires.one,
+      long_row_item c.args.rows c.args.text.now c.args.maybe_more row.key.now row.len row.ensures
+          (denied c.begins_paste.ensures.1 c.if-begins_paste.false),
     )
 
-pub returns-in-Begun-long_row_at : goal.returns-in-Begun-long_row_at
-returns-in-Begun-long_row_at c =
-    let begun = c.in-Begun-long_row_at.ensures in (
+pub returns-in-Begun-row_at : goal.returns-in-Begun-row_at
+returns-in-Begun-row_at c =
+    let begun = c.in-Begun-row_at.ensures in (
       waits_for_sequence c.args.rows c.args.text.now c.args.maybe_more c.requires.escape c.requires.one begun.0 begun.1,
       scanned_none c.args.text.now,
     )
 
-pub returns-in-Absent-long_row_at : goal.returns-in-Absent-long_row_at
-returns-in-Absent-long_row_at c = c.front_of_form.ensures c.args.rows
+pub returns-in-Absent-row_at : goal.returns-in-Absent-row_at
+returns-in-Absent-row_at c = c.front_of_form.ensures c.args.rows
 
 pub front_of_form-requires-clause-no_paste : goal.front_of_form-requires-clause-no_paste
-front_of_form-requires-clause-no_paste c = denied c.begins_with.ensures.1 c.if-begins_with.false
+front_of_form-requires-clause-no_paste c = denied c.begins_paste.ensures.1 c.if-begins_paste.false
+
+pub front_of_short_row-requires-clause-no_paste : goal.front_of_short_row-requires-clause-no_paste
+front_of_short_row-requires-clause-no_paste c = denied c.begins_paste.ensures.1 c.if-begins_paste.false
+
+pub front_of_short_row-requires-clause-row : goal.front_of_short_row-requires-clause-row
+front_of_short_row-requires-clause-row c =
+    short_row_item c.args.text.now c.args.maybe_more c.in-Short.key.now c.in-Short.ensures
+    (denied c.begins_paste.ensures.1 c.if-begins_paste.false)
+
+pub returns-in-Short : goal.returns-in-Short
+returns-in-Short c = c.front_of_short_row.ensures c.args.rows

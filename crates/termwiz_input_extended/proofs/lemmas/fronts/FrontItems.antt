@@ -11,14 +11,17 @@ use Rattle.termwiz_extended_events.specs.declared.types.ExtendedEvent.{ExtendedE
 use Rattle.termwiz_extended_events.specs.declared.types.ExtendedEvent.TheVariants.{Input}
 use Rattle.termwiz_extended_events.specs.declared.types.Rows.{Rows}
 use Rattle.termwiz_extended_events.specs.Meanings.{event_of}
+use Rattle.termwiz_extended_grammar.specs.Forms.{IsUnfinishedForm}
 use Rattle.termwiz_extended_grammar.specs.ExtraSequences.{IsExtra, StartsWithExtra, IsUnfinishedExtra}
 use Rattle.termwiz_extended_grammar.specs.ExtendedGrammar.{BeginsKnown, IsRest, Stands, Steps}
 use Rattle.termwiz_extended_grammar.specs.ExtendedGrammar.Stands.{extra, lone_escape, usual}
 use Rattle.termwiz_extended_grammar.specs.ExtendedLaws.{HasNoExtra}
+use Rattle.termwiz_extended_grammar.proofs.lemmas.forms.ExtraFacts.{form_from_unfinished}
 use Rattle.termwiz_extended_grammar.proofs.lemmas.forms.FormBytes.{form_shape}
 use Rattle.termwiz_extended_grammar.proofs.lemmas.items.ExtendedItems.{starts_shape, second_not_escape}
 use Rattle.termwiz_extended_grammar.proofs.lemmas.cuts.SameAsPort.{usual_item, rest_of_port}
 use Rattle.termwiz_input_extended.specs.ExtendedFronts.{HasItemThatNeedsMemory, IsPortsOwn}
+use Rattle.termwiz_input_extended.specs.FormAnswers.{NoFormBegins}
 use Rattle.termwiz_input_extended.proofs.lemmas.fronts.ExtraAnswers.{no_extra_without_form, no_form_within}
 
 -- no extra sequence begins a text that doesn't begin with ESC, nor one that begins ESC ESC
@@ -122,6 +125,12 @@ own_after_escape rows u f b one none finished = record {
   where
     unescaped : (v : List ℕ) → u ≡ ESC ++ v → Begins ESC v → ⊥
     unescaped v split c = one (c.0, split ∙ ap (λ x. 27 ∷ x) c.1)
+
+-- in particular if no form begins it, and it doesn't wait for one
+pub own_without_form : (rows : Rows) (u : List ℕ) (f : Bool) → Begins ESC u → (Begins (ESC ++ ESC) u → ⊥) → NoFormBegins u
+    → (f ≡ true → IsUnfinishedForm u → ⊥) → IsPortsOwn rows u f
+own_without_form rows u f b one none finished =
+    own_after_escape rows u f b one (no_extra_without_form rows u none) (λ m h. finished m (form_from_unfinished rows u h))
 
 -- and what begins ESC ESC, if the same is true of what follows the first one
 pub own_after_two_escapes : (rows : Rows) (v : List ℕ) (f : Bool) → Begins ESC v → (StartsWithExtra rows v → ⊥)

@@ -36,9 +36,9 @@ use Rattle.termwiz_extended_grammar.specs.ExtraSequences.{IsExtra, StartsWithExt
 use Rattle.termwiz_extended_grammar.specs.ExtendedGrammar.{Steps}
 use Rattle.termwiz_extended_grammar.proofs.lemmas.forms.FormBytes.{form_shape}
 use Rattle.termwiz_extended_grammar.proofs.lemmas.forms.FormEnds.{sequence_after_form, form_after_sequence}
-use Rattle.termwiz_input_extended.specs.declared.front.LongRow.{LongRow}
-use Rattle.termwiz_input_extended.specs.declared.front.LongRow.TheVariants.{Whole, Begun, Absent}
-use Rattle.termwiz_input_extended.specs.ExtendedFronts.{IsFormAt, IsFormEvent, IsLongRow, IsLongRowAt, IsLongRowFront, IsOwnCharacter, IsPlainReportAt, IsPortsOwn}
+use Rattle.termwiz_input_extended.specs.declared.front.FrontRow.{FrontRow}
+use Rattle.termwiz_input_extended.specs.declared.front.FrontRow.TheVariants.{Long, Short, Begun, Absent}
+use Rattle.termwiz_input_extended.specs.ExtendedFronts.{IsFormAt, IsFormEvent, IsFrontRow, IsLongRowAt, IsOwnCharacter, IsPlainReportAt, IsPortsOwn, IsRowFront, IsShortRowAt}
 use Rattle.termwiz_input_extended.proofs.lemmas.fronts.ExtraAnswers.{no_extra_starts, no_extra_unfinished, reported_event_is}
 use Rattle.termwiz_input_extended.proofs.lemmas.fronts.FrontItems.{extra_step, own_after_escape, own_item, own_without_escape, waits_for_sequence}
 use Rattle.termwiz_input_extended.proofs.lemmas.fronts.MouseForms.{report_escape, report_item, report_no_extra, report_not_unfinished, report_one}
@@ -185,15 +185,21 @@ module _ (rows : Rows) (u : List ℕ) (f : Bool) (key : KeyEvent) (len : ℕ) (i
   long_row_item no_paste = row_stands u f key len is.closed is.row no_paste
       (λ e. let one : length (take len u) ≡ 1 = ap length e in absurd (omega (arith, one, longer_than_two)))
 
--- so a look for such a row tells what stands at the text
-pub long_row_found : (rows : Rows) (u : List ℕ) (f : Bool) (found : LongRow) → Begins ESC u → (Begins (ESC ++ ESC) u → ⊥)
-    → (Begins START u → ⊥) → IsLongRow rows u f found → IsLongRowFront rows u f found
-long_row_found rows u f (Whole key len) escape one no_paste is = (
+-- a row of two bytes is an item of the port
+pub short_row_item : (u : List ℕ) (f : Bool) (key : KeyEvent) → IsShortRowAt u f key → (Begins START u → ⊥) → IsItemAt u f (Key key) 2
+short_row_item u f key is no_paste = row_stands u f key 2 is.closed is.row no_paste
+    (λ e. let one : length (take 2 u) ≡ 1 = ap length e in absurd (omega (arith, one, is.row.0, length-take-le 2 u is.row.0)))
+
+-- so a look for a row tells what stands at the text
+pub row_found : (rows : Rows) (u : List ℕ) (f : Bool) (found : FrontRow) → Begins ESC u → (Begins (ESC ++ ESC) u → ⊥)
+    → (Begins START u → ⊥) → IsFrontRow rows u f found → IsRowFront rows u f found
+row_found rows u f (Long key len) escape one no_paste is = (
   is.row.0,
-  item_step rows u (Key key) len f (long_row_own rows u f key len is escape one) (long_row_item rows u f key len is no_paste),
+  item_step rows u (Key key.now) len f (long_row_own rows u f key.now len is escape one) (long_row_item rows u f key.now len is no_paste),
 )
-long_row_found rows u f Begun escape one no_paste is = waits_for_sequence rows u f escape one is.0 is.1
-long_row_found rows u f Absent escape one no_paste is = tt
+row_found rows u f (Short key) escape one no_paste is = short_row_item u f key.now is no_paste
+row_found rows u f Begun escape one no_paste is = waits_for_sequence rows u f escape one is.0 is.1
+row_found rows u f Absent escape one no_paste is = tt
 
 -- a form at the front is one step, as an extra sequence or as a row
 pub form_step : (rows : Rows) (u : List ℕ) (len : ℕ) (event : ExtendedEvent) (f : Bool) → IsFormAt u len

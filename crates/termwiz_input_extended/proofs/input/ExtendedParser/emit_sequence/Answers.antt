@@ -1,5 +1,6 @@
 use Rattle.std.proofs.Common.{◌≡◌, ◌∷◌, [], drop, refl, sym, ap, subst}
-use Rattle.termwiz_keys.specs.declared.types.InputEvent.TheVariants.{Mouse}
+use Rattle.termwiz_keys.specs.declared.types.InputEvent.TheVariants.{Key as PortsKey, Mouse}
+use Rattle.termwiz_input.specs.Matches.{IsItemAt}
 use Rattle.termwiz_input.specs.MouseReportAnswers.{IsBegun, IsMouseReportAnswer}
 use Rattle.termwiz_input.specs.declared.mouse_report.FrontReport.TheVariants.{Whole}
 use Rattle.termwiz_extended_events.specs.declared.types.ExtendedEvent.TheVariants.{Input, Key}
@@ -14,7 +15,7 @@ use Rattle.termwiz_input_extended.proofs.lemmas.fronts.MouseForms.{begun_no_form
 use Rattle.termwiz_input_extended.proofs.lemmas.fronts.ScannedPlaces.{scanned_once}
 use Rattle.termwiz_input_extended.proofs.lemmas.fronts.SequenceStarts.{introduced_escape, introduced_one}
 use Rattle.termwiz_input_extended.proofs.lemmas.fronts.EmittedItems.{emits_event, emits_none}
-use Rattle.termwiz_input_extended.proofs.lemmas.fronts.KnownFronts.{mouse_report_step}
+use Rattle.termwiz_input_extended.proofs.lemmas.fronts.KnownFronts.{item_step, mouse_report_step}
 use Rattle.termwiz_input_extended.proofs.input.ExtendedParser.emit_sequence.Goals as goal
 
 pub returns-in-Some : goal.returns-in-Some
@@ -26,10 +27,10 @@ returns-in-Some c = rw c.emit-in-Some.ensures.event
     (sym c.whole.ensures) (c.in-Some.ensures.event c.args.maybe_more)))
     (ap (λ (b : Buffered). b.rows) c.emit-in-Some.ensures.consumed))
 
-pub returns-in-Whole-mouse_report_at : goal.returns-in-Whole-mouse_report_at
-returns-in-Whole-mouse_report_at c =
-    let whole = c.in-Whole-mouse_report_at in
-    let emitted = c.emit-in-Whole-mouse_report_at.ensures in
+pub returns-in-Whole : goal.returns-in-Whole
+returns-in-Whole c =
+    let whole = c.in-Whole in
+    let emitted = c.emit-in-Whole.ensures in
     let is = subst (λ t. IsMouseReportAnswer t (Whole whole.event whole.len)) c.waiting_text-in-Mouse.ensures whole.ensures in
     rw emitted.event
     (emits_event c.args.self.now _ c.args.maybe_more (Input (Mouse whole.event))
@@ -61,3 +62,15 @@ returns-in-Begun-mouse_report_at c =
     (no_extra_without_form c.args.self.now.rows u (begun_no_form u begun)) c.if-maybe_more.true
     (unfinished_from_form c.args.self.now.rows u (begun_unfinished u begun)))
     c.self.view_is
+
+pub returns-in-Short : goal.returns-in-Short
+returns-in-Short c =
+    let key = c.copied-in-Short.result in
+    let emitted = c.emit-in-Short.ensures in
+    rw emitted.event
+    (emits_event c.args.self.now _ c.args.maybe_more (Input (PortsKey key))
+    (subst (λ t. Steps c.args.self.now.rows c.args.self.now.text c.args.maybe_more (Input (PortsKey key) ∷ []) t)
+    (sym (ap (λ (b : Buffered). b.text) emitted.consumed))
+    (item_step c.args.self.now.rows c.args.self.now.text (PortsKey key) 2 c.args.maybe_more (c.if-has_no_form.ensures refl c.args.maybe_more)
+    (subst (λ k. IsItemAt c.args.self.now.text c.args.maybe_more (PortsKey k) 2) (sym c.copied-in-Short.ensures) c.in-Short.ensures)))
+    (ap (λ (b : Buffered). b.rows) emitted.consumed))
