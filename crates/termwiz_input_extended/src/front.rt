@@ -2,7 +2,7 @@
 ghost use Rattle.std.specs.Prelude.{◌≡◌, ◌≢◌, ◌↔◌, ◌++◌, Bool, [], IsTrue, IfOk, OnErr, IfSome, IfNone, Contains};
 ghost use Rattle.termwiz_keymap.specs.Bytes.{Begins};
 ghost use Rattle.termwiz_keys.specs.Introducers.{ESC, START};
-ghost use Rattle.termwiz_keys.specs.Keys.{plain};
+ghost use Rattle.termwiz_keys.specs.Keys.{escape, plain, with_alt};
 ghost use Rattle.termwiz_keys.specs.declared.types.InputEvent.TheVariants.{Key as PortsKey};
 ghost use Rattle.termwiz_keys.specs.declared.types.KeyEvent.{KeyEvent as Key};
 ghost use Rattle.termwiz_keys.specs.declared.types.MouseEvent.{MouseEvent as Mouse};
@@ -99,6 +99,16 @@ pub(crate) fn copied(key: &KeyEvent) -> KeyEvent
     KeyEvent {
         key: key.key,
         modifiers: key.modifiers,
+    }
+}
+
+// The Escape key with ALT.
+fn alt_escape() -> KeyEvent
+    ensures { result ≡ with_alt escape }
+{
+    KeyEvent {
+        key: KeyCode::Escape,
+        modifiers: Modifiers::ALT,
     }
 }
 
@@ -213,6 +223,10 @@ fn front_of_two_escapes(
     requires scanned { IsScanned after.now scanned }
     ensures { IsExtendedFront rows (ESC ++ after.now) maybe_more result }
 {
+    // Before a third ESC the first two are a key, whatever comes.
+    if let [_, ESCAPE, ..] = after {
+        return ExtendedFront::Key(alt_escape(), 2);
+    }
     match form_front(after, scanned) {
         FormFront::Form(len) if is_extra(alloc, parser, rows, &after[..len]) =>
             ExtendedFront::Escape,

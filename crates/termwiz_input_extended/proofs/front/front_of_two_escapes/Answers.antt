@@ -1,11 +1,16 @@
-use Rattle.std.proofs.Common.{take, drop, refl, sym, take-append-drop}
+use Rattle.std.proofs.Common.{take, drop, refl, sym, take-append-drop, arith}
 use Rattle.termwiz_keymap.proofs.lemmas.lists.PrefixTest.{denied}
 use Rattle.termwiz_extended_grammar.proofs.lemmas.forms.ExtraFacts.{form_from_unfinished, unfinished_from_form}
 use Rattle.termwiz_input_extended.proofs.lemmas.fronts.ExtraAnswers.{no_extra_starts, no_extra_unfinished, no_extra_without_form}
 use Rattle.termwiz_input_extended.proofs.lemmas.fronts.FrontItems.{own_after_two_escapes, waits_after_escape}
+use Rattle.termwiz_input_extended.proofs.lemmas.fronts.KnownFronts.{escapes_front}
 use Rattle.termwiz_input_extended.proofs.lemmas.fronts.MouseForms.{report_no_extra, report_not_unfinished}
 use Rattle.termwiz_input_extended.proofs.lemmas.fronts.ScannedPlaces.{scanned_twice}
 use Rattle.termwiz_input_extended.proofs.front.front_of_two_escapes.Goals as goal
+
+pub returns-in-27 : goal.returns-in-27
+returns-in-27 c = rw c.alt_escape.ensures
+    (escapes_front c.args.rows c.args.after.now c.args.maybe_more c.requires.escape (omega arith) (omega arith))
 
 pub returns-in-Form : goal.returns-in-Form
 returns-in-Form c =

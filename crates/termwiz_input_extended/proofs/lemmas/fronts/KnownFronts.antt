@@ -5,7 +5,7 @@ use Rattle.termwiz_keymap.specs.Bytes.{Begins}
 use Rattle.termwiz_keymap.proofs.lemmas.lists.CommonPrefixes.{Overlaps, overlap, append-some}
 use Rattle.termwiz_keymap.proofs.lemmas.lists.CommonPrefixes.Overlaps.{within, past}
 use Rattle.termwiz_keys.specs.Introducers.{ESC, START}
-use Rattle.termwiz_keys.specs.Keys.{plain}
+use Rattle.termwiz_keys.specs.Keys.{escape as escape_key, plain, with_alt}
 use Rattle.termwiz_keys.specs.declared.types.KeyEvent.{KeyEvent}
 use Rattle.termwiz_keys.specs.declared.types.MouseEvent.{MouseEvent}
 use Rattle.termwiz_keys.specs.declared.types.InputEvent.{InputEvent}
@@ -20,8 +20,8 @@ use Rattle.termwiz_grammar.proofs.lemmas.table.SequenceFacts.{start, start_is_se
 use Rattle.termwiz_input.specs.Matches.{IsItemAt, character_of}
 use Rattle.termwiz_input.specs.PrintableAscii.{IsPrintableAscii}
 use Rattle.termwiz_input.proofs.lemmas.heads.HeadLookup.{character_closed, character_front}
-use Rattle.termwiz_input.proofs.lemmas.heads.StartsNoSequence.{apart_from_sequences}
-use Rattle.termwiz_input.proofs.lemmas.items.ItemByHead.{character_stands, row_stands}
+use Rattle.termwiz_input.proofs.lemmas.heads.StartsNoSequence.{apart_from_sequences, lone_escape}
+use Rattle.termwiz_input.proofs.lemmas.items.ItemByHead.{alt_row_stands, character_stands, row_stands}
 use Rattle.termwiz_input.proofs.lemmas.items.PrintableAscii.{printable_run}
 use Rattle.termwiz_extended_events.specs.declared.types.ExtendedEvent.{ExtendedEvent}
 use Rattle.termwiz_extended_events.specs.declared.types.ExtendedEvent.TheVariants.{Input, Csi, Key as Report}
@@ -40,7 +40,7 @@ use Rattle.termwiz_input_extended.specs.declared.front.FrontRow.{FrontRow}
 use Rattle.termwiz_input_extended.specs.declared.front.FrontRow.TheVariants.{Long, Short, Begun, Absent}
 use Rattle.termwiz_input_extended.specs.ExtendedFronts.{IsFormAt, IsFormEvent, IsFrontRow, IsLongRowAt, IsOwnCharacter, IsPlainReportAt, IsPortsOwn, IsRowFront, IsShortRowAt}
 use Rattle.termwiz_input_extended.proofs.lemmas.fronts.ExtraAnswers.{no_extra_starts, no_extra_unfinished, reported_event_is}
-use Rattle.termwiz_input_extended.proofs.lemmas.fronts.FrontItems.{extra_step, own_after_escape, own_item, own_without_escape, waits_for_sequence}
+use Rattle.termwiz_input_extended.proofs.lemmas.fronts.FrontItems.{extra_step, not_two_escapes, own_after_escape, own_after_two_escapes, own_item, own_without_escape, two_escapes_finished, waits_for_sequence}
 use Rattle.termwiz_input_extended.proofs.lemmas.fronts.MouseForms.{report_escape, report_item, report_no_extra, report_not_unfinished, report_one}
 
 -- a sequence of more than two bytes properly begins no form
@@ -227,3 +227,25 @@ mouse_report_step rows u event len f inside is =
     let own = own_after_escape rows u f (report_escape rows u len event is) (report_one rows u len event is)
     (report_no_extra rows u len event is) (λ m. report_not_unfinished rows u len event is) in
     item_step rows u (Mouse event) len f own (report_item rows u len event is f inside)
+
+-- ESC ESC before a third ESC is the Escape key with ALT
+three_escapes : (rows : Rows) (u : List ℕ) (f : Bool)
+    → IsPortsOwn rows (27 ∷ 27 ∷ 27 ∷ u) f × IsItemAt (27 ∷ 27 ∷ 27 ∷ u) f (Key (with_alt escape_key)) 2
+three_escapes rows u f =
+    let here = lone_escape 27 (27 ∷ u) (λ h. omega (arith, h.0)) in
+    let after = lone_escape 27 u (λ h. omega (arith, h.0)) in (
+      own_after_two_escapes rows (27 ∷ 27 ∷ u) f (27 ∷ u, refl) (not_two_escapes rows (27 ∷ u) (u, refl))
+          (λ m h. two_escapes_finished rows (27 ∷ u) (u, refl) h),
+      alt_row_stands (27 ∷ 27 ∷ u) f escape_key 1 (here.closed f) here.head (λ e. cc (e)) (after.closed f) (omega arith, after.head)
+          (λ b. let second : ◌≡◌ {A = ℕ} 27 91 = cc (b.1) in omega arith),
+    )
+
+pub escapes_front : (rows : Rows) (v : List ℕ) (f : Bool) → Begins ESC v → 1 < length v → slice_index_or v 1 0 ≡ 27
+    → IsPortsOwn rows (27 ∷ v) f × IsItemAt (27 ∷ v) f (Key (with_alt escape_key)) 2
+escapes_front rows [] f b long second = absurd (omega arith)
+escapes_front rows (x ∷ []) f b long second = absurd (omega arith)
+escapes_front rows (x ∷ y ∷ u) f b long second =
+    let first : 27 ≡ x = cc (b.1) in
+    subst (λ z. IsPortsOwn rows (27 ∷ z ∷ y ∷ u) f × IsItemAt (27 ∷ z ∷ y ∷ u) f (Key (with_alt escape_key)) 2) first
+    (subst (λ z. IsPortsOwn rows (27 ∷ 27 ∷ z ∷ u) f × IsItemAt (27 ∷ 27 ∷ z ∷ u) f (Key (with_alt escape_key)) 2) (sym second)
+    (three_escapes rows u f))
