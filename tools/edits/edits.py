@@ -15,17 +15,16 @@ functions that name it, or a constant that does. Alone from the first are edits 
 `const fn`.
 
 No two edits of one check change the same function. Where two edits lie within one function, the second is planted in a copy of it, which
-has another name, the same contract and the same proof; a third has a copy of its own. Nothing calls a copy. Not copied are a method of a
-trait, a function that calls itself, one with a proof that is more than answers and invariants, and one of which another proof names more
-than its theorem.
+has another name, the same contract and the same proof; a third has a copy of its own. For an edit of a constant the constant is copied too,
+and so is each function that names it. Nothing calls a copy. Not copied are a method of a trait, a function that calls itself, one with a
+proof that is more than answers and invariants, and one of which another proof names more than its theorem.
 
 What a check proved is kept, so each of the next ones proves only what its edits change. The first begins with what `rt check` keeps in
 out/, by which the crate and the libraries below it are proved before.
 
-With --over nothing is kept, and the checks are over the libraries that lie as NAME.rlib in the folder RLIBS. The gate puts those there that
-`rt ci` proved, the crate itself among them, or in NAME.functions the names of the crate's functions. So nothing is proved again: a function
-that no edit of a check changes has a hole for its proof there, and those that call it are judged by its contract. Without either the
-crate is proved, and that is kept.
+With --over nothing is kept, and the checks are over the libraries that lie as NAME.rlib in the folder RLIBS, where the gate puts those that
+`rt ci` proved. The crate itself is taken as proved: a function that no edit of a check changes has a hole for its proof, and those that
+call it are judged by its contract. The names of the functions are read from the sources.
 
 With --kept the crate is proved without holes, and what that kept is copied to the folder FOLDER, as CRATE, for a build of the crate.
 
@@ -36,7 +35,6 @@ CRATE is a crate of this repository, and without a word every crate that has edi
 each processor. A line tells of each edit what refused it. The last line is 'N passed, N failed', the status 1 if an edit wasn't refused."""
 import concurrent.futures
 import glob
-import json
 import os
 import re
 import shutil
@@ -69,10 +67,15 @@ class NotProved(Exception):
     """A crate that isn't proved as it is, or a library below it."""
 
 
-# A function's head in the layout of `rt fmt`, and that of an impl, and of a module that is written in its file.
+# A function's head in the layout of `rt fmt`, and that of an impl, of a module that is written in its file, and of a type with its attributes.
 FUNCTION = re.compile(r"^( *)(?:pub(?:\([^)]*\))? )?(const )?(?:unsafe )?(?:extern \"C\" )?fn (\w+)")
 IMPL = re.compile(r"^( *)(?:unsafe )?impl\b(.*)")
 MODULE = re.compile(r"^( *)(?:pub(?:\([^)]*\))? )?mod (\w+) \{$")
+TYPE = re.compile(r"^((?: *#\[[^\]]*\]\n| *//.*\n)*) *(?:pub(?:\([^)]*\))? )?(?:struct|enum) (\w+)", re.M)
+TEST_MODULE = re.compile(r"^#\[cfg\(test\)\]\nmod (\w+);", re.M)
+
+# The traits of which a derive writes a method that is proved by itself, and the method. That of Clone isn't written where Copy is derived too.
+DERIVED = {"PartialEq": "eq", "Clone": "clone", "Debug": "fmt", "Hash": "hash", "Default": "default"}
 
 
 def without_parameters(text):
@@ -85,11 +88,15 @@ def without_parameters(text):
 
 
 def impl_names(head):
-    """Returns the names of the type and of the trait, or of no trait, of an impl's head without its first word."""
+    """Returns the names of the type and of the trait, or of no trait, of an impl's head without its first word. A trait's parameter is a part
+    of its name, as FromAllocError is that of From<AllocError>."""
     words = without_parameters(head.replace("->", "")).partition(" where ")[0].partition("{")[0]
     trait, is_of_trait, owner = words.partition(" for ")
     last = lambda text: re.sub(r".*::", "", text.strip()).strip("&* ")
-    return (last(owner), last(trait)) if is_of_trait else (last(trait), "")
+    if not is_of_trait:
+        return last(trait), ""
+    parameter = re.search(rf"\b{last(trait)}<([\w:]+)", head)
+    return last(owner), last(trait) + "".join(it[:1].upper() + it[1:] for it in (parameter[1].split("::") if parameter else ()))
 
 
 class Function:
@@ -129,7 +136,6 @@ def closing_line(lines, at, indent):
 def functions_of(crate, path, text):
     """Returns the functions of a source file, in the layout of `rt fmt`."""
     lines, found, impls, modules = text.split("\n"), [], [], []
-    inner = [it for it in path[: -len(".rt")].split("/")[1:] if it not in ("lib", "main")]
     for at, line in enumerate(lines):
         module, block, function = MODULE.match(line), IMPL.match(line), FUNCTION.match(line)
         if module:
@@ -144,10 +150,15 @@ def functions_of(crate, path, text):
         if function:
             around = [it for it in impls if it[0] < at <= it[1]]
             owner, trait = around[-1][2] if around else ("", "")
-            names = [crate, *inner, *[it[2] for it in modules if it[0] < at <= it[1]]]
-            scope = "".join(f"{it}::" for it in names), owner, trait
+            inner = "".join(f"{it[2]}::" for it in modules if it[0] < at <= it[1])
+            scope = module_of(crate, path) + inner, owner, trait
             found.append(Function(at, closing_line(lines, at, function[1]), bool(function[2]), scope, function[3]))
     return found
+
+
+def module_of(crate, path):
+    """Returns the name of a file's module, as that of a function in it begins."""
+    return "".join(f"{it}::" for it in [crate, *[it for it in path[: -len(".rt")].split("/")[1:] if it not in ("lib", "main")]])
 
 
 def lines_of(text, match):
@@ -164,12 +175,29 @@ class Sources:
     """The source files of a crate, and the functions in them."""
 
     def __init__(self, crate, folder):
-        self.texts, self.functions = {}, {}
+        self.crate, self.texts, self.functions = crate, {}, {}
         for file in glob.glob(f"{folder}/src/**/*.rt", recursive=True):
             path = os.path.relpath(file, folder)
             with open(file, encoding="utf-8") as it:
                 self.texts[path] = it.read()
             self.functions[path] = functions_of(crate, path, self.texts[path])
+
+    def names(self):
+        """Returns the names that a check has for the functions, without tests: of those that are written, and of derived ones."""
+        tests = {module_of(self.crate, path) + f"{it[1]}::" for path, text in self.texts.items() for it in TEST_MODULE.finditer(text)}
+        modules, found = {}, []
+        for path, text in self.texts.items():
+            for it in TYPE.finditer(text):
+                modules[it[2]] = module_of(self.crate, path)
+                derived = {word.strip() for words in re.findall(r"derive\(([^)]*)\)", it[1]) for word in words.split(",")}
+                traits = (DERIVED.keys() & derived) - ({"Clone"} if "Copy" in derived else set())
+                found += [f"{modules[it[2]]}{it[2]}{trait}::{DERIVED[trait]}" for trait in traits]
+        for path, module, owner, trait, name in ((path, *it.scope, it.name) for path in self.functions for it in self.functions[path]):
+            # a method is named by its type's module
+            first = modules.get(owner) if owner else module
+            if first:
+                found.append(f"{first}{owner}{trait}::{name}" if owner else f"{first}{name}")
+        return [it for it in found if not it.startswith((*tests,))]
 
     def changed_at(self, path, line):
         """Returns the functions that a change of this line changes, or None if that can't be told."""
@@ -221,8 +249,13 @@ class Edit:
                 elif line.startswith("new:") and path and old:
                     self.pairs.append((path, old, re.sub(r"\A ", "", line[len("new:") :])))
                     old = None
-        # the functions that it changes, if that can be told, and the file of the one within which it lies, if it lies within one
-        self.functions, self.file = set(), None
+        # the functions that it changes, if that can be told; the file of the one within which it lies, if it lies within one, or of the
+        # constant that it changes, if it changes one alone; and that constant's name
+        self.functions, self.file, self.constant = set(), None, None
+
+    def is_wide(self):
+        """Returns whether it changes more than lies within one function."""
+        return not self.file or bool(self.constant)
 
     def planted(self, texts):
         """Returns texts of files with this edit, or None if a text that it replaces isn't there exactly once."""
@@ -247,21 +280,44 @@ class Edit:
             places.append((path, line))
             texts = {**texts, path: text.replace(old, new)}
         self.functions = found
+        path, line = places[0]
         if len(found) == 1 and all(it.first <= line <= it.last for _, line in places for it in found):
-            self.file = places[0][0]
+            self.file = path
+        elif len(places) == 1 and found <= {*sources.functions[path]}:
+            self.file, self.constant = path, sources.constant_at(path, line)
 
 
 class Copy:
-    """A copy of a function, in which an edit within that function is planted: the copy's name, and those of both in a check's output."""
+    """A copy of a function, in which an edit is planted: the copy's name, and those of both in a check's output. If the edit changes a constant,
+    the copy names a copy of that."""
 
     def __init__(self, edit, original, of, number):
-        self.edit, self.original, self.of = edit, original, of
-        self.name = f"{original.name}_copy_{number}"
+        self.edit, self.original, self.of, self.suffix = edit, original, of, f"_copy_{number}"
+        self.name = original.name + self.suffix
         self.path = of[: -len(original.name)] + self.name
 
+    def lines(self, texts):
+        """Returns this copy's lines."""
+        planted = self.original.text_as(self.name, self.edit.planted(texts)[self.edit.file].split("\n"))
+        return [self.with_constant(it) for it in planted]
+
+    def with_constant(self, text):
+        """Returns a text in which the copy of the constant is named, if there is one."""
+        constant = self.edit.constant
+        return re.sub(rf"\b{constant}\b", constant + self.suffix, text) if constant else text
+
+    def put_constant(self, texts):
+        """Returns texts with the copy of the constant, after the constant."""
+        ((path, old, new),) = self.edit.pairs
+        lines = texts[path].split("\n")
+        at = next(number for number, line in enumerate(lines) if old in line)
+        copied = self.with_constant(lines[at].replace(old, new))
+        return texts if copied in lines else {**texts, path: "\n".join([*lines[: at + 1], copied, *lines[at + 1 :]])}
+
     def put_proof(self, crate, source, folder):
-        """Puts the proof of the original, under the copy's name, in a folder."""
-        renamed = lambda text: text.replace(f"Rattle.{dotted(crate, self.of)}.", f"Rattle.{dotted(crate, self.path)}.")
+        """Puts the proof of the original, under the copy's name, in a folder. The names of goals have the names of constants."""
+        moved = lambda text: text.replace(f"Rattle.{dotted(crate, self.of)}.", f"Rattle.{dotted(crate, self.path)}.")
+        renamed = lambda text: self.with_constant(moved(text))
         for file in glob.glob(f"{source}/*.antt"):
             os.makedirs(folder, exist_ok=True)
             with open(file, encoding="utf-8") as it, open(f"{folder}/{os.path.basename(file)}", "w", encoding="utf-8") as to:
@@ -343,12 +399,13 @@ class Crate:
         self.source = f"{ROOT}/crates/{name}"
         self.is_static = listed[name][0]
         self.edits = [Edit(it) for it in sorted(glob.glob(f"{self.source}/must-fail/*.edit"))]
-        # the texts of the files that edits change, and the names of the crate's functions, once its library or a check has told them
-        self.texts, self.names = {}, self.built_names()
+        # the texts of the files that edits change, and the names of the crate's functions
+        self.texts, self.sources = {}, Sources(name, self.source)
+        self.names = self.sources.names()
         # its proof files, by their paths
         self.proofs = {}
         # the functions whose proofs are holes just now, and whether there may be any
-        self.holes, self.has_holes = set(), bool(self.names) and not self.keep
+        self.holes, self.has_holes = set(), bool(self.over) and not self.keep
 
     def prepare(self):
         """Makes the copy, and proves the crate as it is where that is asked for."""
@@ -361,9 +418,8 @@ class Crate:
         for file in glob.glob(f"{self.source}/proofs/**/*.antt", recursive=True):
             with open(file, encoding="utf-8") as it:
                 self.proofs[file] = it.read()
-        sources = Sources(self.name, self.folder)
         for edit in self.edits:
-            edit.find_functions(sources)
+            edit.find_functions(self.sources)
         if not self.over:
             ran = subprocess.run(["rt", "check"], cwd=self.source, stdin=subprocess.DEVNULL, capture_output=True, text=True)
             if ran.returncode:
@@ -376,17 +432,6 @@ class Crate:
             shutil.copytree(f"{self.folder}/kept", f"{self.keep}/{self.name}")
         if self.keep or not self.over:
             progress(f"{self.name} is proved; tries {len(self.edits)} edits")
-
-    def built_names(self):
-        """Returns the names of the crate's functions, if they or the crate's library lie among what was built."""
-        listed, built = f"{self.over}/{self.name}.functions", f"{self.over}/{self.name}.rlib/toolchain/mir.json"
-        if self.over and os.path.isfile(listed):
-            with open(listed, encoding="utf-8") as it:
-                return it.read().split()
-        if self.over and os.path.isfile(built):
-            with open(built, encoding="utf-8") as it:
-                return [name for name, *_ in json.load(it) if name.startswith(f"{self.name}::")]
-        return []
 
     def put_holes(self, proved):
         """Puts a hole in the place of each function's proof but for those that are to be proved, and puts back the proofs of these."""
@@ -433,9 +478,13 @@ class Crate:
         # over holes there is little to keep, and keeping it takes longer than to check it again
         return words if self.has_holes else [*words, "--incremental", f"{self.folder}/kept"]
 
-    def copy_of(self, edit, number):
-        """Returns the copy in which an edit within one function is planted, or None if that function can't be copied."""
-        (function,) = edit.functions
+    def copies_of(self, edit, number):
+        """Returns copies of the functions that an edit changes, in which it is planted, or none if one of these can't be copied."""
+        copies = [self.copy_of(edit, it, number) for it in edit.functions]
+        return copies if all(copies) else []
+
+    def copy_of(self, edit, function, number):
+        """Returns a copy of a function, or None if it can't be copied."""
         _, _, trait = function.scope
         name = function.named(self.names)
         if trait or not name or not self.may_be_hole(name):
@@ -448,13 +497,14 @@ class Crate:
         return None if own - {"Answers.antt", "Invariants.antt"} or others else Copy(edit, function, name, number)
 
     def with_copies(self, texts, copies):
-        """Returns texts with copies of functions, each after its original."""
+        """Returns texts with copies of functions, each after its original, and of the constants that these name."""
         texts = dict(texts)
         for copy in sorted(copies, key=lambda it: -it.original.last):
-            path, original = copy.edit.file, copy.original
+            path, after = copy.edit.file, copy.original.last + 1
             lines = texts[path].split("\n")
-            lines[original.last + 1 : original.last + 1] = original.text_as(copy.name, copy.edit.planted(self.texts)[path].split("\n"))
-            texts[path] = "\n".join(lines)
+            texts[path] = "\n".join([*lines[:after], *copy.lines(self.texts), *lines[after:]])
+        for copy in copies:
+            texts = copy.put_constant(texts) if copy.edit.constant else texts
         return texts
 
     def check(self, texts, functions=(), copies=()):
@@ -473,9 +523,7 @@ class Crate:
         ran = subprocess.run([*self.words(), *only], text=True, errors="replace", **how)
         for it in copies:
             shutil.rmtree(f"{self.folder}/{self.proof_folder(it.path)}", ignore_errors=True)
-        check = Check(ran.returncode, ran.stdout)
-        self.names = self.names or [*check.functions]
-        return check
+        return Check(ran.returncode, ran.stdout)
 
     def alone(self, edit):
         """Returns what refuses an edit that is planted alone, or None if the crate is still proved."""
@@ -499,12 +547,13 @@ class Crate:
             is_free = not there and edit.functions.isdisjoint(it.original for it in copies)
             more = edit.planted(texts) if is_free else None
             # in a copy nothing else may be changed
-            copy = self.copy_of(edit, len(copies)) if not more and edit.file and all(it.file for it in there) else None
+            is_copied = not more and edit.file and not any(it.is_wide() for it in there)
+            more_copies = self.copies_of(edit, len(copies)) if is_copied else []
             if more:
                 texts = more
                 planted.update(dict.fromkeys(edit.functions, edit))
-            elif copy:
-                copies.append(copy)
+            elif more_copies:
+                copies += more_copies
             else:
                 left.append(edit)
         return self.with_copies(texts, copies), planted, copies, left
@@ -532,20 +581,23 @@ class Crate:
             found.setdefault(owner, f"{name}: {goal}")
         return found
 
+    def judgeable(self):
+        """Returns the edits that can be judged among others, those within one function first, since they can be planted in copies."""
+        return sorted((it for it in self.edits if it.functions), key=Edit.is_wide)
+
     def unedited(self):
         """Checks the edits' places without their bugs, many at once. Yields what each check said, and the number of functions, copies among them."""
         for edit in self.edits:
             edit.pairs = [(path, old, old) for path, old, _ in edit.pairs]
         # a text of a further pair may stand there twice then
-        left = [it for it in self.edits if it.functions and it.planted(self.texts)]
+        left = [it for it in self.judgeable() if it.planted(self.texts)]
         while left:
             texts, planted, copies, left = self.plant(left)
             yield self.check(texts, planted, copies), len(planted) + len(copies)
 
     def judge(self):
         """Tries all edits, and yields each with what refused it, or None, and whether it was planted with others."""
-        # those within one function first, since they can be planted in copies
-        groups = [sorted((it for it in self.edits if it.functions), key=lambda it: not it.file)]
+        groups = [self.judgeable()]
         alone = [it for it in self.edits if not it.functions]
         while groups:
             edits = groups.pop(0)

@@ -1,13 +1,13 @@
 """The gate: every proof, must-fail edit, test and check of this repository.
 
-    tools/gate.sh
+    tools/gate.sh [--install]
 
 It runs `rt ci`, which proves every crate and its tests from nothing, and runs the tests and the programs. Beside it run the scripts of this
 folder, two at a time: each starts once the programs and libraries that it tests are proved, and runs over those, so that nothing is
 proved for the scripts but a static library.
 
 `rt ci` would try the must-fail edits one by one, each in a check of its own. tools/edits.sh tries them here, many in one check, crate by
-crate, once `rt ci` has proved the crate. So `rt ci` works on a copy of the tree without the edits, and everything else on a whole copy, in
+crate, once `rt ci` has proved the libraries below the crate. So `rt ci` works on a copy of the tree without the edits, and everything else on a whole copy, in
 which the programs that `rt ci` built are put. The tree itself isn't written to.
 
 At the end it prints a table: when each part began and ended, and how much processor time it took. The parts of `rt ci` are found by
@@ -16,7 +16,7 @@ looking at its processes once a second. The last line is 'N passed, N failed' ov
 It needs rt, python3, cc, binutils, c++, pkg-config, cargo and valgrind: see `--help` of the scripts. Where clang's runtime with libFuzzer
 isn't there, the fuzzer isn't run, and without Chromium the page isn't tested; where lintian, clippy, rustfmt or Debian's packages of
 serde aren't, what needs them is left out. A line before the last says so, and what isn't run counts neither as passed nor as failed.
-tools/gate/packages.sh installs what Debian has."""
+With --install it installs what Debian has of these, by tools/gate/packages.sh, while the first crates are proved."""
 import glob
 import os
 import re
@@ -107,8 +107,9 @@ class Part:
     def run(self, each_line):
         """Runs the command, and calls each_line with each line that it prints, when it comes."""
         self.began = now()
+        words = [*self.words, *left_out(self.name)]
         how = {"cwd": self.folder, "stdin": subprocess.DEVNULL, "stdout": subprocess.PIPE, "stderr": subprocess.STDOUT, "text": True}
-        self.process = subprocess.Popen(self.words, errors="replace", **self.group, **how)
+        self.process = subprocess.Popen(words, errors="replace", **self.group, **how)
         for line in self.process.stdout:
             self.lines.append(line.rstrip("\n"))
             each_line(self.lines[-1])
@@ -190,11 +191,6 @@ class Watch:
             yield f"  {crate}, {kind}", first, last, sum(self.used[crate, kind].values())
 
 
-def needed_by_edits(below, name):
-    """Returns the crates that have to be proved before a crate's edits are tried: itself too, but for the one whose proof is kept."""
-    return [*libraries_below(below, name), *[name] * (name != "termwiz_c")]
-
-
 def edits_of(crate):
     """Returns how many must-fail edits a crate has."""
     return len(glob.glob(f"{ROOT}/crates/{crate}/must-fail/*.edit"))
@@ -213,7 +209,7 @@ def link_or_copy(source, target):
 
 
 class Gate:
-    def __init__(self, room):
+    def __init__(self, room, installs):
         # the tree as it is, and the tree without the edits
         self.whole, self.tree = f"{room}/whole", f"{room}/tree"
         shutil.copytree(ROOT, self.whole, ignore=shutil.ignore_patterns("out", "target", ".git"))
@@ -229,7 +225,7 @@ class Gate:
             script("c_numbers", [], "tools/c_numbers.sh", "--check"),
             script("c_library", ["kept termwiz_c"], "tools/c_library.sh", "--over", self.rlibs, "--kept", f"{self.kept}/termwiz_c", library),
             script("growth", ["c_library"], "tools/growth.sh", *over, "--over", self.rlibs),
-            script("c_test", ["c_library", "keyshow", "replay"], "tools/c_test.sh", "--built", *over, *left_out("c_test")),
+            script("c_test", ["c_library", "keyshow", "replay"], "tools/c_test.sh", "--built", *over),
             script("keys_test", ["c_library"], "tools/keys_test.sh", *over),
             script("python_test", ["c_library"], "tools/python_test.sh", library),
             script("page_test", ["c_library"], "tools/page_test.sh", "--if-chromium", *over),
@@ -237,20 +233,21 @@ class Gate:
             script("keyshow_test", ["keyshow"], "tools/keyshow_test.sh", "--built"),
             script("replay_test", ["replay"], "tools/replay_test.sh", "--built"),
             script("refusals", ["refusals", "keyshow"], "tools/refusals.sh", "--built"),
-            script("package_test", ["c_library", "keyshow"], "tools/package_test.sh", *over, "--keyshow", "crates/keyshow/out/keyshow",
-                   *left_out("package_test")),
+            script("package_test", ["c_library", "keyshow"], "tools/package_test.sh", *over, "--keyshow", "crates/keyshow/out/keyshow"),
             script("docs", ["c_library", "keyshow", "example"], "tools/docs.sh", "--built", *over),
         ]
         # the crate first over whose library the scripts run, and then those whose edits take longest
         edited = sorted(filter(edits_of, below), key=lambda it: (it != "termwiz_c", -weight_of_edits(it)))
         first, tried = ["--kept", self.kept], ["tools/edits.sh", "--over", self.rlibs]
         words = lambda name: tried + first if name == "termwiz_c" else YIELDING + tried
-        self.edits = [Part(self.whole, f"edits of {it}", needed_by_edits(below, it), *words(it), it, has_session=False) for it in edited]
+        self.edits = [Part(self.whole, f"edits of {it}", libraries_below(below, it), *words(it), it, has_session=False) for it in edited]
         self.parts = [self.ci, *self.edits, *self.scripts]
-        # the check of which rt ci tells just now, and the functions that it proved
-        self.check, self.functions = "", []
         # what is proved or has passed; whether rt ci is over, and how many other parts run
         self.watch, self.well, self.is_over, self.running, self.taking = Watch(), set(), False, 0, threading.Lock()
+        # what the scripts need of Debian is installed beside the first proofs, and each of them waits for that
+        self.installs = installs
+        for it in self.scripts if installs else ():
+            it.needs.add("packages")
         # the parts that run side by side: the first edits begin with a proof for the scripts, and wait for no other
         self.lanes = [self.edits[:1], *[[*self.scripts]] * SCRIPT_LANES, *[self.edits[1:]] * EDIT_LANES]
 
@@ -278,14 +275,15 @@ class Gate:
         """Returns the first of these parts of which all that it needs is proved or has passed."""
         return next((it for it in left if it.needs <= self.well), None)
 
+    def install(self):
+        """Installs what can be installed. The scripts tell what isn't there."""
+        subprocess.run([f"{ROOT}/tools/gate/packages.sh"], stdin=subprocess.DEVNULL, check=False)
+        self.well.add("packages")
+
     def note(self, line):
         """Shows a line of `rt ci`, and notes what it proved, or an earlier run on this machine did."""
         say(line)
-        function, proved = re.match(r"fn (\S+): proved", line), re.match(r"rt: (\w+) (?:proved$|is kept: )", line)
-        if line.startswith("== "):
-            self.check, self.functions = line[len("== ") :], []
-        if function:
-            self.functions.append(function[1])
+        proved = re.match(r"rt: (\w+) (?:proved$|is kept: )", line)
         if proved:
             self.keep(proved[1])
             self.well.add(proved[1])
@@ -304,19 +302,19 @@ class Gate:
         if os.path.isfile(f"{made}/{crate}"):
             os.makedirs(f"{self.whole}/crates/{crate}/out", exist_ok=True)
             shutil.copy2(f"{made}/{crate}", f"{self.whole}/crates/{crate}/out/{crate}")
-        if crate == self.check:
-            with open(f"{self.rlibs}/{crate}.functions", "w", encoding="utf-8") as it:
-                it.write("\n".join(self.functions))
 
     def run(self):
         ci = threading.Thread(target=self.ci.run, args=[self.note], daemon=True)
         others = [threading.Thread(target=self.run_in_turn, args=[it], daemon=True) for it in self.lanes]
-        for it in [ci, *others]:
+        installing = [threading.Thread(target=self.install, daemon=True)] * self.installs
+        for it in [ci, *others, *installing]:
             it.start()
         while ci.is_alive():
             ci.join(1)
             if self.ci.process:
                 self.watch.look(self.ci.process.pid)
+        for it in installing:
+            it.join()
         self.is_over = True
         for it in others:
             while it.is_alive():
@@ -342,15 +340,17 @@ def main():
     if sys.argv[1:] == ["--help"]:
         print(__doc__)
         return 0
-    if sys.argv[1:]:
-        print(f"gate: what is '{sys.argv[1]}'? --help says what it does", file=sys.stderr)
+    installs = sys.argv[1:2] == ["--install"]
+    unread = sys.argv[1 + installs :]
+    if unread:
+        print(f"gate: what is '{unread[0]}'? --help says what it does", file=sys.stderr)
         return 2
     signal.signal(signal.SIGTERM, lambda *_: sys.exit(143))
     # the date of what is packed
     dated = subprocess.run(["git", "log", "-1", "--format=%ct"], cwd=ROOT, stdout=subprocess.PIPE, text=True)
     os.environ.setdefault("SOURCE_DATE_EPOCH", dated.stdout.strip() or str(int(time.time())))
     with tempfile.TemporaryDirectory(prefix="gate-") as room:
-        gate = Gate(room)
+        gate = Gate(room, installs)
         try:
             gate.run()
         except KeyboardInterrupt:

@@ -22,7 +22,7 @@ use crate::completions::completions_of;
 use crate::front::{AtFront, front, is_escape};
 pub use crate::head::character_at;
 use crate::key::{alt_key, copied, escape_key, plain_key};
-pub use crate::mouse_report::{FrontReport, is_mouse_report, mouse_report_at};
+pub use crate::mouse_report::{FrontReport, mouse_report_at};
 use crate::paste::{begins_paste, lacks_end, lossy_text, next_search, paste_so_far};
 use crate::printable_ascii::append_printable_ascii;
 use crate::waiting::kind_of;

@@ -2,11 +2,9 @@
 //
 // A mouse report is ESC `[<`, a code up to 95, a column and a row up to 65535, separated by `;`, and `M` or `m`. Each number has
 // one to five decimal digits.
-ghost use Rattle.std.specs.Prelude.{IsTrue, ◌↔◌};
 ghost use Rattle.std.specs.Option.{SomeIff};
 ghost use Rattle.termwiz_base.specs.Mouse.{IsReport};
-ghost use Rattle.termwiz_keys.specs.declared.types.MouseEvent.{MouseEvent as Event};
-ghost use Rattle.termwiz_grammar.specs.MouseReports.{IsMouseReport, mouse_event};
+ghost use Rattle.termwiz_grammar.specs.MouseReports.{mouse_event};
 ghost use Rattle.termwiz_input.specs.MouseReportAnswers.{IsMouseReportAnswer, IsNumberAnswer, IsEventAnswer};
 
 use termwiz_base::{MouseReport, sgr_mouse};
@@ -126,16 +124,5 @@ pub fn mouse_report_at(text: &[u8]) -> FrontReport
         FrontReport::Begun
     } else {
         FrontReport::Absent
-    }
-}
-
-/// Whether bytes are one mouse report of xterm's SGR mode 1006, and nothing else.
-pub fn is_mouse_report(text: &[u8]) -> bool
-    ensures { IsTrue result ↔ ((event : Event) × IsMouseReport text.now event) }
-{
-    match mouse_report_at(text) {
-        FrontReport::Whole(_, len) => len == text.len(),
-        FrontReport::Begun => false,
-        FrontReport::Absent => false,
     }
 }

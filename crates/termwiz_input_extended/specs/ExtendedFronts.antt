@@ -6,7 +6,7 @@ use Rattle.termwiz_keys.specs.Keys.{plain as plain_key}
 use Rattle.termwiz_keys.specs.declared.types.KeyEvent.{KeyEvent}
 use Rattle.termwiz_keys.specs.declared.types.MouseEvent.{MouseEvent}
 use Rattle.termwiz_keys.specs.declared.types.InputEvent.{InputEvent}
-use Rattle.termwiz_keys.specs.declared.types.InputEvent.TheVariants.{Key as PortsKey, Mouse, Paste}
+use Rattle.termwiz_keys.specs.declared.types.InputEvent.TheVariants.{Key as PortsKey, Paste}
 use Rattle.termwiz_grammar.specs.MouseReports.{IsMouseReport}
 use Rattle.termwiz_input.specs.Matches.{HasRow, IsItemAt}
 use Rattle.termwiz_input.specs.PasteSearch.{IsPasteSoFar}
@@ -135,7 +135,7 @@ IsRowFront rows u more Absent = Unit {0}
 abbrev pub IsExtendedFront : Rows → List ℕ → Bool → ExtendedFront → Type 0
 IsExtendedFront rows u more (Key key len) = IsPortsOwn rows u more × IsItemAt u more (PortsKey key) len
 IsExtendedFront rows u more (Form len) = IsFormAt u len
-IsExtendedFront rows u more (MouseReport event len) = IsPortsOwn rows u more × IsItemAt u more (Mouse event) len
+IsExtendedFront rows u more (MouseReport event len) = (len ≤ length u) × IsMouseReport (take len u) event
 IsExtendedFront rows u more Escape = (v : List ℕ) × (u ≡ ESC ++ v) × StartsWithExtra rows v
 IsExtendedFront rows u more FrontPaste = Begins START u
 IsExtendedFront rows u more Usual = IsPortsOwn rows u more

@@ -1,2 +1,1 @@
 pub mod ReportReading
-pub mod WholeReport

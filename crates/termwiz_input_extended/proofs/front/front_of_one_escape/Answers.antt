@@ -3,21 +3,12 @@ use Rattle.termwiz_extended_grammar.proofs.lemmas.forms.ExtraFacts.{unfinished_f
 use Rattle.termwiz_input_extended.proofs.lemmas.fronts.ExtraAnswers.{no_extra_without_form}
 use Rattle.termwiz_input_extended.proofs.lemmas.fronts.FrontItems.{own_after_escape, waits_for_extra, waits_for_sequence}
 use Rattle.termwiz_input_extended.proofs.lemmas.fronts.KnownFronts.{long_row_item, long_row_own, short_row_item}
-use Rattle.termwiz_input_extended.proofs.lemmas.fronts.MouseForms.{begun_no_form, begun_unfinished, report_item, report_no_extra, report_not_unfinished}
+use Rattle.termwiz_input_extended.proofs.lemmas.fronts.MouseForms.{begun_no_form, begun_unfinished}
 use Rattle.termwiz_input_extended.proofs.lemmas.fronts.ScannedPlaces.{scanned_none, scanned_once}
 use Rattle.termwiz_input_extended.proofs.front.front_of_one_escape.Goals as goal
 
 pub next_scan-requires : goal.next_scan-requires
 next_scan-requires c = begun_unfinished c.args.text.now c.in-Begun.ensures
-
-pub returns-in-Whole : goal.returns-in-Whole
-returns-in-Whole c = (
-  own_after_escape c.args.rows c.args.text.now c.args.maybe_more c.requires.escape c.requires.one
-      (report_no_extra c.args.rows c.args.text.now c.in-Whole.len c.in-Whole.event c.in-Whole.ensures.1)
-      (λ m. report_not_unfinished c.args.rows c.args.text.now c.in-Whole.len c.in-Whole.event c.in-Whole.ensures.1),
-  report_item c.args.rows c.args.text.now c.in-Whole.len c.in-Whole.event c.in-Whole.ensures.1 c.args.maybe_more
-      c.in-Whole.ensures.0,
-)
 
 pub returns-in-Begun : goal.returns-in-Begun
 returns-in-Begun c = (

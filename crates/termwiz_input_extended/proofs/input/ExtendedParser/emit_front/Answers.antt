@@ -6,7 +6,7 @@ use Rattle.termwiz_extended_grammar.specs.ExtendedGrammar.{Steps}
 use Rattle.termwiz_input_extended.specs.Buffered.{Buffered}
 use Rattle.termwiz_input_extended.proofs.lemmas.fronts.EmittedItems.{emits_event, emits_none}
 use Rattle.termwiz_input_extended.proofs.lemmas.fronts.FrontItems.{escape_step}
-use Rattle.termwiz_input_extended.proofs.lemmas.fronts.KnownFronts.{item_step}
+use Rattle.termwiz_input_extended.proofs.lemmas.fronts.KnownFronts.{item_step, mouse_report_step}
 use Rattle.termwiz_input_extended.proofs.input.ExtendedParser.emit_front.Goals as goal
 
 pub returns-in-Form : goal.returns-in-Form
@@ -24,7 +24,7 @@ pub returns-in-MouseReport : goal.returns-in-MouseReport
 returns-in-MouseReport c = emits_event c.args.self.now _ c.args.maybe_more _
     (subst (λ t. Steps c.args.self.now.rows c.args.self.now.text c.args.maybe_more (Input (Mouse c.in-MouseReport.event) ∷ []) t)
     (sym (ap (λ (b : Buffered). b.text) c.consume-in-MouseReport.ensures))
-    (item_step c.args.self.now.rows c.args.self.now.text (Mouse c.in-MouseReport.event) c.in-MouseReport.len c.args.maybe_more
+    (mouse_report_step c.args.self.now.rows c.args.self.now.text c.in-MouseReport.event c.in-MouseReport.len c.args.maybe_more
     c.in-MouseReport.ensures.0 c.in-MouseReport.ensures.1))
     (ap (λ (b : Buffered). b.rows) c.consume-in-MouseReport.ensures)
 

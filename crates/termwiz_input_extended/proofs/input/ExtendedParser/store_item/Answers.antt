@@ -1,8 +1,8 @@
 use Rattle.std.proofs.Common.{◌∷◌, [], drop, refl, sym, subst}
-use Rattle.termwiz_keys.specs.declared.types.InputEvent.TheVariants.{Key, Mouse}
+use Rattle.termwiz_keys.specs.declared.types.InputEvent.TheVariants.{Key}
 use Rattle.termwiz_extended_grammar.specs.ExtendedGrammar.{Steps}
 use Rattle.termwiz_input_extended.proofs.lemmas.fronts.FrontItems.{escape_step}
-use Rattle.termwiz_input_extended.proofs.lemmas.fronts.KnownFronts.{item_step}
+use Rattle.termwiz_input_extended.proofs.lemmas.fronts.KnownFronts.{item_step, mouse_report_step}
 use Rattle.termwiz_input_extended.proofs.lemmas.fronts.StoredItems.{stores_none}
 use Rattle.termwiz_input_extended.proofs.input.ExtendedParser.store_item.Goals as goal
 
@@ -16,7 +16,7 @@ returns-in-Form c = c.store_form.ensures c.args.maybe_more
 
 pub returns-in-MouseReport : goal.returns-in-MouseReport
 returns-in-MouseReport c = c.store-in-MouseReport.ensures.stores c.args.maybe_more
-    (item_step c.args.self.now.rows c.args.self.now.text (Mouse c.in-MouseReport.event) c.in-MouseReport.len c.args.maybe_more
+    (mouse_report_step c.args.self.now.rows c.args.self.now.text c.in-MouseReport.event c.in-MouseReport.len c.args.maybe_more
     c.in-MouseReport.ensures.0 c.in-MouseReport.ensures.1)
 
 pub returns-in-Escape : goal.returns-in-Escape
