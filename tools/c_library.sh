@@ -1,7 +1,7 @@
 #!/usr/bin/env bash
 # Builds the parser for C programs, and for whatever calls C, and writes it to a folder:
 #
-#     tools/c_library.sh [--over RLIBS [--kept KEPT]] DIR
+#     tools/c_library.sh [--over RLIBS] DIR
 #
 # libtermwiz_c.a and libtermwiz_c.so, each of which needs the C library alone; termwiz_input.h; and termwiz_c.pc for pkg-config, by which
 # the folder may be moved. What it builds is proved first. The shared library is libtermwiz_c.so.VERSION, the version being that of the
@@ -10,17 +10,16 @@
 # tools/install.sh puts these files where other programs look for them.
 #
 # With --over it proves the crate termwiz_c alone, over the libraries below it that lie as NAME.rlib in the folder RLIBS, where the gate
-# puts those that `rt ci` proved. KEPT is a folder with what a check of that crate kept, so that nothing is proved twice.
+# puts those that `rt ci` proved.
 #
 # It needs rt, a C compiler (cc), and ar and objcopy of binutils.
 set -eu
 . "$(dirname "$0")/common.sh"
-rlibs='' kept=() out=''
+rlibs='' out=''
 while [ $# -gt 0 ]; do
     case $1 in
         --help) show_help; exit ;;
         --over) want_next "$@"; rlibs=$(realpath "$2"); shift ;;
-        --kept) want_next "$@"; kept=(--kept "$(realpath "$2")"); shift ;;
         -*) refuse_word "$1" ;;
         *) [ -z "$out" ] || refuse_word "$1"; out=$1 ;;
     esac
@@ -44,7 +43,7 @@ build() {
     else
         local libraries
         libraries=$(sed -n 's/^termwiz_c staticlib://p' crates.txt)
-        tools/static_library.sh "${kept[@]}" "$rlibs" termwiz_c crates/termwiz_c "$work/libtermwiz_c.a" $libraries
+        tools/static_library.sh "$rlibs" termwiz_c crates/termwiz_c "$work/libtermwiz_c.a" $libraries
     fi
 }
 build > "$work/log" 2>&1 || { cat "$work/log" >&2; exit 1; }

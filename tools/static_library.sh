@@ -1,11 +1,10 @@
 #!/usr/bin/env bash
 # Proves a crate and builds it as a static library, over libraries that are proved already.
 #
-#     tools/static_library.sh [--kept KEPT] RLIBS NAME FOLDER ARCHIVE LIBRARY..
+#     tools/static_library.sh RLIBS NAME FOLDER ARCHIVE LIBRARY..
 #
 # RLIBS is a folder that has each library of this repository on which the crate depends, as NAME.rlib. NAME is the crate's name, FOLDER
-# has its src/lib.rt, ARCHIVE is the file to write. Each LIBRARY is one that the crate names, of this repository or of the kit. KEPT is a
-# folder with what a check of the crate kept (tools/edits.sh --kept); then only what isn't there is proved.
+# has its src/lib.rt, ARCHIVE is the file to write. Each LIBRARY is one that the crate names, of this repository or of the kit.
 #
 # `rt lib` proves those libraries first unless its own earlier runs built them. `rt ci` builds each from nothing and leaves it without
 # the stamp by which `rt lib` would know it; so the gate, which runs beside `rt ci`, calls this script. It needs rt and rattle.
@@ -13,11 +12,6 @@ set -eu
 if [ "${1-}" = --help ]; then
     sed -n '2,12s/^# \{0,1\}//p' "$0"
     exit
-fi
-kept=()
-if [ "${1-}" = --kept ] && [ $# -gt 1 ]; then
-    kept=(--incremental "$(realpath "$2")")
-    shift 2
 fi
 if [ $# -lt 4 ]; then
     echo 'static_library: wants RLIBS NAME FOLDER ARCHIVE LIBRARY..; --help says more' >&2
@@ -36,5 +30,5 @@ for library; do
 done
 cd "$folder"
 exec rattle build --crate-name "$name" src/lib.rt "${externs[@]}" -L "dependency=$kit/rlibs" -L "dependency=$rlibs" \
-    --antt-project "$kit/rattle/logic/antt-project.json" --logic-built "$kit/logic_built" --jobs 2 --links "$name=" \
-    --crate-type staticlib --toolchain "$kit/toolchain" --backend llvm "${kept[@]}" -o "$archive"
+    --antt-project "$kit/rattle/logic/antt-project.json" --logic-built "$kit/logic_built" --jobs 1 --links "$name=" \
+    --crate-type staticlib --toolchain "$kit/toolchain" --backend llvm -o "$archive"

@@ -1,6 +1,6 @@
 """Tries the must-fail edits of crates, many in one check.
 
-    tools/edits.sh [--over RLIBS [--kept FOLDER]] [--lanes N] [--unedited] [CRATE..]
+    tools/edits.sh [--over RLIBS] [--lanes N] [--unedited] [CRATE..]
 
 A must-fail edit plants a bug, and the prover has to refuse the function that it changes. A check of a crate says of each function whether it
 is proved, and if not, which of its own goals is left. So bugs in several functions are planted in one copy of the crate, and one check judges
@@ -19,14 +19,10 @@ has another name, the same contract and the same proof; a third has a copy of it
 and so is each function that names it. Nothing calls a copy. Not copied are a method of a trait, a function that calls itself, one with a
 proof that is more than answers and invariants, and one of which another proof names more than its theorem.
 
-What a check proved is kept, so each of the next ones proves only what its edits change. The first begins with what `rt check` keeps in
-out/, by which the crate and the libraries below it are proved before.
-
-With --over nothing is kept, and the checks are over the libraries that lie as NAME.rlib in the folder RLIBS, where the gate puts those that
-`rt ci` proved. The crate itself is taken as proved: a function that no edit of a check changes has a hole for its proof, and those that
-call it are judged by its contract. The names of the functions are read from the sources.
-
-With --kept the crate is proved without holes, and what that kept is copied to the folder FOLDER, as CRATE, for a build of the crate.
+Nothing is proved again: a function that no edit of a check changes has a hole for its proof, and those that call it are judged by its
+contract. The names of the functions are read from the sources. `rt check` proves the crate first, over what it keeps in out/, and builds
+the libraries below it. With --over the crate is taken as proved, and the libraries are those that lie as NAME.rlib in the folder RLIBS,
+where the gate puts what `rt ci` proved.
 
 With --unedited the edits' places are kept and their bugs left out, so what is checked are holes and copies alone. No goal may be left then.
 Run it after a change of this script, and where a function gets a second edit.
@@ -394,18 +390,17 @@ pub {name}_spec : {{M : Type 1}} → statement M
 class Crate:
     """A crate with must-fail edits, of which a copy is checked."""
 
-    def __init__(self, name, listed, over, keep, room):
-        self.name, self.listed, self.over, self.keep, self.folder = name, listed, over, keep, f"{room}/{name}"
+    def __init__(self, name, listed, over, room):
+        self.name, self.listed, self.over, self.folder = name, listed, over, f"{room}/{name}"
         self.source = f"{ROOT}/crates/{name}"
-        self.is_static = listed[name][0]
         self.edits = [Edit(it) for it in sorted(glob.glob(f"{self.source}/must-fail/*.edit"))]
         # the texts of the files that edits change, and the names of the crate's functions
         self.texts, self.sources = {}, Sources(name, self.source)
         self.names = self.sources.names()
         # its proof files, by their paths
         self.proofs = {}
-        # the functions whose proofs are holes just now, and whether there may be any
-        self.holes, self.has_holes = set(), bool(self.over) and not self.keep
+        # the functions whose proofs are holes just now
+        self.holes = set()
 
     def prepare(self):
         """Makes the copy, and proves the crate as it is where that is asked for."""
@@ -424,13 +419,6 @@ class Crate:
             ran = subprocess.run(["rt", "check"], cwd=self.source, stdin=subprocess.DEVNULL, capture_output=True, text=True)
             if ran.returncode:
                 raise NotProved(ran.stdout[-3000:] + ran.stderr[-1000:])
-            shutil.copytree(f"{self.source}/out/incremental", f"{self.folder}/kept")
-        if self.keep:
-            check = self.check({})
-            if check.status:
-                raise NotProved(check.text[-3000:])
-            shutil.copytree(f"{self.folder}/kept", f"{self.keep}/{self.name}")
-        if self.keep or not self.over:
             progress(f"{self.name} is proved; tries {len(self.edits)} edits")
 
     def put_holes(self, proved):
@@ -469,14 +457,13 @@ class Crate:
     def words(self):
         root = "main" if os.path.isfile(f"{self.folder}/src/main.rt") else "lib"
         words = [f"{KIT}/bin/rattle", "check", "--crate-name", self.name, f"src/{root}.rt"]
-        for library in ["std", *self.listed[self.name][1]]:
+        for library in ["std", *self.listed[self.name]]:
             words += ["--extern", f"{library}={self.rlib(library)}"]
         for folder in {os.path.dirname(self.rlib(it)) for it in ["std", *self.listed]}:
             words += ["-L", f"dependency={folder}"] if os.path.isdir(folder) else []
         words += ["--antt-project", f"{KIT}/rattle/logic/antt-project.json", "--logic-built", f"{KIT}/logic_built"]
-        words += ["--links", f"{self.name}=", *["--crate-type", "staticlib"] * self.is_static, "--jobs", "1"]
-        # over holes there is little to keep, and keeping it takes longer than to check it again
-        return words if self.has_holes else [*words, "--incremental", f"{self.folder}/kept"]
+        # Nothing is kept: over holes that takes longer than to check it again. A static library is checked as any other, so no code is linked.
+        return [*words, "--links", f"{self.name}=", "--jobs", "1"]
 
     def copies_of(self, edit, number):
         """Returns copies of the functions that an edit changes, in which it is planted, or none if one of these can't be copied."""
@@ -514,8 +501,7 @@ class Crate:
                 it.write(text)
         names = [*[it.named(self.names) for it in functions], *[it.path for it in copies]]
         only = [word for it in names for word in ("--only", it.partition("::")[2])] if all(names) else []
-        if self.has_holes:
-            self.put_holes(names if only else self.names)
+        self.put_holes(names if only else self.names)
         only += ["--allow-holes"] * bool(self.holes)
         for it in copies:
             it.put_proof(self.name, f"{self.source}/{self.proof_folder(it.of)}", f"{self.folder}/{self.proof_folder(it.path)}")
@@ -624,21 +610,21 @@ class Crate:
 
 
 def listed_crates():
-    """Returns of each line of crates.txt whether the crate is a static library, and the libraries that it names."""
+    """Returns of each line of crates.txt the libraries that it names."""
     found = {}
     with open(f"{ROOT}/crates.txt", encoding="utf-8") as lines:
         for line in lines:
             head, _, names = line.partition("#")[0].partition(":")
             if head.split():
-                found[head.split()[0]] = "staticlib" in head.split()[1:], names.split()
+                found[head.split()[0]] = names.split()
     return found
 
 
-def try_crate(name, listed, over, keep, is_unedited):
+def try_crate(name, listed, over, is_unedited):
     """Tries a crate's edits, or their places without their bugs, and returns how many passed and how many didn't."""
     began, passed, failed = time.monotonic(), 0, 0
     with tempfile.TemporaryDirectory(prefix="edits-") as room:
-        crate = Crate(name, listed, over, keep, room)
+        crate = Crate(name, listed, over, room)
         bad = [it for it in crate.edits if not it.pairs]
         try:
             crate.prepare()
@@ -669,19 +655,17 @@ def try_crate(name, listed, over, keep, is_unedited):
 
 
 def main(words):
-    listed, over, keep, lanes, is_unedited, names = listed_crates(), "", "", os.cpu_count(), False, []
+    listed, over, lanes, is_unedited, names = listed_crates(), "", os.cpu_count(), False, []
     while words:
         word = words.pop(0)
         if word == "--help":
             print(__doc__)
             return 0
-        if word in ("--over", "--kept", "--lanes") and not words:
+        if word in ("--over", "--lanes") and not words:
             print(f"edits: {word} wants a value after it; --help says more", file=sys.stderr)
             return 2
         if word == "--over":
             over = os.path.abspath(words.pop(0))
-        elif word == "--kept":
-            keep = os.path.abspath(words.pop(0))
         elif word == "--lanes":
             lanes = words.pop(0)
             if not re.fullmatch("[1-9][0-9]{0,2}", lanes):
@@ -694,13 +678,10 @@ def main(words):
         else:
             print(f"edits: what is '{word}'? --help lists the words", file=sys.stderr)
             return 2
-    if keep and not over:
-        print("edits: --kept goes with --over; --help says more", file=sys.stderr)
-        return 2
     names = [it for it in names or listed if glob.glob(f"{ROOT}/crates/{it}/must-fail/*.edit")]
     names.sort(key=lambda it: -len(glob.glob(f"{ROOT}/crates/{it}/must-fail/*.edit")))
     with concurrent.futures.ThreadPoolExecutor(int(lanes)) as pool:
-        counts = [*pool.map(lambda it: try_crate(it, listed, over, keep, is_unedited), names)]
+        counts = [*pool.map(lambda it: try_crate(it, listed, over, is_unedited), names)]
     passed, failed = (sum(it) for it in zip((0, 0), *counts))
     print(f"{passed} passed, {failed} failed")
     return 1 if failed else 0

@@ -132,9 +132,9 @@ class Part:
     def result(self):
         return self.why_not_run or (f"{self.passed} passed, {self.failed} failed" if self.ended else "not run")
 
-    def run_quietly(self, each_line):
+    def run_quietly(self):
         """Runs the command, and shows what it printed when it has ended."""
-        passed = self.run(each_line)
+        passed = self.run(lambda _: None)
         with printing:
             print("\n".join([f"== {self.name}", *self.lines]))
             word = self.why_not_run or ("FAILED" if self.failed else "passed")
@@ -214,7 +214,7 @@ class Gate:
         self.whole, self.tree = f"{room}/whole", f"{room}/tree"
         shutil.copytree(ROOT, self.whole, ignore=shutil.ignore_patterns("out", "target", ".git"))
         shutil.copytree(self.whole, self.tree, ignore=shutil.ignore_patterns("must-fail"))
-        self.rlibs, self.kept, library = f"{room}/rlibs", f"{room}/kept", f"{room}/library"
+        self.rlibs, library = f"{room}/rlibs", f"{room}/library"
         os.mkdir(self.rlibs)
         below = listed_crates()
         # one job for each check, also for the last ones: what is tried beside them needs the processors, and more jobs take more of their time
@@ -223,7 +223,7 @@ class Gate:
         script = lambda *words: Part(self.whole, *words)
         self.scripts = [
             script("c_numbers", [], "tools/c_numbers.sh", "--check"),
-            script("c_library", ["kept termwiz_c"], "tools/c_library.sh", "--over", self.rlibs, "--kept", f"{self.kept}/termwiz_c", library),
+            script("c_library", libraries_below(below, "termwiz_c"), "tools/c_library.sh", "--over", self.rlibs, library),
             script("growth", ["c_library"], "tools/growth.sh", *over, "--over", self.rlibs),
             script("c_test", ["c_library", "keyshow", "replay"], "tools/c_test.sh", "--built", *over),
             script("keys_test", ["c_library"], "tools/keys_test.sh", *over),
@@ -236,11 +236,10 @@ class Gate:
             script("package_test", ["c_library", "keyshow"], "tools/package_test.sh", *over, "--keyshow", "crates/keyshow/out/keyshow"),
             script("docs", ["c_library", "keyshow", "example"], "tools/docs.sh", "--built", *over),
         ]
-        # the crate first over whose library the scripts run, and then those whose edits take longest
-        edited = sorted(filter(edits_of, below), key=lambda it: (it != "termwiz_c", -weight_of_edits(it)))
-        first, tried = ["--kept", self.kept], ["tools/edits.sh", "--over", self.rlibs]
-        words = lambda name: tried + first if name == "termwiz_c" else YIELDING + tried
-        self.edits = [Part(self.whole, f"edits of {it}", libraries_below(below, it), *words(it), it, has_session=False) for it in edited]
+        # those that take longest first
+        edited = sorted(filter(edits_of, below), key=lambda it: -weight_of_edits(it))
+        words = [*YIELDING, "tools/edits.sh", "--over", self.rlibs]
+        self.edits = [Part(self.whole, f"edits of {it}", libraries_below(below, it), *words, it, has_session=False) for it in edited]
         self.parts = [self.ci, *self.edits, *self.scripts]
         # what is proved or has passed; whether rt ci is over, and how many other parts run
         self.watch, self.well, self.is_over, self.running, self.taking = Watch(), set(), False, 0, threading.Lock()
@@ -248,8 +247,8 @@ class Gate:
         self.installs = installs
         for it in self.scripts if installs else ():
             it.needs.add("packages")
-        # the parts that run side by side: the first edits begin with a proof for the scripts, and wait for no other
-        self.lanes = [self.edits[:1], *[[*self.scripts]] * SCRIPT_LANES, *[self.edits[1:]] * EDIT_LANES]
+        # the parts that run side by side
+        self.lanes = [*[[*self.scripts]] * SCRIPT_LANES, *[[*self.edits]] * EDIT_LANES]
 
     def run_in_turn(self, left):
         """Runs parts in turn, each once what it needs is proved or has passed. Those of which that can't happen any more aren't run."""
@@ -262,7 +261,7 @@ class Gate:
                     left.remove(ready)
                     self.running += 1
             if ready:
-                if ready.run_quietly(self.note_kept):
+                if ready.run_quietly():
                     self.well.add(ready.name)
                 with self.taking:
                     self.running -= 1
@@ -287,12 +286,6 @@ class Gate:
         if proved:
             self.keep(proved[1])
             self.well.add(proved[1])
-
-    def note_kept(self, line):
-        """Notes that what the proof of a crate kept is there for a build."""
-        proved = re.match(r"edits: (\w+) is proved;", line)
-        if proved:
-            self.well.add(f"kept {proved[1]}")
 
     def keep(self, crate):
         """Keeps what `rt ci` made of a crate for the other parts: a library, or a program."""

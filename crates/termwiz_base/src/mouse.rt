@@ -141,6 +141,8 @@ fn has_row(code: u16)
 {}
 
 // The button of a press or a move, by the code without its modifiers.
+// Inlined also where it has several callers: a mouse report costs a tenth more otherwise.
+#[inline(always)]
 #[tactic(auto, unfolding(crate::specs::Mouse::row_of))]
 fn pressed(base: u16) -> MouseButton
     ensures { result ≡ (row_of base).1 }
@@ -161,6 +163,7 @@ fn pressed(base: u16) -> MouseButton
 }
 
 // The button of a release, by the code without its modifiers.
+#[inline(always)]
 #[tactic(auto, unfolding(crate::specs::Mouse::row_of))]
 fn released(base: u16) -> MouseButton
     ensures { result ≡ (row_of base).2 }
