@@ -44,7 +44,7 @@ STARTED = time.monotonic()
 # How many crates' edits are tried side by side, and how many scripts run, beside the checks of `rt ci`. Those come first where all
 # processors are busy, and before the edits.
 EDIT_LANES, SCRIPT_LANES = os.cpu_count(), 2
-YIELDING = ["nice", "-n", "10"]
+YIELDING = ["nice", "-n", "19"]
 printing = threading.Lock()
 
 

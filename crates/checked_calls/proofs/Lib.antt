@@ -1,1 +1,2 @@
+pub mod GoneOn
 pub mod ListedLines

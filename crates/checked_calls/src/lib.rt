@@ -1,5 +1,5 @@
-//! Calls of `termwiz_input` under contracts of their own, which tests make: keys encoded and read back, values compared, and the rows of
-//! the sequence table counted.
+//! Calls under contracts of their own, which tests make: keys encoded and read back, values compared, the rows of the sequence table
+//! counted, and calls that can be refused memory, each with the call that goes on after a refusal.
 #![tactic(auto)]
 
 ghost use Rattle.std.specs.Prelude.{◌≡◌, ◌∷◌, ℕ, List, [], Some, Err, false, length, IfOk};
@@ -12,7 +12,10 @@ ghost use Rattle.termwiz_input.specs.Laws.{HasOtherBytes};
 ghost use Rattle.termwiz_input.specs.Listed.{IsListed};
 ghost use Rattle.termwiz_input.specs.Table.{rows};
 
+pub mod extended;
 pub mod listed;
+pub mod parses;
+pub mod parts;
 pub mod values;
 
 use std::alloc::{AllocError, Global};

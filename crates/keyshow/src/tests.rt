@@ -1,4 +1,4 @@
-// Runs over a reader and a writer that fail, the lines of events that no bytes mean, and those of faults.
+// Runs over a writer that fails, the lines of events that no bytes mean, and those of faults.
 
 use crate::fault_line;
 use crate::lines::push_line;
@@ -6,7 +6,7 @@ use crate::pump::{RunError, run};
 use bitflags::Flags;
 use std::alloc::Global;
 use std::io;
-use std::io::{Error, ErrorKind, Read, Write};
+use std::io::{Error, ErrorKind, Write};
 use std::process::Abort;
 use std::test::Fail;
 use termwiz_base::Modifiers;
@@ -17,25 +17,6 @@ const TYPED: &[u8] = b"\x1b\x1b[A\x1b[200~a\xff\x1b[201~\x1b[<0;1;2M\xc3\xa9\x03
 
 const TYPED_LINES: &[u8] =
     b"key UpArrow ALT\npaste 4:61efbfbd\nmouse 1 2 LEFT NONE\nkey U+00E9 NONE\nkey U+0063 CTRL\nkey Escape NONE\n";
-
-// Gives its text at most `most` bytes a read, and fails once its reads are used up.
-#[derive(Drop)]
-struct TestReader<'a> {
-    text: &'a [u8],
-    most: usize,
-    reads_left: usize,
-}
-
-impl<'a> Read for TestReader<'a> {
-    fn read(&mut self, buf: &mut [u8]) -> io::Result<usize> {
-        if self.reads_left == 0 {
-            return Err(Error::from(ErrorKind::BrokenPipe));
-        }
-        self.reads_left -= 1;
-        let count = buf.len().min(self.most);
-        self.text.read(&mut buf[..count])
-    }
-}
 
 // Takes at most `most` bytes a write, which have to be the next of the lines that it wants. Once its writes are used up it fails, or
 // takes no byte. It wants no flush before the last line, and counts the flushes.
@@ -77,14 +58,6 @@ impl<'a> Write for TestWriter<'a> {
     }
 }
 
-fn reader(text: &[u8], most: usize) -> TestReader<'_> {
-    TestReader {
-        text,
-        most,
-        reads_left: usize::MAX,
-    }
-}
-
 fn writer(wanted: &[u8], most: usize) -> TestWriter<'_> {
     TestWriter {
         wanted,
@@ -97,18 +70,17 @@ fn writer(wanted: &[u8], most: usize) -> TestWriter<'_> {
     }
 }
 
-// A run ends so, and has written so many bytes. It flushes the writer once after all lines, and never if it fails.
+// A run over `TYPED` ends so, and has written so many bytes. It flushes the writer once after all lines, and never if it fails.
 fn assert_run(
     alloc: Global,
     rt: &impl Abort,
     piece: usize,
-    mut source: TestReader<'_>,
     mut target: TestWriter<'_>,
     outcome: Result<(), RunError>,
     written: usize,
 ) {
     let left = target.wanted.len().saturating_sub(written);
-    let result = run_over(alloc, piece, &mut source, &mut target);
+    let result = run_over(alloc, piece, &mut target);
     assert!(rt; result == outcome, "piece {piece}, {written} bytes");
     assert!(rt; !target.differs, "piece {piece}, {written} bytes");
     assert!(rt;
@@ -119,90 +91,9 @@ fn assert_run(
 }
 
 // Runs without the contract of `run`, of which the assertions need nothing, so that they are proved soon.
-fn run_over(
-    alloc: Global,
-    piece: usize,
-    source: &mut TestReader<'_>,
-    target: &mut TestWriter<'_>,
-) -> Result<(), RunError> {
-    run(alloc, source, target, piece.clamp(1, 4096))
-}
-
-// Pieces, and how many bytes a read and a write take.
-const CUTS: [(usize, usize); 9] = [
-    (1, 1),
-    (1, 4096),
-    (2, 1),
-    (2, 4096),
-    (3, 4096),
-    (7, 4096),
-    (64, 1),
-    (64, 4096),
-    (4096, 4096),
-];
-
-#[test]
-fn runs_to_the_end(rt: HostRuntime) {
-    let cases: [(&[u8], &[u8]); 10] = [
-        (b"", b""),
-        (TYPED, TYPED_LINES),
-        (
-            b"\x1b\x1b[A\x1b[200~a\xff\x1b[201~\x1b[<0;1;2M\xc3\xa9\x03\xff",
-            b"key UpArrow ALT\npaste 4:61efbfbd\nmouse 1 2 LEFT NONE\nkey U+00E9 NONE\nkey U+0063 CTRL\nkey U+FFFD NONE\n",
-        ),
-        (b"\x1b[200~\xe2\x82a\x1b[201~", b"paste 4:efbfbd61\n"),
-        (b"\x1b[Aq", b"key UpArrow NONE\nkey U+0071 NONE\n"),
-        (b"\xc3\xa9\x1b", b"key U+00E9 NONE\nkey Escape NONE\n"),
-        (b"\x1b[", b"key U+005B ALT\n"),
-        (b"\x1b[B\xff", b"key DownArrow NONE\nkey U+FFFD NONE\n"),
-        (b"q\x1b[200~a\xff", b"key U+0071 NONE\nwaiting 8\n"),
-        (
-            b"\x1b[45;16~\x1bOF",
-            b"key F24 SHIFT+ALT+CTRL\nkey End NONE\n",
-        ),
-    ];
-    for (text, lines) in cases {
-        for (piece, most) in CUTS {
-            let (source, target) = (reader(text, most), writer(lines, most));
-            assert_run(rt.alloc(), &rt, piece, source, target, Ok(()), lines.len());
-        }
-    }
-}
-
-// How many bytes of `TYPED` decide so many bytes of its lines while more may come.
-const DECIDED: [(usize, usize); 5] = [(4, 16), (18, 33), (27, 53), (29, 69), (30, 85)];
-
-// How many bytes of lines so many bytes of `TYPED` decide.
-fn decided_by(count: usize) -> usize {
-    let mut decided = 0;
-    for (needed, written) in DECIDED {
-        if needed <= count {
-            decided = written;
-        }
-    }
-    decided
-}
-
-// The read after so many fails, also the one that would have told the end.
-#[test]
-fn reads_fail(rt: HostRuntime) {
-    for (piece, most) in [(1, 31), (2, 16), (3, 11), (7, 5), (64, 1)] {
-        for count in 0..=most {
-            let mut source = reader(TYPED, 4096);
-            source.reads_left = count;
-            let target = writer(TYPED_LINES, 4096);
-            let written = decided_by(count.saturating_mul(piece));
-            assert_run(
-                rt.alloc(),
-                &rt,
-                piece,
-                source,
-                target,
-                Err(RunError::Read),
-                written,
-            );
-        }
-    }
+fn run_over(alloc: Global, piece: usize, target: &mut TestWriter<'_>) -> Result<(), RunError> {
+    let mut source = TYPED;
+    run(alloc, &mut source, target, piece.clamp(1, 4096))
 }
 
 // After so many writes of at most `most` bytes the next fails, or takes no byte. Then so many bytes are written.
@@ -220,15 +111,7 @@ fn assert_write_fails(
         let mut target = writer(TYPED_LINES, most);
         target.writes_left = count;
         target.takes_none = takes_none;
-        assert_run(
-            alloc,
-            rt,
-            piece,
-            reader(TYPED, 4096),
-            target,
-            outcome,
-            written,
-        );
+        assert_run(alloc, rt, piece, target, outcome, written);
     }
 }
 
@@ -263,12 +146,10 @@ fn the_flush_fails(rt: HostRuntime) {
     for piece in [1, 2, 3, 7, 64] {
         let mut target = writer(TYPED_LINES, 4096);
         target.is_flushable = false;
-        let source = reader(TYPED, 4096);
         assert_run(
             rt.alloc(),
             &rt,
             piece,
-            source,
             target,
             Err(RunError::Write),
             TYPED_LINES.len(),
@@ -312,7 +193,7 @@ fn lines_of_events_that_no_bytes_mean(rt: HostRuntime) -> Result<(), Fail> {
         pixelmouse 65535 0 VERT_WHEEL+WHEEL_POSITIVE ALT\n\
         resized 80 24\n\
         wake\n";
-    assert_eq!(rt; lines.as_slice(), wanted.as_bytes());
+    assert!(rt; lines.as_slice() == wanted.as_bytes());
     Ok(())
 }
 

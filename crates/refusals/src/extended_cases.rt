@@ -1,7 +1,7 @@
 // The cases of the extended parser.
 
 use super::{Failure, print_event, print_new, print_stop, print_waited, print_waiting};
-use retried_calls::extended;
+use checked_calls::extended;
 use std::io;
 use termwiz_input_extended::input::ExtendedParser;
 use termwiz_input_extended::types::{ExtendedEvent, Rows};

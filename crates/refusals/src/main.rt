@@ -10,8 +10,8 @@
 
 mod extended_cases;
 
-use retried_calls::parses::{Left, PiecesStop, Stop};
-use retried_calls::{parses, parts};
+use checked_calls::parses::{Left, PiecesStop, Stop};
+use checked_calls::{parses, parts};
 use std::alloc::AllocError;
 use std::process::ExitCode;
 use std::{env, io};

@@ -1,6 +1,5 @@
 // Each call that may be refused memory succeeds, on few bytes and on as many as it may have. What it then returns is in its contract.
 mod calls;
-mod encoder;
 mod parser;
 mod sequences;
 
@@ -8,7 +7,7 @@ use calls::EVERY_CALL;
 use std::alloc::{AllocError, Global};
 use std::process::Abort;
 use std::test::Fail;
-use termwiz_input_extended::input::{ExtendedParser, Waiting};
+use termwiz_input_extended::input::ExtendedParser;
 use termwiz_input_extended::types::{ExtendedEvent, Rows};
 
 const MORE: bool = true;

@@ -28,7 +28,7 @@ fn check_lookup(
     more: bool,
     wanted: Found<&KeyEvent>,
 ) {
-    assert_eq!(rt; parser.lookup(bytes, more), wanted, "{bytes:?}");
+    assert!(rt; parser.lookup(bytes, more) == wanted, "{bytes:?}");
 }
 
 fn check_found(rt: &impl Abort, parser: &InputParser) {
@@ -59,7 +59,7 @@ fn looks_rows_up(rt: HostRuntime) -> Result<(), Fail> {
     let parser = InputParser::new(rt.alloc())?;
     check_found(&rt, &parser);
     check_short_texts(&rt, &parser);
-    assert_eq!(rt; parser.waiting_len(), 0);
+    assert!(rt; parser.waiting_len() == 0);
     Ok(())
 }
 
@@ -69,7 +69,7 @@ fn finds_each_row(rt: HostRuntime) -> Result<(), Fail> {
     let parser = InputParser::new(rt.alloc())?;
     for place in 0..table_rows() {
         let (bytes, key) = parser.row(place).expect(&rt, "a row at each place");
-        assert_eq!(rt; parser.lookup(bytes, LAST), Found::Exact(bytes.len(), key));
+        assert!(rt; parser.lookup(bytes, LAST) == Found::Exact(bytes.len(), key));
     }
     assert!(rt; parser.row(table_rows()).is_none());
     assert!(rt; parser.row(usize::MAX).is_none());
@@ -85,7 +85,7 @@ fn clones_key_events(rt: HostRuntime) -> Result<(), Fail> {
     };
     let mut keys = KeyMap::new(rt.alloc());
     keys.insert(b"\r", enter.clone()?)?;
-    assert_eq!(rt; keys.clone()?.lookup(b"\r", true), Found::Exact(1, &enter));
+    assert!(rt; keys.clone()?.lookup(b"\r", true) == Found::Exact(1, &enter));
     Ok(())
 }
 
@@ -108,7 +108,7 @@ fn check_awaits(
     awaits: bool,
 ) -> Result<(), Fail> {
     parser.feed(text)?;
-    assert_eq!(rt; parser.awaits_paste_end(), awaits);
+    assert!(rt; parser.awaits_paste_end() == awaits);
     Ok(())
 }
 
@@ -130,7 +130,7 @@ fn awaits_the_end_of_a_paste(rt: HostRuntime) -> Result<(), Fail> {
     let mut parser = InputParser::new(rt.alloc())?;
     for (text, awaits) in OPEN {
         check_awaits(&rt, &mut parser, text, *awaits)?;
-        assert_eq!(rt; parser.reset(), text.len(), "{text:?}");
+        assert!(rt; parser.reset() == text.len(), "{text:?}");
     }
     let body = b"x".repeat(rt.alloc(), 300_000)?;
     check_awaited_end(&rt, rt.alloc(), &mut parser, &body)

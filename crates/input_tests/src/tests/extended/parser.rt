@@ -1,7 +1,7 @@
 // The calls of the parser, under both `Rows`.
 use super::{
     Abort, EVERY_CALL, ExtendedParser, Fail, Global, LONG_REPORT, LONG_STRING, MORE, Parts, Rows,
-    Waiting, joined,
+    joined,
 };
 
 // Texts, and how many events they have.
@@ -48,36 +48,4 @@ fn reads_texts_as_the_port(rt: HostRuntime) -> Result<(), Fail> {
 #[test]
 fn reads_texts_with_kitty(rt: HostRuntime) -> Result<(), Fail> {
     check_texts(&rt, rt.alloc(), Rows::Kitty)
-}
-
-// An open paste of 100 KB is ended.
-fn check_paste(rt: &impl Abort, alloc: Global, parser: &mut ExtendedParser) -> Result<(), Fail> {
-    parser.feed(b"\x1b[200~")?;
-    parser.feed(&b"x".repeat(alloc, 100000)?)?;
-    assert!(rt; parser.is_paste_open());
-    assert!(rt; parser.end_paste()?.is_some());
-    Ok(())
-}
-
-// An Escape waits and is flushed, and the beginning of a sequence is forgotten.
-fn check_waiting(rt: &impl Abort, parser: &mut ExtendedParser) -> Result<(), Fail> {
-    parser.feed(b"\x1b")?;
-    assert!(rt; parser.waiting() == Waiting::Escape);
-    assert!(rt; parser.flush_escape().is_some());
-    parser.feed(b"\x1b]0;a")?;
-    assert!(rt; parser.waiting_text() == b"\x1b]0;a".as_slice());
-    assert!(rt; parser.reset() == 5);
-    assert!(rt; parser.waiting_len() == 0);
-    Ok(())
-}
-
-#[test]
-fn ends_what_waits(rt: HostRuntime) -> Result<(), Fail> {
-    for rows in [Rows::Port, Rows::Kitty] {
-        let mut parser = ExtendedParser::new(rt.alloc(), rows)?;
-        assert!(rt; parser.rows() == rows);
-        check_paste(&rt, rt.alloc(), &mut parser)?;
-        check_waiting(&rt, &mut parser)?;
-    }
-    Ok(())
 }

@@ -1,23 +1,8 @@
-// The events of whole sequences, and their keys.
-use super::{Abort, Fail, Global, LONG_REPORT, LONG_STRING, joined};
+// The keys of whole sequences.
+use super::{Abort, Fail, Global, LONG_REPORT, joined};
 use termwiz_extended_events::meanings::{event_of, key_or_position, plain_report};
 use termwiz_extended_events::types::{KeyReport, ReportedKey};
 use termwiz_keys::types::KeyCode;
-
-// A sequence has an event, which is neither a key nor the position of the cursor.
-fn check_other(rt: &impl Abort, alloc: Global, text: &[u8]) -> Result<(), Fail> {
-    event_of(alloc, text)?;
-    assert!(rt; key_or_position(alloc, text)?.is_none());
-    Ok(())
-}
-
-#[test]
-fn reads_other_sequences(rt: HostRuntime) -> Result<(), Fail> {
-    check_other(&rt, rt.alloc(), b"\x1b[O")?;
-    check_other(&rt, rt.alloc(), b"\x1b[M0\x60\x70")?;
-    check_other(&rt, rt.alloc(), b"\x1b[2D")?;
-    check_other(&rt, rt.alloc(), &joined(rt.alloc(), LONG_STRING)?)
-}
 
 fn check_clone(rt: &impl Abort, alloc: Global, report: &KeyReport) -> Result<(), Fail> {
     assert!(rt; report.clone(alloc)? == *report);

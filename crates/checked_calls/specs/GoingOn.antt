@@ -3,9 +3,9 @@ use Rattle.std.specs.Prelude.{◌≡◌, ◌↔◌, ℕ, Bool, true, false, IsTr
 use Rattle.termwiz_input.specs.Bytes.{Begins, START}
 use Rattle.termwiz_input.specs.Grammar.{Means}
 use Rattle.termwiz_input.specs.Pieces.{AreNumbered, NumberedEvent, ReadsFirst, events_of, join, pieces_or_one, taken_or_one}
-use Rattle.retried_calls.specs.declared.parses.Left.{Left}
-use Rattle.retried_calls.specs.declared.parses.Stop.{Stop}
-use Rattle.retried_calls.specs.declared.parses.PiecesStop.{PiecesStop}
+use Rattle.checked_calls.specs.declared.parses.Left.{Left}
+use Rattle.checked_calls.specs.declared.parses.Stop.{Stop}
+use Rattle.checked_calls.specs.declared.parses.PiecesStop.{PiecesStop}
 
 -- which items a text has, under a flag, and what is left after them; or what it means
 abbrev pub Reading : Type 0 → Type 1

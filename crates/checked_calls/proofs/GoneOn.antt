@@ -8,13 +8,13 @@ use Rattle.termwiz_input.specs.InputEvent.{InputEvent}
 use Rattle.termwiz_input.specs.Grammar.{Steps, Means}
 use Rattle.termwiz_input.specs.Laws as port
 use Rattle.termwiz_input.specs.Pieces.{AreNumbered, NumberedEvent, ReadsFirst, events_of, flag_at, join, pieces_or_one, taken_or_one, texts}
-use Rattle.retried_calls.specs.declared.parses.Stop.{Stop}
-use Rattle.retried_calls.specs.declared.parses.PiecesStop.{PiecesStop}
+use Rattle.checked_calls.specs.declared.parses.Stop.{Stop}
+use Rattle.checked_calls.specs.declared.parses.PiecesStop.{PiecesStop}
 use Rattle.termwiz_extended_events.specs.declared.types.ExtendedEvent.{ExtendedEvent}
 use Rattle.termwiz_extended_events.specs.declared.types.Rows.{Rows}
 use Rattle.termwiz_extended_grammar.specs.ExtendedGrammar as extended
 use Rattle.termwiz_extended_grammar.specs.ExtendedLaws as extended_laws
-use Rattle.retried_calls.specs.GoingOn.{StopsAt, Describes, GoesOn, GoesOnWithPieces, Reading}
+use Rattle.checked_calls.specs.GoingOn.{StopsAt, Describes, GoesOn, GoesOnWithPieces, Reading}
 
 module _ {Event : Type 0} (Items Meaning : Reading Event) (before bytes left waiting : List ℕ) (stop : Stop)
     (tells : Describes left stop.left) where

@@ -6,7 +6,7 @@ ghost use Rattle.termwiz_input.specs.InputEvent.{InputEvent as Event};
 ghost use Rattle.termwiz_input.specs.Callbacks.{WasCalledOn, WasCalledOnNumbered};
 ghost use Rattle.termwiz_input.specs.Grammar.{Means, Steps};
 ghost use Rattle.termwiz_input.specs.Pieces.{NumberedEvent, texts};
-ghost use Rattle.retried_calls.specs.GoingOn.{Describes, GoesOn, GoesOnWithPieces};
+ghost use Rattle.checked_calls.specs.GoingOn.{Describes, GoesOn, GoesOnWithPieces};
 
 use std::alloc::Global;
 use termwiz_input::input::{InputEvent, InputParser, ParseError, ParseVecError, PiecesError};

@@ -1,4 +1,4 @@
-use Rattle.retried_calls.proofs.parts.encode.Goals as goal
+use Rattle.checked_calls.proofs.parts.encode.Goals as goal
 
 pub returns-in-Err-encode-clause-refused : goal.returns-in-Err-encode-clause-refused
 returns-in-Err-encode-clause-refused c = λ n is. ((c.in-Err-encode.ensures.refused n).0 (cc (is))).1

@@ -1,7 +1,7 @@
 use Rattle.std.proofs.Common.{ap}
-use Rattle.retried_calls.proofs.GoneOn.{again, resumes_extended, without_bytes}
-use Rattle.retried_calls.proofs.extended.parse_as_vec.Goals as goal
-use Rattle.retried_calls.proofs.extended.parse_as_vec.Goals.{then-taken, else-taken}
+use Rattle.checked_calls.proofs.GoneOn.{again, resumes_extended, without_bytes}
+use Rattle.checked_calls.proofs.extended.parse_as_vec.Goals as goal
+use Rattle.checked_calls.proofs.extended.parse_as_vec.Goals.{then-taken, else-taken}
 
 pub returns : goal.returns
 returns c =

@@ -1,6 +1,6 @@
 use Rattle.std.proofs.Common.{[], refl, sym}
-use Rattle.retried_calls.proofs.GoneOn.{again, resumes_port, without_bytes}
-use Rattle.retried_calls.proofs.parses.parse.Goals as goal
+use Rattle.checked_calls.proofs.GoneOn.{again, resumes_port, without_bytes}
+use Rattle.checked_calls.proofs.parses.parse.Goals as goal
 
 pub parse-requires : goal.parse-requires
 parse-requires g c = λ events rest steps. c.requires.first.at _

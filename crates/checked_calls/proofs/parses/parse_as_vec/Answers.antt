@@ -1,6 +1,6 @@
-use Rattle.retried_calls.proofs.GoneOn.{again, resumes_port, without_bytes}
-use Rattle.retried_calls.proofs.parses.parse_as_vec.Goals as goal
-use Rattle.retried_calls.proofs.parses.parse_as_vec.Goals.{then-taken, else-taken}
+use Rattle.checked_calls.proofs.GoneOn.{again, resumes_port, without_bytes}
+use Rattle.checked_calls.proofs.parses.parse_as_vec.Goals as goal
+use Rattle.checked_calls.proofs.parses.parse_as_vec.Goals.{then-taken, else-taken}
 
 pub returns : goal.returns
 returns c =

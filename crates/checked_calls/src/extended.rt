@@ -7,7 +7,7 @@ ghost use Rattle.termwiz_extended_events.specs.declared.types.ExtendedEvent.{Ext
 ghost use Rattle.termwiz_extended_grammar.specs.ExtendedGrammar.{IsRest, Means, Steps};
 ghost use Rattle.termwiz_input_extended.specs.EventCallbacks.{WasCalledOn};
 ghost use Rattle.termwiz_input_extended.specs.ExtendedFronts.{IsPasteEvent};
-ghost use Rattle.retried_calls.specs.GoingOn.{Describes, GoesOn};
+ghost use Rattle.checked_calls.specs.GoingOn.{Describes, GoesOn};
 
 use crate::parses::{Left, Stop};
 use std::alloc::{AllocError, Global};

@@ -1,6 +1,6 @@
 use Rattle.std.proofs.Common.{[], refl, sym, ap}
-use Rattle.retried_calls.proofs.GoneOn.{again, resumes_extended, without_bytes}
-use Rattle.retried_calls.proofs.extended.parse.Goals as goal
+use Rattle.checked_calls.proofs.GoneOn.{again, resumes_extended, without_bytes}
+use Rattle.checked_calls.proofs.extended.parse.Goals as goal
 
 pub parse-requires : goal.parse-requires
 parse-requires g c = λ events rest steps. c.requires.first.at _

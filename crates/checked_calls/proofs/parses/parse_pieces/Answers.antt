@@ -1,5 +1,5 @@
-use Rattle.retried_calls.proofs.GoneOn.{others_given}
-use Rattle.retried_calls.proofs.parses.parse_pieces.Goals as goal
+use Rattle.checked_calls.proofs.GoneOn.{others_given}
+use Rattle.checked_calls.proofs.parses.parse_pieces.Goals as goal
 
 pub parse_pieces-requires : goal.parse_pieces-requires
 parse_pieces-requires g c = λ taken given rest reads. c.requires.first.at _

@@ -1,6 +1,6 @@
 use Rattle.std.proofs.Common.{refl, append-nil}
-use Rattle.retried_calls.proofs.GoneOn.{resumes_extended, without_bytes}
-use Rattle.retried_calls.proofs.extended.for_each_event.Goals as goal
+use Rattle.checked_calls.proofs.GoneOn.{resumes_extended, without_bytes}
+use Rattle.checked_calls.proofs.extended.for_each_event.Goals as goal
 
 pub for_each_event-requires : goal.for_each_event-requires
 for_each_event-requires g c = λ events rest steps. c.requires.first.at _
