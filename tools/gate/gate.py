@@ -7,8 +7,8 @@ folder, two at a time: each starts once the programs and libraries that it tests
 proved for the scripts but a static library.
 
 `rt ci` would try the must-fail edits one by one, each in a check of its own. tools/edits.sh tries them here, many in one check, crate by
-crate, once `rt ci` has proved the libraries below the crate. So `rt ci` works on a copy of the tree without the edits, and everything else on a whole copy, in
-which the programs that `rt ci` built are put. The tree itself isn't written to.
+crate, once `rt ci` has proved the libraries below the crate. So `rt ci` works on a copy of the tree without the edits, and everything
+else on a whole copy, in which the programs that `rt ci` built are put. The tree itself isn't written to.
 
 At the end it prints a table: when each part began and ended, and how much processor time it took. The parts of `rt ci` are found by
 looking at its processes once a second. The last line is 'N passed, N failed' over all parts, the status 1 if one failed.

@@ -1,4 +1,5 @@
-// Each call that may be refused memory succeeds, on few bytes and on as many as it may have. What it then returns is in its contract.
+// Calls that may be refused memory, and that C doesn't reach, succeed on few bytes and on as many as they may have. What they then return is
+// in their contracts.
 mod calls;
 mod parser;
 mod sequences;
