@@ -39,8 +39,8 @@ import sys
 import tempfile
 import threading
 import time
+from crates import ROOT, listed_crates
 
-ROOT = os.path.dirname(os.path.dirname(os.path.dirname(os.path.realpath(__file__))))
 PARTS = ("src", "specs", "proofs")
 printing = threading.Lock()
 
@@ -607,17 +607,6 @@ class Crate:
                 yield edit, self.alone(edit), 1
             except BadEdit as why:
                 yield edit, why, 1
-
-
-def listed_crates():
-    """Returns of each line of crates.txt the libraries that it names."""
-    found = {}
-    with open(f"{ROOT}/crates.txt", encoding="utf-8") as lines:
-        for line in lines:
-            head, _, names = line.partition("#")[0].partition(":")
-            if head.split():
-                found[head.split()[0]] = names.split()
-    return found
 
 
 def try_crate(name, listed, over, is_unedited):

@@ -27,8 +27,8 @@ import sys
 import tempfile
 import threading
 import time
+from crates import ROOT, listed_crates
 
-ROOT = os.path.dirname(os.path.dirname(os.path.dirname(os.path.realpath(__file__))))
 COUNTS = re.compile(r"^(\d+) passed, (\d+) failed$")
 # The last line and the status of a script that a word --if-TOOL told not to fail where the tool isn't there.
 NOT_RUN, NOT_RUN_STATUS = re.compile(r"^\w+: (not run: .*)$"), 77
@@ -65,17 +65,6 @@ def left_out(part):
     """Returns the words by which a part leaves out what can't be run here."""
     is_there = lambda it: glob.glob(it) if "/" in it else shutil.which(it)
     return [word for name, word, thing in LEFT_OUT if name == part and not is_there(thing)]
-
-
-def listed_crates():
-    """Returns of each line of crates.txt the libraries that it names."""
-    below = {}
-    with open(f"{ROOT}/crates.txt", encoding="utf-8") as lines:
-        for line in lines:
-            head, _, names = line.partition("#")[0].partition(":")
-            if head.split():
-                below[head.split()[0]] = names.split()
-    return below
 
 
 def libraries_below(below, name):

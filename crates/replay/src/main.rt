@@ -76,41 +76,99 @@ fn replay_own_files(rt: &HostRuntime) -> Result<usize, Failure> {
 // Replays a file by both parsers, and prints what came of it. Returns how many lines differ.
 fn replay_file(rt: &HostRuntime, name: &str) -> Result<usize, Failure> {
     let text = fs::read_to_string(rt, name)?;
+    replay_text(rt, name, text.as_str())
+}
+
+// The same for the text of a file.
+fn replay_text(rt: &HostRuntime, name: &str, text: &str) -> Result<usize, Failure> {
     let mut replayer = Replayer::new(rt.alloc())?;
-    let report = replay_lines(rt.alloc(), &mut replayer, Reader::Port, text.as_str())?;
-    let fed = replayer.feeder.feedings;
-    let asked = fed.saturating_add(replayer.encoder.encodings);
+    replay_with(rt, name, text, &mut replayer)
+}
+
+// The same with a replayer that has read no line.
+fn replay_with(
+    rt: &HostRuntime,
+    name: &str,
+    text: &str,
+    replayer: &mut Replayer,
+) -> Result<usize, Failure> {
+    let differing = replay_by_port(rt, name, text, replayer)?;
+    if replayer.feeder.feedings == 0 {
+        return Ok(differing);
+    }
+    Ok(differing.saturating_add(replay_extended(rt, name, text, replayer)?))
+}
+
+// Replays a text by the port and the encoder, and prints what came of it. Returns how many lines differ.
+fn replay_by_port(
+    rt: &HostRuntime,
+    name: &str,
+    text: &str,
+    replayer: &mut Replayer,
+) -> Result<usize, Failure> {
+    let report = replay_lines(rt.alloc(), replayer, Reader::Port, text)?;
+    let asked = replayer
+        .feeder
+        .feedings
+        .saturating_add(replayer.encoder.encodings);
+    print_report(rt, name, asked, &report)?;
+    show_differences(rt, name, report.shown.as_slice())?;
+    Ok(report.differing)
+}
+
+// Replays a text by the extended parser, and prints what came of it. Returns how many lines differ.
+fn replay_extended(
+    rt: &HostRuntime,
+    name: &str,
+    text: &str,
+    replayer: &mut Replayer,
+) -> Result<usize, Failure> {
+    let before = replayer.feeder.feedings;
+    let report = replay_lines(rt.alloc(), replayer, Reader::Extended, text)?;
+    let fed = replayer.feeder.feedings.saturating_sub(before);
+    print_extended_report(rt, name, fed, &report)?;
+    show_differences(rt, name, report.shown.as_slice())?;
+    Ok(report.differing)
+}
+
+// Prints what the lines of a file come to by the port and the encoder.
+fn print_report(rt: &HostRuntime, name: &str, asked: usize, report: &Report) -> io::Result<()> {
     println!(rt;
         "{name}: {} lines, {asked} feedings, {} differ",
         report.lines, report.differing
-    )?;
-    let differing = show(rt, name, report)?;
-    if fed == 0 {
-        return Ok(differing);
-    }
-    Ok(differing.saturating_add(replay_extended(rt, name, text.as_str())?))
+    )
 }
 
-// Replays a file by the extended parser, and prints what came of it. Returns how many lines differ.
-fn replay_extended(rt: &HostRuntime, name: &str, text: &str) -> Result<usize, Failure> {
-    let mut replayer = Replayer::new(rt.alloc())?;
-    let report = replay_lines(rt.alloc(), &mut replayer, Reader::Extended, text)?;
+// The same by the extended parser.
+fn print_extended_report(
+    rt: &HostRuntime,
+    name: &str,
+    fed: usize,
+    report: &Report,
+) -> io::Result<()> {
     println!(rt;
-        "{name} by the extended parser: {} lines, {} feedings, {} with extra sequences, {} differ",
-        report.lines, replayer.feeder.feedings, report.extra, report.differing
-    )?;
-    show(rt, name, report)
+        "{name} by the extended parser: {} lines, {fed} feedings, {} with extra sequences, {} differ",
+        report.lines, report.extra, report.differing
+    )
 }
 
-// Prints the lines that a report shows. Returns how many lines differ.
-fn show(rt: &HostRuntime, name: &str, report: Report) -> Result<usize, Failure> {
-    for LineDifference { number, difference } in report.shown {
-        let mut out = io::writer(rt);
-        write!(out, "{name}:{number}: ")?;
-        out.write_all(difference.given.as_slice())?;
-        write!(out, " gives ")?;
-        out.write_all(difference.came.as_slice())?;
-        writeln!(out)?;
+// Prints lines that differ.
+fn show_differences(
+    rt: &HostRuntime,
+    name: &str,
+    differences: &[LineDifference],
+) -> io::Result<()> {
+    for difference in differences {
+        show_difference(&mut io::writer(rt), name, difference)?;
     }
-    Ok(report.differing)
+    Ok(())
+}
+
+// Writes a line that differs, with what came instead.
+fn show_difference<W: Write>(out: &mut W, name: &str, shown: &LineDifference) -> io::Result<()> {
+    write!(out, "{name}:{}: ", shown.number)?;
+    out.write_all(shown.difference.given.as_slice())?;
+    write!(out, " gives ")?;
+    out.write_all(shown.difference.came.as_slice())?;
+    writeln!(out)
 }

@@ -98,14 +98,23 @@ fn check_keys(
     Ok(())
 }
 
+// Reads them by each call.
+fn check_keys_by_each_call(
+    rt: &impl Abort,
+    alloc: Global,
+    parser: &mut InputParser,
+    text: &[u8],
+) -> Result<(), Fail> {
+    for calls in EVERY_CALL {
+        check_keys(rt, alloc, parser, calls, text)?;
+    }
+    Ok(())
+}
+
 #[test]
 fn reads_70000_keys_at_once(rt: HostRuntime) -> Result<(), Fail> {
     let text = KEYS.repeat(rt.alloc(), 35000)?;
-    let mut parser = InputParser::new(rt.alloc())?;
-    for calls in EVERY_CALL {
-        check_keys(&rt, rt.alloc(), &mut parser, calls, &text)?;
-    }
-    Ok(())
+    check_keys_by_each_call(&rt, rt.alloc(), &mut InputParser::new(rt.alloc())?, &text)
 }
 
 // Reads a paste of this text by one call: its one event, after which nothing waits.
@@ -124,14 +133,28 @@ pub(super) fn check_paste(
     Ok(())
 }
 
+// The same by each call.
+fn check_paste_by_each_call(
+    rt: &impl Abort,
+    alloc: Global,
+    parser: &mut InputParser,
+    (body, paste): (&[u8], &[u8]),
+) -> Result<(), Fail> {
+    for calls in EVERY_CALL {
+        check_paste(rt, alloc, parser, calls, (body, paste))?;
+    }
+    Ok(())
+}
+
 // A paste of 100 KB.
 #[test]
 fn reads_a_long_paste(rt: HostRuntime) -> Result<(), Fail> {
     let body = b"0123456789abcdef".repeat(rt.alloc(), 6400)?;
     let paste = [b"\x1b[200~".as_slice(), &body, b"\x1b[201~"].concat(rt.alloc())?;
-    let mut parser = InputParser::new(rt.alloc())?;
-    for calls in EVERY_CALL {
-        check_paste(&rt, rt.alloc(), &mut parser, calls, (&body, &paste))?;
-    }
-    Ok(())
+    check_paste_by_each_call(
+        &rt,
+        rt.alloc(),
+        &mut InputParser::new(rt.alloc())?,
+        (&body, &paste),
+    )
 }

@@ -150,13 +150,16 @@ fn check_call(
     Ok(())
 }
 
-#[test]
-fn reads_pieces(rt: HostRuntime) -> Result<(), Fail> {
-    let mut parser = InputParser::new(rt.alloc())?;
+fn check_calls(rt: &impl Abort, alloc: Global, parser: &mut InputParser) -> Result<(), Fail> {
     for call in CALLS {
-        check_call(&rt, rt.alloc(), &mut parser, call)?;
+        check_call(rt, alloc, parser, call)?;
     }
     Ok(())
+}
+
+#[test]
+fn reads_pieces(rt: HostRuntime) -> Result<(), Fail> {
+    check_calls(&rt, rt.alloc(), &mut InputParser::new(rt.alloc())?)
 }
 
 #[test]
@@ -208,6 +211,5 @@ fn check_keys_by_bytes(
 fn reads_70000_pieces(rt: HostRuntime) -> Result<(), Fail> {
     let text = KEYS.repeat(rt.alloc(), 17500)?;
     let pieces = pieces_of(rt.alloc(), &text, 1)?;
-    let mut parser = InputParser::new(rt.alloc())?;
-    check_keys_by_bytes(&rt, rt.alloc(), &mut parser, &pieces)
+    check_keys_by_bytes(&rt, rt.alloc(), &mut InputParser::new(rt.alloc())?, &pieces)
 }

@@ -71,11 +71,14 @@ const LOOPS: &[(&[u8], bool, &str)] = &[
     (b"", LAST, "0 key Escape NONE, 0 wait"),
 ];
 
-#[test]
-fn loops_over_all_items(rt: HostRuntime) -> Result<(), Fail> {
-    let mut parser = InputParser::new(rt.alloc())?;
+fn check_loops(rt: &impl Abort, alloc: Global, parser: &mut InputParser) -> Result<(), Fail> {
     for (bytes, more, wanted) in LOOPS {
-        check_looped(&rt, rt.alloc(), &mut parser, (bytes, *more, wanted))?;
+        check_looped(rt, alloc, parser, (bytes, *more, wanted))?;
     }
     Ok(())
+}
+
+#[test]
+fn loops_over_all_items(rt: HostRuntime) -> Result<(), Fail> {
+    check_loops(&rt, rt.alloc(), &mut InputParser::new(rt.alloc())?)
 }

@@ -63,16 +63,24 @@ fn looks_rows_up(rt: HostRuntime) -> Result<(), Fail> {
     Ok(())
 }
 
-// A lookup of the bytes of each row finds the whole row, and past the last place there is none.
-#[test]
-fn finds_each_row(rt: HostRuntime) -> Result<(), Fail> {
-    let parser = InputParser::new(rt.alloc())?;
+fn check_rows(rt: &impl Abort, parser: &InputParser) {
     for place in 0..table_rows() {
-        let (bytes, key) = parser.row(place).expect(&rt, "a row at each place");
+        let (bytes, key) = parser.row(place).expect(rt, "a row at each place");
         assert!(rt; parser.lookup(bytes, LAST) == Found::Exact(bytes.len(), key));
     }
     assert!(rt; parser.row(table_rows()).is_none());
     assert!(rt; parser.row(usize::MAX).is_none());
+}
+
+// A lookup of the bytes of each row finds the whole row, and past the last place there is none.
+#[test]
+fn finds_each_row(rt: HostRuntime) -> Result<(), Fail> {
+    check_rows(&rt, &InputParser::new(rt.alloc())?);
+    Ok(())
+}
+
+fn check_clone(rt: &impl Abort, keys: &KeyMap<KeyEvent>, enter: &KeyEvent) -> Result<(), Fail> {
+    assert!(rt; keys.clone()?.lookup(b"\r", true) == Found::Exact(1, enter));
     Ok(())
 }
 
@@ -85,8 +93,7 @@ fn clones_key_events(rt: HostRuntime) -> Result<(), Fail> {
     };
     let mut keys = KeyMap::new(rt.alloc());
     keys.insert(b"\r", enter.clone()?)?;
-    assert!(rt; keys.clone()?.lookup(b"\r", true) == Found::Exact(1, &enter));
-    Ok(())
+    check_clone(&rt, &keys, &enter)
 }
 
 // Texts, and whether each is a paste whose end isn't there.
@@ -125,13 +132,21 @@ fn check_awaited_end(
     check_paste(rt, alloc, parser, Calls::Event, (body, b""))
 }
 
-#[test]
-fn awaits_the_end_of_a_paste(rt: HostRuntime) -> Result<(), Fail> {
-    let mut parser = InputParser::new(rt.alloc())?;
+fn check_open(rt: &impl Abort, parser: &mut InputParser) -> Result<(), Fail> {
     for (text, awaits) in OPEN {
-        check_awaits(&rt, &mut parser, text, *awaits)?;
+        check_awaits(rt, parser, text, *awaits)?;
         assert!(rt; parser.reset() == text.len(), "{text:?}");
     }
+    Ok(())
+}
+
+#[test]
+fn tells_open_pastes(rt: HostRuntime) -> Result<(), Fail> {
+    check_open(&rt, &mut InputParser::new(rt.alloc())?)
+}
+
+#[test]
+fn awaits_the_end_of_a_paste(rt: HostRuntime) -> Result<(), Fail> {
     let body = b"x".repeat(rt.alloc(), 300_000)?;
-    check_awaited_end(&rt, rt.alloc(), &mut parser, &body)
+    check_awaited_end(&rt, rt.alloc(), &mut InputParser::new(rt.alloc())?, &body)
 }

@@ -32,20 +32,27 @@ fn check_text(
     Ok(())
 }
 
-fn check_texts(rt: &impl Abort, alloc: Global, rows: Rows) -> Result<(), Fail> {
-    let mut parser = ExtendedParser::new(alloc, rows)?;
+fn check_texts(rt: &impl Abort, alloc: Global, parser: &mut ExtendedParser) -> Result<(), Fail> {
     for (parts, count) in TEXTS {
-        check_text(rt, alloc, &mut parser, parts, *count)?;
+        check_text(rt, alloc, parser, parts, *count)?;
     }
     Ok(())
 }
 
 #[test]
 fn reads_texts_as_the_port(rt: HostRuntime) -> Result<(), Fail> {
-    check_texts(&rt, rt.alloc(), Rows::Port)
+    check_texts(
+        &rt,
+        rt.alloc(),
+        &mut ExtendedParser::new(rt.alloc(), Rows::Port)?,
+    )
 }
 
 #[test]
 fn reads_texts_with_kitty(rt: HostRuntime) -> Result<(), Fail> {
-    check_texts(&rt, rt.alloc(), Rows::Kitty)
+    check_texts(
+        &rt,
+        rt.alloc(),
+        &mut ExtendedParser::new(rt.alloc(), Rows::Kitty)?,
+    )
 }

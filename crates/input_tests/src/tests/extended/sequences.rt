@@ -1,7 +1,7 @@
 // The keys of whole sequences.
 use super::{Abort, Fail, Global, LONG_REPORT, joined};
 use termwiz_extended_events::meanings::{event_of, key_or_position, plain_report};
-use termwiz_extended_events::types::{KeyReport, ReportedKey};
+use termwiz_extended_events::types::{ExtendedEvent, KeyReport, ReportedKey};
 use termwiz_keys::types::KeyCode;
 
 fn check_clone(rt: &impl Abort, alloc: Global, report: &KeyReport) -> Result<(), Fail> {
@@ -12,7 +12,10 @@ fn check_clone(rt: &impl Abort, alloc: Global, report: &KeyReport) -> Result<(),
 // A sequence is a key, whose report equals its clone.
 fn check_key(rt: &impl Abort, alloc: Global, text: &[u8]) -> Result<(), Fail> {
     assert!(rt; key_or_position(alloc, text)?.is_some());
-    let event = event_of(alloc, text)?;
+    check_report(rt, alloc, &event_of(alloc, text)?)
+}
+
+fn check_report(rt: &impl Abort, alloc: Global, event: &ExtendedEvent) -> Result<(), Fail> {
     match event.key(alloc)? {
         Some(report) => check_clone(rt, alloc, &report),
         None => panic!(rt; "no key"),

@@ -3,7 +3,7 @@ use Rattle.termwiz_input_extended.proofs.lemmas.fronts.WholeRows.{row_whole, row
 use Rattle.termwiz_input_extended.proofs.front.row_of.Goals as goal
 
 pub returns-in-Exact-clause-some : goal.returns-in-Exact-clause-some
-returns-in-Exact-clause-some c = row_whole _ _ _ c.in-Exact.ensures.0 (omega arith)
+returns-in-Exact-clause-some c = row_whole _ _ _ c.in-Exact.ensures.0 (omega (arith, c.in-Exact.ensures.0.within))
 
 pub returns-in-Exact-2-clause-none : goal.returns-in-Exact-2-clause-none
 returns-in-Exact-2-clause-none c = λ key row.

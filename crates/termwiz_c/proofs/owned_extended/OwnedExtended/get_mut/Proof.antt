@@ -1,11 +1,11 @@
 -- `get_mut` lends the value in its block. The rest of the box stays with the pointer until the loan ends.
-use Rattle.std.proofs.Common.{◌≡◌, ℕ, List, [], ◌∷◌, refl, sym, ap, ◌∙◌}
-use Rattle.std.specs.Prelude.{Option, Some, is_some, true}
+use Rattle.std.proofs.Common.{◌≡◌, ℕ, List, [], ◌∷◌, refl, sym}
+use Rattle.std.specs.Prelude.{Some, is_some, true}
 use mir.Raw.{raw as bare}
 use mir.Syntax.{named}
 use mir.Val.{Val, vptr}
 use base.Fraction.{full_share}
-use base.Logic.{SProp, emp, ent, sep, never, id⊢, fst∗}
+use base.Logic.{SProp, emp, ent, sep, id⊢}
 use base.Fml.{Fml, GName, ftrue, fsep, flft}
 use seplogic.Ra.Ura.{Ura}
 use types.Logic.{Logic, sem}
@@ -19,7 +19,7 @@ use denote.Exit.{no}
 use denote.Follow.{follows, Part, lends_Part}
 use denote.Memory.{part_of, part_at, cell_at, lone, mem}
 use denote.RattleType.{owns}
-use denote.RawPtr.{Ptr, block_ptr, null_ptr, in_a_block}
+use denote.RawPtr.{Ptr, block_ptr}
 use denote.Ref.{MutRef, mut_vals, mut_Tells}
 use denote.Signature.{plain, mut_ref_to}
 use denote.Steps.{nothing, heard, opens}
@@ -27,7 +27,6 @@ use denote.Triple.Walked.{says, Stays, stay_dropped, walk_of, ends_at, Goes-spen
 use Rattle.core.proofs.atomic.Steps.{tail}
 use Rattle.std.proofs.raw_atomic.Walks.{proved}
 use Rattle.std.specs.contracts.impls.GlobalAllocator.TheImpl.{ghosts}
-use Rattle.std_alloc.specs.Box.Ownership.{box_owns}
 use Rattle.termwiz_c.specs.Owned.{heap, owned}
 use Rattle.termwiz_c.specs.Lent.{with_extended as with_held}
 use Rattle.termwiz_c.specs.contracts.extended_and_text.ExtendedAndText.{the_row as HeldType}
