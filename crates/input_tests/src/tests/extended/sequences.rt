@@ -1,5 +1,5 @@
 // The keys of whole sequences.
-use super::{Abort, Fail, Global, LONG_REPORT, joined};
+use super::{Abort, Fail, Global, LONG_REPORT, LONG_STRING, joined};
 use termwiz_extended_events::meanings::{event_of, key_or_position, plain_report};
 use termwiz_extended_events::types::{ExtendedEvent, KeyReport, ReportedKey};
 use termwiz_keys::types::KeyCode;
@@ -27,6 +27,21 @@ fn reads_keys(rt: HostRuntime) -> Result<(), Fail> {
     check_key(&rt, rt.alloc(), b"\x1b[1;9A")?;
     check_key(&rt, rt.alloc(), b"\x1b[97:65:99;2:3;65u")?;
     check_key(&rt, rt.alloc(), &joined(rt.alloc(), LONG_REPORT)?)
+}
+
+// A sequence is neither a key nor the position of the cursor.
+fn check_other(rt: &impl Abort, alloc: Global, text: &[u8]) -> Result<(), Fail> {
+    assert!(rt; key_or_position(alloc, text)?.is_none());
+    Ok(())
+}
+
+// A parser passes no refusal on for such a sequence, so a direct call has to succeed here.
+#[test]
+fn tells_other_sequences(rt: HostRuntime) -> Result<(), Fail> {
+    check_other(&rt, rt.alloc(), b"\x1b[O")?;
+    check_other(&rt, rt.alloc(), b"\x1b[M0\x60\x70")?;
+    check_other(&rt, rt.alloc(), b"\x1b[2D")?;
+    check_other(&rt, rt.alloc(), &joined(rt.alloc(), LONG_STRING)?)
 }
 
 // The contract leaves open which keys have a plain report.
