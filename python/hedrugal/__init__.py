@@ -888,7 +888,7 @@ class InputParser(_EventParser[Event]):
         those that begin with what follows its ESC. Their keys then get ALT.
 
         Read it while `waiting` is Waiting.Escape or Waiting.Sequence. A mouse report or a character isn't in the table. So there may be no
-        such row.
+        such row. The start of a paste is no key event: after an ESC the Escape key is emitted, and the paste is open.
 
             >>> with InputParser() as parser:
             ...     parser.feed(b"\x1b[1;5")

@@ -49,7 +49,8 @@ pub extern "C" fn tw_row(
 }
 
 /// Tells which rows would complete what is buffered: those that begin with it and are longer. If there are none, those that begin with
-/// what follows its ESC, and their keys get ALT. If there is no parser, the answer is false and `rows` is unchanged.
+/// what follows its ESC, and their keys get ALT. Only the start of a paste gets none: it opens a paste, and the ESC before it is the Escape
+/// key. If there is no parser, the answer is false and `rows` is unchanged.
 #[unsafe(no_mangle)]
 pub extern "C" fn tw_parser_completions(parser: &mut ParserHandle, rows: &mut CRows) -> bool
     ensures same { parser.new.owned ≡ parser.old.owned }

@@ -1,4 +1,7 @@
--- The sequences that report a key.
+-- The sequences that report a key. Each has fields, separated by `;`, whose parts are separated by `:`, and an end that says how the fields are
+-- read: `u`, `~` or a letter. First come the readings of one field: of the modifiers and what happened (`manner_of`), of the key's codes
+-- (`codes_of`) and of its text (`text_of`). Then come the rules, one for each end, which put the fields together. `key_report` is the first
+-- rule that fits. A reading or a rule is None where the bytes aren't such a field or sequence.
 use Rattle.std.specs.Prelude.{ℕ, Bool, true, false, ◌-◌, ◌==◌, List, [], ◌∷◌, length, take, slice_get, codes, Option, Some, None, if◌then◌else◌, option_map, option_and_then, encode_utf8_all, bytes_eq}
 use Rattle.termwiz_grammar.specs.Table.{key_of_code}
 use Rattle.termwiz_keys.specs.declared.types.KeyCode.{KeyCode}

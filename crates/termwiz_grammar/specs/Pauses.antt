@@ -12,8 +12,11 @@ joined reads = flat_map (λ read. read) reads
 abbrev pub EndsAt : List ℕ → List ℕ → Bool → Type 0
 EndsAt front rest more = (event : InputEvent) × Stands (front ++ rest) more front event
 
--- What happens after a read, while these bytes are still to come. Nothing, as if there is no pause, or if what is buffered is neither ESC
--- nor ESC ESC. Or that is flushed, and in the whole text an item ends there: no sequence, no character and no paste goes on from it.
+-- What happens after a read: `before` is buffered, and `rest` is all that is still to come. One of two things happens.
+-- Nothing, as if there is no pause, or if what is buffered is neither ESC nor ESC ESC.
+-- Or that is flushed, at a place where the stream without the pause has the end of an item too. After one ESC such a place is before a
+-- mouse report, before a paste and at the end of the input. Before a `q` it isn't: there the ESC is a part of `q` with ALT. After ESC ESC
+-- such a place is also before a `q`, which the second ESC doesn't go on to.
 abbrev pub PausedAt : List ℕ → List ℕ → Bool → List InputEvent → List ℕ → Type 0
 PausedAt before rest more events after = ((events ≡ []) × (after ≡ before))
     ⊎ (IsOneOrTwoEscapes before × EndsAt before rest more × Means before false events after)

@@ -30,10 +30,12 @@ BeginsRows text = IsExtended table text
 abbrev pub BeginsRowsAfterEscape : List ℕ → Type 0
 BeginsRowsAfterEscape text = (after : List ℕ) × (text ≡ ESC ++ after) × BeginsRows after
 
--- The rows that would complete a text, by their places: those that begin with it and are longer. If there are none, those that begin with
--- what follows its ESC and are longer, and their keys get ALT.
+-- The rows that would complete a text, by their places: from `low` on and below `high`, and none if both are the same. They are the rows
+-- that begin with the text and are longer. If there are none, they are those that begin with what follows the text's ESC and are longer.
 pub record AreCompletions (text : List ℕ) (with_alt : Bool) (low high : ℕ) : Type 0 where
   pub ordered : low ≤ high
+  -- the second case: the keys of the rows get ALT
   pub when : IsTrue with_alt ↔ ((¬ BeginsRows text) × BeginsRowsAfterEscape text)
+  -- the places are exactly those of such rows
   pub whole : with_alt ≡ false → AreExtensions table text low high
   pub after_escape : with_alt ≡ true → (after : List ℕ) → text ≡ ESC ++ after → AreExtensions table after low high

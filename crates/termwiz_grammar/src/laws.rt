@@ -92,15 +92,17 @@ pub fn waiting_kinds()
     ensures { WaitingKinds }
 {}
 
-/// What a flush makes of each kind: ESC is the Escape key, and ESC ESC the same with ALT. The beginning of a sequence or of a character
-/// is broken. An open paste stays as it is.
+/// What a flush makes of each kind: ESC is the Escape key, and ESC ESC the same with ALT. An open paste stays as it is. Of the beginning
+/// of a sequence or of a character it says that some bytes may follow whose events the flush changes. What the flush emits of these two
+/// is the law `flush_of_beginnings` of `termwiz_laws`.
 pub fn flush_of_kinds()
     ensures { FlushOfKinds }
 {}
 
-/// A pause after which only the Escape key is flushed changes no event, unless something goes on from that ESC. ESC or ESC ESC that is
-/// buffered may be flushed at any places of a stream, if at each of them an item of the whole stream ends: no sequence, no
-/// character and no paste goes on from there. Then the events and what stays buffered are those of the stream without pauses.
+/// A pause after which only the Escape key is flushed changes no event, if in the stream without the pause an item ends there too. So of
+/// one ESC it speaks before a mouse report, before a paste and at the end of the input. It says nothing of ESC, a pause and `q`: these
+/// are two keys, and without the pause one, `q` with ALT. What such a flush and the bytes after it mean is the law
+/// `flush_separates_escape` of `termwiz_laws`.
 pub fn pauses_change_nothing()
     ensures { PausesChangeNothing }
 {}

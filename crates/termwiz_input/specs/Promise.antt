@@ -18,7 +18,7 @@ pub record IsExactReading (before : List ℕ) (pieces : List (List ℕ)) (more :
   -- and it says nothing else of them
   pub only : (events : List InputEvent) (rest : List ℕ) → Means (before ++ join pieces) more events rest
       → (events ≡ events_of given) × (rest ≡ left)
-  -- each event has the number of the piece that completed it
+  -- each event has the number of the piece that decided it: the first one after which the bytes so far have this event
   pub numbers : AreNumbered before (pieces_or_one pieces) given
   -- what is left is nothing, an open paste, or, if more may come, at most twenty undecided bytes after at most one ESC
   pub short : Waits left more

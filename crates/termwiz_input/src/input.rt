@@ -171,6 +171,9 @@ impl InputParser {
     ///
     /// Ask for them while [`InputParser::waiting`] is `Escape` or `Sequence`. A mouse report, a character and a paste are completed by bytes
     /// that aren't in the table, and an ESC by any character too.
+    ///
+    /// The waiting text and the rest of such a row mean the row's key, with ALT if `with_alt` is true (`completions_are_read` of
+    /// `termwiz_laws`). The start of a paste is the exception: it opens a paste, and an ESC before it is the Escape key.
     pub fn completions(&self) -> Completions
         ensures { AreCompletions self.now result.with_alt result.rows.start result.rows.end }
     {

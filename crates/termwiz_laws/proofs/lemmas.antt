@@ -1,4 +1,5 @@
 pub mod broken_bytes
+pub mod completions
 pub mod first_bytes
 pub mod flushes
 pub mod further_keys

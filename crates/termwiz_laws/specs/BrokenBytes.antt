@@ -5,7 +5,9 @@ use Rattle.termwiz_keys.specs.Introducers.{ESC}
 use Rattle.termwiz_keys.specs.Keys.{plain, with_alt}
 use Rattle.termwiz_keys.specs.declared.types.InputEvent.{InputEvent}
 use Rattle.termwiz_keys.specs.declared.types.InputEvent.TheVariants.{Key}
+use Rattle.termwiz_grammar.specs.declared.waiting.Waiting.TheVariants.{Sequence}
 use Rattle.termwiz_grammar.specs.Grammar.{IsBroken, IsOpen, IsUnfinishedCharacter, Means, replacement}
+use Rattle.termwiz_grammar.specs.WaitingKinds.{IsHeldThen, IsKind}
 
 -- Neither a sequence nor a character begins the text of this byte and S. Under this flag the text isn't open, so nothing that may
 -- come after S changes that.
@@ -28,6 +30,24 @@ BrokenByteInStream = (T S W : List ℕ) (E D : List InputEvent) (byte : ℕ) (f 
 abbrev pub BrokenByteAfterEscape : Type 0
 BrokenByteAfterEscape = (T S W : List ℕ) (E D : List InputEvent) (byte : ℕ) (f : Bool) → IsBrokenBefore byte S f
     → Means T true E ESC → Means S f D W → Means (T ++ byte ∷ S) f (E ++ broken_event_with_alt ∷ D) W
+
+-- Such a byte comes after T, of which u stays buffered. What a flush makes of u, the byte, and what S means by itself are all events.
+abbrev pub CutsShort : List ℕ → ℕ → Type 0
+CutsShort u byte = (T S W : List ℕ) (E F D : List InputEvent) (f : Bool) → IsBrokenBefore byte S f
+    → Means T true E u → Means u false F [] → Means S f D W → Means (T ++ byte ∷ S) f (E ++ F ++ broken_event ∷ D) W
+
+-- That is so if ESC ESC or the beginning of a longer sequence stays buffered.
+abbrev pub BrokenByteCutsSequence : Type 0
+BrokenByteCutsSequence = (u : List ℕ) (byte : ℕ) → (u ≡ ESC ++ ESC) ⊎ IsKind u true Sequence → CutsShort u byte
+
+-- no encoding of a character begins with these bytes and then this one
+abbrev pub GoesNoFurther : List ℕ → ℕ → Type 0
+GoesNoFurther bytes byte = (c : ℕ) (tail : List ℕ) → IsScalar c → ¬ (encode_utf8 c ≡ bytes ++ byte ∷ tail)
+
+-- It is so too if the beginning of a character stays buffered, after at most one ESC, and no character goes on from it by the byte.
+abbrev pub BrokenByteCutsCharacter : Type 0
+BrokenByteCutsCharacter = (u : List ℕ) (byte : ℕ) (is : IsHeldThen IsUnfinishedCharacter u) → GoesNoFurther is.bytes byte
+    → CutsShort u byte
 
 -- a byte from 0x80 on with which no encoding of a character begins
 abbrev pub BeginsNoCharacter : ℕ → Type 0

@@ -86,19 +86,24 @@ pub data IsSentByCode : ℕ → ℕ → KeyCodeEncodeModes → Type 0 where
 abbrev pub IsReadByCode : ℕ → KeyCodeEncodeModes → Type 0
 IsReadByCode c modes = IsInCsiU modes ⊎ ((¬ IsInCsiU modes) × IsOn modes × (¬ Contains (9 ∷ 10 ∷ 13 ∷ 27 ∷ []) c))
 
--- A key reads back in these modes, with the bits of the modifiers that are held. The lines overlap, and the listed keys
--- are among them.
+-- A key reads back in these modes, with the bits of the modifiers that are held. Each line below says it of some keys: first which
+-- modes, then which key, then which modifiers. A key reads back if any line has it. The lines overlap, and the listed keys are among them.
+-- By the law `only_these_read_back` there are no others.
 pub data ReadsBackToo : KeyCode → ℕ → KeyCodeEncodeModes → Type 0 where
   -- in all modes
+  -- keys that have a name and no character, with any set of the three modifiers
   any_modifiers : (key : KeyCode) (held : ℕ) (modes : KeyCodeEncodeModes)
       → Contains named_keys key → Contains any_of_three held → ReadsBackToo key held modes
+  -- an arrow with at least one of the three
   modified_arrow : (key : KeyCode) (held : ℕ) (modes : KeyCodeEncodeModes)
       → Contains arrows key → Contains some_of_three held → ReadsBackToo key held modes
   alone : (key : KeyCode) (modes : KeyCodeEncodeModes) → Contains keys_alone key → ReadsBackToo key NONE modes
   none_or_alt : (key : KeyCode) (held : ℕ) (modes : KeyCodeEncodeModes)
       → Contains (Escape ∷ Backspace ∷ []) key → Contains (NONE ∷ ALT ∷ []) held → ReadsBackToo key held modes
+  -- a character that is its own text
   character : (c : ℕ) (modes : KeyCodeEncodeModes) → IsScalar c → (c ≡ 0) ⊎ (28 ≤ c) → c ≢ 0x7f
       → ReadsBackToo (Char c) NONE modes
+  -- ESC and a printable character of ASCII
   alt_character : (c : ℕ) (modes : KeyCodeEncodeModes) → IsTrue (is_ascii_alphanumeric c || is_ascii_punctuation c)
       → ReadsBackToo (Char c) ALT modes
   -- where application cursor keys are off, or newline mode
@@ -107,8 +112,10 @@ pub data ReadsBackToo : KeyCode → ℕ → KeyCodeEncodeModes → Type 0 where
   enter : (held : ℕ) (modes : KeyCodeEncodeModes) → modes.newline_mode ≡ false
       → Contains (NONE ∷ ALT ∷ []) held → ReadsBackToo Enter held modes
   -- where modifyOtherKeys isn't at level 2, or is off
+  -- a control character, unless another key sends it too
   ctrl_letter : (c held : ℕ) (modes : KeyCodeEncodeModes) → ¬ IsLevel modes 2 → IsTrue (is_ascii_lowercase c)
       → ¬ IsSharedLetter c → Contains ctrl_or_ctrl_alt held → ReadsBackToo (Char c) held modes
+  -- what xterm sends for Tab, with ESC [ Z for Shift
   tab : (held : ℕ) (modes : KeyCodeEncodeModes) → IsOff modes
       → Contains (ALT ∷ SHIFT ∷ (ALT + SHIFT) ∷ (CTRL + SHIFT) ∷ (CTRL + ALT + SHIFT) ∷ []) held
       → ReadsBackToo Tab held modes

@@ -1,4 +1,5 @@
 pub mod BrokenBytes
+pub mod Completions
 pub mod Flushes
 pub mod FurtherKeys
 pub mod KeyStreams

@@ -3,6 +3,7 @@
 #![tactic(auto)]
 
 pub mod broken_bytes;
+pub mod completions;
 pub mod flushes;
 pub mod further_keys;
 pub mod key_streams;

@@ -1,3 +1,5 @@
+pub mod FlushedBeginnings
 pub mod MoreEvents
 pub mod NothingLeft
 pub mod PlainItems
+pub mod SeparateEscapes

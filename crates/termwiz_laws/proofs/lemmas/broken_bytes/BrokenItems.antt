@@ -41,7 +41,7 @@ not_after_escape byte t m high is = go (sequence_bytes (27 ∷ byte ∷ t) m is)
     go (more [] n e p) = n refl
     go (more (x ∷ s) n e p) = let same : byte ≡ x = cc (e) in omega (arith, same, p.0.1)
 
-with_escape_stands : (byte : ℕ) (S : List ℕ) (f : Bool) → IsBrokenBefore byte S f
+pub with_escape_stands : (byte : ℕ) (S : List ℕ) (f : Bool) → IsBrokenBefore byte S f
     → Stands (27 ∷ byte ∷ S) f (27 ∷ byte ∷ []) broken_event_with_alt
 with_escape_stands byte S f is =
     let high = broken_high byte S is.0 in

@@ -60,7 +60,7 @@ takes_all q bytes (Character c) e l same g = g.0 ∙ same
 takes_all q bytes (Broken b) e l same g = g.0 ∙ same
 
 -- a sequence that properly begins another one has at most two bytes
-begins_short : (s t : List ℕ) (m n : Meaning) → IsSequence s m → IsSequence (s ++ t) n → t ≢ [] → length s ≤ 2
+pub begins_short : (s t : List ℕ) (m n : Meaning) → IsSequence s m → IsSequence (s ++ t) n → t ≢ [] → length s ≤ 2
 begins_short s t (Report r) n a b longer = absurd (longer (report_ends s t r n a b))
 begins_short s t (Row k) n a b longer = ⊎_elim
     (λ (e : s ≡ ESC). omega (arith, ap length e))
