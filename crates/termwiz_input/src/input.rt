@@ -11,7 +11,7 @@ ghost use Rattle.termwiz_input.specs.PasteSearch.{IsPasteSoFar};
 ghost use Rattle.termwiz_grammar.specs.Grammar.{GivesNoPaste, HasItem, HasPaste, IsRest, Steps, Means};
 ghost use Rattle.termwiz_input.specs.Fronts.{Emits, IsFront, Stores};
 ghost use Rattle.termwiz_input.specs.Matches.{IsItemAt};
-ghost use Rattle.termwiz_input.specs.Promise.{IsExactReading};
+ghost use Rattle.termwiz_input.specs.Promise.{IsExactReading, IsRefusedReading};
 ghost use Rattle.termwiz_input.specs.WaitingBytes.{IsToldByBytes};
 ghost use Rattle.termwiz_input.specs.Callbacks.{MayBeCalledOn, MayBeCalledOnNumbered, WasCalledOn, WasCalledOnNumbered};
 ghost use Rattle.termwiz_input.specs.Pieces.{AreNumbered, NumberedEvent, ReadsFirst, events_of, flag_at, join, numbered, pieces_or_one, taken_or_one, texts};
@@ -531,24 +531,10 @@ impl InputParser {
         // In any case at most 21 bytes wait, or an open paste.
         ensures waits { OnOk result (IsShortOrOpenPaste self.new) }
 
-        // Nothing happened if the first of some pieces wasn't taken.
-        ensures none_taken_same { IfErr result (λ e. pieces.now ≢ [] → e.taken ≡ 0 → self.new ≡ self.old) }
-        ensures none_taken_quiet { IfErr result (λ e. pieces.now ≢ [] → e.taken ≡ 0 → callback.new ≡ callback.old) }
-
-        // The parser stands after the events that were given, which are events of the pieces that were taken.
-        ensures taken { IfErr result (λ e. (given : List NumberedEvent)
-            × ReadsFirst self.old (pieces_or_one (texts pieces.now)) maybe_more (taken_or_one (texts pieces.now) e.taken) given self.new
+        // If memory was refused, the callback was called with the first events of the pieces that were taken, and reading may go on.
+        ensures refused { IfErr result (λ e. (given : List NumberedEvent)
+            × IsRefusedReading self.old (texts pieces.now) maybe_more e.taken given self.new
             × WasCalledOnNumbered F.step callback.old given callback.new) }
-        ensures within { IfErr result (λ e. e.taken ≤ length pieces.now) }
-
-        // A paste is at its front, or the next piece wasn't taken. That piece isn't empty, and if a piece was taken before it,
-        // what waits is a rest.
-        ensures refused { IfErr result (λ e.
-            HasPaste self.new (flag_at (pieces_or_one (texts pieces.now)) maybe_more (taken_or_one (texts pieces.now) e.taken))
-            ⊎ (slice_index_or (texts pieces.now) e.taken [] ≢ [])) }
-        ensures stops { IfErr result (λ e. 0 < taken_or_one (texts pieces.now) e.taken
-            → HasPaste self.new (flag_at (pieces_or_one (texts pieces.now)) maybe_more (taken_or_one (texts pieces.now) e.taken))
-            ⊎ ((e.taken < length pieces.now) × IsRest self.new true)) }
 
         // No pieces need no memory, unless the waiting text gives a paste.
         ensures granted { pieces.now ≡ [] → GivesNoPaste self.old maybe_more → IsOk result }

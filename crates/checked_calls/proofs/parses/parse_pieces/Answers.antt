@@ -1,3 +1,5 @@
+use Rattle.std.proofs.Common.{ℕ, ◌≤◌, List, length, Bor, arith}
+use Rattle.std.proofs.lemmas.List.{length-map}
 use Rattle.checked_calls.proofs.GoneOn.{others_given}
 use Rattle.checked_calls.proofs.parses.parse_pieces.Goals as goal
 
@@ -9,13 +11,14 @@ parse_pieces-requires-in-Err g c = λ taken given rest reads. c.requires.later.a
 
 pub returns-in_ok-parse_pieces-in-Err : goal.returns-in_ok-parse_pieces-in-Err
 returns-in_ok-parse_pieces-in-Err g c =
-    let refused = c.in-Err.ensures in
-    let (given, reads, first) = refused.taken in
+    let (given, refused, first) = c.in-Err.ensures.refused in
+    let count = length-map c.args.pieces.now (λ (piece : Bor (List ℕ)). piece.now) in
+    let within : c.in-Err.field-0.taken ≤ length c.args.pieces.now = omega (arith, count, refused.within) in
     let (events, means, numbered, calls) = c.in_ok-parse_pieces-in-Err.ensures.ok in (
       given,
       events,
       first,
       calls,
-      others_given c.resumes.ensures _ c.args.pieces.now _ given events _ _ refused.within reads c.of-left.ensures
+      others_given c.resumes.ensures _ c.args.pieces.now _ given events _ _ within refused.reads c.of-left.ensures
           means numbered,
     )

@@ -16,11 +16,6 @@ module _ {P A : Type 0} (R : P → A → P → Type 0) where
   FoldsTo-append a [] b ys c h k = let Q : P → Type 0 = λ v. FoldsTo R v ys c in subst Q (sym h) k
   FoldsTo-append a (x ∷ xs) b ys c h k = (h.0, h.1, FoldsTo-append h.0 xs b ys c h.2 k)
 
-  -- no step changes nothing
-  pub FoldsTo-nil : (a : P) (xs : List A) (b : P) → xs ≡ [] → FoldsTo R a xs b → a ≡ b
-  FoldsTo-nil a [] b none h = h
-  FoldsTo-nil a (x ∷ xs) b none h = absurd (cc (none))
-
 -- what may be called on a list may, after its first part, be called on the rest
 module _ {F : Type 0} (g : Mut F (ℕ × (InputEvent × Unit {0})) (Unit {0})) where
   pub may_go_on : (first : F) (xs ys : List NumberedEvent) (now : F) → MayBeCalledOnNumbered g first (xs ++ ys)

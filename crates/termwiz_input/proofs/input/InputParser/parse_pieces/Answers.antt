@@ -1,11 +1,11 @@
 use Rattle.std.proofs.Common.{List, ℕ, ◌≡◌, ◌++◌, ◌+◌, ◌∙◌, [], Result, Err, inl, inr, refl, sym, arith, Bor}
-use Rattle.std.proofs.lemmas.List.{nil_from_length, get_or-map}
+use Rattle.std.proofs.lemmas.List.{nil_from_length, get_or-map, length-map}
 use Rattle.std.proofs.lemmas.Bool.Decides.{nat_tests}
 use Rattle.termwiz_input.specs.declared.input.ParseError.{ParseError}
 use Rattle.termwiz_input.specs.declared.input.ParseError.TheVariants.{NotTaken, Taken}
 use Rattle.termwiz_grammar.specs.Grammar.{IsRest, Means}
 use Rattle.termwiz_input.specs.Pieces.{AreNumbered, events_of, join, numbered, pieces_or_one, texts}
-use Rattle.termwiz_input.proofs.lemmas.pieces.CallSequence.{FoldsTo-append, FoldsTo-nil, may_go_on}
+use Rattle.termwiz_input.proofs.lemmas.pieces.CallSequence.{FoldsTo-append, may_go_on}
 use Rattle.termwiz_grammar.proofs.lemmas.waiting.RestShape.{rest_flushed, rest_short}
 use Rattle.termwiz_input.proofs.lemmas.pieces.NumberedEvents.{nothing_read, one_read, one_settled, paste_after, rest_before, slice_read, slice_settled, some_taken}
 use Rattle.termwiz_input.proofs.lemmas.pieces.KeysFromPieces.{exact}
@@ -47,20 +47,21 @@ returns-in-Ok-clause-promise g c =
 pub returns-in-Ok-clause-waits : goal.returns-in-Ok-clause-waits
 returns-in-Ok-clause-waits g c = rest_short c.parse_piece.new.self c.args.maybe_more c.in-Ok.ensures.ok.1.rest
 
-pub returns-in-Err-clause-taken : goal.returns-in-Err-clause-taken
-returns-in-Err-clause-taken g c =
-    let none : c.args.pieces.now ≡ [] = nil_from_length c.args.pieces.now (grind (arith, nat_tests)) in
-    by_fault c.in-Err.field-0
-    (λ was is. absurd (c.in-Err.ensures.not_taken_some was refl))
-    (λ was is. let parsed = c.in-Err.ensures.taken was in
-    (numbered 0 parsed.0, rw none (one_read _ _ parsed.0 _ parsed.1), parsed.2))
-
 pub returns-in-Err-clause-refused : goal.returns-in-Err-clause-refused
 returns-in-Err-clause-refused g c =
     let none : c.args.pieces.now ≡ [] = nil_from_length c.args.pieces.now (grind (arith, nat_tests)) in
     by_fault c.in-Err.field-0
     (λ was is. absurd (c.in-Err.ensures.not_taken_some was refl))
-    (λ was is. inl (rw none (c.in-Err.ensures.taken_paste was)))
+    (λ was is. let parsed = c.in-Err.ensures.taken was in (
+      numbered 0 parsed.0,
+      rw none (record {
+        within = omega arith;
+        reads = one_read _ _ parsed.0 _ parsed.1;
+        nothing = λ some zero. absurd (some refl);
+        refused = inl (c.in-Err.ensures.taken_paste was);
+      }),
+      parsed.2,
+    ))
 
 -- the piece with this number
 pub parse_piece-requires-in-loop-number : goal.parse_piece-requires-in-loop-number
@@ -72,61 +73,38 @@ parse_piece-requires-in-loop-number g c = λ events rest steps.
     (slice_read c.args.pieces.now given.1 c.loop-number-test.true _ c.more_after-more.ensures events rest steps))
     given.2
 
-pub returns-in-Err-parse_piece-clause-none_taken_same : goal.returns-in-Err-parse_piece-clause-none_taken_same
-returns-in-Err-parse_piece-clause-none_taken_same g c = λ some zero. by_fault c.in-Err-parse_piece.fault
-    (λ was is. c.in-Err-parse_piece.ensures.not_taken_same was
-    ∙ sym (nothing_read c.loop-number.invariant.1 (omega (arith, c.at.ensures.not_taken is))).1)
-    (λ was is. absurd (omega (arith, c.at.ensures.taken is)))
-
-pub returns-in-Err-parse_piece-clause-none_taken_quiet : goal.returns-in-Err-parse_piece-clause-none_taken_quiet
-returns-in-Err-parse_piece-clause-none_taken_quiet g c = λ some zero. by_fault c.in-Err-parse_piece.fault
-    (λ was is. let given = c.loop-number.invariant in
-    c.in-Err-parse_piece.ensures.not_taken_quiet was ∙ sym (FoldsTo-nil _ c.args.callback.now given.0 _
-    (nothing_read given.1 (omega (arith, c.at.ensures.not_taken is))).0 given.2))
-    (λ was is. absurd (omega (arith, c.at.ensures.taken is)))
-
-pub returns-in-Err-parse_piece-clause-taken : goal.returns-in-Err-parse_piece-clause-taken
-returns-in-Err-parse_piece-clause-taken g c =
-    let given = c.loop-number.invariant in
-    let inside = c.loop-number-test.true in
-    rw (some_taken c.args.pieces.now c.at.result.taken (omega arith))
-    (by_fault c.in-Err-parse_piece.fault
-    (λ was is. (
-      given.0,
-      rw (c.at.ensures.not_taken is, c.in-Err-parse_piece.ensures.not_taken_same was) given.1.reads,
-      rw (c.in-Err-parse_piece.ensures.not_taken_quiet was) given.2,
-    ))
-    (λ was is. let parsed = c.in-Err-parse_piece.ensures.taken was in (
-      given.0 ++ numbered c.loop-number.number parsed.0,
-      rw (c.at.ensures.taken is)
-          (slice_read c.args.pieces.now given.1 inside _ c.more_after-more.ensures parsed.0 _ parsed.1),
-      FoldsTo-append _ _ given.0 _ (numbered c.loop-number.number parsed.0) _ given.2 parsed.2,
-    )))
-
-pub returns-in-Err-parse_piece-clause-stops : goal.returns-in-Err-parse_piece-clause-stops
-returns-in-Err-parse_piece-clause-stops g c =
-    let inside = c.loop-number-test.true in
-    rw (some_taken c.args.pieces.now c.at.result.taken (omega arith))
-    (λ some. by_fault c.in-Err-parse_piece.fault
-    (λ was is. let at = c.at.ensures.not_taken is in inr (
-      omega (arith, at),
-      rw (c.in-Err-parse_piece.ensures.not_taken_same was)
-          (rest_before c.args.pieces.now c.loop-number.invariant.1 inside (omega (arith, at))),
-    ))
-    (λ was is. inl (rw (c.at.ensures.taken is)
-    (paste_after c.args.pieces.now c.args.maybe_more _ inside c.more_after-more.ensures
-    (c.in-Err-parse_piece.ensures.taken_paste was)))))
-
 pub returns-in-Err-parse_piece-clause-refused : goal.returns-in-Err-parse_piece-clause-refused
 returns-in-Err-parse_piece-clause-refused g c =
+    let given = c.loop-number.invariant in
     let inside = c.loop-number-test.true in
-    rw (some_taken c.args.pieces.now c.at.result.taken (omega arith))
-    (by_fault c.in-Err-parse_piece.fault
-    (λ was is. inr (rw (c.at.ensures.not_taken is) (λ none. c.in-Err-parse_piece.ensures.not_taken_some was
-    (sym (get_or-map (λ (piece : Bor (List ℕ)). piece.now) c.args.pieces.now _ _ [] inside) ∙ none))))
-    (λ was is. inl (rw (c.at.ensures.taken is)
-    (paste_after c.args.pieces.now c.args.maybe_more _ inside c.more_after-more.ensures
-    (c.in-Err-parse_piece.ensures.taken_paste was)))))
+    let count = length-map c.args.pieces.now (λ (piece : Bor (List ℕ)). piece.now) in
+    let number = some_taken c.args.pieces.now c.at.result.taken (omega arith) in
+    by_fault c.in-Err-parse_piece.fault
+    (λ was is. let at = c.at.ensures.not_taken is in let same = c.in-Err-parse_piece.ensures.not_taken_same was in (
+      given.0,
+      record {
+        within = omega (arith, count, at);
+        reads = rw (number, at, same) given.1.reads;
+        nothing = λ some zero. let none = nothing_read given.1 (omega (arith, at)) in (none.0, same ∙ sym none.1);
+        refused = inr (
+          rw at (λ none. c.in-Err-parse_piece.ensures.not_taken_some was
+              (sym (get_or-map (λ (piece : Bor (List ℕ)). piece.now) c.args.pieces.now _ _ [] inside) ∙ none)),
+          λ some. rw same (rest_before c.args.pieces.now given.1 inside (omega (arith, at))),
+        );
+      },
+      rw (c.in-Err-parse_piece.ensures.not_taken_quiet was) given.2,
+    ))
+    (λ was is. let at = c.at.ensures.taken is in let parsed = c.in-Err-parse_piece.ensures.taken was in (
+      given.0 ++ numbered c.loop-number.number parsed.0,
+      record {
+        within = omega (arith, count, at);
+        reads = rw (number, at) (slice_read c.args.pieces.now given.1 inside _ c.more_after-more.ensures parsed.0 _ parsed.1);
+        nothing = λ some zero. absurd (omega (arith, at));
+        refused = inl (rw (number, at) (paste_after c.args.pieces.now c.args.maybe_more _ inside c.more_after-more.ensures
+            (c.in-Err-parse_piece.ensures.taken_paste was)));
+      },
+      FoldsTo-append _ _ given.0 _ (numbered c.loop-number.number parsed.0) _ given.2 parsed.2,
+    ))
 
 pub loop-number-preserved : goal.loop-number-preserved
 loop-number-preserved g c =
