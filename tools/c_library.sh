@@ -39,7 +39,7 @@ trap 'rm -rf "$work"' EXIT
 # Builds the archive of the crate.
 build() {
     if [ -z "$rlibs" ]; then
-        (cd crates/termwiz_c && rt lib) && cp crates/termwiz_c/out/libtermwiz_c.a "$work/"
+        (cd crates/termwiz_c && rt lib --list-axioms) && cp crates/termwiz_c/out/libtermwiz_c.a "$work/"
     else
         local libraries
         libraries=$(sed -n 's/^termwiz_c staticlib://p' crates.txt)
@@ -47,6 +47,7 @@ build() {
     fi
 }
 build > "$work/log" 2>&1 || { cat "$work/log" >&2; exit 1; }
+tools/axioms.sh --log "$work/log" termwiz_c
 
 # The library stands on the kit's heap, three functions over malloc, realloc and free. The two become one object, in which only the calls
 # of the header keep their names, so that no other library meets them.

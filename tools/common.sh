@@ -121,6 +121,23 @@ build_unnamed() {
     fi
 }
 
+# Sets $over to the words by which rattle finds libraries: those that lie as NAME.rlib in a folder, and else the kit's.
+name_libraries() { # folder libraries..
+    local rlibs=$1 library kit
+    kit=$(dirname "$(rt doc)")
+    shift
+    over=(--extern "std=$kit/rlibs/std.rlib")
+    for library; do
+        if [ -d "$rlibs/$library.rlib" ]; then
+            over+=(--extern "$library=$rlibs/$library.rlib")
+        else
+            over+=(--extern "$library=$kit/rlibs/$library.rlib")
+        fi
+    done
+    over+=(-L "dependency=$kit/rlibs" -L "dependency=$rlibs")
+    over+=(--antt-project "$kit/rattle/logic/antt-project.json" --logic-built "$kit/logic_built")
+}
+
 passed=0 failed=0
 # Runs a case, and counts it. What it prints is shown only if it fails.
 check() { # name words..

@@ -9,26 +9,12 @@
 # `rt lib` proves those libraries first unless its own earlier runs built them. `rt ci` builds each from nothing and leaves it without
 # the stamp by which `rt lib` would know it; so the gate, which runs beside `rt ci`, calls this script. It needs rt and rattle.
 set -eu
-if [ "${1-}" = --help ]; then
-    sed -n '2,12s/^# \{0,1\}//p' "$0"
-    exit
-fi
-if [ $# -lt 4 ]; then
-    echo 'static_library: wants RLIBS NAME FOLDER ARCHIVE LIBRARY..; --help says more' >&2
-    exit 2
-fi
+. "$(dirname "$0")/common.sh"
+[ "${1-}" != --help ] || { show_help; exit; }
+[ $# -ge 4 ] || refuse 'it wants RLIBS NAME FOLDER ARCHIVE LIBRARY..'
 rlibs=$(cd "$1" && pwd) name=$2 folder=$3 archive=$(cd "$(dirname "$4")" && pwd)/$(basename "$4")
 shift 4
-kit=$(dirname "$(rt doc)")
-externs=(--extern "std=$kit/rlibs/std.rlib")
-for library; do
-    if [ -d "$rlibs/$library.rlib" ]; then
-        externs+=(--extern "$library=$rlibs/$library.rlib")
-    else
-        externs+=(--extern "$library=$kit/rlibs/$library.rlib")
-    fi
-done
+name_libraries "$rlibs" "$@"
 cd "$folder"
-exec rattle build --crate-name "$name" src/lib.rt "${externs[@]}" -L "dependency=$kit/rlibs" -L "dependency=$rlibs" \
-    --antt-project "$kit/rattle/logic/antt-project.json" --logic-built "$kit/logic_built" --jobs 1 --links "$name=" \
-    --crate-type staticlib --toolchain "$kit/toolchain" --backend llvm -o "$archive"
+exec rattle build --crate-name "$name" src/lib.rt "${over[@]}" --jobs 1 --links "$name=" --list-axioms \
+    --crate-type staticlib --toolchain "$(dirname "$(rt doc)")/toolchain" --backend llvm -o "$archive"

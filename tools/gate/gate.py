@@ -223,6 +223,7 @@ class Gate:
             script("replay_test", ["replay"], "tools/replay_test.sh", "--built"),
             script("refusals", ["refusals", "keyshow"], "tools/refusals.sh", "--built"),
             script("package_test", ["c_library", "keyshow"], "tools/package_test.sh", *over, "--keyshow", "crates/keyshow/out/keyshow"),
+            script("axioms", libraries_below(below, "keyshow"), "tools/axioms.sh", "--over", self.rlibs, "keyshow"),
             script("docs", ["c_library", "keyshow", "example"], "tools/docs.sh", "--built", *over),
         ]
         # those that take longest first
