@@ -88,6 +88,56 @@ const BROKEN_BYTES: &[Example] = &[
     ),
 ];
 
+// `broken_byte_cuts_short`: such a byte after ESC ESC, the beginning of a sequence, and that of a character.
+const CUT_SHORT: &[Example] = &[
+    (
+        "sequence-cut-by-a-byte",
+        &[
+            (b"\x1b[1;5", MORE, "; 5"),
+            (
+                b"\xff\x1b[A",
+                MORE,
+                "key U+005B ALT,key U+0031 NONE,key U+003B NONE,key U+0035 NONE,key U+FFFD NONE,key UpArrow NONE",
+            ),
+        ],
+    ),
+    (
+        "two-escapes-cut-by-a-byte",
+        &[
+            (b"\x1b\x1b", MORE, "; 2"),
+            (b"\xffA", MORE, "key Escape ALT,key U+FFFD NONE,key U+0041 NONE"),
+        ],
+    ),
+    (
+        "character-cut-by-a-byte",
+        &[
+            (b"\x1b\xe0", MORE, "; 2"),
+            (b"\x80A", MORE, "key U+FFFD ALT,key U+FFFD NONE,key U+0041 NONE"),
+        ],
+    ),
+];
+
+// `flush_separates_escape` and `flush_of_beginnings`: a flush of ESC before a key, and of the beginning of a sequence or of a character.
+const FLUSHED: &[Example] = &[
+    (
+        "escape-flushed-before-a-key",
+        &[(b"\x1b", MORE, "; 1"), (b"", LAST, "key Escape NONE"), (b"q", MORE, "key U+0071 NONE")],
+    ),
+    ("escape-before-a-key", &[(b"\x1b", MORE, "; 1"), (b"q", MORE, "key U+0071 ALT")]),
+    (
+        "two-escapes-flushed-before-a-sequence",
+        &[(b"\x1b\x1b", LAST, "key Escape ALT"), (b"\x1b[A", MORE, "key UpArrow NONE")],
+    ),
+    (
+        "beginning-flushed-after-an-escape",
+        &[(b"\x1b\x1b[1;", LAST, "key U+005B ALT,key U+0031 NONE,key U+003B NONE")],
+    ),
+    (
+        "character-flushed-after-an-escape",
+        &[(b"\x1b\xe2\x82", LAST, "key U+FFFD ALT,key U+FFFD NONE")],
+    ),
+];
+
 // `flush_adds_events`: what completes a sequence or a character, with a flush before it and without one.
 const FLUSHES: &[Example] = &[
     ("arrow-unbroken", &[(b"\x1b[1;5A", LAST, "key UpArrow CTRL")]),
@@ -140,6 +190,16 @@ fn plain_text_is_itself() {
 #[test]
 fn broken_bytes_cost_one_event() {
     check_all(BROKEN_BYTES);
+}
+
+#[test]
+fn broken_bytes_cut_short() {
+    check_all(CUT_SHORT);
+}
+
+#[test]
+fn flushes_emit_what_waits() {
+    check_all(FLUSHED);
 }
 
 #[test]
