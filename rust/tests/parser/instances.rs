@@ -121,7 +121,11 @@ const CUT_SHORT: &[Example] = &[
 const FLUSHED: &[Example] = &[
     (
         "escape-flushed-before-a-key",
-        &[(b"\x1b", MORE, "; 1"), (b"", LAST, "key Escape NONE"), (b"q", MORE, "key U+0071 NONE")],
+        &[
+            (b"\x1b", MORE, "; 1"),
+            (b"", LAST, "key Escape NONE"),
+            (b"q", MORE, "key U+0071 NONE"),
+        ],
     ),
     ("escape-before-a-key", &[(b"\x1b", MORE, "; 1"), (b"q", MORE, "key U+0071 ALT")]),
     (
