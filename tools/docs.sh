@@ -9,6 +9,7 @@
 # - each listing that is run is accepted and prints what the document says;
 # - each link leads to a file, and to a heading of it if it names one; each path in backticks exists, and a script knows the options
 #   with which it is named;
+# - each number that a marker quotes is that of the file from which it is quoted;
 # - README.md has at most 150 lines.
 #
 # Markers:
@@ -22,6 +23,8 @@
 #     <!-- run: keyshow -->                                  a table: keyshow prints the last column for the bytes of the first
 #     <!-- prints -->                                        what the listing before has to print: a block, or the second cells of a table
 #     <!-- not run: REASON -->
+#     <!-- "WORDS": NAME in FILE -->                         WORDS stand in the paragraph, list or table at the marker; the number in them
+#                                                            is that of NAME in the file
 #
 # TEXT goes to the program's standard input. With `typed` it is a pseudo terminal's, and each further TEXT is typed once the program has
 # printed something for the one before; after a text that prints nothing comes the word pause.

@@ -179,6 +179,24 @@ def follow(file):
     return held, faults
 
 
+def quote(file):
+    """Checks the numbers that a document quotes from other files. A marker has a phrase, a name and a file. The phrase has to stand in the
+    lines around the marker, up to empty ones, and its number beside the name in the file."""
+    held, faults = 0, []
+    for block in re.split(r'\n\s*\n', without_blocks(read(file))):
+        lines = [line.strip() for line in block.split('\n')]
+        text = ' '.join(line for line in lines if not line.startswith('<!--'))
+        for phrase, name, source in re.findall(r'^ *<!-- "(.*)": (\w+) in (\S+) -->$', block, flags=re.M):
+            wanted = re.search(rf'\b{name}\b(?:[^=\n]*=)? *(\d+)', read(source) if os.path.exists(source) else '')
+            if phrase not in text:
+                faults.append(f'{file}: "{phrase}" isn\'t beside its marker')
+            elif not wanted or wanted[1] != re.search(r'\d+', phrase)[0]:
+                faults.append(f'{file}: "{phrase}" isn\'t what {name} is in {source}')
+            else:
+                held += 1
+    return held, faults
+
+
 def decoded(text):
     """The bytes of a text with escapes such as \\033."""
     return text.encode('latin-1').decode('unicode_escape').encode('latin-1')
@@ -427,9 +445,10 @@ def check_links(found):
     """Checks links, paths and markers of all documents. Returns how many held and the faults."""
     passed, faults = 0, []
     for document in found:
-        held, broken = follow(document.file)
-        passed += held
-        faults += document.faults + broken
+        faults += document.faults
+        for held, broken in (follow(document.file), quote(document.file)):
+            passed += held
+            faults += broken
     if read('README.md').count('\n') > 150:
         faults.append('README.md: more than 150 lines')
     return passed, faults
