@@ -874,7 +874,7 @@ class Imports(unittest.TestCase):
         env = {"HEDRUGAL_LIBRARY": LIBRARY}
         for before in (
             "import platform\nplatform.machine = lambda: 'aarch64'\n",
-            "import sys\nsys.platform = 'darwin'\n",
+            "import ctypes.util, sys\nsys.platform = 'darwin'\n",
             "import ctypes\nsize = ctypes.sizeof\nctypes.sizeof = lambda it: 4 if it is ctypes.c_void_p else size(it)\n",
         ):
             self.assert_message(self.import_it(env, before=before), "x86-64 Linux")
