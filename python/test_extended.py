@@ -319,6 +319,11 @@ class Events(WithParsers):
             with self.assertRaises(AttributeError):
                 event.key = event.data = event.row = 1
 
+    def test_kept_reports(self):
+        """Of the reports that were made, a bounded number is kept."""
+        self.assertEqual(len(self.parsers[Rows.PORT].parse(b"".join(b"\x1b[%d;5:3u" % code for code in range(0x4E00, 0x9000)))), 0x4200)
+        self.assertLess(extended._key_report.cache_info().currsize, 5000)
+
     def test_reprs(self):
         (event,) = self.parsers[Rows.PORT].parse(b"\x1b[97:65;6:2;65u")
         wanted = "KeyReport(key='a', modifiers=Held.SHIFT|CTRL, action=KeyAction.REPEAT, shifted='A', base=None, text='A')"
@@ -547,6 +552,8 @@ class EncodedReports(WithParsers):
     def test_what_names_nothing(self):
         for report in [
             *(KeyReport(key) for key in ("", "ab", "\ud800", Function(256), Function(-1), -1, 2**32)),
+            # These would be keys of Kitty's table, if they were cut to 32 bits.
+            *(KeyReport(key) for key in (57358 + 2**32, 57358 - 2**32)),
             KeyReport("a", Held(256)),
             *(KeyReport("a", shifted=wrong) for wrong in ("", "ab", "\udfff")),
             *(KeyReport("a", base=wrong) for wrong in ("", "ab", "\ud800")),

@@ -303,6 +303,8 @@ class Events(WithParser):
     def test_many_different_keys(self):
         text = "".join(map(chr, [*range(0xA0, 0xD800), *range(0xE000, 0x11000)]))
         self.assertEqual([event.key for event in self.parser.parse(text.encode())], list(text))
+        # Of the events that were made, a bounded number is kept.
+        self.assertLess(hedrugal._key_event.cache_info().currsize, 5000)
 
     def test_a_long_paste(self):
         body = "0123456789abcdef" * 6400
