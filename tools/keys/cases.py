@@ -38,11 +38,12 @@ MOUSE = "the beginning of a mouse report: waits up to 1 s"
 class Keys:
     """The program on a terminal. Its screen is what it has written so far."""
 
-    def __init__(self, program, *words, size=(80, 24), shell=None, **variables):
+    def __init__(self, program, *words, size=(80, 24), shell=None, is_orphaned=False, **variables):
         changed = {"TERM": "xterm", "NO_COLOR": "1", **variables}
         self.saved = {name: os.environ.get(name) for name in changed}
         self.set_variables(changed)
-        self.size, self.words = size, [program, *words] if not shell else ["/bin/sh", "-c", shell, program, *words]
+        self.size, self.is_orphaned = size, is_orphaned
+        self.words = [program, *words] if not shell else ["/bin/sh", "-c", shell, program, *words]
 
     @staticmethod
     def set_variables(values):
@@ -52,7 +53,7 @@ class Keys:
                 os.environ[name] = value
 
     def __enter__(self):
-        self.terminal = Terminal(self.words, self.size)
+        self.terminal = Terminal(self.words, self.size, self.is_orphaned)
         self.set_variables(self.saved)
         self.wait_for_text(HELLO)
         if not self.terminal.is_raw():
@@ -357,10 +358,12 @@ def string_over_reads(program):
         keys.end_with(f"{first}goes on in read 2", "   2  (ESC ] 1 1 ; r) ^G -> osc 4:31313b72 | ESC [ I -> focus gained")
 
 
-def keys_of_signals(program):
+def keys_of_the_terminal(program):
+    """What a terminal's driver obeys unless it is set otherwise: the keys of signals, and those that stop and start the output."""
     with Keys(program) as keys:
-        keys.send(b"\x03\x1a\x1c")
-        keys.wait_for_screen("   1  ^C -> key U+0063 CTRL | ^Z -> key U+007A CTRL | ^\\ -> key U+001C NONE")
+        keys.send(b"\x03\x1a\x1c\x13\x11")
+        keys.wait_for_screen("   1  ^C -> key U+0063 CTRL | ^Z -> key U+007A CTRL | ^\\ -> key U+001C NONE |",
+                             "      ^S -> key U+0073 CTRL | ^Q -> key U+0071 CTRL")
         keys.end()
 
 
@@ -399,6 +402,17 @@ def stop_and_continue(program):
         keys.terminal.kill(signal.SIGTERM)
         keys.terminal.kill(signal.SIGCONT)
         keys.check_end(-signal.SIGTERM)
+
+
+def no_stop(program):
+    """SIGTSTP stops nothing that no shell could continue: the modes are switched off and on again."""
+    with Keys(program, "--focus", is_orphaned=True) as keys:
+        keys.terminal.kill(signal.SIGTSTP)
+        keys.terminal.wait_for(lambda: keys.terminal.output.count(b"\033[?1004h") == 2, "focus mode again")
+        expect("raw mode again", keys.terminal.is_raw(), True)
+        keys.send(b"b")
+        keys.wait_for_screen("   1  b -> key U+0062 NONE")
+        keys.end()
 
 
 def end_of_input(program):
@@ -488,6 +502,13 @@ ALL_AS_JSON = [
     '{"read":1,"bytes":"1b5b3230307e78","earlier":0,"kind":"waiting","reason":"a paste of 1 bytes so far"}',
 ]
 
+
+# The first and the last character of each length in UTF-8.
+EDGES = "\0\x7f\x80\u07ff\u0800\uffff\U00010000\U0010ffff".encode()
+EDGES_AS_JSON = (
+    f'{{"read":1,"bytes":"{(START + EDGES + END).hex()}","earlier":0,"kind":"paste","length":{len(EDGES)},'
+    '"text":"\\u0000\\u007f\\u0080\\u07ff\\u0800\\uffff\\ud800\\udc00\\udbff\\udfff"}'
+)
 
 REPORTS = (b"\033[97:65:99;2:2;65u\033[24;80R\033[?5u\033[48;24;80;480;800t\033[I\033[O\033[?62c"
            b"\033]0;a\007\033Px\033\\\033_y\033\\\033[57428u")
@@ -683,9 +704,10 @@ CASES = [
     ("^D twice, as sequences", end_by_sequences),
     ("Kitty's keyboard protocol", kitty_keyboard),
     ("a string over two reads", lambda program: run_tries(string_over_reads, program)),
-    ("^C, ^Z and ^\\ as keys", keys_of_signals),
+    ("^C, ^Z, ^\\, ^S and ^Q as keys", keys_of_the_terminal),
     *((it.name, end_by(it)) for it in (signal.SIGHUP, signal.SIGINT, signal.SIGQUIT, signal.SIGTERM)),
     ("SIGTSTP, SIGCONT, SIGTERM", stop_and_continue),
+    ("SIGTSTP where no shell could continue it", no_stop),
     ("the end of the input", end_of_input),
     ("a terminal that is gone", hang_up),
     ("JSON from a terminal", json_from_terminal),
@@ -700,6 +722,7 @@ CASES = [
                                         from_file=True)),
     ("JSON, from a pipe", prints(ALL_KINDS, *ALL_AS_JSON, words=["--json"])),
     ("JSON, from a file", prints(ALL_KINDS, *ALL_AS_JSON, words=["--json"], from_file=True)),
+    ("JSON of characters of each length", prints(START + EDGES + END, EDGES_AS_JSON, words=["--json"])),
     ("reports, from a pipe", prints(REPORTS, *REPORTS_AS_LINES, words=["--extended"])),
     ("reports, from a file", prints(REPORTS, *REPORTS_AS_LINES, words=["--extended"], from_file=True)),
     ("reports as JSON", prints(REPORTS, *REPORTS_AS_JSON, words=["--extended", "--json"])),

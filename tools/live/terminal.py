@@ -13,17 +13,19 @@ import time
 
 # No wait ends earlier, so that a machine with much to do fails no case.
 SECONDS = 60
-LFLAG, CC = 3, 6
+IFLAG, LFLAG, CC = 0, 3, 6
 
 
 class Failed(Exception):
     """A case that failed, with its reason."""
 
 
-def run_job(slave, words, errors):
-    """Runs a program in the foreground, in place of this process."""
-    os.setpgid(0, 0)
-    os.tcsetpgrp(slave, os.getpid())
+def run_job(slave, words, errors, is_orphaned):
+    """Runs a program in the foreground, in place of this process. An orphaned program stays in the group of the shell, as below a shell
+    without job control. The system then never stops it by SIGTSTP, since no shell could continue it."""
+    if not is_orphaned:
+        os.setpgid(0, 0)
+    os.tcsetpgrp(slave, os.getpgrp())
     for number in (signal.SIGHUP, signal.SIGTTOU, signal.SIGPIPE):
         signal.signal(number, signal.SIG_DFL)
     for descriptor, target in ((slave, 0), (slave, 1), (errors, 2)):
@@ -31,7 +33,7 @@ def run_job(slave, words, errors):
     os.execv(words[0], words)
 
 
-def run_shell(slave, words, errors, statuses, leave):
+def run_shell(slave, words, errors, statuses, leave, is_orphaned):
     """Runs a program as a shell runs a job, and writes each change of its status. When the job stops, the shell has the terminal; SIGUSR1
     continues the job in the foreground. The shell ends once `leave` is at its end."""
     os.setsid()
@@ -40,7 +42,7 @@ def run_shell(slave, words, errors, statuses, leave):
     signal.signal(signal.SIGTTOU, signal.SIG_IGN)
     job = os.fork()
     if job == 0:
-        run_job(slave, words, errors)
+        run_job(slave, words, errors, is_orphaned)
 
     def continue_job(*_):
         os.tcsetpgrp(slave, job)
@@ -61,7 +63,7 @@ def run_shell(slave, words, errors, statuses, leave):
 class Terminal:
     """A pseudo-terminal on which a program runs. `output` is what the program has printed."""
 
-    def __init__(self, words, size=(80, 24)):
+    def __init__(self, words, size=(80, 24), is_orphaned=False):
         self.master, self.slave = pty.openpty()
         os.set_blocking(self.master, False)
         self.resize(*size)
@@ -75,7 +77,7 @@ class Terminal:
             try:
                 for descriptor in (self.master, self.statuses, self.leave):
                     os.close(descriptor)
-                run_shell(self.slave, words, self.errors.fileno(), statuses, leave)
+                run_shell(self.slave, words, self.errors.fileno(), statuses, leave, is_orphaned)
             finally:
                 os._exit(127)
         os.close(statuses)
@@ -96,7 +98,8 @@ class Terminal:
         return termios.tcgetattr(self.slave)
 
     def is_raw(self):
-        return not self.settings()[LFLAG] & (termios.ICANON | termios.ECHO | termios.ISIG)
+        settings = self.settings()
+        return not settings[LFLAG] & (termios.ICANON | termios.ECHO | termios.ISIG) and not settings[IFLAG] & (termios.ICRNL | termios.IXON)
 
     def resize(self, columns, rows):
         fcntl.ioctl(self.master, termios.TIOCSWINSZ, struct.pack("HHHH", rows, columns, 0, 0))
