@@ -12,11 +12,12 @@ import sys
 import threading
 import time
 import unittest
+import unittest.mock
 
 import hedrugal
 from hedrugal import InputParser, KeyCode, Modifiers, encode
 from hedrugal.page import meanings
-from hedrugal.page.server import AT_ONCE, FILES, HEADERS, MOST, Server
+from hedrugal.page.server import AT_ONCE, FILES, MOST, Handler, Server
 
 TOP = os.path.dirname(os.path.dirname(os.path.dirname(os.path.abspath(__file__))))
 STREAM = b"hello\x1b[A\x1b\x1b[200~ab\xc3\xa9cd\x1b[201~q\x1b[<0;3;4M\xff\x1b[27;5;13~\xc3\xa9<script>alert(1)</script>"
@@ -37,6 +38,18 @@ RESTS = [
 EXTENDED_STREAM = b"q\x1b[24;80R\x1b\x1b[I\x1b]11;#fff\a\x1b[1;9A\x1b[97;5:3u\x1bP>|x\x1b\\\x1b]a\rb\x1b[M !!\x1b[?62;4c\xc3\xa9"
 BEGINNINGS = [b"\x1b[?", b"\x1b]11;", b"\x1b]11;\x1b", b"\x1bP", b"\x1b_G", b"\x1b[[", b"\x1b[M!", b"\x1b\x1b]1", b"\x1b\x1b[?1"]
 SECONDS = 60
+# What each answer, also a refusal, tells the browser.
+POLICY = """default-src 'none'; script-src 'self'; style-src 'self'; img-src 'self'; connect-src 'self'; base-uri 'none';
+form-action 'none'; frame-ancestors 'none'; require-trusted-types-for 'script'; trusted-types 'none'"""
+HEADERS = {
+    "Cache-Control": "no-store",
+    "Content-Security-Policy": POLICY.replace("\n", " "),
+    "Cross-Origin-Opener-Policy": "same-origin",
+    "Cross-Origin-Resource-Policy": "same-origin",
+    "Referrer-Policy": "no-referrer",
+    "X-Content-Type-Options": "nosniff",
+    "X-Frame-Options": "DENY",
+}
 
 
 class WithServer(unittest.TestCase):
@@ -78,17 +91,24 @@ class WithServer(unittest.TestCase):
         self.assertEqual((status, headers["Content-Type"]), (200, "application/json"))
         return json.loads(body)
 
-    def raw(self, data):
-        """What comes back for these bytes."""
+    def raw(self, data, is_all=True):
+        """What comes back for these bytes, after which more are to come unless they are all."""
         with socket.create_connection(("127.0.0.1", self.server.port), SECONDS) as it:
             it.sendall(data)
-            it.shutdown(socket.SHUT_WR)
+            if is_all:
+                it.shutdown(socket.SHUT_WR)
             answer = b""
             while True:
                 read = it.recv(1 << 16)
                 if not read:
                     return answer
                 answer += read
+
+    def posted(self, length, body, is_all=True):
+        """The status that comes back for a body under a Content-Length, both as bytes, None if nothing comes back."""
+        head = f"POST /api/read HTTP/1.1\r\nHost: 127.0.0.1:{self.server.port}\r\nConnection: close\r\nContent-Length: "
+        words = self.raw(head.encode() + length + b"\r\n\r\n" + body, is_all).split(b" ")
+        return int(words[1]) if len(words) > 1 else None
 
 
 class Requests(WithServer):
@@ -109,8 +129,6 @@ class Requests(WithServer):
             self.assertEqual(re.findall(r"https?://(?!www\.w3\.org/2000/svg)\S*", text), [], path)
         makers = r"innerHTML|outerHTML|insertAdjacentHTML|document\.write|\beval\b|new Function|DOMParser|srcdoc|setHTML"
         self.assertIsNone(re.search(makers, texts["/page.js"]))
-        self.assertIn("script-src 'self';", HEADERS["Content-Security-Policy"])
-        self.assertNotIn("unsafe", HEADERS["Content-Security-Policy"])
 
     def test_hosts(self):
         port = self.server.port
@@ -185,11 +203,23 @@ class Requests(WithServer):
             self.assertEqual(self.status("POST", path, b"", Content_Length=None), 411)
             self.assertEqual(self.status("POST", path, b"1\r\nq\r\n0\r\n\r\n", Content_Length=None, Transfer_Encoding="chunked"), 411)
             self.assertEqual(self.status("POST", path, b"q", Content_Length=["1", "1"]), 411)
-            for length in ("-1", "+1", "x", "", "1.0", "0x1", "1" * 30, "١"):
-                host = f"Host: 127.0.0.1:{self.server.port}".encode()
-                asked = f"POST {path} HTTP/1.1\r\n".encode() + host + b"\r\nContent-Length: " + length.encode() + b"\r\n\r\nq"
-                self.assertEqual(self.raw(asked).split(b" ")[1], b"400", length)
         self.assertEqual(self.status("GET", "/", b"q" * 10), 400)
+
+    def test_lengths(self):
+        """A Content-Length is a number in ASCII, and the body isn't shorter. Of a longer one the rest isn't read."""
+        for length in (b"-1", b"+1", b"x", b"", b"1.0", b"0x1", b"1" * 30, "١".encode(), b"\xb2", b"1\xb9"):
+            self.assertEqual(self.posted(length, b"q"), 400, length)
+        for count in range(9):
+            self.assertEqual(self.posted(b"8", b"q" * count), 200 if count == 8 else 400, count)
+        self.assertEqual(self.posted(b"8", b"q" * 9), 200)
+
+    def test_seconds(self):
+        """A request that doesn't come in time ends the connection. The server serves on."""
+        self.assertEqual(Handler.timeout, 30)
+        with unittest.mock.patch.object(Handler, "timeout", 0.2):
+            self.assertEqual(self.raw(b"GET / HTTP/1.1\r\n", is_all=False), b"")
+            self.assertIsNone(self.posted(b"8", b"q", is_all=False))
+        self.assertEqual(self.posted(b"1", b"q"), 200)
 
     def test_broken_requests(self):
         host = f"Host: 127.0.0.1:{self.server.port}\r\n".encode()
@@ -199,10 +229,7 @@ class Requests(WithServer):
             b"GET\r\n\r\n",
             b"GET / HTTP/9.9\r\n\r\n",
             b"GET / HTTP/1.1\r\n" + b"A: b\r\n" * 200 + b"\r\n",
-        ]
-        cases += [
             b"GET /" + b"a" * 70000 + b" HTTP/1.1\r\n" + host + b"\r\n",
-            b"POST /api/read HTTP/1.1\r\n" + host + b"Content-Length: 9\r\n\r\nq",
         ]
         for case in cases:
             answer = self.raw(case)
@@ -608,9 +635,12 @@ class Program(unittest.TestCase):
         status, printed, errors = self.run_it("--port", str(port))
         self.assertEqual((status, printed), (1, ""))
         self.assertIn(f"port {port} can't be used", errors)
+        connection.request("GET", "/none")
+        self.assertEqual(connection.getresponse().status, 404)
         process.send_signal(signal.SIGINT)
         self.assertEqual(process.wait(SECONDS), 0)
-        self.assertNotIn("Traceback", process.stderr.read())
+        # No request is logged.
+        self.assertEqual(process.stderr.read(), "hedrugal.page: open this address in a browser; Ctrl-C ends it\n\n")
         connection.close()
         again, url = self.start("--port", str(port))
         self.assertEqual(url, f"http://127.0.0.1:{port}/\n")
