@@ -5,7 +5,8 @@
 #
 # Programs are built by pkg-config, with the shared library and with the archive, where the files were installed and after the prefix was
 # moved. The shared library has to export the calls of the header alone, and to be linked as tools/c_library.sh says. The manual page has to
-# have each call as the header declares it. Each file has to be gone once it is uninstalled, and no other.
+# have each call as the header declares it. Each file has to be gone once it is uninstalled, and no other. The folders of /usr/local have to
+# stay; they are an empty file system's, if the system lets a program have such a view.
 #
 # DIR is a folder that tools/c_library.sh wrote, each FILE the program; what isn't named is proved and built first. The last line is
 # 'N passed, N failed', the status 1 if a case failed. It needs cc, binutils and pkg-config, and rt to build. The manual pages are checked
@@ -221,6 +222,28 @@ check_uninstall_of_stage() {
         [ -z "$(find "$work/stage" -mindepth 1)" ]
 }
 
+# Nothing is installed outside the prefix, nor in a folder with a name that pkg-config would misread.
+check_libdir() { # name
+    rm -rf "$work/outer" && mkdir "$work/outer" || return
+    ! "$install" "${built[@]}" --prefix "$work/outer/none" --libdir "$1" 2> "$work/words" &&
+        grep -F -- "--libdir wants a folder's name below the prefix, and not '$1'" "$work/words" && [ -z "$(ls "$work/outer")" ]
+}
+
+# Finds how a program is given an empty /usr/local of its own.
+find_view() {
+    local user=(--map-root-user)
+    [ "$(id -u)" != 0 ] || user=()
+    view=(unshare "${user[@]}" --mount bash -c 'mount -t tmpfs none /usr/local && exec "$@"' bash)
+    "${view[@]}" true 2> /dev/null || view=()
+}
+
+# The usual prefix is the system's: its folders stay, empty or not.
+check_system_folders() {
+    "${view[@]}" bash -ec '"$1" "${@:2}" && [ -f /usr/local/include/termwiz_input.h ] && "$1" --uninstall &&
+        find /usr/local -mindepth 1 -printf "%P\n" | sort' bash "$install" "${built[@]}" > "$work/lines" &&
+        diff <(grep -v '^install: ' "$work/lines") <(printf '%s\n' bin include lib lib/pkgconfig share share/man share/man/man1 share/man/man3)
+}
+
 # A library of other sources isn't installed.
 check_stale() {
     cp -a "$library" "$work/stale" && echo >> "$work/stale/termwiz_input.h" &&
@@ -256,5 +279,12 @@ check 'program with the shared library, there' check_shared "$work/own" lib/x86_
 check 'uninstall among other files' check_uninstall
 check 'uninstall of nothing' check_nothing_to_uninstall
 check 'uninstall from a folder for packages' check_uninstall_of_stage
+for name in .. ../lib lib/../.. lib/./a . '' /lib lib/ lib//a 'a lib' 'a&b'; do check "folder of libraries '$name'" check_libdir "$name"; done
+find_view
+if [ ${#view[@]} -gt 0 ]; then
+    check 'folders of the system' check_system_folders
+else
+    echo "install_test: the system's folders aren't checked: this system gives no program a /usr/local of its own"
+fi
 check 'library of other sources' check_stale
 print_counts

@@ -55,11 +55,20 @@ export SOURCE_DATE_EPOCH
 kit=$PWD
 ! command -v rt > /dev/null || kit=$(dirname "$(rt doc)")
 
-# From a copy of the sources, in another folder and for another user's settings.
+# Makes a copy of the sources as another user may have it: only that user reads it, and it has what Python and cargo left there.
+copy_sources() { # folder
+    mkdir "$1" && tar --exclude=target -c CHANGELOG.md LICENSE c docs keys python rust tools | tar -C "$1" -x && chmod -R go= "$1" &&
+        mkdir -p "$1"/python/hedrugal/{__pycache__,page/__pycache__} "$1"/rust/{target/debug,serde/target} &&
+        touch "$1"/python/hedrugal/{__pycache__,page/__pycache__}/old.pyc "$1"/rust/{target/debug,serde/target}/old
+}
+
+# From such a copy, in another folder, for another user's settings and over the packages of an older version. Other files stay.
 make_again() {
-    local copy="$work/a copy"
-    mkdir "$copy" && tar --exclude=target -c CHANGELOG.md LICENSE c docs keys python rust tools | tar -C "$copy" -x || return
-    (cd / && umask 077 && TZ=Asia/Tokyo "$copy/tools/package.sh" "${built[@]}" "$work/again") && diff -r "$packages" "$work/again"
+    local copy="$work/a copy" again=$work/again
+    copy_sources "$copy" && mkdir "$again" || return
+    touch "$again"/another "$again"/{libtermwiz-input0,libtermwiz-input-dev,keyshow}_0.0.1-1_amd64.deb \
+        "$again"/hedrugal-0.0.1-{x86_64-linux.tar.gz,py3-none-manylinux_2_5_x86_64.whl}
+    (cd / && umask 077 && TZ=Asia/Tokyo "$copy/tools/package.sh" "${built[@]}" "$again") && rm "$again/another" && diff -r "$packages" "$again"
 }
 
 check_names() {
@@ -170,6 +179,15 @@ check_python() {
     for folder in "$unpacked/hedrugal-$version-x86_64-linux/python" "$unpacked/wheel"; do
         diff -r --exclude=__pycache__ --exclude=libtermwiz_c.so python/hedrugal "$folder/hedrugal" && [ -f "$folder/hedrugal/libtermwiz_c.so" ] || return
     done
+}
+
+# Everyone reads the tarball's files, and runs the programs and the shared library. All belong to root.
+check_modes() {
+    local name=hedrugal-$version-x86_64-linux
+    tar --numeric-owner -tvzf "$packages/$name.tar.gz" > "$work/listed" && [ -s "$work/listed" ] || return
+    diff <(awk '{ print $1, $2 }' "$work/listed" | sort -u) <(printf '%s 0/0\n' -rw-r--r-- -rwxr-xr-x drwxr-xr-x lrwxrwxrwx) &&
+        diff <(awk '$1 == "-rwxr-xr-x" { print $NF }' "$work/listed" | sort) \
+            <(printf "$name/%s\n" bin/hedrugal-keys bin/keyshow "lib/libtermwiz_c.so.$version")
 }
 
 # The notices of the tarball, the wheel and the Debian packages.
@@ -327,6 +345,7 @@ check 'name and exports of the library' check_exports
 for file in "$system_library" "$unpacked"/keyshow/usr/bin/*; do check "processor for ${file##*/}" check_processor "$file"; done
 check 'wheel' check_wheel
 check 'Python module' check_python
+check "modes of the tarball's files" check_modes
 check 'notices' check_notices
 check 'parts of the kit' check_third_party
 find_view
