@@ -148,6 +148,9 @@ static const struct example examples[] = {
   { BOTH, TEXT("\033[48;24;80;480;800t"), MORE, "Resize(24, 80, 480, 800); ", 0 },
   { BOTH, TEXT("\033[M0\x60\x70"), MORE, "Mouse(64, 80, 2, 8); ", 0 },
   { BOTH, TEXT("\033[32;30;40M"), MORE, "Mouse(30, 40, 2, 0); ", 0 },
+  /* the largest code: a wheel turned right, 64 + 3, with Shift, Alt and Ctrl, 4 + 8 + 16 */
+  { BOTH, TEXT("\033[M\177!!\033[127;1;1M"), MORE, "Mouse(1, 1, 32, 14); Mouse(1, 1, 32, 14); ", 0 },
+  { BOTH, TEXT("\033[M\200!!\033[128;1;1M"), MORE, "Csi(M\\x80!!); Csi(128;1;1M); ", 0 },
   { BOTH, TEXT("\033[<0;20;10M\033[<0;20;10m"), MORE, "Mouse(20, 10, 2, 0); Mouse(20, 10, 0, 0); ", 0 },
   { BOTH, TEXT("\033[200~\033[I\033]0;a\007\033[201~"), MORE, "Paste(\\x1b[I\\x1b]0;a\\x07); ", 0 },
   { BOTH, TEXT("\033[[A\033OM\033Oq"), MORE, "Key(F1); Key(functional 57414); Key(Numpad1); ", 0 },
@@ -157,6 +160,11 @@ static const struct example examples[] = {
   { TW_ROWS_PORT, TEXT("\033\033[97;5u"), MORE, "a ALT CTRL; ", 0 },
   { BOTH, TEXT("\033[97;1:2u\033[97;1:3u\033[97;65u\033[49;129u"), MORE, "Key(a Repeat); Key(a Release); Key(a CAPS); Key(1 NUM); ", 0 },
   { BOTH, TEXT("\033[97;9u\033[97;17u\033[97;33u"), MORE, "Key(a SUPER); Key(a HYPER); Key(a META); ", 0 },
+  /* the keypad's minus and plus, pressed and released, as kitty 0.26.5 sends them under all flags */
+  { BOTH, TEXT("\033[57412;;45u\033[57412;1:3u"), MORE, "Key(Subtract text(-)); Key(Subtract Release); ", 0 },
+  { BOTH, TEXT("\033[57413;;43u\033[57413;1:3u"), MORE, "Key(Add text(+)); Key(Add Release); ", 0 },
+  /* LOWER_VOLUME and RAISE_VOLUME of Kitty's table */
+  { BOTH, TEXT("\033[57438u\033[57439u"), MORE, "Key(VolumeDown); Key(VolumeUp); ", 0 },
   { BOTH, TEXT("\033[57358u\033[57376u\033[57428u"), MORE, "Key(CapsLock); Key(F13); Key(functional 57428); ", 0 },
   { BOTH, TEXT("\033[97:65:99;2:1;65u\033[97::99;5u"), MORE, "Key(a SHIFT shifted A base c text(A)); Key(a CTRL base c); ", 0 },
   { BOTH, TEXT("\033[0;;229:230u"), MORE, "Key(U+0000 text(\\xc3\\xa5\\xc3\\xa6)); ", 0 },

@@ -287,6 +287,16 @@ pub const MOUSE_REPORTS: &[Example] = &[
             "mouse 30 40 LEFT NONE, mouse 30 40 NONE NONE",
         )],
     ),
+    // By xterm's ctlseqs, "Mouse Tracking", the wheel turned right is 32 + 64 + 3. Shift adds 4, Meta 8 and Control 16: 127 in all.
+    (
+        BOTH,
+        &[(
+            b"\x1b[M\x7f!!\x1b[127;1;1M",
+            MORE,
+            "mouse 1 1 HORZ_WHEEL SHIFT|ALT|CTRL, mouse 1 1 HORZ_WHEEL SHIFT|ALT|CTRL",
+        )],
+    ),
+    (BOTH, &[(b"\x1b[M\x80!!\x1b[128;1;1M", MORE, r"csi M\x80!!, csi 128;1;1M")]),
     (BOTH, &[(b"\x1b[32;30;40;M", MORE, "csi 32;30;40;M")]),
     (BOTH, &[(b"\x1b[<0;20;10;M\x1b[<0;20;10;m", MORE, "csi <0;20;10;M, csi <0;20;10;m")]),
     (BOTH, &[(b"\x1b[<128;20;10M\x1b[<0;-5;10M", MORE, "csi <128;20;10M, csi <0;-5;10M")]),
