@@ -32,8 +32,8 @@ TYPED = [
 class Live:
     """A live program that has begun. At the end of a `with` that fails nothing of it is left."""
 
-    def __init__(self, program, *words):
-        self.terminal = Terminal([program, *words])
+    def __init__(self, program, *words, is_orphaned=False):
+        self.terminal = Terminal([program, *words], is_orphaned=is_orphaned)
 
     def __enter__(self):
         self.terminal.wait_for_line("q ends")
@@ -222,6 +222,16 @@ def continue_after_sigstop(program):
         check_end(terminal, 0, ["size 80 x 24", "Char U+0071"])
 
 
+def no_stop(program):
+    """SIGTSTP stops nothing that no shell could continue: raw mode comes back at once."""
+    with Live(program, is_orphaned=True) as terminal:
+        terminal.kill(signal.SIGTSTP)
+        terminal.wait_for_line("size 80 x 24")
+        expect("raw mode again", terminal.is_raw(), True)
+        terminal.send(b"q")
+        check_end(terminal, 0, ["size 80 x 24", "Char U+0071"])
+
+
 def no_terminal(program):
     status, printed, errors = run_without_terminal([program])
     expect("status and standard output", (status, printed), (1, b""))
@@ -248,6 +258,7 @@ CASES = [
     ("SIGCONT in the background", continue_in_background),
     ("SIGTERM while it is stopped", end_while_stopped),
     ("SIGSTOP and SIGCONT", continue_after_sigstop),
+    ("SIGTSTP where no shell could continue it", no_stop),
     ("no terminal", no_terminal),
     ("an unknown word", unknown_word),
 ]
