@@ -1,7 +1,8 @@
 /* Refuses each request for memory of the extended parser's calls and of tw_encode_kitty in turn, one in each run, and makes the refused call
- * again: the answers must be those of a run without a refusal, and each refusal must be told once.
+ * again: the answers must be those of a run without a refusal, and each refusal must be told once. What is dropped or freed leaves no memory
+ * in use.
  *
- *     cc -Wl,--wrap=malloc -Wl,--wrap=realloc test_extended_refusals.c libtermwiz_c.a && ./a.out [STEP]
+ *     cc -Wl,--wrap=malloc -Wl,--wrap=realloc -Wl,--wrap=free test_extended_refusals.c libtermwiz_c.a && ./a.out [STEP]
  *
  * Of the requests of tw_extended_init it refuses each STEPth (each, if no STEP is given). */
 #include "expect.h"
@@ -184,6 +185,27 @@ static void need_no_memory(void) {
   tw_extended_free(&parser);
 }
 
+/* The bytes of a long string are freed once they are dropped, and all of a parser by its end. */
+static void frees_memory(void) {
+  enum { LONG = 60000 };
+  static uint8_t text[LONG];
+  tw_extended parser = TW_EXTENDED_NONE;
+  tw_extended_event event;
+  memset(text, 'x', sizeof text);
+  EXPECT(in_use == 0);
+  EXPECT(tw_extended_init(&parser, TW_ROWS_PORT) && in_use > 0);
+  EXPECT(tw_extended_feed(&parser, (const uint8_t *)"\033]", 2) && tw_extended_feed(&parser, text, LONG));
+  EXPECT(tw_extended_feed(&parser, (const uint8_t *)"\a", 1) && tw_extended_next(&parser, true, &event) == TW_EVENT);
+  EXPECT(tw_extended_text(&parser, text, 0) == LONG);
+  size_t before = in_use;
+  tw_extended_drop_text(&parser);
+  EXPECT(in_use + LONG <= before);
+  EXPECT(tw_extended_init(&parser, TW_ROWS_KITTY));
+  tw_extended_free(&parser);
+  tw_extended_free(&parser);
+  EXPECT(in_use == 0);
+}
+
 int main(int argc, char **argv) {
   long step = argc > 1 ? atol(argv[1]) : 1;
   if (step < 1) return 2;
@@ -192,5 +214,6 @@ int main(int argc, char **argv) {
   refuse_while_encoding();
   need_no_memory();
   refuse_init(step);
+  frees_memory();
   return expected("test_extended_refusals");
 }

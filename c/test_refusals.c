@@ -1,7 +1,7 @@
 /* Refuses each request for memory in turn, one in each run, and makes the refused call again: the answers must be those of a run without a
- * refusal, and each refusal must be told once.
+ * refusal, and each refusal must be told once. What is dropped or freed leaves no memory in use.
  *
- *     cc -Wl,--wrap=malloc -Wl,--wrap=realloc test_refusals.c libtermwiz_c.a && ./a.out [STEP]
+ *     cc -Wl,--wrap=malloc -Wl,--wrap=realloc -Wl,--wrap=free test_refusals.c libtermwiz_c.a && ./a.out [STEP]
  *
  * Of the requests of tw_parser_init it refuses each STEPth (each, if no STEP is given). */
 #include "expect.h"
@@ -232,6 +232,27 @@ static void need_no_memory(void) {
   tw_parser_free(&parser);
 }
 
+/* The text of a long paste is freed once it is dropped, and all of a parser by its end. */
+static void frees_memory(void) {
+  enum { LONG = 100000 };
+  static uint8_t text[LONG];
+  tw_parser parser = TW_PARSER_NONE;
+  tw_event event;
+  memset(text, 'x', sizeof text);
+  EXPECT(in_use == 0);
+  EXPECT(tw_parser_init(&parser) && in_use > 0);
+  EXPECT(tw_parser_feed(&parser, (const uint8_t *)"\033[200~", 6) && tw_parser_feed(&parser, text, LONG));
+  EXPECT(tw_parser_feed(&parser, (const uint8_t *)"\033[201~", 6) && tw_parser_next(&parser, true, &event) == TW_EVENT);
+  EXPECT(tw_parser_paste(&parser, text, 0) == LONG);
+  size_t before = in_use;
+  tw_parser_drop_paste(&parser);
+  EXPECT(in_use + LONG <= before);
+  EXPECT(tw_parser_init(&parser));
+  tw_parser_free(&parser);
+  tw_parser_free(&parser);
+  EXPECT(in_use == 0);
+}
+
 #define LONG_KEY "0123456789012345678901234567890123456789012345678901234567890123456789012345678901234567890123456789"
 
 /* Keys that are inserted one after another, each with its place in the list as its value. A long one needs memory of its own. */
@@ -313,5 +334,6 @@ int main(int argc, char **argv) {
   need_no_memory();
   refuse_bindings();
   refuse_init(step);
+  frees_memory();
   return expected("test_refusals");
 }

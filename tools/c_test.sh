@@ -181,10 +181,11 @@ fi
 check 'listings in C' bash -c 'check_listings c'
 check 'build of the calls' cc -std=c99 $strict -I"$work/lib" c/test_calls.c "$archive" -o "$work/calls"
 check 'build with the shared library' cc -std=c99 $strict -I"$work/lib" c/test_calls.c $shared -o "$work/calls_shared"
-check 'build of the refusals' cc -std=c99 $strict -I"$work/lib" -Wl,--wrap=malloc -Wl,--wrap=realloc c/test_refusals.c "$archive" \
+counting='-Wl,--wrap=malloc -Wl,--wrap=realloc -Wl,--wrap=free'
+check 'build of the refusals' cc -std=c99 $strict -I"$work/lib" $counting c/test_refusals.c "$archive" \
     -o "$work/refusals"
 check 'build of the extended calls' cc -std=c99 $strict -I"$work/lib" c/test_extended.c "$archive" -o "$work/extended"
-check 'build of their refusals' cc -std=c99 $strict -I"$work/lib" -Wl,--wrap=malloc -Wl,--wrap=realloc c/test_extended_refusals.c \
+check 'build of their refusals' cc -std=c99 $strict -I"$work/lib" $counting c/test_extended_refusals.c \
     "$archive" -o "$work/extended_refusals"
 check 'asking program as C99' cc -std=c99 $strict -I"$work/lib" c/ask.c "$archive" -o "$work/ask"
 check 'asking program in C' tools/ask_test.sh "$work/ask"

@@ -1,8 +1,8 @@
 // Refuses each request for memory in turn, the library's and this crate's, and goes on: the events must be those of a run without a refusal,
 // and each refusal must be told once.
 //
-// `malloc` and `realloc` are this program's own, over the C library's (glibc's names for them), so all requests come here. What a thread of
-// the tests asks for is refused if that thread said so.
+// `malloc`, `realloc` and `free` are this program's own, over the C library's (glibc's names for them), so all requests come here. What a
+// thread of the tests asks for is refused if that thread said so.
 use hedrugal::extended::{ExtendedEvent, ExtendedParser, KeyEventKind, KeyReport, KittyEncodeError, KittyModifiers, ReportedKey, Rows};
 use hedrugal::input::{AllocError, EncodeError, InputEvent, InputParser, KeyCode, KeyCodeEncodeModes, KeyboardEncoding};
 use hedrugal::input::{KittyKeyboardFlags, Modifiers, ParseError, Waiting};
@@ -14,11 +14,15 @@ thread_local! {
     // How many requests there are to the one that is refused, or 0.
     static TO_REFUSAL: Cell<usize> = const { Cell::new(0) };
     static REFUSED: Cell<usize> = const { Cell::new(0) };
+    // How many bytes the thread's blocks have that weren't freed.
+    static IN_USE: Cell<usize> = const { Cell::new(0) };
 }
 
 extern "C" {
     fn __libc_malloc(size: usize) -> *mut c_void;
     fn __libc_realloc(block: *mut c_void, size: usize) -> *mut c_void;
+    fn __libc_free(block: *mut c_void);
+    fn malloc_usable_size(block: *mut c_void) -> usize;
 }
 
 fn refuses() -> bool {
@@ -36,7 +40,7 @@ extern "C" fn malloc(size: usize) -> *mut c_void {
         return std::ptr::null_mut();
     }
     // SAFETY: this is what the caller asked for.
-    unsafe { __libc_malloc(size) }
+    unsafe { counted(__libc_malloc(size)) }
 }
 
 // SAFETY for callers: as of the C library's realloc.
@@ -46,7 +50,33 @@ unsafe extern "C" fn realloc(block: *mut c_void, size: usize) -> *mut c_void {
         return std::ptr::null_mut();
     }
     // SAFETY: this is what the caller asked for.
-    unsafe { __libc_realloc(block, size) }
+    unsafe {
+        uncount(block);
+        counted(__libc_realloc(block, size))
+    }
+}
+
+// SAFETY for callers: as of the C library's free.
+#[no_mangle]
+unsafe extern "C" fn free(block: *mut c_void) {
+    // SAFETY: this is what the caller asked for.
+    unsafe {
+        uncount(block);
+        __libc_free(block);
+    }
+}
+
+// Counts a new block. SAFETY for callers: it is one, or null.
+unsafe fn counted(block: *mut c_void) -> *mut c_void {
+    // SAFETY: of null the size is 0.
+    IN_USE.set(IN_USE.get().wrapping_add(unsafe { malloc_usable_size(block) }));
+    block
+}
+
+// Takes a block out of the count. SAFETY for callers: it is one, or null.
+unsafe fn uncount(block: *mut c_void) {
+    // SAFETY: of null the size is 0.
+    IN_USE.set(IN_USE.get().wrapping_sub(unsafe { malloc_usable_size(block) }));
 }
 
 // What a call returns if one request in it is refused, and how many were.
@@ -401,6 +431,30 @@ fn tells_rows_without_memory() {
     let all_told = || completions.rows.clone().all(|place| parser.row(place).is_some());
     assert_eq!(refusing(1, all_told), (true, 0));
     assert_eq!(refusing(1, || parser.row(usize::MAX)), (None, 0));
+}
+
+// The library keeps a text no longer once it is an event, and nothing past the parser's end. Keys of as many bytes come first, so that the
+// buffer has room.
+fn check_freed<Parser>(make: fn() -> Parser, parse: fn(&mut Parser, &[u8]) -> usize) {
+    const LONG: usize = 100_000;
+    let (keys, paste) = ("x".repeat(LONG + 12), format!("\x1b[200~{}\x1b[201~", "x".repeat(LONG)));
+    let before = IN_USE.get();
+    let mut parser = make();
+    assert_eq!(parse(&mut parser, keys.as_bytes()), keys.len());
+    let with_buffer = IN_USE.get();
+    assert_eq!(parse(&mut parser, paste.as_bytes()), 1);
+    assert!(IN_USE.get() < with_buffer + LONG / 2);
+    drop(parser);
+    assert_eq!(IN_USE.get(), before);
+}
+
+#[test]
+fn frees_memory() {
+    check_freed(InputParser::new, |parser, bytes| parser.parse_as_vec(bytes, true).len());
+    check_freed(
+        || ExtendedParser::new(Rows::Kitty),
+        |parser, bytes| parser.parse_as_vec(bytes, true).len(),
+    );
 }
 
 #[test]
