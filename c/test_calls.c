@@ -192,9 +192,9 @@ static void keeps_the_text_of_a_paste(void) {
   tw_parser_free(&parser);
 }
 
-/* A paste of 100 KB is one event, fed in pieces or at once, and its whole text is copied. */
+/* A paste of more than 1 MB is one event, fed in pieces or at once, and its whole text is copied. */
 static void gives_a_long_paste(tw_parser *parser) {
-  enum { BODY = 102400, MARK = 6 };
+  enum { BODY = (1 << 20) + 1, MARK = 6 };
   static uint8_t paste[MARK + BODY + MARK], room[BODY];
   uint8_t *body = paste + MARK;
   memcpy(paste, "\033[200~", MARK);

@@ -409,9 +409,9 @@ static void ends_what_was_fed(uint32_t rows) {
   tw_extended_free(&parser);
 }
 
-/* A paste of 100000 bytes comes whole, whether events are asked for before its end or not. Nothing is written past it. */
+/* A paste of more than 1 MB comes whole, whether events are asked for before its end or not. Nothing is written past it. */
 static void reads_a_long_paste(tw_extended *parser, bool is_asked) {
-  static uint8_t body[100000], copy[sizeof body + 1];
+  static uint8_t body[(1 << 20) + 1], copy[sizeof body + 1];
   tw_extended_event event;
   for (size_t at = 0; at < sizeof body; at++) body[at] = (uint8_t)"ab"[at % 2];
   memset(copy, '.', sizeof copy);

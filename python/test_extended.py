@@ -1,6 +1,8 @@
 """Tests of hedrugal.ExtendedParser and of examples/ask.py. tools/python_test.sh runs them with those of test_hedrugal.py, of which many are
 made here with an ExtendedParser."""
+import contextlib
 import ctypes
+import itertools
 import os
 import pickle
 import random
@@ -534,6 +536,19 @@ class EncodedReports(WithParsers):
         reports = [KeyReport(key, Held(bits), action) for key in keys for bits in range(256) for action in KeyAction]
         for report in [self.SHIFT_A, KeyReport("é", CTRL, REPEAT, base="2"), *reports]:
             self.assertEqual(self.parsers[Rows.KITTY].parse(report.encode(self.ALL)), [report])
+
+    def test_nothing_else_is_refused(self):
+        """Each key of Kitty's table is sent, whatever is held. Under flags that ask for no sequences some keys have no bytes, but the
+        refusal is of the key and not of memory. A text is sent as it is, however long."""
+        numbers = [self.parsers[Rows.KITTY].parse(b"\x1b[%du" % number)[0].key for number in (27, 9, 13, 127, *range(57344, 57455))]
+        keys = ["a", "é", UP, KeyCode.Delete, Function(1), Function(35), 63743, *numbers]
+        for key, bits, action in itertools.product(keys, (0, 1, 2, 4, 8, 16, 32, 64, 128, 255), KeyAction):
+            for flags in map(KittyKeyboardFlags, range(32)):
+                asks = flags & (KittyKeyboardFlags.DISAMBIGUATE_ESCAPE_CODES | KittyKeyboardFlags.REPORT_ALL_KEYS_AS_ESCAPE_CODES)
+                with contextlib.nullcontext() if asks else contextlib.suppress(EncodeError):
+                    KeyReport(key, Held(bits), action).encode(flags)
+        for length in range(1, 300):
+            self.assertEqual(KeyReport("x", text="x" * length).encode(KittyKeyboardFlags.NONE), b"x" * length)
 
     def test_keys_without_bytes(self):
         for key in (KeyCode.Copy, Function(0), Function(36), 0, 57343, 63744, 0xFFFFFFFF):

@@ -828,6 +828,10 @@ class Imports(unittest.TestCase):
         self.assertEqual(self.import_it({"HEDRUGAL_LIBRARY": name}, cwd=os.path.dirname(LIBRARY)), f"{LIBRARY}\n")
         self.assertEqual(self.import_it({"HEDRUGAL_LIBRARY": os.path.relpath(LIBRARY, self.folder)}, cwd=self.folder), f"{LIBRARY}\n")
 
+    def test_it_keeps_pythons_lock(self):
+        """So no two threads are in a call at once."""
+        self.assertIsInstance(hedrugal._library, ctypes.PyDLL)
+
     def test_beside_the_module(self):
         package = os.path.join(self.folder, "hedrugal")
         shutil.copytree(os.path.join(HERE, "hedrugal"), package)
