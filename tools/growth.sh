@@ -3,13 +3,13 @@
 #
 #     tools/growth.sh [--library DIR --over RLIBS]
 #
-# A parser gets typed text, keys and an open paste in reads of 1, 64 and 4096 bytes and in one read, through parse_as_vec and through
-# feed and next_event. So does the extended parser, which also gets long strings, and beginnings of strings and control sequences. Four
-# times the bytes may take at most 4.4 times the instructions, less those that making a parser takes. Through feed and next_event the
-# memory in use stays below twice the longest text that waited, plus what an empty parser has, and below three times that in the extended
-# parser, which keeps the bytes that the last event brought. No request for
-# memory is larger than a bound by the length of the read: twice the longest text, or through parse_as_vec room for twice as many events
-# as the read has bytes. callgrind counts the instructions and a wrapped malloc the memory, so that each run finds the same numbers.
+# A parser gets typed text, keys, CSI u and an open paste in reads of 1, 64 and 4096 bytes and in one read, through parse_as_vec and through
+# feed and next_event. So does the extended parser, which also gets replies, long strings, and beginnings of strings and control sequences.
+# Four times the bytes may take at most 4.4 times the instructions, less those that making a parser takes. In reads of 4096 bytes a key may
+# take at most 5 times the instructions of a typed character, and a reply 7.5 times. Through feed and next_event the memory in use stays
+# below twice the longest text that waited, plus what an empty parser has, and below three times that in the extended parser, which keeps
+# the bytes that the last event brought. No request for memory is larger than a bound by the length of the read: twice the longest text, or
+# through parse_as_vec room for twice as many events as the read has bytes. callgrind counts the instructions and a wrapped malloc the memory, so that each run finds the same numbers.
 #
 # DIR is a folder that tools/c_library.sh wrote, and RLIBS one that has the libraries below it as NAME.rlib, where the gate puts those
 # that `rt ci` proved; without the two words all is built by rt. The last line is 'N passed, N failed', the status 1 if a case failed. It needs rt, cc, binutils and valgrind.

@@ -1,8 +1,8 @@
 /* What tools/growth.sh counts: passes of a parser over texts of two lengths.
  *
- *     growth             makes each pass once, within `counted`, and prints its name and the number of its bytes
- *     growth heap        makes each pass once, and prints its name, the number of its bytes, the length of the longest text that waited,
- *                        the most bytes of memory in use, and the largest request for memory
+ *     growth             makes each pass once, within `counted`, and prints its name and the numbers of its bytes and its events
+ *     growth heap        makes each pass once, and prints the same, the length of the longest text that waited, the most bytes of memory in
+ *                        use, and the largest request for memory
  *
  * A pass makes a parser, gives it a text in reads of one size, takes the events, and ends the parser. It goes through parse_as_vec
  * (parser_pass of tools/measure/feed.rt.txt), through feed and next_event (the calls of c/termwiz_input.h), or through the same calls of the
@@ -126,6 +126,17 @@ static void fill_keys(void) {
     fill(0, keys, sizeof keys / sizeof *keys);
 }
 
+static void fill_csiu(void) {
+    static const char *const keys[] = {"\x1b[97;5u", "\x1b[27;6;65~", "\x1b[105;7u", "\x1b[27;5;13~", "\x1b[122;3u"};
+    fill(0, keys, sizeof keys / sizeof *keys);
+}
+
+static void fill_replies(void) {
+    static const char *const replies[] = {"\x1b[24;80R", "\x1b[?1;5R", "\x1b[I", "\x1b[?62;22c", "\x1b[?5u", "\x1b[97;5:3u",
+                                          "\x1b[48;24;80;480;800t", "\x1b]11;rgb:1e1e/1e1e/1e1e\x1b\\", "\x1b[?2026;2$y", "\x1b[57358;2u"};
+    fill(0, replies, sizeof replies / sizeof *replies);
+}
+
 /* Strings of a thousand bytes, each with its end. */
 static void fill_strings(void) {
     static char string[1024];
@@ -160,10 +171,11 @@ static void fill_paste(void) {
 enum way { NEXT_EVENT, PARSE_AS_VEC, EXTENDED, WAYS };
 static const char *const way_names[WAYS] = {"next_event", "parse_as_vec", "extended"};
 
-/* A pass: its bytes, the size of its reads, and how it takes events. */
+/* A pass: its bytes, the size of its reads, and how it takes events. Then the number of its events, and the longest text that waited. */
 struct pass {
     size_t length, read;
     enum way way;
+    uint64_t events;
     size_t longest;
 };
 
@@ -173,20 +185,19 @@ static void stop(const char *why) {
 }
 
 static void pass_as_vec(struct pass *pass) {
-    uint64_t events;
     size_t waiting;
-    if (!parser_pass(text, pass->length, pass->length ? pass->read : 0, &events, &waiting))
+    if (!parser_pass(text, pass->length, pass->length ? pass->read : 0, &pass->events, &waiting))
         stop("memory was refused");
     size_t length = pass->length < pass->read ? pass->length : pass->read;
     pass->longest = waiting > length ? waiting : length;
 }
 
-/* Takes the events that are decided. */
-static void take_events(tw_parser *parser, bool more) {
+/* Takes the events that are decided, and counts them. */
+static void take_events(struct pass *pass, tw_parser *parser, bool more) {
     tw_event event;
     uint32_t answer;
     while ((answer = tw_parser_next(parser, more, &event)) == TW_EVENT)
-        ;
+        pass->events++;
     if (answer != TW_NONE)
         stop("memory was refused");
 }
@@ -201,17 +212,17 @@ static void pass_by_steps(struct pass *pass) {
             stop("memory was refused");
         if (tw_parser_waiting(&parser) > pass->longest)
             pass->longest = tw_parser_waiting(&parser);
-        take_events(&parser, true);
+        take_events(pass, &parser, true);
     }
-    take_events(&parser, false);
+    take_events(pass, &parser, false);
     tw_parser_free(&parser);
 }
 
-static void take_extended_events(tw_extended *parser, bool more) {
+static void take_extended_events(struct pass *pass, tw_extended *parser, bool more) {
     tw_extended_event event;
     uint32_t answer;
     while ((answer = tw_extended_next(parser, more, &event)) == TW_EVENT)
-        ;
+        pass->events++;
     if (answer != TW_NONE)
         stop("memory was refused");
 }
@@ -226,9 +237,9 @@ static void pass_by_extended_steps(struct pass *pass) {
             stop("memory was refused");
         if (tw_extended_waiting(&parser) > pass->longest)
             pass->longest = tw_extended_waiting(&parser);
-        take_extended_events(&parser, true);
+        take_extended_events(pass, &parser, true);
     }
-    take_extended_events(&parser, false);
+    take_extended_events(pass, &parser, false);
     tw_extended_free(&parser);
 }
 
@@ -243,10 +254,10 @@ __attribute__((noinline)) void counted(struct pass *pass) {
 }
 
 static void show(const char *name, enum way way, size_t read, size_t length, bool is_heap) {
-    struct pass pass = {length, read, way, 0};
+    struct pass pass = {length, read, way, 0, 0};
     memory.end = memory.in_use = memory.most_in_use = memory.largest = 0;
     counted(&pass);
-    printf("%s %s %zu %zu", way_names[way], name, read, length);
+    printf("%s %s %zu %zu %llu", way_names[way], name, read, length, (unsigned long long)pass.events);
     if (is_heap)
         printf(" %zu %zu %zu", pass.longest, memory.most_in_use, memory.largest);
     printf("\n");
@@ -257,8 +268,8 @@ int main(int argc, char **argv) {
         const char *name;
         void (*fill)(void);
         bool is_extended; /* whether the extended parser alone gets it */
-    } texts[] = {{"typed", fill_typed, false}, {"keys", fill_keys, false}, {"paste", fill_paste, false}, {"strings", fill_strings, true},
-                 {"begun", fill_begun, true}};
+    } texts[] = {{"typed", fill_typed, false}, {"keys", fill_keys, false}, {"csiu", fill_csiu, false}, {"paste", fill_paste, false},
+                 {"replies", fill_replies, true}, {"strings", fill_strings, true}, {"begun", fill_begun, true}};
     /* The sizes of reads, and the lengths of the shorter texts: each has enough reads for the buffer to grow as it does in the long run. */
     static const struct {
         size_t size, length;
