@@ -186,11 +186,16 @@ def quote(file):
     for block in re.split(r'\n\s*\n', without_blocks(read(file))):
         lines = [line.strip() for line in block.split('\n')]
         text = ' '.join(line for line in lines if not line.startswith('<!--'))
-        for phrase, name, source in re.findall(r'^ *<!-- "(.*)": (\w+) in (\S+) -->$', block, flags=re.M):
+        for marker in (line for line in lines if line.startswith('<!-- "')):
+            parts = re.fullmatch(r'<!-- "(\D*(\d+).*)": (\w+) in (\S+) -->', marker)
+            if not parts:
+                faults.append(f'{file}: what is {marker}? tools/docs.sh --help lists the markers')
+                continue
+            phrase, number, name, source = parts.groups()
             wanted = re.search(rf'\b{name}\b(?:[^=\n]*=)? *(\d+)', read(source) if os.path.exists(source) else '')
             if phrase not in text:
                 faults.append(f'{file}: "{phrase}" isn\'t beside its marker')
-            elif not wanted or wanted[1] != re.search(r'\d+', phrase)[0]:
+            elif not wanted or wanted[1] != number:
                 faults.append(f'{file}: "{phrase}" isn\'t what {name} is in {source}')
             else:
                 held += 1
