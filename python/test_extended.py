@@ -539,7 +539,7 @@ class EncodedReports(WithParsers):
 
     def test_nothing_else_is_refused(self):
         """Each key of Kitty's table is sent, whatever is held. Under flags that ask for no sequences some keys have no bytes, but the
-        refusal is of the key and not of memory. A text is sent as it is, however long."""
+        refusal is of the key and not of memory. A text of any length is sent as it is, and in a sequence of any length up to 256."""
         numbers = [self.parsers[Rows.KITTY].parse(b"\x1b[%du" % number)[0].key for number in (27, 9, 13, 127, *range(57344, 57455))]
         keys = ["a", "é", UP, KeyCode.Delete, Function(1), Function(35), 63743, *numbers]
         for key, bits, action in itertools.product(keys, (0, 1, 2, 4, 8, 16, 32, 64, 128, 255), KeyAction):
@@ -549,6 +549,9 @@ class EncodedReports(WithParsers):
                     KeyReport(key, Held(bits), action).encode(flags)
         for length in range(1, 300):
             self.assertEqual(KeyReport("x", text="x" * length).encode(KittyKeyboardFlags.NONE), b"x" * length)
+        for threes, twos in itertools.product(range(61), range(4)):
+            report = KeyReport("a", text="x" * threes + "A" * twos)
+            self.assertEqual(self.parsers[Rows.KITTY].parse(report.encode(self.ALL)), [report])
 
     def test_keys_without_bytes(self):
         for key in (KeyCode.Copy, Function(0), Function(36), 0, 57343, 63744, 0xFFFFFFFF):
