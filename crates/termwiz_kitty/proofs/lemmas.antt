@@ -1,6 +1,6 @@
 pub mod FullyTold
 pub mod legacy
-pub mod LegacyTexts
+pub mod PortKeys
 pub mod PushedFields
 pub mod read_back
 pub mod typed

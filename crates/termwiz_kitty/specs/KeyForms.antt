@@ -1,6 +1,6 @@
 -- How kitty's keyboard protocol writes keys: by a letter, by a number and a tilde, or by a number and the letter u. From the table
 -- of functional keys of the protocol ("Comprehensive keyboard handling in terminals", "Functional key definitions").
-use Rattle.std.specs.Prelude.{ℕ, ◌+◌, ◌&&◌, List, [], ◌∷◌, nat_le, Option, Some, None, if◌then◌else◌}
+use Rattle.std.specs.Prelude.{ℕ, Bool, true, false, ◌+◌, ◌&&◌, List, [], ◌∷◌, nat_le, Option, Some, None, option_map, unwrap_or, if◌then◌else◌}
 use Rattle.termwiz_keys.specs.declared.types.KeyCode.{KeyCode}
 use Rattle.termwiz_keys.specs.declared.types.KeyCode.TheVariants.{Char, Function, Tab, Enter, Escape, Backspace, UpArrow, DownArrow, RightArrow, LeftArrow, KeyPadBegin, End, Home, Insert, Delete, PageUp, PageDown, CapsLock, ScrollLock, NumLock, PrintScreen, Pause, Applications, Numpad0, Numpad1, Numpad2, Numpad3, Numpad4, Numpad5, Numpad6, Numpad7, Numpad8, Numpad9, Decimal, Divide, Multiply, Subtract, Add, Separator, KeyPadPageUp, KeyPadPageDown, KeyPadHome, KeyPadEnd, MediaPlayPause, MediaStop, MediaNextTrack, MediaPrevTrack, VolumeDown, VolumeUp, VolumeMute, LeftShift, LeftControl, LeftAlt, LeftWindows, RightShift, RightControl, RightAlt, RightWindows}
 use Rattle.termwiz_extended_events.specs.declared.types.ReportedKey.{ReportedKey}
@@ -91,3 +91,26 @@ unfoldable pub normal_key : ReportedKey → ReportedKey
 normal_key (Named (Char c)) = key_of c
 normal_key (Functional n) = functional_key n
 normal_key key = key
+
+-- the key types a character, or has its number
+abbrev pub is_character : ReportedKey → Bool
+is_character (Named (Char c)) = true
+is_character key = false
+
+-- the keys of the keypad by their numbers, each with its main key, which types or does the same
+abbrev pub main_keys : List (ℕ × KeyCode)
+main_keys =
+    (57399, Char 48) ∷ (57400, Char 49) ∷ (57401, Char 50) ∷ (57402, Char 51) ∷ (57403, Char 52) ∷ (57404, Char 53)
+    ∷ (57405, Char 54) ∷ (57406, Char 55) ∷ (57407, Char 56) ∷ (57408, Char 57) ∷ (57409, Char 46) ∷ (57410, Char 47)
+    ∷ (57411, Char 42) ∷ (57412, Char 45) ∷ (57413, Char 43) ∷ (57414, Enter) ∷ (57415, Char 61) ∷ (57416, Char 44)
+    ∷ (57417, LeftArrow) ∷ (57418, RightArrow) ∷ (57419, UpArrow) ∷ (57420, DownArrow) ∷ (57421, PageUp) ∷ (57422, PageDown)
+    ∷ (57423, Home) ∷ (57424, End) ∷ (57425, Insert) ∷ (57426, Delete) ∷ (57427, KeyPadBegin) ∷ []
+
+-- the main key of a key that has this form
+abbrev pub main_of : ReportedKey → Option KeyForm → ReportedKey
+main_of key (Some (Code n)) = unwrap_or (option_map Named (entry_at main_keys n)) key
+main_of key form = key
+
+-- the main key of a key of the keypad; any other key is its own
+unfoldable pub main_key : ReportedKey → ReportedKey
+main_key key = if is_character key then key else main_of key (form_of key)

@@ -1,27 +1,29 @@
 -- The laws of the encoder: the extended parser reads back what is written.
-use Rattle.std.specs.Prelude.{◌≡◌, ◌≢◌, ⊤, ℕ, ◌+◌, ◌<◌, ◌≤◌, ◌==◌, ◌&&◌, not, Bool, List, [], ◌∷◌, ◌++◌, true, false, length, Contains, map, bit_and, Option, Some, None}
-use Rattle.std.specs.Char.{IsScalar}
+use Rattle.std.specs.Prelude.{◌≡◌, ⊤, ℕ, ◌<◌, ◌≤◌, Bool, List, [], ◌∷◌, true, false, length, Contains, map, Option, Some, None, if◌then◌else◌}
+use Rattle.std.specs.Char.{IsScalar, is_ascii_lowercase}
 use Rattle.std.specs.Str.{chars, IsUtf8}
-use Rattle.termwiz_keys.specs.Keys.{NONE, ALT, key_with}
+use Rattle.termwiz_keys.specs.Keys.{key_with, NONE as no_modifiers}
 use Rattle.termwiz_keys.specs.declared.types.KeyCode.{KeyCode}
-use Rattle.termwiz_keys.specs.declared.types.KeyCode.TheVariants.{Char, Function, Enter, Tab, Backspace}
+use Rattle.termwiz_keys.specs.declared.types.KeyCode.TheVariants.{Char, Function, Enter, Escape, Tab, Backspace}
 use Rattle.termwiz_keys.specs.declared.types.InputEvent.TheVariants as input
-use Rattle.termwiz_laws.specs.FurtherKeys.{ReadsBackToo}
-use Rattle.termwiz_laws.specs.KeyStreams.{keys_that_need_a_flush}
+use Rattle.termwiz_grammar.specs.Listed.{IsSharedLetter}
 use Rattle.termwiz_extended_events.specs.declared.types.KeyReport.{KeyReport}
 use Rattle.termwiz_extended_events.specs.declared.types.KeyEventKind.TheVariants.{Press}
 use Rattle.termwiz_extended_events.specs.declared.types.ReportedKey.{ReportedKey}
 use Rattle.termwiz_extended_events.specs.declared.types.ReportedKey.TheVariants.{Named}
 use Rattle.termwiz_extended_events.specs.declared.types.ExtendedEvent.{ExtendedEvent}
-use Rattle.termwiz_extended_events.specs.declared.types.ExtendedEvent.TheVariants.{Input, Key, CursorPosition}
+use Rattle.termwiz_extended_events.specs.declared.types.ExtendedEvent.TheVariants.{Input, Key}
 use Rattle.termwiz_extended_events.specs.declared.types.Rows.TheVariants.{Kitty}
 use Rattle.termwiz_extended_events.specs.EventKeys.{key_of_event}
 use Rattle.termwiz_extended_events.specs.KeyReports.{report_of}
 use Rattle.termwiz_extended_grammar.specs.ExtendedGrammar.{Means}
+use Rattle.termwiz_kitty.specs.declared.legacy.LegacyText.{LegacyText}
+use Rattle.termwiz_kitty.specs.declared.legacy.LegacyText.TheVariants.{AfterEscape}
 use Rattle.termwiz_kitty.specs.declared.telling.Telling.TheVariants.{Typed, Legacy, Reported}
-use Rattle.termwiz_kitty.specs.KeyForms.{form_of, normal_key}
-use Rattle.termwiz_kitty.specs.Telling.{telling, reported, is_shifted, is_character, has_text, has_control, all_flags}
-use Rattle.termwiz_kitty.specs.KittyTexts.{kitty_text, most_bytes, port_modifiers, xterm_modes}
+use Rattle.termwiz_kitty.specs.KeyForms.{form_of, normal_key, is_character}
+use Rattle.termwiz_kitty.specs.LegacyTexts.{NONE, SHIFT, ALT, CTRL, SHIFT_ALT, CTRL_ALT}
+use Rattle.termwiz_kitty.specs.Telling.{telling, told_key, reported, without_locks, is_shifted, is_typed_text, has_text, has_control, all_flags}
+use Rattle.termwiz_kitty.specs.KittyTexts.{kitty_text, most_bytes}
 
 -- the character of a key is one
 abbrev pub IsKey : ReportedKey → Type 0
@@ -41,11 +43,11 @@ pub record IsReport (r : KeyReport) : Type 0 where
   pub base_is : IsScalarOrMissing r.base
   pub text_is : IsUtf8 r.text
 
--- The sequence of a report that isn't too long means that report, and nothing else.
+-- The sequence of a report that isn't too long means that report, and nothing else, whether or not more may come.
 abbrev pub KittyReadBack : Type 0
-KittyReadBack = (r : KeyReport) (flags : ℕ) (text : List ℕ) → IsReport r → telling r flags ≡ Reported
+KittyReadBack = (r : KeyReport) (flags : ℕ) (text : List ℕ) (more : Bool) → IsReport r → telling r flags ≡ Reported
     → kitty_text r flags ≡ Some text → length text ≤ most_bytes
-    → Means Kitty text false (Key (reported r flags) ∷ []) []
+    → Means Kitty text more (Key (reported r flags) ∷ []) []
 
 -- What a terminal can write: the key in its normal form; what it types with Shift only while Shift is held, and this and what its place
 -- types only of a key that types a character; and a text only in a sequence that has room for one, and without control characters.
@@ -62,19 +64,27 @@ FullyTold = (r : KeyReport) → IsWritable r → (telling r all_flags ≡ Report
 
 -- the event of a key without modifiers, as it is before the protocol
 abbrev pub pressed : KeyCode → ExtendedEvent
-pressed key = Input (input.Key (key_with key NONE))
+pressed key = Input (input.Key (key_with key no_modifiers))
 
--- what a typed text is read as: Enter, Tab, Backspace, or each of its characters
-abbrev pub typed_events : ReportedKey → List ℕ → List ExtendedEvent
-typed_events (Named Enter) text = pressed Enter ∷ []
-typed_events (Named Tab) text = pressed Tab ∷ []
-typed_events (Named Backspace) text = pressed Backspace ∷ []
-typed_events key text = map (λ c. pressed (Char c)) (chars text)
+-- the events of a text's characters, each a key
+abbrev pub characters_pressed : List ℕ → List ExtendedEvent
+characters_pressed text = map (λ c. pressed (Char c)) (chars text)
+
+-- what a key types by itself is read as Enter, Tab, Backspace, or its character
+abbrev pub typed_by_events : ReportedKey → List ℕ → List ExtendedEvent
+typed_by_events (Named Enter) text = pressed Enter ∷ []
+typed_by_events (Named Tab) text = pressed Tab ∷ []
+typed_by_events (Named Backspace) text = pressed Backspace ∷ []
+typed_by_events key text = characters_pressed text
+
+-- what a typed text is read as: the text of the report as its characters
+abbrev pub typed_events : ReportedKey → KeyReport → List ℕ → List ExtendedEvent
+typed_events key r text = if is_typed_text r.text then characters_pressed text else typed_by_events key text
 
 -- A key that is sent as its text: the text means exactly these events, whether or not more may come, and nothing waits.
 abbrev pub TypedReadBack : Type 0
 TypedReadBack = (r : KeyReport) (flags : ℕ) (text : List ℕ) (more : Bool) → IsReport r → telling r flags ≡ Typed
-    → kitty_text r flags ≡ Some text → Means Kitty text more (typed_events r.key text) []
+    → kitty_text r flags ≡ Some text → Means Kitty text more (typed_events (told_key r flags) r text) []
 
 -- the press of a key with these of kitty's bits
 abbrev pub press_of : KeyCode → ℕ → KeyReport
@@ -84,28 +94,37 @@ press_of key bits = report_of (Named key) (record { modifiers = bits; kind = Pre
 abbrev pub IsReadAs : List ℕ → Bool → KeyReport → Type 0
 IsReadAs text more report = (event : ExtendedEvent) × Means Kitty text more (event ∷ []) [] × (key_of_event event ≡ Some report)
 
--- The keys whose texts begin sequences, with the bits of the modifiers that are held: those of the port (Escape, Escape with ALT, and [ and O
--- with ALT), and P, ] and _ with ALT.
+-- The keys whose texts begin sequences, with kitty's bits of their modifiers: Escape, Escape with Alt, and [ O P ] and _ with Alt.
 abbrev pub keys_that_wait : List (KeyCode × ℕ)
-keys_that_wait = keys_that_need_a_flush ++ (Char 80, ALT) ∷ (Char 93, ALT) ∷ (Char 95, ALT) ∷ []
+keys_that_wait =
+    (Escape, NONE) ∷ (Escape, ALT) ∷ (Char 91, ALT) ∷ (Char 79, ALT) ∷ (Char 80, ALT) ∷ (Char 93, ALT) ∷ (Char 95, ALT) ∷ []
 
--- F3 with Shift, Alt or Ctrl: what it sends is also the reply to a question for the cursor's position
-abbrev pub is_modified_f3 : KeyCode → ℕ → Bool
-is_modified_f3 (Function n) held = (n == 3) && not (held == NONE)
-is_modified_f3 key held = false
+-- keys whose texts from before the protocol no other key sends
+abbrev pub keys_of_their_own : List (KeyCode × ℕ)
+keys_of_their_own =
+    (Function 1, NONE) ∷ (Function 2, NONE) ∷ (Function 3, NONE) ∷ (Function 4, NONE) ∷ (Escape, NONE) ∷ (Escape, ALT)
+    ∷ (Enter, ALT) ∷ (Backspace, ALT) ∷ (Tab, ALT) ∷ (Tab, SHIFT) ∷ (Tab, SHIFT_ALT) ∷ []
 
--- A key that is sent as before the protocol, and that the port reads back: its text is the press of that key, with Shift, Alt and Ctrl as in
--- the report. But F3 with modifiers isn't. With more to come it is so for the keys whose texts begin no sequence.
+-- The text from before the protocol is read as this very key: of those keys, and of a letter with Ctrl, or Ctrl and Alt. The control characters of
+-- h, i, j and m are those of other keys.
+pub data IsReadBack : KeyCode → ℕ → Type 0 where
+  of_its_own : (key : KeyCode) (held : ℕ) → Contains keys_of_their_own (key, held) → IsReadBack key held
+  ctrl_letter : (c held : ℕ) → is_ascii_lowercase c ≡ true → ¬ IsSharedLetter c → Contains (CTRL ∷ CTRL_ALT ∷ []) held
+      → IsReadBack (Char c) held
+
+-- Such a key that is sent as before the protocol: its text is its press, with all modifiers of its report. With more to come that is so of the
+-- keys whose texts begin no sequence.
 abbrev pub LegacyReadBack : Type 0
-LegacyReadBack = (r : KeyReport) (key : KeyCode) (flags : ℕ) (text : List ℕ) (more : Bool) → IsReport r → r.key ≡ Named key
-    → telling r flags ≡ Legacy → kitty_text r flags ≡ Some text
-    → ReadsBackToo key (port_modifiers r.modifiers).0 xterm_modes
-    → is_modified_f3 key (port_modifiers r.modifiers).0 ≡ false
-    → (more ≡ true → ¬ Contains keys_that_wait (key, (port_modifiers r.modifiers).0))
-    → IsReadAs text more (press_of key (bit_and r.modifiers 7))
+LegacyReadBack = (r : KeyReport) (key : KeyCode) (flags : ℕ) (sent : LegacyText) (text : List ℕ) (more : Bool) → IsReport r
+    → told_key r flags ≡ Named key → telling r flags ≡ Legacy sent → kitty_text r flags ≡ Some text
+    → IsReadBack key (without_locks r.modifiers)
+    → (more ≡ true → ¬ Contains keys_that_wait (key, without_locks r.modifiers))
+    → IsReadAs text more (press_of key (without_locks r.modifiers))
 
--- F3 with modifiers is sent as the reply to a question for the cursor's position: row 1, and the column is one more than the bits.
-abbrev pub ModifiedF3IsPosition : Type 0
-ModifiedF3IsPosition = (r : KeyReport) (flags : ℕ) (text : List ℕ) (more : Bool) → IsReport r → r.key ≡ Named (Function 3)
-    → telling r flags ≡ Legacy → kitty_text r flags ≡ Some text → bit_and r.modifiers 7 ≢ 0
-    → Means Kitty text more (CursorPosition 1 (1 + bit_and r.modifiers 7) ∷ []) []
+-- A text key with Alt, or with Shift and Alt, is sent as ESC and the character that it shows: that is read as this character's key with Alt.
+abbrev pub AltReadBack : Type 0
+AltReadBack = (r : KeyReport) (c shown flags : ℕ) (text : List ℕ) (more : Bool) → IsReport r
+    → told_key r flags ≡ Named (Char c) → telling r flags ≡ Legacy (AfterEscape shown) → kitty_text r flags ≡ Some text
+    → Contains (ALT ∷ SHIFT_ALT ∷ []) (without_locks r.modifiers)
+    → (more ≡ true → ¬ Contains keys_that_wait (Char shown, ALT))
+    → IsReadAs text more (press_of (Char shown) ALT)

@@ -1,24 +1,22 @@
 -- The bytes that a terminal writes for a key under kitty's keyboard protocol.
-use Rattle.std.specs.Prelude.{◌≡◌, ◌<◌, ◌≤◌, length, ℕ, Bool, false, ◌+◌, ◌==◌, ◌&&◌, List, [], ◌∷◌, ◌++◌, flat_map, codes, decimal, Option, Some, None, option_map, unwrap_or, bit_and, encode_utf8, if◌then◌else◌}
-use Rattle.std.specs.Char.{is_control}
+use Rattle.std.specs.Prelude.{◌≡◌, ◌<◌, ◌≤◌, length, ℕ, Bool, ◌+◌, ◌==◌, ◌&&◌, List, [], ◌∷◌, ◌++◌, flat_map, codes, decimal, Option, Some, None, option_map, unwrap_or, encode_utf8, if◌then◌else◌}
 use Rattle.std.specs.Str.{chars}
-use Rattle.termwiz_base.specs.declared.modifiers.Modifiers.{Modifiers}
-use Rattle.termwiz_keys.specs.Introducers.{CSI}
-use Rattle.termwiz_keys.specs.Encoding.{enc}
+use Rattle.termwiz_keys.specs.Introducers.{ESC, CSI, SS3}
 use Rattle.termwiz_keys.specs.declared.types.KeyCode.TheVariants.{Char, Tab, Backspace}
-use Rattle.termwiz_keys.specs.declared.encode.KeyCodeEncodeModes.{KeyCodeEncodeModes}
-use Rattle.termwiz_keys.specs.declared.encode.KeyboardEncoding.TheVariants.{Xterm}
 use Rattle.termwiz_extended_events.specs.declared.types.KeyReport.{KeyReport}
 use Rattle.termwiz_extended_events.specs.declared.types.KeyEventKind.{KeyEventKind}
 use Rattle.termwiz_extended_events.specs.declared.types.KeyEventKind.TheVariants.{Press, Repeat, Release}
 use Rattle.termwiz_extended_events.specs.declared.types.ReportedKey.{ReportedKey}
-use Rattle.termwiz_extended_events.specs.declared.types.ReportedKey.TheVariants.{Named, Functional}
+use Rattle.termwiz_extended_events.specs.declared.types.ReportedKey.TheVariants.{Named}
 use Rattle.termwiz_kitty.specs.declared.telling.Telling.{Telling}
 use Rattle.termwiz_kitty.specs.declared.telling.Telling.TheVariants.{Nothing, Typed, Legacy, Reported}
 use Rattle.termwiz_kitty.specs.declared.key_forms.KeyForm.{KeyForm}
 use Rattle.termwiz_kitty.specs.declared.key_forms.KeyForm.TheVariants.{Letter, Number, Code}
 use Rattle.termwiz_kitty.specs.KeyForms.{form_of}
-use Rattle.termwiz_kitty.specs.Telling.{telling, reported, is_press, is_shifted, has_control}
+use Rattle.termwiz_kitty.specs.declared.legacy.LegacyText.{LegacyText}
+use Rattle.termwiz_kitty.specs.declared.legacy.LegacyText.TheVariants.{Alone, AfterEscape, BackTab, EscapeAndBackTab, FunctionLetter, Menu}
+use Rattle.termwiz_kitty.specs.LegacyTexts.{with_shift}
+use Rattle.termwiz_kitty.specs.Telling.{telling, told_key, reported, is_press, is_shifted, is_typed_text}
 
 -- what happened to the key, behind the number of the modifiers
 abbrev pub kind_text : KeyEventKind → List ℕ
@@ -85,62 +83,42 @@ sequence_text (Code n) r = coded_text n r.shifted r.base r.modifiers r.kind r.te
 abbrev pub most_bytes : ℕ
 most_bytes = 256
 
--- the character, unless it is a control character
-abbrev pub without_control : Option ℕ → Option ℕ
-without_control None = None
-without_control (Some c) = if is_control c then None else Some c
-
--- the character that a key shows: what it types with Shift, if that is held, or else its own
+-- the character that a key shows: what it types with Shift, if that is held and known, or else its own
 abbrev pub shown : ℕ → ℕ → Option ℕ → ℕ
-shown c bits shifted = if is_shifted bits then unwrap_or (without_control shifted) c else c
-
--- What a character's key types: its text, or what it types with Shift, or its character. What has control characters is left aside.
-abbrev pub character_typed : ℕ → ℕ → Option ℕ → List ℕ → List ℕ
-character_typed c bits shifted [] = encode_utf8 (shown c bits shifted)
-character_typed c bits shifted (b ∷ bs) = if has_control (b ∷ bs) then encode_utf8 (shown c bits shifted) else b ∷ bs
+shown c bits shifted = if is_shifted bits then unwrap_or (with_shift c shifted) c else c
 
 -- what a key types by itself: Enter, Tab and Backspace a control character
 abbrev pub typed_by : ReportedKey → KeyReport → List ℕ
-typed_by (Named (Char c)) r = character_typed c r.modifiers r.shifted r.text
+typed_by (Named (Char c)) r = encode_utf8 (shown c r.modifiers r.shifted)
 typed_by (Named Tab) r = 9 ∷ []
 typed_by (Named Backspace) r = 127 ∷ []
 typed_by key r = 13 ∷ []
 
-unfoldable pub typed_text : KeyReport → List ℕ
-typed_text r = typed_by r.key r
+-- what a key types: the text of its report, or else what it types by itself
+unfoldable pub typed_text : ReportedKey → KeyReport → List ℕ
+typed_text key r = if is_typed_text r.text then r.text else typed_by key r
 
--- the port's modifiers of kitty's bits
-abbrev pub port_modifiers : ℕ → Modifiers
-port_modifiers bits = record {
-  0 = (if bit_and bits 1 == 0 then 0 else 2) + (if bit_and bits 2 == 0 then 0 else 4) + (if bit_and bits 4 == 0 then 0 else 8);
-}
-
--- xterm's encoding, with every mode off
-abbrev pub xterm_modes : KeyCodeEncodeModes
-xterm_modes = record {
-  encoding = Xterm;
-  application_cursor_keys = false;
-  newline_mode = false;
-  modify_other_keys = None;
-}
-
--- the text of a key as it was before the protocol
-unfoldable pub legacy_text : ReportedKey → ℕ → Option (List ℕ)
-legacy_text (Named key) bits = enc key (port_modifiers bits) xterm_modes
-legacy_text (Functional n) bits = None
+-- the bytes of what a key sends before the protocol
+unfoldable pub legacy_bytes : LegacyText → List ℕ
+legacy_bytes (Alone c) = encode_utf8 c
+legacy_bytes (AfterEscape c) = ESC ++ encode_utf8 c
+legacy_bytes BackTab = CSI ++ codes "Z"
+legacy_bytes EscapeAndBackTab = ESC ++ CSI ++ codes "Z"
+legacy_bytes (FunctionLetter letter) = SS3 ++ encode_utf8 letter
+legacy_bytes (Menu held) = numbered_text 29 held Press
 
 -- the sequence of what is sent of a report
 abbrev pub report_text : KeyReport → ℕ → Option (List ℕ)
-report_text r flags = option_map (λ form. sequence_text form (reported r flags)) (form_of r.key)
+report_text r flags = option_map (λ form. sequence_text form (reported r flags)) (form_of (told_key r flags))
 
 -- the bytes of a key that is sent so
 abbrev pub text_as : Telling → KeyReport → ℕ → Option (List ℕ)
 text_as Nothing r flags = Some []
-text_as Typed r flags = Some (typed_text r)
-text_as Legacy r flags = legacy_text r.key r.modifiers
+text_as Typed r flags = Some (typed_text (told_key r flags) r)
+text_as (Legacy text) r flags = Some (legacy_bytes text)
 text_as Reported r flags = report_text r flags
 
--- The bytes that a terminal writes for a key under these flags; none for a key that the encoding has no text for.
+-- The bytes that a terminal writes for a key under these flags; none where the key's report would be sent and the protocol has no number for it.
 unfoldable pub kitty_text : KeyReport → ℕ → Option (List ℕ)
 kitty_text r flags = text_as (telling r flags) r flags
 

@@ -1,4 +1,5 @@
 pub mod KeyForms
+pub mod LegacyTexts
 pub mod Telling
 pub mod KittyTexts
 pub mod KittyLaws

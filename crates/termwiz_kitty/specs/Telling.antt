@@ -15,7 +15,9 @@ use Rattle.termwiz_kitty.specs.declared.telling.Telling.{Telling}
 use Rattle.termwiz_kitty.specs.declared.telling.Telling.TheVariants.{Nothing, Typed, Legacy, Reported}
 use Rattle.termwiz_kitty.specs.declared.key_forms.KeyForm.{KeyForm}
 use Rattle.termwiz_kitty.specs.declared.key_forms.KeyForm.TheVariants.{Code}
-use Rattle.termwiz_kitty.specs.KeyForms.{form_of, normal_key}
+use Rattle.termwiz_kitty.specs.declared.legacy.LegacyText.{LegacyText}
+use Rattle.termwiz_kitty.specs.KeyForms.{form_of, normal_key, is_character, main_key}
+use Rattle.termwiz_kitty.specs.LegacyTexts.{legacy_text}
 
 -- the flags of the protocol
 abbrev pub DISAMBIGUATE : ℕ
@@ -77,11 +79,6 @@ abbrev pub is_modifier_form : Option KeyForm → Bool
 is_modifier_form (Some (Code n)) = is_modifier_number n
 is_modifier_form form = false
 
--- the key types a character, or has its number
-abbrev pub is_character : ReportedKey → Bool
-is_character (Named (Char c)) = true
-is_character key = false
-
 -- a modifier key, or the key of a lock
 abbrev pub is_modifier : ReportedKey → Bool
 is_modifier key = not (is_character key) && is_modifier_form (form_of key)
@@ -98,10 +95,30 @@ sends_control key = false
 abbrev pub has_control : List ℕ → Bool
 has_control text = list_any is_control (chars text)
 
--- the key types a character with these modifiers
-abbrev pub types : ReportedKey → ℕ → Bool
-types (Named (Char c)) bits = not (is_control c) && is_at_most_shifted bits
-types key bits = sends_control key && is_bare bits
+-- a text that is sent as it is: it has characters, and no control characters
+abbrev pub is_typed_text : List ℕ → Bool
+is_typed_text [] = false
+is_typed_text text = not (has_control text)
+
+-- the key types a character that is no control character
+abbrev pub types_character : ReportedKey → Bool
+types_character (Named (Char c)) = not (is_control c)
+types_character key = false
+
+-- The key types a text: with no modifiers but Shift and the locks that of the report, or its character; and Enter, Tab and Backspace with no
+-- modifiers but the locks.
+abbrev pub types : ReportedKey → KeyReport → Bool
+types key r =
+    (is_at_most_shifted r.modifiers && (is_typed_text r.text || types_character key))
+    || (sends_control key && is_bare r.modifiers)
+
+-- Neither flag that makes reports of keys: they are sent as before the protocol.
+abbrev pub is_legacy : ℕ → Bool
+is_legacy flags = not (holds flags DISAMBIGUATE) && not (tells_all_keys flags)
+
+-- the key that is told: before the protocol a key of the keypad is its main key
+abbrev pub told_key : KeyReport → ℕ → ReportedKey
+told_key r flags = if is_legacy flags then main_key r.key else r.key
 
 -- What happened to the key, as it is reported: without the types of events a repeat is a press.
 abbrev pub told_kind : ℕ → KeyEventKind → KeyEventKind
@@ -115,13 +132,25 @@ is_silent_release r flags = is_release r.kind && not (tells_event_types flags)
 abbrev pub is_silent_modifier : KeyReport → ℕ → Bool
 is_silent_modifier r flags = is_modifier r.key && not (tells_all_keys flags)
 
+-- a press as before the protocol, or a repeat that is sent as one
+abbrev pub is_legacy_press : KeyReport → ℕ → Bool
+is_legacy_press r flags = is_legacy flags && is_press (told_kind flags r.kind)
+
+-- what such a press sends that isn't its report
+abbrev pub legacy_of : KeyReport → ℕ → Option LegacyText
+legacy_of r flags =
+    if is_legacy_press r flags then legacy_text (told_key r flags) (without_locks r.modifiers) r.shifted else None
+
+abbrev pub or_reported : Option LegacyText → Telling
+or_reported (Some text) = Legacy text
+or_reported None = Reported
+
 -- how a key is sent if not all keys are reported as escape codes
 abbrev pub telling_some : KeyReport → ℕ → Telling
 telling_some r flags =
-    if sends_control r.key && is_release r.kind then Nothing
-    else (if types r.key r.modifiers && not (is_release r.kind) then Typed
-    else (if is_press (told_kind flags r.kind) && not (holds flags DISAMBIGUATE) then Legacy
-    else Reported))
+    if sends_control (told_key r flags) && is_release r.kind then Nothing
+    else (if types (told_key r flags) r && not (is_release r.kind) then Typed
+    else or_reported (legacy_of r flags))
 
 -- how a key is sent
 unfoldable pub telling : KeyReport → ℕ → Telling
@@ -131,14 +160,17 @@ telling r flags =
     else (if tells_all_keys flags then Reported
     else telling_some r flags))
 
--- the modifiers as they are reported: without all keys the locks aren't reported of keys that type
+-- The locks aren't reported: without all keys of a key that types a character, and of a press as before the protocol.
+abbrev pub hides_locks : KeyReport → ℕ → Bool
+hides_locks r flags = (is_character (told_key r flags) && not (tells_all_keys flags)) || is_legacy_press r flags
+
+-- the modifiers as they are reported
 abbrev pub told_modifiers : KeyReport → ℕ → ℕ
-told_modifiers r flags =
-    if is_character r.key && not (tells_all_keys flags) then without_locks r.modifiers else r.modifiers
+told_modifiers r flags = if hides_locks r flags then without_locks r.modifiers else r.modifiers
 
 -- what the key types with Shift, and what its place types, are reported
 abbrev pub tells_alternates : KeyReport → ℕ → Bool
-tells_alternates r flags = holds flags ALTERNATE_KEYS && is_character r.key
+tells_alternates r flags = holds flags ALTERNATE_KEYS && is_character (told_key r flags)
 
 abbrev pub told_shifted : KeyReport → ℕ → Option ℕ
 told_shifted r flags = if tells_alternates r flags && is_shifted r.modifiers then r.shifted else None
@@ -153,7 +185,7 @@ has_text form = false
 
 abbrev pub tells_text : KeyReport → ℕ → Bool
 tells_text r flags =
-    holds flags ASSOCIATED_TEXT && tells_all_keys flags && has_text (form_of r.key) && not (has_control r.text)
+    holds flags ASSOCIATED_TEXT && tells_all_keys flags && has_text (form_of (told_key r flags)) && not (has_control r.text)
 
 abbrev pub told_text : KeyReport → ℕ → List ℕ
 told_text r flags = if tells_text r flags then r.text else []
@@ -161,7 +193,7 @@ told_text r flags = if tells_text r flags then r.text else []
 -- the report that a sequence carries
 unfoldable pub reported : KeyReport → ℕ → KeyReport
 reported r flags = record {
-  key = normal_key r.key;
+  key = normal_key (told_key r flags);
   modifiers = told_modifiers r flags;
   kind = told_kind flags r.kind;
   shifted = told_shifted r flags;

@@ -9,15 +9,17 @@ ghost use Rattle.termwiz_kitty.specs.declared.encode.KittyEncodeError.TheVariant
 mod sequences;
 
 use crate::key_forms::{KeyForm, form_of};
+use crate::legacy::{LegacyText, with_shift};
 use crate::telling::{
-    Telling, has_control, is_shifted, telling_of, told_base, told_kind, told_modifiers,
+    Telling, is_shifted, is_typed_text, telling_of, told_base, told_key, told_kind, told_modifiers,
     told_shifted, told_text,
 };
 use sequences::{Codes, Manner, push_coded, push_lettered, push_numbered};
 use std::alloc::{AllocError, Global};
-use termwiz_base::{Flags, KittyKeyboardFlags, Modifiers};
-use termwiz_extended_events::types::{KeyReport, ReportedKey};
-use termwiz_keys::encode::{EncodeError, KeyCodeEncodeModes, KeyboardEncoding};
+use std::fmt::Write;
+use termwiz_base::KittyKeyboardFlags;
+use termwiz_extended_events::types::{KeyEventKind, KeyReport, ReportedKey};
+use termwiz_keys::encode::{CSI, SS3};
 use termwiz_keys::types::KeyCode;
 use thiserror::Error;
 
@@ -27,9 +29,8 @@ pub const MOST_BYTES: usize = 256;
 /// Why [`encode_kitty`] made no bytes.
 #[derive(Clone, Copy, PartialEq, Eq, Debug, Error)]
 pub enum KittyEncodeError {
-    /// The encoding that the flags choose has no text for the key. Without `DISAMBIGUATE_ESCAPE_CODES` that is a `Functional` key, or a
-    /// function key other than F1 to F24.
-    #[error("the encoding has no text for the key")]
+    /// The protocol has no number for the key, so there is no report of it to send.
+    #[error("the protocol has no number for the key")]
     UnknownKey,
     /// The sequence would have more than [`MOST_BYTES`] bytes. Only a key with a long text has such a sequence.
     #[error("the text of the key is too long")]
@@ -47,20 +48,12 @@ impl From<AllocError> for KittyEncodeError {
     }
 }
 
-// xterm's encoding, with every mode off.
-const XTERM_MODES: KeyCodeEncodeModes = KeyCodeEncodeModes {
-    encoding: KeyboardEncoding::Xterm,
-    application_cursor_keys: false,
-    newline_mode: false,
-    modify_other_keys: None,
-};
-
-/// What a terminal writes for a key if the program asked for these flags of Kitty's keyboard protocol. It is empty for a key that isn't
-/// sent, such as a release without `REPORT_EVENT_TYPES`, and for a key that sends nothing in xterm's encoding. The protocol sends no
-/// control characters as text, so a text that has some counts as none.
+/// What a terminal writes for a key if the program asked for these flags of Kitty's keyboard protocol, by the rules of Kitty's page
+/// "Comprehensive keyboard handling in terminals". It is empty for a key that isn't sent, such as a release without
+/// `REPORT_EVENT_TYPES`. The protocol sends no control characters as text, so a text that has some counts as none.
 ///
-/// `UnknownKey` comes exactly for a key that has no text in the encoding that the flags choose. `TooLong` comes only for a sequence
-/// of more than [`MOST_BYTES`] bytes, and no returned sequence is longer. The only other error is `Memory`.
+/// `UnknownKey` comes exactly where the key's report would be sent and the protocol has no number for the key. `TooLong` comes only
+/// for a sequence of more than [`MOST_BYTES`] bytes, and no returned sequence is longer. The only other error is `Memory`.
 #[tactic(auto, unfolding(crate::specs::KittyTexts::kitty_text))]
 pub fn encode_kitty(
     alloc: Global,
@@ -74,75 +67,71 @@ pub fn encode_kitty(
 {
     match telling_of(report, flags) {
         Telling::Nothing => Ok(String::new(alloc)),
-        Telling::Typed => Ok(typed_text(alloc, report)?),
-        Telling::Legacy => legacy_text(alloc, report.key, report.modifiers),
+        Telling::Typed => Ok(typed_text(alloc, told_key(report, flags), report)?),
+        Telling::Legacy(text) => Ok(legacy_string(alloc, text)?),
         Telling::Reported => sequence(alloc, report, flags),
     }
 }
 
-// The character, unless it is a control character.
-fn without_control(c: Option<char>) -> Option<char>
-    ensures { result ≡ texts.without_control c }
+// The character that a key shows.
+fn shown(c: char, report: &KeyReport) -> char
+    ensures { result ≡ texts.shown c report.now.modifiers report.now.shifted }
 {
-    c.filter(|c| !c.is_control())
-}
-
-// The text of a character's key: its own, or what it types with Shift, or its character. What has control characters is left aside.
-fn push_character(text: &mut String, c: char, report: &KeyReport) -> Result<(), AllocError>
-    ensures { OnOk result (string_bytes text.new ≡ string_bytes text.old
-        ++ texts.character_typed c report.now.modifiers report.now.shifted report.now.text) }
-{
-    let typed = report.text.as_str();
-    if !typed.is_empty() && !has_control(typed) {
-        return text.push_str(typed);
-    }
     if is_shifted(report.modifiers) {
-        return text.push(without_control(report.shifted).unwrap_or(c));
+        with_shift(c, report.shifted).unwrap_or(c)
+    } else {
+        c
     }
-    text.push(c)
 }
 
 // What a key types by itself.
+fn typed_by(key: ReportedKey, report: &KeyReport) -> char
+    ensures { encode_utf8 result ≡ texts.typed_by key report.now }
+{
+    match key {
+        ReportedKey::Named(KeyCode::Char(c)) => shown(c, report),
+        ReportedKey::Named(KeyCode::Tab) => '\t',
+        ReportedKey::Named(KeyCode::Backspace) => '\x7f',
+        _ => '\r',
+    }
+}
+
+// What a key types: the text of its report, or else what it types by itself.
 #[tactic(auto, unfolding(crate::specs::KittyTexts::typed_text))]
-fn typed_text(alloc: Global, report: &KeyReport) -> Result<String, AllocError>
-    ensures { IfOk result (λ text. string_bytes text ≡ texts.typed_text report.now) }
+fn typed_text(alloc: Global, key: ReportedKey, report: &KeyReport) -> Result<String, AllocError>
+    ensures { IfOk result (λ text. string_bytes text ≡ texts.typed_text key report.now) }
 {
     let mut text = String::new(alloc);
-    match report.key {
-        ReportedKey::Named(KeyCode::Char(c)) => push_character(&mut text, c, report)?,
-        ReportedKey::Named(KeyCode::Tab) => text.push('\t')?,
-        ReportedKey::Named(KeyCode::Backspace) => text.push('\x7f')?,
-        _ => text.push('\r')?,
+    if is_typed_text(report.text.as_str()) {
+        text.push_str(report.text.as_str())?;
+    } else {
+        text.push(typed_by(key, report))?;
     }
     Ok(text)
 }
 
-// The port's modifiers of Kitty's bits.
-fn port_modifiers(bits: u8) -> Modifiers
-    ensures { result ≡ texts.port_modifiers bits }
+// What a key sends before the protocol.
+#[tactic(auto, unfolding(crate::specs::KittyTexts::legacy_bytes))]
+fn legacy_string(alloc: Global, sent: LegacyText) -> Result<String, AllocError>
+    ensures { IfOk result (λ text. string_bytes text ≡ texts.legacy_bytes sent) }
 {
-    let mut held = Modifiers::empty();
-    held.set(Modifiers::SHIFT, bits & 1 != 0);
-    held.set(Modifiers::ALT, bits & 2 != 0);
-    held.set(Modifiers::CTRL, bits & 4 != 0);
-    held
-}
-
-// The text of a key as it was before the protocol.
-#[tactic(auto, unfolding(crate::specs::KittyTexts::legacy_text))]
-fn legacy_text(alloc: Global, key: ReportedKey, bits: u8) -> Result<String, KittyEncodeError>
-    ensures text { IfOk result (λ text. texts.legacy_text key bits ≡ Some (string_bytes text)) }
-    ensures unknown { (result ≡ Err error.UnknownKey) ↔ (texts.legacy_text key bits ≡ None) }
-    ensures too_long { ¬ (result ≡ Err error.TooLong) }
-{
-    let ReportedKey::Named(key) = key else {
-        return Err(KittyEncodeError::UnknownKey);
-    };
-    match key.encode(alloc, port_modifiers(bits), XTERM_MODES, true) {
-        Ok(text) => Ok(text),
-        Err(EncodeError::UnhandledFunctionKey(_)) => Err(KittyEncodeError::UnknownKey),
-        Err(EncodeError::Memory) => Err(KittyEncodeError::Memory),
+    let mut text = String::new(alloc);
+    match sent {
+        LegacyText::Alone(c) => text.push(c)?,
+        LegacyText::AfterEscape(c) => write!(text, "\x1b{c}")?,
+        LegacyText::BackTab => write!(text, "{CSI}Z")?,
+        LegacyText::EscapeAndBackTab => write!(text, "\x1b{CSI}Z")?,
+        LegacyText::FunctionLetter(letter) => write!(text, "{SS3}{letter}")?,
+        LegacyText::Menu(modifiers) => push_numbered(
+            &mut text,
+            29,
+            Manner {
+                modifiers,
+                kind: KeyEventKind::Press,
+            },
+        )?,
     }
+    Ok(text)
 }
 
 // Appends the sequence of what is sent of a report.
@@ -184,7 +173,7 @@ fn sequence(
     ensures unknown { (result ≡ Err error.UnknownKey) ↔ (texts.report_text report.now flags.0 ≡ None) }
     ensures too_long { result ≡ Err error.TooLong → texts.IsTooLongReport report.now flags.0 }
 {
-    let Some(form) = form_of(report.key) else {
+    let Some(form) = form_of(told_key(report, flags)) else {
         return Err(KittyEncodeError::UnknownKey);
     };
     let mut text = String::new(alloc);

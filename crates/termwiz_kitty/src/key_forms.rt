@@ -130,3 +130,70 @@ pub(crate) fn form_of(key: ReportedKey) -> Option<KeyForm>
         ReportedKey::Functional(_) => None,
     }
 }
+
+// Whether the key types a character, or has its number.
+pub(crate) fn is_character(key: ReportedKey) -> bool
+    ensures { result ≡ forms.is_character key }
+{
+    matches!(key, ReportedKey::Named(KeyCode::Char(_)))
+}
+
+// The keys of the keypad, each with its main key.
+const MAIN_KEYS: &[(u32, KeyCode)] = &[
+    (57399, KeyCode::Char('0')),
+    (57400, KeyCode::Char('1')),
+    (57401, KeyCode::Char('2')),
+    (57402, KeyCode::Char('3')),
+    (57403, KeyCode::Char('4')),
+    (57404, KeyCode::Char('5')),
+    (57405, KeyCode::Char('6')),
+    (57406, KeyCode::Char('7')),
+    (57407, KeyCode::Char('8')),
+    (57408, KeyCode::Char('9')),
+    (57409, KeyCode::Char('.')),
+    (57410, KeyCode::Char('/')),
+    (57411, KeyCode::Char('*')),
+    (57412, KeyCode::Char('-')),
+    (57413, KeyCode::Char('+')),
+    (57414, KeyCode::Enter),
+    (57415, KeyCode::Char('=')),
+    (57416, KeyCode::Char(',')),
+    (57417, KeyCode::LeftArrow),
+    (57418, KeyCode::RightArrow),
+    (57419, KeyCode::UpArrow),
+    (57420, KeyCode::DownArrow),
+    (57421, KeyCode::PageUp),
+    (57422, KeyCode::PageDown),
+    (57423, KeyCode::Home),
+    (57424, KeyCode::End),
+    (57425, KeyCode::Insert),
+    (57426, KeyCode::Delete),
+    (57427, KeyCode::KeyPadBegin),
+];
+
+// What the table of main keys has at a number.
+fn main_at(number: u32) -> Option<KeyCode>
+    ensures { result ≡ entry_at forms.main_keys number }
+{
+    MAIN_KEYS
+        .iter()
+        .find(|row| row.0 == number)
+        .map(|row| row.1)
+}
+
+// The main key of a key of the keypad. Any other key is its own.
+#[tactic(auto, unfolding(crate::specs::KeyForms::main_key))]
+pub(crate) fn main_key(key: ReportedKey) -> ReportedKey
+    ensures { result ≡ forms.main_key key }
+{
+    if is_character(key) {
+        return key;
+    }
+    let Some(KeyForm::Code(number)) = form_of(key) else {
+        return key;
+    };
+    match main_at(number) {
+        Some(main) => ReportedKey::Named(main),
+        None => key,
+    }
+}

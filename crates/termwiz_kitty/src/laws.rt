@@ -1,8 +1,9 @@
 //! Laws of the encoder, each the contract of a function without effect.
-ghost use Rattle.termwiz_kitty.specs.KittyLaws.{FullyTold, KittyReadBack, LegacyReadBack, ModifiedF3IsPosition, TypedReadBack};
+ghost use Rattle.termwiz_kitty.specs.KittyLaws.{AltReadBack, FullyTold, KittyReadBack, LegacyReadBack, TypedReadBack};
 
-/// If a key is sent as a key report, and its sequence has at most 256 bytes, then the extended parser under `Rows::Kitty`, with no more
-/// to come, reads it as exactly that report.
+/// If a key is sent as a key report, and its sequence has at most 256 bytes, then the extended parser under `Rows::Kitty` reads it as
+/// exactly that report, whether or not more may come. Before the protocol that is so of each functional key with modifiers, and
+/// of a key of the keypad as its main key.
 pub fn kitty_read_back()
     ensures { KittyReadBack }
 {}
@@ -12,17 +13,18 @@ pub fn fully_told()
     ensures { FullyTold }
 {}
 
-/// A key that is sent as its text is read back as that text: Enter, Tab and Backspace as these keys, and any other as its characters,
-/// each the press of a key without modifiers. Nothing stays buffered, whether or not more may come.
+/// A key that is sent as its text is read back as that text: its characters, each the press of a key without modifiers. What Enter, Tab and
+/// Backspace type by themselves is read back as these keys. Nothing stays buffered, whether or not more may come.
 pub fn typed_read_back()
     ensures { TypedReadBack }
 {}
 
-/// A key that is sent as before the protocol is read back as its press, with Shift, Alt and Ctrl as they were held (`keys`). That holds of
-/// each key that reads back to the port (`ReadsBackToo` of `termwiz_laws`), but not of F3 with any of these modifiers. What xterm sends
-/// for that is read as the position of the cursor (`modified_f3`). With more to come the law says nothing of Escape, Escape with Alt, and
-/// `[`, `O`, `P`, `]` and `_` with Alt: their texts begin sequences.
+/// A text from before the protocol is read back as the press of its key, with all modifiers of its report, where no other key sends it
+/// (`keys`): F1 to F4, Escape alone or with Alt, Enter, Backspace and Tab with Alt, Tab with Shift or Shift and Alt, and letters but h,
+/// i, j and m with Ctrl or Ctrl and Alt. A text key with Alt, or Shift and Alt, is read back as the character that it shows, with Alt
+/// (`characters`). With more to come the law says nothing of Escape, Escape with Alt, and `[`, `O`, `P`, `]` and `_` with Alt: their
+/// texts begin sequences.
 pub fn legacy_read_back()
     ensures keys { LegacyReadBack }
-    ensures modified_f3 { ModifiedF3IsPosition }
+    ensures characters { AltReadBack }
 {}

@@ -4,4 +4,5 @@
 pub mod encode;
 mod key_forms;
 pub mod laws;
+mod legacy;
 mod telling;

@@ -2,7 +2,8 @@
 ghost use Rattle.std.specs.Prelude.{◌≡◌};
 ghost use Rattle.termwiz_kitty.specs.Telling as rules;
 
-use crate::key_forms::{KeyForm, form_of};
+use crate::key_forms::{KeyForm, form_of, is_character, main_key};
+use crate::legacy::{LegacyText, legacy_text};
 use termwiz_base::{Flags, KittyKeyboardFlags};
 use termwiz_extended_events::types::{KeyEventKind, KeyReport, ReportedKey};
 use termwiz_keys::types::KeyCode;
@@ -14,8 +15,8 @@ pub(crate) enum Telling {
     Nothing,
     // As the text that it types.
     Typed,
-    // As before the protocol.
-    Legacy,
+    // As this text from before the protocol.
+    Legacy(LegacyText),
     // As a key report.
     Reported,
 }
@@ -57,13 +58,6 @@ fn is_bare(modifiers: u8) -> bool
     modifiers & ALL_BUT_LOCKS == 0
 }
 
-// Whether the key types a character.
-fn is_character(key: ReportedKey) -> bool
-    ensures { result ≡ rules.is_character key }
-{
-    matches!(key, ReportedKey::Named(KeyCode::Char(_)))
-}
-
 // Whether the key is a modifier key or that of a lock.
 fn is_modifier(key: ReportedKey) -> bool
     ensures { result ≡ rules.is_modifier key }
@@ -92,16 +86,32 @@ pub(crate) fn has_control(text: &str) -> bool
     text.chars().any(|c| c.is_control())
 }
 
-// Whether the key types a text with these modifiers.
-fn types(key: ReportedKey, modifiers: u8) -> bool
-    ensures { result ≡ rules.types key modifiers }
+// Whether the text is sent as it is: it has characters, and no control characters.
+pub(crate) fn is_typed_text(text: &str) -> bool
+    ensures { result ≡ rules.is_typed_text text.now }
+{
+    !text.is_empty() && !has_control(text)
+}
+
+// Whether the key types a character that is no control character.
+fn types_character(key: ReportedKey) -> bool
+    ensures { result ≡ rules.types_character key }
 {
     match key {
-        ReportedKey::Named(KeyCode::Char(c)) => {
-            !c.is_control() && modifiers & ALL_BUT_SHIFT_AND_LOCKS == 0
-        }
-        _ => sends_control(key) && is_bare(modifiers),
+        ReportedKey::Named(KeyCode::Char(c)) => !c.is_control(),
+        _ => false,
     }
+}
+
+// Whether the key types a text: that of its report, or one by itself.
+fn types(key: ReportedKey, report: &KeyReport) -> bool
+    ensures { result ≡ rules.types key report.now }
+{
+    let is_at_most_shifted = report.modifiers & ALL_BUT_SHIFT_AND_LOCKS == 0;
+    if is_at_most_shifted && (is_typed_text(report.text.as_str()) || types_character(key)) {
+        return true;
+    }
+    sends_control(key) && is_bare(report.modifiers)
 }
 
 // Whether the program asked for reports of all keys.
@@ -129,23 +139,58 @@ pub(crate) fn told_kind(kind: KeyEventKind, flags: KittyKeyboardFlags) -> KeyEve
     }
 }
 
+// Whether keys are sent as before the protocol: neither flag that makes reports of them is on.
+fn is_legacy(flags: KittyKeyboardFlags) -> bool
+    ensures { result ≡ rules.is_legacy flags.0 }
+{
+    !flags.contains(KittyKeyboardFlags::DISAMBIGUATE_ESCAPE_CODES) && !tells_all_keys(flags)
+}
+
+// The key that is told: before the protocol a key of the keypad is its main key.
+pub(crate) fn told_key(report: &KeyReport, flags: KittyKeyboardFlags) -> ReportedKey
+    ensures { result ≡ rules.told_key report.now flags.0 }
+{
+    if is_legacy(flags) {
+        main_key(report.key)
+    } else {
+        report.key
+    }
+}
+
+// Whether the key is told as a press as before the protocol.
+fn is_legacy_press(report: &KeyReport, flags: KittyKeyboardFlags) -> bool
+    ensures { result ≡ rules.is_legacy_press report.now flags.0 }
+{
+    is_legacy(flags) && is_press(told_kind(report.kind, flags))
+}
+
+// What such a press sends that isn't its report.
+fn legacy_of(report: &KeyReport, flags: KittyKeyboardFlags) -> Option<LegacyText>
+    ensures { result ≡ rules.legacy_of report.now flags.0 }
+{
+    if !is_legacy_press(report, flags) {
+        return None;
+    }
+    let held = report.modifiers & ALL_BUT_LOCKS;
+    legacy_text(told_key(report, flags), held, report.shifted)
+}
+
 // How a key is sent if not all keys are reported as escape codes.
 fn telling_some(report: &KeyReport, flags: KittyKeyboardFlags) -> Telling
     ensures { result ≡ rules.telling_some report.now flags.0 }
 {
+    let key = told_key(report, flags);
     let is_release = is_release(report.kind);
-    if sends_control(report.key) && is_release {
+    if sends_control(key) && is_release {
         return Telling::Nothing;
     }
-    if types(report.key, report.modifiers) && !is_release {
+    if types(key, report) && !is_release {
         return Telling::Typed;
     }
-    if is_press(told_kind(report.kind, flags))
-        && !flags.contains(KittyKeyboardFlags::DISAMBIGUATE_ESCAPE_CODES)
-    {
-        return Telling::Legacy;
+    match legacy_of(report, flags) {
+        Some(text) => Telling::Legacy(text),
+        None => Telling::Reported,
     }
-    Telling::Reported
 }
 
 // How a key is sent.
@@ -166,11 +211,19 @@ pub(crate) fn telling_of(report: &KeyReport, flags: KittyKeyboardFlags) -> Telli
     telling_some(report, flags)
 }
 
+// Whether the locks aren't reported.
+fn hides_locks(report: &KeyReport, flags: KittyKeyboardFlags) -> bool
+    ensures { result ≡ rules.hides_locks report.now flags.0 }
+{
+    (is_character(told_key(report, flags)) && !tells_all_keys(flags))
+        || is_legacy_press(report, flags)
+}
+
 // The modifiers, as they are reported.
 pub(crate) fn told_modifiers(report: &KeyReport, flags: KittyKeyboardFlags) -> u8
     ensures { result ≡ rules.told_modifiers report.now flags.0 }
 {
-    if is_character(report.key) && !tells_all_keys(flags) {
+    if hides_locks(report, flags) {
         report.modifiers & ALL_BUT_LOCKS
     } else {
         report.modifiers
@@ -181,7 +234,8 @@ pub(crate) fn told_modifiers(report: &KeyReport, flags: KittyKeyboardFlags) -> u
 fn tells_alternates(report: &KeyReport, flags: KittyKeyboardFlags) -> bool
     ensures { result ≡ rules.tells_alternates report.now flags.0 }
 {
-    flags.contains(KittyKeyboardFlags::REPORT_ALTERNATE_KEYS) && is_character(report.key)
+    flags.contains(KittyKeyboardFlags::REPORT_ALTERNATE_KEYS)
+        && is_character(told_key(report, flags))
 }
 
 // What the key types with Shift, if it is reported.
@@ -212,7 +266,7 @@ fn tells_text(report: &KeyReport, flags: KittyKeyboardFlags) -> bool
 {
     flags.contains(KittyKeyboardFlags::REPORT_ASSOCIATED_TEXT)
         && tells_all_keys(flags)
-        && matches!(form_of(report.key), Some(KeyForm::Code(_)))
+        && matches!(form_of(told_key(report, flags)), Some(KeyForm::Code(_)))
         && !has_control(report.text.as_str())
 }
 

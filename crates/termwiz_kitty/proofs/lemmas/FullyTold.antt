@@ -1,11 +1,11 @@
 -- Under all five flags a report that a terminal can write is told whole.
-use Rattle.std.proofs.Common.{◌≡◌, ◌⊎◌, inl, inr, ⊎_elim, ℕ, Bool, true, false, not, ◌&&◌, List, [], refl, sym, ap, ap₂, ◌∙◌, Option, None}
+use Rattle.std.proofs.Common.{◌≡◌, ◌⊎◌, inl, inr, ⊎_elim, ℕ, Bool, true, false, not, ◌&&◌, ◌||◌, List, [], refl, sym, ap, ap₂, ◌∙◌, Option, None}
 use Rattle.std.specs.Prelude.{if◌then◌else◌}
 use Rattle.termwiz_extended_events.specs.declared.types.KeyReport.{KeyReport}
 use Rattle.termwiz_extended_events.specs.declared.types.KeyEventKind.{KeyEventKind}
 use Rattle.termwiz_extended_events.specs.declared.types.ReportedKey.{ReportedKey}
-use Rattle.termwiz_kitty.specs.KeyForms.{form_of}
-use Rattle.termwiz_kitty.specs.Telling.{is_release, is_shifted, is_character, is_modifier_form, has_text, has_control, without_locks, telling, reported}
+use Rattle.termwiz_kitty.specs.KeyForms.{form_of, is_character}
+use Rattle.termwiz_kitty.specs.Telling.{is_release, is_shifted, is_modifier_form, has_text, has_control, without_locks, telling, reported}
 use Rattle.termwiz_kitty.specs.KittyLaws.{IsWritable, FullyTold}
 
 and_false : (a : Bool) → (a && false) ≡ false
@@ -43,7 +43,7 @@ told_whole r is =
     ∙ ap₂ (λ s b. built r.key r.modifiers r.kind s b (if has_text (form_of r.key) && not (has_control r.text) then r.text else [])) same_shifted same_base
     ∙ ap (λ t. built r.key r.modifiers r.kind r.shifted r.base t) same_text
   where
-    same_modifiers : (if is_character r.key && false then without_locks r.modifiers else r.modifiers) ≡ r.modifiers
+    same_modifiers : (if (is_character r.key && false) || false then without_locks r.modifiers else r.modifiers) ≡ r.modifiers
     same_modifiers = rw (and_false (is_character r.key)) refl
 
     same_shifted : (if is_character r.key && is_shifted r.modifiers then r.shifted else None) ≡ r.shifted

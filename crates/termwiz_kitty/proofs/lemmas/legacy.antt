@@ -2,4 +2,3 @@ pub mod ReadAsOne
 pub mod WaitingKeys
 pub mod ComputedReports
 pub mod LegacyKeys
-pub mod ModifiedF3

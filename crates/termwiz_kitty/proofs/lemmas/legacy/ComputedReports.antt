@@ -1,24 +1,19 @@
 -- What the texts of keys report under Rows::Kitty, computed over lists of keys with modifiers.
-use Rattle.std.proofs.Common.{◌≡◌, ℕ, Bool, true, false, List, [], ◌∷◌, map, drop, Option, Some, None, refl, sym, ap, ◌∙◌, subst, Contains}
+use Rattle.std.proofs.Common.{◌≡◌, ℕ, Bool, true, false, List, map, drop, Option, Some, None, refl, sym, ap, ◌∙◌, subst, Contains}
 use Rattle.std.specs.Prelude.{if◌then◌else◌}
-use Rattle.std.specs.Fmt.{digits}
 use Rattle.termwiz_keys.specs.Encoding.{enc}
-use Rattle.termwiz_keys.specs.Keys.{ALT, key_with}
-use Rattle.termwiz_keys.specs.declared.types.KeyCode.TheVariants.{Char}
+use Rattle.termwiz_keys.specs.Keys.{key_with}
 use Rattle.termwiz_keys.specs.declared.types.KeyEvent.{KeyEvent}
 use Rattle.termwiz_keys.specs.declared.types.InputEvent.TheVariants as input
-use Rattle.termwiz_grammar.specs.Table.{numbers}
 use Rattle.termwiz_grammar.proofs.lemmas.lists.ListMembers.{same_on}
-use Rattle.termwiz_laws.proofs.lemmas.further_keys.ComputedReadings as computed
-use Rattle.termwiz_laws.proofs.lemmas.further_keys.ComputedReadings.{Held, enc_written_out}
+use Rattle.termwiz_laws.proofs.lemmas.further_keys.ComputedReadings.{Held}
 use Rattle.termwiz_extended_events.specs.declared.types.KeyReport.{KeyReport}
 use Rattle.termwiz_extended_events.specs.declared.types.ExtendedEvent.{ExtendedEvent}
 use Rattle.termwiz_extended_events.specs.declared.types.ExtendedEvent.TheVariants.{Input, Key, FocusGained, FocusLost, CursorPosition, Resize, KeyboardFlags, Csi, Osc, Dcs, Apc}
 use Rattle.termwiz_extended_events.specs.EventKeys.{pressed_key, key_of_event}
 use Rattle.termwiz_extended_events.specs.Meanings.{event_of, IsKeyOrPosition}
-use Rattle.termwiz_extended_events.proofs.Examples.{written_out}
-use Rattle.termwiz_kitty.specs.KittyTexts.{xterm_modes}
-use Rattle.termwiz_kitty.specs.KittyLaws.{is_modified_f3, IsReadAs}
+use Rattle.termwiz_kitty.specs.KittyLaws.{IsReadAs}
+use Rattle.termwiz_kitty.proofs.lemmas.PortKeys.{xterm_modes}
 use Rattle.termwiz_kitty.proofs.lemmas.legacy.ReadAsOne.{ReadAs}
 use Rattle.termwiz_kitty.proofs.lemmas.legacy.ReadAsOne.ReadAs.{as_key, as_report, apart}
 
@@ -86,64 +81,14 @@ report_if_some None other = None
 abbrev pub told_of : Held → Option KeyReport
 told_of p = report_if_some (enc p.0 (record { 0 = p.1 }) xterm_modes) (pressed_key (key_with p.0 p.1))
 
--- each of these but F3 with modifiers
 abbrev pub expected : Held → Option KeyReport
-expected p = if is_modified_f3 p.0 p.1 then None else Some (pressed_key (key_with p.0 p.1))
+expected p = Some (pressed_key (key_with p.0 p.1))
 
 abbrev pub AllTold : List Held → Type 0
 AllTold cases = map told_of cases ≡ map expected cases
 
 pub told_in : (cases : List Held) (p : Held) (text : List ℕ) → AllTold cases → Contains cases p
-    → enc p.0 (record { 0 = p.1 }) xterm_modes ≡ Some text → is_modified_f3 p.0 p.1 ≡ false
+    → enc p.0 (record { 0 = p.1 }) xterm_modes ≡ Some text
     → told_report text (pressed_key (key_with p.0 p.1)) ≡ Some (pressed_key (key_with p.0 p.1))
-told_in cases p text test here sends other =
-    ap (λ o. report_if_some o (pressed_key (key_with p.0 p.1))) (sym sends)
-    ∙ same_on told_of expected cases p test here
-    ∙ rw other refl
-
-pub named_told : AllTold computed.named
-unfolding enc_written_out written_out numbers digits
-named_told = refl
-
-pub modified_arrows_told : AllTold computed.modified_arrows
-unfolding enc_written_out written_out numbers digits
-modified_arrows_told = refl
-
-pub without_modifiers_told : AllTold computed.without_modifiers
-unfolding enc_written_out written_out numbers digits
-without_modifiers_told = refl
-
-pub escape_and_backspace_told : AllTold computed.escape_and_backspace
-unfolding enc_written_out written_out numbers digits
-escape_and_backspace_told = refl
-
-pub printable_with_alt_told : AllTold computed.printable_with_alt
-unfolding enc_written_out written_out numbers digits
-printable_with_alt_told = refl
-
-pub arrows_alone_told : AllTold computed.arrows_alone
-unfolding enc_written_out written_out numbers digits
-arrows_alone_told = refl
-
-pub enter_alone_told : AllTold computed.enter_alone
-unfolding enc_written_out written_out numbers digits
-enter_alone_told = refl
-
-pub letters_told : AllTold computed.own_letters
-unfolding enc_written_out written_out numbers digits
-letters_told = refl
-
-pub tabs_told : AllTold computed.tabs
-unfolding enc_written_out written_out numbers digits
-tabs_told = refl
-
-pub low_with_alt_told : AllTold computed.low_with_alt
-unfolding enc_written_out written_out numbers digits
-low_with_alt_told = refl
-
-abbrev pub zero_with_alt : List Held
-zero_with_alt = (Char 0, ALT) ∷ []
-
-pub zero_with_alt_told : AllTold zero_with_alt
-unfolding enc_written_out written_out numbers digits
-zero_with_alt_told = refl
+told_in cases p text test here sends =
+    ap (λ o. report_if_some o (pressed_key (key_with p.0 p.1))) (sym sends) ∙ same_on told_of expected cases p test here

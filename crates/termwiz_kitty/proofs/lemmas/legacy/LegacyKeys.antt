@@ -1,30 +1,26 @@
--- Keys that are told as before the protocol, and that the port reads back, are read back.
-use Rattle.std.proofs.Common.{◌≡◌, ◌≢◌, inl, inr, ⊎_elim, ℕ, ◌+◌, ◌-◌, ◌<◌, ◌≤◌, Bool, true, false, List, [], ◌∷◌, ◌++◌, map, filter, refl, sym, ap, ◌∙◌, subst, arith, Some, Contains, lit<, ◌==◌, ◌&&◌, ◌||◌, bit_and}
-use Rattle.std.specs.Prelude.{if◌then◌else◌}
-use Rattle.std.specs.Char.{IsScalar, encode_utf8, is_ascii_lowercase, is_ascii_alphanumeric, is_ascii_punctuation}
-use Rattle.std.proofs.lemmas.Bool.{and_right}
+-- Texts from before the protocol are read back.
+use Rattle.std.proofs.Common.{◌≡◌, ◌≢◌, ◌⊎◌, inl, inr, ℕ, ◌+◌, ◌<◌, ◌≤◌, Bool, true, false, not, zero, suc, List, [], ◌∷◌, ◌++◌, map, filter, refl, sym, ap, ◌∙◌, subst, arith, Option, Some, None, Contains, lit<, ◌==◌, ◌&&◌, ◌||◌, bit_and}
+use Rattle.std.specs.Prelude.{if◌then◌else◌, option_map}
+use Rattle.std.specs.Fmt.{digits}
+use Rattle.std.specs.Char.{IsScalar, encode_utf8, is_control, is_ascii_lowercase, is_ascii_alphanumeric, is_ascii_punctuation}
 use Rattle.std.proofs.lemmas.Bool.Decides.{nat_tests}
-use Rattle.std.proofs.lemmas.List.Elements.{Contains-append_left}
+use Rattle.std.proofs.lemmas.List.Elements.{Contains-append_left, Contains-append_right}
 use Rattle.termwiz_base.specs.Modifiers.{xterm_number}
-use Rattle.termwiz_keys.specs.Encoding.{enc, key_text, normal_key, normal_held, shows_shift, named_key, char_text, plain_char_text, other_text}
+use Rattle.termwiz_keys.specs.Encoding.{enc, key_text, char_text, plain_char_text, other_text}
 use Rattle.termwiz_keys.specs.Introducers.{ESC}
-use Rattle.termwiz_keys.specs.KeyCodes.{shifted}
-use Rattle.termwiz_keys.specs.Keys.{NONE, SHIFT, ALT, CTRL, key_with}
+use Rattle.termwiz_keys.specs.Keys.{key_with, ALT as port_alt}
 use Rattle.termwiz_keys.specs.declared.types.KeyCode.{KeyCode}
+use Rattle.termwiz_keys.specs.declared.types.KeyCode.TheVariants.{Char}
 use Rattle.termwiz_keys.specs.declared.types.KeyEvent.{KeyEvent}
-use Rattle.termwiz_keys.specs.declared.types.KeyCode.TheVariants.{Char, Backspace, Tab, Enter, Escape}
 use Rattle.termwiz_keys.specs.declared.types.InputEvent.TheVariants as input
-use Rattle.termwiz_keys.specs.declared.encode.KeyCodeEncodeModes.{KeyCodeEncodeModes}
-use Rattle.termwiz_keys.specs.declared.encode.KeyboardEncoding.TheVariants.{Xterm, CsiU}
 use Rattle.termwiz_grammar.specs.Grammar as port
-use Rattle.termwiz_grammar.specs.Table.{numbers}
-use Rattle.termwiz_grammar.specs.Listed.{any_of_three, IsSharedLetter}
-use Rattle.termwiz_grammar.proofs.lemmas.lists.ListMembers.{pairs, in_map, in_pairs, in_filter, in_numbers, same_on}
-use Rattle.termwiz_laws.specs.FurtherKeys.{named_keys, arrows, keys_alone, some_of_three, ctrl_or_ctrl_alt, IsOn, ReadsBackToo}
-use Rattle.termwiz_laws.specs.FurtherKeys.ReadsBackToo.{any_modifiers, modified_arrow, alone, none_or_alt, character, alt_character, arrow_alone, enter, ctrl_letter, tab, alt_beyond_ascii, alt_control_or_space, tab_by_code, enter_by_code, escape_or_backspace_by_code, by_code}
+use Rattle.termwiz_grammar.specs.Table.{numbers, written_out}
+use Rattle.termwiz_grammar.specs.Listed.{IsSharedLetter}
+use Rattle.termwiz_grammar.proofs.lemmas.lists.ListMembers.{pairs, in_map, in_pairs, in_filter, same_on}
+use Rattle.termwiz_laws.specs.FurtherKeys.ReadsBackToo.{alt_beyond_ascii}
 use Rattle.termwiz_laws.specs.KeyStreams.{Press, DoesReadBack, MayGoOn, NeedsFlush, keys_that_need_a_flush}
 use Rattle.termwiz_laws.proofs.lemmas.further_keys.ComputedReadings as computed
-use Rattle.termwiz_laws.proofs.lemmas.further_keys.ComputedReadings.{Held, chars}
+use Rattle.termwiz_laws.proofs.lemmas.further_keys.ComputedReadings.{Held, AllRead, reads_back_in, enc_written_out, chars}
 use Rattle.termwiz_laws.proofs.lemmas.further_keys.FurtherReadings.{further_keys_read_back}
 use Rattle.termwiz_laws.proofs.lemmas.further_keys.SingleCharacters.{key_with_alt, held_with_alt, first_high}
 use Rattle.termwiz_laws.proofs.lemmas.key_streams.FourKeys.{four_go_on, others_at_once}
@@ -33,15 +29,23 @@ use Rattle.termwiz_extended_events.specs.declared.types.KeyReport.{KeyReport}
 use Rattle.termwiz_extended_events.specs.declared.types.ReportedKey.TheVariants.{Named}
 use Rattle.termwiz_extended_events.specs.declared.types.ExtendedEvent.TheVariants.{Input}
 use Rattle.termwiz_extended_events.specs.EventKeys.{pressed_key}
+use Rattle.termwiz_extended_events.proofs.Examples.{written_out as events_written_out}
 use Rattle.termwiz_extended_grammar.proofs.lemmas.forms.FormBytes.{form_shape}
-use Rattle.termwiz_kitty.specs.declared.telling.Telling.TheVariants.{Legacy}
-use Rattle.termwiz_kitty.specs.Telling.{telling}
-use Rattle.termwiz_kitty.specs.KittyTexts.{port_modifiers, xterm_modes, legacy_text, kitty_text}
-use Rattle.termwiz_kitty.specs.KittyLaws.{is_modified_f3, keys_that_wait, press_of, IsReadAs, LegacyReadBack}
+use Rattle.termwiz_kitty.specs.declared.legacy.LegacyText.{LegacyText}
+use Rattle.termwiz_kitty.specs.declared.legacy.LegacyText.TheVariants.{AfterEscape}
+use Rattle.termwiz_kitty.specs.declared.telling.Telling.TheVariants.{Nothing, Typed, Legacy, Reported}
+use Rattle.termwiz_kitty.specs.LegacyTexts.{ALT, CTRL, SHIFT_ALT, CTRL_ALT, is_text_key, with_shift, character_text, legacy_text}
+use Rattle.termwiz_kitty.specs.Telling.{is_silent_release, is_silent_modifier, tells_all_keys, sends_control, is_release, types, without_locks, told_key, is_legacy_press, legacy_of, or_reported, telling}
+use Rattle.termwiz_kitty.specs.KittyTexts.{legacy_bytes, kitty_text}
+use Rattle.termwiz_kitty.specs.KittyLaws.{IsKey, IsScalarOrMissing, IsReadBack, keys_of_their_own, keys_that_wait, press_of, IsReadAs, LegacyReadBack, AltReadBack}
+use Rattle.termwiz_kitty.specs.KittyLaws.IsReadBack.{of_its_own, ctrl_letter}
+use Rattle.termwiz_kitty.proofs.lemmas.PortKeys.{xterm_modes, held_that_wait, at_number}
+use Rattle.termwiz_kitty.proofs.lemmas.read_back.SequencesMean.{told_is_key}
+use Rattle.termwiz_kitty.proofs.lemmas.typed.TypedCharacters.{low_is_control}
+use Rattle.termwiz_kitty.proofs.lemmas.typed.TypedTexts.{IsShown, IsShownOrMissing, with_shift_is}
 use Rattle.termwiz_kitty.proofs.lemmas.legacy.ReadAsOne.{second_range, no_escape_before, IsRead, ReadAs, read_as}
 use Rattle.termwiz_kitty.proofs.lemmas.legacy.ReadAsOne.ReadAs.{as_key, as_report, apart}
 use Rattle.termwiz_kitty.proofs.lemmas.legacy.WaitingKeys.{text_waits, rest_waits}
-use Rattle.termwiz_kitty.proofs.lemmas.legacy.ComputedReports as told
 use Rattle.termwiz_kitty.proofs.lemmas.legacy.ComputedReports.{AllTold, told_in, told_is_read}
 
 -- the key sends the text in xterm's encoding, with every mode off
@@ -52,30 +56,72 @@ Sends key held text = enc key (record { 0 = held }) xterm_modes ≡ Some text
 abbrev Back : KeyCode → ℕ → List ℕ → Bool → Type 0
 Back key held text more = IsReadAs text more (pressed_key (key_with key held))
 
--- by what was computed
-by_list : (cases : List Held) (key : KeyCode) (held : ℕ) (text : List ℕ) (more : Bool) → AllTold cases → Contains cases (key, held)
-    → Sends key held text → is_modified_f3 key held ≡ false → ReadAs text (key_with key held) more
-    → Back key held text more
-by_list cases key held text more test here sends other found =
-    told_is_read text (key_with key held) more found (told_in cases (key, held) text test here sends other)
+abbrev press : KeyCode → ℕ → Press
+press key held = record { key = key; modifiers = record { 0 = held }; modes = xterm_modes }
 
--- characters by their numbers
-pub at_number : (from count c : ℕ) → from ≤ c → c < from + count → Contains (numbers from count) c
-at_number from count c low high = subst (λ n. Contains (numbers from count) n)
-    (let e : from + (c - from) ≡ c = omega arith in e) (in_numbers from count (c - from) (omega arith))
+-- what the port reads back needs no flush, where it doesn't begin a sequence
+is_read : (key : KeyCode) (held : ℕ) (text : List ℕ) (more : Bool) → DoesReadBack (press key held) → Sends key held text
+    → (more ≡ true → ¬ Contains held_that_wait (key, held)) → IsRead text (key_with key held) more
+is_read key held text more back sends apart' = record {
+  flushed = flushed;
+  means = means more apart';
+  closed = λ h. apart' h.more_comes (text_waits text k flushed h.some h.beginning (no_beginning h.more_comes));
+  closed_after = λ v split h.
+      apart' h.more_comes (rest_waits text v k flushed split h.some h.beginning (no_beginning h.more_comes));
+}
+  where
+    k : KeyEvent
+    k = key_with key held
+
+    flushed : port.Means text false (input.Key k ∷ []) []
+    flushed = sent_means (press key held) text back sends
+
+    no_flush : (f : Bool) → f ≡ true → (f ≡ true → ¬ Contains held_that_wait (key, held)) → ¬ NeedsFlush (press key held)
+    no_flush f e other four = other e (Contains-append_left keys_that_need_a_flush
+        ((Char 80, port_alt) ∷ (Char 93, port_alt) ∷ (Char 95, port_alt) ∷ []) (key, held) four)
+
+    no_beginning : more ≡ true → ¬ MayGoOn text
+    no_beginning e on = no_flush more e apart' (four_go_on (press key held) text back sends on)
+
+    means : (f : Bool) → (f ≡ true → ¬ Contains held_that_wait (key, held)) → port.Means text f (input.Key k ∷ []) []
+    means false other = flushed
+    means true other = others_at_once (press key held) text (back, no_flush true refl other) sends
+
+-- by what was computed of a list of keys
+by_list : (cases : List Held) (key : KeyCode) (held : ℕ) (text : List ℕ) (more : Bool) → AllRead xterm_modes cases → AllTold cases
+    → Contains cases (key, held) → Sends key held text → (more ≡ true → ¬ Contains held_that_wait (key, held))
+    → Back key held text more
+by_list cases key held text more read told here sends apart' =
+    let back = reads_back_in xterm_modes cases key (record { 0 = held }) read here in
+    told_is_read text (key_with key held) more (read_as text (key_with key held) more (is_read key held text more back sends apart'))
+    (told_in cases (key, held) text told here sends)
 
 in_chars : (codes' held' : List ℕ) (c held : ℕ) → Contains codes' c → Contains held' held
     → Contains (pairs (chars codes') held') (Char c, held)
 in_chars codes' held' c held a b = in_pairs (chars codes') held' (Char c) held (in_map (λ d. Char d) codes' c a) b
 
-only : (n : ℕ) → Contains (n ∷ []) n
-only n = (0, omega arith, refl)
+-- kitty's bits of Shift, Alt and Ctrl as the port's
+abbrev port_bits : ℕ → ℕ
+port_bits b =
+    (if bit_and b 1 == 0 then 0 else 2) + (if bit_and b 2 == 0 then 0 else 4) + (if bit_and b 4 == 0 then 0 else 8)
 
-printable_here : (c : ℕ) → (is_ascii_alphanumeric c || is_ascii_punctuation c) ≡ true → Contains (numbers 33 94) c
-printable_here c is = at_number 33 94 c (grind (arith, nat_tests)) (grind (arith, nat_tests))
+abbrev in_port : KeyCode × ℕ → Held
+in_port p = (p.0, port_bits p.1)
 
-own_letter_here : (c : ℕ) → is_ascii_lowercase c ≡ true → ¬ IsSharedLetter c
-    → Contains (filter computed.own_letter (numbers 97 26)) c
+abbrev in_kitty : Held → KeyCode × ℕ
+in_kitty p = (p.0, xterm_number p.1)
+
+waits_same : map in_kitty held_that_wait ≡ keys_that_wait
+waits_same = refl
+
+-- the keys that are read back as themselves
+abbrev own_letters : List ℕ
+own_letters = filter computed.own_letter (numbers 97 26)
+
+abbrev own_keys : List (KeyCode × ℕ)
+own_keys = keys_of_their_own ++ pairs (chars own_letters) (CTRL ∷ CTRL_ALT ∷ [])
+
+own_letter_here : (c : ℕ) → is_ascii_lowercase c ≡ true → ¬ IsSharedLetter c → Contains own_letters c
 own_letter_here c small own =
     let h : c ≢ 104 = λ e. own (0, lit< tt, sym e) in
     let i : c ≢ 105 = λ e. own (1, lit< tt, sym e) in
@@ -86,47 +132,124 @@ own_letter_here c small own =
     let kept : computed.own_letter c ≡ true = grind (arith, nat_tests) in
     in_filter computed.own_letter (numbers 97 26) c (at_number 97 26 c low high) kept
 
--- a character alone
-either_way : (b : Bool) (n : ℕ) → (if b then n else n) ≡ n
-either_way true n = refl
-either_way false n = refl
+is_own_key : (key : KeyCode) (held : ℕ) → IsReadBack key held → Contains own_keys (key, held)
+is_own_key k h (of_its_own key held here) =
+    Contains-append_left keys_of_their_own (pairs (chars own_letters) (CTRL ∷ CTRL_ALT ∷ [])) (key, held) here
+is_own_key k h (ctrl_letter c held small own here) =
+    Contains-append_right keys_of_their_own (pairs (chars own_letters) (CTRL ∷ CTRL_ALT ∷ [])) (Char c, held)
+    (in_chars own_letters (CTRL ∷ CTRL_ALT ∷ []) c held (own_letter_here c small own) here)
 
-key_alone : (c : ℕ) → c ≢ 127 → c ≢ 8 → normal_key (Char c) NONE ≡ Char c
-unfolding normal_key shifted named_key
-key_alone c del bs =
-    let none : (is_ascii_lowercase c && false) ≡ false = and_right (is_ascii_lowercase c) false refl in
-    let not_del : (c == 0x7f) ≡ false = grind (arith, nat_tests) in
-    let not_bs : (c == 8) ≡ false = grind (arith, nat_tests) in
-    rw (none, not_del, not_bs)
+abbrev sent_of : Option ℕ → KeyCode × ℕ → Option (List ℕ)
+sent_of shifted p = option_map legacy_bytes (legacy_text (Named p.0) p.1 shifted)
 
-held_alone : (c : ℕ) → normal_held (Char c) NONE ≡ NONE
-unfolding normal_held
-held_alone c = either_way (shows_shift (shifted (Char c) NONE)) NONE
+abbrev enc_of : KeyCode × ℕ → Option (List ℕ)
+enc_of p = enc p.0 (record { 0 = port_bits p.1 }) xterm_modes
 
-char_alone : (c : ℕ) → c ≢ 127 → c ≢ 8 → Sends (Char c) NONE (encode_utf8 c)
-unfolding enc key_text char_text plain_char_text
-char_alone c del bs = rw (key_alone c del bs, held_alone c)
+own_keys_sent : (shifted : Option ℕ) → map (sent_of shifted) own_keys ≡ map enc_of own_keys
+unfolding legacy_bytes legacy_text enc_written_out numbers
+own_keys_sent shifted = refl
 
-alone_back : (c : ℕ) (text : List ℕ) (f : Bool) → IsScalar c → encode_utf8 c ≡ text → ReadAs text (key_with (Char c) NONE) f
-    → Back (Char c) NONE text f
-alone_back c text f scalar e (as_key means) = (Input (input.Key (key_with (Char c) NONE)), means, refl)
-alone_back c text f scalar e (as_report is means) =
-    let shape = form_shape text is.is_extra.is_form in
-    absurd (no_escape_before c shape.0 shape.1 scalar (e ∙ shape.2))
-alone_back c text f scalar e (apart v splits is) =
-    let shape = form_shape v is.is_extra.is_form in
-    absurd (no_escape_before c 27 (shape.0 ∷ shape.1) scalar (e ∙ splits ∙ ap (λ x. 27 ∷ x) shape.2))
+own_bits : map (λ (p : KeyCode × ℕ). xterm_number (port_bits p.1)) own_keys ≡ map (λ p. p.1) own_keys
+unfolding numbers
+own_bits = refl
 
--- a character beyond ASCII, with ALT
-char_with_alt : (c : ℕ) → 128 ≤ c → Sends (Char c) ALT (ESC ++ encode_utf8 c)
+own_keys_read : AllRead xterm_modes (map in_port own_keys)
+unfolding enc_written_out written_out numbers
+own_keys_read = refl
+
+own_keys_told : AllTold (map in_port own_keys)
+unfolding enc_written_out events_written_out numbers digits
+own_keys_told = refl
+
+-- what is sent as before the protocol is that text
+
+-- the text that is told is the key's
+told_text_is : (sent : Option LegacyText) (text : LegacyText) → or_reported sent ≡ Legacy text → sent ≡ Some text
+told_text_is (Some other) text e = cc (e)
+told_text_is None text e = cc (e)
+
+by_rule : (a b c d t : Bool) (sent : Option LegacyText) (text : LegacyText) → (if a then Nothing else (if b then Nothing
+    else (if c then Reported else (if d then Nothing else (if t then Typed else or_reported sent))))) ≡ Legacy text → sent ≡ Some text
+by_rule true b c d t sent text e = cc (e)
+by_rule false true c d t sent text e = cc (e)
+by_rule false false true d t sent text e = cc (e)
+by_rule false false false true t sent text e = cc (e)
+by_rule false false false false true sent text e = cc (e)
+by_rule false false false false false sent text e = told_text_is sent text e
+
+of_press : (press' : Bool) (sent : Option LegacyText) (text : LegacyText) → (if press' then sent else None) ≡ Some text
+    → sent ≡ Some text
+of_press true sent text e = e
+of_press false sent text e = cc (e)
+
+legacy_is : (r : KeyReport) (flags : ℕ) (sent : LegacyText) → telling r flags ≡ Legacy sent
+    → legacy_text (told_key r flags) (without_locks r.modifiers) r.shifted ≡ Some sent
+unfolding telling
+legacy_is r flags sent e =
+    of_press (is_legacy_press r flags) (legacy_text (told_key r flags) (without_locks r.modifiers) r.shifted) sent
+    (by_rule (is_silent_release r flags) (is_silent_modifier r flags) (tells_all_keys flags)
+    (sends_control (told_key r flags) && is_release r.kind)
+    (types (told_key r flags) r && not (is_release r.kind)) (legacy_of r flags) sent e)
+
+written_as : (r : KeyReport) (flags : ℕ) (sent : LegacyText) → telling r flags ≡ Legacy sent
+    → kitty_text r flags ≡ Some (legacy_bytes sent)
+unfolding kitty_text
+written_as r flags sent tells = rw tells refl
+
+pub legacy_read_back : LegacyReadBack
+legacy_read_back r key flags sent text more is named tells writes own apart' =
+    subst (λ b. IsReadAs text more (press_of key b)) bits
+    (by_list (map in_port own_keys) key (port_bits held) text more own_keys_read own_keys_told
+    (in_map in_port own_keys (key, held) here) sends (λ e waits. apart' e (waiting waits)))
+  where
+    held : ℕ
+    held = without_locks r.modifiers
+
+    here : Contains own_keys (key, held)
+    here = is_own_key key held own
+
+    bits : xterm_number (port_bits held) ≡ held
+    bits = same_on (λ (p : KeyCode × ℕ). xterm_number (port_bits p.1)) (λ p. p.1) own_keys (key, held) own_bits here
+
+    legacy : legacy_text (Named key) held r.shifted ≡ Some sent
+    legacy = subst (λ k. legacy_text k held r.shifted ≡ Some sent) named (legacy_is r flags sent tells)
+
+    sends : Sends key (port_bits held) text
+    sends = sym (same_on (sent_of r.shifted) enc_of own_keys (key, held) (own_keys_sent r.shifted) here)
+        ∙ ap (option_map legacy_bytes) legacy ∙ sym (written_as r flags sent tells) ∙ writes
+
+    waiting : Contains held_that_wait (key, port_bits held) → Contains keys_that_wait (key, held)
+    waiting w = subst (λ b. Contains keys_that_wait (key, b)) bits
+        (subst (λ l. Contains l (key, xterm_number (port_bits held))) waits_same (in_map in_kitty held_that_wait (key, port_bits held) w))
+
+-- characters after ESC
+
+abbrev printable_with_alt : List Held
+printable_with_alt = pairs (chars (numbers 32 95)) (port_alt ∷ [])
+
+printable_sent : map (λ c. enc (Char c) (record { 0 = port_alt }) xterm_modes) (numbers 32 95)
+    ≡ map (λ c. Some (27 ∷ encode_utf8 c)) (numbers 32 95)
+unfolding enc_written_out numbers
+printable_sent = refl
+
+printable_read : AllRead xterm_modes printable_with_alt
+unfolding enc_written_out written_out numbers
+printable_read = refl
+
+printable_told : AllTold printable_with_alt
+unfolding enc_written_out events_written_out numbers digits
+printable_told = refl
+
+-- a character beyond ASCII
+char_with_alt : (c : ℕ) → 128 ≤ c → Sends (Char c) port_alt (ESC ++ encode_utf8 c)
 unfolding enc key_text char_text plain_char_text other_text
 char_with_alt c high =
     let no_letter : is_ascii_alphanumeric c || is_ascii_punctuation c ≡ false = grind (arith, nat_tests) in
     rw (key_with_alt c (λ e. omega arith) (λ e. omega arith), held_with_alt c, no_letter)
 
 alt_back : (c : ℕ) (text : List ℕ) (f : Bool) → IsScalar c → 128 ≤ c → 27 ∷ encode_utf8 c ≡ text
-    → ReadAs text (key_with (Char c) ALT) f → Back (Char c) ALT text f
-alt_back c text f scalar high e (as_key means) = (Input (input.Key (key_with (Char c) ALT)), means, refl)
+    → ReadAs text (key_with (Char c) port_alt) f → Back (Char c) port_alt text f
+alt_back c text f scalar high e (as_key means) = (Input (input.Key (key_with (Char c) port_alt)), means, refl)
 alt_back c text f scalar high e (as_report is means) =
     let shape = form_shape text is.is_extra.is_form in
     let first = first_high c shape.0 shape.1 high (cc (e, shape.2)) in
@@ -135,124 +258,101 @@ alt_back c text f scalar high e (apart v splits is) =
     let shape = form_shape v is.is_extra.is_form in
     absurd (no_escape_before c shape.0 shape.1 scalar (cc (e, splits, shape.2)))
 
--- no mode is on
-never_on : (m : KeyCodeEncodeModes) → m ≡ xterm_modes → ¬ IsOn m
-never_on m e on = on (ap (λ (x : KeyCodeEncodeModes). x.modify_other_keys) e)
-
-same_text : (s t : List ℕ) → Some s ≡ Some t → s ≡ t
-same_text s t e = cc (e)
-
-line_back : (k : KeyCode) (h : ℕ) (m : KeyCodeEncodeModes) (text : List ℕ) (f : Bool) → ReadsBackToo k h m → m ≡ xterm_modes
-    → Sends k h text → is_modified_f3 k h ≡ false → ReadAs text (key_with k h) f → Back k h text f
-line_back k h m text f (any_modifiers key held modes a b) off sends other found =
-    by_list computed.named key held text f told.named_told (in_pairs named_keys any_of_three key held a b) sends other found
-line_back k h m text f (modified_arrow key held modes a b) off sends other found =
-    by_list computed.modified_arrows key held text f told.modified_arrows_told (in_pairs arrows some_of_three key held a b)
-    sends other found
-line_back k h m text f (alone key modes a) off sends other found =
-    by_list computed.without_modifiers key NONE text f told.without_modifiers_told
-    (in_pairs keys_alone (NONE ∷ []) key NONE a (only NONE)) sends other found
-line_back k h m text f (none_or_alt key held modes a b) off sends other found =
-    by_list computed.escape_and_backspace key held text f told.escape_and_backspace_told
-    (in_pairs (Escape ∷ Backspace ∷ []) (NONE ∷ ALT ∷ []) key held a b) sends other found
-line_back k h m text f (character c modes scalar low del) off sends other found =
-    let no_backspace : c ≢ 8 = λ e. ⊎_elim (λ (z : c ≡ 0). omega arith) (λ (high : 28 ≤ c). omega arith) low in
-    alone_back c text f scalar (same_text (encode_utf8 c) text (sym (char_alone c del no_backspace) ∙ sends)) found
-line_back k h m text f (alt_character c modes a) off sends other found =
-    by_list computed.printable_with_alt (Char c) ALT text f told.printable_with_alt_told
-    (in_chars (numbers 33 94) (ALT ∷ []) c ALT (printable_here c a) (only ALT)) sends other found
-line_back k h m text f (arrow_alone key modes e a) off sends other found =
-    by_list computed.arrows_alone key NONE text f told.arrows_alone_told
-    (in_pairs arrows (NONE ∷ []) key NONE a (only NONE)) sends other found
-line_back k h m text f (enter held modes e a) off sends other found =
-    by_list computed.enter_alone Enter held text f told.enter_alone_told
-    (in_pairs (Enter ∷ []) (NONE ∷ ALT ∷ []) Enter held (0, lit< tt, refl) a) sends other found
-line_back k h m text f (ctrl_letter c held modes never small own a) off sends other found =
-    by_list computed.own_letters (Char c) held text f told.letters_told
-    (in_chars (filter computed.own_letter (numbers 97 26)) ctrl_or_ctrl_alt c held (own_letter_here c small own) a)
-    sends other found
-line_back k h m text f (tab held modes is a) off sends other found =
-    by_list computed.tabs Tab held text f told.tabs_told
-    (in_pairs (Tab ∷ []) (ALT ∷ SHIFT ∷ (ALT + SHIFT) ∷ (CTRL + SHIFT) ∷ (CTRL + ALT + SHIFT) ∷ []) Tab held
-    (0, lit< tt, refl) a) sends other found
-line_back k h m text f (alt_beyond_ascii c modes is scalar high) off sends other found =
-    alt_back c text f scalar high (same_text (27 ∷ encode_utf8 c) text (sym (char_with_alt c high) ∙ sends)) found
-line_back k h m text f (alt_control_or_space c modes is apart' (inl zero')) off sends other found =
-    subst (λ d. Sends (Char d) ALT text → ReadAs text (key_with (Char d) ALT) f → Back (Char d) ALT text f) (sym zero')
-    (λ sends' found'. by_list told.zero_with_alt (Char 0) ALT text f told.zero_with_alt_told (0, lit< tt, refl) sends' refl found')
-    sends found
-line_back k h m text f (alt_control_or_space c modes is apart' (inr range)) off sends other found =
-    by_list computed.low_with_alt (Char c) ALT text f told.low_with_alt_told
-    (in_chars (numbers 28 5) (ALT ∷ []) c ALT (at_number 28 5 c range.0 (omega (arith, range.1))) (only ALT)) sends other found
-line_back k h m text f (tab_by_code held modes on apart' a) off sends other found = absurd (never_on modes off on)
-line_back k h m text f (enter_by_code held modes on apart' a) off sends other found = absurd (never_on modes off on)
-line_back k h m text f (escape_or_backspace_by_code key held modes on never apart' a b) off sends other found =
-    absurd (never_on modes off on)
-line_back k h m text f (by_code c held modes sent (inl csi)) off sends other found =
-    absurd (let is : Xterm ≡ CsiU = ap (λ (x : KeyCodeEncodeModes). x.encoding) (sym off) ∙ csi in cc (is))
-line_back k h m text f (by_code c held modes sent (inr (apart', on, own))) off sends other found = absurd (never_on modes off on)
-
--- Shift, Alt and Ctrl keep their numbers
-bits_computed : map (λ b. xterm_number (port_modifiers b).0) (numbers 0 256) ≡ map (λ b. bit_and b 7) (numbers 0 256)
-unfolding numbers
-bits_computed = refl
-
-pub same_bits : (b : ℕ) → b < 256 → xterm_number (port_modifiers b).0 ≡ bit_and b 7
-same_bits b h =
-    same_on (λ b. xterm_number (port_modifiers b).0) (λ b. bit_and b 7) (numbers 0 256) b bits_computed
-    (at_number 0 256 b (omega arith) (omega arith))
-
-pub written_as : (r : KeyReport) (flags : ℕ) → telling r flags ≡ Legacy → kitty_text r flags ≡ legacy_text r.key r.modifiers
-unfolding kitty_text
-written_as r flags tells = rw tells refl
-
-pub named_as : (r : KeyReport) (key : KeyCode) → r.key ≡ Named key
-    → legacy_text r.key r.modifiers ≡ enc key (port_modifiers r.modifiers) xterm_modes
-unfolding legacy_text
-named_as r key named = rw named refl
-
-abbrev pressed_in : KeyCode → ℕ → Press
-pressed_in key bits = record { key = key; modifiers = port_modifiers bits; modes = xterm_modes }
-
--- what is read back needs no flush, where it doesn't begin a sequence
-is_read : (key : KeyCode) (bits : ℕ) (text : List ℕ) (more : Bool) → ReadsBackToo key (port_modifiers bits).0 xterm_modes
-    → enc key (port_modifiers bits) xterm_modes ≡ Some text
-    → (more ≡ true → ¬ Contains keys_that_wait (key, (port_modifiers bits).0))
-    → IsRead text (key_with key (port_modifiers bits).0) more
-is_read key bits text more too sends apart' = record {
-  flushed = flushed;
-  means = means more apart';
-  closed = λ h. apart' h.more_comes (text_waits text k flushed h.some h.beginning (no_beginning h.more_comes));
-  closed_after = λ v split h.
-      apart' h.more_comes (rest_waits text v k flushed split h.some h.beginning (no_beginning h.more_comes));
-}
+-- ESC and a character is that character with Alt
+escaped_back : (c : ℕ) (more : Bool) → IsShown c → (more ≡ true → ¬ Contains held_that_wait (Char c, port_alt))
+    → Back (Char c) port_alt (27 ∷ encode_utf8 c) more
+escaped_back c more is apart' = go (below_or_not 32) (below_or_not 127) (below_or_not 128)
   where
-    k : KeyEvent
-    k = key_with key (port_modifiers bits).0
+    below_or_not : (n : ℕ) → (c < n) ⊎ (n ≤ c)
+    below_or_not n = grind arith
 
-    back : DoesReadBack (pressed_in key bits)
-    back = further_keys_read_back key (port_modifiers bits) xterm_modes too
+    control : is_control c ≡ true → Back (Char c) port_alt (27 ∷ encode_utf8 c) more
+    control e = absurd (let no = is.no_control in cc (e, no))
 
-    flushed : port.Means text false (input.Key k ∷ []) []
-    flushed = sent_means (pressed_in key bits) text back sends
+    go : (c < 32) ⊎ (32 ≤ c) → (c < 127) ⊎ (127 ≤ c) → (c < 128) ⊎ (128 ≤ c) → Back (Char c) port_alt (27 ∷ encode_utf8 c) more
+    go (inl low) b d = control (low_is_control c low)
+    go (inr low) (inl high) d =
+        let here = at_number 32 95 c low (omega arith) in
+        by_list printable_with_alt (Char c) port_alt (27 ∷ encode_utf8 c) more printable_read printable_told
+        (in_chars (numbers 32 95) (port_alt ∷ []) c port_alt here (0, lit< tt, refl))
+        (same_on (λ c. enc (Char c) (record { 0 = port_alt }) xterm_modes) (λ c. Some (27 ∷ encode_utf8 c)) (numbers 32 95) c
+        printable_sent here) apart'
+    go (inr low) (inr past) (inl high) =
+        let same : 127 ≡ c = omega arith in control (subst (λ n. is_control n ≡ true) same refl)
+    go (inr low) (inr past) (inr high) =
+        let back = further_keys_read_back (Char c) (record { 0 = port_alt }) xterm_modes
+        (alt_beyond_ascii c xterm_modes refl is.scalar high) in
+        alt_back c (27 ∷ encode_utf8 c) more is.scalar high refl
+        (read_as (27 ∷ encode_utf8 c) (key_with (Char c) port_alt) more
+        (is_read (Char c) port_alt (27 ∷ encode_utf8 c) more back (char_with_alt c high) apart'))
 
-    no_flush : (f : Bool) → f ≡ true → (f ≡ true → ¬ Contains keys_that_wait (key, (port_modifiers bits).0))
-        → ¬ NeedsFlush (pressed_in key bits)
-    no_flush f e other four = other e (Contains-append_left keys_that_need_a_flush ((Char 80, ALT) ∷ (Char 93, ALT) ∷ (Char 95, ALT) ∷ [])
-        (key, (port_modifiers bits).0) four)
+-- the character after ESC is one that is shown
 
-    no_beginning : more ≡ true → ¬ MayGoOn text
-    no_beginning e on = no_flush more e apart' (four_go_on (pressed_in key bits) text back sends on)
+text_key_shown : (c : ℕ) → is_text_key c ≡ true → IsScalar c → IsShown c
+text_key_shown c text scalar = record { scalar = scalar; no_control = grind (arith, nat_tests) }
 
-    means : (f : Bool) → (f ≡ true → ¬ Contains keys_that_wait (key, (port_modifiers bits).0))
-        → port.Means text f (input.Key k ∷ []) []
-    means false other = flushed
-    means true other = others_at_once (pressed_in key bits) text (back, no_flush true refl other) sends
+after_escape_is : (o : Option ℕ) (d : ℕ) → IsShownOrMissing o → option_map AfterEscape o ≡ Some (AfterEscape d) → IsShown d
+after_escape_is None d is e = cc (e)
+after_escape_is (Some c) d is e = (let same : c ≡ d = cc (e) in subst IsShown same is)
 
-pub legacy_read_back : LegacyReadBack
-legacy_read_back r key flags text more is named tells writes too other apart' =
-    let sends : enc key (port_modifiers r.modifiers) xterm_modes ≡ Some text =
-    sym (named_as r key named) ∙ sym (written_as r flags tells) ∙ writes in
-    subst (λ b. IsReadAs text more (press_of key b)) (same_bits r.modifiers is.fits)
-    (line_back key (port_modifiers r.modifiers).0 xterm_modes text more too refl sends other
-    (read_as text (key_with key (port_modifiers r.modifiers).0) more (is_read key r.modifiers text more too sends apart')))
+abbrev IsAltHeld : ℕ → Type 0
+IsAltHeld held = Contains (ALT ∷ SHIFT_ALT ∷ []) held
+
+with_alt_shown : (c d : ℕ) (shifted : Option ℕ) → IsScalar c → character_text c ALT shifted ≡ Some (AfterEscape d) → IsShown d
+with_alt_shown c d shifted scalar = go (c == 32) (is_text_key c) refl
+  where
+    go : (a b : Bool) → is_text_key c ≡ b → (if a then Some (AfterEscape 32) else (if b then Some (AfterEscape c) else None)) ≡ Some (AfterEscape d)
+        → IsShown d
+    go true b text e = after_escape_is (Some 32) d (record { scalar = refl; no_control = refl }) e
+    go false true text e = after_escape_is (Some c) d (text_key_shown c text scalar) e
+    go false false text e = cc (e)
+
+with_shift_shown : (c d : ℕ) (shifted : Option ℕ) → IsScalarOrMissing shifted
+    → character_text c SHIFT_ALT shifted ≡ Some (AfterEscape d) → IsShown d
+with_shift_shown c d shifted is = go (c == 32) (is_text_key c)
+  where
+    go : (a b : Bool) → (if a then Some (AfterEscape 32) else (if b then option_map AfterEscape (with_shift c shifted) else None)) ≡ Some (AfterEscape d)
+        → IsShown d
+    go true b e = after_escape_is (Some 32) d (record { scalar = refl; no_control = refl }) e
+    go false true e = after_escape_is (with_shift c shifted) d (with_shift_is c shifted is) e
+    go false false e = cc (e)
+
+shown_behind : (c d held : ℕ) (shifted : Option ℕ) → IsScalar c → IsScalarOrMissing shifted → IsAltHeld held
+    → character_text c held shifted ≡ Some (AfterEscape d) → IsShown d
+shown_behind c d held shifted scalar is (zero, l, e) sent =
+    with_alt_shown c d shifted scalar (subst (λ h. character_text c h shifted ≡ Some (AfterEscape d)) (sym e) sent)
+shown_behind c d held shifted scalar is (suc zero, l, e) sent =
+    with_shift_shown c d shifted is (subst (λ h. character_text c h shifted ≡ Some (AfterEscape d)) (sym e) sent)
+shown_behind c d held shifted scalar is (suc (suc i), l, e) sent = absurd (omega arith)
+
+character_sent : (c held : ℕ) (shifted : Option ℕ) (sent : Option LegacyText) → legacy_text (Named (Char c)) held shifted ≡ sent
+    → character_text c held shifted ≡ sent
+unfolding legacy_text
+character_sent c held shifted sent e = e
+
+escaped : (c : ℕ) → legacy_bytes (AfterEscape c) ≡ 27 ∷ encode_utf8 c
+unfolding legacy_bytes
+escaped c = refl
+
+pub alt_read_back : AltReadBack
+alt_read_back r c shown flags text more is named tells writes alt apart' =
+    subst (λ t. IsReadAs t more (press_of (Char shown) ALT)) same
+    (escaped_back shown more is_shown (λ e waits. apart' e
+    (subst (λ l. Contains l (Char shown, ALT)) waits_same (in_map in_kitty held_that_wait (Char shown, port_alt) waits))))
+  where
+    held : ℕ
+    held = without_locks r.modifiers
+
+    scalar : IsScalar c
+    scalar = subst IsKey named (told_is_key r flags is.key_is)
+
+    is_shown : IsShown shown
+    is_shown = shown_behind c shown held r.shifted scalar is.shifted_is alt
+        (character_sent c held r.shifted (Some (AfterEscape shown))
+        (subst (λ k. legacy_text k held r.shifted ≡ Some (AfterEscape shown)) named (legacy_is r flags (AfterEscape shown) tells)))
+
+    same : 27 ∷ encode_utf8 shown ≡ text
+    same =
+        let whole : Some (legacy_bytes (AfterEscape shown)) ≡ Some text =
+        sym (written_as r flags (AfterEscape shown) tells) ∙ writes in
+        sym (escaped shown) ∙ cc (whole)

@@ -29,8 +29,7 @@ use Rattle.termwiz_extended_grammar.specs.ExtraSequences.{IsUnfinishedExtra}
 use Rattle.termwiz_extended_grammar.specs.ExtendedGrammar.{BeginsKnown}
 use Rattle.termwiz_extended_grammar.proofs.lemmas.forms.FormBytes.{IsSecond, form_shape}
 use Rattle.termwiz_extended_grammar.proofs.lemmas.items.ExtraHeads.{four_beginnings}
-use Rattle.termwiz_kitty.specs.KittyTexts.{xterm_modes}
-use Rattle.termwiz_kitty.specs.KittyLaws.{keys_that_wait}
+use Rattle.termwiz_kitty.proofs.lemmas.PortKeys.{xterm_modes, held_that_wait}
 use Rattle.termwiz_kitty.proofs.lemmas.legacy.ReadAsOne.{row_is, second_byte, no_escape_before}
 
 -- what a text means to the port
@@ -38,7 +37,7 @@ abbrev IsKeyOf : List ℕ → KeyEvent → Type 0
 IsKeyOf text k = port.Means text false (input.Key k ∷ []) []
 
 abbrev Waits : KeyEvent → Type 0
-Waits k = Contains keys_that_wait (k.key, k.modifiers.0)
+Waits k = Contains held_that_wait (k.key, k.modifiers.0)
 
 sent_as : (key : KeyCode) (held : ℕ) (text : List ℕ) → ReadsBackToo key held xterm_modes
     → enc key (record { 0 = held }) xterm_modes ≡ Some text → IsKeyOf text (key_with key held)

@@ -1,6 +1,6 @@
 -- A written sequence means its report.
 use Rattle.std.proofs.Common.{◌≡◌, ◌≢◌, ℕ, ◌<◌, ◌≤◌, Bool, true, false, not, ◌&&◌, List, [], ◌∷◌, ◌++◌, length, refl, sym, ap, ap₂, ◌∙◌, subst, arith, nat_le, decimal, Option, Some, None, append-nil}
-use Rattle.std.specs.Prelude.{◌==◌, option_map, encode_utf8_all, if◌then◌else◌}
+use Rattle.std.specs.Prelude.{◌==◌, option_map, unwrap_or, encode_utf8_all, if◌then◌else◌}
 use Rattle.std.specs.Str.{chars, IsUtf8, all_scalars}
 use Rattle.std.specs.List.{AllByRecursion}
 use Rattle.std.proofs.lemmas.Nat.{and_le_l}
@@ -28,11 +28,11 @@ use Rattle.termwiz_extended_grammar.proofs.lemmas.items.ExtendedRests.{empty_is_
 use Rattle.termwiz_extended_grammar.proofs.lemmas.forms.FormBytes.{all_append}
 use Rattle.termwiz_kitty.specs.declared.key_forms.KeyForm.{KeyForm}
 use Rattle.termwiz_kitty.specs.declared.key_forms.KeyForm.TheVariants.{Letter, Number, Code}
-use Rattle.termwiz_kitty.specs.KeyForms.{form_of, named_form, normal_key}
-use Rattle.termwiz_kitty.specs.Telling.{ALTERNATE_KEYS, ASSOCIATED_TEXT, tells_all_keys, tells_text, without_locks, is_shifted, is_character, has_text, tells_alternates, told_shifted, told_base, told_text, telling, reported}
+use Rattle.termwiz_kitty.specs.KeyForms.{form_of, named_form, normal_key, is_character, main_keys, main_of, main_key}
+use Rattle.termwiz_kitty.specs.Telling.{ALTERNATE_KEYS, ASSOCIATED_TEXT, tells_all_keys, tells_text, without_locks, is_shifted, has_text, is_legacy, told_key, hides_locks, tells_alternates, told_shifted, told_base, told_text, telling, reported}
 use Rattle.termwiz_kitty.specs.declared.telling.Telling.TheVariants.{Reported}
 use Rattle.termwiz_kitty.specs.KittyTexts.{manner_text, is_plain, manner_behind, codes_text, characters_text, fields_behind, lettered_text, numbered_text, coded_text, sequence_text, kitty_text}
-use Rattle.termwiz_kitty.specs.KittyLaws.{IsReport, IsScalarOrMissing, KittyReadBack}
+use Rattle.termwiz_kitty.specs.KittyLaws.{IsKey, IsReport, IsScalarOrMissing, KittyReadBack}
 use Rattle.termwiz_kitty.proofs.lemmas.read_back.FieldSplits.{IsFieldByte, digit_in_field}
 use Rattle.termwiz_kitty.proofs.lemmas.read_back.WrittenFields.{decimal_small, manner_bytes, IsCharacterOrMissing, codes_bytes, AreCharacters, characters_bytes}
 use Rattle.termwiz_kitty.proofs.lemmas.read_back.WrittenReports.{behind_none, behind_some, built, bare, carried, character_back, lettered_back, numbered_back, report_by_character, report_by_letter, report_by_tilde, event_back}
@@ -49,11 +49,11 @@ means_alone text more e is =
     nothing f = record { steps = refl; rest = empty_is_rest Kitty f }
 
 -- parameters and a last byte that a rule reads as a key mean that key
-written_means : (body : List ℕ) (l : ℕ) (r : KeyReport) → AllByRecursion IsParameter body → IsKeyEnd l → l ≢ 73 → l ≢ 79
+written_means : (body : List ℕ) (l : ℕ) (r : KeyReport) (more : Bool) → AllByRecursion IsParameter body → IsKeyEnd l → l ≢ 73 → l ≢ 79
     → length (written body l) ≤ 256 → key_report (body ++ l ∷ []) ≡ Some r
-    → Means Kitty (written body l) false (Key r ∷ []) []
-written_means body l r a end gained lost short e =
-    means_alone (written body l) false (Key r) (is_extra body l (Key r) a end short tt (event_back body l r gained lost e))
+    → Means Kitty (written body l) more (Key r ∷ []) []
+written_means body l r more a end gained lost short e =
+    means_alone (written body l) more (Key r) (is_extra body l (Key r) a end short tt (event_back body l r gained lost e))
 
 in_parameters : (b : ℕ) → IsFieldByte b → IsParameter b
 in_parameters b f = (omega arith, omega arith)
@@ -88,17 +88,17 @@ fields_parameters bits kind (c ∷ cs) h a = (
 )
 
 -- the sequence of a letter
-letter_means : (l bits : ℕ) (kind : KeyEventKind) (key : KeyCode) → bits < 256 → is_sound (Letter l) ≡ true
+letter_means : (l bits : ℕ) (kind : KeyEventKind) (key : KeyCode) (more : Bool) → bits < 256 → is_sound (Letter l) ≡ true
     → entry_at lettered_keys l ≡ Some key → length (lettered_text l bits kind) ≤ 256
-    → Means Kitty (lettered_text l bits kind) false (Key (bare (Named key) bits kind) ∷ []) []
+    → Means Kitty (lettered_text l bits kind) more (Key (bare (Named key) bits kind) ∷ []) []
 unfolding lettered_text
-letter_means l bits kind key h sound e short =
+letter_means l bits kind key more h sound e short =
     let ascii = encode_ascii l (omega (arith, facts.1)) in
     subst (λ t. length (27 ∷ 91 ∷ (manner_behind (49 ∷ 59 ∷ []) bits kind ++ t)) ≤ 256
-    → Means Kitty (27 ∷ 91 ∷ (manner_behind (49 ∷ 59 ∷ []) bits kind ++ t)) false
+    → Means Kitty (27 ∷ 91 ∷ (manner_behind (49 ∷ 59 ∷ []) bits kind ++ t)) more
     (Key (bare (Named key) bits kind) ∷ []) [])
     (sym ascii)
-    (λ fits. written_means (manner_behind (49 ∷ 59 ∷ []) bits kind) l _
+    (λ fits. written_means (manner_behind (49 ∷ 59 ∷ []) bits kind) l _ more
     (behind_parameters (49 ∷ 59 ∷ []) bits kind h ((omega arith, omega arith), semicolon_parameter))
     (omega (arith, facts.0), omega (arith, facts.1), facts.2, (λ same. omega (arith, facts.1, same)))
     facts.3 facts.4 fits
@@ -120,12 +120,12 @@ letter_means l bits kind key h sound e short =
         (grind (arith, nat_tests), grind (arith, nat_tests), grind (arith, nat_tests), grind (arith, nat_tests), grind (arith, nat_tests))
 
 -- the sequence of a number and a tilde
-number_means : (n bits : ℕ) (kind : KeyEventKind) (key : ReportedKey) → bits < 256 → is_sound (Number n) ≡ true
+number_means : (n bits : ℕ) (kind : KeyEventKind) (key : ReportedKey) (more : Bool) → bits < 256 → is_sound (Number n) ≡ true
     → tilde_key n ≡ Some key → length (numbered_text n bits kind) ≤ 256
-    → Means Kitty (numbered_text n bits kind) false (Key (bare key bits kind) ∷ []) []
+    → Means Kitty (numbered_text n bits kind) more (Key (bare key bits kind) ∷ []) []
 unfolding numbered_text
-number_means n bits kind key h sound e short =
-    written_means (decimal n ++ manner_behind (59 ∷ []) bits kind) 126 _
+number_means n bits kind key more h sound e short =
+    written_means (decimal n ++ manner_behind (59 ∷ []) bits kind) 126 _ more
     (join (decimal n) (manner_behind (59 ∷ []) bits kind) (field_parameters (decimal n) digits)
     (behind_parameters (59 ∷ []) bits kind h semicolon_parameter))
     (omega arith, omega arith, (λ same. omega arith), (λ same. omega arith)) (λ same. omega arith) (λ same. omega arith) short
@@ -138,13 +138,13 @@ number_means n bits kind key h sound e short =
     digits = true_from _ IsFieldByte digit_in_field (decimal n) (decimal_small n (omega (arith, small))).each
 
 -- the sequence of a number and the letter u
-code_means : (own : ℕ) (shifted base : Option ℕ) (bits : ℕ) (kind : KeyEventKind) (cs : List ℕ) → is_scalar own ≡ true
+code_means : (own : ℕ) (shifted base : Option ℕ) (bits : ℕ) (kind : KeyEventKind) (cs : List ℕ) (more : Bool) → is_scalar own ≡ true
     → IsCharacterOrMissing shifted → IsCharacterOrMissing base → bits < 256 → AreCharacters cs
     → length (written (codes_text own shifted base ++ fields_behind bits kind cs) 117) ≤ 256
-    → Means Kitty (written (codes_text own shifted base ++ fields_behind bits kind cs) 117) false
+    → Means Kitty (written (codes_text own shifted base ++ fields_behind bits kind cs) 117) more
     (Key (carried own shifted base bits kind (encode_utf8_all cs)) ∷ []) []
-code_means own shifted base bits kind cs o s b h a short =
-    written_means (codes_text own shifted base ++ fields_behind bits kind cs) 117 _
+code_means own shifted base bits kind cs more o s b h a short =
+    written_means (codes_text own shifted base ++ fields_behind bits kind cs) 117 _ more
     (join (codes_text own shifted base) (fields_behind bits kind cs)
     (field_parameters (codes_text own shifted base) (codes_bytes own shifted base o s b)) (fields_parameters bits kind cs h a))
     (omega arith, omega arith, (λ same. omega arith), (λ same. omega arith)) (λ same. omega arith) (λ same. omega arith) short
@@ -188,25 +188,25 @@ letter_carries l q is = go (entry_at lettered_keys l) refl
     go None e = absurd (let none : None ≡ Some q.key = ap (option_map Named) (sym e) ∙ is.read in cc (none))
     go (Some key) e = (key, e, (let some : Some (Named key) ≡ Some q.key = ap (option_map Named) (sym e) ∙ is.read in cc (some)))
 
-pub sequence_means : (form : KeyForm) (q : KeyReport) → IsCarried form q → length (sequence_text form q) ≤ 256
-    → Means Kitty (sequence_text form q) false (Key q ∷ []) []
+pub sequence_means : (form : KeyForm) (q : KeyReport) (more : Bool) → IsCarried form q → length (sequence_text form q) ≤ 256
+    → Means Kitty (sequence_text form q) more (Key q ∷ []) []
 unfolding sequence_text coded_text
-sequence_means (Letter l) q is short =
+sequence_means (Letter l) q more is short =
     let found = letter_carries l q is in
-    subst (λ x. Means Kitty (lettered_text l q.modifiers q.kind) false (Key x ∷ []) [])
+    subst (λ x. Means Kitty (lettered_text l q.modifiers q.kind) more (Key x ∷ []) [])
     (alone_is (Named found.0) q found.2 (is.alone refl))
-    (letter_means l q.modifiers q.kind found.0 is.fits is.sound found.1 short)
-sequence_means (Number n) q is short =
-    subst (λ x. Means Kitty (numbered_text n q.modifiers q.kind) false (Key x ∷ []) [])
+    (letter_means l q.modifiers q.kind found.0 more is.fits is.sound found.1 short)
+sequence_means (Number n) q more is short =
+    subst (λ x. Means Kitty (numbered_text n q.modifiers q.kind) more (Key x ∷ []) [])
     (alone_is q.key q refl (is.alone refl))
-    (number_means n q.modifiers q.kind q.key is.fits is.sound is.read short)
-sequence_means (Code n) q is short =
+    (number_means n q.modifiers q.kind q.key more is.fits is.sound is.read short)
+sequence_means (Code n) q more is short =
     let same : key_of n ≡ q.key = cc (is.read) in
-    subst (λ x. Means Kitty (written (codes_text n q.shifted q.base ++ fields_behind q.modifiers q.kind (chars q.text)) 117) false
+    subst (λ x. Means Kitty (written (codes_text n q.shifted q.base ++ fields_behind q.modifiers q.kind (chars q.text)) 117) more
     (Key x ∷ []) [])
     (same_parts (key_of n) q.key q.modifiers q.kind q.shifted q.shifted q.base q.base (encode_utf8_all (chars q.text)) q.text
     same refl refl (encodes-chars q.text is.text_is))
-    (code_means n q.shifted q.base q.modifiers q.kind (chars q.text) is.sound (scalar_or_missing q.shifted is.shifted_is)
+    (code_means n q.shifted q.base q.modifiers q.kind (chars q.text) more is.sound (scalar_or_missing q.shifted is.shifted_is)
     (scalar_or_missing q.base is.base_is) is.fits (characters_from (chars q.text) (scalars-chars q.text is.text_is)) short)
 
 -- what is told of a report can be carried
@@ -233,21 +233,53 @@ if_fits : (b : Bool) (m : ℕ) → m < 256 → (if b then without_locks m else m
 if_fits true m h = omega (arith, and_le_l m 63)
 if_fits false m h = h
 
-told_alone : (r : KeyReport) (flags : ℕ) → has_text (form_of r.key) ≡ false
+-- the key that is told is one
+main_keys_are : (table : List (ℕ × KeyCode)) (n : ℕ) (key : ReportedKey) → IsKey key
+    → AllByRecursion (λ row. IsKey (Named row.1)) table → IsKey (unwrap_or (option_map Named (entry_at table n)) key)
+main_keys_are [] n key is all = is
+main_keys_are (row ∷ table) n key is all = go (row.0 == n) refl (main_keys_are table n key is all.1)
+  where
+    go : (b : Bool) → (row.0 == n) ≡ b → IsKey (unwrap_or (option_map Named (entry_at table n)) key)
+        → IsKey (unwrap_or (option_map Named (entry_at (row ∷ table) n)) key)
+    go true same later = rw same all.0
+    go false other later = rw other later
+
+main_of_is : (key : ReportedKey) (form : Option KeyForm) → IsKey key → IsKey (main_of key form)
+main_of_is key (Some (Code n)) is = main_keys_are main_keys n key is (refl, (refl, (refl, (refl, (refl, (refl, (refl, (refl, (refl, (refl, (refl, (refl, (refl, (refl, (refl, (tt, (refl, (refl, (tt, (tt, (tt, (tt, (tt, (tt, (tt, (tt, (tt, (tt, (tt, tt)))))))))))))))))))))))))))))
+main_of_is key (Some (Letter l)) is = is
+main_of_is key (Some (Number n)) is = is
+main_of_is key None is = is
+
+main_is : (key : ReportedKey) → IsKey key → IsKey (main_key key)
+unfolding main_key
+main_is key is = go (is_character key)
+  where
+    go : (b : Bool) → IsKey (if b then key else main_of key (form_of key))
+    go true = is
+    go false = main_of_is key (form_of key) is
+
+pub told_is_key : (r : KeyReport) (flags : ℕ) → IsKey r.key → IsKey (told_key r flags)
+told_is_key r flags is = go (is_legacy flags)
+  where
+    go : (b : Bool) → IsKey (if b then main_key r.key else r.key)
+    go true = main_is r.key is
+    go false = is
+
+told_alone : (r : KeyReport) (flags : ℕ) → has_text (form_of (told_key r flags)) ≡ false
     → (told_shifted r flags ≡ None) × (told_base r flags ≡ None) × (told_text r flags ≡ [])
 told_alone r flags e =
-    let none : tells_alternates r flags ≡ false = rw (character_has_text r.key e) (and_false (holds flags ALTERNATE_KEYS)) in
+    let none : tells_alternates r flags ≡ false = rw (character_has_text (told_key r flags) e) (and_false (holds flags ALTERNATE_KEYS)) in
     (rw none refl, rw none refl, rw (e, and_false (holds flags ASSOCIATED_TEXT && tells_all_keys flags)) refl)
 
-told_carried : (r : KeyReport) (flags : ℕ) (form : KeyForm) → IsReport r → form_of r.key ≡ Some form
+told_carried : (r : KeyReport) (flags : ℕ) (form : KeyForm) → IsReport r → form_of (told_key r flags) ≡ Some form
     → IsCarried form (reported r flags)
 unfolding reported
 told_carried r flags form is e =
-    let back = subst (λ o. Reads o (normal_key r.key)) e (form_reads r.key is.key_is) in
+    let back = subst (λ o. Reads o (normal_key (told_key r flags))) e (form_reads (told_key r flags) (told_is_key r flags is.key_is)) in
     record {
       read = back.read;
       sound = back.is_sound;
-      fits = if_fits (is_character r.key && not (tells_all_keys flags)) r.modifiers is.fits;
+      fits = if_fits (hides_locks r flags) r.modifiers is.fits;
       shifted_is = if_scalar (tells_alternates r flags && is_shifted r.modifiers) r.shifted is.shifted_is;
       base_is = if_scalar (tells_alternates r flags) r.base is.base_is;
       text_is = if_text (tells_text r flags) r.text is.text_is;
@@ -255,21 +287,21 @@ told_carried r flags form is e =
     }
 
 written_as : (r : KeyReport) (flags : ℕ) → telling r flags ≡ Reported
-    → option_map (λ form. sequence_text form (reported r flags)) (form_of r.key) ≡ kitty_text r flags
+    → option_map (λ form. sequence_text form (reported r flags)) (form_of (told_key r flags)) ≡ kitty_text r flags
 unfolding kitty_text
 written_as r flags tells = rw tells refl
 
 pub kitty_read_back : KittyReadBack
-kitty_read_back r flags text is tells writes short = go (form_of r.key) refl
+kitty_read_back r flags text more is tells writes short = go (form_of (told_key r flags)) refl
   where
-    whole : option_map (λ form. sequence_text form (reported r flags)) (form_of r.key) ≡ Some text
+    whole : option_map (λ form. sequence_text form (reported r flags)) (form_of (told_key r flags)) ≡ Some text
     whole = written_as r flags tells ∙ writes
 
-    go : (o : Option KeyForm) → form_of r.key ≡ o → Means Kitty text false (Key (reported r flags) ∷ []) []
+    go : (o : Option KeyForm) → form_of (told_key r flags) ≡ o → Means Kitty text more (Key (reported r flags) ∷ []) []
     go None e = absurd (let none : None ≡ Some text = ap (option_map (λ form. sequence_text form (reported r flags))) (sym e) ∙ whole in cc (none))
     go (Some form) e =
         let some : Some (sequence_text form (reported r flags)) ≡ Some text =
         ap (option_map (λ form. sequence_text form (reported r flags))) (sym e) ∙ whole in
         let same : sequence_text form (reported r flags) ≡ text = cc (some) in
-        subst (λ t. length t ≤ 256 → Means Kitty t false (Key (reported r flags) ∷ []) []) same
-        (λ fits. sequence_means form (reported r flags) (told_carried r flags form is e) fits) short
+        subst (λ t. length t ≤ 256 → Means Kitty t more (Key (reported r flags) ∷ []) []) same
+        (λ fits. sequence_means form (reported r flags) more (told_carried r flags form is e) fits) short

@@ -30,7 +30,7 @@ below_or_not : (a b : ℕ) → (a < b) ⊎ (b ≤ a)
 below_or_not a b = grind arith
 
 -- a character that is no control character begins no sequence
-low_is_control : (c : ℕ) → c < 32 → is_control c ≡ true
+pub low_is_control : (c : ℕ) → c < 32 → is_control c ≡ true
 low_is_control c h =
     let above : nat_le 0 c ≡ true = grind (arith, nat_tests) in
     let below : nat_le c 31 ≡ true = grind (arith, nat_tests) in
