@@ -5,6 +5,7 @@ mod draws;
 mod encode;
 mod examples;
 mod generated;
+mod kitty;
 mod limits;
 mod lines;
 mod long;

@@ -1,0 +1,176 @@
+// What kitty sent for keys (kitty.tsv), and what is written for their reports. The report of a key is what kitty sent for it with all
+// flags. So it shows which key that was, what it types with Shift, and its text.
+use hedrugal::extended::{ExtendedEvent, ExtendedParser, KeyEventKind, KeyReport, KittyModifiers, ReportedKey, Rows};
+use hedrugal::input::{KeyCode, KittyKeyboardFlags as Flags};
+
+const RECORDED: &str = include_str!("kitty.tsv");
+
+const DISAMBIGUATE: Flags = Flags::DISAMBIGUATE_ESCAPE_CODES;
+
+const EVENT_TYPES: Flags = DISAMBIGUATE.union(Flags::REPORT_EVENT_TYPES);
+
+// The flags of the columns, and whether the key was pressed.
+const COLUMNS: [(Flags, bool); 6] = [
+    (Flags::all(), true),
+    (Flags::all(), false),
+    (Flags::NONE, true),
+    (DISAMBIGUATE, true),
+    (EVENT_TYPES, true),
+    (EVENT_TYPES, false),
+];
+
+// What kitty sent for a report under these flags.
+struct Sent {
+    name: &'static str,
+    report: KeyReport,
+    flags: Flags,
+    text: String,
+}
+
+// A difference from what kitty 0.26.5 sends, how often it is recorded, and where.
+type Difference = (&'static str, usize, fn(&Sent) -> bool);
+
+const DIFFERENCES: &[Difference] = &[
+    (
+        "kitty 0.26.5 sends F3 by the letter R, which is a position of the cursor: the page has the number 13 since then",
+        47,
+        |sent| sent.name == "F3" && (sent.flags != Flags::NONE || !sent.report.modifiers.is_empty()),
+    ),
+    (
+        "the page has no such modifiers for the keys of C0 controls: kitty leaves them out, and here the key's report has them",
+        12,
+        |sent| sends_control(&sent.report) && is_legacy(sent) && has_no_column(sent.report.modifiers),
+    ),
+    (
+        "kitty makes a control character of what the key types with Shift: by the page Ctrl and Shift are sent as the key's report",
+        42,
+        |sent| is_legacy(sent) && sent.report.modifiers.contains(KittyModifiers::CTRL) && shows_other(&sent.report),
+    ),
+    ("of the keypad's digits kitty 0.26.5 makes only 0 and 9 the main keys", 24, |sent| {
+        is_legacy(sent) && is_other_digit(&sent.report) && sent.report.text.is_empty()
+    }),
+    (
+        "kitty 0.26.5 sends releases of Enter, Tab and Backspace: by the page that wants REPORT_ALL_KEYS_AS_ESCAPE_CODES",
+        30,
+        |sent| {
+            let named = [KeyCode::Enter, KeyCode::Tab, KeyCode::Backspace].map(ReportedKey::Named);
+            sent.report.kind == KeyEventKind::Release && sent.flags == EVENT_TYPES && named.contains(&sent.report.key)
+        },
+    ),
+    (
+        "kitty 0.26.5 leaves out the text of a key beyond ASCII, and keeps an empty field before it",
+        5,
+        |sent| {
+            let is_plain = sent.report.kind == KeyEventKind::Press && sent.report.modifiers.is_empty();
+            let is_beyond = matches!(sent.report.key, ReportedKey::Named(KeyCode::Char(c)) if !c.is_ascii());
+            sent.flags == Flags::all() && is_plain && is_beyond
+        },
+    ),
+];
+
+fn is_legacy(sent: &Sent) -> bool {
+    sent.flags == Flags::NONE
+}
+
+// Enter, Tab, Backspace, Escape, and Enter of the keypad.
+fn sends_control(report: &KeyReport) -> bool {
+    let named = [KeyCode::Enter, KeyCode::Tab, KeyCode::Backspace, KeyCode::Escape];
+    report.key == ReportedKey::Functional(57414) || named.map(ReportedKey::Named).contains(&report.key)
+}
+
+fn has_no_column(modifiers: KittyModifiers) -> bool {
+    let three = KittyModifiers::SHIFT | KittyModifiers::ALT | KittyModifiers::CTRL;
+    modifiers.contains(three) || modifiers.contains(KittyModifiers::SUPER)
+}
+
+// The key types something else with Shift than a capital letter.
+fn shows_other(report: &KeyReport) -> bool {
+    report.shifted.is_some_and(|c| !c.is_ascii_uppercase())
+}
+
+fn is_other_digit(report: &KeyReport) -> bool {
+    use KeyCode::{Numpad1, Numpad2, Numpad3, Numpad4, Numpad5, Numpad6, Numpad7, Numpad8};
+    let digits = [Numpad1, Numpad2, Numpad3, Numpad4, Numpad5, Numpad6, Numpad7, Numpad8];
+    digits.map(ReportedKey::Named).contains(&report.key)
+}
+
+// A column as bytes.
+fn unescaped(column: &str) -> String {
+    let mut text = String::new();
+    let mut rest = column;
+    while let Some((before, escaped)) = rest.split_once('\\') {
+        text.push_str(before);
+        let len = if escaped.starts_with(['e', '\\']) { 1 } else { 3 };
+        text.push(match &escaped[..len] {
+            "e" => '\x1b',
+            "\\" => '\\',
+            octal => char::from(u8::from_str_radix(octal, 8).unwrap()),
+        });
+        rest = &escaped[len..];
+    }
+    text + rest
+}
+
+// The modifiers of F3, of which kitty's sequence isn't read as a report.
+fn held(names: &str) -> KittyModifiers {
+    let held = names.split('+').filter(|name| *name != "-");
+    held.map(|name| name.to_ascii_uppercase().parse::<KittyModifiers>().unwrap())
+        .fold(KittyModifiers::NONE, |a, b| a | b)
+}
+
+// The report that kitty sent with all flags.
+fn told(name: &str, modifiers: &str, sent: &str, is_press: bool) -> KeyReport {
+    if name == "F3" {
+        return KeyReport {
+            key: ReportedKey::Named(KeyCode::Function(3)),
+            modifiers: held(modifiers),
+            kind: if is_press { KeyEventKind::Press } else { KeyEventKind::Release },
+            shifted: None,
+            base: None,
+            text: String::new(),
+        };
+    }
+    let events = ExtendedParser::new(Rows::Kitty).parse_as_vec(sent.as_bytes(), true);
+    let [ExtendedEvent::Key(report)] = events.as_slice() else {
+        panic!("{name} {modifiers}: {}", sent.escape_debug());
+    };
+    report.clone()
+}
+
+// What a line has, and that nothing is sent of releases without REPORT_EVENT_TYPES.
+fn sent_of(line: &'static str) -> Vec<Sent> {
+    let columns: Vec<&str> = line.split('\t').collect();
+    let [name, modifiers, sent @ ..] = columns.as_slice() else {
+        panic!("{line}");
+    };
+    let texts: Vec<String> = sent.iter().map(|column| unescaped(column)).collect();
+    let [press, release] = [true, false].map(|is_press| told(name, modifiers, &texts[usize::from(!is_press)], is_press));
+    for flags in [Flags::NONE, DISAMBIGUATE] {
+        assert_eq!(release.encode(flags).as_deref(), Ok(""), "{line}");
+    }
+    let reports = COLUMNS.map(|(flags, is_press)| (flags, if is_press { press.clone() } else { release.clone() }));
+    reports
+        .into_iter()
+        .zip(texts)
+        .map(|((flags, report), text)| Sent { name, report, flags, text })
+        .collect()
+}
+
+#[test]
+fn as_kitty_but_for_these() {
+    let mut count = 0;
+    let mut found = [0; DIFFERENCES.len()];
+    for sent in RECORDED.lines().filter(|line| !line.starts_with('#')).flat_map(sent_of) {
+        count += 1;
+        let is_same = sent.report.encode(sent.flags).as_deref() == Ok(&sent.text);
+        let listed = DIFFERENCES.iter().position(|difference| difference.2(&sent));
+        assert_eq!(is_same, listed.is_none(), "{} {:?} {}", sent.name, sent.report, sent.flags);
+        if let Some(number) = listed {
+            found[number] += 1;
+        }
+    }
+    assert_eq!(count, 6152);
+    for (difference, times) in DIFFERENCES.iter().zip(found) {
+        assert_eq!(times, difference.1, "{}", difference.0);
+    }
+}
