@@ -613,7 +613,9 @@ size_t tw_extended_reset(tw_extended *parser);
 /* Writes what a terminal sends for a key to out, and the number of these bytes to *sent_len, if the program asked for these flags of Kitty's
  * keyboard protocol: the other way from a TW_EVENT_REPORT. A terminal or a multiplexer calls it. The bytes are UTF-8 without a final 0. There
  * are none for a key that isn't sent, such as a release without TW_KITTY_REPORT_EVENT_TYPES. The rules are those of Kitty's page "Comprehensive
- * keyboard handling in terminals" (https://sw.kovidgoyal.net/kitty/keyboard-protocol/), as docs/EXTENDED.md lists them.
+ * keyboard handling in terminals" (https://sw.kovidgoyal.net/kitty/keyboard-protocol/), as "Keys to bytes" of docs/EXTENDED.md lists them. If
+ * flags has neither TW_KITTY_DISAMBIGUATE_ESCAPE_CODES nor TW_KITTY_REPORT_ALL_KEYS_AS_ESCAPE_CODES, that is what terminals sent before the
+ * protocol: a control character for a letter with TW_HELD_CTRL, and the key's report for what has no such text.
  *
  * report has the key as tw_extended_next writes it, and detail isn't read for a key that has none. text is what the key types, text_len bytes
  * of UTF-8, or nothing if that isn't known; a text with control characters counts as none. flags is a set of TW_KITTY_... What no flag asks
@@ -621,10 +623,10 @@ size_t tw_extended_reset(tw_extended *parser);
  *
  * Returns an enum tw_encoded. With TW_TEXT *sent_len is the number of all these bytes, and out has as many of them as len says: if *sent_len
  * is above len, call again with more room. The rest of out is unchanged. A sequence has at most 256 bytes; a key that is sent as its text
- * alone may have more. Otherwise *sent_len is 0 and out is unchanged: TW_REFUSED_KEY if the protocol has no number for the key, or without
- * TW_KITTY_DISAMBIGUATE_ESCAPE_CODES xterm no sequence; TW_REFUSED_MEMORY if memory was refused; TW_TOO_LONG if the sequence would have more
- * than 256 bytes; TW_BAD_TEXT if the text isn't UTF-8; TW_BAD_NUMBER if action is no enum tw_action, no key has the number, detail, shifted
- * or base is no Unicode scalar value, a function key's number is above 255, or a bit of flags has no name. */
+ * alone may have more. Otherwise *sent_len is 0 and out is unchanged: TW_REFUSED_KEY if the key's report would be sent and the protocol has no
+ * number for the key; TW_REFUSED_MEMORY if memory was refused; TW_TOO_LONG if the sequence would have more than 256 bytes; TW_BAD_TEXT if the
+ * text isn't UTF-8; TW_BAD_NUMBER if action is no enum tw_action, no key has the number, detail, shifted or base is no Unicode scalar value,
+ * a function key's number is above 255, or a bit of flags has no name. */
 uint32_t tw_encode_kitty(const tw_key_report *report, const uint8_t *text, size_t text_len, uint8_t flags, uint8_t *out, size_t len,
                          size_t *sent_len);
 

@@ -511,6 +511,19 @@ class EncodedReports(WithParsers):
             (KeyReport(KeyCode.Escape), none, b"\x1b"),
             (KeyReport(KeyCode.Escape), ambiguous, b"\x1b[27u"),
             (KeyReport("a", CTRL), none, b"\x01"),
+            (KeyReport("a", CTRL | SHIFT), none, b"\x1b[97;6u"),
+            (KeyReport("q", Held.SUPER), none, b"\x1b[113;9u"),
+            (KeyReport("1", Held.ALT | SHIFT, shifted="!"), none, b"\x1b!"),
+            (KeyReport(UP, Held.SUPER), none, b"\x1b[1;9A"),
+            (KeyReport(Function(3), SHIFT), none, b"\x1b[13;2~"),
+            (KeyReport(Function(25)), none, b"\x1b[57388u"),
+            (KeyReport(KeyCode.Applications), none, b"\x1b[29~"),
+            (KeyReport(KeyCode.Numpad9, Held.NUM_LOCK, text="9"), none, b"9"),
+            (KeyReport(KeyCode.Numpad9, Held.NUM_LOCK, text="9"), ambiguous, b"9"),
+            (KeyReport(57414), none, b"\r"),
+            (KeyReport(KeyCode.Enter, Held.CAPS_LOCK), ambiguous, b"\r"),
+            (KeyReport(57453), ambiguous, b""),
+            (KeyReport(57454), ambiguous, b""),
             (KeyReport("a", CTRL), ambiguous, b"\x1b[97;5u"),
             (KeyReport(UP, action=REPEAT), none, b"\x1b[A"),
             (KeyReport(UP, action=REPEAT), types, b"\x1b[1;1:2A"),
@@ -557,8 +570,8 @@ class EncodedReports(WithParsers):
         for key in (KeyCode.Copy, Function(0), Function(36), 0, 57343, 63744, 0xFFFFFFFF):
             with self.assertRaisesRegex(EncodeError, "has no bytes under these flags"):
                 KeyReport(key).encode(self.ALL)
-        with self.assertRaisesRegex(EncodeError, "has no bytes"):
-            KeyReport(Function(25)).encode(KittyKeyboardFlags.NONE)
+            with self.assertRaisesRegex(EncodeError, "has no bytes"):
+                KeyReport(key).encode(KittyKeyboardFlags.NONE)
 
     def test_long_texts(self):
         for length in (257, 5000):

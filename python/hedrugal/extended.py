@@ -106,8 +106,8 @@ class KeyReport:
         as none. The rules are those of Kitty's page "Comprehensive keyboard handling in terminals",
         https://sw.kovidgoyal.net/kitty/keyboard-protocol/.
 
-        Raises EncodeError, which is a ValueError, for a key that the flags leave without bytes, for a text too long for a sequence of 256
-        bytes, and for what names nothing, as encode does. Raises MemoryError if memory is refused."""
+        Raises EncodeError, which is a ValueError, if the key's report would be sent and the protocol has no number for the key, for a text
+        too long for a sequence of 256 bytes, and for what names nothing, as encode does. Raises MemoryError if memory is refused."""
         if not isinstance(flags, KittyKeyboardFlags):
             raise TypeError(f"KittyKeyboardFlags are required, not {type(flags).__name__}")
         report, bits = _raw_report(self), _whole(flags.value, 0, 255)

@@ -44,7 +44,7 @@ WroteReport numbers text flags before after len =
     (report : KeyReport) × (sent : List ℕ) × IsAskedFor numbers text flags report × (kitty_text report flags ≡ Some sent)
     × IsWithin report flags sent × (len ≡ length sent) × (after ≡ copied sent before)
 
--- the key has no bytes in the encoding that the flags choose
+-- the key's report would be sent, and the protocol has no number for the key
 abbrev pub HasNoSequence : CKeyReport → List ℕ → ℕ → Type 0
 HasNoSequence numbers text flags =
     (report : KeyReport) × IsAskedFor numbers text flags report × (kitty_text report flags ≡ None)

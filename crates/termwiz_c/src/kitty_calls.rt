@@ -15,8 +15,8 @@ use termwiz_kitty::encode::{KittyEncodeError, encode_kitty};
 
 /// Writes what a terminal sends for a key, of which this is the report with the text that the key types, if the program asked for these flags
 /// of Kitty's keyboard protocol. The answer is 0 if `out` has as much of the bytes as it has room for, and `sent_len` is how many they are.
-/// It is 1 for a key that has none in the encoding that the flags choose, 2 if memory is refused, 3 if a number names nothing, 4 if the
-/// sequence would have more than 256 bytes, and 5 if the text isn't UTF-8; then `sent_len` is 0.
+/// It is 1 if the key's report would be sent and the protocol has no number for the key, 2 if memory is refused, 3 if a number names nothing,
+/// 4 if the sequence would have more than 256 bytes, and 5 if the text isn't UTF-8; then `sent_len` is 0.
 #[unsafe(no_mangle)]
 pub extern "C" fn tw_encode_kitty(
     alloc: Global,

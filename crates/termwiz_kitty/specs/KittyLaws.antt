@@ -99,16 +99,16 @@ abbrev pub keys_that_wait : List (KeyCode × ℕ)
 keys_that_wait =
     (Escape, NONE) ∷ (Escape, ALT) ∷ (Char 91, ALT) ∷ (Char 79, ALT) ∷ (Char 80, ALT) ∷ (Char 93, ALT) ∷ (Char 95, ALT) ∷ []
 
--- keys whose texts from before the protocol no other key sends
-abbrev pub keys_of_their_own : List (KeyCode × ℕ)
-keys_of_their_own =
+-- keys whose texts from before the protocol are read as these very keys
+abbrev pub keys_read_back : List (KeyCode × ℕ)
+keys_read_back =
     (Function 1, NONE) ∷ (Function 2, NONE) ∷ (Function 3, NONE) ∷ (Function 4, NONE) ∷ (Escape, NONE) ∷ (Escape, ALT)
     ∷ (Enter, ALT) ∷ (Backspace, ALT) ∷ (Tab, ALT) ∷ (Tab, SHIFT) ∷ (Tab, SHIFT_ALT) ∷ []
 
--- The text from before the protocol is read as this very key: of those keys, and of a letter with Ctrl, or Ctrl and Alt. The control characters of
--- h, i, j and m are those of other keys.
+-- The text from before the protocol is read as this very key: one of those, or a letter with Ctrl, or with Ctrl and Alt. What Ctrl makes of h, i, j
+-- and m is read as other keys.
 pub data IsReadBack : KeyCode → ℕ → Type 0 where
-  of_its_own : (key : KeyCode) (held : ℕ) → Contains keys_of_their_own (key, held) → IsReadBack key held
+  listed : (key : KeyCode) (held : ℕ) → Contains keys_read_back (key, held) → IsReadBack key held
   ctrl_letter : (c held : ℕ) → is_ascii_lowercase c ≡ true → ¬ IsSharedLetter c → Contains (CTRL ∷ CTRL_ALT ∷ []) held
       → IsReadBack (Char c) held
 

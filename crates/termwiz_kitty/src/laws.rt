@@ -19,11 +19,11 @@ pub fn typed_read_back()
     ensures { TypedReadBack }
 {}
 
-/// A text from before the protocol is read back as the press of its key, with all modifiers of its report, where no other key sends it
-/// (`keys`): F1 to F4, Escape alone or with Alt, Enter, Backspace and Tab with Alt, Tab with Shift or Shift and Alt, and letters but h,
-/// i, j and m with Ctrl or Ctrl and Alt. A text key with Alt, or Shift and Alt, is read back as the character that it shows, with Alt
-/// (`characters`). With more to come the law says nothing of Escape, Escape with Alt, and `[`, `O`, `P`, `]` and `_` with Alt: their
-/// texts begin sequences.
+/// A text from before the protocol is read back as the press of its key, with all modifiers of its report but the locks (`keys`). That
+/// holds of F1 to F4; Escape alone or with Alt; Enter, Backspace and Tab with Alt; Tab with Shift, or with Shift and Alt; and letters but
+/// h, i, j and m with Ctrl, or with Ctrl and Alt. A text key with Alt, or with Shift and Alt, is read back as the character that it
+/// shows, with Alt (`characters`). With more to come the law says nothing of Escape, Escape with Alt, and `[`, `O`, `P`, `]` and `_`
+/// with Alt: their texts begin sequences.
 pub fn legacy_read_back()
     ensures keys { LegacyReadBack }
     ensures characters { AltReadBack }

@@ -13,7 +13,7 @@ use std::{error, fmt};
 /// ```
 #[derive(Debug, Clone, Copy, PartialEq, Eq)]
 pub enum KittyEncodeError {
-    /// The protocol has no number for the key, or without `DISAMBIGUATE_ESCAPE_CODES` xterm no sequence.
+    /// The key's report would be sent, and the protocol has no number for the key.
     UnknownKey,
     /// The sequence would have more than 256 bytes. Only a report with a long text has such a one.
     TooLong,
@@ -41,7 +41,9 @@ impl KeyReport {
     /// that isn't sent, such as a release without `REPORT_EVENT_TYPES`. Of the report only what a flag asks for is sent, and a text with
     /// control characters counts as none. Bits of `flags` that no flag has don't count. A terminal or a multiplexer calls it.
     ///
-    /// The rules are those of Kitty's page ["Comprehensive keyboard handling in terminals"][page]. Under all flags an
+    /// The rules are those of Kitty's page ["Comprehensive keyboard handling in terminals"][page]. Without `DISAMBIGUATE_ESCAPE_CODES` and
+    /// `REPORT_ALL_KEYS_AS_ESCAPE_CODES` that is what terminals sent before the protocol: a control character for a letter with CTRL, the
+    /// main key for one of the keypad, and the key's report for what has no such text. Under all flags an
     /// [`ExtendedParser`](super::ExtendedParser) with [`Rows::Kitty`](super::Rows::Kitty) reads back each report that a terminal can send.
     ///
     /// ```

@@ -37,8 +37,8 @@ use Rattle.termwiz_kitty.specs.declared.telling.Telling.TheVariants.{Nothing, Ty
 use Rattle.termwiz_kitty.specs.LegacyTexts.{ALT, CTRL, SHIFT_ALT, CTRL_ALT, is_text_key, with_shift, character_text, legacy_text}
 use Rattle.termwiz_kitty.specs.Telling.{is_silent_release, is_silent_modifier, tells_all_keys, sends_control, is_release, types, without_locks, told_key, is_legacy_press, legacy_of, or_reported, telling}
 use Rattle.termwiz_kitty.specs.KittyTexts.{legacy_bytes, kitty_text}
-use Rattle.termwiz_kitty.specs.KittyLaws.{IsKey, IsScalarOrMissing, IsReadBack, keys_of_their_own, keys_that_wait, press_of, IsReadAs, LegacyReadBack, AltReadBack}
-use Rattle.termwiz_kitty.specs.KittyLaws.IsReadBack.{of_its_own, ctrl_letter}
+use Rattle.termwiz_kitty.specs.KittyLaws.{IsKey, IsScalarOrMissing, IsReadBack, keys_read_back, keys_that_wait, press_of, IsReadAs, LegacyReadBack, AltReadBack}
+use Rattle.termwiz_kitty.specs.KittyLaws.IsReadBack.{listed, ctrl_letter}
 use Rattle.termwiz_kitty.proofs.lemmas.PortKeys.{xterm_modes, held_that_wait, at_number}
 use Rattle.termwiz_kitty.proofs.lemmas.read_back.SequencesMean.{told_is_key}
 use Rattle.termwiz_kitty.proofs.lemmas.typed.TypedCharacters.{low_is_control}
@@ -119,7 +119,7 @@ abbrev own_letters : List ℕ
 own_letters = filter computed.own_letter (numbers 97 26)
 
 abbrev own_keys : List (KeyCode × ℕ)
-own_keys = keys_of_their_own ++ pairs (chars own_letters) (CTRL ∷ CTRL_ALT ∷ [])
+own_keys = keys_read_back ++ pairs (chars own_letters) (CTRL ∷ CTRL_ALT ∷ [])
 
 own_letter_here : (c : ℕ) → is_ascii_lowercase c ≡ true → ¬ IsSharedLetter c → Contains own_letters c
 own_letter_here c small own =
@@ -133,10 +133,10 @@ own_letter_here c small own =
     in_filter computed.own_letter (numbers 97 26) c (at_number 97 26 c low high) kept
 
 is_own_key : (key : KeyCode) (held : ℕ) → IsReadBack key held → Contains own_keys (key, held)
-is_own_key k h (of_its_own key held here) =
-    Contains-append_left keys_of_their_own (pairs (chars own_letters) (CTRL ∷ CTRL_ALT ∷ [])) (key, held) here
+is_own_key k h (listed key held here) =
+    Contains-append_left keys_read_back (pairs (chars own_letters) (CTRL ∷ CTRL_ALT ∷ [])) (key, held) here
 is_own_key k h (ctrl_letter c held small own here) =
-    Contains-append_right keys_of_their_own (pairs (chars own_letters) (CTRL ∷ CTRL_ALT ∷ [])) (Char c, held)
+    Contains-append_right keys_read_back (pairs (chars own_letters) (CTRL ∷ CTRL_ALT ∷ [])) (Char c, held)
     (in_chars own_letters (CTRL ∷ CTRL_ALT ∷ []) c held (own_letter_here c small own) here)
 
 abbrev sent_of : Option ℕ → KeyCode × ℕ → Option (List ℕ)
