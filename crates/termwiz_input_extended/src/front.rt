@@ -338,51 +338,6 @@ fn front_without_escape(text: &[u8]) -> ExtendedFront
     }
 }
 
-// Which report may be at the front of a text, as far as its first three bytes tell.
-#[inline(always)]
-pub(crate) fn report_start(text: &[u8]) -> ReportStart
-    ensures key { result ≡ Start.Key → MayBeReport text.now }
-    ensures mouse { result ≡ Start.Mouse → IsIntroduced text.now }
-{
-    match text {
-        [ESCAPE, b'[', b'<', ..] => ReportStart::Mouse,
-        [ESCAPE, b'[', b'M' | b'[', ..] => ReportStart::Neither,
-        [ESCAPE, b'[', _, ..] => ReportStart::Key,
-        _ => ReportStart::Neither,
-    }
-}
-
-// The report of a key at the front of a text, if it says no more than a key and its manner, and the number of its bytes. `None` decides
-// nothing.
-#[inline(always)]
-pub(crate) fn plain_report_front(text: &[u8]) -> Option<(PlainReport, usize)>
-    requires { MayBeReport text.now }
-    ensures { IfSome result (λ found. IsPlainReportAt text.now found.0 found.1) }
-{
-    match control_at(&text[2..], 0) {
-        FormAt::Whole(len) => Some((plain_report(&text[..len])?, len)),
-        _ => None,
-    }
-}
-
-// Looks for a row of two or more bytes at the front of a text that may begin the report of a key, under `Rows::Port`. The start of a
-// paste isn't read as its key.
-#[inline(always)]
-pub(crate) fn row_front<'k>(
-    parser: &'k InputParser,
-    rows: Rows,
-    text: &[u8],
-    maybe_more: bool,
-) -> FrontRow<'k>
-    requires { MayBeReport text.now }
-    ensures { IsRowFront rows text.now maybe_more result }
-{
-    if begins_paste(text) {
-        return FrontRow::Absent;
-    }
-    row_at(parser, rows, text, maybe_more)
-}
-
 // What follows a first ESC.
 fn after_escape(text: &[u8]) -> Option<&[u8]>
     ensures some { IfSome result (λ after. text.now ≡ ESC ++ after.now) }

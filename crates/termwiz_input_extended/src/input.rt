@@ -5,7 +5,6 @@ ghost use Rattle.termwiz_keys.specs.Introducers.{START};
 ghost use Rattle.termwiz_keys.specs.Keys.{escape, plain};
 ghost use Rattle.termwiz_keys.specs.declared.types.InputEvent.TheVariants as Port;
 ghost use Rattle.termwiz_grammar.specs.WaitingKinds.{IsOneOrTwoEscapes, IsOpenPaste};
-ghost use Rattle.termwiz_input.specs.PrintableAscii.{IsPrintableAscii};
 ghost use Rattle.termwiz_extended_events.specs.declared.types.ExtendedEvent.{ExtendedEvent as Event};
 ghost use Rattle.termwiz_extended_events.specs.declared.types.Rows.TheVariants.{Kitty};
 ghost use Rattle.termwiz_extended_events.specs.KeyReports.{plain_report};
@@ -14,20 +13,14 @@ ghost use Rattle.termwiz_input_extended.specs.EventCallbacks.{MayBeCalledOn, Was
 ghost use Rattle.termwiz_input_extended.specs.ExtendedFronts.{Emits, GivesNoneThatNeedsMemory, HasItemThatNeedsMemory, IsExtendedFront, IsFormAt, IsPasteEvent, IsPortsOwn, IsReported, IsRowFront, MayBeReport, Stores};
 ghost use Rattle.termwiz_input_extended.specs.ExtendedKinds.{IsBoundedOrOpenPaste, IsKind};
 
-use crate::characters::{
-    append_characters, append_printable_ascii, character_front, is_printable_ascii, plain_key,
-};
-use crate::form::{FormAt, form_at, next_scan};
-use crate::front::{
-    ExtendedFront, FrontRow, ReportStart, copied, front, other_event, plain_report_front,
-    report_start, reported_event, row_front,
-};
+use crate::characters::{character_front, plain_key};
+use crate::front::{ExtendedFront, front, other_event, reported_event};
 use std::alloc::{AllocError, Global};
 use std::marker::Model;
-use termwiz_extended_events::types::{ExtendedEvent, PlainReport, Rows};
+use termwiz_extended_events::types::{ExtendedEvent, Rows};
 pub use termwiz_input::input::{ParseError, Waiting};
 use termwiz_input::input::{
-    FrontReport, InputEvent, InputParser, KeyCode, KeyEvent, Modifiers, mouse_report_at,
+    InputEvent, InputParser, KeyCode, KeyEvent, Modifiers,
 };
 
 /// A call of [`ExtendedParser::parse_as_vec`] was refused memory. No event is lost: the parser has consumed exactly what `events` came from,
@@ -195,53 +188,6 @@ impl ExtendedParser {
         self.next_of_port(maybe_more)
     }
 
-    // Whether to look for the report of a key: under `Rows::Kitty`. A long text that was looked at before isn't looked at again from its
-    // start.
-    #[inline(always)]
-    fn reads_reports(&self) -> bool
-        ensures { IsTrue result → self.now.rows ≡ Kitty }
-    {
-        match self.rows {
-            Rows::Port => false,
-            Rows::Kitty => self.scanned == 0 || self.waiting_len() <= SHORT_TEXT,
-        }
-    }
-
-    // The report of a key at the front of the waiting text, if it says no more than a key and its manner, and the number of its bytes.
-    // `None` decides nothing.
-    #[inline(always)]
-    fn plain_report_front(&self) -> Option<(PlainReport, usize)>
-        requires kitty { self.now.rows ≡ Kitty }
-        requires start { MayBeReport self.now.text }
-        ensures within { IfSome result (λ found. found.1 ≤ length self.now.text) }
-        ensures event { IfSome result (λ found. (more : Bool)
-            → Steps self.now.rows self.now.text more (Event.Key (plain_report found.0) ∷ []) (drop found.1 self.now.text)) }
-    {
-        plain_report_front(self.waiting_text())
-    }
-
-    // Looks for a row of two or more bytes at the front of the waiting text, under `Rows::Port`.
-    #[inline(always)]
-    fn row_front(&self, maybe_more: bool) -> FrontRow<'_>
-        requires { MayBeReport self.now.text }
-        ensures { IsRowFront self.now.rows self.now.text maybe_more result }
-    {
-        row_front(&self.parser, self.rows, self.waiting_text(), maybe_more)
-    }
-
-    // Whether no form begins the waiting text, and the text begins none: then what is there is the port's, whatever comes. Inlined, it would
-    // need a register more in `emit_sequence`, for every sequence.
-    #[inline(never)]
-    fn has_no_form(&self) -> bool
-        requires { MayBeReport self.now.text }
-        ensures { IsTrue result → (more : Bool) → IsPortsOwn self.now.rows self.now.text more }
-    {
-        match form_at(self.waiting_text(), self.scanned) {
-            FormAt::Absent => true,
-            FormAt::Whole(_) | FormAt::Unfinished => false,
-        }
-    }
-
     // The event of the form of so many bytes at the front of the waiting text, if it is read as a report of a key or a position.
     #[inline(always)]
     fn report_at(&self, len: usize) -> Result<Option<ExtendedEvent>, AllocError>
@@ -284,21 +230,6 @@ impl ExtendedParser {
         }
     }
 
-    // Consumes so many bytes, whose event this is.
-    #[inline(always)]
-    fn emit(
-        &mut self,
-        event: ExtendedEvent,
-        len: usize,
-    ) -> Result<Option<ExtendedEvent>, AllocError>
-        requires { len ≤ length self.old.text }
-        ensures event { result ≡ Ok (Some event) }
-        ensures consumed { self.new ≡ record self.old { text = drop len self.old.text } }
-    {
-        self.consume(len);
-        Ok(Some(event))
-    }
-
     // Consumes the item at the front of the waiting text, and returns its event. `None` if no item is there. `next_event` is quicker for
     // characters.
     #[inline(never)]
@@ -328,63 +259,6 @@ impl ExtendedParser {
         }
     }
 
-    // Consumes so many bytes, whose event is that this character was typed.
-    #[inline(never)]
-    fn emit_character(
-        &mut self,
-        character: char,
-        len: usize,
-    ) -> Result<Option<ExtendedEvent>, AllocError>
-        requires { len ≤ length self.old.text }
-        ensures event { result ≡ Ok (Some (Event.Input (Port.Key (plain character)))) }
-        ensures consumed { self.new ≡ record self.old { text = drop len self.old.text } }
-    {
-        self.emit(
-            ExtendedEvent::Input(InputEvent::Key(plain_key(character))),
-            len,
-        )
-    }
-
-    // As `emit_front`, but quicker for the report of a key, a mouse report and, under `Rows::Port`, a row that begins with ESC [. Also quicker
-    // if more may come and the text properly begins one of the last two.
-    #[inline(never)]
-    fn emit_sequence(&mut self, maybe_more: bool) -> Result<Option<ExtendedEvent>, AllocError>
-        ensures { Emits self.old maybe_more self.new result }
-    {
-        match report_start(self.waiting_text()) {
-            ReportStart::Key if self.reads_reports() => {
-                if let Some((report, len)) = self.plain_report_front() {
-                    return self.emit(ExtendedEvent::Key(report.whole(self.alloc)), len);
-                }
-            }
-            ReportStart::Key => match self.row_front(maybe_more) {
-                FrontRow::Long(key, len) => {
-                    let event = ExtendedEvent::Input(InputEvent::Key(copied(key)));
-                    return self.emit(event, len);
-                }
-                FrontRow::Short(key) if self.has_no_form() => {
-                    let event = ExtendedEvent::Input(InputEvent::Key(copied(key)));
-                    return self.emit(event, 2);
-                }
-                FrontRow::Begun => return Ok(None),
-                FrontRow::Short(_) | FrontRow::Absent => {}
-            },
-            ReportStart::Mouse => match mouse_report_at(self.waiting_text()) {
-                FrontReport::Whole(event, len) => {
-                    return self.emit(ExtendedEvent::Input(InputEvent::Mouse(event)), len);
-                }
-                FrontReport::Begun if maybe_more => {
-                    self.scanned = next_scan(self.waiting_text());
-                    return Ok(None);
-                }
-                _ => {}
-            },
-            ReportStart::Neither => {}
-        }
-        // Passed on as it is, the result would share its memory with the events above, and each of them would be copied once more.
-        Ok(self.emit_front(maybe_more)?)
-    }
-
     /// Consumes the item at the front of the buffer, and returns its event. `None` if there is no item: then all buffered bytes are the
     /// rest, and the parser is unchanged.
     ///
@@ -406,8 +280,11 @@ impl ExtendedParser {
         ensures waits { IfOk result (λ found. IfNone found (IsBoundedOrOpenPaste self.new.text)) }
     {
         match character_front(self.waiting_text()) {
-            Some((character, len)) => self.emit_character(character, len),
-            None => self.emit_sequence(maybe_more),
+            Some((character, len)) => {
+                self.consume(len);
+                Ok(Some(ExtendedEvent::Input(InputEvent::Key(plain_key(character)))))
+            }
+            None => self.emit_front(maybe_more),
         }
     }
 
@@ -558,160 +435,8 @@ impl ExtendedParser {
         events.reserve(self.waiting_len().min(most).max(1))
     }
 
-    // Appends the event of the first `len` bytes of the waiting text, and consumes them.
-    #[inline(always)]
-    fn store(
-        &mut self,
-        events: &mut Vec<ExtendedEvent>,
-        event: ExtendedEvent,
-        len: usize,
-    ) -> Result<bool, AllocError>
-        requires { len ≤ length self.old.text }
-        ensures stores { (more : Bool) → Steps self.old.rows self.old.text more (event ∷ []) (drop len self.old.text)
-            → Stores self.old more events.old.items self.new events.new.items result }
-        ensures found { IfOk result (λ found. found ≡ true) }
-    {
-        self.make_room(events)?;
-        events.push_reserved(event);
-        self.consume(len);
-        Ok(true)
-    }
-
-    // Moves the event of the form of so many bytes at the front of the waiting text to the list.
-    #[inline(always)]
-    fn store_form(
-        &mut self,
-        events: &mut Vec<ExtendedEvent>,
-        len: usize,
-    ) -> Result<bool, AllocError>
-        requires { IsFormAt self.old.text len }
-        ensures { (more : Bool) → Stores self.old more events.old.items self.new events.new.items result }
-    {
-        match self.report_at(len)? {
-            Some(event) => self.store(events, event, len),
-            None => {
-                let event = self.other_form_at(len)?;
-                self.store(events, event, len)
-            }
-        }
-    }
-
-    // Moves the event of what the port finds at the front of the waiting text to the list.
-    fn store_of_port(
-        &mut self,
-        events: &mut Vec<ExtendedEvent>,
-        maybe_more: bool,
-    ) -> Result<bool, AllocError>
-        requires { IsPortsOwn self.old.rows self.old.text maybe_more }
-        ensures { Stores self.old maybe_more events.old.items self.new events.new.items result }
-    {
-        self.make_room(events)?;
-        match self.next_of_port(maybe_more)? {
-            Some(event) => {
-                events.push_reserved(event);
-                Ok(true)
-            }
-            None => Ok(false),
-        }
-    }
-
-    // The same for a text that a paste begins. An open paste needs no room.
-    fn store_paste(
-        &mut self,
-        events: &mut Vec<ExtendedEvent>,
-        maybe_more: bool,
-    ) -> Result<bool, AllocError>
-        requires { Begins START self.old.text }
-        ensures { Stores self.old maybe_more events.old.items self.new events.new.items result }
-    {
-        if self.parser.awaits_paste_end() {
-            return Ok(false);
-        }
-        self.store_of_port(events, maybe_more)
-    }
-
-    // Moves the event of the item at the front of the waiting text to the list. False if no item is there. Each arm builds the event that it
-    // stores.
-    #[inline(always)]
-    fn store_item(
-        &mut self,
-        events: &mut Vec<ExtendedEvent>,
-        maybe_more: bool,
-    ) -> Result<bool, AllocError>
-        ensures { Stores self.old maybe_more events.old.items self.new events.new.items result }
-    {
-        match self.front(maybe_more) {
-            ExtendedFront::Key(key, len) => {
-                self.store(events, ExtendedEvent::Input(InputEvent::Key(key)), len)
-            }
-            ExtendedFront::Form(len) => self.store_form(events, len),
-            ExtendedFront::MouseReport(event, len) => {
-                self.store(events, ExtendedEvent::Input(InputEvent::Mouse(event)), len)
-            }
-            ExtendedFront::Escape => self.store(events, escape_key(), 1),
-            ExtendedFront::Paste => self.store_paste(events, maybe_more),
-            ExtendedFront::Usual => self.store_of_port(events, maybe_more),
-            ExtendedFront::Incomplete(place) => {
-                self.scanned = place;
-                Ok(false)
-            }
-        }
-    }
-
-    // The same, but quicker if the report of a key or the mouse is at the front. `store_next` is quicker for characters.
-    fn store_front(
-        &mut self,
-        events: &mut Vec<ExtendedEvent>,
-        maybe_more: bool,
-    ) -> Result<bool, AllocError>
-        ensures { Stores self.old maybe_more events.old.items self.new events.new.items result }
-    {
-        match report_start(self.waiting_text()) {
-            ReportStart::Key if self.reads_reports() => {
-                if let Some((report, len)) = self.plain_report_front() {
-                    let event = ExtendedEvent::Key(report.whole(self.alloc));
-                    return self.store(events, event, len);
-                }
-            }
-            ReportStart::Mouse => {
-                if let FrontReport::Whole(event, len) = mouse_report_at(self.waiting_text()) {
-                    return self.store(events, ExtendedEvent::Input(InputEvent::Mouse(event)), len);
-                }
-            }
-            _ => {}
-        }
-        self.store_item(events, maybe_more)
-    }
-
-    // Moves the events of the characters from SPACE to `~` at the front of the waiting text to the list, as far as it has room.
-    #[inline(always)]
-    fn store_printable_ascii(&mut self, events: &mut Vec<ExtendedEvent>) -> Result<bool, AllocError>
-        requires some { 0 < length self.old.text }
-        requires first { IsPrintableAscii (slice_index_or self.old.text 0 0) }
-        ensures { (more : Bool) → Stores self.old more events.old.items self.new events.new.items result }
-    {
-        self.make_room(events)?;
-        let len = append_printable_ascii(events, self.waiting_text());
-        self.consume(len);
-        Ok(true)
-    }
-
-    // Moves the events of the characters at the front of the waiting text to the list, as far as it has room.
-    fn store_characters(&mut self, events: &mut Vec<ExtendedEvent>)
-        ensures stored { (text : List ℕ) (more : Bool) → Steps self.old.rows text more events.old.items self.old.text
-            → Steps self.old.rows text more events.new.items self.new.text }
-        ensures same_rows { self.new.rows ≡ self.old.rows }
-        ensures fewer { length self.new.text ≤ length self.old.text }
-    {
-        let len = append_characters(events, self.waiting_text());
-        if len > 0 {
-            self.consume(len);
-        }
-    }
-
-    // Moves the event of the item at the front of the waiting text to the list, and if it is a character, those of the characters after it.
-    // False if no item is there.
-    #[inline(always)]
+    // Moves the event of the item at the front of the waiting text to the list. False if no item is there. There is room for the event before
+    // its bytes are consumed.
     fn store_next(
         &mut self,
         events: &mut Vec<ExtendedEvent>,
@@ -719,18 +444,13 @@ impl ExtendedParser {
     ) -> Result<bool, AllocError>
         ensures { Stores self.old maybe_more events.old.items self.new events.new.items result }
     {
-        let text = self.waiting_text();
-        match text {
-            [first, ..] if is_printable_ascii(*first) => self.store_printable_ascii(events),
-            _ => match character_front(text) {
-                Some((character, len)) => {
-                    let event = ExtendedEvent::Input(InputEvent::Key(plain_key(character)));
-                    self.store(events, event, len)?;
-                    self.store_characters(events);
-                    Ok(true)
-                }
-                None => self.store_front(events, maybe_more),
-            },
+        self.make_room(events)?;
+        match self.next_event(maybe_more)? {
+            Some(event) => {
+                events.push_reserved(event);
+                Ok(true)
+            }
+            None => Ok(false),
         }
     }
 

@@ -1,5 +1,4 @@
-use Rattle.std.proofs.Common.{◌∷◌, [], sym, ap, subst}
-use Rattle.termwiz_keys.specs.Keys.{plain}
+use Rattle.std.proofs.Common.{◌∷◌, [], drop, sym, ap, subst}
 use Rattle.termwiz_keys.specs.declared.types.InputEvent.TheVariants.{Key}
 use Rattle.termwiz_extended_events.specs.declared.types.ExtendedEvent.TheVariants.{Input}
 use Rattle.termwiz_extended_grammar.specs.ExtendedGrammar.{Steps}
@@ -8,8 +7,8 @@ use Rattle.termwiz_input_extended.specs.ExtendedFronts.{IsOwnCharacter}
 use Rattle.termwiz_input_extended.proofs.lemmas.fronts.KnownFronts.{item_step}
 use Rattle.termwiz_input_extended.proofs.input.ExtendedParser.next_event.Goals as goal
 
-pub emit_character-requires : goal.emit_character-requires
-emit_character-requires c =
+pub consume-requires : goal.consume-requires
+consume-requires c =
     let is = subst (λ t. IsOwnCharacter c.args.self.now.rows t c.args.maybe_more c.in-Some.character c.in-Some.len)
     c.waiting_text.ensures (c.in-Some.ensures c.args.self.now.rows c.args.maybe_more) in
     is.item.0
@@ -18,7 +17,8 @@ pub returns-in-Some-clause-event : goal.returns-in-Some-clause-event
 returns-in-Some-clause-event c =
     let is = subst (λ t. IsOwnCharacter c.args.self.now.rows t c.args.maybe_more c.in-Some.character c.in-Some.len)
     c.waiting_text.ensures (c.in-Some.ensures c.args.self.now.rows c.args.maybe_more) in
-    rw c.emit_character.ensures.event
-    (subst (λ t. Steps c.args.self.now.rows c.args.self.now.text c.args.maybe_more (Input (Key (plain c.in-Some.character)) ∷ []) t)
-    (sym (ap (λ (b : Buffered). b.text) c.emit_character.ensures.consumed))
+    subst (λ t. Steps c.args.self.now.rows c.args.self.now.text c.args.maybe_more (Input (Key c.plain_key.result) ∷ []) t)
+    (sym (ap (λ (b : Buffered). b.text) c.consume.ensures))
+    (subst (λ key. Steps c.args.self.now.rows c.args.self.now.text c.args.maybe_more (Input (Key key) ∷ []) (drop c.in-Some.len c.args.self.now.text))
+    (sym c.plain_key.ensures)
     (item_step c.args.self.now.rows c.args.self.now.text _ c.in-Some.len c.args.maybe_more is.own is.item))
