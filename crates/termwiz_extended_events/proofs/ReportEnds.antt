@@ -73,11 +73,11 @@ unfolding key_report
 ends_otherwise t b e u tilde =
     rw (no_character t b e u, no_number t b e tilde, no_other t b e tilde) (second_alone (lettered_key t))
 
-no_bytes : key_report [] ≡ character_key []
+no_bytes : key_report [] ≡ None
 unfolding key_report character_key lettered_key numbered_key other_key before_end
 no_bytes = refl
 
 -- no bytes are no report
-pub ends_nowhere : (t : List ℕ) → slice_get t (length t - 1) ≡ None → key_report t ≡ character_key t
+pub ends_nowhere : (t : List ℕ) → slice_get t (length t - 1) ≡ None → key_report t ≡ None
 ends_nowhere [] e = no_bytes
 ends_nowhere (x ∷ t) e = absurd (cc (e, slice_get-get_or (x ∷ t) (length (x ∷ t) - 1) 0 (omega arith)))

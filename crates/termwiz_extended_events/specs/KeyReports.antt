@@ -2,7 +2,7 @@
 -- read: `u`, `~` or a letter. First come the readings of one field: of the modifiers and what happened (`manner_of`), of the key's codes
 -- (`codes_of`) and of its text (`text_of`). Then come the rules, one for each end, which put the fields together. `key_report` is the first
 -- rule that fits. A reading or a rule is None where the bytes aren't such a field or sequence.
-use Rattle.std.specs.Prelude.{ℕ, Bool, true, false, ◌-◌, ◌==◌, List, [], ◌∷◌, length, take, slice_get, codes, Option, Some, None, if◌then◌else◌, option_map, option_and_then, encode_utf8_all, bytes_eq}
+use Rattle.std.specs.Prelude.{◌≡◌, ℕ, Bool, true, false, ◌-◌, ◌==◌, List, [], ◌∷◌, length, take, slice_get, codes, Option, Some, None, if◌then◌else◌, option_map, option_and_then, encode_utf8_all, bytes_eq}
 use Rattle.termwiz_grammar.specs.Table.{key_of_code}
 use Rattle.termwiz_keys.specs.declared.types.KeyCode.{KeyCode}
 use Rattle.termwiz_extended_events.specs.declared.types.KeyReport.{KeyReport}
@@ -13,6 +13,7 @@ use Rattle.termwiz_extended_events.specs.declared.types.ReportedKey.TheVariants.
 use Rattle.termwiz_extended_events.specs.declared.types.Manner.{Manner}
 use Rattle.termwiz_extended_events.specs.declared.key_fields.Codes.{Codes}
 use Rattle.termwiz_extended_events.specs.declared.types.PlainReport.{PlainReport}
+use Rattle.termwiz_extended_events.specs.declared.key_reports.SpelledReport.{SpelledReport}
 use Rattle.termwiz_extended_events.specs.Numbers.{fields, parts, before_end, first_some, number, scalar}
 use Rattle.termwiz_extended_events.specs.ReportedKeys.{last_functional, entry_at, lettered_keys, key_of, tilde_key, keypad_keys, console_keys}
 
@@ -100,6 +101,21 @@ report_of key manner = record {
 -- such a report by its two parts
 abbrev pub plain_report : PlainReport → KeyReport
 plain_report plain = report_of plain.key plain.manner
+
+-- a report whose text is still spelled, with that text; none if it spells no text
+abbrev pub spelled_report : SpelledReport → Option KeyReport
+spelled_report spelled = option_map (λ text. record {
+  key = spelled.key;
+  modifiers = spelled.manner.modifiers;
+  kind = spelled.manner.kind;
+  shifted = spelled.shifted;
+  base = spelled.base;
+  text = text;
+}) (text_of spelled.text.now)
+
+-- it is there exactly if the report is, and spells it
+abbrev pub IsSpelled : Option SpelledReport → Option KeyReport → Type 0
+IsSpelled spelled report = option_map spelled_report spelled ≡ option_map (λ r. Some r) report
 
 -- the report of a character's key, if all its fields are there
 abbrev pub character_report : Option Codes → Option Manner → Option (List ℕ) → Option KeyReport

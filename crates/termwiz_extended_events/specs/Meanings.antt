@@ -1,11 +1,13 @@
 -- What a sequence means that the port doesn't know.
-use Rattle.std.specs.Prelude.{ℕ, ◌==◌, List, [], ◌∷◌, Option, if◌then◌else◌, option_map, unwrap_or}
+use Rattle.std.specs.Prelude.{◌≢◌, ℕ, ◌==◌, List, [], ◌∷◌, Option, Some, if◌then◌else◌, option_map, unwrap_or}
 use Rattle.termwiz_keys.specs.declared.types.MouseEvent.{MouseEvent}
-use Rattle.termwiz_keys.specs.declared.types.InputEvent.TheVariants.{Mouse}
+use Rattle.termwiz_keys.specs.declared.types.InputEvent.TheVariants.{Mouse, Paste}
 use Rattle.termwiz_extended_events.specs.declared.types.ExtendedEvent.{ExtendedEvent}
 use Rattle.termwiz_extended_events.specs.declared.types.ExtendedEvent.TheVariants.{Input, Csi, Osc, Dcs, Apc, Key, CursorPosition}
+use Rattle.termwiz_extended_events.specs.declared.meanings.Meaning.{Meaning}
+use Rattle.termwiz_extended_events.specs.declared.meanings.Meaning.TheVariants as meaning
 use Rattle.termwiz_extended_events.specs.Numbers.{before_end, first_some}
-use Rattle.termwiz_extended_events.specs.KeyReports.{key_report, console_key, keypad_key}
+use Rattle.termwiz_extended_events.specs.KeyReports.{key_report, console_key, keypad_key, spelled_report}
 use Rattle.termwiz_extended_events.specs.Replies.{focus, reply, mouse_report}
 
 -- the event of a mouse report
@@ -53,3 +55,22 @@ abbrev pub IsKeyOrPosition : ExtendedEvent → Type 0
 IsKeyOrPosition (Key report) = Unit {0}
 IsKeyOrPosition (CursorPosition row column) = Unit {0}
 IsKeyOrPosition _ = ⊥
+
+-- an event that has a text or bytes of its own
+abbrev pub NeedsMemory : ExtendedEvent → Type 0
+NeedsMemory (Input (Paste text)) = Unit {0}
+NeedsMemory (Key report) = report.text ≢ []
+NeedsMemory (Csi bytes) = Unit {0}
+NeedsMemory (Osc bytes) = Unit {0}
+NeedsMemory (Dcs bytes) = Unit {0}
+NeedsMemory (Apc bytes) = Unit {0}
+NeedsMemory _ = ⊥
+
+-- the event of a meaning
+abbrev pub event_from : Meaning → Option ExtendedEvent
+event_from (meaning.Event event) = Some event
+event_from (meaning.Key report) = option_map Key (spelled_report report)
+event_from (meaning.Csi bytes) = Some (Csi bytes.now)
+event_from (meaning.Osc bytes) = Some (Osc bytes.now)
+event_from (meaning.Dcs bytes) = Some (Dcs bytes.now)
+event_from (meaning.Apc bytes) = Some (Apc bytes.now)

@@ -1,5 +1,5 @@
 // The fields of a key report.
-ghost use Rattle.std.specs.Prelude.{◌≡◌, IfOk, is_some};
+ghost use Rattle.std.specs.Prelude.{◌≡◌, ◌≢◌, [], IfOk, IfSome, IsSome, OnErr, Some, is_some};
 ghost use Rattle.termwiz_extended_events.specs.KeyReports.{modifiers_of, kind_of, manner_of, optional_scalar, codes_of, text_of};
 
 use crate::fields::Fields;
@@ -98,24 +98,6 @@ pub(crate) fn codes_of(field: &[u8]) -> Option<Codes>
     })
 }
 
-// The text that a field says: the numbers of its characters, or nothing.
-#[tactic(auto, unfolding(crate::specs::KeyReports::text_of))]
-pub(crate) fn text_of(alloc: Global, field: &[u8]) -> Result<Option<KeyText>, AllocError>
-    ensures { IfOk result (λ text. text ≡ text_of field.now) }
-{
-    let mut text = String::new(alloc);
-    if field.is_empty() {
-        return Ok(Some(KeyText::new(text)));
-    }
-    for digits in Fields::new(field, b':') {
-        let Some(c) = scalar(digits) else {
-            return Ok(None);
-        };
-        text.push(c)?;
-    }
-    Ok(Some(KeyText::new(text)))
-}
-
 // Whether a field says a text.
 #[tactic(auto, unfolding(crate::specs::KeyReports::text_of))]
 pub(crate) fn is_text(field: &[u8]) -> bool
@@ -130,4 +112,23 @@ pub(crate) fn is_text(field: &[u8]) -> bool
         }
     }
     true
+}
+
+// The text that a field says: the numbers of its characters, or nothing. Only a text needs memory.
+#[tactic(auto, unfolding(crate::specs::KeyReports::text_of))]
+pub(crate) fn text_of(alloc: Global, field: &[u8]) -> Result<KeyText, AllocError>
+    requires { IsSome (text_of field.now) }
+    ensures ok { IfOk result (λ text. text_of field.now ≡ Some text) }
+    ensures refused { OnErr result (IfSome (text_of field.now) (λ text. text ≢ [])) }
+{
+    let mut text = String::new(alloc);
+    if field.is_empty() {
+        return Ok(KeyText::new(text));
+    }
+    for digits in Fields::new(field, b':') {
+        if let Some(c) = scalar(digits) {
+            text.push(c)?;
+        }
+    }
+    Ok(KeyText::new(text))
 }

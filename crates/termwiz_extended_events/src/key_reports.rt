@@ -1,9 +1,9 @@
 // The sequences that report a key.
-ghost use Rattle.std.specs.Prelude.{◌≡◌, ◌∷◌, [], IfOk, IfSome, IfNone, Some, is_some, option_map};
+ghost use Rattle.std.specs.Prelude.{◌≡◌, ◌≢◌, ◌∷◌, [], IfOk, IfSome, IsSome, OnErr, Some, option_map};
 ghost use Rattle.termwiz_extended_events.specs.declared.types.ReportedKey.{ReportedKey as Key};
 ghost use Rattle.termwiz_extended_events.specs.Numbers.{first_some};
 ghost use Rattle.termwiz_extended_events.specs.KeyReports as rules;
-ghost use Rattle.termwiz_extended_events.specs.KeyReports.{report_of, report_behind, plain_report};
+ghost use Rattle.termwiz_extended_events.specs.KeyReports.{IsSpelled, report_of, report_behind, plain_report, spelled_report};
 ghost use Rattle.termwiz_grammar.specs.Table.{key_of_code};
 ghost use Rattle.termwiz_extended_events.specs.FieldsLeft.{fields_left};
 
@@ -12,7 +12,7 @@ use crate::key_fields::{codes_of, is_text, manner_of, text_of};
 use crate::numbers::{number, scalar};
 use crate::reported_keys;
 use crate::reported_keys::LAST_FUNCTIONAL;
-use crate::types::{KeyEventKind, KeyReport, KeyText, Manner, PlainReport, ReportedKey};
+use crate::types::{KeyEventKind, KeyReport, Manner, PlainReport, ReportedKey};
 use std::alloc::{AllocError, Global};
 use termwiz_keys::types::KeyCode;
 
@@ -22,6 +22,48 @@ const PRESSED: Manner = Manner {
     kind: KeyEventKind::Press,
 };
 
+/// A key report whose text is still spelled in its sequence, by the numbers of its characters. It holds no memory.
+#[derive(Drop)]
+pub struct SpelledReport<'t> {
+    key: ReportedKey,
+    manner: Manner,
+    shifted: Option<char>,
+    base: Option<char>,
+    text: &'t [u8],
+}
+
+impl<'t> SpelledReport<'t> {
+    // A report that says no more than a key and its manner.
+    #[tactic(auto, unfolding(crate::specs::KeyReports::text_of))]
+    pub(crate) fn plain(report: PlainReport) -> SpelledReport<'t>
+        ensures { spelled_report result ≡ Some (plain_report report) }
+    {
+        SpelledReport {
+            key: report.key,
+            manner: report.manner,
+            shifted: None,
+            base: None,
+            text: b"",
+        }
+    }
+
+    // The report with its text. Only a text needs memory.
+    pub(crate) fn whole(self, alloc: Global) -> Result<KeyReport, AllocError>
+        requires { IsSome (spelled_report self) }
+        ensures ok { IfOk result (λ report. spelled_report self.entry ≡ Some report) }
+        ensures refused { OnErr result (IfSome (spelled_report self.entry) (λ report. report.text ≢ [])) }
+    {
+        Ok(KeyReport {
+            key: self.key,
+            modifiers: self.manner.modifiers,
+            kind: self.manner.kind,
+            shifted: self.shifted,
+            base: self.base,
+            text: text_of(alloc, self.text)?,
+        })
+    }
+}
+
 // The report of a key that says no more than its manner.
 pub(crate) fn report_of(alloc: Global, key: ReportedKey, manner: Manner) -> KeyReport
     ensures { result ≡ report_of key manner }
@@ -30,56 +72,27 @@ pub(crate) fn report_of(alloc: Global, key: ReportedKey, manner: Manner) -> KeyR
 }
 
 // c : shifted : base ; modifiers : kind ; text u, of which only c must be there: the key of c.
-#[tactic(auto, unfolding(crate::specs::KeyReports::character_key))]
-fn character_key(alloc: Global, t: &[u8]) -> Result<Option<KeyReport>, AllocError>
-    ensures { IfOk result (λ report. report ≡ rules.character_key t.now) }
+#[tactic(auto, unfolding(crate::specs::KeyReports::character_key, crate::specs::KeyReports::text_of))]
+fn character_key(t: &[u8]) -> Option<SpelledReport<'_>>
+    ensures { IsSpelled result (rules.character_key t.now) }
 {
-    let Some(body) = before_end(t, b"u") else {
-        return Ok(None);
-    };
-    let mut fields = Fields::new(body, b';');
-    let Some(codes) = fields.next().and_then(codes_of) else {
-        return Ok(None);
-    };
-    let Some(manner) = fields.next().map_or(Some(PRESSED), manner_of) else {
-        return Ok(None);
-    };
-    let Some(text) = fields.next().map_or(
-        Ok(Some(KeyText::new(String::new(alloc)))),
-        |field| text_of(alloc, field),
-    )?
-    else {
-        return Ok(None);
-    };
-    if fields.next().is_some() {
-        return Ok(None);
+    let mut fields = Fields::new(before_end(t, b"u")?, b';');
+    let codes = fields.next().and_then(codes_of)?;
+    let manner = fields.next().map_or(Some(PRESSED), manner_of)?;
+    let text = fields.next().unwrap_or(b"");
+    if !is_text(text) {
+        return None;
     }
-    Ok(Some(KeyReport {
+    if fields.next().is_some() {
+        return None;
+    }
+    Some(SpelledReport {
         key: reported_keys::key_of(codes.own),
-        modifiers: manner.modifiers,
-        kind: manner.kind,
+        manner,
         shifted: codes.shifted,
         base: codes.base,
         text,
-    }))
-}
-
-// Whether a text is such a report.
-#[tactic(auto, unfolding(crate::specs::KeyReports::character_key))]
-fn is_character_key(t: &[u8]) -> bool
-    ensures { result ≡ is_some (rules.character_key t.now) }
-{
-    let Some(body) = before_end(t, b"u") else {
-        return false;
-    };
-    let mut fields = Fields::new(body, b';');
-    if fields.next().and_then(codes_of).is_none() {
-        return false;
-    }
-    if fields.next().map_or(Some(PRESSED), manner_of).is_none() {
-        return false;
-    }
-    fields.next().map_or(true, is_text) && fields.next().is_none()
+    })
 }
 
 // The manner that the fields after the first one say.
@@ -173,62 +186,42 @@ fn tilde_report(t: &[u8]) -> Option<PlainReport>
     }
 }
 
-// c ; modifiers : kind u, of which only c must be there: the key of c, if it is reported with no other character and no text.
-#[tactic(auto, unfolding(crate::specs::KeyReports::character_key))]
-fn plain_character_key(t: &[u8]) -> Option<PlainReport>
-    ensures { IfSome result (λ report. rules.character_key t.now ≡ Some (plain_report report)) }
+// A report, if it is there, that says no more than a key and its manner.
+fn without_text<'t>(plain: Option<PlainReport>) -> Option<SpelledReport<'t>>
+    ensures { IsSpelled result (option_map plain_report plain) }
 {
-    let mut fields = Fields::new(before_end(t, b"u")?, b';');
-    let own = scalar(fields.next()?)?;
-    let manner = manner_behind(fields)?;
-    Some(PlainReport {
-        key: reported_keys::key_of(own),
-        manner,
-    })
+    match plain {
+        Some(report) => Some(SpelledReport::plain(report)),
+        None => None,
+    }
 }
 
-// The report of a key, if it says no more than its manner. The last byte tells which rules can fit. If it is `None`, only that of a
-// character's key can.
-pub(crate) fn plain_report(t: &[u8]) -> Option<PlainReport>
-    ensures some { IfSome result (λ report. rules.key_report t.now ≡ Some (plain_report report)) }
-    ensures none { IfNone result (rules.key_report t.now ≡ rules.character_key t.now) }
+// The report of a key by the first of these rules that fits. The last byte tells which can.
+pub(crate) fn key_report(t: &[u8]) -> Option<SpelledReport<'_>>
+    ensures { IsSpelled result (rules.key_report t.now) }
 {
     let last = *t.last()?;
     if last == b'u' {
-        return plain_character_key(t);
+        return character_key(t);
     }
     if last == b'~' {
-        return tilde_report(t);
+        return without_text(tilde_report(t));
     }
-    lettered_key(t)
-}
-
-// The report of a key by the first of these rules that fits.
-pub(crate) fn key_report(alloc: Global, t: &[u8]) -> Result<Option<KeyReport>, AllocError>
-    ensures { IfOk result (λ report. report ≡ rules.key_report t.now) }
-{
-    match plain_report(t) {
-        Some(report) => Ok(Some(report.whole(alloc))),
-        None => character_key(alloc, t),
-    }
-}
-
-// Whether one of these rules fits. It asks for no memory.
-pub(crate) fn is_key_report(t: &[u8]) -> bool
-    ensures { result ≡ is_some (rules.key_report t.now) }
-{
-    plain_report(t).is_some() || is_character_key(t)
+    without_text(lettered_key(t))
 }
 
 // [ and a letter from A to E: F1 to F5, as the Linux console reports them.
 #[tactic(auto, unfolding(crate::specs::KeyReports::console_key))]
-pub(crate) fn console_key(alloc: Global, t: &[u8]) -> Option<KeyReport>
-    ensures { result ≡ rules.console_key t.now }
+pub(crate) fn console_key(t: &[u8]) -> Option<PlainReport>
+    ensures { option_map plain_report result ≡ rules.console_key t.now }
 {
     match t {
         [b'[', letter] => {
             let key = reported_keys::console_key(*letter)?;
-            Some(report_of(alloc, ReportedKey::Named(key), PRESSED))
+            Some(PlainReport {
+                key: ReportedKey::Named(key),
+                manner: PRESSED,
+            })
         }
         _ => None,
     }
@@ -236,11 +229,14 @@ pub(crate) fn console_key(alloc: Global, t: &[u8]) -> Option<KeyReport>
 
 // A letter after ESC O: a key of the keypad in application mode.
 #[tactic(auto, unfolding(crate::specs::KeyReports::keypad_key))]
-pub(crate) fn keypad_key(alloc: Global, t: &[u8]) -> Option<KeyReport>
-    ensures { result ≡ rules.keypad_key t.now }
+pub(crate) fn keypad_key(t: &[u8]) -> Option<PlainReport>
+    ensures { option_map plain_report result ≡ rules.keypad_key t.now }
 {
     match t {
-        [letter] => Some(report_of(alloc, reported_keys::keypad_key(*letter)?, PRESSED)),
+        [letter] => Some(PlainReport {
+            key: reported_keys::keypad_key(*letter)?,
+            manner: PRESSED,
+        }),
         _ => None,
     }
 }

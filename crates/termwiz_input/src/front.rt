@@ -230,8 +230,8 @@ pub(crate) fn is_escape(text: &[u8]) -> bool
     }
 }
 
-// What follows a first ESC.
-pub(crate) fn follows_escape(text: &[u8]) -> Option<&[u8]>
+/// What follows a first ESC.
+pub fn follows_escape(text: &[u8]) -> Option<&[u8]>
     ensures some { IfSome result (λ after. text.now ≡ ESC ++ after.now) }
     ensures none { IfNone result (¬ Begins ESC text.now) }
 {

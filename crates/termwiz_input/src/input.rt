@@ -19,12 +19,15 @@ ghost use Rattle.termwiz_keys.specs.declared.types.InputEvent.{InputEvent as Eve
 
 pub use crate::completions::Completions;
 use crate::completions::completions_of;
+pub use crate::front::follows_escape;
 use crate::front::{AtFront, front, is_escape};
 pub use crate::head::character_at;
-use crate::key::{alt_key, copied, escape_key, plain_key};
+pub use crate::key::{alt_key, copied, escape_key, plain_key};
 pub use crate::mouse_report::{FrontReport, mouse_report_at};
-use crate::paste::{begins_paste, lacks_end, lossy_text, next_search, paste_so_far};
+pub use crate::paste::begins_paste;
+use crate::paste::{lacks_end, lossy_text, next_search, paste_so_far};
 use crate::printable_ascii::append_printable_ascii;
+pub use crate::printable_ascii::is_printable_ascii;
 use crate::waiting::kind_of;
 use std::alloc::{AllocError, Global};
 use std::marker::Model;
@@ -222,6 +225,18 @@ impl InputParser {
     {
         let text = self.buffer.as_slice();
         front(&self.key_map, text, self.searched, most, maybe_more)
+    }
+
+    /// Whether an item is at the front of the waiting text: whether [`InputParser::next_event`] emits an event, if memory is granted.
+    pub fn has_item(&self, maybe_more: bool) -> bool
+        ensures some { IsTrue result → HasItem self.now maybe_more }
+        ensures none { result ≡ false → IsRest self.now maybe_more }
+    {
+        let found = self.front(1, maybe_more);
+        match found {
+            AtFront::Incomplete => false,
+            _ => true,
+        }
     }
 
     // Once no item is matched, notes how far an open paste was searched for its end.

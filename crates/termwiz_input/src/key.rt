@@ -11,8 +11,8 @@ pub(crate) const ESCAPE_KEY: KeyEvent = KeyEvent {
     modifiers: Modifiers::NONE,
 };
 
-// The key Escape without modifiers.
-pub(crate) fn escape_key() -> KeyEvent
+/// The key Escape without modifiers.
+pub fn escape_key() -> KeyEvent
     ensures { result ≡ escape }
 {
     KeyEvent {
@@ -21,8 +21,8 @@ pub(crate) fn escape_key() -> KeyEvent
     }
 }
 
-// A copy of the key.
-pub(crate) fn copied(key: &KeyEvent) -> KeyEvent
+/// A copy of the key.
+pub fn copied(key: &KeyEvent) -> KeyEvent
     ensures { result ≡ key.now }
 {
     KeyEvent {
@@ -31,8 +31,8 @@ pub(crate) fn copied(key: &KeyEvent) -> KeyEvent
     }
 }
 
-// The key of a character, without modifiers.
-pub(crate) fn plain_key(character: char) -> KeyEvent
+/// The key of a character, without modifiers.
+pub fn plain_key(character: char) -> KeyEvent
     ensures { result ≡ plain character }
 {
     KeyEvent {
@@ -41,8 +41,8 @@ pub(crate) fn plain_key(character: char) -> KeyEvent
     }
 }
 
-// The same key with ALT added to its modifiers.
-pub(crate) fn alt_key(key: KeyEvent) -> KeyEvent
+/// The same key with ALT added to its modifiers.
+pub fn alt_key(key: KeyEvent) -> KeyEvent
     ensures { result ≡ with_alt key }
 {
     KeyEvent {

@@ -19,8 +19,8 @@ pub(crate) const PASTE_START: &[u8] = b"\x1b[200~";
 
 const PASTE_END: &[u8] = b"\x1b[201~";
 
-// Whether a paste begins the text.
-pub(crate) fn begins_paste(text: &[u8]) -> bool
+/// Whether a paste begins the text.
+pub fn begins_paste(text: &[u8]) -> bool
     ensures { IsTrue result ↔ Begins START text.now }
 {
     begins_with(text, PASTE_START)

@@ -6,8 +6,8 @@ ghost use Rattle.termwiz_input.specs.PrintableAscii.{IsPrintableAscii, printable
 use crate::key::plain_key;
 use termwiz_keys::types::InputEvent;
 
-// Whether a byte is a character from SPACE to `~`.
-pub(crate) fn is_printable_ascii(byte: u8) -> bool
+/// Whether a byte is a character from SPACE to `~`. No sequence begins with one.
+pub fn is_printable_ascii(byte: u8) -> bool
     ensures { IsTrue result ↔ IsPrintableAscii byte }
 {
     byte >= b' ' && byte <= b'~'

@@ -1,32 +1,31 @@
 -- What is at the front of a text, as far as extra sequences go.
-use Rattle.std.specs.Prelude.{◌≡◌, ◌≢◌, ◌⊎◌, ℕ, ◌<◌, ◌≤◌, ◌-◌, Bool, true, false, List, [], ◌∷◌, ◌++◌, length, take, drop, Contains, Option, Result, IfOk, IfSome, IfNone, OnErr, slice_index}
+use Rattle.std.specs.Prelude.{◌≡◌, ◌++◌, ℕ, ◌<◌, ◌≤◌, ◌-◌, Bool, true, false, List, [], ◌∷◌, length, take, Contains, Option, Some, Result, IfOk, IfSome, IfNone, OnErr}
 use Rattle.termwiz_keymap.specs.Bytes.{Begins}
 use Rattle.termwiz_keys.specs.Introducers.{ESC, START}
-use Rattle.termwiz_keys.specs.Keys.{plain as plain_key}
+use Rattle.termwiz_keys.specs.Keys.{plain}
 use Rattle.termwiz_keys.specs.declared.types.KeyEvent.{KeyEvent}
 use Rattle.termwiz_keys.specs.declared.types.MouseEvent.{MouseEvent}
 use Rattle.termwiz_keys.specs.declared.types.InputEvent.{InputEvent}
-use Rattle.termwiz_keys.specs.declared.types.InputEvent.TheVariants.{Key as PortsKey, Paste}
+use Rattle.termwiz_keys.specs.declared.types.InputEvent.TheVariants.{Key as PortsKey}
 use Rattle.termwiz_grammar.specs.MouseReports.{IsMouseReport}
 use Rattle.termwiz_input.specs.Matches.{HasRow, IsItemAt}
 use Rattle.termwiz_input.specs.PasteSearch.{IsPasteSoFar}
+use Rattle.termwiz_extended_events.specs.declared.meanings.Meaning.{Meaning}
 use Rattle.termwiz_extended_events.specs.declared.types.ExtendedEvent.{ExtendedEvent}
-use Rattle.termwiz_extended_events.specs.declared.types.ExtendedEvent.TheVariants.{Input, Key as Report}
-use Rattle.termwiz_extended_events.specs.declared.types.PlainReport.{PlainReport}
+use Rattle.termwiz_extended_events.specs.declared.types.ExtendedEvent.TheVariants.{Input}
 use Rattle.termwiz_extended_events.specs.declared.types.Rows.{Rows}
 use Rattle.termwiz_extended_events.specs.declared.types.Rows.TheVariants.{Port, Kitty}
-use Rattle.termwiz_extended_events.specs.KeyReports.{plain_report}
-use Rattle.termwiz_extended_events.specs.Meanings.{event_of, IsKeyOrPosition}
+use Rattle.termwiz_extended_events.specs.Meanings.{event_from, event_of, IsKeyOrPosition, NeedsMemory}
 use Rattle.termwiz_grammar.specs.Grammar.{IsOpen, IsUnfinishedSequence}
 use Rattle.termwiz_grammar.specs.Table.{rows as table_rows}
 use Rattle.termwiz_extended_grammar.specs.Forms.{IsForm, IsUnfinishedForm}
 use Rattle.termwiz_extended_grammar.specs.ExtraSequences.{IsExtra, StartsWithExtra}
-use Rattle.termwiz_extended_grammar.specs.ExtendedGrammar.{IsRest, Stands, Steps}
+use Rattle.termwiz_extended_grammar.specs.ExtendedGrammar.{HasItem, IsRest, Stands, Steps}
 use Rattle.termwiz_extended_grammar.specs.ExtendedLaws.{HasNoExtra}
 use Rattle.termwiz_input_extended.specs.declared.front.FormFront.{FormFront}
 use Rattle.termwiz_input_extended.specs.declared.front.FormFront.TheVariants as front
 use Rattle.termwiz_input_extended.specs.declared.front.ExtendedFront.{ExtendedFront}
-use Rattle.termwiz_input_extended.specs.declared.front.ExtendedFront.TheVariants.{Key, Form, MouseReport, Escape, Paste as FrontPaste, Usual, Incomplete}
+use Rattle.termwiz_input_extended.specs.declared.front.ExtendedFront.TheVariants.{Character, Key, Extra, MouseReport, Escape, Paste, Usual, Incomplete}
 use Rattle.termwiz_input_extended.specs.declared.front.FrontRow.{FrontRow}
 use Rattle.termwiz_input_extended.specs.declared.front.FrontRow.TheVariants.{Long, Short, Begun, Absent}
 use Rattle.termwiz_input_extended.specs.Buffered.{Buffered}
@@ -39,12 +38,6 @@ IsReported rows text = (rows ≡ Kitty) × IsKeyOrPosition (event_of text)
 -- the text is an extra sequence
 abbrev pub IsSomeExtra : Rows → List ℕ → Type 0
 IsSomeExtra rows text = (event : ExtendedEvent) × IsExtra rows text event
-
--- the event of a form that is no mouse report: as an extra sequence, or else as a row of the sequence table
-abbrev pub IsFormEvent : Rows → List ℕ → ExtendedEvent → Type 0
-IsFormEvent rows form event =
-    IsExtra rows form event
-    ⊎ ((key : KeyEvent) × (event ≡ Input (PortsKey key)) × Contains table_rows (form, key) × (¬ IsSomeExtra rows form))
 
 -- the first so many bytes of the text are a form that is no mouse report
 pub record IsPlainForm (u : List ℕ) (len : ℕ) : Type 0 where
@@ -70,38 +63,6 @@ pub record IsScannedTo (u : List ℕ) (place : ℕ) : Type 0 where
   pub here : (¬ Begins (ESC ++ ESC) u) → IsScanned u place
   pub after : (v : List ℕ) → u ≡ ESC ++ v → Begins ESC v → IsScanned v (place - 1)
 
--- the first so many bytes of the text are a form that is no mouse report, after one ESC alone, and no start of a paste
-pub record IsFormAt (u : List ℕ) (len : ℕ) : Type 0 where
-  pub plain : IsPlainForm u len
-  pub escape : Begins ESC u
-  pub one : ¬ Begins (ESC ++ ESC) u
-  pub no_paste : ¬ Begins START u
-
--- after ESC [, a byte that begins no mouse report and no key of the console
-abbrev pub IsReportStart : ℕ → Type 0
-IsReportStart b = (b ≢ 60) × (b ≢ 77) × (b ≢ 91)
-
--- the text begins with ESC [ and a third byte
-pub record IsIntroduced (u : List ℕ) : Type 0 where
-  pub long : 2 < length u
-  pub escape : slice_index u 0 ≡ 27
-  pub bracket : slice_index u 1 ≡ 91
-
--- that byte may begin the report of a key
-pub record MayBeReport (u : List ℕ) : Type 0 where
-  pub introduced : IsIntroduced u
-  pub start : IsReportStart (slice_index u 2)
-
--- the form of so many bytes at the front is the report of a key that says no more than the key and its manner
-pub record IsPlainReportAt (u : List ℕ) (report : PlainReport) (len : ℕ) : Type 0 where
-  pub form : IsPlainForm u len
-  pub means : Report (plain_report report) ≡ event_of (take len u)
-
--- the character at the front, of so many bytes, is an item, whatever follows it
-pub record IsOwnCharacter (rows : Rows) (u : List ℕ) (more : Bool) (character len : ℕ) : Type 0 where
-  pub own : IsPortsOwn rows u more
-  pub item : IsItemAt u more (PortsKey (plain_key character)) len
-
 -- under `Rows::Port`, the longest sequence that begins the text is the row of this key, of so many bytes, and three or more; nothing that
 -- comes changes it
 pub record IsLongRowAt (rows : Rows) (u : List ℕ) (more : Bool) (key : KeyEvent) (len : ℕ) : Type 0 where
@@ -110,43 +71,46 @@ pub record IsLongRowAt (rows : Rows) (u : List ℕ) (more : Bool) (key : KeyEven
   pub row : HasRow u key len
   pub closed : ¬ IsOpen u more
 
+-- no row of three or more bytes begins the text
+abbrev pub HasNoLongRow : List ℕ → Type 0
+HasNoLongRow u = (len : ℕ) (key : KeyEvent) → 2 < len → len ≤ length u → ¬ Contains table_rows (take len u, key)
+
 -- the longest sequence that begins the text is the row of this key, of two bytes; nothing that comes changes it
 pub record IsShortRowAt (u : List ℕ) (more : Bool) (key : KeyEvent) : Type 0 where
   pub row : HasRow u key 2
   pub closed : ¬ IsOpen u more
 
--- what a look for a row finds: such a row, or that more comes and the text properly begins a sequence
+-- What a look for a row finds: such a row, or that more comes and the text properly begins a sequence. Under `Rows::Port` it finds each row of
+-- three or more bytes.
 abbrev pub IsFrontRow : Rows → List ℕ → Bool → FrontRow → Type 0
 IsFrontRow rows u more (Long key len) = IsLongRowAt rows u more key.now len
-IsFrontRow rows u more (Short key) = IsShortRowAt u more key.now
+IsFrontRow rows u more (Short key) = IsShortRowAt u more key.now × HasNoLongRow u
 IsFrontRow rows u more Begun = (more ≡ true) × IsUnfinishedSequence u
-IsFrontRow rows u more Absent = Unit {0}
+IsFrontRow rows u more Absent = rows ≡ Port → HasNoLongRow u
 
--- What that says of the front of the text: its first so many bytes are read as the key, or no item is there. A row of two bytes is an item
--- of the port alone: a form may be there.
-abbrev pub IsRowFront : Rows → List ℕ → Bool → FrontRow → Type 0
-IsRowFront rows u more (Long key len) =
-    (len ≤ length u) × Steps rows u more (Input (PortsKey key.now) ∷ []) (drop len u)
-IsRowFront rows u more (Short key) = IsItemAt u more (PortsKey key.now) 2
-IsRowFront rows u more Begun = IsRest rows u more
-IsRowFront rows u more Absent = Unit {0}
+-- the first so many bytes of the text are an extra sequence of this meaning
+pub record IsExtraAt (rows : Rows) (u : List ℕ) (meaning : Meaning) (len : ℕ) : Type 0 where
+  pub within : len ≤ length u
+  pub extra : IsExtra rows (take len u) (event_of (take len u))
+  pub means : event_from meaning ≡ Some (event_of (take len u))
 
 -- this is at the front of the text, under this flag. Of an incomplete sequence the search goes on from a place.
 abbrev pub IsExtendedFront : Rows → List ℕ → Bool → ExtendedFront → Type 0
+IsExtendedFront rows u more (Character c len) = IsPortsOwn rows u more × IsItemAt u more (PortsKey (plain c)) len
 IsExtendedFront rows u more (Key key len) = IsPortsOwn rows u more × IsItemAt u more (PortsKey key) len
-IsExtendedFront rows u more (Form len) = IsFormAt u len
+IsExtendedFront rows u more (Extra meaning len) = IsExtraAt rows u meaning len
 IsExtendedFront rows u more (MouseReport event len) = (len ≤ length u) × IsMouseReport (take len u) event
 IsExtendedFront rows u more Escape = (v : List ℕ) × (u ≡ ESC ++ v) × StartsWithExtra rows v
-IsExtendedFront rows u more FrontPaste = Begins START u
+IsExtendedFront rows u more Paste = Begins START u
 IsExtendedFront rows u more Usual = IsPortsOwn rows u more
 IsExtendedFront rows u more (Incomplete place) = IsRest rows u more × IsScannedTo u place
 
--- an item stands at u whose event may hold memory: a paste, or an extra sequence
+-- an item stands at u whose event has a text or bytes of its own
 pub record HasItemThatNeedsMemory (rows : Rows) (u : List ℕ) (more : Bool) : Type 0 where
   pub bytes : List ℕ
   pub event : ExtendedEvent
   pub stands : Stands rows u more bytes event
-  pub needs : ((text : List ℕ) × (event ≡ Input (Paste text))) ⊎ IsExtra rows bytes event
+  pub needs : NeedsMemory event
 
 -- the events that a text gives, as far as they are read, need no memory
 abbrev pub GivesNoneThatNeedsMemory : Rows → List ℕ → Bool → Type 0
@@ -162,13 +126,14 @@ pub record Emits {F : Type 0} (old : Buffered) (more : Bool) (new : Buffered) (r
   pub refused : OnErr result (HasItemThatNeedsMemory old.rows old.text more)
   pub refused_same : OnErr result (new ≡ old)
 
--- What a call answers that moves the event of the item at the front to a list: whether an item is there. A refusal leaves both as they are.
+-- What a call answers that moves the event of the item at the front to a list: whether an item is there. After a refusal one is.
 pub record Stores {F : Type 0} (old : Buffered) (more : Bool) (before : List ExtendedEvent) (new : Buffered) (after : List ExtendedEvent)
     (result : Result Bool F) : Type 0 where
   pub stored : (text : List ℕ) → Steps old.rows text more before old.text → Steps old.rows text more after new.text
   pub rows : new.rows ≡ old.rows
   pub fewer : IfOk result (λ found. found ≡ true → length new.text < length old.text)
   pub rest : IfOk result (λ found. found ≡ false → IsRest new.rows new.text more)
+  pub refused : OnErr result (HasItem new.rows new.text more)
 
 -- the paste whose text is what an open paste has so far
 abbrev pub IsPasteEvent : List ℕ → ExtendedEvent → Type 0

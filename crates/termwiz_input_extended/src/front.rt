@@ -1,8 +1,7 @@
-// What is at the front of a text: an extra sequence, the Escape key before one, or what the port finds there.
-ghost use Rattle.std.specs.Prelude.{◌≡◌, ◌≢◌, ◌↔◌, ◌++◌, Bool, [], IsTrue, IfOk, OnErr, IfSome, IfNone, Contains};
+// What is at the front of a text: an extra sequence, the Escape key before one, a character, or what the port finds there.
+ghost use Rattle.std.specs.Prelude.{◌≡◌, ◌≢◌, ◌↔◌, ◌++◌, ◌≤◌, ℕ, Bool, List, [], length, take, IsTrue, Some, Contains};
 ghost use Rattle.termwiz_keymap.specs.Bytes.{Begins};
 ghost use Rattle.termwiz_keys.specs.Introducers.{ESC, START};
-ghost use Rattle.termwiz_keys.specs.Keys.{escape, plain, with_alt};
 ghost use Rattle.termwiz_keys.specs.declared.types.InputEvent.TheVariants.{Key as PortsKey};
 ghost use Rattle.termwiz_keys.specs.declared.types.KeyEvent.{KeyEvent as Key};
 ghost use Rattle.termwiz_keys.specs.declared.types.MouseEvent.{MouseEvent as Mouse};
@@ -10,24 +9,25 @@ ghost use Rattle.termwiz_grammar.specs.MouseReports.{IsMouseReport};
 ghost use Rattle.termwiz_grammar.specs.Table.{rows as table_rows};
 ghost use Rattle.termwiz_input.specs.Matches.{IsItemAt};
 ghost use Rattle.termwiz_input.specs.MouseReportAnswers.{HasNoPartInMouseReports};
-ghost use Rattle.termwiz_input.specs.PrintableAscii.{IsPrintableAscii};
-ghost use Rattle.termwiz_extended_events.specs.Meanings as meaning;
+ghost use Rattle.termwiz_extended_events.specs.declared.types.Rows.TheVariants.{Port};
+ghost use Rattle.termwiz_extended_events.specs.Meanings.{event_from, event_of};
 ghost use Rattle.termwiz_extended_grammar.specs.Forms.{IsForm};
-ghost use Rattle.termwiz_input_extended.specs.declared.front.ReportStart.TheVariants as Start;
 ghost use Rattle.termwiz_input_extended.specs.FormAnswers.{IsScanned};
-ghost use Rattle.termwiz_input_extended.specs.ExtendedFronts.{HasFormFront, IsExtendedFront, IsFormAt, IsFormEvent, IsFrontRow, IsIntroduced, IsOwnCharacter, IsPlainReportAt, IsReported, IsRowFront, IsScannedTo, IsSomeExtra, MayBeReport};
+ghost use Rattle.termwiz_input_extended.specs.ExtendedFronts.{HasFormFront, HasNoLongRow, IsExtendedFront, IsFrontRow, IsPlainForm, IsReported, IsScannedTo, IsSomeExtra};
 
 use crate::characters::control_key;
-use crate::form::{ESCAPE, FormAt, control_at, form_at, next_scan};
-use std::alloc::{AllocError, Global};
-use termwiz_base::{Flags, Modifiers};
-use termwiz_extended_events::meanings::{
-    event_of, is_key_or_position, key_or_position, plain_report,
+use crate::form::{ESCAPE, FormAt, form_at, next_scan};
+use termwiz_extended_events::meanings::{Meaning, meaning_of};
+use termwiz_extended_events::types::Rows;
+use termwiz_input::input::{
+    FrontReport, InputParser, alt_key, begins_paste, character_at, copied, escape_key,
+    follows_escape, is_printable_ascii, mouse_report_at,
 };
-use termwiz_extended_events::types::{ExtendedEvent, PlainReport, Rows};
-use termwiz_input::input::{FrontReport, InputParser, character_at, mouse_report_at};
 use termwiz_input::keymap::Found;
-use termwiz_keys::types::{InputEvent, KeyCode, KeyEvent, MouseEvent};
+use termwiz_keys::types::{KeyEvent, MouseEvent};
+
+// The first byte that isn't ASCII.
+const HIGH: u8 = 0x80;
 
 // What form is at the front of a text. A `usize` is the number of its bytes.
 #[derive(Drop)]
@@ -40,16 +40,6 @@ pub(crate) enum FormFront {
     Unfinished,
     // None begins the text, and the text begins none.
     Absent,
-}
-
-// Which report may be at the front of a text.
-#[derive(Drop)]
-pub(crate) enum ReportStart {
-    // The report of a key.
-    Key,
-    // A mouse report.
-    Mouse,
-    Neither,
 }
 
 // What a look for a row of two or more bytes at the front of a text finds.
@@ -65,13 +55,15 @@ pub(crate) enum FrontRow<'k> {
     Absent,
 }
 
-// What is at the front of a text that no character begins. A `usize` is the number of its bytes, but for `Incomplete`.
+// What is at the front of a text. A `usize` is the number of its bytes, but for `Incomplete`.
 #[derive(Drop)]
-pub(crate) enum ExtendedFront {
+pub(crate) enum ExtendedFront<'t> {
+    // A character, alone.
+    Character(char, usize),
     // A row of the sequence table that is read as its key.
     Key(KeyEvent, usize),
-    // A form that is no mouse report: an extra sequence, or a row of the sequence table.
-    Form(usize),
+    // An extra sequence.
+    Extra(Meaning<'t>, usize),
     // A mouse report, which the port finds there too.
     MouseReport(MouseEvent, usize),
     // The Escape key before an extra sequence.
@@ -84,112 +76,39 @@ pub(crate) enum ExtendedFront {
     Incomplete(usize),
 }
 
-// Whether the start of a paste begins a text. Most sequences differ from it in the third byte.
-#[inline(always)]
-fn begins_paste(text: &[u8]) -> bool
-    ensures { IsTrue result ↔ Begins START text.now }
-{
-    matches!(text, [ESCAPE, b'[', b'2', b'0', b'0', b'~', ..])
-}
-
-// A copy of the key.
-pub(crate) fn copied(key: &KeyEvent) -> KeyEvent
-    ensures { result ≡ key.now }
-{
-    KeyEvent {
-        key: key.key,
-        modifiers: key.modifiers,
-    }
-}
-
-// The Escape key with ALT.
-fn alt_escape() -> KeyEvent
-    ensures { result ≡ with_alt escape }
-{
-    KeyEvent {
-        key: KeyCode::Escape,
-        modifiers: Modifiers::ALT,
-    }
-}
-
-// The key of a row of the sequence table, if bytes are one.
-fn row_of<'k>(parser: &'k InputParser, bytes: &[u8]) -> Option<&'k KeyEvent>
-    ensures some { IfSome result (λ key. Contains table_rows (bytes.now, key.now)) }
-    ensures none { IfNone result ((key : Key) → ¬ Contains table_rows (bytes.now, key)) }
+// Whether bytes are a row of the sequence table.
+fn is_table_row(parser: &InputParser, bytes: &[u8]) -> bool
+    ensures { IsTrue result ↔ ((key : Key) × Contains table_rows (bytes.now, key)) }
 {
     match parser.lookup(bytes, false) {
-        Found::Exact(len, key) if len == bytes.len() => Some(key),
-        Found::Exact(..) => None,
-        Found::Ambiguous(..) => None,
-        Found::NeedData => None,
-        Found::None => None,
+        Found::Exact(len, _) => len == bytes.len(),
+        Found::Ambiguous(..) => false,
+        Found::NeedData => false,
+        Found::None => false,
     }
 }
 
-// Whether a form is read as a report of a key or of the cursor's position, even if it is a row.
-fn is_reported(alloc: Global, rows: Rows, form: &[u8]) -> bool
-    ensures { IsTrue result ↔ IsReported rows form.now }
+// Whether a form of this meaning is read as a report of a key or of the cursor's position, even if it is a row.
+fn is_reported(rows: Rows, meaning: &Meaning<'_>) -> bool
+    ensures { (form : List ℕ) → event_from meaning.now ≡ Some (event_of form) → IsTrue result ↔ IsReported rows form }
 {
     match rows {
         Rows::Port => false,
-        Rows::Kitty => is_key_or_position(alloc, form),
-    }
-}
-
-// The event of a form that is read as such a report, and `None` for any other form. A refusal is passed on only for such a report.
-#[inline(always)]
-pub(crate) fn reported_event(
-    alloc: Global,
-    rows: Rows,
-    form: &[u8],
-) -> Result<Option<ExtendedEvent>, AllocError>
-    ensures some { IfOk result (λ found. IfSome found (λ event. IsReported rows form.now × (event ≡ meaning.event_of form.now))) }
-    ensures none { IfOk result (λ found. IfNone found (¬ IsReported rows form.now)) }
-    ensures refused { OnErr result (IsReported rows form.now) }
-{
-    match rows {
-        Rows::Port => Ok(None),
-        Rows::Kitty => {
-            let found = key_or_position(alloc, form);
-            if found.is_err() && !is_key_or_position(alloc, form) {
-                return Ok(None);
-            }
-            found
-        }
-    }
-}
-
-// The event of a form that is no mouse report, and isn't read as a report of a key or a position.
-#[inline(always)]
-pub(crate) fn other_event(
-    alloc: Global,
-    parser: &InputParser,
-    form: &[u8],
-) -> Result<ExtendedEvent, AllocError>
-    requires form { IsForm form.now }
-    requires no_mouse { (event : Mouse) → ¬ IsMouseReport form.now event }
-    ensures event { IfOk result (λ event. (rows : Rows) → ¬ IsReported rows form.now → IsFormEvent rows form.now event) }
-    ensures refused { OnErr result ((rows : Rows) → IsSomeExtra rows form.now) }
-{
-    match row_of(parser, form) {
-        Some(key) => Ok(ExtendedEvent::Input(InputEvent::Key(copied(key)))),
-        None => event_of(alloc, form),
+        Rows::Kitty => meaning.is_key_or_position(),
     }
 }
 
 // Whether a form that is no mouse report is an extra sequence.
-fn is_extra(alloc: Global, parser: &InputParser, rows: Rows, form: &[u8]) -> bool
+fn is_extra(parser: &InputParser, rows: Rows, form: &[u8], meaning: &Meaning<'_>) -> bool
     requires form { IsForm form.now }
     requires no_mouse { (event : Mouse) → ¬ IsMouseReport form.now event }
+    requires means { event_from meaning.now ≡ Some (event_of form.now) }
     ensures { IsTrue result ↔ IsSomeExtra rows form.now }
 {
-    if is_reported(alloc, rows, form) {
+    if is_reported(rows, meaning) {
         return true;
     }
-    match row_of(parser, form) {
-        Some(_) => false,
-        None => true,
-    }
+    !is_table_row(parser, form)
 }
 
 // What form is at the front of a text. The bytes before `scanned` were looked at before.
@@ -211,24 +130,23 @@ fn form_front(text: &[u8], scanned: usize) -> FormFront
 }
 
 // What is at the front of a text that starts with ESC ESC, by what follows the first one.
-fn front_of_two_escapes(
-    alloc: Global,
+fn front_of_two_escapes<'t>(
     parser: &InputParser,
     rows: Rows,
     after: &[u8],
     scanned: usize,
     maybe_more: bool,
-) -> ExtendedFront
+) -> ExtendedFront<'t>
     requires escape { Begins ESC after.now }
     requires scanned { IsScanned after.now scanned }
     ensures { IsExtendedFront rows (ESC ++ after.now) maybe_more result }
 {
     // Before a third ESC the first two are a key, whatever comes.
     if let [_, ESCAPE, ..] = after {
-        return ExtendedFront::Key(alt_escape(), 2);
+        return ExtendedFront::Key(alt_key(escape_key()), 2);
     }
     match form_front(after, scanned) {
-        FormFront::Form(len) if is_extra(alloc, parser, rows, &after[..len]) =>
+        FormFront::Form(len) if is_extra(parser, rows, &after[..len], &meaning_of(&after[..len])) =>
             ExtendedFront::Escape,
         FormFront::Form(_) => ExtendedFront::Usual,
         FormFront::MouseReport => ExtendedFront::Usual,
@@ -238,43 +156,56 @@ fn front_of_two_escapes(
     }
 }
 
-// What is at the front of a text that begins with one ESC alone, and with no paste and no part of a mouse report.
+// What is at the front of a text that begins with one ESC alone and a form of so many bytes. Under `Rows::Port` the text was looked up: the
+// form is no row.
 #[inline(always)]
-fn front_of_form(text: &[u8], scanned: usize, maybe_more: bool) -> ExtendedFront
+fn front_of_whole_form<'t>(
+    parser: &InputParser,
+    rows: Rows,
+    text: &'t [u8],
+    len: usize,
+) -> ExtendedFront<'t>
     requires escape { Begins ESC text.now }
     requires one { ¬ Begins (ESC ++ ESC) text.now }
-    requires no_paste { ¬ Begins START text.now }
-    requires no_mouse { HasNoPartInMouseReports text.now }
-    requires scanned { IsScanned text.now scanned }
-    ensures { (rows : Rows) → IsExtendedFront rows text.now maybe_more result }
+    requires form { IsPlainForm text.now len }
+    requires no_row { rows ≡ Port → HasNoLongRow text.now }
+    ensures { (more : Bool) → IsExtendedFront rows text.now more result }
 {
-    match form_at(text, scanned) {
-        FormAt::Whole(len) => ExtendedFront::Form(len),
-        FormAt::Unfinished if maybe_more => ExtendedFront::Incomplete(next_scan(text)),
-        FormAt::Unfinished => ExtendedFront::Usual,
-        FormAt::Absent => ExtendedFront::Usual,
+    let form = &text[..len];
+    let meaning = meaning_of(form);
+    match rows {
+        Rows::Port => ExtendedFront::Extra(meaning, len),
+        Rows::Kitty => {
+            if is_extra(parser, rows, form, &meaning) {
+                ExtendedFront::Extra(meaning, len)
+            } else {
+                ExtendedFront::Usual
+            }
+        }
     }
 }
 
-// What is at the front of such a text, if it also begins with the row of this key, of two bytes: a form, or else the row.
+// What is at the front of a text that begins with one ESC alone, and with no part of a mouse report: a form, or what the port finds.
 #[inline(always)]
-fn front_of_short_row(
-    text: &[u8],
-    key: &KeyEvent,
+fn front_of_form<'t>(
+    parser: &InputParser,
+    rows: Rows,
+    text: &'t [u8],
     scanned: usize,
     maybe_more: bool,
-) -> ExtendedFront
+) -> ExtendedFront<'t>
     requires escape { Begins ESC text.now }
     requires one { ¬ Begins (ESC ++ ESC) text.now }
-    requires no_paste { ¬ Begins START text.now }
     requires no_mouse { HasNoPartInMouseReports text.now }
     requires scanned { IsScanned text.now scanned }
-    requires row { IsItemAt text.now maybe_more (PortsKey key.now) 2 }
-    ensures { (rows : Rows) → IsExtendedFront rows text.now maybe_more result }
+    requires no_row { rows ≡ Port → HasNoLongRow text.now }
+    ensures { IsExtendedFront rows text.now maybe_more result }
 {
-    match front_of_form(text, scanned, maybe_more) {
-        ExtendedFront::Usual => ExtendedFront::Key(copied(key), 2),
-        form => form,
+    match form_at(text, scanned) {
+        FormAt::Whole(len) => front_of_whole_form(parser, rows, text, len),
+        FormAt::Unfinished if maybe_more => ExtendedFront::Incomplete(next_scan(text)),
+        FormAt::Unfinished => ExtendedFront::Usual,
+        FormAt::Absent => ExtendedFront::Usual,
     }
 }
 
@@ -288,22 +219,25 @@ fn row_at<'k>(parser: &'k InputParser, rows: Rows, text: &[u8], maybe_more: bool
         Rows::Port => match parser.lookup(text, maybe_more) {
             Found::Exact(2, key) => FrontRow::Short(key),
             Found::Exact(len, key) if len > 2 => FrontRow::Long(key, len),
+            Found::Exact(..) => FrontRow::Absent,
             Found::Ambiguous(..) => FrontRow::Begun,
-            _ => FrontRow::Absent,
+            Found::NeedData => FrontRow::Absent,
+            Found::None => FrontRow::Absent,
         },
         Rows::Kitty => FrontRow::Absent,
     }
 }
 
-// What is at the front of a text that begins with one ESC alone. A mouse report is looked for first.
+// What is at the front of a text that begins with one ESC alone. A mouse report is looked for first. A row of two bytes is read only if
+// no form begins there.
 #[inline(always)]
-fn front_of_one_escape(
+fn front_of_one_escape<'t>(
     parser: &InputParser,
     rows: Rows,
-    text: &[u8],
+    text: &'t [u8],
     scanned: usize,
     maybe_more: bool,
-) -> ExtendedFront
+) -> ExtendedFront<'t>
     requires escape { Begins ESC text.now }
     requires one { ¬ Begins (ESC ++ ESC) text.now }
     requires scanned { IsScanned text.now scanned }
@@ -316,21 +250,33 @@ fn front_of_one_escape(
         FrontReport::Absent if begins_paste(text) => ExtendedFront::Paste,
         FrontReport::Absent => match row_at(parser, rows, text, maybe_more) {
             FrontRow::Long(key, len) => ExtendedFront::Key(copied(key), len),
-            FrontRow::Short(key) => front_of_short_row(text, key, scanned, maybe_more),
+            FrontRow::Short(key) => {
+                match front_of_form(parser, rows, text, scanned, maybe_more) {
+                    ExtendedFront::Usual => ExtendedFront::Key(copied(key), 2),
+                    form => form,
+                }
+            }
             FrontRow::Begun => ExtendedFront::Incomplete(0),
-            FrontRow::Absent => front_of_form(text, scanned, maybe_more),
+            FrontRow::Absent => front_of_form(parser, rows, text, scanned, maybe_more),
         },
     }
 }
 
-// What is at the front of a text that begins with no ESC.
+// What is at the front of a text that begins with no ESC. A broken byte is the port's.
 #[inline(always)]
-fn front_without_escape(text: &[u8]) -> ExtendedFront
+fn front_without_escape<'t>(text: &[u8]) -> ExtendedFront<'t>
     requires { ¬ Begins ESC text.now }
     ensures { (rows : Rows) (more : Bool) → IsExtendedFront rows text.now more result }
 {
     match text {
         [] => ExtendedFront::Incomplete(0),
+        [first, ..] if is_printable_ascii(*first) => {
+            ExtendedFront::Character(char::from(*first), 1)
+        }
+        [first, ..] if *first >= HIGH => match character_at(text) {
+            Some((character, len)) => ExtendedFront::Character(character, len),
+            None => ExtendedFront::Usual,
+        },
         [first, ..] => match control_key(*first) {
             Some(key) => ExtendedFront::Key(key, 1),
             None => ExtendedFront::Usual,
@@ -338,42 +284,23 @@ fn front_without_escape(text: &[u8]) -> ExtendedFront
     }
 }
 
-// What follows a first ESC.
-fn after_escape(text: &[u8]) -> Option<&[u8]>
-    ensures some { IfSome result (λ after. text.now ≡ ESC ++ after.now) }
-    ensures none { IfNone result (¬ Begins ESC text.now) }
-{
-    match text {
-        [ESCAPE, after @ ..] => Some(after),
-        _ => None,
-    }
-}
-
-// What is at the front of a text. `character_front` is quicker for characters. The bytes before `scanned` were looked at before.
+// What is at the front of a text. The bytes before `scanned` were looked at before.
 #[inline(always)]
-pub(crate) fn front(
-    alloc: Global,
+pub(crate) fn front<'t>(
     parser: &InputParser,
     rows: Rows,
-    text: &[u8],
+    text: &'t [u8],
     scanned: usize,
     maybe_more: bool,
-) -> ExtendedFront
+) -> ExtendedFront<'t>
     requires { IsScannedTo text.now scanned }
     ensures { IsExtendedFront rows text.now maybe_more result }
 {
-    match after_escape(text) {
+    match follows_escape(text) {
         None => front_without_escape(text),
-        Some(after) => match after_escape(after) {
+        Some(after) => match follows_escape(after) {
             Some(_) => {
-                front_of_two_escapes(
-                    alloc,
-                    parser,
-                    rows,
-                    after,
-                    scanned.saturating_sub(1),
-                    maybe_more,
-                )
+                front_of_two_escapes(parser, rows, after, scanned.saturating_sub(1), maybe_more)
             }
             None => front_of_one_escape(parser, rows, text, scanned, maybe_more),
         },

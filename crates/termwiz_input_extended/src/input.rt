@@ -1,27 +1,20 @@
 //! The extended parser.
-ghost use Rattle.std.specs.Prelude.{◌≡◌, ◌≢◌, ◌++◌, ◌+◌, ◌≤◌, ℕ, Bool, List, [], ◌∷◌, length, drop, take, true, false, OnErr, IfOk, IfErr, IfSome, IfNone, IsSome, IsTrue, ◌↔◌, ◌⊎◌, ◌<◌, slice_index_or, OnOk, IsOk, IsErrOf, vec_len, vec_capacity};
+ghost use Rattle.std.specs.Prelude.{◌≡◌, ◌≢◌, ◌++◌, ◌+◌, ◌≤◌, ◌<◌, ℕ, Bool, List, [], ◌∷◌, length, drop, true, false, OnErr, IfOk, IfErr, IfSome, IfNone, IsSome, IsTrue, ◌↔◌, ◌⊎◌, OnOk, IsOk, IsErrOf, vec_len, vec_capacity};
 ghost use Rattle.termwiz_keymap.specs.Bytes.{Begins};
 ghost use Rattle.termwiz_keys.specs.Introducers.{START};
-ghost use Rattle.termwiz_keys.specs.Keys.{escape, plain};
-ghost use Rattle.termwiz_keys.specs.declared.types.InputEvent.TheVariants as Port;
 ghost use Rattle.termwiz_grammar.specs.WaitingKinds.{IsOneOrTwoEscapes, IsOpenPaste};
 ghost use Rattle.termwiz_extended_events.specs.declared.types.ExtendedEvent.{ExtendedEvent as Event};
-ghost use Rattle.termwiz_extended_events.specs.declared.types.Rows.TheVariants.{Kitty};
-ghost use Rattle.termwiz_extended_events.specs.KeyReports.{plain_report};
-ghost use Rattle.termwiz_extended_grammar.specs.ExtendedGrammar.{IsRest, Means, Steps};
+ghost use Rattle.termwiz_extended_grammar.specs.ExtendedGrammar.{HasItem, IsRest, Means, Steps};
 ghost use Rattle.termwiz_input_extended.specs.EventCallbacks.{MayBeCalledOn, WasCalledOn};
-ghost use Rattle.termwiz_input_extended.specs.ExtendedFronts.{Emits, GivesNoneThatNeedsMemory, HasItemThatNeedsMemory, IsExtendedFront, IsFormAt, IsPasteEvent, IsPortsOwn, IsReported, IsRowFront, MayBeReport, Stores};
+ghost use Rattle.termwiz_input_extended.specs.ExtendedFronts.{Emits, GivesNoneThatNeedsMemory, HasItemThatNeedsMemory, IsExtendedFront, IsPasteEvent, IsPortsOwn, Stores};
 ghost use Rattle.termwiz_input_extended.specs.ExtendedKinds.{IsBoundedOrOpenPaste, IsKind};
 
-use crate::characters::{character_front, plain_key};
-use crate::front::{ExtendedFront, front, other_event, reported_event};
+use crate::front::{ExtendedFront, front};
 use std::alloc::{AllocError, Global};
 use std::marker::Model;
 use termwiz_extended_events::types::{ExtendedEvent, Rows};
 pub use termwiz_input::input::{ParseError, Waiting};
-use termwiz_input::input::{
-    InputEvent, InputParser, KeyCode, KeyEvent, Modifiers,
-};
+use termwiz_input::input::{InputEvent, InputParser, escape_key, plain_key};
 
 /// A call of [`ExtendedParser::parse_as_vec`] was refused memory. No event is lost: the parser has consumed exactly what `events` came from,
 /// and the next call goes on from there. Call again with the same bytes if `taken` is false, and with no bytes if it is true.
@@ -60,19 +53,6 @@ impl Model for ExtendedParser {
 
 // More events than most reads have.
 const FIRST_ROOM: usize = 256;
-
-// A text of at most so many bytes may be looked at from its start in each call.
-const SHORT_TEXT: usize = 32;
-
-// The Escape key, alone.
-fn escape_key() -> ExtendedEvent
-    ensures { result ≡ Event.Input (Port.Key escape) }
-{
-    ExtendedEvent::Input(InputEvent::Key(KeyEvent {
-        key: KeyCode::Escape,
-        modifiers: Modifiers::NONE,
-    }))
-}
 
 impl ExtendedParser {
     /// A parser that reads the rows of the sequence table in this way, and whose waiting text is empty.
@@ -118,11 +98,10 @@ impl ExtendedParser {
 
     // What is at the front of the waiting text.
     #[inline(always)]
-    fn front(&self, maybe_more: bool) -> ExtendedFront
+    fn front(&self, maybe_more: bool) -> ExtendedFront<'_>
         ensures { IsExtendedFront self.now.rows self.now.text maybe_more result }
     {
         front(
-            self.alloc,
             &self.parser,
             self.rows,
             self.parser.waiting_text(),
@@ -188,67 +167,44 @@ impl ExtendedParser {
         self.next_of_port(maybe_more)
     }
 
-    // The event of the form of so many bytes at the front of the waiting text, if it is read as a report of a key or a position.
+    // Consumes so many bytes, whose event this is.
     #[inline(always)]
-    fn report_at(&self, len: usize) -> Result<Option<ExtendedEvent>, AllocError>
-        requires { IsFormAt self.now.text len }
-        ensures some { IfOk result (λ found. IfSome found (λ event. (more : Bool)
-            → Steps self.now.rows self.now.text more (event ∷ []) (drop len self.now.text))) }
-        ensures none { IfOk result (λ found. IfNone found (¬ IsReported self.now.rows (take len self.now.text))) }
-        ensures refused { OnErr result ((more : Bool) → HasItemThatNeedsMemory self.now.rows self.now.text more) }
+    fn emit(
+        &mut self,
+        event: ExtendedEvent,
+        len: usize,
+    ) -> Result<Option<ExtendedEvent>, AllocError>
+        requires { len ≤ length self.old.text }
+        ensures { (more : Bool) → Steps self.old.rows self.old.text more (event ∷ []) (drop len self.old.text)
+            → Emits self.old more self.new result }
     {
-        reported_event(self.alloc, self.rows, &self.waiting_text()[..len])
+        self.consume(len);
+        Ok(Some(event))
     }
 
-    // The event of any other such form.
-    #[inline(always)]
-    fn other_form_at(&self, len: usize) -> Result<ExtendedEvent, AllocError>
-        requires form { IsFormAt self.now.text len }
-        requires other { ¬ IsReported self.now.rows (take len self.now.text) }
-        ensures event { IfOk result (λ event. (more : Bool) → Steps self.now.rows self.now.text more (event ∷ []) (drop len self.now.text)) }
-        ensures refused { OnErr result ((more : Bool) → HasItemThatNeedsMemory self.now.rows self.now.text more) }
-    {
-        other_event(self.alloc, &self.parser, &self.waiting_text()[..len])
-    }
-
-    // Consumes the form of so many bytes at the front of the waiting text, and returns its event.
-    #[inline(always)]
-    fn next_form(&mut self, len: usize) -> Result<Option<ExtendedEvent>, AllocError>
-        requires { IsFormAt self.old.text len }
-        ensures { (more : Bool) → Emits self.old more self.new result }
-    {
-        match self.report_at(len)? {
-            Some(event) => {
-                self.consume(len);
-                Ok(Some(event))
-            }
-            None => {
-                let event = self.other_form_at(len)?;
-                self.consume(len);
-                Ok(Some(event))
-            }
-        }
-    }
-
-    // Consumes the item at the front of the waiting text, and returns its event. `None` if no item is there. `next_event` is quicker for
-    // characters.
-    #[inline(never)]
+    // Consumes the item at the front of the waiting text, and returns its event. `None` if no item is there.
     fn emit_front(&mut self, maybe_more: bool) -> Result<Option<ExtendedEvent>, AllocError>
         ensures { Emits self.old maybe_more self.new result }
     {
         match self.front(maybe_more) {
-            ExtendedFront::Key(key, len) => {
-                self.consume(len);
-                Ok(Some(ExtendedEvent::Input(InputEvent::Key(key))))
+            ExtendedFront::Character(character, len) => {
+                self.emit(
+                    ExtendedEvent::Input(InputEvent::Key(plain_key(character))),
+                    len,
+                )
             }
-            ExtendedFront::Form(len) => self.next_form(len),
+            ExtendedFront::Key(key, len) => {
+                self.emit(ExtendedEvent::Input(InputEvent::Key(key)), len)
+            }
+            ExtendedFront::Extra(meaning, len) => {
+                let event = meaning.event(self.alloc)?;
+                self.emit(event, len)
+            }
             ExtendedFront::MouseReport(event, len) => {
-                self.consume(len);
-                Ok(Some(ExtendedEvent::Input(InputEvent::Mouse(event))))
+                self.emit(ExtendedEvent::Input(InputEvent::Mouse(event)), len)
             }
             ExtendedFront::Escape => {
-                self.consume(1);
-                Ok(Some(escape_key()))
+                self.emit(ExtendedEvent::Input(InputEvent::Key(escape_key())), 1)
             }
             ExtendedFront::Paste => self.next_paste(maybe_more),
             ExtendedFront::Usual => self.next_of_port(maybe_more),
@@ -262,8 +218,9 @@ impl ExtendedParser {
     /// Consumes the item at the front of the buffer, and returns its event. `None` if there is no item: then all buffered bytes are the
     /// rest, and the parser is unchanged.
     ///
-    /// Pass `maybe_more` as for [`ExtendedParser::parse`]. Memory is needed for the text of a paste or of a key, and for the bytes of a
-    /// sequence. If it is refused, the parser is unchanged and the item still at its front, and the same call may be made again.
+    /// Pass `maybe_more` as for [`ExtendedParser::parse`]. Memory is needed for the text of a paste or of a key, and for the bytes of `Csi`,
+    /// `Osc`, `Dcs` and `Apc`. If it is refused, the parser is unchanged and the item still at its front, and the same call may be made again.
+    /// Any other event needs none.
     #[tactic(auto, using(crate::proofs::lemmas::fronts::LeftBounded::left_flushed, crate::proofs::lemmas::fronts::LeftBounded::left_bounded))]
     pub fn next_event(&mut self, maybe_more: bool) -> Result<Option<ExtendedEvent>, AllocError>
         ensures event { IfOk result (λ found. IfSome found (λ event. Steps self.old.rows self.old.text maybe_more (event ∷ []) self.new.text)) }
@@ -272,6 +229,7 @@ impl ExtendedParser {
         ensures none_same { IfOk result (λ found. IfNone found (self.new ≡ self.old)) }
         ensures refused { OnErr result (HasItemThatNeedsMemory self.old.rows self.old.text maybe_more) }
         ensures refused_same { OnErr result (self.new ≡ self.old) }
+        ensures granted { ¬ HasItemThatNeedsMemory self.old.rows self.old.text maybe_more → IsOk result }
 
         // Without more to come only an open paste stays buffered.
         ensures flushed { maybe_more ≡ false → IfOk result (λ found. IfNone found ((self.new.text ≡ []) ⊎ Begins START self.new.text)) }
@@ -279,13 +237,7 @@ impl ExtendedParser {
         // At most 65536 bytes stay buffered, or an open paste.
         ensures waits { IfOk result (λ found. IfNone found (IsBoundedOrOpenPaste self.new.text)) }
     {
-        match character_front(self.waiting_text()) {
-            Some((character, len)) => {
-                self.consume(len);
-                Ok(Some(ExtendedEvent::Input(InputEvent::Key(plain_key(character)))))
-            }
-            None => self.emit_front(maybe_more),
-        }
+        self.emit_front(maybe_more)
     }
 
     /// What kind of bytes stays buffered, once [`ExtendedParser::next_event`] returned `None`, or `parse` succeeded.
@@ -421,18 +373,32 @@ impl ExtendedParser {
         }
     }
 
-    // Asks for room for one more event. The first request is for as many as the text has bytes, up to `FIRST_ROOM`. A later one makes the
-    // list at most four times as large, since an event has 64 bytes, and a larger list is a copy.
-    #[inline(always)]
-    fn make_room(&self, events: &mut Vec<ExtendedEvent>) -> Result<(), AllocError>
+    // Whether an item is at the front of the waiting text.
+    fn has_item(&self, maybe_more: bool) -> bool
+        ensures some { IsTrue result → HasItem self.now.rows self.now.text maybe_more }
+        ensures none { result ≡ false → IsRest self.now.rows self.now.text maybe_more }
+    {
+        match self.front(maybe_more) {
+            ExtendedFront::Paste => self.parser.has_item(maybe_more),
+            ExtendedFront::Usual => self.parser.has_item(maybe_more),
+            ExtendedFront::Incomplete(_) => false,
+            _ => true,
+        }
+    }
+
+    // Makes room in the list for one more event, if an item is at the front of the waiting text.
+    fn make_room(&self, events: &mut Vec<ExtendedEvent>, maybe_more: bool) -> Result<(), AllocError>
         ensures items { events.new.items ≡ events.old.items }
-        ensures room { OnOk result (vec_len events.new + 1 ≤ vec_capacity events.new) }
+        ensures room { OnOk result (HasItem self.now.rows self.now.text maybe_more → vec_len events.new < vec_capacity events.new) }
+        ensures item { OnErr result (HasItem self.now.rows self.now.text maybe_more) }
     {
         if events.len() < events.capacity() {
             return Ok(());
         }
-        let most = events.len().saturating_mul(3).max(FIRST_ROOM);
-        events.reserve(self.waiting_len().min(most).max(1))
+        if !self.has_item(maybe_more) {
+            return Ok(());
+        }
+        events.reserve(self.waiting_len().min(FIRST_ROOM).max(1))
     }
 
     // Moves the event of the item at the front of the waiting text to the list. False if no item is there. There is room for the event before
@@ -444,7 +410,7 @@ impl ExtendedParser {
     ) -> Result<bool, AllocError>
         ensures { Stores self.old maybe_more events.old.items self.new events.new.items result }
     {
-        self.make_room(events)?;
+        self.make_room(events, maybe_more)?;
         match self.next_event(maybe_more)? {
             Some(event) => {
                 events.push_reserved(event);
@@ -464,6 +430,7 @@ impl ExtendedParser {
         ensures steps { Steps self.old.rows self.old.text maybe_more events.new.items self.new.text }
         ensures same_rows { self.new.rows ≡ self.old.rows }
         ensures rest { OnOk result (IsRest self.new.rows self.new.text maybe_more) }
+        ensures item { OnErr result (HasItem self.new.rows self.new.text maybe_more) }
         ensures few { length events.new.items + length self.new.text ≤ length self.old.text }
     {
         while self.store_next(events, maybe_more)? {}
@@ -496,9 +463,10 @@ impl ExtendedParser {
         ensures not_taken_same { IfErr result (λ e. e.taken ≡ false → self.new ≡ self.old) }
         ensures not_taken_some { IfErr result (λ e. e.taken ≡ false → bytes.now ≢ []) }
 
-        // If they were, exactly the events of the error were consumed.
+        // If they were, exactly the events of the error were consumed, and an item is at the front.
         ensures taken { IfErr result (λ e. e.taken ≡ true
             → Steps self.old.rows (self.old.text ++ bytes.now) maybe_more e.events.items self.new.text) }
+        ensures taken_item { IfErr result (λ e. e.taken ≡ true → HasItem self.new.rows self.new.text maybe_more) }
         ensures taken_few { IfErr result (λ e. e.taken ≡ true
             → length e.events.items + length self.new.text ≤ length self.old.text + length bytes.now) }
     {

@@ -8,6 +8,5 @@ pub mod KnownFronts
 pub mod LeftBounded
 pub mod MouseForms
 pub mod ScannedPlaces
-pub mod SequenceStarts
 pub mod StoredItems
 pub mod WholeRows

@@ -7,11 +7,11 @@ returns-in-None c = c.front_without_escape.ensures c.args.rows c.args.maybe_more
 pub front_of_two_escapes-requires-clause-scanned : goal.front_of_two_escapes-requires-clause-scanned
 front_of_two_escapes-requires-clause-scanned c =
     rw c.saturating_sub.ensures (c.requires.after c.in-Some.after.now c.in-Some.ensures.some
-    (c.in-Some-after_escape.field-0.now, c.in-Some-after_escape.ensures.some))
+    (c.in-Some-follows_escape.field-0.now, c.in-Some-follows_escape.ensures.some))
 
 pub front_of_one_escape-requires-clause-scanned : goal.front_of_one_escape-requires-clause-scanned
 front_of_one_escape-requires-clause-scanned c = c.requires.here
-    (no_second_escape c.args.text.now c.in-Some.after.now c.in-Some.ensures.some c.in-None-after_escape.ensures.none)
+    (no_second_escape c.args.text.now c.in-Some.after.now c.in-Some.ensures.some c.in-None-follows_escape.ensures.none)
 
-pub returns-in-Some-after_escape : goal.returns-in-Some-after_escape
-returns-in-Some-after_escape c = rw c.in-Some.ensures.some c.front_of_two_escapes.ensures
+pub returns-in-Some-follows_escape : goal.returns-in-Some-follows_escape
+returns-in-Some-follows_escape c = rw c.in-Some.ensures.some c.front_of_two_escapes.ensures

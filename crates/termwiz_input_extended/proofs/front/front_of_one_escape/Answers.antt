@@ -40,19 +40,9 @@ returns-in-Begun-row_at c =
       scanned_none c.args.text.now,
     )
 
-pub returns-in-Absent-row_at : goal.returns-in-Absent-row_at
-returns-in-Absent-row_at c = c.front_of_form.ensures c.args.rows
-
-pub front_of_form-requires-clause-no_paste : goal.front_of_form-requires-clause-no_paste
-front_of_form-requires-clause-no_paste c = denied c.begins_paste.ensures.1 c.if-begins_paste.false
-
-pub front_of_short_row-requires-clause-no_paste : goal.front_of_short_row-requires-clause-no_paste
-front_of_short_row-requires-clause-no_paste c = denied c.begins_paste.ensures.1 c.if-begins_paste.false
-
-pub front_of_short_row-requires-clause-row : goal.front_of_short_row-requires-clause-row
-front_of_short_row-requires-clause-row c =
-    short_row_item c.args.text.now c.args.maybe_more c.in-Short.key.now c.in-Short.ensures
-    (denied c.begins_paste.ensures.1 c.if-begins_paste.false)
-
-pub returns-in-Short : goal.returns-in-Short
-returns-in-Short c = c.front_of_short_row.ensures c.args.rows
+pub returns-in-Usual : goal.returns-in-Usual
+returns-in-Usual c = (
+  c.in-Usual.ensures,
+  rw c.copied-in-Usual.ensures (short_row_item c.args.text.now c.args.maybe_more c.in-Short.key.now c.in-Short.ensures.0
+      (denied c.begins_paste.ensures.1 c.if-begins_paste.false)),
+)

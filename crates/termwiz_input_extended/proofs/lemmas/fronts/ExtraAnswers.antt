@@ -1,7 +1,7 @@
 -- Whether a form is an extra sequence, and what extra sequence begins a text by the form that does.
-use Rattle.std.proofs.Common.{◌≡◌, ℕ, List, [], ◌++◌, take, drop, refl, sym, ap, ◌∙◌, subst, append_assoc, append-nil, take-append-drop, Contains}
+use Rattle.std.proofs.Common.{◌≡◌, ℕ, ◌<◌, List, [], ◌++◌, length, take, drop, refl, sym, ap, ◌∙◌, subst, arith, append_assoc, append-nil, length-append, take-append-drop, Contains}
 use Rattle.termwiz_keymap.specs.Bytes.{Begins}
-use Rattle.termwiz_keymap.proofs.lemmas.lists.CommonPrefixes.{Overlaps, overlap, append-some}
+use Rattle.termwiz_keymap.proofs.lemmas.lists.CommonPrefixes.{Overlaps, overlap, append-some, length-some}
 use Rattle.termwiz_keymap.proofs.lemmas.lists.CommonPrefixes.Overlaps.{within, past}
 use Rattle.termwiz_keys.specs.declared.types.KeyEvent.{KeyEvent}
 use Rattle.termwiz_keys.specs.declared.types.MouseEvent.{MouseEvent}
@@ -17,6 +17,9 @@ use Rattle.termwiz_extended_events.specs.Meanings.{event_of, IsKeyOrPosition}
 use Rattle.termwiz_extended_grammar.specs.Forms.{IsForm}
 use Rattle.termwiz_extended_grammar.specs.ExtraSequences.{IsFree, IsExtra, StartsWithExtra, IsUnfinishedExtra}
 use Rattle.termwiz_input_extended.specs.ExtendedFronts.{IsReported, IsSomeExtra}
+use Rattle.termwiz_extended_grammar.proofs.lemmas.forms.FormBytes.{some_end}
+use Rattle.termwiz_extended_grammar.proofs.lemmas.forms.FormKinds.{Kind, form_kind, bracketed_some}
+use Rattle.termwiz_extended_grammar.proofs.lemmas.forms.FormKinds.Kind.{bracketed, keypad, quoted}
 use Rattle.termwiz_extended_grammar.proofs.lemmas.forms.FormEnds.{form_ends, sequence_after_form}
 use Rattle.termwiz_extended_grammar.proofs.lemmas.forms.ExtraFacts.{free_from_none}
 
@@ -81,6 +84,20 @@ pub row_not_extra : (rows : Rows) (text : List ℕ) (key : KeyEvent) → Contain
     → (IsReported rows text → ⊥) → IsSomeExtra rows text → ⊥
 row_not_extra Port text key row never h = row_is_no_extra text key h.0 row h.1
 row_not_extra Kitty text key row never h = never (refl, extra_row_is_reported text key h.0 row h.1)
+
+-- the event of an extra sequence is that of its bytes
+pub event_is : (rows : Rows) (text : List ℕ) → IsSomeExtra rows text → IsExtra rows text (event_of text)
+event_is rows text is = record { is_form = is.1.is_form; is_free = is.1.is_free; means = refl }
+
+-- a form has three bytes or more
+pub form_long : (text : List ℕ) → IsForm text → 2 < length text
+form_long text form = go (form_kind text form)
+  where
+    go : Kind text → 2 < length text
+    go (bracketed r e b) = omega (arith, ap length e, length-some r (bracketed_some r b))
+    go (keypad letter e is) = omega (arith, ap length e)
+    go (quoted introducer body end e is each end_is) =
+        omega (arith, ap length e, length-append body end, length-some end (some_end introducer end end_is))
 
 module _ (rows : Rows) (u : List ℕ) (len : ℕ) (form : IsForm (take len u)) where
   -- a form that begins the text is the only one

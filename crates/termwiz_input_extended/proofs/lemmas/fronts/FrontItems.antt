@@ -10,10 +10,10 @@ use Rattle.termwiz_grammar.specs.Grammar.{IsBeginning, IsUnfinishedSequence}
 use Rattle.termwiz_extended_events.specs.declared.types.ExtendedEvent.{ExtendedEvent}
 use Rattle.termwiz_extended_events.specs.declared.types.ExtendedEvent.TheVariants.{Input}
 use Rattle.termwiz_extended_events.specs.declared.types.Rows.{Rows}
-use Rattle.termwiz_extended_events.specs.Meanings.{event_of}
+use Rattle.termwiz_extended_events.specs.Meanings.{event_of, NeedsMemory}
 use Rattle.termwiz_extended_grammar.specs.Forms.{IsUnfinishedForm}
 use Rattle.termwiz_extended_grammar.specs.ExtraSequences.{IsExtra, StartsWithExtra, IsUnfinishedExtra}
-use Rattle.termwiz_extended_grammar.specs.ExtendedGrammar.{BeginsKnown, IsRest, Stands, Steps}
+use Rattle.termwiz_extended_grammar.specs.ExtendedGrammar.{BeginsKnown, HasItem, IsRest, Stands, Steps}
 use Rattle.termwiz_extended_grammar.specs.ExtendedGrammar.Stands.{extra, lone_escape, usual}
 use Rattle.termwiz_extended_grammar.specs.ExtendedLaws.{HasNoExtra}
 use Rattle.termwiz_extended_grammar.proofs.lemmas.forms.ExtraFacts.{form_from_unfinished}
@@ -58,16 +58,20 @@ pub own_step : (rows : Rows) (u left : List ℕ) (event : InputEvent) (f : Bool)
 own_step rows u left event f own (bytes, rest, stands, splits, same) =
     (bytes, rest, own_item rows u bytes event f own stands, splits, same)
 
+-- an item of the port is one here
+pub own_has_item : (rows : Rows) (u : List ℕ) (f : Bool) → IsPortsOwn rows u f → port.HasItem u f → HasItem rows u f
+own_has_item rows u f own (bytes, event, stands) = (bytes, Input event, own_item rows u bytes event f own stands)
+
 -- a paste of the port needs memory
 pub own_refused : (rows : Rows) (u : List ℕ) (f : Bool) → IsPortsOwn rows u f → port.HasPaste u f → HasItemThatNeedsMemory rows u f
 own_refused rows u f own (bytes, text, stands) = record {
   bytes = bytes;
   event = Input (Paste text);
   stands = own_item rows u bytes (Paste text) f own stands;
-  needs = inl (text, refl);
+  needs = tt;
 }
 
--- an extra sequence is one step, and may need memory
+-- an extra sequence is one step, and needs memory if its event does
 pub extra_step : (rows : Rows) (u : List ℕ) (len : ℕ) (event : ExtendedEvent) (f : Bool) → IsExtra rows (take len u) event
     → (made : ExtendedEvent) → made ≡ event_of (take len u) → Steps rows u f (made ∷ []) (drop len u)
 extra_step rows u len event f is made means = (
@@ -79,12 +83,12 @@ extra_step rows u len event f is made means = (
 )
 
 pub extra_refused : (rows : Rows) (u : List ℕ) (len : ℕ) (event : ExtendedEvent) (f : Bool) → IsExtra rows (take len u) event
-    → HasItemThatNeedsMemory rows u f
-extra_refused rows u len event f is = record {
+    → NeedsMemory event → HasItemThatNeedsMemory rows u f
+extra_refused rows u len event f is needs = record {
   bytes = take len u;
   event = event;
   stands = extra (take len u) event is (drop len u, sym (take-append-drop len u));
-  needs = inr is;
+  needs = needs;
 }
 
 -- the Escape before an extra sequence is one step

@@ -1,5 +1,5 @@
 -- Where a sequence of the port is at the front of a text, or a character, the text is the port's own.
-use Rattle.std.proofs.Common.{◌≡◌, ◌≢◌, ◌⊎◌, inl, inr, ⊎_elim, ℕ, ◌<◌, ◌≤◌, Bool, List, [], ◌∷◌, ◌++◌, length, take, drop, refl, sym, ap, ◌∙◌, subst, arith, append_assoc, append-nil, take-append-drop, length-append, length-take-le, get_or, Contains}
+use Rattle.std.proofs.Common.{◌≡◌, ◌≢◌, ◌⊎◌, ⊎_elim, ℕ, ◌<◌, ◌≤◌, Bool, List, [], ◌∷◌, ◌++◌, length, take, drop, refl, sym, ap, ◌∙◌, subst, arith, append_assoc, append-nil, take-append-drop, length-take-le, get_or}
 use Rattle.std.specs.Prelude.{codes, slice_index_or, Option, Some, None, IfSome}
 use Rattle.termwiz_keymap.specs.Bytes.{Begins}
 use Rattle.termwiz_keymap.proofs.lemmas.lists.CommonPrefixes.{Overlaps, overlap, append-some}
@@ -13,9 +13,6 @@ use Rattle.termwiz_keys.specs.declared.types.InputEvent.TheVariants.{Key, Mouse}
 use Rattle.termwiz_grammar.specs.MouseReports.{IsMouseReport}
 use Rattle.termwiz_grammar.specs.Sequences.{Meaning, IsSequence}
 use Rattle.termwiz_grammar.specs.Sequences.Meaning.{Row}
-use Rattle.termwiz_grammar.specs.Table.{rows as table_rows}
-use Rattle.termwiz_grammar.specs.Grammar.{IsOpen, IsUnfinishedSequence, IsUnfinishedCharacter}
-use Rattle.termwiz_grammar.proofs.lemmas.characters.CharacterPrefixes.{sequence_finished}
 use Rattle.termwiz_grammar.proofs.lemmas.table.SequenceFacts.{start, start_is_sequence}
 use Rattle.termwiz_input.specs.Matches.{IsItemAt, character_of}
 use Rattle.termwiz_input.specs.PrintableAscii.{IsPrintableAscii}
@@ -24,9 +21,7 @@ use Rattle.termwiz_input.proofs.lemmas.heads.StartsNoSequence.{apart_from_sequen
 use Rattle.termwiz_input.proofs.lemmas.items.ItemByHead.{alt_row_stands, character_stands, row_stands}
 use Rattle.termwiz_input.proofs.lemmas.items.PrintableAscii.{printable_run}
 use Rattle.termwiz_extended_events.specs.declared.types.ExtendedEvent.{ExtendedEvent}
-use Rattle.termwiz_extended_events.specs.declared.types.ExtendedEvent.TheVariants.{Input, Csi, Key as Report}
-use Rattle.termwiz_extended_events.specs.declared.types.PlainReport.{PlainReport}
-use Rattle.termwiz_extended_events.specs.KeyReports.{plain_report}
+use Rattle.termwiz_extended_events.specs.declared.types.ExtendedEvent.TheVariants.{Input, Csi}
 use Rattle.termwiz_extended_events.specs.declared.types.Rows.{Rows}
 use Rattle.termwiz_extended_events.specs.declared.types.Rows.TheVariants.{Port, Kitty}
 use Rattle.termwiz_extended_events.specs.Meanings.{event_of, IsKeyOrPosition}
@@ -34,13 +29,9 @@ use Rattle.termwiz_extended_events.proofs.Examples.{written_out}
 use Rattle.termwiz_extended_grammar.specs.Forms.{IsForm}
 use Rattle.termwiz_extended_grammar.specs.ExtraSequences.{IsExtra, StartsWithExtra, IsUnfinishedExtra}
 use Rattle.termwiz_extended_grammar.specs.ExtendedGrammar.{Steps}
-use Rattle.termwiz_extended_grammar.proofs.lemmas.forms.FormBytes.{form_shape}
 use Rattle.termwiz_extended_grammar.proofs.lemmas.forms.FormEnds.{sequence_after_form, form_after_sequence}
-use Rattle.termwiz_input_extended.specs.declared.front.FrontRow.{FrontRow}
-use Rattle.termwiz_input_extended.specs.declared.front.FrontRow.TheVariants.{Long, Short, Begun, Absent}
-use Rattle.termwiz_input_extended.specs.ExtendedFronts.{IsFormAt, IsFormEvent, IsFrontRow, IsLongRowAt, IsOwnCharacter, IsPlainReportAt, IsPortsOwn, IsRowFront, IsShortRowAt}
-use Rattle.termwiz_input_extended.proofs.lemmas.fronts.ExtraAnswers.{no_extra_starts, no_extra_unfinished, reported_event_is}
-use Rattle.termwiz_input_extended.proofs.lemmas.fronts.FrontItems.{extra_step, not_two_escapes, own_after_escape, own_after_two_escapes, own_item, own_without_escape, two_escapes_finished, waits_for_sequence}
+use Rattle.termwiz_input_extended.specs.ExtendedFronts.{IsLongRowAt, IsPortsOwn, IsShortRowAt}
+use Rattle.termwiz_input_extended.proofs.lemmas.fronts.FrontItems.{not_two_escapes, own_after_escape, own_after_two_escapes, own_item, own_without_escape, two_escapes_finished}
 use Rattle.termwiz_input_extended.proofs.lemmas.fronts.MouseForms.{report_escape, report_item, report_no_extra, report_not_unfinished, report_one}
 
 -- a sequence of more than two bytes properly begins no form
@@ -117,13 +108,15 @@ own_high rows u f high = own_without_escape rows u f
 
 -- where the first byte is from 0x80 on, a character is an item
 pub high_character : (u : List ℕ) → 0 < length u → 0x80 ≤ slice_index_or u 0 0
-    → IfSome (character_of u) (λ found. (rows : Rows) (more : Bool) → IsOwnCharacter rows u more found.0 found.1)
+    → IfSome (character_of u) (λ found. (rows : Rows) (more : Bool)
+    → IsPortsOwn rows u more × IsItemAt u more (Key (plain found.0)) found.1)
 high_character u some high = go (character_of u) refl
   where
     go : (found : Option (ℕ × ℕ)) → character_of u ≡ found
-        → IfSome found (λ found. (rows : Rows) (more : Bool) → IsOwnCharacter rows u more found.0 found.1)
+        → IfSome found (λ found. (rows : Rows) (more : Bool)
+        → IsPortsOwn rows u more × IsItemAt u more (Key (plain found.0)) found.1)
     go None e = tt
-    go (Some (c, n)) e = λ rows more. record { own = own_high rows u more high; item = character_item u more c n some high e }
+    go (Some (c, n)) e = λ rows more. (own_high rows u more high, character_item u more c n some high e)
 
 -- an item of the port's is one step
 pub item_step : (rows : Rows) (u : List ℕ) (event : InputEvent) (len : ℕ) (f : Bool) → IsPortsOwn rows u f → IsItemAt u f event len
@@ -135,37 +128,6 @@ item_step rows u event len f own is = (
   sym (take-append-drop len u),
   refl,
 )
-
--- A row that has the form of an extra sequence is the longest sequence at the front, and nothing that comes changes it.
-module _ (u : List ℕ) (k : KeyEvent) (len : ℕ) (form : IsForm (take len u)) (row : Contains table_rows (take len u, k)) where
-  known : IsSequence (take len u) (Row k)
-  unfolding IsSequence
-  known = row
-
-  there : Begins (take len u) u
-  there = (drop len u, sym (take-append-drop len u))
-
-  at_most : (other : List ℕ) (m : Meaning) → IsSequence other m → Begins other u → length other ≤ length (take len u)
-  at_most other m it c = go (overlap other c.0 (take len u) (drop len u) (take-append-drop len u ∙ c.1))
-    where
-      go : Overlaps other c.0 (take len u) (drop len u) → length other ≤ length (take len u)
-      go (within t e f) = omega (arith, ap length e, length-append other t)
-      go (past t n e f) =
-          absurd (n (sequence_after_form (take len u) t m form (subst (λ z. IsSequence z m) e it)))
-
-  row_closed : (f : Bool) → IsOpen u f → ⊥
-  row_closed f opens = ⊎_elim
-      (λ (h : IsUnfinishedSequence u). append-some (drop len u) h.tail h.longer
-      (sequence_after_form (take len u) (drop len u ++ h.tail) h.meaning form
-      (subst (λ z. IsSequence z h.meaning)
-      (ap (λ z. z ++ h.tail) (sym (take-append-drop len u)) ∙ append_assoc (take len u) (drop len u) h.tail) h.is_sequence)))
-      (λ (h : IsUnfinishedCharacter u). sequence_finished (take len u) u (Row k) known there opens.some h)
-      opens.beginning
-
-  pub row_item : (f : Bool) → len ≤ length u → (Begins START u → ⊥) → IsItemAt u f (Key k) len
-  row_item f inside never = row_stands u f k len (row_closed f)
-      (inside, record { is_sequence = known; begins = there; longest = at_most }) never
-      (λ e. let s = form_shape (take len u) form in absurd (cc (e, s.2)))
 
 -- a row of three or more bytes is the port's own under `Rows::Port`, and an item
 module _ (rows : Rows) (u : List ℕ) (f : Bool) (key : KeyEvent) (len : ℕ) (is : IsLongRowAt rows u f key len) where
@@ -189,36 +151,6 @@ module _ (rows : Rows) (u : List ℕ) (f : Bool) (key : KeyEvent) (len : ℕ) (i
 pub short_row_item : (u : List ℕ) (f : Bool) (key : KeyEvent) → IsShortRowAt u f key → (Begins START u → ⊥) → IsItemAt u f (Key key) 2
 short_row_item u f key is no_paste = row_stands u f key 2 is.closed is.row no_paste
     (λ e. let one : length (take 2 u) ≡ 1 = ap length e in absurd (omega (arith, one, is.row.0, length-take-le 2 u is.row.0)))
-
--- so a look for a row tells what stands at the text
-pub row_found : (rows : Rows) (u : List ℕ) (f : Bool) (found : FrontRow) → Begins ESC u → (Begins (ESC ++ ESC) u → ⊥)
-    → (Begins START u → ⊥) → IsFrontRow rows u f found → IsRowFront rows u f found
-row_found rows u f (Long key len) escape one no_paste is = (
-  is.row.0,
-  item_step rows u (Key key.now) len f (long_row_own rows u f key.now len is escape one) (long_row_item rows u f key.now len is no_paste),
-)
-row_found rows u f (Short key) escape one no_paste is = short_row_item u f key.now is no_paste
-row_found rows u f Begun escape one no_paste is = waits_for_sequence rows u f escape one is.0 is.1
-row_found rows u f Absent escape one no_paste is = tt
-
--- a form at the front is one step, as an extra sequence or as a row
-pub form_step : (rows : Rows) (u : List ℕ) (len : ℕ) (event : ExtendedEvent) (f : Bool) → IsFormAt u len
-    → IsFormEvent rows (take len u) event → Steps rows u f (event ∷ []) (drop len u)
-form_step rows u len event f at (inl is) = extra_step rows u len event f is event is.means
-form_step rows u len event f at (inr (key, same, row, never)) =
-    let own = own_after_escape rows u f at.escape at.one (no_extra_starts rows u len at.plain.form never)
-    (λ m. no_extra_unfinished rows u len at.plain.form) in
-    subst (λ e. Steps rows u f (e ∷ []) (drop len u)) (sym same)
-    (item_step rows u (Key key) len f own (row_item u key len at.plain.form row f at.plain.within at.no_paste))
-
--- a report of a key that says no more than its manner is one step
-pub plain_report_step : (u : List ℕ) (report : PlainReport) (len : ℕ) (f : Bool) → IsPlainReportAt u report len
-    → Steps Kitty u f (Report (plain_report report) ∷ []) (drop len u)
-plain_report_step u report len f at =
-    let event = Report (plain_report report) in
-    extra_step Kitty u len event f
-    (reported_event_is Kitty (take len u) event at.form.form (λ h. at.form.no_mouse h.0 h.1)
-    (refl, subst IsKeyOrPosition at.means tt) at.means) event at.means
 
 -- a mouse report is one step
 pub mouse_report_step : (rows : Rows) (u : List ℕ) (event : MouseEvent) (len : ℕ) (f : Bool) → len ≤ length u

@@ -1,5 +1,5 @@
 -- Whether a text is a row of the table as a whole, or properly begins one, by a lookup.
-use Rattle.std.proofs.Common.{◌≡◌, ⊎_elim, ℕ, ◌<◌, ◌≤◌, List, ◌++◌, length, refl, ap, subst, arith, Contains, Option, Some, None, IsSome}
+use Rattle.std.proofs.Common.{◌≡◌, ⊎_elim, ℕ, ◌<◌, ◌≤◌, List, ◌++◌, length, take, refl, ap, subst, arith, Contains, Option, Some, None, IsSome}
 use Rattle.std.specs.FinMap.{get}
 use Rattle.std.proofs.Math.Seq.{take-length}
 use Rattle.std.proofs.lemmas.List.{take_all}
@@ -11,6 +11,7 @@ use Rattle.termwiz_grammar.specs.Sequences.Meaning.{Row}
 use Rattle.termwiz_grammar.specs.Grammar.{IsUnfinishedSequence}
 use Rattle.termwiz_grammar.specs.Table.{rows, table}
 use Rattle.termwiz_grammar.proofs.lemmas.table.TableAsMap.{row_from_table, table_from_row}
+use Rattle.termwiz_input_extended.specs.ExtendedFronts.{HasNoLongRow}
 
 -- the longest row that begins a text, where it is as long as the text
 pub row_whole : (u : List ℕ) (len : ℕ) (key : KeyEvent) → IsLongestKey table u len key → len ≡ length u
@@ -48,3 +49,13 @@ row_unfinished u (tail, longer, stored) = go (get table (u ++ tail)) refl stored
       is_sequence = row_from_table (u ++ tail) key e;
     }
     go None e is = absurd (cc (is))
+
+-- where the longest row that begins a text has two bytes at most, or none begins it, none of three or more does
+pub no_longer_row : (u : List ℕ) (len : ℕ) (key : KeyEvent) → len ≤ 2 → IsLongestKey table u len key → HasNoLongRow u
+no_longer_row u len key short is n other long within row =
+    let gone : get table (take n u) ≡ None = is.longest n (omega arith) within in
+    cc (gone, table_from_row (take n u) other row)
+
+pub no_row_begins : (u : List ℕ) → NoKeyBegins table u → HasNoLongRow u
+no_row_begins u none n other long within row =
+    let gone : get table (take n u) ≡ None = none n within in cc (gone, table_from_row (take n u) other row)
