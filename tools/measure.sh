@@ -1,7 +1,7 @@
 #!/usr/bin/env bash
 # Measures the parser in process, on this machine, and another commit's beside it.
 #
-#     tools/measure.sh [--against COMMIT | --extended ROWS] [--by-event] [--reads LIST] [--runs N] [--keep FOLDER]
+#     tools/measure.sh [--against COMMIT] [--extended ROWS] [--by-event] [--reads LIST] [--runs N] [--keep FOLDER]
 #                      [new | CORPUS[:MEGABYTES]]..
 #
 # It builds a static library over termwiz_input (tools/measure/feed.rt.txt) and a C program that times it (measure.c), from the files
@@ -9,13 +9,14 @@
 # programs in turn, N times each (9), one pass a process, and prints a table: the least time, the middle one, and the least per event and
 # in megabytes per second.
 #
-# With --extended it measures the extended parser, which reads the rows of the sequence table as ROWS says (port or kitty), and beside it
-# InputParser. With --by-event a loop over next_event is timed (next.rt.txt) in place of parse_as_vec.
+# With --extended it measures the extended parser, which reads the rows of the sequence table as ROWS says (port or kitty). Beside it
+# is InputParser or, with --against, the extended parser of COMMIT. With --by-event a loop over next_event is timed (next.rt.txt) in place of
+# parse_as_vec, and so it is with both --against and --extended.
 #
 # `new` is InputParser::new, and the drop of a parser that read nothing: the first in its process, and the least of twenty more. A CORPUS
-# is that many megabytes (1 if none are given) of typed, utf8, keys, csiu, mouse, mixed, escapes, cut or paste (see
-# tools/measure/corpora.py), which the parser gets in reads of each size in LIST (64,4096). If nothing is named, it measures new and all
-# corpora.
+# is that many megabytes (1 if none are given) of typed, utf8, keys, csiu, mouse, mixed, escapes, cut or paste, or of a reply: cursor, focus,
+# device or release (see tools/measure/corpora.py). The parser gets it in reads of each size in LIST (64,4096). If nothing is named, it
+# measures new and all corpora, the replies only with --extended.
 #
 # It needs rt, cc and python3. It says on standard error what it does.
 set -eu
@@ -36,15 +37,15 @@ while [ $# -gt 0 ]; do
     esac
 done
 case $extended in '' | port | kitty) ;; *) refuse_word "$extended" ;; esac
-[ -z "$against" ] || [ -z "$extended" ] || refuse '--against and --extended do not go together'
+[ -z "$against" ] || [ -z "$extended" ] || source=next.rt.txt
 # (--runs 0 only builds and writes the corpora, for c_measure.sh.)
 [ "$runs" = 0 ] || want_number "$runs" --runs
 for read in ${reads//,/ }; do want_number "$read" --reads; done
-[ $# -gt 0 ] || set -- new typed utf8 keys csiu mouse mixed escapes cut paste
+[ $# -gt 0 ] || set -- new typed utf8 keys csiu mouse mixed escapes cut paste ${extended:+cursor focus device release}
 for case in "$@"; do
     case ${case%:*} in
         new) [ "$case" = new ] || refuse_word "$case" ;;
-        typed | utf8 | keys | csiu | mouse | mixed | escapes | cut | paste) [[ $case != *:* ]] || want_number "${case#*:}" "$case" ;;
+        typed | utf8 | keys | csiu | mouse | mixed | escapes | cut | paste | cursor | focus | device | release) [[ $case != *:* ]] || want_number "${case#*:}" "$case" ;;
         *) refuse_word "$case" ;;
     esac
 done
@@ -105,7 +106,7 @@ cp "$top/crates.txt" "$work/here/listed"
 warm "$work/here"
 progress 'proving and building what is here, which takes some seconds after a first build, and else minutes'
 build "$work/here" "$extended"
-if [ -n "$extended" ]; then
+if [ -n "$extended" ] && [ -z "$against" ]; then
     trees="here other"
     emptied "$work/other"
     cp -a "$work/here/crates" "$work/here/listed" "$work/other/"
@@ -121,7 +122,7 @@ if [ -n "$against" ]; then
     mv "$work/other/crates.txt" "$work/other/listed"
     warm "$work/other"
     progress "proving and building $against"
-    build "$work/other"
+    build "$work/other" "$extended"
 fi
 
 mkdir -p "$work/corpora"
@@ -144,4 +145,4 @@ for run in $(seq "$runs"); do
         done
     done
 done
-[ "$runs" = 0 ] || python3 "$top/tools/measure/table.py" "$work" "${extended:+InputParser}$against"
+[ "$runs" = 0 ] || python3 "$top/tools/measure/table.py" "$work" "${against:-${extended:+InputParser}}"

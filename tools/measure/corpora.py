@@ -9,6 +9,10 @@ mixed   mostly typed words, with characters, keys and a paste now and then betwe
 escapes lone escapes
 cut     beginnings of keys that are cut off, and escapes
 paste   one bracketed paste
+cursor  replies to a question for the cursor's position (DSR 6)
+focus   focus reports
+device  primary device attributes (DA1)
+release key releases of Kitty's keyboard protocol
 
 A corpus ends with an event, so it is some bytes shorter than its name says. A megabyte is 2 ** 20 bytes."""
 import random
@@ -87,6 +91,26 @@ def cut(pick):
         yield pick.choice(CUT)
 
 
+def cursor(pick):
+    while True:
+        yield ESC + b"[%d;%dR" % (pick.randint(1, 60), pick.randint(1, 200))
+
+
+def focus(pick):
+    while True:
+        yield ESC + b"[%c" % pick.choice(b"IO")
+
+
+def device(pick):
+    while True:
+        yield ESC + b"[?%d;1;2;4;6;22c" % pick.choice([61, 62, 63, 64, 65])
+
+
+def release(pick):
+    while True:
+        yield ESC + b"[%d;%d:3u" % (pick.randint(97, 122), pick.choice([1, *MODIFIERS]))
+
+
 def whole_events(events, size):
     out = bytearray()
     for event in events:
@@ -100,7 +124,8 @@ def paste(pick, size):
     return ESC + b"[200~" + whole_events(lines, size - 12) + ESC + b"[201~"
 
 
-EVENTS = {each.__name__: each for each in (typed, keys, csiu, utf8, mouse, mixed, escapes, cut)}
+SOURCES = (typed, keys, csiu, utf8, mouse, mixed, escapes, cut, cursor, focus, device, release)
+EVENTS = {each.__name__: each for each in SOURCES}
 
 
 def corpus(name, size):

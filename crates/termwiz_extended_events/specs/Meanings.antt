@@ -1,9 +1,9 @@
 -- What a sequence means that the port doesn't know.
-use Rattle.std.specs.Prelude.{◌≢◌, ℕ, ◌==◌, List, [], ◌∷◌, Option, Some, if◌then◌else◌, option_map, unwrap_or}
+use Rattle.std.specs.Prelude.{◌≡◌, ◌≢◌, ℕ, ◌==◌, List, [], ◌∷◌, Option, Some, if◌then◌else◌, option_map, unwrap_or}
 use Rattle.termwiz_keys.specs.declared.types.MouseEvent.{MouseEvent}
 use Rattle.termwiz_keys.specs.declared.types.InputEvent.TheVariants.{Mouse, Paste}
 use Rattle.termwiz_extended_events.specs.declared.types.ExtendedEvent.{ExtendedEvent}
-use Rattle.termwiz_extended_events.specs.declared.types.ExtendedEvent.TheVariants.{Input, Csi, Osc, Dcs, Apc, Key, CursorPosition}
+use Rattle.termwiz_extended_events.specs.declared.types.ExtendedEvent.TheVariants.{Input, Csi, Osc, Dcs, Apc, Key, FocusGained, FocusLost, CursorPosition, Resize, KeyboardFlags}
 use Rattle.termwiz_extended_events.specs.declared.meanings.Meaning.{Meaning}
 use Rattle.termwiz_extended_events.specs.declared.meanings.Meaning.TheVariants as meaning
 use Rattle.termwiz_extended_events.specs.Numbers.{before_end, first_some}
@@ -66,11 +66,20 @@ NeedsMemory (Dcs bytes) = Unit {0}
 NeedsMemory (Apc bytes) = Unit {0}
 NeedsMemory _ = ⊥
 
--- the event of a meaning
+-- the event of a meaning; none if a report in it spells no text
 abbrev pub event_from : Meaning → Option ExtendedEvent
-event_from (meaning.Event event) = Some event
+event_from meaning.FocusGained = Some FocusGained
+event_from meaning.FocusLost = Some FocusLost
+event_from (meaning.CursorPosition row column) = Some (CursorPosition row column)
+event_from (meaning.Resize rows columns height width) = Some (Resize rows columns height width)
+event_from (meaning.KeyboardFlags flags) = Some (KeyboardFlags flags)
+event_from (meaning.Mouse event) = Some (mouse event)
 event_from (meaning.Key report) = option_map Key (spelled_report report)
 event_from (meaning.Csi bytes) = Some (Csi bytes.now)
 event_from (meaning.Osc bytes) = Some (Osc bytes.now)
 event_from (meaning.Dcs bytes) = Some (Dcs bytes.now)
 event_from (meaning.Apc bytes) = Some (Apc bytes.now)
+
+-- a meaning is there exactly if the event is, and is its meaning
+abbrev pub IsMeant : Option Meaning → Option ExtendedEvent → Type 0
+IsMeant found event = option_map event_from found ≡ option_map (λ e. Some e) event

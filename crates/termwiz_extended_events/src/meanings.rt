@@ -1,7 +1,7 @@
 // What a sequence means that the port doesn't know.
-ghost use Rattle.std.specs.Prelude.{◌≡◌, ◌↔◌, IfOk, IfSome, IsSome, IsTrue, OnErr, Some, option_map};
+ghost use Rattle.std.specs.Prelude.{◌≡◌, ◌↔◌, IfOk, IfSome, IsSome, IsTrue, OnErr, Some};
 ghost use Rattle.termwiz_extended_events.specs.Meanings as meaning;
-ghost use Rattle.termwiz_extended_events.specs.Meanings.{reported, command_text, string_text, event_after, event_from, IsKeyOrPosition, NeedsMemory};
+ghost use Rattle.termwiz_extended_events.specs.Meanings.{reported, command_text, string_text, event_after, event_from, IsKeyOrPosition, IsMeant, NeedsMemory};
 
 use crate::fields::before_end;
 pub use crate::key_reports::SpelledReport;
@@ -9,7 +9,7 @@ use crate::key_reports::{console_key, key_report, keypad_key};
 use crate::replies::{focus, mouse_report, reply};
 use crate::types::{ExtendedEvent, SequenceBytes};
 use std::alloc::{AllocError, Global};
-use termwiz_keys::types::InputEvent;
+use termwiz_keys::types::{InputEvent, MouseEvent};
 
 // What ends a string: ESC and a backslash.
 const STRING_END: &[u8] = b"\x1b\\";
@@ -17,11 +17,35 @@ const STRING_END: &[u8] = b"\x1b\\";
 // What may end a command instead: the byte BEL.
 const BELL: &[u8] = b"\x07";
 
-/// What a sequence means, without memory: a text and bytes are still in the sequence. [`Meaning::event`] makes the event.
+/// What a sequence means: its event without memory, since a text and bytes are still in the sequence. [`Meaning::event`] makes the event.
 #[derive(Drop)]
 pub enum Meaning<'t> {
-    /// An event that holds no memory.
-    Event(ExtendedEvent),
+    /// The terminal's window gained the focus.
+    FocusGained,
+    /// The terminal's window lost the focus.
+    FocusLost,
+    /// The position of the cursor.
+    CursorPosition {
+        /// The row.
+        row: u16,
+        /// The column.
+        column: u16,
+    },
+    /// The terminal has a new size.
+    Resize {
+        /// The number of rows.
+        rows: u16,
+        /// The number of columns.
+        columns: u16,
+        /// The height in pixels.
+        height: u16,
+        /// The width in pixels.
+        width: u16,
+    },
+    /// The flags of Kitty's keyboard protocol.
+    KeyboardFlags(u8),
+    /// A mouse report.
+    Mouse(MouseEvent),
     /// A key report.
     Key(SpelledReport<'t>),
     /// A control sequence that no rule reads: its bytes after ESC `[`.
@@ -41,25 +65,14 @@ fn bytes(alloc: Global, text: &[u8]) -> Result<SequenceBytes, AllocError>
     Ok(SequenceBytes::new(text.to_vec(alloc)?))
 }
 
-// Whether an event is a report of a key, or of the position of the cursor.
-fn is_of_key_or_position(event: &ExtendedEvent) -> bool
-    ensures { IsTrue result ↔ IsKeyOrPosition event.now }
-{
-    match event {
-        ExtendedEvent::Key(_) => true,
-        ExtendedEvent::CursorPosition { .. } => true,
-        _ => false,
-    }
-}
-
 impl<'t> Meaning<'t> {
     /// Whether the event is a report of a key, or of the position of the cursor.
     pub fn is_key_or_position(&self) -> bool
         ensures { IsTrue result ↔ IfSome (event_from self.now) IsKeyOrPosition }
     {
         match self {
-            Meaning::Event(event) => is_of_key_or_position(event),
             Meaning::Key(_) => true,
+            Meaning::CursorPosition { .. } => true,
             _ => false,
         }
     }
@@ -71,7 +84,24 @@ impl<'t> Meaning<'t> {
         ensures refused { OnErr result (IfSome (event_from self.entry) NeedsMemory) }
     {
         match self {
-            Meaning::Event(event) => Ok(event),
+            Meaning::FocusGained => Ok(ExtendedEvent::FocusGained),
+            Meaning::FocusLost => Ok(ExtendedEvent::FocusLost),
+            Meaning::CursorPosition { row, column } => {
+                Ok(ExtendedEvent::CursorPosition { row, column })
+            }
+            Meaning::Resize {
+                rows,
+                columns,
+                height,
+                width,
+            } => Ok(ExtendedEvent::Resize {
+                rows,
+                columns,
+                height,
+                width,
+            }),
+            Meaning::KeyboardFlags(flags) => Ok(ExtendedEvent::KeyboardFlags(flags)),
+            Meaning::Mouse(event) => Ok(ExtendedEvent::Input(InputEvent::Mouse(event))),
             Meaning::Key(report) => Ok(ExtendedEvent::Key(report.whole(alloc)?)),
             Meaning::Csi(text) => Ok(ExtendedEvent::Csi(bytes(alloc, text)?)),
             Meaning::Osc(text) => Ok(ExtendedEvent::Osc(bytes(alloc, text)?)),
@@ -84,19 +114,19 @@ impl<'t> Meaning<'t> {
 // What follows ESC [, by the first rule that fits.
 #[tactic(auto, unfolding(crate::specs::Meanings::reported))]
 fn reported(t: &[u8]) -> Option<Meaning<'_>>
-    ensures { option_map event_from result ≡ option_map (λ event. Some event) (reported t.now) }
+    ensures { IsMeant result (reported t.now) }
 {
-    if let Some(event) = focus(t) {
-        return Some(Meaning::Event(event));
+    if let Some(meaning) = focus(t) {
+        return Some(meaning);
     }
     if let Some(report) = key_report(t) {
         return Some(Meaning::Key(report));
     }
-    if let Some(event) = reply(t) {
-        return Some(Meaning::Event(event));
+    if let Some(meaning) = reply(t) {
+        return Some(meaning);
     }
-    if let Some(report) = mouse_report(t) {
-        return Some(Meaning::Event(ExtendedEvent::Input(InputEvent::Mouse(report))));
+    if let Some(event) = mouse_report(t) {
+        return Some(Meaning::Mouse(event));
     }
     match console_key(t) {
         Some(report) => Some(Meaning::Key(SpelledReport::plain(report))),

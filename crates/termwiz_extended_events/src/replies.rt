@@ -3,44 +3,45 @@ ghost use Rattle.std.specs.Prelude.{◌≡◌, ◌≤◌, Some};
 ghost use Rattle.termwiz_base.specs.Mouse.{final_press, largest_code};
 ghost use Rattle.termwiz_grammar.specs.MouseReports.{mouse_event};
 ghost use Rattle.termwiz_extended_events.specs.FieldsLeft.{fields_left};
+ghost use Rattle.termwiz_extended_events.specs.Meanings.{IsMeant};
 ghost use Rattle.termwiz_extended_events.specs.Numbers.{fields};
 ghost use Rattle.termwiz_extended_events.specs.Replies as rules;
 ghost use Rattle.termwiz_extended_events.specs.Replies.{position_of_fields, marked_position_of_fields, size_of_fields};
 
 use crate::fields::{Fields, after_start, before_end};
+use crate::meanings::Meaning;
 use crate::numbers::{FEW_DIGITS, number_within, short_number};
-use crate::types::ExtendedEvent;
 use termwiz_base::{MouseReport, sgr_mouse};
 use termwiz_keys::types::{MouseButtons, MouseEvent};
 
 // I or O: the window gained the focus, or lost it.
 #[tactic(auto, unfolding(crate::specs::Replies::focus))]
-pub(crate) fn focus(t: &[u8]) -> Option<ExtendedEvent>
-    ensures { result ≡ rules.focus t.now }
+pub(crate) fn focus(t: &[u8]) -> Option<Meaning<'static>>
+    ensures { IsMeant result (rules.focus t.now) }
 {
     match t {
-        [b'I'] => Some(ExtendedEvent::FocusGained),
-        [b'O'] => Some(ExtendedEvent::FocusLost),
+        [b'I'] => Some(Meaning::FocusGained),
+        [b'O'] => Some(Meaning::FocusLost),
         _ => None,
     }
 }
 
 // row ; column.
-fn position(body: &[u8]) -> Option<ExtendedEvent>
-    ensures { result ≡ position_of_fields (fields body.now) }
+fn position(body: &[u8]) -> Option<Meaning<'static>>
+    ensures { IsMeant result (position_of_fields (fields body.now)) }
 {
     let mut fields = Fields::new(body, b';');
     let row = short_number(fields.next()?)?;
     let column = short_number(fields.next()?)?;
     match fields.next() {
         Some(_) => None,
-        None => Some(ExtendedEvent::CursorPosition { row, column }),
+        None => Some(Meaning::CursorPosition { row, column }),
     }
 }
 
 // row ; column ; page, of which the page may be missing.
-fn marked_position(body: &[u8]) -> Option<ExtendedEvent>
-    ensures { result ≡ marked_position_of_fields (fields body.now) }
+fn marked_position(body: &[u8]) -> Option<Meaning<'static>>
+    ensures { IsMeant result (marked_position_of_fields (fields body.now)) }
 {
     let mut fields = Fields::new(body, b';');
     let row = short_number(fields.next()?)?;
@@ -51,13 +52,13 @@ fn marked_position(body: &[u8]) -> Option<ExtendedEvent>
             return None;
         }
     }
-    Some(ExtendedEvent::CursorPosition { row, column })
+    Some(Meaning::CursorPosition { row, column })
 }
 
 // row ; column R, or with a question mark in front, and then maybe with a page: the position of the cursor.
 #[tactic(auto, unfolding(crate::specs::Replies::cursor_position))]
-fn cursor_position(t: &[u8]) -> Option<ExtendedEvent>
-    ensures { result ≡ rules.cursor_position t.now }
+fn cursor_position(t: &[u8]) -> Option<Meaning<'static>>
+    ensures { IsMeant result (rules.cursor_position t.now) }
 {
     let body = before_end(t, b"R")?;
     match after_start(body, b"?") {
@@ -68,17 +69,17 @@ fn cursor_position(t: &[u8]) -> Option<ExtendedEvent>
 
 // ? flags u: the flags of kitty's keyboard protocol.
 #[tactic(auto, unfolding(crate::specs::Replies::keyboard_flags))]
-fn keyboard_flags(t: &[u8]) -> Option<ExtendedEvent>
-    ensures { result ≡ rules.keyboard_flags t.now }
+fn keyboard_flags(t: &[u8]) -> Option<Meaning<'static>>
+    ensures { IsMeant result (rules.keyboard_flags t.now) }
 {
     let digits = after_start(before_end(t, b"u")?, b"?")?;
     let flags = number_within(digits, FEW_DIGITS, 0, 255)?;
-    Some(ExtendedEvent::KeyboardFlags(flags as u8))
+    Some(Meaning::KeyboardFlags(flags as u8))
 }
 
 // rows ; columns ; height ; width.
-fn size(mut fields: Fields) -> Option<ExtendedEvent>
-    ensures { result ≡ size_of_fields (fields_left fields.entry) }
+fn size(mut fields: Fields) -> Option<Meaning<'static>>
+    ensures { IsMeant result (size_of_fields (fields_left fields.entry)) }
 {
     let rows = short_number(fields.next()?)?;
     let columns = short_number(fields.next()?)?;
@@ -86,7 +87,7 @@ fn size(mut fields: Fields) -> Option<ExtendedEvent>
     let width = short_number(fields.next()?)?;
     match fields.next() {
         Some(_) => None,
-        None => Some(ExtendedEvent::Resize {
+        None => Some(Meaning::Resize {
             rows,
             columns,
             height,
@@ -97,8 +98,8 @@ fn size(mut fields: Fields) -> Option<ExtendedEvent>
 
 // 48 ; rows ; columns ; height ; width t: the new size of the terminal.
 #[tactic(auto, unfolding(crate::specs::Replies::resize))]
-fn resize(t: &[u8]) -> Option<ExtendedEvent>
-    ensures { result ≡ rules.resize t.now }
+fn resize(t: &[u8]) -> Option<Meaning<'static>>
+    ensures { IsMeant result (rules.resize t.now) }
 {
     let mut fields = Fields::new(before_end(t, b"t")?, b';');
     if fields.next()? == b"48".as_slice() {
@@ -110,8 +111,8 @@ fn resize(t: &[u8]) -> Option<ExtendedEvent>
 
 // A reply, or a new size, by the first of these rules that fits.
 #[tactic(auto, unfolding(crate::specs::Replies::reply))]
-pub(crate) fn reply(t: &[u8]) -> Option<ExtendedEvent>
-    ensures { result ≡ rules.reply t.now }
+pub(crate) fn reply(t: &[u8]) -> Option<Meaning<'static>>
+    ensures { IsMeant result (rules.reply t.now) }
 {
     cursor_position(t)
         .or_else(|| keyboard_flags(t))

@@ -2,7 +2,6 @@
 use Rattle.std.specs.Prelude.{◌≡◌, ◌++◌, ℕ, ◌<◌, ◌≤◌, ◌-◌, Bool, true, false, List, [], ◌∷◌, length, take, Contains, Option, Some, Result, IfOk, IfSome, IfNone, OnErr}
 use Rattle.termwiz_keymap.specs.Bytes.{Begins}
 use Rattle.termwiz_keys.specs.Introducers.{ESC, START}
-use Rattle.termwiz_keys.specs.Keys.{plain}
 use Rattle.termwiz_keys.specs.declared.types.KeyEvent.{KeyEvent}
 use Rattle.termwiz_keys.specs.declared.types.MouseEvent.{MouseEvent}
 use Rattle.termwiz_keys.specs.declared.types.InputEvent.{InputEvent}
@@ -25,7 +24,7 @@ use Rattle.termwiz_extended_grammar.specs.ExtendedLaws.{HasNoExtra}
 use Rattle.termwiz_input_extended.specs.declared.front.FormFront.{FormFront}
 use Rattle.termwiz_input_extended.specs.declared.front.FormFront.TheVariants as front
 use Rattle.termwiz_input_extended.specs.declared.front.ExtendedFront.{ExtendedFront}
-use Rattle.termwiz_input_extended.specs.declared.front.ExtendedFront.TheVariants.{Character, Key, Extra, MouseReport, Escape, Paste, Usual, Incomplete}
+use Rattle.termwiz_input_extended.specs.declared.front.ExtendedFront.TheVariants.{Key, Form, MouseReport, Escape, Paste, Usual, Incomplete}
 use Rattle.termwiz_input_extended.specs.declared.front.FrontRow.{FrontRow}
 use Rattle.termwiz_input_extended.specs.declared.front.FrontRow.TheVariants.{Long, Short, Begun, Absent}
 use Rattle.termwiz_input_extended.specs.Buffered.{Buffered}
@@ -88,6 +87,13 @@ IsFrontRow rows u more (Short key) = IsShortRowAt u more key.now × HasNoLongRow
 IsFrontRow rows u more Begun = (more ≡ true) × IsUnfinishedSequence u
 IsFrontRow rows u more Absent = rows ≡ Port → HasNoLongRow u
 
+-- The first so many bytes of the text are a form that is no mouse report, after one ESC alone. Under `Rows::Port` it is no row.
+pub record IsFormAt (rows : Rows) (u : List ℕ) (len : ℕ) : Type 0 where
+  pub plain : IsPlainForm u len
+  pub escape : Begins ESC u
+  pub one : ¬ Begins (ESC ++ ESC) u
+  pub no_row : rows ≡ Port → HasNoLongRow u
+
 -- the first so many bytes of the text are an extra sequence of this meaning
 pub record IsExtraAt (rows : Rows) (u : List ℕ) (meaning : Meaning) (len : ℕ) : Type 0 where
   pub within : len ≤ length u
@@ -96,9 +102,8 @@ pub record IsExtraAt (rows : Rows) (u : List ℕ) (meaning : Meaning) (len : ℕ
 
 -- this is at the front of the text, under this flag. Of an incomplete sequence the search goes on from a place.
 abbrev pub IsExtendedFront : Rows → List ℕ → Bool → ExtendedFront → Type 0
-IsExtendedFront rows u more (Character c len) = IsPortsOwn rows u more × IsItemAt u more (PortsKey (plain c)) len
 IsExtendedFront rows u more (Key key len) = IsPortsOwn rows u more × IsItemAt u more (PortsKey key) len
-IsExtendedFront rows u more (Extra meaning len) = IsExtraAt rows u meaning len
+IsExtendedFront rows u more (Form len) = IsFormAt rows u len
 IsExtendedFront rows u more (MouseReport event len) = (len ≤ length u) × IsMouseReport (take len u) event
 IsExtendedFront rows u more Escape = (v : List ℕ) × (u ≡ ESC ++ v) × StartsWithExtra rows v
 IsExtendedFront rows u more Paste = Begins START u

@@ -1,9 +1,18 @@
-// Control characters.
-ghost use Rattle.std.specs.Prelude.{◌≢◌, ◌∷◌, [], Contains, IfSome};
+// Characters at the front of a text: printable ASCII, those of several bytes, and control characters.
+ghost use Rattle.std.specs.Prelude.{◌≢◌, ◌∷◌, [], Bool, Contains, IfSome};
+ghost use Rattle.termwiz_keys.specs.Keys.{plain};
+ghost use Rattle.termwiz_keys.specs.declared.types.InputEvent.TheVariants.{Key};
 ghost use Rattle.termwiz_grammar.specs.Table.{rows as table_rows};
+ghost use Rattle.termwiz_input.specs.Matches.{IsItemAt};
+ghost use Rattle.termwiz_input_extended.specs.ExtendedFronts.{IsPortsOwn};
 
 use termwiz_base::{Flags, Modifiers};
+use termwiz_extended_events::types::Rows;
+use termwiz_input::input::{character_at, is_printable_ascii};
 use termwiz_keys::types::{KeyCode, KeyEvent};
+
+// The first byte that isn't ASCII.
+const HIGH: u8 = 0x80;
 
 // The key of a control character but ESC, if it has one: its row in the sequence table, which this finds without a lookup. Inlined, its
 // match would be made for sequences too.
@@ -27,4 +36,18 @@ pub(crate) fn control_key(byte: u8) -> Option<KeyEvent>
         key,
         modifiers: Modifiers::NONE,
     })
+}
+
+// The character at the front of a text, and the number of its bytes: printable ASCII, or one of several bytes. It is an item, whatever
+// follows it.
+#[inline(always)]
+pub(crate) fn character_front(text: &[u8]) -> Option<(char, usize)>
+    ensures { IfSome result (λ found. (rows : Rows) (more : Bool)
+        → IsPortsOwn rows text.now more × IsItemAt text.now more (Key (plain found.0)) found.1) }
+{
+    match text {
+        [first, ..] if is_printable_ascii(*first) => Some((char::from(*first), 1)),
+        [first, ..] if *first >= HIGH => character_at(text),
+        _ => None,
+    }
 }

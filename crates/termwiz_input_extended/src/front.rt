@@ -1,33 +1,28 @@
-// What is at the front of a text: an extra sequence, the Escape key before one, a character, or what the port finds there.
-ghost use Rattle.std.specs.Prelude.{◌≡◌, ◌≢◌, ◌↔◌, ◌++◌, ◌≤◌, ℕ, Bool, List, [], length, take, IsTrue, Some, Contains};
+// What is at the front of a text: an extra sequence, the Escape key before one, or what the port finds there.
+ghost use Rattle.std.specs.Prelude.{◌≡◌, ◌≢◌, ◌↔◌, ◌++◌, ℕ, Bool, List, [], IfSome, IfNone, IsTrue, Some, Contains};
 ghost use Rattle.termwiz_keymap.specs.Bytes.{Begins};
 ghost use Rattle.termwiz_keys.specs.Introducers.{ESC, START};
-ghost use Rattle.termwiz_keys.specs.declared.types.InputEvent.TheVariants.{Key as PortsKey};
 ghost use Rattle.termwiz_keys.specs.declared.types.KeyEvent.{KeyEvent as Key};
 ghost use Rattle.termwiz_keys.specs.declared.types.MouseEvent.{MouseEvent as Mouse};
 ghost use Rattle.termwiz_grammar.specs.MouseReports.{IsMouseReport};
 ghost use Rattle.termwiz_grammar.specs.Table.{rows as table_rows};
-ghost use Rattle.termwiz_input.specs.Matches.{IsItemAt};
 ghost use Rattle.termwiz_input.specs.MouseReportAnswers.{HasNoPartInMouseReports};
 ghost use Rattle.termwiz_extended_events.specs.declared.types.Rows.TheVariants.{Port};
 ghost use Rattle.termwiz_extended_events.specs.Meanings.{event_from, event_of};
 ghost use Rattle.termwiz_extended_grammar.specs.Forms.{IsForm};
 ghost use Rattle.termwiz_input_extended.specs.FormAnswers.{IsScanned};
-ghost use Rattle.termwiz_input_extended.specs.ExtendedFronts.{HasFormFront, HasNoLongRow, IsExtendedFront, IsFrontRow, IsPlainForm, IsReported, IsScannedTo, IsSomeExtra};
+ghost use Rattle.termwiz_input_extended.specs.ExtendedFronts.{HasFormFront, HasNoLongRow, IsExtendedFront, IsExtraAt, IsFormAt, IsFrontRow, IsPortsOwn, IsReported, IsScannedTo, IsSomeExtra};
 
 use crate::characters::control_key;
 use crate::form::{ESCAPE, FormAt, form_at, next_scan};
 use termwiz_extended_events::meanings::{Meaning, meaning_of};
 use termwiz_extended_events::types::Rows;
 use termwiz_input::input::{
-    FrontReport, InputParser, alt_key, begins_paste, character_at, copied, escape_key,
-    follows_escape, is_printable_ascii, mouse_report_at,
+    FrontReport, InputParser, alt_key, begins_paste, copied, escape_key, follows_escape,
+    mouse_report_at,
 };
 use termwiz_input::keymap::Found;
 use termwiz_keys::types::{KeyEvent, MouseEvent};
-
-// The first byte that isn't ASCII.
-const HIGH: u8 = 0x80;
 
 // What form is at the front of a text. A `usize` is the number of its bytes.
 #[derive(Drop)]
@@ -55,15 +50,13 @@ pub(crate) enum FrontRow<'k> {
     Absent,
 }
 
-// What is at the front of a text. A `usize` is the number of its bytes, but for `Incomplete`.
+// What is at the front of a text that no character begins. A `usize` is the number of its bytes, but for `Incomplete`.
 #[derive(Drop)]
-pub(crate) enum ExtendedFront<'t> {
-    // A character, alone.
-    Character(char, usize),
+pub(crate) enum ExtendedFront {
     // A row of the sequence table that is read as its key.
     Key(KeyEvent, usize),
-    // An extra sequence.
-    Extra(Meaning<'t>, usize),
+    // A form that is no mouse report: an extra sequence or, under `Rows::Kitty`, a row of the sequence table.
+    Form(usize),
     // A mouse report, which the port finds there too.
     MouseReport(MouseEvent, usize),
     // The Escape key before an extra sequence.
@@ -111,6 +104,32 @@ fn is_extra(parser: &InputParser, rows: Rows, form: &[u8], meaning: &Meaning<'_>
     !is_table_row(parser, form)
 }
 
+// What the form of so many bytes at the front of a text means, if it is an extra sequence. Under `Rows::Port` the text was looked up
+// before: the form is no row.
+pub(crate) fn extra_at<'t>(
+    parser: &InputParser,
+    rows: Rows,
+    text: &'t [u8],
+    len: usize,
+) -> Option<Meaning<'t>>
+    requires { IsFormAt rows text.now len }
+    ensures some { IfSome result (λ meaning. IsExtraAt rows text.now meaning len) }
+    ensures none { IfNone result ((more : Bool) → IsPortsOwn rows text.now more) }
+{
+    let form = &text[..len];
+    let meaning = meaning_of(form);
+    match rows {
+        Rows::Port => Some(meaning),
+        Rows::Kitty => {
+            if is_extra(parser, rows, form, &meaning) {
+                Some(meaning)
+            } else {
+                None
+            }
+        }
+    }
+}
+
 // What form is at the front of a text. The bytes before `scanned` were looked at before.
 #[inline(always)]
 fn form_front(text: &[u8], scanned: usize) -> FormFront
@@ -130,13 +149,13 @@ fn form_front(text: &[u8], scanned: usize) -> FormFront
 }
 
 // What is at the front of a text that starts with ESC ESC, by what follows the first one.
-fn front_of_two_escapes<'t>(
+fn front_of_two_escapes(
     parser: &InputParser,
     rows: Rows,
     after: &[u8],
     scanned: usize,
     maybe_more: bool,
-) -> ExtendedFront<'t>
+) -> ExtendedFront
     requires escape { Begins ESC after.now }
     requires scanned { IsScanned after.now scanned }
     ensures { IsExtendedFront rows (ESC ++ after.now) maybe_more result }
@@ -156,53 +175,17 @@ fn front_of_two_escapes<'t>(
     }
 }
 
-// What is at the front of a text that begins with one ESC alone and a form of so many bytes. Under `Rows::Port` the text was looked up: the
-// form is no row.
-#[inline(always)]
-fn front_of_whole_form<'t>(
-    parser: &InputParser,
-    rows: Rows,
-    text: &'t [u8],
-    len: usize,
-) -> ExtendedFront<'t>
-    requires escape { Begins ESC text.now }
-    requires one { ¬ Begins (ESC ++ ESC) text.now }
-    requires form { IsPlainForm text.now len }
-    requires no_row { rows ≡ Port → HasNoLongRow text.now }
-    ensures { (more : Bool) → IsExtendedFront rows text.now more result }
-{
-    let form = &text[..len];
-    let meaning = meaning_of(form);
-    match rows {
-        Rows::Port => ExtendedFront::Extra(meaning, len),
-        Rows::Kitty => {
-            if is_extra(parser, rows, form, &meaning) {
-                ExtendedFront::Extra(meaning, len)
-            } else {
-                ExtendedFront::Usual
-            }
-        }
-    }
-}
-
 // What is at the front of a text that begins with one ESC alone, and with no part of a mouse report: a form, or what the port finds.
 #[inline(always)]
-fn front_of_form<'t>(
-    parser: &InputParser,
-    rows: Rows,
-    text: &'t [u8],
-    scanned: usize,
-    maybe_more: bool,
-) -> ExtendedFront<'t>
+fn front_of_form(text: &[u8], scanned: usize, maybe_more: bool) -> ExtendedFront
     requires escape { Begins ESC text.now }
     requires one { ¬ Begins (ESC ++ ESC) text.now }
     requires no_mouse { HasNoPartInMouseReports text.now }
     requires scanned { IsScanned text.now scanned }
-    requires no_row { rows ≡ Port → HasNoLongRow text.now }
-    ensures { IsExtendedFront rows text.now maybe_more result }
+    ensures { (rows : Rows) → (rows ≡ Port → HasNoLongRow text.now) → IsExtendedFront rows text.now maybe_more result }
 {
     match form_at(text, scanned) {
-        FormAt::Whole(len) => front_of_whole_form(parser, rows, text, len),
+        FormAt::Whole(len) => ExtendedFront::Form(len),
         FormAt::Unfinished if maybe_more => ExtendedFront::Incomplete(next_scan(text)),
         FormAt::Unfinished => ExtendedFront::Usual,
         FormAt::Absent => ExtendedFront::Usual,
@@ -231,13 +214,13 @@ fn row_at<'k>(parser: &'k InputParser, rows: Rows, text: &[u8], maybe_more: bool
 // What is at the front of a text that begins with one ESC alone. A mouse report is looked for first. A row of two bytes is read only if
 // no form begins there.
 #[inline(always)]
-fn front_of_one_escape<'t>(
+fn front_of_one_escape(
     parser: &InputParser,
     rows: Rows,
-    text: &'t [u8],
+    text: &[u8],
     scanned: usize,
     maybe_more: bool,
-) -> ExtendedFront<'t>
+) -> ExtendedFront
     requires escape { Begins ESC text.now }
     requires one { ¬ Begins (ESC ++ ESC) text.now }
     requires scanned { IsScanned text.now scanned }
@@ -251,32 +234,25 @@ fn front_of_one_escape<'t>(
         FrontReport::Absent => match row_at(parser, rows, text, maybe_more) {
             FrontRow::Long(key, len) => ExtendedFront::Key(copied(key), len),
             FrontRow::Short(key) => {
-                match front_of_form(parser, rows, text, scanned, maybe_more) {
+                match front_of_form(text, scanned, maybe_more) {
                     ExtendedFront::Usual => ExtendedFront::Key(copied(key), 2),
                     form => form,
                 }
             }
             FrontRow::Begun => ExtendedFront::Incomplete(0),
-            FrontRow::Absent => front_of_form(parser, rows, text, scanned, maybe_more),
+            FrontRow::Absent => front_of_form(text, scanned, maybe_more),
         },
     }
 }
 
-// What is at the front of a text that begins with no ESC. A broken byte is the port's.
+// What is at the front of a text that begins with no ESC.
 #[inline(always)]
-fn front_without_escape<'t>(text: &[u8]) -> ExtendedFront<'t>
+fn front_without_escape(text: &[u8]) -> ExtendedFront
     requires { ¬ Begins ESC text.now }
     ensures { (rows : Rows) (more : Bool) → IsExtendedFront rows text.now more result }
 {
     match text {
         [] => ExtendedFront::Incomplete(0),
-        [first, ..] if is_printable_ascii(*first) => {
-            ExtendedFront::Character(char::from(*first), 1)
-        }
-        [first, ..] if *first >= HIGH => match character_at(text) {
-            Some((character, len)) => ExtendedFront::Character(character, len),
-            None => ExtendedFront::Usual,
-        },
         [first, ..] => match control_key(*first) {
             Some(key) => ExtendedFront::Key(key, 1),
             None => ExtendedFront::Usual,
@@ -284,15 +260,16 @@ fn front_without_escape<'t>(text: &[u8]) -> ExtendedFront<'t>
     }
 }
 
-// What is at the front of a text. The bytes before `scanned` were looked at before.
+// What is at the front of a text. A character is the port's: `character_front` is quicker for it. The bytes before `scanned` were looked at
+// before.
 #[inline(always)]
-pub(crate) fn front<'t>(
+pub(crate) fn front(
     parser: &InputParser,
     rows: Rows,
-    text: &'t [u8],
+    text: &[u8],
     scanned: usize,
     maybe_more: bool,
-) -> ExtendedFront<'t>
+) -> ExtendedFront
     requires { IsScannedTo text.now scanned }
     ensures { IsExtendedFront rows text.now maybe_more result }
 {

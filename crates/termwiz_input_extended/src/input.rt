@@ -6,10 +6,11 @@ ghost use Rattle.termwiz_grammar.specs.WaitingKinds.{IsOneOrTwoEscapes, IsOpenPa
 ghost use Rattle.termwiz_extended_events.specs.declared.types.ExtendedEvent.{ExtendedEvent as Event};
 ghost use Rattle.termwiz_extended_grammar.specs.ExtendedGrammar.{HasItem, IsRest, Means, Steps};
 ghost use Rattle.termwiz_input_extended.specs.EventCallbacks.{MayBeCalledOn, WasCalledOn};
-ghost use Rattle.termwiz_input_extended.specs.ExtendedFronts.{Emits, GivesNoneThatNeedsMemory, HasItemThatNeedsMemory, IsExtendedFront, IsPasteEvent, IsPortsOwn, Stores};
+ghost use Rattle.termwiz_input_extended.specs.ExtendedFronts.{Emits, GivesNoneThatNeedsMemory, HasItemThatNeedsMemory, IsExtendedFront, IsFormAt, IsPasteEvent, IsPortsOwn, Stores};
 ghost use Rattle.termwiz_input_extended.specs.ExtendedKinds.{IsBoundedOrOpenPaste, IsKind};
 
-use crate::front::{ExtendedFront, front};
+use crate::characters::character_front;
+use crate::front::{ExtendedFront, extra_at, front};
 use std::alloc::{AllocError, Global};
 use std::marker::Model;
 use termwiz_extended_events::types::{ExtendedEvent, Rows};
@@ -98,7 +99,7 @@ impl ExtendedParser {
 
     // What is at the front of the waiting text.
     #[inline(always)]
-    fn front(&self, maybe_more: bool) -> ExtendedFront<'_>
+    fn front(&self, maybe_more: bool) -> ExtendedFront
         ensures { IsExtendedFront self.now.rows self.now.text maybe_more result }
     {
         front(
@@ -167,44 +168,45 @@ impl ExtendedParser {
         self.next_of_port(maybe_more)
     }
 
-    // Consumes so many bytes, whose event this is.
-    #[inline(always)]
-    fn emit(
+    // Consumes the form of so many bytes at the front of the waiting text, and returns its event. A row of the table is the port's.
+    #[inline(never)]
+    fn next_form(
         &mut self,
-        event: ExtendedEvent,
         len: usize,
+        maybe_more: bool,
     ) -> Result<Option<ExtendedEvent>, AllocError>
-        requires { len ≤ length self.old.text }
-        ensures { (more : Bool) → Steps self.old.rows self.old.text more (event ∷ []) (drop len self.old.text)
-            → Emits self.old more self.new result }
+        requires { IsFormAt self.old.rows self.old.text len }
+        ensures { Emits self.old maybe_more self.new result }
     {
-        self.consume(len);
-        Ok(Some(event))
+        match extra_at(&self.parser, self.rows, self.waiting_text(), len) {
+            Some(meaning) => {
+                let event = meaning.event(self.alloc)?;
+                self.consume(len);
+                Ok(Some(event))
+            }
+            None => self.next_of_port(maybe_more),
+        }
     }
 
-    // Consumes the item at the front of the waiting text, and returns its event. `None` if no item is there.
+    // Consumes the item at the front of the waiting text, and returns its event. `None` if no item is there. `next_event` is quicker for
+    // characters.
+    #[inline(never)]
     fn emit_front(&mut self, maybe_more: bool) -> Result<Option<ExtendedEvent>, AllocError>
         ensures { Emits self.old maybe_more self.new result }
     {
         match self.front(maybe_more) {
-            ExtendedFront::Character(character, len) => {
-                self.emit(
-                    ExtendedEvent::Input(InputEvent::Key(plain_key(character))),
-                    len,
-                )
-            }
             ExtendedFront::Key(key, len) => {
-                self.emit(ExtendedEvent::Input(InputEvent::Key(key)), len)
+                self.consume(len);
+                Ok(Some(ExtendedEvent::Input(InputEvent::Key(key))))
             }
-            ExtendedFront::Extra(meaning, len) => {
-                let event = meaning.event(self.alloc)?;
-                self.emit(event, len)
-            }
+            ExtendedFront::Form(len) => self.next_form(len, maybe_more),
             ExtendedFront::MouseReport(event, len) => {
-                self.emit(ExtendedEvent::Input(InputEvent::Mouse(event)), len)
+                self.consume(len);
+                Ok(Some(ExtendedEvent::Input(InputEvent::Mouse(event))))
             }
             ExtendedFront::Escape => {
-                self.emit(ExtendedEvent::Input(InputEvent::Key(escape_key())), 1)
+                self.consume(1);
+                Ok(Some(ExtendedEvent::Input(InputEvent::Key(escape_key()))))
             }
             ExtendedFront::Paste => self.next_paste(maybe_more),
             ExtendedFront::Usual => self.next_of_port(maybe_more),
@@ -237,7 +239,13 @@ impl ExtendedParser {
         // At most 65536 bytes stay buffered, or an open paste.
         ensures waits { IfOk result (λ found. IfNone found (IsBoundedOrOpenPaste self.new.text)) }
     {
-        self.emit_front(maybe_more)
+        match character_front(self.waiting_text()) {
+            Some((character, len)) => {
+                self.consume(len);
+                Ok(Some(ExtendedEvent::Input(InputEvent::Key(plain_key(character)))))
+            }
+            None => self.emit_front(maybe_more),
+        }
     }
 
     /// What kind of bytes stays buffered, once [`ExtendedParser::next_event`] returned `None`, or `parse` succeeded.
@@ -379,6 +387,12 @@ impl ExtendedParser {
         ensures none { result ≡ false → IsRest self.now.rows self.now.text maybe_more }
     {
         match self.front(maybe_more) {
+            ExtendedFront::Form(len) => {
+                match extra_at(&self.parser, self.rows, self.waiting_text(), len) {
+                    Some(_) => true,
+                    None => self.parser.has_item(maybe_more),
+                }
+            }
             ExtendedFront::Paste => self.parser.has_item(maybe_more),
             ExtendedFront::Usual => self.parser.has_item(maybe_more),
             ExtendedFront::Incomplete(_) => false,
