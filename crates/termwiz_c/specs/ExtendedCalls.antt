@@ -7,7 +7,7 @@ use Rattle.termwiz_extended_events.specs.declared.types.ExtendedEvent.{ExtendedE
 use Rattle.termwiz_extended_events.specs.declared.types.Rows.{Rows}
 use Rattle.termwiz_extended_grammar.specs.ExtendedGrammar.{IsRest, Means, Steps}
 use Rattle.termwiz_input_extended.specs.ExtendedFronts.{HasItemThatNeedsMemory, IsPasteEvent}
-use Rattle.termwiz_input_extended.specs.ExtendedKinds.{IsKind}
+use Rattle.termwiz_extended_grammar.specs.ExtendedKinds.{IsKind}
 use Rattle.termwiz_c.specs.declared.extended_and_text.ExtendedAndText.{ExtendedAndText}
 use Rattle.termwiz_c.specs.declared.extended_events.CExtendedEvent.{CExtendedEvent}
 use Rattle.termwiz_c.specs.Calls.{waiting_number}

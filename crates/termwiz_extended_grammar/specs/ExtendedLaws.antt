@@ -9,12 +9,14 @@ use Rattle.termwiz_grammar.specs.Sequences.Meaning.{Row}
 use Rattle.termwiz_grammar.specs.Grammar as port
 use Rattle.termwiz_grammar.specs.Grammar.{IsLongest}
 use Rattle.termwiz_grammar.specs.Laws.{IsHeldEscape}
+use Rattle.termwiz_grammar.specs.Streams.{OneRead, bytes_of_reads}
 use Rattle.termwiz_extended_events.specs.declared.types.ExtendedEvent.{ExtendedEvent}
 use Rattle.termwiz_extended_events.specs.declared.types.ExtendedEvent.TheVariants.{Input}
 use Rattle.termwiz_extended_events.specs.declared.types.Rows.{Rows}
 use Rattle.termwiz_extended_grammar.specs.Forms.{IsStringIntroducer, most_control, most_string}
 use Rattle.termwiz_extended_grammar.specs.ExtraSequences.{IsExtra, StartsWithExtra}
 use Rattle.termwiz_extended_grammar.specs.ExtendedGrammar.{BeginsKnown, IsOpen, IsRest, Steps, Means}
+use Rattle.termwiz_extended_grammar.specs.ExtendedStreams.{OneByOne, ReadInTurn}
 
 -- How the bytes are cut doesn't matter.
 abbrev pub CutIndependent : Type 0
@@ -41,6 +43,18 @@ FewEvents = (rows : Rows) (T W : List ℕ) (E : List ExtendedEvent) (f : Bool)
 abbrev pub StepsJoin : Type 0
 StepsJoin = (rows : Rows) (T V W : List ℕ) (E D : List ExtendedEvent) (f : Bool)
     → Steps rows T f E V → Steps rows V f D W → Steps rows T f (E ++ D) W
+
+-- The same of all reads of a stream together, whether each is read whole or may stop between two items. Nothing waits before the first
+-- one, and what waits after the last one counts as events do.
+abbrev pub FewEventsInStream : Type 0
+FewEventsInStream = (rows : Rows) (reads : List OneRead) (events : List ExtendedEvent) (waiting : List ℕ)
+    → (ReadInTurn (Means rows) [] reads events waiting → length events + length waiting ≤ length (bytes_of_reads reads))
+    × (ReadInTurn (Steps rows) [] reads events waiting → length events + length waiting ≤ length (bytes_of_reads reads))
+
+-- Events taken one by one, up to a rest, are what the text means.
+abbrev pub OneByOneMeans : Type 0
+OneByOneMeans = (rows : Rows) (T W : List ℕ) (E : List ExtendedEvent) (f : Bool)
+    → (OneByOne rows T f E W × IsRest rows W f) ↔ Means rows T f E W
 
 -- The empty text waits.
 abbrev pub EmptyIsRest : Type 0

@@ -1,4 +1,6 @@
 pub mod ExtendedGrammar
+pub mod ExtendedKinds
 pub mod ExtendedLaws
+pub mod ExtendedStreams
 pub mod ExtraSequences
 pub mod Forms

@@ -1,7 +1,8 @@
 //! Laws of the extended grammar, each the contract of a function without effect. Each holds for both readings of the rows.
 //!
 //! They speak of the definitions alone. That the parser obeys the definitions is said by its own contracts.
-ghost use Rattle.termwiz_extended_grammar.specs.ExtendedLaws.{Conservative, CutIndependent, EmptyIsRest, ExtraIsLongest, FewEvents, FourBeginnings, OneMeaning, Resumes, SequenceStands, StepsJoin, Undecided, WaitingShape};
+ghost use Rattle.termwiz_extended_grammar.specs.ExtendedLaws.{Conservative, CutIndependent, EmptyIsRest, ExtraIsLongest, FewEvents, FewEventsInStream, FourBeginnings, OneByOneMeans, OneMeaning, Resumes, SequenceStands, StepsJoin, Undecided, WaitingShape};
+ghost use Rattle.termwiz_extended_grammar.specs.ExtendedKinds.{WaitingKinds};
 
 /// Each text means, under each flag, exactly one list of events and one rest.
 pub fn one_meaning()
@@ -32,6 +33,19 @@ pub fn few_events()
     ensures { FewEvents }
 {}
 
+/// A whole stream, read from an empty waiting text, has no more events than bytes. The events of all reads, each with its own
+/// flag, and the bytes left at the end are together at most as many as the bytes of all reads. Reads may also stop between two
+/// items, as after a refusal of memory.
+pub fn few_events_in_stream()
+    ensures { FewEventsInStream }
+{}
+
+/// Events that are read one by one, up to a rest, are exactly what the text means. So a loop over `ExtendedParser::next_event`
+/// up to `None` returns the events of one call of `ExtendedParser::parse`.
+pub fn one_by_one()
+    ensures { OneByOneMeans }
+{}
+
 /// The empty text gives no event, under either flag.
 pub fn empty_is_rest()
     ensures { EmptyIsRest }
@@ -41,6 +55,12 @@ pub fn empty_is_rest()
 /// at most one Escape. These are at most 255, or 65535 in a string.
 pub fn waiting_shape()
     ensures { WaitingShape }
+{}
+
+/// What stays buffered is of exactly one kind: nothing; an Escape; the beginning of a longer sequence; the beginning of a
+/// character; or an open paste.
+pub fn waiting_kinds()
+    ensures { WaitingKinds }
 {}
 
 /// What waits as the proper beginning of a sequence or of a character, alone or after one Escape, isn't decided yet: for some

@@ -1,5 +1,4 @@
 pub mod Buffered
 pub mod EventCallbacks
 pub mod ExtendedFronts
-pub mod ExtendedKinds
 pub mod FormAnswers

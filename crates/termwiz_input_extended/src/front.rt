@@ -104,6 +104,16 @@ fn is_extra(parser: &InputParser, rows: Rows, form: &[u8], meaning: &Meaning<'_>
     !is_table_row(parser, form)
 }
 
+// The same of a form whose meaning isn't asked for. Inlined, that meaning would have its place in the frame of every sequence.
+#[inline(never)]
+fn is_extra_form(parser: &InputParser, rows: Rows, form: &[u8]) -> bool
+    requires form { IsForm form.now }
+    requires no_mouse { (event : Mouse) → ¬ IsMouseReport form.now event }
+    ensures { IsTrue result ↔ IsSomeExtra rows form.now }
+{
+    is_extra(parser, rows, form, &meaning_of(form))
+}
+
 // What the form of so many bytes at the front of a text means, if it is an extra sequence. Under `Rows::Port` the text was looked up
 // before: the form is no row.
 pub(crate) fn extra_at<'t>(
@@ -165,8 +175,7 @@ fn front_of_two_escapes(
         return ExtendedFront::Key(alt_key(escape_key()), 2);
     }
     match form_front(after, scanned) {
-        FormFront::Form(len) if is_extra(parser, rows, &after[..len], &meaning_of(&after[..len])) =>
-            ExtendedFront::Escape,
+        FormFront::Form(len) if is_extra_form(parser, rows, &after[..len]) => ExtendedFront::Escape,
         FormFront::Form(_) => ExtendedFront::Usual,
         FormFront::MouseReport => ExtendedFront::Usual,
         FormFront::Unfinished if maybe_more => ExtendedFront::Incomplete(1 + next_scan(after)),

@@ -5,9 +5,10 @@ ghost use Rattle.termwiz_keys.specs.Introducers.{START};
 ghost use Rattle.termwiz_grammar.specs.WaitingKinds.{IsOneOrTwoEscapes, IsOpenPaste};
 ghost use Rattle.termwiz_extended_events.specs.declared.types.ExtendedEvent.{ExtendedEvent as Event};
 ghost use Rattle.termwiz_extended_grammar.specs.ExtendedGrammar.{HasItem, IsRest, Means, Steps};
+ghost use Rattle.termwiz_extended_grammar.specs.ExtendedKinds.{IsKind};
 ghost use Rattle.termwiz_input_extended.specs.EventCallbacks.{MayBeCalledOn, WasCalledOn};
 ghost use Rattle.termwiz_input_extended.specs.ExtendedFronts.{Emits, GivesNoneThatNeedsMemory, HasItemThatNeedsMemory, IsExtendedFront, IsFormAt, IsPasteEvent, IsPortsOwn, Stores};
-ghost use Rattle.termwiz_input_extended.specs.ExtendedKinds.{IsBoundedOrOpenPaste, IsKind};
+ghost use Rattle.termwiz_input_extended.specs.Buffered.{IsBoundedOrOpenPaste};
 
 use crate::characters::character_front;
 use crate::front::{ExtendedFront, extra_at, front};

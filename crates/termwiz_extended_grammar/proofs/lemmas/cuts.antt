@@ -1,4 +1,5 @@
 pub mod BeforeEscape
 pub mod ExtendedCuts
+pub mod ExtendedStreams
 pub mod SequencesStand
 pub mod SameAsPort

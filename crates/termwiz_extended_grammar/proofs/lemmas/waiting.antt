@@ -1,2 +1,3 @@
 pub mod FlushesMatter
 pub mod FlushesLeave
+pub mod KindsOfRests

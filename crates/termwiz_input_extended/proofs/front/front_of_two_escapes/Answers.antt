@@ -14,7 +14,7 @@ returns-in-27 c = rw (c.alt_key.ensures, c.escape_key.ensures)
 
 pub returns-in-Form : goal.returns-in-Form
 returns-in-Form c =
-    let extra = c.is_extra.ensures.0 c.if-is_extra.true in (
+    let extra = c.is_extra_form.ensures.0 c.if-is_extra_form.true in (
       c.args.after.now,
       refl,
       record {
@@ -29,7 +29,7 @@ pub returns-in-Form-2 : goal.returns-in-Form-2
 returns-in-Form-2 c =
     own_after_two_escapes c.args.rows c.args.after.now c.args.maybe_more c.requires.escape
     (no_extra_starts c.args.rows c.args.after.now c.in-Form.len c.in-Form.ensures.form
-    (denied c.is_extra.ensures.1 c.if-is_extra.false))
+    (denied c.is_extra_form.ensures.1 c.if-is_extra_form.false))
     (λ m. no_extra_unfinished c.args.rows c.args.after.now c.in-Form.len c.in-Form.ensures.form)
 
 pub returns-in-MouseReport : goal.returns-in-MouseReport

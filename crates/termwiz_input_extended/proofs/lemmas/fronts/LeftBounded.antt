@@ -11,9 +11,8 @@ use Rattle.termwiz_extended_grammar.specs.ExtendedLaws.{Waits, IsShort, BeginsSt
 use Rattle.termwiz_extended_grammar.specs.ExtendedLaws.Waits.{nothing, open_paste, undecided}
 use Rattle.termwiz_extended_grammar.proofs.lemmas.items.ExtendedRests.{waiting_shape}
 use Rattle.termwiz_extended_grammar.proofs.lemmas.waiting.FlushesLeave.{rest_flushed}
-use Rattle.termwiz_input_extended.specs.Buffered.{Buffered}
+use Rattle.termwiz_input_extended.specs.Buffered.{Buffered, IsBoundedOrOpenPaste}
 use Rattle.termwiz_input_extended.specs.ExtendedFronts.{Emits}
-use Rattle.termwiz_input_extended.specs.ExtendedKinds.{IsBoundedOrOpenPaste}
 
 held_one : (held : List ℕ) → IsHeldEscape held → length held ≤ 1
 held_one held is = ⊎_elim

@@ -1,12 +1,12 @@
 -- What stays buffered, by kind.
-use Rattle.std.specs.Prelude.{◌≡◌, ◌≤◌, ◌⊎◌, ℕ, Bool, true, List, [], length}
+use Rattle.std.specs.Prelude.{◌≡◌, ◌⊎◌, ℕ, Bool, true, List, []}
 use Rattle.termwiz_grammar.specs.declared.waiting.Waiting.{Waiting}
 use Rattle.termwiz_grammar.specs.declared.waiting.Waiting.TheVariants.{Nothing, Escape, Sequence, Character, Paste}
 use Rattle.termwiz_grammar.specs.Grammar.{IsUnfinishedSequence, IsUnfinishedCharacter}
 use Rattle.termwiz_grammar.specs.WaitingKinds.{IsHeldThen, IsOneOrTwoEscapes, IsOpenPaste}
 use Rattle.termwiz_extended_events.specs.declared.types.Rows.{Rows}
 use Rattle.termwiz_extended_grammar.specs.ExtraSequences.{IsUnfinishedExtra}
-use Rattle.termwiz_extended_grammar.specs.Forms.{most_string}
+use Rattle.termwiz_extended_grammar.specs.ExtendedGrammar.{IsRest}
 
 -- u properly begins a sequence, an extra one or one of the port
 abbrev pub IsUnfinished : Rows → List ℕ → Type 0
@@ -20,6 +20,7 @@ IsKind rows u more Sequence = IsHeldThen (IsUnfinished rows) u × (¬ IsOneOrTwo
 IsKind rows u more Character = IsHeldThen IsUnfinishedCharacter u × (more ≡ true)
 IsKind rows u more Paste = IsOpenPaste u
 
--- at most so many bytes, or an open paste: the longest beginning of a string, and one ESC before it
-abbrev pub IsBoundedOrOpenPaste : List ℕ → Type 0
-IsBoundedOrOpenPaste u = (length u ≤ most_string) ⊎ IsOpenPaste u
+-- Every rest is of exactly one kind.
+abbrev pub WaitingKinds : Type 0
+WaitingKinds = (rows : Rows) (u : List ℕ) (more : Bool) → IsRest rows u more
+    → (kind : Waiting) × IsKind rows u more kind × ((other : Waiting) → IsKind rows u more other → other ≡ kind)

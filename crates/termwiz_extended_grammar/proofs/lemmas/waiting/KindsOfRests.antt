@@ -1,0 +1,238 @@
+-- Each rest is of exactly one kind.
+use Rattle.std.proofs.Common.{◌≡◌, ◌≢◌, ◌⊎◌, inl, inr, ⊎_elim, ℕ, ◌<◌, ◌≤◌, Bool, true, List, [], ◌∷◌, ◌++◌, length, refl, sym, ap, ◌∙◌, subst, arith, length-append}
+use Rattle.std.specs.List.{AllByRecursion}
+use Rattle.termwiz_keymap.specs.Bytes.{Begins}
+use Rattle.termwiz_keymap.proofs.lemmas.lists.CommonPrefixes.{append-some, length-some}
+use Rattle.termwiz_keys.specs.Introducers.{ESC, START}
+use Rattle.termwiz_grammar.specs.declared.waiting.Waiting.{Waiting}
+use Rattle.termwiz_grammar.specs.declared.waiting.Waiting.TheVariants.{Nothing, Escape, Sequence, Character, Paste}
+use Rattle.termwiz_grammar.specs.Grammar.{IsUnfinishedCharacter}
+use Rattle.termwiz_grammar.specs.Laws.{IsHeldEscape}
+use Rattle.termwiz_grammar.specs.Sequences.{IsSequence}
+use Rattle.termwiz_grammar.specs.WaitingKinds.{IsHeldThen, IsOneOrTwoEscapes}
+use Rattle.termwiz_grammar.proofs.lemmas.characters.CharacterPrefixes.{IsHigh, parted_high}
+use Rattle.termwiz_grammar.proofs.lemmas.lists.Decidable.{same_or_not}
+use Rattle.termwiz_grammar.proofs.lemmas.mouse.OneReport.{IsPlain}
+use Rattle.termwiz_grammar.proofs.lemmas.table.RowShape.{Bytes}
+use Rattle.termwiz_grammar.proofs.lemmas.table.RowShape.Bytes.{one, more}
+use Rattle.termwiz_grammar.proofs.lemmas.table.SequenceFacts.{sequence_bytes, start_ends}
+use Rattle.termwiz_grammar.proofs.lemmas.waiting.RestKinds.{CharacterBytes}
+use Rattle.termwiz_extended_events.specs.declared.types.Rows.{Rows}
+use Rattle.termwiz_extended_grammar.specs.ExtendedGrammar.{IsRest}
+use Rattle.termwiz_extended_grammar.specs.ExtendedKinds.{IsUnfinished, IsKind, WaitingKinds}
+use Rattle.termwiz_extended_grammar.specs.ExtendedLaws.{Waits}
+use Rattle.termwiz_extended_grammar.specs.ExtendedLaws.Waits.{nothing, open_paste, undecided}
+use Rattle.termwiz_extended_grammar.specs.Forms.{IsForm}
+use Rattle.termwiz_extended_grammar.proofs.lemmas.forms.FormBytes.{form_shape}
+use Rattle.termwiz_extended_grammar.proofs.lemmas.forms.FormEnds.{form_ends}
+use Rattle.termwiz_extended_grammar.proofs.lemmas.forms.ExtraFacts.{start_form}
+use Rattle.termwiz_extended_grammar.proofs.lemmas.items.ExtendedRests.{waiting_shape}
+use Rattle.termwiz_extended_grammar.proofs.lemmas.waiting.FlushesMatter.{second_low}
+
+-- ESC, and a byte below 128 if any follows
+pub record IsLow (u : List ℕ) : Type 0 where
+  pub after : List ℕ
+  pub splits : u ≡ 27 ∷ after
+  pub low : (y : ℕ) (s : List ℕ) → after ≡ y ∷ s → y < 128
+
+-- what properly begins a sequence begins so
+pub unfinished_low : (rows : Rows) (u : List ℕ) → u ≢ [] → IsUnfinished rows u → IsLow u
+unfinished_low rows [] some h = absurd (some refl)
+unfinished_low rows (x ∷ t) some (inl h) = go (sequence_bytes (x ∷ t ++ h.tail) h.meaning h.is_sequence)
+  where
+    plain_first : (y : ℕ) (s n : List ℕ) → AllByRecursion IsPlain n → n ≡ t ++ h.tail → t ≡ y ∷ s → y < 128
+    plain_first y s n p e k =
+        let first : AllByRecursion IsPlain (y ∷ s ++ h.tail) =
+        subst (AllByRecursion IsPlain) (e ∙ ap (λ z. z ++ h.tail) k) p in
+        (let it : IsPlain y = first.0 in omega (arith, it.1))
+
+    go : Bytes (x ∷ t ++ h.tail) → IsLow (x ∷ t)
+    go (one y l e) = absurd (omega (arith, ap length e, length-append t h.tail, length-some h.tail h.longer))
+    go (more n m e p) = record {
+      after = t;
+      splits = (let first : x ≡ 27 = cc (e) in ap (λ z. z ∷ t) first);
+      low = λ y s k. plain_first y s n p (let rest : n ≡ t ++ h.tail = cc (e) in rest) k;
+    }
+unfinished_low rows (x ∷ t) some (inr h) =
+    let s = form_shape (x ∷ t ++ h.tail) h.is_extra.is_form in
+    record {
+      after = t;
+      splits = (let first : x ≡ 27 = cc (s.2) in ap (λ z. z ∷ t) first);
+      low = λ y r k.
+          let next : y ≡ s.0 = cc (s.2, k) in
+          let bound : s.0 ≤ 95 = second_low s.0 s.4 in omega arith;
+    }
+
+-- a high byte is first there nowhere
+pub no_high : (u held bytes : List ℕ) → CharacterBytes u → IsHeldEscape held → u ≡ held ++ bytes → IsLow bytes → ⊥
+no_high u held bytes c is e low = ⊎_elim (at_once bytes e low) (after_escape bytes e low) is
+  where
+    here : (w : List ℕ) → u ≡ w → IsLow w → ⊥
+    here w same l = ⊎_elim
+        (λ (k : u ≡ c.first ∷ c.after).
+        let first : c.first ≡ 27 = cc (k, same, l.splits) in omega (arith, c.high))
+        (λ (k : u ≡ 27 ∷ c.first ∷ c.after).
+        let rest : l.after ≡ c.first ∷ c.after = cc (k, same, l.splits) in
+        omega (arith, c.high, l.low c.first c.after rest))
+        c.spells
+
+    at_once : (w : List ℕ) → u ≡ held ++ w → IsLow w → held ≡ [] → ⊥
+    at_once w same l none = here w (same ∙ ap (λ z. z ++ w) none) l
+
+    after_escape : (w : List ℕ) → u ≡ held ++ w → IsLow w → held ≡ ESC → ⊥
+    after_escape w same l single = ⊎_elim
+        (λ (k : u ≡ c.first ∷ c.after).
+        let first : c.first ≡ 27 = cc (k, same, ap (λ z. z ++ w) single) in omega (arith, c.high))
+        (λ (k : u ≡ 27 ∷ c.first ∷ c.after).
+        let rest : w ≡ c.first ∷ c.after = cc (k, same, ap (λ z. z ++ w) single) in
+        let first : c.first ≡ 27 = cc (rest, l.splits) in omega (arith, c.high))
+        c.spells
+
+-- what properly begins a character is one byte from 128 on at least
+character_first : (u : List ℕ) → u ≢ [] → IsUnfinishedCharacter u → (x : ℕ) × (t : List ℕ) × (u ≡ x ∷ t) × (128 ≤ x)
+character_first [] some h = absurd (some refl)
+character_first (x ∷ t) some h =
+    let high : IsHigh x = (parted_high h.char (x ∷ t) h.tail h.scalar some h.longer h.spells).0 in (x, t, refl, high.0)
+
+-- so it begins with a high byte, alone or after an ESC
+character_bytes : (u held bytes : List ℕ) → IsHeldEscape held → u ≡ held ++ bytes → bytes ≢ [] → IsUnfinishedCharacter bytes
+    → CharacterBytes u
+character_bytes u held bytes is e some h =
+    let c = character_first bytes some h in
+    record {
+      first = c.0;
+      after = c.1;
+      high = c.3;
+      spells = ⊎_elim
+          (λ (none : held ≡ []). inl (e ∙ ap (λ z. z ++ bytes) none ∙ c.2))
+          (λ (single : held ≡ ESC). inr (e ∙ ap (λ z. z ++ bytes) single ∙ ap (λ z. 27 ∷ z) c.2))
+          is;
+    }
+
+-- START properly begins no sequence
+start_begins_none : (rows : Rows) (u : List ℕ) → Begins START u → IsUnfinished rows u → ⊥
+start_begins_none rows u b (inl h) = append-some b.0 h.tail h.longer (start_ends (b.0 ++ h.tail) h.meaning
+    (subst (λ z. IsSequence z h.meaning) (ap (λ z. z ++ h.tail) b.1) h.is_sequence))
+start_begins_none rows u b (inr h) = append-some b.0 h.tail h.longer (form_ends START (b.0 ++ h.tail) start_form
+    (subst (λ z. IsForm z) (ap (λ z. z ++ h.tail) b.1) h.is_extra.is_form))
+
+pub start_not_held : (rows : Rows) (u held bytes : List ℕ) → Begins START u → IsHeldEscape held → u ≡ held ++ bytes → bytes ≢ []
+    → IsUnfinished rows bytes → ⊥
+start_not_held rows u held bytes b is e some h = ⊎_elim
+    (λ (none : held ≡ []). start_begins_none rows bytes (b.0, sym (e ∙ ap (λ z. z ++ bytes) none) ∙ b.1) h)
+    (λ (single : held ≡ ESC).
+    let low = unfinished_low rows bytes some h in
+    let first : ◌≡◌ {A = ℕ} 91 27 = cc (b.1, e, ap (λ z. z ++ bytes) single, low.splits) in omega arith)
+    is
+
+pub start_no_character : (u : List ℕ) → Begins START u → CharacterBytes u → ⊥
+start_no_character u b c = ⊎_elim
+    (λ (k : u ≡ c.first ∷ c.after). let first : c.first ≡ 27 = cc (k, b.1) in omega (arith, c.high))
+    (λ (k : u ≡ 27 ∷ c.first ∷ c.after). let first : c.first ≡ 91 = cc (k, b.1) in omega (arith, c.high))
+    c.spells
+
+-- what waits is nothing, an open paste, or the beginning of a sequence or of a character
+pub data Kinds (rows : Rows) (u : List ℕ) (f : Bool) : Type 0 where
+  none : u ≡ [] → Kinds rows u f
+  pasted : (body : List ℕ) → u ≡ START ++ body → IsKind rows u f Paste → Kinds rows u f
+  sequence : (held bytes : List ℕ) → IsHeldEscape held → u ≡ held ++ bytes → bytes ≢ [] → IsUnfinished rows bytes
+      → f ≡ true → Kinds rows u f
+  character : CharacterBytes u → IsHeldThen IsUnfinishedCharacter u → f ≡ true → Kinds rows u f
+
+pub kinds : (rows : Rows) (u : List ℕ) (f : Bool) → IsRest rows u f → Kinds rows u f
+kinds rows u f rest = go (waiting_shape rows u f rest)
+  where
+    go : Waits rows u f → Kinds rows u f
+    go (nothing e) = none e
+    go (open_paste body e never) = pasted body e (record { body = body; splits = e; endless = never })
+    go (undecided held bytes is e n (inl (inl h)) short m) = sequence held bytes is e n (inl h) m
+    go (undecided held bytes is e n (inl (inr h)) short m) = character (character_bytes u held bytes is e n h)
+        (record { held = held; bytes = bytes; is_held = is; splits = e; some = n; unfinished = h }) m
+    go (undecided held bytes is e n (inr h) short m) = sequence held bytes is e n (inr h) m
+
+pub escapes_some : (u : List ℕ) → IsOneOrTwoEscapes u → u ≡ [] → ⊥
+escapes_some u is e = ⊎_elim (λ (a : u ≡ ESC). cc (a, e)) (λ (b : u ≡ ESC ++ ESC). cc (b, e)) is
+
+pub escapes_no_paste : (u body : List ℕ) → IsOneOrTwoEscapes u → u ≡ START ++ body → ⊥
+escapes_no_paste u body is e = ⊎_elim
+    (λ (a : u ≡ ESC). cc (a, e))
+    (λ (b : u ≡ ESC ++ ESC). let same : ◌≡◌ {A = ℕ} 27 91 = cc (b, e) in omega arith)
+    is
+
+escapes_no_character : (u : List ℕ) → IsOneOrTwoEscapes u → CharacterBytes u → ⊥
+escapes_no_character u is c = ⊎_elim
+    (λ (a : u ≡ ESC). ⊎_elim
+    (λ (k : u ≡ c.first ∷ c.after). let first : 27 ≡ c.first = cc (a, k) in omega (arith, c.high))
+    (λ (k : u ≡ 27 ∷ c.first ∷ c.after). cc (a, k)) c.spells)
+    (λ (b : u ≡ ESC ++ ESC). ⊎_elim
+    (λ (k : u ≡ c.first ∷ c.after). let first : 27 ≡ c.first = cc (b, k) in omega (arith, c.high))
+    (λ (k : u ≡ 27 ∷ c.first ∷ c.after). let second : 27 ≡ c.first = cc (b, k) in omega (arith, c.high)) c.spells)
+    is
+
+held_some : {P : List ℕ → Type 0} (u : List ℕ) → IsHeldThen P u → u ≡ [] → ⊥
+held_some u is empty = append-some is.held is.bytes is.some (sym is.splits ∙ empty)
+
+bytes_of_character : (u : List ℕ) → IsHeldThen IsUnfinishedCharacter u → CharacterBytes u
+bytes_of_character u is = character_bytes u is.held is.bytes is.is_held is.splits is.some is.unfinished
+
+sequence_no_character : (rows : Rows) (u : List ℕ) → IsHeldThen (IsUnfinished rows) u → CharacterBytes u → ⊥
+sequence_no_character rows u is c =
+    no_high u is.held is.bytes c is.is_held is.splits (unfinished_low rows is.bytes is.some is.unfinished)
+
+sequence_no_paste : (rows : Rows) (u body : List ℕ) → IsHeldThen (IsUnfinished rows) u → u ≡ START ++ body → ⊥
+sequence_no_paste rows u body is e =
+    start_not_held rows u is.held is.bytes (body, e) is.is_held is.splits is.some is.unfinished
+
+-- what is of two kinds is of one
+one_kind : (rows : Rows) (u : List ℕ) (f : Bool) (a b : Waiting) → IsKind rows u f a → IsKind rows u f b → b ≡ a
+one_kind rows u f Nothing Nothing p q = refl
+one_kind rows u f Nothing Escape p q = absurd (escapes_some u q.0 p)
+one_kind rows u f Nothing Sequence p q = absurd (held_some u q.0 p)
+one_kind rows u f Nothing Character p q = absurd (held_some u q.0 p)
+one_kind rows u f Nothing Paste p q = absurd (cc (p, q.splits))
+one_kind rows u f Escape Nothing p q = absurd (escapes_some u p.0 q)
+one_kind rows u f Escape Escape p q = refl
+one_kind rows u f Escape Sequence p q = absurd (q.1 p.0)
+one_kind rows u f Escape Character p q = absurd (escapes_no_character u p.0 (bytes_of_character u q.0))
+one_kind rows u f Escape Paste p q = absurd (escapes_no_paste u q.body p.0 q.splits)
+one_kind rows u f Sequence Nothing p q = absurd (held_some u p.0 q)
+one_kind rows u f Sequence Escape p q = absurd (p.1 q.0)
+one_kind rows u f Sequence Sequence p q = refl
+one_kind rows u f Sequence Character p q = absurd (sequence_no_character rows u p.0 (bytes_of_character u q.0))
+one_kind rows u f Sequence Paste p q = absurd (sequence_no_paste rows u q.body p.0 q.splits)
+one_kind rows u f Character Nothing p q = absurd (held_some u p.0 q)
+one_kind rows u f Character Escape p q = absurd (escapes_no_character u q.0 (bytes_of_character u p.0))
+one_kind rows u f Character Sequence p q = absurd (sequence_no_character rows u q.0 (bytes_of_character u p.0))
+one_kind rows u f Character Character p q = refl
+one_kind rows u f Character Paste p q = absurd (start_no_character u (q.body, q.splits) (bytes_of_character u p.0))
+one_kind rows u f Paste Nothing p q = absurd (cc (q, p.splits))
+one_kind rows u f Paste Escape p q = absurd (escapes_no_paste u p.body q.0 p.splits)
+one_kind rows u f Paste Sequence p q = absurd (sequence_no_paste rows u p.body q.0 p.splits)
+one_kind rows u f Paste Character p q = absurd (start_no_character u (p.body, p.splits) (bytes_of_character u q.0))
+one_kind rows u f Paste Paste p q = refl
+
+one_or_two_or_not : (u : List ℕ) → IsOneOrTwoEscapes u ⊎ (IsOneOrTwoEscapes u → ⊥)
+one_or_two_or_not u = ⊎_elim
+    (λ (a : u ≡ ESC). inl (inl a))
+    (λ (none : u ≡ ESC → ⊥). ⊎_elim
+    (λ (b : u ≡ ESC ++ ESC). inl (inr b))
+    (λ (never : u ≡ ESC ++ ESC → ⊥). inr (λ either. ⊎_elim none never either))
+    (same_or_not u (ESC ++ ESC)))
+    (same_or_not u ESC)
+
+some_kind : (rows : Rows) (u : List ℕ) (f : Bool) → Kinds rows u f → (kind : Waiting) × IsKind rows u f kind
+some_kind rows u f (none e) = (Nothing, e)
+some_kind rows u f (pasted body e is) = (Paste, is)
+some_kind rows u f (sequence held bytes is e n h m) = ⊎_elim
+    (λ (escapes : IsOneOrTwoEscapes u). (Escape, (escapes, m)))
+    (λ other. (
+      Sequence,
+      (record { held = held; bytes = bytes; is_held = is; splits = e; some = n; unfinished = h }, other, m),
+    ))
+    (one_or_two_or_not u)
+some_kind rows u f (character c is m) = (Character, (is, m))
+
+pub waiting_kinds : WaitingKinds
+waiting_kinds rows u f rest =
+    let it = some_kind rows u f (kinds rows u f rest) in
+    (it.0, it.1, λ other is. one_kind rows u f it.0 other it.1 is)
