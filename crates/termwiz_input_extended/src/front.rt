@@ -2,10 +2,12 @@
 ghost use Rattle.std.specs.Prelude.{◌≡◌, ◌≢◌, ◌↔◌, ◌++◌, ℕ, Bool, List, [], IfSome, IfNone, IsTrue, Some, Contains};
 ghost use Rattle.termwiz_keymap.specs.Bytes.{Begins};
 ghost use Rattle.termwiz_keys.specs.Introducers.{ESC, START};
+ghost use Rattle.termwiz_keys.specs.declared.types.InputEvent.TheVariants.{Key as PortsKey};
 ghost use Rattle.termwiz_keys.specs.declared.types.KeyEvent.{KeyEvent as Key};
 ghost use Rattle.termwiz_keys.specs.declared.types.MouseEvent.{MouseEvent as Mouse};
 ghost use Rattle.termwiz_grammar.specs.MouseReports.{IsMouseReport};
 ghost use Rattle.termwiz_grammar.specs.Table.{rows as table_rows};
+ghost use Rattle.termwiz_input.specs.Matches.{IsItemAt};
 ghost use Rattle.termwiz_input.specs.MouseReportAnswers.{HasNoPartInMouseReports};
 ghost use Rattle.termwiz_extended_events.specs.declared.types.Rows.TheVariants.{Port};
 ghost use Rattle.termwiz_extended_events.specs.Meanings.{event_from, event_of};
@@ -201,6 +203,28 @@ fn front_of_form(text: &[u8], scanned: usize, maybe_more: bool) -> ExtendedFront
     }
 }
 
+// What is at the front of such a text, if it also begins with the row of this key, of two bytes, and no longer one: a form, or else the row.
+#[inline(always)]
+fn front_of_short_row(
+    text: &[u8],
+    key: &KeyEvent,
+    scanned: usize,
+    maybe_more: bool,
+) -> ExtendedFront
+    requires escape { Begins ESC text.now }
+    requires one { ¬ Begins (ESC ++ ESC) text.now }
+    requires no_mouse { HasNoPartInMouseReports text.now }
+    requires scanned { IsScanned text.now scanned }
+    requires row { IsItemAt text.now maybe_more (PortsKey key.now) 2 }
+    requires no_row { HasNoLongRow text.now }
+    ensures { (rows : Rows) → IsExtendedFront rows text.now maybe_more result }
+{
+    match front_of_form(text, scanned, maybe_more) {
+        ExtendedFront::Usual => ExtendedFront::Key(copied(key), 2),
+        form => form,
+    }
+}
+
 // Looks for a row of two or more bytes at the front of a text, under `Rows::Port`.
 #[inline(always)]
 fn row_at<'k>(parser: &'k InputParser, rows: Rows, text: &[u8], maybe_more: bool) -> FrontRow<'k>
@@ -220,8 +244,7 @@ fn row_at<'k>(parser: &'k InputParser, rows: Rows, text: &[u8], maybe_more: bool
     }
 }
 
-// What is at the front of a text that begins with one ESC alone. A mouse report is looked for first. A row of two bytes is read only if
-// no form begins there.
+// What is at the front of a text that begins with one ESC alone. A mouse report is looked for first.
 #[inline(always)]
 fn front_of_one_escape(
     parser: &InputParser,
@@ -242,12 +265,7 @@ fn front_of_one_escape(
         FrontReport::Absent if begins_paste(text) => ExtendedFront::Paste,
         FrontReport::Absent => match row_at(parser, rows, text, maybe_more) {
             FrontRow::Long(key, len) => ExtendedFront::Key(copied(key), len),
-            FrontRow::Short(key) => {
-                match front_of_form(text, scanned, maybe_more) {
-                    ExtendedFront::Usual => ExtendedFront::Key(copied(key), 2),
-                    form => form,
-                }
-            }
+            FrontRow::Short(key) => front_of_short_row(text, key, scanned, maybe_more),
             FrontRow::Begun => ExtendedFront::Incomplete(0),
             FrontRow::Absent => front_of_form(text, scanned, maybe_more),
         },

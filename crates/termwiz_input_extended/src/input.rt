@@ -2,6 +2,7 @@
 ghost use Rattle.std.specs.Prelude.{◌≡◌, ◌≢◌, ◌++◌, ◌+◌, ◌≤◌, ◌<◌, ℕ, Bool, List, [], ◌∷◌, length, drop, true, false, OnErr, IfOk, IfErr, IfSome, IfNone, IsSome, IsTrue, ◌↔◌, ◌⊎◌, OnOk, IsOk, IsErrOf, vec_len, vec_capacity};
 ghost use Rattle.termwiz_keymap.specs.Bytes.{Begins};
 ghost use Rattle.termwiz_keys.specs.Introducers.{START};
+ghost use Rattle.termwiz_keys.specs.declared.types.InputEvent.TheVariants as Port;
 ghost use Rattle.termwiz_grammar.specs.WaitingKinds.{IsOneOrTwoEscapes, IsOpenPaste};
 ghost use Rattle.termwiz_extended_events.specs.declared.types.ExtendedEvent.{ExtendedEvent as Event};
 ghost use Rattle.termwiz_extended_grammar.specs.ExtendedGrammar.{HasItem, IsRest, Means, Steps};
@@ -16,7 +17,9 @@ use std::alloc::{AllocError, Global};
 use std::marker::Model;
 use termwiz_extended_events::types::{ExtendedEvent, Rows};
 pub use termwiz_input::input::{ParseError, Waiting};
-use termwiz_input::input::{InputEvent, InputParser, escape_key, plain_key};
+use termwiz_input::input::{
+    InputEvent, InputParser, KeyEvent, MouseEvent, escape_key, plain_key,
+};
 
 /// A call of [`ExtendedParser::parse_as_vec`] was refused memory. No event is lost: the parser has consumed exactly what `events` came from,
 /// and the next call goes on from there. Call again with the same bytes if `taken` is false, and with no bytes if it is true.
@@ -55,6 +58,20 @@ impl Model for ExtendedParser {
 
 // More events than most reads have.
 const FIRST_ROOM: usize = 256;
+
+// The event of a key of the port.
+fn key_event(key: KeyEvent) -> ExtendedEvent
+    ensures { result ≡ Event.Input (Port.Key key) }
+{
+    ExtendedEvent::Input(InputEvent::Key(key))
+}
+
+// The event of a mouse report of the port.
+fn mouse_event(event: MouseEvent) -> ExtendedEvent
+    ensures { result ≡ Event.Input (Port.Mouse event) }
+{
+    ExtendedEvent::Input(InputEvent::Mouse(event))
+}
 
 impl ExtendedParser {
     /// A parser that reads the rows of the sequence table in this way, and whose waiting text is empty.
@@ -198,16 +215,16 @@ impl ExtendedParser {
         match self.front(maybe_more) {
             ExtendedFront::Key(key, len) => {
                 self.consume(len);
-                Ok(Some(ExtendedEvent::Input(InputEvent::Key(key))))
+                Ok(Some(key_event(key)))
             }
             ExtendedFront::Form(len) => self.next_form(len, maybe_more),
             ExtendedFront::MouseReport(event, len) => {
                 self.consume(len);
-                Ok(Some(ExtendedEvent::Input(InputEvent::Mouse(event))))
+                Ok(Some(mouse_event(event)))
             }
             ExtendedFront::Escape => {
                 self.consume(1);
-                Ok(Some(ExtendedEvent::Input(InputEvent::Key(escape_key()))))
+                Ok(Some(key_event(escape_key())))
             }
             ExtendedFront::Paste => self.next_paste(maybe_more),
             ExtendedFront::Usual => self.next_of_port(maybe_more),
@@ -243,7 +260,7 @@ impl ExtendedParser {
         match character_front(self.waiting_text()) {
             Some((character, len)) => {
                 self.consume(len);
-                Ok(Some(ExtendedEvent::Input(InputEvent::Key(plain_key(character)))))
+                Ok(Some(key_event(plain_key(character))))
             }
             None => self.emit_front(maybe_more),
         }

@@ -41,14 +41,12 @@ returns-in-Begun-row_at c =
     )
 
 pub returns-in-Absent-row_at : goal.returns-in-Absent-row_at
-returns-in-Absent-row_at c = c.front_of_form-in-Absent-row_at.ensures c.args.rows c.in-Absent-row_at.ensures
+returns-in-Absent-row_at c = c.front_of_form.ensures c.args.rows c.in-Absent-row_at.ensures
 
-pub returns-in-Usual : goal.returns-in-Usual
-returns-in-Usual c = (
-  c.in-Usual.ensures c.args.rows (λ port. c.in-Short.ensures.1),
-  rw c.copied-in-Usual.ensures (short_row_item c.args.text.now c.args.maybe_more c.in-Short.key.now c.in-Short.ensures.0
-      (denied c.begins_paste.ensures.1 c.if-begins_paste.false)),
-)
+pub front_of_short_row-requires-clause-row : goal.front_of_short_row-requires-clause-row
+front_of_short_row-requires-clause-row c =
+    short_row_item c.args.text.now c.args.maybe_more c.in-Short.key.now c.in-Short.ensures.0
+    (denied c.begins_paste.ensures.1 c.if-begins_paste.false)
 
-pub returns-in_default : goal.returns-in_default
-returns-in_default c = c.front_of_form.ensures c.args.rows (λ port. c.in-Short.ensures.1)
+pub returns-in-Short : goal.returns-in-Short
+returns-in-Short c = c.front_of_short_row.ensures c.args.rows

@@ -10,23 +10,23 @@ use Rattle.termwiz_input_extended.proofs.lemmas.fronts.KnownFronts.{item_step, m
 use Rattle.termwiz_input_extended.proofs.input.ExtendedParser.emit_front.Goals as goal
 
 pub returns-in-Key : goal.returns-in-Key
-returns-in-Key c = emits_event c.args.self.now _ c.args.maybe_more _
+returns-in-Key c = rw c.key_event.ensures (emits_event c.args.self.now _ c.args.maybe_more (Input (Key c.in-Key.key))
     (subst (λ t. Steps c.args.self.now.rows c.args.self.now.text c.args.maybe_more (Input (Key c.in-Key.key) ∷ []) t)
     (sym (ap (λ (b : Buffered). b.text) c.consume.ensures))
     (item_step c.args.self.now.rows c.args.self.now.text (Key c.in-Key.key) c.in-Key.len c.args.maybe_more c.in-Key.ensures.0
     c.in-Key.ensures.1))
-    (ap (λ (b : Buffered). b.rows) c.consume.ensures)
+    (ap (λ (b : Buffered). b.rows) c.consume.ensures))
 
 pub returns-in-MouseReport : goal.returns-in-MouseReport
-returns-in-MouseReport c = emits_event c.args.self.now _ c.args.maybe_more _
+returns-in-MouseReport c = rw c.mouse_event.ensures (emits_event c.args.self.now _ c.args.maybe_more (Input (Mouse c.in-MouseReport.event))
     (subst (λ t. Steps c.args.self.now.rows c.args.self.now.text c.args.maybe_more (Input (Mouse c.in-MouseReport.event) ∷ []) t)
     (sym (ap (λ (b : Buffered). b.text) c.consume-in-MouseReport.ensures))
     (mouse_report_step c.args.self.now.rows c.args.self.now.text c.in-MouseReport.event c.in-MouseReport.len c.args.maybe_more
     c.in-MouseReport.ensures.0 c.in-MouseReport.ensures.1))
-    (ap (λ (b : Buffered). b.rows) c.consume-in-MouseReport.ensures)
+    (ap (λ (b : Buffered). b.rows) c.consume-in-MouseReport.ensures))
 
 pub returns-in-Escape : goal.returns-in-Escape
-returns-in-Escape c = rw c.escape_key.ensures (emits_event c.args.self.now _ c.args.maybe_more (Input (Key escape))
+returns-in-Escape c = rw (c.key_event-in-Escape.ensures, c.escape_key.ensures) (emits_event c.args.self.now _ c.args.maybe_more (Input (Key escape))
     (subst (λ t. Steps c.args.self.now.rows c.args.self.now.text c.args.maybe_more (Input (Key escape) ∷ []) t)
     (sym (ap (λ (b : Buffered). b.text) c.consume-in-Escape.ensures))
     (escape_step c.args.self.now.rows c.args.self.now.text c.in-Escape.ensures.0 c.args.maybe_more c.in-Escape.ensures.1

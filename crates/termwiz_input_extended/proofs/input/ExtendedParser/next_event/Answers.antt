@@ -17,10 +17,10 @@ consume-requires c =
 
 pub returns-in-Some-clause-event : goal.returns-in-Some-clause-event
 returns-in-Some-clause-event c =
+    let u = c.args.self.now.text in
     let is = subst (λ t. IsPortsOwn c.args.self.now.rows t c.args.maybe_more × IsItemAt t c.args.maybe_more (Key (plain c.in-Some.character)) c.in-Some.len)
     c.waiting_text.ensures (c.in-Some.ensures c.args.self.now.rows c.args.maybe_more) in
-    subst (λ t. Steps c.args.self.now.rows c.args.self.now.text c.args.maybe_more (Input (Key c.plain_key.result) ∷ []) t)
+    rw (c.key_event.ensures, c.plain_key.ensures)
+    (subst (λ t. Steps c.args.self.now.rows u c.args.maybe_more (Input (Key (plain c.in-Some.character)) ∷ []) t)
     (sym (ap (λ (b : Buffered). b.text) c.consume.ensures))
-    (subst (λ key. Steps c.args.self.now.rows c.args.self.now.text c.args.maybe_more (Input (Key key) ∷ []) (drop c.in-Some.len c.args.self.now.text))
-    (sym c.plain_key.ensures)
-    (item_step c.args.self.now.rows c.args.self.now.text _ c.in-Some.len c.args.maybe_more is.0 is.1))
+    (item_step c.args.self.now.rows u _ c.in-Some.len c.args.maybe_more is.0 is.1))
