@@ -1,7 +1,8 @@
 -- What is at the front of a text, as far as extra sequences go.
-use Rattle.std.specs.Prelude.{◌≡◌, ◌++◌, ℕ, ◌<◌, ◌≤◌, ◌-◌, Bool, true, false, List, [], ◌∷◌, length, take, Contains, Option, Some, Result, IfOk, IfSome, IfNone, OnErr}
+use Rattle.std.specs.Prelude.{◌≡◌, ◌⊎◌, ◌++◌, ℕ, ◌<◌, ◌≤◌, ◌-◌, Bool, true, false, List, [], ◌∷◌, length, take, Contains, Option, Some, Result, IfOk, IfSome, IfNone, OnErr}
 use Rattle.termwiz_keymap.specs.Bytes.{Begins}
 use Rattle.termwiz_keys.specs.Introducers.{ESC, START}
+use Rattle.termwiz_keys.specs.Keys.{escape, with_alt}
 use Rattle.termwiz_keys.specs.declared.types.KeyEvent.{KeyEvent}
 use Rattle.termwiz_keys.specs.declared.types.MouseEvent.{MouseEvent}
 use Rattle.termwiz_keys.specs.declared.types.InputEvent.{InputEvent}
@@ -24,7 +25,7 @@ use Rattle.termwiz_extended_grammar.specs.ExtendedLaws.{HasNoExtra}
 use Rattle.termwiz_input_extended.specs.declared.front.FormFront.{FormFront}
 use Rattle.termwiz_input_extended.specs.declared.front.FormFront.TheVariants as front
 use Rattle.termwiz_input_extended.specs.declared.front.ExtendedFront.{ExtendedFront}
-use Rattle.termwiz_input_extended.specs.declared.front.ExtendedFront.TheVariants.{Key, Form, MouseReport, Escape, Paste, Usual, Incomplete}
+use Rattle.termwiz_input_extended.specs.declared.front.ExtendedFront.TheVariants.{Control, Key, Form, MouseReport, Escape, AltEscape, Paste, Usual, Incomplete}
 use Rattle.termwiz_input_extended.specs.declared.front.FrontRow.{FrontRow}
 use Rattle.termwiz_input_extended.specs.declared.front.FrontRow.TheVariants.{Long, Short, Begun, Absent}
 use Rattle.termwiz_input_extended.specs.Buffered.{Buffered}
@@ -100,12 +101,18 @@ pub record IsExtraAt (rows : Rows) (u : List ℕ) (meaning : Meaning) (len : ℕ
   pub extra : IsExtra rows (take len u) (event_of (take len u))
   pub means : event_from meaning ≡ Some (event_of (take len u))
 
+-- a control character, but ESC, that is a row of the sequence table
+abbrev pub IsControlKey : ℕ → Type 0
+IsControlKey byte = ((1 ≤ byte) × (byte ≤ 26)) ⊎ (byte ≡ 127)
+
 -- this is at the front of the text, under this flag. Of an incomplete sequence the search goes on from a place.
 abbrev pub IsExtendedFront : Rows → List ℕ → Bool → ExtendedFront → Type 0
-IsExtendedFront rows u more (Key key len) = IsPortsOwn rows u more × IsItemAt u more (PortsKey key) len
+IsExtendedFront rows u more (Control byte) = (rest : List ℕ) × (u ≡ byte ∷ rest) × IsControlKey byte
+IsExtendedFront rows u more (Key key len) = IsPortsOwn rows u more × IsItemAt u more (PortsKey key.now) len
 IsExtendedFront rows u more (Form len) = IsFormAt rows u len
 IsExtendedFront rows u more (MouseReport event len) = (len ≤ length u) × IsMouseReport (take len u) event
 IsExtendedFront rows u more Escape = (v : List ℕ) × (u ≡ ESC ++ v) × StartsWithExtra rows v
+IsExtendedFront rows u more AltEscape = IsPortsOwn rows u more × IsItemAt u more (PortsKey (with_alt escape)) 2
 IsExtendedFront rows u more Paste = Begins START u
 IsExtendedFront rows u more Usual = IsPortsOwn rows u more
 IsExtendedFront rows u more (Incomplete place) = IsRest rows u more × IsScannedTo u place

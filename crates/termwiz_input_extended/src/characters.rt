@@ -1,10 +1,10 @@
 // Characters at the front of a text: printable ASCII, those of several bytes, and control characters.
-ghost use Rattle.std.specs.Prelude.{◌≢◌, ◌∷◌, [], Bool, Contains, IfSome};
+ghost use Rattle.std.specs.Prelude.{◌↔◌, ◌∷◌, [], Bool, Contains, IfSome, IsTrue};
 ghost use Rattle.termwiz_keys.specs.Keys.{plain};
 ghost use Rattle.termwiz_keys.specs.declared.types.InputEvent.TheVariants.{Key};
 ghost use Rattle.termwiz_grammar.specs.Table.{rows as table_rows};
 ghost use Rattle.termwiz_input.specs.Matches.{IsItemAt};
-ghost use Rattle.termwiz_input_extended.specs.ExtendedFronts.{IsPortsOwn};
+ghost use Rattle.termwiz_input_extended.specs.ExtendedFronts.{IsControlKey, IsPortsOwn};
 
 use termwiz_base::{Flags, Modifiers};
 use termwiz_extended_events::types::Rows;
@@ -14,28 +14,34 @@ use termwiz_keys::types::{KeyCode, KeyEvent};
 // The first byte that isn't ASCII.
 const HIGH: u8 = 0x80;
 
-// The key of a control character but ESC, if it has one: its row in the sequence table, which this finds without a lookup. Inlined, its
-// match would be made for sequences too.
+// Whether a byte is a control character, but ESC, that is a row of the sequence table.
+pub(crate) fn is_control_key(byte: u8) -> bool
+    ensures { IsTrue result ↔ IsControlKey byte }
+{
+    matches!(byte, 1..=26 | 0x7f)
+}
+
+// The key of such a character: its row in the sequence table, which this finds without a lookup.
 #[inline(never)]
-pub(crate) fn control_key(byte: u8) -> Option<KeyEvent>
-    ensures { IfSome result (λ key. (byte ≢ 27) × Contains table_rows (byte ∷ [], key)) }
+pub(crate) fn control_key(byte: u8) -> KeyEvent
+    requires { IsControlKey byte }
+    ensures { Contains table_rows (byte ∷ [], result) }
 {
     let key = match byte {
         0x08 | 0x7f => KeyCode::Backspace,
         b'\t' => KeyCode::Tab,
         b'\n' | b'\r' => KeyCode::Enter,
-        1..=26 => {
-            return Some(KeyEvent {
+        _ => {
+            return KeyEvent {
                 key: KeyCode::Char(char::from(b'a' - 1 + byte)),
                 modifiers: Modifiers::CTRL,
-            });
+            };
         }
-        _ => return None,
     };
-    Some(KeyEvent {
+    KeyEvent {
         key,
         modifiers: Modifiers::NONE,
-    })
+    }
 }
 
 // The character at the front of a text, and the number of its bytes: printable ASCII, or one of several bytes. It is an item, whatever

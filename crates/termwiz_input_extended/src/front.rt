@@ -15,13 +15,12 @@ ghost use Rattle.termwiz_extended_grammar.specs.Forms.{IsForm};
 ghost use Rattle.termwiz_input_extended.specs.FormAnswers.{IsScanned};
 ghost use Rattle.termwiz_input_extended.specs.ExtendedFronts.{HasFormFront, HasNoLongRow, IsExtendedFront, IsExtraAt, IsFormAt, IsFrontRow, IsPortsOwn, IsReported, IsScannedTo, IsSomeExtra};
 
-use crate::characters::control_key;
+use crate::characters::is_control_key;
 use crate::form::{ESCAPE, FormAt, form_at, next_scan};
 use termwiz_extended_events::meanings::{Meaning, meaning_of};
 use termwiz_extended_events::types::Rows;
 use termwiz_input::input::{
-    FrontReport, InputParser, alt_key, begins_paste, copied, escape_key, follows_escape,
-    mouse_report_at,
+    FrontReport, InputParser, begins_paste, follows_escape, mouse_report_at,
 };
 use termwiz_input::keymap::Found;
 use termwiz_keys::types::{KeyEvent, MouseEvent};
@@ -54,15 +53,19 @@ pub(crate) enum FrontRow<'k> {
 
 // What is at the front of a text that no character begins. A `usize` is the number of its bytes, but for `Incomplete`.
 #[derive(Drop)]
-pub(crate) enum ExtendedFront {
+pub(crate) enum ExtendedFront<'k> {
+    // A control character, but ESC, that is read as its key.
+    Control(u8),
     // A row of the sequence table that is read as its key.
-    Key(KeyEvent, usize),
+    Key(&'k KeyEvent, usize),
     // A form that is no mouse report: an extra sequence or, under `Rows::Kitty`, a row of the sequence table.
     Form(usize),
     // A mouse report, which the port finds there too.
     MouseReport(MouseEvent, usize),
     // The Escape key before an extra sequence.
     Escape,
+    // The Escape key with ALT: two ESC before a third one.
+    AltEscape,
     // The start of a paste.
     Paste,
     // What the port finds there, whatever it is.
@@ -161,20 +164,20 @@ fn form_front(text: &[u8], scanned: usize) -> FormFront
 }
 
 // What is at the front of a text that starts with ESC ESC, by what follows the first one.
-fn front_of_two_escapes(
+fn front_of_two_escapes<'k>(
     parser: &InputParser,
     rows: Rows,
     after: &[u8],
     scanned: usize,
     maybe_more: bool,
-) -> ExtendedFront
+) -> ExtendedFront<'k>
     requires escape { Begins ESC after.now }
     requires scanned { IsScanned after.now scanned }
     ensures { IsExtendedFront rows (ESC ++ after.now) maybe_more result }
 {
     // Before a third ESC the first two are a key, whatever comes.
     if let [_, ESCAPE, ..] = after {
-        return ExtendedFront::Key(alt_key(escape_key()), 2);
+        return ExtendedFront::AltEscape;
     }
     match form_front(after, scanned) {
         FormFront::Form(len) if is_extra_form(parser, rows, &after[..len]) => ExtendedFront::Escape,
@@ -188,7 +191,7 @@ fn front_of_two_escapes(
 
 // What is at the front of a text that begins with one ESC alone, and with no part of a mouse report: a form, or what the port finds.
 #[inline(always)]
-fn front_of_form(text: &[u8], scanned: usize, maybe_more: bool) -> ExtendedFront
+fn front_of_form<'k>(text: &[u8], scanned: usize, maybe_more: bool) -> ExtendedFront<'k>
     requires escape { Begins ESC text.now }
     requires one { ¬ Begins (ESC ++ ESC) text.now }
     requires no_mouse { HasNoPartInMouseReports text.now }
@@ -205,12 +208,12 @@ fn front_of_form(text: &[u8], scanned: usize, maybe_more: bool) -> ExtendedFront
 
 // What is at the front of such a text, if it also begins with the row of this key, of two bytes, and no longer one: a form, or else the row.
 #[inline(always)]
-fn front_of_short_row(
+fn front_of_short_row<'k>(
     text: &[u8],
-    key: &KeyEvent,
+    key: &'k KeyEvent,
     scanned: usize,
     maybe_more: bool,
-) -> ExtendedFront
+) -> ExtendedFront<'k>
     requires escape { Begins ESC text.now }
     requires one { ¬ Begins (ESC ++ ESC) text.now }
     requires no_mouse { HasNoPartInMouseReports text.now }
@@ -220,7 +223,7 @@ fn front_of_short_row(
     ensures { (rows : Rows) → IsExtendedFront rows text.now maybe_more result }
 {
     match front_of_form(text, scanned, maybe_more) {
-        ExtendedFront::Usual => ExtendedFront::Key(copied(key), 2),
+        ExtendedFront::Usual => ExtendedFront::Key(key, 2),
         form => form,
     }
 }
@@ -246,13 +249,13 @@ fn row_at<'k>(parser: &'k InputParser, rows: Rows, text: &[u8], maybe_more: bool
 
 // What is at the front of a text that begins with one ESC alone. A mouse report is looked for first.
 #[inline(always)]
-fn front_of_one_escape(
-    parser: &InputParser,
+fn front_of_one_escape<'k>(
+    parser: &'k InputParser,
     rows: Rows,
     text: &[u8],
     scanned: usize,
     maybe_more: bool,
-) -> ExtendedFront
+) -> ExtendedFront<'k>
     requires escape { Begins ESC text.now }
     requires one { ¬ Begins (ESC ++ ESC) text.now }
     requires scanned { IsScanned text.now scanned }
@@ -264,7 +267,7 @@ fn front_of_one_escape(
         FrontReport::Begun => ExtendedFront::Usual,
         FrontReport::Absent if begins_paste(text) => ExtendedFront::Paste,
         FrontReport::Absent => match row_at(parser, rows, text, maybe_more) {
-            FrontRow::Long(key, len) => ExtendedFront::Key(copied(key), len),
+            FrontRow::Long(key, len) => ExtendedFront::Key(key, len),
             FrontRow::Short(key) => front_of_short_row(text, key, scanned, maybe_more),
             FrontRow::Begun => ExtendedFront::Incomplete(0),
             FrontRow::Absent => front_of_form(text, scanned, maybe_more),
@@ -274,29 +277,27 @@ fn front_of_one_escape(
 
 // What is at the front of a text that begins with no ESC.
 #[inline(always)]
-fn front_without_escape(text: &[u8]) -> ExtendedFront
+fn front_without_escape<'k>(text: &[u8]) -> ExtendedFront<'k>
     requires { ¬ Begins ESC text.now }
     ensures { (rows : Rows) (more : Bool) → IsExtendedFront rows text.now more result }
 {
     match text {
         [] => ExtendedFront::Incomplete(0),
-        [first, ..] => match control_key(*first) {
-            Some(key) => ExtendedFront::Key(key, 1),
-            None => ExtendedFront::Usual,
-        },
+        [first, ..] if is_control_key(*first) => ExtendedFront::Control(*first),
+        _ => ExtendedFront::Usual,
     }
 }
 
 // What is at the front of a text. A character is the port's: `character_front` is quicker for it. The bytes before `scanned` were looked at
 // before.
 #[inline(always)]
-pub(crate) fn front(
-    parser: &InputParser,
+pub(crate) fn front<'k>(
+    parser: &'k InputParser,
     rows: Rows,
     text: &[u8],
     scanned: usize,
     maybe_more: bool,
-) -> ExtendedFront
+) -> ExtendedFront<'k>
     requires { IsScannedTo text.now scanned }
     ensures { IsExtendedFront rows text.now maybe_more result }
 {

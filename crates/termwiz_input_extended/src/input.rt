@@ -11,14 +11,14 @@ ghost use Rattle.termwiz_input_extended.specs.EventCallbacks.{MayBeCalledOn, Was
 ghost use Rattle.termwiz_input_extended.specs.ExtendedFronts.{Emits, GivesNoneThatNeedsMemory, HasItemThatNeedsMemory, IsExtendedFront, IsFormAt, IsPasteEvent, IsPortsOwn, Stores};
 ghost use Rattle.termwiz_input_extended.specs.Buffered.{IsBoundedOrOpenPaste};
 
-use crate::characters::character_front;
+use crate::characters::{character_front, control_key};
 use crate::front::{ExtendedFront, extra_at, front};
 use std::alloc::{AllocError, Global};
 use std::marker::Model;
 use termwiz_extended_events::types::{ExtendedEvent, Rows};
 pub use termwiz_input::input::{ParseError, Waiting};
 use termwiz_input::input::{
-    InputEvent, InputParser, KeyEvent, MouseEvent, escape_key, plain_key,
+    InputEvent, InputParser, KeyEvent, MouseEvent, alt_key, copied, escape_key, plain_key,
 };
 
 /// A call of [`ExtendedParser::parse_as_vec`] was refused memory. No event is lost: the parser has consumed exactly what `events` came from,
@@ -117,7 +117,7 @@ impl ExtendedParser {
 
     // What is at the front of the waiting text.
     #[inline(always)]
-    fn front(&self, maybe_more: bool) -> ExtendedFront
+    fn front(&self, maybe_more: bool) -> ExtendedFront<'_>
         ensures { IsExtendedFront self.now.rows self.now.text maybe_more result }
     {
         front(
@@ -213,7 +213,12 @@ impl ExtendedParser {
         ensures { Emits self.old maybe_more self.new result }
     {
         match self.front(maybe_more) {
+            ExtendedFront::Control(byte) => {
+                self.consume(1);
+                Ok(Some(key_event(control_key(byte))))
+            }
             ExtendedFront::Key(key, len) => {
+                let key = copied(key);
                 self.consume(len);
                 Ok(Some(key_event(key)))
             }
@@ -225,6 +230,10 @@ impl ExtendedParser {
             ExtendedFront::Escape => {
                 self.consume(1);
                 Ok(Some(key_event(escape_key())))
+            }
+            ExtendedFront::AltEscape => {
+                self.consume(2);
+                Ok(Some(key_event(alt_key(escape_key()))))
             }
             ExtendedFront::Paste => self.next_paste(maybe_more),
             ExtendedFront::Usual => self.next_of_port(maybe_more),
@@ -413,6 +422,7 @@ impl ExtendedParser {
             }
             ExtendedFront::Paste => self.parser.has_item(maybe_more),
             ExtendedFront::Usual => self.parser.has_item(maybe_more),
+            ExtendedFront::Control(_) => self.parser.has_item(maybe_more),
             ExtendedFront::Incomplete(_) => false,
             _ => true,
         }

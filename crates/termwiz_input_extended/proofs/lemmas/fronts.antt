@@ -1,4 +1,5 @@
 pub mod ControlCharacters
+pub mod ControlFirst
 pub mod EmittedItems
 pub mod EscapesFlushed
 pub mod ExtraAnswers

@@ -26,8 +26,7 @@ returns-in-Begun-2 c =
 
 pub returns-in-Long : goal.returns-in-Long
 returns-in-Long c =
-    let row = c.in-Long in
-    rw c.copied.ensures (
+    let row = c.in-Long in (
       long_row_own c.args.rows c.args.text.now c.args.maybe_more row.key.now row.len row.ensures c.requires.escape c.requires.one,
       long_row_item c.args.rows c.args.text.now c.args.maybe_more row.key.now row.len row.ensures
           (denied c.begins_paste.ensures.1 c.if-begins_paste.false),

@@ -9,8 +9,8 @@ use Rattle.termwiz_input_extended.proofs.lemmas.fronts.ScannedPlaces.{scanned_tw
 use Rattle.termwiz_input_extended.proofs.front.front_of_two_escapes.Goals as goal
 
 pub returns-in-27 : goal.returns-in-27
-returns-in-27 c = rw (c.alt_key.ensures, c.escape_key.ensures)
-    (escapes_front c.args.rows c.args.after.now c.args.maybe_more c.requires.escape (omega arith) (omega arith))
+returns-in-27 c =
+    escapes_front c.args.rows c.args.after.now c.args.maybe_more c.requires.escape (omega arith) (omega arith)
 
 pub returns-in-Form : goal.returns-in-Form
 returns-in-Form c =

@@ -1,8 +1,8 @@
-use Rattle.std.proofs.Common.{◌≡◌, length, drop, get_or, sym, subst, arith}
+use Rattle.std.proofs.Common.{◌≡◌, length, drop, sym, subst, arith}
 use Rattle.std.proofs.lemmas.List.{nil_from_length}
 use Rattle.termwiz_extended_grammar.specs.ExtendedGrammar.{IsRest}
 use Rattle.termwiz_extended_grammar.proofs.lemmas.items.ExtendedRests.{empty_is_rest}
-use Rattle.termwiz_input_extended.proofs.lemmas.fronts.ControlCharacters.{first_and_rest, one_byte_item}
+use Rattle.termwiz_input_extended.proofs.lemmas.fronts.ControlCharacters.{first_and_rest}
 use Rattle.termwiz_input_extended.proofs.lemmas.fronts.FrontItems.{own_without_escape}
 use Rattle.termwiz_input_extended.proofs.lemmas.fronts.ScannedPlaces.{scanned_none}
 use Rattle.termwiz_input_extended.proofs.front.front_without_escape.Goals as goal
@@ -14,12 +14,12 @@ returns-in-empty c = λ rows more. (
   scanned_none c.args.text.now,
 )
 
-pub returns-in-Some : goal.returns-in-Some
-returns-in-Some c = λ rows more. (
-  own_without_escape rows c.args.text.now more c.requires,
-  one_byte_item c.args.text.now (get_or c.args.text.now 0 0) (drop 1 c.args.text.now) c.in-Some.key
-      (first_and_rest c.args.text.now (omega arith)) c.in-Some.ensures.0 c.in-Some.ensures.1 more,
+pub returns-in-len1-up : goal.returns-in-len1-up
+returns-in-len1-up c = λ rows more. (
+  drop 1 c.args.text.now,
+  first_and_rest c.args.text.now (omega arith),
+  c.is_control_key.ensures.0 c.if-is_control_key.true,
 )
 
-pub returns-in-None : goal.returns-in-None
-returns-in-None c = λ rows more. own_without_escape rows c.args.text.now more c.requires
+pub returns-in_default : goal.returns-in_default
+returns-in_default c = λ rows more. own_without_escape rows c.args.text.now more c.requires

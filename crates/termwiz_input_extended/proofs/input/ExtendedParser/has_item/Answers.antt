@@ -6,11 +6,12 @@ use Rattle.termwiz_extended_events.specs.declared.types.Rows.{Rows}
 use Rattle.termwiz_extended_events.specs.Meanings.{event_of}
 use Rattle.termwiz_extended_grammar.specs.ExtendedGrammar.{HasItem, IsRest, Steps}
 use Rattle.termwiz_input_extended.specs.declared.front.ExtendedFront.{ExtendedFront}
-use Rattle.termwiz_input_extended.specs.declared.front.ExtendedFront.TheVariants.{Key, Form, MouseReport, Escape, Paste, Usual, Incomplete}
+use Rattle.termwiz_input_extended.specs.declared.front.ExtendedFront.TheVariants.{Control, Key, Form, MouseReport, Escape, AltEscape, Paste, Usual, Incomplete}
 use Rattle.termwiz_input_extended.specs.Buffered.{Buffered}
 use Rattle.termwiz_input_extended.specs.ExtendedFronts.{IsExtendedFront, IsExtraAt, IsPortsOwn}
 use Rattle.termwiz_input_extended.proofs.lemmas.fronts.FrontItems.{escape_step, extra_step, own_has_item, own_rest}
 use Rattle.termwiz_input_extended.proofs.lemmas.fronts.KnownFronts.{item_step, mouse_report_step, own_start}
+use Rattle.termwiz_input_extended.proofs.lemmas.fronts.ControlFirst.{control_own}
 use Rattle.termwiz_input_extended.proofs.input.ExtendedParser.has_item.Goals as goal
 
 -- what one step consumes is an item
@@ -18,14 +19,17 @@ stepped : (rows : Rows) (u left : List ℕ) (more : Bool) (event : ExtendedEvent
 stepped rows u left more event (bytes, rest, stands, splits, same) = (bytes, event, stands)
 
 found_item : (rows : Rows) (u : List ℕ) (more : Bool) (found : ExtendedFront) → IsExtendedFront rows u more found
-    → (found ≡ Paste → ⊥) → (found ≡ Usual → ⊥) → ((len : ℕ) → found ≡ Form len → ⊥) → ((place : ℕ) → found ≡ Incomplete place → ⊥) → HasItem rows u more
-found_item rows u more (Key key len) is p o f n = stepped rows u _ more _ (item_step rows u (PortsKey key) len more is.0 is.1)
-found_item rows u more (Form len) is p o f n = absurd (f len refl)
-found_item rows u more (MouseReport event len) is p o f n = stepped rows u _ more _ (mouse_report_step rows u event len more is.0 is.1)
-found_item rows u more Escape is p o f n = stepped rows u _ more _ (escape_step rows u is.0 more is.1 is.2)
-found_item rows u more Paste is p o f n = absurd (p refl)
-found_item rows u more Usual is p o f n = absurd (o refl)
-found_item rows u more (Incomplete place) is p o f n = absurd (n place refl)
+    → (found ≡ Paste → ⊥) → (found ≡ Usual → ⊥) → ((len : ℕ) → found ≡ Form len → ⊥) → ((byte : ℕ) → found ≡ Control byte → ⊥)
+    → ((place : ℕ) → found ≡ Incomplete place → ⊥) → HasItem rows u more
+found_item rows u more (Control byte) is p o f b n = absurd (b byte refl)
+found_item rows u more (Key key len) is p o f b n = stepped rows u _ more _ (item_step rows u (PortsKey key.now) len more is.0 is.1)
+found_item rows u more (Form len) is p o f b n = absurd (f len refl)
+found_item rows u more (MouseReport event len) is p o f b n = stepped rows u _ more _ (mouse_report_step rows u event len more is.0 is.1)
+found_item rows u more Escape is p o f b n = stepped rows u _ more _ (escape_step rows u is.0 more is.1 is.2)
+found_item rows u more AltEscape is p o f b n = stepped rows u _ more _ (item_step rows u _ 2 more is.0 is.1)
+found_item rows u more Paste is p o f b n = absurd (p refl)
+found_item rows u more Usual is p o f b n = absurd (o refl)
+found_item rows u more (Incomplete place) is p o f b n = absurd (n place refl)
 
 -- an item of the port is one where the text is the port's own, and its rest a rest
 module _ (rows : Rows) (u v : List ℕ) (more : Bool) (text : v ≡ u) (own : IsPortsOwn rows u more) where
@@ -38,7 +42,7 @@ module _ (rows : Rows) (u v : List ℕ) (more : Bool) (text : v ≡ u) (own : Is
 pub returns-in_default : goal.returns-in_default
 returns-in_default c = record {
   some = λ t. found_item c.args.self.now.rows c.args.self.now.text c.args.maybe_more c.front.result c.front.ensures c.in_default.not-Paste
-      c.in_default.not-Usual c.in_default.not-Form c.in_default.not-Incomplete;
+      c.in_default.not-Usual c.in_default.not-Form c.in_default.not-Control c.in_default.not-Incomplete;
   none = λ e. absurd (cc (e));
 }
 
@@ -77,3 +81,15 @@ pub returns-in-Usual-clause-some : goal.returns-in-Usual-clause-some
 returns-in-Usual-clause-some c = λ t.
     found_by_port c.args.self.now.rows c.args.self.now.text _ c.args.maybe_more (ap (λ (b : Buffered). b.text) c.self.view_is)
     c.in-Usual.ensures (c.has_item-in-Usual.ensures.some t)
+
+pub returns-in-Control-clause-some : goal.returns-in-Control-clause-some
+returns-in-Control-clause-some c = λ t.
+    found_by_port c.args.self.now.rows c.args.self.now.text _ c.args.maybe_more (ap (λ (b : Buffered). b.text) c.self.view_is)
+    (control_own c.args.self.now.rows c.args.self.now.text c.args.maybe_more c.in-Control.field-0 c.in-Control.ensures.0 c.in-Control.ensures.1
+    c.in-Control.ensures.2) (c.has_item-in-Control.ensures.some t)
+
+pub returns-in-Control-clause-none : goal.returns-in-Control-clause-none
+returns-in-Control-clause-none c = λ e.
+    rest_by_port c.args.self.now.rows c.args.self.now.text _ c.args.maybe_more (ap (λ (b : Buffered). b.text) c.self.view_is)
+    (control_own c.args.self.now.rows c.args.self.now.text c.args.maybe_more c.in-Control.field-0 c.in-Control.ensures.0 c.in-Control.ensures.1
+    c.in-Control.ensures.2) (c.has_item-in-Control.ensures.none e)

@@ -1,4 +1,4 @@
-use Rattle.std.proofs.Common.{◌∷◌, [], drop, sym, ap, subst}
+use Rattle.std.proofs.Common.{◌∷◌, [], sym, ap, subst}
 use Rattle.termwiz_input.specs.Matches.{IsItemAt}
 use Rattle.termwiz_keys.specs.Keys.{plain}
 use Rattle.termwiz_keys.specs.declared.types.InputEvent.TheVariants.{Key}

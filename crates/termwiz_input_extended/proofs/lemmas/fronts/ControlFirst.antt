@@ -1,0 +1,25 @@
+-- A control character first in a text: its key is an item of the port.
+use Rattle.std.proofs.Common.{◌≡◌, ◌≢◌, ⊎_elim, ℕ, ◌≤◌, Bool, List, [], ◌∷◌, arith, Contains}
+use Rattle.termwiz_keys.specs.declared.types.KeyEvent.{KeyEvent}
+use Rattle.termwiz_keys.specs.declared.types.InputEvent.TheVariants.{Key}
+use Rattle.termwiz_grammar.specs.Table.{rows as table_rows}
+use Rattle.termwiz_input.specs.Matches.{IsItemAt}
+use Rattle.termwiz_extended_events.specs.declared.types.Rows.{Rows}
+use Rattle.termwiz_input_extended.specs.ExtendedFronts.{IsControlKey, IsPortsOwn}
+use Rattle.termwiz_input_extended.proofs.lemmas.fronts.ControlCharacters.{one_byte_item}
+use Rattle.termwiz_input_extended.proofs.lemmas.fronts.FrontItems.{own_without_escape}
+
+no_escape : (byte : ℕ) → IsControlKey byte → byte ≢ 27
+no_escape byte is e = ⊎_elim
+    (λ (h : (1 ≤ byte) × (byte ≤ 26)). omega (arith, e, h.1))
+    (λ (h : byte ≡ 127). omega (arith, e, h))
+    is
+
+pub control_own : (rows : Rows) (u : List ℕ) (more : Bool) (byte : ℕ) (rest : List ℕ) → u ≡ byte ∷ rest → IsControlKey byte
+    → IsPortsOwn rows u more
+control_own rows u more byte rest split is =
+    own_without_escape rows u more (λ b. let first : byte ≡ 27 = cc (split, b.1) in no_escape byte is first)
+
+pub control_item : (u : List ℕ) (more : Bool) (byte : ℕ) (rest : List ℕ) (key : KeyEvent) → u ≡ byte ∷ rest → IsControlKey byte
+    → Contains table_rows (byte ∷ [], key) → IsItemAt u more (Key key) 1
+control_item u more byte rest key split is row = one_byte_item u byte rest key split (no_escape byte is) row more
