@@ -413,13 +413,12 @@ impl ExtendedParser {
         ensures some { IsTrue result → HasItem self.now.rows self.now.text maybe_more }
         ensures none { result ≡ false → IsRest self.now.rows self.now.text maybe_more }
     {
+        let text = self.waiting_text();
         match self.front(maybe_more) {
-            ExtendedFront::Form(len) => {
-                match extra_at(&self.parser, self.rows, self.waiting_text(), len) {
-                    Some(_) => true,
-                    None => self.parser.has_item(maybe_more),
-                }
-            }
+            ExtendedFront::Form(len) => match extra_at(&self.parser, self.rows, text, len) {
+                Some(_) => true,
+                None => self.parser.has_item(maybe_more),
+            },
             ExtendedFront::Paste => self.parser.has_item(maybe_more),
             ExtendedFront::Usual => self.parser.has_item(maybe_more),
             ExtendedFront::Control(_) => self.parser.has_item(maybe_more),

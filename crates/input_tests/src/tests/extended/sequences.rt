@@ -1,8 +1,7 @@
 // The keys of whole sequences.
 use super::{Abort, Fail, Global, LONG_REPORT, LONG_STRING, joined};
-use termwiz_extended_events::meanings::{event_of, key_or_position, plain_report};
-use termwiz_extended_events::types::{ExtendedEvent, KeyReport, ReportedKey};
-use termwiz_keys::types::KeyCode;
+use termwiz_extended_events::meanings::{event_of, meaning_of};
+use termwiz_extended_events::types::{ExtendedEvent, KeyReport};
 
 fn check_clone(rt: &impl Abort, alloc: Global, report: &KeyReport) -> Result<(), Fail> {
     assert!(rt; report.clone(alloc)? == *report);
@@ -11,7 +10,7 @@ fn check_clone(rt: &impl Abort, alloc: Global, report: &KeyReport) -> Result<(),
 
 // A sequence is a key, whose report equals its clone.
 fn check_key(rt: &impl Abort, alloc: Global, text: &[u8]) -> Result<(), Fail> {
-    assert!(rt; key_or_position(alloc, text)?.is_some());
+    assert!(rt; meaning_of(text).is_key_or_position());
     check_report(rt, alloc, &event_of(alloc, text)?)
 }
 
@@ -31,27 +30,15 @@ fn reads_keys(rt: HostRuntime) -> Result<(), Fail> {
 
 // A sequence is neither a key nor the position of the cursor.
 fn check_other(rt: &impl Abort, alloc: Global, text: &[u8]) -> Result<(), Fail> {
-    assert!(rt; key_or_position(alloc, text)?.is_none());
+    assert!(rt; !meaning_of(text).is_key_or_position());
+    event_of(alloc, text)?;
     Ok(())
 }
 
-// A parser passes no refusal on for such a sequence, so a direct call has to succeed here.
 #[test]
 fn tells_other_sequences(rt: HostRuntime) -> Result<(), Fail> {
     check_other(&rt, rt.alloc(), b"\x1b[O")?;
     check_other(&rt, rt.alloc(), b"\x1b[M0\x60\x70")?;
     check_other(&rt, rt.alloc(), b"\x1b[2D")?;
     check_other(&rt, rt.alloc(), &joined(rt.alloc(), LONG_STRING)?)
-}
-
-// The contract leaves open which keys have a plain report.
-#[test]
-fn reads_plain_reports(rt: HostRuntime) {
-    let Some(report) = plain_report(b"\x1b[97;3:3u") else {
-        panic!(rt; "no report");
-    };
-    assert!(rt; report.key == ReportedKey::Named(KeyCode::Char('a')));
-    assert!(rt; report.whole(rt.alloc()).modifiers == 2);
-    assert!(rt; plain_report(b"\x1b[5~").is_some() && plain_report(b"\x1b[H").is_some());
-    assert!(rt; plain_report(b"\x1b[97;1;65u").is_none() && plain_report(b"\x1b[I").is_none());
 }

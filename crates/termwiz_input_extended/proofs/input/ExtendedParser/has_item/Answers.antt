@@ -51,7 +51,7 @@ returns-in-Some-clause-some c = λ t.
     let rows = ap (λ (b : Buffered). b.rows) c.self.view_is in
     let u = c.args.self.now.text in
     let is = subst (λ r. IsExtraAt r u c.in-Some.field-0 c.in-Form.len) rows
-    (subst (λ t. IsExtraAt c.self.inside.rows t c.in-Some.field-0 c.in-Form.len) c.waiting_text.ensures c.in-Some.ensures.some) in
+    (subst (λ t. IsExtraAt c.self.inside.rows t c.in-Some.field-0 c.in-Form.len) c.waiting_text-text.ensures c.in-Some.ensures.some) in
     stepped c.args.self.now.rows u _ c.args.maybe_more _
     (extra_step c.args.self.now.rows u c.in-Form.len (event_of (take c.in-Form.len u)) c.args.maybe_more is.extra (event_of (take c.in-Form.len u)) refl)
 
@@ -59,13 +59,13 @@ pub returns-in-None-clause-some : goal.returns-in-None-clause-some
 returns-in-None-clause-some c = λ t.
     found_by_port c.args.self.now.rows c.args.self.now.text _ c.args.maybe_more (ap (λ (b : Buffered). b.text) c.self.view_is)
     (subst (λ r. IsPortsOwn r c.args.self.now.text c.args.maybe_more) (ap (λ (b : Buffered). b.rows) c.self.view_is)
-    (subst (λ x. IsPortsOwn c.self.inside.rows x c.args.maybe_more) c.waiting_text.ensures (c.in-None.ensures.none c.args.maybe_more))) (c.has_item.ensures.some t)
+    (subst (λ x. IsPortsOwn c.self.inside.rows x c.args.maybe_more) c.waiting_text-text.ensures (c.in-None.ensures.none c.args.maybe_more))) (c.has_item.ensures.some t)
 
 pub returns-in-None-clause-none : goal.returns-in-None-clause-none
 returns-in-None-clause-none c = λ e.
     rest_by_port c.args.self.now.rows c.args.self.now.text _ c.args.maybe_more (ap (λ (b : Buffered). b.text) c.self.view_is)
     (subst (λ r. IsPortsOwn r c.args.self.now.text c.args.maybe_more) (ap (λ (b : Buffered). b.rows) c.self.view_is)
-    (subst (λ x. IsPortsOwn c.self.inside.rows x c.args.maybe_more) c.waiting_text.ensures (c.in-None.ensures.none c.args.maybe_more))) (c.has_item.ensures.none e)
+    (subst (λ x. IsPortsOwn c.self.inside.rows x c.args.maybe_more) c.waiting_text-text.ensures (c.in-None.ensures.none c.args.maybe_more))) (c.has_item.ensures.none e)
 
 pub returns-in-Paste-clause-some : goal.returns-in-Paste-clause-some
 returns-in-Paste-clause-some c = λ t.
