@@ -1,7 +1,8 @@
 // What a sequence means that the port doesn't know.
-ghost use Rattle.std.specs.Prelude.{◌≡◌, ◌↔◌, IfOk, IfSome, IsSome, IsTrue, OnErr, Some};
+ghost use Rattle.std.specs.Prelude.{◌≡◌, ◌↔◌, IfOk, IfSome, IsSome, IsTrue, OnErr, Some, unwrap_or};
+ghost use Rattle.termwiz_extended_events.specs.declared.types.ExtendedEvent.TheVariants.{Csi};
 ghost use Rattle.termwiz_extended_events.specs.Meanings as meaning;
-ghost use Rattle.termwiz_extended_events.specs.Meanings.{reported, command_text, string_text, event_after, event_from, IsKeyOrPosition, IsMeant, NeedsMemory};
+ghost use Rattle.termwiz_extended_events.specs.Meanings.{reported, command_text, string_text, event_after, event_from, IsKeyOrPosition, NeedsMemory};
 
 use crate::fields::before_end;
 pub use crate::key_reports::SpelledReport;
@@ -111,26 +112,26 @@ impl<'t> Meaning<'t> {
     }
 }
 
-// What follows ESC [, by the first rule that fits.
+// What follows ESC [, by the first rule that fits. What none reads is a control sequence.
 #[tactic(auto, unfolding(crate::specs::Meanings::reported))]
-fn reported(t: &[u8]) -> Option<Meaning<'_>>
-    ensures { IsMeant result (reported t.now) }
+fn reported(t: &[u8]) -> Meaning<'_>
+    ensures { event_from result ≡ Some (unwrap_or (reported t.now) (Csi t.now)) }
 {
     if let Some(meaning) = focus(t) {
-        return Some(meaning);
+        return meaning;
     }
     if let Some(report) = key_report(t) {
-        return Some(Meaning::Key(report));
+        return Meaning::Key(report);
     }
     if let Some(meaning) = reply(t) {
-        return Some(meaning);
+        return meaning;
     }
     if let Some(event) = mouse_report(t) {
-        return Some(Meaning::Mouse(event));
+        return Meaning::Mouse(event);
     }
     match console_key(t) {
-        Some(report) => Some(Meaning::Key(SpelledReport::plain(report))),
-        None => None,
+        Some(report) => Meaning::Key(SpelledReport::plain(report)),
+        None => Meaning::Csi(t),
     }
 }
 
@@ -158,10 +159,7 @@ fn meaning_after(byte: u8, t: &[u8]) -> Meaning<'_>
     ensures { event_from result ≡ Some (event_after byte t.now) }
 {
     match byte {
-        b'[' => match reported(t) {
-            Some(meaning) => meaning,
-            None => Meaning::Csi(t),
-        },
+        b'[' => reported(t),
         b'O' => match keypad_key(t) {
             Some(report) => Meaning::Key(SpelledReport::plain(report)),
             None => Meaning::Csi(t),

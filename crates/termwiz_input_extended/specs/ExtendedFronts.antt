@@ -1,5 +1,5 @@
 -- What is at the front of a text, as far as extra sequences go.
-use Rattle.std.specs.Prelude.{◌≡◌, ◌⊎◌, ◌++◌, ℕ, ◌<◌, ◌≤◌, ◌-◌, Bool, true, false, List, [], ◌∷◌, length, take, Contains, Option, Some, Result, IfOk, IfSome, IfNone, OnErr}
+use Rattle.std.specs.Prelude.{◌≡◌, ◌⊎◌, ◌++◌, ℕ, ◌<◌, ◌≤◌, ◌-◌, Bool, true, false, List, [], ◌∷◌, length, take, Contains, Option, Result, IfOk, IfSome, IfNone, OnErr}
 use Rattle.termwiz_keymap.specs.Bytes.{Begins}
 use Rattle.termwiz_keys.specs.Introducers.{ESC, START}
 use Rattle.termwiz_keys.specs.Keys.{escape, with_alt}
@@ -10,12 +10,11 @@ use Rattle.termwiz_keys.specs.declared.types.InputEvent.TheVariants.{Key as Port
 use Rattle.termwiz_grammar.specs.MouseReports.{IsMouseReport}
 use Rattle.termwiz_input.specs.Matches.{HasRow, IsItemAt}
 use Rattle.termwiz_input.specs.PasteSearch.{IsPasteSoFar}
-use Rattle.termwiz_extended_events.specs.declared.meanings.Meaning.{Meaning}
 use Rattle.termwiz_extended_events.specs.declared.types.ExtendedEvent.{ExtendedEvent}
 use Rattle.termwiz_extended_events.specs.declared.types.ExtendedEvent.TheVariants.{Input}
 use Rattle.termwiz_extended_events.specs.declared.types.Rows.{Rows}
 use Rattle.termwiz_extended_events.specs.declared.types.Rows.TheVariants.{Port, Kitty}
-use Rattle.termwiz_extended_events.specs.Meanings.{event_from, event_of, IsKeyOrPosition, NeedsMemory}
+use Rattle.termwiz_extended_events.specs.Meanings.{event_of, IsKeyOrPosition, NeedsMemory}
 use Rattle.termwiz_grammar.specs.Grammar.{IsOpen, IsUnfinishedSequence}
 use Rattle.termwiz_grammar.specs.Table.{rows as table_rows}
 use Rattle.termwiz_extended_grammar.specs.Forms.{IsForm, IsUnfinishedForm}
@@ -95,11 +94,9 @@ pub record IsFormAt (rows : Rows) (u : List ℕ) (len : ℕ) : Type 0 where
   pub one : ¬ Begins (ESC ++ ESC) u
   pub no_row : rows ≡ Port → HasNoLongRow u
 
--- the first so many bytes of the text are an extra sequence of this meaning
-pub record IsExtraAt (rows : Rows) (u : List ℕ) (meaning : Meaning) (len : ℕ) : Type 0 where
-  pub within : len ≤ length u
-  pub extra : IsExtra rows (take len u) (event_of (take len u))
-  pub means : event_from meaning ≡ Some (event_of (take len u))
+-- the first so many bytes of the text are an extra sequence
+abbrev pub IsExtraAt : Rows → List ℕ → ℕ → Type 0
+IsExtraAt rows u len = (len ≤ length u) × IsExtra rows (take len u) (event_of (take len u))
 
 -- a control character, but ESC, that is a row of the sequence table
 abbrev pub IsControlKey : ℕ → Type 0

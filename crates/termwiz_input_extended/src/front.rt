@@ -1,5 +1,5 @@
 // What is at the front of a text: an extra sequence, the Escape key before one, or what the port finds there.
-ghost use Rattle.std.specs.Prelude.{◌≡◌, ◌≢◌, ◌↔◌, ◌++◌, ℕ, Bool, List, [], IfSome, IfNone, IsTrue, Some, Contains};
+ghost use Rattle.std.specs.Prelude.{◌≡◌, ◌≢◌, ◌↔◌, ◌++◌, ℕ, Bool, false, List, [], take, IsTrue, Some, Contains};
 ghost use Rattle.termwiz_keymap.specs.Bytes.{Begins};
 ghost use Rattle.termwiz_keys.specs.Introducers.{ESC, START};
 ghost use Rattle.termwiz_keys.specs.declared.types.InputEvent.TheVariants.{Key as PortsKey};
@@ -119,29 +119,24 @@ fn is_extra_form(parser: &InputParser, rows: Rows, form: &[u8]) -> bool
     is_extra(parser, rows, form, &meaning_of(form))
 }
 
-// What the form of so many bytes at the front of a text means, if it is an extra sequence. Under `Rows::Port` the text was looked up
-// before: the form is no row.
-pub(crate) fn extra_at<'t>(
+// Whether the form of so many bytes at the front of a text, which has this meaning, is an extra sequence. Under `Rows::Port` the text was
+// looked up before: the form is no row.
+#[inline(always)]
+pub(crate) fn is_extra_at(
     parser: &InputParser,
     rows: Rows,
-    text: &'t [u8],
+    text: &[u8],
     len: usize,
-) -> Option<Meaning<'t>>
-    requires { IsFormAt rows text.now len }
-    ensures some { IfSome result (λ meaning. IsExtraAt rows text.now meaning len) }
-    ensures none { IfNone result ((more : Bool) → IsPortsOwn rows text.now more) }
+    meaning: &Meaning<'_>,
+) -> bool
+    requires form { IsFormAt rows text.now len }
+    requires means { event_from meaning.now ≡ Some (event_of (take len text.now)) }
+    ensures some { IsTrue result → IsExtraAt rows text.now len }
+    ensures none { result ≡ false → (more : Bool) → IsPortsOwn rows text.now more }
 {
-    let form = &text[..len];
-    let meaning = meaning_of(form);
     match rows {
-        Rows::Port => Some(meaning),
-        Rows::Kitty => {
-            if is_extra(parser, rows, form, &meaning) {
-                Some(meaning)
-            } else {
-                None
-            }
-        }
+        Rows::Port => true,
+        Rows::Kitty => is_extra(parser, rows, &text[..len], meaning),
     }
 }
 

@@ -12,9 +12,10 @@ ghost use Rattle.termwiz_input_extended.specs.ExtendedFronts.{Emits, GivesNoneTh
 ghost use Rattle.termwiz_input_extended.specs.Buffered.{IsBoundedOrOpenPaste};
 
 use crate::characters::{character_front, control_key};
-use crate::front::{ExtendedFront, extra_at, front};
+use crate::front::{ExtendedFront, front, is_extra_at};
 use std::alloc::{AllocError, Global};
 use std::marker::Model;
+use termwiz_extended_events::meanings::meaning_of;
 use termwiz_extended_events::types::{ExtendedEvent, Rows};
 pub use termwiz_input::input::{ParseError, Waiting};
 use termwiz_input::input::{
@@ -196,14 +197,14 @@ impl ExtendedParser {
         requires { IsFormAt self.old.rows self.old.text len }
         ensures { Emits self.old maybe_more self.new result }
     {
-        match extra_at(&self.parser, self.rows, self.waiting_text(), len) {
-            Some(meaning) => {
-                let event = meaning.event(self.alloc)?;
-                self.consume(len);
-                Ok(Some(event))
-            }
-            None => self.next_of_port(maybe_more),
+        let text = self.waiting_text();
+        let meaning = meaning_of(&text[..len]);
+        if !is_extra_at(&self.parser, self.rows, text, len, &meaning) {
+            return self.next_of_port(maybe_more);
         }
+        let event = meaning.event(self.alloc)?;
+        self.consume(len);
+        Ok(Some(event))
     }
 
     // Consumes the item at the front of the waiting text, and returns its event. `None` if no item is there. `next_event` is quicker for
@@ -415,10 +416,15 @@ impl ExtendedParser {
     {
         let text = self.waiting_text();
         match self.front(maybe_more) {
-            ExtendedFront::Form(len) => match extra_at(&self.parser, self.rows, text, len) {
-                Some(_) => true,
-                None => self.parser.has_item(maybe_more),
-            },
+            ExtendedFront::Form(len)
+                if is_extra_at(
+                    &self.parser,
+                    self.rows,
+                    text,
+                    len,
+                    &meaning_of(&text[..len]),
+                ) => true,
+            ExtendedFront::Form(_) => self.parser.has_item(maybe_more),
             ExtendedFront::Paste => self.parser.has_item(maybe_more),
             ExtendedFront::Usual => self.parser.has_item(maybe_more),
             ExtendedFront::Control(_) => self.parser.has_item(maybe_more),

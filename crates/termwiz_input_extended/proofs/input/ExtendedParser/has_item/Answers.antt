@@ -46,26 +46,28 @@ returns-in_default c = record {
   none = λ e. absurd (cc (e));
 }
 
-pub returns-in-Some-clause-some : goal.returns-in-Some-clause-some
-returns-in-Some-clause-some c = λ t.
+pub returns-in-Form-clause-some : goal.returns-in-Form-clause-some
+returns-in-Form-clause-some c = λ t.
     let rows = ap (λ (b : Buffered). b.rows) c.self.view_is in
     let u = c.args.self.now.text in
-    let is = subst (λ r. IsExtraAt r u c.in-Some.field-0 c.in-Form.len) rows
-    (subst (λ t. IsExtraAt c.self.inside.rows t c.in-Some.field-0 c.in-Form.len) c.waiting_text-text.ensures c.in-Some.ensures.some) in
+    let is = subst (λ r. IsExtraAt r u c.in-Form.len) rows
+    (subst (λ t. IsExtraAt c.self.inside.rows t c.in-Form.len) c.waiting_text-text.ensures (c.is_extra_at.ensures.some c.if-is_extra_at.true)) in
     stepped c.args.self.now.rows u _ c.args.maybe_more _
-    (extra_step c.args.self.now.rows u c.in-Form.len (event_of (take c.in-Form.len u)) c.args.maybe_more is.extra (event_of (take c.in-Form.len u)) refl)
+    (extra_step c.args.self.now.rows u c.in-Form.len (event_of (take c.in-Form.len u)) c.args.maybe_more is.1 (event_of (take c.in-Form.len u)) refl)
 
-pub returns-in-None-clause-some : goal.returns-in-None-clause-some
-returns-in-None-clause-some c = λ t.
+pub returns-in-Form-2-clause-some : goal.returns-in-Form-2-clause-some
+returns-in-Form-2-clause-some c = λ t.
     found_by_port c.args.self.now.rows c.args.self.now.text _ c.args.maybe_more (ap (λ (b : Buffered). b.text) c.self.view_is)
     (subst (λ r. IsPortsOwn r c.args.self.now.text c.args.maybe_more) (ap (λ (b : Buffered). b.rows) c.self.view_is)
-    (subst (λ x. IsPortsOwn c.self.inside.rows x c.args.maybe_more) c.waiting_text-text.ensures (c.in-None.ensures.none c.args.maybe_more))) (c.has_item.ensures.some t)
+    (subst (λ x. IsPortsOwn c.self.inside.rows x c.args.maybe_more) c.waiting_text-text.ensures
+    (c.is_extra_at.ensures.none c.if-is_extra_at.false c.args.maybe_more))) (c.has_item.ensures.some t)
 
-pub returns-in-None-clause-none : goal.returns-in-None-clause-none
-returns-in-None-clause-none c = λ e.
+pub returns-in-Form-2-clause-none : goal.returns-in-Form-2-clause-none
+returns-in-Form-2-clause-none c = λ e.
     rest_by_port c.args.self.now.rows c.args.self.now.text _ c.args.maybe_more (ap (λ (b : Buffered). b.text) c.self.view_is)
     (subst (λ r. IsPortsOwn r c.args.self.now.text c.args.maybe_more) (ap (λ (b : Buffered). b.rows) c.self.view_is)
-    (subst (λ x. IsPortsOwn c.self.inside.rows x c.args.maybe_more) c.waiting_text-text.ensures (c.in-None.ensures.none c.args.maybe_more))) (c.has_item.ensures.none e)
+    (subst (λ x. IsPortsOwn c.self.inside.rows x c.args.maybe_more) c.waiting_text-text.ensures
+    (c.is_extra_at.ensures.none c.if-is_extra_at.false c.args.maybe_more))) (c.has_item.ensures.none e)
 
 pub returns-in-Paste-clause-some : goal.returns-in-Paste-clause-some
 returns-in-Paste-clause-some c = λ t.
