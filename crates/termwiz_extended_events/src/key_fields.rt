@@ -114,21 +114,33 @@ pub(crate) fn is_text(field: &[u8]) -> bool
     true
 }
 
-// The text that a field says: the numbers of its characters, or nothing. Only a text needs memory.
+// The text that a field says: the numbers of its characters.
 #[tactic(auto, unfolding(crate::specs::KeyReports::text_of))]
-pub(crate) fn text_of(alloc: Global, field: &[u8]) -> Result<KeyText, AllocError>
-    requires { IsSome (text_of field.now) }
+fn spelled_text(alloc: Global, field: &[u8]) -> Result<KeyText, AllocError>
+    requires some { field.now ≢ [] }
+    requires text { IsSome (text_of field.now) }
     ensures ok { IfOk result (λ text. text_of field.now ≡ Some text) }
     ensures refused { OnErr result (IfSome (text_of field.now) (λ text. text ≢ [])) }
 {
     let mut text = String::new(alloc);
-    if field.is_empty() {
-        return Ok(KeyText::new(text));
-    }
     for digits in Fields::new(field, b':') {
         if let Some(c) = scalar(digits) {
             text.push(c)?;
         }
     }
     Ok(KeyText::new(text))
+}
+
+// The same, or nothing. Only a text needs memory, and most reports have none: that is told without a call.
+#[tactic(auto, unfolding(crate::specs::KeyReports::text_of))]
+#[inline(always)]
+pub(crate) fn text_of(alloc: Global, field: &[u8]) -> Result<KeyText, AllocError>
+    requires { IsSome (text_of field.now) }
+    ensures ok { IfOk result (λ text. text_of field.now ≡ Some text) }
+    ensures refused { OnErr result (IfSome (text_of field.now) (λ text. text ≢ [])) }
+{
+    if field.is_empty() {
+        return Ok(KeyText::new(String::new(alloc)));
+    }
+    spelled_text(alloc, field)
 }

@@ -414,16 +414,11 @@ impl ExtendedParser {
         ensures some { IsTrue result → HasItem self.now.rows self.now.text maybe_more }
         ensures none { result ≡ false → IsRest self.now.rows self.now.text maybe_more }
     {
+        let rows = self.rows;
         let text = self.waiting_text();
         match self.front(maybe_more) {
             ExtendedFront::Form(len)
-                if is_extra_at(
-                    &self.parser,
-                    self.rows,
-                    text,
-                    len,
-                    &meaning_of(&text[..len]),
-                ) => true,
+                if is_extra_at(&self.parser, rows, text, len, &meaning_of(&text[..len])) => true,
             ExtendedFront::Form(_) => self.parser.has_item(maybe_more),
             ExtendedFront::Paste => self.parser.has_item(maybe_more),
             ExtendedFront::Usual => self.parser.has_item(maybe_more),

@@ -2,7 +2,7 @@ use Rattle.std.proofs.Common.{◌≡◌, ◌++◌, option_map, string_bytes, enc
 use Rattle.termwiz_extended_events.specs.FieldsLeft.{fields_left}
 use Rattle.termwiz_extended_events.specs.Numbers.{parts}
 use Rattle.termwiz_extended_events.specs.KeyReports.{scalars}
-use Rattle.termwiz_extended_events.proofs.key_fields.text_of.Given as goal
+use Rattle.termwiz_extended_events.proofs.key_fields.spelled_text.Given as goal
 
 abbrev pub invariant-loop-digits : goal.invariant-loop-digits
 invariant-loop-digits l =
