@@ -1,5 +1,6 @@
 //! The parser: bytes of a terminal to events.
 ghost use Rattle.std.specs.Prelude.{◌≡◌, ◌≢◌, ◌++◌, ◌+◌, ◌^◌, ◌<◌, ◌≤◌, ℕ, Bool, List, [], ◌∷◌, length, drop, Contains, Some, true, false, OnErr, IfOk, IfErr, IfSome, IfNone, IsSome, IsTrue, ◌↔◌, ◌==◌, ◌⊎◌, slice_index_or, if◌then◌else◌, OnOk, IsOk, IsErrOf, vec_len, vec_capacity};
+ghost use Rattle.std.specs.Arc.{arc_value};
 ghost use Rattle.termwiz_keys.specs.declared.types.KeyEvent.{KeyEvent};
 ghost use Rattle.termwiz_keymap.specs.Bytes.{Begins};
 ghost use Rattle.termwiz_keys.specs.Introducers.{START};
@@ -31,6 +32,7 @@ pub use crate::printable_ascii::is_printable_ascii;
 use crate::waiting::kind_of;
 use std::alloc::{AllocError, Global};
 use std::marker::Model;
+use std::sync::Arc;
 pub use termwiz_base::{Flags, Modifiers};
 pub use termwiz_grammar::waiting::Waiting;
 use termwiz_keymap::keymap::{Found, KeyMap};
@@ -99,12 +101,24 @@ fn more_after(number: usize, count: usize, maybe_more: bool) -> bool
     maybe_more || number + 1 < count
 }
 
+// The sequence table, in a key map that parsers may share.
+#[tactic(auto, unfolding(termwiz_grammar::specs::Table::table))]
+fn new_table(alloc: Global) -> Result<Arc<KeyMap<KeyEvent>, Global>, AllocError>
+    ensures { IfOk result (λ key_map. arc_value key_map ≡ table) }
+{
+    let mut key_map = KeyMap::new(alloc);
+    add_rows(alloc, &mut key_map)?;
+    key_map.remember()?;
+    Ok(Arc::new(alloc, key_map)?)
+}
+
 /// Reads events from the bytes that a terminal sends, however they are cut.
 ///
 /// Contracts see a parser as the text that waits: what it has taken and not turned into events.
 #[derive(Debug, Drop)]
 pub struct InputParser {
-    key_map: KeyMap<KeyEvent>,
+    // The parsers that were made from this one share it, and it is freed with the last of them.
+    key_map: Arc<KeyMap<KeyEvent>, Global>,
     buffer: ReadBuffer,
     // END begins nowhere in the waiting text before this offset: a search of an open paste needn't start before it.
     searched: usize,
@@ -118,10 +132,11 @@ impl Model for InputParser {
 
     ghost use Rattle.termwiz_input.specs.PasteSearch.{NoEndBefore};
     ghost use Rattle.termwiz_grammar.specs.Table.{table};
+    ghost use Rattle.std.specs.Arc.{arc_value};
 
     ghost view = { λ p. p.buffer };
 
-    ghost invariant = { λ p. (p.key_map ≡ table) × NoEndBefore p.buffer p.searched };
+    ghost invariant = { λ p. (arc_value p.key_map ≡ table) × NoEndBefore p.buffer p.searched };
 }
 
 impl InputParser {
@@ -132,19 +147,31 @@ impl InputParser {
     ///
     /// The clause `exactly` says which rows the table has. That the parser's key map is this table, now and in every later state, is the
     /// invariant of the type: [`InputParser::lookup`] answers from it, and every event is one that the table means.
-    #[tactic(auto, unfolding(termwiz_grammar::specs::Table::table))]
     pub fn new(alloc: Global) -> Result<InputParser, AllocError>
         ensures empty { IfOk result (λ parser. parser ≡ []) }
         ensures exactly { (text : List ℕ) (key : KeyEvent) → (map.get table text ≡ Some key) ↔ Contains rows (text, key) }
     {
-        let mut key_map = KeyMap::new(alloc);
-        add_rows(alloc, &mut key_map)?;
-        key_map.remember()?;
         Ok(InputParser {
-            key_map,
+            key_map: new_table(alloc)?,
             buffer: ReadBuffer::new(alloc),
             searched: 0,
             alloc,
+        })
+    }
+
+    /// Another parser with the sequence table of this one, whose waiting text is empty.
+    ///
+    /// A table costs memory and time, and parsers may share one: make the first parser by [`InputParser::new`], and the others from any
+    /// that has the table. It is freed with the last of them, in whatever order they go. The call takes no memory. It fails only if
+    /// 2^63 parsers share the table.
+    pub fn sharing(&self) -> Result<InputParser, AllocError>
+        ensures { IfOk result (λ parser. parser ≡ []) }
+    {
+        Ok(InputParser {
+            key_map: Arc::try_clone(&self.key_map)?,
+            buffer: ReadBuffer::new(self.alloc),
+            searched: 0,
+            alloc: self.alloc,
         })
     }
 
@@ -313,6 +340,17 @@ impl InputParser {
         let len = self.waiting_len();
         self.consume(len);
         len
+    }
+
+    /// Gives back memory that holds no waiting text, as far as there is room for `min_capacity` bytes afterwards.
+    ///
+    /// The buffer grows with what it has to hold, such as a long paste, and keeps that memory for what comes next. Call this for a
+    /// parser of a session that is quiet now. The waiting text and all later answers are unchanged. If the smaller memory is refused, the
+    /// buffer keeps the one that it has.
+    pub fn shrink_to(&mut self, min_capacity: usize)
+        ensures { self.new ≡ self.old }
+    {
+        self.buffer.shrink_to(min_capacity);
     }
 
     /// Drops the first bytes of the waiting text, as if they had never come.

@@ -1,11 +1,13 @@
 -- A map from byte lists as the list of its rows, in ascending order of their keys.
-use Rattle.std.specs.Prelude.{◌≡◌, ◌≢◌, ◌<◌, ◌≤◌, ℕ, List, get_or, length, take, map as each, nat_le, if◌then◌else◌}
+use Rattle.std.specs.Prelude.{◌≡◌, ◌≢◌, ◌<◌, ◌≤◌, ℕ, List, get_or, length, take, min, map as each}
 use Rattle.std.specs.Ordering.{nat_cmp}
 use Rattle.std.specs.declared.cmp.Ordering.TheVariants.{Less}
 use Rattle.std.specs.Cmp.Lexicographic.{slice_cmp}
 use Rattle.std.specs.List.{AllZip}
-use Rattle.termwiz_keymap.specs.declared.keymap.row.Row.{Row}
 use Rattle.termwiz_keymap.specs.declared.keymap.row.TheConstants.{SHORT}
+use Rattle.termwiz_keymap.specs.declared.keymap.row.Key.{Key}
+use Rattle.termwiz_keymap.specs.declared.keymap.row.Key.TheVariants.{Short, Long}
+use Rattle.termwiz_keymap.specs.declared.keymap.row.Row.{Row}
 use Rattle.termwiz_keymap.specs.Entries.{Entries}
 
 -- a key and a text have the same first bytes, so many of them and no more
@@ -21,10 +23,15 @@ pub record ShareFirst (key text : List ℕ) (count : ℕ) : Type 0 where
   pub in_text : count ≤ length text
   pub same : (i : ℕ) → i < count → get_or key i 0 ≡ get_or text i 0
 
+-- the bytes of a key: a short one has them in itself, at most `SHORT` of them, and a long one in a vector
+unfoldable pub bytes_of : Key → List ℕ
+bytes_of (Short bytes len) = take (min len SHORT) bytes
+bytes_of (Long bytes) = bytes.value.items
+
 module _ {V : Type 0} where
-  -- the key of a row: a short one stands in the row itself, a long one in a vector
-  unfoldable pub key_of : Row V → List ℕ
-  key_of row = if nat_le row.len SHORT then take row.len row.short else row.long.items
+  -- the key of a row
+  abbrev pub key_of : Row V → List ℕ
+  key_of row = bytes_of row.key
 
   -- the value of a row
   abbrev pub value_of : Row V → V

@@ -101,6 +101,15 @@ impl ReadBuffer {
         self.bytes.extend_from_slice(slice)
     }
 
+    /// Gives back memory that holds no bytes, as far as there is room for `min_capacity` bytes afterwards. The bytes are unchanged. If the
+    /// smaller memory is refused, the buffer keeps the one that it has.
+    pub fn shrink_to(&mut self, min_capacity: usize)
+        ensures { self.new ≡ self.old }
+    {
+        self.close_up();
+        self.bytes.shrink_to(min_capacity);
+    }
+
     /// The first place at or after `offset` where `needle` occurs, and `None` if it occurs nowhere there. An empty needle
     /// occurs at `offset`.
     pub fn find_subsequence(&self, offset: usize, needle: &[u8]) -> Option<usize>

@@ -14,10 +14,10 @@ use std::alloc::{AllocError, Global};
 #[derive(Clone, Copy, Debug)]
 pub struct Remembered {
     pub number: u64,
-    pub depth: u32,
-    pub low: u32,
-    pub high: u32,
-    pub longest: u32,
+    pub depth: u16,
+    pub low: u16,
+    pub high: u16,
+    pub longest: u16,
 }
 
 // At most so many first bytes have a remembered range.
@@ -33,7 +33,7 @@ const FEW: usize = 4;
 const PLACES: usize = 4096;
 
 // Below so many rows a place among them fits a remembered range.
-const ROWS: usize = 0x1_0000_0000;
+const ROWS: usize = 0x1_0000;
 
 // Nothing remembered.
 const NOTHING: Remembered = Remembered {
@@ -89,7 +89,7 @@ fn number_of(bytes: &[u8]) -> u64
 }
 
 // The place for the range of so many bytes with this number.
-fn place_of(number: u64, depth: u32) -> usize {
+fn place_of(number: u64, depth: u16) -> usize {
     let mixed = number
         .wrapping_add(depth as u64)
         .wrapping_mul(0x9e37_79b9_7f4a_7c15);
@@ -97,7 +97,7 @@ fn place_of(number: u64, depth: u32) -> usize {
 }
 
 // What is remembered for so many bytes with this number.
-fn found_at(places: &[Remembered], number: u64, depth: u32) -> Option<&Remembered>
+fn found_at(places: &[Remembered], number: u64, depth: u16) -> Option<&Remembered>
     ensures { IfSome result (λ found. IsAmongPlaces places.now number depth found.now) }
 {
     let found = places.get(place_of(number, depth))?;
@@ -123,7 +123,7 @@ fn first_found<'a>(places: &'a [Remembered], text: &[u8]) -> Option<&'a Remember
 {
     let mut depth = text.len().min(FIRST);
     while depth > 0 {
-        let found = found_at(places, number_of(&text[..depth]), depth as u32);
+        let found = found_at(places, number_of(&text[..depth]), depth as u16);
         if found.is_some() {
             return found;
         }
@@ -176,7 +176,7 @@ fn remember_within<V>(
     depth: usize,
 )
     requires ascending { AreAscending rows.now }
-    requires few { length rows.now < 2 ^ 32 }
+    requires few { length rows.now < 2 ^ 16 }
     requires inside { depth ≤ length text.now }
     requires deep { depth ≤ DEEPEST }
     requires first { IsRangeOf rows.now (take depth text.now) range }
@@ -204,7 +204,7 @@ fn remember<V>(
     text: &[u8],
     depth: usize,
 )
-    requires few { length rows.now < 2 ^ 32 }
+    requires few { length rows.now < 2 ^ 16 }
     requires inside { depth ≤ length text.now }
     requires deep { depth ≤ DEEPEST }
     requires ordered { range.low ≤ range.high }
@@ -213,14 +213,14 @@ fn remember<V>(
     ensures { AreRemembered rows.now places.new }
 {
     let number = number_of(&text[..depth]);
-    let place = place_of(number, depth as u32);
+    let place = place_of(number, depth as u16);
     if place < places.len() && places[place].yields_to(depth, range.count()) {
         places[place] = Remembered {
             number,
-            depth: depth as u32,
-            low: range.low as u32,
-            high: range.high as u32,
-            longest: range.longest.min(rows.len()) as u32,
+            depth: depth as u16,
+            low: range.low as u16,
+            high: range.high as u16,
+            longest: range.longest.min(rows.len()) as u16,
         };
     }
 }

@@ -1,41 +1,62 @@
-//! The rows of a key map. A short key stands in the row itself, so that a search reads no more than the list of rows.
+//! The rows of a key map. A short key is in the row itself, so that a search reads no more than the list of rows.
 ghost use Rattle.std.specs.Prelude.{◌≡◌, ◌<◌, ◌≤◌, length, get_or, take, IfOk};
-ghost use Rattle.termwiz_keymap.specs.KeyRows.{AreRowClones, IsRowOf};
+ghost use Rattle.termwiz_keymap.specs.KeyRows.{AreRowClones, IsRowOf, bytes_of};
 
 use super::gap_buffer::GapBuffer;
 use std::alloc::{AllocError, Global};
 
-/// The length of the longest key that stands in its row.
-pub const SHORT: usize = 15;
+/// The length of the longest key that is in its row. With its length and the kind of key it fills 16 bytes.
+pub const SHORT: usize = 14;
+
+/// The bytes of a key.
+#[derive(Debug, Drop)]
+pub enum Key {
+    /// A short key, with zeros after it, and its length.
+    Short([u8; SHORT], u8),
+    /// A long key.
+    Long(Box<Vec<u8>, Global>),
+}
+
+impl Key {
+    /// A copy of the bytes, which takes memory if they are many.
+    #[tactic(auto, unfolding(crate::specs::KeyRows::bytes_of))]
+    pub fn new(alloc: Global, bytes: &[u8]) -> Result<Key, AllocError>
+        ensures { IfOk result (λ key. bytes_of key ≡ bytes.now) }
+    {
+        if bytes.len() <= SHORT {
+            return Ok(Key::Short(short_of(bytes), bytes.len() as u8));
+        }
+        let long = bytes.to_vec(alloc)?;
+        Ok(Key::Long(Box::new(alloc, long)?))
+    }
+
+    /// The bytes.
+    #[tactic(auto, unfolding(crate::specs::KeyRows::bytes_of))]
+    pub fn as_slice(&self) -> &[u8]
+        ensures { result.now ≡ bytes_of self.now }
+    {
+        match self {
+            Key::Short(bytes, len) => &bytes[..(*len as usize).min(SHORT)],
+            Key::Long(bytes) => bytes.as_slice(),
+        }
+    }
+}
 
 /// A key and its value.
 #[derive(Debug, Drop)]
 pub struct Row<V> {
-    /// A short key, with zeros after it.
-    pub short: [u8; SHORT],
-    /// The length of a short key. That of a long one isn't told.
-    pub len: u8,
-    /// A long key.
-    pub long: Vec<u8>,
+    pub key: Key,
     pub value: V,
 }
-
-// The length in the row of a long key.
-const LONG: u8 = 16;
 
 impl<V> Row<V> {
     ghost use Rattle.termwiz_keymap.specs.KeyRows.{key_of};
 
-    /// The key.
-    #[tactic(auto, unfolding(crate::specs::KeyRows::key_of))]
+    /// The bytes of the key.
     pub fn key(&self) -> &[u8]
         ensures { result.now ≡ key_of self.now }
     {
-        if self.len as usize <= SHORT {
-            &self.short[..self.len as usize]
-        } else {
-            &self.long
-        }
+        self.key.as_slice()
     }
 
     /// The byte of the key at a depth.
@@ -58,25 +79,13 @@ fn short_of(key: &[u8]) -> [u8; SHORT]
 }
 
 /// A row with a copy of the key, which takes memory if it is long.
-#[tactic(auto, unfolding(crate::specs::KeyRows::key_of))]
 pub fn new_row<V: Drop>(alloc: Global, key: &[u8], value: V) -> Result<Row<V>, AllocError>
     ensures { IfOk result (IsRowOf key.now value) }
 {
-    if key.len() <= SHORT {
-        Ok(Row {
-            short: short_of(key),
-            len: key.len() as u8,
-            long: Vec::new(alloc),
-            value,
-        })
-    } else {
-        Ok(Row {
-            short: [0; SHORT],
-            len: LONG,
-            long: key.to_vec(alloc)?,
-            value,
-        })
-    }
+    Ok(Row {
+        key: Key::new(alloc, key)?,
+        value,
+    })
 }
 
 /// Copies of rows in new memory, with clones of their values.
