@@ -88,6 +88,47 @@ impl ExtendedParser {
         })
     }
 
+    /// Another parser with the sequence table of this one, which reads its rows in this way, and whose waiting text is empty. It asks for
+    /// no memory; see [`InputParser::sharing`].
+    pub fn sharing(&self, rows: Rows) -> Result<ExtendedParser, AllocError>
+        ensures empty { IfOk result (λ parser. parser.text ≡ []) }
+        ensures rows { IfOk result (λ parser. parser.rows ≡ rows) }
+    {
+        ExtendedParser::sharing_table_of(self.alloc, &self.parser, rows)
+    }
+
+    /// A parser with the sequence table of an [`InputParser`], as [`ExtendedParser::sharing`] makes one. So a program with parsers of both
+    /// kinds has one table.
+    pub fn sharing_table_of(
+        alloc: Global,
+        parser: &InputParser,
+        rows: Rows,
+    ) -> Result<ExtendedParser, AllocError>
+        ensures empty { IfOk result (λ parser. parser.text ≡ []) }
+        ensures rows { IfOk result (λ parser. parser.rows ≡ rows) }
+    {
+        Ok(ExtendedParser {
+            parser: parser.sharing()?,
+            rows,
+            scanned: 0,
+            alloc,
+        })
+    }
+
+    /// An [`InputParser`] with the sequence table of this parser, whose waiting text is empty.
+    pub fn input_sharing(&self) -> Result<InputParser, AllocError>
+        ensures { IfOk result (λ parser. parser ≡ []) }
+    {
+        self.parser.sharing()
+    }
+
+    /// Gives back memory that holds no waiting text, as [`InputParser::shrink_to`] does.
+    pub fn shrink_to(&mut self, min_capacity: usize)
+        ensures { self.new ≡ self.old }
+    {
+        self.parser.shrink_to(min_capacity);
+    }
+
     /// How the rows of the sequence table are read.
     pub fn rows(&self) -> Rows
         ensures { result ≡ self.now.rows }
