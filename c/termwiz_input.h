@@ -23,16 +23,20 @@
  * The bodies of the calls are proved. The duties of a caller are not checked:
  *
  * - A pointer of length 0 may be NULL. Every other pointer must be non-null.
- * - Two pointers of one call must not lead to the same memory, and each leads to as much as its type or length says.
+ * - Two pointers of one call must not lead to the same memory, but for a table that parsers share. Each leads to as much as its type or
+ *   length says.
  * - A tw_parser, a tw_extended and a tw_keymap are all zero (TW_PARSER_NONE, TW_EXTENDED_NONE, TW_KEYMAP_NONE) or as a call of this
  *   library left them.
  * - Any thread may call, but no two calls on the same parser or the same map may run at the same time, not even two that only read.
+ *   Parsers that share a table are different parsers.
+ * - A parser or a map that one thread has used may be used by another once the two are ordered, as by a lock or by a join.
  * - No call is made in a signal handler nor, if the program has threads, in a forked child before it calls exec: the calls ask malloc.
  * - A bool is false or true.
  *
  * The caller owns all memory that it passes. The library keeps no pointer to it, and reads and writes nothing else of the caller's. A call
- * with a const pointer to a parser or a map changes neither the struct nor what it leads to. What a parser or a map owns it gets from
- * malloc and realloc, and tw_parser_free, tw_extended_free or tw_keymap_free frees it.
+ * with a const pointer to a parser or a map changes neither the struct nor what it leads to, but for the number of parsers that share its
+ * table. What a parser or a map owns it gets from malloc and realloc, and tw_parser_free, tw_extended_free or tw_keymap_free frees it. That
+ * what it owns may pass from thread to thread is proved.
  *
  * The library is built for Linux on x86-64, and so are its layouts: for anything else this header doesn't compile. The numbers are those
  * of c/numbers.txt, and a number never changes its meaning. */
@@ -106,10 +110,19 @@ enum tw_next {
 /* Makes a parser with an empty buffer. If there was one, it is freed. The caller owes a tw_parser_free.
  *
  * A parser takes some half a millisecond to make, and some 270 KB, most of it a table of sequences. So make one and keep it:
- * tw_parser_reset empties its buffer.
+ * tw_parser_reset empties its buffer, and further parsers share its table by tw_parser_init_sharing.
  *
  * Returns false if memory is refused: then the parser is unchanged. */
 bool tw_parser_init(tw_parser *parser);
+
+/* Makes a parser with an empty buffer that shares the table of another. If there was one, it is freed. The caller owes a tw_parser_free.
+ *
+ * It is for programs with many sessions, such as a server: make one parser by tw_parser_init, and the others from that one or from each
+ * other. Each takes some hundred bytes beside its buffer. The table is freed with the last parser that has it, in whatever order they are
+ * freed. Threads may make parsers of one idle parser, but one at a time: this is a call on the other parser too.
+ *
+ * Returns false if memory is refused or there is no other parser. Then the parser is unchanged. The other is unchanged in any case. */
+bool tw_parser_init_sharing(tw_parser *parser, const tw_parser *other);
 
 /* Frees what the parser owns, and leaves TW_PARSER_NONE. If there is no parser, it does nothing, so it may be called twice. */
 void tw_parser_free(tw_parser *parser);
@@ -139,6 +152,12 @@ size_t tw_parser_paste(const tw_parser *parser, uint8_t *out, size_t len);
 /* Frees the text of the last TW_PASTE: tw_parser_paste returns 0 until the next. The caller calls it once it has copied a text that is
  * too long to be kept. If there is no text or no parser, it does nothing. */
 void tw_parser_drop_paste(tw_parser *parser);
+
+/* Frees memory that holds nothing: of the buffer, which keeps room for what it holds and for at least min_capacity bytes in all if it has
+ * that room now, and of the text of the last TW_PASTE. What is buffered, that text and all later events are unchanged. A session that is
+ * quiet after a long paste calls tw_parser_drop_paste, and this with 0. If the smaller memory is refused, the larger is kept. If there is
+ * no parser, it does nothing. */
+void tw_parser_shrink_to(tw_parser *parser, size_t min_capacity);
 
 /* Returns the number of bytes that are buffered, 0 if there is no parser. */
 size_t tw_parser_waiting(const tw_parser *parser);
@@ -554,6 +573,19 @@ typedef struct tw_extended_event {
  * Returns false if memory is refused or rows is no enum tw_rows_read: then the parser is unchanged. */
 bool tw_extended_init(tw_extended *parser, uint32_t rows);
 
+/* Makes an extended parser with an empty buffer that shares the table of another, as tw_parser_init_sharing does. The two may read the rows
+ * in different ways.
+ *
+ * Returns false if memory is refused, rows is no enum tw_rows_read, or there is no other parser. Then the parser is unchanged. The other
+ * is unchanged in any case. */
+bool tw_extended_init_sharing(tw_extended *parser, uint32_t rows, const tw_extended *other);
+
+/* The same from a parser of the other kind: a program with both kinds needs one table. */
+bool tw_extended_init_sharing_parser(tw_extended *parser, uint32_t rows, const tw_parser *other);
+
+/* Makes a parser that shares the table of an extended parser, as tw_parser_init_sharing does from a parser. */
+bool tw_parser_init_sharing_extended(tw_parser *parser, const tw_extended *other);
+
 /* Frees what the parser owns, and leaves TW_EXTENDED_NONE. If there is no parser, it does nothing, so it may be called twice. */
 void tw_extended_free(tw_extended *parser);
 
@@ -581,6 +613,9 @@ size_t tw_extended_text(const tw_extended *parser, uint8_t *out, size_t len);
 /* Frees these bytes: tw_extended_text returns 0 until the next event that brings some. If there are none or there is no parser, it does
  * nothing. */
 void tw_extended_drop_text(tw_extended *parser);
+
+/* Frees memory that holds nothing, of the buffer and of these bytes, as tw_parser_shrink_to does. */
+void tw_extended_shrink_to(tw_extended *parser, size_t min_capacity);
 
 /* Returns the number of bytes that are buffered, 0 if there is no parser. Once tw_extended_next returned TW_NONE, it is at most 65536, or
  * the buffer begins with the start of a paste. */

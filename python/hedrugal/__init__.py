@@ -442,11 +442,13 @@ _BYTES = ctypes.c_void_p
 # The calls of termwiz_input.h: the type of the result, and those of the arguments.
 _CALLS: Dict[str, Tuple[Any, List[Any]]] = {
     "tw_parser_init": (ctypes.c_bool, [_PARSER]),
+    "tw_parser_init_sharing": (ctypes.c_bool, [_PARSER, _PARSER]),
     "tw_parser_free": (None, [_PARSER]),
     "tw_parser_feed": (ctypes.c_bool, [_PARSER, _BYTES, ctypes.c_size_t]),
     "tw_parser_next": (ctypes.c_uint32, [_PARSER, ctypes.c_bool, _EVENT]),
     "tw_parser_paste": (ctypes.c_size_t, [_PARSER, _BYTES, ctypes.c_size_t]),
     "tw_parser_drop_paste": (None, [_PARSER]),
+    "tw_parser_shrink_to": (None, [_PARSER, ctypes.c_size_t]),
     "tw_parser_waiting": (ctypes.c_size_t, [_PARSER]),
     "tw_parser_waiting_kind": (ctypes.c_uint32, [_PARSER]),
     "tw_parser_flush_escape": (ctypes.c_uint32, [_PARSER, _EVENT]),

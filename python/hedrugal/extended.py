@@ -37,6 +37,7 @@ from . import (
     _library,
     _Named,
     _number_and_detail,
+    _PARSER as _INPUT_PARSER,
     _ParserCalls,
     _RawEvent,
     _refused,
@@ -247,11 +248,15 @@ _EVENT = ctypes.POINTER(_RawExtendedEvent)
 # The calls of termwiz_input.h: the type of the result, and those of the arguments.
 _CALLS: Dict[str, Tuple[Any, List[Any]]] = {
     "tw_extended_init": (ctypes.c_bool, [_PARSER, ctypes.c_uint32]),
+    "tw_extended_init_sharing": (ctypes.c_bool, [_PARSER, ctypes.c_uint32, _PARSER]),
+    "tw_extended_init_sharing_parser": (ctypes.c_bool, [_PARSER, ctypes.c_uint32, _INPUT_PARSER]),
+    "tw_parser_init_sharing_extended": (ctypes.c_bool, [_INPUT_PARSER, _PARSER]),
     "tw_extended_free": (None, [_PARSER]),
     "tw_extended_feed": (ctypes.c_bool, [_PARSER, _BYTES, ctypes.c_size_t]),
     "tw_extended_next": (ctypes.c_uint32, [_PARSER, ctypes.c_bool, _EVENT]),
     "tw_extended_text": (ctypes.c_size_t, [_PARSER, _BYTES, ctypes.c_size_t]),
     "tw_extended_drop_text": (None, [_PARSER]),
+    "tw_extended_shrink_to": (None, [_PARSER, ctypes.c_size_t]),
     "tw_extended_waiting": (ctypes.c_size_t, [_PARSER]),
     "tw_extended_waiting_kind": (ctypes.c_uint32, [_PARSER]),
     "tw_extended_flush_escape": (ctypes.c_uint32, [_PARSER, _EVENT]),

@@ -277,11 +277,14 @@ const _: () = {
 
 extern "C" {
     pub fn tw_parser_init(parser: *mut Parser) -> bool;
+    pub fn tw_parser_init_sharing(parser: *mut Parser, other: *mut Parser) -> bool;
+    pub fn tw_parser_init_sharing_extended(parser: *mut Parser, other: *mut Extended) -> bool;
     pub fn tw_parser_free(parser: *mut Parser);
     pub fn tw_parser_feed(parser: *mut Parser, bytes: *const u8, len: usize) -> bool;
     pub fn tw_parser_next(parser: *mut Parser, more: bool, event: *mut Event) -> u32;
     pub fn tw_parser_paste(parser: *mut Parser, out: *mut u8, len: usize) -> usize;
     pub fn tw_parser_drop_paste(parser: *mut Parser);
+    pub fn tw_parser_shrink_to(parser: *mut Parser, min_capacity: usize);
     pub fn tw_parser_waiting(parser: *mut Parser) -> usize;
     pub fn tw_parser_waiting_kind(parser: *mut Parser) -> u32;
     pub fn tw_parser_flush_escape(parser: *mut Parser, event: *mut Event) -> u32;
@@ -306,11 +309,14 @@ extern "C" {
     pub fn tw_keymap_lookup(map: *mut KeyMap, text: *const u8, len: usize, maybe_more: bool, found: *mut Match) -> u32;
     pub fn tw_keymap_len(map: *mut KeyMap) -> usize;
     pub fn tw_extended_init(parser: *mut Extended, rows: u32) -> bool;
+    pub fn tw_extended_init_sharing(parser: *mut Extended, rows: u32, other: *mut Extended) -> bool;
+    pub fn tw_extended_init_sharing_parser(parser: *mut Extended, rows: u32, other: *mut Parser) -> bool;
     pub fn tw_extended_free(parser: *mut Extended);
     pub fn tw_extended_feed(parser: *mut Extended, bytes: *const u8, len: usize) -> bool;
     pub fn tw_extended_next(parser: *mut Extended, more: bool, event: *mut ExtendedEvent) -> u32;
     pub fn tw_extended_text(parser: *mut Extended, out: *mut u8, len: usize) -> usize;
     pub fn tw_extended_drop_text(parser: *mut Extended);
+    pub fn tw_extended_shrink_to(parser: *mut Extended, min_capacity: usize);
     pub fn tw_extended_waiting(parser: *mut Extended) -> usize;
     pub fn tw_extended_waiting_kind(parser: *mut Extended) -> u32;
     pub fn tw_extended_flush_escape(parser: *mut Extended, event: *mut ExtendedEvent) -> u32;

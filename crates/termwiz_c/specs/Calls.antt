@@ -111,3 +111,9 @@ IsReset before after = after ≡ before
 abbrev pub HasDroppedPaste : Option ParserAndPaste → Option ParserAndPaste → Type 0
 HasDroppedPaste (Some before) (Some after) = (after.parser ≡ before.parser) × (string_bytes after.pasted ≡ [])
 HasDroppedPaste before after = after ≡ before
+
+-- what is buffered and the text of the last paste are as they were
+abbrev pub IsUnchanged : Option ParserAndPaste → Option ParserAndPaste → Type 0
+IsUnchanged (Some before) (Some after) =
+    (after.parser ≡ before.parser) × (string_bytes after.pasted ≡ string_bytes before.pasted)
+IsUnchanged before after = after ≡ before

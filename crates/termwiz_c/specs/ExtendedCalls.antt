@@ -110,3 +110,8 @@ IsReset before after = after ≡ before
 abbrev pub HasDroppedText : Option ExtendedAndText → Option ExtendedAndText → Type 0
 HasDroppedText (Some before) (Some after) = (after.parser ≡ before.parser) × (after.text.items ≡ [])
 HasDroppedText before after = after ≡ before
+
+-- what is buffered, how the rows are read and the bytes of the last event are as they were
+abbrev pub IsUnchanged : Option ExtendedAndText → Option ExtendedAndText → Type 0
+IsUnchanged (Some before) (Some after) = (after.parser ≡ before.parser) × (after.text.items ≡ before.text.items)
+IsUnchanged before after = after ≡ before

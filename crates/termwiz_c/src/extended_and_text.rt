@@ -27,11 +27,18 @@ impl ExtendedAndText {
         ensures rows { IfOk result (λ held. held.parser.rows ≡ rows) }
         ensures text { IfOk result (λ held. held.text.items ≡ []) }
     {
-        let parser = ExtendedParser::new(alloc, rows)?;
-        Ok(ExtendedAndText {
+        Ok(ExtendedAndText::of(alloc, ExtendedParser::new(alloc, rows)?))
+    }
+
+    // The parser, with no bytes of an event.
+    pub(crate) fn of(alloc: Global, parser: ExtendedParser) -> ExtendedAndText
+        ensures parser { result.parser ≡ parser }
+        ensures text { result.text.items ≡ [] }
+    {
+        ExtendedAndText {
             parser,
             text: Vec::new(alloc),
-        })
+        }
     }
 
     // Keeps the bytes that an event brings, and returns the event as C has it.
@@ -104,6 +111,15 @@ impl ExtendedAndText {
         ensures parser { self.new.parser ≡ self.old.parser }
     {
         self.text = Vec::new(alloc);
+    }
+
+    // Frees memory that holds nothing: of the buffer beyond `min_capacity` bytes, and of the bytes of the last event.
+    pub(crate) fn shrink_to(&mut self, min_capacity: usize)
+        ensures parser { self.new.parser ≡ self.old.parser }
+        ensures text { self.new.text.items ≡ self.old.text.items }
+    {
+        self.parser.shrink_to(min_capacity);
+        self.text.shrink_to_fit();
     }
 
     // Copies as much of these bytes as `out` has room for, and returns how many they are.

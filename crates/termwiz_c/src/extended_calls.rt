@@ -1,7 +1,7 @@
 // The calls of the extended parser.
 ghost use Rattle.std.specs.Prelude.{◌≡◌, ◌≢◌, ◌≤◌, ◌↔◌, [], length, true, false, None, IfSome, IfNone, IsTrue};
 ghost use Rattle.termwiz_c.specs.Calls.{copied};
-ghost use Rattle.termwiz_c.specs.ExtendedCalls.{AreNoRows, Ended, Flushed, Gave, HasDroppedText, HasEndlessPaste, HasEscape, HasKind, HasOpenPaste, IsFresh, IsReset, NeedsMemoryNext, Rests, Took, kept, waiting_len};
+ghost use Rattle.termwiz_c.specs.ExtendedCalls.{AreNoRows, Ended, Flushed, Gave, HasDroppedText, HasEndlessPaste, HasEscape, HasKind, HasOpenPaste, IsFresh, IsReset, IsUnchanged, NeedsMemoryNext, Rests, Took, kept, waiting_len};
 ghost use Rattle.termwiz_c.specs.ExtendedEvents.{rows_number};
 
 use crate::extended_and_text::ExtendedAndText;
@@ -18,7 +18,7 @@ const ROWS_KITTY: u32 = 1;
 
 // The way of reading the rows that has this number.
 #[tactic(auto, unfolding(crate::specs::ExtendedEvents::rows_number))]
-fn rows_at(number: u32) -> Option<Rows>
+pub(crate) fn rows_at(number: u32) -> Option<Rows>
     ensures some { IfSome result (λ rows. rows_number rows ≡ number) }
     ensures none { IfNone result (AreNoRows number) }
 {
@@ -43,13 +43,7 @@ pub extern "C" fn tw_extended_init(alloc: Global, parser: &mut ExtendedHandle, r
     let Ok(held) = ExtendedAndText::new(alloc, rows) else {
         return false;
     };
-    let Ok(block) = Box::new(alloc, held) else {
-        return false;
-    };
-    let before = parser.take(alloc);
-    drop(before);
-    parser.put(block);
-    true
+    parser.replace(alloc, held)
 }
 
 /// Frees the parser, if there is one, and leaves none.
@@ -129,6 +123,19 @@ pub extern "C" fn tw_extended_drop_text(alloc: Global, parser: &mut ExtendedHand
     }
     let held = parser.owned.get_mut();
     held.drop_text(alloc);
+}
+
+/// Frees memory that holds nothing: of the buffer, in which `min_capacity` bytes keep their room, and of the bytes of the last event. What
+/// is buffered, these bytes and all later answers are unchanged.
+#[unsafe(no_mangle)]
+pub extern "C" fn tw_extended_shrink_to(parser: &mut ExtendedHandle, min_capacity: usize)
+    ensures same { IsUnchanged parser.old.owned.held parser.new.owned.held }
+{
+    if !parser.live {
+        return;
+    }
+    let held = parser.owned.get_mut();
+    held.shrink_to(min_capacity);
 }
 
 /// The length of the waiting text; 0 if there is no parser.

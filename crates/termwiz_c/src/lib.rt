@@ -9,7 +9,7 @@
 ghost use Rattle.std.specs.Prelude.{◌≡◌, ◌≢◌, ◌≤◌, ◌↔◌, ◌+◌, ◌*◌, ◌++◌, [], ◌∷◌, length, true, false, None, IsTrue};
 ghost use Rattle.event_text.specs.Names.{variant_name};
 ghost use Rattle.termwiz_input.specs.KeyCode.{KeyCode as Key};
-ghost use Rattle.termwiz_c.specs.Calls.{Ended, Flushed, Gave, HasDroppedPaste, HasEndlessPaste, HasEscape, HasKind, HasOpenPaste, HasPasteNext, IsFresh, IsReset, Rests, Took, copied, pasted, waiting_len, waiting_number};
+ghost use Rattle.termwiz_c.specs.Calls.{Ended, Flushed, Gave, HasDroppedPaste, HasEndlessPaste, HasEscape, HasKind, HasOpenPaste, HasPasteNext, IsFresh, IsReset, IsUnchanged, Rests, Took, copied, pasted, waiting_len, waiting_number};
 ghost use Rattle.termwiz_c.specs.Keys.{IsNoKey, key_number};
 ghost use Rattle.termwiz_c.specs.Presses.{HasNoText, IsBad, Wrote};
 
@@ -33,6 +33,7 @@ mod parser_and_paste;
 mod parser_handle;
 mod raw_box;
 mod row_calls;
+mod sharing_calls;
 
 use crate::copying::{copy_prefix, copy_with_zero};
 use crate::events::CEvent;
@@ -93,13 +94,7 @@ pub extern "C" fn tw_parser_init(alloc: Global, parser: &mut ParserHandle) -> bo
     let Ok(held) = ParserAndPaste::new(alloc) else {
         return false;
     };
-    let Ok(block) = Box::new(alloc, held) else {
-        return false;
-    };
-    let before = parser.take(alloc);
-    drop(before);
-    parser.put(block);
-    true
+    parser.replace(alloc, held)
 }
 
 /// Frees the parser, if there is one, and leaves none.
@@ -293,6 +288,19 @@ pub extern "C" fn tw_parser_drop_paste(alloc: Global, parser: &mut ParserHandle)
     }
     let held = parser.owned.get_mut();
     held.drop_paste(alloc);
+}
+
+/// Frees memory that holds nothing: of the buffer, in which `min_capacity` bytes keep their room, and of the text of the last paste. What
+/// is buffered, that text and all later answers are unchanged.
+#[unsafe(no_mangle)]
+pub extern "C" fn tw_parser_shrink_to(parser: &mut ParserHandle, min_capacity: usize)
+    ensures same { IsUnchanged parser.old.owned.held parser.new.owned.held }
+{
+    if !parser.live {
+        return;
+    }
+    let held = parser.owned.get_mut();
+    held.shrink_to(min_capacity);
 }
 
 /// Encodes a key that is pressed while `modifiers` are held, or that is up. The answer is 0 if `out` has as much of the text as it

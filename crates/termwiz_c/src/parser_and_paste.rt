@@ -30,11 +30,18 @@ impl ParserAndPaste {
         ensures waiting { IfOk result (λ held. held.parser ≡ []) }
         ensures pasted { IfOk result (λ held. string_bytes held.pasted ≡ []) }
     {
-        let parser = InputParser::new(alloc)?;
-        Ok(ParserAndPaste {
+        Ok(ParserAndPaste::of(alloc, InputParser::new(alloc)?))
+    }
+
+    // The parser, with no text of a paste.
+    pub(crate) fn of(alloc: Global, parser: InputParser) -> ParserAndPaste
+        ensures waiting { result.parser ≡ parser }
+        ensures pasted { string_bytes result.pasted ≡ [] }
+    {
+        ParserAndPaste {
             parser,
             pasted: String::new(alloc),
-        })
+        }
     }
 
     // Keeps the text of a paste, and returns the event as C has it.
@@ -105,6 +112,15 @@ impl ParserAndPaste {
         ensures parser { self.new.parser ≡ self.old.parser }
     {
         self.pasted = String::new(alloc);
+    }
+
+    // Frees memory that holds nothing: of the buffer beyond `min_capacity` bytes, and of the text of the last paste.
+    pub(crate) fn shrink_to(&mut self, min_capacity: usize)
+        ensures parser { self.new.parser ≡ self.old.parser }
+        ensures pasted { string_bytes self.new.pasted ≡ string_bytes self.old.pasted }
+    {
+        self.parser.shrink_to(min_capacity);
+        self.pasted.shrink_to_fit();
     }
 
     // Copies as much of the row at a place as `out` has room for, shows its key, and returns the row's length; 0 if no row is there.

@@ -1,5 +1,5 @@
 // A parser as C holds it.
-ghost use Rattle.std.specs.Prelude.{◌≡◌, Some, None, IfSome, IfNone, is_some};
+ghost use Rattle.std.specs.Prelude.{◌≡◌, Some, None, IfSome, IfNone, is_some, true, false};
 
 use crate::owned_parser::OwnedParser;
 use crate::parser_and_paste::ParserAndPaste;
@@ -60,5 +60,19 @@ impl ParserHandle {
         }
         let ParserHandle { live: _, owned } = std::mem::replace(self, ParserHandle::empty());
         Some(owned.into_raw_box(alloc).into_box())
+    }
+
+    // Puts the parser into the handle, and frees the one that was there. If memory is refused, the answer is false and nothing changes.
+    pub(crate) fn replace(&mut self, alloc: Global, held: ParserAndPaste) -> bool
+        ensures made { result ≡ true → self.new.owned.held ≡ Some held }
+        ensures refused { result ≡ false → self.new.owned.held ≡ self.old.owned.held }
+    {
+        let Ok(block) = Box::new(alloc, held) else {
+            return false;
+        };
+        let before = self.take(alloc);
+        drop(before);
+        self.put(block);
+        true
     }
 }
