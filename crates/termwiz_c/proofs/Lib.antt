@@ -1,3 +1,4 @@
+pub mod Crossing
 pub mod KeyNumbers
 pub mod RawBoxValues
 pub mod Pressed

@@ -33,6 +33,7 @@ mod parser_and_paste;
 mod parser_handle;
 mod raw_box;
 mod row_calls;
+mod sending;
 mod sharing_calls;
 
 use crate::copying::{copy_prefix, copy_with_zero};

@@ -23,6 +23,9 @@ impl Model for OwnedExtended {
     ghost also_owns = { λ s. owned the_row s.pointer s.held };
 }
 
+// SAFETY: the value in the block may be sent, and any thread may free the block, as proofs/Crossing.antt shows.
+unsafe impl Send for OwnedExtended {}
+
 impl OwnedExtended {
     pub(crate) fn empty() -> OwnedExtended
         ensures { result.held ≡ None }

@@ -25,6 +25,9 @@ impl Model for OwnedKeymap {
     ghost also_owns = { λ s. owned the_row s.pointer s.held };
 }
 
+// SAFETY: the value in the block may be sent, and any thread may free the block, as proofs/Crossing.antt shows.
+unsafe impl Send for OwnedKeymap {}
+
 impl OwnedKeymap {
     pub(crate) fn empty() -> OwnedKeymap
         ensures { result.held ≡ None }

@@ -23,6 +23,9 @@ impl Model for OwnedParser {
     ghost also_owns = { λ s. owned the_row s.pointer s.held };
 }
 
+// SAFETY: the value in the block may be sent, and any thread may free the block, as proofs/Crossing.antt shows.
+unsafe impl Send for OwnedParser {}
+
 impl OwnedParser {
     pub(crate) fn empty() -> OwnedParser
         ensures { result.held ≡ None }
