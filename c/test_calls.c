@@ -53,6 +53,7 @@ static void none_answers(tw_parser *parser) {
   EXPECT(memcmp(&event, &before, sizeof event) == 0);
   EXPECT(tw_parser_paste(parser, &byte, 1) == 0 && byte == 'x');
   tw_parser_drop_paste(parser);
+  tw_parser_shrink_to(parser, 1);
   EXPECT(tw_parser_waiting(parser) == 0 && tw_parser_waiting_kind(parser) == TW_WAITING_NOTHING);
   EXPECT(!tw_parser_is_paste_open(parser));
   EXPECT(tw_parser_reset(parser) == 0);
@@ -399,6 +400,20 @@ static void drops_pastes(tw_parser *parser) {
   tw_parser_drop_paste(parser);
   EXPECT(tw_parser_paste(parser, room, sizeof room) == 0);
   EXPECT(NEXT(parser, "\033[200~e\033[201~", true) == TW_EVENT && is_paste(parser, "e"));
+}
+
+/* What is buffered and the text of the last paste are the same after a parser was shrunk, whatever room it keeps. */
+static void shrinks(tw_parser *parser) {
+  static const size_t rooms[] = { 0, 1, 4, 5, 1000, SIZE_MAX };
+  for (size_t i = 0; i < sizeof rooms / sizeof rooms[0]; i++) {
+    EXPECT(NEXT(parser, "\033[200~ab\033[201~q\033[1;", true) == TW_EVENT && is_paste(parser, "ab"));
+    tw_parser_shrink_to(parser, rooms[i]);
+    EXPECT(is_paste(parser, "ab") && tw_parser_waiting(parser) == 5);
+    EXPECT(take(parser, true) == TW_EVENT && is_key(TW_KEY_CHAR, 'q', TW_MOD_NONE));
+    tw_parser_shrink_to(parser, rooms[i]);
+    EXPECT(NEXT(parser, "", true) == TW_NONE && is_rest(parser, 4, TW_WAITING_SEQUENCE));
+    EXPECT(NEXT(parser, "5A", true) == TW_EVENT && is_key(TW_KEY_UP_ARROW, 0, TW_MOD_CTRL) && tw_parser_waiting(parser) == 0);
+  }
 }
 
 /* The row that was asked for last: its bytes and its key. */
@@ -1201,6 +1216,7 @@ int main(int argc, char **argv) {
   ends_pastes(&parser);
   ends_open_pastes_alone(&parser);
   drops_pastes(&parser);
+  shrinks(&parser);
   ends_a_long_paste(&parser);
   tells_rows(&parser);
   has_no_other_rows(&parser);

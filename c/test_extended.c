@@ -302,6 +302,7 @@ static void none_answers(tw_extended *parser) {
   EXPECT(memcmp(&event, &before, sizeof event) == 0);
   EXPECT(tw_extended_text(parser, &byte, 1) == 0 && byte == 'x');
   tw_extended_drop_text(parser);
+  tw_extended_shrink_to(parser, 1);
   EXPECT(tw_extended_waiting(parser) == 0 && tw_extended_waiting_kind(parser) == TW_WAITING_NOTHING);
   EXPECT(!tw_extended_is_paste_open(parser) && tw_extended_reset(parser) == 0);
   tw_extended_free(parser);
@@ -360,6 +361,20 @@ static void keeps_texts(tw_extended *parser) {
   EXPECT(tw_extended_next(parser, true, &event) == TW_EVENT);
   EXPECT(tw_extended_next(parser, true, &event) == TW_EVENT && event.kind == TW_EVENT_PASTE && event.text_len == 2);
   EXPECT(tw_extended_text(parser, NULL, 0) == 2 && tw_extended_feed(parser, NULL, 0));
+}
+
+/* What is buffered and the bytes of the last event are the same after a parser was shrunk. */
+static void shrinks(tw_extended *parser) {
+  uint8_t room[8] = "........";
+  tw_extended_event event;
+  EXPECT(FEED(parser, "\033]0;abc\007q\033]0;d") && tw_extended_next(parser, true, &event) == TW_EVENT);
+  tw_extended_shrink_to(parser, 0);
+  EXPECT(tw_extended_text(parser, room, 8) == 5 && memcmp(room, "0;abc...", 8) == 0 && tw_extended_waiting(parser) == 6);
+  EXPECT(tw_extended_next(parser, true, &event) == TW_EVENT && event.kind == TW_EVENT_KEY && event.input.detail == 'q');
+  tw_extended_shrink_to(parser, 1000);
+  EXPECT(tw_extended_next(parser, true, &event) == TW_NONE && tw_extended_waiting(parser) == 5);
+  EXPECT(FEED(parser, "\007") && tw_extended_next(parser, true, &event) == TW_EVENT && event.kind == TW_EVENT_OSC);
+  EXPECT(tw_extended_text(parser, room, 8) == 3 && memcmp(room, "0;dbc...", 8) == 0 && tw_extended_waiting(parser) == 0);
 }
 
 /* A character and a focus report leave the bytes that are kept. A key report without a text leaves none. */
@@ -671,6 +686,7 @@ int main(void) {
     told[0] = '\0';
     tells_kinds(&parser);
     keeps_texts(&parser);
+    shrinks(&parser);
     ends_pastes(&parser);
     reads_a_long_paste(&parser, false);
     reads_a_long_paste(&parser, true);

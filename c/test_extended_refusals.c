@@ -168,6 +168,30 @@ static void refuse_init(long step) {
   printf("init: %ld refusals\n", (number - 1) / step);
 }
 
+/* An init that shares a table, with each request refused in turn, leaves all as it was. */
+static void refuse_sharing(void) {
+  tw_extended parser = TW_EXTENDED_NONE, other = TW_EXTENDED_NONE;
+  tw_parser input = TW_PARSER_NONE;
+  long number;
+  EXPECT(tw_extended_init(&other, TW_ROWS_PORT) && tw_extended_feed(&other, (const uint8_t *)"\033", 1));
+  EXPECT(tw_extended_init(&parser, TW_ROWS_KITTY) && tw_extended_feed(&parser, (const uint8_t *)"\033[", 2));
+  for (number = 1; refuse(number), !tw_extended_init_sharing(&parser, TW_ROWS_PORT, &other); number++)
+    EXPECT(refused == 1 && tw_extended_waiting(&parser) == 2 && tw_extended_waiting(&other) == 1);
+  EXPECT(number > 1 && tw_extended_waiting(&parser) == 0 && tw_extended_waiting(&other) == 1);
+  for (number = 1; refuse(number), !tw_parser_init_sharing_extended(&input, &other); number++)
+    EXPECT(refused == 1 && !input.live && tw_extended_waiting(&other) == 1);
+  EXPECT(number > 1 && tw_parser_waiting(&input) == 0 && tw_extended_waiting(&other) == 1);
+  tw_extended_free(&other);
+  refuse(0);
+  EXPECT(tw_extended_feed(&parser, (const uint8_t *)"\033[", 2));
+  for (number = 1; refuse(number), !tw_extended_init_sharing_parser(&parser, TW_ROWS_KITTY, &input); number++)
+    EXPECT(refused == 1 && tw_extended_waiting(&parser) == 2);
+  refuse(0);
+  EXPECT(number > 1 && tw_extended_waiting(&parser) == 0);
+  tw_parser_free(&input);
+  tw_extended_free(&parser);
+}
+
 /* What brings no bytes needs no memory. */
 static void need_no_memory(void) {
   static const char text[] = "\033[A\033[24;80R\033[I\033[97;5:3uq\033[?5u\033";
@@ -206,6 +230,47 @@ static void frees_memory(void) {
   EXPECT(in_use == 0);
 }
 
+/* Parsers of both kinds that share a table have little memory of their own. */
+static void shares_memory(void) {
+  enum { COUNT = 1000 };
+  static tw_extended parsers[COUNT];
+  static tw_parser inputs[COUNT];
+  EXPECT(in_use == 0);
+  EXPECT(tw_extended_init(&parsers[0], TW_ROWS_PORT));
+  size_t alone = in_use;
+  EXPECT(tw_parser_init_sharing_extended(&inputs[0], &parsers[0]));
+  for (size_t i = 1; i < COUNT; i++) {
+    EXPECT(tw_extended_init_sharing(&parsers[i], TW_ROWS_KITTY, &parsers[i - 1]));
+    EXPECT(tw_extended_init_sharing_parser(&parsers[i], TW_ROWS_KITTY, &inputs[i - 1]));
+    EXPECT(tw_parser_init_sharing_extended(&inputs[i], &parsers[i]));
+  }
+  EXPECT(in_use <= alone + 2 * COUNT * 256);
+  for (size_t i = 0; i < COUNT; i++) tw_extended_free(&parsers[i]);
+  for (size_t i = 0; i < COUNT; i++) tw_parser_free(&inputs[i]);
+  EXPECT(in_use == 0);
+}
+
+/* A session that pasted a long text has little more memory than one that didn't, once it dropped the text and was shrunk. */
+static void shrinks(void) {
+  enum { LONG = 1 << 20 };
+  static uint8_t body[LONG];
+  tw_extended parser = TW_EXTENDED_NONE;
+  tw_extended_event event;
+  EXPECT(tw_extended_init(&parser, TW_ROWS_PORT));
+  size_t empty = in_use;
+  EXPECT(tw_extended_feed(&parser, (const uint8_t *)"\033[200~", 6) && tw_extended_feed(&parser, body, LONG));
+  EXPECT(tw_extended_feed(&parser, (const uint8_t *)"\033[201~\033[1;", 10) && tw_extended_next(&parser, true, &event) == TW_EVENT);
+  EXPECT(event.text_len == LONG && in_use >= empty + 2 * LONG);
+  tw_extended_shrink_to(&parser, 0);
+  EXPECT(tw_extended_text(&parser, NULL, 0) == LONG && in_use < empty + LONG + 2 * 4096);
+  tw_extended_drop_text(&parser);
+  EXPECT(in_use < empty + 4096 && tw_extended_waiting(&parser) == 4);
+  EXPECT(tw_extended_feed(&parser, (const uint8_t *)"5A", 2) && tw_extended_next(&parser, true, &event) == TW_EVENT);
+  EXPECT(event.kind == TW_EVENT_KEY && event.input.key == TW_KEY_UP_ARROW && event.input.modifiers == TW_MOD_CTRL);
+  tw_extended_free(&parser);
+  EXPECT(in_use == 0);
+}
+
 int main(int argc, char **argv) {
   long step = argc > 1 ? atol(argv[1]) : 1;
   if (step < 1) return 2;
@@ -214,6 +279,9 @@ int main(int argc, char **argv) {
   refuse_while_encoding();
   need_no_memory();
   refuse_init(step);
+  refuse_sharing();
   frees_memory();
+  shares_memory();
+  shrinks();
   return expected("test_extended_refusals");
 }

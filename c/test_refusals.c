@@ -179,6 +179,27 @@ static void refuse_init(long step) {
   printf("init: %ld refusals\n", (number - 1) / step);
 }
 
+/* An init that shares a table, with each request refused in turn, leaves both parsers as they were. */
+static void refuse_sharing(void) {
+  tw_parser parser = TW_PARSER_NONE, other = TW_PARSER_NONE, none = TW_PARSER_NONE;
+  tw_event event;
+  long number;
+  EXPECT(tw_parser_init(&parser) && tw_parser_feed(&parser, (const uint8_t *)"\033[", 2));
+  EXPECT(tw_parser_init(&other) && tw_parser_feed(&other, (const uint8_t *)"\033[200~last\033[201~\033", 17));
+  EXPECT(tw_parser_next(&other, true, &event) == TW_EVENT && is_pasted(&other, "last"));
+  for (number = 1; refuse(number), !tw_parser_init_sharing(&parser, &other); number++) {
+    EXPECT(refused == 1 && tw_parser_waiting(&parser) == 2 && tw_parser_waiting(&other) == 1 && is_pasted(&other, "last"));
+    refuse(number);
+    EXPECT(!tw_parser_init_sharing(&none, &other) && !none.live && refused == 1);
+  }
+  refuse(0);
+  EXPECT(number > 1 && tw_parser_waiting(&parser) == 0 && is_pasted(&parser, ""));
+  EXPECT(tw_parser_waiting(&other) == 1 && is_pasted(&other, "last"));
+  tw_parser_free(&other);
+  tw_parser_free(&parser);
+  printf("init that shares a table: %ld refusals\n", number - 1);
+}
+
 /* A key's text, with each request refused in turn. */
 static void refuse_while_encoding(void) {
   static const tw_modes modes = {0, 0, 0, false, false, false};
@@ -249,6 +270,77 @@ static void frees_memory(void) {
   EXPECT(in_use + LONG <= before);
   EXPECT(tw_parser_init(&parser));
   tw_parser_free(&parser);
+  tw_parser_free(&parser);
+  EXPECT(in_use == 0);
+}
+
+/* Parsers that share a table have little memory of their own, and the last of them frees it. */
+static void shares_memory(void) {
+  enum { COUNT = 1000 };
+  static tw_parser parsers[COUNT];
+  EXPECT(in_use == 0);
+  EXPECT(tw_parser_init(&parsers[0]));
+  size_t alone = in_use;
+  for (size_t i = 1; i < COUNT; i++) EXPECT(tw_parser_init_sharing(&parsers[i], &parsers[i / 2]));
+  EXPECT(in_use <= alone + COUNT * 256);
+  printf("memory: %zu bytes for a parser, %zu for another that shares its table\n", alone, (in_use - alone) / (COUNT - 1));
+  for (size_t i = 0; i < COUNT - 1; i++) tw_parser_free(&parsers[i]);
+  EXPECT(in_use <= alone && in_use > alone / 2);
+  tw_parser_free(&parsers[COUNT - 1]);
+  EXPECT(in_use == 0);
+}
+
+/* Feeds a paste of `LONG` bytes and takes it: its body is in the buffer's memory still, and its text is kept. */
+enum { LONG = 1 << 20 };
+
+static void feed_long_paste(tw_parser *parser, uint8_t byte) {
+  static uint8_t body[LONG];
+  tw_event event;
+  memset(body, byte, sizeof body);
+  EXPECT(tw_parser_feed(parser, (const uint8_t *)"\033[200~", 6) && tw_parser_feed(parser, body, sizeof body));
+  EXPECT(tw_parser_feed(parser, (const uint8_t *)"\033[201~", 6) && tw_parser_next(parser, true, &event) == TW_EVENT);
+  EXPECT(event.kind == TW_PASTE && event.paste_len >= LONG && tw_parser_waiting(parser) == 0);
+}
+
+/* A session that pasted a long text has little more memory than one that didn't, once it dropped the text and was shrunk. */
+static void shrinks(void) {
+  tw_parser parser = TW_PARSER_NONE;
+  EXPECT(tw_parser_init(&parser));
+  size_t empty = in_use;
+  feed_long_paste(&parser, 'x');
+  EXPECT(in_use >= empty + 2 * LONG);
+  tw_parser_drop_paste(&parser);
+  EXPECT(in_use >= empty + LONG);
+  tw_parser_shrink_to(&parser, 0);
+  EXPECT(in_use < empty + 4096);
+  /* The text is kept if it isn't dropped, and then has no more memory than it needs. */
+  feed_long_paste(&parser, 0xff);
+  tw_parser_shrink_to(&parser, 0);
+  EXPECT(tw_parser_paste(&parser, NULL, 0) == 3 * LONG && in_use < empty + 3 * LONG + 4096);
+  tw_parser_free(&parser);
+  EXPECT(in_use == 0);
+}
+
+/* The room that a shrunk parser keeps needs no request. If the smaller memory is refused, it keeps the larger. */
+static void shrinks_to_a_room(void) {
+  enum { ROOM = 10000 };
+  static const uint8_t body[ROOM];
+  tw_parser parser = TW_PARSER_NONE;
+  EXPECT(tw_parser_init(&parser));
+  size_t empty = in_use;
+  feed_long_paste(&parser, 'x');
+  tw_parser_drop_paste(&parser);
+  tw_parser_shrink_to(&parser, ROOM);
+  size_t small = in_use;
+  EXPECT(small >= empty + ROOM && small < empty + ROOM + 4096);
+  refuse(1);
+  EXPECT(tw_parser_feed(&parser, body, sizeof body) && !refused);
+  EXPECT(tw_parser_reset(&parser) == ROOM && tw_parser_feed(&parser, (const uint8_t *)"\033[1;", 4) && !refused);
+  tw_parser_shrink_to(&parser, 0);
+  EXPECT(refused == 1 && in_use == small && tw_parser_waiting(&parser) == 4);
+  refuse(0);
+  tw_parser_shrink_to(&parser, 0);
+  EXPECT(in_use < empty + 4096 && tw_parser_waiting(&parser) == 4);
   tw_parser_free(&parser);
   EXPECT(in_use == 0);
 }
@@ -334,6 +426,10 @@ int main(int argc, char **argv) {
   need_no_memory();
   refuse_bindings();
   refuse_init(step);
+  refuse_sharing();
   frees_memory();
+  shares_memory();
+  shrinks();
+  shrinks_to_a_room();
   return expected("test_refusals");
 }

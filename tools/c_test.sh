@@ -7,9 +7,10 @@
 # The example and the tests in c/ are built as C99, the example also as C++, and linked with the archive and with the shared library; the
 # crate in rust/ is built with its tests, with the examples in its documentation, and with serde. It has to find the library in each way
 # that docs/rust.md names, and to say so if there is none. The tests also run under valgrind (of those in Rust all but the longest), which
-# has to find no error and no leak. Two tests in C and one in Rust refuse every request for memory in turn. The live programs run on a
-# pseudo-terminal, as tools/live_test.sh says, and so do the programs that ask their terminal, as tools/ask_test.sh says. All is installed
-# and removed again, as tools/install_test.sh says. The last line is 'N passed, N failed', the status 1 if a case failed.
+# has to find no error and no leak. Its helgrind finds no race in a test of four threads, whose parsers share a table. Two tests in C and
+# one in Rust refuse every request for memory in turn. The live programs run on a pseudo-terminal, as tools/live_test.sh says, and so do
+# the programs that ask their terminal, as tools/ask_test.sh says. All is installed and removed again, as tools/install_test.sh says. The
+# last line is 'N passed, N failed', the status 1 if a case failed.
 #
 # DIR is a folder that tools/c_library.sh wrote; without --library the library is built. With --built the programs that `rt ci` left in
 # crates/keyshow/out and crates/replay/out are run; otherwise they are built.
@@ -187,6 +188,7 @@ check 'build of the refusals' cc -std=c99 $strict -I"$work/lib" $counting c/test
 check 'build of the extended calls' cc -std=c99 $strict -I"$work/lib" c/test_extended.c "$archive" -o "$work/extended"
 check 'build of their refusals' cc -std=c99 $strict -I"$work/lib" $counting c/test_extended_refusals.c \
     "$archive" -o "$work/extended_refusals"
+check 'build of shared tables' cc -std=c99 $strict -pthread -I"$work/lib" c/test_sharing.c "$archive" -o "$work/sharing"
 check 'asking program as C99' cc -std=c99 $strict -I"$work/lib" c/ask.c "$archive" -o "$work/ask"
 check 'asking program in C' tools/ask_test.sh "$work/ask"
 check 'live program as C99' cc -std=c99 $strict -I"$work/lib" c/live.c "$archive" -o "$work/live"
@@ -196,12 +198,15 @@ check 'calls of the shared library' "$work/calls_shared" c/numbers.txt
 check 'refusals' "$work/refusals"
 check 'extended calls' "$work/extended"
 check 'refusals of extended calls' "$work/extended_refusals"
+check 'shared tables' "$work/sharing"
 
 if wants valgrind; then
     check 'calls under valgrind' $memcheck --errors-for-leak-kinds=all "$work/calls" c/numbers.txt
     check 'refusals under valgrind' $memcheck --errors-for-leak-kinds=all "$work/refusals" 1000
     check 'extended calls under valgrind' $memcheck --errors-for-leak-kinds=all "$work/extended"
     check 'refusals of extended calls under valgrind' $memcheck --errors-for-leak-kinds=all "$work/extended_refusals" 1000
+    check 'shared tables under valgrind' $memcheck --errors-for-leak-kinds=all "$work/sharing"
+    check 'shared tables under helgrind' valgrind --tool=helgrind --quiet --error-exitcode=9 "$work/sharing"
 fi
 
 # The Rust crate's tests compare their streams with what keyshow prints, and replay reads the cases that they write. keyshow is installed too.

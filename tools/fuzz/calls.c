@@ -6,7 +6,8 @@
  *     K      free                    O n byte   feed 16 n times a byte       L  next, no more to come  C    end the paste
  *     B      reset                   M          move the parser              A  next until none, more  G n  copy n bytes of the paste
  *     D      drop the paste          V          the version                  H  the same, no more
- *     T n place  a row               X          the completions
+ *     T n place  a row               X          the completions              Y    init that shares the second parser's table
+ *                                                                             U n  shrink to 16 n bytes
  *
  *     J      init of a map           P n bytes value  insert                 Q n bytes  look up, under both flags
  *     R      free the map                                                    S          move the map
@@ -37,9 +38,10 @@ static tw_parser *parser;
 static bool is_made;
 static int inits;
 
-/* The parser that programs share, while none has it; whether this one began with it; how many blocks are no concern of this one. */
+/* The parser that programs share, while none has it; whether this one began with it, and has made it anew or shrunk it; how many blocks are
+ * no concern of this one. */
 static tw_parser shared = TW_PARSER_NONE;
-static bool is_shared;
+static bool is_shared, is_changed;
 static long other_blocks;
 
 /* The second parser; the text of the last paste; all that was fed, of which the last bytes wait in both parsers. */
@@ -140,17 +142,40 @@ static void clear_twin(void) {
   set_owner(TESTED);
 }
 
-static void init(unsigned number) {
-  if (++inits > MOST_INITS) return;
+/* The calls that make a parser. */
+enum make { INIT, SHARE };
+
+static bool make(enum make how) { return how == INIT ? tw_parser_init(parser) : tw_parser_init_sharing(parser, &twin); }
+
+static void make_anew(enum make how, unsigned number) {
+  size_t of_twin = tw_parser_waiting(&twin);
   refuse_request(number);
-  bool made = tw_parser_init(parser);
-  HOLDS(made == (refusals() == 0));
+  bool made = make(how);
+  HOLDS(made == (refusals() == 0) && (how == INIT || requests() == 1));
   if (!made) check_state();
   refuse_request(0);
-  HOLDS(made || tw_parser_init(parser));
+  HOLDS(made || make(how));
+  HOLDS(tw_parser_waiting(&twin) == of_twin);
   forget();
-  is_made = true;
+  is_made = is_changed = true;
   clear_twin();
+}
+
+static void init(unsigned number) {
+  if (++inits <= MOST_INITS) make_anew(INIT, number);
+}
+
+/* Without another parser nothing changes, and with one the parser shares its table. */
+static void share(unsigned number) {
+  HOLDS(!tw_parser_init_sharing(parser, &none));
+  check_state();
+  make_anew(SHARE, number);
+}
+
+static void shrink(size_t room_left, unsigned number) {
+  refuse_request(number);
+  tw_parser_shrink_to(parser, room_left);
+  is_changed = true;
 }
 
 static void free_parser(void) {
@@ -354,6 +379,8 @@ static void call(input *it) {
     case 'E': take(FLUSH_ESCAPE, number); break;
     case 'C': take(END_PASTE, number); break;
     case 'G': copy_paste(take_byte(it)); break;
+    case 'Y': share(number); break;
+    case 'U': shrink(MANY * (size_t)take_byte(it), number); break;
     default: call_map(of, it);
   }
   check_state();
@@ -378,7 +405,7 @@ static void take_shared(void) {
 
 /* Puts it back, if the program still has it. */
 static void give_shared(void) {
-  if (!is_made || inits > 0) return;
+  if (!is_made || is_changed) return;
   shared = *parser;
   *parser = none;
   other_blocks = blocks_of(TESTED);
@@ -393,6 +420,7 @@ static void begin(bool wants_shared) {
   parser = room_with(&places[0], &none, sizeof none);
   place = 0;
   inits = 0;
+  is_changed = false;
   fed_len = 0;
   forget();
   is_shared = wants_shared;

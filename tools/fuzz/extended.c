@@ -2,10 +2,10 @@
  *
  * An input is a byte whose five low bits are a number of pieces, a byte for each of them, and the stream. The five low bits of a piece's
  * byte are its size. If another bit is set, a flush of the Escape key is asked for after the piece, which has to leave any rest but ESC and
- * ESC ESC as it is. What the pieces leave comes in one piece, or byte by byte if the first byte has the bit 0x20. Its bit 0x40 asks for
+ * ESC ESC as it is. If the highest is, the parser is shrunk, which changes nothing. What the pieces leave comes in one piece, or byte by byte if the first byte has the bit 0x20. Its bit 0x40 asks for
  * Kitty's reading of the rows.
  *
- * The stream is read whole and in these pieces. Then nothing more comes, and an open paste is ended. Events, the bytes that they bring and
+ * The stream is read in these pieces, and whole by another parser, which shares the table of the first. Then nothing more comes, and an open paste is ended. Events, the bytes that they bring and
  * rests have to be the same each time. A flush leaves nothing outside a paste.
  *
  * The first keys of the stream are encoded. Under all flags of Kitty's protocol what is sent is read as one key report, and that is then
@@ -13,7 +13,7 @@
 #include "fuzz.h"
 #include <string.h>
 
-enum { STREAM_MAX = 4096, LAST_BY_BYTE = 0x20, KITTY = 0x40, SIZE = 0x1f, LONGEST_REST = 65536 };
+enum { STREAM_MAX = 4096, LAST_BY_BYTE = 0x20, KITTY = 0x40, SIZE = 0x1f, SHRUNK = 0x80, LONGEST_REST = 65536 };
 enum { ALL_FLAGS = 2 * TW_KITTY_REPORT_ASSOCIATED_TEXT - 1, SENT_MAX = 256, ENCODED_KEYS = 40 };
 
 /* What a reading gave. */
@@ -121,6 +121,13 @@ static void read_up_to(reading *it, const uint8_t *stream, size_t from, size_t t
   check_extended_rest(stream + to - it->rest, it->rest);
 }
 
+/* Frees what memory the parser has for nothing. */
+static void shrink(const reading *it, size_t room_left) {
+  size_t len = tw_extended_text(parser, NULL, 0);
+  tw_extended_shrink_to(parser, room_left);
+  HOLDS(tw_extended_waiting(parser) == it->rest && tw_extended_text(parser, NULL, 0) == len);
+}
+
 /* Flushes no Escape key from a rest that is another. */
 static void flush_no_escape(const reading *it, const uint8_t *stream, size_t to) {
   tw_extended_event *event = room_of(&taken, sizeof *event);
@@ -148,10 +155,15 @@ static void begin(reading *it) {
   tw_extended_drop_text(parser);
 }
 
-static void read_whole(const uint8_t *stream, size_t len) {
+static void read_whole(const uint8_t *stream, size_t len, uint32_t rows) {
+  tw_extended *first = parser, sharing = TW_EXTENDED_NONE;
+  HOLDS(tw_extended_init_sharing(&sharing, rows, first));
+  parser = &sharing;
   begin(&whole);
   read_up_to(&whole, stream, 0, len);
   read_end(&whole, stream, len);
+  tw_extended_free(&sharing);
+  parser = first;
 }
 
 static void read_cut(const uint8_t *pieces, size_t count, bool is_by_byte, const uint8_t *stream, size_t len) {
@@ -162,6 +174,7 @@ static void read_cut(const uint8_t *pieces, size_t count, bool is_by_byte, const
     size_t to = from + (size < left ? size : left);
     read_up_to(&cut, stream, from, to);
     if (i < count && pieces[i] & ~SIZE) flush_no_escape(&cut, stream, to);
+    if (i < count && pieces[i] & SHRUNK) shrink(&cut, pieces[i] & SIZE);
     from = to;
   }
   read_end(&cut, stream, len);
@@ -242,16 +255,25 @@ static void encode_keys(void) {
   }
 }
 
+/* Makes the parsers that aren't there yet. That for what is read back shares the table of one of the other kind. */
+static void make_parsers(uint32_t rows) {
+  tw_parser between = TW_PARSER_NONE;
+  if (!parser->live) HOLDS(tw_extended_init(parser, rows));
+  if (back.live) return;
+  HOLDS(tw_parser_init_sharing_extended(&between, parser) && tw_extended_init_sharing_parser(&back, TW_ROWS_KITTY, &between));
+  tw_parser_free(&between);
+}
+
 int LLVMFuzzerTestOneInput(const uint8_t *bytes, size_t len) {
   input it = { bytes, len };
   size_t count, stream_len;
   uint8_t first = take_byte(&it);
   const uint8_t *pieces = take_bytes(&it, first & SIZE, &count);
   const uint8_t *stream = take_bytes(&it, STREAM_MAX, &stream_len);
-  parser = &parsers[(first & KITTY) != 0];
-  if (!parser->live) HOLDS(tw_extended_init(parser, first & KITTY ? TW_ROWS_KITTY : TW_ROWS_PORT));
-  if (!back.live) HOLDS(tw_extended_init(&back, TW_ROWS_KITTY));
-  read_whole(stream, stream_len);
+  uint32_t rows = first & KITTY ? TW_ROWS_KITTY : TW_ROWS_PORT;
+  parser = &parsers[rows];
+  make_parsers(rows);
+  read_whole(stream, stream_len, rows);
   read_cut(pieces, count, first & LAST_BY_BYTE, stream, stream_len);
   compare();
   encode_keys();
