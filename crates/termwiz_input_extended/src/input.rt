@@ -80,12 +80,20 @@ impl ExtendedParser {
         ensures empty { IfOk result (λ parser. parser.text ≡ []) }
         ensures rows { IfOk result (λ parser. parser.rows ≡ rows) }
     {
-        Ok(ExtendedParser {
-            parser: InputParser::new(alloc)?,
+        Ok(ExtendedParser::over(alloc, InputParser::new(alloc)?, rows))
+    }
+
+    // A parser over another, of whose waiting text nothing was searched.
+    fn over(alloc: Global, parser: InputParser, rows: Rows) -> ExtendedParser
+        ensures text { result.text ≡ parser }
+        ensures rows { result.rows ≡ rows }
+    {
+        ExtendedParser {
+            parser,
             rows,
             scanned: 0,
             alloc,
-        })
+        }
     }
 
     /// Another parser with the sequence table of this one, which reads its rows in this way, and whose waiting text is empty. It asks for
@@ -107,12 +115,7 @@ impl ExtendedParser {
         ensures empty { IfOk result (λ parser. parser.text ≡ []) }
         ensures rows { IfOk result (λ parser. parser.rows ≡ rows) }
     {
-        Ok(ExtendedParser {
-            parser: parser.sharing()?,
-            rows,
-            scanned: 0,
-            alloc,
-        })
+        Ok(ExtendedParser::over(alloc, parser.sharing()?, rows))
     }
 
     /// An [`InputParser`] with the sequence table of this parser, whose waiting text is empty.
