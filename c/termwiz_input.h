@@ -109,7 +109,7 @@ enum tw_next {
 
 /* Makes a parser with an empty buffer. If there was one, it is freed. The caller owes a tw_parser_free.
  *
- * A parser takes some half a millisecond to make, and some 270 KB, most of it a table of sequences. So make one and keep it:
+ * A parser takes some half a millisecond to make, and some 160 KB, most of it a table of sequences. So make one and keep it:
  * tw_parser_reset empties its buffer, and further parsers share its table by tw_parser_init_sharing.
  *
  * Returns false if memory is refused: then the parser is unchanged. */
@@ -153,10 +153,9 @@ size_t tw_parser_paste(const tw_parser *parser, uint8_t *out, size_t len);
  * too long to be kept. If there is no text or no parser, it does nothing. */
 void tw_parser_drop_paste(tw_parser *parser);
 
-/* Frees memory that holds nothing: of the buffer, which keeps room for what it holds and for at least min_capacity bytes in all if it has
- * that room now, and of the text of the last TW_PASTE. What is buffered, that text and all later events are unchanged. A session that is
- * quiet after a long paste calls tw_parser_drop_paste, and this with 0. If the smaller memory is refused, the larger is kept. If there is
- * no parser, it does nothing. */
+/* Frees memory that holds nothing, of the buffer and of the text of the last TW_PASTE. The buffer keeps its room for min_capacity bytes, if
+ * it has that. What is buffered, that text and all later events are unchanged. A session that is quiet after a long paste calls
+ * tw_parser_drop_paste, and this with 0. If the smaller memory is refused, the larger is kept. If there is no parser, it does nothing. */
 void tw_parser_shrink_to(tw_parser *parser, size_t min_capacity);
 
 /* Returns the number of bytes that are buffered, 0 if there is no parser. */

@@ -1167,6 +1167,8 @@ static void reads_from_a_page_that_is_read_only(void) {
   tw_match match = { 7, 7 };
   tw_rows rows = { 7, 7, true };
   uint8_t text[4] = "....";
+  tw_parser sharing = TW_PARSER_NONE;
+  tw_extended extended = TW_EXTENDED_NONE;
   if (it == MAP_FAILED) abort();
   EXPECT(tw_parser_init(&it->parser) && tw_keymap_init(&it->map) && tw_keymap_insert(&it->map, (const uint8_t *)"up", 2, 5));
   EXPECT(NEXT(&it->parser, "\033[200~ab\033[201~\033[200~c", true) == TW_EVENT);
@@ -1176,6 +1178,9 @@ static void reads_from_a_page_that_is_read_only(void) {
   EXPECT(tw_parser_paste(&it->parser, text, sizeof text) == 2 && memcmp(text, "ab..", 4) == 0);
   EXPECT(row_at(&it->parser, 0) == 1 && row_at(&it->parser, TW_ROW_COUNT - 1) > 0 && row_at(&it->parser, TW_ROW_COUNT) == 0);
   EXPECT(tw_parser_completions(&it->parser, &rows) && rows.count == 0 && !rows.with_alt);
+  EXPECT(tw_parser_init_sharing(&sharing, &it->parser) && tw_extended_init_sharing_parser(&extended, TW_ROWS_PORT, &it->parser));
+  tw_parser_free(&sharing);
+  tw_extended_free(&extended);
   EXPECT(tw_keymap_len(&it->map) == 1);
   EXPECT(tw_keymap_lookup(&it->map, (const uint8_t *)"upper", 5, true, &match) == TW_FOUND_EXACT && match.len == 2 && match.value == 5);
   EXPECT(mprotect(it, 4096, PROT_READ | PROT_WRITE) == 0);

@@ -472,12 +472,17 @@ static void reads_long_strings(tw_extended *parser) {
 static void reads_from_a_page_that_is_read_only(void) {
   tw_extended *parser = mmap(NULL, 4096, PROT_READ | PROT_WRITE, MAP_PRIVATE | MAP_ANONYMOUS, -1, 0);
   uint8_t text[4] = "....";
+  tw_extended sharing = TW_EXTENDED_NONE;
+  tw_parser input = TW_PARSER_NONE;
   if (parser == MAP_FAILED) abort();
   EXPECT(tw_extended_init(parser, TW_ROWS_KITTY));
   feed(parser, TEXT("\033]ab\007\033[200~c"), true);
   EXPECT(mprotect(parser, 4096, PROT_READ) == 0);
   EXPECT(tw_extended_waiting(parser) == 7 && tw_extended_waiting_kind(parser) == TW_WAITING_PASTE && tw_extended_is_paste_open(parser));
   EXPECT(tw_extended_text(parser, text, sizeof text) == 2 && memcmp(text, "ab..", 4) == 0);
+  EXPECT(tw_extended_init_sharing(&sharing, TW_ROWS_PORT, parser) && tw_parser_init_sharing_extended(&input, parser));
+  tw_extended_free(&sharing);
+  tw_parser_free(&input);
   EXPECT(mprotect(parser, 4096, PROT_READ | PROT_WRITE) == 0);
   tw_extended_free(parser);
   munmap(parser, 4096);

@@ -2,11 +2,11 @@
  *
  * An input is a byte whose five low bits are a number of pieces, a byte for each of them, and the stream. The five low bits of a piece's
  * byte are its size. If another bit is set, a flush of the Escape key is asked for after the piece, which has to leave any rest but ESC and
- * ESC ESC as it is. If the highest is, the parser is shrunk, which changes nothing. What the pieces leave comes in one piece, or byte by byte if the first byte has the bit 0x20. Its bit 0x40 asks for
- * Kitty's reading of the rows.
+ * ESC ESC as it is. If the highest is, the parser is shrunk, which changes nothing. What the pieces leave comes in one piece, or byte by
+ * byte if the first byte has the bit 0x20. Its bit 0x40 asks for Kitty's reading of the rows.
  *
- * The stream is read in these pieces, and whole by another parser, which shares the table of the first. Then nothing more comes, and an open paste is ended. Events, the bytes that they bring and
- * rests have to be the same each time. A flush leaves nothing outside a paste.
+ * The stream is read in these pieces, and whole by another parser, which shares the table of the first. Then nothing more comes, and an
+ * open paste is ended. Events, the bytes that they bring and rests have to be the same each time. A flush leaves nothing outside a paste.
  *
  * The first keys of the stream are encoded. Under all flags of Kitty's protocol what is sent is read as one key report, and that is then
  * read back whole. Under other flags, one set for each key, a room that is too short gets the front of what is sent. */
