@@ -290,16 +290,16 @@ static void shares_memory(void) {
   EXPECT(in_use == 0);
 }
 
-/* Feeds a paste of `LONG` bytes and takes it: its body is in the buffer's memory still, and its text is kept. */
-enum { LONG = 1 << 20 };
+enum { MEGABYTE = 1 << 20 };
 
+/* Feeds a paste of so many bytes and takes it: the buffer keeps the memory for its body, and the parser its text. */
 static void feed_long_paste(tw_parser *parser, uint8_t byte) {
-  static uint8_t body[LONG];
+  static uint8_t body[MEGABYTE];
   tw_event event;
   memset(body, byte, sizeof body);
   EXPECT(tw_parser_feed(parser, (const uint8_t *)"\033[200~", 6) && tw_parser_feed(parser, body, sizeof body));
   EXPECT(tw_parser_feed(parser, (const uint8_t *)"\033[201~", 6) && tw_parser_next(parser, true, &event) == TW_EVENT);
-  EXPECT(event.kind == TW_PASTE && event.paste_len >= LONG && tw_parser_waiting(parser) == 0);
+  EXPECT(event.kind == TW_PASTE && event.paste_len >= MEGABYTE && tw_parser_waiting(parser) == 0);
 }
 
 /* A session that pasted a long text has little more memory than one that didn't, once it dropped the text and was shrunk. */
@@ -308,15 +308,15 @@ static void shrinks(void) {
   EXPECT(tw_parser_init(&parser));
   size_t empty = in_use;
   feed_long_paste(&parser, 'x');
-  EXPECT(in_use >= empty + 2 * LONG);
+  EXPECT(in_use >= empty + 2 * MEGABYTE);
   tw_parser_drop_paste(&parser);
-  EXPECT(in_use >= empty + LONG);
+  EXPECT(in_use >= empty + MEGABYTE);
   tw_parser_shrink_to(&parser, 0);
   EXPECT(in_use < empty + 4096);
   /* The text is kept if it isn't dropped, and then has no more memory than it needs. */
   feed_long_paste(&parser, 0xff);
   tw_parser_shrink_to(&parser, 0);
-  EXPECT(tw_parser_paste(&parser, NULL, 0) == 3 * LONG && in_use < empty + 3 * LONG + 4096);
+  EXPECT(tw_parser_paste(&parser, NULL, 0) == 3 * MEGABYTE && in_use < empty + 3 * MEGABYTE + 4096);
   tw_parser_free(&parser);
   EXPECT(in_use == 0);
 }
