@@ -36,13 +36,21 @@
 //! `new`, `feed`, `next_event`, `parse`, `parse_as_vec`, `end_paste`, `encode` and `insert` panic, and the forms whose names begin with
 //! `try_` return an error, after which every value may be used again. No event is lost: each error says how to go on.
 //!
+//! # Many parsers
+//!
+//! All parsers of a process share one sequence table. The first call that makes a parser makes the table too, which takes some half a
+//! millisecond, and it stays until the process ends. A further parser takes well below a microsecond and some hundred bytes, and its
+//! buffer grows with what it reads. [`shrink_to`](input::InputParser::shrink_to) gives the memory of a session that is quiet back.
+//!
 //! # Threads
 //!
 //! [`InputParser`](input::InputParser) is `Send` and `Sync`. Calls that change it borrow it alone (`&mut self`). Those that only read it
 //! ([`waiting`](input::InputParser::waiting), [`waiting_len`](input::InputParser::waiting_len),
 //! [`is_paste_open`](input::InputParser::is_paste_open), [`row`](input::InputParser::row) and
 //! [`completions`](input::InputParser::completions)) may be called by several threads, and lock it, since the library allows one thread
-//! at a time. The same holds for [`ExtendedParser`](extended::ExtendedParser), which has the first three of these.
+//! at a time. The same holds for [`ExtendedParser`](extended::ExtendedParser), which has the first three of these. Parsers that share the
+//! table may be in different threads; making one locks the table for that moment. In a child of fork whose parent has threads, make no
+//! call before exec.
 //!
 //! [`KeyMap`](keymap::KeyMap) is `Send` and `Sync` if its values are. Lookups may be called by several threads too, and lock it.
 #![deny(missing_docs)]
@@ -53,3 +61,4 @@ pub mod input;
 pub mod keymap;
 mod library_parser;
 mod raw;
+mod table;

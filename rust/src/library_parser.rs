@@ -16,6 +16,7 @@ pub(crate) struct Calls<Raw, RawEvent> {
     pub is_paste_open: unsafe extern "C" fn(*mut Raw) -> bool,
     pub end_paste: unsafe extern "C" fn(*mut Raw, *mut RawEvent) -> u32,
     pub reset: unsafe extern "C" fn(*mut Raw) -> usize,
+    pub shrink_to: unsafe extern "C" fn(*mut Raw, usize),
 }
 
 /// A parser as the library has it.
@@ -165,6 +166,12 @@ impl<Raw: RawParser> LibraryParser<Raw> {
             (Raw::CALLS.drop_text)(self.raw());
             (Raw::CALLS.reset)(self.raw())
         }
+    }
+
+    // Gives back memory that holds nothing, but for room for so many bytes. A text that the library still has stays.
+    pub fn shrink_to(&mut self, min_capacity: usize) {
+        // SAFETY: `raw` is a parser.
+        unsafe { (Raw::CALLS.shrink_to)(self.raw(), min_capacity) }
     }
 
     // Whether there is an event at the front. It is `front` then, and stays there until `take_front` moves it out.

@@ -1,92 +1,14 @@
 // Refuses each request for memory in turn, the library's and this crate's, and goes on: the events must be those of a run without a refusal,
 // and each refusal must be told once.
 //
-// `malloc`, `realloc` and `free` are this program's own, over the C library's (glibc's names for them), so all requests come here. What a
-// thread of the tests asks for is refused if that thread said so.
+// What a thread of the tests asks for is refused if that thread said so.
+mod malloc;
+
 use hedrugal::extended::{ExtendedEvent, ExtendedParser, KeyEventKind, KeyReport, KittyEncodeError, KittyModifiers, ReportedKey, Rows};
 use hedrugal::input::{AllocError, EncodeError, InputEvent, InputParser, KeyCode, KeyCodeEncodeModes, KeyboardEncoding};
 use hedrugal::input::{KittyKeyboardFlags, Modifiers, ParseError, Waiting};
 use hedrugal::keymap::{Found, InsertError, KeyMap};
-use std::cell::Cell;
-use std::ffi::c_void;
-
-thread_local! {
-    // How many requests there are to the one that is refused, or 0.
-    static TO_REFUSAL: Cell<usize> = const { Cell::new(0) };
-    static REFUSED: Cell<usize> = const { Cell::new(0) };
-    // How many bytes the thread's blocks have that weren't freed.
-    static IN_USE: Cell<usize> = const { Cell::new(0) };
-}
-
-extern "C" {
-    fn __libc_malloc(size: usize) -> *mut c_void;
-    fn __libc_realloc(block: *mut c_void, size: usize) -> *mut c_void;
-    fn __libc_free(block: *mut c_void);
-    fn malloc_usable_size(block: *mut c_void) -> usize;
-}
-
-fn refuses() -> bool {
-    let left = TO_REFUSAL.get();
-    TO_REFUSAL.set(left.saturating_sub(1));
-    if left == 1 {
-        REFUSED.set(REFUSED.get() + 1);
-    }
-    left == 1
-}
-
-#[no_mangle]
-extern "C" fn malloc(size: usize) -> *mut c_void {
-    if refuses() {
-        return std::ptr::null_mut();
-    }
-    // SAFETY: this is what the caller asked for.
-    unsafe { counted(__libc_malloc(size)) }
-}
-
-// SAFETY for callers: as of the C library's realloc.
-#[no_mangle]
-unsafe extern "C" fn realloc(block: *mut c_void, size: usize) -> *mut c_void {
-    if refuses() {
-        return std::ptr::null_mut();
-    }
-    // SAFETY: this is what the caller asked for.
-    unsafe {
-        uncount(block);
-        counted(__libc_realloc(block, size))
-    }
-}
-
-// SAFETY for callers: as of the C library's free.
-#[no_mangle]
-unsafe extern "C" fn free(block: *mut c_void) {
-    // SAFETY: this is what the caller asked for.
-    unsafe {
-        uncount(block);
-        __libc_free(block);
-    }
-}
-
-// Counts a new block. SAFETY for callers: it is one, or null.
-unsafe fn counted(block: *mut c_void) -> *mut c_void {
-    // SAFETY: of null the size is 0.
-    IN_USE.set(IN_USE.get().wrapping_add(unsafe { malloc_usable_size(block) }));
-    block
-}
-
-// Takes a block out of the count. SAFETY for callers: it is one, or null.
-unsafe fn uncount(block: *mut c_void) {
-    // SAFETY: of null the size is 0.
-    IN_USE.set(IN_USE.get().wrapping_sub(unsafe { malloc_usable_size(block) }));
-}
-
-// What a call returns if one request in it is refused, and how many were.
-fn refusing<T>(number: usize, call: impl FnOnce() -> T) -> (T, usize) {
-    REFUSED.set(0);
-    TO_REFUSAL.set(number);
-    let answer = call();
-    TO_REFUSAL.set(0);
-    (answer, REFUSED.get())
-}
+use malloc::{in_use, refusing};
 
 const STREAM: &[u8] =
     b"q\x1b[A\x1b[<0;12;3M\xc3\xa9\x1b[200~hello w\xc3\xb6rld, and some more text that needs memory\x1b[201~\x1b[1;5Dx\x1b[200~again\xff\x1b[201~\x1b";
@@ -211,14 +133,6 @@ fn goes_on_with_the_extended_parser() {
     }
 }
 
-#[test]
-fn makes_an_extended_parser_after_a_refusal() {
-    for number in 1..300 {
-        let (parser, refused) = refusing(number, || ExtendedParser::try_new(Rows::Port));
-        assert_eq!((parser.err(), refused), (Some(AllocError), 1));
-    }
-}
-
 // A parser with an open paste, which has the text `OPEN_TEXT` if it is ended.
 fn parser_in_a_paste() -> InputParser {
     let mut parser = InputParser::new();
@@ -304,20 +218,23 @@ fn forgets_a_refused_event() {
     }
 }
 
-// Each of the first requests, and then every 100th.
+// Makes parsers once the table is there: tests/table.rs has the first one.
+fn check_new<Parser>(make: fn() -> Result<Parser, AllocError>) {
+    assert!(make().is_ok());
+    let mut number = 1;
+    while refusing(number, make).1 > 0 {
+        let before = in_use();
+        assert_eq!(refusing(number, make).0.err(), Some(AllocError));
+        assert_eq!(in_use(), before);
+        number += 1;
+    }
+    assert!(number > 1);
+}
+
 #[test]
 fn makes_a_parser_after_a_refusal() {
-    let mut number = 1;
-    loop {
-        let (parser, refused) = refusing(number, InputParser::try_new);
-        if refused == 0 {
-            assert_eq!(parser.map(|parser| parser.waiting_len()), Ok(0));
-            break;
-        }
-        assert_eq!(parser.err(), Some(AllocError));
-        number += if number < 300 { 1 } else { 100 };
-    }
-    assert!(number > 300);
+    check_new(InputParser::try_new);
+    check_new(|| ExtendedParser::try_new(Rows::Port));
 }
 
 #[test]
@@ -433,46 +350,115 @@ fn tells_rows_without_memory() {
     assert_eq!(refusing(1, || parser.row(usize::MAX)), (None, 0));
 }
 
+// A parser of either kind, as the tests of its memory use it.
+trait Session {
+    fn make() -> Self;
+    // Returns the number of the events.
+    fn read(&mut self, bytes: &[u8]) -> usize;
+    fn shrink_to(&mut self, min_capacity: usize);
+}
+
+impl Session for InputParser {
+    fn make() -> Self {
+        InputParser::new()
+    }
+
+    fn read(&mut self, bytes: &[u8]) -> usize {
+        self.parse_as_vec(bytes, true).len()
+    }
+
+    fn shrink_to(&mut self, min_capacity: usize) {
+        self.shrink_to(min_capacity);
+    }
+}
+
+impl Session for ExtendedParser {
+    fn make() -> Self {
+        ExtendedParser::new(Rows::Kitty)
+    }
+
+    fn read(&mut self, bytes: &[u8]) -> usize {
+        self.parse_as_vec(bytes, true).len()
+    }
+
+    fn shrink_to(&mut self, min_capacity: usize) {
+        self.shrink_to(min_capacity);
+    }
+}
+
+const LONG: usize = 100_000;
+
+fn long_paste() -> String {
+    format!("\x1b[200~{}\x1b[201~", "x".repeat(LONG))
+}
+
 // The library keeps a text no longer once it is an event, and nothing past the parser's end. Keys of as many bytes come first, so that the
 // buffer has room.
-fn check_freed<Parser>(make: fn() -> Parser, parse: fn(&mut Parser, &[u8]) -> usize) {
-    const LONG: usize = 100_000;
-    let (keys, paste) = ("x".repeat(LONG + 12), format!("\x1b[200~{}\x1b[201~", "x".repeat(LONG)));
-    let before = IN_USE.get();
-    let mut parser = make();
-    assert_eq!(parse(&mut parser, keys.as_bytes()), keys.len());
-    let with_buffer = IN_USE.get();
-    assert_eq!(parse(&mut parser, paste.as_bytes()), 1);
-    assert!(IN_USE.get() < with_buffer + LONG / 2);
+fn check_freed<Parser: Session>() {
+    drop(Parser::make());
+    let (keys, paste) = ("x".repeat(LONG + 12), long_paste());
+    let before = in_use();
+    let mut parser = Parser::make();
+    assert_eq!(parser.read(keys.as_bytes()), keys.len());
+    let with_buffer = in_use();
+    assert_eq!(parser.read(paste.as_bytes()), 1);
+    assert!(in_use() < with_buffer + LONG / 2);
     drop(parser);
-    assert_eq!(IN_USE.get(), before);
+    assert_eq!(in_use(), before);
 }
 
 #[test]
 fn frees_memory() {
-    check_freed(InputParser::new, |parser, bytes| parser.parse_as_vec(bytes, true).len());
-    check_freed(
-        || ExtendedParser::new(Rows::Kitty),
-        |parser, bytes| parser.parse_as_vec(bytes, true).len(),
-    );
+    check_freed::<InputParser>();
+    check_freed::<ExtendedParser>();
+}
+
+// A parser that read a long paste gives its memory back, but for the room that is asked for, as far as there is that room. What is buffered
+// stays.
+fn check_shrunk<Parser: Session>() {
+    drop(Parser::make());
+    let paste = long_paste() + "\x1b[1;5";
+    let before = in_use();
+    let mut parser = Parser::make();
+    assert_eq!(parser.read(paste.as_bytes()), 1);
+    assert!(in_use() >= before + LONG);
+    assert_eq!(refusing(1, || parser.shrink_to(0)).1, 1);
+    assert!(in_use() >= before + LONG);
+    for (kept, wanted) in [
+        (2 * LONG, LONG..usize::MAX),
+        (LONG / 2, LONG / 2..LONG),
+        (0, 0..1024),
+        (LONG, 0..1024),
+    ] {
+        parser.shrink_to(kept);
+        assert!(wanted.contains(&(in_use() - before)), "{} for {kept}", in_use() - before);
+    }
+    assert_eq!((parser.read(b"A"), parser.read(paste.as_bytes())), (1, 1));
+}
+
+#[test]
+fn shrinks() {
+    check_shrunk::<InputParser>();
+    check_shrunk::<ExtendedParser>();
+}
+
+// A text that was refused memory is still the library's, and isn't given back.
+#[test]
+fn shrinks_behind_a_refused_event() {
+    for mut parser in refused_parsers(PASTE_AND_ESCAPE) {
+        parser.shrink_to(0);
+        assert_eq!(parser.parse_as_vec(b"", true), [InputEvent::Paste("text".to_string())]);
+        assert_eq!(parser.waiting(), Waiting::Escape);
+    }
 }
 
 #[test]
 fn panics_if_refused() {
-    let refused = |call: fn()| {
-        std::panic::catch_unwind(|| {
-            TO_REFUSAL.set(1);
-            call();
-        })
-        .is_err()
-    };
+    let refused = |call: fn()| refusing(1, || std::panic::catch_unwind(call)).0.is_err();
     assert!(refused(|| drop(InputParser::new())));
     assert!(refused(|| KeyMap::new().insert("a", 1)));
     let mut parser = parser_in_a_paste();
-    let ended = std::panic::catch_unwind(std::panic::AssertUnwindSafe(|| {
-        TO_REFUSAL.set(1);
-        parser.end_paste()
-    }));
-    assert!(ended.is_err());
+    let end = std::panic::AssertUnwindSafe(|| parser.end_paste());
+    assert!(refusing(1, || std::panic::catch_unwind(end)).0.is_err());
     assert_eq!(parser.end_paste(), Some(InputEvent::Paste(OPEN_TEXT.to_string())));
 }

@@ -2,7 +2,7 @@
 use super::ExtendedEvent;
 use crate::input::{AllocError, ParseError, ParseVecError, Waiting};
 use crate::library_parser::{Calls, LibraryParser, RawParser};
-use crate::raw;
+use crate::{raw, table};
 use std::fmt;
 
 /// Which rows of the sequence table keep the key that [`InputParser`](crate::input::InputParser) reads from them.
@@ -57,6 +57,7 @@ unsafe impl RawParser for raw::Extended {
         is_paste_open: raw::tw_extended_is_paste_open,
         end_paste: raw::tw_extended_end_paste,
         reset: raw::tw_extended_reset,
+        shrink_to: raw::tw_extended_shrink_to,
     };
 
     fn is_paste(event: &raw::ExtendedEvent) -> bool {
@@ -84,7 +85,7 @@ pub struct ExtendedParser {
 }
 
 impl ExtendedParser {
-    /// Makes a parser with an empty buffer.
+    /// Makes a parser with an empty buffer. It shares the process's sequence table with all parsers of both kinds.
     ///
     /// ```
     /// use hedrugal::extended::{ExtendedParser, Rows};
@@ -100,7 +101,7 @@ impl ExtendedParser {
         ExtendedParser::try_new(rows).expect("a parser is made")
     }
 
-    /// Makes a parser with an empty buffer.
+    /// Does what [`ExtendedParser::new`] does.
     ///
     /// ```
     /// use hedrugal::extended::{ExtendedParser, Rows};
@@ -110,13 +111,11 @@ impl ExtendedParser {
     ///
     /// # Errors
     ///
-    /// If memory is refused. Nothing was made.
+    /// If memory is refused, for the parser or for the table of the process's first one. Call again.
     pub fn try_new(rows: Rows) -> Result<ExtendedParser, AllocError> {
         let mut raw = raw::Extended::NONE;
-        // SAFETY: `raw` is no parser yet, which the call allows.
-        if !unsafe { raw::tw_extended_init(&mut raw, rows.number()) } {
-            return Err(AllocError);
-        }
+        // SAFETY: `raw` is no parser yet, which the call allows. `idle` is another one, which this thread alone has.
+        table::share(|idle| unsafe { raw::tw_extended_init_sharing_parser(&mut raw, rows.number(), idle) })?;
         let parser = LibraryParser::of(raw);
         Ok(ExtendedParser { parser, rows })
     }
@@ -400,6 +399,25 @@ impl ExtendedParser {
     /// ```
     pub fn reset(&mut self) -> usize {
         self.parser.reset()
+    }
+
+    /// Gives back memory that holds no buffered bytes, but for room for `min_capacity` bytes, as `Vec::shrink_to` does. What is buffered and
+    /// all later events are unchanged. If a smaller block is refused, the parser keeps the one that it has.
+    ///
+    /// Call it for the parser of a session that is quiet, with 0 or with the length of a usual read: see
+    /// [`InputParser::shrink_to`](crate::input::InputParser::shrink_to).
+    ///
+    /// ```
+    /// use hedrugal::extended::{ExtendedParser, Rows};
+    ///
+    /// let mut parser = ExtendedParser::new(Rows::Port);
+    /// let reply = format!("\x1b]52;c;{}\x1b\\\x1b]", "dGV4dA==".repeat(1000));
+    /// assert_eq!(parser.parse_as_vec(reply.as_bytes(), true).len(), 1);
+    /// parser.shrink_to(0);
+    /// assert_eq!(parser.waiting_len(), 2);
+    /// ```
+    pub fn shrink_to(&mut self, min_capacity: usize) {
+        self.parser.shrink_to(min_capacity);
     }
 }
 

@@ -1,7 +1,7 @@
 // The parser: bytes of a terminal to events.
 use super::{Completions, InputEvent, KeyEvent, RowBytes, FAULT};
 use crate::library_parser::{Calls, LibraryParser, RawParser};
-use crate::raw;
+use crate::{raw, table};
 use std::{error, fmt};
 
 /// Memory was refused.
@@ -136,6 +136,7 @@ unsafe impl RawParser for raw::Parser {
         is_paste_open: raw::tw_parser_is_paste_open,
         end_paste: raw::tw_parser_end_paste,
         reset: raw::tw_parser_reset,
+        shrink_to: raw::tw_parser_shrink_to,
     };
 
     fn is_paste(event: &raw::Event) -> bool {
@@ -148,7 +149,7 @@ unsafe impl RawParser for raw::Parser {
 }
 
 impl InputParser {
-    /// Makes a parser with an empty buffer.
+    /// Makes a parser with an empty buffer. It shares the process's sequence table, which the first such call makes.
     ///
     /// ```
     /// use hedrugal::input::InputParser;
@@ -164,7 +165,7 @@ impl InputParser {
         InputParser::try_new().expect("a parser is made")
     }
 
-    /// Makes a parser with an empty buffer.
+    /// Does what [`InputParser::new`] does.
     ///
     /// ```
     /// use hedrugal::input::InputParser;
@@ -174,13 +175,11 @@ impl InputParser {
     ///
     /// # Errors
     ///
-    /// If memory is refused. Nothing was made.
+    /// If memory is refused, for the parser or for the table of the first. Call again.
     pub fn try_new() -> Result<InputParser, AllocError> {
         let mut raw = raw::Parser::NONE;
-        // SAFETY: `raw` is no parser yet, which the call allows.
-        if !unsafe { raw::tw_parser_init(&mut raw) } {
-            return Err(AllocError);
-        }
+        // SAFETY: `raw` is no parser yet, which the call allows. `idle` is another one, which this thread alone has.
+        table::share(|idle| unsafe { raw::tw_parser_init_sharing(&mut raw, idle) })?;
         let parser = LibraryParser::of(raw);
         Ok(InputParser { parser })
     }
@@ -377,6 +376,25 @@ impl InputParser {
     /// ```
     pub fn reset(&mut self) -> usize {
         self.parser.reset()
+    }
+
+    /// Gives back memory that holds no buffered bytes, but for room for `min_capacity` bytes, as `Vec::shrink_to` does. What is buffered and
+    /// all later events are unchanged. If a smaller block is refused, the parser keeps the one that it has.
+    ///
+    /// The buffer grows with what it has to hold, such as a long paste, and keeps that memory for what comes next. Call this for the parser
+    /// of a session that is quiet, with 0 or with the length of a usual read.
+    ///
+    /// ```
+    /// use hedrugal::input::InputParser;
+    ///
+    /// let mut parser = InputParser::new();
+    /// let paste = format!("\x1b[200~{}\x1b[201~\x1b[", "a long text ".repeat(10_000));
+    /// assert_eq!(parser.parse_as_vec(paste.as_bytes(), true).len(), 1);
+    /// parser.shrink_to(0);
+    /// assert_eq!(parser.waiting_len(), 2);
+    /// ```
+    pub fn shrink_to(&mut self, min_capacity: usize) {
+        self.parser.shrink_to(min_capacity);
     }
 
     /// Returns the row of the sequence table at a place: the bytes of a sequence, and its key. Rows are in the order of their bytes; the

@@ -16,5 +16,6 @@ mod recorded;
 mod replay;
 mod rows;
 mod streams;
+mod threads;
 mod undecided;
 mod waiting;

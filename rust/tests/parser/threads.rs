@@ -1,0 +1,46 @@
+// Threads that make, use and free parsers. All of these share one sequence table.
+use hedrugal::extended::{ExtendedEvent, ExtendedParser, Rows};
+use hedrugal::input::{InputEvent, InputParser, KeyCode, KeyEvent, Modifiers};
+use std::sync::mpsc::{channel, Sender};
+use std::thread;
+
+const THREADS: usize = 4;
+const ROUNDS: usize = 200;
+
+fn ctrl_up() -> InputEvent {
+    InputEvent::Key(KeyEvent {
+        key: KeyCode::UpArrow,
+        modifiers: Modifiers::CTRL,
+    })
+}
+
+// Makes parsers and reads with them. Some are freed here, and some are passed on in the middle of a key.
+fn make_and_use(passed_on: &Sender<InputParser>) {
+    for _ in 0..ROUNDS {
+        let (mut parser, mut extended) = (InputParser::new(), ExtendedParser::new(Rows::Port));
+        assert_eq!(parser.parse_as_vec(b"\x1b[1;5A", true), [ctrl_up()]);
+        assert_eq!(extended.parse_as_vec(b"\x1b[1;5A", true), [ExtendedEvent::Input(ctrl_up())]);
+        drop(extended);
+        parser.parse(b"\x1b[1;", |_| {}, true);
+        passed_on.send(parser).expect("the main thread takes it");
+    }
+}
+
+#[test]
+fn four_threads() {
+    let (sender, parsers) = channel();
+    let threads: Vec<_> = (0..THREADS)
+        .map(|_| sender.clone())
+        .map(|sender| thread::spawn(move || make_and_use(&sender)))
+        .collect();
+    drop(sender);
+    let mut count = 0;
+    for mut parser in parsers {
+        assert_eq!(parser.parse_as_vec(b"5A", true), [ctrl_up()]);
+        count += 1;
+    }
+    assert_eq!(count, THREADS * ROUNDS);
+    for thread in threads {
+        thread.join().expect("the thread read what it wanted");
+    }
+}
