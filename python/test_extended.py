@@ -233,6 +233,10 @@ class PlainRefusals(Plain, plain.Refusals):
     pass
 
 
+class PlainMemory(Plain, plain.Memory):
+    init = "tw_extended_init_sharing_parser"
+
+
 class PlainRefusedEvents(Plain, plain.RefusedEvents):
     pass
 
@@ -344,10 +348,6 @@ class Events(WithParsers):
         raw = extended._RawExtended()
         self.assertFalse(hedrugal._library.tw_extended_init(raw, 2))
         self.assertFalse(raw.live)
-
-    def test_refused_parser(self):
-        with mock.patch.object(hedrugal._library, "tw_extended_init", lambda raw, rows: False), self.assertRaises(MemoryError):
-            ExtendedParser()
 
     def test_unknown_numbers(self):
         parser = self.parsers[Rows.PORT]

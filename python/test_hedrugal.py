@@ -16,6 +16,7 @@ import tempfile
 import time
 import unittest
 import weakref
+from unittest import mock
 
 HERE = os.path.dirname(os.path.abspath(__file__))
 TOP = os.path.dirname(HERE)
@@ -410,6 +411,7 @@ USES = [
     lambda parser: parser.flush_escape(),
     lambda parser: parser.end_paste(),
     lambda parser: parser.reset(),
+    lambda parser: parser.shrink_to(),
     lambda parser: parser.waiting,
     lambda parser: parser.waiting_len,
     lambda parser: parser.is_paste_open,
@@ -976,6 +978,81 @@ class Refusals(unittest.TestCase):
     def test_text_of_a_paste(self):
         for how in ("next", "parse", "end"):
             self.run_limited(f"how = {how!r}\n" + REFUSED_TEXT)
+
+
+MEMORY = """
+import os, resource
+from hedrugal import *
+MB = 1 << 20
+def memory():
+    return int(open("/proc/self/statm").read().split()[1]) * resource.getpagesize()
+"""
+
+# Two thousand parsers, which with a table each would have more than 300 MB. They are closed in both orders, and some are left open at the
+# exit. A forked child makes one too.
+MANY_PARSERS = MEMORY + """
+before, up = memory(), [KeyEvent(KeyCode.UpArrow, Modifiers.CTRL)]
+parsers = [make() for _ in range(1000) for make in (InputParser, ExtendedParser)]
+assert memory() - before < 16 * MB, memory() - before
+assert all(parser.parse(b"\\x1b[1;5A") == up for parser in parsers)
+for parser in parsers[:500] + parsers[:1500:-1]:
+    parser.close()
+assert parsers[1000].parse(b"\\x1b[1;5A") == InputParser().parse(b"\\x1b[1;5A") == up
+child = os.fork()
+if child == 0:
+    os._exit(0 if ExtendedParser().parse(b"\\x1b[1;5A") + parsers[1001].parse(b"\\x1b[1;5A") == up + up else 1)
+assert os.waitpid(child, 0)[1] == 0
+print("good")
+"""
+
+SHRINK = MEMORY + """
+parser = InputParser()
+paste = b"\\x1b[200~" + b"x" * (16 * MB) + b"\\x1b[201~\\x1b"
+before = memory()
+assert len(parser.parse(paste)) == 1
+assert memory() - before > 15 * MB
+for kept in (1 << 100, 16 * MB):
+    parser.shrink_to(kept)
+    assert memory() - before > 15 * MB
+parser.shrink_to(4096)
+assert memory() - before < 2 * MB, memory() - before
+parser.shrink_to()
+assert parser.waiting is Waiting.Escape and parser.parse(b"[A") == [KeyEvent(KeyCode.UpArrow)]
+print("good")
+"""
+
+
+class Memory(unittest.TestCase):
+    make, init = InputParser, "tw_parser_init_sharing"
+
+    def run_good(self, text):
+        text = text.replace("parser = InputParser", f"parser = {self.make.__name__}")
+        # So each large block goes back to the system as soon as it is freed.
+        env = {"HEDRUGAL_LIBRARY": LIBRARY, "MALLOC_MMAP_THRESHOLD_": "65536"}
+        self.assertEqual(run_python(text, env), (0, "good\n", ""))
+
+    def test_one_table(self):
+        self.run_good(MANY_PARSERS)
+
+    def test_shrink_to(self):
+        self.run_good(SHRINK)
+
+    def test_capacities(self):
+        with self.make() as parser:
+            for wrong, error in ((-1, ValueError), (None, TypeError), (1.0, TypeError)):
+                self.assertRaises(error, parser.shrink_to, wrong)
+
+    def test_refusals(self):
+        """The table is refused memory, and the next parser makes it. Or a parser is refused memory, once the table is there."""
+        with mock.patch.object(hedrugal, "_idle", hedrugal._RawParser()):
+            with mock.patch.object(hedrugal._library, "tw_parser_init", lambda raw: False):
+                self.assertRaises(MemoryError, self.make)
+            with self.make() as parser:
+                self.assertTrue(hedrugal._idle.live)
+                hedrugal._library.tw_parser_free(hedrugal._idle)
+                self.assertEqual(parser.parse(b"q"), [KeyEvent("q")])
+        with mock.patch.object(hedrugal._library, self.init, lambda *_: False):
+            self.assertRaises(MemoryError, self.make)
 
 
 class RefusedEvents(WithParser):

@@ -8,7 +8,7 @@ import weakref
 from unittest import mock
 
 import hedrugal
-from hedrugal import Ambiguous, Exact, InputParser, KeyMap, NeedData, Nothing
+from hedrugal import Ambiguous, Exact, KeyMap, NeedData, Nothing
 from test_hedrugal import LIBRARY, LIMITS, run_python
 
 NESTED = {b"boa": False, b"boo": False, b"boom": True, b"boom!!": False}
@@ -334,9 +334,8 @@ class Refusals(WithMap):
         self.assertEqual((status, printed, errors), (0, "good\n", ""))
 
     def test_new(self):
-        for make, call in ((KeyMap, "tw_keymap_init"), (InputParser, "tw_parser_init")):
-            with mock.patch.object(hedrugal._library, call, lambda raw: False), self.assertRaises(MemoryError):
-                make()
+        with mock.patch.object(hedrugal._library, "tw_keymap_init", lambda raw: False):
+            self.assertRaises(MemoryError, KeyMap)
 
     def test_a_place_for_the_value(self):
         class Short(list):

@@ -627,6 +627,20 @@ def _key_event(number: int, detail: int, modifiers: int) -> KeyEvent:
     return KeyEvent(_key(number, detail), _modifiers(modifiers))
 
 
+# The idle parser whose sequence table all parsers share. It is never freed, so the table stays until the process ends.
+_idle = _RawParser()
+
+
+def _parser_with_table() -> _RawParser:
+    """The idle parser, which is made with the first parser. If it is refused memory, the next parser tries again.
+
+    A call of the library keeps Python's lock. Between two calls another thread may come in, and both may make the idle parser. The second
+    call then frees the first's, whose table stays with the parsers that share it."""
+    if not _idle.live and not _library.tw_parser_init(_idle):
+        raise _refused()
+    return _idle
+
+
 class _ParserCalls(NamedTuple):
     """The library's calls for one of its parsers."""
 
@@ -640,6 +654,7 @@ class _ParserCalls(NamedTuple):
     is_paste_open: Any
     end_paste: Any
     reset: Any
+    shrink_to: Any
 
 
 _AnyEvent = TypeVar("_AnyEvent")
@@ -790,6 +805,18 @@ class _EventParser(_Closable, Generic[_AnyEvent]):
         self._calls.drop_text(self._raw)
         return cast(int, self._calls.reset(self._raw))
 
+    def shrink_to(self, min_capacity: int = 0) -> None:
+        """Gives back memory that holds no buffered bytes, but for room for so many. What is buffered and all later events are unchanged.
+
+        The buffer grows with what it has to hold, such as a long paste, and keeps that memory for what comes next. Call this for the parser
+        of a session that is quiet. Raises ValueError if min_capacity is negative."""
+        self._check_open()
+        if not isinstance(min_capacity, int):
+            raise TypeError(f"an int is required, not {type(min_capacity).__name__}")
+        if min_capacity < 0:
+            raise ValueError(f"{min_capacity} is negative")
+        self._calls.shrink_to(self._raw, min(min_capacity, sys.maxsize))
+
     def _find_front(self, maybe_more: bool) -> bool:
         """Whether there is an event at the front. It stays there until `_leave_front`."""
         if not self._has_front:
@@ -836,6 +863,8 @@ class InputParser(_EventParser[Event]):
     A parser owns memory outside of Python. `close` frees it; so do the end of a `with` block and the end of the parser's life. Every other
     call raises ValueError once the parser is closed. One thread at a time uses a parser. It can't be copied or pickled.
 
+    All parsers share one sequence table, which the first of them makes and which stays. So a program may have thousands of them.
+
     Making a parser raises MemoryError if memory is refused. So do the calls that say it. No event is then lost, and the parser may be used
     again."""
 
@@ -850,11 +879,15 @@ class InputParser(_EventParser[Event]):
         is_paste_open=_library.tw_parser_is_paste_open,
         end_paste=_library.tw_parser_end_paste,
         reset=_library.tw_parser_reset,
+        shrink_to=_library.tw_parser_shrink_to,
     )
     _front_event = _EventParser._input_event
 
     def __init__(self) -> None:
-        super().__init__(_RawParser(), _RawEvent(), _library.tw_parser_init, _library.tw_parser_free)
+        def init(raw: _RawParser) -> bool:
+            return bool(_library.tw_parser_init_sharing(raw, _parser_with_table()))
+
+        super().__init__(_RawParser(), _RawEvent(), init, _library.tw_parser_free)
 
     def row(self, place: int) -> Optional[Row]:
         r"""Returns the row of the sequence table at a place, in the order of the rows' bytes. Returns None from the end of the table on.

@@ -38,6 +38,7 @@ from . import (
     _Named,
     _number_and_detail,
     _PARSER as _INPUT_PARSER,
+    _parser_with_table,
     _ParserCalls,
     _RawEvent,
     _refused,
@@ -332,6 +333,7 @@ class ExtendedParser(_EventParser[ExtendedEvent]):
         is_paste_open=_library.tw_extended_is_paste_open,
         end_paste=_library.tw_extended_end_paste,
         reset=_library.tw_extended_reset,
+        shrink_to=_library.tw_extended_shrink_to,
     )
 
     def __init__(self, rows: Rows = Rows.PORT) -> None:
@@ -339,7 +341,7 @@ class ExtendedParser(_EventParser[ExtendedEvent]):
             raise TypeError(f"Rows are required, not {type(rows).__name__}")
 
         def init(raw: _RawExtended) -> bool:
-            return bool(_library.tw_extended_init(raw, rows.value))
+            return bool(_library.tw_extended_init_sharing_parser(raw, rows.value, _parser_with_table()))
 
         super().__init__(_RawExtended(), _RawExtendedEvent(), init, _library.tw_extended_free)
         self._rows = rows
