@@ -3,6 +3,8 @@
  *     growth             makes each pass once, within `counted`, and prints its name and the numbers of its bytes and its events
  *     growth heap        makes each pass once, and prints the same, the length of the longest text that waited, the most bytes of memory in
  *                        use, and the largest request for memory
+ *     growth parsers     makes many parsers that share one table, and prints how many bytes of memory each has in use: once they are made,
+ *                        after a read of keys, and some of them after a long paste, once they gave memory back; and what is left of all
  *
  * A pass makes a parser, gives it a text in reads of one size, takes the events, and ends the parser. It goes through parse_as_vec
  * (parser_pass of tools/measure/feed.rt.txt), through feed and next_event (the calls of c/termwiz_input.h), or through the same calls of the
@@ -19,12 +21,17 @@ bool parser_pass(const uint8_t *bytes, size_t length, size_t read, uint64_t *eve
 enum { LONGEST = 1 << 18 };
 
 /* Memory: blocks of an arena, one after another, so that a request takes the same instructions whatever came before. Each pass begins with
- * an empty arena. In front of each block stands its size. */
+ * an empty arena. Many parsers have the C library's blocks instead, since an arena has no room for what each of them asks for and frees.
+ * In front of each block stands its size. */
 enum { FRONT = 16, ARENA = 1 << 27 };
 static struct {
     _Alignas(FRONT) char bytes[ARENA];
     size_t end, in_use, most_in_use, largest;
+    bool is_of_libc;
 } memory;
+
+void *__real_malloc(size_t size);
+void __real_free(void *block);
 
 /* Notes that a block of one size took the place of another. */
 static void note(size_t before, size_t size) {
@@ -39,17 +46,32 @@ static size_t size_of(const char *block) {
     return size;
 }
 
-/* A new block, or NULL if the arena has no room for it. */
+/* Room for a block and its size, or NULL if there is none. */
+static char *new_room(size_t size) {
+    if (memory.is_of_libc)
+        return __real_malloc(FRONT + size);
+    size_t left = ARENA - memory.end;
+    if (size > left || left - size < 2 * FRONT)
+        return NULL;
+    char *room = memory.bytes + memory.end;
+    memory.end += FRONT + (size + FRONT - 1) / FRONT * FRONT;
+    return room;
+}
+
+/* A new block, or NULL. */
 static char *new_block(size_t size) {
     if (size > memory.largest)
         memory.largest = size;
-    size_t room = ARENA - memory.end;
-    if (size > room || room - size < 2 * FRONT)
+    char *room = new_room(size);
+    if (!room)
         return NULL;
-    char *block = memory.bytes + memory.end + FRONT;
-    memcpy(block - FRONT, &size, sizeof size);
-    memory.end += FRONT + (size + FRONT - 1) / FRONT * FRONT;
-    return block;
+    memcpy(room, &size, sizeof size);
+    return room + FRONT;
+}
+
+static void leave_block(char *block) {
+    if (memory.is_of_libc)
+        __real_free(block - FRONT);
 }
 
 void *__wrap_malloc(size_t size) {
@@ -68,12 +90,15 @@ void *__wrap_realloc(void *block, size_t size) {
         return NULL;
     memcpy(moved, block, before < size ? before : size);
     note(before, size);
+    leave_block(block);
     return moved;
 }
 
 void __wrap_free(void *block) {
-    if (block)
+    if (block) {
         note(size_of(block), 0);
+        leave_block(block);
+    }
 }
 
 /* Copies, which the C library makes in other ways for other lengths: here each byte takes the same instructions. */
@@ -263,6 +288,98 @@ static void show(const char *name, enum way way, size_t read, size_t length, boo
     printf("\n");
 }
 
+/* A parser of one kind or of the other that shares the table of `first`, and reads that are passed to it. */
+struct session {
+    bool is_extended;
+    tw_parser plain;
+    tw_extended extended;
+};
+static tw_parser first;
+
+static void make(struct session *it, bool is_extended) {
+    it->is_extended = is_extended;
+    if (!(is_extended ? tw_extended_init_sharing_parser(&it->extended, TW_ROWS_KITTY, &first) : tw_parser_init_sharing(&it->plain, &first)))
+        stop("memory was refused");
+}
+
+/* Passes a read, takes its events, and drops the text of a paste. */
+static void read_all(struct session *it, const uint8_t *bytes, size_t length) {
+    struct pass pass = {length, length, it->is_extended ? EXTENDED : NEXT_EVENT, 0, 0};
+    if (!(it->is_extended ? tw_extended_feed(&it->extended, bytes, length) : tw_parser_feed(&it->plain, bytes, length)))
+        stop("memory was refused");
+    if (it->is_extended) {
+        take_extended_events(&pass, &it->extended, true);
+        tw_extended_drop_text(&it->extended);
+    } else {
+        take_events(&pass, &it->plain, true);
+        tw_parser_drop_paste(&it->plain);
+    }
+    if (pass.events == 0)
+        stop("a read had no event");
+}
+
+static void shrink(struct session *it) {
+    if (it->is_extended)
+        tw_extended_shrink_to(&it->extended, 0);
+    else
+        tw_parser_shrink_to(&it->plain, 0);
+}
+
+static void end(struct session *it) {
+    if (it->is_extended)
+        tw_extended_free(&it->extended);
+    else
+        tw_parser_free(&it->plain);
+}
+
+/* Prints how many bytes each of some sessions has in use, beside those that were in use before. */
+static void tell_each(bool is_extended, const char *when, size_t count, size_t before) {
+    printf("%s %s %zu %zu\n", way_names[is_extended ? EXTENDED : NEXT_EVENT], when, count, (memory.in_use - before) / count);
+}
+
+enum { SESSIONS = 1000, PASTED_SESSIONS = 100, READ = 4096, PASTED = 1 << 20 };
+
+static void show_sessions(bool is_extended, const uint8_t *paste) {
+    static struct session sessions[SESSIONS];
+    size_t before = memory.in_use;
+    for (size_t i = 0; i < SESSIONS; i++)
+        make(&sessions[i], is_extended);
+    tell_each(is_extended, "made", SESSIONS, before);
+    for (size_t i = 0; i < SESSIONS; i++)
+        read_all(&sessions[i], text, READ);
+    tell_each(is_extended, "read", SESSIONS, before);
+    for (size_t i = 0; i < PASTED_SESSIONS; i++) {
+        end(&sessions[i]);
+        make(&sessions[i], is_extended);
+    }
+    for (size_t i = PASTED_SESSIONS; i < SESSIONS; i++)
+        end(&sessions[i]);
+    for (size_t i = 0; i < PASTED_SESSIONS; i++) {
+        read_all(&sessions[i], paste, PASTED);
+        shrink(&sessions[i]);
+    }
+    tell_each(is_extended, "shrunk", PASTED_SESSIONS, before);
+    for (size_t i = 0; i < PASTED_SESSIONS; i++)
+        end(&sessions[i]);
+    tell_each(is_extended, "freed", 1, before);
+}
+
+/* Sessions that read keys, and some that read a paste. */
+static void show_parsers(void) {
+    static const char paste_start[] = "\x1b[200~", paste_end[] = "\x1b[201~";
+    static uint8_t paste[PASTED];
+    memset(paste, 'x', PASTED);
+    memcpy(paste, paste_start, sizeof paste_start - 1);
+    memcpy(paste + PASTED - (sizeof paste_end - 1), paste_end, sizeof paste_end - 1);
+    fill_keys();
+    memory.is_of_libc = true;
+    if (!tw_parser_init(&first))
+        stop("memory was refused");
+    show_sessions(false, paste);
+    show_sessions(true, paste);
+    tw_parser_free(&first);
+}
+
 int main(int argc, char **argv) {
     static const struct {
         const char *name;
@@ -277,6 +394,10 @@ int main(int argc, char **argv) {
     bool is_heap = argc == 2 && !strcmp(argv[1], "heap");
     static char line[BUFSIZ];
     setvbuf(stdout, line, _IOFBF, sizeof line);
+    if (argc == 2 && !strcmp(argv[1], "parsers")) {
+        show_parsers();
+        return 0;
+    }
     for (enum way way = 0; way < WAYS; way++) {
         show("new", way, 1, 0, is_heap);
         for (size_t i = 0; i < sizeof texts / sizeof *texts; i++) {
