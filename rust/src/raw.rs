@@ -142,7 +142,8 @@ impl Parser {
     };
 }
 
-// SAFETY: what a parser owns is reached through it alone, and the library keeps nothing that belongs to a thread.
+// SAFETY: `Send` of the library's handle is proved. What a parser owns is reached through it alone, but for a table that parsers share. No
+// call changes that, and the library counts these parsers atomically.
 unsafe impl Send for Parser {}
 
 /// An event. What its kind has no use for is 0.
@@ -197,7 +198,7 @@ impl KeyMap {
     };
 }
 
-// SAFETY: what a map owns is reached through it alone, and the library keeps nothing that belongs to a thread.
+// SAFETY: `Send` of the library's handle is proved. What a map owns is reached through it alone.
 unsafe impl Send for KeyMap {}
 
 /// The key that a lookup found.
@@ -223,7 +224,7 @@ impl Extended {
     };
 }
 
-// SAFETY: what a parser owns is reached through it alone, and the library keeps nothing that belongs to a thread.
+// SAFETY: as for a `Parser`.
 unsafe impl Send for Extended {}
 
 /// The code point that the terminal didn't report.
