@@ -3,6 +3,7 @@
 #
 #     tools/measure.sh [--against COMMIT] [--extended ROWS] [--by-event] [--reads LIST] [--runs N] [--keep FOLDER]
 #                      [new | CORPUS[:MEGABYTES]]..
+#     tools/measure.sh --parsers LIST [--library DIR] [--reads LIST] [--runs N] [CORPUS[:MEGABYTES]]..
 #
 # It builds a static library over termwiz_input (tools/measure/feed.rt.txt) and a C program that times it (measure.c), from the files
 # here and, with --against, from those of COMMIT; all of it in a temporary folder, or in FOLDER, which is kept. Then it runs the
@@ -18,11 +19,17 @@
 # device or release (see tools/measure/corpora.py). The parser gets it in reads of each size in LIST (64,4096). If nothing is named, it
 # measures new and all corpora, the replies only with --extended.
 #
+# With --parsers it measures parsers of the library for C, which get reads in turn: for each number in LIST as many as that, once with a
+# table that all share, and once with a table each. It prints for each parser the time of making it and its resident memory, before and after
+# a first read, and the least time per event of each corpus (keys and csiu, if none is named). DIR is a folder that tools/c_library.sh wrote;
+# without --library the library is built.
+#
 # It needs rt, cc and python3. It says on standard error what it does.
 set -eu
 . "$(dirname "$0")/common.sh"
 top=$(cd "$(dirname "$0")/.." && pwd)
 against='' extended='' source=feed.rt.txt reads=64,4096 runs=9 keep=''
+parsers='' library=''
 while [ $# -gt 0 ]; do
     case $1 in
         --help) show_help; exit ;;
@@ -32,6 +39,12 @@ while [ $# -gt 0 ]; do
         --reads) want_next "$@"; reads=$2; shift 2 ;;
         --runs) want_next "$@"; runs=$2; shift 2 ;;
         --keep) want_next "$@"; keep=$2; shift 2 ;;
+        --parsers) want_next "$@"; parsers=$2; shift 2 ;;
+        --library)
+            want_next "$@"
+            [ -f "$2/libtermwiz_c.a" ] || refuse "there is no libtermwiz_c.a in $2"
+            library=$(realpath "$2")
+            shift 2 ;;
         -*) refuse_word "$1" ;;
         *) break ;;
     esac
@@ -41,6 +54,10 @@ case $extended in '' | port | kitty) ;; *) refuse_word "$extended" ;; esac
 # (--runs 0 only builds and writes the corpora, for c_measure.sh.)
 [ "$runs" = 0 ] || want_number "$runs" --runs
 for read in ${reads//,/ }; do want_number "$read" --reads; done
+for count in ${parsers//,/ }; do want_number "$count" --parsers; done
+[ -z "$library" ] || [ -n "$parsers" ] || refuse '--library goes with --parsers'
+[ -z "$parsers" ] || [ -z "$against$extended$keep" ] || refuse '--parsers goes with none of --against, --extended and --keep'
+[ $# -gt 0 ] || [ -z "$parsers" ] || set -- keys csiu
 [ $# -gt 0 ] || set -- new typed utf8 keys csiu mouse mixed escapes cut paste ${extended:+cursor focus device release}
 for case in "$@"; do
     case ${case%:*} in
@@ -60,6 +77,27 @@ if [ -n "$keep" ]; then
 else
     work=$(mktemp -d)
     trap 'rm -rf "$work"' EXIT
+fi
+
+# Measures many parsers of the library for C, one pass a process. A line of the results is the number of the parsers, whether their table
+# is shared, the size of the reads, the corpus, and what tools/measure/parsers.c printed.
+measure_parsers() { # corpora..
+    [ -n "$library" ] || { progress 'building the library'; library=$work/lib; "$top/tools/c_library.sh" "$library" >&2; }
+    cc -std=c11 -D_POSIX_C_SOURCE=200809L -O2 -I"$library" -o "$work/parsers" "$top/tools/measure/parsers.c" "$library/libtermwiz_c.a"
+    mkdir "$work/corpora"
+    python3 "$top/tools/measure/corpora.py" "$work/corpora" "$@"
+    note_load
+    for run in $(seq "$runs"); do
+        progress "run $run of $runs"
+        for count in ${parsers//,/ }; do for table in shared own; do for read in ${reads//,/ }; do for corpus in "$work"/corpora/*; do
+            echo "$count $table $read $(basename "$corpus") $("$work/parsers" "$corpus" "$read" "$count" "$table")"
+        done; done; done; done
+    done > "$work/results"
+    awk -f "$top/tools/measure/parsers.awk" "$work/results"
+}
+if [ -n "$parsers" ]; then
+    measure_parsers "$@"
+    exit
 fi
 
 # The crates of the parser; an older commit may have fewer of them.
