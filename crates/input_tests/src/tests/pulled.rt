@@ -82,3 +82,12 @@ fn check_loops(rt: &impl Abort, alloc: Global, parser: &mut InputParser) -> Resu
 fn loops_over_all_items(rt: HostRuntime) -> Result<(), Fail> {
     check_loops(&rt, rt.alloc(), &mut InputParser::new(rt.alloc())?)
 }
+
+#[test]
+fn tells_items(rt: HostRuntime) -> Result<(), Fail> {
+    let mut parser = InputParser::new(rt.alloc())?;
+    parser.feed(b"\x1b")?;
+    assert!(rt; !parser.has_item(MORE));
+    assert!(rt; parser.has_item(LAST));
+    Ok(())
+}
