@@ -151,12 +151,20 @@ impl InputParser {
         ensures empty { IfOk result (λ parser. parser ≡ []) }
         ensures exactly { (text : List ℕ) (key : KeyEvent) → (map.get table text ≡ Some key) ↔ Contains rows (text, key) }
     {
-        Ok(InputParser {
-            key_map: new_table(alloc)?,
+        Ok(InputParser::over(alloc, new_table(alloc)?))
+    }
+
+    // A parser over this table, whose waiting text is empty.
+    fn over(alloc: Global, key_map: Arc<KeyMap<KeyEvent>, Global>) -> InputParser
+        requires { arc_value key_map ≡ table }
+        ensures { result ≡ [] }
+    {
+        InputParser {
+            key_map,
             buffer: ReadBuffer::new(alloc),
             searched: 0,
             alloc,
-        })
+        }
     }
 
     /// Another parser with the sequence table of this one, whose waiting text is empty.
@@ -167,12 +175,8 @@ impl InputParser {
     pub fn sharing(&self) -> Result<InputParser, AllocError>
         ensures { IfOk result (λ parser. parser ≡ []) }
     {
-        Ok(InputParser {
-            key_map: Arc::try_clone(&self.key_map)?,
-            buffer: ReadBuffer::new(self.alloc),
-            searched: 0,
-            alloc: self.alloc,
-        })
+        let key_map = Arc::try_clone(&self.key_map)?;
+        Ok(InputParser::over(self.alloc, key_map))
     }
 
     /// Looks bytes up in the sequence table, as the parser does: finds the longest row that is a prefix of them. Nothing is buffered.
