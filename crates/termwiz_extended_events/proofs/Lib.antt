@@ -2,3 +2,4 @@ pub mod Examples
 pub mod FieldLemmas
 pub mod NumberLemmas
 pub mod ReportEnds
+pub mod PlainReports

@@ -186,6 +186,34 @@ fn tilde_report(t: &[u8]) -> Option<PlainReport>
     }
 }
 
+// c ; modifiers : kind u, of which only c must be there: the key of c, if it is reported with no other character and no text.
+#[tactic(auto, unfolding(crate::specs::KeyReports::character_key))]
+fn plain_character_key(t: &[u8]) -> Option<PlainReport>
+    ensures { IfSome result (λ report. rules.character_key t.now ≡ Some (plain_report report)) }
+{
+    let mut fields = Fields::new(before_end(t, b"u")?, b';');
+    let own = scalar(fields.next()?)?;
+    let manner = manner_behind(fields)?;
+    Some(PlainReport {
+        key: reported_keys::key_of(own),
+        manner,
+    })
+}
+
+// The report of a key, if it says no more than a key and its manner. `None` decides nothing. The last byte tells which rules can fit.
+pub(crate) fn plain_report(t: &[u8]) -> Option<PlainReport>
+    ensures { IfSome result (λ report. rules.key_report t.now ≡ Some (plain_report report)) }
+{
+    let last = *t.last()?;
+    if last == b'u' {
+        return plain_character_key(t);
+    }
+    if last == b'~' {
+        return tilde_report(t);
+    }
+    lettered_key(t)
+}
+
 // A report, if it is there, that says no more than a key and its manner.
 fn without_text<'t>(plain: Option<PlainReport>) -> Option<SpelledReport<'t>>
     ensures { IsSpelled result (option_map plain_report plain) }

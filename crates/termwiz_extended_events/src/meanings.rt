@@ -1,14 +1,16 @@
 // What a sequence means that the port doesn't know.
 ghost use Rattle.std.specs.Prelude.{◌≡◌, ◌↔◌, IfOk, IfSome, IsSome, IsTrue, OnErr, Some, unwrap_or};
-ghost use Rattle.termwiz_extended_events.specs.declared.types.ExtendedEvent.TheVariants.{Csi};
+ghost use Rattle.termwiz_extended_events.specs.declared.types.ExtendedEvent.TheVariants.{Csi, Key};
+ghost use Rattle.termwiz_extended_events.specs.KeyReports.{plain_report};
 ghost use Rattle.termwiz_extended_events.specs.Meanings as meaning;
 ghost use Rattle.termwiz_extended_events.specs.Meanings.{reported, command_text, string_text, event_after, event_from, IsKeyOrPosition, NeedsMemory};
 
 use crate::fields::before_end;
+use crate::key_reports;
 pub use crate::key_reports::SpelledReport;
 use crate::key_reports::{console_key, key_report, keypad_key};
 use crate::replies::{focus, mouse_report, reply};
-use crate::types::{ExtendedEvent, SequenceBytes};
+use crate::types::{ExtendedEvent, PlainReport, SequenceBytes};
 use std::alloc::{AllocError, Global};
 use termwiz_keys::types::{InputEvent, MouseEvent};
 
@@ -168,6 +170,27 @@ fn meaning_after(byte: u8, t: &[u8]) -> Meaning<'_>
         b'P' => Meaning::Dcs(string_text(t)),
         b'_' => Meaning::Apc(string_text(t)),
         _ => Meaning::Csi(t),
+    }
+}
+
+// The key report of what follows ESC [, if it says no more than a key and its manner.
+#[tactic(auto, using(crate::proofs::PlainReports::plain_event))]
+#[inline(always)]
+fn plain_report_behind(t: &[u8]) -> Option<PlainReport>
+    ensures { IfSome result (λ report. meaning.reported t.now ≡ Some (Key (plain_report report))) }
+{
+    key_reports::plain_report(t)
+}
+
+/// The key report of a whole sequence, if it says no more than a key and its manner: a small value, and quicker than [`meaning_of`]. `None`
+/// decides nothing: the sequence may still be a key report.
+#[tactic(auto, unfolding(crate::specs::Meanings::event_of, crate::specs::Meanings::event_after))]
+pub fn plain_report(text: &[u8]) -> Option<PlainReport>
+    ensures { IfSome result (λ report. meaning.event_of text.now ≡ Key (plain_report report)) }
+{
+    match text {
+        [0x1b, b'[', t @ ..] => plain_report_behind(t),
+        _ => None,
     }
 }
 

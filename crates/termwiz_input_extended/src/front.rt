@@ -1,5 +1,5 @@
 // What is at the front of a text: an extra sequence, the Escape key before one, or what the port finds there.
-ghost use Rattle.std.specs.Prelude.{◌≡◌, ◌≢◌, ◌↔◌, ◌++◌, ℕ, Bool, false, List, [], take, IsTrue, Some, Contains};
+ghost use Rattle.std.specs.Prelude.{◌≡◌, ◌≢◌, ◌↔◌, ◌++◌, ℕ, Bool, false, List, [], take, IfSome, IsTrue, Some, Contains};
 ghost use Rattle.termwiz_keymap.specs.Bytes.{Begins};
 ghost use Rattle.termwiz_keys.specs.Introducers.{ESC, START};
 ghost use Rattle.termwiz_keys.specs.declared.types.InputEvent.TheVariants.{Key as PortsKey};
@@ -10,6 +10,8 @@ ghost use Rattle.termwiz_grammar.specs.Table.{rows as table_rows};
 ghost use Rattle.termwiz_input.specs.Matches.{IsItemAt};
 ghost use Rattle.termwiz_input.specs.MouseReportAnswers.{HasNoPartInMouseReports};
 ghost use Rattle.termwiz_extended_events.specs.declared.types.Rows.TheVariants.{Port};
+ghost use Rattle.termwiz_extended_events.specs.declared.types.ExtendedEvent.TheVariants.{Key as KeyReported};
+ghost use Rattle.termwiz_extended_events.specs.KeyReports.{plain_report};
 ghost use Rattle.termwiz_extended_events.specs.Meanings.{event_from, event_of};
 ghost use Rattle.termwiz_extended_grammar.specs.Forms.{IsForm};
 ghost use Rattle.termwiz_input_extended.specs.FormAnswers.{IsScanned};
@@ -17,8 +19,8 @@ ghost use Rattle.termwiz_input_extended.specs.ExtendedFronts.{HasFormFront, HasN
 
 use crate::characters::is_control_key;
 use crate::form::{ESCAPE, FormAt, form_at, next_scan};
-use termwiz_extended_events::meanings::{Meaning, meaning_of};
-use termwiz_extended_events::types::Rows;
+use termwiz_extended_events::meanings::{Meaning, meaning_of, plain_report};
+use termwiz_extended_events::types::{PlainReport, Rows};
 use termwiz_input::input::{
     FrontReport, InputParser, begins_paste, follows_escape, mouse_report_at,
 };
@@ -137,6 +139,19 @@ pub(crate) fn is_extra_at(
     match rows {
         Rows::Port => true,
         Rows::Kitty => is_extra(parser, rows, &text[..len], meaning),
+    }
+}
+
+// The key report of the form of so many bytes at the front of a text, if it is read as one that says no more than a key and its manner. It
+// is a small value, from which the event is built once, and so it is quicker than a meaning. `None` decides nothing.
+#[inline(always)]
+pub(crate) fn plain_report_at(rows: Rows, text: &[u8], len: usize) -> Option<PlainReport>
+    requires { IsFormAt rows text.now len }
+    ensures { IfSome result (λ report. IsExtraAt rows text.now len × (event_of (take len text.now) ≡ KeyReported (plain_report report))) }
+{
+    match rows {
+        Rows::Port => None,
+        Rows::Kitty => plain_report(&text[..len]),
     }
 }
 

@@ -12,7 +12,7 @@ ghost use Rattle.termwiz_input_extended.specs.ExtendedFronts.{Emits, GivesNoneTh
 ghost use Rattle.termwiz_input_extended.specs.Buffered.{IsBoundedOrOpenPaste};
 
 use crate::characters::{character_front, control_key};
-use crate::front::{ExtendedFront, front, is_extra_at};
+use crate::front::{ExtendedFront, front, is_extra_at, plain_report_at};
 use std::alloc::{AllocError, Global};
 use std::marker::Model;
 use termwiz_extended_events::meanings::meaning_of;
@@ -242,6 +242,10 @@ impl ExtendedParser {
         ensures { Emits self.old maybe_more self.new result }
     {
         let text = self.waiting_text();
+        if let Some(report) = plain_report_at(self.rows, text, len) {
+            self.consume(len);
+            return Ok(Some(ExtendedEvent::Key(report.whole(self.alloc))));
+        }
         let meaning = meaning_of(&text[..len]);
         if !is_extra_at(&self.parser, self.rows, text, len, &meaning) {
             return self.next_of_port(maybe_more);

@@ -1,0 +1,116 @@
+-- Reports of a key that say no more than its manner.
+use Rattle.std.proofs.Common.{◌≡◌, ℕ, ◌==◌, ◌&&◌, Bool, true, false, List, [], ◌∷◌, length, nat_lt, nat_le, refl, sym, ap, ◌∙◌, arith, Option, Some, None}
+use Rattle.std.specs.Prelude.{option_map, option_and_then, IfSome, if◌then◌else◌}
+use Rattle.std.specs.List.{list_all, slice_split}
+use Rattle.std.specs.Char.{is_ascii_digit}
+use Rattle.std.proofs.lemmas.Bool.{and_parts}
+use Rattle.std.proofs.lemmas.Bool.Decides.{nat_tests}
+use Rattle.termwiz_grammar.specs.MouseReports.{value_of}
+use Rattle.termwiz_extended_events.specs.declared.types.KeyReport.{KeyReport}
+use Rattle.termwiz_extended_events.specs.declared.types.Manner.{Manner}
+use Rattle.termwiz_extended_events.specs.declared.types.PlainReport.{PlainReport}
+use Rattle.termwiz_extended_events.specs.Numbers.{before_end, is_digits, most_digits, number, number_within, parts, scalar}
+use Rattle.termwiz_extended_events.specs.KeyReports.{character_of_fields, character_report, codes_of, key_report, plain_report, report_behind, report_of, character_key, lettered_key, numbered_key, other_key}
+use Rattle.termwiz_extended_events.specs.ReportedKeys.{key_of}
+use Rattle.termwiz_extended_events.specs.Replies.{focus}
+use Rattle.termwiz_extended_events.specs.Meanings.{reported}
+use Rattle.termwiz_extended_events.specs.declared.types.ExtendedEvent.TheVariants.{Key}
+
+-- no digit is a colon
+digits_one_part : (xs : List ℕ) → list_all is_ascii_digit xs ≡ true → slice_split (λ b. b == 58) xs ≡ xs ∷ []
+digits_one_part [] e = refl
+digits_one_part (x ∷ xs) e =
+    let both = and_parts (is_ascii_digit x) (list_all is_ascii_digit xs) e in
+    let other : (x == 58) ≡ false = grind (arith, nat_tests, both.0) in
+    rw (other, digits_one_part xs both.1) refl
+
+-- what is there passed the test
+passed : (b : Bool) (v n : ℕ) → (if b then Some v else None) ≡ Some n → b ≡ true
+passed true v n e = refl
+passed false v n e = cc (e)
+
+number_one_part : (field : List ℕ) (n : ℕ) → number 0 0x10ffff field ≡ Some n → parts field ≡ field ∷ []
+unfolding number_within
+number_one_part field n e =
+    let digits = passed (is_digits most_digits field && nat_le 0 (value_of field) && nat_le (value_of field) 0x10ffff) (value_of field) n e in
+    digits_one_part field (and_parts (nat_lt 0 (length field) && nat_le (length field) most_digits) (list_all is_ascii_digit field)
+    (and_parts (is_digits most_digits field) (nat_le 0 (value_of field))
+    (and_parts (is_digits most_digits field && nat_le 0 (value_of field)) (nat_le (value_of field) 0x10ffff) digits).0).0).1
+
+was_some : (test : ℕ → Option ℕ) (number : Option ℕ) (c : ℕ) → option_and_then test number ≡ Some c → (n : ℕ) × (number ≡ Some n)
+was_some test None c e = cc (e)
+was_some test (Some n) c e = (n, refl)
+
+-- the number of a character is one part
+scalar_one_part : (field : List ℕ) (c : ℕ) → scalar field ≡ Some c → parts field ≡ field ∷ []
+unfolding scalar
+scalar_one_part field c e = let read = was_some _ (number 0 0x10ffff field) c e in number_one_part field read.0 read.1
+
+-- a field of one character's number
+one_code : (field : List ℕ) (c : ℕ) → scalar field ≡ Some c → codes_of field ≡ Some (record { own = c; shifted = None; base = None })
+unfolding codes_of
+one_code field c e = rw (scalar_one_part field c e, e) refl
+
+by_manner : (c : ℕ) (manner : Option Manner)
+    → character_report (Some (record { own = c; shifted = None; base = None })) manner (Some [])
+    ≡ option_map (report_of (key_of c)) manner
+by_manner c None = refl
+by_manner c (Some manner) = refl
+
+-- a character's number, and no more than the manner behind it
+pub plain_character : (field : List ℕ) (more : List (List ℕ)) (c : ℕ) (report : KeyReport) → scalar field ≡ Some c
+    → report_behind (key_of c) more ≡ Some report → character_of_fields (field ∷ more) ≡ Some report
+plain_character field [] c report own e = rw (one_code field c own) e
+plain_character field (manner ∷ []) c report own e = rw (one_code field c own) (by_manner c _ ∙ e)
+plain_character field (manner ∷ other ∷ more) c report own e = cc (e)
+
+no_i : key_report (73 ∷ []) ≡ None
+unfolding key_report character_key lettered_key numbered_key other_key before_end
+no_i = refl
+
+no_o : key_report (79 ∷ []) ≡ None
+unfolding key_report character_key lettered_key numbered_key other_key before_end
+no_o = refl
+
+none_otherwise : (b : ℕ) → (b == 73) ≡ false → (b == 79) ≡ false → focus (b ∷ []) ≡ None
+unfolding focus
+none_otherwise b i o = rw (i, o) refl
+
+none_of_none : focus [] ≡ None
+unfolding focus
+none_of_none = refl
+
+none_of_more : (b d : ℕ) (t : List ℕ) → focus (b ∷ d ∷ t) ≡ None
+unfolding focus
+none_of_more b d t = refl
+
+by_test : (b : ℕ) (report : KeyReport) (i o : Bool) → (b == 73) ≡ i → (b == 79) ≡ o → key_report (b ∷ []) ≡ Some report
+    → focus (b ∷ []) ≡ None
+by_test b report true o i p e = let is : b ≡ 73 = grind (arith, nat_tests) in cc (ap (λ n. key_report (n ∷ [])) is, no_i, e)
+by_test b report false true i p e = let is : b ≡ 79 = grind (arith, nat_tests) in cc (ap (λ n. key_report (n ∷ [])) is, no_o, e)
+by_test b report false false i p e = none_otherwise b i p
+
+-- a report of a key is none of the focus
+pub key_no_focus : (t : List ℕ) (report : KeyReport) → key_report t ≡ Some report → focus t ≡ None
+key_no_focus [] report e = none_of_none
+key_no_focus (b ∷ []) report e = by_test b report _ _ refl refl e
+key_no_focus (b ∷ d ∷ t) report e = none_of_more b d t
+
+-- a report that one rule reads
+pub read_by : (found : Option PlainReport) (rule report : Option KeyReport) → option_map plain_report found ≡ rule → report ≡ rule
+    → IfSome found (λ plain. report ≡ Some (plain_report plain))
+read_by None rule report e is = tt
+read_by (Some plain) rule report e is = is ∙ sym e
+
+-- what the rule for a character's key reads
+pub read_as_character : (found : Option PlainReport) (report character : Option KeyReport) → report ≡ character
+    → IfSome found (λ plain. character ≡ Some (plain_report plain)) → IfSome found (λ plain. report ≡ Some (plain_report plain))
+read_as_character None report character e is = tt
+read_as_character (Some plain) report character e is = e ∙ is
+
+-- the event of what follows ESC [ is that of its key
+pub plain_event : (t : List ℕ) (found : Option PlainReport) → IfSome found (λ report. key_report t ≡ Some (plain_report report))
+    → IfSome found (λ report. reported t ≡ Some (Key (plain_report report)))
+unfolding reported
+plain_event t None is = tt
+plain_event t (Some report) is = rw (key_no_focus t (plain_report report) is, is) refl
