@@ -1,12 +1,12 @@
 /* Asks the terminal where its cursor is, for its colours and for the flags of Kitty's keyboard protocol, and prints its replies.
  *
- *     cc ask.c $(pkg-config --cflags --libs termwiz_c) -o ask && ./ask
+ *     cc ask.c $(pkg-config --cflags --libs hedrugal) -o ask && ./ask
  *
  * The last question is what the terminal is (DA1), which nearly every terminal answers. Replies come in the order of the questions, so a reply
  * that hasn't come before that one won't come. Without any the program gives up after a second. Keys that are typed meanwhile are read as
  * keys, and no byte of a reply is taken for one. The terminal's settings are restored, also by a signal that ends the program. */
 #define _POSIX_C_SOURCE 200809L
-#include "termwiz_input.h"
+#include "hedrugal.h"
 #include <errno.h>
 #include <poll.h>
 #include <signal.h>
@@ -35,38 +35,38 @@ static void handle_signals(void (*handler)(int)) {
 }
 
 /* Prints the bytes that an event brought, with a dot for each that isn't printable ASCII. */
-static void print_text(const tw_extended *parser, const char *name, size_t len) {
+static void print_text(const hed_extended *parser, const char *name, size_t len) {
   uint8_t text[LONGEST_REPLY];
-  tw_extended_text(parser, text, sizeof text);
+  hed_extended_text(parser, text, sizeof text);
   printf("%s ", name);
   for (size_t i = 0; i < len && i < sizeof text; i++) putchar(text[i] >= ' ' && text[i] <= '~' ? text[i] : '.');
   putchar('\n');
 }
 
 /* Whether a control sequence is the reply to DA1: it begins with a question mark and ends with c. */
-static bool is_last_reply(const tw_extended *parser, size_t len) {
+static bool is_last_reply(const hed_extended *parser, size_t len) {
   uint8_t text[LONGEST_REPLY];
-  return len > 1 && tw_extended_text(parser, text, sizeof text) == len && len <= sizeof text && text[0] == '?' && text[len - 1] == 'c';
+  return len > 1 && hed_extended_text(parser, text, sizeof text) == len && len <= sizeof text && text[0] == '?' && text[len - 1] == 'c';
 }
 
 /* Prints an event. Returns whether it is the last reply. */
-static bool print_event(const tw_extended *parser, const tw_extended_event *event) {
+static bool print_event(const hed_extended *parser, const hed_extended_event *event) {
   switch (event->kind) {
-    case TW_EVENT_CURSOR_POSITION: printf("cursor at row %u, column %u\n", event->row, event->column); break;
-    case TW_EVENT_OSC: print_text(parser, "colour", event->text_len); break;
-    case TW_EVENT_KEYBOARD_FLAGS: printf("flags of Kitty's keyboard protocol %u\n", event->flags); break;
-    case TW_EVENT_CSI: print_text(parser, "control sequence", event->text_len); break;
-    case TW_EVENT_KEY: puts("a key was typed"); break;
+    case HED_KIND_CURSOR_POSITION: printf("cursor at row %u, column %u\n", event->row, event->column); break;
+    case HED_KIND_OSC: print_text(parser, "colour", event->text_len); break;
+    case HED_KIND_KEYBOARD_FLAGS: printf("flags of Kitty's keyboard protocol %u\n", event->flags); break;
+    case HED_KIND_CSI: print_text(parser, "control sequence", event->text_len); break;
+    case HED_KIND_KEY: puts("a key was typed"); break;
     default: break;
   }
-  return event->kind == TW_EVENT_CSI && is_last_reply(parser, event->text_len);
+  return event->kind == HED_KIND_CSI && is_last_reply(parser, event->text_len);
 }
 
 /* Prints the events that are there. Returns whether the last reply is among them. */
-static bool print_events(tw_extended *parser, bool more) {
-  tw_extended_event event;
+static bool print_events(hed_extended *parser, bool more) {
+  hed_extended_event event;
   bool is_over = false;
-  while (tw_extended_next(parser, more, &event) == TW_EVENT) is_over |= print_event(parser, &event);
+  while (hed_extended_next(parser, more, &event) == HED_NEXT_EVENT) is_over |= print_event(parser, &event);
   return is_over;
 }
 
@@ -77,7 +77,7 @@ static long now_ms(void) {
 }
 
 /* Reads replies up to the last one. Returns false after the timeout, at the end of the input, or if a signal or want of memory ends it. */
-static bool read_replies(tw_extended *parser) {
+static bool read_replies(hed_extended *parser) {
   struct pollfd input = { .fd = 0, .events = POLLIN };
   uint8_t bytes[4096];
   for (long end = now_ms() + TIMEOUT_MS, left; !ending && (left = end - now_ms()) > 0;) {
@@ -85,13 +85,13 @@ static bool read_replies(tw_extended *parser) {
     if (count < 0 && errno != EINTR) return false;
     if (count <= 0) continue;
     ssize_t len = read(0, bytes, sizeof bytes);
-    if (len <= 0 || !tw_extended_feed(parser, bytes, (size_t)len)) return false;
+    if (len <= 0 || !hed_extended_feed(parser, bytes, (size_t)len)) return false;
     if (print_events(parser, true)) return true;
   }
   return false;
 }
 
-static bool ask(tw_extended *parser) {
+static bool ask(hed_extended *parser) {
   fputs(questions, stdout);
   if (fflush(stdout) != 0) return false;
   if (read_replies(parser)) return true;
@@ -101,13 +101,13 @@ static bool ask(tw_extended *parser) {
 }
 
 int main(void) {
-  tw_extended parser = TW_EXTENDED_NONE;
+  hed_extended parser = HED_EXTENDED_NONE;
   struct termios saved, raw;
   if (!isatty(1) || tcgetattr(0, &saved) != 0) {
     fputs("ask: standard input and output have to be a terminal\n", stderr);
     return 2;
   }
-  if (!tw_extended_init(&parser, TW_ROWS_PORT)) {
+  if (!hed_extended_init(&parser, HED_PROTOCOL_LEGACY)) {
     fputs("ask: out of memory\n", stderr);
     return 1;
   }
@@ -120,7 +120,7 @@ int main(void) {
   tcsetattr(0, TCSADRAIN, &raw); /* what was typed ahead is kept */
   bool is_answered = ask(&parser);
   tcsetattr(0, is_answered ? TCSADRAIN : TCSAFLUSH, &saved); /* a late reply isn't left for the shell */
-  tw_extended_free(&parser);
+  hed_extended_free(&parser);
   if (ending) {
     handle_signals(SIG_DFL);
     raise(ending);

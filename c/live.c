@@ -1,6 +1,6 @@
 /* Prints the events of a terminal as they come, one on a line. A program to start from, in C99 and POSIX alone.
  *
- *     cc live.c $(pkg-config --cflags --libs termwiz_c) -o live && ./live [--mouse]
+ *     cc live.c $(pkg-config --cflags --libs hedrugal) -o live && ./live [--mouse]
  *
  * Bracketed paste is always on, or pasted text would count as typed. --mouse switches mouse reports on too, which keep most terminals
  * from selecting text. A new size of the terminal is printed as well.
@@ -9,7 +9,7 @@
  * off), as in an editor; SIGTSTP from another process stops it until SIGCONT. The terminal is restored whenever it ends or stops in one of
  * these ways. */
 #define _POSIX_C_SOURCE 200809L
-#include "termwiz_input.h"
+#include "hedrugal.h"
 #include <errno.h>
 #include <fcntl.h>
 #include <poll.h>
@@ -23,7 +23,7 @@
 enum { ESCAPE_MS = 50, SEQUENCE_MS = 1000, LONGEST_PASTE = 1 << 20 };
 
 typedef struct live {
-  tw_parser parser;
+  hed_parser parser;
   bool passes_over; /* whether the rest of a paste that was too long is passed over */
   bool mouse, is_raw;
   struct termios saved, raw;
@@ -100,59 +100,59 @@ static void print_size(void) {
   if (ioctl(0, TIOCGWINSZ, &size) == 0) printf("size %u x %u\n", size.ws_col, size.ws_row);
 }
 
-static void print_event(const tw_event *event) {
+static void print_event(const hed_event *event) {
   char name[32];
-  int len = (int)tw_key_name(event->key, (uint8_t *)name, sizeof name);
-  if (event->kind == TW_KEY) printf("%.*s", len, name);
-  if (event->key == TW_KEY_CHAR) printf(" U+%04X", (unsigned)event->detail);
-  if (event->key == TW_KEY_FUNCTION) printf(" %u", (unsigned)event->detail);
-  if (event->kind == TW_MOUSE) printf("mouse at %u, %u, buttons %u", event->x, event->y, event->buttons);
-  if (event->kind == TW_PASTE) printf("paste of %zu bytes", event->paste_len);
-  printf("%s%s%s\n", event->modifiers & TW_MOD_SHIFT ? " shift" : "", event->modifiers & TW_MOD_ALT ? " alt" : "",
-         event->modifiers & TW_MOD_CTRL ? " ctrl" : "");
+  int len = (int)hed_key_name(event->key, (uint8_t *)name, sizeof name);
+  if (event->kind == HED_KIND_KEY) printf("%.*s", len, name);
+  if (event->key == HED_KEY_CHAR) printf(" U+%04X", (unsigned)event->detail);
+  if (event->key == HED_KEY_FUNCTION) printf(" %u", (unsigned)event->detail);
+  if (event->kind == HED_KIND_MOUSE) printf("mouse at %u, %u, buttons %u", event->x, event->y, event->buttons);
+  if (event->kind == HED_KIND_PASTE) printf("paste of %zu bytes", event->paste_len);
+  printf("%s%s%s\n", event->modifiers & HED_TERMWIZ_MOD_SHIFT ? " shift" : "", event->modifiers & HED_TERMWIZ_MOD_ALT ? " alt" : "",
+         event->modifiers & HED_TERMWIZ_MOD_CTRL ? " ctrl" : "");
 }
 
-static bool handle_event(live *it, const tw_event *event) {
-  if (event->kind == TW_PASTE) tw_parser_drop_paste(&it->parser); /* tw_parser_paste would copy its text before */
+static bool handle_event(live *it, const hed_event *event) {
+  if (event->kind == HED_KIND_PASTE) hed_parser_drop_paste(&it->parser); /* hed_parser_paste would copy its text before */
   if (it->passes_over) {
-    it->passes_over = event->kind != TW_PASTE && event->key != TW_KEY_INTERNAL_PASTE_END;
+    it->passes_over = event->kind != HED_KIND_PASTE && event->key != HED_KEY_INTERNAL_PASTE_END;
     return true;
   }
   print_event(event);
-  return event->key != TW_KEY_CHAR || event->detail != 'q' || event->modifiers != TW_MOD_NONE;
+  return event->key != HED_KEY_CHAR || event->detail != 'q' || event->modifiers != HED_TERMWIZ_MOD_NONE;
 }
 
 static bool handle_events(live *it, bool more) {
-  tw_event event;
+  hed_event event;
   uint32_t next;
-  while ((next = tw_parser_next(&it->parser, more, &event)) == TW_EVENT)
+  while ((next = hed_parser_next(&it->parser, more, &event)) == HED_NEXT_EVENT)
     if (!handle_event(it, &event)) return false;
-  return next == TW_NONE || fail(it, "out of memory");
+  return next == HED_NEXT_NONE || fail(it, "out of memory");
 }
 
 /* How long to wait for more bytes: without end (-1) for those of a character or a paste. */
 static int pause_ms(live *it) {
-  uint32_t waiting = tw_parser_waiting_kind(&it->parser);
-  if (it->passes_over || waiting == TW_WAITING_SEQUENCE) return SEQUENCE_MS;
-  return waiting == TW_WAITING_ESCAPE ? ESCAPE_MS : -1;
+  uint32_t waiting = hed_parser_waiting(&it->parser);
+  if (it->passes_over || waiting == HED_WAITING_SEQUENCE) return SEQUENCE_MS;
+  return waiting == HED_WAITING_ESCAPE ? ESCAPE_MS : -1;
 }
 
 static bool handle_pause(live *it) {
-  tw_event event;
+  hed_event event;
   if (it->passes_over) {
     it->passes_over = false;
     return true;
   }
-  if (tw_parser_flush_escape(&it->parser, &event) == TW_EVENT) return handle_event(it, &event);
+  if (hed_parser_flush_escape(&it->parser, &event) == HED_NEXT_EVENT) return handle_event(it, &event);
   return handle_events(it, false);
 }
 
 /* Ends a paste at the limit. The rest arrives as keys, which weren't typed: they are passed over up to the paste's end, or up to a pause if
  * the limit cut that end. */
 static bool limit_paste(live *it) {
-  tw_event event;
-  if (tw_parser_waiting(&it->parser) <= LONGEST_PASTE) return true;
-  if (tw_parser_end_paste(&it->parser, &event) != TW_EVENT) return fail(it, "out of memory");
+  hed_event event;
+  if (hed_parser_waiting_len(&it->parser) <= LONGEST_PASTE) return true;
+  if (hed_parser_end_paste(&it->parser, &event) != HED_NEXT_EVENT) return fail(it, "out of memory");
   handle_event(it, &event);
   it->passes_over = true;
   return true;
@@ -162,7 +162,7 @@ static bool handle_input(live *it) {
   uint8_t bytes[4096];
   ssize_t count = read(0, bytes, sizeof bytes);
   if (count < 0) return fail(it, "the terminal can't be read");
-  if (!tw_parser_feed(&it->parser, bytes, (size_t)count)) return fail(it, "out of memory");
+  if (!hed_parser_feed(&it->parser, bytes, (size_t)count)) return fail(it, "out of memory");
   return handle_events(it, count > 0) && limit_paste(it) && count > 0;
 }
 
@@ -178,7 +178,7 @@ static void stop(live *it) {
 
 /* Another program had the terminal: what was buffered before no longer counts, and the size may be new. */
 static bool resume(live *it) {
-  tw_parser_reset(&it->parser);
+  hed_parser_reset(&it->parser);
   it->passes_over = false;
   resized = 1;
   return enter_terminal(it);
@@ -218,15 +218,15 @@ static void run(live *it) {
 }
 
 int main(int argc, char **argv) {
-  live it = { .parser = TW_PARSER_NONE, .mouse = argc == 2 && strcmp(argv[1], "--mouse") == 0 };
+  live it = { .parser = HED_PARSER_NONE, .mouse = argc == 2 && strcmp(argv[1], "--mouse") == 0 };
   if (argc > 1 && !it.mouse) {
     fputs("usage: live [--mouse]\n", stderr);
     return 2;
   }
-  if (find_terminal(&it) && note_signals(&it) && (tw_parser_init(&it.parser) || fail(&it, "out of memory"))) {
+  if (find_terminal(&it) && note_signals(&it) && (hed_parser_init(&it.parser) || fail(&it, "out of memory"))) {
     run(&it);
     leave_terminal(&it);
-    tw_parser_free(&it.parser);
+    hed_parser_free(&it.parser);
   }
   if (ending) {
     handle_signal(ending, SIG_DFL);

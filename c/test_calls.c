@@ -1,200 +1,200 @@
 /* A test of every call: `test_calls NUMBERS`, NUMBERS being the list c/numbers.txt. */
 #define _DEFAULT_SOURCE
 #include "expect.h"
-#include "termwiz_input.h"
+#include "hedrugal.h"
 #include <stdlib.h>
 #include <string.h>
 #include <sys/mman.h>
 
-static tw_event taken;
+static hed_event taken;
 
-/* Returns what tw_parser_next answers; its event is in `taken`. */
-static uint32_t take(tw_parser *parser, bool more) {
+/* Returns what hed_parser_next answers; its event is in `taken`. */
+static uint32_t take(hed_parser *parser, bool more) {
   memset(&taken, 0xaa, sizeof taken);
-  return tw_parser_next(parser, more, &taken);
+  return hed_parser_next(parser, more, &taken);
 }
 
-/* Feeds a text and returns what the first tw_parser_next answers. */
-static uint32_t next_of(tw_parser *parser, const char *text, size_t len, bool more) {
-  EXPECT(tw_parser_feed(parser, (const uint8_t *)text, len));
+/* Feeds a text and returns what the first hed_parser_next answers. */
+static uint32_t next_of(hed_parser *parser, const char *text, size_t len, bool more) {
+  EXPECT(hed_parser_feed(parser, (const uint8_t *)text, len));
   return take(parser, more);
 }
 
-#define FEED(parser, text) tw_parser_feed(parser, (const uint8_t *)text, sizeof text - 1)
+#define FEED(parser, text) hed_parser_feed(parser, (const uint8_t *)text, sizeof text - 1)
 #define NEXT(parser, text, more) next_of(parser, text, sizeof text - 1, more)
 
 static bool is_key(uint16_t key, uint32_t detail, uint16_t modifiers) {
-  return taken.kind == TW_KEY && taken.key == key && taken.detail == detail && taken.modifiers == modifiers && taken.buttons == 0
+  return taken.kind == HED_KIND_KEY && taken.key == key && taken.detail == detail && taken.modifiers == modifiers && taken.buttons == 0
          && taken.x == 0 && taken.y == 0 && taken.paste_len == 0;
 }
 
 /* Without a parser there are no rows, and nothing is written. */
-static void no_rows_answer(const tw_parser *parser) {
-  tw_event event, before;
-  tw_rows rows = {7, 8, true};
+static void no_rows_answer(const hed_parser *parser) {
+  hed_event event, before;
+  hed_entries rows = {7, 8, true};
   uint8_t byte = 'x';
   memset(&event, 0x55, sizeof event);
   memset(&before, 0x55, sizeof before);
-  EXPECT(tw_row(parser, 0, &byte, 1, &event) == 0 && tw_row(parser, TW_ROW_COUNT, &byte, 1, &event) == 0);
+  EXPECT(hed_parser_entry(parser, 0, &byte, 1, &event) == 0 && hed_parser_entry(parser, HED_ENTRY_COUNT, &byte, 1, &event) == 0);
   EXPECT(byte == 'x' && memcmp(&event, &before, sizeof event) == 0);
-  EXPECT(!tw_parser_completions(parser, &rows) && rows.first == 7 && rows.count == 8 && rows.with_alt);
+  EXPECT(!hed_parser_completions(parser, &rows) && rows.first == 7 && rows.count == 8 && rows.with_alt);
 }
 
 /* Nothing is there before init and after free, and each call says so. */
-static void none_answers(tw_parser *parser) {
-  tw_event event, before;
+static void none_answers(hed_parser *parser) {
+  hed_event event, before;
   uint8_t byte = 'x';
   memset(&event, 0x55, sizeof event);
   memset(&before, 0x55, sizeof before);
-  EXPECT(!tw_parser_feed(parser, &byte, 1));
-  EXPECT(tw_parser_next(parser, true, &event) == TW_NO_PARSER);
-  EXPECT(tw_parser_flush_escape(parser, &event) == TW_NO_PARSER);
-  EXPECT(tw_parser_end_paste(parser, &event) == TW_NO_PARSER);
+  EXPECT(!hed_parser_feed(parser, &byte, 1));
+  EXPECT(hed_parser_next(parser, true, &event) == HED_NEXT_NO_PARSER);
+  EXPECT(hed_parser_flush_escape(parser, &event) == HED_NEXT_NO_PARSER);
+  EXPECT(hed_parser_end_paste(parser, &event) == HED_NEXT_NO_PARSER);
   EXPECT(memcmp(&event, &before, sizeof event) == 0);
-  EXPECT(tw_parser_paste(parser, &byte, 1) == 0 && byte == 'x');
-  tw_parser_drop_paste(parser);
-  tw_parser_shrink_to(parser, 1);
-  EXPECT(tw_parser_waiting(parser) == 0 && tw_parser_waiting_kind(parser) == TW_WAITING_NOTHING);
-  EXPECT(!tw_parser_is_paste_open(parser));
-  EXPECT(tw_parser_reset(parser) == 0);
+  EXPECT(hed_parser_paste(parser, &byte, 1) == 0 && byte == 'x');
+  hed_parser_drop_paste(parser);
+  hed_parser_shrink_to(parser, 1);
+  EXPECT(hed_parser_waiting_len(parser) == 0 && hed_parser_waiting(parser) == HED_WAITING_NOTHING);
+  EXPECT(!hed_parser_is_paste_open(parser));
+  EXPECT(hed_parser_reset(parser) == 0);
   no_rows_answer(parser);
-  tw_parser_free(parser);
+  hed_parser_free(parser);
   EXPECT(!parser->live);
 }
 
 static void answers_before_init_and_after_free(void) {
-  tw_parser parser = TW_PARSER_NONE, zero;
+  hed_parser parser = HED_PARSER_NONE, zero;
   memset(&zero, 0, sizeof zero);
   none_answers(&parser);
   none_answers(&zero);
-  EXPECT(tw_parser_init(&parser));
-  EXPECT(NEXT(&parser, "q", true) == TW_EVENT);
-  tw_parser_free(&parser);
+  EXPECT(hed_parser_init(&parser));
+  EXPECT(NEXT(&parser, "q", true) == HED_NEXT_EVENT);
+  hed_parser_free(&parser);
   none_answers(&parser);
-  EXPECT(tw_parser_init(&parser));
-  EXPECT(NEXT(&parser, "q", true) == TW_EVENT && is_key(TW_KEY_CHAR, 'q', TW_MOD_NONE));
-  tw_parser_free(&parser);
-  tw_parser_free(&parser);
+  EXPECT(hed_parser_init(&parser));
+  EXPECT(NEXT(&parser, "q", true) == HED_NEXT_EVENT && is_key(HED_KEY_CHAR, 'q', HED_TERMWIZ_MOD_NONE));
+  hed_parser_free(&parser);
+  hed_parser_free(&parser);
 }
 
 /* init frees the parser that was there, with all that it had. */
 static void makes_anew(void) {
-  tw_parser parser = TW_PARSER_NONE;
-  EXPECT(tw_parser_init(&parser));
-  EXPECT(NEXT(&parser, "\033[200~text\033[201~\033[200~abc", true) == TW_EVENT);
-  EXPECT(tw_parser_init(&parser));
-  EXPECT(tw_parser_waiting(&parser) == 0 && !tw_parser_is_paste_open(&parser));
-  EXPECT(tw_parser_paste(&parser, (uint8_t *)"", 0) == 0);
-  EXPECT(NEXT(&parser, "q", true) == TW_EVENT && is_key(TW_KEY_CHAR, 'q', TW_MOD_NONE));
-  tw_parser_free(&parser);
+  hed_parser parser = HED_PARSER_NONE;
+  EXPECT(hed_parser_init(&parser));
+  EXPECT(NEXT(&parser, "\033[200~text\033[201~\033[200~abc", true) == HED_NEXT_EVENT);
+  EXPECT(hed_parser_init(&parser));
+  EXPECT(hed_parser_waiting_len(&parser) == 0 && !hed_parser_is_paste_open(&parser));
+  EXPECT(hed_parser_paste(&parser, (uint8_t *)"", 0) == 0);
+  EXPECT(NEXT(&parser, "q", true) == HED_NEXT_EVENT && is_key(HED_KEY_CHAR, 'q', HED_TERMWIZ_MOD_NONE));
+  hed_parser_free(&parser);
 }
 
 /* A parser that was moved is used at its new place. */
 static void moves(void) {
-  tw_parser first = TW_PARSER_NONE, second;
-  EXPECT(tw_parser_init(&first));
-  EXPECT(NEXT(&first, "\033[", true) == TW_NONE);
+  hed_parser first = HED_PARSER_NONE, second;
+  EXPECT(hed_parser_init(&first));
+  EXPECT(NEXT(&first, "\033[", true) == HED_NEXT_NONE);
   memcpy(&second, &first, sizeof second);
   memset(&first, 0, sizeof first);
-  EXPECT(NEXT(&second, "A", true) == TW_EVENT && is_key(TW_KEY_UP_ARROW, 0, TW_MOD_NONE));
-  tw_parser_free(&second);
+  EXPECT(NEXT(&second, "A", true) == HED_NEXT_EVENT && is_key(HED_KEY_UP_ARROW, 0, HED_TERMWIZ_MOD_NONE));
+  hed_parser_free(&second);
 }
 
 /* The events of one text, from a parser that was just made. */
 static void gives_events_in_turn(void) {
-  tw_parser parser = TW_PARSER_NONE;
-  EXPECT(!FEED(&parser, "a") && take(&parser, true) == TW_NO_PARSER);
-  EXPECT(tw_parser_init(&parser) && take(&parser, true) == TW_NONE);
+  hed_parser parser = HED_PARSER_NONE;
+  EXPECT(!FEED(&parser, "a") && take(&parser, true) == HED_NEXT_NO_PARSER);
+  EXPECT(hed_parser_init(&parser) && take(&parser, true) == HED_NEXT_NONE);
   EXPECT(FEED(&parser, "\033[1;3A\033[<0;7;9M\342\202\254\033"));
-  EXPECT(take(&parser, true) == TW_EVENT && is_key(TW_KEY_UP_ARROW, 0, TW_MOD_ALT));
-  EXPECT(take(&parser, true) == TW_EVENT && taken.kind == TW_MOUSE && taken.buttons == TW_BUTTON_LEFT && taken.x == 7 && taken.y == 9);
-  EXPECT(take(&parser, true) == TW_EVENT && is_key(TW_KEY_CHAR, 0x20ac, TW_MOD_NONE));
-  EXPECT(take(&parser, true) == TW_NONE && tw_parser_waiting(&parser) == 1);
-  EXPECT(take(&parser, false) == TW_EVENT && is_key(TW_KEY_ESCAPE, 0, TW_MOD_NONE));
-  tw_parser_free(&parser);
-  EXPECT(take(&parser, true) == TW_NO_PARSER);
-  tw_parser_free(&parser);
+  EXPECT(take(&parser, true) == HED_NEXT_EVENT && is_key(HED_KEY_UP_ARROW, 0, HED_TERMWIZ_MOD_ALT));
+  EXPECT(take(&parser, true) == HED_NEXT_EVENT && taken.kind == HED_KIND_MOUSE && taken.buttons == HED_BUTTON_LEFT && taken.x == 7 && taken.y == 9);
+  EXPECT(take(&parser, true) == HED_NEXT_EVENT && is_key(HED_KEY_CHAR, 0x20ac, HED_TERMWIZ_MOD_NONE));
+  EXPECT(take(&parser, true) == HED_NEXT_NONE && hed_parser_waiting_len(&parser) == 1);
+  EXPECT(take(&parser, false) == HED_NEXT_EVENT && is_key(HED_KEY_ESCAPE, 0, HED_TERMWIZ_MOD_NONE));
+  hed_parser_free(&parser);
+  EXPECT(take(&parser, true) == HED_NEXT_NO_PARSER);
+  hed_parser_free(&parser);
 }
 
 /* Bytes may be fed while events are still to be taken. */
-static void takes_one_event_at_a_time(tw_parser *parser) {
-  EXPECT(take(parser, true) == TW_NONE && tw_parser_waiting(parser) == 0);
-  EXPECT(NEXT(parser, "a\033[A\033", true) == TW_EVENT && is_key(TW_KEY_CHAR, 'a', TW_MOD_NONE) && tw_parser_waiting(parser) == 4);
-  EXPECT(NEXT(parser, "[<0;1;2M\033", true) == TW_EVENT && is_key(TW_KEY_UP_ARROW, 0, TW_MOD_NONE) && tw_parser_waiting(parser) == 10);
-  EXPECT(take(parser, true) == TW_EVENT && taken.kind == TW_MOUSE && taken.buttons == TW_BUTTON_LEFT && taken.modifiers == TW_MOD_NONE);
-  EXPECT(taken.x == 1 && taken.y == 2 && tw_parser_waiting(parser) == 1);
-  EXPECT(take(parser, true) == TW_NONE && tw_parser_waiting(parser) == 1);
-  EXPECT(take(parser, false) == TW_EVENT && is_key(TW_KEY_ESCAPE, 0, TW_MOD_NONE) && tw_parser_waiting(parser) == 0);
-  EXPECT(take(parser, false) == TW_NONE && tw_parser_waiting(parser) == 0);
+static void takes_one_event_at_a_time(hed_parser *parser) {
+  EXPECT(take(parser, true) == HED_NEXT_NONE && hed_parser_waiting_len(parser) == 0);
+  EXPECT(NEXT(parser, "a\033[A\033", true) == HED_NEXT_EVENT && is_key(HED_KEY_CHAR, 'a', HED_TERMWIZ_MOD_NONE) && hed_parser_waiting_len(parser) == 4);
+  EXPECT(NEXT(parser, "[<0;1;2M\033", true) == HED_NEXT_EVENT && is_key(HED_KEY_UP_ARROW, 0, HED_TERMWIZ_MOD_NONE) && hed_parser_waiting_len(parser) == 10);
+  EXPECT(take(parser, true) == HED_NEXT_EVENT && taken.kind == HED_KIND_MOUSE && taken.buttons == HED_BUTTON_LEFT && taken.modifiers == HED_TERMWIZ_MOD_NONE);
+  EXPECT(taken.x == 1 && taken.y == 2 && hed_parser_waiting_len(parser) == 1);
+  EXPECT(take(parser, true) == HED_NEXT_NONE && hed_parser_waiting_len(parser) == 1);
+  EXPECT(take(parser, false) == HED_NEXT_EVENT && is_key(HED_KEY_ESCAPE, 0, HED_TERMWIZ_MOD_NONE) && hed_parser_waiting_len(parser) == 0);
+  EXPECT(take(parser, false) == HED_NEXT_NONE && hed_parser_waiting_len(parser) == 0);
 }
 
-static void gives_keys(tw_parser *parser) {
-  EXPECT(tw_parser_feed(parser, (const uint8_t *)"", 0));
-  EXPECT(NEXT(parser, "", true) == TW_NONE);
-  EXPECT(NEXT(parser, "\033[1;3A", true) == TW_EVENT && is_key(TW_KEY_UP_ARROW, 0, TW_MOD_ALT));
-  EXPECT(NEXT(parser, "\033[15;6~", true) == TW_EVENT && is_key(TW_KEY_FUNCTION, 5, TW_MOD_SHIFT | TW_MOD_CTRL));
-  EXPECT(NEXT(parser, "\303\251", true) == TW_EVENT && is_key(TW_KEY_CHAR, 0xe9, TW_MOD_NONE));
-  EXPECT(NEXT(parser, "\377", true) == TW_EVENT && is_key(TW_KEY_CHAR, 0xfffd, TW_MOD_NONE));
-  EXPECT(NEXT(parser, "ab", true) == TW_EVENT && is_key(TW_KEY_CHAR, 'a', TW_MOD_NONE));
-  EXPECT(tw_parser_waiting(parser) == 1);
-  EXPECT(NEXT(parser, "", true) == TW_EVENT && is_key(TW_KEY_CHAR, 'b', TW_MOD_NONE));
-  EXPECT(NEXT(parser, "", true) == TW_NONE && tw_parser_waiting(parser) == 0);
+static void gives_keys(hed_parser *parser) {
+  EXPECT(hed_parser_feed(parser, (const uint8_t *)"", 0));
+  EXPECT(NEXT(parser, "", true) == HED_NEXT_NONE);
+  EXPECT(NEXT(parser, "\033[1;3A", true) == HED_NEXT_EVENT && is_key(HED_KEY_UP_ARROW, 0, HED_TERMWIZ_MOD_ALT));
+  EXPECT(NEXT(parser, "\033[15;6~", true) == HED_NEXT_EVENT && is_key(HED_KEY_FUNCTION, 5, HED_TERMWIZ_MOD_SHIFT | HED_TERMWIZ_MOD_CTRL));
+  EXPECT(NEXT(parser, "\303\251", true) == HED_NEXT_EVENT && is_key(HED_KEY_CHAR, 0xe9, HED_TERMWIZ_MOD_NONE));
+  EXPECT(NEXT(parser, "\377", true) == HED_NEXT_EVENT && is_key(HED_KEY_CHAR, 0xfffd, HED_TERMWIZ_MOD_NONE));
+  EXPECT(NEXT(parser, "ab", true) == HED_NEXT_EVENT && is_key(HED_KEY_CHAR, 'a', HED_TERMWIZ_MOD_NONE));
+  EXPECT(hed_parser_waiting_len(parser) == 1);
+  EXPECT(NEXT(parser, "", true) == HED_NEXT_EVENT && is_key(HED_KEY_CHAR, 'b', HED_TERMWIZ_MOD_NONE));
+  EXPECT(NEXT(parser, "", true) == HED_NEXT_NONE && hed_parser_waiting_len(parser) == 0);
 }
 
-static void gives_mouse_reports(tw_parser *parser) {
-  EXPECT(NEXT(parser, "\033[<16;65535;9M", true) == TW_EVENT);
-  EXPECT(taken.kind == TW_MOUSE && taken.buttons == TW_BUTTON_LEFT && taken.x == 65535 && taken.y == 9);
-  EXPECT(taken.modifiers == TW_MOD_CTRL && taken.key == 0 && taken.detail == 0 && taken.paste_len == 0);
-  EXPECT(NEXT(parser, "\033[<66;42;12M", true) == TW_EVENT);
-  EXPECT(taken.buttons == (TW_BUTTON_HORZ_WHEEL | TW_BUTTON_WHEEL_POSITIVE) && taken.modifiers == TW_MOD_NONE);
+static void gives_mouse_reports(hed_parser *parser) {
+  EXPECT(NEXT(parser, "\033[<16;65535;9M", true) == HED_NEXT_EVENT);
+  EXPECT(taken.kind == HED_KIND_MOUSE && taken.buttons == HED_BUTTON_LEFT && taken.x == 65535 && taken.y == 9);
+  EXPECT(taken.modifiers == HED_TERMWIZ_MOD_CTRL && taken.key == 0 && taken.detail == 0 && taken.paste_len == 0);
+  EXPECT(NEXT(parser, "\033[<66;42;12M", true) == HED_NEXT_EVENT);
+  EXPECT(taken.buttons == (HED_BUTTON_HORZ_WHEEL | HED_BUTTON_WHEEL_POSITIVE) && taken.modifiers == HED_TERMWIZ_MOD_NONE);
 }
 
 /* A lone ESC waits while more may come, and is Escape if no more does. */
-static void waits(tw_parser *parser) {
-  EXPECT(NEXT(parser, "\033", true) == TW_NONE);
-  EXPECT(tw_parser_waiting(parser) == 1 && !tw_parser_is_paste_open(parser));
-  EXPECT(NEXT(parser, "[", true) == TW_NONE && tw_parser_waiting(parser) == 2);
-  EXPECT(NEXT(parser, "B", true) == TW_EVENT && is_key(TW_KEY_DOWN_ARROW, 0, TW_MOD_NONE));
-  EXPECT(NEXT(parser, "\033", false) == TW_EVENT && is_key(TW_KEY_ESCAPE, 0, TW_MOD_NONE));
-  EXPECT(NEXT(parser, "", false) == TW_NONE);
+static void waits(hed_parser *parser) {
+  EXPECT(NEXT(parser, "\033", true) == HED_NEXT_NONE);
+  EXPECT(hed_parser_waiting_len(parser) == 1 && !hed_parser_is_paste_open(parser));
+  EXPECT(NEXT(parser, "[", true) == HED_NEXT_NONE && hed_parser_waiting_len(parser) == 2);
+  EXPECT(NEXT(parser, "B", true) == HED_NEXT_EVENT && is_key(HED_KEY_DOWN_ARROW, 0, HED_TERMWIZ_MOD_NONE));
+  EXPECT(NEXT(parser, "\033", false) == HED_NEXT_EVENT && is_key(HED_KEY_ESCAPE, 0, HED_TERMWIZ_MOD_NONE));
+  EXPECT(NEXT(parser, "", false) == HED_NEXT_NONE);
 }
 
 /* A paste is one event; its text is copied as often as it is asked for, as much as there is room for. */
-static void gives_pastes(tw_parser *parser) {
+static void gives_pastes(hed_parser *parser) {
   uint8_t room[8];
-  EXPECT(NEXT(parser, "\033[200~ab", true) == TW_NONE);
-  EXPECT(tw_parser_waiting(parser) == 8 && tw_parser_is_paste_open(parser));
-  EXPECT(NEXT(parser, "", false) == TW_NONE && tw_parser_waiting(parser) == 8);
-  EXPECT(NEXT(parser, "c\303\251\033[201~q", true) == TW_EVENT);
-  EXPECT(taken.kind == TW_PASTE && taken.paste_len == 5 && taken.key == 0 && taken.detail == 0 && taken.modifiers == 0);
-  EXPECT(!tw_parser_is_paste_open(parser));
+  EXPECT(NEXT(parser, "\033[200~ab", true) == HED_NEXT_NONE);
+  EXPECT(hed_parser_waiting_len(parser) == 8 && hed_parser_is_paste_open(parser));
+  EXPECT(NEXT(parser, "", false) == HED_NEXT_NONE && hed_parser_waiting_len(parser) == 8);
+  EXPECT(NEXT(parser, "c\303\251\033[201~q", true) == HED_NEXT_EVENT);
+  EXPECT(taken.kind == HED_KIND_PASTE && taken.paste_len == 5 && taken.key == 0 && taken.detail == 0 && taken.modifiers == 0);
+  EXPECT(!hed_parser_is_paste_open(parser));
   memset(room, '.', sizeof room);
-  EXPECT(tw_parser_paste(parser, room, 0) == 5 && memcmp(room, "........", 8) == 0);
-  EXPECT(tw_parser_paste(parser, room, 2) == 5 && memcmp(room, "ab......", 8) == 0);
-  EXPECT(tw_parser_paste(parser, room, 8) == 5 && memcmp(room, "abc\303\251...", 8) == 0);
-  EXPECT(NEXT(parser, "", true) == TW_EVENT && is_key(TW_KEY_CHAR, 'q', TW_MOD_NONE));
-  EXPECT(tw_parser_paste(parser, room, 8) == 5);
-  EXPECT(NEXT(parser, "\033[200~\033[201~", true) == TW_EVENT && taken.kind == TW_PASTE && taken.paste_len == 0);
-  EXPECT(tw_parser_paste(parser, room, 8) == 0 && memcmp(room, "abc\303\251...", 8) == 0);
+  EXPECT(hed_parser_paste(parser, room, 0) == 5 && memcmp(room, "........", 8) == 0);
+  EXPECT(hed_parser_paste(parser, room, 2) == 5 && memcmp(room, "ab......", 8) == 0);
+  EXPECT(hed_parser_paste(parser, room, 8) == 5 && memcmp(room, "abc\303\251...", 8) == 0);
+  EXPECT(NEXT(parser, "", true) == HED_NEXT_EVENT && is_key(HED_KEY_CHAR, 'q', HED_TERMWIZ_MOD_NONE));
+  EXPECT(hed_parser_paste(parser, room, 8) == 5);
+  EXPECT(NEXT(parser, "\033[200~\033[201~", true) == HED_NEXT_EVENT && taken.kind == HED_KIND_PASTE && taken.paste_len == 0);
+  EXPECT(hed_parser_paste(parser, room, 8) == 0 && memcmp(room, "abc\303\251...", 8) == 0);
 }
 
 /* An open paste is known before an event is asked for. Its text is kept past the next event, and a new parser has none. */
 static void keeps_the_text_of_a_paste(void) {
-  tw_parser parser = TW_PARSER_NONE;
+  hed_parser parser = HED_PARSER_NONE;
   uint8_t room[3] = "...";
-  EXPECT(tw_parser_init(&parser) && FEED(&parser, "\033[200~ab"));
-  EXPECT(tw_parser_is_paste_open(&parser) && tw_parser_waiting(&parser) == 8);
-  EXPECT(FEED(&parser, "\033[201~c") && take(&parser, true) == TW_EVENT && taken.kind == TW_PASTE && taken.paste_len == 2);
-  EXPECT(take(&parser, true) == TW_EVENT && is_key(TW_KEY_CHAR, 'c', TW_MOD_NONE));
-  EXPECT(tw_parser_paste(&parser, room, 3) == 2 && memcmp(room, "ab.", 3) == 0);
-  EXPECT(tw_parser_paste(&parser, room, 1) == 2 && memcmp(room, "ab.", 3) == 0);
-  EXPECT(tw_parser_init(&parser) && tw_parser_paste(&parser, room, 3) == 0 && memcmp(room, "ab.", 3) == 0);
-  EXPECT(!tw_parser_is_paste_open(&parser));
-  tw_parser_free(&parser);
+  EXPECT(hed_parser_init(&parser) && FEED(&parser, "\033[200~ab"));
+  EXPECT(hed_parser_is_paste_open(&parser) && hed_parser_waiting_len(&parser) == 8);
+  EXPECT(FEED(&parser, "\033[201~c") && take(&parser, true) == HED_NEXT_EVENT && taken.kind == HED_KIND_PASTE && taken.paste_len == 2);
+  EXPECT(take(&parser, true) == HED_NEXT_EVENT && is_key(HED_KEY_CHAR, 'c', HED_TERMWIZ_MOD_NONE));
+  EXPECT(hed_parser_paste(&parser, room, 3) == 2 && memcmp(room, "ab.", 3) == 0);
+  EXPECT(hed_parser_paste(&parser, room, 1) == 2 && memcmp(room, "ab.", 3) == 0);
+  EXPECT(hed_parser_init(&parser) && hed_parser_paste(&parser, room, 3) == 0 && memcmp(room, "ab.", 3) == 0);
+  EXPECT(!hed_parser_is_paste_open(&parser));
+  hed_parser_free(&parser);
 }
 
 /* A paste of more than 1 MB is one event, fed in pieces or at once, and its whole text is copied. */
-static void gives_a_long_paste(tw_parser *parser) {
+static void gives_a_long_paste(hed_parser *parser) {
   enum { BODY = (1 << 20) + 1, MARK = 6 };
   static uint8_t paste[MARK + BODY + MARK], room[BODY];
   uint8_t *body = paste + MARK;
@@ -203,15 +203,15 @@ static void gives_a_long_paste(tw_parser *parser) {
   memcpy(body + BODY, "\033[201~", MARK);
   for (int in_pieces = 0; in_pieces < 2; in_pieces++) {
     if (in_pieces) {
-      EXPECT(NEXT(parser, "\033[200~", true) == TW_NONE);
-      EXPECT(tw_parser_feed(parser, body, BODY) && FEED(parser, "\033[201~"));
+      EXPECT(NEXT(parser, "\033[200~", true) == HED_NEXT_NONE);
+      EXPECT(hed_parser_feed(parser, body, BODY) && FEED(parser, "\033[201~"));
     } else {
-      EXPECT(tw_parser_feed(parser, paste, sizeof paste));
+      EXPECT(hed_parser_feed(parser, paste, sizeof paste));
     }
     memset(room, '.', sizeof room);
-    EXPECT(take(parser, true) == TW_EVENT && taken.kind == TW_PASTE && taken.paste_len == BODY);
-    EXPECT(tw_parser_paste(parser, room, sizeof room) == BODY && memcmp(room, body, BODY) == 0);
-    EXPECT(NEXT(parser, "", true) == TW_NONE && tw_parser_waiting(parser) == 0);
+    EXPECT(take(parser, true) == HED_NEXT_EVENT && taken.kind == HED_KIND_PASTE && taken.paste_len == BODY);
+    EXPECT(hed_parser_paste(parser, room, sizeof room) == BODY && memcmp(room, body, BODY) == 0);
+    EXPECT(NEXT(parser, "", true) == HED_NEXT_NONE && hed_parser_waiting_len(parser) == 0);
   }
 }
 
@@ -222,240 +222,240 @@ struct rest {
 };
 
 static const struct rest rests[] = {
-    {"", TW_WAITING_NOTHING},
-    {"\033", TW_WAITING_ESCAPE},
-    {"\033\033", TW_WAITING_ESCAPE},
-    {"\033[", TW_WAITING_SEQUENCE},
-    {"\033O", TW_WAITING_SEQUENCE},
-    {"\033[1;5", TW_WAITING_SEQUENCE},
-    {"\033[<0;1", TW_WAITING_SEQUENCE},
-    {"\033[<0;3", TW_WAITING_SEQUENCE},
-    {"\033[200", TW_WAITING_SEQUENCE},
-    {"\033\033[", TW_WAITING_SEQUENCE},
-    {"\033\033[<00095;65535;65535", TW_WAITING_SEQUENCE},
-    {"\303", TW_WAITING_CHARACTER},
-    {"\342\202", TW_WAITING_CHARACTER},
-    {"\360\237\230", TW_WAITING_CHARACTER},
-    {"\033\303", TW_WAITING_CHARACTER},
-    {"\033\342\202", TW_WAITING_CHARACTER},
-    {"\033\360\237\230", TW_WAITING_CHARACTER},
-    {"\033[200~", TW_WAITING_PASTE},
-    {"\033[200~\033", TW_WAITING_PASTE},
-    {"\033[200~ab", TW_WAITING_PASTE},
-    {"\033[200~ab\033\033", TW_WAITING_PASTE},
-    {"\033[200~\303", TW_WAITING_PASTE},
-    {"\033[200~ab\033[201", TW_WAITING_PASTE},
-    {"\033[200~\033[200~", TW_WAITING_PASTE},
+    {"", HED_WAITING_NOTHING},
+    {"\033", HED_WAITING_ESCAPE},
+    {"\033\033", HED_WAITING_ESCAPE},
+    {"\033[", HED_WAITING_SEQUENCE},
+    {"\033O", HED_WAITING_SEQUENCE},
+    {"\033[1;5", HED_WAITING_SEQUENCE},
+    {"\033[<0;1", HED_WAITING_SEQUENCE},
+    {"\033[<0;3", HED_WAITING_SEQUENCE},
+    {"\033[200", HED_WAITING_SEQUENCE},
+    {"\033\033[", HED_WAITING_SEQUENCE},
+    {"\033\033[<00095;65535;65535", HED_WAITING_SEQUENCE},
+    {"\303", HED_WAITING_CHARACTER},
+    {"\342\202", HED_WAITING_CHARACTER},
+    {"\360\237\230", HED_WAITING_CHARACTER},
+    {"\033\303", HED_WAITING_CHARACTER},
+    {"\033\342\202", HED_WAITING_CHARACTER},
+    {"\033\360\237\230", HED_WAITING_CHARACTER},
+    {"\033[200~", HED_WAITING_PASTE},
+    {"\033[200~\033", HED_WAITING_PASTE},
+    {"\033[200~ab", HED_WAITING_PASTE},
+    {"\033[200~ab\033\033", HED_WAITING_PASTE},
+    {"\033[200~\303", HED_WAITING_PASTE},
+    {"\033[200~ab\033[201", HED_WAITING_PASTE},
+    {"\033[200~\033[200~", HED_WAITING_PASTE},
 };
 
 enum { RESTS = sizeof rests / sizeof rests[0] };
 
 /* Whether as many bytes of this kind stay buffered. */
-static bool is_rest(tw_parser *parser, size_t len, uint32_t kind) {
-  return tw_parser_waiting(parser) == len && tw_parser_waiting_kind(parser) == kind
-         && tw_parser_is_paste_open(parser) == (kind == TW_WAITING_PASTE);
+static bool is_rest(hed_parser *parser, size_t len, uint32_t kind) {
+  return hed_parser_waiting_len(parser) == len && hed_parser_waiting(parser) == kind
+         && hed_parser_is_paste_open(parser) == (kind == HED_WAITING_PASTE);
 }
 
 /* Feeds a rest to a parser that has nothing buffered. */
-static void feed_rest(tw_parser *parser, const struct rest *rest) {
-  EXPECT(is_rest(parser, 0, TW_WAITING_NOTHING));
-  EXPECT(next_of(parser, rest->text, strlen(rest->text), true) == TW_NONE);
+static void feed_rest(hed_parser *parser, const struct rest *rest) {
+  EXPECT(is_rest(parser, 0, HED_WAITING_NOTHING));
+  EXPECT(next_of(parser, rest->text, strlen(rest->text), true) == HED_NEXT_NONE);
   EXPECT(is_rest(parser, strlen(rest->text), rest->kind));
 }
 
 /* Each rest has its kind, alone and after a key, fed whole or byte by byte, and reset forgets it. */
-static void tells_kinds_and_forgets(tw_parser *parser) {
+static void tells_kinds_and_forgets(hed_parser *parser) {
   for (size_t i = 0; i < RESTS; i++) {
     size_t len = strlen(rests[i].text);
     feed_rest(parser, &rests[i]);
-    EXPECT(tw_parser_reset(parser) == len && tw_parser_reset(parser) == 0);
-    EXPECT(NEXT(parser, "q", true) == TW_EVENT && is_key(TW_KEY_CHAR, 'q', TW_MOD_NONE));
-    for (size_t at = 0; at < len; at++) EXPECT(next_of(parser, rests[i].text + at, 1, true) == TW_NONE);
+    EXPECT(hed_parser_reset(parser) == len && hed_parser_reset(parser) == 0);
+    EXPECT(NEXT(parser, "q", true) == HED_NEXT_EVENT && is_key(HED_KEY_CHAR, 'q', HED_TERMWIZ_MOD_NONE));
+    for (size_t at = 0; at < len; at++) EXPECT(next_of(parser, rests[i].text + at, 1, true) == HED_NEXT_NONE);
     EXPECT(is_rest(parser, len, rests[i].kind));
-    EXPECT(tw_parser_reset(parser) == len);
+    EXPECT(hed_parser_reset(parser) == len);
   }
-  EXPECT(is_rest(parser, 0, TW_WAITING_NOTHING));
+  EXPECT(is_rest(parser, 0, HED_WAITING_NOTHING));
 }
 
 /* What was fed and not emitted yet is forgotten too. */
-static void forgets_events(tw_parser *parser) {
-  EXPECT(NEXT(parser, "ab\033[A\033[200~text\033[201~", true) == TW_EVENT);
-  EXPECT(tw_parser_reset(parser) == 20);
-  EXPECT(NEXT(parser, "", false) == TW_NONE && is_rest(parser, 0, TW_WAITING_NOTHING));
+static void forgets_events(hed_parser *parser) {
+  EXPECT(NEXT(parser, "ab\033[A\033[200~text\033[201~", true) == HED_NEXT_EVENT);
+  EXPECT(hed_parser_reset(parser) == 20);
+  EXPECT(NEXT(parser, "", false) == HED_NEXT_NONE && is_rest(parser, 0, HED_WAITING_NOTHING));
 }
 
 /* After a flush nothing but an open paste stays. */
-static void flushes(tw_parser *parser) {
+static void flushes(hed_parser *parser) {
   for (size_t i = 0; i < RESTS; i++) {
-    bool is_open = rests[i].kind == TW_WAITING_PASTE;
+    bool is_open = rests[i].kind == HED_WAITING_PASTE;
     feed_rest(parser, &rests[i]);
-    while (NEXT(parser, "", false) == TW_EVENT) EXPECT(taken.kind == TW_KEY && !is_open);
-    EXPECT(is_rest(parser, is_open ? strlen(rests[i].text) : 0, is_open ? TW_WAITING_PASTE : TW_WAITING_NOTHING));
-    tw_parser_reset(parser);
+    while (NEXT(parser, "", false) == HED_NEXT_EVENT) EXPECT(taken.kind == HED_KIND_KEY && !is_open);
+    EXPECT(is_rest(parser, is_open ? strlen(rests[i].text) : 0, is_open ? HED_WAITING_PASTE : HED_WAITING_NOTHING));
+    hed_parser_reset(parser);
   }
 }
 
-/* Calls tw_parser_flush_escape or tw_parser_end_paste; its event is in `taken`, which has to be unchanged without one. */
-static uint32_t call(uint32_t (*calls)(tw_parser *, tw_event *), tw_parser *parser) {
-  tw_event before;
+/* Calls hed_parser_flush_escape or hed_parser_end_paste; its event is in `taken`, which has to be unchanged without one. */
+static uint32_t call(uint32_t (*calls)(hed_parser *, hed_event *), hed_parser *parser) {
+  hed_event before;
   memset(&taken, 0xaa, sizeof taken);
   memset(&before, 0xaa, sizeof before);
   uint32_t answer = calls(parser, &taken);
-  EXPECT(answer == TW_EVENT || memcmp(&taken, &before, sizeof taken) == 0);
+  EXPECT(answer == HED_NEXT_EVENT || memcmp(&taken, &before, sizeof taken) == 0);
   return answer;
 }
 
 /* ESC is flushed as Escape, ESC ESC with Alt, and nothing else is flushed. */
-static void flushes_escapes(tw_parser *parser) {
-  EXPECT(NEXT(parser, "\033", true) == TW_NONE);
-  EXPECT(call(tw_parser_flush_escape, parser) == TW_EVENT && is_key(TW_KEY_ESCAPE, 0, TW_MOD_NONE));
-  EXPECT(is_rest(parser, 0, TW_WAITING_NOTHING));
-  EXPECT(NEXT(parser, "\033\033", true) == TW_NONE);
-  EXPECT(call(tw_parser_flush_escape, parser) == TW_EVENT && is_key(TW_KEY_ESCAPE, 0, TW_MOD_ALT));
-  EXPECT(is_rest(parser, 0, TW_WAITING_NOTHING));
-  EXPECT(NEXT(parser, "[A", true) == TW_EVENT && is_key(TW_KEY_CHAR, '[', TW_MOD_NONE));
-  EXPECT(NEXT(parser, "", true) == TW_EVENT && is_key(TW_KEY_CHAR, 'A', TW_MOD_NONE));
-  EXPECT(NEXT(parser, "q\033", true) == TW_EVENT && is_key(TW_KEY_CHAR, 'q', TW_MOD_NONE));
-  EXPECT(call(tw_parser_flush_escape, parser) == TW_EVENT && is_key(TW_KEY_ESCAPE, 0, TW_MOD_NONE));
+static void flushes_escapes(hed_parser *parser) {
+  EXPECT(NEXT(parser, "\033", true) == HED_NEXT_NONE);
+  EXPECT(call(hed_parser_flush_escape, parser) == HED_NEXT_EVENT && is_key(HED_KEY_ESCAPE, 0, HED_TERMWIZ_MOD_NONE));
+  EXPECT(is_rest(parser, 0, HED_WAITING_NOTHING));
+  EXPECT(NEXT(parser, "\033\033", true) == HED_NEXT_NONE);
+  EXPECT(call(hed_parser_flush_escape, parser) == HED_NEXT_EVENT && is_key(HED_KEY_ESCAPE, 0, HED_TERMWIZ_MOD_ALT));
+  EXPECT(is_rest(parser, 0, HED_WAITING_NOTHING));
+  EXPECT(NEXT(parser, "[A", true) == HED_NEXT_EVENT && is_key(HED_KEY_CHAR, '[', HED_TERMWIZ_MOD_NONE));
+  EXPECT(NEXT(parser, "", true) == HED_NEXT_EVENT && is_key(HED_KEY_CHAR, 'A', HED_TERMWIZ_MOD_NONE));
+  EXPECT(NEXT(parser, "q\033", true) == HED_NEXT_EVENT && is_key(HED_KEY_CHAR, 'q', HED_TERMWIZ_MOD_NONE));
+  EXPECT(call(hed_parser_flush_escape, parser) == HED_NEXT_EVENT && is_key(HED_KEY_ESCAPE, 0, HED_TERMWIZ_MOD_NONE));
 }
 
 /* The same before an event is asked for, and of a parser that was just made. */
 static void flushes_what_was_fed(void) {
-  tw_parser parser = TW_PARSER_NONE;
-  EXPECT(tw_parser_init(&parser) && call(tw_parser_flush_escape, &parser) == TW_NONE);
-  EXPECT(FEED(&parser, "\033\033") && call(tw_parser_flush_escape, &parser) == TW_EVENT && is_key(TW_KEY_ESCAPE, 0, TW_MOD_ALT));
-  EXPECT(FEED(&parser, "\033[") && call(tw_parser_flush_escape, &parser) == TW_NONE && tw_parser_waiting(&parser) == 2);
-  tw_parser_free(&parser);
+  hed_parser parser = HED_PARSER_NONE;
+  EXPECT(hed_parser_init(&parser) && call(hed_parser_flush_escape, &parser) == HED_NEXT_NONE);
+  EXPECT(FEED(&parser, "\033\033") && call(hed_parser_flush_escape, &parser) == HED_NEXT_EVENT && is_key(HED_KEY_ESCAPE, 0, HED_TERMWIZ_MOD_ALT));
+  EXPECT(FEED(&parser, "\033[") && call(hed_parser_flush_escape, &parser) == HED_NEXT_NONE && hed_parser_waiting_len(&parser) == 2);
+  hed_parser_free(&parser);
 }
 
 /* Every other rest is as it was after it. */
-static void flushes_escapes_alone(tw_parser *parser) {
+static void flushes_escapes_alone(hed_parser *parser) {
   for (size_t i = 0; i < RESTS; i++) {
-    if (rests[i].kind == TW_WAITING_ESCAPE) continue;
+    if (rests[i].kind == HED_WAITING_ESCAPE) continue;
     feed_rest(parser, &rests[i]);
-    EXPECT(call(tw_parser_flush_escape, parser) == TW_NONE);
+    EXPECT(call(hed_parser_flush_escape, parser) == HED_NEXT_NONE);
     EXPECT(is_rest(parser, strlen(rests[i].text), rests[i].kind));
-    tw_parser_reset(parser);
+    hed_parser_reset(parser);
   }
-  EXPECT(NEXT(parser, "\033[1;5", true) == TW_NONE && call(tw_parser_flush_escape, parser) == TW_NONE);
-  EXPECT(NEXT(parser, "A", true) == TW_EVENT && is_key(TW_KEY_UP_ARROW, 0, TW_MOD_CTRL));
-  EXPECT(NEXT(parser, "\342\202", true) == TW_NONE && call(tw_parser_flush_escape, parser) == TW_NONE);
-  EXPECT(NEXT(parser, "\254", true) == TW_EVENT && is_key(TW_KEY_CHAR, 0x20ac, TW_MOD_NONE));
-  EXPECT(NEXT(parser, "\033[200~ab\033", true) == TW_NONE && call(tw_parser_flush_escape, parser) == TW_NONE);
-  EXPECT(NEXT(parser, "[201~", true) == TW_EVENT && taken.kind == TW_PASTE && taken.paste_len == 2);
-  EXPECT(tw_parser_feed(parser, (const uint8_t *)"q\033", 2) && call(tw_parser_flush_escape, parser) == TW_NONE);
-  EXPECT(tw_parser_reset(parser) == 2);
+  EXPECT(NEXT(parser, "\033[1;5", true) == HED_NEXT_NONE && call(hed_parser_flush_escape, parser) == HED_NEXT_NONE);
+  EXPECT(NEXT(parser, "A", true) == HED_NEXT_EVENT && is_key(HED_KEY_UP_ARROW, 0, HED_TERMWIZ_MOD_CTRL));
+  EXPECT(NEXT(parser, "\342\202", true) == HED_NEXT_NONE && call(hed_parser_flush_escape, parser) == HED_NEXT_NONE);
+  EXPECT(NEXT(parser, "\254", true) == HED_NEXT_EVENT && is_key(HED_KEY_CHAR, 0x20ac, HED_TERMWIZ_MOD_NONE));
+  EXPECT(NEXT(parser, "\033[200~ab\033", true) == HED_NEXT_NONE && call(hed_parser_flush_escape, parser) == HED_NEXT_NONE);
+  EXPECT(NEXT(parser, "[201~", true) == HED_NEXT_EVENT && taken.kind == HED_KIND_PASTE && taken.paste_len == 2);
+  EXPECT(hed_parser_feed(parser, (const uint8_t *)"q\033", 2) && call(hed_parser_flush_escape, parser) == HED_NEXT_NONE);
+  EXPECT(hed_parser_reset(parser) == 2);
 }
 
 /* Whether `taken` is a paste of this text. */
-static bool is_paste(tw_parser *parser, const char *want) {
+static bool is_paste(hed_parser *parser, const char *want) {
   uint8_t room[64];
   size_t len = strlen(want);
-  return taken.kind == TW_PASTE && taken.paste_len == len && taken.buttons == 0 && taken.modifiers == 0 && taken.key == 0 && taken.x == 0
-         && taken.y == 0 && taken.detail == 0 && tw_parser_paste(parser, room, sizeof room) == len && memcmp(room, want, len) == 0;
+  return taken.kind == HED_KIND_PASTE && taken.paste_len == len && taken.buttons == 0 && taken.modifiers == 0 && taken.key == 0 && taken.x == 0
+         && taken.y == 0 && taken.detail == 0 && hed_parser_paste(parser, room, sizeof room) == len && memcmp(room, want, len) == 0;
 }
 
 /* A paste is ended where it is: what it has so far is its text. */
-static void ends_pastes(tw_parser *parser) {
-  EXPECT(NEXT(parser, "\033[200~", true) == TW_NONE);
-  EXPECT(call(tw_parser_end_paste, parser) == TW_EVENT && is_paste(parser, "") && is_rest(parser, 0, TW_WAITING_NOTHING));
-  EXPECT(NEXT(parser, "q\033[200~ab\n", true) == TW_EVENT && NEXT(parser, "", true) == TW_NONE);
-  EXPECT(call(tw_parser_end_paste, parser) == TW_EVENT && is_paste(parser, "ab\n") && is_rest(parser, 0, TW_WAITING_NOTHING));
-  EXPECT(call(tw_parser_end_paste, parser) == TW_NONE && tw_parser_paste(parser, (uint8_t *)"", 0) == 3);
-  EXPECT(NEXT(parser, "c\033[201~", true) == TW_EVENT && is_key(TW_KEY_CHAR, 'c', TW_MOD_NONE));
-  EXPECT(NEXT(parser, "", true) == TW_EVENT && is_key(TW_KEY_INTERNAL_PASTE_END, 0, TW_MOD_NONE));
-  EXPECT(NEXT(parser, "\033[200~\303\251\342\202", false) == TW_NONE);
-  EXPECT(call(tw_parser_end_paste, parser) == TW_EVENT && is_paste(parser, "\303\251\357\277\275"));
-  EXPECT(NEXT(parser, "\033[200~ab\033[201", true) == TW_NONE);
-  EXPECT(call(tw_parser_end_paste, parser) == TW_EVENT && is_paste(parser, "ab\033[201"));
-  EXPECT(NEXT(parser, "~", true) == TW_EVENT && is_key(TW_KEY_CHAR, '~', TW_MOD_NONE));
-  EXPECT(is_rest(parser, 0, TW_WAITING_NOTHING));
+static void ends_pastes(hed_parser *parser) {
+  EXPECT(NEXT(parser, "\033[200~", true) == HED_NEXT_NONE);
+  EXPECT(call(hed_parser_end_paste, parser) == HED_NEXT_EVENT && is_paste(parser, "") && is_rest(parser, 0, HED_WAITING_NOTHING));
+  EXPECT(NEXT(parser, "q\033[200~ab\n", true) == HED_NEXT_EVENT && NEXT(parser, "", true) == HED_NEXT_NONE);
+  EXPECT(call(hed_parser_end_paste, parser) == HED_NEXT_EVENT && is_paste(parser, "ab\n") && is_rest(parser, 0, HED_WAITING_NOTHING));
+  EXPECT(call(hed_parser_end_paste, parser) == HED_NEXT_NONE && hed_parser_paste(parser, (uint8_t *)"", 0) == 3);
+  EXPECT(NEXT(parser, "c\033[201~", true) == HED_NEXT_EVENT && is_key(HED_KEY_CHAR, 'c', HED_TERMWIZ_MOD_NONE));
+  EXPECT(NEXT(parser, "", true) == HED_NEXT_EVENT && is_key(HED_KEY_INTERNAL_PASTE_END, 0, HED_TERMWIZ_MOD_NONE));
+  EXPECT(NEXT(parser, "\033[200~\303\251\342\202", false) == HED_NEXT_NONE);
+  EXPECT(call(hed_parser_end_paste, parser) == HED_NEXT_EVENT && is_paste(parser, "\303\251\357\277\275"));
+  EXPECT(NEXT(parser, "\033[200~ab\033[201", true) == HED_NEXT_NONE);
+  EXPECT(call(hed_parser_end_paste, parser) == HED_NEXT_EVENT && is_paste(parser, "ab\033[201"));
+  EXPECT(NEXT(parser, "~", true) == HED_NEXT_EVENT && is_key(HED_KEY_CHAR, '~', HED_TERMWIZ_MOD_NONE));
+  EXPECT(is_rest(parser, 0, HED_WAITING_NOTHING));
 }
 
 /* Where no paste is open, nothing is ended: neither another rest nor a paste that has its end. */
-static void ends_open_pastes_alone(tw_parser *parser) {
+static void ends_open_pastes_alone(hed_parser *parser) {
   for (size_t i = 0; i < RESTS; i++) {
-    if (rests[i].kind == TW_WAITING_PASTE) continue;
+    if (rests[i].kind == HED_WAITING_PASTE) continue;
     feed_rest(parser, &rests[i]);
-    EXPECT(call(tw_parser_end_paste, parser) == TW_NONE);
+    EXPECT(call(hed_parser_end_paste, parser) == HED_NEXT_NONE);
     EXPECT(is_rest(parser, strlen(rests[i].text), rests[i].kind));
-    tw_parser_reset(parser);
+    hed_parser_reset(parser);
   }
-  EXPECT(tw_parser_feed(parser, (const uint8_t *)"\033[200~ab\033[201~\033[200~c", 21));
-  EXPECT(call(tw_parser_end_paste, parser) == TW_NONE && tw_parser_waiting(parser) == 21);
-  EXPECT(NEXT(parser, "", true) == TW_EVENT && is_paste(parser, "ab"));
-  EXPECT(call(tw_parser_end_paste, parser) == TW_EVENT && is_paste(parser, "c"));
+  EXPECT(hed_parser_feed(parser, (const uint8_t *)"\033[200~ab\033[201~\033[200~c", 21));
+  EXPECT(call(hed_parser_end_paste, parser) == HED_NEXT_NONE && hed_parser_waiting_len(parser) == 21);
+  EXPECT(NEXT(parser, "", true) == HED_NEXT_EVENT && is_paste(parser, "ab"));
+  EXPECT(call(hed_parser_end_paste, parser) == HED_NEXT_EVENT && is_paste(parser, "c"));
 }
 
 /* The text of a paste is kept until it is dropped, whatever is buffered. */
-static void drops_pastes(tw_parser *parser) {
+static void drops_pastes(hed_parser *parser) {
   uint8_t room[4] = {'.', '.', '.', '.'};
-  EXPECT(NEXT(parser, "\033[200~ab\033[201~\033[200~cd", true) == TW_EVENT && is_paste(parser, "ab"));
-  tw_parser_drop_paste(parser);
-  EXPECT(tw_parser_paste(parser, room, sizeof room) == 0 && memcmp(room, "....", 4) == 0);
-  tw_parser_drop_paste(parser);
-  EXPECT(NEXT(parser, "", true) == TW_NONE && is_rest(parser, 8, TW_WAITING_PASTE));
-  EXPECT(call(tw_parser_end_paste, parser) == TW_EVENT && is_paste(parser, "cd"));
-  EXPECT(NEXT(parser, "ab", true) == TW_EVENT && tw_parser_reset(parser) == 1 && tw_parser_paste(parser, room, 0) == 2);
-  tw_parser_drop_paste(parser);
-  EXPECT(tw_parser_paste(parser, room, sizeof room) == 0);
-  EXPECT(NEXT(parser, "\033[200~e\033[201~", true) == TW_EVENT && is_paste(parser, "e"));
+  EXPECT(NEXT(parser, "\033[200~ab\033[201~\033[200~cd", true) == HED_NEXT_EVENT && is_paste(parser, "ab"));
+  hed_parser_drop_paste(parser);
+  EXPECT(hed_parser_paste(parser, room, sizeof room) == 0 && memcmp(room, "....", 4) == 0);
+  hed_parser_drop_paste(parser);
+  EXPECT(NEXT(parser, "", true) == HED_NEXT_NONE && is_rest(parser, 8, HED_WAITING_PASTE));
+  EXPECT(call(hed_parser_end_paste, parser) == HED_NEXT_EVENT && is_paste(parser, "cd"));
+  EXPECT(NEXT(parser, "ab", true) == HED_NEXT_EVENT && hed_parser_reset(parser) == 1 && hed_parser_paste(parser, room, 0) == 2);
+  hed_parser_drop_paste(parser);
+  EXPECT(hed_parser_paste(parser, room, sizeof room) == 0);
+  EXPECT(NEXT(parser, "\033[200~e\033[201~", true) == HED_NEXT_EVENT && is_paste(parser, "e"));
 }
 
 /* What is buffered and the text of the last paste are the same after a parser was shrunk, whatever room it keeps. */
-static void shrinks(tw_parser *parser) {
+static void shrinks(hed_parser *parser) {
   static const size_t rooms[] = { 0, 1, 4, 5, 1000, SIZE_MAX };
   for (size_t i = 0; i < sizeof rooms / sizeof rooms[0]; i++) {
-    EXPECT(NEXT(parser, "\033[200~ab\033[201~q\033[1;", true) == TW_EVENT && is_paste(parser, "ab"));
-    tw_parser_shrink_to(parser, rooms[i]);
-    EXPECT(is_paste(parser, "ab") && tw_parser_waiting(parser) == 5);
-    EXPECT(take(parser, true) == TW_EVENT && is_key(TW_KEY_CHAR, 'q', TW_MOD_NONE));
-    tw_parser_shrink_to(parser, rooms[i]);
-    EXPECT(NEXT(parser, "", true) == TW_NONE && is_rest(parser, 4, TW_WAITING_SEQUENCE));
-    EXPECT(NEXT(parser, "5A", true) == TW_EVENT && is_key(TW_KEY_UP_ARROW, 0, TW_MOD_CTRL) && tw_parser_waiting(parser) == 0);
+    EXPECT(NEXT(parser, "\033[200~ab\033[201~q\033[1;", true) == HED_NEXT_EVENT && is_paste(parser, "ab"));
+    hed_parser_shrink_to(parser, rooms[i]);
+    EXPECT(is_paste(parser, "ab") && hed_parser_waiting_len(parser) == 5);
+    EXPECT(take(parser, true) == HED_NEXT_EVENT && is_key(HED_KEY_CHAR, 'q', HED_TERMWIZ_MOD_NONE));
+    hed_parser_shrink_to(parser, rooms[i]);
+    EXPECT(NEXT(parser, "", true) == HED_NEXT_NONE && is_rest(parser, 4, HED_WAITING_SEQUENCE));
+    EXPECT(NEXT(parser, "5A", true) == HED_NEXT_EVENT && is_key(HED_KEY_UP_ARROW, 0, HED_TERMWIZ_MOD_CTRL) && hed_parser_waiting_len(parser) == 0);
   }
 }
 
 /* The row that was asked for last: its bytes and its key. */
-static uint8_t row_bytes[TW_ROW_MOST];
-static tw_event row_key;
+static uint8_t row_bytes[HED_ENTRY_MOST];
+static hed_event row_key;
 
 /* Asks for a row, and returns how many bytes it has. */
-static size_t row_at(const tw_parser *parser, size_t place) {
+static size_t row_at(const hed_parser *parser, size_t place) {
   memset(row_bytes, '.', sizeof row_bytes);
   memset(&row_key, 0xaa, sizeof row_key);
-  return tw_row(parser, place, row_bytes, sizeof row_bytes, &row_key);
+  return hed_parser_entry(parser, place, row_bytes, sizeof row_bytes, &row_key);
 }
 
 /* Whether the event `taken` is the last row's key with these modifiers more. */
 static bool is_row_key(uint16_t modifiers) { return is_key(row_key.key, row_key.detail, row_key.modifiers | modifiers); }
 
 /* However few bytes there is room for, the length and the key are those of the whole row, and the bytes after the room are unchanged. */
-static void cuts_row(const tw_parser *parser, size_t place, size_t len) {
-  uint8_t room[TW_ROW_MOST + 2];
+static void cuts_row(const hed_parser *parser, size_t place, size_t len) {
+  uint8_t room[HED_ENTRY_MOST + 2];
   for (size_t has = 0; has <= sizeof room; has++) {
     memset(room, '#', sizeof room);
     memset(&taken, 0xaa, sizeof taken);
-    EXPECT(tw_row(parser, place, room, has, &taken) == len && is_row_key(TW_MOD_NONE));
+    EXPECT(hed_parser_entry(parser, place, room, has, &taken) == len && is_row_key(HED_TERMWIZ_MOD_NONE));
     size_t copied = has < len ? has : len, at = copied;
     while (at < sizeof room && room[at] == '#') at++;
     EXPECT(memcmp(room, row_bytes, copied) == 0 && at == sizeof room);
   }
-  EXPECT(tw_row(parser, place, NULL, 0, &taken) == len && is_row_key(TW_MOD_NONE));
+  EXPECT(hed_parser_entry(parser, place, NULL, 0, &taken) == len && is_row_key(HED_TERMWIZ_MOD_NONE));
 }
 
 /* Feeds what a row has after the bytes that are buffered, and flushes: its key is the event, with these modifiers more. The start of a
  * paste opens one instead, after the Escape key if an ESC was buffered before it. */
-static void reads_row(tw_parser *parser, const uint8_t *bytes, size_t len, uint16_t modifiers) {
+static void reads_row(hed_parser *parser, const uint8_t *bytes, size_t len, uint16_t modifiers) {
   uint32_t answer = next_of(parser, (const char *)bytes, len, false);
-  bool is_start = row_key.key == TW_KEY_INTERNAL_PASTE_START;
-  if (is_start && modifiers == TW_MOD_ALT) {
-    EXPECT(answer == TW_EVENT && is_key(TW_KEY_ESCAPE, 0, TW_MOD_NONE));
+  bool is_start = row_key.key == HED_KEY_INTERNAL_PASTE_START;
+  if (is_start && modifiers == HED_TERMWIZ_MOD_ALT) {
+    EXPECT(answer == HED_NEXT_EVENT && is_key(HED_KEY_ESCAPE, 0, HED_TERMWIZ_MOD_NONE));
   } else {
-    EXPECT(is_start ? answer == TW_NONE : answer == TW_EVENT && is_row_key(modifiers));
+    EXPECT(is_start ? answer == HED_NEXT_NONE : answer == HED_NEXT_EVENT && is_row_key(modifiers));
   }
-  EXPECT(is_start ? is_rest(parser, 6, TW_WAITING_PASTE) : is_rest(parser, 0, TW_WAITING_NOTHING));
-  tw_parser_reset(parser);
+  EXPECT(is_start ? is_rest(parser, 6, HED_WAITING_PASTE) : is_rest(parser, 0, HED_WAITING_NOTHING));
+  hed_parser_reset(parser);
 }
 
 /* Whether one text comes before another in the order of bytes. */
@@ -465,68 +465,68 @@ static bool is_before(const uint8_t *one, size_t one_len, const uint8_t *other, 
 }
 
 /* Every row: its bytes come after those of the row before it, and are read as its key. */
-static void tells_rows(tw_parser *parser) {
-  uint8_t before[TW_ROW_MOST];
+static void tells_rows(hed_parser *parser) {
+  uint8_t before[HED_ENTRY_MOST];
   size_t before_len = 0, longest = 0;
   unsigned starts = 0, ends = 0;
-  for (size_t place = 0; place < TW_ROW_COUNT; place++) {
+  for (size_t place = 0; place < HED_ENTRY_COUNT; place++) {
     size_t len = row_at(parser, place);
-    EXPECT(len > 0 && len <= TW_ROW_MOST && is_before(before, before_len, row_bytes, len));
+    EXPECT(len > 0 && len <= HED_ENTRY_MOST && is_before(before, before_len, row_bytes, len));
     cuts_row(parser, place, len);
-    reads_row(parser, row_bytes, len, TW_MOD_NONE);
-    starts += row_key.key == TW_KEY_INTERNAL_PASTE_START;
-    ends += row_key.key == TW_KEY_INTERNAL_PASTE_END;
+    reads_row(parser, row_bytes, len, HED_TERMWIZ_MOD_NONE);
+    starts += row_key.key == HED_KEY_INTERNAL_PASTE_START;
+    ends += row_key.key == HED_KEY_INTERNAL_PASTE_END;
     memcpy(before, row_bytes, sizeof before);
     before_len = len;
     if (len > longest) longest = len;
   }
-  EXPECT(longest == TW_ROW_MOST && starts == 1 && ends == 1);
+  EXPECT(longest == HED_ENTRY_MOST && starts == 1 && ends == 1);
 }
 
 /* From the number of rows on there is none, and nothing is written. What is buffered makes no difference, and stays. */
-static void has_no_other_rows(tw_parser *parser) {
-  static const size_t places[] = {TW_ROW_COUNT, TW_ROW_COUNT + 1, (size_t)1 << 32, SIZE_MAX};
-  tw_event untouched;
+static void has_no_other_rows(hed_parser *parser) {
+  static const size_t places[] = {HED_ENTRY_COUNT, HED_ENTRY_COUNT + 1, (size_t)1 << 32, SIZE_MAX};
+  hed_event untouched;
   memset(&untouched, 0xaa, sizeof untouched);
   for (size_t i = 0; i < 4; i++) {
-    EXPECT(row_at(parser, places[i]) == 0 && memcmp(row_bytes, "...........", TW_ROW_MOST) == 0);
+    EXPECT(row_at(parser, places[i]) == 0 && memcmp(row_bytes, "...........", HED_ENTRY_MOST) == 0);
     EXPECT(memcmp(&row_key, &untouched, sizeof row_key) == 0);
-    EXPECT(tw_row(parser, places[i], NULL, 0, &row_key) == 0 && memcmp(&row_key, &untouched, sizeof row_key) == 0);
+    EXPECT(hed_parser_entry(parser, places[i], NULL, 0, &row_key) == 0 && memcmp(&row_key, &untouched, sizeof row_key) == 0);
   }
-  EXPECT(NEXT(parser, "\033[200~ab", true) == TW_NONE);
-  EXPECT(row_at(parser, 0) == 1 && row_bytes[0] == 1 && row_key.key == TW_KEY_CHAR && row_key.detail == 'a');
-  EXPECT(row_key.modifiers == TW_MOD_CTRL && is_rest(parser, 8, TW_WAITING_PASTE) && tw_parser_reset(parser) == 8);
+  EXPECT(NEXT(parser, "\033[200~ab", true) == HED_NEXT_NONE);
+  EXPECT(row_at(parser, 0) == 1 && row_bytes[0] == 1 && row_key.key == HED_KEY_CHAR && row_key.detail == 'a');
+  EXPECT(row_key.modifiers == HED_TERMWIZ_MOD_CTRL && is_rest(parser, 8, HED_WAITING_PASTE) && hed_parser_reset(parser) == 8);
 }
 
 /* Row 706 is the up arrow with CTRL, and 2936, the byte 0x7f, is the last. Nothing is written past a row, nor of one that isn't there. */
 static void has_rows_at_their_places(void) {
-  tw_parser parser = TW_PARSER_NONE;
+  hed_parser parser = HED_PARSER_NONE;
   uint8_t room[12];
   memset(room, 7, sizeof room);
-  EXPECT(tw_row(&parser, 0, room, sizeof room, &taken) == 0 && room[0] == 7);
-  EXPECT(tw_parser_init(&parser) && tw_row(&parser, 706, room, sizeof room, &taken) == 6);
-  EXPECT(memcmp(room, "\033[1;5A\007\007\007\007\007\007", sizeof room) == 0 && is_key(TW_KEY_UP_ARROW, 0, TW_MOD_CTRL));
-  EXPECT(tw_row(&parser, 2936, room, 0, &taken) == 1 && is_key(TW_KEY_BACKSPACE, 0, TW_MOD_NONE));
-  EXPECT(tw_row(&parser, 2937, room, sizeof room, &taken) == 0 && is_key(TW_KEY_BACKSPACE, 0, TW_MOD_NONE));
+  EXPECT(hed_parser_entry(&parser, 0, room, sizeof room, &taken) == 0 && room[0] == 7);
+  EXPECT(hed_parser_init(&parser) && hed_parser_entry(&parser, 706, room, sizeof room, &taken) == 6);
+  EXPECT(memcmp(room, "\033[1;5A\007\007\007\007\007\007", sizeof room) == 0 && is_key(HED_KEY_UP_ARROW, 0, HED_TERMWIZ_MOD_CTRL));
+  EXPECT(hed_parser_entry(&parser, 2936, room, 0, &taken) == 1 && is_key(HED_KEY_BACKSPACE, 0, HED_TERMWIZ_MOD_NONE));
+  EXPECT(hed_parser_entry(&parser, 2937, room, sizeof room, &taken) == 0 && is_key(HED_KEY_BACKSPACE, 0, HED_TERMWIZ_MOD_NONE));
   EXPECT(memcmp(room, "\033[1;5A\007\007\007\007\007\007", sizeof room) == 0);
-  tw_parser_free(&parser);
+  hed_parser_free(&parser);
 }
 
 /* Whether the rows that would complete what is buffered are these. */
-static bool is_completed_by(const tw_parser *parser, size_t first, size_t count, bool with_alt) {
-  tw_rows rows;
+static bool is_completed_by(const hed_parser *parser, size_t first, size_t count, bool with_alt) {
+  hed_entries rows;
   memset(&rows, 0xaa, sizeof rows);
-  return tw_parser_completions(parser, &rows) && rows.first == first && rows.count == count && rows.with_alt == with_alt;
+  return hed_parser_completions(parser, &rows) && rows.first == first && rows.count == count && rows.with_alt == with_alt;
 }
 
 /* While nothing is buffered all rows are told, and after ESC [ 1 ; 5 twelve, whether an ESC was before it or not. */
 static void has_completions_at_their_places(void) {
-  tw_parser parser = TW_PARSER_NONE;
-  EXPECT(tw_parser_init(&parser) && is_completed_by(&parser, 0, 2937, false));
+  hed_parser parser = HED_PARSER_NONE;
+  EXPECT(hed_parser_init(&parser) && is_completed_by(&parser, 0, 2937, false));
   EXPECT(FEED(&parser, "\033[1;5") && is_completed_by(&parser, 706, 12, false));
-  tw_parser_free(&parser);
-  EXPECT(tw_parser_init(&parser) && FEED(&parser, "\033\033[1;5") && is_completed_by(&parser, 706, 12, true));
-  tw_parser_free(&parser);
+  hed_parser_free(&parser);
+  EXPECT(hed_parser_init(&parser) && FEED(&parser, "\033\033[1;5") && is_completed_by(&parser, 706, 12, true));
+  hed_parser_free(&parser);
 }
 
 /* A text that stays buffered, and what would complete it. The counts are those of docs/GRAMMAR.md. */
@@ -537,13 +537,13 @@ struct begun {
 };
 
 static const struct begun begun[] = {
-    {"", TW_ROW_COUNT, false},
-    {"\033", TW_ROW_COUNT - 28, false}, /* all but those of one byte */
-    {"\033\033", TW_ROW_COUNT - 28, true},
+    {"", HED_ENTRY_COUNT, false},
+    {"\033", HED_ENTRY_COUNT - 28, false}, /* all but those of one byte */
+    {"\033\033", HED_ENTRY_COUNT - 28, true},
     {"\033O", 50, false},
     {"\033\033O", 50, true},
-    {"\033[", TW_ROW_COUNT - 28 - 26 - 1 - 50, false}, /* of two bytes there are 26 letters and the bracket */
-    {"\033\033[", TW_ROW_COUNT - 28 - 26 - 1 - 50, true},
+    {"\033[", HED_ENTRY_COUNT - 28 - 26 - 1 - 50, false}, /* of two bytes there are 26 letters and the bracket */
+    {"\033\033[", HED_ENTRY_COUNT - 28 - 26 - 1 - 50, true},
     {"\033[1", 662, false},
     {"\033\033[1;", 169, true},
     {"\033[20", 9 + 17 + 2, false}, /* CSI u, F9, and the start and the end of a paste */
@@ -565,103 +565,103 @@ static bool goes_on_from(size_t len, const char *text, size_t text_len) {
 
 /* The rows are those that begin with what is buffered, or with what follows its ESC, and are longer; and there are no others. What each has
  * more makes it of what is buffered. */
-static void completes(tw_parser *parser, const struct begun *it) {
+static void completes(hed_parser *parser, const struct begun *it) {
   size_t len = strlen(it->text), after = len - it->with_alt;
   const char *text = it->text + it->with_alt;
-  tw_rows rows;
+  hed_entries rows;
   memset(&rows, 0xaa, sizeof rows);
-  EXPECT(next_of(parser, it->text, len, true) == TW_NONE && tw_parser_completions(parser, &rows));
+  EXPECT(next_of(parser, it->text, len, true) == HED_NEXT_NONE && hed_parser_completions(parser, &rows));
   EXPECT(rows.count == it->count && rows.with_alt == it->with_alt);
-  EXPECT(rows.first <= TW_ROW_COUNT && rows.count <= TW_ROW_COUNT - rows.first);
-  for (size_t place = 0; place < TW_ROW_COUNT; place++) {
+  EXPECT(rows.first <= HED_ENTRY_COUNT && rows.count <= HED_ENTRY_COUNT - rows.first);
+  for (size_t place = 0; place < HED_ENTRY_COUNT; place++) {
     size_t row_len = row_at(parser, place);
     bool is_among = place >= rows.first && place - rows.first < rows.count;
     EXPECT(goes_on_from(row_len, text, after) == is_among);
     EXPECT(!it->with_alt || !goes_on_from(row_len, it->text, len));
     if (!is_among) continue;
-    EXPECT(tw_parser_waiting(parser) == len || next_of(parser, it->text, len, true) == TW_NONE);
-    reads_row(parser, row_bytes + after, row_len - after, it->with_alt ? TW_MOD_ALT : TW_MOD_NONE);
+    EXPECT(hed_parser_waiting_len(parser) == len || next_of(parser, it->text, len, true) == HED_NEXT_NONE);
+    reads_row(parser, row_bytes + after, row_len - after, it->with_alt ? HED_TERMWIZ_MOD_ALT : HED_TERMWIZ_MOD_NONE);
   }
-  tw_parser_reset(parser);
+  hed_parser_reset(parser);
 }
 
-static void tells_completions(tw_parser *parser) {
+static void tells_completions(hed_parser *parser) {
   for (size_t i = 0; i < sizeof begun / sizeof begun[0]; i++) completes(parser, &begun[i]);
 }
 
 /* Every rest: if nothing but a row could complete it, there are rows. */
-static void completes_every_rest(tw_parser *parser) {
+static void completes_every_rest(hed_parser *parser) {
   for (size_t i = 0; i < RESTS; i++) {
-    tw_rows rows;
+    hed_entries rows;
     bool is_report = strstr(rests[i].text, "[<") != NULL;
     feed_rest(parser, &rests[i]);
-    EXPECT(tw_parser_completions(parser, &rows) && is_rest(parser, strlen(rests[i].text), rests[i].kind));
-    EXPECT((rows.count > 0) == (!is_report && rests[i].kind != TW_WAITING_CHARACTER && rests[i].kind != TW_WAITING_PASTE));
+    EXPECT(hed_parser_completions(parser, &rows) && is_rest(parser, strlen(rests[i].text), rests[i].kind));
+    EXPECT((rows.count > 0) == (!is_report && rests[i].kind != HED_WAITING_CHARACTER && rests[i].kind != HED_WAITING_PASTE));
     EXPECT(rows.count > 0 || !rows.with_alt);
-    tw_parser_reset(parser);
+    hed_parser_reset(parser);
   }
 }
 
 enum { LONG = 300000 };
 
 /* Feeds the start of a paste and a long text, in pieces as of reads. */
-static void feed_long_paste(tw_parser *parser, const uint8_t *body) {
-  EXPECT(NEXT(parser, "\033[200~", true) == TW_NONE);
+static void feed_long_paste(hed_parser *parser, const uint8_t *body) {
+  EXPECT(NEXT(parser, "\033[200~", true) == HED_NEXT_NONE);
   for (size_t at = 0; at < LONG; at += 4000) {
-    EXPECT(tw_parser_feed(parser, body + at, 4000));
-    EXPECT(tw_parser_next(parser, true, &taken) == TW_NONE);
+    EXPECT(hed_parser_feed(parser, body + at, 4000));
+    EXPECT(hed_parser_next(parser, true, &taken) == HED_NEXT_NONE);
   }
-  EXPECT(is_rest(parser, LONG + 6, TW_WAITING_PASTE));
+  EXPECT(is_rest(parser, LONG + 6, HED_WAITING_PASTE));
 }
 
 /* A paste of 300 KB is ended, and another forgotten. */
-static void ends_a_long_paste(tw_parser *parser) {
+static void ends_a_long_paste(hed_parser *parser) {
   static uint8_t body[LONG], room[LONG];
   for (size_t at = 0; at < LONG; at++) body[at] = (uint8_t)"0123456789abcdef\033[201"[at % 21];
   feed_long_paste(parser, body);
-  EXPECT(call(tw_parser_flush_escape, parser) == TW_NONE);
-  EXPECT(call(tw_parser_end_paste, parser) == TW_EVENT && taken.kind == TW_PASTE && taken.paste_len == LONG);
-  EXPECT(is_rest(parser, 0, TW_WAITING_NOTHING));
-  EXPECT(tw_parser_paste(parser, room, LONG) == LONG && memcmp(room, body, LONG) == 0);
-  tw_parser_drop_paste(parser);
-  EXPECT(tw_parser_paste(parser, room, LONG) == 0);
+  EXPECT(call(hed_parser_flush_escape, parser) == HED_NEXT_NONE);
+  EXPECT(call(hed_parser_end_paste, parser) == HED_NEXT_EVENT && taken.kind == HED_KIND_PASTE && taken.paste_len == LONG);
+  EXPECT(is_rest(parser, 0, HED_WAITING_NOTHING));
+  EXPECT(hed_parser_paste(parser, room, LONG) == LONG && memcmp(room, body, LONG) == 0);
+  hed_parser_drop_paste(parser);
+  EXPECT(hed_parser_paste(parser, room, LONG) == 0);
   feed_long_paste(parser, body);
-  EXPECT(tw_parser_reset(parser) == LONG + 6);
-  EXPECT(NEXT(parser, "q", true) == TW_EVENT && is_key(TW_KEY_CHAR, 'q', TW_MOD_NONE));
+  EXPECT(hed_parser_reset(parser) == LONG + 6);
+  EXPECT(NEXT(parser, "q", true) == HED_NEXT_EVENT && is_key(HED_KEY_CHAR, 'q', HED_TERMWIZ_MOD_NONE));
 }
 
 /* A paste of 100 KB is ended before an event is asked for, and its text is copied as far as there is room. */
 static void ends_a_paste_that_was_fed(void) {
   static uint8_t body[100000];
-  tw_parser parser = TW_PARSER_NONE;
+  hed_parser parser = HED_PARSER_NONE;
   uint8_t room[3] = "...";
   for (size_t at = 0; at < sizeof body; at++) body[at] = (uint8_t)"ab"[at % 2];
-  EXPECT(tw_parser_init(&parser) && call(tw_parser_end_paste, &parser) == TW_NONE);
-  EXPECT(FEED(&parser, "\033[200~") && tw_parser_feed(&parser, body, sizeof body));
-  EXPECT(call(tw_parser_end_paste, &parser) == TW_EVENT && taken.kind == TW_PASTE && taken.paste_len == sizeof body);
-  EXPECT(tw_parser_waiting(&parser) == 0);
-  EXPECT(tw_parser_paste(&parser, room, sizeof room) == sizeof body && memcmp(room, "aba", 3) == 0);
-  tw_parser_drop_paste(&parser);
-  EXPECT(tw_parser_paste(&parser, room, sizeof room) == 0);
-  tw_parser_free(&parser);
+  EXPECT(hed_parser_init(&parser) && call(hed_parser_end_paste, &parser) == HED_NEXT_NONE);
+  EXPECT(FEED(&parser, "\033[200~") && hed_parser_feed(&parser, body, sizeof body));
+  EXPECT(call(hed_parser_end_paste, &parser) == HED_NEXT_EVENT && taken.kind == HED_KIND_PASTE && taken.paste_len == sizeof body);
+  EXPECT(hed_parser_waiting_len(&parser) == 0);
+  EXPECT(hed_parser_paste(&parser, room, sizeof room) == sizeof body && memcmp(room, "aba", 3) == 0);
+  hed_parser_drop_paste(&parser);
+  EXPECT(hed_parser_paste(&parser, room, sizeof room) == 0);
+  hed_parser_free(&parser);
 }
 
 /* A text of 70,000 keys in one call, an arrow and a letter in turn. */
-static void gives_many_keys(tw_parser *parser) {
+static void gives_many_keys(hed_parser *parser) {
   static uint8_t keys[140000];
   size_t right = 0;
   for (size_t at = 0; at < sizeof keys; at++) keys[at] = (uint8_t)"\033[Aq"[at % 4];
-  EXPECT(tw_parser_feed(parser, keys, sizeof keys));
+  EXPECT(hed_parser_feed(parser, keys, sizeof keys));
   for (size_t pair = 0; pair < 35000; pair++) {
-    right += NEXT(parser, "", true) == TW_EVENT && is_key(TW_KEY_UP_ARROW, 0, TW_MOD_NONE);
-    right += NEXT(parser, "", true) == TW_EVENT && is_key(TW_KEY_CHAR, 'q', TW_MOD_NONE);
+    right += NEXT(parser, "", true) == HED_NEXT_EVENT && is_key(HED_KEY_UP_ARROW, 0, HED_TERMWIZ_MOD_NONE);
+    right += NEXT(parser, "", true) == HED_NEXT_EVENT && is_key(HED_KEY_CHAR, 'q', HED_TERMWIZ_MOD_NONE);
   }
   EXPECT(right == 70000);
-  EXPECT(NEXT(parser, "", true) == TW_NONE && tw_parser_waiting(parser) == 0);
+  EXPECT(NEXT(parser, "", true) == HED_NEXT_NONE && hed_parser_waiting_len(parser) == 0);
 }
 
 /* Appends the fields of an event to `notes` as text. Returns where they end. */
-static size_t note(char *notes, size_t at, const tw_event *e) {
+static size_t note(char *notes, size_t at, const hed_event *e) {
   return at + (size_t)sprintf(notes + at, "%u %u %u %u %u %u %u %zu,", e->kind, e->buttons, e->modifiers, e->key, e->x, e->y,
                               (unsigned)e->detail, e->paste_len);
 }
@@ -671,17 +671,17 @@ static const char stream[] = "hello\033[A\033\033[200~ab\303\251cd\033[201~q\033
 /* The events of the stream in pieces. */
 static void events_in(size_t piece, char *notes) {
   size_t len = sizeof stream - 1, end = 0;
-  tw_parser parser = TW_PARSER_NONE;
-  tw_event event;
-  EXPECT(tw_parser_init(&parser));
+  hed_parser parser = HED_PARSER_NONE;
+  hed_event event;
+  EXPECT(hed_parser_init(&parser));
   for (size_t at = 0; at < len; at += piece) {
     size_t count = len - at < piece ? len - at : piece;
-    EXPECT(tw_parser_feed(&parser, (const uint8_t *)stream + at, count));
-    while (tw_parser_next(&parser, true, &event) == TW_EVENT) end = note(notes, end, &event);
+    EXPECT(hed_parser_feed(&parser, (const uint8_t *)stream + at, count));
+    while (hed_parser_next(&parser, true, &event) == HED_NEXT_EVENT) end = note(notes, end, &event);
   }
-  while (tw_parser_next(&parser, false, &event) == TW_EVENT) end = note(notes, end, &event);
-  EXPECT(tw_parser_waiting(&parser) == 0);
-  tw_parser_free(&parser);
+  while (hed_parser_next(&parser, false, &event) == HED_NEXT_EVENT) end = note(notes, end, &event);
+  EXPECT(hed_parser_waiting_len(&parser) == 0);
+  hed_parser_free(&parser);
 }
 
 /* However a text is cut, its events are the same. */
@@ -703,7 +703,7 @@ static void check_name(uint16_t key, const char *name) {
     memset(room, '.', sizeof room);
     memset(want, '.', sizeof want);
     memcpy(want, name, has <= len ? has : len + 1);
-    EXPECT(tw_key_name(key, room, has) == len && memcmp(room, want, sizeof room) == 0);
+    EXPECT(hed_key_name(key, room, has) == len && memcmp(room, want, sizeof room) == 0);
   }
 }
 
@@ -721,25 +721,25 @@ static void names_keys(const char *numbers) {
       keys++;
     }
   fclose(list);
-  EXPECT(keys > 0 && tw_key_name((uint16_t)(keys + 1), &room, 1) == 0);
-  EXPECT(tw_key_name(0, &room, 1) == 0 && tw_key_name(65535, &room, 1) == 0 && room == '.');
+  EXPECT(keys > 0 && hed_key_name((uint16_t)(keys + 1), &room, 1) == 0);
+  EXPECT(hed_key_name(0, &room, 1) == 0 && hed_key_name(65535, &room, 1) == 0 && room == '.');
 }
 
 /* Some numbers of the header, which programs in other languages may have too, and the last key. */
 static void has_numbers(void) {
   uint8_t room = '.';
-  EXPECT(TW_KEY == 1 && TW_MOUSE == 2 && TW_PASTE == 3 && TW_BUTTON_LEFT == 2);
-  EXPECT(TW_MOD_SHIFT == 2 && TW_MOD_ALT == 4 && TW_MOD_CTRL == 8);
-  EXPECT(TW_KEY_CHAR == 1 && TW_KEY_BACKSPACE == 6 && TW_KEY_ENTER == 9 && TW_KEY_ESCAPE == 11 && TW_KEY_UP_ARROW == 31);
-  EXPECT(TW_KEY_FUNCTION == 60 && TW_KEY_APPLICATION_LEFT_ARROW == 80);
-  EXPECT(TW_XTERM == 0 && TW_CSI_U == 1 && TW_WIN32 == 2 && TW_KITTY == 3);
+  EXPECT(HED_KIND_KEY == 1 && HED_KIND_MOUSE == 2 && HED_KIND_PASTE == 3 && HED_BUTTON_LEFT == 2);
+  EXPECT(HED_TERMWIZ_MOD_SHIFT == 2 && HED_TERMWIZ_MOD_ALT == 4 && HED_TERMWIZ_MOD_CTRL == 8);
+  EXPECT(HED_KEY_CHAR == 1 && HED_KEY_BACKSPACE == 6 && HED_KEY_ENTER == 9 && HED_KEY_ESCAPE == 11 && HED_KEY_UP_ARROW == 31);
+  EXPECT(HED_KEY_FUNCTION == 60 && HED_KEY_APPLICATION_LEFT_ARROW == 80);
+  EXPECT(HED_ENCODING_XTERM == 0 && HED_ENCODING_CSI_U == 1 && HED_ENCODING_WIN32 == 2 && HED_ENCODING_KITTY == 3);
   check_name(1, "Char");
   check_name(31, "UpArrow");
   check_name(90, "InternalPasteEnd");
-  EXPECT(tw_key_name(91, &room, 1) == 0 && room == '.');
+  EXPECT(hed_key_name(91, &room, 1) == 0 && room == '.');
 }
 
-static tw_modes modes;
+static hed_modes modes;
 static uint8_t text[16];
 static size_t text_len;
 
@@ -747,7 +747,7 @@ static size_t text_len;
 static uint32_t encode(uint16_t key, uint32_t detail, uint16_t modifiers, bool is_down, size_t room) {
   memset(text, '.', sizeof text);
   text_len = 999;
-  return tw_encode(key, detail, modifiers, is_down, &modes, text, room, &text_len);
+  return hed_encode(key, detail, modifiers, is_down, &modes, text, room, &text_len);
 }
 
 /* Whether the last text is this one, as much as there was room for, and the rest of `text` is unchanged. */
@@ -765,17 +765,17 @@ static bool is_untouched(void) { return is_text("", 0); }
 static void encodes(void) {
   memset(&modes, 0, sizeof modes);
   for (size_t room = 0; room <= sizeof text; room++) {
-    EXPECT(encode(TW_KEY_LEFT_ARROW, 0, TW_MOD_ALT, true, room) == TW_TEXT && is_text("\033[1;3D", room));
-    EXPECT(encode(TW_KEY_CHAR, 0xe9, TW_MOD_ALT, true, room) == TW_TEXT && is_text("\033\303\251", room));
-    EXPECT(encode(TW_KEY_HYPER, 0, TW_MOD_NONE, true, room) == TW_TEXT && is_text("", room));
-    EXPECT(encode(TW_KEY_LEFT_ARROW, 0, TW_MOD_NONE, false, room) == TW_TEXT && is_text("", room));
+    EXPECT(encode(HED_KEY_LEFT_ARROW, 0, HED_TERMWIZ_MOD_ALT, true, room) == HED_ENCODED_TEXT && is_text("\033[1;3D", room));
+    EXPECT(encode(HED_KEY_CHAR, 0xe9, HED_TERMWIZ_MOD_ALT, true, room) == HED_ENCODED_TEXT && is_text("\033\303\251", room));
+    EXPECT(encode(HED_KEY_HYPER, 0, HED_TERMWIZ_MOD_NONE, true, room) == HED_ENCODED_TEXT && is_text("", room));
+    EXPECT(encode(HED_KEY_LEFT_ARROW, 0, HED_TERMWIZ_MOD_NONE, false, room) == HED_ENCODED_TEXT && is_text("", room));
   }
-  EXPECT(encode(TW_KEY_FUNCTION, 24, TW_MOD_SHIFT, true, 16) == TW_TEXT && is_text("\033[45;2~", 16));
-  EXPECT(encode(TW_KEY_ENTER, 0xffffffff, TW_MOD_NONE, true, 16) == TW_TEXT && is_text("\r", 16));
-  EXPECT(encode(TW_KEY_CHAR, 0x10ffff, TW_MOD_NONE, true, 16) == TW_TEXT && is_text("\364\217\277\277", 16));
+  EXPECT(encode(HED_KEY_FUNCTION, 24, HED_TERMWIZ_MOD_SHIFT, true, 16) == HED_ENCODED_TEXT && is_text("\033[45;2~", 16));
+  EXPECT(encode(HED_KEY_ENTER, 0xffffffff, HED_TERMWIZ_MOD_NONE, true, 16) == HED_ENCODED_TEXT && is_text("\r", 16));
+  EXPECT(encode(HED_KEY_CHAR, 0x10ffff, HED_TERMWIZ_MOD_NONE, true, 16) == HED_ENCODED_TEXT && is_text("\364\217\277\277", 16));
 }
 
-/* A key with its details and modifiers, an encoding, Kitty's flags, what tw_encode returns, and the text. */
+/* A key with its details and modifiers, an encoding, Kitty's flags, what hed_encode returns, and the text. */
 struct press {
   uint16_t key;
   uint32_t detail;
@@ -787,18 +787,18 @@ struct press {
 
 /* Flags count only with kitty's encoding, and a detail only with a key that has one. */
 static const struct press presses[] = {
-    {TW_KEY_UP_ARROW, 7, TW_MOD_NONE, TW_XTERM, 0, TW_TEXT, "\033[A"},
-    {TW_KEY_UP_ARROW, 7, TW_MOD_NONE, TW_CSI_U, 32, TW_TEXT, "\033[A"},
-    {TW_KEY_CHAR, 'a', TW_MOD_ALT, TW_XTERM, 0, TW_TEXT, "\033a"},
-    {TW_KEY_FUNCTION, 5, TW_MOD_SHIFT, TW_XTERM, 0, TW_TEXT, "\033[15;2~"},
-    {TW_KEY_FUNCTION, 25, TW_MOD_NONE, TW_XTERM, 0, TW_REFUSED_KEY, ""},
-    {0, 0, TW_MOD_NONE, TW_XTERM, 0, TW_BAD_NUMBER, ""},
-    {91, 0, TW_MOD_NONE, TW_XTERM, 0, TW_BAD_NUMBER, ""},
-    {TW_KEY_CHAR, 0xd800, TW_MOD_NONE, TW_XTERM, 0, TW_BAD_NUMBER, ""},
-    {TW_KEY_FUNCTION, 256, TW_MOD_NONE, TW_XTERM, 0, TW_BAD_NUMBER, ""},
-    {TW_KEY_UP_ARROW, 0, 1, TW_XTERM, 0, TW_BAD_NUMBER, ""},
-    {TW_KEY_UP_ARROW, 0, TW_MOD_NONE, 4, 0, TW_BAD_NUMBER, ""},
-    {TW_KEY_UP_ARROW, 0, TW_MOD_NONE, TW_KITTY, 32, TW_BAD_NUMBER, ""},
+    {HED_KEY_UP_ARROW, 7, HED_TERMWIZ_MOD_NONE, HED_ENCODING_XTERM, 0, HED_ENCODED_TEXT, "\033[A"},
+    {HED_KEY_UP_ARROW, 7, HED_TERMWIZ_MOD_NONE, HED_ENCODING_CSI_U, 32, HED_ENCODED_TEXT, "\033[A"},
+    {HED_KEY_CHAR, 'a', HED_TERMWIZ_MOD_ALT, HED_ENCODING_XTERM, 0, HED_ENCODED_TEXT, "\033a"},
+    {HED_KEY_FUNCTION, 5, HED_TERMWIZ_MOD_SHIFT, HED_ENCODING_XTERM, 0, HED_ENCODED_TEXT, "\033[15;2~"},
+    {HED_KEY_FUNCTION, 25, HED_TERMWIZ_MOD_NONE, HED_ENCODING_XTERM, 0, HED_ENCODED_REFUSED_KEY, ""},
+    {0, 0, HED_TERMWIZ_MOD_NONE, HED_ENCODING_XTERM, 0, HED_ENCODED_BAD_NUMBER, ""},
+    {91, 0, HED_TERMWIZ_MOD_NONE, HED_ENCODING_XTERM, 0, HED_ENCODED_BAD_NUMBER, ""},
+    {HED_KEY_CHAR, 0xd800, HED_TERMWIZ_MOD_NONE, HED_ENCODING_XTERM, 0, HED_ENCODED_BAD_NUMBER, ""},
+    {HED_KEY_FUNCTION, 256, HED_TERMWIZ_MOD_NONE, HED_ENCODING_XTERM, 0, HED_ENCODED_BAD_NUMBER, ""},
+    {HED_KEY_UP_ARROW, 0, 1, HED_ENCODING_XTERM, 0, HED_ENCODED_BAD_NUMBER, ""},
+    {HED_KEY_UP_ARROW, 0, HED_TERMWIZ_MOD_NONE, 4, 0, HED_ENCODED_BAD_NUMBER, ""},
+    {HED_KEY_UP_ARROW, 0, HED_TERMWIZ_MOD_NONE, HED_ENCODING_KITTY, 32, HED_ENCODED_BAD_NUMBER, ""},
 };
 
 /* Each with a level of modifyOtherKeys that isn't on, and with room for none of its bytes, for some and for all. */
@@ -816,124 +816,124 @@ static void encodes_presses(void) {
 static void encodes_in_modes(void) {
   memset(&modes, 0, sizeof modes);
   modes.application_cursor_keys = true;
-  EXPECT(encode(TW_KEY_UP_ARROW, 0, TW_MOD_NONE, true, 16) == TW_TEXT && is_text("\033OA", 16));
+  EXPECT(encode(HED_KEY_UP_ARROW, 0, HED_TERMWIZ_MOD_NONE, true, 16) == HED_ENCODED_TEXT && is_text("\033OA", 16));
   modes.newline_mode = true;
-  EXPECT(encode(TW_KEY_ENTER, 0, TW_MOD_NONE, true, 16) == TW_TEXT && is_text("\r\n", 16));
+  EXPECT(encode(HED_KEY_ENTER, 0, HED_TERMWIZ_MOD_NONE, true, 16) == HED_ENCODED_TEXT && is_text("\r\n", 16));
   modes.modify_other_keys = 2;
-  EXPECT(encode(TW_KEY_CHAR, 'c', TW_MOD_CTRL, true, 16) == TW_TEXT && is_text("\003", 16));
+  EXPECT(encode(HED_KEY_CHAR, 'c', HED_TERMWIZ_MOD_CTRL, true, 16) == HED_ENCODED_TEXT && is_text("\003", 16));
   modes.has_modify_other_keys = true;
-  EXPECT(encode(TW_KEY_CHAR, 'c', TW_MOD_CTRL, true, 16) == TW_TEXT && is_text("\033[27;5;99~", 16));
+  EXPECT(encode(HED_KEY_CHAR, 'c', HED_TERMWIZ_MOD_CTRL, true, 16) == HED_ENCODED_TEXT && is_text("\033[27;5;99~", 16));
   modes.modify_other_keys = 0x100000002;
-  EXPECT(encode(TW_KEY_CHAR, 'c', TW_MOD_CTRL, true, 16) == TW_TEXT && is_text("\003", 16));
+  EXPECT(encode(HED_KEY_CHAR, 'c', HED_TERMWIZ_MOD_CTRL, true, 16) == HED_ENCODED_TEXT && is_text("\003", 16));
   memset(&modes, 0, sizeof modes);
-  modes.encoding = TW_CSI_U;
+  modes.encoding = HED_ENCODING_CSI_U;
   modes.kitty_flags = 255;
-  EXPECT(encode(TW_KEY_CHAR, 'i', TW_MOD_CTRL, true, 16) == TW_TEXT && is_text("\033[105;5u", 16));
-  modes.encoding = TW_WIN32;
-  EXPECT(encode(TW_KEY_CHAR, 'i', TW_MOD_CTRL, true, 16) == TW_TEXT && is_text("\t", 16));
-  modes.encoding = TW_KITTY;
+  EXPECT(encode(HED_KEY_CHAR, 'i', HED_TERMWIZ_MOD_CTRL, true, 16) == HED_ENCODED_TEXT && is_text("\033[105;5u", 16));
+  modes.encoding = HED_ENCODING_WIN32;
+  EXPECT(encode(HED_KEY_CHAR, 'i', HED_TERMWIZ_MOD_CTRL, true, 16) == HED_ENCODED_TEXT && is_text("\t", 16));
+  modes.encoding = HED_ENCODING_KITTY;
   modes.kitty_flags = 31;
-  EXPECT(encode(TW_KEY_CHAR, 'i', TW_MOD_CTRL, true, 16) == TW_TEXT && is_text("\t", 16));
+  EXPECT(encode(HED_KEY_CHAR, 'i', HED_TERMWIZ_MOD_CTRL, true, 16) == HED_ENCODED_TEXT && is_text("\t", 16));
 }
 
 static void refuses_function_keys(void) {
   static const uint32_t numbers[] = {0, 25, 255};
   memset(&modes, 0, sizeof modes);
   for (size_t i = 0; i < 3; i++) {
-    EXPECT(encode(TW_KEY_FUNCTION, numbers[i], TW_MOD_NONE, true, 16) == TW_REFUSED_KEY && is_untouched());
-    EXPECT(encode(TW_KEY_FUNCTION, numbers[i], TW_MOD_NONE, false, 16) == TW_TEXT && is_text("", 16));
+    EXPECT(encode(HED_KEY_FUNCTION, numbers[i], HED_TERMWIZ_MOD_NONE, true, 16) == HED_ENCODED_REFUSED_KEY && is_untouched());
+    EXPECT(encode(HED_KEY_FUNCTION, numbers[i], HED_TERMWIZ_MOD_NONE, false, 16) == HED_ENCODED_TEXT && is_text("", 16));
   }
 }
 
 static void refuses_numbers_that_stand_for_nothing(void) {
   memset(&modes, 0, sizeof modes);
   for (int is_down = 0; is_down < 2; is_down++) {
-    EXPECT(encode(0, 0, 0, is_down, 16) == TW_BAD_NUMBER && is_untouched());
-    EXPECT(encode(91, 0, 0, is_down, 16) == TW_BAD_NUMBER && is_untouched());
-    EXPECT(encode(TW_KEY_CHAR, 0xd800, 0, is_down, 16) == TW_BAD_NUMBER && is_untouched());
-    EXPECT(encode(TW_KEY_CHAR, 0xdfff, 0, is_down, 16) == TW_BAD_NUMBER && is_untouched());
-    EXPECT(encode(TW_KEY_CHAR, 0x110000, 0, is_down, 16) == TW_BAD_NUMBER && is_untouched());
-    EXPECT(encode(TW_KEY_FUNCTION, 256, 0, is_down, 16) == TW_BAD_NUMBER && is_untouched());
-    EXPECT(encode(TW_KEY_TAB, 0, 1, is_down, 16) == TW_BAD_NUMBER && is_untouched());
-    EXPECT(encode(TW_KEY_TAB, 0, 1 << 12, is_down, 16) == TW_BAD_NUMBER && is_untouched());
+    EXPECT(encode(0, 0, 0, is_down, 16) == HED_ENCODED_BAD_NUMBER && is_untouched());
+    EXPECT(encode(91, 0, 0, is_down, 16) == HED_ENCODED_BAD_NUMBER && is_untouched());
+    EXPECT(encode(HED_KEY_CHAR, 0xd800, 0, is_down, 16) == HED_ENCODED_BAD_NUMBER && is_untouched());
+    EXPECT(encode(HED_KEY_CHAR, 0xdfff, 0, is_down, 16) == HED_ENCODED_BAD_NUMBER && is_untouched());
+    EXPECT(encode(HED_KEY_CHAR, 0x110000, 0, is_down, 16) == HED_ENCODED_BAD_NUMBER && is_untouched());
+    EXPECT(encode(HED_KEY_FUNCTION, 256, 0, is_down, 16) == HED_ENCODED_BAD_NUMBER && is_untouched());
+    EXPECT(encode(HED_KEY_TAB, 0, 1, is_down, 16) == HED_ENCODED_BAD_NUMBER && is_untouched());
+    EXPECT(encode(HED_KEY_TAB, 0, 1 << 12, is_down, 16) == HED_ENCODED_BAD_NUMBER && is_untouched());
     modes.encoding = 4;
-    EXPECT(encode(TW_KEY_TAB, 0, 0, is_down, 16) == TW_BAD_NUMBER && is_untouched());
-    modes.encoding = TW_KITTY;
+    EXPECT(encode(HED_KEY_TAB, 0, 0, is_down, 16) == HED_ENCODED_BAD_NUMBER && is_untouched());
+    modes.encoding = HED_ENCODING_KITTY;
     modes.kitty_flags = 32;
-    EXPECT(encode(TW_KEY_TAB, 0, 0, is_down, 16) == TW_BAD_NUMBER && is_untouched());
+    EXPECT(encode(HED_KEY_TAB, 0, 0, is_down, 16) == HED_ENCODED_BAD_NUMBER && is_untouched());
     memset(&modes, 0, sizeof modes);
   }
-  for (unsigned bit = 1; bit < 12; bit++) EXPECT(encode(TW_KEY_TAB, 0, (uint16_t)(1 << bit), true, 16) == TW_TEXT);
+  for (unsigned bit = 1; bit < 12; bit++) EXPECT(encode(HED_KEY_TAB, 0, (uint16_t)(1 << bit), true, 16) == HED_ENCODED_TEXT);
 }
 
 /* Every key that isn't a function key has a text in every encoding, empty or not. */
 static void encodes_every_key(void) {
   uint8_t room;
   memset(&modes, 0, sizeof modes);
-  for (uint16_t key = 1; tw_key_name(key, &room, 0) > 0; key++)
+  for (uint16_t key = 1; hed_key_name(key, &room, 0) > 0; key++)
     for (modes.encoding = 0; modes.encoding < 4; modes.encoding++)
-      EXPECT(encode(key, 'a', TW_MOD_SHIFT, true, 16) == (key == TW_KEY_FUNCTION ? TW_REFUSED_KEY : TW_TEXT));
+      EXPECT(encode(key, 'a', HED_TERMWIZ_MOD_SHIFT, true, 16) == (key == HED_KEY_FUNCTION ? HED_ENCODED_REFUSED_KEY : HED_ENCODED_TEXT));
 }
 
 /* What the last lookup wrote, or this if it wrote nothing. */
-static const tw_match unwritten = {77, 777};
-static tw_match found;
+static const hed_match unwritten = {77, 777};
+static hed_match found;
 
-static uint32_t look_up(tw_keymap *map, const void *bytes, size_t len, bool maybe_more) {
+static uint32_t look_up(hed_keymap *map, const void *bytes, size_t len, bool maybe_more) {
   found = unwritten;
-  return tw_keymap_lookup(map, (const uint8_t *)bytes, len, maybe_more, &found);
+  return hed_keymap_lookup(map, (const uint8_t *)bytes, len, maybe_more, &found);
 }
 
 #define LOOK_UP(map, text, maybe_more) look_up(map, text, sizeof text - 1, maybe_more)
-#define INSERT(map, key, value) tw_keymap_insert(map, (const uint8_t *)key, sizeof key - 1, value)
+#define INSERT(map, key, value) hed_keymap_insert(map, (const uint8_t *)key, sizeof key - 1, value)
 
 static bool is_found(size_t len, uint64_t value) { return found.len == len && found.value == value; }
 
 static bool is_unwritten(void) { return is_found(unwritten.len, unwritten.value); }
 
 /* There is no map before init and after free, and each call says so. */
-static void no_map_answers(tw_keymap *map) {
-  EXPECT(LOOK_UP(map, "", true) == TW_FOUND_NO_MAP && is_unwritten());
-  EXPECT(LOOK_UP(map, "a", true) == TW_FOUND_NO_MAP && is_unwritten());
-  EXPECT(LOOK_UP(map, "a", false) == TW_FOUND_NO_MAP && is_unwritten());
-  EXPECT(!INSERT(map, "a", 1) && tw_keymap_len(map) == 0);
-  tw_keymap_free(map);
+static void no_map_answers(hed_keymap *map) {
+  EXPECT(LOOK_UP(map, "", true) == HED_FOUND_NO_MAP && is_unwritten());
+  EXPECT(LOOK_UP(map, "a", true) == HED_FOUND_NO_MAP && is_unwritten());
+  EXPECT(LOOK_UP(map, "a", false) == HED_FOUND_NO_MAP && is_unwritten());
+  EXPECT(!INSERT(map, "a", 1) && hed_keymap_len(map) == 0);
+  hed_keymap_free(map);
   EXPECT(!map->live);
 }
 
 static void answers_without_a_map(void) {
-  tw_keymap map = TW_KEYMAP_NONE, zero;
+  hed_keymap map = HED_KEYMAP_NONE, zero;
   memset(&zero, 0, sizeof zero);
   no_map_answers(&map);
   no_map_answers(&zero);
-  EXPECT(tw_keymap_init(&map) && INSERT(&map, "a", 1) && tw_keymap_len(&map) == 1);
-  tw_keymap_free(&map);
+  EXPECT(hed_keymap_init(&map) && INSERT(&map, "a", 1) && hed_keymap_len(&map) == 1);
+  hed_keymap_free(&map);
   no_map_answers(&map);
-  EXPECT(tw_keymap_init(&map) && tw_keymap_len(&map) == 0 && LOOK_UP(&map, "a", true) == TW_FOUND_NONE && is_unwritten());
-  tw_keymap_free(&map);
-  tw_keymap_free(&map);
+  EXPECT(hed_keymap_init(&map) && hed_keymap_len(&map) == 0 && LOOK_UP(&map, "a", true) == HED_FOUND_NONE && is_unwritten());
+  hed_keymap_free(&map);
+  hed_keymap_free(&map);
 }
 
 /* Every answer, with more to come and without. */
 static void finds_keys(void) {
-  tw_keymap map = TW_KEYMAP_NONE;
-  EXPECT(tw_keymap_init(&map) && LOOK_UP(&map, "", true) == TW_FOUND_NONE && is_unwritten());
+  hed_keymap map = HED_KEYMAP_NONE;
+  EXPECT(hed_keymap_init(&map) && LOOK_UP(&map, "", true) == HED_FOUND_NONE && is_unwritten());
   EXPECT(INSERT(&map, "boom", UINT64_MAX) && INSERT(&map, "boo", 2) && INSERT(&map, "boa\0", 1));
-  EXPECT(tw_keymap_len(&map) == 3 && INSERT(&map, "boo", 4) && tw_keymap_len(&map) == 3);
+  EXPECT(hed_keymap_len(&map) == 3 && INSERT(&map, "boo", 4) && hed_keymap_len(&map) == 3);
   for (int more = 0; more < 2; more++) {
-    EXPECT(LOOK_UP(&map, "", more) == TW_FOUND_NEED_DATA && is_unwritten());
-    EXPECT(LOOK_UP(&map, "boa", more) == TW_FOUND_NEED_DATA && is_unwritten());
-    EXPECT(LOOK_UP(&map, "boa\0", more) == TW_FOUND_EXACT && is_found(4, 1));
-    EXPECT(LOOK_UP(&map, "boo!", more) == TW_FOUND_EXACT && is_found(3, 4));
-    EXPECT(LOOK_UP(&map, "boom!", more) == TW_FOUND_EXACT && is_found(4, UINT64_MAX));
-    EXPECT(LOOK_UP(&map, "box", more) == TW_FOUND_NONE && is_unwritten());
+    EXPECT(LOOK_UP(&map, "", more) == HED_FOUND_NEED_DATA && is_unwritten());
+    EXPECT(LOOK_UP(&map, "boa", more) == HED_FOUND_NEED_DATA && is_unwritten());
+    EXPECT(LOOK_UP(&map, "boa\0", more) == HED_FOUND_EXACT && is_found(4, 1));
+    EXPECT(LOOK_UP(&map, "boo!", more) == HED_FOUND_EXACT && is_found(3, 4));
+    EXPECT(LOOK_UP(&map, "boom!", more) == HED_FOUND_EXACT && is_found(4, UINT64_MAX));
+    EXPECT(LOOK_UP(&map, "box", more) == HED_FOUND_NONE && is_unwritten());
   }
-  EXPECT(LOOK_UP(&map, "boo", true) == TW_FOUND_AMBIGUOUS && is_found(3, 4));
-  EXPECT(LOOK_UP(&map, "boo", false) == TW_FOUND_EXACT && is_found(3, 4));
-  EXPECT(INSERT(&map, "", 9) && tw_keymap_len(&map) == 4);
-  EXPECT(LOOK_UP(&map, "", true) == TW_FOUND_AMBIGUOUS && is_found(0, 9));
-  EXPECT(LOOK_UP(&map, "box", true) == TW_FOUND_EXACT && is_found(0, 9));
-  tw_keymap_free(&map);
+  EXPECT(LOOK_UP(&map, "boo", true) == HED_FOUND_AMBIGUOUS && is_found(3, 4));
+  EXPECT(LOOK_UP(&map, "boo", false) == HED_FOUND_EXACT && is_found(3, 4));
+  EXPECT(INSERT(&map, "", 9) && hed_keymap_len(&map) == 4);
+  EXPECT(LOOK_UP(&map, "", true) == HED_FOUND_AMBIGUOUS && is_found(0, 9));
+  EXPECT(LOOK_UP(&map, "box", true) == HED_FOUND_EXACT && is_found(0, 9));
+  hed_keymap_free(&map);
 }
 
 /* A text, whether more may come, what is returned for it among the keys boa, boo and boom, and what is written. */
@@ -942,44 +942,44 @@ struct lookup {
   size_t len;
   bool maybe_more;
   uint32_t answer;
-  tw_match match;
+  hed_match match;
 };
 
 static const struct lookup lookups[] = {
-    {"", 0, true, TW_FOUND_NEED_DATA, {77, 777}},
-    {"bo", 2, true, TW_FOUND_NEED_DATA, {77, 777}},
-    {"bo", 2, false, TW_FOUND_NEED_DATA, {77, 777}},
-    {"boa", 3, true, TW_FOUND_EXACT, {3, 1}},
-    {"boo", 3, true, TW_FOUND_AMBIGUOUS, {3, 4}},
-    {"boo", 3, false, TW_FOUND_EXACT, {3, 4}},
-    {"boo!", 4, true, TW_FOUND_EXACT, {3, 4}},
-    {"boom!", 5, true, TW_FOUND_EXACT, {4, UINT64_MAX}},
-    {"box", 3, true, TW_FOUND_NONE, {77, 777}},
-    {"bo\0", 3, true, TW_FOUND_NONE, {77, 777}},
+    {"", 0, true, HED_FOUND_NEED_DATA, {77, 777}},
+    {"bo", 2, true, HED_FOUND_NEED_DATA, {77, 777}},
+    {"bo", 2, false, HED_FOUND_NEED_DATA, {77, 777}},
+    {"boa", 3, true, HED_FOUND_EXACT, {3, 1}},
+    {"boo", 3, true, HED_FOUND_AMBIGUOUS, {3, 4}},
+    {"boo", 3, false, HED_FOUND_EXACT, {3, 4}},
+    {"boo!", 4, true, HED_FOUND_EXACT, {3, 4}},
+    {"boom!", 5, true, HED_FOUND_EXACT, {4, UINT64_MAX}},
+    {"box", 3, true, HED_FOUND_NONE, {77, 777}},
+    {"bo\0", 3, true, HED_FOUND_NONE, {77, 777}},
 };
 
 /* Words, before and after the empty key, which is a prefix of every text, and in a new map. */
 static void finds_words(void) {
-  tw_keymap map = TW_KEYMAP_NONE;
-  EXPECT(tw_keymap_init(&map) && INSERT(&map, "boom", UINT64_MAX) && INSERT(&map, "boo", 2) && INSERT(&map, "boa", 1));
-  EXPECT(INSERT(&map, "boo", 4) && tw_keymap_len(&map) == 3);
+  hed_keymap map = HED_KEYMAP_NONE;
+  EXPECT(hed_keymap_init(&map) && INSERT(&map, "boom", UINT64_MAX) && INSERT(&map, "boo", 2) && INSERT(&map, "boa", 1));
+  EXPECT(INSERT(&map, "boo", 4) && hed_keymap_len(&map) == 3);
   for (const struct lookup *it = lookups; it < lookups + sizeof lookups / sizeof lookups[0]; it++)
     EXPECT(look_up(&map, it->text, it->len, it->maybe_more) == it->answer && is_found(it->match.len, it->match.value));
-  EXPECT(INSERT(&map, "", 9) && LOOK_UP(&map, "", true) == TW_FOUND_AMBIGUOUS && is_found(0, 9));
-  EXPECT(LOOK_UP(&map, "x", true) == TW_FOUND_EXACT && is_found(0, 9));
-  EXPECT(tw_keymap_init(&map) && tw_keymap_len(&map) == 0 && LOOK_UP(&map, "boa", true) == TW_FOUND_NONE && is_unwritten());
-  tw_keymap_free(&map);
+  EXPECT(INSERT(&map, "", 9) && LOOK_UP(&map, "", true) == HED_FOUND_AMBIGUOUS && is_found(0, 9));
+  EXPECT(LOOK_UP(&map, "x", true) == HED_FOUND_EXACT && is_found(0, 9));
+  EXPECT(hed_keymap_init(&map) && hed_keymap_len(&map) == 0 && LOOK_UP(&map, "boa", true) == HED_FOUND_NONE && is_unwritten());
+  hed_keymap_free(&map);
 }
 
 /* A map that was moved is used at its new place, and init frees the map that was there. */
 static void moves_and_makes_maps_anew(void) {
-  tw_keymap first = TW_KEYMAP_NONE, second;
-  EXPECT(tw_keymap_init(&first) && INSERT(&first, "ab", 1));
+  hed_keymap first = HED_KEYMAP_NONE, second;
+  EXPECT(hed_keymap_init(&first) && INSERT(&first, "ab", 1));
   memcpy(&second, &first, sizeof second);
   memset(&first, 0, sizeof first);
-  EXPECT(INSERT(&second, "abc", 2) && LOOK_UP(&second, "ab", true) == TW_FOUND_AMBIGUOUS && is_found(2, 1));
-  EXPECT(tw_keymap_init(&second) && tw_keymap_len(&second) == 0 && LOOK_UP(&second, "ab", true) == TW_FOUND_NONE);
-  tw_keymap_free(&second);
+  EXPECT(INSERT(&second, "abc", 2) && LOOK_UP(&second, "ab", true) == HED_FOUND_AMBIGUOUS && is_found(2, 1));
+  EXPECT(hed_keymap_init(&second) && hed_keymap_len(&second) == 0 && LOOK_UP(&second, "ab", true) == HED_FOUND_NONE);
+  hed_keymap_free(&second);
 }
 
 /* A plain map to compare with: a list of keys, all of which each lookup goes through. */
@@ -1003,7 +1003,7 @@ static void plain_insert(const uint8_t *key, size_t len, uint64_t value) {
   plain[at].value = value;
 }
 
-static uint32_t plain_lookup(const uint8_t *bytes, size_t len, bool maybe_more, tw_match *match) {
+static uint32_t plain_lookup(const uint8_t *bytes, size_t len, bool maybe_more, hed_match *match) {
   const struct plain *longest = NULL;
   bool is_extended = false;
   for (const struct plain *row = plain; row < plain + plain_len; row++) {
@@ -1011,10 +1011,10 @@ static uint32_t plain_lookup(const uint8_t *bytes, size_t len, bool maybe_more, 
     if (row->len > len) is_extended = true;
     if (row->len <= len && (!longest || row->len > longest->len)) longest = row;
   }
-  if (!longest) return is_extended ? TW_FOUND_NEED_DATA : TW_FOUND_NONE;
+  if (!longest) return is_extended ? HED_FOUND_NEED_DATA : HED_FOUND_NONE;
   match->len = longest->len;
   match->value = longest->value;
-  return is_extended && maybe_more ? TW_FOUND_AMBIGUOUS : TW_FOUND_EXACT;
+  return is_extended && maybe_more ? HED_FOUND_AMBIGUOUS : HED_FOUND_EXACT;
 }
 
 static uint32_t seed = 1;
@@ -1058,12 +1058,12 @@ static size_t make_bytes(const struct kind *kind, uint8_t *bytes) {
 }
 
 /* The answers are those of the plain map. */
-static void compare_lookups(tw_keymap *map, const struct kind *kind, int lookups) {
+static void compare_lookups(hed_keymap *map, const struct kind *kind, int lookups) {
   uint8_t bytes[MOST_BYTES];
   for (; lookups > 0; lookups--) {
     size_t len = make_bytes(kind, bytes);
     bool maybe_more = number_below(2);
-    tw_match match = unwritten;
+    hed_match match = unwritten;
     uint32_t answer = plain_lookup(bytes, len, maybe_more, &match);
     EXPECT(look_up(map, bytes, len, maybe_more) == answer && is_found(match.len, match.value));
   }
@@ -1072,17 +1072,17 @@ static void compare_lookups(tw_keymap *map, const struct kind *kind, int lookups
 /* Inserts so many keys of a kind, some of them several times, and compares lookups after each and at last. */
 static void compare_maps(const struct kind *kind, uint64_t inserts, int lookups, int last_lookups) {
   uint8_t key[MOST_BYTES];
-  tw_keymap map = TW_KEYMAP_NONE;
+  hed_keymap map = HED_KEYMAP_NONE;
   plain_len = 0;
-  EXPECT(tw_keymap_init(&map));
+  EXPECT(hed_keymap_init(&map));
   for (uint64_t value = 0; value < inserts; value++) {
     size_t len = make_bytes(kind, key);
     plain_insert(key, len, value << 40);
-    EXPECT(tw_keymap_insert(&map, key, len, value << 40) && tw_keymap_len(&map) == plain_len);
+    EXPECT(hed_keymap_insert(&map, key, len, value << 40) && hed_keymap_len(&map) == plain_len);
     compare_lookups(&map, kind, lookups);
   }
   compare_lookups(&map, kind, last_lookups);
-  tw_keymap_free(&map);
+  hed_keymap_free(&map);
 }
 
 static void agrees_with_a_plain_map(void) {
@@ -1094,22 +1094,22 @@ static void agrees_with_a_plain_map(void) {
 /* Five thousand keys, and one of 300 bytes. */
 static void keeps_many_keys(void) {
   uint8_t key[3], prefix[300];
-  tw_keymap map = TW_KEYMAP_NONE;
+  hed_keymap map = HED_KEYMAP_NONE;
   memset(prefix, 'x', sizeof prefix);
-  EXPECT(tw_keymap_init(&map) && tw_keymap_insert(&map, prefix, sizeof prefix, 5));
+  EXPECT(hed_keymap_init(&map) && hed_keymap_insert(&map, prefix, sizeof prefix, 5));
   for (uint32_t number = 0; number < 5000; number++) {
     memcpy(key, (uint8_t[]){(uint8_t)number, (uint8_t)(number >> 8), 0}, sizeof key);
-    EXPECT(tw_keymap_insert(&map, key, sizeof key, number));
+    EXPECT(hed_keymap_insert(&map, key, sizeof key, number));
   }
-  EXPECT(tw_keymap_len(&map) == 5001);
+  EXPECT(hed_keymap_len(&map) == 5001);
   for (uint32_t number = 0; number < 5000; number++) {
     memcpy(key, (uint8_t[]){(uint8_t)number, (uint8_t)(number >> 8), 0}, sizeof key);
-    EXPECT(look_up(&map, key, sizeof key, true) == TW_FOUND_EXACT && is_found(3, number));
-    EXPECT(look_up(&map, key, 2, true) == TW_FOUND_NEED_DATA && is_unwritten());
+    EXPECT(look_up(&map, key, sizeof key, true) == HED_FOUND_EXACT && is_found(3, number));
+    EXPECT(look_up(&map, key, 2, true) == HED_FOUND_NEED_DATA && is_unwritten());
   }
-  EXPECT(look_up(&map, prefix, 300, true) == TW_FOUND_EXACT && is_found(300, 5));
-  EXPECT(look_up(&map, prefix, 299, true) == TW_FOUND_NEED_DATA && is_unwritten());
-  tw_keymap_free(&map);
+  EXPECT(look_up(&map, prefix, 300, true) == HED_FOUND_EXACT && is_found(300, 5));
+  EXPECT(look_up(&map, prefix, 299, true) == HED_FOUND_NEED_DATA && is_unwritten());
+  hed_keymap_free(&map);
 }
 
 /* The two bytes of a number, the higher one first. */
@@ -1123,37 +1123,37 @@ static const uint8_t *two_bytes(uint32_t number) {
 /* Six thousand keys of two bytes, and one of 300. */
 static void keeps_short_keys(void) {
   uint8_t digits[300];
-  tw_keymap map = TW_KEYMAP_NONE;
+  hed_keymap map = HED_KEYMAP_NONE;
   for (size_t at = 0; at < sizeof digits; at++) digits[at] = (uint8_t)"0123456789"[at % 10];
-  EXPECT(tw_keymap_init(&map) && tw_keymap_insert(&map, digits, sizeof digits, 5));
-  for (uint32_t number = 0; number < 6000; number++) EXPECT(tw_keymap_insert(&map, two_bytes(number), 2, number * 7));
-  EXPECT(tw_keymap_len(&map) == 6001);
+  EXPECT(hed_keymap_init(&map) && hed_keymap_insert(&map, digits, sizeof digits, 5));
+  for (uint32_t number = 0; number < 6000; number++) EXPECT(hed_keymap_insert(&map, two_bytes(number), 2, number * 7));
+  EXPECT(hed_keymap_len(&map) == 6001);
   for (uint32_t number = 0; number < 6000; number++) {
-    EXPECT(look_up(&map, two_bytes(number), 1, true) == TW_FOUND_NEED_DATA && is_unwritten());
-    EXPECT(look_up(&map, two_bytes(number), 2, true) == TW_FOUND_EXACT && is_found(2, number * 7));
+    EXPECT(look_up(&map, two_bytes(number), 1, true) == HED_FOUND_NEED_DATA && is_unwritten());
+    EXPECT(look_up(&map, two_bytes(number), 2, true) == HED_FOUND_EXACT && is_found(2, number * 7));
   }
-  EXPECT(look_up(&map, digits, 300, true) == TW_FOUND_EXACT && is_found(300, 5));
-  EXPECT(look_up(&map, digits, 290, true) == TW_FOUND_NEED_DATA && is_unwritten());
-  tw_keymap_free(&map);
+  EXPECT(look_up(&map, digits, 300, true) == HED_FOUND_EXACT && is_found(300, 5));
+  EXPECT(look_up(&map, digits, 290, true) == HED_FOUND_NEED_DATA && is_unwritten());
+  hed_keymap_free(&map);
 }
 
 /* A pointer of length 0 may be NULL. */
 static void takes_null_for_no_bytes(void) {
-  tw_parser parser = TW_PARSER_NONE;
-  tw_keymap map = TW_KEYMAP_NONE;
+  hed_parser parser = HED_PARSER_NONE;
+  hed_keymap map = HED_KEYMAP_NONE;
   memset(&modes, 0, sizeof modes);
-  EXPECT(!tw_parser_feed(&parser, NULL, 0) && tw_parser_paste(&parser, NULL, 0) == 0);
-  EXPECT(tw_row(&parser, 0, NULL, 0, &taken) == 0);
-  EXPECT(tw_parser_init(&parser) && NEXT(&parser, "\033[200~ab\033[201~\033", true) == TW_EVENT);
-  EXPECT(tw_parser_feed(&parser, NULL, 0) && tw_parser_waiting(&parser) == 1 && tw_parser_paste(&parser, NULL, 0) == 2);
-  EXPECT(tw_row(&parser, 0, NULL, 0, &taken) == 1 && is_key(TW_KEY_CHAR, 'a', TW_MOD_CTRL));
-  tw_parser_free(&parser);
-  EXPECT(tw_key_name(TW_KEY_TAB, NULL, 0) == 3 && tw_key_name(0, NULL, 0) == 0);
-  EXPECT(tw_encode(TW_KEY_UP_ARROW, 0, 0, true, &modes, NULL, 0, &text_len) == TW_TEXT && text_len == 3);
-  EXPECT(tw_keymap_lookup(&map, NULL, 0, true, &found) == TW_FOUND_NO_MAP && !tw_keymap_insert(&map, NULL, 0, 1));
-  EXPECT(tw_keymap_init(&map) && tw_keymap_lookup(&map, NULL, 0, true, &found) == TW_FOUND_NONE);
-  EXPECT(tw_keymap_insert(&map, NULL, 0, 6) && tw_keymap_lookup(&map, NULL, 0, true, &found) == TW_FOUND_EXACT && is_found(0, 6));
-  tw_keymap_free(&map);
+  EXPECT(!hed_parser_feed(&parser, NULL, 0) && hed_parser_paste(&parser, NULL, 0) == 0);
+  EXPECT(hed_parser_entry(&parser, 0, NULL, 0, &taken) == 0);
+  EXPECT(hed_parser_init(&parser) && NEXT(&parser, "\033[200~ab\033[201~\033", true) == HED_NEXT_EVENT);
+  EXPECT(hed_parser_feed(&parser, NULL, 0) && hed_parser_waiting_len(&parser) == 1 && hed_parser_paste(&parser, NULL, 0) == 2);
+  EXPECT(hed_parser_entry(&parser, 0, NULL, 0, &taken) == 1 && is_key(HED_KEY_CHAR, 'a', HED_TERMWIZ_MOD_CTRL));
+  hed_parser_free(&parser);
+  EXPECT(hed_key_name(HED_KEY_TAB, NULL, 0) == 3 && hed_key_name(0, NULL, 0) == 0);
+  EXPECT(hed_encode(HED_KEY_UP_ARROW, 0, 0, true, &modes, NULL, 0, &text_len) == HED_ENCODED_TEXT && text_len == 3);
+  EXPECT(hed_keymap_lookup(&map, NULL, 0, true, &found) == HED_FOUND_NO_MAP && !hed_keymap_insert(&map, NULL, 0, 1));
+  EXPECT(hed_keymap_init(&map) && hed_keymap_lookup(&map, NULL, 0, true, &found) == HED_FOUND_NONE);
+  EXPECT(hed_keymap_insert(&map, NULL, 0, 6) && hed_keymap_lookup(&map, NULL, 0, true, &found) == HED_FOUND_EXACT && is_found(0, 6));
+  hed_keymap_free(&map);
 }
 
 /* A page whose bytes can't be written while it is read-only. */
@@ -1163,49 +1163,49 @@ static void *page(void) {
 
 /* The calls with a const pointer write nothing to the struct. */
 static void reads_from_a_page_that_is_read_only(void) {
-  struct { tw_parser parser; tw_keymap map; } *it = page();
-  tw_match match = { 7, 7 };
-  tw_rows rows = { 7, 7, true };
+  struct { hed_parser parser; hed_keymap map; } *it = page();
+  hed_match match = { 7, 7 };
+  hed_entries rows = { 7, 7, true };
   uint8_t text[4] = "....";
-  tw_parser sharing = TW_PARSER_NONE;
-  tw_extended extended = TW_EXTENDED_NONE;
+  hed_parser sharing = HED_PARSER_NONE;
+  hed_extended extended = HED_EXTENDED_NONE;
   if (it == MAP_FAILED) abort();
-  EXPECT(tw_parser_init(&it->parser) && tw_keymap_init(&it->map) && tw_keymap_insert(&it->map, (const uint8_t *)"up", 2, 5));
-  EXPECT(NEXT(&it->parser, "\033[200~ab\033[201~\033[200~c", true) == TW_EVENT);
+  EXPECT(hed_parser_init(&it->parser) && hed_keymap_init(&it->map) && hed_keymap_insert(&it->map, (const uint8_t *)"up", 2, 5));
+  EXPECT(NEXT(&it->parser, "\033[200~ab\033[201~\033[200~c", true) == HED_NEXT_EVENT);
   EXPECT(mprotect(it, 4096, PROT_READ) == 0);
-  EXPECT(tw_parser_waiting(&it->parser) == 7 && tw_parser_waiting_kind(&it->parser) == TW_WAITING_PASTE);
-  EXPECT(tw_parser_is_paste_open(&it->parser));
-  EXPECT(tw_parser_paste(&it->parser, text, sizeof text) == 2 && memcmp(text, "ab..", 4) == 0);
-  EXPECT(row_at(&it->parser, 0) == 1 && row_at(&it->parser, TW_ROW_COUNT - 1) > 0 && row_at(&it->parser, TW_ROW_COUNT) == 0);
-  EXPECT(tw_parser_completions(&it->parser, &rows) && rows.count == 0 && !rows.with_alt);
-  EXPECT(tw_parser_init_sharing(&sharing, &it->parser) && tw_extended_init_sharing_parser(&extended, TW_ROWS_PORT, &it->parser));
-  tw_parser_free(&sharing);
-  tw_extended_free(&extended);
-  EXPECT(tw_keymap_len(&it->map) == 1);
-  EXPECT(tw_keymap_lookup(&it->map, (const uint8_t *)"upper", 5, true, &match) == TW_FOUND_EXACT && match.len == 2 && match.value == 5);
+  EXPECT(hed_parser_waiting_len(&it->parser) == 7 && hed_parser_waiting(&it->parser) == HED_WAITING_PASTE);
+  EXPECT(hed_parser_is_paste_open(&it->parser));
+  EXPECT(hed_parser_paste(&it->parser, text, sizeof text) == 2 && memcmp(text, "ab..", 4) == 0);
+  EXPECT(row_at(&it->parser, 0) == 1 && row_at(&it->parser, HED_ENTRY_COUNT - 1) > 0 && row_at(&it->parser, HED_ENTRY_COUNT) == 0);
+  EXPECT(hed_parser_completions(&it->parser, &rows) && rows.count == 0 && !rows.with_alt);
+  EXPECT(hed_parser_init_sharing(&sharing, &it->parser) && hed_extended_init_sharing_parser(&extended, HED_PROTOCOL_LEGACY, &it->parser));
+  hed_parser_free(&sharing);
+  hed_extended_free(&extended);
+  EXPECT(hed_keymap_len(&it->map) == 1);
+  EXPECT(hed_keymap_lookup(&it->map, (const uint8_t *)"upper", 5, true, &match) == HED_FOUND_EXACT && match.len == 2 && match.value == 5);
   EXPECT(mprotect(it, 4096, PROT_READ | PROT_WRITE) == 0);
-  tw_parser_free(&it->parser);
-  tw_keymap_free(&it->map);
+  hed_parser_free(&it->parser);
+  hed_keymap_free(&it->map);
   munmap(it, 4096);
 }
 
 static void tells_the_version(void) {
   char version[32];
-  uint32_t number = tw_version();
-  EXPECT(number == TW_VERSION_NUMBER);
+  uint32_t number = hed_version();
+  EXPECT(number == HED_VERSION_NUMBER);
   sprintf(version, "%u.%u.%u", (unsigned)(number >> 16), (unsigned)(number >> 8 & 255), (unsigned)(number & 255));
-  EXPECT(strcmp(version, TW_VERSION) == 0);
+  EXPECT(strcmp(version, HED_VERSION) == 0);
 }
 
 int main(int argc, char **argv) {
-  tw_parser parser = TW_PARSER_NONE;
+  hed_parser parser = HED_PARSER_NONE;
   if (argc != 2) return 2;
   answers_before_init_and_after_free();
   makes_anew();
   moves();
   gives_events_in_turn();
   keeps_the_text_of_a_paste();
-  EXPECT(tw_parser_init(&parser));
+  EXPECT(hed_parser_init(&parser));
   takes_one_event_at_a_time(&parser);
   gives_keys(&parser);
   gives_mouse_reports(&parser);
@@ -1227,7 +1227,7 @@ int main(int argc, char **argv) {
   has_no_other_rows(&parser);
   tells_completions(&parser);
   completes_every_rest(&parser);
-  tw_parser_free(&parser);
+  hed_parser_free(&parser);
   flushes_what_was_fed();
   ends_a_paste_that_was_fed();
   has_rows_at_their_places();

@@ -1,12 +1,12 @@
 /* Refuses each request for memory in turn, one in each run, and makes the refused call again: the answers must be those of a run without a
  * refusal, and each refusal must be told once. What is dropped or freed leaves no memory in use.
  *
- *     cc -Wl,--wrap=malloc -Wl,--wrap=realloc -Wl,--wrap=free test_refusals.c libtermwiz_c.a && ./a.out [STEP]
+ *     cc -Wl,--wrap=malloc -Wl,--wrap=realloc -Wl,--wrap=free test_refusals.c libhedrugal.a && ./a.out [STEP]
  *
- * Of the requests of tw_parser_init it refuses each STEPth (each, if no STEP is given). */
+ * Of the requests of hed_parser_init it refuses each STEPth (each, if no STEP is given). */
 #include "expect.h"
 #include "refuse.h"
-#include "termwiz_input.h"
+#include "hedrugal.h"
 #include <stdlib.h>
 #include <string.h>
 
@@ -22,42 +22,42 @@ static void see(const void *bytes, size_t len) {
 }
 
 /* The fields one by one, since what lies between them has no meaning. */
-static void see_event(tw_parser *parser, const tw_event *event) {
+static void see_event(hed_parser *parser, const hed_event *event) {
   uint32_t fields[] = {event->kind, event->buttons, event->modifiers, event->key, event->x, event->y, event->detail,
                        (uint32_t)event->paste_len};
   uint8_t text[256];
   see(fields, sizeof fields);
-  if (event->kind != TW_PASTE) return;
-  EXPECT(tw_parser_paste(parser, text, sizeof text) == event->paste_len);
+  if (event->kind != HED_KIND_PASTE) return;
+  EXPECT(hed_parser_paste(parser, text, sizeof text) == event->paste_len);
   see(text, event->paste_len);
 }
 
 /* Feeds a piece, again if it is refused. */
-static void feed(tw_parser *parser, const uint8_t *bytes, size_t len) {
-  size_t waiting = tw_parser_waiting(parser);
-  while (!tw_parser_feed(parser, bytes, len)) {
+static void feed(hed_parser *parser, const uint8_t *bytes, size_t len) {
+  size_t waiting = hed_parser_waiting_len(parser);
+  while (!hed_parser_feed(parser, bytes, len)) {
     told++;
-    EXPECT(tw_parser_waiting(parser) == waiting);
+    EXPECT(hed_parser_waiting_len(parser) == waiting);
   }
-  EXPECT(tw_parser_waiting(parser) == waiting + len);
+  EXPECT(hed_parser_waiting_len(parser) == waiting + len);
 }
 
 /* Takes all events, again if one is refused. */
-static void take(tw_parser *parser, bool more) {
+static void take(hed_parser *parser, bool more) {
   for (;;) {
-    tw_event event;
+    hed_event event;
     uint8_t before[sizeof event];
-    size_t waiting = tw_parser_waiting(parser);
+    size_t waiting = hed_parser_waiting_len(parser);
     memset(&event, 0x55, sizeof event);
     memcpy(before, &event, sizeof event);
-    uint32_t next = tw_parser_next(parser, more, &event);
-    if (next == TW_EVENT) {
+    uint32_t next = hed_parser_next(parser, more, &event);
+    if (next == HED_NEXT_EVENT) {
       see_event(parser, &event);
       continue;
     }
-    EXPECT(memcmp(&event, before, sizeof event) == 0 && tw_parser_waiting(parser) == waiting);
-    if (next == TW_NONE) return;
-    EXPECT(next == TW_NO_MEMORY && tw_parser_is_paste_open(parser));
+    EXPECT(memcmp(&event, before, sizeof event) == 0 && hed_parser_waiting_len(parser) == waiting);
+    if (next == HED_NEXT_NONE) return;
+    EXPECT(next == HED_NEXT_NO_MEMORY && hed_parser_is_paste_open(parser));
     told++;
   }
 }
@@ -69,9 +69,9 @@ static const char stream[] =
 /* Reads the stream in pieces, with one request after init refused. */
 static void read_stream(size_t piece, long number) {
   size_t len = sizeof stream - 1;
-  tw_parser parser = TW_PARSER_NONE;
+  hed_parser parser = HED_PARSER_NONE;
   refuse(0);
-  EXPECT(tw_parser_init(&parser));
+  EXPECT(hed_parser_init(&parser));
   seen_len = told = 0;
   refuse(number);
   for (size_t at = 0; at < len; at += piece) {
@@ -82,8 +82,8 @@ static void read_stream(size_t piece, long number) {
   take(&parser, false);
   to_refusal = 0;
   EXPECT(told == refused);
-  EXPECT(tw_parser_waiting(&parser) == 0);
-  tw_parser_free(&parser);
+  EXPECT(hed_parser_waiting_len(&parser) == 0);
+  hed_parser_free(&parser);
 }
 
 /* The stream in pieces, with each request refused in turn. */
@@ -102,31 +102,31 @@ static void refuse_while_reading(size_t piece) {
 }
 
 /* Whether the last paste's text is this one. */
-static bool is_pasted(tw_parser *parser, const char *want) {
+static bool is_pasted(hed_parser *parser, const char *want) {
   uint8_t text[256];
   size_t len = strlen(want);
-  return tw_parser_paste(parser, text, sizeof text) == len && memcmp(text, want, len) == 0;
+  return hed_parser_paste(parser, text, sizeof text) == len && memcmp(text, want, len) == 0;
 }
 
 /* Ends the open paste of a parser with one request refused, which leaves everything as it was, and again. Returns whether one was. */
-static bool refuse_end_of(tw_parser *parser, long number, const char *last) {
-  tw_event event;
+static bool refuse_end_of(hed_parser *parser, long number, const char *last) {
+  hed_event event;
   uint8_t before[sizeof event];
-  size_t waiting = tw_parser_waiting(parser);
+  size_t waiting = hed_parser_waiting_len(parser);
   memset(&event, 0x55, sizeof event);
   memcpy(before, &event, sizeof event);
   refuse(number);
-  uint32_t answer = tw_parser_end_paste(parser, &event);
+  uint32_t answer = hed_parser_end_paste(parser, &event);
   unsigned met = refused;
   refuse(0);
-  EXPECT(answer == (met ? TW_NO_MEMORY : TW_EVENT));
+  EXPECT(answer == (met ? HED_NEXT_NO_MEMORY : HED_NEXT_EVENT));
   if (met) {
     EXPECT(memcmp(&event, before, sizeof event) == 0 && is_pasted(parser, last));
-    EXPECT(tw_parser_waiting(parser) == waiting && tw_parser_waiting_kind(parser) == TW_WAITING_PASTE);
-    EXPECT(tw_parser_end_paste(parser, &event) == TW_EVENT);
+    EXPECT(hed_parser_waiting_len(parser) == waiting && hed_parser_waiting(parser) == HED_WAITING_PASTE);
+    EXPECT(hed_parser_end_paste(parser, &event) == HED_NEXT_EVENT);
   }
-  EXPECT(event.kind == TW_PASTE && event.paste_len == 16 && is_pasted(parser, "h\303\266lle \357\277\275\357\277\275 \033["));
-  EXPECT(tw_parser_waiting(parser) == 0 && tw_parser_waiting_kind(parser) == TW_WAITING_NOTHING);
+  EXPECT(event.kind == HED_KIND_PASTE && event.paste_len == 16 && is_pasted(parser, "h\303\266lle \357\277\275\357\277\275 \033["));
+  EXPECT(hed_parser_waiting_len(parser) == 0 && hed_parser_waiting(parser) == HED_WAITING_NOTHING);
   return met;
 }
 
@@ -136,73 +136,73 @@ static void refuse_while_ending(void) {
   long number = 0;
   bool met;
   do {
-    tw_parser parser = TW_PARSER_NONE;
-    tw_event event;
-    EXPECT(tw_parser_init(&parser));
-    EXPECT(tw_parser_feed(&parser, (const uint8_t *)last, sizeof last - 1));
-    EXPECT(tw_parser_next(&parser, true, &event) == TW_EVENT);
-    EXPECT(tw_parser_feed(&parser, (const uint8_t *)open, sizeof open - 1));
-    EXPECT(tw_parser_next(&parser, true, &event) == TW_NONE);
+    hed_parser parser = HED_PARSER_NONE;
+    hed_event event;
+    EXPECT(hed_parser_init(&parser));
+    EXPECT(hed_parser_feed(&parser, (const uint8_t *)last, sizeof last - 1));
+    EXPECT(hed_parser_next(&parser, true, &event) == HED_NEXT_EVENT);
+    EXPECT(hed_parser_feed(&parser, (const uint8_t *)open, sizeof open - 1));
+    EXPECT(hed_parser_next(&parser, true, &event) == HED_NEXT_NONE);
     met = refuse_end_of(&parser, ++number, "last");
-    tw_parser_free(&parser);
+    hed_parser_free(&parser);
   } while (met);
   EXPECT(number > 1);
   printf("end of a paste: %ld refusals\n", number - 1);
 }
 
 /* A refused init leaves what was there: a parser in which two bytes wait, or none. Returns whether it was refused. */
-static bool refuse_init_of(tw_parser *parser, long number, size_t waiting) {
+static bool refuse_init_of(hed_parser *parser, long number, size_t waiting) {
   refuse(number);
-  bool made = tw_parser_init(parser);
+  bool made = hed_parser_init(parser);
   unsigned met = refused;
   refuse(0);
   EXPECT(made == !met);
-  EXPECT(tw_parser_waiting(parser) == (made ? 0 : waiting));
+  EXPECT(hed_parser_waiting_len(parser) == (made ? 0 : waiting));
   return met;
 }
 
 /* Every STEPth request of init refused; of an init where there was no parser, fewer. */
 static void refuse_init(long step) {
-  tw_parser parser = TW_PARSER_NONE, none = TW_PARSER_NONE;
+  hed_parser parser = HED_PARSER_NONE, none = HED_PARSER_NONE;
   long number = 1;
-  EXPECT(tw_parser_init(&parser));
-  EXPECT(tw_parser_feed(&parser, (const uint8_t *)"\033[", 2));
+  EXPECT(hed_parser_init(&parser));
+  EXPECT(hed_parser_feed(&parser, (const uint8_t *)"\033[", 2));
   while (refuse_init_of(&parser, number, 2)) number += step;
-  tw_parser_free(&parser);
+  hed_parser_free(&parser);
   EXPECT(number > 1);
   for (long other = 1; other < number; other += 50 * step) {
     EXPECT(refuse_init_of(&none, other, 0));
     EXPECT(!none.live);
   }
-  EXPECT(tw_parser_init(&none));
-  tw_parser_free(&none);
+  EXPECT(hed_parser_init(&none));
+  hed_parser_free(&none);
   printf("init: %ld refusals\n", (number - 1) / step);
 }
 
 /* An init that shares a table, with each request refused in turn, leaves both parsers as they were. */
 static void refuse_sharing(void) {
-  tw_parser parser = TW_PARSER_NONE, other = TW_PARSER_NONE, none = TW_PARSER_NONE;
-  tw_event event;
+  hed_parser parser = HED_PARSER_NONE, other = HED_PARSER_NONE, none = HED_PARSER_NONE;
+  hed_event event;
   long number;
-  EXPECT(tw_parser_init(&parser) && tw_parser_feed(&parser, (const uint8_t *)"\033[", 2));
-  EXPECT(tw_parser_init(&other) && tw_parser_feed(&other, (const uint8_t *)"\033[200~last\033[201~\033", 17));
-  EXPECT(tw_parser_next(&other, true, &event) == TW_EVENT && is_pasted(&other, "last"));
-  for (number = 1; refuse(number), !tw_parser_init_sharing(&parser, &other); number++) {
-    EXPECT(refused == 1 && tw_parser_waiting(&parser) == 2 && tw_parser_waiting(&other) == 1 && is_pasted(&other, "last"));
+  EXPECT(hed_parser_init(&parser) && hed_parser_feed(&parser, (const uint8_t *)"\033[", 2));
+  EXPECT(hed_parser_init(&other) && hed_parser_feed(&other, (const uint8_t *)"\033[200~last\033[201~\033", 17));
+  EXPECT(hed_parser_next(&other, true, &event) == HED_NEXT_EVENT && is_pasted(&other, "last"));
+  for (number = 1; refuse(number), !hed_parser_init_sharing(&parser, &other); number++) {
+    EXPECT(refused == 1 && hed_parser_waiting_len(&parser) == 2 && hed_parser_waiting_len(&other) == 1 && is_pasted(&other, "last"));
     refuse(number);
-    EXPECT(!tw_parser_init_sharing(&none, &other) && !none.live && refused == 1);
+    EXPECT(!hed_parser_init_sharing(&none, &other) && !none.live && refused == 1);
   }
   refuse(0);
-  EXPECT(number > 1 && tw_parser_waiting(&parser) == 0 && is_pasted(&parser, ""));
-  EXPECT(tw_parser_waiting(&other) == 1 && is_pasted(&other, "last"));
-  tw_parser_free(&other);
-  tw_parser_free(&parser);
+  EXPECT(number > 1 && hed_parser_waiting_len(&parser) == 0 && is_pasted(&parser, ""));
+  EXPECT(hed_parser_waiting_len(&other) == 1 && is_pasted(&other, "last"));
+  hed_parser_free(&other);
+  hed_parser_free(&parser);
   printf("init that shares a table: %ld refusals\n", number - 1);
 }
 
 /* A key's text, with each request refused in turn. */
 static void refuse_while_encoding(void) {
-  static const tw_modes modes = {0, 0, 0, false, false, false};
+  static const hed_modes modes = {0, 0, 0, false, false, false};
   uint8_t text[16];
   size_t len;
   long number = 0;
@@ -210,114 +210,114 @@ static void refuse_while_encoding(void) {
     memset(text, '.', sizeof text);
     len = 999;
     refuse(++number);
-    uint32_t answer = tw_encode(TW_KEY_FUNCTION, 20, TW_MOD_ALT | TW_MOD_CTRL, true, &modes, text, sizeof text, &len);
+    uint32_t answer = hed_encode(HED_KEY_FUNCTION, 20, HED_TERMWIZ_MOD_ALT | HED_TERMWIZ_MOD_CTRL, true, &modes, text, sizeof text, &len);
     if (refused) {
-      EXPECT(answer == TW_REFUSED_MEMORY && len == 0 && memcmp(text, "................", 16) == 0);
-      answer = tw_encode(TW_KEY_FUNCTION, 20, TW_MOD_ALT | TW_MOD_CTRL, true, &modes, text, sizeof text, &len);
+      EXPECT(answer == HED_ENCODED_REFUSED_MEMORY && len == 0 && memcmp(text, "................", 16) == 0);
+      answer = hed_encode(HED_KEY_FUNCTION, 20, HED_TERMWIZ_MOD_ALT | HED_TERMWIZ_MOD_CTRL, true, &modes, text, sizeof text, &len);
     }
-    EXPECT(answer == TW_TEXT && len == 7 && memcmp(text, "\033[34;7~.........", 16) == 0);
+    EXPECT(answer == HED_ENCODED_TEXT && len == 7 && memcmp(text, "\033[34;7~.........", 16) == 0);
   } while (refused);
   EXPECT(number > 1);
   printf("encode: %ld refusals\n", number - 1);
   refuse(1);
-  EXPECT(tw_encode(TW_KEY_TAB, 0, TW_MOD_ALT, false, &modes, text, sizeof text, &len) == TW_TEXT && len == 0 && !refused);
+  EXPECT(hed_encode(HED_KEY_TAB, 0, HED_TERMWIZ_MOD_ALT, false, &modes, text, sizeof text, &len) == HED_ENCODED_TEXT && len == 0 && !refused);
   refuse(0);
 }
 
 /* No bytes need no memory, what gives no paste is taken without any, and what is forgotten or dropped needs none. */
 static void need_no_memory(void) {
-  tw_parser parser = TW_PARSER_NONE;
-  tw_event event;
-  EXPECT(tw_parser_init(&parser));
-  EXPECT(tw_parser_feed(&parser, (const uint8_t *)"\033[A\033", 4));
+  hed_parser parser = HED_PARSER_NONE;
+  hed_event event;
+  EXPECT(hed_parser_init(&parser));
+  EXPECT(hed_parser_feed(&parser, (const uint8_t *)"\033[A\033", 4));
   refuse(1);
-  EXPECT(tw_parser_feed(&parser, (const uint8_t *)"", 0));
-  EXPECT(tw_parser_next(&parser, true, &event) == TW_EVENT && tw_parser_next(&parser, true, &event) == TW_NONE);
-  EXPECT(tw_parser_next(&parser, false, &event) == TW_EVENT && tw_parser_waiting(&parser) == 0);
+  EXPECT(hed_parser_feed(&parser, (const uint8_t *)"", 0));
+  EXPECT(hed_parser_next(&parser, true, &event) == HED_NEXT_EVENT && hed_parser_next(&parser, true, &event) == HED_NEXT_NONE);
+  EXPECT(hed_parser_next(&parser, false, &event) == HED_NEXT_EVENT && hed_parser_waiting_len(&parser) == 0);
   EXPECT(!refused);
   refuse(0);
-  EXPECT(tw_parser_feed(&parser, (const uint8_t *)"\033\033", 2));
+  EXPECT(hed_parser_feed(&parser, (const uint8_t *)"\033\033", 2));
   refuse(1);
-  EXPECT(tw_parser_waiting_kind(&parser) == TW_WAITING_ESCAPE);
-  EXPECT(tw_parser_flush_escape(&parser, &event) == TW_EVENT && tw_parser_flush_escape(&parser, &event) == TW_NONE);
-  EXPECT(tw_parser_end_paste(&parser, &event) == TW_NONE);
+  EXPECT(hed_parser_waiting(&parser) == HED_WAITING_ESCAPE);
+  EXPECT(hed_parser_flush_escape(&parser, &event) == HED_NEXT_EVENT && hed_parser_flush_escape(&parser, &event) == HED_NEXT_NONE);
+  EXPECT(hed_parser_end_paste(&parser, &event) == HED_NEXT_NONE);
   EXPECT(!refused);
   refuse(0);
-  EXPECT(tw_parser_feed(&parser, (const uint8_t *)"\033[200~last\033[201~\033[200~ab", 24));
-  EXPECT(tw_parser_next(&parser, true, &event) == TW_EVENT);
+  EXPECT(hed_parser_feed(&parser, (const uint8_t *)"\033[200~last\033[201~\033[200~ab", 24));
+  EXPECT(hed_parser_next(&parser, true, &event) == HED_NEXT_EVENT);
   refuse(1);
-  EXPECT(tw_parser_reset(&parser) == 8 && is_pasted(&parser, "last"));
-  tw_parser_drop_paste(&parser);
+  EXPECT(hed_parser_reset(&parser) == 8 && is_pasted(&parser, "last"));
+  hed_parser_drop_paste(&parser);
   EXPECT(is_pasted(&parser, "") && !refused);
   refuse(0);
-  tw_parser_free(&parser);
+  hed_parser_free(&parser);
 }
 
 /* The text of a long paste is freed once it is dropped, and all of a parser by its end. */
 static void frees_memory(void) {
   enum { LONG = 100000 };
   static uint8_t text[LONG];
-  tw_parser parser = TW_PARSER_NONE;
-  tw_event event;
+  hed_parser parser = HED_PARSER_NONE;
+  hed_event event;
   memset(text, 'x', sizeof text);
   EXPECT(in_use == 0);
-  EXPECT(tw_parser_init(&parser) && in_use > 0);
-  EXPECT(tw_parser_feed(&parser, (const uint8_t *)"\033[200~", 6) && tw_parser_feed(&parser, text, LONG));
-  EXPECT(tw_parser_feed(&parser, (const uint8_t *)"\033[201~", 6) && tw_parser_next(&parser, true, &event) == TW_EVENT);
-  EXPECT(tw_parser_paste(&parser, text, 0) == LONG);
+  EXPECT(hed_parser_init(&parser) && in_use > 0);
+  EXPECT(hed_parser_feed(&parser, (const uint8_t *)"\033[200~", 6) && hed_parser_feed(&parser, text, LONG));
+  EXPECT(hed_parser_feed(&parser, (const uint8_t *)"\033[201~", 6) && hed_parser_next(&parser, true, &event) == HED_NEXT_EVENT);
+  EXPECT(hed_parser_paste(&parser, text, 0) == LONG);
   size_t before = in_use;
-  tw_parser_drop_paste(&parser);
+  hed_parser_drop_paste(&parser);
   EXPECT(in_use + LONG <= before);
-  EXPECT(tw_parser_init(&parser));
-  tw_parser_free(&parser);
-  tw_parser_free(&parser);
+  EXPECT(hed_parser_init(&parser));
+  hed_parser_free(&parser);
+  hed_parser_free(&parser);
   EXPECT(in_use == 0);
 }
 
 /* Parsers that share a table have little memory of their own, and the last of them frees it. */
 static void shares_memory(void) {
   enum { COUNT = 1000 };
-  static tw_parser parsers[COUNT];
+  static hed_parser parsers[COUNT];
   EXPECT(in_use == 0);
-  EXPECT(tw_parser_init(&parsers[0]));
+  EXPECT(hed_parser_init(&parsers[0]));
   size_t alone = in_use;
-  for (size_t i = 1; i < COUNT; i++) EXPECT(tw_parser_init_sharing(&parsers[i], &parsers[i / 2]));
+  for (size_t i = 1; i < COUNT; i++) EXPECT(hed_parser_init_sharing(&parsers[i], &parsers[i / 2]));
   EXPECT(in_use <= alone + COUNT * 256);
   printf("memory: %zu bytes for a parser, %zu for another that shares its table\n", alone, (in_use - alone) / (COUNT - 1));
-  for (size_t i = 0; i < COUNT - 1; i++) tw_parser_free(&parsers[i]);
+  for (size_t i = 0; i < COUNT - 1; i++) hed_parser_free(&parsers[i]);
   EXPECT(in_use <= alone && in_use > alone / 2);
-  tw_parser_free(&parsers[COUNT - 1]);
+  hed_parser_free(&parsers[COUNT - 1]);
   EXPECT(in_use == 0);
 }
 
 enum { MEGABYTE = 1 << 20 };
 
 /* Feeds a paste of so many bytes and takes it: the buffer keeps the memory for its body, and the parser its text. */
-static void feed_long_paste(tw_parser *parser, uint8_t byte) {
+static void feed_long_paste(hed_parser *parser, uint8_t byte) {
   static uint8_t body[MEGABYTE];
-  tw_event event;
+  hed_event event;
   memset(body, byte, sizeof body);
-  EXPECT(tw_parser_feed(parser, (const uint8_t *)"\033[200~", 6) && tw_parser_feed(parser, body, sizeof body));
-  EXPECT(tw_parser_feed(parser, (const uint8_t *)"\033[201~", 6) && tw_parser_next(parser, true, &event) == TW_EVENT);
-  EXPECT(event.kind == TW_PASTE && event.paste_len >= MEGABYTE && tw_parser_waiting(parser) == 0);
+  EXPECT(hed_parser_feed(parser, (const uint8_t *)"\033[200~", 6) && hed_parser_feed(parser, body, sizeof body));
+  EXPECT(hed_parser_feed(parser, (const uint8_t *)"\033[201~", 6) && hed_parser_next(parser, true, &event) == HED_NEXT_EVENT);
+  EXPECT(event.kind == HED_KIND_PASTE && event.paste_len >= MEGABYTE && hed_parser_waiting_len(parser) == 0);
 }
 
 /* A session that pasted a long text has little more memory than one that didn't, once it dropped the text and was shrunk. */
 static void shrinks(void) {
-  tw_parser parser = TW_PARSER_NONE;
-  EXPECT(tw_parser_init(&parser));
+  hed_parser parser = HED_PARSER_NONE;
+  EXPECT(hed_parser_init(&parser));
   size_t empty = in_use;
   feed_long_paste(&parser, 'x');
   EXPECT(in_use >= empty + 2 * MEGABYTE);
-  tw_parser_drop_paste(&parser);
+  hed_parser_drop_paste(&parser);
   EXPECT(in_use >= empty + MEGABYTE);
-  tw_parser_shrink_to(&parser, 0);
+  hed_parser_shrink_to(&parser, 0);
   EXPECT(in_use < empty + 4096);
   /* The text is kept if it isn't dropped, and then has no more memory than it needs. */
   feed_long_paste(&parser, 0xff);
-  tw_parser_shrink_to(&parser, 0);
-  EXPECT(tw_parser_paste(&parser, NULL, 0) == 3 * MEGABYTE && in_use < empty + 3 * MEGABYTE + 4096);
-  tw_parser_free(&parser);
+  hed_parser_shrink_to(&parser, 0);
+  EXPECT(hed_parser_paste(&parser, NULL, 0) == 3 * MEGABYTE && in_use < empty + 3 * MEGABYTE + 4096);
+  hed_parser_free(&parser);
   EXPECT(in_use == 0);
 }
 
@@ -325,23 +325,23 @@ static void shrinks(void) {
 static void shrinks_to_a_room(void) {
   enum { ROOM = 10000 };
   static const uint8_t body[ROOM];
-  tw_parser parser = TW_PARSER_NONE;
-  EXPECT(tw_parser_init(&parser));
+  hed_parser parser = HED_PARSER_NONE;
+  EXPECT(hed_parser_init(&parser));
   size_t empty = in_use;
   feed_long_paste(&parser, 'x');
-  tw_parser_drop_paste(&parser);
-  tw_parser_shrink_to(&parser, ROOM);
+  hed_parser_drop_paste(&parser);
+  hed_parser_shrink_to(&parser, ROOM);
   size_t small = in_use;
   EXPECT(small >= empty + ROOM && small < empty + ROOM + 4096);
   refuse(1);
-  EXPECT(tw_parser_feed(&parser, body, sizeof body) && !refused);
-  EXPECT(tw_parser_reset(&parser) == ROOM && tw_parser_feed(&parser, (const uint8_t *)"\033[1;", 4) && !refused);
-  tw_parser_shrink_to(&parser, 0);
-  EXPECT(refused == 1 && in_use == small && tw_parser_waiting(&parser) == 4);
+  EXPECT(hed_parser_feed(&parser, body, sizeof body) && !refused);
+  EXPECT(hed_parser_reset(&parser) == ROOM && hed_parser_feed(&parser, (const uint8_t *)"\033[1;", 4) && !refused);
+  hed_parser_shrink_to(&parser, 0);
+  EXPECT(refused == 1 && in_use == small && hed_parser_waiting_len(&parser) == 4);
   refuse(0);
-  tw_parser_shrink_to(&parser, 0);
-  EXPECT(in_use < empty + 4096 && tw_parser_waiting(&parser) == 4);
-  tw_parser_free(&parser);
+  hed_parser_shrink_to(&parser, 0);
+  EXPECT(in_use < empty + 4096 && hed_parser_waiting_len(&parser) == 4);
+  hed_parser_free(&parser);
   EXPECT(in_use == 0);
 }
 
@@ -355,16 +355,16 @@ static const char *const bound[] = {
 enum { BOUND = sizeof bound / sizeof bound[0] };
 
 /* The map has the first of the keys, and no other. It is asked without memory. */
-static void expect_bound(tw_keymap *map, size_t count) {
+static void expect_bound(hed_keymap *map, size_t count) {
   long saved = to_refusal;
   unsigned before = refused;
   to_refusal = 1;
-  EXPECT(tw_keymap_len(map) == count);
+  EXPECT(hed_keymap_len(map) == count);
   for (size_t at = 0; at < BOUND; at++) {
     size_t len = strlen(bound[at]);
-    tw_match match = {77, 777};
-    uint32_t answer = tw_keymap_lookup(map, (const uint8_t *)bound[at], len, false, &match);
-    bool is_there = answer == TW_FOUND_EXACT && match.len == len;
+    hed_match match = {77, 777};
+    uint32_t answer = hed_keymap_lookup(map, (const uint8_t *)bound[at], len, false, &match);
+    bool is_there = answer == HED_FOUND_EXACT && match.len == len;
     EXPECT(is_there == (at < count) && (!is_there || match.value == at));
   }
   EXPECT(refused == before);
@@ -373,39 +373,39 @@ static void expect_bound(tw_keymap *map, size_t count) {
 
 /* Makes a map of all the keys, again if a call is refused, with one request refused. Returns whether one was. */
 static bool refuse_while_binding(long number) {
-  tw_keymap map = TW_KEYMAP_NONE;
+  hed_keymap map = HED_KEYMAP_NONE;
   told = 0;
   refuse(number);
-  while (!tw_keymap_init(&map)) {
+  while (!hed_keymap_init(&map)) {
     told++;
     EXPECT(!map.live);
   }
   for (size_t at = 0; at < BOUND; at++)
-    while (!tw_keymap_insert(&map, (const uint8_t *)bound[at], strlen(bound[at]), at)) {
+    while (!hed_keymap_insert(&map, (const uint8_t *)bound[at], strlen(bound[at]), at)) {
       told++;
       expect_bound(&map, at);
     }
   to_refusal = 0;
   EXPECT(told == refused);
   expect_bound(&map, BOUND);
-  tw_keymap_free(&map);
+  hed_keymap_free(&map);
   return refused > 0;
 }
 
 /* Another value for a key, and another init, with each request refused in turn: until one succeeds, the map is unchanged. */
 static void refuse_while_binding_again(void) {
-  tw_keymap map = TW_KEYMAP_NONE;
+  hed_keymap map = HED_KEYMAP_NONE;
   long number;
-  EXPECT(tw_keymap_init(&map));
-  for (size_t at = 0; at < BOUND; at++) EXPECT(tw_keymap_insert(&map, (const uint8_t *)bound[at], strlen(bound[at]), at));
-  for (number = 1; refuse(number), !tw_keymap_insert(&map, (const uint8_t *)LONG_KEY, 100, 99); number++) expect_bound(&map, BOUND);
+  EXPECT(hed_keymap_init(&map));
+  for (size_t at = 0; at < BOUND; at++) EXPECT(hed_keymap_insert(&map, (const uint8_t *)bound[at], strlen(bound[at]), at));
+  for (number = 1; refuse(number), !hed_keymap_insert(&map, (const uint8_t *)LONG_KEY, 100, 99); number++) expect_bound(&map, BOUND);
   EXPECT(number > 1 && !refused);
   refuse(0);
-  EXPECT(tw_keymap_insert(&map, (const uint8_t *)LONG_KEY, 100, 0));
-  for (number = 1; refuse(number), !tw_keymap_init(&map); number++) expect_bound(&map, BOUND);
-  EXPECT(number > 1 && !refused && tw_keymap_len(&map) == 0);
+  EXPECT(hed_keymap_insert(&map, (const uint8_t *)LONG_KEY, 100, 0));
+  for (number = 1; refuse(number), !hed_keymap_init(&map); number++) expect_bound(&map, BOUND);
+  EXPECT(number > 1 && !refused && hed_keymap_len(&map) == 0);
   refuse(0);
-  tw_keymap_free(&map);
+  hed_keymap_free(&map);
 }
 
 /* A map of keys, with each request refused in turn. */

@@ -1,15 +1,15 @@
 /* A test of parsers that share one sequence table: of either kind, made in each direction, freed in each order, and used by four threads at
  * once. */
 #include "expect.h"
-#include "termwiz_input.h"
+#include "hedrugal.h"
 #include <pthread.h>
 #include <string.h>
 
 /* A parser of either kind. */
 typedef struct session {
   bool is_extended;
-  tw_parser parser;
-  tw_extended extended;
+  hed_parser parser;
+  hed_extended extended;
 } session;
 
 static session session_of(bool is_extended) {
@@ -19,46 +19,46 @@ static session session_of(bool is_extended) {
   return none;
 }
 
-static bool init(session *it) { return it->is_extended ? tw_extended_init(&it->extended, TW_ROWS_PORT) : tw_parser_init(&it->parser); }
+static bool init(session *it) { return it->is_extended ? hed_extended_init(&it->extended, HED_PROTOCOL_LEGACY) : hed_parser_init(&it->parser); }
 
 static bool init_sharing(session *it, const session *other) {
-  if (it->is_extended && other->is_extended) return tw_extended_init_sharing(&it->extended, TW_ROWS_PORT, &other->extended);
-  if (it->is_extended) return tw_extended_init_sharing_parser(&it->extended, TW_ROWS_PORT, &other->parser);
-  if (other->is_extended) return tw_parser_init_sharing_extended(&it->parser, &other->extended);
-  return tw_parser_init_sharing(&it->parser, &other->parser);
+  if (it->is_extended && other->is_extended) return hed_extended_init_sharing(&it->extended, HED_PROTOCOL_LEGACY, &other->extended);
+  if (it->is_extended) return hed_extended_init_sharing_parser(&it->extended, HED_PROTOCOL_LEGACY, &other->parser);
+  if (other->is_extended) return hed_parser_init_sharing_extended(&it->parser, &other->extended);
+  return hed_parser_init_sharing(&it->parser, &other->parser);
 }
 
 static bool is_live(const session *it) { return it->is_extended ? it->extended.live : it->parser.live; }
 
-static size_t waiting(const session *it) { return it->is_extended ? tw_extended_waiting(&it->extended) : tw_parser_waiting(&it->parser); }
+static size_t waiting(const session *it) { return it->is_extended ? hed_extended_waiting_len(&it->extended) : hed_parser_waiting_len(&it->parser); }
 
 static void end(session *it) {
-  tw_parser_free(&it->parser);
-  tw_extended_free(&it->extended);
+  hed_parser_free(&it->parser);
+  hed_extended_free(&it->extended);
 }
 
 static bool feed(session *it, const char *text, size_t len) {
   const uint8_t *bytes = (const uint8_t *)text;
-  return it->is_extended ? tw_extended_feed(&it->extended, bytes, len) : tw_parser_feed(&it->parser, bytes, len);
+  return it->is_extended ? hed_extended_feed(&it->extended, bytes, len) : hed_parser_feed(&it->parser, bytes, len);
 }
 
 #define FEED(it, text) feed(it, text, sizeof text - 1)
 
 /* Whether the next event is this key. */
 static bool next_is(session *it, uint16_t key, uint32_t detail, uint16_t modifiers) {
-  tw_extended_event event;
+  hed_extended_event event;
   memset(&event, 0, sizeof event);
-  if (it->is_extended && tw_extended_next(&it->extended, true, &event) != TW_EVENT) return false;
-  if (!it->is_extended && tw_parser_next(&it->parser, true, &event.input) != TW_EVENT) return false;
-  return event.input.kind == TW_KEY && event.input.key == key && event.input.detail == detail && event.input.modifiers == modifiers;
+  if (it->is_extended && hed_extended_next(&it->extended, true, &event) != HED_NEXT_EVENT) return false;
+  if (!it->is_extended && hed_parser_next(&it->parser, true, &event.input) != HED_NEXT_EVENT) return false;
+  return event.input.kind == HED_KIND_KEY && event.input.key == key && event.input.detail == detail && event.input.modifiers == modifiers;
 }
 
 /* Whether the parser reads keys of the table, short and long, and a character. */
 static bool reads(session *it) {
-  return FEED(it, "\033[A\033[1;5D\033[27;5;13~q\033[97;5u\033") && next_is(it, TW_KEY_UP_ARROW, 0, TW_MOD_NONE)
-         && next_is(it, TW_KEY_LEFT_ARROW, 0, TW_MOD_CTRL) && next_is(it, TW_KEY_ENTER, 0, TW_MOD_CTRL)
-         && next_is(it, TW_KEY_CHAR, 'q', TW_MOD_NONE) && next_is(it, TW_KEY_CHAR, 'a', TW_MOD_CTRL) && waiting(it) == 1 && FEED(it, "[B")
-         && next_is(it, TW_KEY_DOWN_ARROW, 0, TW_MOD_NONE) && waiting(it) == 0;
+  return FEED(it, "\033[A\033[1;5D\033[27;5;13~q\033[97;5u\033") && next_is(it, HED_KEY_UP_ARROW, 0, HED_TERMWIZ_MOD_NONE)
+         && next_is(it, HED_KEY_LEFT_ARROW, 0, HED_TERMWIZ_MOD_CTRL) && next_is(it, HED_KEY_ENTER, 0, HED_TERMWIZ_MOD_CTRL)
+         && next_is(it, HED_KEY_CHAR, 'q', HED_TERMWIZ_MOD_NONE) && next_is(it, HED_KEY_CHAR, 'a', HED_TERMWIZ_MOD_CTRL) && waiting(it) == 1 && FEED(it, "[B")
+         && next_is(it, HED_KEY_DOWN_ARROW, 0, HED_TERMWIZ_MOD_NONE) && waiting(it) == 0;
 }
 
 /* Three parsers of these kinds, of which the second is made from the first and the third from the second. After each that is freed, the
@@ -88,10 +88,10 @@ static void shares_the_table_alone(bool is_extended) {
   EXPECT(init(&second) && FEED(&second, "\033[1;5"));
   for (int again = 0; again < 2; again++) {
     EXPECT(init_sharing(&second, &first) && waiting(&second) == 0 && waiting(&first) == 2);
-    EXPECT(FEED(&second, "\033[") && FEED(&second, "C") && next_is(&second, TW_KEY_RIGHT_ARROW, 0, TW_MOD_NONE));
+    EXPECT(FEED(&second, "\033[") && FEED(&second, "C") && next_is(&second, HED_KEY_RIGHT_ARROW, 0, HED_TERMWIZ_MOD_NONE));
     EXPECT(waiting(&second) == 0 && waiting(&first) == 2);
   }
-  EXPECT(FEED(&first, "D") && next_is(&first, TW_KEY_LEFT_ARROW, 0, TW_MOD_NONE));
+  EXPECT(FEED(&first, "D") && next_is(&first, HED_KEY_LEFT_ARROW, 0, HED_TERMWIZ_MOD_NONE));
   end(&first);
   EXPECT(reads(&second));
   end(&second);
@@ -108,25 +108,25 @@ static void refuses(bool is_extended) {
   EXPECT(!init_sharing(&of_other, &none) && waiting(&of_other) == 1);
   for (size_t i = 0; i < sizeof no_rows / sizeof no_rows[0]; i++) {
     const session *extended = is_extended ? &first : &of_other, *input = is_extended ? &of_other : &first;
-    EXPECT(!tw_extended_init_sharing(&second.extended, no_rows[i], &extended->extended) && !is_live(&second));
-    EXPECT(!tw_extended_init_sharing_parser(&second.extended, no_rows[i], &input->parser) && !is_live(&second));
+    EXPECT(!hed_extended_init_sharing(&second.extended, no_rows[i], &extended->extended) && !is_live(&second));
+    EXPECT(!hed_extended_init_sharing_parser(&second.extended, no_rows[i], &input->parser) && !is_live(&second));
   }
   EXPECT(waiting(&first) == 2 && waiting(&of_other) == 1);
   end(&of_other);
-  EXPECT(FEED(&first, "A") && next_is(&first, TW_KEY_UP_ARROW, 0, TW_MOD_NONE));
+  EXPECT(FEED(&first, "A") && next_is(&first, HED_KEY_UP_ARROW, 0, HED_TERMWIZ_MOD_NONE));
   end(&first);
 }
 
 /* Two parsers of one table read its rows each in its own way. */
 static void reads_rows_in_each_way(void) {
-  tw_extended port = TW_EXTENDED_NONE, kitty = TW_EXTENDED_NONE;
-  tw_extended_event event;
-  EXPECT(tw_extended_init(&port, TW_ROWS_PORT) && tw_extended_init_sharing(&kitty, TW_ROWS_KITTY, &port));
-  EXPECT(tw_extended_feed(&port, (const uint8_t *)"\033[97;5u", 7) && tw_extended_feed(&kitty, (const uint8_t *)"\033[97;5u", 7));
-  EXPECT(tw_extended_next(&port, true, &event) == TW_EVENT && event.kind == TW_EVENT_KEY);
-  EXPECT(tw_extended_next(&kitty, true, &event) == TW_EVENT && event.kind == TW_EVENT_REPORT && event.report.modifiers == TW_HELD_CTRL);
-  tw_extended_free(&port);
-  tw_extended_free(&kitty);
+  hed_extended port = HED_EXTENDED_NONE, kitty = HED_EXTENDED_NONE;
+  hed_extended_event event;
+  EXPECT(hed_extended_init(&port, HED_PROTOCOL_LEGACY) && hed_extended_init_sharing(&kitty, HED_PROTOCOL_KITTY, &port));
+  EXPECT(hed_extended_feed(&port, (const uint8_t *)"\033[97;5u", 7) && hed_extended_feed(&kitty, (const uint8_t *)"\033[97;5u", 7));
+  EXPECT(hed_extended_next(&port, true, &event) == HED_NEXT_EVENT && event.kind == HED_KIND_KEY);
+  EXPECT(hed_extended_next(&kitty, true, &event) == HED_NEXT_EVENT && event.kind == HED_KIND_REPORT && event.report.modifiers == HED_KITTY_MOD_CTRL);
+  hed_extended_free(&port);
+  hed_extended_free(&kitty);
 }
 
 enum { THREADS = 4, ROUNDS = 20 };

@@ -56,7 +56,7 @@ static void put_text(const uint8_t *characters, size_t length) {
 /* The bytes that the event brought: a text, or those of a sequence in hexadecimal. */
 static bool put_brought(const group *its, const reader *reader) {
   size_t length = its->event.text_len;
-  bool is_text = its->event.kind == TW_EVENT_PASTE || its->event.kind == TW_EVENT_REPORT;
+  bool is_text = its->event.kind == HED_KIND_PASTE || its->event.kind == HED_KIND_REPORT;
   uint8_t *brought = malloc(length + 1);
   if (!brought) return false;
   reader_text(reader, brought, length);
@@ -76,44 +76,44 @@ static void put_key(uint16_t key, uint32_t detail, const flag *flags, unsigned m
 }
 
 static void put_code(const char *name, uint32_t code) {
-  if (code != TW_NO_CODE) printf(",\"%s\":%u", name, (unsigned)code);
+  if (code != HED_NO_CODE) printf(",\"%s\":%u", name, (unsigned)code);
 }
 
-static void put_report(const tw_key_report *report) {
+static void put_report(const hed_key_report *report) {
   put_key(report->key, report->detail, held_flags, report->modifiers);
   printf(",\"action\":\"%s\"", action_name(report->action));
   put_code("shifted", report->shifted);
   put_code("base", report->base);
 }
 
-static void put_mouse(const tw_event *event) {
+static void put_mouse(const hed_event *event) {
   printf(",\"x\":%u,\"y\":%u", event->x, event->y);
   put_flags("buttons", button_flags, event->buttons);
   put_flags("modifiers", modifier_flags, event->modifiers);
 }
 
-static void put_size(const tw_extended_event *event) {
+static void put_size(const hed_extended_event *event) {
   printf(",\"rows\":%u,\"columns\":%u,\"height\":%u,\"width\":%u", event->rows, event->columns, event->height, event->width);
 }
 
 /* The fields of an event, but for the bytes that it brought. */
-static void put_fields(const tw_extended_event *event) {
+static void put_fields(const hed_extended_event *event) {
   switch (event->kind) {
-    case TW_EVENT_KEY: put_key(event->input.key, event->input.detail, modifier_flags, event->input.modifiers); break;
-    case TW_EVENT_MOUSE: put_mouse(&event->input); break;
-    case TW_EVENT_REPORT: put_report(&event->report); break;
-    case TW_EVENT_FOCUS_GAINED: printf(",\"gained\":true"); break;
-    case TW_EVENT_FOCUS_LOST: printf(",\"gained\":false"); break;
-    case TW_EVENT_CURSOR_POSITION: printf(",\"row\":%u,\"column\":%u", event->row, event->column); break;
-    case TW_EVENT_RESIZE: put_size(event); break;
-    case TW_EVENT_KEYBOARD_FLAGS: printf(",\"flags\":%u", event->flags); break;
+    case HED_KIND_KEY: put_key(event->input.key, event->input.detail, modifier_flags, event->input.modifiers); break;
+    case HED_KIND_MOUSE: put_mouse(&event->input); break;
+    case HED_KIND_REPORT: put_report(&event->report); break;
+    case HED_KIND_FOCUS_GAINED: printf(",\"gained\":true"); break;
+    case HED_KIND_FOCUS_LOST: printf(",\"gained\":false"); break;
+    case HED_KIND_CURSOR_POSITION: printf(",\"row\":%u,\"column\":%u", event->row, event->column); break;
+    case HED_KIND_RESIZE: put_size(event); break;
+    case HED_KIND_KEYBOARD_FLAGS: printf(",\"flags\":%u", event->flags); break;
     default: break;
   }
 }
 
 /* Whether an event of this kind brings bytes, if only none. */
 static bool brings_bytes(uint8_t kind) {
-  return kind == TW_EVENT_PASTE || kind == TW_EVENT_REPORT || kind >= TW_EVENT_CSI;
+  return kind == HED_KIND_PASTE || kind == HED_KIND_REPORT || kind >= HED_KIND_CSI;
 }
 
 bool json_event(const line *of, const group *its, const reader *reader) {

@@ -37,7 +37,7 @@ bool line_begin(line *it, const uint8_t *bytes, size_t length) {
   return true;
 }
 
-group *line_settle(line *it, const tw_extended_event *event, size_t waiting) {
+group *line_settle(line *it, const hed_extended_event *event, size_t waiting) {
   if (!reserve_groups(it, it->group_count + 1)) return NULL;
   group *added = &it->groups[it->group_count++];
   memset(added, 0, sizeof *added);

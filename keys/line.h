@@ -2,13 +2,13 @@
 #ifndef KEYS_LINE_H
 #define KEYS_LINE_H
 
-#include "termwiz_input.h"
+#include "hedrugal.h"
 
 enum { TEXT_SHOWN = 16 };
 
 typedef struct group {
   size_t start, length; /* its bytes, among the line's */
-  tw_extended_event event;
+  hed_extended_event event;
   uint8_t text[TEXT_SHOWN]; /* how the bytes begin that the event brought */
 } group;
 
@@ -27,7 +27,7 @@ typedef struct line {
 bool line_begin(line *it, const uint8_t *bytes, size_t length);
 
 /* Adds the group of an event, which consumed all bytes but those that still wait. Returns NULL if memory is refused. */
-group *line_settle(line *it, const tw_extended_event *event, size_t waiting);
+group *line_settle(line *it, const hed_extended_event *event, size_t waiting);
 
 /* The number of bytes that wait. */
 size_t line_waiting(const line *it);

@@ -49,27 +49,27 @@ static bool flush_output(keys *it) {
 }
 
 /* A key of any kind. The report of a key of the sequence table says that it was pressed. */
-static bool is_key(const tw_extended_event *event) {
-  return event->kind == TW_EVENT_KEY || event->kind == TW_EVENT_REPORT;
+static bool is_key(const hed_extended_event *event) {
+  return event->kind == HED_KIND_KEY || event->kind == HED_KIND_REPORT;
 }
 
 /* Whether a key is a modifier key or was not pressed, so that it may come between two presses of ^D. */
-static bool is_no_press(const tw_key_report *report) {
-  bool is_modifier = report->key >= TW_KEY_SHIFT && report->key <= TW_KEY_RIGHT_ALT && report->key != TW_KEY_ESCAPE;
-  return is_modifier || report->action != TW_ACTION_PRESS;
+static bool is_no_press(const hed_key_report *report) {
+  bool is_modifier = report->key >= HED_KEY_SHIFT && report->key <= HED_KEY_RIGHT_ALT && report->key != HED_KEY_ESCAPE;
+  return is_modifier || report->action != HED_KEY_EVENT_KIND_PRESS;
 }
 
-static void note_end(keys *it, const tw_extended_event *event) {
-  const tw_key_report *report = &event->report;
-  unsigned held = report->modifiers & ~(unsigned)(TW_HELD_CAPS_LOCK | TW_HELD_NUM_LOCK);
+static void note_end(keys *it, const hed_extended_event *event) {
+  const hed_key_report *report = &event->report;
+  unsigned held = report->modifiers & ~(unsigned)(HED_KITTY_MOD_CAPS_LOCK | HED_KITTY_MOD_NUM_LOCK);
   if (is_key(event) && is_no_press(report)) return;
-  bool is_end = is_key(event) && report->key == TW_KEY_CHAR && report->detail == 'd' && held == TW_HELD_CTRL;
+  bool is_end = is_key(event) && report->key == HED_KEY_CHAR && report->detail == 'd' && held == HED_KITTY_MOD_CTRL;
   if (is_end && it->was_end && it->is_live) it->is_over = true;
   it->was_end = is_end;
 }
 
 /* Adds the event's group to the line. */
-static bool handle_event(keys *it, const tw_extended_event *event) {
+static bool handle_event(keys *it, const hed_extended_event *event) {
   group *added = line_settle(&it->line, event, reader_waiting(&it->reader));
   if (!added) return fail(it, no_memory, 0);
   if (event->text_len > 0) reader_text(&it->reader, added->text, sizeof added->text);
@@ -80,11 +80,11 @@ static bool handle_event(keys *it, const tw_extended_event *event) {
 }
 
 static bool handle_events(keys *it, bool more) {
-  tw_extended_event event;
+  hed_extended_event event;
   uint32_t next;
-  while ((next = reader_next(&it->reader, more, &event)) == TW_EVENT)
+  while ((next = reader_next(&it->reader, more, &event)) == HED_NEXT_EVENT)
     if (!handle_event(it, &event)) return false;
-  return next == TW_NONE || fail(it, no_memory, 0);
+  return next == HED_NEXT_NONE || fail(it, no_memory, 0);
 }
 
 static void draw(keys *it, const text *reason) {
@@ -125,8 +125,8 @@ static bool handle_input(keys *it) {
 }
 
 static bool handle_pause(keys *it) {
-  tw_extended_event event;
-  bool goes_on = reader_flush_escape(&it->reader, &event) == TW_EVENT ? handle_event(it, &event) : handle_events(it, false);
+  hed_extended_event event;
+  bool goes_on = reader_flush_escape(&it->reader, &event) == HED_NEXT_EVENT ? handle_event(it, &event) : handle_events(it, false);
   show(it);
   return goes_on;
 }
@@ -239,7 +239,7 @@ static void show_input(keys *it) {
 }
 
 static void print_words(keys *it) {
-  fputs(it->options.wants_help ? options_help : "hedrugal-keys " TW_VERSION "\n", stdout);
+  fputs(it->options.wants_help ? options_help : "hedrugal-keys " HED_VERSION "\n", stdout);
   flush_output(it);
 }
 

@@ -2,7 +2,7 @@
 #ifndef KEYS_NAMES_H
 #define KEYS_NAMES_H
 
-#include "termwiz_input.h"
+#include "hedrugal.h"
 #include "text.h"
 
 /* A modifier or a button: its bit, its name, and what comes before a key in a list of keys, as Ctrl- does. */

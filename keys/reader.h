@@ -2,7 +2,7 @@
 #ifndef KEYS_READER_H
 #define KEYS_READER_H
 
-#include "termwiz_input.h"
+#include "hedrugal.h"
 
 typedef enum reading {
   READ_USUALLY,
@@ -12,8 +12,8 @@ typedef enum reading {
 
 typedef struct reader {
   bool is_extended;
-  tw_extended extended;
-  tw_parser usual; /* reads the input, or tells the extended one the rows of the sequence table */
+  hed_extended extended;
+  hed_parser usual; /* reads the input, or tells the extended one the rows of the sequence table */
 } reader;
 
 /* Returns false if memory is refused. Either way the caller owes a reader_free. */
@@ -21,12 +21,12 @@ bool reader_init(reader *it, reading how);
 
 bool reader_feed(reader *it, const uint8_t *bytes, size_t length);
 
-/* As tw_extended_next. The usual parser's events are written as those of the extended one. */
-uint32_t reader_next(reader *it, bool more, tw_extended_event *event);
+/* As hed_extended_next. The usual parser's events are written as those of the extended one. */
+uint32_t reader_next(reader *it, bool more, hed_extended_event *event);
 
-uint32_t reader_flush_escape(reader *it, tw_extended_event *event);
+uint32_t reader_flush_escape(reader *it, hed_extended_event *event);
 
-/* Copies the bytes that the last event brought, as tw_extended_text, and frees them. */
+/* Copies the bytes that the last event brought, as hed_extended_text, and frees them. */
 size_t reader_text(const reader *it, uint8_t *out, size_t length);
 void reader_drop_text(reader *it);
 
@@ -34,7 +34,7 @@ size_t reader_waiting(const reader *it);
 uint32_t reader_waiting_kind(const reader *it);
 
 /* Finds the rows of the sequence table that would complete the bytes that wait, and returns the parser to ask for them. */
-const tw_parser *reader_completions(reader *it, const uint8_t *waiting, size_t length, tw_rows *rows);
+const hed_parser *reader_completions(reader *it, const uint8_t *waiting, size_t length, hed_entries *rows);
 
 void reader_reset(reader *it);
 void reader_free(reader *it);

@@ -161,11 +161,11 @@ static void add_text(text *out, const char *name, const group *of) {
 }
 
 static void add_code(text *out, const char *name, uint32_t code) {
-  if (code != TW_NO_CODE) text_add(out, " %s U+%04X", name, (unsigned)code);
+  if (code != HED_NO_CODE) text_add(out, " %s U+%04X", name, (unsigned)code);
 }
 
 static void add_report(text *out, const group *of) {
-  const tw_key_report *report = &of->event.report;
+  const hed_key_report *report = &of->event.report;
   text_add(out, "report ");
   add_key(out, report->key, report->detail);
   text_add(out, " ");
@@ -176,8 +176,8 @@ static void add_report(text *out, const group *of) {
   if (of->event.text_len > 0) add_text(out, " text", of);
 }
 
-static void add_input(text *out, const tw_event *event) {
-  if (event->kind == TW_MOUSE) {
+static void add_input(text *out, const hed_event *event) {
+  if (event->kind == HED_KIND_MOUSE) {
     text_add(out, "mouse %u %u ", event->x, event->y);
     add_flags(out, button_flags, event->buttons);
   } else {
@@ -189,15 +189,15 @@ static void add_input(text *out, const tw_event *event) {
 }
 
 static void add_event(text *out, const group *of) {
-  const tw_extended_event *event = &of->event;
+  const hed_extended_event *event = &of->event;
   switch (event->kind) {
-    case TW_EVENT_REPORT: add_report(out, of); break;
-    case TW_EVENT_FOCUS_GAINED: text_add(out, "focus gained"); break;
-    case TW_EVENT_FOCUS_LOST: text_add(out, "focus lost"); break;
-    case TW_EVENT_CURSOR_POSITION: text_add(out, "cursor %u %u", event->row, event->column); break;
-    case TW_EVENT_RESIZE: text_add(out, "resize %u %u %u %u", event->rows, event->columns, event->height, event->width); break;
-    case TW_EVENT_KEYBOARD_FLAGS: text_add(out, "keyboard flags %u", event->flags); break;
-    case TW_EVENT_KEY: case TW_EVENT_MOUSE: add_input(out, &event->input); break;
+    case HED_KIND_REPORT: add_report(out, of); break;
+    case HED_KIND_FOCUS_GAINED: text_add(out, "focus gained"); break;
+    case HED_KIND_FOCUS_LOST: text_add(out, "focus lost"); break;
+    case HED_KIND_CURSOR_POSITION: text_add(out, "cursor %u %u", event->row, event->column); break;
+    case HED_KIND_RESIZE: text_add(out, "resize %u %u %u %u", event->rows, event->columns, event->height, event->width); break;
+    case HED_KIND_KEYBOARD_FLAGS: text_add(out, "keyboard flags %u", event->flags); break;
+    case HED_KIND_KEY: case HED_KIND_MOUSE: add_input(out, &event->input); break;
     default: add_text(out, kind_name(event->kind), of);
   }
 }

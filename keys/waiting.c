@@ -5,20 +5,20 @@ enum { NAMED = 3 };
 
 int waiting_ms(const reader *reader) {
   uint32_t kind = reader_waiting_kind(reader);
-  if (kind == TW_WAITING_ESCAPE) return ESCAPE_MS;
-  return kind == TW_WAITING_SEQUENCE ? SEQUENCE_MS : -1;
+  if (kind == HED_WAITING_ESCAPE) return ESCAPE_MS;
+  return kind == HED_WAITING_SEQUENCE ? SEQUENCE_MS : -1;
 }
 
 /* The length of the sequence that starts a paste, which the sequence table has. */
-static size_t paste_start_length(const tw_parser *parser) {
-  tw_event event;
-  for (size_t place = 0, length; (length = tw_row(parser, place, NULL, 0, &event)) > 0; place++)
-    if (event.key == TW_KEY_INTERNAL_PASTE_START) return length;
+static size_t paste_start_length(const hed_parser *parser) {
+  hed_event event;
+  for (size_t place = 0, length; (length = hed_parser_entry(parser, place, NULL, 0, &event)) > 0; place++)
+    if (event.key == HED_KEY_INTERNAL_PASTE_START) return length;
   return 0;
 }
 
 typedef struct row {
-  tw_event event;
+  hed_event event;
   size_t length;
 } row;
 
@@ -29,11 +29,11 @@ typedef struct named {
 } named;
 
 static bool is_character(const row *it) {
-  return it->event.key == TW_KEY_CHAR;
+  return it->event.key == HED_KEY_CHAR;
 }
 
 static bool has_modifiers(const row *it) {
-  return it->event.modifiers != TW_MOD_NONE;
+  return it->event.modifiers != HED_TERMWIZ_MOD_NONE;
 }
 
 /* Named are first the keys that people know by their names, then those without modifiers, then those with the fewest bytes. */
@@ -65,23 +65,23 @@ static void name_row(named *it, const row *added) {
   it->rows[place] = *added;
 }
 
-static void find_named(named *it, const tw_parser *parser, const tw_rows *rows) {
+static void find_named(named *it, const hed_parser *parser, const hed_entries *rows) {
   for (size_t place = rows->first; place < rows->first + rows->count; place++) {
     row found;
-    found.length = tw_row(parser, place, NULL, 0, &found.event);
+    found.length = hed_parser_entry(parser, place, NULL, 0, &found.event);
     if (found.length > 0) name_row(it, &found);
   }
 }
 
-static void add_listed_key(text *out, const tw_event *event, bool with_alt) {
-  bool is_printable = event->key == TW_KEY_CHAR && event->detail > ' ' && event->detail < 0x7f;
-  add_prefixes(out, event->modifiers | (with_alt ? TW_MOD_ALT : TW_MOD_NONE));
-  if (event->key == TW_KEY_INTERNAL_PASTE_START) text_add(out, "a paste");
+static void add_listed_key(text *out, const hed_event *event, bool with_alt) {
+  bool is_printable = event->key == HED_KEY_CHAR && event->detail > ' ' && event->detail < 0x7f;
+  add_prefixes(out, event->modifiers | (with_alt ? HED_TERMWIZ_MOD_ALT : HED_TERMWIZ_MOD_NONE));
+  if (event->key == HED_KEY_INTERNAL_PASTE_START) text_add(out, "a paste");
   else if (is_printable) text_add(out, "%c", (char)event->detail);
   else add_key(out, event->key, event->detail);
 }
 
-static void add_keys(text *out, const tw_parser *parser, const tw_rows *rows) {
+static void add_keys(text *out, const hed_parser *parser, const hed_entries *rows) {
   named found = { .count = 0 };
   find_named(&found, parser, rows);
   for (size_t i = 0; i < found.count; i++) {
@@ -103,8 +103,8 @@ static const char *begun_by(const reader *reader, const uint8_t *waiting, size_t
 }
 
 static void add_sequence(text *out, reader *reader, const uint8_t *waiting, size_t length) {
-  tw_rows rows;
-  const tw_parser *table = reader_completions(reader, waiting, length, &rows);
+  hed_entries rows;
+  const hed_parser *table = reader_completions(reader, waiting, length, &rows);
   if (rows.count == 0) {
     text_add(out, "the beginning of %s", begun_by(reader, waiting, length));
     return;
@@ -116,26 +116,26 @@ static void add_sequence(text *out, reader *reader, const uint8_t *waiting, size
 void add_waiting(text *out, reader *reader, const line *shown) {
   size_t length = reader_waiting(reader);
   switch (reader_waiting_kind(reader)) {
-    case TW_WAITING_ESCAPE:
+    case HED_WAITING_ESCAPE:
       text_add(out, length == 1 ? "may begin a key" : "may begin a key with Alt");
       break;
-    case TW_WAITING_SEQUENCE: add_sequence(out, reader, shown->bytes + shown->settled, length); break;
-    case TW_WAITING_CHARACTER: text_add(out, "half a character"); break;
-    case TW_WAITING_PASTE: text_add(out, "a paste of %zu bytes so far", length - paste_start_length(&reader->usual)); break;
+    case HED_WAITING_SEQUENCE: add_sequence(out, reader, shown->bytes + shown->settled, length); break;
+    case HED_WAITING_CHARACTER: text_add(out, "half a character"); break;
+    case HED_WAITING_PASTE: text_add(out, "a paste of %zu bytes so far", length - paste_start_length(&reader->usual)); break;
     default: break;
   }
 }
 
 void add_waiting_for(text *out, const reader *reader) {
   switch (reader_waiting_kind(reader)) {
-    case TW_WAITING_ESCAPE: {
+    case HED_WAITING_ESCAPE: {
       const char *modifiers = reader_waiting(reader) == 1 ? "NONE" : "ALT";
       text_add(out, "; if nothing follows in %d ms: key Escape %s", ESCAPE_MS, modifiers);
       break;
     }
-    case TW_WAITING_SEQUENCE: text_add(out, ": waits up to %d s", SEQUENCE_MS / 1000); break;
-    case TW_WAITING_CHARACTER: text_add(out, ": waits for the rest"); break;
-    case TW_WAITING_PASTE: text_add(out, ": waits for its end"); break;
+    case HED_WAITING_SEQUENCE: text_add(out, ": waits up to %d s", SEQUENCE_MS / 1000); break;
+    case HED_WAITING_CHARACTER: text_add(out, ": waits for the rest"); break;
+    case HED_WAITING_PASTE: text_add(out, ": waits for its end"); break;
     default: break;
   }
 }

@@ -185,7 +185,7 @@ def cases():
             for data, events in group:
                 yield rows, data, events
         for data, of_port, of_kitty in ROW_CASES:
-            yield rows, data, of_kitty if rows is Rows.KITTY else of_port
+            yield rows, data, of_kitty if rows is Protocol.KITTY else of_port
 
 
 class Numbers(plain.WithNumbers):
@@ -197,7 +197,7 @@ class Numbers(plain.WithNumbers):
 
     def test_other_numbers(self):
         self.assertEqual(self.check_other_numbers(extended, {"event": "_EVENT_"}), 13)
-        self.assertIn("#define TW_NO_CODE 0xffffffffu\n", plain.read("c/termwiz_input.h"))
+        self.assertIn("#define HED_NO_CODE 0xffffffffu\n", plain.read("c/hedrugal.h"))
         self.assertEqual(extended._NO_CODE, 0xFFFFFFFF)
 
     def test_layouts(self):
@@ -234,7 +234,7 @@ class PlainRefusals(Plain, plain.Refusals):
 
 
 class PlainMemory(Plain, plain.Memory):
-    init = "tw_extended_init_sharing_parser"
+    init = "hed_extended_init_sharing_parser"
 
 
 class PlainRefusedEvents(Plain, plain.RefusedEvents):
@@ -294,11 +294,11 @@ class Events(WithParsers):
     def test_rows(self):
         """PORT is the default, and a parser says how it reads the rows."""
         with ExtendedParser() as parser:
-            self.assertIs(parser.rows, Rows.PORT)
+            self.assertIs(parser.rows, Protocol.LEGACY)
         for rows, parser in self.parsers.items():
             self.assertIs(parser.rows, rows)
             with self.assertRaises(AttributeError):
-                parser.rows = Rows.PORT
+                parser.rows = Protocol.LEGACY
 
     def test_each_row_of_the_table(self):
         """With PORT each row keeps its key. With KITTY it may be a report, and of few rows the cursor's position."""
@@ -308,8 +308,8 @@ class Events(WithParsers):
         kinds = {KeyEvent: 0, KeyReport: 0, CursorPosition: 0}
         for row in rows:
             wanted = KeyEvent(row.key, row.modifiers)
-            self.assertEqual(self.parsers[Rows.PORT].parse(row.bytes, False), [wanted])
-            (event,) = self.parsers[Rows.KITTY].parse(row.bytes, False)
+            self.assertEqual(self.parsers[Protocol.LEGACY].parse(row.bytes, False), [wanted])
+            (event,) = self.parsers[Protocol.KITTY].parse(row.bytes, False)
             kinds[type(event)] += 1
             if isinstance(event, KeyEvent):
                 self.assertEqual(event, wanted)
@@ -327,11 +327,11 @@ class Events(WithParsers):
 
     def test_kept_reports(self):
         """Of the reports that were made, a bounded number is kept."""
-        self.assertEqual(len(self.parsers[Rows.PORT].parse(b"".join(b"\x1b[%d;5:3u" % code for code in range(0x4E00, 0x9000)))), 0x4200)
+        self.assertEqual(len(self.parsers[Protocol.LEGACY].parse(b"".join(b"\x1b[%d;5:3u" % code for code in range(0x4E00, 0x9000)))), 0x4200)
         self.assertLess(extended._key_report.cache_info().currsize, 5000)
 
     def test_reprs(self):
-        (event,) = self.parsers[Rows.PORT].parse(b"\x1b[97:65;6:2;65u")
+        (event,) = self.parsers[Protocol.LEGACY].parse(b"\x1b[97:65;6:2;65u")
         wanted = "KeyReport(key='a', modifiers=Held.SHIFT|CTRL, action=KeyAction.REPEAT, shifted='A', base=None, text='A')"
         self.assertEqual(repr(event), wanted)
         flags = KeyboardFlags(KittyKeyboardFlags.DISAMBIGUATE_ESCAPE_CODES)
@@ -346,11 +346,11 @@ class Events(WithParsers):
             with self.assertRaisesRegex(TypeError, "^Rows are required, not"):
                 ExtendedParser(wrong)
         raw = extended._RawExtended()
-        self.assertFalse(hedrugal._library.tw_extended_init(raw, 2))
+        self.assertFalse(hedrugal._library.hed_extended_init(raw, 2))
         self.assertFalse(raw.live)
 
     def test_unknown_numbers(self):
-        parser = self.parsers[Rows.PORT]
+        parser = self.parsers[Protocol.LEGACY]
         report = extended._RawReport(action=4, key=1, detail=97)
         for fields in ({"kind": 0}, {"kind": 14}, {"kind": 4, "report": report}, {"kind": 10, "text_len": 5}):
             parser._front = extended._RawExtendedEvent(**fields)
@@ -472,7 +472,7 @@ class KeyReports(WithParsers):
         with InputParser() as parser:
             rows = [row.bytes for row in parser.rows() if row.key is not KeyCode.InternalPasteStart]
         for data in rows:
-            self.check(self.parsers[Rows.PORT], data)
+            self.check(self.parsers[Protocol.LEGACY], data)
 
     def test_characters(self):
         for parser in self.parsers.values():
@@ -483,7 +483,7 @@ class KeyReports(WithParsers):
             self.assertEqual(self.check(parser, b"\x1b"), KeyReport(KeyCode.Escape))
 
     def test_reports_are_returned_as_they_are(self):
-        (event,) = self.parsers[Rows.PORT].parse(b"\x1b[97:65:99;2:3;65u")
+        (event,) = self.parsers[Protocol.LEGACY].parse(b"\x1b[97:65:99;2:3;65u")
         self.assertIs(key_report(event), event)
 
     def test_all_modifiers(self):
@@ -548,12 +548,12 @@ class EncodedReports(WithParsers):
         keys = ["a", "\U0010ffff", KeyCode.Escape, KeyCode.Tab, UP, KeyCode.Delete, Function(1), Function(35), KeyCode.RightAlt, 57344, 63743]
         reports = [KeyReport(key, Held(bits), action) for key in keys for bits in range(256) for action in KeyAction]
         for report in [self.SHIFT_A, KeyReport("é", CTRL, REPEAT, base="2"), *reports]:
-            self.assertEqual(self.parsers[Rows.KITTY].parse(report.encode(self.ALL)), [report])
+            self.assertEqual(self.parsers[Protocol.KITTY].parse(report.encode(self.ALL)), [report])
 
     def test_nothing_else_is_refused(self):
         """Each key of Kitty's table is sent, whatever is held. Under flags that ask for no sequences some keys have no bytes, but the
         refusal is of the key and not of memory. A text of any length is sent as it is, and in a sequence of any length up to 256."""
-        numbers = [self.parsers[Rows.KITTY].parse(b"\x1b[%du" % number)[0].key for number in (27, 9, 13, 127, *range(57344, 57455))]
+        numbers = [self.parsers[Protocol.KITTY].parse(b"\x1b[%du" % number)[0].key for number in (27, 9, 13, 127, *range(57344, 57455))]
         keys = ["a", "é", UP, KeyCode.Delete, Function(1), Function(35), 63743, *numbers]
         for key, bits, action in itertools.product(keys, (0, 1, 2, 4, 8, 16, 32, 64, 128, 255), KeyAction):
             for flags in map(KittyKeyboardFlags, range(32)):
@@ -564,7 +564,7 @@ class EncodedReports(WithParsers):
             self.assertEqual(KeyReport("x", text="x" * length).encode(KittyKeyboardFlags.NONE), b"x" * length)
         for threes, twos in itertools.product(range(61), range(4)):
             report = KeyReport("a", text="x" * threes + "A" * twos)
-            self.assertEqual(self.parsers[Rows.KITTY].parse(report.encode(self.ALL)), [report])
+            self.assertEqual(self.parsers[Protocol.KITTY].parse(report.encode(self.ALL)), [report])
 
     def test_keys_without_bytes(self):
         for key in (KeyCode.Copy, Function(0), Function(36), 0, 57343, 63744, 0xFFFFFFFF):
@@ -604,9 +604,9 @@ class EncodedReports(WithParsers):
             self.assertRaises(TypeError, report.encode, self.ALL)
 
     def test_refused_memory(self):
-        with mock.patch.object(hedrugal._library, "tw_encode_kitty", lambda *_: 2), self.assertRaises(MemoryError):
+        with mock.patch.object(hedrugal._library, "hed_encode_kitty", lambda *_: 2), self.assertRaises(MemoryError):
             KeyReport("a").encode(self.ALL)
-        with mock.patch.object(hedrugal._library, "tw_encode_kitty", lambda *_: 6), self.assertRaises(RuntimeError):
+        with mock.patch.object(hedrugal._library, "hed_encode_kitty", lambda *_: 6), self.assertRaises(RuntimeError):
             KeyReport("a").encode(self.ALL)
 
 

@@ -146,7 +146,7 @@ class Numbers(WithNumbers):
         for number in [0, *names, len(names) + 1, 65535]:
             room, name = ctypes.create_string_buffer(b"-" * 32, 32), names.get(number, "").encode()
             written = name + b"\0" if name else b""
-            self.assertEqual(hedrugal._library.tw_key_name(number, room, len(room)), len(name))
+            self.assertEqual(hedrugal._library.hed_key_name(number, room, len(room)), len(name))
             self.assertEqual(room.raw, written + b"-" * (len(room) - len(written)))
 
     def test_layouts(self):
@@ -164,14 +164,14 @@ class Numbers(WithNumbers):
 
     def test_calls(self):
         """All calls of the header are declared, with as many arguments."""
-        header = re.sub(r"/\*.*?\*/", "", read("c/termwiz_input.h"), flags=re.S)
-        calls = re.findall(r"^[a-z].*?[ *](tw_\w+)\(([^;]*)\);", header, flags=re.M)
+        header = re.sub(r"/\*.*?\*/", "", read("c/hedrugal.h"), flags=re.S)
+        calls = re.findall(r"^[a-z].*?[ *](hed_\w+)\(([^;]*)\);", header, flags=re.M)
         counts = {name: 0 if taken == "void" else taken.count(",") + 1 for name, taken in calls}
         declared = {**hedrugal._CALLS, **hedrugal.extended._CALLS}
         self.assertEqual(counts, {name: len(taken) for name, (_, taken) in declared.items()})
 
     def test_version(self):
-        self.assertIn(f'#define TW_VERSION "{hedrugal.__version__}"\n', read("c/termwiz_input.h"))
+        self.assertIn(f'#define HED_VERSION "{hedrugal.__version__}"\n', read("c/hedrugal.h"))
 
 
 class WithParser(unittest.TestCase):
@@ -837,13 +837,13 @@ class Imports(unittest.TestCase):
     def test_beside_the_module(self):
         package = os.path.join(self.folder, "hedrugal")
         shutil.copytree(os.path.join(HERE, "hedrugal"), package)
-        shutil.copy(LIBRARY, os.path.join(package, "libtermwiz_c.so"))
+        shutil.copy(LIBRARY, os.path.join(package, "libhedrugal.so"))
         for named in ({}, {"HEDRUGAL_LIBRARY": ""}):
             found = self.import_it({"PYTHONPATH": self.folder, **named}, cwd="/")
-            self.assertEqual(found, f"{package}/libtermwiz_c.so\n")
+            self.assertEqual(found, f"{package}/libhedrugal.so\n")
 
     def test_in_the_systems_folders(self):
-        before = f"import ctypes.util as util\nutil.find_library = lambda name: {LIBRARY!r} if name == 'termwiz_c' else None\n"
+        before = f"import ctypes.util as util\nutil.find_library = lambda name: {LIBRARY!r} if name == 'hedrugal' else None\n"
         self.assertEqual(self.import_it({}, before=before), f"{LIBRARY}\n")
 
     def assert_message(self, printed, *words):
@@ -865,7 +865,7 @@ class Imports(unittest.TestCase):
         other = re.search(r"\S+/libc\.so\.6", read("/proc/self/maps"))
         if not other:
             self.skipTest("no libc.so.6")
-        self.assert_message(self.import_it({"HEDRUGAL_LIBRARY": other.group()}), "tw_parser_init", "of this version")
+        self.assert_message(self.import_it({"HEDRUGAL_LIBRARY": other.group()}), "hed_parser_init", "of this version")
 
     def test_another_version(self):
         """A module is loaded with the library of its own version alone."""
@@ -1023,7 +1023,7 @@ print("good")
 
 
 class Memory(unittest.TestCase):
-    make, init = InputParser, "tw_parser_init_sharing"
+    make, init = InputParser, "hed_parser_init_sharing"
 
     def run_good(self, text):
         text = text.replace("parser = InputParser", f"parser = {self.make.__name__}")
@@ -1045,11 +1045,11 @@ class Memory(unittest.TestCase):
     def test_refusals(self):
         """The table is refused memory, and the next parser makes it. Or a parser is refused memory, once the table is there."""
         with mock.patch.object(hedrugal, "_idle", hedrugal._RawParser()):
-            with mock.patch.object(hedrugal._library, "tw_parser_init", lambda raw: False):
+            with mock.patch.object(hedrugal._library, "hed_parser_init", lambda raw: False):
                 self.assertRaises(MemoryError, self.make)
             with self.make() as parser:
                 self.assertTrue(hedrugal._idle.live)
-                hedrugal._library.tw_parser_free(hedrugal._idle)
+                hedrugal._library.hed_parser_free(hedrugal._idle)
                 self.assertEqual(parser.parse(b"q"), [KeyEvent("q")])
         with mock.patch.object(hedrugal._library, self.init, lambda *_: False):
             self.assertRaises(MemoryError, self.make)

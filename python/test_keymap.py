@@ -334,7 +334,7 @@ class Refusals(WithMap):
         self.assertEqual((status, printed, errors), (0, "good\n", ""))
 
     def test_new(self):
-        with mock.patch.object(hedrugal._library, "tw_keymap_init", lambda raw: False):
+        with mock.patch.object(hedrugal._library, "hed_keymap_init", lambda raw: False):
             self.assertRaises(MemoryError, KeyMap)
 
     def test_a_place_for_the_value(self):

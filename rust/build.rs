@@ -1,11 +1,11 @@
-// Finds libtermwiz_c: in the folder that TERMWIZ_C_DIR names, or else by pkg-config.
+// Finds libhedrugal: in the folder that HEDRUGAL_LIBRARY names, or else by pkg-config.
 use std::env;
 use std::path::{Path, PathBuf};
 use std::process::{self, Command};
 
 // The variables on which the answer depends.
 const VARIABLES: &[&str] = &[
-    "TERMWIZ_C_DIR",
+    "HEDRUGAL_LIBRARY",
     "PKG_CONFIG",
     "PKG_CONFIG_PATH",
     "PKG_CONFIG_LIBDIR",
@@ -25,10 +25,10 @@ fn is_for_linux() -> bool {
     is("CARGO_CFG_TARGET_OS", "linux") && is("CARGO_CFG_TARGET_ARCH", "x86_64") && is("CARGO_CFG_TARGET_POINTER_WIDTH", "64")
 }
 
-// The folder that TERMWIZ_C_DIR names. A relative one begins where cargo was called: cargo runs this program elsewhere, but leaves the
+// The folder that HEDRUGAL_LIBRARY names. A relative one begins where cargo was called: cargo runs this program elsewhere, but leaves the
 // shell's PWD as it is, which then counts too.
 fn named_folder() -> Option<PathBuf> {
-    let named = PathBuf::from(env::var_os("TERMWIZ_C_DIR")?);
+    let named = PathBuf::from(env::var_os("HEDRUGAL_LIBRARY")?);
     if named.is_absolute() {
         return Some(named);
     }
@@ -56,7 +56,7 @@ fn words(line: &str) -> Vec<String> {
 fn by_pkg_config() -> Option<Vec<PathBuf>> {
     let program = env::var_os("PKG_CONFIG").unwrap_or_else(|| "pkg-config".into());
     let done = Command::new(program)
-        .args(["--libs-only-L", "--static", "termwiz_c"])
+        .args(["--libs-only-L", "--static", "hedrugal"])
         .env("PKG_CONFIG_ALLOW_SYSTEM_LIBS", "1")
         .output()
         .ok()?;
@@ -79,7 +79,7 @@ struct Library {
 
 // The library in a folder: the archive, or the shared library if there is no archive.
 fn library_in(folder: &Path) -> Option<Library> {
-    let forms = [("libtermwiz_c.a", "static"), ("libtermwiz_c.so", "dylib")];
+    let forms = [("libhedrugal.a", "static"), ("libhedrugal.so", "dylib")];
     let (file, kind) = forms.into_iter().find(|(file, _)| folder.join(file).is_file())?;
     let folder = folder.to_path_buf();
     Some(Library { folder, file, kind })
@@ -89,21 +89,21 @@ fn library() -> Library {
     if let Some(folder) = named_folder() {
         return library_in(&folder).unwrap_or_else(|| {
             stop(
-                &format!("there is no libtermwiz_c.a in {}", folder.display()),
-                "Set TERMWIZ_C_DIR to the folder of the library, absolute or from where cargo runs.",
+                &format!("there is no libhedrugal.a in {}", folder.display()),
+                "Set HEDRUGAL_LIBRARY to the folder of the library, absolute or from where cargo runs.",
             )
         });
     }
     let Some(folders) = by_pkg_config() else {
         stop(
-            "pkg-config finds no termwiz_c, and TERMWIZ_C_DIR isn't set",
-            "Install the library, or set TERMWIZ_C_DIR to its folder, absolute or from where cargo runs.",
+            "pkg-config finds no hedrugal, and HEDRUGAL_LIBRARY isn't set",
+            "Install the library, or set HEDRUGAL_LIBRARY to its folder, absolute or from where cargo runs.",
         )
     };
     folders.iter().find_map(|folder| library_in(folder)).unwrap_or_else(|| {
         stop(
-            "there is no libtermwiz_c.a in the folder that pkg-config names for termwiz_c",
-            "Install the library again, or set TERMWIZ_C_DIR to its folder.",
+            "there is no libhedrugal.a in the folder that pkg-config names for hedrugal",
+            "Install the library again, or set HEDRUGAL_LIBRARY to its folder.",
         )
     })
 }
@@ -120,10 +120,10 @@ fn main() {
     for name in VARIABLES {
         println!("cargo:rerun-if-env-changed={name}");
     }
-    if env::var_os("TERMWIZ_C_DIR").is_some_and(|named| Path::new(&named).is_relative()) {
+    if env::var_os("HEDRUGAL_LIBRARY").is_some_and(|named| Path::new(&named).is_relative()) {
         println!("cargo:rerun-if-env-changed=PWD");
     }
     println!("cargo:rerun-if-changed={}", folder.join(file).display());
     println!("cargo:rustc-link-search=native={}", folder.display());
-    println!("cargo:rustc-link-lib={kind}=termwiz_c");
+    println!("cargo:rustc-link-lib={kind}=hedrugal");
 }

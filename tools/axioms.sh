@@ -3,7 +3,7 @@
 #
 #     tools/axioms.sh [--over RLIBS | --log FILE] CRATE
 #
-# CRATE is termwiz_c or keyshow. It proves the crate, and the prover lists the functions (--list-axioms). With --over it proves the program
+# CRATE is hedrugal or keyshow. It proves the crate, and the prover lists the functions (--list-axioms). With --over it proves the program
 # alone, over the libraries below it that lie as NAME.rlib in the folder RLIBS, where the gate puts those that `rt ci` proved. With --log it
 # proves nothing, and reads the list from the FILE that a proof with --list-axioms printed.
 #

@@ -3,13 +3,13 @@
 #
 #     tools/c_library.sh [--over RLIBS] DIR
 #
-# libtermwiz_c.a and libtermwiz_c.so, each of which needs the C library alone; termwiz_input.h; and termwiz_c.pc for pkg-config, by which
-# the folder may be moved. What it builds is proved first. The shared library is libtermwiz_c.so.VERSION, the version being that of the
-# header; libtermwiz_c.so and the name by which programs find it, with the version's first number, lead to it.
+# libhedrugal.a and libhedrugal.so, each of which needs the C library alone; hedrugal.h; and hedrugal.pc for pkg-config, by which
+# the folder may be moved. What it builds is proved first. The shared library is libhedrugal.so.VERSION, the version being that of the
+# header; libhedrugal.so and the name by which programs find it, with the version's first number, lead to it.
 #
 # tools/install.sh puts these files where other programs look for them.
 #
-# With --over it proves the crate termwiz_c alone, over the libraries below it that lie as NAME.rlib in the folder RLIBS, where the gate
+# With --over it proves the crate hedrugal alone, over the libraries below it that lie as NAME.rlib in the folder RLIBS, where the gate
 # puts those that `rt ci` proved.
 #
 # It needs rt, a C compiler (cc), and ar and objcopy of binutils.
@@ -39,29 +39,29 @@ trap 'rm -rf "$work"' EXIT
 # Builds the archive of the crate.
 build() {
     if [ -z "$rlibs" ]; then
-        (cd crates/termwiz_c && rt lib --list-axioms) && cp crates/termwiz_c/out/libtermwiz_c.a "$work/"
+        (cd crates/hedrugal && rt lib --list-axioms) && cp crates/hedrugal/out/libhedrugal.a "$work/"
     else
         local libraries
-        libraries=$(sed -n 's/^termwiz_c staticlib://p' crates.txt)
-        tools/static_library.sh "$rlibs" termwiz_c crates/termwiz_c "$work/libtermwiz_c.a" $libraries
+        libraries=$(sed -n 's/^hedrugal staticlib://p' crates.txt)
+        tools/static_library.sh "$rlibs" hedrugal crates/hedrugal "$work/libhedrugal.a" $libraries
     fi
 }
 build > "$work/log" 2>&1 || { cat "$work/log" >&2; exit 1; }
-tools/axioms.sh --log "$work/log" termwiz_c
+tools/axioms.sh --log "$work/log" hedrugal
 
 # The library stands on the kit's heap, three functions over malloc, realloc and free. The two become one object, in which only the calls
 # of the header keep their names, so that no other library meets them.
 mkdir "$work/objects"
-(cd "$work/objects" && ar x "$work/libtermwiz_c.a" && ar x "$(dirname "$(rt doc)")/c/liblibc_c.a")
-cc -nostdlib -r -o "$work/termwiz_c.o" "$work"/objects/*.o
-objcopy --wildcard --keep-global-symbol='tw_*' "$work/termwiz_c.o"
+(cd "$work/objects" && ar x "$work/libhedrugal.a" && ar x "$(dirname "$(rt doc)")/c/liblibc_c.a")
+cc -nostdlib -r -o "$work/hedrugal.o" "$work"/objects/*.o
+objcopy --wildcard --keep-global-symbol='hed_*' "$work/hedrugal.o"
 
-rm -f "$out"/libtermwiz_c.a "$out"/libtermwiz_c.so*
-ar rcs "$out/libtermwiz_c.a" "$work/termwiz_c.o"
+rm -f "$out"/libhedrugal.a "$out"/libhedrugal.so*
+ar rcs "$out/libhedrugal.a" "$work/hedrugal.o"
 version=$(library_version)
-soname=libtermwiz_c.so.${version%%.*}
-cc -shared -Wl,-soname,"$soname" -Wl,--version-script=c/termwiz_c.map -Wl,-z,now -Wl,-z,relro -Wl,-z,noexecstack \
-    -o "$out/libtermwiz_c.so.$version" "$work/termwiz_c.o"
-for name in "$soname" libtermwiz_c.so; do ln -s "libtermwiz_c.so.$version" "$out/$name"; done
-cp c/termwiz_input.h c/termwiz_c.pc "$out/"
-echo "c_library: wrote libtermwiz_c.a, libtermwiz_c.so.$version, termwiz_input.h and termwiz_c.pc to $out"
+soname=libhedrugal.so.${version%%.*}
+cc -shared -Wl,-soname,"$soname" -Wl,--version-script=c/hedrugal.map -Wl,-z,now -Wl,-z,relro -Wl,-z,noexecstack \
+    -o "$out/libhedrugal.so.$version" "$work/hedrugal.o"
+for name in "$soname" libhedrugal.so; do ln -s "libhedrugal.so.$version" "$out/$name"; done
+cp c/hedrugal.h c/hedrugal.pc "$out/"
+echo "c_library: wrote libhedrugal.a, libhedrugal.so.$version, hedrugal.h and hedrugal.pc to $out"

@@ -21,7 +21,7 @@ while [ $# -gt 0 ]; do
         --help) show_help; exit ;;
         --library)
             want_next "$@"
-            [ -f "$2/libtermwiz_c.so" ] || refuse "there is no libtermwiz_c.so in $2"
+            [ -f "$2/libhedrugal.so" ] || refuse "there is no libhedrugal.so in $2"
             library=$(realpath "$2")
             shift 2 ;;
         --reads) want_next "$@"; reads=$2; shift 2 ;;
@@ -63,9 +63,9 @@ if [ -z "$library" ]; then
     "$top/tools/c_library.sh" "$library" >&2
 fi
 progress 'building the programs in C and Rust'
-cc -O2 -I"$library" -o "$work/in_c" "$top/tools/measure/measure.c" "$top/tools/measure/c_pass.c" "$library/libtermwiz_c.a"
+cc -O2 -I"$library" -o "$work/in_c" "$top/tools/measure/measure.c" "$top/tools/measure/c_pass.c" "$library/libhedrugal.a"
 if wants cargo; then
-    TERMWIZ_C_DIR=$library CARGO_TARGET_DIR=$work/target \
+    HEDRUGAL_LIBRARY=$library CARGO_TARGET_DIR=$work/target \
         cargo build --quiet --locked --offline --release --example measure --manifest-path "$top/rust/Cargo.toml"
 else
     progress 'left out by --without-cargo: Rust'
@@ -76,7 +76,7 @@ run_all() { # corpus read
     ! wants rt || echo "$1 $2 parse_as_vec $("$work/here/measure" "$work/corpora/$1" "$2")"
     echo "$1 $2 C $("$work/in_c" "$work/corpora/$1" "$2")"
     ! wants cargo || echo "$1 $2 Rust $("$work/target/release/examples/measure" "$work/corpora/$1" "$2")"
-    echo "$1 $2 Python $(HEDRUGAL_LIBRARY=$library/libtermwiz_c.so python3 -B "$top/python/measure.py" "$work/corpora/$1" "$2")"
+    echo "$1 $2 Python $(HEDRUGAL_LIBRARY=$library/libhedrugal.so python3 -B "$top/python/measure.py" "$work/corpora/$1" "$2")"
 }
 
 note_load

@@ -5,7 +5,7 @@
 #
 # With --check it writes nothing. It compares the header, the Rust crate and the proved crates with the list: their numbers, and the
 # names of keys and flags that they print. It also compares the numbers of the sequence table in the header with those of the proved
-# definitions, and the version in the header with those in the crate termwiz_c, termwiz_c.pc and CHANGELOG.md. It says what differs, and
+# definitions, and the version in the header with those in the crate hedrugal, hedrugal.pc and CHANGELOG.md. It says what differs, and
 # ends with status 1 if something does. It needs no compiler.
 set -eu
 export LC_ALL=C
@@ -41,7 +41,7 @@ place_in() { # file places..
 }
 
 failed=0
-place_in c/termwiz_input.h 'next c' 'waiting c' 'encoded c' 'found c' 'kind c' 'encoding c' 'kitty c' 'modifier c' 'button c' 'key c' \
+place_in c/hedrugal.h 'next c' 'waiting c' 'encoded c' 'found c' 'kind c' 'encoding c' 'kitty c' 'modifier c' 'button c' 'key c' \
     'rows c' 'event c' 'action c' 'held c' || failed=1
 place_in rust/src/raw.rs 'next const' 'waiting const' 'encoded const' 'found const' 'kind const' 'encoding const' \
     'rows const' 'event const' 'action const' || failed=1
@@ -67,32 +67,32 @@ names_in() { # group files..
 
 # A number of the sequence table, as the header has it. It is the same in the proved definitions and in the Rust crate.
 of_rows() { # name
-    sed -nE "s/^#define $1 ([0-9]+)( .*)?\$/\1/p" c/termwiz_input.h
+    sed -nE "s/^#define $1 ([0-9]+)( .*)?\$/\1/p" c/hedrugal.h
 }
 same_of_rows() { # name where number
     { [ -z "$3" ] || [ "$3" != "$(of_rows "$1")" ]; } || return 0
-    echo "$2: has '$3', and $1 of c/termwiz_input.h is '$(of_rows "$1")'" >&2
+    echo "$2: has '$3', and $1 of c/hedrugal.h is '$(of_rows "$1")'" >&2
     return 1
 }
 
 # The version is the header's everywhere. tools/c_library.sh gives it to the shared library.
-library_version=$(sed -n 's/^#define TW_VERSION "\(.*\)"$/\1/p' c/termwiz_input.h)
+library_version=$(sed -n 's/^#define HED_VERSION "\(.*\)"$/\1/p' c/hedrugal.h)
 same_version() { # where version
     [ "$2" != "$library_version" ] || return 0
-    echo "$1: has the version '$2', and TW_VERSION of c/termwiz_input.h is '$library_version'" >&2
+    echo "$1: has the version '$2', and HED_VERSION of c/hedrugal.h is '$library_version'" >&2
     return 1
 }
 
 if [ -n "$check" ]; then
-    proved_in key crates/termwiz_c/src/keys.rt || failed=1
-    proved_in kind crates/termwiz_c/src/events.rt || failed=1
-    proved_in encoding crates/termwiz_c/src/modes.rt || failed=1
-    proved_in 'next encoded' crates/termwiz_c/src/lib.rt || failed=1
-    proved_in waiting crates/termwiz_c/src/lib.rt || failed=1
-    proved_in found crates/termwiz_c/src/keymap_calls.rt || failed=1
-    proved_in rows crates/termwiz_c/src/extended_calls.rt || failed=1
-    proved_in event crates/termwiz_c/src/extended_events.rt || failed=1
-    proved_in action crates/termwiz_c/src/extended_events.rt || failed=1
+    proved_in key crates/hedrugal/src/keys.rt || failed=1
+    proved_in kind crates/hedrugal/src/events.rt || failed=1
+    proved_in encoding crates/hedrugal/src/modes.rt || failed=1
+    proved_in 'next encoded' crates/hedrugal/src/lib.rt || failed=1
+    proved_in waiting crates/hedrugal/src/lib.rt || failed=1
+    proved_in found crates/hedrugal/src/keymap_calls.rt || failed=1
+    proved_in rows crates/hedrugal/src/extended_calls.rt || failed=1
+    proved_in event crates/hedrugal/src/extended_events.rt || failed=1
+    proved_in action crates/hedrugal/src/extended_events.rt || failed=1
     proved_in modifier crates/termwiz_base/src/modifiers.rt || failed=1
     proved_in kitty crates/termwiz_base/src/kitty.rt || failed=1
     proved_in button crates/termwiz_keys/src/types.rt || failed=1
@@ -101,16 +101,16 @@ if [ -n "$check" ]; then
     names_in button crates/termwiz_keys/src/types.rt crates/event_text/specs/Names.antt || failed=1
     names_in kitty crates/termwiz_base/src/kitty.rt || failed=1
     laws=crates/termwiz_grammar/specs/Laws.antt
-    same_of_rows TW_ROW_COUNT "$laws" "$(sed -nE 's/^row_count = ([0-9]+)$/\1/p' "$laws")" || failed=1
-    same_of_rows TW_ROW_MOST "$laws" "$(sed -nE 's/^  pub one_has_[a-z]+_bytes .*length bytes ≡ ([0-9]+)\)$/\1/p' "$laws")" || failed=1
-    same_of_rows TW_ROW_MOST rust/src/raw.rs "$(sed -nE 's/^pub const ROW_MOST: usize = ([0-9]+);$/\1/p' rust/src/raw.rs)" || failed=1
-    same_version c/termwiz_input.h "$(sed -nE 's/^#define TW_VERSION_(MAJOR|MINOR|PATCH) //p' c/termwiz_input.h | paste -sd .)" || failed=1
-    same_version crates/termwiz_c/src/lib.rt \
-        "$(sed -nE 's/^const VERSION_(MAJOR|MINOR|PATCH): u32 = ([0-9]+);$/\2/p' crates/termwiz_c/src/lib.rt | paste -sd .)" || failed=1
-    same_version c/termwiz_c.pc "$(sed -n 's/^Version: //p' c/termwiz_c.pc)" || failed=1
+    same_of_rows HED_ENTRY_COUNT "$laws" "$(sed -nE 's/^row_count = ([0-9]+)$/\1/p' "$laws")" || failed=1
+    same_of_rows HED_ENTRY_MOST "$laws" "$(sed -nE 's/^  pub one_has_[a-z]+_bytes .*length bytes ≡ ([0-9]+)\)$/\1/p' "$laws")" || failed=1
+    same_of_rows HED_ENTRY_MOST rust/src/raw.rs "$(sed -nE 's/^pub const ROW_MOST: usize = ([0-9]+);$/\1/p' rust/src/raw.rs)" || failed=1
+    same_version c/hedrugal.h "$(sed -nE 's/^#define HED_VERSION_(MAJOR|MINOR|PATCH) //p' c/hedrugal.h | paste -sd .)" || failed=1
+    same_version crates/hedrugal/src/lib.rt \
+        "$(sed -nE 's/^const VERSION_(MAJOR|MINOR|PATCH): u32 = ([0-9]+);$/\2/p' crates/hedrugal/src/lib.rt | paste -sd .)" || failed=1
+    same_version c/hedrugal.pc "$(sed -n 's/^Version: //p' c/hedrugal.pc)" || failed=1
     same_version CHANGELOG.md "$(sed -nE 's/^## ([0-9.]+)$/\1/p' CHANGELOG.md | head -n 1)" || failed=1
     [ "$failed" = 1 ] || echo "numbers: $(grep -c '^[a-z]' "$list") names, and the header, the Rust crate and the proved crates agree"
-    [ "$failed" = 1 ] || echo "rows: $(of_rows TW_ROW_COUNT), of at most $(of_rows TW_ROW_MOST) bytes, in the header and the proved definitions"
-    [ "$failed" = 1 ] || echo "version: $library_version in the header, the crate termwiz_c, termwiz_c.pc and CHANGELOG.md"
+    [ "$failed" = 1 ] || echo "rows: $(of_rows HED_ENTRY_COUNT), of at most $(of_rows HED_ENTRY_MOST) bytes, in the header and the proved definitions"
+    [ "$failed" = 1 ] || echo "version: $library_version in the header, the crate hedrugal, hedrugal.pc and CHANGELOG.md"
 fi
 exit "$failed"

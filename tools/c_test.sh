@@ -89,8 +89,8 @@ check() { # name words..
 }
 
 strict='-O1 -g -Wall -Wextra -pedantic -Werror'
-archive=$work/lib/libtermwiz_c.a
-shared="-L$work/lib -ltermwiz_c -Wl,-rpath,$work/lib"
+archive=$work/lib/libhedrugal.a
+shared="-L$work/lib -lhedrugal -Wl,-rpath,$work/lib"
 
 # The archive asks for functions of the C library alone, and has the calls of the header and no others.
 check_names() {
@@ -111,7 +111,7 @@ check_listings() { # c or rust
 
 # cargo on the Rust crate. The lock file stays as it is, and no registry is asked.
 rust() { # command words..
-    TERMWIZ_C_DIR="$work/lib" CARGO_TARGET_DIR="$work/target" \
+    HEDRUGAL_LIBRARY="$work/lib" CARGO_TARGET_DIR="$work/target" \
         cargo "$1" --quiet --locked --offline --manifest-path rust/Cargo.toml "${@:2}"
 }
 
@@ -137,7 +137,7 @@ rust_layout() {
 # The tests with serde. cargo writes a lock file beside the manifest, so they are a copy's.
 rust_serde_tests() {
     mkdir "$work/rust" && cp -r rust/build.rs rust/src rust/tests rust/serde "$work/rust/" || return
-    TERMWIZ_C_DIR="$work/lib" CARGO_TARGET_DIR="$work/serde" \
+    HEDRUGAL_LIBRARY="$work/lib" CARGO_TARGET_DIR="$work/serde" \
         cargo test --quiet --offline --manifest-path "$work/rust/serde/Cargo.toml" --features use_serde --test serde \
         --config 'source.crates-io.replace-with="system"' --config "source.system.directory=\"$system_crates\""
 }
@@ -145,7 +145,7 @@ rust_serde_tests() {
 # Builds a program over the Rust crate in a new folder, with these variables in place of the one that names the library.
 rust_builds() { # NAME=VALUE..
     rm -rf "$work/found"
-    env -u TERMWIZ_C_DIR CARGO_TARGET_DIR="$work/found" "$@" \
+    env -u HEDRUGAL_LIBRARY CARGO_TARGET_DIR="$work/found" "$@" \
         cargo build --quiet --locked --offline --manifest-path "$top/rust/Cargo.toml" --example measure
 }
 
@@ -177,7 +177,7 @@ if wants c++; then
 fi
 if wants pkg-config; then
     check 'example by pkg-config' bash -c \
-        'cc c/events.c $(PKG_CONFIG_PATH=$work/lib pkg-config --cflags --libs termwiz_c) -o "$work/events_by_pkg_config"'
+        'cc c/events.c $(PKG_CONFIG_PATH=$work/lib pkg-config --cflags --libs hedrugal) -o "$work/events_by_pkg_config"'
 fi
 check 'listings in C' bash -c 'check_listings c'
 check 'build of the calls' cc -std=c99 $strict -I"$work/lib" c/test_calls.c "$archive" -o "$work/calls"
@@ -232,18 +232,18 @@ if wants cargo; then
     fi
 
     # The ways in which it finds the library, and what it says if there is none.
-    mkdir "$work/shared" && cp -a "$work"/lib/libtermwiz_c.so* "$work/shared/" || exit
-    check 'Rust crate, absolute folder' bash -c 'rust_finds TERMWIZ_C_DIR="$work/lib"'
-    check 'Rust crate, relative folder' bash -c 'cd "$work/shared" && rust_finds TERMWIZ_C_DIR=../lib'
-    check 'Rust crate, shared library' bash -c 'rust_finds TERMWIZ_C_DIR="$work/shared" LD_LIBRARY_PATH="$work/shared"'
+    mkdir "$work/shared" && cp -a "$work"/lib/libhedrugal.so* "$work/shared/" || exit
+    check 'Rust crate, absolute folder' bash -c 'rust_finds HEDRUGAL_LIBRARY="$work/lib"'
+    check 'Rust crate, relative folder' bash -c 'cd "$work/shared" && rust_finds HEDRUGAL_LIBRARY=../lib'
+    check 'Rust crate, shared library' bash -c 'rust_finds HEDRUGAL_LIBRARY="$work/shared" LD_LIBRARY_PATH="$work/shared"'
     if wants pkg-config; then
         # A folder in which linkers look unasked isn't named by pkg-config itself.
         check 'Rust crate, pkg-config' bash -c 'rust_finds PKG_CONFIG_PATH="$work/lib"'
         check 'Rust crate, pkg-config of the system' bash -c \
             'rust_finds PKG_CONFIG_PATH="$work/lib" PKG_CONFIG_SYSTEM_LIBRARY_PATH="$work/lib"'
     fi
-    check 'Rust crate, no library' bash -c 'rust_stops "pkg-config finds no termwiz_c" PKG_CONFIG=false'
-    check 'Rust crate, folder without a library' bash -c 'rust_stops "there is no libtermwiz_c.a in $work/no" TERMWIZ_C_DIR="$work/no"'
+    check 'Rust crate, no library' bash -c 'rust_stops "pkg-config finds no hedrugal" PKG_CONFIG=false'
+    check 'Rust crate, folder without a library' bash -c 'rust_stops "there is no libhedrugal.a in $work/no" HEDRUGAL_LIBRARY="$work/no"'
     check 'Rust crate, other target' bash -c 'rust_stops "the library is for Linux on x86-64" CARGO_BUILD_TARGET=i686-unknown-linux-gnu'
 fi
 if wants pkg-config; then

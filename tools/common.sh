@@ -62,12 +62,12 @@ stop_if_missing() {
 
 # Prints the library's version, as the header has it. It is called at the top of the repository, as the next is.
 library_version() {
-    sed -n 's/^#define TW_VERSION "\(.*\)"$/\1/p' c/termwiz_input.h
+    sed -n 's/^#define HED_VERSION "\(.*\)"$/\1/p' c/hedrugal.h
 }
 
 # Prints the names of the header's calls.
 library_calls() {
-    sed -nE 's/^[a-z].*[ *](tw_[a-z_]+)\(.*$/\1/p' c/termwiz_input.h
+    sed -nE 's/^[a-z].*[ *](hed_[a-z_]+)\(.*$/\1/p' c/hedrugal.h
 }
 
 # Runs a command, and shows what it prints only if it fails.
@@ -82,15 +82,15 @@ run_quietly() { # words..
 # Builds the program hedrugal-keys over a library's archive. Further words go to the compiler. It is called at the top of the repository.
 build_keys() { # library program [words..]
     cc -std=c11 -O2 -D_FORTIFY_SOURCE=2 -fstack-protector-strong -fPIE -pie -Wl,-z,relro,-z,now "${@:3}" -I"$1" keys/*.c \
-        "$1/libtermwiz_c.a" -o "$2"
+        "$1/libhedrugal.a" -o "$2"
 }
 
 # Ends the script over a library, $library, that isn't that of these sources. It is called at the top of the repository.
 check_library() {
-    for name in libtermwiz_c.a "libtermwiz_c.so.$(library_version)" termwiz_input.h termwiz_c.pc; do
+    for name in libhedrugal.a "libhedrugal.so.$(library_version)" hedrugal.h hedrugal.pc; do
         [ -f "$library/$name" ] || refuse "there is no $name in '$library'"
     done
-    for name in termwiz_input.h termwiz_c.pc; do
+    for name in hedrugal.h hedrugal.pc; do
         cmp -s "c/$name" "$library/$name" || refuse "the library in '$library' was built from other sources: its $name is another"
     done
 }

@@ -27,7 +27,7 @@ while [ $# -gt 0 ]; do
         --help) show_help; exit ;;
         --library)
             want_next "$@"
-            [ -f "$2/libtermwiz_c.a" ] || refuse "there is no libtermwiz_c.a in $2"
+            [ -f "$2/libhedrugal.a" ] || refuse "there is no libhedrugal.a in $2"
             library=$(realpath "$2")
             shift ;;
         --repeat)
@@ -82,7 +82,7 @@ fi
 build() {
     local name options="-std=c11 -O1 -g -Wall -Wextra -pedantic -Werror -I$library"
     objcopy --redefine-sym malloc=fuzz_malloc --redefine-sym realloc=fuzz_realloc --redefine-sym free=fuzz_free \
-        "$library/libtermwiz_c.a" "$work/archive.a" || return 1
+        "$library/libhedrugal.a" "$work/archive.a" || return 1
     for name in fuzz map_calls; do
         # shellcheck disable=SC2086
         clang $options $checks -c "tools/fuzz/$name.c" -o "$work/$name.o" || return 1

@@ -53,7 +53,7 @@ build() {
     # (each loop that copies stays a loop)
     cc -std=c11 -O1 -g -fno-builtin -fno-tree-loop-distribute-patterns -Wall -Wextra -Werror -I"$library" \
         -Wl,--wrap=malloc,--wrap=realloc,--wrap=free,--wrap=memcpy,--wrap=memmove,--wrap=memset -o "$work/growth" \
-        tools/growth/growth.c "$library/libtermwiz_c.a" "$work/libfeed.a" "$(dirname "$(rt doc)")/c/liblibc_c.a"
+        tools/growth/growth.c "$library/libhedrugal.a" "$work/libfeed.a" "$(dirname "$(rt doc)")/c/liblibc_c.a"
 }
 build > "$work/log" 2>&1 || { cat "$work/log" >&2; exit 1; }
 

@@ -6,13 +6,13 @@
 #
 # Below the prefix, /usr/local unless --prefix names another, it puts
 #
-#     include         termwiz_input.h
-#     lib             libtermwiz_c.a, libtermwiz_c.so and the file to which that leads
-#     lib/pkgconfig   termwiz_c.pc
+#     include         hedrugal.h
+#     lib             libhedrugal.a, libhedrugal.so and the file to which that leads
+#     lib/pkgconfig   hedrugal.pc
 #     bin             keyshow, hedrugal-keys
-#     share/man       keyshow.1, hedrugal-keys.1, termwiz_input.3, and for each call a link to the latter
+#     share/man       keyshow.1, hedrugal-keys.1, hedrugal.3, and for each call a link to the latter
 #
-# termwiz_c.pc names no folder but by where it lies itself, so the prefix may be moved as a whole. --destdir names a folder that is put
+# hedrugal.pc names no folder but by where it lies itself, so the prefix may be moved as a whole. --destdir names a folder that is put
 # before the prefix, as a package is made. --libdir names the folder of the libraries below the prefix, such as lib64.
 #
 # --library names a folder that tools/c_library.sh wrote from these sources, --keyshow and --keys the programs that were built from them.
@@ -51,26 +51,26 @@ trap 'rm -rf "$work"' EXIT
 # Lists the files that are installed: for each its place below the prefix, its mode, and the file that it is a copy of. A link has the word
 # link in place of a mode, and the name to which it leads.
 list_files() {
-    echo "include/termwiz_input.h 644 $library/termwiz_input.h"
-    echo "$libdir/libtermwiz_c.a 644 $library/libtermwiz_c.a"
-    echo "$libdir/libtermwiz_c.so.$version 755 $library/libtermwiz_c.so.$version"
-    echo "$libdir/libtermwiz_c.so.${version%%.*} link libtermwiz_c.so.$version"
-    echo "$libdir/libtermwiz_c.so link libtermwiz_c.so.$version"
-    echo "$libdir/pkgconfig/termwiz_c.pc 644 $work/termwiz_c.pc"
+    echo "include/hedrugal.h 644 $library/hedrugal.h"
+    echo "$libdir/libhedrugal.a 644 $library/libhedrugal.a"
+    echo "$libdir/libhedrugal.so.$version 755 $library/libhedrugal.so.$version"
+    echo "$libdir/libhedrugal.so.${version%%.*} link libhedrugal.so.$version"
+    echo "$libdir/libhedrugal.so link libhedrugal.so.$version"
+    echo "$libdir/pkgconfig/hedrugal.pc 644 $work/hedrugal.pc"
     echo "bin/keyshow 755 $keyshow"
     echo "bin/hedrugal-keys 755 $keys"
     echo "share/man/man1/keyshow.1 644 docs/man/keyshow.1"
     echo "share/man/man1/hedrugal-keys.1 644 docs/man/hedrugal-keys.1"
-    echo "share/man/man3/termwiz_input.3 644 docs/man/termwiz_input.3"
-    library_calls | sed 's|.*|share/man/man3/&.3 link termwiz_input.3|'
+    echo "share/man/man3/hedrugal.3 644 docs/man/hedrugal.3"
+    library_calls | sed 's|.*|share/man/man3/&.3 link hedrugal.3|'
 }
 
-# Writes termwiz_c.pc for the usual folders.
+# Writes hedrugal.pc for the usual folders.
 write_pc() {
     local up
     up=$(realpath -ms --relative-to="/$libdir/pkgconfig" /)
     sed -e '/^#/d' -e "s|^prefix=.*|prefix=\${pcfiledir}/$up|" -e "s|^includedir=.*|&/include|" -e "s|^libdir=.*|&/$libdir|" \
-        c/termwiz_c.pc > "$work/termwiz_c.pc"
+        c/hedrugal.pc > "$work/hedrugal.pc"
 }
 
 install_files() {

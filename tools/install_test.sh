@@ -35,7 +35,7 @@ trap 'rm -rf "$work"' EXIT
 build_unnamed
 
 install=$PWD/tools/install.sh
-page=docs/man/termwiz_input.3
+page=docs/man/hedrugal.3
 version=$(library_version)
 major=${version%%.*}
 built=(--library "$library" --keyshow "$keyshow" --keys "$keys")
@@ -53,39 +53,39 @@ check_files() {
     {
         echo 'bin/hedrugal-keys 755'
         echo 'bin/keyshow 755'
-        echo 'include/termwiz_input.h 644'
-        echo 'lib/libtermwiz_c.a 644'
-        echo "lib/libtermwiz_c.so -> libtermwiz_c.so.$version"
-        echo "lib/libtermwiz_c.so.$major -> libtermwiz_c.so.$version"
-        echo "lib/libtermwiz_c.so.$version 755"
-        echo 'lib/pkgconfig/termwiz_c.pc 644'
+        echo 'include/hedrugal.h 644'
+        echo 'lib/libhedrugal.a 644'
+        echo "lib/libhedrugal.so -> libhedrugal.so.$version"
+        echo "lib/libhedrugal.so.$major -> libhedrugal.so.$version"
+        echo "lib/libhedrugal.so.$version 755"
+        echo 'lib/pkgconfig/hedrugal.pc 644'
         echo 'share/man/man1/hedrugal-keys.1 644'
         echo 'share/man/man1/keyshow.1 644'
-        echo 'share/man/man3/termwiz_input.3 644'
-        library_calls | sed 's|.*|share/man/man3/&.3 -> termwiz_input.3|'
+        echo 'share/man/man3/hedrugal.3 644'
+        library_calls | sed 's|.*|share/man/man3/&.3 -> hedrugal.3|'
     } | sort | diff - <(listed "$top")
 }
 
 # What pkg-config answers, about this library alone.
 asked() { # prefix libdir words..
-    PKG_CONFIG_LIBDIR=$1/$2/pkgconfig pkg-config "${@:3}" termwiz_c
+    PKG_CONFIG_LIBDIR=$1/$2/pkgconfig pkg-config "${@:3}" hedrugal
 }
 
 check_versions() {
     [ "$(asked "$top" lib --modversion)" = "$version" ] &&
-        readelf -dW "$top/lib/libtermwiz_c.so" | grep -F "soname: [libtermwiz_c.so.$major]" &&
-        printf '#include <termwiz_input.h>\nTW_VERSION_MAJOR.TW_VERSION_MINOR.TW_VERSION_PATCH TW_VERSION\n' |
+        readelf -dW "$top/lib/libhedrugal.so" | grep -F "soname: [libhedrugal.so.$major]" &&
+        printf '#include <hedrugal.h>\nTW_VERSION_MAJOR.HED_VERSION_MINOR.HED_VERSION_PATCH HED_VERSION\n' |
         cc -E -P -I"$top/include" - | tail -n 1 | tr -d ' ' | grep -xF "$version\"$version\""
 }
 
 # Exactly the calls of the header are exported.
 check_exports() {
-    diff <(nm -D --defined-only "$top/lib/libtermwiz_c.so" | awk '{ print $3 }' | sort) <(library_calls | sort)
+    diff <(nm -D --defined-only "$top/lib/libhedrugal.so" | awk '{ print $3 }' | sort) <(library_calls | sort)
 }
 
 # Nothing of it is written or resolved while it runs, its stack isn't executed, and it needs the C library alone.
 check_hardening() {
-    readelf -dW "$top/lib/libtermwiz_c.so" > "$work/dynamic" && readelf -lW "$top/lib/libtermwiz_c.so" > "$work/segments" || return
+    readelf -dW "$top/lib/libhedrugal.so" > "$work/dynamic" && readelf -lW "$top/lib/libhedrugal.so" > "$work/segments" || return
     cat "$work/dynamic" "$work/segments"
     grep -q 'FLAGS.*BIND_NOW' "$work/dynamic" && ! grep -qE 'TEXTREL|RPATH|RUNPATH' "$work/dynamic" &&
         [ "$(grep -o 'Shared library: .*' "$work/dynamic")" = 'Shared library: [libc.so.6]' ] &&
@@ -104,7 +104,7 @@ needed() {
 check_shared() { # prefix libdir
     local flags
     flags=$(asked "$1" "$2" --cflags --libs) && cc $strict "$work/events.c" $flags -o "$work/events" &&
-        needed | grep -F "[libtermwiz_c.so.$major]" && runs "$1/$2"
+        needed | grep -F "[libhedrugal.so.$major]" && runs "$1/$2"
 }
 
 check_static() { # prefix libdir
@@ -129,15 +129,15 @@ check_keys() {
 
 # For another target the compiler says what the library is built for.
 check_refused() { # option for the compiler
-    ! printf '#include <termwiz_input.h>\n' | cc "$1" -fsyntax-only -I"$top/include" -xc - 2> "$work/words" &&
-        grep -F '#error "termwiz_input.h: the library is built for Linux on x86-64' "$work/words"
+    ! printf '#include <hedrugal.h>\n' | cc "$1" -fsyntax-only -I"$top/include" -xc - 2> "$work/words" &&
+        grep -F '#error "hedrugal.h: the library is built for Linux on x86-64' "$work/words"
 }
 
 # The calls as the header declares them, each on a line.
 declared() {
-    awk '/^[a-z].*[ *]tw_[a-z_]+\(/ { inside = 1; text = "" }
+    awk '/^[a-z].*[ *]hed_[a-z_]+\(/ { inside = 1; text = "" }
          inside { sub(/^ +/, " "); text = text $0 }
-         inside && /;$/ { print text; inside = 0 }' c/termwiz_input.h
+         inside && /;$/ { print text; inside = 0 }' c/hedrugal.h
 }
 
 # The calls as the manual page's synopsis has them.
@@ -156,16 +156,16 @@ documented() {
 # The fields of the structs that are open to the caller.
 fields() { # file
     local name
-    for name in event modes rows match; do sed -nE "/^typedef struct tw_$name \\{\$/,/^\\}/{s| */\\*.*||;p}" "$1"; done
+    for name in event modes rows match; do sed -nE "/^typedef struct hed_$name \\{\$/,/^\\}/{s| */\\*.*||;p}" "$1"; done
 }
 
 # The page has each call in its name, its synopsis and its description, and no name that the header hasn't.
 check_calls_page() {
-    diff <(declared) <(documented) && diff <(fields c/termwiz_input.h) <(fields $page) &&
-        diff <(library_calls) <(sed -n '/^\.Sh NAME/,/^\.Nd/s/^\.Nm \(tw_[a-z_]*\).*/\1/p' $page) &&
+    diff <(declared) <(documented) && diff <(fields c/hedrugal.h) <(fields $page) &&
+        diff <(library_calls) <(sed -n '/^\.Sh NAME/,/^\.Nd/s/^\.Nm \(hed_[a-z_]*\).*/\1/p' $page) &&
         diff <(library_calls | sort) <(sed -n 's/^\.It Fn //p' $page | sort) &&
         grep -oE '\b(tw|TW)_[A-Za-z_0-9]*[A-Za-z0-9]\b' $page | sort -u | while read -r name; do
-            grep -qw "$name" c/termwiz_input.h || { echo "the header has no $name"; exit 1; }
+            grep -qw "$name" c/hedrugal.h || { echo "the header has no $name"; exit 1; }
         done
 }
 
@@ -218,7 +218,7 @@ check_nothing_to_uninstall() {
 # In a folder for packages nothing is left.
 check_uninstall_of_stage() {
     rm -rf "$work/stage" && mkdir "$work/stage" && "$install" "${built[@]}" --prefix /usr --destdir "$work/stage" &&
-        [ -f "$work/stage/usr/include/termwiz_input.h" ] && "$install" --uninstall --prefix /usr --destdir "$work/stage" &&
+        [ -f "$work/stage/usr/include/hedrugal.h" ] && "$install" --uninstall --prefix /usr --destdir "$work/stage" &&
         [ -z "$(find "$work/stage" -mindepth 1)" ]
 }
 
@@ -239,14 +239,14 @@ find_view() {
 
 # The usual prefix is the system's: its folders stay, empty or not.
 check_system_folders() {
-    "${view[@]}" bash -ec '"$1" "${@:2}" && [ -f /usr/local/include/termwiz_input.h ] && "$1" --uninstall &&
+    "${view[@]}" bash -ec '"$1" "${@:2}" && [ -f /usr/local/include/hedrugal.h ] && "$1" --uninstall &&
         find /usr/local -mindepth 1 -printf "%P\n" | sort' bash "$install" "${built[@]}" > "$work/lines" &&
         diff <(grep -v '^install: ' "$work/lines") <(printf '%s\n' bin include lib lib/pkgconfig share share/man share/man/man1 share/man/man3)
 }
 
 # A library of other sources isn't installed.
 check_stale() {
-    cp -a "$library" "$work/stale" && echo >> "$work/stale/termwiz_input.h" &&
+    cp -a "$library" "$work/stale" && echo >> "$work/stale/hedrugal.h" &&
         ! "$install" --library "$work/stale" --keyshow "$keyshow" --keys "$keys" --prefix "$work/none" 2> "$work/words" &&
         grep -F 'was built from other sources' "$work/words" && [ ! -e "$work/none" ]
 }

@@ -23,7 +23,7 @@ while [ $# -gt 0 ]; do
     esac
     shift
 done
-[ -z "$library" ] || [ -f "$library/libtermwiz_c.a" ] || refuse "there is no libtermwiz_c.a in '$library'"
+[ -z "$library" ] || [ -f "$library/libhedrugal.a" ] || refuse "there is no libhedrugal.a in '$library'"
 need python3 python3
 need cc gcc
 [ -n "$library" ] || need rt 'the Rattle kit (or name the library by --library)'

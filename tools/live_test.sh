@@ -31,7 +31,7 @@ done
 wants() { # program
     [[ "$left_out " != *" $1 "* ]]
 }
-[ -z "$library" ] || [ -f "$library/libtermwiz_c.a" ] || refuse "there is no libtermwiz_c.a in '$library'"
+[ -z "$library" ] || [ -f "$library/libhedrugal.a" ] || refuse "there is no libhedrugal.a in '$library'"
 need python3 python3
 if [ ${#programs[@]} = 0 ]; then
     [ -n "$library" ] || need rt 'the Rattle kit'
@@ -56,12 +56,12 @@ if [ ${#programs[@]} = 0 ]; then
     fi
     if wants cc; then
         progress 'builds the live program in C'
-        quietly cc -std=c99 -O1 -Wall -Wextra -pedantic -Werror -I"$library" c/live.c "$library/libtermwiz_c.a" -o "$work/live_c"
+        quietly cc -std=c99 -O1 -Wall -Wextra -pedantic -Werror -I"$library" c/live.c "$library/libhedrugal.a" -o "$work/live_c"
         programs+=("$work/live_c")
     fi
     if wants cargo; then
         progress 'builds the live program in Rust'
-        export TERMWIZ_C_DIR=$library CARGO_TARGET_DIR=$work/target
+        export HEDRUGAL_LIBRARY=$library CARGO_TARGET_DIR=$work/target
         quietly cargo build --quiet --locked --offline --manifest-path rust/Cargo.toml --example live
         programs+=("$work/target/debug/examples/live")
     fi

@@ -42,7 +42,7 @@ while [ $# -gt 0 ]; do
         --parsers) want_next "$@"; parsers=$2; shift 2 ;;
         --library)
             want_next "$@"
-            [ -f "$2/libtermwiz_c.a" ] || refuse "there is no libtermwiz_c.a in $2"
+            [ -f "$2/libhedrugal.a" ] || refuse "there is no libhedrugal.a in $2"
             library=$(realpath "$2")
             shift 2 ;;
         -*) refuse_word "$1" ;;
@@ -83,7 +83,7 @@ fi
 # is shared, the size of the reads, the corpus, and what tools/measure/parsers.c printed.
 measure_parsers() { # corpora..
     [ -n "$library" ] || { progress 'building the library'; library=$work/lib; "$top/tools/c_library.sh" "$library" >&2; }
-    cc -std=c11 -D_POSIX_C_SOURCE=200809L -O2 -I"$library" -o "$work/parsers" "$top/tools/measure/parsers.c" "$library/libtermwiz_c.a"
+    cc -std=c11 -D_POSIX_C_SOURCE=200809L -O2 -I"$library" -o "$work/parsers" "$top/tools/measure/parsers.c" "$library/libhedrugal.a"
     mkdir "$work/corpora"
     python3 "$top/tools/measure/corpora.py" "$work/corpora" "$@"
     note_load

@@ -5,8 +5,8 @@
 #
 # In the folder OUT, out/packages of this repository if none is named, it writes
 #
-#     libtermwiz-input0_VERSION-1_amd64.deb             the shared library, for Debian and what descends from it
-#     libtermwiz-input-dev_VERSION-1_amd64.deb          header, archive, termwiz_c.pc, manual page, two programs to start from
+#     libhedrugal0_VERSION-1_amd64.deb             the shared library, for Debian and what descends from it
+#     libhedrugal-dev_VERSION-1_amd64.deb          header, archive, hedrugal.pc, manual page, two programs to start from
 #     keyshow_VERSION-1_amd64.deb                       keyshow, hedrugal-keys and their manual pages
 #     hedrugal-VERSION-x86_64-linux.tar.gz              one folder with all of these, the Rust package and the Python module
 #     hedrugal-VERSION-py3-none-manylinux_*_x86_64.whl  the Python module and the shared library, for pip
@@ -57,11 +57,11 @@ build_unnamed
 
 # Copies the library and the programs, without what isn't needed to link and run them.
 strip_built() {
-    cp -P "$library"/libtermwiz_c.* "$library/termwiz_input.h" "$library/termwiz_c.pc" "$stripped/"
+    cp -P "$library"/libhedrugal.* "$library/hedrugal.h" "$library/hedrugal.pc" "$stripped/"
     cp "$keyshow" "$stripped/keyshow"
     cp "$keys" "$stripped/hedrugal-keys"
-    strip -D --strip-debug --remove-section=.comment "$stripped/libtermwiz_c.a"
-    strip --strip-unneeded --remove-section=.comment --remove-section=.note "$stripped/libtermwiz_c.so.$version" \
+    strip -D --strip-debug --remove-section=.comment "$stripped/libhedrugal.a"
+    strip --strip-unneeded --remove-section=.comment --remove-section=.note "$stripped/libhedrugal.so.$version" \
         "$stripped/keyshow" "$stripped/hedrugal-keys"
 }
 
@@ -89,7 +89,7 @@ copy_rust() {
 # Copies the files of the Python module, and lets it find the library.
 copy_python() {
     find python/hedrugal -name __pycache__ -prune -o -type f -exec cp --parents -t "$tree" {} +
-    ln -s ../../lib/libtermwiz_c.so "$tree/python/hedrugal/"
+    ln -s ../../lib/libhedrugal.so "$tree/python/hedrugal/"
 }
 
 make_tarball() {
@@ -109,19 +109,19 @@ make_tarball() {
 # Prints the platform of the wheel, by which pip takes it only where the C library is new enough. The oldest that pip knows has glibc 2.5.
 wheel_platform() {
     local needed
-    needed=$(printf '%s\n' 2.5 "$(glibc_needed "$stripped/libtermwiz_c.so")" | sort -V | tail -n 1)
+    needed=$(printf '%s\n' 2.5 "$(glibc_needed "$stripped/libhedrugal.so")" | sort -V | tail -n 1)
     echo "manylinux_${needed//./_}_x86_64"
 }
 
 make_wheel() {
     progress 'makes the wheel'
-    python3 tools/package/wheel.py "$version" "$(wheel_platform)" "$stripped/libtermwiz_c.so" "$made"
+    python3 tools/package/wheel.py "$version" "$(wheel_platform)" "$stripped/libhedrugal.so" "$made"
 }
 
 # Moves the files to OUT, in place of those of an earlier run.
 deliver() {
     mkdir -p "$out"
-    rm -f "$out"/{libtermwiz-input0,libtermwiz-input-dev,keyshow}_*_amd64.deb "$out"/hedrugal-*-x86_64-linux.tar.gz \
+    rm -f "$out"/{libhedrugal0,libhedrugal-dev,keyshow}_*_amd64.deb "$out"/hedrugal-*-x86_64-linux.tar.gz \
         "$out"/hedrugal-*-py3-none-manylinux_*_x86_64.whl
     (cd "$made" && sha256sum -- * > "$work/SHA256SUMS")
     install -m 644 "$made"/* "$work/SHA256SUMS" "$out/"

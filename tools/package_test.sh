@@ -44,11 +44,11 @@ build_unnamed
 
 version=$(library_version)
 major=${version%%.*}
-debian='keyshow libtermwiz-input-dev libtermwiz-input0'
+debian='keyshow libhedrugal-dev libhedrugal0'
 packages=$work/packages unpacked=$work/unpacked root=$work/root
 built=(--library "$library" --keyshow "$keyshow" --keys "$keys")
 libdir=usr/lib/x86_64-linux-gnu
-system_library=$unpacked/libtermwiz-input0/$libdir/libtermwiz_c.so.$version
+system_library=$unpacked/libhedrugal0/$libdir/libhedrugal.so.$version
 SOURCE_DATE_EPOCH=${SOURCE_DATE_EPOCH:-$(git log -1 --format=%ct)}
 export SOURCE_DATE_EPOCH
 
@@ -66,7 +66,7 @@ copy_sources() { # folder
 make_again() {
     local copy="$work/a copy" again=$work/again
     copy_sources "$copy" && mkdir "$again" || return
-    touch "$again"/another "$again"/{libtermwiz-input0,libtermwiz-input-dev,keyshow}_0.0.1-1_amd64.deb \
+    touch "$again"/another "$again"/{libhedrugal0,libhedrugal-dev,keyshow}_0.0.1-1_amd64.deb \
         "$again"/hedrugal-0.0.1-{x86_64-linux.tar.gz,py3-none-manylinux_2_5_x86_64.whl}
     (cd / && umask 077 && TZ=Asia/Tokyo "$copy/tools/package.sh" "${built[@]}" "$again") && rm "$again/another" && diff -r "$packages" "$again"
 }
@@ -77,8 +77,8 @@ SHA256SUMS
 hedrugal-$version-py3-none-manylinux_A_B_x86_64.whl
 hedrugal-$version-x86_64-linux.tar.gz
 keyshow_$version-1_amd64.deb
-libtermwiz-input-dev_$version-1_amd64.deb
-libtermwiz-input0_$version-1_amd64.deb
+libhedrugal-dev_$version-1_amd64.deb
+libhedrugal0_$version-1_amd64.deb
 END
 }
 
@@ -110,17 +110,17 @@ expected_files() { # package
         keyshow)
             printf 'usr/bin/%s 755\n' hedrugal-keys keyshow
             printf 'usr/share/man/man1/%s.1.gz 644\n' hedrugal-keys keyshow ;;
-        libtermwiz-input-dev)
-            echo 'usr/include/termwiz_input.h 644'
-            echo "$libdir/libtermwiz_c.a 644"
-            echo "$libdir/libtermwiz_c.so -> libtermwiz_c.so.$version"
-            echo "$libdir/pkgconfig/termwiz_c.pc 644"
+        libhedrugal-dev)
+            echo 'usr/include/hedrugal.h 644'
+            echo "$libdir/libhedrugal.a 644"
+            echo "$libdir/libhedrugal.so -> libhedrugal.so.$version"
+            echo "$libdir/pkgconfig/hedrugal.pc 644"
             printf "usr/share/doc/$1/examples/%s 644\n" ask.c events.c live.c
-            echo 'usr/share/man/man3/termwiz_input.3.gz 644'
-            library_calls | sed 's|.*|usr/share/man/man3/&.3.gz -> termwiz_input.3.gz|' ;;
-        libtermwiz-input0)
-            echo "$libdir/libtermwiz_c.so.$major -> libtermwiz_c.so.$version"
-            echo "$libdir/libtermwiz_c.so.$version 644" ;;
+            echo 'usr/share/man/man3/hedrugal.3.gz 644'
+            library_calls | sed 's|.*|usr/share/man/man3/&.3.gz -> hedrugal.3.gz|' ;;
+        libhedrugal0)
+            echo "$libdir/libhedrugal.so.$major -> libhedrugal.so.$version"
+            echo "$libdir/libhedrugal.so.$version 644" ;;
     esac
 }
 
@@ -133,7 +133,7 @@ check_files() { # package
 check_fields() { # package section [multi-arch]
     diff <(dpkg-deb -f "$packages/$1"_*.deb Package Source Version Architecture Section Multi-Arch) - << END
 Package: $1
-Source: libtermwiz-input
+Source: libhedrugal
 Version: $version-1
 Architecture: amd64
 Section: $2${3:+
@@ -142,16 +142,16 @@ END
 }
 
 check_dev_dependency() {
-    [ "$(dpkg-deb -f "$packages"/libtermwiz-input-dev_*.deb Depends)" = "libtermwiz-input0 (= $version-1)" ]
+    [ "$(dpkg-deb -f "$packages"/libhedrugal-dev_*.deb Depends)" = "libhedrugal0 (= $version-1)" ]
 }
 
 # The name by which programs ask for the library, and what it exports: the calls of the header, as the package's file of symbols has them.
 check_exports() {
-    local control=$unpacked/libtermwiz-input0/DEBIAN
-    readelf -dW "$system_library" | grep -F "soname: [libtermwiz_c.so.$major]" &&
+    local control=$unpacked/libhedrugal0/DEBIAN
+    readelf -dW "$system_library" | grep -F "soname: [libhedrugal.so.$major]" &&
         diff <(nm -D --defined-only "$system_library" | awk '{ print $3 }' | sort) <(library_calls | sort) &&
         diff <(sed -n 's/^ \(.*\)@Base .*/\1/p' "$control/symbols") <(library_calls | sort) &&
-        grep -xF "libtermwiz_c $major libtermwiz-input0 (>= $version)" "$control/shlibs" &&
+        grep -xF "libhedrugal $major libhedrugal0 (>= $version)" "$control/shlibs" &&
         grep -xF 'activate-noawait ldconfig' "$control/triggers"
 }
 
@@ -170,14 +170,14 @@ check_processor() { # file
 # The wheel's checksums are right, and its tag is for no older C library than its own file needs.
 check_wheel() {
     python3 tools/package/check_wheel.py "$packages"/*.whl \
-        "$(objdump -T "$unpacked/wheel/hedrugal/libtermwiz_c.so" | sed -n 's/.*GLIBC_\([0-9.]*\).*/\1/p' | sort -V | tail -n 1)"
+        "$(objdump -T "$unpacked/wheel/hedrugal/libhedrugal.so" | sed -n 's/.*GLIBC_\([0-9.]*\).*/\1/p' | sort -V | tail -n 1)"
 }
 
 # The tarball and the wheel have the files of the Python module, as they lie here, and the library where it looks for it.
 check_python() {
     local folder
     for folder in "$unpacked/hedrugal-$version-x86_64-linux/python" "$unpacked/wheel"; do
-        diff -r --exclude=__pycache__ --exclude=libtermwiz_c.so python/hedrugal "$folder/hedrugal" && [ -f "$folder/hedrugal/libtermwiz_c.so" ] || return
+        diff -r --exclude=__pycache__ --exclude=libhedrugal.so python/hedrugal "$folder/hedrugal" && [ -f "$folder/hedrugal/libhedrugal.so" ] || return
     done
 }
 
@@ -187,7 +187,7 @@ check_modes() {
     tar --numeric-owner -tvzf "$packages/$name.tar.gz" > "$work/listed" && [ -s "$work/listed" ] || return
     diff <(awk '{ print $1, $2 }' "$work/listed" | sort -u) <(printf '%s 0/0\n' -rw-r--r-- -rwxr-xr-x drwxr-xr-x lrwxrwxrwx) &&
         diff <(awk '$1 == "-rwxr-xr-x" { print $NF }' "$work/listed" | sort) \
-            <(printf "$name/%s\n" bin/hedrugal-keys bin/keyshow "lib/libtermwiz_c.so.$version")
+            <(printf "$name/%s\n" bin/hedrugal-keys bin/keyshow "lib/libhedrugal.so.$version")
 }
 
 # The notices of the tarball, the wheel and the Debian packages.
@@ -199,7 +199,7 @@ check_notices() {
     for file in LICENSE tools/package/THIRD-PARTY; do
         grep -vxFf "$work/copyright" "$file" | grep . && return 1
     done
-    cmp "$unpacked"/{keyshow/usr/share/doc/keyshow,libtermwiz-input0/usr/share/doc/libtermwiz-input0}/copyright
+    cmp "$unpacked"/{keyshow/usr/share/doc/keyshow,libhedrugal0/usr/share/doc/libhedrugal0}/copyright
 }
 
 # Prints the kit's crates that what is packaged stands on.
@@ -212,7 +212,7 @@ kit_crates() {
             for (i = 1; i <= count; i++) visit(names[i])
         }
         /^[a-z]/ { crate = $1; sub(":", "", crate); sub(".*:", ""); below[crate] = $0 }
-        END { visit("termwiz_c"); visit("keyshow") }' crates.txt
+        END { visit("hedrugal"); visit("keyshow") }' crates.txt
 }
 
 # Each of them is named with its holders, as far as the kit's text of its licence names any.
@@ -305,7 +305,7 @@ run_session() { # name folder steps..
 
 # Runs a command without the kit. Cargo asks no registry, and pip none of its own.
 without_kit() { # words..
-    env -u TERMWIZ_C_DIR -u HEDRUGAL_LIBRARY -u CARGO_TARGET_DIR PATH="$(path_without_rt)" CARGO_NET_OFFLINE=true \
+    env -u HEDRUGAL_LIBRARY -u HEDRUGAL_LIBRARY -u CARGO_TARGET_DIR PATH="$(path_without_rt)" CARGO_NET_OFFLINE=true \
         PIP_DISABLE_PIP_VERSION_CHECK=1 PIP_ROOT_USER_ACTION=ignore "${view[@]}" "$@"
 }
 
@@ -336,10 +336,10 @@ fi
 check 'packages unpacked' unpack
 for package in $debian; do check "files of $package" check_files $package; done
 check 'fields of keyshow' check_fields keyshow utils
-check 'fields of libtermwiz-input-dev' check_fields libtermwiz-input-dev libdevel same
-check 'fields of libtermwiz-input0' check_fields libtermwiz-input0 libs same
-check 'dependency of libtermwiz-input-dev' check_dev_dependency
-check 'dependency of libtermwiz-input0' check_dependency libtermwiz-input0 "$system_library"
+check 'fields of libhedrugal-dev' check_fields libhedrugal-dev libdevel same
+check 'fields of libhedrugal0' check_fields libhedrugal0 libs same
+check 'dependency of libhedrugal-dev' check_dev_dependency
+check 'dependency of libhedrugal0' check_dependency libhedrugal0 "$system_library"
 check 'dependency of keyshow' check_dependency keyshow "$unpacked"/keyshow/usr/bin/*
 check 'name and exports of the library' check_exports
 for file in "$system_library" "$unpacked"/keyshow/usr/bin/*; do check "processor for ${file##*/}" check_processor "$file"; done

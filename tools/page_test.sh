@@ -23,7 +23,7 @@ while [ $# -gt 0 ]; do
         --help) show_help; exit ;;
         --library)
             want_next "$@"
-            [ -f "$2/libtermwiz_c.so" ] || refuse "there is no libtermwiz_c.so in '$2'"
+            [ -f "$2/libhedrugal.so" ] || refuse "there is no libhedrugal.so in '$2'"
             library=$(realpath -- "$2")
             shift ;;
         --screenshots) want_next "$@"; screenshots=$(realpath -m -- "$2"); shift ;;
@@ -51,4 +51,4 @@ if [ -z "$library" ]; then
     run_quietly tools/c_library.sh "$library" || exit
 fi
 mkdir -p "${screenshots:=$work/screenshots}" || exit
-HEDRUGAL_LIBRARY=$library/libtermwiz_c.so python3 -B -W error tools/page/run.py "$screenshots"
+HEDRUGAL_LIBRARY=$library/libhedrugal.so python3 -B -W error tools/page/run.py "$screenshots"

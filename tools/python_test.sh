@@ -23,10 +23,10 @@ for word; do
     esac
 done
 [ -n "$library" ] || refuse 'it wants the folder that tools/c_library.sh wrote'
-[ -f "$library/libtermwiz_c.so" ] || refuse "there is no libtermwiz_c.so in '$library'"
+[ -f "$library/libhedrugal.so" ] || refuse "there is no libhedrugal.so in '$library'"
 library=$(realpath "$library")
 need python3 python3
 stop_if_missing
 python3 -c 'import sys; sys.exit(sys.version_info < (3, 9))' || refuse 'it needs Python 3.9 or later'
 cd "$(dirname "$0")/.." || exit
-HEDRUGAL_LIBRARY=$library/libtermwiz_c.so exec python3 -B -W error python/test_hedrugal.py
+HEDRUGAL_LIBRARY=$library/libhedrugal.so exec python3 -B -W error python/test_hedrugal.py

@@ -9,11 +9,11 @@ r"""Key, mouse and paste events from the bytes that a terminal sends, and the by
 The parser does no input of its own. The caller reads bytes from a terminal and passes them on. The events are the same however the bytes
 are cut into calls. A KeyMap maps byte strings to values of the program, such as its commands.
 
-The module calls the shared library libtermwiz_c.so by ctypes. The environment variable HEDRUGAL_LIBRARY names the library's file. If the
+The module calls the shared library libhedrugal.so by ctypes. The environment variable HEDRUGAL_LIBRARY names the library's file. If the
 variable isn't set, the library is looked for in this package's folder, and then where the system has its libraries. The import raises
 ImportError if no library is found, or if its version isn't that of the module.
 
-Names such as Modifiers and KeyCode are those of the Rust crate termwiz. Their numbers are those of termwiz_input.h."""
+Names such as Modifiers and KeyCode are those of the Rust crate termwiz. Their numbers are those of hedrugal.h."""
 from __future__ import annotations
 
 import ctypes
@@ -376,7 +376,7 @@ class ParseError(MemoryError):
         self.taken = taken
 
 
-# The structs of termwiz_input.h.
+# The structs of hedrugal.h.
 
 
 class _RawParser(ctypes.Structure):
@@ -423,7 +423,7 @@ class _RawRows(ctypes.Structure):
     _fields_ = [("first", ctypes.c_size_t), ("count", ctypes.c_size_t), ("with_alt", ctypes.c_bool)]
 
 
-# The numbers of termwiz_input.h that no enum above has.
+# The numbers of hedrugal.h that no enum above has.
 _KIND_KEY, _KIND_MOUSE, _KIND_PASTE = 1, 2, 3
 _NEXT_NONE, _NEXT_EVENT, _NEXT_NO_MEMORY, _NEXT_NO_PARSER = 0, 1, 2, 3
 _ENCODED_TEXT, _ENCODED_REFUSED_KEY, _ENCODED_REFUSED_MEMORY, _ENCODED_BAD_NUMBER, _ENCODED_TOO_LONG, _ENCODED_BAD_TEXT = 0, 1, 2, 3, 4, 5
@@ -439,26 +439,26 @@ _MAP = ctypes.POINTER(_RawKeyMap)
 # A uint8_t *, as which ctypes passes a bytes object without a copy.
 _BYTES = ctypes.c_void_p
 
-# The calls of termwiz_input.h: the type of the result, and those of the arguments.
+# The calls of hedrugal.h: the type of the result, and those of the arguments.
 _CALLS: Dict[str, Tuple[Any, List[Any]]] = {
-    "tw_parser_init": (ctypes.c_bool, [_PARSER]),
-    "tw_parser_init_sharing": (ctypes.c_bool, [_PARSER, _PARSER]),
-    "tw_parser_free": (None, [_PARSER]),
-    "tw_parser_feed": (ctypes.c_bool, [_PARSER, _BYTES, ctypes.c_size_t]),
-    "tw_parser_next": (ctypes.c_uint32, [_PARSER, ctypes.c_bool, _EVENT]),
-    "tw_parser_paste": (ctypes.c_size_t, [_PARSER, _BYTES, ctypes.c_size_t]),
-    "tw_parser_drop_paste": (None, [_PARSER]),
-    "tw_parser_shrink_to": (None, [_PARSER, ctypes.c_size_t]),
-    "tw_parser_waiting": (ctypes.c_size_t, [_PARSER]),
-    "tw_parser_waiting_kind": (ctypes.c_uint32, [_PARSER]),
-    "tw_parser_flush_escape": (ctypes.c_uint32, [_PARSER, _EVENT]),
-    "tw_parser_is_paste_open": (ctypes.c_bool, [_PARSER]),
-    "tw_parser_end_paste": (ctypes.c_uint32, [_PARSER, _EVENT]),
-    "tw_parser_reset": (ctypes.c_size_t, [_PARSER]),
-    "tw_row": (ctypes.c_size_t, [_PARSER, ctypes.c_size_t, _BYTES, ctypes.c_size_t, _EVENT]),
-    "tw_parser_completions": (ctypes.c_bool, [_PARSER, ctypes.POINTER(_RawRows)]),
-    "tw_key_name": (ctypes.c_size_t, [ctypes.c_uint16, _BYTES, ctypes.c_size_t]),
-    "tw_encode": (
+    "hed_parser_init": (ctypes.c_bool, [_PARSER]),
+    "hed_parser_init_sharing": (ctypes.c_bool, [_PARSER, _PARSER]),
+    "hed_parser_free": (None, [_PARSER]),
+    "hed_parser_feed": (ctypes.c_bool, [_PARSER, _BYTES, ctypes.c_size_t]),
+    "hed_parser_next": (ctypes.c_uint32, [_PARSER, ctypes.c_bool, _EVENT]),
+    "hed_parser_paste": (ctypes.c_size_t, [_PARSER, _BYTES, ctypes.c_size_t]),
+    "hed_parser_drop_paste": (None, [_PARSER]),
+    "hed_parser_shrink_to": (None, [_PARSER, ctypes.c_size_t]),
+    "hed_parser_waiting_len": (ctypes.c_size_t, [_PARSER]),
+    "hed_parser_waiting": (ctypes.c_uint32, [_PARSER]),
+    "hed_parser_flush_escape": (ctypes.c_uint32, [_PARSER, _EVENT]),
+    "hed_parser_is_paste_open": (ctypes.c_bool, [_PARSER]),
+    "hed_parser_end_paste": (ctypes.c_uint32, [_PARSER, _EVENT]),
+    "hed_parser_reset": (ctypes.c_size_t, [_PARSER]),
+    "hed_parser_entry": (ctypes.c_size_t, [_PARSER, ctypes.c_size_t, _BYTES, ctypes.c_size_t, _EVENT]),
+    "hed_parser_completions": (ctypes.c_bool, [_PARSER, ctypes.POINTER(_RawRows)]),
+    "hed_key_name": (ctypes.c_size_t, [ctypes.c_uint16, _BYTES, ctypes.c_size_t]),
+    "hed_encode": (
         ctypes.c_uint32,
         [
             ctypes.c_uint16,
@@ -471,12 +471,12 @@ _CALLS: Dict[str, Tuple[Any, List[Any]]] = {
             ctypes.POINTER(ctypes.c_size_t),
         ],
     ),
-    "tw_keymap_init": (ctypes.c_bool, [_MAP]),
-    "tw_keymap_free": (None, [_MAP]),
-    "tw_keymap_insert": (ctypes.c_bool, [_MAP, _BYTES, ctypes.c_size_t, ctypes.c_uint64]),
-    "tw_keymap_lookup": (ctypes.c_uint32, [_MAP, _BYTES, ctypes.c_size_t, ctypes.c_bool, ctypes.POINTER(_RawMatch)]),
-    "tw_keymap_len": (ctypes.c_size_t, [_MAP]),
-    "tw_version": (ctypes.c_uint32, []),
+    "hed_keymap_init": (ctypes.c_bool, [_MAP]),
+    "hed_keymap_free": (None, [_MAP]),
+    "hed_keymap_insert": (ctypes.c_bool, [_MAP, _BYTES, ctypes.c_size_t, ctypes.c_uint64]),
+    "hed_keymap_lookup": (ctypes.c_uint32, [_MAP, _BYTES, ctypes.c_size_t, ctypes.c_bool, ctypes.POINTER(_RawMatch)]),
+    "hed_keymap_len": (ctypes.c_size_t, [_MAP]),
+    "hed_version": (ctypes.c_uint32, []),
 }
 
 
@@ -485,13 +485,13 @@ def _library_file() -> str:
     named = os.environ.get("HEDRUGAL_LIBRARY")
     if named:
         return os.path.abspath(named)
-    beside = os.path.join(os.path.dirname(os.path.abspath(__file__)), "libtermwiz_c.so")
+    beside = os.path.join(os.path.dirname(os.path.abspath(__file__)), "libhedrugal.so")
     if os.path.exists(beside):
         return beside
-    found = ctypes.util.find_library("termwiz_c")
+    found = ctypes.util.find_library("hedrugal")
     if found:
         return found
-    raise ImportError(f"hedrugal: no libtermwiz_c.so in {os.path.dirname(__file__)} nor in the system's folders\nHEDRUGAL_LIBRARY can name its file.")
+    raise ImportError(f"hedrugal: no libhedrugal.so in {os.path.dirname(__file__)} nor in the system's folders\nHEDRUGAL_LIBRARY can name its file.")
 
 
 def _load() -> ctypes.PyDLL:
@@ -506,7 +506,7 @@ def _load() -> ctypes.PyDLL:
     except OSError as error:
         raise _not_loaded(str(error)) from None
     _declare(library, _CALLS)
-    number = library.tw_version()
+    number = library.hed_version()
     version = f"{number >> 16}.{number >> 8 & 255}.{number & 255}"
     if version != __version__:
         raise _not_loaded(f"{file} is version {version} of the library, and this module is for version {__version__}")
@@ -524,22 +524,22 @@ def _declare(library: ctypes.PyDLL, calls: Dict[str, Tuple[Any, List[Any]]]) -> 
 
 
 def _not_loaded(why: str) -> ImportError:
-    return ImportError(f"hedrugal: {why}\nHEDRUGAL_LIBRARY has to name a libtermwiz_c.so of this version.")
+    return ImportError(f"hedrugal: {why}\nHEDRUGAL_LIBRARY has to name a libhedrugal.so of this version.")
 
 
 _library: ctypes.PyDLL = _load()
-_lookup = _library.tw_keymap_lookup
-# tw_parser_next again, for `_skip`: a call whose arguments have no types takes a third of the time.
-_next_untyped = _library["tw_parser_next"]
+_lookup = _library.hed_keymap_lookup
+# hed_parser_next again, for `_skip`: a call whose arguments have no types takes a third of the time.
+_next_untyped = _library["hed_parser_next"]
 _next_untyped.restype = ctypes.c_uint32
 
 
 def _fault() -> NoReturn:
-    raise RuntimeError("libtermwiz_c.so answers what this module doesn't know: they are of different versions")
+    raise RuntimeError("libhedrugal.so answers what this module doesn't know: they are of different versions")
 
 
 def _refused() -> MemoryError:
-    return MemoryError("libtermwiz_c.so was refused memory")
+    return MemoryError("libhedrugal.so was refused memory")
 
 
 def _closed(what: str) -> ValueError:
@@ -636,7 +636,7 @@ def _parser_with_table() -> _RawParser:
 
     A call of the library keeps Python's lock. Between two calls another thread may come in, and both may make the idle parser. The second
     call then frees the first's, whose table stays with the parsers that share it."""
-    if not _idle.live and not _library.tw_parser_init(_idle):
+    if not _idle.live and not _library.hed_parser_init(_idle):
         raise _refused()
     return _idle
 
@@ -869,25 +869,25 @@ class InputParser(_EventParser[Event]):
     again."""
 
     _calls = _ParserCalls(
-        feed=_library.tw_parser_feed,
-        next=_library.tw_parser_next,
-        text=_library.tw_parser_paste,
-        drop_text=_library.tw_parser_drop_paste,
-        waiting=_library.tw_parser_waiting,
-        waiting_kind=_library.tw_parser_waiting_kind,
-        flush_escape=_library.tw_parser_flush_escape,
-        is_paste_open=_library.tw_parser_is_paste_open,
-        end_paste=_library.tw_parser_end_paste,
-        reset=_library.tw_parser_reset,
-        shrink_to=_library.tw_parser_shrink_to,
+        feed=_library.hed_parser_feed,
+        next=_library.hed_parser_next,
+        text=_library.hed_parser_paste,
+        drop_text=_library.hed_parser_drop_paste,
+        waiting=_library.hed_parser_waiting_len,
+        waiting_kind=_library.hed_parser_waiting,
+        flush_escape=_library.hed_parser_flush_escape,
+        is_paste_open=_library.hed_parser_is_paste_open,
+        end_paste=_library.hed_parser_end_paste,
+        reset=_library.hed_parser_reset,
+        shrink_to=_library.hed_parser_shrink_to,
     )
     _front_event = _EventParser._input_event
 
     def __init__(self) -> None:
         def init(raw: _RawParser) -> bool:
-            return bool(_library.tw_parser_init_sharing(raw, _parser_with_table()))
+            return bool(_library.hed_parser_init_sharing(raw, _parser_with_table()))
 
-        super().__init__(_RawParser(), _RawEvent(), init, _library.tw_parser_free)
+        super().__init__(_RawParser(), _RawEvent(), init, _library.hed_parser_free)
 
     def row(self, place: int) -> Optional[Row]:
         r"""Returns the row of the sequence table at a place, in the order of the rows' bytes. Returns None from the end of the table on.
@@ -902,7 +902,7 @@ class InputParser(_EventParser[Event]):
             return None
         event, room = _RawEvent(), bytearray(_ROOM)
         pointer, size = _borrowed(room)
-        length = _library.tw_row(self._raw, place, pointer, size, event)
+        length = _library.hed_parser_entry(self._raw, place, pointer, size, event)
         if not length:
             return None
         if length > size or event.kind != _KIND_KEY:
@@ -933,7 +933,7 @@ class InputParser(_EventParser[Event]):
             ([], Row(bytes=b'\x1b[1;5A', key=KeyCode.UpArrow, modifiers=Modifiers.CTRL))"""
         self._check_open()
         found = _RawRows()
-        if not _library.tw_parser_completions(self._raw, found):
+        if not _library.hed_parser_completions(self._raw, found):
             _fault()
         return Completions(range(found.first, found.first + found.count), bool(found.with_alt))
 
@@ -974,14 +974,14 @@ class KeyMap(_Closable, Generic[Value]):
     Making a map raises MemoryError if memory is refused."""
 
     def __init__(self) -> None:
-        super().__init__("map", _RawKeyMap(), _library.tw_keymap_init, _library.tw_keymap_free)
+        super().__init__("map", _RawKeyMap(), _library.hed_keymap_init, _library.hed_keymap_free)
         # The library maps a key to the place of its value.
         self._values: List[Value] = []
 
     def __len__(self) -> int:
         """The number of keys."""
         self._check_open()
-        return cast(int, _library.tw_keymap_len(self._raw))
+        return cast(int, _library.hed_keymap_len(self._raw))
 
     def __repr__(self) -> str:
         return f"<KeyMap, {'closed' if self.closed else f'{len(self)} keys'}>"
@@ -999,7 +999,7 @@ class KeyMap(_Closable, Generic[Value]):
             return
         place = len(self._values)
         self._values.append(value)
-        if not _library.tw_keymap_insert(self._raw, pointer, length, place):
+        if not _library.hed_keymap_insert(self._raw, pointer, length, place):
             self._values.pop()
             raise _refused()
 
@@ -1100,7 +1100,7 @@ def encode(
     raw_modes = _raw_modes(modes)
 
     def call(out: Any, size: int, length: ctypes.c_size_t) -> int:
-        return int(_library.tw_encode(number, detail, held, is_down, raw_modes, out, size, length))
+        return int(_library.hed_encode(number, detail, held, is_down, raw_modes, out, size, length))
 
     answer, sent = _sent(call)
     if answer == _ENCODED_TEXT:

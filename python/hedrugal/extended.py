@@ -117,7 +117,7 @@ class KeyReport:
         text, length = _borrowed(self.text.encode("utf-8", "surrogatepass"))
 
         def call(out: Any, size: int, sent: ctypes.c_size_t) -> int:
-            return int(_library.tw_encode_kitty(report, text, length, bits, out, size, sent))
+            return int(_library.hed_encode_kitty(report, text, length, bits, out, size, sent))
 
         answer, sent = _sent(call)
         if answer == _ENCODED_TEXT:
@@ -199,7 +199,7 @@ class Apc:
 ExtendedEvent = Union[Event, KeyReport, FocusGained, FocusLost, CursorPosition, Resize, KeyboardFlags, Csi, Osc, Dcs, Apc]
 
 
-# The structs of termwiz_input.h.
+# The structs of hedrugal.h.
 
 
 class _RawExtended(ctypes.Structure):
@@ -237,7 +237,7 @@ class _RawExtendedEvent(ctypes.Structure):
 _REPORT_AT, _INPUT_AT = _RawExtendedEvent.report.offset, _RawExtendedEvent.input.offset
 _report_fields_of = struct.Struct("@BBHIII").unpack_from
 
-# The numbers of termwiz_input.h that no enum above has.
+# The numbers of hedrugal.h that no enum above has.
 _EVENT_KEY, _EVENT_MOUSE, _EVENT_PASTE, _EVENT_REPORT, _EVENT_FOCUS_GAINED, _EVENT_FOCUS_LOST = 1, 2, 3, 4, 5, 6
 _EVENT_CURSOR_POSITION, _EVENT_RESIZE, _EVENT_KEYBOARD_FLAGS, _EVENT_CSI, _EVENT_OSC, _EVENT_DCS, _EVENT_APC = 7, 8, 9, 10, 11, 12, 13
 _NO_CODE = 0xFFFFFFFF
@@ -246,25 +246,25 @@ _PARSER = ctypes.POINTER(_RawExtended)
 _REPORT = ctypes.POINTER(_RawReport)
 _EVENT = ctypes.POINTER(_RawExtendedEvent)
 
-# The calls of termwiz_input.h: the type of the result, and those of the arguments.
+# The calls of hedrugal.h: the type of the result, and those of the arguments.
 _CALLS: Dict[str, Tuple[Any, List[Any]]] = {
-    "tw_extended_init": (ctypes.c_bool, [_PARSER, ctypes.c_uint32]),
-    "tw_extended_init_sharing": (ctypes.c_bool, [_PARSER, ctypes.c_uint32, _PARSER]),
-    "tw_extended_init_sharing_parser": (ctypes.c_bool, [_PARSER, ctypes.c_uint32, _INPUT_PARSER]),
-    "tw_parser_init_sharing_extended": (ctypes.c_bool, [_INPUT_PARSER, _PARSER]),
-    "tw_extended_free": (None, [_PARSER]),
-    "tw_extended_feed": (ctypes.c_bool, [_PARSER, _BYTES, ctypes.c_size_t]),
-    "tw_extended_next": (ctypes.c_uint32, [_PARSER, ctypes.c_bool, _EVENT]),
-    "tw_extended_text": (ctypes.c_size_t, [_PARSER, _BYTES, ctypes.c_size_t]),
-    "tw_extended_drop_text": (None, [_PARSER]),
-    "tw_extended_shrink_to": (None, [_PARSER, ctypes.c_size_t]),
-    "tw_extended_waiting": (ctypes.c_size_t, [_PARSER]),
-    "tw_extended_waiting_kind": (ctypes.c_uint32, [_PARSER]),
-    "tw_extended_flush_escape": (ctypes.c_uint32, [_PARSER, _EVENT]),
-    "tw_extended_is_paste_open": (ctypes.c_bool, [_PARSER]),
-    "tw_extended_end_paste": (ctypes.c_uint32, [_PARSER, _EVENT]),
-    "tw_extended_reset": (ctypes.c_size_t, [_PARSER]),
-    "tw_encode_kitty": (
+    "hed_extended_init": (ctypes.c_bool, [_PARSER, ctypes.c_uint32]),
+    "hed_extended_init_sharing": (ctypes.c_bool, [_PARSER, ctypes.c_uint32, _PARSER]),
+    "hed_extended_init_sharing_parser": (ctypes.c_bool, [_PARSER, ctypes.c_uint32, _INPUT_PARSER]),
+    "hed_parser_init_sharing_extended": (ctypes.c_bool, [_INPUT_PARSER, _PARSER]),
+    "hed_extended_free": (None, [_PARSER]),
+    "hed_extended_feed": (ctypes.c_bool, [_PARSER, _BYTES, ctypes.c_size_t]),
+    "hed_extended_next": (ctypes.c_uint32, [_PARSER, ctypes.c_bool, _EVENT]),
+    "hed_extended_text": (ctypes.c_size_t, [_PARSER, _BYTES, ctypes.c_size_t]),
+    "hed_extended_drop_text": (None, [_PARSER]),
+    "hed_extended_shrink_to": (None, [_PARSER, ctypes.c_size_t]),
+    "hed_extended_waiting_len": (ctypes.c_size_t, [_PARSER]),
+    "hed_extended_waiting": (ctypes.c_uint32, [_PARSER]),
+    "hed_extended_flush_escape": (ctypes.c_uint32, [_PARSER, _EVENT]),
+    "hed_extended_is_paste_open": (ctypes.c_bool, [_PARSER]),
+    "hed_extended_end_paste": (ctypes.c_uint32, [_PARSER, _EVENT]),
+    "hed_extended_reset": (ctypes.c_size_t, [_PARSER]),
+    "hed_encode_kitty": (
         ctypes.c_uint32,
         [_REPORT, _BYTES, ctypes.c_size_t, ctypes.c_uint8, _BYTES, ctypes.c_size_t, ctypes.POINTER(ctypes.c_size_t)],
     ),
@@ -307,7 +307,7 @@ class ExtendedParser(_EventParser[ExtendedEvent]):
     r"""Reads what an InputParser reads, and what terminals send beyond the sequence table. It is used in the same way.
 
     A program that asks its terminal questions, or turns Kitty's keyboard protocol on, makes it in place of an InputParser. In the second
-    case it passes Rows.KITTY, since that protocol sends some rows of the table in another sense:
+    case it passes Protocol.KITTY, since that protocol sends some rows of the table in another sense:
 
         >>> for rows in Rows:
         ...     with ExtendedParser(rows) as parser:
@@ -323,27 +323,27 @@ class ExtendedParser(_EventParser[ExtendedEvent]):
     What an InputParser says of its memory, of threads and of errors holds here too."""
 
     _calls = _ParserCalls(
-        feed=_library.tw_extended_feed,
-        next=_library.tw_extended_next,
-        text=_library.tw_extended_text,
-        drop_text=_library.tw_extended_drop_text,
-        waiting=_library.tw_extended_waiting,
-        waiting_kind=_library.tw_extended_waiting_kind,
-        flush_escape=_library.tw_extended_flush_escape,
-        is_paste_open=_library.tw_extended_is_paste_open,
-        end_paste=_library.tw_extended_end_paste,
-        reset=_library.tw_extended_reset,
-        shrink_to=_library.tw_extended_shrink_to,
+        feed=_library.hed_extended_feed,
+        next=_library.hed_extended_next,
+        text=_library.hed_extended_text,
+        drop_text=_library.hed_extended_drop_text,
+        waiting=_library.hed_extended_waiting_len,
+        waiting_kind=_library.hed_extended_waiting,
+        flush_escape=_library.hed_extended_flush_escape,
+        is_paste_open=_library.hed_extended_is_paste_open,
+        end_paste=_library.hed_extended_end_paste,
+        reset=_library.hed_extended_reset,
+        shrink_to=_library.hed_extended_shrink_to,
     )
 
-    def __init__(self, rows: Rows = Rows.PORT) -> None:
+    def __init__(self, rows: Rows = Protocol.LEGACY) -> None:
         if not isinstance(rows, Rows):
             raise TypeError(f"Rows are required, not {type(rows).__name__}")
 
         def init(raw: _RawExtended) -> bool:
-            return bool(_library.tw_extended_init_sharing_parser(raw, rows.value, _parser_with_table()))
+            return bool(_library.hed_extended_init_sharing_parser(raw, rows.value, _parser_with_table()))
 
-        super().__init__(_RawExtended(), _RawExtendedEvent(), init, _library.tw_extended_free)
+        super().__init__(_RawExtended(), _RawExtendedEvent(), init, _library.hed_extended_free)
         self._rows = rows
 
     @property

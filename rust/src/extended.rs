@@ -8,7 +8,7 @@
 //! ```
 //! use hedrugal::extended::{ExtendedEvent, ExtendedParser, Rows};
 //!
-//! let mut parser = ExtendedParser::new(Rows::Port);
+//! let mut parser = ExtendedParser::new(Protocol::Legacy);
 //! for event in parser.parse_as_vec(b"\x1b[?24;80R\x1b]11;rgb:1e1e/1e1e/1e1e\x1b\\q", true) {
 //!     match event {
 //!         ExtendedEvent::CursorPosition { row, column } => assert_eq!((row, column), (24, 80)),

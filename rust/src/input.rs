@@ -23,4 +23,4 @@ pub use parser::{AllocError, InputParser, ParseError, ParseVecError, Waiting};
 pub use rows::{Completions, RowBytes};
 
 // What is said if the library answers otherwise than its header says.
-pub(crate) const FAULT: &str = "the library answers as c/termwiz_input.h says";
+pub(crate) const FAULT: &str = "the library answers as c/hedrugal.h says";

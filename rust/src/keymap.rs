@@ -235,7 +235,7 @@ impl Places {
         let map = self.raw();
         // SAFETY: `map` is a map or none. A slice's pointer isn't null, also if the slice is empty, and leads to as many bytes.
         let inserted =
-            unsafe { (place > 0 || raw::tw_keymap_init(map)) && raw::tw_keymap_insert(map, key.as_ptr(), key.len(), place as u64) };
+            unsafe { (place > 0 || raw::hed_keymap_init(map)) && raw::hed_keymap_insert(map, key.as_ptr(), key.len(), place as u64) };
         if inserted {
             Ok(())
         } else {
@@ -248,7 +248,7 @@ impl Places {
         let mut found = raw::Match::default();
         let mut map = self.0.lock().unwrap_or_else(PoisonError::into_inner);
         // SAFETY: `map` is a map or none, `found` another value, and the slice's pointer leads to as many bytes.
-        let answer = unsafe { raw::tw_keymap_lookup(&mut *map, text.as_ptr(), text.len(), maybe_more, &mut found) };
+        let answer = unsafe { raw::hed_keymap_lookup(&mut *map, text.as_ptr(), text.len(), maybe_more, &mut found) };
         let place = found.value as usize;
         match answer {
             raw::FOUND_NONE | raw::FOUND_NO_MAP => Found::None,
@@ -276,6 +276,6 @@ impl Places {
 impl Drop for Places {
     fn drop(&mut self) {
         // SAFETY: this is a map or none, and isn't used again.
-        unsafe { raw::tw_keymap_free(self.raw()) }
+        unsafe { raw::hed_keymap_free(self.raw()) }
     }
 }

@@ -25,7 +25,7 @@
 //! termwiz = { package = "hedrugal", path = "hedrugal/rust" }
 //! ```
 //!
-//! A build finds the installed library by pkg-config. `TERMWIZ_C_DIR` comes first: it names another folder that has `libtermwiz_c.a`,
+//! A build finds the installed library by pkg-config. `HEDRUGAL_LIBRARY` comes first: it names another folder that has `libhedrugal.a`,
 //! absolute or from where cargo runs. The library is for Linux on x86-64.
 //!
 //! The feature `use_serde`, serde's derives for keys, events and flags, is that of the manifest in `rust/serde`, which has these

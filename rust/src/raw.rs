@@ -1,4 +1,4 @@
-// The C library, as c/termwiz_input.h declares it. This is where its proof ends: these lines are written by hand.
+// The C library, as c/hedrugal.h declares it. This is where its proof ends: these lines are written by hand.
 // A number that the library uses may have no use here.
 #![allow(dead_code)]
 
@@ -33,7 +33,7 @@ pub const WAITING_PASTE: u32 = 4;
 // numbers.txt: encoded const
 /// The key's text, which may be empty.
 pub const ENCODED_TEXT: u32 = 0;
-/// The key has no text. Of tw_encode it is a function key, since only F1 to F24 have one.
+/// The key has no text. Of hed_encode it is a function key, since only F1 to F24 have one.
 pub const ENCODED_REFUSED_KEY: u32 = 1;
 /// Memory was refused. The call may be made again.
 pub const ENCODED_REFUSED_MEMORY: u32 = 2;
@@ -71,9 +71,9 @@ pub const KIND_PASTE: u8 = 3;
 
 // numbers.txt: rows const
 /// Each row keeps its key. For programs that leave Kitty's keyboard protocol off.
-pub const ROWS_PORT: u32 = 0;
+pub const PROTOCOL_LEGACY: u32 = 0;
 /// A row that reports a key or the cursor's position is read as that report. For programs that turn the protocol on.
-pub const ROWS_KITTY: u32 = 1;
+pub const PROTOCOL_KITTY: u32 = 1;
 // numbers.txt: end
 
 // numbers.txt: event const
@@ -277,22 +277,22 @@ const _: () = {
 };
 
 extern "C" {
-    pub fn tw_parser_init(parser: *mut Parser) -> bool;
-    pub fn tw_parser_init_sharing(parser: *mut Parser, other: *mut Parser) -> bool;
-    pub fn tw_parser_init_sharing_extended(parser: *mut Parser, other: *mut Extended) -> bool;
-    pub fn tw_parser_free(parser: *mut Parser);
-    pub fn tw_parser_feed(parser: *mut Parser, bytes: *const u8, len: usize) -> bool;
-    pub fn tw_parser_next(parser: *mut Parser, more: bool, event: *mut Event) -> u32;
-    pub fn tw_parser_paste(parser: *mut Parser, out: *mut u8, len: usize) -> usize;
-    pub fn tw_parser_drop_paste(parser: *mut Parser);
-    pub fn tw_parser_shrink_to(parser: *mut Parser, min_capacity: usize);
-    pub fn tw_parser_waiting(parser: *mut Parser) -> usize;
-    pub fn tw_parser_waiting_kind(parser: *mut Parser) -> u32;
-    pub fn tw_parser_flush_escape(parser: *mut Parser, event: *mut Event) -> u32;
-    pub fn tw_parser_is_paste_open(parser: *mut Parser) -> bool;
-    pub fn tw_parser_end_paste(parser: *mut Parser, event: *mut Event) -> u32;
-    pub fn tw_parser_reset(parser: *mut Parser) -> usize;
-    pub fn tw_encode(
+    pub fn hed_parser_init(parser: *mut Parser) -> bool;
+    pub fn hed_parser_init_sharing(parser: *mut Parser, other: *mut Parser) -> bool;
+    pub fn hed_parser_init_sharing_extended(parser: *mut Parser, other: *mut Extended) -> bool;
+    pub fn hed_parser_free(parser: *mut Parser);
+    pub fn hed_parser_feed(parser: *mut Parser, bytes: *const u8, len: usize) -> bool;
+    pub fn hed_parser_next(parser: *mut Parser, more: bool, event: *mut Event) -> u32;
+    pub fn hed_parser_paste(parser: *mut Parser, out: *mut u8, len: usize) -> usize;
+    pub fn hed_parser_drop_paste(parser: *mut Parser);
+    pub fn hed_parser_shrink_to(parser: *mut Parser, min_capacity: usize);
+    pub fn hed_parser_waiting_len(parser: *mut Parser) -> usize;
+    pub fn hed_parser_waiting(parser: *mut Parser) -> u32;
+    pub fn hed_parser_flush_escape(parser: *mut Parser, event: *mut Event) -> u32;
+    pub fn hed_parser_is_paste_open(parser: *mut Parser) -> bool;
+    pub fn hed_parser_end_paste(parser: *mut Parser, event: *mut Event) -> u32;
+    pub fn hed_parser_reset(parser: *mut Parser) -> usize;
+    pub fn hed_encode(
         key: u16,
         detail: u32,
         modifiers: u16,
@@ -302,29 +302,29 @@ extern "C" {
         len: usize,
         text_len: *mut usize,
     ) -> u32;
-    pub fn tw_row(parser: *mut Parser, place: usize, bytes: *mut u8, capacity: usize, event: *mut Event) -> usize;
-    pub fn tw_parser_completions(parser: *mut Parser, rows: *mut Rows) -> bool;
-    pub fn tw_keymap_init(map: *mut KeyMap) -> bool;
-    pub fn tw_keymap_free(map: *mut KeyMap);
-    pub fn tw_keymap_insert(map: *mut KeyMap, key: *const u8, len: usize, value: u64) -> bool;
-    pub fn tw_keymap_lookup(map: *mut KeyMap, text: *const u8, len: usize, maybe_more: bool, found: *mut Match) -> u32;
-    pub fn tw_keymap_len(map: *mut KeyMap) -> usize;
-    pub fn tw_extended_init(parser: *mut Extended, rows: u32) -> bool;
-    pub fn tw_extended_init_sharing(parser: *mut Extended, rows: u32, other: *mut Extended) -> bool;
-    pub fn tw_extended_init_sharing_parser(parser: *mut Extended, rows: u32, other: *mut Parser) -> bool;
-    pub fn tw_extended_free(parser: *mut Extended);
-    pub fn tw_extended_feed(parser: *mut Extended, bytes: *const u8, len: usize) -> bool;
-    pub fn tw_extended_next(parser: *mut Extended, more: bool, event: *mut ExtendedEvent) -> u32;
-    pub fn tw_extended_text(parser: *mut Extended, out: *mut u8, len: usize) -> usize;
-    pub fn tw_extended_drop_text(parser: *mut Extended);
-    pub fn tw_extended_shrink_to(parser: *mut Extended, min_capacity: usize);
-    pub fn tw_extended_waiting(parser: *mut Extended) -> usize;
-    pub fn tw_extended_waiting_kind(parser: *mut Extended) -> u32;
-    pub fn tw_extended_flush_escape(parser: *mut Extended, event: *mut ExtendedEvent) -> u32;
-    pub fn tw_extended_is_paste_open(parser: *mut Extended) -> bool;
-    pub fn tw_extended_end_paste(parser: *mut Extended, event: *mut ExtendedEvent) -> u32;
-    pub fn tw_extended_reset(parser: *mut Extended) -> usize;
-    pub fn tw_encode_kitty(
+    pub fn hed_parser_entry(parser: *mut Parser, place: usize, bytes: *mut u8, capacity: usize, event: *mut Event) -> usize;
+    pub fn hed_parser_completions(parser: *mut Parser, rows: *mut Rows) -> bool;
+    pub fn hed_keymap_init(map: *mut KeyMap) -> bool;
+    pub fn hed_keymap_free(map: *mut KeyMap);
+    pub fn hed_keymap_insert(map: *mut KeyMap, key: *const u8, len: usize, value: u64) -> bool;
+    pub fn hed_keymap_lookup(map: *mut KeyMap, text: *const u8, len: usize, maybe_more: bool, found: *mut Match) -> u32;
+    pub fn hed_keymap_len(map: *mut KeyMap) -> usize;
+    pub fn hed_extended_init(parser: *mut Extended, rows: u32) -> bool;
+    pub fn hed_extended_init_sharing(parser: *mut Extended, rows: u32, other: *mut Extended) -> bool;
+    pub fn hed_extended_init_sharing_parser(parser: *mut Extended, rows: u32, other: *mut Parser) -> bool;
+    pub fn hed_extended_free(parser: *mut Extended);
+    pub fn hed_extended_feed(parser: *mut Extended, bytes: *const u8, len: usize) -> bool;
+    pub fn hed_extended_next(parser: *mut Extended, more: bool, event: *mut ExtendedEvent) -> u32;
+    pub fn hed_extended_text(parser: *mut Extended, out: *mut u8, len: usize) -> usize;
+    pub fn hed_extended_drop_text(parser: *mut Extended);
+    pub fn hed_extended_shrink_to(parser: *mut Extended, min_capacity: usize);
+    pub fn hed_extended_waiting_len(parser: *mut Extended) -> usize;
+    pub fn hed_extended_waiting(parser: *mut Extended) -> u32;
+    pub fn hed_extended_flush_escape(parser: *mut Extended, event: *mut ExtendedEvent) -> u32;
+    pub fn hed_extended_is_paste_open(parser: *mut Extended) -> bool;
+    pub fn hed_extended_end_paste(parser: *mut Extended, event: *mut ExtendedEvent) -> u32;
+    pub fn hed_extended_reset(parser: *mut Extended) -> usize;
+    pub fn hed_encode_kitty(
         report: *const KeyReport,
         text: *const u8,
         text_len: usize,

@@ -31,7 +31,7 @@ pub(crate) fn share(init: impl FnOnce(&mut raw::Parser) -> bool) -> Result<(), A
 fn parser_with_table() -> Result<raw::Parser, AllocError> {
     let mut raw = raw::Parser::NONE;
     // SAFETY: `raw` is no parser yet, which the call allows.
-    granted(unsafe { raw::tw_parser_init(&mut raw) })?;
+    granted(unsafe { raw::hed_parser_init(&mut raw) })?;
     Ok(raw)
 }
 

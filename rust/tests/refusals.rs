@@ -101,7 +101,7 @@ const REPLIES: &[u8] =
 
 // Reads these in pieces by the extended parser with one request refused. Returns the events, and how many refusals were told.
 fn read_replies(piece: usize, number: usize) -> (Vec<ExtendedEvent>, usize) {
-    let mut parser = ExtendedParser::new(Rows::Kitty);
+    let mut parser = ExtendedParser::new(Protocol::Kitty);
     let mut events = Vec::with_capacity(64);
     let (told, refused) = refusing(number, || {
         let mut told = 0;
@@ -234,7 +234,7 @@ fn check_new<Parser>(make: fn() -> Result<Parser, AllocError>) {
 #[test]
 fn makes_a_parser_after_a_refusal() {
     check_new(InputParser::try_new);
-    check_new(|| ExtendedParser::try_new(Rows::Port));
+    check_new(|| ExtendedParser::try_new(Protocol::Legacy));
 }
 
 #[test]
@@ -374,7 +374,7 @@ impl Session for InputParser {
 
 impl Session for ExtendedParser {
     fn make() -> Self {
-        ExtendedParser::new(Rows::Kitty)
+        ExtendedParser::new(Protocol::Kitty)
     }
 
     fn read(&mut self, bytes: &[u8]) -> usize {

@@ -20,7 +20,7 @@ fn refuse_the_first() {
             if number % 2 == 0 {
                 InputParser::try_new().err()
             } else {
-                ExtendedParser::try_new(Rows::Port).err()
+                ExtendedParser::try_new(Protocol::Legacy).err()
             }
         });
         assert_eq!((refusal, refused), (Some(AllocError), 1), "request {number}");
@@ -43,7 +43,7 @@ fn up() -> InputEvent {
 fn share_the_table() {
     let start = in_use();
     let mut parsers: Vec<_> = (0..PARSERS).map(|_| InputParser::new()).collect();
-    let mut extended: Vec<_> = (0..PARSERS).map(|_| ExtendedParser::new(Rows::Port)).collect();
+    let mut extended: Vec<_> = (0..PARSERS).map(|_| ExtendedParser::new(Protocol::Legacy)).collect();
     assert!(in_use() - start < 2 * PARSERS * PARSER, "{} bytes", in_use() - start);
     while let Some(mut parser) = parsers.pop() {
         assert_eq!(parser.parse_as_vec(b"\x1b[1;5A", true), [up()]);

@@ -4,16 +4,16 @@
 #
 # A place begins at a comment 'numbers.txt: GROUP FORM' on a line of its own, and ends before the comment 'numbers.txt: end'.
 BEGIN {
-    prefix["next"] = prefix["encoded"] = prefix["kind"] = prefix["encoding"] = "TW_"
-    prefix["waiting"] = "TW_WAITING_"
-    prefix["found"] = "TW_FOUND_"
-    prefix["kitty"] = "TW_KITTY_"
-    prefix["rows"] = "TW_ROWS_"
-    prefix["event"] = "TW_EVENT_"
-    prefix["action"] = "TW_ACTION_"
-    prefix["held"] = "TW_HELD_"
-    prefix["modifier"] = "TW_MOD_"
-    prefix["button"] = "TW_BUTTON_"
+    prefix["next"] = prefix["encoded"] = prefix["kind"] = prefix["encoding"] = "HED_"
+    prefix["waiting"] = "HED_WAITING_"
+    prefix["found"] = "HED_FOUND_"
+    prefix["kitty"] = "HED_KITTY_FLAG_"
+    prefix["rows"] = "HED_ROWS_"
+    prefix["event"] = "HED_EVENT_"
+    prefix["action"] = "HED_KEY_EVENT_KIND_"
+    prefix["held"] = "HED_KITTY_MOD_"
+    prefix["modifier"] = "HED_TERMWIZ_MOD_"
+    prefix["button"] = "HED_BUTTON_"
     type["next"] = type["waiting"] = type["encoded"] = type["found"] = type["rows"] = "u32"
     type["kind"] = type["encoding"] = type["event"] = type["action"] = type["held"] = "u8"
     type["modifier"] = "Modifiers"
@@ -74,9 +74,9 @@ function write(group, form, i,    n, what) {
     }
 }
 
-# The name in C: TW_KEY_LEFT_ARROW of LeftArrow, TW_KEY_NUMPAD_0 of Numpad0.
+# The name in C: HED_KEY_LEFT_ARROW of LeftArrow, HED_KEY_NUMPAD_0 of Numpad0.
 function c_name(group, n) {
     if (group != "key") return prefix[group] n
     gsub(/[A-Z0-9]/, "_&", n)
-    return "TW_KEY" toupper(n)
+    return "HED_KEY" toupper(n)
 }

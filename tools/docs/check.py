@@ -300,7 +300,7 @@ class Runner:
         source, program = os.path.join(folder, 'listing.c'), os.path.join(folder, 'listing')
         with open(source, 'w', encoding='utf-8') as opened:
             opened.write(listing.text)
-        run(['cc', '-std=c99', '-Wall', '-Wextra', '-pedantic', '-Werror', f'-I{library}', source, f'{library}/libtermwiz_c.a', '-o', program])
+        run(['cc', '-std=c99', '-Wall', '-Wextra', '-pedantic', '-Werror', f'-I{library}', source, f'{library}/libhedrugal.a', '-o', program])
         return self.run_program([program], listing.words[1:])
 
     def rust(self, listing):
@@ -314,7 +314,7 @@ class Runner:
             opened.write('[package]\nname = "listing"\nedition = "2021"\n[dependencies]\n')
             opened.write(f'{name} = {{ package = "hedrugal", path = "{os.getcwd()}/rust" }}\n')
         target = os.path.join(self.work, 'target')
-        env = dict(os.environ, TERMWIZ_C_DIR=library, CARGO_TARGET_DIR=target, RUSTFLAGS='-D warnings')
+        env = dict(os.environ, HEDRUGAL_LIBRARY=library, CARGO_TARGET_DIR=target, RUSTFLAGS='-D warnings')
         run(['cargo', 'build', '--quiet', '--offline', '--manifest-path', os.path.join(folder, 'Cargo.toml')], env=env)
         return self.run_program([os.path.join(target, 'debug/listing')], listing.words[1:])
 

@@ -29,23 +29,23 @@
 enum { FED_MAX = 1 << 12, TEXT_MAX = 3 * FED_MAX, ONE_FEED = 63, MANY = 16 };
 enum { MOST_CALLS = 512, MOST_INITS = 2 };
 
-static const tw_parser none = TW_PARSER_NONE;
+static const hed_parser none = HED_PARSER_NONE;
 
 /* The parser under test lies in a room, and moves to another. */
 static room places[2], given, taken, copied;
 static unsigned place;
-static tw_parser *parser;
+static hed_parser *parser;
 static bool is_made;
 static int inits;
 
 /* The parser that programs share, while none has it; whether this one began with it, and has made it anew or shrunk it; how many blocks are
  * no concern of this one. */
-static tw_parser shared = TW_PARSER_NONE;
+static hed_parser shared = HED_PARSER_NONE;
 static bool is_shared, is_changed;
 static long other_blocks;
 
 /* The second parser; the text of the last paste; all that was fed, of which the last bytes wait in both parsers. */
-static tw_parser twin = TW_PARSER_NONE;
+static hed_parser twin = HED_PARSER_NONE;
 static uint8_t text[TEXT_MAX], fed[FED_MAX];
 static size_t text_len, fed_len, waiting_len;
 
@@ -54,11 +54,11 @@ static const uint8_t *waiting(void) { return fed + fed_len - waiting_len; }
 /* What the parser shows of itself. */
 static void check_state(void) {
   refuse_request(1);
-  HOLDS(tw_parser_waiting(parser) == waiting_len);
-  HOLDS(tw_parser_is_paste_open(parser) == begins_paste(waiting(), waiting_len));
-  HOLDS(tw_parser_waiting_kind(parser) == (is_made ? tw_parser_waiting_kind(&twin) : TW_WAITING_NOTHING));
+  HOLDS(hed_parser_waiting_len(parser) == waiting_len);
+  HOLDS(hed_parser_is_paste_open(parser) == begins_paste(waiting(), waiting_len));
+  HOLDS(hed_parser_waiting(parser) == (is_made ? hed_parser_waiting(&twin) : HED_WAITING_NOTHING));
   room_of(&copied, 0);
-  HOLDS(tw_parser_paste(parser, pointer_to(&copied), 0) == text_len && is_untouched(&copied, 0));
+  HOLDS(hed_parser_paste(parser, pointer_to(&copied), 0) == text_len && is_untouched(&copied, 0));
   HOLDS(is_untouched(&places[place], sizeof *parser));
   HOLDS(requests() == 0);
   refuse_request(0);
@@ -68,31 +68,31 @@ static void check_state(void) {
 static void copy_paste(size_t len) {
   size_t want = len < text_len ? len : text_len;
   uint8_t *out = room_of(&copied, len);
-  HOLDS(tw_parser_paste(parser, pointer_to(&copied), len) == text_len);
+  HOLDS(hed_parser_paste(parser, pointer_to(&copied), len) == text_len);
   HOLDS(memcmp(out, text, want) == 0 && is_untouched(&copied, want));
 }
 
 /* A row of the sequence table: as many of its bytes as there is room for. Returns how many it has. */
-static size_t copy_row(size_t len, size_t at, tw_event **key) {
+static size_t copy_row(size_t len, size_t at, hed_event **key) {
   room_of(&copied, len);
   *key = room_of(&taken, sizeof **key);
-  size_t whole = tw_row(parser, at, pointer_to(&copied), len, *key);
-  HOLDS((whole > 0) == (is_made && at < TW_ROW_COUNT) && whole <= TW_ROW_MOST);
+  size_t whole = hed_parser_entry(parser, at, pointer_to(&copied), len, *key);
+  HOLDS((whole > 0) == (is_made && at < HED_ENTRY_COUNT) && whole <= HED_ENTRY_MOST);
   HOLDS(is_untouched(&copied, whole < len ? whole : len) && is_untouched(&taken, whole > 0 ? sizeof **key : 0));
   return whole;
 }
 
 /* The row is the second parser's, and its key an event's, but for the start of a paste. */
 static void check_row(size_t len, size_t at) {
-  uint8_t bytes[TW_ROW_MOST];
-  tw_event *key, wanted;
+  uint8_t bytes[HED_ENTRY_MOST];
+  hed_event *key, wanted;
   refuse_request(1);
   size_t whole = copy_row(len, at, &key);
   if (whole > 0) {
-    HOLDS(tw_row(&twin, at, bytes, sizeof bytes, &wanted) == whole && same_event(key, &wanted));
+    HOLDS(hed_parser_entry(&twin, at, bytes, sizeof bytes, &wanted) == whole && same_event(key, &wanted));
     HOLDS(memcmp(copied.at, bytes, whole < len ? whole : len) == 0);
-    if (key->key != TW_KEY_INTERNAL_PASTE_START) check_event(key);
-    HOLDS(key->kind == TW_KEY);
+    if (key->key != HED_KEY_INTERNAL_PASTE_START) check_event(key);
+    HOLDS(key->kind == HED_KIND_KEY);
   }
   HOLDS(requests() == 0);
   refuse_request(0);
@@ -100,14 +100,14 @@ static void check_row(size_t len, size_t at) {
 
 /* Whether the row at a place begins with a text and is longer. */
 static bool goes_on(size_t at, const uint8_t *from, size_t len) {
-  uint8_t bytes[TW_ROW_MOST];
-  tw_event key;
-  size_t whole = tw_row(&twin, at, bytes, sizeof bytes, &key);
+  uint8_t bytes[HED_ENTRY_MOST];
+  hed_event key;
+  size_t whole = hed_parser_entry(&twin, at, bytes, sizeof bytes, &key);
   return whole > len && memcmp(bytes, from, len) == 0;
 }
 
 /* The first and the last of some rows begin with a text and are longer, and the two beside them don't. */
-static void check_range(const tw_rows *rows, const uint8_t *from, size_t len) {
+static void check_range(const hed_entries *rows, const uint8_t *from, size_t len) {
   size_t end = rows->first + rows->count;
   if (rows->count == 0) return;
   HOLDS(goes_on(rows->first, from, len) && goes_on(end - 1, from, len));
@@ -117,13 +117,13 @@ static void check_range(const tw_rows *rows, const uint8_t *from, size_t len) {
 
 /* What would complete the waiting bytes. */
 static void check_completions(void) {
-  tw_rows *rows = room_of(&taken, sizeof *rows), wanted;
+  hed_entries *rows = room_of(&taken, sizeof *rows), wanted;
   refuse_request(1);
-  bool told = tw_parser_completions(parser, rows);
+  bool told = hed_parser_completions(parser, rows);
   HOLDS(told == is_made && is_untouched(&taken, told ? sizeof *rows : 0));
   if (told) {
-    HOLDS(rows->first <= TW_ROW_COUNT && rows->count <= TW_ROW_COUNT - rows->first);
-    HOLDS(tw_parser_completions(&twin, &wanted) && wanted.first == rows->first && wanted.count == rows->count);
+    HOLDS(rows->first <= HED_ENTRY_COUNT && rows->count <= HED_ENTRY_COUNT - rows->first);
+    HOLDS(hed_parser_completions(&twin, &wanted) && wanted.first == rows->first && wanted.count == rows->count);
     HOLDS(wanted.with_alt == rows->with_alt && (!rows->with_alt || (rows->count > 0 && waiting()[0] == '\033')));
     check_range(rows, waiting() + rows->with_alt, waiting_len - rows->with_alt);
     note(0x50000u | rows->with_alt, (unsigned)rows->count);
@@ -137,25 +137,25 @@ static void forget(void) { is_made = false, waiting_len = text_len = 0; }
 
 static void clear_twin(void) {
   set_owner(TWIN);
-  tw_parser_reset(&twin);
-  tw_parser_drop_paste(&twin);
+  hed_parser_reset(&twin);
+  hed_parser_drop_paste(&twin);
   set_owner(TESTED);
 }
 
 /* The calls that make a parser. */
 enum make { INIT, SHARE };
 
-static bool make(enum make how) { return how == INIT ? tw_parser_init(parser) : tw_parser_init_sharing(parser, &twin); }
+static bool make(enum make how) { return how == INIT ? hed_parser_init(parser) : hed_parser_init_sharing(parser, &twin); }
 
 static void make_anew(enum make how, unsigned number) {
-  size_t of_twin = tw_parser_waiting(&twin);
+  size_t of_twin = hed_parser_waiting_len(&twin);
   refuse_request(number);
   bool made = make(how);
   HOLDS(made == (refusals() == 0) && (how == INIT || requests() == 1));
   if (!made) check_state();
   refuse_request(0);
   HOLDS(made || make(how));
-  HOLDS(tw_parser_waiting(&twin) == of_twin);
+  HOLDS(hed_parser_waiting_len(&twin) == of_twin);
   forget();
   is_made = is_changed = true;
   clear_twin();
@@ -167,34 +167,34 @@ static void init(unsigned number) {
 
 /* Without another parser nothing changes, and with one the parser shares its table. */
 static void share(unsigned number) {
-  HOLDS(!tw_parser_init_sharing(parser, &none));
+  HOLDS(!hed_parser_init_sharing(parser, &none));
   check_state();
   make_anew(SHARE, number);
 }
 
 static void shrink(size_t room_left, unsigned number) {
   refuse_request(number);
-  tw_parser_shrink_to(parser, room_left);
+  hed_parser_shrink_to(parser, room_left);
   is_changed = true;
 }
 
 static void free_parser(void) {
-  tw_parser_free(parser);
+  hed_parser_free(parser);
   HOLDS(!parser->live && parser->state == NULL && blocks_of(TESTED) == other_blocks);
   forget();
 }
 
 static void move(void) {
-  tw_parser old = *parser;
+  hed_parser old = *parser;
   memset(parser, 0xee, sizeof *parser);
   place = !place;
-  parser = (tw_parser *)places[place].at;
+  parser = (hed_parser *)places[place].at;
   *parser = old;
 }
 
 static void feed_twin(const uint8_t *bytes, size_t len) {
   set_owner(TWIN);
-  HOLDS(tw_parser_feed(&twin, bytes, len));
+  HOLDS(hed_parser_feed(&twin, bytes, len));
   set_owner(TESTED);
   memcpy(fed + fed_len, bytes, len);
   fed_len += len;
@@ -205,14 +205,14 @@ static void feed(const uint8_t *bytes, size_t len, unsigned number) {
   if (len > FED_MAX - fed_len) return;
   room_with(&given, bytes, len);
   refuse_request(number);
-  bool is_fed = tw_parser_feed(parser, pointer_to(&given), len);
+  bool is_fed = hed_parser_feed(parser, pointer_to(&given), len);
   HOLDS(is_fed == (is_made && refusals() == 0));
   HOLDS((is_made && len > 0) || requests() == 0);
   note(0x40000, requests());
   if (!is_made) return;
   if (!is_fed) check_state();
   refuse_request(0);
-  HOLDS(is_fed || tw_parser_feed(parser, pointer_to(&given), len));
+  HOLDS(is_fed || hed_parser_feed(parser, pointer_to(&given), len));
   HOLDS(is_unchanged(&given, bytes));
   feed_twin(given.at, len);
 }
@@ -220,18 +220,18 @@ static void feed(const uint8_t *bytes, size_t len, unsigned number) {
 /* The calls that take an event. */
 enum take { NEXT_MORE, NEXT_LAST, FLUSH_ESCAPE, END_PASTE };
 
-static uint32_t ask(enum take what, tw_parser *of, tw_event *event) {
-  if (what == FLUSH_ESCAPE) return tw_parser_flush_escape(of, event);
-  if (what == END_PASTE) return tw_parser_end_paste(of, event);
-  return tw_parser_next(of, what == NEXT_MORE, event);
+static uint32_t ask(enum take what, hed_parser *of, hed_event *event) {
+  if (what == FLUSH_ESCAPE) return hed_parser_flush_escape(of, event);
+  if (what == END_PASTE) return hed_parser_end_paste(of, event);
+  return hed_parser_next(of, what == NEXT_MORE, event);
 }
 
-static uint32_t ask_twin(enum take what, tw_event *event) {
+static uint32_t ask_twin(enum take what, hed_event *event) {
   set_owner(TWIN);
   refuse_request(0);
   uint32_t answer = ask(what, &twin, event);
-  if (answer == TW_EVENT && event->kind == TW_PASTE) {
-    text_len = tw_parser_paste(&twin, text, sizeof text);
+  if (answer == HED_NEXT_EVENT && event->kind == HED_KIND_PASTE) {
+    text_len = hed_parser_paste(&twin, text, sizeof text);
     HOLDS(text_len == event->paste_len && text_len <= sizeof text);
   }
   set_owner(TESTED);
@@ -239,15 +239,15 @@ static uint32_t ask_twin(enum take what, tw_event *event) {
 }
 
 /* What the waiting bytes say of an answer, before any of them is consumed. */
-static void check_answer(enum take what, bool is_event, const tw_event *event) {
+static void check_answer(enum take what, bool is_event, const hed_event *event) {
   bool is_open = is_open_paste(waiting(), waiting_len);
   if (what == FLUSH_ESCAPE) {
     HOLDS(is_event == is_escape(waiting(), waiting_len));
-    HOLDS(!is_event || (event->kind == TW_KEY && event->key == TW_KEY_ESCAPE));
-    HOLDS(!is_event || event->modifiers == (waiting_len == 2 ? TW_MOD_ALT : TW_MOD_NONE));
+    HOLDS(!is_event || (event->kind == HED_KIND_KEY && event->key == HED_KEY_ESCAPE));
+    HOLDS(!is_event || event->modifiers == (waiting_len == 2 ? HED_TERMWIZ_MOD_ALT : HED_TERMWIZ_MOD_NONE));
   } else if (what == END_PASTE) {
     HOLDS(is_event == is_open);
-    HOLDS(!is_event || event->kind == TW_PASTE);
+    HOLDS(!is_event || event->kind == HED_KIND_PASTE);
   } else if (what == NEXT_LAST) {
     HOLDS(is_event == (waiting_len > 0 && !is_open));
   } else if (!is_event) {
@@ -257,53 +257,53 @@ static void check_answer(enum take what, bool is_event, const tw_event *event) {
 
 /* Some of the waiting bytes are gone: all of them, unless the event was the next of several. */
 static void consume(enum take what) {
-  size_t left = tw_parser_waiting(parser);
+  size_t left = hed_parser_waiting_len(parser);
   HOLDS(left < waiting_len);
   HOLDS(left == 0 || what == NEXT_MORE || what == NEXT_LAST);
   waiting_len = left;
 }
 
 static uint32_t take(enum take what, unsigned number) {
-  tw_event *event = room_of(&taken, sizeof *event), wanted;
+  hed_event *event = room_of(&taken, sizeof *event), wanted;
   refuse_request(number);
   uint32_t answer = ask(what, parser, event);
   unsigned asked = requests();
   bool is_refused = refusals() > 0;
-  HOLDS(answer == TW_EVENT || is_untouched(&taken, 0));
-  HOLDS((answer == TW_NO_PARSER) == !is_made && (answer == TW_NO_MEMORY) == is_refused);
+  HOLDS(answer == HED_NEXT_EVENT || is_untouched(&taken, 0));
+  HOLDS((answer == HED_NEXT_NO_PARSER) == !is_made && (answer == HED_NEXT_NO_MEMORY) == is_refused);
   if (!is_made) return answer;
   if (is_refused) {
     check_state();
     copy_paste(text_len);
     answer = ask(what, parser, event);
   }
-  HOLDS(is_untouched(&taken, answer == TW_EVENT ? sizeof *event : 0));
+  HOLDS(is_untouched(&taken, answer == HED_NEXT_EVENT ? sizeof *event : 0));
   HOLDS(answer == ask_twin(what, &wanted));
-  HOLDS(answer == TW_EVENT || answer == TW_NONE);
-  HOLDS(asked == 0 || (answer == TW_EVENT && event->kind == TW_PASTE));
-  check_answer(what, answer == TW_EVENT, event);
-  if (answer != TW_EVENT) return answer;
+  HOLDS(answer == HED_NEXT_EVENT || answer == HED_NEXT_NONE);
+  HOLDS(asked == 0 || (answer == HED_NEXT_EVENT && event->kind == HED_KIND_PASTE));
+  check_answer(what, answer == HED_NEXT_EVENT, event);
+  if (answer != HED_NEXT_EVENT) return answer;
   check_event(event);
   HOLDS(same_event(event, &wanted));
-  if (event->kind == TW_PASTE) copy_paste(text_len);
+  if (event->kind == HED_KIND_PASTE) copy_paste(text_len);
   consume(what);
   return answer;
 }
 
 static void take_all(enum take what, unsigned number) {
-  while (take(what, number) == TW_EVENT) {}
+  while (take(what, number) == HED_NEXT_EVENT) {}
 }
 
 static void reset(void) {
-  HOLDS(tw_parser_reset(parser) == waiting_len);
-  if (is_made) HOLDS(tw_parser_reset(&twin) == waiting_len);
+  HOLDS(hed_parser_reset(parser) == waiting_len);
+  if (is_made) HOLDS(hed_parser_reset(&twin) == waiting_len);
   waiting_len = 0;
 }
 
 static void drop_paste(void) {
-  tw_parser_drop_paste(parser);
+  hed_parser_drop_paste(parser);
   set_owner(TWIN);
-  tw_parser_drop_paste(&twin);
+  hed_parser_drop_paste(&twin);
   set_owner(TESTED);
   text_len = 0;
 }
@@ -342,7 +342,7 @@ static void row_at(input *it) {
 
 static void check_version(void) {
   refuse_request(1);
-  HOLDS(tw_version() == TW_VERSION_NUMBER && requests() == 0);
+  HOLDS(hed_version() == HED_VERSION_NUMBER && requests() == 0);
   refuse_request(0);
 }
 
@@ -388,18 +388,18 @@ static void call(input *it) {
 
 static void begin_twin(void) {
   set_owner(TWIN);
-  if (!twin.live) HOLDS(tw_parser_init(&twin));
+  if (!twin.live) HOLDS(hed_parser_init(&twin));
   clear_twin();
 }
 
 /* Takes the parser that programs share, as it always is: empty, and with room for all that a program feeds. */
 static void take_shared(void) {
   static const uint8_t bytes[FED_MAX];
-  if (!shared.live) HOLDS(tw_parser_init(&shared) && tw_parser_feed(&shared, bytes, sizeof bytes));
+  if (!shared.live) HOLDS(hed_parser_init(&shared) && hed_parser_feed(&shared, bytes, sizeof bytes));
   *parser = shared;
   shared = none;
-  tw_parser_reset(parser);
-  tw_parser_drop_paste(parser);
+  hed_parser_reset(parser);
+  hed_parser_drop_paste(parser);
   is_made = true;
 }
 

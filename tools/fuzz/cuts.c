@@ -13,46 +13,46 @@ enum { STREAM_MAX = 4096, AGAIN = 0x20, SIZE = 0x1f };
 
 /* What a reading gave. */
 typedef struct reading {
-  tw_event events[STREAM_MAX];
+  hed_event events[STREAM_MAX];
   uint8_t texts[3 * STREAM_MAX];
   size_t count, texts_len;
   size_t rest, flushed_rest;
 } reading;
 
 static reading whole, cut;
-static tw_parser parser = TW_PARSER_NONE;
+static hed_parser parser = HED_PARSER_NONE;
 static room given, taken, text;
 
 static void keep_text(reading *it, size_t len) {
   uint8_t *out = room_of(&text, len);
-  HOLDS(tw_parser_paste(&parser, pointer_to(&text), len) == len);
+  HOLDS(hed_parser_paste(&parser, pointer_to(&text), len) == len);
   HOLDS(is_untouched(&text, len) && it->texts_len + len <= sizeof it->texts);
   memcpy(it->texts + it->texts_len, out, len);
   it->texts_len += len;
 }
 
-static void keep_event(reading *it, const tw_event *event) {
+static void keep_event(reading *it, const hed_event *event) {
   check_event(event);
   HOLDS(it->count < STREAM_MAX);
   it->events[it->count++] = *event;
-  if (event->kind == TW_PASTE) keep_text(it, event->paste_len);
+  if (event->kind == HED_KIND_PASTE) keep_text(it, event->paste_len);
 }
 
 /* Takes all events that there are. */
 static void take_all(reading *it, bool more) {
   uint32_t next;
   do {
-    tw_event *event = room_of(&taken, sizeof *event);
-    next = tw_parser_next(&parser, more, event);
-    HOLDS(next == TW_EVENT || next == TW_NONE);
-    if (next == TW_EVENT) keep_event(it, event);
-    HOLDS(is_untouched(&taken, next == TW_EVENT ? sizeof *event : 0));
-  } while (next == TW_EVENT);
+    hed_event *event = room_of(&taken, sizeof *event);
+    next = hed_parser_next(&parser, more, event);
+    HOLDS(next == HED_NEXT_EVENT || next == HED_NEXT_NONE);
+    if (next == HED_NEXT_EVENT) keep_event(it, event);
+    HOLDS(is_untouched(&taken, next == HED_NEXT_EVENT ? sizeof *event : 0));
+  } while (next == HED_NEXT_EVENT);
 }
 
 static void feed(const uint8_t *bytes, size_t len) {
   room_with(&given, bytes, len);
-  HOLDS(tw_parser_feed(&parser, pointer_to(&given), len));
+  HOLDS(hed_parser_feed(&parser, pointer_to(&given), len));
   HOLDS(is_unchanged(&given, bytes));
 }
 
@@ -60,7 +60,7 @@ static void feed(const uint8_t *bytes, size_t len) {
 static void read_up_to(reading *it, const uint8_t *stream, size_t from, size_t to) {
   feed(stream + from, to - from);
   take_all(it, true);
-  it->rest = tw_parser_waiting(&parser);
+  it->rest = hed_parser_waiting_len(&parser);
   HOLDS(it->rest <= to && it->count <= to);
   check_rest(&parser, stream + to - it->rest, it->rest);
 }
@@ -68,28 +68,28 @@ static void read_up_to(reading *it, const uint8_t *stream, size_t from, size_t t
 /* Forgets what waits and feeds it once more: it is all that the parser remembers of the stream. */
 static void read_rest_again(reading *it, const uint8_t *stream, size_t to) {
   size_t count = it->count;
-  HOLDS(tw_parser_reset(&parser) == it->rest);
+  HOLDS(hed_parser_reset(&parser) == it->rest);
   read_up_to(it, stream, to - it->rest, to);
   HOLDS(it->count == count);
 }
 
 /* What follows when nothing more comes. */
 static void read_end(reading *it, const uint8_t *stream, size_t len) {
-  tw_event *event = room_of(&taken, sizeof *event);
+  hed_event *event = room_of(&taken, sizeof *event);
   take_all(it, false);
-  it->flushed_rest = tw_parser_waiting(&parser);
+  it->flushed_rest = hed_parser_waiting_len(&parser);
   HOLDS(it->flushed_rest == 0 || is_open_paste(stream + len - it->flushed_rest, it->flushed_rest));
   check_rest(&parser, stream + len - it->flushed_rest, it->flushed_rest);
-  HOLDS(tw_parser_end_paste(&parser, event) == (it->flushed_rest ? TW_EVENT : TW_NONE));
+  HOLDS(hed_parser_end_paste(&parser, event) == (it->flushed_rest ? HED_NEXT_EVENT : HED_NEXT_NONE));
   if (it->flushed_rest) keep_event(it, event);
-  HOLDS(it->count <= len && tw_parser_waiting(&parser) == 0);
+  HOLDS(it->count <= len && hed_parser_waiting_len(&parser) == 0);
 }
 
 static void begin(reading *it) {
   it->count = it->texts_len = it->rest = 0;
   given.is_at_end = taken.is_at_end = text.is_at_end = false;
-  tw_parser_reset(&parser);
-  tw_parser_drop_paste(&parser);
+  hed_parser_reset(&parser);
+  hed_parser_drop_paste(&parser);
 }
 
 static void read_whole(const uint8_t *stream, size_t len) {
@@ -124,7 +124,7 @@ int LLVMFuzzerTestOneInput(const uint8_t *bytes, size_t len) {
   uint8_t first = take_byte(&it);
   const uint8_t *pieces = take_bytes(&it, first & SIZE, &count);
   const uint8_t *stream = take_bytes(&it, STREAM_MAX, &stream_len);
-  if (!parser.live) HOLDS(tw_parser_init(&parser));
+  if (!parser.live) HOLDS(hed_parser_init(&parser));
   read_whole(stream, stream_len);
   read_cut(pieces, count, first & AGAIN, stream, stream_len);
   compare();

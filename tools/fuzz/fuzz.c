@@ -178,18 +178,18 @@ void note(unsigned what, unsigned how) {
 
 /* Events. */
 
-bool same_event(const tw_event *one, const tw_event *other) {
+bool same_event(const hed_event *one, const hed_event *other) {
   return one->kind == other->kind && one->buttons == other->buttons && one->modifiers == other->modifiers && one->key == other->key
          && one->x == other->x && one->y == other->y && one->detail == other->detail && one->paste_len == other->paste_len;
 }
 
-static void check_key(const tw_event *event) {
-  uint16_t known = TW_MOD_SHIFT | TW_MOD_ALT | TW_MOD_CTRL;
+static void check_key(const hed_event *event) {
+  uint16_t known = HED_TERMWIZ_MOD_SHIFT | HED_TERMWIZ_MOD_ALT | HED_TERMWIZ_MOD_CTRL;
   HOLDS((event->modifiers & ~known) == 0);
-  HOLDS(event->key >= TW_KEY_CHAR && event->key <= TW_KEY_INTERNAL_PASTE_END && event->key != TW_KEY_INTERNAL_PASTE_START);
-  if (event->key == TW_KEY_CHAR) {
+  HOLDS(event->key >= HED_KEY_CHAR && event->key <= HED_KEY_INTERNAL_PASTE_END && event->key != HED_KEY_INTERNAL_PASTE_START);
+  if (event->key == HED_KEY_CHAR) {
     HOLDS(event->detail <= 0x10ffff && (event->detail < 0xd800 || event->detail > 0xdfff));
-  } else if (event->key == TW_KEY_FUNCTION) {
+  } else if (event->key == HED_KEY_FUNCTION) {
     HOLDS(event->detail >= 1 && event->detail <= 24);
   } else {
     HOLDS(event->detail == 0);
@@ -197,18 +197,18 @@ static void check_key(const tw_event *event) {
   HOLDS(event->buttons == 0 && event->x == 0 && event->y == 0 && event->paste_len == 0);
 }
 
-static void check_mouse(const tw_event *event) {
-  HOLDS((event->modifiers & ~(TW_MOD_SHIFT | TW_MOD_ALT | TW_MOD_CTRL)) == 0);
-  HOLDS((event->buttons & ~(2 * TW_BUTTON_WHEEL_POSITIVE - TW_BUTTON_LEFT)) == 0);
+static void check_mouse(const hed_event *event) {
+  HOLDS((event->modifiers & ~(HED_TERMWIZ_MOD_SHIFT | HED_TERMWIZ_MOD_ALT | HED_TERMWIZ_MOD_CTRL)) == 0);
+  HOLDS((event->buttons & ~(2 * HED_BUTTON_WHEEL_POSITIVE - HED_BUTTON_LEFT)) == 0);
   HOLDS(event->key == 0 && event->detail == 0 && event->paste_len == 0);
 }
 
-void check_event(const tw_event *event) {
-  HOLDS(event->kind == TW_KEY || event->kind == TW_MOUSE || event->kind == TW_PASTE);
-  if (event->kind == TW_KEY) {
+void check_event(const hed_event *event) {
+  HOLDS(event->kind == HED_KIND_KEY || event->kind == HED_KIND_MOUSE || event->kind == HED_KIND_PASTE);
+  if (event->kind == HED_KIND_KEY) {
     check_key(event);
     note(event->key << 8 | (event->detail & 0x7f), event->modifiers);
-  } else if (event->kind == TW_MOUSE) {
+  } else if (event->kind == HED_KIND_MOUSE) {
     check_mouse(event);
     note(0x10000u | event->buttons, event->modifiers);
   } else {
@@ -234,18 +234,18 @@ bool is_escape(const uint8_t *waiting, size_t len) {
 
 /* The kind of a rest, by its first bytes. */
 static uint32_t kind_of_rest(const uint8_t *waiting, size_t len) {
-  if (len == 0) return TW_WAITING_NOTHING;
-  if (is_escape(waiting, len)) return TW_WAITING_ESCAPE;
-  if (begins_paste(waiting, len)) return TW_WAITING_PASTE;
-  if (waiting[0] != ESC || waiting[1] >= 0x80) return TW_WAITING_CHARACTER;
-  return TW_WAITING_SEQUENCE;
+  if (len == 0) return HED_WAITING_NOTHING;
+  if (is_escape(waiting, len)) return HED_WAITING_ESCAPE;
+  if (begins_paste(waiting, len)) return HED_WAITING_PASTE;
+  if (waiting[0] != ESC || waiting[1] >= 0x80) return HED_WAITING_CHARACTER;
+  return HED_WAITING_SEQUENCE;
 }
 
-void check_rest(tw_parser *parser, const uint8_t *waiting, size_t len) {
+void check_rest(hed_parser *parser, const uint8_t *waiting, size_t len) {
   bool is_open = is_open_paste(waiting, len);
-  HOLDS(tw_parser_waiting(parser) == len);
+  HOLDS(hed_parser_waiting_len(parser) == len);
   HOLDS(is_open || len <= MOST_WAITING);
-  HOLDS(tw_parser_is_paste_open(parser) == is_open);
-  HOLDS(tw_parser_waiting_kind(parser) == kind_of_rest(waiting, len));
+  HOLDS(hed_parser_is_paste_open(parser) == is_open);
+  HOLDS(hed_parser_waiting(parser) == kind_of_rest(waiting, len));
   note(0x30000u | kind_of_rest(waiting, len), len < 64 ? (unsigned)len : 64);
 }

@@ -3,7 +3,7 @@
 #ifndef FUZZ_H
 #define FUZZ_H
 
-#include "termwiz_input.h"
+#include "hedrugal.h"
 
 /* A check. If it fails, it is printed and the program aborts, and libFuzzer keeps the input. */
 #define HOLDS(holds) ((holds) ? (void)0 : fail(#holds, __FILE__, __LINE__))
@@ -86,10 +86,10 @@ unsigned refusals(void);
 /* Notes something that a run has seen, so that libFuzzer keeps inputs that show something new: the archive itself isn't instrumented. */
 void note(unsigned what, unsigned how);
 
-bool same_event(const tw_event *one, const tw_event *other);
+bool same_event(const hed_event *one, const hed_event *other);
 
 /* Checks what holds for every event. */
-void check_event(const tw_event *event);
+void check_event(const hed_event *event);
 
 /* What the waiting bytes of a parser are. */
 bool begins_paste(const uint8_t *waiting, size_t len);
@@ -97,6 +97,6 @@ bool is_open_paste(const uint8_t *waiting, size_t len);
 bool is_escape(const uint8_t *waiting, size_t len);
 
 /* Checks that a parser, which had nothing more to give while more bytes may come, has these bytes waiting, and tells their kind. */
-void check_rest(tw_parser *parser, const uint8_t *waiting, size_t len);
+void check_rest(hed_parser *parser, const uint8_t *waiting, size_t len);
 
 #endif

@@ -1,9 +1,9 @@
 /* Texts and names of keys, into rooms of every size, and what is sent for key reports.
  *
- * An input is the arguments of one call of tw_encode: the key (2 bytes), the detail (4), the modifiers (2), flags of bool (1), the
+ * An input is the arguments of one call of hed_encode: the key (2 bytes), the detail (4), the modifiers (2), flags of bool (1), the
  * encoding (1), kitty's flags (1), the level of modifyOtherKeys (8), and which request for memory is refused (1). If the flags haven't
  * 0x80, numbers that name nothing become others that name something, since few numbers do. The same key and kitty's flags are those of a
- * call of tw_encode_kitty, with what happened to the key (1; 0x80 makes it a functional key without a name), the modifiers (1), shifted
+ * call of hed_encode_kitty, with what happened to the key (1; 0x80 makes it a functional key without a name), the modifiers (1), shifted
  * (4), base (4), and the text, which is what is left.
  *
  * The answer has to be the one that the header promises for these numbers. A room that is too short gets as much of the text as it has
@@ -13,14 +13,14 @@
 #include "fuzz.h"
 #include <string.h>
 
-enum { TEXT_MAX = 128, TYPED_MAX = 12, NAME_MAX = 21, KEYS = TW_KEY_INTERNAL_PASTE_END };
-enum { ALL_MODIFIERS = 2 * TW_MOD_RIGHT_SHIFT - TW_MOD_SHIFT, ALL_KITTY = 2 * TW_KITTY_REPORT_ASSOCIATED_TEXT - 1, FUNCTIONS = 24 };
+enum { TEXT_MAX = 128, TYPED_MAX = 12, NAME_MAX = 21, KEYS = HED_KEY_INTERNAL_PASTE_END };
+enum { ALL_MODIFIERS = 2 * HED_TERMWIZ_MOD_RIGHT_SHIFT - HED_TERMWIZ_MOD_SHIFT, ALL_KITTY = 2 * HED_KITTY_FLAG_REPORT_ASSOCIATED_TEXT - 1, FUNCTIONS = 24 };
 
 typedef struct press {
   uint16_t key, modifiers;
   uint32_t detail;
   bool is_down;
-  tw_modes modes;
+  hed_modes modes;
 } press;
 
 /* The answer of one call, with as much of the text as there was room for. */
@@ -32,7 +32,7 @@ typedef struct answer {
 
 /* A key report with its text, and the flags. */
 typedef struct told_key {
-  tw_key_report report;
+  hed_key_report report;
   uint8_t flags;
   size_t len;
   uint8_t text[TYPED_MAX];
@@ -46,11 +46,11 @@ static bool is_scalar(uint32_t code) { return code <= 0x10ffff && (code < 0xd800
 static press named(press is) {
   is.key = is.key == 0 ? 1 : (is.key - 1) % KEYS + 1;
   is.modifiers &= ALL_MODIFIERS;
-  is.modes.encoding %= TW_KITTY + 1;
+  is.modes.encoding %= HED_ENCODING_KITTY + 1;
   is.modes.kitty_flags &= ALL_KITTY;
   is.modes.modify_other_keys &= 3;
-  if (is.key == TW_KEY_CHAR && !is_scalar(is.detail)) is.detail &= 0x7fff;
-  if (is.key == TW_KEY_FUNCTION) is.detail %= 32;
+  if (is.key == HED_KEY_CHAR && !is_scalar(is.detail)) is.detail &= 0x7fff;
+  if (is.key == HED_KEY_FUNCTION) is.detail %= 32;
   return is;
 }
 
@@ -77,11 +77,11 @@ static answer encode(const press *is, size_t room) {
   room_of(&out_len, sizeof(size_t));
   room_with(&modes, &is->modes, sizeof is->modes);
   uint8_t *text = pointer_to(&out);
-  got.encoded = tw_encode(is->key, is->detail, is->modifiers, is->is_down, (tw_modes *)modes.at, text, room, (size_t *)out_len.at);
+  got.encoded = hed_encode(is->key, is->detail, is->modifiers, is->is_down, (hed_modes *)modes.at, text, room, (size_t *)out_len.at);
   memcpy(&got.len, out_len.at, sizeof got.len);
   HOLDS(memcmp(modes.at, &is->modes, sizeof is->modes) == 0 && is_untouched(&modes, sizeof is->modes));
   HOLDS(is_untouched(&out_len, sizeof(size_t)));
-  HOLDS(got.len <= TEXT_MAX && (got.encoded == TW_TEXT || got.len == 0));
+  HOLDS(got.len <= TEXT_MAX && (got.encoded == HED_ENCODED_TEXT || got.len == 0));
   size_t written = got.len < room ? got.len : room;
   HOLDS(is_untouched(&out, written));
   memcpy(got.text, out.at, written);
@@ -94,24 +94,24 @@ static bool same_answer(const answer *one, const answer *other, size_t room) {
 }
 
 static bool is_bad(const press *is) {
-  if (is->key == 0 || is->key > KEYS || is->modifiers & ~ALL_MODIFIERS || is->modes.encoding > TW_KITTY) return true;
-  if (is->key == TW_KEY_CHAR && !is_scalar(is->detail)) return true;
-  if (is->key == TW_KEY_FUNCTION && is->detail > 255) return true;
-  return is->modes.encoding == TW_KITTY && is->modes.kitty_flags & ~ALL_KITTY;
+  if (is->key == 0 || is->key > KEYS || is->modifiers & ~ALL_MODIFIERS || is->modes.encoding > HED_ENCODING_KITTY) return true;
+  if (is->key == HED_KEY_CHAR && !is_scalar(is->detail)) return true;
+  if (is->key == HED_KEY_FUNCTION && is->detail > 255) return true;
+  return is->modes.encoding == HED_ENCODING_KITTY && is->modes.kitty_flags & ~ALL_KITTY;
 }
 
 /* What the header promises for these numbers. */
 static uint32_t promised(const press *is) {
-  if (is_bad(is)) return TW_BAD_NUMBER;
-  bool has_no_text = is->key == TW_KEY_FUNCTION && is->is_down && (is->detail == 0 || is->detail > FUNCTIONS);
-  return has_no_text ? TW_REFUSED_KEY : TW_TEXT;
+  if (is_bad(is)) return HED_ENCODED_BAD_NUMBER;
+  bool has_no_text = is->key == HED_KEY_FUNCTION && is->is_down && (is->detail == 0 || is->detail > FUNCTIONS);
+  return has_no_text ? HED_ENCODED_REFUSED_KEY : HED_ENCODED_TEXT;
 }
 
 /* Numbers that the call doesn't read for this press. */
 static press with_others_unread(press is) {
-  if (is.key != TW_KEY_CHAR && is.key != TW_KEY_FUNCTION) is.detail = ~is.detail;
+  if (is.key != HED_KEY_CHAR && is.key != HED_KEY_FUNCTION) is.detail = ~is.detail;
   if (!is.modes.has_modify_other_keys) is.modes.modify_other_keys ^= 2;
-  if (is.modes.encoding != TW_KITTY) is.modes.kitty_flags = (uint8_t)~is.modes.kitty_flags;
+  if (is.modes.encoding != HED_ENCODING_KITTY) is.modes.kitty_flags = (uint8_t)~is.modes.kitty_flags;
   return is;
 }
 
@@ -121,7 +121,7 @@ static void check_refusal(const press *is, const answer *whole, unsigned number)
   unsigned asked = requests();
   bool is_refused = refusals() > 0;
   refuse_request(0);
-  HOLDS((got.encoded == TW_REFUSED_MEMORY) == is_refused);
+  HOLDS((got.encoded == HED_ENCODED_REFUSED_MEMORY) == is_refused);
   HOLDS(is->is_down || asked == 0);
   if (is_refused) got = encode(is, TEXT_MAX);
   HOLDS(same_answer(&got, whole, TEXT_MAX));
@@ -129,13 +129,13 @@ static void check_refusal(const press *is, const answer *whole, unsigned number)
 
 /* A character that is pressed without modifiers is its text, and is read back. */
 static void check_character(const press *is, const answer *whole) {
-  static tw_parser parser = TW_PARSER_NONE;
-  tw_event event;
+  static hed_parser parser = HED_PARSER_NONE;
+  hed_event event;
   set_owner(TWIN);
-  if (!parser.live) HOLDS(tw_parser_init(&parser));
-  HOLDS(tw_parser_feed(&parser, whole->text, whole->len));
-  HOLDS(tw_parser_next(&parser, false, &event) == TW_EVENT && tw_parser_waiting(&parser) == 0);
-  HOLDS(event.kind == TW_KEY && event.key == TW_KEY_CHAR && event.detail == is->detail && event.modifiers == TW_MOD_NONE);
+  if (!parser.live) HOLDS(hed_parser_init(&parser));
+  HOLDS(hed_parser_feed(&parser, whole->text, whole->len));
+  HOLDS(hed_parser_next(&parser, false, &event) == HED_NEXT_EVENT && hed_parser_waiting_len(&parser) == 0);
+  HOLDS(event.kind == HED_KIND_KEY && event.key == HED_KEY_CHAR && event.detail == is->detail && event.modifiers == HED_TERMWIZ_MOD_NONE);
   set_owner(TESTED);
 }
 
@@ -144,9 +144,9 @@ static void note_press(const press *is, const answer *whole) {
   if (is->modes.has_modify_other_keys) modes |= 4u << (is->modes.modify_other_keys & 3);
   note(0x60000u | whole->encoded, (unsigned)whole->len);
   if (whole->len == 0) return;
-  unsigned held = is->modifiers & (TW_MOD_SHIFT | TW_MOD_ALT | TW_MOD_CTRL);
+  unsigned held = is->modifiers & (HED_TERMWIZ_MOD_SHIFT | HED_TERMWIZ_MOD_ALT | HED_TERMWIZ_MOD_CTRL);
   note(0x50000u | is->key << 8 | held << 3 | is->modes.encoding, modes);
-  if (is->key == TW_KEY_CHAR && is->detail < 0x80) note(0xb0000u | is->detail << 8 | held << 3 | is->modes.encoding, modes);
+  if (is->key == HED_KEY_CHAR && is->detail < 0x80) note(0xb0000u | is->detail << 8 | held << 3 | is->modes.encoding, modes);
 }
 
 static void check_encoding(const press *is, unsigned number) {
@@ -160,14 +160,14 @@ static void check_encoding(const press *is, unsigned number) {
     HOLDS(same_answer(&part, &whole, room));
   }
   check_refusal(is, &whole, number);
-  bool is_plain = is->key == TW_KEY_CHAR && is->modifiers == TW_MOD_NONE && is->detail >= ' ' && is->detail != 0x7f;
-  if (whole.encoded == TW_TEXT && is->is_down && is_plain) check_character(is, &whole);
+  bool is_plain = is->key == HED_KEY_CHAR && is->modifiers == HED_TERMWIZ_MOD_NONE && is->detail >= ' ' && is->detail != 0x7f;
+  if (whole.encoded == HED_ENCODED_TEXT && is->is_down && is_plain) check_character(is, &whole);
   note_press(is, &whole);
 }
 
 static told_key take_report(input *it, const press *is, bool stays) {
   told_key key = {.flags = is->modes.kitty_flags};
-  tw_key_report *report = &key.report;
+  hed_key_report *report = &key.report;
   report->key = is->key;
   report->detail = is->detail;
   report->action = take_byte(it);
@@ -181,9 +181,9 @@ static told_key take_report(input *it, const press *is, bool stays) {
     report->key = 0;
     report->detail = 57344 + report->detail % 128;
   }
-  report->action = report->action % 3 + TW_ACTION_PRESS;
-  if (!is_scalar(report->shifted)) report->shifted = TW_NO_CODE;
-  if (!is_scalar(report->base)) report->base = TW_NO_CODE;
+  report->action = report->action % 3 + HED_KEY_EVENT_KIND_PRESS;
+  if (!is_scalar(report->shifted)) report->shifted = HED_NO_CODE;
+  if (!is_scalar(report->base)) report->base = HED_NO_CODE;
   return key;
 }
 
@@ -194,11 +194,11 @@ static answer encode_report(const told_key *key, size_t room) {
   room_of(&out_len, sizeof(size_t));
   room_with(&told, &key->report, sizeof key->report);
   room_with(&typed, key->text, key->len);
-  const tw_key_report *report = (const tw_key_report *)told.at;
-  got.encoded = tw_encode_kitty(report, pointer_to(&typed), key->len, key->flags, pointer_to(&out), room, (size_t *)out_len.at);
+  const hed_key_report *report = (const hed_key_report *)told.at;
+  got.encoded = hed_encode_kitty(report, pointer_to(&typed), key->len, key->flags, pointer_to(&out), room, (size_t *)out_len.at);
   memcpy(&got.len, out_len.at, sizeof got.len);
   HOLDS(is_unchanged(&told, &key->report) && is_unchanged(&typed, key->text) && is_untouched(&out_len, sizeof(size_t)));
-  HOLDS(got.len <= TEXT_MAX && (got.encoded == TW_TEXT || got.len == 0));
+  HOLDS(got.len <= TEXT_MAX && (got.encoded == HED_ENCODED_TEXT || got.len == 0));
   size_t written = got.len < room ? got.len : room;
   HOLDS(is_untouched(&out, written));
   memcpy(got.text, out.at, written);
@@ -225,27 +225,27 @@ static bool is_utf8(const uint8_t *text, size_t len) {
 }
 
 static bool is_bad_report(const told_key *key) {
-  const tw_key_report *report = &key->report;
-  if (report->action < TW_ACTION_PRESS || report->action > TW_ACTION_RELEASE || report->key > KEYS || key->flags & ~ALL_KITTY) return true;
-  if (report->key == TW_KEY_CHAR && !is_scalar(report->detail)) return true;
-  if (report->key == TW_KEY_FUNCTION && report->detail > 255) return true;
-  if (report->shifted != TW_NO_CODE && !is_scalar(report->shifted)) return true;
-  return report->base != TW_NO_CODE && !is_scalar(report->base);
+  const hed_key_report *report = &key->report;
+  if (report->action < HED_KEY_EVENT_KIND_PRESS || report->action > HED_KEY_EVENT_KIND_RELEASE || report->key > KEYS || key->flags & ~ALL_KITTY) return true;
+  if (report->key == HED_KEY_CHAR && !is_scalar(report->detail)) return true;
+  if (report->key == HED_KEY_FUNCTION && report->detail > 255) return true;
+  if (report->shifted != HED_NO_CODE && !is_scalar(report->shifted)) return true;
+  return report->base != HED_NO_CODE && !is_scalar(report->base);
 }
 
 /* Checks the answer that the header promises. A key without bytes is refused: that can't be told from the numbers alone. */
 static void check_told(const told_key *key, const answer *whole) {
-  if (is_bad_report(key)) HOLDS(whole->encoded == TW_BAD_NUMBER);
-  else if (!is_utf8(key->text, key->len)) HOLDS(whole->encoded == TW_BAD_TEXT);
-  else HOLDS(whole->encoded == TW_TEXT || whole->encoded == TW_REFUSED_KEY);
-  HOLDS(whole->encoded != TW_REFUSED_KEY || key->report.key != TW_KEY_CHAR);
+  if (is_bad_report(key)) HOLDS(whole->encoded == HED_ENCODED_BAD_NUMBER);
+  else if (!is_utf8(key->text, key->len)) HOLDS(whole->encoded == HED_ENCODED_BAD_TEXT);
+  else HOLDS(whole->encoded == HED_ENCODED_TEXT || whole->encoded == HED_ENCODED_REFUSED_KEY);
+  HOLDS(whole->encoded != HED_ENCODED_REFUSED_KEY || key->report.key != HED_KEY_CHAR);
   note(0x70000u | whole->encoded, (unsigned)whole->len);
   note(0x80000u | key->report.key << 5 | key->flags, key->report.action);
 }
 
 static void check_report(const told_key *key, unsigned number) {
   told_key other = *key;
-  if (key->report.key > TW_KEY_CHAR && key->report.key != TW_KEY_FUNCTION) other.report.detail = ~other.report.detail;
+  if (key->report.key > HED_KEY_CHAR && key->report.key != HED_KEY_FUNCTION) other.report.detail = ~other.report.detail;
   answer whole = encode_report(key, TEXT_MAX), others = encode_report(&other, TEXT_MAX);
   check_told(key, &whole);
   HOLDS(same_answer(&whole, &others, TEXT_MAX));
@@ -256,9 +256,9 @@ static void check_report(const told_key *key, unsigned number) {
   refuse_request(number);
   answer got = encode_report(key, TEXT_MAX);
   bool is_refused = refusals() > 0;
-  HOLDS(requests() == 0 || (whole.encoded != TW_BAD_NUMBER && whole.encoded != TW_BAD_TEXT));
+  HOLDS(requests() == 0 || (whole.encoded != HED_ENCODED_BAD_NUMBER && whole.encoded != HED_ENCODED_BAD_TEXT));
   refuse_request(0);
-  HOLDS((got.encoded == TW_REFUSED_MEMORY) == is_refused);
+  HOLDS((got.encoded == HED_ENCODED_REFUSED_MEMORY) == is_refused);
   if (is_refused) got = encode_report(key, TEXT_MAX);
   HOLDS(same_answer(&got, &whole, TEXT_MAX));
 }
@@ -267,7 +267,7 @@ static void check_report(const told_key *key, unsigned number) {
  * number that is no key's nothing is written. */
 static size_t name_of(uint16_t key, size_t room) {
   room_of(&out, room);
-  size_t len = tw_key_name(key, pointer_to(&out), room), written = len < room ? len + 1 : room;
+  size_t len = hed_key_name(key, pointer_to(&out), room), written = len < room ? len + 1 : room;
   if (len == 0) written = 0;
   HOLDS(is_untouched(&out, written));
   for (size_t i = 0; i < written; i++) HOLDS(i < len ? out.at[i] >= '0' && out.at[i] <= 'z' : out.at[i] == 0);

@@ -16,10 +16,10 @@ static size_t count, bytes_len, inserts, next_key;
 /* The map under test lies in a room, and moves to another. */
 static room places[2], given_key, given_text, found;
 static unsigned place;
-static tw_keymap *map;
+static hed_keymap *map;
 static bool is_made;
 
-static const tw_keymap none = TW_KEYMAP_NONE;
+static const hed_keymap none = HED_KEYMAP_NONE;
 
 /* Programs spend most of their time here. So the function has no checks of addresses, and is no memcmp, of which libFuzzer takes note. */
 __attribute__((no_sanitize("address", "undefined")))
@@ -41,25 +41,25 @@ static void insert_in_plain(const uint8_t *key, size_t len, uint64_t value) {
   bytes_len += len;
 }
 
-static uint32_t look_up_in_plain(const uint8_t *text, size_t len, bool maybe_more, tw_match *match) {
+static uint32_t look_up_in_plain(const uint8_t *text, size_t len, bool maybe_more, hed_match *match) {
   const entry *longest = NULL;
   bool is_extended = false;
-  if (!is_made) return TW_FOUND_NO_MAP;
+  if (!is_made) return HED_FOUND_NO_MAP;
   for (const entry *it = entries; it < entries + count; it++) {
     if (is_prefix(it->key, it->len, text, len) && (!longest || longest->len < it->len)) longest = it;
     if (it->len > len && is_prefix(text, len, it->key, it->len)) is_extended = true;
   }
-  if (!longest) return is_extended ? TW_FOUND_NEED_DATA : TW_FOUND_NONE;
-  *match = (tw_match){longest->len, longest->value};
-  return is_extended && maybe_more ? TW_FOUND_AMBIGUOUS : TW_FOUND_EXACT;
+  if (!longest) return is_extended ? HED_FOUND_NEED_DATA : HED_FOUND_NONE;
+  *match = (hed_match){longest->len, longest->value};
+  return is_extended && maybe_more ? HED_FOUND_AMBIGUOUS : HED_FOUND_EXACT;
 }
 
 static void check_lookup(const uint8_t *text, size_t len, bool maybe_more) {
-  tw_match wanted, *match = room_of(&found, sizeof *match);
+  hed_match wanted, *match = room_of(&found, sizeof *match);
   room_with(&given_text, text, len);
-  uint32_t answer = tw_keymap_lookup(map, pointer_to(&given_text), len, maybe_more, match);
+  uint32_t answer = hed_keymap_lookup(map, pointer_to(&given_text), len, maybe_more, match);
   HOLDS(answer == look_up_in_plain(text, len, maybe_more, &wanted));
-  bool has_match = answer == TW_FOUND_EXACT || answer == TW_FOUND_AMBIGUOUS;
+  bool has_match = answer == HED_FOUND_EXACT || answer == HED_FOUND_AMBIGUOUS;
   HOLDS(!has_match || (match->len == wanted.len && match->value == wanted.value));
   HOLDS(is_untouched(&found, has_match ? sizeof *match : 0) && is_unchanged(&given_text, text));
   note(0x70000u | answer << 8 | (len < 64 ? (unsigned)len : 64), has_match && wanted.len < 64 ? (unsigned)wanted.len : 64);
@@ -81,7 +81,7 @@ void look_up(const uint8_t *text, size_t len) {
   begin_reads();
   check_lookup(text, len, true);
   check_lookup(text, len, false);
-  HOLDS(tw_keymap_len(map) == count);
+  HOLDS(hed_keymap_len(map) == count);
   end_reads();
 }
 
@@ -91,7 +91,7 @@ static void look_so_many_up(size_t want) {
     const entry *it = &entries[next_key++ % count];
     check_lookup(it->key, it->len, next_key & 1);
   }
-  HOLDS(tw_keymap_len(map) == count);
+  HOLDS(hed_keymap_len(map) == count);
   end_reads();
 }
 
@@ -115,14 +115,14 @@ void begin_map(void) {
 void init_map(unsigned refused) {
   set_owner(MAP);
   refuse_request(refused);
-  bool made = tw_keymap_init(map);
+  bool made = hed_keymap_init(map);
   HOLDS(made == (refusals() == 0));
   note(0x80000u, requests());
   refuse_request(0);
   if (!made) {
     look_keys_up();
     set_owner(MAP);
-    HOLDS(tw_keymap_init(map));
+    HOLDS(hed_keymap_init(map));
   }
   forget();
   is_made = true;
@@ -133,7 +133,7 @@ void init_map(unsigned refused) {
 static bool insert(const uint8_t *key, size_t len, uint64_t value, unsigned refused) {
   set_owner(MAP);
   refuse_request(refused);
-  bool is_granted = tw_keymap_insert(map, pointer_to(&given_key), len, value);
+  bool is_granted = hed_keymap_insert(map, pointer_to(&given_key), len, value);
   HOLDS(is_granted == (is_made && refusals() == 0));
   HOLDS(is_made || requests() == 0);
   note(0x90000u, requests());
@@ -158,16 +158,16 @@ void insert_in_map(const uint8_t *key, size_t len, uint8_t value, unsigned refus
 }
 
 void move_map(void) {
-  tw_keymap old = *map;
+  hed_keymap old = *map;
   memset(map, 0xee, sizeof *map);
   place = !place;
-  map = (tw_keymap *)places[place].at;
+  map = (hed_keymap *)places[place].at;
   *map = old;
 }
 
 void free_map(void) {
   set_owner(MAP);
-  tw_keymap_free(map);
+  hed_keymap_free(map);
   HOLDS(!map->live && map->state == NULL && blocks_of(MAP) == 0);
   forget();
   look_up(NULL, 0);

@@ -212,7 +212,7 @@ class Gate:
         script = lambda *words: Part(self.whole, *words)
         self.scripts = [
             script("c_numbers", [], "tools/c_numbers.sh", "--check"),
-            script("c_library", libraries_below(below, "termwiz_c"), "tools/c_library.sh", "--over", self.rlibs, library),
+            script("c_library", libraries_below(below, "hedrugal"), "tools/c_library.sh", "--over", self.rlibs, library),
             script("growth", ["c_library"], "tools/growth.sh", *over, "--over", self.rlibs),
             script("c_test", ["c_library", "keyshow", "replay"], "tools/c_test.sh", "--built", *over),
             script("keys_test", ["c_library"], "tools/keys_test.sh", *over),

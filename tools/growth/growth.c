@@ -7,9 +7,9 @@
  *                        after a read of keys, and some of them after a long paste, once they gave memory back; and what is left of all
  *
  * A pass makes a parser, gives it a text in reads of one size, takes the events, and ends the parser. It goes through parse_as_vec
- * (parser_pass of tools/measure/feed.rt.txt), through feed and next_event (the calls of c/termwiz_input.h), or through the same calls of the
+ * (parser_pass of tools/measure/feed.rt.txt), through feed and next_event (the calls of c/hedrugal.h), or through the same calls of the
  * extended parser. A pass of no bytes shows what making a parser takes. */
-#include "termwiz_input.h"
+#include "hedrugal.h"
 #include <stdbool.h>
 #include <stdint.h>
 #include <stdio.h>
@@ -218,54 +218,54 @@ static void pass_as_vec(struct pass *pass) {
 }
 
 /* Takes the events that are decided, and counts them. */
-static void take_events(struct pass *pass, tw_parser *parser, bool more) {
-    tw_event event;
+static void take_events(struct pass *pass, hed_parser *parser, bool more) {
+    hed_event event;
     uint32_t answer;
-    while ((answer = tw_parser_next(parser, more, &event)) == TW_EVENT)
+    while ((answer = hed_parser_next(parser, more, &event)) == HED_NEXT_EVENT)
         pass->events++;
-    if (answer != TW_NONE)
+    if (answer != HED_NEXT_NONE)
         stop("memory was refused");
 }
 
 static void pass_by_steps(struct pass *pass) {
-    tw_parser parser = {0};
-    if (!tw_parser_init(&parser))
+    hed_parser parser = {0};
+    if (!hed_parser_init(&parser))
         stop("memory was refused");
     for (size_t at = 0; at < pass->length; at += pass->read) {
         size_t length = pass->length - at < pass->read ? pass->length - at : pass->read;
-        if (!tw_parser_feed(&parser, text + at, length))
+        if (!hed_parser_feed(&parser, text + at, length))
             stop("memory was refused");
-        if (tw_parser_waiting(&parser) > pass->longest)
-            pass->longest = tw_parser_waiting(&parser);
+        if (hed_parser_waiting_len(&parser) > pass->longest)
+            pass->longest = hed_parser_waiting_len(&parser);
         take_events(pass, &parser, true);
     }
     take_events(pass, &parser, false);
-    tw_parser_free(&parser);
+    hed_parser_free(&parser);
 }
 
-static void take_extended_events(struct pass *pass, tw_extended *parser, bool more) {
-    tw_extended_event event;
+static void take_extended_events(struct pass *pass, hed_extended *parser, bool more) {
+    hed_extended_event event;
     uint32_t answer;
-    while ((answer = tw_extended_next(parser, more, &event)) == TW_EVENT)
+    while ((answer = hed_extended_next(parser, more, &event)) == HED_NEXT_EVENT)
         pass->events++;
-    if (answer != TW_NONE)
+    if (answer != HED_NEXT_NONE)
         stop("memory was refused");
 }
 
 static void pass_by_extended_steps(struct pass *pass) {
-    tw_extended parser = {0};
-    if (!tw_extended_init(&parser, TW_ROWS_KITTY))
+    hed_extended parser = {0};
+    if (!hed_extended_init(&parser, HED_PROTOCOL_KITTY))
         stop("memory was refused");
     for (size_t at = 0; at < pass->length; at += pass->read) {
         size_t length = pass->length - at < pass->read ? pass->length - at : pass->read;
-        if (!tw_extended_feed(&parser, text + at, length))
+        if (!hed_extended_feed(&parser, text + at, length))
             stop("memory was refused");
-        if (tw_extended_waiting(&parser) > pass->longest)
-            pass->longest = tw_extended_waiting(&parser);
+        if (hed_extended_waiting_len(&parser) > pass->longest)
+            pass->longest = hed_extended_waiting_len(&parser);
         take_extended_events(pass, &parser, true);
     }
     take_extended_events(pass, &parser, false);
-    tw_extended_free(&parser);
+    hed_extended_free(&parser);
 }
 
 /* What is counted. */
@@ -291,28 +291,28 @@ static void show(const char *name, enum way way, size_t read, size_t length, boo
 /* A parser of one kind or of the other that shares the table of `first`, and reads that are passed to it. */
 struct session {
     bool is_extended;
-    tw_parser plain;
-    tw_extended extended;
+    hed_parser plain;
+    hed_extended extended;
 };
-static tw_parser first;
+static hed_parser first;
 
 static void make(struct session *it, bool is_extended) {
     it->is_extended = is_extended;
-    if (!(is_extended ? tw_extended_init_sharing_parser(&it->extended, TW_ROWS_KITTY, &first) : tw_parser_init_sharing(&it->plain, &first)))
+    if (!(is_extended ? hed_extended_init_sharing_parser(&it->extended, HED_PROTOCOL_KITTY, &first) : hed_parser_init_sharing(&it->plain, &first)))
         stop("memory was refused");
 }
 
 /* Passes a read, takes its events, and drops the text of a paste. */
 static void read_all(struct session *it, const uint8_t *bytes, size_t length) {
     struct pass pass = {length, length, it->is_extended ? EXTENDED : NEXT_EVENT, 0, 0};
-    if (!(it->is_extended ? tw_extended_feed(&it->extended, bytes, length) : tw_parser_feed(&it->plain, bytes, length)))
+    if (!(it->is_extended ? hed_extended_feed(&it->extended, bytes, length) : hed_parser_feed(&it->plain, bytes, length)))
         stop("memory was refused");
     if (it->is_extended) {
         take_extended_events(&pass, &it->extended, true);
-        tw_extended_drop_text(&it->extended);
+        hed_extended_drop_text(&it->extended);
     } else {
         take_events(&pass, &it->plain, true);
-        tw_parser_drop_paste(&it->plain);
+        hed_parser_drop_paste(&it->plain);
     }
     if (pass.events == 0)
         stop("a read had no event");
@@ -320,16 +320,16 @@ static void read_all(struct session *it, const uint8_t *bytes, size_t length) {
 
 static void shrink(struct session *it) {
     if (it->is_extended)
-        tw_extended_shrink_to(&it->extended, 0);
+        hed_extended_shrink_to(&it->extended, 0);
     else
-        tw_parser_shrink_to(&it->plain, 0);
+        hed_parser_shrink_to(&it->plain, 0);
 }
 
 static void end(struct session *it) {
     if (it->is_extended)
-        tw_extended_free(&it->extended);
+        hed_extended_free(&it->extended);
     else
-        tw_parser_free(&it->plain);
+        hed_parser_free(&it->plain);
 }
 
 /* Prints how many bytes each of some sessions has in use, beside those that were in use before. */
@@ -373,11 +373,11 @@ static void show_parsers(void) {
     memcpy(paste + PASTED - (sizeof paste_end - 1), paste_end, sizeof paste_end - 1);
     fill_keys();
     memory.is_of_libc = true;
-    if (!tw_parser_init(&first))
+    if (!hed_parser_init(&first))
         stop("memory was refused");
     show_sessions(false, paste);
     show_sessions(true, paste);
-    tw_parser_free(&first);
+    hed_parser_free(&first);
 }
 
 int main(int argc, char **argv) {

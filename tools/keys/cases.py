@@ -610,8 +610,8 @@ def fails(*words, says):
 
 
 def version(program):
-    with open("c/termwiz_input.h", encoding="utf-8") as header:
-        number = re.search(r'TW_VERSION "(.*)"', header.read())[1]
+    with open("c/hedrugal.h", encoding="utf-8") as header:
+        number = re.search(r'HED_VERSION "(.*)"', header.read())[1]
     expect("all", run(program, "--version"), (0, f"hedrugal-keys {number}\n", ""))
 
 

@@ -5,7 +5,7 @@
  * makes COUNT parsers, which share the sequence table of one, or have a table each. Each gets reads of READ bytes of the file, from a place
  * of its own on. It prints for each parser the nanoseconds that it took to make, and the bytes of resident memory, once they are made
  * and once each got a read. Then it prints the nanoseconds for all reads after the first, and the number of their events. */
-#include "termwiz_input.h"
+#include "hedrugal.h"
 #include <stdio.h>
 #include <stdlib.h>
 #include <string.h>
@@ -50,12 +50,12 @@ static const uint8_t *text;
 static size_t length, read_size;
 
 /* Gives a parser the read with a number, and returns how many events there are. After the last read the first one follows. */
-static uint64_t give(tw_parser *parser, size_t number) {
+static uint64_t give(hed_parser *parser, size_t number) {
   size_t reads = (length + read_size - 1) / read_size, at = number % reads * read_size;
   uint64_t events = 0;
-  tw_event event;
-  if (!tw_parser_feed(parser, text + at, length - at < read_size ? length - at : read_size)) stop("memory refused");
-  while (tw_parser_next(parser, true, &event) == TW_EVENT) events++;
+  hed_event event;
+  if (!hed_parser_feed(parser, text + at, length - at < read_size ? length - at : read_size)) stop("memory refused");
+  while (hed_parser_next(parser, true, &event) == HED_NEXT_EVENT) events++;
   return events;
 }
 
@@ -64,11 +64,11 @@ int main(int argc, char **argv) {
   bool is_shared = argc == 5 && !strcmp(argv[4], "shared");
   if (count == 0 || (read_size = strtoul(argv[2], 0, 10)) == 0) stop("usage: parsers FILE READ COUNT shared | own");
   text = contents(argv[1], &length);
-  tw_parser first = TW_PARSER_NONE, *parsers = calloc(count, sizeof *parsers);
-  if (!parsers || !tw_parser_init(&first)) stop("memory refused");
+  hed_parser first = HED_PARSER_NONE, *parsers = calloc(count, sizeof *parsers);
+  if (!parsers || !hed_parser_init(&first)) stop("memory refused");
   double before = resident(), start = now();
   for (size_t i = 0; i < count; i++)
-    if (!(is_shared ? tw_parser_init_sharing(&parsers[i], &first) : tw_parser_init(&parsers[i]))) stop("memory refused");
+    if (!(is_shared ? hed_parser_init_sharing(&parsers[i], &first) : hed_parser_init(&parsers[i]))) stop("memory refused");
   double making = now() - start, made = resident() - before;
   for (size_t i = 0; i < count; i++) give(&parsers[i], i * 7919);
   double got = resident() - before;

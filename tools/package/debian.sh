@@ -15,12 +15,12 @@ take() { # package files..
 # Hands out the files of a system on which all was installed, each to one package.
 split_system() {
     install_stripped --prefix /usr --libdir "${libdir#usr/}" --destdir "$system"
-    take libtermwiz-input0 "$libdir/libtermwiz_c.so.$version" "$libdir/libtermwiz_c.so.${version%%.*}"
-    chmod 644 "$debs/libtermwiz-input0/$libdir/libtermwiz_c.so.$version"
-    take libtermwiz-input-dev usr/include "$libdir/libtermwiz_c.a" "$libdir/libtermwiz_c.so" "$libdir/pkgconfig" usr/share/man/man3
+    take libhedrugal0 "$libdir/libhedrugal.so.$version" "$libdir/libhedrugal.so.${version%%.*}"
+    chmod 644 "$debs/libhedrugal0/$libdir/libhedrugal.so.$version"
+    take libhedrugal-dev usr/include "$libdir/libhedrugal.a" "$libdir/libhedrugal.so" "$libdir/pkgconfig" usr/share/man/man3
     take keyshow usr/bin usr/share/man/man1
     [ -z "$(find "$system" ! -type d)" ] || { find "$system" ! -type d >&2; refuse 'these files are in no package'; }
-    install -D -m 644 -t "$debs/libtermwiz-input-dev/usr/share/doc/libtermwiz-input-dev/examples" c/events.c c/live.c c/ask.c
+    install -D -m 644 -t "$debs/libhedrugal-dev/usr/share/doc/libhedrugal-dev/examples" c/events.c c/live.c c/ask.c
 }
 
 # Compresses manual pages, and has links lead to what they have become.
@@ -50,7 +50,7 @@ maintainer() {
 }
 
 write_changelog() {
-    printf 'libtermwiz-input (%s) unstable; urgency=medium\n\n' "$version-$revision"
+    printf 'libhedrugal (%s) unstable; urgency=medium\n\n' "$version-$revision"
     printf '  * Packages of version %s; changelog.gz says what is new in it.\n\n' "$version"
     printf ' -- %s  %s\n' "$(maintainer)" "$(date -R -d "@$SOURCE_DATE_EPOCH")"
 }
@@ -88,10 +88,10 @@ write_control() { # package
 write_library_control() { # package
     local control=$debs/$1/DEBIAN major=${version%%.*}
     echo 'activate-noawait ldconfig' > "$control/triggers"
-    echo "libtermwiz_c $major $1 (>= $version)" > "$control/shlibs"
+    echo "libhedrugal $major $1 (>= $version)" > "$control/shlibs"
     {
-        echo "libtermwiz_c.so.$major $1 #MINVER#"
-        echo '* Build-Depends-Package: libtermwiz-input-dev'
+        echo "libhedrugal.so.$major $1 #MINVER#"
+        echo '* Build-Depends-Package: libhedrugal-dev'
         library_calls | sort | sed "s/.*/ &@Base $version/"
     } > "$control/symbols"
 }
@@ -99,7 +99,7 @@ write_library_control() { # package
 write_control_files() { # package
     mkdir "$debs/$1/DEBIAN"
     write_control "$1" > "$debs/$1/DEBIAN/control"
-    [ ! -f "$debs/$1/$libdir/libtermwiz_c.so.$version" ] || write_library_control "$1"
+    [ ! -f "$debs/$1/$libdir/libhedrugal.so.$version" ] || write_library_control "$1"
     (cd "$debs/$1" && find usr -type f | sort | xargs md5sum > DEBIAN/md5sums)
 }
 
@@ -115,5 +115,5 @@ make_debian_packages() {
     local package
     progress 'makes the Debian packages'
     split_system
-    for package in libtermwiz-input0 libtermwiz-input-dev keyshow; do make_package "$package"; done
+    for package in libhedrugal0 libhedrugal-dev keyshow; do make_package "$package"; done
 }

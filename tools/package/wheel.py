@@ -79,7 +79,7 @@ def main():
     info = f"hedrugal-{version}.dist-info"
     files = {
         **package(),
-        "hedrugal/libtermwiz_c.so": content(library),
+        "hedrugal/libhedrugal.so": content(library),
         f"{info}/LICENSE": content("LICENSE"),
         f"{info}/METADATA": METADATA.format(version=version, description=description()).encode(),
         f"{info}/THIRD-PARTY": content("tools/package/THIRD-PARTY"),

@@ -407,7 +407,7 @@ class Page(unittest.TestCase):
         self.it.run("document.querySelector('input[name=reading]:checked').focus()")
         for lines, words in [
             (["key UpArrow ALT"], "asks its terminal questions"),
-            (["report UpArrow SUPER press"], "Rows::Kitty"),
+            (["report UpArrow SUPER press"], "Protocol::Kitty"),
             (["key UpArrow ALT"], "typed text"),
         ]:
             self.it.press("ArrowDown")
@@ -420,7 +420,7 @@ class Page(unittest.TestCase):
         self.it.call("Browser.grantPermissions", permissions=["clipboardReadWrite", "clipboardSanitizedWrite"])
         self.click("#copy-report")
         self.it.wait("document.getElementById('copied').innerText === 'The report was copied.'")
-        self.assertIn("\nread: at once\nby: ExtendedParser, Rows::Kitty\nreport U+0061", self.it.run("navigator.clipboard.readText()"))
+        self.assertIn("\nread: at once\nby: ExtendedParser, Protocol::Kitty\nreport U+0061", self.it.run("navigator.clipboard.readText()"))
 
     def test_what_waits_beyond_the_table(self):
         """Each kind of beginning is named, and a flush breaks it."""

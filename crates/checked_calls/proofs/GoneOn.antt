@@ -11,7 +11,7 @@ use Rattle.termwiz_input.specs.Pieces.{AreNumbered, NumberedEvent, ReadsFirst, e
 use Rattle.checked_calls.specs.declared.parses.Stop.{Stop}
 use Rattle.checked_calls.specs.declared.parses.PiecesStop.{PiecesStop}
 use Rattle.termwiz_extended_events.specs.declared.types.ExtendedEvent.{ExtendedEvent}
-use Rattle.termwiz_extended_events.specs.declared.types.Rows.{Rows}
+use Rattle.termwiz_extended_events.specs.declared.types.Protocol.{Protocol}
 use Rattle.termwiz_extended_grammar.specs.ExtendedGrammar as extended
 use Rattle.termwiz_extended_grammar.specs.ExtendedLaws as extended_laws
 use Rattle.checked_calls.specs.GoingOn.{StopsAt, Describes, GoesOn, GoesOnWithPieces, Reading}
@@ -46,10 +46,10 @@ pub resumes_port : port.Resumes → (text middle rest : List ℕ) (E D : List In
     → Means middle false D rest → Means text false (E ++ D) rest
 resumes_port resumes text middle rest E D = (resumes text [] middle rest E D false).1
 
-pub resumes_extended : extended_laws.Resumes → (rows : Rows) (text middle rest : List ℕ) (E D : List ExtendedEvent)
-    → extended.Steps rows text false E middle → extended.Means rows middle false D rest
-    → extended.Means rows text false (E ++ D) rest
-resumes_extended resumes rows text middle rest E D = (resumes rows text [] middle rest E D false).1
+pub resumes_extended : extended_laws.Resumes → (protocol : Protocol) (text middle rest : List ℕ) (E D : List ExtendedEvent)
+    → extended.Steps protocol text false E middle → extended.Means protocol middle false D rest
+    → extended.Means protocol text false (E ++ D) rest
+resumes_extended resumes protocol text middle rest E D = (resumes protocol text [] middle rest E D false).1
 
 -- the first k pieces, which were read so far, and then the others
 joined : port.Resumes → (before : List ℕ) (pieces : List (List ℕ)) (k : ℕ) (left waiting : List ℕ) (E D : List InputEvent)

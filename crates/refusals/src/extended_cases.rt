@@ -4,14 +4,14 @@ use super::{Failure, print_event, print_new, print_stop, print_waited, print_wai
 use checked_calls::extended;
 use std::io;
 use termwiz_input_extended::input::ExtendedParser;
-use termwiz_input_extended::types::{ExtendedEvent, Rows};
+use termwiz_input_extended::types::{ExtendedEvent, Protocol};
 
 // An ESC that is held, a paste, the reply with a colour, a control sequence that has no event of its own, and a key with its text.
 const ALL_KINDS: &[u8] = b"\x1b\x1b[200~ab\x1b[201~\x1b]4;1\x07\x1b[?62c\x1b[97;;98u";
 
 // Lends a parser to a case.
 pub fn show(rt: &HostRuntime, case: &str) -> Result<(), Failure> {
-    let Ok(mut parser) = ExtendedParser::new(rt.alloc(), Rows::Kitty) else {
+    let Ok(mut parser) = ExtendedParser::new(rt.alloc(), Protocol::Kitty) else {
         return Err(Failure::TooEarly);
     };
     show_lent(rt, &mut parser, case)
@@ -31,7 +31,7 @@ fn show_lent(rt: &HostRuntime, parser: &mut ExtendedParser, case: &str) -> Resul
 }
 
 pub fn show_new(rt: &HostRuntime) -> Result<(), Failure> {
-    let Ok((parser, refused)) = extended::make_parser(rt.alloc(), Rows::Kitty) else {
+    let Ok((parser, refused)) = extended::make_parser(rt.alloc(), Protocol::Kitty) else {
         return Err(Failure::Failed);
     };
     print_new(rt, refused, parser.waiting_len())

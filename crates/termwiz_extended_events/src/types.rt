@@ -11,9 +11,9 @@ use termwiz_keys::types::{InputEvent, KeyCode};
 
 /// Which sequences of the table keep the key that the port reads from them.
 #[derive(Clone, Copy, PartialEq, Eq, Debug)]
-pub enum Rows {
+pub enum Protocol {
     /// All rows keep their keys. For programs that leave Kitty's keyboard protocol off.
-    Port,
+    Legacy,
     /// Rows that report a key, or the position of the cursor, are read as these reports. For programs that turn Kitty's
     /// keyboard protocol on, so that a press and its release name the same key.
     Kitty,

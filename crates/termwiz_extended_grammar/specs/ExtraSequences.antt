@@ -5,32 +5,32 @@ use Rattle.termwiz_keymap.specs.Bytes.{Begins}
 use Rattle.termwiz_grammar.specs.Sequences.{Meaning, IsSequence}
 use Rattle.termwiz_grammar.specs.Sequences.Meaning.{Row}
 use Rattle.termwiz_extended_events.specs.declared.types.ExtendedEvent.{ExtendedEvent}
-use Rattle.termwiz_extended_events.specs.declared.types.Rows.{Rows}
-use Rattle.termwiz_extended_events.specs.declared.types.Rows.TheVariants.{Port, Kitty}
+use Rattle.termwiz_extended_events.specs.declared.types.Protocol.{Protocol}
+use Rattle.termwiz_extended_events.specs.declared.types.Protocol.TheVariants.{Legacy, Kitty}
 use Rattle.termwiz_extended_events.specs.Meanings.{event_of, IsKeyOrPosition}
 use Rattle.termwiz_extended_grammar.specs.Forms.{IsForm}
 
--- The port doesn't read the text. Under `Rows::Kitty` it may be a row that is read as a report of a key or of the cursor's position.
-abbrev pub IsFree : Rows → List ℕ → Type 0
-IsFree Port text = (m : Meaning) → ¬ IsSequence text m
+-- The port doesn't read the text. Under `Protocol::Kitty` it may be a row that is read as a report of a key or of the cursor's position.
+abbrev pub IsFree : Protocol → List ℕ → Type 0
+IsFree Legacy text = (m : Meaning) → ¬ IsSequence text m
 IsFree Kitty text = (m : Meaning) → IsSequence text m → ((key : KeyEvent) × (m ≡ Row key) × IsKeyOrPosition (event_of text))
 
 -- an extra sequence with its event
-pub record IsExtra (rows : Rows) (text : List ℕ) (event : ExtendedEvent) : Type 0 where
+pub record IsExtra (protocol : Protocol) (text : List ℕ) (event : ExtendedEvent) : Type 0 where
   pub is_form : IsForm text
-  pub is_free : IsFree rows text
+  pub is_free : IsFree protocol text
   pub means : event ≡ event_of text
 
 -- an extra sequence begins u
-pub record StartsWithExtra (rows : Rows) (u : List ℕ) : Type 0 where
+pub record StartsWithExtra (protocol : Protocol) (u : List ℕ) : Type 0 where
   pub text : List ℕ
   pub event : ExtendedEvent
-  pub is_extra : IsExtra rows text event
+  pub is_extra : IsExtra protocol text event
   pub begins : Begins text u
 
 -- some extra sequence is longer than u and begins with u
-pub record IsUnfinishedExtra (rows : Rows) (u : List ℕ) : Type 0 where
+pub record IsUnfinishedExtra (protocol : Protocol) (u : List ℕ) : Type 0 where
   pub tail : List ℕ
   pub longer : tail ≢ []
   pub event : ExtendedEvent
-  pub is_extra : IsExtra rows (u ++ tail) event
+  pub is_extra : IsExtra protocol (u ++ tail) event

@@ -1,4 +1,4 @@
 pub mod Buffered
 pub mod EventCallbacks
-pub mod ExtendedFronts
+pub mod NextItems
 pub mod FormAnswers

@@ -4,10 +4,10 @@ ghost use Rattle.termwiz_keys.specs.Keys.{plain};
 ghost use Rattle.termwiz_keys.specs.declared.types.InputEvent.TheVariants.{Key};
 ghost use Rattle.termwiz_grammar.specs.Table.{rows as table_rows};
 ghost use Rattle.termwiz_input.specs.Matches.{IsItemAt};
-ghost use Rattle.termwiz_input_extended.specs.ExtendedFronts.{IsControlKey, IsPortsOwn};
+ghost use Rattle.termwiz_input_extended.specs.NextItems.{IsControlKey, IsPortsOwn};
 
 use termwiz_base::{Flags, Modifiers};
-use termwiz_extended_events::types::Rows;
+use termwiz_extended_events::types::Protocol;
 use termwiz_input::input::{character_at, is_printable_ascii};
 use termwiz_keys::types::{KeyCode, KeyEvent};
 
@@ -47,9 +47,9 @@ pub(crate) fn control_key(byte: u8) -> KeyEvent
 // The character at the front of a text, and the number of its bytes: printable ASCII, or one of several bytes. It is an item, whatever
 // follows it.
 #[inline(always)]
-pub(crate) fn character_front(text: &[u8]) -> Option<(char, usize)>
-    ensures { IfSome result (λ found. (rows : Rows) (more : Bool)
-        → IsPortsOwn rows text.now more × IsItemAt text.now more (Key (plain found.0)) found.1) }
+pub(crate) fn match_character(text: &[u8]) -> Option<(char, usize)>
+    ensures { IfSome result (λ found. (protocol : Protocol) (more : Bool)
+        → IsPortsOwn protocol text.now more × IsItemAt text.now more (Key (plain found.0)) found.1) }
 {
     match text {
         [first, ..] if is_printable_ascii(*first) => Some((char::from(*first), 1)),

@@ -8,15 +8,15 @@ ghost use Rattle.termwiz_extended_events.specs.declared.types.ExtendedEvent.{Ext
 ghost use Rattle.termwiz_extended_grammar.specs.ExtendedGrammar.{HasItem, IsRest, Means, Steps};
 ghost use Rattle.termwiz_extended_grammar.specs.ExtendedKinds.{IsKind};
 ghost use Rattle.termwiz_input_extended.specs.EventCallbacks.{MayBeCalledOn, WasCalledOn};
-ghost use Rattle.termwiz_input_extended.specs.ExtendedFronts.{Emits, GivesNoneThatNeedsMemory, HasItemThatNeedsMemory, IsExtendedFront, IsFormAt, IsPasteEvent, IsPortsOwn, Stores};
+ghost use Rattle.termwiz_input_extended.specs.NextItems.{Emits, GivesNoneThatNeedsMemory, HasItemThatNeedsMemory, IsNextItem, IsFormAt, IsPasteEvent, IsPortsOwn, Stores};
 ghost use Rattle.termwiz_input_extended.specs.Buffered.{IsBoundedOrOpenPaste};
 
-use crate::characters::{character_front, control_key};
-use crate::front::{ExtendedFront, front, is_extra_at, plain_report_at};
+use crate::characters::{control_key, match_character};
+use crate::next_item::{NextItem, is_extra_at, next_item, plain_report_at};
 use std::alloc::{AllocError, Global};
 use std::marker::Model;
 use termwiz_extended_events::meanings::meaning_of;
-use termwiz_extended_events::types::{ExtendedEvent, Rows};
+use termwiz_extended_events::types::{ExtendedEvent, Protocol};
 pub use termwiz_input::input::{ParseError, Waiting};
 use termwiz_input::input::{
     InputEvent, InputParser, KeyEvent, MouseEvent, alt_key, copied, escape_key, plain_key,
@@ -35,12 +35,12 @@ pub struct ExtendedVecError {
 /// Reads events from the bytes that a terminal sends, however they are cut: those of [`InputParser`], and the sequences that it doesn't know,
 /// such as replies, focus reports and Kitty's keyboard protocol.
 ///
-/// Contracts see a parser as its `Rows` and its buffered bytes.
+/// Contracts see a parser as its `Protocol` and its buffered bytes.
 #[derive(Debug, Drop)]
 pub struct ExtendedParser {
     // Its waiting text is that of this parser.
     parser: InputParser,
-    rows: Rows,
+    protocol: Protocol,
     // The bytes of the waiting text before this offset were looked at: a search for the end of a sequence goes on from there.
     scanned: usize,
     alloc: Global,
@@ -48,11 +48,11 @@ pub struct ExtendedParser {
 
 impl Model for ExtendedParser {
     ghost use Rattle.termwiz_input_extended.specs.Buffered.{Buffered};
-    ghost use Rattle.termwiz_input_extended.specs.ExtendedFronts.{IsScannedTo};
+    ghost use Rattle.termwiz_input_extended.specs.NextItems.{IsScannedTo};
 
     ghost Value = { Buffered };
 
-    ghost view = { λ p. record { rows = p.rows; text = p.parser } };
+    ghost view = { λ p. record { protocol = p.protocol; text = p.parser } };
 
     ghost invariant = { λ p. IsScannedTo p.parser p.scanned };
 }
@@ -76,21 +76,21 @@ fn mouse_event(event: MouseEvent) -> ExtendedEvent
 
 impl ExtendedParser {
     /// A parser that reads the rows of the sequence table in this way, and whose waiting text is empty.
-    pub fn new(alloc: Global, rows: Rows) -> Result<ExtendedParser, AllocError>
+    pub fn new(alloc: Global, protocol: Protocol) -> Result<ExtendedParser, AllocError>
         ensures empty { IfOk result (λ parser. parser.text ≡ []) }
-        ensures rows { IfOk result (λ parser. parser.rows ≡ rows) }
+        ensures protocol { IfOk result (λ parser. parser.protocol ≡ protocol) }
     {
-        Ok(ExtendedParser::over(alloc, InputParser::new(alloc)?, rows))
+        Ok(ExtendedParser::over(alloc, InputParser::new(alloc)?, protocol))
     }
 
     // A parser over another, of whose waiting text nothing was searched.
-    fn over(alloc: Global, parser: InputParser, rows: Rows) -> ExtendedParser
+    fn over(alloc: Global, parser: InputParser, protocol: Protocol) -> ExtendedParser
         ensures text { result.text ≡ parser }
-        ensures rows { result.rows ≡ rows }
+        ensures protocol { result.protocol ≡ protocol }
     {
         ExtendedParser {
             parser,
-            rows,
+            protocol,
             scanned: 0,
             alloc,
         }
@@ -98,11 +98,11 @@ impl ExtendedParser {
 
     /// Another parser with the sequence table of this one, which reads its rows in this way, and whose waiting text is empty. It asks for
     /// no memory; see [`InputParser::sharing`].
-    pub fn sharing(&self, rows: Rows) -> Result<ExtendedParser, AllocError>
+    pub fn sharing(&self, protocol: Protocol) -> Result<ExtendedParser, AllocError>
         ensures empty { IfOk result (λ parser. parser.text ≡ []) }
-        ensures rows { IfOk result (λ parser. parser.rows ≡ rows) }
+        ensures protocol { IfOk result (λ parser. parser.protocol ≡ protocol) }
     {
-        ExtendedParser::sharing_table_of(self.alloc, &self.parser, rows)
+        ExtendedParser::sharing_table_of(self.alloc, &self.parser, protocol)
     }
 
     /// A parser with the sequence table of an [`InputParser`], as [`ExtendedParser::sharing`] makes one. So a program with parsers of both
@@ -110,12 +110,12 @@ impl ExtendedParser {
     pub fn sharing_table_of(
         alloc: Global,
         parser: &InputParser,
-        rows: Rows,
+        protocol: Protocol,
     ) -> Result<ExtendedParser, AllocError>
         ensures empty { IfOk result (λ parser. parser.text ≡ []) }
-        ensures rows { IfOk result (λ parser. parser.rows ≡ rows) }
+        ensures protocol { IfOk result (λ parser. parser.protocol ≡ protocol) }
     {
-        Ok(ExtendedParser::over(alloc, parser.sharing()?, rows))
+        Ok(ExtendedParser::over(alloc, parser.sharing()?, protocol))
     }
 
     /// An [`InputParser`] with the sequence table of this parser, whose waiting text is empty.
@@ -133,10 +133,10 @@ impl ExtendedParser {
     }
 
     /// How the rows of the sequence table are read.
-    pub fn rows(&self) -> Rows
-        ensures { result ≡ self.now.rows }
+    pub fn protocol(&self) -> Protocol
+        ensures { result ≡ self.now.protocol }
     {
-        self.rows
+        self.protocol
     }
 
     /// The waiting text: the bytes that are buffered.
@@ -162,12 +162,12 @@ impl ExtendedParser {
 
     // What is at the front of the waiting text.
     #[inline(always)]
-    fn front(&self, maybe_more: bool) -> ExtendedFront<'_>
-        ensures { IsExtendedFront self.now.rows self.now.text maybe_more result }
+    fn next_item(&self, maybe_more: bool) -> NextItem<'_>
+        ensures { IsNextItem self.now.protocol self.now.text maybe_more result }
     {
-        front(
+        next_item(
             &self.parser,
-            self.rows,
+            self.protocol,
             self.parser.waiting_text(),
             self.scanned,
             maybe_more,
@@ -178,7 +178,7 @@ impl ExtendedParser {
     pub fn reset(&mut self) -> usize
         ensures count { result ≡ length self.old.text }
         ensures nothing { self.new.text ≡ [] }
-        ensures rows { self.new.rows ≡ self.old.rows }
+        ensures protocol { self.new.protocol ≡ self.old.protocol }
     {
         let len = self.waiting_len();
         self.consume(len);
@@ -207,7 +207,7 @@ impl ExtendedParser {
 
     // Consumes what the port finds at the front of the waiting text.
     fn next_of_port(&mut self, maybe_more: bool) -> Result<Option<ExtendedEvent>, AllocError>
-        requires { IsPortsOwn self.old.rows self.old.text maybe_more }
+        requires { IsPortsOwn self.old.protocol self.old.text maybe_more }
         ensures { Emits self.old maybe_more self.new result }
     {
         match self.parser.next_event(maybe_more)? {
@@ -238,16 +238,16 @@ impl ExtendedParser {
         len: usize,
         maybe_more: bool,
     ) -> Result<Option<ExtendedEvent>, AllocError>
-        requires { IsFormAt self.old.rows self.old.text len }
+        requires { IsFormAt self.old.protocol self.old.text len }
         ensures { Emits self.old maybe_more self.new result }
     {
         let text = self.waiting_text();
-        if let Some(report) = plain_report_at(self.rows, text, len) {
+        if let Some(report) = plain_report_at(self.protocol, text, len) {
             self.consume(len);
             return Ok(Some(ExtendedEvent::Key(report.whole(self.alloc))));
         }
         let meaning = meaning_of(&text[..len]);
-        if !is_extra_at(&self.parser, self.rows, text, len, &meaning) {
+        if !is_extra_at(&self.parser, self.protocol, text, len, &meaning) {
             return self.next_of_port(maybe_more);
         }
         let event = meaning.event(self.alloc)?;
@@ -258,35 +258,35 @@ impl ExtendedParser {
     // Consumes the item at the front of the waiting text, and returns its event. `None` if no item is there. `next_event` is quicker for
     // characters.
     #[inline(never)]
-    fn emit_front(&mut self, maybe_more: bool) -> Result<Option<ExtendedEvent>, AllocError>
+    fn emit_item(&mut self, maybe_more: bool) -> Result<Option<ExtendedEvent>, AllocError>
         ensures { Emits self.old maybe_more self.new result }
     {
-        match self.front(maybe_more) {
-            ExtendedFront::Control(byte) => {
+        match self.next_item(maybe_more) {
+            NextItem::Control(byte) => {
                 self.consume(1);
                 Ok(Some(key_event(control_key(byte))))
             }
-            ExtendedFront::Key(key, len) => {
+            NextItem::Key(key, len) => {
                 let key = copied(key);
                 self.consume(len);
                 Ok(Some(key_event(key)))
             }
-            ExtendedFront::Form(len) => self.next_form(len, maybe_more),
-            ExtendedFront::MouseReport(event, len) => {
+            NextItem::Form(len) => self.next_form(len, maybe_more),
+            NextItem::MouseReport(event, len) => {
                 self.consume(len);
                 Ok(Some(mouse_event(event)))
             }
-            ExtendedFront::Escape => {
+            NextItem::Escape => {
                 self.consume(1);
                 Ok(Some(key_event(escape_key())))
             }
-            ExtendedFront::AltEscape => {
+            NextItem::AltEscape => {
                 self.consume(2);
                 Ok(Some(key_event(alt_key(escape_key()))))
             }
-            ExtendedFront::Paste => self.next_paste(maybe_more),
-            ExtendedFront::Usual => self.next_of_port(maybe_more),
-            ExtendedFront::Incomplete(place) => {
+            NextItem::Paste => self.next_paste(maybe_more),
+            NextItem::Usual => self.next_of_port(maybe_more),
+            NextItem::Incomplete(place) => {
                 self.scanned = place;
                 Ok(None)
             }
@@ -301,13 +301,13 @@ impl ExtendedParser {
     /// Any other event needs none.
     #[tactic(auto, using(crate::proofs::lemmas::fronts::LeftBounded::left_flushed, crate::proofs::lemmas::fronts::LeftBounded::left_bounded))]
     pub fn next_event(&mut self, maybe_more: bool) -> Result<Option<ExtendedEvent>, AllocError>
-        ensures event { IfOk result (λ found. IfSome found (λ event. Steps self.old.rows self.old.text maybe_more (event ∷ []) self.new.text)) }
-        ensures rows { self.new.rows ≡ self.old.rows }
-        ensures none { IfOk result (λ found. IfNone found (IsRest self.old.rows self.old.text maybe_more)) }
+        ensures event { IfOk result (λ found. IfSome found (λ event. Steps self.old.protocol self.old.text maybe_more (event ∷ []) self.new.text)) }
+        ensures protocol { self.new.protocol ≡ self.old.protocol }
+        ensures none { IfOk result (λ found. IfNone found (IsRest self.old.protocol self.old.text maybe_more)) }
         ensures none_same { IfOk result (λ found. IfNone found (self.new ≡ self.old)) }
-        ensures refused { OnErr result (HasItemThatNeedsMemory self.old.rows self.old.text maybe_more) }
+        ensures refused { OnErr result (HasItemThatNeedsMemory self.old.protocol self.old.text maybe_more) }
         ensures refused_same { OnErr result (self.new ≡ self.old) }
-        ensures granted { ¬ HasItemThatNeedsMemory self.old.rows self.old.text maybe_more → IsOk result }
+        ensures granted { ¬ HasItemThatNeedsMemory self.old.protocol self.old.text maybe_more → IsOk result }
 
         // Without more to come only an open paste stays buffered.
         ensures flushed { maybe_more ≡ false → IfOk result (λ found. IfNone found ((self.new.text ≡ []) ⊎ Begins START self.new.text)) }
@@ -315,12 +315,12 @@ impl ExtendedParser {
         // At most 65536 bytes stay buffered, or an open paste.
         ensures waits { IfOk result (λ found. IfNone found (IsBoundedOrOpenPaste self.new.text)) }
     {
-        match character_front(self.waiting_text()) {
+        match match_character(self.waiting_text()) {
             Some((character, len)) => {
                 self.consume(len);
                 Ok(Some(key_event(plain_key(character))))
             }
-            None => self.emit_front(maybe_more),
+            None => self.emit_item(maybe_more),
         }
     }
 
@@ -329,7 +329,7 @@ impl ExtendedParser {
     /// After a pause with `Escape` call [`ExtendedParser::flush_escape`]. Flush a `Sequence` only after a much longer pause, since the line
     /// may be slow. Never flush a `Character` or a `Paste`.
     pub fn waiting(&self) -> Waiting
-        ensures { (more : Bool) → IsRest self.now.rows self.now.text more → IsKind self.now.rows self.now.text more result }
+        ensures { (more : Bool) → IsRest self.now.protocol self.now.text more → IsKind self.now.protocol self.now.text more result }
     {
         self.parser.waiting()
     }
@@ -338,8 +338,8 @@ impl ExtendedParser {
     ///
     /// Call it after a pause of some 50 ms. Unlike a flush, it breaks only what is cut right after its ESC or ESC ESC.
     pub fn flush_escape(&mut self) -> Option<ExtendedEvent>
-        ensures event { IfSome result (λ event. Means self.old.rows self.old.text false (event ∷ []) self.new.text) }
-        ensures rows { self.new.rows ≡ self.old.rows }
+        ensures event { IfSome result (λ event. Means self.old.protocol self.old.text false (event ∷ []) self.new.text) }
+        ensures protocol { self.new.protocol ≡ self.old.protocol }
         ensures when { IsSome result ↔ IsOneOrTwoEscapes self.old.text }
         ensures none { IfNone result (self.new ≡ self.old) }
     {
@@ -360,7 +360,7 @@ impl ExtendedParser {
     pub fn end_paste(&mut self) -> Result<Option<ExtendedEvent>, AllocError>
         ensures event { IfOk result (λ found. IfSome found (IsPasteEvent self.old.text)) }
         ensures nothing { IfOk result (λ found. IfSome found (λ _. self.new.text ≡ [])) }
-        ensures rows { self.new.rows ≡ self.old.rows }
+        ensures protocol { self.new.protocol ≡ self.old.protocol }
         ensures none { IfOk result (λ found. IfNone found (¬ IsOpenPaste self.old.text)) }
         ensures none_same { IfOk result (λ found. IfNone found (self.new ≡ self.old)) }
         ensures refused { OnErr result (IsOpenPaste self.old.text) }
@@ -385,11 +385,11 @@ impl ExtendedParser {
         callback: &mut F,
         maybe_more: bool,
     ) -> Result<(), AllocError>
-        requires { (events : List Event) (rest : List ℕ) → Steps self.old.rows self.old.text maybe_more events rest
+        requires { (events : List Event) (rest : List ℕ) → Steps self.old.protocol self.old.text maybe_more events rest
             → MayBeCalledOn F.FnMut callback.old events }
-        ensures ok { OnOk result ((events : List Event) × Means self.old.rows self.old.text maybe_more events self.new.text
+        ensures ok { OnOk result ((events : List Event) × Means self.old.protocol self.old.text maybe_more events self.new.text
             × WasCalledOn F.step callback.old events callback.new) }
-        ensures rows { self.new.rows ≡ self.old.rows }
+        ensures protocol { self.new.protocol ≡ self.old.protocol }
 
         // Without more to come only an open paste stays buffered.
         ensures flushed { maybe_more ≡ false → OnOk result ((self.new.text ≡ []) ⊎ Begins START self.new.text) }
@@ -398,9 +398,9 @@ impl ExtendedParser {
         ensures waits { OnOk result (IsBoundedOrOpenPaste self.new.text) }
 
         // Exactly the emitted events were consumed, and an item whose event needs memory is at the front.
-        ensures refused { OnErr result ((events : List Event) × Steps self.old.rows self.old.text maybe_more events self.new.text
+        ensures refused { OnErr result ((events : List Event) × Steps self.old.protocol self.old.text maybe_more events self.new.text
             × WasCalledOn F.step callback.old events callback.new) }
-        ensures refused_item { OnErr result (HasItemThatNeedsMemory self.new.rows self.new.text maybe_more) }
+        ensures refused_item { OnErr result (HasItemThatNeedsMemory self.new.protocol self.new.text maybe_more) }
     {
         loop {
             match self.next_event(maybe_more)? {
@@ -421,12 +421,12 @@ impl ExtendedParser {
         callback: &mut F,
         maybe_more: bool,
     ) -> Result<(), ParseError>
-        requires { (events : List Event) (rest : List ℕ) → Steps self.old.rows (self.old.text ++ bytes.now) maybe_more events rest
+        requires { (events : List Event) (rest : List ℕ) → Steps self.old.protocol (self.old.text ++ bytes.now) maybe_more events rest
             → MayBeCalledOn F.FnMut callback.old events }
         ensures ok { OnOk result ((events : List Event)
-            × Means self.old.rows (self.old.text ++ bytes.now) maybe_more events self.new.text
+            × Means self.old.protocol (self.old.text ++ bytes.now) maybe_more events self.new.text
             × WasCalledOn F.step callback.old events callback.new) }
-        ensures rows { self.new.rows ≡ self.old.rows }
+        ensures protocol { self.new.protocol ≡ self.old.protocol }
 
         // Without more to come only an open paste stays buffered.
         ensures flushed { maybe_more ≡ false → OnOk result ((self.new.text ≡ []) ⊎ Begins START self.new.text) }
@@ -441,12 +441,12 @@ impl ExtendedParser {
 
         // If they were, exactly the emitted events were consumed, and an item whose event needs memory is at the front.
         ensures taken { IsErrOf result ParseError.Taken
-            → (events : List Event) × Steps self.old.rows (self.old.text ++ bytes.now) maybe_more events self.new.text
+            → (events : List Event) × Steps self.old.protocol (self.old.text ++ bytes.now) maybe_more events self.new.text
             × WasCalledOn F.step callback.old events callback.new }
-        ensures taken_item { IsErrOf result ParseError.Taken → HasItemThatNeedsMemory self.new.rows self.new.text maybe_more }
+        ensures taken_item { IsErrOf result ParseError.Taken → HasItemThatNeedsMemory self.new.protocol self.new.text maybe_more }
 
         // No bytes need no memory, unless the waiting text gives an event that does.
-        ensures granted { bytes.now ≡ [] → GivesNoneThatNeedsMemory self.old.rows self.old.text maybe_more → IsOk result }
+        ensures granted { bytes.now ≡ [] → GivesNoneThatNeedsMemory self.old.protocol self.old.text maybe_more → IsOk result }
     {
         if self.feed(bytes).is_err() {
             return Err(ParseError::NotTaken);
@@ -459,19 +459,20 @@ impl ExtendedParser {
 
     // Whether an item is at the front of the waiting text.
     fn has_item(&self, maybe_more: bool) -> bool
-        ensures some { IsTrue result → HasItem self.now.rows self.now.text maybe_more }
-        ensures none { result ≡ false → IsRest self.now.rows self.now.text maybe_more }
+        ensures some { IsTrue result → HasItem self.now.protocol self.now.text maybe_more }
+        ensures none { result ≡ false → IsRest self.now.protocol self.now.text maybe_more }
     {
-        let rows = self.rows;
+        let protocol = self.protocol;
         let text = self.waiting_text();
-        match self.front(maybe_more) {
-            ExtendedFront::Form(len)
-                if is_extra_at(&self.parser, rows, text, len, &meaning_of(&text[..len])) => true,
-            ExtendedFront::Form(_) => self.parser.has_item(maybe_more),
-            ExtendedFront::Paste => self.parser.has_item(maybe_more),
-            ExtendedFront::Usual => self.parser.has_item(maybe_more),
-            ExtendedFront::Control(_) => self.parser.has_item(maybe_more),
-            ExtendedFront::Incomplete(_) => false,
+        match self.next_item(maybe_more) {
+            NextItem::Form(len)
+                if is_extra_at(&self.parser, protocol, text, len, &meaning_of(&text[..len])) =>
+                true,
+            NextItem::Form(_) => self.parser.has_item(maybe_more),
+            NextItem::Paste => self.parser.has_item(maybe_more),
+            NextItem::Usual => self.parser.has_item(maybe_more),
+            NextItem::Control(_) => self.parser.has_item(maybe_more),
+            NextItem::Incomplete(_) => false,
             _ => true,
         }
     }
@@ -479,8 +480,8 @@ impl ExtendedParser {
     // Makes room in the list for one more event, if an item is at the front of the waiting text.
     fn make_room(&self, events: &mut Vec<ExtendedEvent>, maybe_more: bool) -> Result<(), AllocError>
         ensures items { events.new.items ≡ events.old.items }
-        ensures room { OnOk result (HasItem self.now.rows self.now.text maybe_more → vec_len events.new < vec_capacity events.new) }
-        ensures item { OnErr result (HasItem self.now.rows self.now.text maybe_more) }
+        ensures room { OnOk result (HasItem self.now.protocol self.now.text maybe_more → vec_len events.new < vec_capacity events.new) }
+        ensures item { OnErr result (HasItem self.now.protocol self.now.text maybe_more) }
     {
         if events.len() < events.capacity() {
             return Ok(());
@@ -517,10 +518,10 @@ impl ExtendedParser {
         maybe_more: bool,
     ) -> Result<(), AllocError>
         requires { events.old.items ≡ [] }
-        ensures steps { Steps self.old.rows self.old.text maybe_more events.new.items self.new.text }
-        ensures same_rows { self.new.rows ≡ self.old.rows }
-        ensures rest { OnOk result (IsRest self.new.rows self.new.text maybe_more) }
-        ensures item { OnErr result (HasItem self.new.rows self.new.text maybe_more) }
+        ensures steps { Steps self.old.protocol self.old.text maybe_more events.new.items self.new.text }
+        ensures same_rows { self.new.protocol ≡ self.old.protocol }
+        ensures rest { OnOk result (IsRest self.new.protocol self.new.text maybe_more) }
+        ensures item { OnErr result (HasItem self.new.protocol self.new.text maybe_more) }
         ensures few { length events.new.items + length self.new.text ≤ length self.old.text }
     {
         while self.store_next(events, maybe_more)? {}
@@ -538,9 +539,9 @@ impl ExtendedParser {
         bytes: &[u8],
         maybe_more: bool,
     ) -> Result<Vec<ExtendedEvent>, ExtendedVecError>
-        ensures ok { IfOk result (λ events. Means self.old.rows (self.old.text ++ bytes.now) maybe_more events.items self.new.text) }
+        ensures ok { IfOk result (λ events. Means self.old.protocol (self.old.text ++ bytes.now) maybe_more events.items self.new.text) }
         ensures few { IfOk result (λ events. length events.items + length self.new.text ≤ length self.old.text + length bytes.now) }
-        ensures rows { self.new.rows ≡ self.old.rows }
+        ensures protocol { self.new.protocol ≡ self.old.protocol }
 
         // Without more to come only an open paste stays buffered.
         ensures flushed { maybe_more ≡ false → OnOk result ((self.new.text ≡ []) ⊎ Begins START self.new.text) }
@@ -555,8 +556,8 @@ impl ExtendedParser {
 
         // If they were, exactly the events of the error were consumed, and an item is at the front.
         ensures taken { IfErr result (λ e. e.taken ≡ true
-            → Steps self.old.rows (self.old.text ++ bytes.now) maybe_more e.events.items self.new.text) }
-        ensures taken_item { IfErr result (λ e. e.taken ≡ true → HasItem self.new.rows self.new.text maybe_more) }
+            → Steps self.old.protocol (self.old.text ++ bytes.now) maybe_more e.events.items self.new.text) }
+        ensures taken_item { IfErr result (λ e. e.taken ≡ true → HasItem self.new.protocol self.new.text maybe_more) }
         ensures taken_few { IfErr result (λ e. e.taken ≡ true
             → length e.events.items + length self.new.text ≤ length self.old.text + length bytes.now) }
     {

@@ -3,8 +3,8 @@
 
 mod characters;
 mod form;
-mod front;
 pub mod input;
+mod next_item;
 
 pub use termwiz_extended_events::types;
 pub use termwiz_extended_grammar::laws;

@@ -13,7 +13,7 @@ use Rattle.termwiz_extended_events.specs.declared.types.ReportedKey.{ReportedKey
 use Rattle.termwiz_extended_events.specs.declared.types.ReportedKey.TheVariants.{Named}
 use Rattle.termwiz_extended_events.specs.declared.types.ExtendedEvent.{ExtendedEvent}
 use Rattle.termwiz_extended_events.specs.declared.types.ExtendedEvent.TheVariants.{Input, Key}
-use Rattle.termwiz_extended_events.specs.declared.types.Rows.TheVariants.{Kitty}
+use Rattle.termwiz_extended_events.specs.declared.types.Protocol.TheVariants.{Kitty}
 use Rattle.termwiz_extended_events.specs.EventKeys.{key_of_event}
 use Rattle.termwiz_extended_events.specs.KeyReports.{report_of}
 use Rattle.termwiz_extended_grammar.specs.ExtendedGrammar.{Means}

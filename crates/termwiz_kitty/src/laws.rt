@@ -1,7 +1,7 @@
 //! Laws of the encoder, each the contract of a function without effect.
 ghost use Rattle.termwiz_kitty.specs.KittyLaws.{AltReadBack, FullyTold, KittyReadBack, LegacyReadBack, TypedReadBack};
 
-/// If a key is sent as a key report, and its sequence has at most 256 bytes, then the extended parser under `Rows::Kitty` reads it as
+/// If a key is sent as a key report, and its sequence has at most 256 bytes, then the extended parser under `Protocol::Kitty` reads it as
 /// exactly that report, whether or not more may come. Before the protocol that is so of each functional key with modifiers, and
 /// of a key of the keypad as its main key.
 pub fn kitty_read_back()

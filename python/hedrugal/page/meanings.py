@@ -59,8 +59,8 @@ AnyParser = Union[InputParser, ExtendedParser]
 # How the bytes are read, and what makes the parser: by the sequence table alone, with replies and reports, for Kitty's keyboard protocol.
 READINGS: Dict[str, Callable[[], AnyParser]] = {
     "table": InputParser,
-    "extended": lambda: ExtendedParser(Rows.PORT),
-    "kitty": lambda: ExtendedParser(Rows.KITTY),
+    "extended": lambda: ExtendedParser(Protocol.LEGACY),
+    "kitty": lambda: ExtendedParser(Protocol.KITTY),
 }
 
 # What bytes may begin that begin no row of the sequence table, by the event that they become; and what may end them.

@@ -420,9 +420,9 @@ function flush(end, focus) {
 // What each reading is for, and the parser of a report.
 const READINGS = {
   table: { means: 'An InputParser reads so. Replies and reports are typed text to it.' },
-  extended: { means: 'An ExtendedParser reads so, for a program that asks its terminal questions.', parser: 'ExtendedParser, Rows::Port' },
+  extended: { means: 'An ExtendedParser reads so, for a program that asks its terminal questions.', parser: 'ExtendedParser, Protocol::Legacy' },
   kitty: {
-    means: 'An ExtendedParser with Rows::Kitty reads so, for a program that turns the protocol on.', parser: 'ExtendedParser, Rows::Kitty',
+    means: 'An ExtendedParser with Protocol::Kitty reads so, for a program that turns the protocol on.', parser: 'ExtendedParser, Protocol::Kitty',
   },
 };
 

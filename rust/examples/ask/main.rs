@@ -1,6 +1,6 @@
 //! Asks a terminal where its cursor is, for its background colour, and for the flags of Kitty's keyboard protocol, and prints the replies.
 //!
-//!     TERMWIZ_C_DIR=DIR cargo run --example ask
+//!     HEDRUGAL_LIBRARY=DIR cargo run --example ask
 //!
 //! A terminal leaves a question without a reply if it doesn't know it. So the last question is for its attributes (DA1), which
 //! nearly every terminal answers: once that reply came, no other will. The program waits for a second at most.
@@ -25,7 +25,7 @@ use std::time::{Duration, Instant};
 use terminal::Terminal;
 use unix::signals;
 
-/// Under `Rows::Port` the reply to ESC [6n may be an F3, and that to ESC [?6n never is.
+/// Under `Protocol::Legacy` the reply to ESC [6n may be an F3, and that to ESC [?6n never is.
 const QUESTIONS: &[u8] = b"\x1b[?6n\x1b]11;?\x1b\\\x1b[?u\x1b[c";
 
 const LONGEST_WAIT: Duration = Duration::from_secs(1);
@@ -107,7 +107,7 @@ fn read_replies(input: &mut File, wake: &mut UnixStream, parser: &mut ExtendedPa
 }
 
 fn ask() -> io::Result<Replies> {
-    let mut parser = ExtendedParser::try_new(Rows::Port).map_err(io::Error::other)?;
+    let mut parser = ExtendedParser::try_new(Protocol::Legacy).map_err(io::Error::other)?;
     let mut terminal = Terminal::find(false)?;
     let mut wake = signals::note_all()?;
     terminal.enter()?;

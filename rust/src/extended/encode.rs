@@ -44,7 +44,7 @@ impl KeyReport {
     /// The rules are those of Kitty's page ["Comprehensive keyboard handling in terminals"][page]. Without `DISAMBIGUATE_ESCAPE_CODES` and
     /// `REPORT_ALL_KEYS_AS_ESCAPE_CODES` that is what terminals sent before the protocol: a control character for a letter with CTRL, the
     /// main key for one of the keypad, and the key's report for what has no such text. Under all flags an
-    /// [`ExtendedParser`](super::ExtendedParser) with [`Rows::Kitty`](super::Rows::Kitty) reads back each report that a terminal can send.
+    /// [`ExtendedParser`](super::ExtendedParser) with [`Protocol::Kitty`](super::Protocol::Kitty) reads back each report that a terminal can send.
     ///
     /// ```
     /// use hedrugal::extended::{KeyEventKind, KeyReport, KittyModifiers, ReportedKey};
@@ -83,7 +83,7 @@ impl KeyReport {
     /// use hedrugal::extended::{ExtendedParser, KittyEncodeError, ReportedKey, Rows};
     /// use hedrugal::input::{KeyCode, KittyKeyboardFlags};
     ///
-    /// let events = ExtendedParser::new(Rows::Kitty).parse_as_vec(b"\x1b[97;5u", true);
+    /// let events = ExtendedParser::new(Protocol::Kitty).parse_as_vec(b"\x1b[97;5u", true);
     /// let mut report = events[0].key().unwrap();
     /// assert_eq!(report.try_encode(KittyKeyboardFlags::all()).as_deref(), Ok("\x1b[97;5u"));
     /// report.key = ReportedKey::Named(KeyCode::Copy);
@@ -116,7 +116,7 @@ impl KeyReport {
         let mut len = 0;
         // SAFETY: the pointers lead to values of their types that live through the call, with as many bytes as the lengths say.
         let answer = unsafe {
-            raw::tw_encode_kitty(
+            raw::hed_encode_kitty(
                 &report,
                 self.text.as_ptr(),
                 self.text.len(),

@@ -8,7 +8,7 @@ use crate::raw;
 /// ```
 /// use hedrugal::extended::{ExtendedParser, KeyEventKind, Rows};
 ///
-/// let events = ExtendedParser::new(Rows::Kitty).parse_as_vec(b"\x1b[1;1:3A", true);
+/// let events = ExtendedParser::new(Protocol::Kitty).parse_as_vec(b"\x1b[1;1:3A", true);
 /// assert_eq!(events[0].key().unwrap().kind, KeyEventKind::Release);
 /// ```
 #[derive(Debug, Clone, Copy, PartialEq, Eq, Hash)]
@@ -28,7 +28,7 @@ pub enum KeyEventKind {
 /// use hedrugal::extended::{ExtendedParser, ReportedKey, Rows};
 /// use hedrugal::input::KeyCode;
 ///
-/// let events = ExtendedParser::new(Rows::Kitty).parse_as_vec(b"\x1b[27u\x1b[57428u", true);
+/// let events = ExtendedParser::new(Protocol::Kitty).parse_as_vec(b"\x1b[27u\x1b[57428u", true);
 /// assert_eq!(events[0].key().unwrap().key, ReportedKey::Named(KeyCode::Escape));
 /// assert_eq!(events[1].key().unwrap().key, ReportedKey::Functional(57428));
 /// ```
@@ -55,7 +55,7 @@ pub enum ReportedKey {
 ///     base: None,
 ///     text: "A".to_string(),
 /// };
-/// let events = ExtendedParser::new(Rows::Kitty).parse_as_vec(b"\x1b[97:65;2;65u", true);
+/// let events = ExtendedParser::new(Protocol::Kitty).parse_as_vec(b"\x1b[97:65;2;65u", true);
 /// assert_eq!(events, [ExtendedEvent::Key(report)]);
 /// ```
 #[derive(Debug, Clone, PartialEq, Eq)]
@@ -80,7 +80,7 @@ pub struct KeyReport {
 /// ```
 /// use hedrugal::extended::{ExtendedEvent, ExtendedParser, Rows};
 ///
-/// let events = ExtendedParser::new(Rows::Port).parse_as_vec(b"\x1b[I\x1b[?62;22c", true);
+/// let events = ExtendedParser::new(Protocol::Legacy).parse_as_vec(b"\x1b[I\x1b[?62;22c", true);
 /// assert_eq!(events, [ExtendedEvent::FocusGained, ExtendedEvent::Csi(b"?62;22c".to_vec())]);
 /// ```
 #[derive(Debug, Clone, PartialEq, Eq)]
@@ -133,7 +133,7 @@ impl ExtendedEvent {
     /// use hedrugal::extended::{ExtendedParser, KittyModifiers, ReportedKey, Rows};
     /// use hedrugal::input::KeyCode;
     ///
-    /// for rows in [Rows::Port, Rows::Kitty] {
+    /// for rows in [Protocol::Legacy, Protocol::Kitty] {
     ///     let events = ExtendedParser::new(rows).parse_as_vec(b"\x1b[1;5A\x1b[I", true);
     ///     let report = events[0].key().unwrap();
     ///     assert_eq!(report.key, ReportedKey::Named(KeyCode::UpArrow));

@@ -15,9 +15,9 @@ use std::fmt;
 ///     key: KeyCode::Function(3),
 ///     modifiers: Modifiers::CTRL,
 /// };
-/// let events = ExtendedParser::new(Rows::Port).parse_as_vec(b"\x1b[1;5R", true);
+/// let events = ExtendedParser::new(Protocol::Legacy).parse_as_vec(b"\x1b[1;5R", true);
 /// assert_eq!(events, [ExtendedEvent::Input(InputEvent::Key(f3))]);
-/// let events = ExtendedParser::new(Rows::Kitty).parse_as_vec(b"\x1b[1;5R", true);
+/// let events = ExtendedParser::new(Protocol::Kitty).parse_as_vec(b"\x1b[1;5R", true);
 /// assert_eq!(events, [ExtendedEvent::CursorPosition { row: 1, column: 5 }]);
 /// ```
 #[derive(Debug, Clone, Copy, PartialEq, Eq, Hash)]
@@ -34,30 +34,30 @@ impl Rows {
     // The number of the library.
     fn number(self) -> u32 {
         match self {
-            Rows::Port => raw::ROWS_PORT,
-            Rows::Kitty => raw::ROWS_KITTY,
+            Protocol::Legacy => raw::PROTOCOL_LEGACY,
+            Protocol::Kitty => raw::PROTOCOL_KITTY,
         }
     }
 }
 
-// SAFETY: these are the library's calls for a `tw_extended`.
+// SAFETY: these are the library's calls for a `hed_extended`.
 unsafe impl RawParser for raw::Extended {
     type RawEvent = raw::ExtendedEvent;
     type Event = ExtendedEvent;
 
     const CALLS: Calls<raw::Extended, raw::ExtendedEvent> = Calls {
-        free: raw::tw_extended_free,
-        feed: raw::tw_extended_feed,
-        next: raw::tw_extended_next,
-        text: raw::tw_extended_text,
-        drop_text: raw::tw_extended_drop_text,
-        waiting: raw::tw_extended_waiting,
-        waiting_kind: raw::tw_extended_waiting_kind,
-        flush_escape: raw::tw_extended_flush_escape,
-        is_paste_open: raw::tw_extended_is_paste_open,
-        end_paste: raw::tw_extended_end_paste,
-        reset: raw::tw_extended_reset,
-        shrink_to: raw::tw_extended_shrink_to,
+        free: raw::hed_extended_free,
+        feed: raw::hed_extended_feed,
+        next: raw::hed_extended_next,
+        text: raw::hed_extended_text,
+        drop_text: raw::hed_extended_drop_text,
+        waiting: raw::hed_extended_waiting_len,
+        waiting_kind: raw::hed_extended_waiting,
+        flush_escape: raw::hed_extended_flush_escape,
+        is_paste_open: raw::hed_extended_is_paste_open,
+        end_paste: raw::hed_extended_end_paste,
+        reset: raw::hed_extended_reset,
+        shrink_to: raw::hed_extended_shrink_to,
     };
 
     fn is_paste(event: &raw::ExtendedEvent) -> bool {
@@ -75,7 +75,7 @@ unsafe impl RawParser for raw::Extended {
 /// ```
 /// use hedrugal::extended::{ExtendedEvent, ExtendedParser, Rows};
 ///
-/// let mut parser = ExtendedParser::new(Rows::Port);
+/// let mut parser = ExtendedParser::new(Protocol::Legacy);
 /// assert!(parser.parse_as_vec(b"\x1b[?24;8", true).is_empty());
 /// assert_eq!(parser.parse_as_vec(b"0R", true), [ExtendedEvent::CursorPosition { row: 24, column: 80 }]);
 /// ```
@@ -90,7 +90,7 @@ impl ExtendedParser {
     /// ```
     /// use hedrugal::extended::{ExtendedParser, Rows};
     ///
-    /// assert_eq!(ExtendedParser::new(Rows::Port).waiting_len(), 0);
+    /// assert_eq!(ExtendedParser::new(Protocol::Legacy).waiting_len(), 0);
     /// ```
     ///
     /// # Panics
@@ -106,7 +106,7 @@ impl ExtendedParser {
     /// ```
     /// use hedrugal::extended::{ExtendedParser, Rows};
     ///
-    /// assert!(ExtendedParser::try_new(Rows::Kitty).is_ok());
+    /// assert!(ExtendedParser::try_new(Protocol::Kitty).is_ok());
     /// ```
     ///
     /// # Errors
@@ -115,7 +115,7 @@ impl ExtendedParser {
     pub fn try_new(rows: Rows) -> Result<ExtendedParser, AllocError> {
         let mut raw = raw::Extended::NONE;
         // SAFETY: `raw` is no parser yet, which the call allows. `idle` is another one, which this thread alone has.
-        table::share(|idle| unsafe { raw::tw_extended_init_sharing_parser(&mut raw, rows.number(), idle) })?;
+        table::share(|idle| unsafe { raw::hed_extended_init_sharing_parser(&mut raw, rows.number(), idle) })?;
         let parser = LibraryParser::of(raw);
         Ok(ExtendedParser { parser, rows })
     }
@@ -125,7 +125,7 @@ impl ExtendedParser {
     /// ```
     /// use hedrugal::extended::{ExtendedParser, Rows};
     ///
-    /// assert_eq!(ExtendedParser::new(Rows::Kitty).rows(), Rows::Kitty);
+    /// assert_eq!(ExtendedParser::new(Protocol::Kitty).rows(), Protocol::Kitty);
     /// ```
     #[must_use]
     pub fn rows(&self) -> Rows {
@@ -137,7 +137,7 @@ impl ExtendedParser {
     /// ```
     /// use hedrugal::extended::{ExtendedParser, Rows};
     ///
-    /// let mut parser = ExtendedParser::new(Rows::Port);
+    /// let mut parser = ExtendedParser::new(Protocol::Legacy);
     /// parser.feed(b"ab");
     /// assert_eq!(parser.waiting_len(), 2);
     /// ```
@@ -154,7 +154,7 @@ impl ExtendedParser {
     /// ```
     /// use hedrugal::extended::{ExtendedParser, Rows};
     ///
-    /// assert_eq!(ExtendedParser::new(Rows::Port).try_feed(b"ab"), Ok(()));
+    /// assert_eq!(ExtendedParser::new(Protocol::Legacy).try_feed(b"ab"), Ok(()));
     /// ```
     ///
     /// # Errors
@@ -170,7 +170,7 @@ impl ExtendedParser {
     /// ```
     /// use hedrugal::extended::{ExtendedEvent, ExtendedParser, Rows};
     ///
-    /// let mut parser = ExtendedParser::new(Rows::Port);
+    /// let mut parser = ExtendedParser::new(Protocol::Legacy);
     /// parser.feed(b"\x1b[I\x1b[O\x1b[");
     /// assert_eq!(parser.next_event(true), Some(ExtendedEvent::FocusGained));
     /// assert_eq!(parser.next_event(true), Some(ExtendedEvent::FocusLost));
@@ -190,7 +190,7 @@ impl ExtendedParser {
     /// ```
     /// use hedrugal::extended::{ExtendedParser, Rows};
     ///
-    /// assert_eq!(ExtendedParser::new(Rows::Port).try_next_event(true), Ok(None));
+    /// assert_eq!(ExtendedParser::new(Protocol::Legacy).try_next_event(true), Ok(None));
     /// ```
     ///
     /// # Errors
@@ -210,7 +210,7 @@ impl ExtendedParser {
     /// ```
     /// use hedrugal::extended::{ExtendedParser, Rows};
     ///
-    /// let mut parser = ExtendedParser::new(Rows::Port);
+    /// let mut parser = ExtendedParser::new(Protocol::Legacy);
     /// let mut count = 0;
     /// parser.parse(b"ab\x1b[I\x1b]0;title", |_| count += 1, true);
     /// assert_eq!(count, 3);
@@ -228,7 +228,7 @@ impl ExtendedParser {
     /// ```
     /// use hedrugal::extended::{ExtendedParser, Rows};
     ///
-    /// let mut parser = ExtendedParser::new(Rows::Port);
+    /// let mut parser = ExtendedParser::new(Protocol::Legacy);
     /// assert_eq!(parser.try_parse(b"\x1b[I", |event| println!("{event:?}"), true), Ok(()));
     /// ```
     ///
@@ -244,7 +244,7 @@ impl ExtendedParser {
     /// ```
     /// use hedrugal::extended::{ExtendedEvent, ExtendedParser, Rows};
     ///
-    /// let mut parser = ExtendedParser::new(Rows::Port);
+    /// let mut parser = ExtendedParser::new(Protocol::Legacy);
     /// assert_eq!(parser.parse_as_vec(b"\x1bP>|kitty\x1b", true), []);
     /// assert_eq!(parser.parse_as_vec(b"\\", true), [ExtendedEvent::Dcs(b">|kitty".to_vec())]);
     /// ```
@@ -262,7 +262,7 @@ impl ExtendedParser {
     /// ```
     /// use hedrugal::extended::{ExtendedParser, Rows};
     ///
-    /// let mut parser = ExtendedParser::new(Rows::Port);
+    /// let mut parser = ExtendedParser::new(Protocol::Legacy);
     /// assert_eq!(parser.try_parse_as_vec(b"ab", true).map(|events| events.len()), Ok(2));
     /// ```
     ///
@@ -279,7 +279,7 @@ impl ExtendedParser {
     /// ```
     /// use hedrugal::extended::{ExtendedParser, Rows};
     ///
-    /// let mut parser = ExtendedParser::new(Rows::Port);
+    /// let mut parser = ExtendedParser::new(Protocol::Legacy);
     /// parser.parse(b"a\x1b]0;t", |_| {}, true);
     /// assert_eq!(parser.waiting_len(), 5);
     /// ```
@@ -295,7 +295,7 @@ impl ExtendedParser {
     /// use hedrugal::extended::{ExtendedParser, Rows};
     /// use hedrugal::input::Waiting;
     ///
-    /// let mut parser = ExtendedParser::new(Rows::Port);
+    /// let mut parser = ExtendedParser::new(Protocol::Legacy);
     /// parser.parse(b"\x1b]0;title", |_| {}, true);
     /// assert_eq!(parser.waiting(), Waiting::Sequence);
     /// ```
@@ -314,7 +314,7 @@ impl ExtendedParser {
     /// use hedrugal::extended::{ExtendedEvent, ExtendedParser, Rows};
     /// use hedrugal::input::{InputEvent, KeyCode, KeyEvent, Modifiers};
     ///
-    /// let mut parser = ExtendedParser::new(Rows::Port);
+    /// let mut parser = ExtendedParser::new(Protocol::Legacy);
     /// parser.parse(b"\x1b", |_| {}, true);
     /// let escape = KeyEvent {
     ///     key: KeyCode::Escape,
@@ -334,7 +334,7 @@ impl ExtendedParser {
     /// ```
     /// use hedrugal::extended::{ExtendedParser, Rows};
     ///
-    /// let mut parser = ExtendedParser::new(Rows::Port);
+    /// let mut parser = ExtendedParser::new(Protocol::Legacy);
     /// parser.parse(b"\x1b[200~te", |_| {}, true);
     /// assert!(parser.is_paste_open());
     /// ```
@@ -354,7 +354,7 @@ impl ExtendedParser {
     /// use hedrugal::extended::{ExtendedEvent, ExtendedParser, Rows};
     /// use hedrugal::input::InputEvent;
     ///
-    /// let mut parser = ExtendedParser::new(Rows::Port);
+    /// let mut parser = ExtendedParser::new(Protocol::Legacy);
     /// parser.parse(b"\x1b[200~te", |_| {}, true);
     /// let paste = InputEvent::Paste("te".to_string());
     /// assert_eq!(parser.end_paste(), Some(ExtendedEvent::Input(paste)));
@@ -374,7 +374,7 @@ impl ExtendedParser {
     /// ```
     /// use hedrugal::extended::{ExtendedParser, Rows};
     ///
-    /// assert_eq!(ExtendedParser::new(Rows::Port).try_end_paste(), Ok(None));
+    /// assert_eq!(ExtendedParser::new(Protocol::Legacy).try_end_paste(), Ok(None));
     /// ```
     ///
     /// # Errors
@@ -392,7 +392,7 @@ impl ExtendedParser {
     /// ```
     /// use hedrugal::extended::{ExtendedParser, Rows};
     ///
-    /// let mut parser = ExtendedParser::new(Rows::Port);
+    /// let mut parser = ExtendedParser::new(Protocol::Legacy);
     /// parser.parse(b"\x1b]0;title", |_| {}, true);
     /// assert_eq!(parser.reset(), 9);
     /// assert_eq!(parser.waiting_len(), 0);
@@ -410,7 +410,7 @@ impl ExtendedParser {
     /// ```
     /// use hedrugal::extended::{ExtendedParser, Rows};
     ///
-    /// let mut parser = ExtendedParser::new(Rows::Port);
+    /// let mut parser = ExtendedParser::new(Protocol::Legacy);
     /// let reply = format!("\x1b]52;c;{}\x1b\\\x1b]", "dGV4dA==".repeat(1000));
     /// assert_eq!(parser.parse_as_vec(reply.as_bytes(), true).len(), 1);
     /// parser.shrink_to(0);

@@ -167,7 +167,7 @@ impl KeyCode {
         let mut len = 0;
         // SAFETY: the pointers lead to values of their types that live through the call, and `room` has as many bytes as it says.
         let answer = unsafe {
-            raw::tw_encode(
+            raw::hed_encode(
                 self.number(),
                 self.detail(),
                 (mods & Modifiers::all()).bits(),

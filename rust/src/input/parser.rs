@@ -119,24 +119,24 @@ pub struct InputParser {
     parser: LibraryParser<raw::Parser>,
 }
 
-// SAFETY: these are the library's calls for a `tw_parser`.
+// SAFETY: these are the library's calls for a `hed_parser`.
 unsafe impl RawParser for raw::Parser {
     type RawEvent = raw::Event;
     type Event = InputEvent;
 
     const CALLS: Calls<raw::Parser, raw::Event> = Calls {
-        free: raw::tw_parser_free,
-        feed: raw::tw_parser_feed,
-        next: raw::tw_parser_next,
-        text: raw::tw_parser_paste,
-        drop_text: raw::tw_parser_drop_paste,
-        waiting: raw::tw_parser_waiting,
-        waiting_kind: raw::tw_parser_waiting_kind,
-        flush_escape: raw::tw_parser_flush_escape,
-        is_paste_open: raw::tw_parser_is_paste_open,
-        end_paste: raw::tw_parser_end_paste,
-        reset: raw::tw_parser_reset,
-        shrink_to: raw::tw_parser_shrink_to,
+        free: raw::hed_parser_free,
+        feed: raw::hed_parser_feed,
+        next: raw::hed_parser_next,
+        text: raw::hed_parser_paste,
+        drop_text: raw::hed_parser_drop_paste,
+        waiting: raw::hed_parser_waiting_len,
+        waiting_kind: raw::hed_parser_waiting,
+        flush_escape: raw::hed_parser_flush_escape,
+        is_paste_open: raw::hed_parser_is_paste_open,
+        end_paste: raw::hed_parser_end_paste,
+        reset: raw::hed_parser_reset,
+        shrink_to: raw::hed_parser_shrink_to,
     };
 
     fn is_paste(event: &raw::Event) -> bool {
@@ -179,7 +179,7 @@ impl InputParser {
     pub fn try_new() -> Result<InputParser, AllocError> {
         let mut raw = raw::Parser::NONE;
         // SAFETY: `raw` is no parser yet, which the call allows. `idle` is another one, which this thread alone has.
-        table::share(|idle| unsafe { raw::tw_parser_init_sharing(&mut raw, idle) })?;
+        table::share(|idle| unsafe { raw::hed_parser_init_sharing(&mut raw, idle) })?;
         let parser = LibraryParser::of(raw);
         Ok(InputParser { parser })
     }
@@ -423,7 +423,7 @@ impl InputParser {
         let mut bytes = [0; raw::ROW_MOST];
         let mut event = raw::Event::default();
         // SAFETY: `raw` is a parser, which this thread alone has. The array's pointer leads to as many bytes, and `event` is another value.
-        let len = unsafe { raw::tw_row(&mut *self.parser.locked(), place, bytes.as_mut_ptr(), bytes.len(), &mut event) };
+        let len = unsafe { raw::hed_parser_entry(&mut *self.parser.locked(), place, bytes.as_mut_ptr(), bytes.len(), &mut event) };
         if len == 0 {
             return None;
         }
@@ -453,7 +453,7 @@ impl InputParser {
     pub fn completions(&self) -> Completions {
         let mut rows = raw::Rows::default();
         // SAFETY: `raw` is a parser, which this thread alone has, and `rows` another value.
-        let told = unsafe { raw::tw_parser_completions(&mut *self.parser.locked(), &mut rows) };
+        let told = unsafe { raw::hed_parser_completions(&mut *self.parser.locked(), &mut rows) };
         assert!(told, "{FAULT}");
         Completions {
             rows: rows.first..rows.first + rows.count,

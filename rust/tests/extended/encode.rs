@@ -430,7 +430,7 @@ fn texts_of_a_key_alone() {
 
 #[test]
 fn read_back() {
-    let mut parser = ExtendedParser::new(Rows::Kitty);
+    let mut parser = ExtendedParser::new(Protocol::Kitty);
     let keys = [
         KeyCode::Char('a'),
         KeyCode::Char('\u{10ffff}'),
@@ -473,7 +473,7 @@ fn read_back() {
 // what Ctrl makes of i is Tab.
 #[test]
 fn legacy_read_back() {
-    let mut parser = ExtendedParser::new(Rows::Kitty);
+    let mut parser = ExtendedParser::new(Protocol::Kitty);
     let mut read = |sent: &KeyReport, key: KeyCode, modifiers: KittyModifiers| {
         let text = sent.encode(Flags::NONE).unwrap();
         let events = parser.parse_as_vec(text.as_bytes(), false);

@@ -5,11 +5,11 @@ pub const MORE: bool = true;
 
 pub const LAST: bool = false;
 
-pub const PORT: &[Rows] = &[Rows::Port];
+pub const PORT: &[Rows] = &[Protocol::Legacy];
 
-pub const KITTY: &[Rows] = &[Rows::Kitty];
+pub const KITTY: &[Rows] = &[Protocol::Kitty];
 
-pub const BOTH: &[Rows] = &[Rows::Port, Rows::Kitty];
+pub const BOTH: &[Rows] = &[Protocol::Legacy, Protocol::Kitty];
 
 // The bytes of one call, its flag, and what it gives: the lines of the events, and how many bytes wait then, if any do.
 pub type Step = (&'static [u8], bool, &'static str);

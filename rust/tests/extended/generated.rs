@@ -135,7 +135,7 @@ fn reads_2000_texts_however_cut() {
 // A text without extra sequences is read as the port reads it.
 #[test]
 fn reads_2000_usual_texts_as_the_port() {
-    let (mut port, mut parser) = (InputParser::new(), ExtendedParser::new(Rows::Port));
+    let (mut port, mut parser) = (InputParser::new(), ExtendedParser::new(Protocol::Legacy));
     let mut draws = Draws::new(2);
     for _ in 0..2000 {
         let text = drawn(&mut draws, USUAL_SYMBOLS);

@@ -130,7 +130,7 @@ fn told(name: &str, modifiers: &str, sent: &str, is_press: bool) -> KeyReport {
             text: String::new(),
         };
     }
-    let events = ExtendedParser::new(Rows::Kitty).parse_as_vec(sent.as_bytes(), true);
+    let events = ExtendedParser::new(Protocol::Kitty).parse_as_vec(sent.as_bytes(), true);
     let [ExtendedEvent::Key(report)] = events.as_slice() else {
         panic!("{name} {modifiers}: {}", sent.escape_debug());
     };

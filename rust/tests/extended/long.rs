@@ -104,7 +104,7 @@ fn mixed_events_at_once() {
     let (parts, wanted) = MIXED;
     let (text, wanted) = (joined(parts), joined(wanted));
     assert_eq!(text.len(), 100_001);
-    let mut parser = ExtendedParser::new(Rows::Kitty);
+    let mut parser = ExtendedParser::new(Protocol::Kitty);
     for call in 0..CALLS {
         let events = parsed(call, &mut parser, &text, LAST);
         assert_eq!(events.len(), 24001, "call {call}");

@@ -146,7 +146,7 @@ fn pressed(key: KeyCode, modifiers: KittyModifiers) -> KeyReport {
 // A key of the port is a press, so a program needs one case for both.
 #[test]
 fn finds_keys_of_events() {
-    let mut parser = ExtendedParser::new(Rows::Port);
+    let mut parser = ExtendedParser::new(Protocol::Legacy);
     let events = parser.parse_as_vec(
         b"a\x1b[1;8A\x1b[I\x1b[97;5:3u\x1b[200~p\x1b[201~\x1b[<0;1;1M\x1b[?1u\x1b]a\x07",
         true,
@@ -165,7 +165,7 @@ fn finds_keys_of_events() {
 // Each key is found as a report, also one with a text and a key of the port.
 #[test]
 fn finds_keys_of_reports() {
-    let mut parser = ExtendedParser::new(Rows::Port);
+    let mut parser = ExtendedParser::new(Protocol::Legacy);
     let events = parser.parse_as_vec(b"a\x1b[97;5u\x1b[I\x1b[1;2:3A\x1b[200~p\x1b[201~\x1b[97;;65u\x1bOP", false);
     let keys: Vec<ExtendedEvent> = events.iter().filter_map(ExtendedEvent::key).map(ExtendedEvent::Key).collect();
     assert_eq!(
@@ -178,7 +178,7 @@ fn finds_keys_of_reports() {
 // The flags of a reply are those that a program pushes.
 #[test]
 fn tells_keyboard_flags() {
-    let events = ExtendedParser::new(Rows::Kitty).parse_as_vec(b"\x1b[?5u", true);
+    let events = ExtendedParser::new(Protocol::Kitty).parse_as_vec(b"\x1b[?5u", true);
     let [ExtendedEvent::KeyboardFlags(bits)] = events[..] else {
         panic!("{events:?}")
     };
@@ -197,7 +197,7 @@ fn writes_and_reads_modifiers() {
 // A callback that panics loses no later event.
 #[test]
 fn goes_on_after_a_panic() {
-    let mut parser = ExtendedParser::new(Rows::Port);
+    let mut parser = ExtendedParser::new(Protocol::Legacy);
     let caught = std::panic::catch_unwind(std::panic::AssertUnwindSafe(|| {
         parser.parse(b"\x1b[I\x1b]a\x07", |_| std::panic::resume_unwind(Box::new(())), true);
     }));
@@ -208,7 +208,7 @@ fn goes_on_after_a_panic() {
 // What stays buffered is read by two threads at once, and the parser then goes on in a third.
 #[test]
 fn shares_a_parser_between_threads() {
-    let mut parser = ExtendedParser::new(Rows::Kitty);
+    let mut parser = ExtendedParser::new(Protocol::Kitty);
     parser.parse(b"\x1b]0;title", |_| {}, true);
     std::thread::scope(|scope| {
         for _ in 0..2 {
@@ -234,7 +234,7 @@ fn has_the_traits() {
 
 #[test]
 fn shows_a_parser() {
-    let mut parser = ExtendedParser::new(Rows::Port);
+    let mut parser = ExtendedParser::new(Protocol::Legacy);
     parser.parse(b"\x1b[", |_| (), true);
     assert_eq!(format!("{parser:?}"), "ExtendedParser { rows: Port, waiting_len: 2, .. }");
 }
@@ -242,7 +242,7 @@ fn shows_a_parser() {
 // Two parsers at once, of either kind, have nothing in common.
 #[test]
 fn parts_parsers() {
-    let (mut plain, mut extended) = (InputParser::new(), ExtendedParser::new(Rows::Port));
+    let (mut plain, mut extended) = (InputParser::new(), ExtendedParser::new(Protocol::Legacy));
     assert_eq!(plain.parse_as_vec(b"\x1b[200~a", true), []);
     assert_eq!(extended.parse_as_vec(b"\x1b[200~b", true), []);
     let [a, b] = ["a", "b"].map(|text| InputEvent::Paste(text.to_string()));

@@ -57,7 +57,7 @@ impl PlainReader {
             return None;
         }
         let event = event_of(text)?;
-        if self.is_row(text) && (self.rows == Rows::Port || !is_key_or_position(&event)) {
+        if self.is_row(text) && (self.rows == Protocol::Legacy || !is_key_or_position(&event)) {
             return None;
         }
         Some(event)

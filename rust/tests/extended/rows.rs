@@ -5,7 +5,7 @@ use hedrugal::input::{InputParser, KeyCode};
 // How many rows the sequence table has, as docs/GRAMMAR.md lists them.
 const ROW_COUNT: usize = 2937;
 
-// How many rows are read otherwise under `Rows::Kitty`.
+// How many rows are read otherwise under `Protocol::Kitty`.
 #[derive(Default, PartialEq, Debug)]
 struct Counts {
     // Key reports.
@@ -36,11 +36,11 @@ impl Counts {
     }
 }
 
-// Each row is read as `InputParser` reads it, or under `Rows::Kitty` as a report. The start of a paste alone has no event.
+// Each row is read as `InputParser` reads it, or under `Protocol::Kitty` as a report. The start of a paste alone has no event.
 #[test]
 fn reads_each_row() {
     let mut plain = InputParser::new();
-    let (mut port, mut kitty) = (ExtendedParser::new(Rows::Port), ExtendedParser::new(Rows::Kitty));
+    let (mut port, mut kitty) = (ExtendedParser::new(Protocol::Legacy), ExtendedParser::new(Protocol::Kitty));
     let mut counts = Counts::default();
     for place in 0..ROW_COUNT {
         let (row, key) = plain.row(place).expect("there are so many rows");

@@ -17,7 +17,7 @@ fn ctrl_up() -> InputEvent {
 // Makes parsers and reads with them. Some are freed here, and some are passed on in the middle of a key.
 fn make_and_use(passed_on: &Sender<InputParser>) {
     for _ in 0..ROUNDS {
-        let (mut parser, mut extended) = (InputParser::new(), ExtendedParser::new(Rows::Port));
+        let (mut parser, mut extended) = (InputParser::new(), ExtendedParser::new(Protocol::Legacy));
         assert_eq!(parser.parse_as_vec(b"\x1b[1;5A", true), [ctrl_up()]);
         assert_eq!(extended.parse_as_vec(b"\x1b[1;5A", true), [ExtendedEvent::Input(ctrl_up())]);
         drop(extended);

@@ -9,7 +9,7 @@ use std::alloc::{AllocError, Global};
 use std::process::Abort;
 use std::test::Fail;
 use termwiz_input_extended::input::ExtendedParser;
-use termwiz_input_extended::types::{ExtendedEvent, Rows};
+use termwiz_input_extended::types::{ExtendedEvent, Protocol};
 
 const MORE: bool = true;
 

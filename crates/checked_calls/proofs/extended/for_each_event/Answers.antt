@@ -17,5 +17,5 @@ returns-in_ok-for_each_event-in-Err g c =
       first,
       calls,
       without_bytes _ _ _ _ _ _ _ c.left_in-left.ensures (resumes_extended c.resumes.ensures _) given events refl
-          (rw append-nil steps) (rw append-nil (rw c.in-Err.ensures.rows at means)),
+          (rw append-nil steps) (rw append-nil (rw c.in-Err.ensures.protocol at means)),
     )

@@ -22,7 +22,7 @@ returns-in_ok-parse-in-Err-NotTaken g c =
       sym (refused.not_taken_quiet (cc (is))),
       calls,
       again _ _ _ _ _ _ _ c.left_in-left.ensures [] events refl refl (ap (λ p. p.text) same)
-          (rw refused.rows at means),
+          (rw refused.protocol at means),
     )
 
 pub returns-in_ok-parse-in-Err-Taken : goal.returns-in_ok-parse-in-Err-Taken
@@ -34,5 +34,5 @@ returns-in_ok-parse-in-Err-Taken g c =
       first,
       calls,
       without_bytes _ _ _ _ _ _ _ c.left_in-left-in-Err-Taken.ensures (resumes_extended c.resumes.ensures _) given events
-          refl steps (rw c.in-Err-Taken.ensures.rows at means),
+          refl steps (rw c.in-Err-Taken.ensures.protocol at means),
     )

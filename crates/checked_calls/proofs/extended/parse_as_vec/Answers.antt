@@ -6,7 +6,7 @@ use Rattle.checked_calls.proofs.extended.parse_as_vec.Goals.{then-taken, else-ta
 pub returns : goal.returns
 returns c =
     let refused = c.in-Err.ensures in
-    let means = rw refused.rows at c.in_ok-later.ensures.ok in
+    let means = rw refused.protocol at c.in_ok-later.ensures.ok in
     elim c.if-taken.branch [
       | then-taken w ↦ without_bytes _ _ _ _ _ _ _ c.left_in-left.ensures (resumes_extended c.resumes.ensures _) _ _
           w.if-taken.true (refused.taken w.if-taken.true) (rw w.rest-is at means)

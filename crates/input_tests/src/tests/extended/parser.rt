@@ -1,7 +1,7 @@
-// The calls of the parser, under both `Rows`.
+// The calls of the parser, under both `Protocol`.
 use super::{
-    Abort, EVERY_CALL, ExtendedParser, Fail, Global, LONG_REPORT, LONG_STRING, MORE, Parts, Rows,
-    joined,
+    Abort, EVERY_CALL, ExtendedParser, Fail, Global, LONG_REPORT, LONG_STRING, MORE, Parts,
+    Protocol, joined,
 };
 
 // Texts, and how many events they have.
@@ -44,7 +44,7 @@ fn reads_texts_as_the_port(rt: HostRuntime) -> Result<(), Fail> {
     check_texts(
         &rt,
         rt.alloc(),
-        &mut ExtendedParser::new(rt.alloc(), Rows::Port)?,
+        &mut ExtendedParser::new(rt.alloc(), Protocol::Legacy)?,
     )
 }
 
@@ -53,6 +53,6 @@ fn reads_texts_with_kitty(rt: HostRuntime) -> Result<(), Fail> {
     check_texts(
         &rt,
         rt.alloc(),
-        &mut ExtendedParser::new(rt.alloc(), Rows::Kitty)?,
+        &mut ExtendedParser::new(rt.alloc(), Protocol::Kitty)?,
     )
 }

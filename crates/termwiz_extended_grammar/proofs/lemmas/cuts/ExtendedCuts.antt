@@ -2,52 +2,52 @@
 use Rattle.std.proofs.Common.{ℕ, Bool, true, List, [], ◌∷◌, ◌++◌, length, sym, ap, ◌∙◌, subst, append_assoc, arith, length-append}
 use Rattle.termwiz_keymap.proofs.lemmas.lists.CommonPrefixes.{length-some}
 use Rattle.termwiz_extended_events.specs.declared.types.ExtendedEvent.{ExtendedEvent}
-use Rattle.termwiz_extended_events.specs.declared.types.Rows.{Rows}
+use Rattle.termwiz_extended_events.specs.declared.types.Protocol.{Protocol}
 use Rattle.termwiz_extended_grammar.specs.ExtendedGrammar.{Steps}
 use Rattle.termwiz_extended_grammar.specs.ExtendedLaws.{CutIndependent, Resumes, StepsJoin, FewEvents}
 use Rattle.termwiz_extended_grammar.proofs.lemmas.items.ExtendedItems.{stands_stays_extended, stands_some}
 
 -- steps of a text with more to come are steps of every longer one
-steps_stay : (rows : Rows) (E : List ExtendedEvent) (T S W : List ℕ) (f : Bool) → Steps rows T true E W
-    → Steps rows (T ++ S) f E (W ++ S)
-steps_stay rows [] T S W f h = ap (λ x. x ++ S) h
-steps_stay rows (e ∷ E) T S W f (bytes, rest, stands, splits, steps) = (
+steps_stay : (protocol : Protocol) (E : List ExtendedEvent) (T S W : List ℕ) (f : Bool) → Steps protocol T true E W
+    → Steps protocol (T ++ S) f E (W ++ S)
+steps_stay protocol [] T S W f h = ap (λ x. x ++ S) h
+steps_stay protocol (e ∷ E) T S W f (bytes, rest, stands, splits, steps) = (
   bytes,
   rest ++ S,
-  stands_stays_extended rows T S bytes e f stands,
+  stands_stays_extended protocol T S bytes e f stands,
   ap (λ x. x ++ S) splits ∙ append_assoc bytes rest S,
-  steps_stay rows E rest S W f steps,
+  steps_stay protocol E rest S W f steps,
 )
 
 -- steps after steps
-pub join_steps : (rows : Rows) (E D : List ExtendedEvent) (T V W : List ℕ) (f : Bool) → Steps rows T f E V → Steps rows V f D W
-    → Steps rows T f (E ++ D) W
-join_steps rows [] D T V W f h k = subst (λ x. Steps rows x f D W) (sym h) k
-join_steps rows (e ∷ E) D T V W f (bytes, rest, stands, splits, steps) k =
-    (bytes, rest, stands, splits, join_steps rows E D rest V W f steps k)
+pub join_steps : (protocol : Protocol) (E D : List ExtendedEvent) (T V W : List ℕ) (f : Bool) → Steps protocol T f E V → Steps protocol V f D W
+    → Steps protocol T f (E ++ D) W
+join_steps protocol [] D T V W f h k = subst (λ x. Steps protocol x f D W) (sym h) k
+join_steps protocol (e ∷ E) D T V W f (bytes, rest, stands, splits, steps) k =
+    (bytes, rest, stands, splits, join_steps protocol E D rest V W f steps k)
 
 pub steps_join : StepsJoin
-steps_join rows T V W E D f h k = join_steps rows E D T V W f h k
+steps_join protocol T V W E D f h k = join_steps protocol E D T V W f h k
 
 pub resumes : Resumes
-resumes rows T S W1 W2 E1 E2 f = (
+resumes protocol T S W1 W2 E1 E2 f = (
   λ h k. record {
-    steps = join_steps rows E1 E2 (T ++ S) (W1 ++ S) W2 f (steps_stay rows E1 T S W1 f h) k.steps;
+    steps = join_steps protocol E1 E2 (T ++ S) (W1 ++ S) W2 f (steps_stay protocol E1 T S W1 f h) k.steps;
     rest = k.rest;
   },
-  λ h k. record { steps = join_steps rows E1 E2 T W1 W2 f h k.steps; rest = k.rest },
+  λ h k. record { steps = join_steps protocol E1 E2 T W1 W2 f h k.steps; rest = k.rest },
 )
 
 pub cut_independent : CutIndependent
-cut_independent rows T S W1 W2 E1 E2 f h k = (resumes rows T S W1 W2 E1 E2 f).0 h.steps k
+cut_independent protocol T S W1 W2 E1 E2 f h k = (resumes protocol T S W1 W2 E1 E2 f).0 h.steps k
 
 pub few_events : FewEvents
-few_events rows T W [] f h = omega (arith, ap length h)
-few_events rows T W (e ∷ E) f (bytes, rest, stands, splits, steps) =
+few_events protocol T W [] f h = omega (arith, ap length h)
+few_events protocol T W (e ∷ E) f (bytes, rest, stands, splits, steps) =
     omega (
       arith,
       ap length splits,
       length-append bytes rest,
-      length-some bytes (stands_some rows T bytes e f stands),
-      few_events rows rest W E f steps,
+      length-some bytes (stands_some protocol T bytes e f stands),
+      few_events protocol rest W E f steps,
     )

@@ -18,7 +18,7 @@ use Rattle.termwiz_grammar.proofs.lemmas.mouse.OneReport.{IsPlain}
 use Rattle.termwiz_grammar.proofs.lemmas.read_back.WholeTexts.{escape_alone}
 use Rattle.termwiz_grammar.proofs.lemmas.cuts.ChunkInvariance.{steps_push}
 use Rattle.termwiz_extended_events.specs.declared.types.ExtendedEvent.TheVariants.{Input}
-use Rattle.termwiz_extended_events.specs.declared.types.Rows.{Rows}
+use Rattle.termwiz_extended_events.specs.declared.types.Protocol.{Protocol}
 use Rattle.termwiz_extended_grammar.specs.ExtraSequences.{StartsWithExtra}
 use Rattle.termwiz_extended_grammar.specs.ExtendedGrammar as grammar
 use Rattle.termwiz_extended_grammar.specs.ExtendedGrammar.{IsOpen, IsUsual, BeginsKnown}
@@ -31,18 +31,18 @@ use Rattle.termwiz_extended_grammar.proofs.lemmas.forms.ExtraFacts.{none_at_end}
 use Rattle.termwiz_extended_grammar.proofs.lemmas.items.ExtendedItems.{starts_shape}
 
 -- a text that begins with a plain byte is usual: no sequence begins so, and no character of several bytes
-plain_usual : (rows : Rows) (c : ℕ) (t : List ℕ) (f : Bool) → IsPlain c → IsUsual rows (c ∷ t) f
-plain_usual rows c t f plain = record { none = none; closed = λ h. closed h.beginning }
+plain_usual : (protocol : Protocol) (c : ℕ) (t : List ℕ) (f : Bool) → IsPlain c → IsUsual protocol (c ∷ t) f
+plain_usual protocol c t f plain = record { none = none; closed = λ h. closed h.beginning }
   where
-    none : StartsWithExtra rows (c ∷ t) → ⊥
-    none h = (let s = starts_shape rows (c ∷ t) h in let e : c ≡ 27 = cc (s.2) in omega (arith, plain.0))
+    none : StartsWithExtra protocol (c ∷ t) → ⊥
+    none h = (let s = starts_shape protocol (c ∷ t) h in let e : c ≡ 27 = cc (s.2) in omega (arith, plain.0))
 
     no_row : (tail : List ℕ) → tail ≢ [] → Bytes (c ∷ t ++ tail) → ⊥
     no_row [] longer b = longer refl
     no_row (x ∷ tail) longer (one y l e) = omega (arith, ap length e, length-append t (x ∷ tail))
     no_row (x ∷ tail) longer (more s n e p) = (let first : c ≡ 27 = cc (e) in omega (arith, plain.0))
 
-    closed : BeginsKnown rows (c ∷ t) → ⊥
+    closed : BeginsKnown protocol (c ∷ t) → ⊥
     closed (inl (inl h)) = no_row h.tail h.longer (sequence_bytes (c ∷ t ++ h.tail) h.meaning h.is_sequence)
     closed (inl (inr h)) =
         let high : IsHigh c = (parted_high h.char (c ∷ t) h.tail h.scalar (λ e. cc (e)) h.longer h.spells).0 in
@@ -52,89 +52,89 @@ plain_usual rows c t f plain = record { none = none; closed = λ h. closed h.beg
         let e : c ≡ 27 = cc (s.2) in omega (arith, plain.0)
 
 -- after the ESC of a longer sequence comes a plain byte
-plain_after : (rows : Rows) (u v text : List ℕ) (m : Meaning) (f : Bool) → IsSequence text m → Begins text u → (text ≡ ESC → ⊥)
-    → u ≡ ESC ++ v → IsUsual rows v f
-plain_after rows u v text m f is b longer split = go (sequence_bytes text m is)
+plain_after : (protocol : Protocol) (u v text : List ℕ) (m : Meaning) (f : Bool) → IsSequence text m → Begins text u → (text ≡ ESC → ⊥)
+    → u ≡ ESC ++ v → IsUsual protocol v f
+plain_after protocol u v text m f is b longer split = go (sequence_bytes text m is)
   where
-    go : Bytes text → IsUsual rows v f
+    go : Bytes text → IsUsual protocol v f
     go (one y l e) =
         let first : y ≡ 27 = cc (b.1, split, e) in
         absurd (longer (e ∙ ap (λ z. z ∷ []) first))
     go (more [] n e p) = absurd (n refl)
     go (more (c ∷ s) n e p) =
         let after : v ≡ c ∷ (s ++ b.0) = cc (b.1, split, e) in
-        subst (λ x. IsUsual rows x f) (sym after) (plain_usual rows c (s ++ b.0) f p.0)
+        subst (λ x. IsUsual protocol x f) (sym after) (plain_usual protocol c (s ++ b.0) f p.0)
 
-empty_usual : (rows : Rows) (f : Bool) → IsUsual rows [] f
-empty_usual rows f = record { none = none_at_end rows; closed = λ h. h.some refl }
+empty_usual : (protocol : Protocol) (f : Bool) → IsUsual protocol [] f
+empty_usual protocol f = record { none = none_at_end protocol; closed = λ h. h.some refl }
 
 -- nothing extra at a text that isn't open to the port
-usual_from : (rows : Rows) (u : List ℕ) (f : Bool) → ¬ port.IsOpen u f → HasNoExtra rows u f → IsUsual rows u f
-usual_from rows u f closed none = record { none = none.none; closed = λ h. closed (none.open_to_port h) }
+usual_from : (protocol : Protocol) (u : List ℕ) (f : Bool) → ¬ port.IsOpen u f → HasNoExtra protocol u f → IsUsual protocol u f
+usual_from protocol u f closed none = record { none = none.none; closed = λ h. closed (none.open_to_port h) }
 
 -- what follows the ESC of an item is usual, where the port meets no extra sequence after an ESC that is the head
-usual_after : (rows : Rows) (u bytes : List ℕ) (event : InputEvent) (f : Bool) → Item u f bytes event
-    → ((v : List ℕ) → IsLongest u ESC (Row escape) → u ≡ ESC ++ v → HasNoExtra rows v f)
-    → (v : List ℕ) → u ≡ ESC ++ v → IsUsual rows v f
-usual_after rows u bytes event f (key text k is ordinary alone) none v split = ⊎_elim
-    (λ (e : text ≡ ESC). let gone : v ≡ [] = cc (split, alone e) in subst (λ x. IsUsual rows x f) (sym gone) (empty_usual rows f))
-    (λ (other : text ≡ ESC → ⊥). plain_after rows u v text (Row k) f is.is_sequence is.begins other split)
+usual_after : (protocol : Protocol) (u bytes : List ℕ) (event : InputEvent) (f : Bool) → Item u f bytes event
+    → ((v : List ℕ) → IsLongest u ESC (Row escape) → u ≡ ESC ++ v → HasNoExtra protocol v f)
+    → (v : List ℕ) → u ≡ ESC ++ v → IsUsual protocol v f
+usual_after protocol u bytes event f (key text k is ordinary alone) none v split = ⊎_elim
+    (λ (e : text ≡ ESC). let gone : v ≡ [] = cc (split, alone e) in subst (λ x. IsUsual protocol x f) (sym gone) (empty_usual protocol f))
+    (λ (other : text ≡ ESC → ⊥). plain_after protocol u v text (Row k) f is.is_sequence is.begins other split)
     (same_or_not text ESC)
-usual_after rows u bytes event f (char c is) none v split =
+usual_after protocol u bytes event f (char c is) none v split =
     absurd (is.no_sequence ESC (Row escape) escape_is_sequence (v, split))
-usual_after rows u bytes event f (broken byte is) none v split =
+usual_after protocol u bytes event f (broken byte is) none v split =
     absurd (is.no_sequence ESC (Row escape) escape_is_sequence (v, split))
-usual_after rows u bytes event f (mouse text report is) none v split = ⊎_elim
+usual_after protocol u bytes event f (mouse text report is) none v split = ⊎_elim
     (λ (e : text ≡ ESC). absurd (cc (sequence_once ESC (Report report) (Row escape)
     (subst (λ x. IsSequence x (Report report)) e is.is_sequence) escape_is_sequence)))
-    (λ (other : text ≡ ESC → ⊥). plain_after rows u v text (Report report) f is.is_sequence is.begins other split)
+    (λ (other : text ≡ ESC → ⊥). plain_after protocol u v text (Report report) f is.is_sequence is.begins other split)
     (same_or_not text ESC)
-usual_after rows u bytes event f (paste body b first) none v split =
+usual_after protocol u bytes event f (paste body b first) none v split =
     let after : v ≡ 91 ∷ (50 ∷ 48 ∷ 48 ∷ 126 ∷ body ++ END ++ b.0) = cc (split, b.1) in
-    subst (λ x. IsUsual rows x f) (sym after)
-    (plain_usual rows 91 (50 ∷ 48 ∷ 48 ∷ 126 ∷ body ++ END ++ b.0) f (omega arith, omega arith))
-usual_after rows u bytes event f (lone_escape v h after is apart) none w split =
+    subst (λ x. IsUsual protocol x f) (sym after)
+    (plain_usual protocol 91 (50 ∷ 48 ∷ 48 ∷ 126 ∷ body ++ END ++ b.0) f (omega arith, omega arith))
+usual_after protocol u bytes event f (lone_escape v h after is apart) none w split =
     let same : v ≡ w = cc (after.splits, split) in
-    subst (λ x. IsUsual rows x f) same (usual_from rows v f after.closed (none v after.escape_head after.splits))
-usual_after rows u bytes event f (alt v h k after is is_key) none w split =
+    subst (λ x. IsUsual protocol x f) same (usual_from protocol v f after.closed (none v after.escape_head after.splits))
+usual_after protocol u bytes event f (alt v h k after is is_key) none w split =
     let same : v ≡ w = cc (after.splits, split) in
-    subst (λ x. IsUsual rows x f) same (usual_from rows v f after.closed (none v after.escape_head after.splits))
+    subst (λ x. IsUsual protocol x f) same (usual_from protocol v f after.closed (none v after.escape_head after.splits))
 
 -- the port's item stands where no extra sequence is met
-pub usual_item : (rows : Rows) (u bytes : List ℕ) (event : InputEvent) (f : Bool) → port.Stands u f bytes event
-    → HasNoExtra rows u f → ((v : List ℕ) → IsLongest u ESC (Row escape) → u ≡ ESC ++ v → HasNoExtra rows v f)
-    → grammar.Stands rows u f bytes (Input event)
-usual_item rows u bytes event f stands none after =
-    usual bytes event stands (usual_from rows u f stands.closed none) (usual_after rows u bytes event f stands.item after)
+pub usual_item : (protocol : Protocol) (u bytes : List ℕ) (event : InputEvent) (f : Bool) → port.Stands u f bytes event
+    → HasNoExtra protocol u f → ((v : List ℕ) → IsLongest u ESC (Row escape) → u ≡ ESC ++ v → HasNoExtra protocol v f)
+    → grammar.Stands protocol u f bytes (Input event)
+usual_item protocol u bytes event f stands none after =
+    usual bytes event stands (usual_from protocol u f stands.closed none) (usual_after protocol u bytes event f stands.item after)
 
 -- no item stands where none of the port's does, and no extra sequence is met
-pub rest_of_port : (rows : Rows) (W : List ℕ) (f : Bool) → port.IsRest W f → HasNoExtra rows W f
-    → ((v : List ℕ) → IsLongest W ESC (Row escape) → W ≡ ESC ++ v → HasNoExtra rows v f) → grammar.IsRest rows W f
-rest_of_port rows W f rest none after bytes event (extra text e is b) =
+pub rest_of_port : (protocol : Protocol) (W : List ℕ) (f : Bool) → port.IsRest W f → HasNoExtra protocol W f
+    → ((v : List ℕ) → IsLongest W ESC (Row escape) → W ≡ ESC ++ v → HasNoExtra protocol v f) → grammar.IsRest protocol W f
+rest_of_port protocol W f rest none after bytes event (extra text e is b) =
     none.none (record { text = text; event = e; is_extra = is; begins = b })
-rest_of_port rows W f rest none after bytes event (escape_before_extra v split starts) =
-    let s = starts_shape rows v starts in
+rest_of_port protocol W f rest none after bytes event (escape_before_extra v split starts) =
+    let s = starts_shape protocol v starts in
     let whole : W ≡ 27 ∷ 27 ∷ (s.0 ∷ s.1) = split ∙ ap (λ x. 27 ∷ x) s.2 in
     (after v (subst (λ x. IsLongest x ESC (Row escape)) (sym whole) (escape_alone 27 (s.0 ∷ s.1) (inl (omega arith)))) split).none
     starts
-rest_of_port rows W f rest none after bytes event (usual s e stands is gap) = rest s e stands
+rest_of_port protocol W f rest none after bytes event (usual s e stands is gap) = rest s e stands
 
-module _ (rows : Rows) (T : List ℕ) (f : Bool) (none : (u : List ℕ) → LooksAt T f u → HasNoExtra rows u f) where
+module _ (protocol : Protocol) (T : List ℕ) (f : Bool) (none : (u : List ℕ) → LooksAt T f u → HasNoExtra protocol u f) where
   -- the steps that are left, after those that were made
   steps_of_port : (E D : List InputEvent) (U W : List ℕ) → port.Steps T f D U → port.Steps U f E W
-      → grammar.Steps rows U f (map (λ e. Input e) E) W
+      → grammar.Steps protocol U f (map (λ e. Input e) E) W
   steps_of_port [] D U W made h = h
   steps_of_port (e ∷ E) D U W made (bytes, rest, stands, splits, steps) = (
     bytes,
     rest,
-    usual_item rows U bytes e f stands (none U (at_item D made)) (λ v is split. none v (after_escape D U made is split)),
+    usual_item protocol U bytes e f stands (none U (at_item D made)) (λ v is split. none v (after_escape D U made is split)),
     splits,
     steps_of_port E (D ++ e ∷ []) rest W (steps_push D T U rest W f bytes e made stands splits) steps,
   )
 
 pub conservative : Conservative
-conservative rows T W E f none means = record {
-  steps = steps_of_port rows T f none E [] T W refl means.steps;
-  rest = rest_of_port rows W f means.rest (none W (at_item E means.steps))
+conservative protocol T W E f none means = record {
+  steps = steps_of_port protocol T f none E [] T W refl means.steps;
+  rest = rest_of_port protocol W f means.rest (none W (at_item E means.steps))
       (λ v is split. none v (after_escape E W means.steps is split));
 }

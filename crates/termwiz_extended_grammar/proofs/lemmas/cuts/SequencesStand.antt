@@ -15,7 +15,7 @@ use Rattle.termwiz_grammar.proofs.lemmas.items.OneHead.{longest_whole}
 use Rattle.termwiz_grammar.proofs.lemmas.items.OneItem.{item_once}
 use Rattle.termwiz_extended_events.specs.declared.types.ExtendedEvent.{ExtendedEvent}
 use Rattle.termwiz_extended_events.specs.declared.types.ExtendedEvent.TheVariants.{Input}
-use Rattle.termwiz_extended_events.specs.declared.types.Rows.{Rows}
+use Rattle.termwiz_extended_events.specs.declared.types.Protocol.{Protocol}
 use Rattle.termwiz_extended_grammar.specs.Forms.{IsForm, IsStringIntroducer}
 use Rattle.termwiz_extended_grammar.specs.ExtraSequences.{StartsWithExtra, IsUnfinishedExtra}
 use Rattle.termwiz_extended_grammar.specs.ExtendedGrammar.{IsOpen, IsUsual, Stands, Steps}
@@ -44,12 +44,12 @@ no_form_into u r tail b some second form =
     let last : b ∷ r ≡ 92 ∷ [] = escape_within u (b ∷ r) some form in
     second_no_backslash b second (cc (last))
 
-module _ (rows : Rows) (b : ℕ) (r : List ℕ) (second : IsSecond b) where
+module _ (protocol : Protocol) (b : ℕ) (r : List ℕ) (second : IsSecond b) where
   -- what begins the text with more behind begins it without
-  starts_before : (u : List ℕ) → u ≢ [] → StartsWithExtra rows (u ++ 27 ∷ b ∷ r) → StartsWithExtra rows u
+  starts_before : (u : List ℕ) → u ≢ [] → StartsWithExtra protocol (u ++ 27 ∷ b ∷ r) → StartsWithExtra protocol u
   starts_before u some h = go (overlap h.text h.begins.0 u (27 ∷ b ∷ r) h.begins.1)
     where
-      go : Overlaps h.text h.begins.0 u (27 ∷ b ∷ r) → StartsWithExtra rows u
+      go : Overlaps h.text h.begins.0 u (27 ∷ b ∷ r) → StartsWithExtra protocol u
       go (within t e f) = record { text = h.text; event = h.event; is_extra = h.is_extra; begins = (t, e) }
       go (past [] n e f) = absurd (n refl)
       go (past (x ∷ []) n e f) =
@@ -63,20 +63,20 @@ module _ (rows : Rows) (b : ℕ) (r : List ℕ) (second : IsSecond b) where
           (subst (λ z. IsForm (u ++ 27 ∷ z ∷ t)) next
           (subst (λ z. IsForm (u ++ z ∷ y ∷ t)) first (subst (λ z. IsForm z) e h.is_extra.is_form))))
 
-  open_before : (u : List ℕ) (f : Bool) → u ≢ [] → IsOpen rows (u ++ 27 ∷ b ∷ r) f → ⊥
+  open_before : (u : List ℕ) (f : Bool) → u ≢ [] → IsOpen protocol (u ++ 27 ∷ b ∷ r) f → ⊥
   open_before u f some opens = ⊎_elim
       (λ (h : IsBeginning (u ++ 27 ∷ b ∷ r)).
       closed_before u (b ∷ r) f some (record { more_comes = opens.more_comes; some = opens.some; beginning = h }))
-      (λ (h : IsUnfinishedExtra rows (u ++ 27 ∷ b ∷ r)). no_form_into u (r ++ h.tail) [] b some second
+      (λ (h : IsUnfinishedExtra protocol (u ++ 27 ∷ b ∷ r)). no_form_into u (r ++ h.tail) [] b some second
       (subst (λ x. IsForm x) (append_assoc u (27 ∷ b ∷ r) h.tail) h.is_extra.is_form))
       opens.beginning
 
-  usual_before : (u : List ℕ) (f : Bool) → u ≢ [] → IsUsual rows u false → IsUsual rows (u ++ 27 ∷ b ∷ r) f
+  usual_before : (u : List ℕ) (f : Bool) → u ≢ [] → IsUsual protocol u false → IsUsual protocol (u ++ 27 ∷ b ∷ r) f
   usual_before u f some is = record { none = λ h. is.none (starts_before u some h); closed = open_before u f some }
 
   -- an item of a flush stands also before such a text
-  item_before_sequence : (u bytes : List ℕ) (event : ExtendedEvent) (f : Bool) → StartsWithExtra rows (27 ∷ b ∷ r)
-      → Stands rows u false bytes event → Stands rows (u ++ 27 ∷ b ∷ r) f bytes event
+  item_before_sequence : (u bytes : List ℕ) (event : ExtendedEvent) (f : Bool) → StartsWithExtra protocol (27 ∷ b ∷ r)
+      → Stands protocol u false bytes event → Stands protocol (u ++ 27 ∷ b ∷ r) f bytes event
   item_before_sequence u bytes event f here (extra text e is at) = extra text e is (Begins-append text u (27 ∷ b ∷ r) at)
   item_before_sequence u bytes event f here (lone_escape v split after) =
       lone_escape (v ++ 27 ∷ b ∷ r) (ap (λ x. x ++ 27 ∷ b ∷ r) split) (record {
@@ -89,14 +89,14 @@ module _ (rows : Rows) (b : ℕ) (r : List ℕ) (second : IsSecond b) where
       (λ (alone : u ≡ ESC).
       let one = item_once ESC false bytes2 ESC e (Key escape)
       (subst (λ x. port.Item x false bytes2 e) alone stands.item) escape_itself in
-      let item : Stands rows (ESC ++ 27 ∷ b ∷ r) f ESC (Input (Key escape)) = lone_escape (27 ∷ b ∷ r) refl here in
-      subst (λ x. Stands rows (u ++ 27 ∷ b ∷ r) f x (Input e)) (sym one.0)
-      (subst (λ x. Stands rows (u ++ 27 ∷ b ∷ r) f ESC (Input x)) (sym one.1)
-      (subst (λ x. Stands rows (x ++ 27 ∷ b ∷ r) f ESC (Input (Key escape))) (sym alone) item)))
+      let item : Stands protocol (ESC ++ 27 ∷ b ∷ r) f ESC (Input (Key escape)) = lone_escape (27 ∷ b ∷ r) refl here in
+      subst (λ x. Stands protocol (u ++ 27 ∷ b ∷ r) f x (Input e)) (sym one.0)
+      (subst (λ x. Stands protocol (u ++ 27 ∷ b ∷ r) f ESC (Input x)) (sym one.1)
+      (subst (λ x. Stands protocol (x ++ 27 ∷ b ∷ r) f ESC (Input (Key escape))) (sym alone) item)))
       (λ (longer : u ≡ ESC → ⊥). usual bytes2 e (stands_before u (b ∷ r) bytes2 e f longer stands)
       (usual_before u f some is)
       (λ w split. let l = longer_after u (27 ∷ b ∷ r) w some longer split in
-      subst (λ x. IsUsual rows x f) (sym l.2) (usual_before l.0 f l.3 (gap l.0 l.1))))
+      subst (λ x. IsUsual protocol x f) (sym l.2) (usual_before l.0 f l.3 (gap l.0 l.1))))
       (same_or_not u ESC)
     where
       escape_itself : port.Item ESC false ESC (Key escape)
@@ -104,11 +104,11 @@ module _ (rows : Rows) (b : ℕ) (r : List ℕ) (second : IsSecond b) where
 
       some : u ≢ []
       some none =
-          let p = stands_begins rows u bytes2 (Input e) false (usual bytes2 e stands is gap) in
-          append-some_left bytes2 p.0 (stands_some rows u bytes2 (Input e) false (usual bytes2 e stands is gap)) (sym p.1 ∙ none)
+          let p = stands_begins protocol u bytes2 (Input e) false (usual bytes2 e stands is gap) in
+          append-some_left bytes2 p.0 (stands_some protocol u bytes2 (Input e) false (usual bytes2 e stands is gap)) (sym p.1 ∙ none)
 
-  steps_before : (E : List ExtendedEvent) (T W : List ℕ) (f : Bool) → StartsWithExtra rows (27 ∷ b ∷ r)
-      → Steps rows T false E W → Steps rows (T ++ 27 ∷ b ∷ r) f E (W ++ 27 ∷ b ∷ r)
+  steps_before : (E : List ExtendedEvent) (T W : List ℕ) (f : Bool) → StartsWithExtra protocol (27 ∷ b ∷ r)
+      → Steps protocol T false E W → Steps protocol (T ++ 27 ∷ b ∷ r) f E (W ++ 27 ∷ b ∷ r)
   steps_before [] T W f here h = ap (λ x. x ++ 27 ∷ b ∷ r) h
   steps_before (e ∷ E) T W f here (bytes, rest, stands, splits, steps) = (
     bytes,
@@ -119,14 +119,14 @@ module _ (rows : Rows) (b : ℕ) (r : List ℕ) (second : IsSecond b) where
   )
 
 pub sequence_stands : SequenceStands
-sequence_stands rows T x S W E D e f before is after =
-    let at : StartsWithExtra rows (x ++ S) = record { text = x; event = e; is_extra = is; begins = (S, refl) } in
-    let s = starts_shape rows (x ++ S) at in
-    let first = steps_before rows s.0 s.1 s.3 E T [] f (subst (λ z. StartsWithExtra rows z) s.2 at) before.steps in
-    let first' : Steps rows (T ++ (x ++ S)) f E (x ++ S) =
-    subst (λ z. Steps rows (T ++ z) f E z) (sym s.2) first in
+sequence_stands protocol T x S W E D e f before is after =
+    let at : StartsWithExtra protocol (x ++ S) = record { text = x; event = e; is_extra = is; begins = (S, refl) } in
+    let s = starts_shape protocol (x ++ S) at in
+    let first = steps_before protocol s.0 s.1 s.3 E T [] f (subst (λ z. StartsWithExtra protocol z) s.2 at) before.steps in
+    let first' : Steps protocol (T ++ (x ++ S)) f E (x ++ S) =
+    subst (λ z. Steps protocol (T ++ z) f E z) (sym s.2) first in
     record {
-      steps = join_steps rows E (e ∷ D) (T ++ (x ++ S)) (x ++ S) W f first'
+      steps = join_steps protocol E (e ∷ D) (T ++ (x ++ S)) (x ++ S) W f first'
           (x, S, extra x e is (S, refl), refl, after.steps);
       rest = after.rest;
     }

@@ -9,8 +9,8 @@ use Rattle.termwiz_grammar.proofs.lemmas.lists.Decidable.{Decision, decide_by, d
 use Rattle.termwiz_grammar.proofs.lemmas.table.SequenceFacts.{sequence_once, sequence_or_not}
 use Rattle.termwiz_extended_events.specs.declared.types.ExtendedEvent.{ExtendedEvent}
 use Rattle.termwiz_extended_events.specs.declared.types.ExtendedEvent.TheVariants.{Input, Key, FocusGained, FocusLost, CursorPosition, Resize, KeyboardFlags, Csi, Osc, Dcs, Apc}
-use Rattle.termwiz_extended_events.specs.declared.types.Rows.{Rows}
-use Rattle.termwiz_extended_events.specs.declared.types.Rows.TheVariants.{Port, Kitty}
+use Rattle.termwiz_extended_events.specs.declared.types.Protocol.{Protocol}
+use Rattle.termwiz_extended_events.specs.declared.types.Protocol.TheVariants.{Legacy, Kitty}
 use Rattle.termwiz_extended_events.specs.Meanings.{event_of, IsKeyOrPosition}
 use Rattle.termwiz_extended_grammar.specs.Forms.{IsForm, IsUnfinishedForm}
 use Rattle.termwiz_extended_grammar.specs.Forms.IsForm.{control}
@@ -20,8 +20,8 @@ use Rattle.termwiz_extended_grammar.proofs.lemmas.forms.FormOrNot.{form_or_not, 
 use Rattle.termwiz_extended_grammar.proofs.lemmas.forms.Unfinished.{free_completion}
 
 -- a text that the port doesn't read is free under both readings of the rows
-pub free_from_none : (rows : Rows) (text : List ℕ) → ((m : Meaning) → ¬ IsSequence text m) → IsFree rows text
-free_from_none Port text none = none
+pub free_from_none : (protocol : Protocol) (text : List ℕ) → ((m : Meaning) → ¬ IsSequence text m) → IsFree protocol text
+free_from_none Legacy text none = none
 free_from_none Kitty text none = λ m is. absurd (none m is)
 
 key_or_position_or_not : (event : ExtendedEvent) → Decision (IsKeyOrPosition event)
@@ -37,8 +37,8 @@ key_or_position_or_not (Osc bytes) = inr (λ h. h)
 key_or_position_or_not (Dcs bytes) = inr (λ h. h)
 key_or_position_or_not (Apc bytes) = inr (λ h. h)
 
-free_or_not : (rows : Rows) (text : List ℕ) → Decision (IsFree rows text)
-free_or_not Port text = ⊎_elim
+free_or_not : (protocol : Protocol) (text : List ℕ) → Decision (IsFree protocol text)
+free_or_not Legacy text = ⊎_elim
     (λ (known : (m : Meaning) × IsSequence text m). inr (λ free. free known.0 known.1))
     (λ (none : ((m : Meaning) × IsSequence text m) → ⊥). inl (λ m is. none (m, is)))
     (sequence_or_not text)
@@ -53,50 +53,50 @@ free_or_not Kitty text = ⊎_elim
     by_meaning (Report report) is its = inr (λ free. let same : Report report ≡ Row (free (Report report) is).0 = (free (Report report) is).1 in cc (same))
 
 -- it can be told whether a text is an extra sequence
-pub extra_or_not : (rows : Rows) (text : List ℕ) → Decision ((event : ExtendedEvent) × IsExtra rows text event)
-extra_or_not rows text = go (form_or_not text) (free_or_not rows text)
+pub extra_or_not : (protocol : Protocol) (text : List ℕ) → Decision ((event : ExtendedEvent) × IsExtra protocol text event)
+extra_or_not protocol text = go (form_or_not text) (free_or_not protocol text)
   where
-    go : Decision (IsForm text) → Decision (IsFree rows text) → Decision ((event : ExtendedEvent) × IsExtra rows text event)
+    go : Decision (IsForm text) → Decision (IsFree protocol text) → Decision ((event : ExtendedEvent) × IsExtra protocol text event)
     go (inl form) (inl free) = inl (event_of text, record { is_form = form; is_free = free; means = refl })
     go (inl form) (inr never) = inr (λ h. never h.1.is_free)
     go (inr never) free = inr (λ h. never h.1.is_form)
 
 -- and whether one begins a text
-pub starts_or_not : (rows : Rows) (u : List ℕ) → Decision (StartsWithExtra rows u)
-starts_or_not rows u = decide_by
-    (λ (h : (a : List ℕ) × (b : List ℕ) × (u ≡ a ++ b) × ((event : ExtendedEvent) × IsExtra rows a event)).
+pub starts_or_not : (protocol : Protocol) (u : List ℕ) → Decision (StartsWithExtra protocol u)
+starts_or_not protocol u = decide_by
+    (λ (h : (a : List ℕ) × (b : List ℕ) × (u ≡ a ++ b) × ((event : ExtendedEvent) × IsExtra protocol a event)).
     record { text = h.0; event = h.3.0; is_extra = h.3.1; begins = (h.1, h.2) })
-    (λ (h : StartsWithExtra rows u). (h.text, h.begins.0, h.begins.1, (h.event, h.is_extra)))
-    (decide_parts (λ a b. (event : ExtendedEvent) × IsExtra rows a event) (λ a b. extra_or_not rows a) u)
+    (λ (h : StartsWithExtra protocol u). (h.text, h.begins.0, h.begins.1, (h.event, h.is_extra)))
+    (decide_parts (λ a b. (event : ExtendedEvent) × IsExtra protocol a event) (λ a b. extra_or_not protocol a) u)
 
 -- what properly begins a form properly begins an extra sequence
-pub unfinished_from_form : (rows : Rows) (u : List ℕ) → IsUnfinishedForm u → IsUnfinishedExtra rows u
-unfinished_from_form rows u h =
+pub unfinished_from_form : (protocol : Protocol) (u : List ℕ) → IsUnfinishedForm u → IsUnfinishedExtra protocol u
+unfinished_from_form protocol u h =
     let c = free_completion u h in
     record {
       tail = c.0;
       longer = c.1;
       event = event_of (u ++ c.0);
-      is_extra = record { is_form = c.2; is_free = free_from_none rows (u ++ c.0) c.3; means = refl };
+      is_extra = record { is_form = c.2; is_free = free_from_none protocol (u ++ c.0) c.3; means = refl };
     }
 
-pub form_from_unfinished : (rows : Rows) (u : List ℕ) → IsUnfinishedExtra rows u → IsUnfinishedForm u
-form_from_unfinished rows u h = record { tail = h.tail; longer = h.longer; is_form = h.is_extra.is_form }
+pub form_from_unfinished : (protocol : Protocol) (u : List ℕ) → IsUnfinishedExtra protocol u → IsUnfinishedForm u
+form_from_unfinished protocol u h = record { tail = h.tail; longer = h.longer; is_form = h.is_extra.is_form }
 
-pub unfinished_extra_or_not : (rows : Rows) (u : List ℕ) → Decision (IsUnfinishedExtra rows u)
-unfinished_extra_or_not rows u =
-    decide_by (unfinished_from_form rows u) (form_from_unfinished rows u) (unfinished_form_or_not u)
+pub unfinished_extra_or_not : (protocol : Protocol) (u : List ℕ) → Decision (IsUnfinishedExtra protocol u)
+unfinished_extra_or_not protocol u =
+    decide_by (unfinished_from_form protocol u) (form_from_unfinished protocol u) (unfinished_form_or_not u)
 
 -- a text has one event
-pub extra_once : (rows : Rows) (text : List ℕ) (d e : ExtendedEvent) → IsExtra rows text d → IsExtra rows text e → d ≡ e
-extra_once rows text d e a b = a.means ∙ sym b.means
+pub extra_once : (protocol : Protocol) (text : List ℕ) (d e : ExtendedEvent) → IsExtra protocol text d → IsExtra protocol text e → d ≡ e
+extra_once protocol text d e a b = a.means ∙ sym b.means
 
-pub extra_some : (rows : Rows) (text : List ℕ) (e : ExtendedEvent) → IsExtra rows text e → text ≢ []
-extra_some rows text e is = (let s = form_shape text is.is_form in λ none. cc (s.2, none))
+pub extra_some : (protocol : Protocol) (text : List ℕ) (e : ExtendedEvent) → IsExtra protocol text e → text ≢ []
+extra_some protocol text e is = (let s = form_shape text is.is_form in λ none. cc (s.2, none))
 
 -- the empty text begins with none
-pub none_at_end : (rows : Rows) → ¬ StartsWithExtra rows []
-none_at_end rows h = append-some_left h.text h.begins.0 (extra_some rows h.text h.event h.is_extra) (sym h.begins.1)
+pub none_at_end : (protocol : Protocol) → ¬ StartsWithExtra protocol []
+none_at_end protocol h = append-some_left h.text h.begins.0 (extra_some protocol h.text h.event h.is_extra) (sym h.begins.1)
 
 -- START has the form of a control sequence
 pub start_form : IsForm START

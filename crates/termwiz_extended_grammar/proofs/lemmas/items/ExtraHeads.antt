@@ -6,7 +6,7 @@ use Rattle.termwiz_keymap.proofs.lemmas.lists.CommonPrefixes.{Overlaps, overlap}
 use Rattle.termwiz_keymap.proofs.lemmas.lists.CommonPrefixes.Overlaps.{within, past}
 use Rattle.termwiz_keys.specs.Introducers.{ESC, CSI, SS3}
 use Rattle.termwiz_grammar.specs.Sequences.{Meaning, IsSequence}
-use Rattle.termwiz_extended_events.specs.declared.types.Rows.{Rows}
+use Rattle.termwiz_extended_events.specs.declared.types.Protocol.{Protocol}
 use Rattle.termwiz_extended_grammar.specs.Forms.{IsForm, IsUnfinishedForm}
 use Rattle.termwiz_extended_grammar.specs.Forms.IsForm.{keypad_key, string}
 use Rattle.termwiz_extended_grammar.specs.ExtendedLaws.{BeginsExtra, ExtraIsLongest, FourBeginnings}
@@ -15,9 +15,9 @@ use Rattle.termwiz_extended_grammar.proofs.lemmas.forms.ExtraFacts.{start_form, 
 use Rattle.termwiz_extended_grammar.proofs.lemmas.items.ExtendedItems.{starts_once}
 
 pub extra_is_longest : ExtraIsLongest
-extra_is_longest rows u x e is b = (
+extra_is_longest protocol u x e is b = (
   λ y m it c. shorter y m it c (overlap y c.0 x b.0 (sym b.1 ∙ c.1)),
-  λ y d it c. starts_once rows u y x d e it is c b,
+  λ y d it c. starts_once protocol u y x d e it is c b,
 )
   where
     shorter : (y : List ℕ) (m : Meaning) → IsSequence y m → (c : Begins y u) → Overlaps y c.0 x b.0 → length y ≤ length x
@@ -44,23 +44,23 @@ string_form = string (record {
 unfinished : (text tail : List ℕ) → tail ≢ [] → IsForm (text ++ tail) → IsUnfinishedForm text
 unfinished text tail longer form = record { tail = tail; longer = longer; is_form = form }
 
-begins : (rows : Rows) (text : List ℕ) → IsUnfinishedForm text → BeginsExtra rows text
-begins rows text h = (let it = unfinished_from_form rows text h in (it.tail, it.event, it.longer, it.is_extra))
+begins : (protocol : Protocol) (text : List ℕ) → IsUnfinishedForm text → BeginsExtra protocol text
+begins protocol text h = (let it = unfinished_from_form protocol text h in (it.tail, it.event, it.longer, it.is_extra))
 
 pub four_beginnings : FourBeginnings
-four_beginnings rows text m is = (
+four_beginnings protocol text m is = (
   λ h. form_after_sequence text h.0 m is h.2 h.3.is_form,
   λ four. ⊎_elim
-      (λ (e : text ≡ ESC). subst (λ z. BeginsExtra rows z) (sym e)
-      (begins rows ESC (unfinished ESC (79 ∷ 77 ∷ []) (λ n. cc (n)) keypad_form)))
+      (λ (e : text ≡ ESC). subst (λ z. BeginsExtra protocol z) (sym e)
+      (begins protocol ESC (unfinished ESC (79 ∷ 77 ∷ []) (λ n. cc (n)) keypad_form)))
       (λ (rest : (text ≡ CSI) ⊎ ((text ≡ SS3) ⊎ (text ≡ ESC ++ codes "P"))). ⊎_elim
-      (λ (e : text ≡ CSI). subst (λ z. BeginsExtra rows z) (sym e)
-      (begins rows CSI (unfinished CSI (codes "200~") (λ n. cc (n)) start_form)))
+      (λ (e : text ≡ CSI). subst (λ z. BeginsExtra protocol z) (sym e)
+      (begins protocol CSI (unfinished CSI (codes "200~") (λ n. cc (n)) start_form)))
       (λ (last : (text ≡ SS3) ⊎ (text ≡ ESC ++ codes "P")). ⊎_elim
-      (λ (e : text ≡ SS3). subst (λ z. BeginsExtra rows z) (sym e)
-      (begins rows SS3 (unfinished SS3 (77 ∷ []) (λ n. cc (n)) keypad_form)))
-      (λ (e : text ≡ ESC ++ codes "P"). subst (λ z. BeginsExtra rows z) (sym e)
-      (begins rows (ESC ++ codes "P") (unfinished (ESC ++ codes "P") (27 ∷ 92 ∷ []) (λ n. cc (n)) string_form)))
+      (λ (e : text ≡ SS3). subst (λ z. BeginsExtra protocol z) (sym e)
+      (begins protocol SS3 (unfinished SS3 (77 ∷ []) (λ n. cc (n)) keypad_form)))
+      (λ (e : text ≡ ESC ++ codes "P"). subst (λ z. BeginsExtra protocol z) (sym e)
+      (begins protocol (ESC ++ codes "P") (unfinished (ESC ++ codes "P") (27 ∷ 92 ∷ []) (λ n. cc (n)) string_form)))
       last)
       rest)
       four,

@@ -31,7 +31,7 @@ use Rattle.termwiz_grammar.proofs.lemmas.table.RowShape.Bytes.{one, more}
 use Rattle.termwiz_grammar.proofs.lemmas.table.SequenceFacts.{sequence_bytes, start, start_is_sequence, start_ends, report_ends}
 use Rattle.termwiz_extended_events.specs.declared.types.ExtendedEvent.{ExtendedEvent}
 use Rattle.termwiz_extended_events.specs.declared.types.ExtendedEvent.TheVariants.{Input}
-use Rattle.termwiz_extended_events.specs.declared.types.Rows.{Rows}
+use Rattle.termwiz_extended_events.specs.declared.types.Protocol.{Protocol}
 use Rattle.termwiz_extended_events.specs.Meanings.{event_of}
 use Rattle.termwiz_extended_grammar.specs.Forms.{IsForm, IsStringIntroducer, IsUnfinishedForm}
 use Rattle.termwiz_extended_grammar.specs.ExtraSequences.{IsExtra, StartsWithExtra}
@@ -55,18 +55,18 @@ alt_not_escape j e =
     omega (arith, le_or_r j.modifiers.0 4)
 
 -- x ∷ p goes on by c so that the whole is read at once
-record GoesOn (rows : Rows) (x : ℕ) (p c : List ℕ) : Type 0 where
+record GoesOn (protocol : Protocol) (x : ℕ) (p c : List ℕ) : Type 0 where
   longer : c ≢ []
   -- read whole it gives one event at most, and after an ESC one at most, or an Escape first
-  whole_short : (E : List ExtendedEvent) (W : List ℕ) → Read rows (x ∷ p ++ c) false E W → length E ≤ 1
-  whole_held : (e : ExtendedEvent) (E : List ExtendedEvent) (W : List ℕ) → Read rows (27 ∷ x ∷ p ++ c) false (e ∷ E) W
+  whole_short : (E : List ExtendedEvent) (W : List ℕ) → Read protocol (x ∷ p ++ c) false E W → length E ≤ 1
+  whole_held : (e : ExtendedEvent) (E : List ExtendedEvent) (W : List ℕ) → Read protocol (27 ∷ x ∷ p ++ c) false (e ∷ E) W
       → (e ≡ Input (Key escape)) ⊎ (E ≡ [])
   -- flushed, nothing of either part is left, and an Escape before x ∷ p is joined to its head
   no_start : HasNoStart (x ∷ p)
   no_start_after : HasNoStart c
   alone : (x ≤ 64) ⊎ (92 ≤ x)
   second : IsSecond x → ⊥
-  no_extra : StartsWithExtra rows (x ∷ p) → ⊥
+  no_extra : StartsWithExtra protocol (x ∷ p) → ⊥
   no_report : (text : List ℕ) (r : MouseEvent) → IsSequence text (Report r) → Begins text (x ∷ p) → ⊥
 
 -- before such a byte the head is ESC
@@ -79,12 +79,12 @@ escape_gives x t bytes e alone item =
     subst (λ h. Gives (27 ∷ x ∷ t) false h bytes e) same g.2
 
 -- no extra sequence begins an ESC and such a byte
-no_extra_with_escape : (rows : Rows) (x : ℕ) (t : List ℕ) → (IsSecond x → ⊥) → StartsWithExtra rows (27 ∷ x ∷ t) → ⊥
-no_extra_with_escape rows x t never h =
-    let s = starts_shape rows (27 ∷ x ∷ t) h in
+no_extra_with_escape : (protocol : Protocol) (x : ℕ) (t : List ℕ) → (IsSecond x → ⊥) → StartsWithExtra protocol (27 ∷ x ∷ t) → ⊥
+no_extra_with_escape protocol x t never h =
+    let s = starts_shape protocol (27 ∷ x ∷ t) h in
     let same : s.0 ≡ x = cc (s.2) in never (subst IsSecond same s.3)
 
-module _ (rows : Rows) (x : ℕ) (p c : List ℕ) (on : GoesOn rows x p c) where
+module _ (protocol : Protocol) (x : ℕ) (p c : List ℕ) (on : GoesOn protocol x p c) where
   -- flushed after an Escape, it gives a key with ALT first
   flush_row : (bytes : List ℕ) (e : InputEvent) → RowGives (27 ∷ x ∷ p) false ESC escape bytes e
       → (j : KeyEvent) × (e ≡ Key (with_alt j))
@@ -100,17 +100,17 @@ module _ (rows : Rows) (x : ℕ) (p c : List ℕ) (on : GoesOn rows x p c) where
       near (Broken d) is far = far
   flush_row bytes e (joined at v h j split some closed is near d f) = (j, f)
 
-  flush_stands : (bytes : List ℕ) (e : ExtendedEvent) → Stands rows (27 ∷ x ∷ p) false bytes e
+  flush_stands : (bytes : List ℕ) (e : ExtendedEvent) → Stands protocol (27 ∷ x ∷ p) false bytes e
       → (j : KeyEvent) × (e ≡ Input (Key (with_alt j)))
   flush_stands bytes e (extra text d is b) =
-      absurd (no_extra_with_escape rows x p on.second (record { text = text; event = d; is_extra = is; begins = b }))
+      absurd (no_extra_with_escape protocol x p on.second (record { text = text; event = d; is_extra = is; begins = b }))
   flush_stands bytes e (lone_escape v split after) =
-      let same : v ≡ x ∷ p = cc (split) in absurd (on.no_extra (subst (λ z. StartsWithExtra rows z) same after))
+      let same : v ≡ x ∷ p = cc (split) in absurd (on.no_extra (subst (λ z. StartsWithExtra protocol z) same after))
   flush_stands bytes e (usual s d stands is gap) =
       let j = flush_row s d (escape_gives x p s d on.alone stands.item) in (j.0, ap (λ z. Input z) j.1)
 
-  apart_events : (E D : List ExtendedEvent) (V W : List ℕ) (F : List ExtendedEvent) → Read rows (27 ∷ x ∷ p ++ c) false E W
-      → Read rows (27 ∷ x ∷ p) false D V
+  apart_events : (E D : List ExtendedEvent) (V W : List ℕ) (F : List ExtendedEvent) → Read protocol (27 ∷ x ∷ p ++ c) false E W
+      → Read protocol (27 ∷ x ∷ p) false D V
       → D ≢ [] → F ≢ [] → E ≡ D ++ F → ⊥
   apart_events [] D V W F mw md nd nf e = let two = two_long D F nd nf in omega (arith, ap length e)
   apart_events (y ∷ E) [] V W F mw md nd nf e = nd refl
@@ -131,30 +131,30 @@ module _ (rows : Rows) (x : ℕ) (p c : List ℕ) (on : GoesOn rows x p c) where
       not_here b = omega (arith, (escape_alone x p on.alone).longest START (Row start) start_is_sequence b)
 
   differ : (held : List ℕ) → IsHeldEscape held → (E E1 E2 : List ExtendedEvent) (W W1 W2 : List ℕ)
-      → Means rows (held ++ x ∷ p ++ c) false E W → Means rows (held ++ x ∷ p) false E1 W1
-      → Means rows (W1 ++ c) false E2 W2 → E ≢ E1 ++ E2
+      → Means protocol (held ++ x ∷ p ++ c) false E W → Means protocol (held ++ x ∷ p) false E1 W1
+      → Means protocol (W1 ++ c) false E2 W2 → E ≢ E1 ++ E2
   differ held is E E1 E2 W W1 W2 mw m1 m2 e =
       let none = no_start_held held is in
-      let gone : W1 ≡ [] = flush_leaves rows (held ++ x ∷ p) W1 E1 none (read_of m1) in
+      let gone : W1 ≡ [] = flush_leaves protocol (held ++ x ∷ p) W1 E1 none (read_of m1) in
       let some : E1 ≢ [] =
-      flush_gives rows (held ++ x ∷ p) W1 E1 (append-some held (x ∷ p) (λ z. cc (z))) none (read_of m1) in
+      flush_gives protocol (held ++ x ∷ p) W1 E1 (append-some held (x ∷ p) (λ z. cc (z))) none (read_of m1) in
       let last : E2 ≢ [] =
-      flush_gives rows c W2 E2 on.longer on.no_start_after
-      (subst (λ z. Read rows (z ++ c) false E2 W2) gone (read_of m2)) in
+      flush_gives protocol c W2 E2 on.longer on.no_start_after
+      (subst (λ z. Read protocol (z ++ c) false E2 W2) gone (read_of m2)) in
       ⊎_elim
-      (λ (h : held ≡ []). let short = on.whole_short E W (subst (λ z. Read rows (z ++ x ∷ p ++ c) false E W) h (read_of mw)) in
+      (λ (h : held ≡ []). let short = on.whole_short E W (subst (λ z. Read protocol (z ++ x ∷ p ++ c) false E W) h (read_of mw)) in
       let two = two_long E1 E2 some last in omega (arith, ap length e))
-      (λ (h : held ≡ ESC). apart_events E E1 W1 W E2 (subst (λ z. Read rows (z ++ x ∷ p ++ c) false E W) h (read_of mw))
-      (subst (λ z. Read rows (z ++ x ∷ p) false E1 W1) h (read_of m1)) some last e)
+      (λ (h : held ≡ ESC). apart_events E E1 W1 W E2 (subst (λ z. Read protocol (z ++ x ∷ p ++ c) false E W) h (read_of mw))
+      (subst (λ z. Read protocol (z ++ x ∷ p) false E1 W1) h (read_of m1)) some last e)
       is
 
 -- a text that goes on to an extra sequence
-module _ (rows : Rows) (x : ℕ) (p c : List ℕ) (longer : c ≢ []) (form : IsForm (x ∷ p ++ c))
+module _ (protocol : Protocol) (x : ℕ) (p c : List ℕ) (longer : c ≢ []) (form : IsForm (x ∷ p ++ c))
     (free : (m : Meaning) → ¬ IsSequence (x ∷ p ++ c) m) where
-  whole : IsExtra rows (x ∷ p ++ c) (event_of (x ∷ p ++ c))
-  whole = record { is_form = form; is_free = free_from_none rows (x ∷ p ++ c) free; means = refl }
+  whole : IsExtra protocol (x ∷ p ++ c) (event_of (x ∷ p ++ c))
+  whole = record { is_form = form; is_free = free_from_none protocol (x ∷ p ++ c) free; means = refl }
 
-  starts : StartsWithExtra rows (x ∷ p ++ c)
+  starts : StartsWithExtra protocol (x ∷ p ++ c)
   starts = record {
     text = x ∷ p ++ c;
     event = event_of (x ∷ p ++ c);
@@ -165,17 +165,17 @@ module _ (rows : Rows) (x : ℕ) (p c : List ℕ) (longer : c ≢ []) (form : Is
   first_is_escape : x ≡ 27
   first_is_escape = (let s = form_shape (x ∷ p ++ c) form in cc (s.2))
 
-  extra_whole_short : (E : List ExtendedEvent) (W : List ℕ) → Read rows (x ∷ p ++ c) false E W → length E ≤ 1
+  extra_whole_short : (E : List ExtendedEvent) (W : List ℕ) → Read protocol (x ∷ p ++ c) false E W → length E ≤ 1
   extra_whole_short [] W m = omega arith
   extra_whole_short (e ∷ E) W ((bytes, rest, stands, splits, steps), r) =
-      let same = stands_once rows (x ∷ p ++ c) false bytes (x ∷ p ++ c) e (event_of (x ∷ p ++ c)) stands
+      let same = stands_once protocol (x ∷ p ++ c) false bytes (x ∷ p ++ c) e (event_of (x ∷ p ++ c)) stands
       (extra (x ∷ p ++ c) (event_of (x ∷ p ++ c)) whole ([], sym (append-nil (x ∷ p ++ c)))) in
-      omega (arith, ap length (nothing_after rows (x ∷ p ++ c) bytes rest W E same.0 splits steps))
+      omega (arith, ap length (nothing_after protocol (x ∷ p ++ c) bytes rest W E same.0 splits steps))
 
-  extra_whole_held : (e : ExtendedEvent) (E : List ExtendedEvent) (W : List ℕ) → Read rows (27 ∷ x ∷ p ++ c) false (e ∷ E) W
+  extra_whole_held : (e : ExtendedEvent) (E : List ExtendedEvent) (W : List ℕ) → Read protocol (27 ∷ x ∷ p ++ c) false (e ∷ E) W
       → (e ≡ Input (Key escape)) ⊎ (E ≡ [])
   extra_whole_held e E W ((bytes, rest, stands, splits, steps), r) =
-      inl (stands_once rows (27 ∷ x ∷ p ++ c) false bytes ESC e (Input (Key escape)) stands
+      inl (stands_once protocol (27 ∷ x ∷ p ++ c) false bytes ESC e (Input (Key escape)) stands
       (lone_escape (x ∷ p ++ c) refl starts)).1
 
   -- no form has a START
@@ -209,7 +209,7 @@ module _ (rows : Rows) (x : ℕ) (p c : List ℕ) (longer : c ≢ []) (form : Is
       h)
       (form_after_sequence text (b.0 ++ c) (Report r) is (append-some b.0 c longer) (subst (λ z. IsForm z) e form))
 
-  extra_goes_on : GoesOn rows x p c
+  extra_goes_on : GoesOn protocol x p c
   extra_goes_on = record {
     longer = longer;
     whole_short = extra_whole_short;
@@ -224,7 +224,7 @@ module _ (rows : Rows) (x : ℕ) (p c : List ℕ) (longer : c ≢ []) (form : Is
   }
 
 -- what the port reads at once, and no extra sequence begins
-record IsPortsOwn (rows : Rows) (x : ℕ) (p c : List ℕ) : Type 0 where
+record IsPortsOwn (protocol : Protocol) (x : ℕ) (p c : List ℕ) : Type 0 where
   longer : c ≢ []
   head : Head
   whole : IsHead (x ∷ p ++ c) head
@@ -235,28 +235,28 @@ record IsPortsOwn (rows : Rows) (x : ℕ) (p c : List ℕ) : Type 0 where
   no_start_after : HasNoStart c
   alone : (x ≤ 64) ⊎ (92 ≤ x)
   second : IsSecond x → ⊥
-  no_extra : StartsWithExtra rows (x ∷ p ++ c) → ⊥
-  no_extra_after : (v : List ℕ) → x ∷ p ++ c ≡ ESC ++ v → StartsWithExtra rows v → ⊥
+  no_extra : StartsWithExtra protocol (x ∷ p ++ c) → ⊥
+  no_extra_after : (v : List ℕ) → x ∷ p ++ c ≡ ESC ++ v → StartsWithExtra protocol v → ⊥
   no_report : (text : List ℕ) (r : MouseEvent) → IsSequence text (Report r) → Begins text (x ∷ p) → ⊥
 
-module _ (rows : Rows) (x : ℕ) (p c : List ℕ) (own : IsPortsOwn rows x p c) where
-  own_stands : (bytes rest W : List ℕ) (e : ExtendedEvent) (E : List ExtendedEvent) → Stands rows (x ∷ p ++ c) false bytes e
-      → x ∷ p ++ c ≡ bytes ++ rest → Steps rows rest false E W → E ≡ []
+module _ (protocol : Protocol) (x : ℕ) (p c : List ℕ) (own : IsPortsOwn protocol x p c) where
+  own_stands : (bytes rest W : List ℕ) (e : ExtendedEvent) (E : List ExtendedEvent) → Stands protocol (x ∷ p ++ c) false bytes e
+      → x ∷ p ++ c ≡ bytes ++ rest → Steps protocol rest false E W → E ≡ []
   own_stands bytes rest W e E (extra text d is b) splits steps =
       absurd (own.no_extra (record { text = text; event = d; is_extra = is; begins = b }))
   own_stands bytes rest W e E (lone_escape v split after) splits steps = absurd (own.no_extra_after v split after)
   own_stands bytes rest W e E (usual s d stands is gap) splits steps =
       let same = item_once (x ∷ p ++ c) false s (x ∷ p ++ c) d own.event stands.item own.item in
-      nothing_after rows (x ∷ p ++ c) s rest W E same.0 splits steps
+      nothing_after protocol (x ∷ p ++ c) s rest W E same.0 splits steps
 
-  own_whole_short : (E : List ExtendedEvent) (W : List ℕ) → Read rows (x ∷ p ++ c) false E W → length E ≤ 1
+  own_whole_short : (E : List ExtendedEvent) (W : List ℕ) → Read protocol (x ∷ p ++ c) false E W → length E ≤ 1
   own_whole_short [] W m = omega arith
   own_whole_short (e ∷ E) W ((bytes, rest, stands, splits, steps), r) =
       omega (arith, ap length (own_stands bytes rest W e E stands splits steps))
 
   own_held_row : (bytes rest W : List ℕ) (e : InputEvent) (E : List ExtendedEvent)
       → RowGives (27 ∷ x ∷ p ++ c) false ESC escape bytes e
-      → 27 ∷ x ∷ p ++ c ≡ bytes ++ rest → Steps rows rest false E W → (e ≡ Key escape) ⊎ (E ≡ [])
+      → 27 ∷ x ∷ p ++ c ≡ bytes ++ rest → Steps protocol rest false E W → (e ≡ Key escape) ⊎ (E ≡ [])
   own_held_row bytes rest W e E (its_key a b d f) splits steps = absurd (let h : 27 ∷ x ∷ p ++ c ≡ ESC = b refl in cc (h))
   own_held_row bytes rest W e E (its_paste at body left first g d f) splits steps = absurd (cc (at))
   own_held_row bytes rest W e E (apart at v h split some closed is far d f) splits steps = inl f
@@ -264,23 +264,23 @@ module _ (rows : Rows) (x : ℕ) (p c : List ℕ) (own : IsPortsOwn rows x p c) 
       let after : v ≡ x ∷ p ++ c = cc (split) in
       let same : h ≡ own.head = head_once (x ∷ p ++ c) h own.head (subst (λ z. IsHead z h) after is) own.whole in
       let all : bytes ≡ 27 ∷ x ∷ p ++ c = d ∙ ap (λ k. ESC ++ bytes_of k) same ∙ ap (λ z. 27 ∷ z) own.spells in
-      inr (nothing_after rows (27 ∷ x ∷ p ++ c) bytes rest W E all splits steps)
+      inr (nothing_after protocol (27 ∷ x ∷ p ++ c) bytes rest W E all splits steps)
 
-  own_held_stands : (bytes rest W : List ℕ) (e : ExtendedEvent) (E : List ExtendedEvent) → Stands rows (27 ∷ x ∷ p ++ c) false bytes e
-      → 27 ∷ x ∷ p ++ c ≡ bytes ++ rest → Steps rows rest false E W → (e ≡ Input (Key escape)) ⊎ (E ≡ [])
+  own_held_stands : (bytes rest W : List ℕ) (e : ExtendedEvent) (E : List ExtendedEvent) → Stands protocol (27 ∷ x ∷ p ++ c) false bytes e
+      → 27 ∷ x ∷ p ++ c ≡ bytes ++ rest → Steps protocol rest false E W → (e ≡ Input (Key escape)) ⊎ (E ≡ [])
   own_held_stands bytes rest W e E (extra text d is b) splits steps =
-      absurd (no_extra_with_escape rows x (p ++ c) own.second (record { text = text; event = d; is_extra = is; begins = b }))
+      absurd (no_extra_with_escape protocol x (p ++ c) own.second (record { text = text; event = d; is_extra = is; begins = b }))
   own_held_stands bytes rest W e E (lone_escape v split after) splits steps = inl refl
   own_held_stands bytes rest W e E (usual s d stands is gap) splits steps = ⊎_elim
       (λ (h : d ≡ Key escape). inl (ap (λ z. Input z) h))
       (λ (h : E ≡ []). inr h)
       (own_held_row s rest W d E (escape_gives x (p ++ c) s d own.alone stands.item) splits steps)
 
-  own_whole_held : (e : ExtendedEvent) (E : List ExtendedEvent) (W : List ℕ) → Read rows (27 ∷ x ∷ p ++ c) false (e ∷ E) W
+  own_whole_held : (e : ExtendedEvent) (E : List ExtendedEvent) (W : List ℕ) → Read protocol (27 ∷ x ∷ p ++ c) false (e ∷ E) W
       → (e ≡ Input (Key escape)) ⊎ (E ≡ [])
   own_whole_held e E W ((bytes, rest, stands, splits, steps), r) = own_held_stands bytes rest W e E stands splits steps
 
-  own_goes_on : GoesOn rows x p c
+  own_goes_on : GoesOn protocol x p c
   own_goes_on = record {
     longer = own.longer;
     whole_short = own_whole_short;
@@ -299,7 +299,7 @@ module _ (rows : Rows) (x : ℕ) (p c : List ℕ) (own : IsPortsOwn rows x p c) 
   }
 
 -- a text that goes on to a sequence of the port, and to no form
-module _ (rows : Rows) (x : ℕ) (p c : List ℕ) (longer : c ≢ []) (m : Meaning) (is : IsSequence (x ∷ p ++ c) m)
+module _ (protocol : Protocol) (x : ℕ) (p c : List ℕ) (longer : c ≢ []) (m : Meaning) (is : IsSequence (x ∷ p ++ c) m)
     (no_form : IsUnfinishedForm (x ∷ p) → ⊥) where
   sequence_first : x ≡ 27
   sequence_first = go (sequence_bytes (x ∷ p ++ c) m is)
@@ -323,7 +323,7 @@ module _ (rows : Rows) (x : ℕ) (p c : List ℕ) (longer : c ≢ []) (m : Meani
       ap (λ z. x ∷ p ++ z) (e ∙ ap (λ z. front ++ z) b.1) ∙ sym (append_assoc (x ∷ p) front (START ++ b.0)) in
       escape_comes_first (x ∷ p ++ front) (91 ∷ 50 ∷ 48 ∷ 48 ∷ 126 ∷ b.0) m (λ h. cc (h)) (subst (λ z. IsSequence z m) whole is)
 
-  sequence_no_extra : StartsWithExtra rows (x ∷ p ++ c) → ⊥
+  sequence_no_extra : StartsWithExtra protocol (x ∷ p ++ c) → ⊥
   sequence_no_extra h = go (overlap h.text h.begins.0 (x ∷ p) c h.begins.1)
     where
       go : Overlaps h.text h.begins.0 (x ∷ p) c → ⊥
@@ -331,9 +331,9 @@ module _ (rows : Rows) (x : ℕ) (p c : List ℕ) (longer : c ≢ []) (m : Meani
           (subst (λ z. IsSequence z m) (ap (λ z. z ++ c) e ∙ append_assoc h.text t c) is))
       go (past t n e f) = no_form (record { tail = t; longer = n; is_form = subst (λ z. IsForm z) e h.is_extra.is_form })
 
-  sequence_no_extra_after : (v : List ℕ) → x ∷ p ++ c ≡ ESC ++ v → StartsWithExtra rows v → ⊥
+  sequence_no_extra_after : (v : List ℕ) → x ∷ p ++ c ≡ ESC ++ v → StartsWithExtra protocol v → ⊥
   sequence_no_extra_after v split h =
-      let s = starts_shape rows v h in
+      let s = starts_shape protocol v h in
       escape_comes_first ESC (s.0 ∷ s.1) m (λ e. cc (e))
       (subst (λ z. IsSequence z m) (split ∙ ap (λ z. 27 ∷ z) s.2) is)
 
@@ -345,7 +345,7 @@ module _ (rows : Rows) (x : ℕ) (p c : List ℕ) (longer : c ≢ []) (m : Meani
   )
   sequence_item (Report r) it = (Mouse r, mouse (x ∷ p ++ c) r (longest_whole (x ∷ p ++ c) (Report r) it))
 
-  sequence_own : IsPortsOwn rows x p c
+  sequence_own : IsPortsOwn protocol x p c
   sequence_own = record {
     longer = longer;
     head = Sequence (x ∷ p ++ c) m;
@@ -383,7 +383,7 @@ second_low x is = ⊎_elim
     is
 
 -- a text that goes on to a character
-module _ (rows : Rows) (x : ℕ) (p c : List ℕ) (longer : c ≢ []) (d : ℕ) (scalar : IsScalar d)
+module _ (protocol : Protocol) (x : ℕ) (p c : List ℕ) (longer : c ≢ []) (d : ℕ) (scalar : IsScalar d)
     (spells : encode_utf8 d ≡ x ∷ p ++ c) where
   high : AllByRecursion IsHigh (x ∷ p ++ c)
   high = parted_high d (x ∷ p) c scalar (λ e. cc (e)) longer spells
@@ -404,7 +404,7 @@ module _ (rows : Rows) (x : ℕ) (p c : List ℕ) (longer : c ≢ []) (d : ℕ) 
         begins = ([], sym spells ∙ sym (append-nil (encode_utf8 d)));
       }
 
-  character_own : IsPortsOwn rows x p c
+  character_own : IsPortsOwn protocol x p c
   character_own = record {
     longer = longer;
     head = Character d;
@@ -420,28 +420,28 @@ module _ (rows : Rows) (x : ℕ) (p c : List ℕ) (longer : c ≢ []) (d : ℕ) 
     no_start_after = no_start_high c (true_at_end IsHigh (x ∷ p) c high);
     alone = inr (omega (arith, first_high));
     second = λ h. (let l : x ≤ 95 = second_low x h in omega (arith, first_high));
-    no_extra = λ h. (let s = starts_shape rows (x ∷ p ++ c) h in no_escape_first (s.0 ∷ s.1) s.2);
+    no_extra = λ h. (let s = starts_shape protocol (x ∷ p ++ c) h in no_escape_first (s.0 ∷ s.1) s.2);
     no_extra_after = λ v split h. no_escape_first v split;
     no_report = λ text r is b. sequence_low text (x ∷ p) (Report r) is (true_at_front IsHigh (x ∷ p) c high) b;
   }
 
-goes_on : (rows : Rows) (x : ℕ) (p : List ℕ) → BeginsKnown rows (x ∷ p) → Decision (IsUnfinishedForm (x ∷ p))
-    → (c : List ℕ) × GoesOn rows x p c
-goes_on rows x p beginning (inl form) =
-    let c = free_completion (x ∷ p) form in (c.0, extra_goes_on rows x p c.0 c.1 c.2 c.3)
-goes_on rows x p (inl (inl h)) (inr never) =
-    (h.tail, own_goes_on rows x p h.tail (sequence_own rows x p h.tail h.longer h.meaning h.is_sequence never))
-goes_on rows x p (inl (inr h)) (inr never) =
-    (h.tail, own_goes_on rows x p h.tail (character_own rows x p h.tail h.longer h.char h.scalar h.spells))
-goes_on rows x p (inr h) (inr never) = absurd (never (form_from_unfinished rows (x ∷ p) h))
+goes_on : (protocol : Protocol) (x : ℕ) (p : List ℕ) → BeginsKnown protocol (x ∷ p) → Decision (IsUnfinishedForm (x ∷ p))
+    → (c : List ℕ) × GoesOn protocol x p c
+goes_on protocol x p beginning (inl form) =
+    let c = free_completion (x ∷ p) form in (c.0, extra_goes_on protocol x p c.0 c.1 c.2 c.3)
+goes_on protocol x p (inl (inl h)) (inr never) =
+    (h.tail, own_goes_on protocol x p h.tail (sequence_own protocol x p h.tail h.longer h.meaning h.is_sequence never))
+goes_on protocol x p (inl (inr h)) (inr never) =
+    (h.tail, own_goes_on protocol x p h.tail (character_own protocol x p h.tail h.longer h.char h.scalar h.spells))
+goes_on protocol x p (inr h) (inr never) = absurd (never (form_from_unfinished protocol (x ∷ p) h))
 
 pub undecided : Undecided
-undecided rows held [] is some beginning = absurd (some refl)
-undecided rows held (x ∷ p) is some beginning =
-    let on = goes_on rows x p beginning (unfinished_form_or_not (x ∷ p)) in
-    let w = one_meaning rows (held ++ x ∷ p ++ on.0) false in
-    let a = one_meaning rows (held ++ x ∷ p) false in
-    let b = one_meaning rows (a.1 ++ on.0) false in (
+undecided protocol held [] is some beginning = absurd (some refl)
+undecided protocol held (x ∷ p) is some beginning =
+    let on = goes_on protocol x p beginning (unfinished_form_or_not (x ∷ p)) in
+    let w = one_meaning protocol (held ++ x ∷ p ++ on.0) false in
+    let a = one_meaning protocol (held ++ x ∷ p) false in
+    let b = one_meaning protocol (a.1 ++ on.0) false in (
       on.0,
       (
         w.0,
@@ -453,6 +453,6 @@ undecided rows held (x ∷ p) is some beginning =
         w.2,
         a.2,
         b.2,
-        differ rows x p on.0 on.1 held is w.0 a.0 b.0 w.1 a.1 b.1 w.2 a.2 b.2,
+        differ protocol x p on.0 on.1 held is w.0 a.0 b.0 w.1 a.1 b.1 w.2 a.2 b.2,
       ),
     )

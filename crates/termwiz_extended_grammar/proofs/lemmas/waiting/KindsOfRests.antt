@@ -17,7 +17,7 @@ use Rattle.termwiz_grammar.proofs.lemmas.table.RowShape.{Bytes}
 use Rattle.termwiz_grammar.proofs.lemmas.table.RowShape.Bytes.{one, more}
 use Rattle.termwiz_grammar.proofs.lemmas.table.SequenceFacts.{sequence_bytes, start_ends}
 use Rattle.termwiz_grammar.proofs.lemmas.waiting.RestKinds.{CharacterBytes}
-use Rattle.termwiz_extended_events.specs.declared.types.Rows.{Rows}
+use Rattle.termwiz_extended_events.specs.declared.types.Protocol.{Protocol}
 use Rattle.termwiz_extended_grammar.specs.ExtendedGrammar.{IsRest}
 use Rattle.termwiz_extended_grammar.specs.ExtendedKinds.{IsUnfinished, IsKind, WaitingKinds}
 use Rattle.termwiz_extended_grammar.specs.ExtendedLaws.{Waits}
@@ -36,9 +36,9 @@ pub record IsLow (u : List ℕ) : Type 0 where
   pub low : (y : ℕ) (s : List ℕ) → after ≡ y ∷ s → y < 128
 
 -- what properly begins a sequence begins so
-pub unfinished_low : (rows : Rows) (u : List ℕ) → u ≢ [] → IsUnfinished rows u → IsLow u
-unfinished_low rows [] some h = absurd (some refl)
-unfinished_low rows (x ∷ t) some (inl h) = go (sequence_bytes (x ∷ t ++ h.tail) h.meaning h.is_sequence)
+pub unfinished_low : (protocol : Protocol) (u : List ℕ) → u ≢ [] → IsUnfinished protocol u → IsLow u
+unfinished_low protocol [] some h = absurd (some refl)
+unfinished_low protocol (x ∷ t) some (inl h) = go (sequence_bytes (x ∷ t ++ h.tail) h.meaning h.is_sequence)
   where
     plain_first : (y : ℕ) (s n : List ℕ) → AllByRecursion IsPlain n → n ≡ t ++ h.tail → t ≡ y ∷ s → y < 128
     plain_first y s n p e k =
@@ -53,7 +53,7 @@ unfinished_low rows (x ∷ t) some (inl h) = go (sequence_bytes (x ∷ t ++ h.ta
       splits = (let first : x ≡ 27 = cc (e) in ap (λ z. z ∷ t) first);
       low = λ y s k. plain_first y s n p (let rest : n ≡ t ++ h.tail = cc (e) in rest) k;
     }
-unfinished_low rows (x ∷ t) some (inr h) =
+unfinished_low protocol (x ∷ t) some (inr h) =
     let s = form_shape (x ∷ t ++ h.tail) h.is_extra.is_form in
     record {
       after = t;
@@ -110,18 +110,18 @@ character_bytes u held bytes is e some h =
     }
 
 -- START properly begins no sequence
-start_begins_none : (rows : Rows) (u : List ℕ) → Begins START u → IsUnfinished rows u → ⊥
-start_begins_none rows u b (inl h) = append-some b.0 h.tail h.longer (start_ends (b.0 ++ h.tail) h.meaning
+start_begins_none : (protocol : Protocol) (u : List ℕ) → Begins START u → IsUnfinished protocol u → ⊥
+start_begins_none protocol u b (inl h) = append-some b.0 h.tail h.longer (start_ends (b.0 ++ h.tail) h.meaning
     (subst (λ z. IsSequence z h.meaning) (ap (λ z. z ++ h.tail) b.1) h.is_sequence))
-start_begins_none rows u b (inr h) = append-some b.0 h.tail h.longer (form_ends START (b.0 ++ h.tail) start_form
+start_begins_none protocol u b (inr h) = append-some b.0 h.tail h.longer (form_ends START (b.0 ++ h.tail) start_form
     (subst (λ z. IsForm z) (ap (λ z. z ++ h.tail) b.1) h.is_extra.is_form))
 
-pub start_not_held : (rows : Rows) (u held bytes : List ℕ) → Begins START u → IsHeldEscape held → u ≡ held ++ bytes → bytes ≢ []
-    → IsUnfinished rows bytes → ⊥
-start_not_held rows u held bytes b is e some h = ⊎_elim
-    (λ (none : held ≡ []). start_begins_none rows bytes (b.0, sym (e ∙ ap (λ z. z ++ bytes) none) ∙ b.1) h)
+pub start_not_held : (protocol : Protocol) (u held bytes : List ℕ) → Begins START u → IsHeldEscape held → u ≡ held ++ bytes → bytes ≢ []
+    → IsUnfinished protocol bytes → ⊥
+start_not_held protocol u held bytes b is e some h = ⊎_elim
+    (λ (none : held ≡ []). start_begins_none protocol bytes (b.0, sym (e ∙ ap (λ z. z ++ bytes) none) ∙ b.1) h)
     (λ (single : held ≡ ESC).
-    let low = unfinished_low rows bytes some h in
+    let low = unfinished_low protocol bytes some h in
     let first : ◌≡◌ {A = ℕ} 91 27 = cc (b.1, e, ap (λ z. z ++ bytes) single, low.splits) in omega arith)
     is
 
@@ -132,17 +132,17 @@ start_no_character u b c = ⊎_elim
     c.spells
 
 -- what waits is nothing, an open paste, or the beginning of a sequence or of a character
-pub data Kinds (rows : Rows) (u : List ℕ) (f : Bool) : Type 0 where
-  none : u ≡ [] → Kinds rows u f
-  pasted : (body : List ℕ) → u ≡ START ++ body → IsKind rows u f Paste → Kinds rows u f
-  sequence : (held bytes : List ℕ) → IsHeldEscape held → u ≡ held ++ bytes → bytes ≢ [] → IsUnfinished rows bytes
-      → f ≡ true → Kinds rows u f
-  character : CharacterBytes u → IsHeldThen IsUnfinishedCharacter u → f ≡ true → Kinds rows u f
+pub data Kinds (protocol : Protocol) (u : List ℕ) (f : Bool) : Type 0 where
+  none : u ≡ [] → Kinds protocol u f
+  pasted : (body : List ℕ) → u ≡ START ++ body → IsKind protocol u f Paste → Kinds protocol u f
+  sequence : (held bytes : List ℕ) → IsHeldEscape held → u ≡ held ++ bytes → bytes ≢ [] → IsUnfinished protocol bytes
+      → f ≡ true → Kinds protocol u f
+  character : CharacterBytes u → IsHeldThen IsUnfinishedCharacter u → f ≡ true → Kinds protocol u f
 
-pub kinds : (rows : Rows) (u : List ℕ) (f : Bool) → IsRest rows u f → Kinds rows u f
-kinds rows u f rest = go (waiting_shape rows u f rest)
+pub kinds : (protocol : Protocol) (u : List ℕ) (f : Bool) → IsRest protocol u f → Kinds protocol u f
+kinds protocol u f rest = go (waiting_shape protocol u f rest)
   where
-    go : Waits rows u f → Kinds rows u f
+    go : Waits protocol u f → Kinds protocol u f
     go (nothing e) = none e
     go (open_paste body e never) = pasted body e (record { body = body; splits = e; endless = never })
     go (undecided held bytes is e n (inl (inl h)) short m) = sequence held bytes is e n (inl h) m
@@ -175,41 +175,41 @@ held_some u is empty = append-some is.held is.bytes is.some (sym is.splits ∙ e
 bytes_of_character : (u : List ℕ) → IsHeldThen IsUnfinishedCharacter u → CharacterBytes u
 bytes_of_character u is = character_bytes u is.held is.bytes is.is_held is.splits is.some is.unfinished
 
-sequence_no_character : (rows : Rows) (u : List ℕ) → IsHeldThen (IsUnfinished rows) u → CharacterBytes u → ⊥
-sequence_no_character rows u is c =
-    no_high u is.held is.bytes c is.is_held is.splits (unfinished_low rows is.bytes is.some is.unfinished)
+sequence_no_character : (protocol : Protocol) (u : List ℕ) → IsHeldThen (IsUnfinished protocol) u → CharacterBytes u → ⊥
+sequence_no_character protocol u is c =
+    no_high u is.held is.bytes c is.is_held is.splits (unfinished_low protocol is.bytes is.some is.unfinished)
 
-sequence_no_paste : (rows : Rows) (u body : List ℕ) → IsHeldThen (IsUnfinished rows) u → u ≡ START ++ body → ⊥
-sequence_no_paste rows u body is e =
-    start_not_held rows u is.held is.bytes (body, e) is.is_held is.splits is.some is.unfinished
+sequence_no_paste : (protocol : Protocol) (u body : List ℕ) → IsHeldThen (IsUnfinished protocol) u → u ≡ START ++ body → ⊥
+sequence_no_paste protocol u body is e =
+    start_not_held protocol u is.held is.bytes (body, e) is.is_held is.splits is.some is.unfinished
 
 -- what is of two kinds is of one
-one_kind : (rows : Rows) (u : List ℕ) (f : Bool) (a b : Waiting) → IsKind rows u f a → IsKind rows u f b → b ≡ a
-one_kind rows u f Nothing Nothing p q = refl
-one_kind rows u f Nothing Escape p q = absurd (escapes_some u q.0 p)
-one_kind rows u f Nothing Sequence p q = absurd (held_some u q.0 p)
-one_kind rows u f Nothing Character p q = absurd (held_some u q.0 p)
-one_kind rows u f Nothing Paste p q = absurd (cc (p, q.splits))
-one_kind rows u f Escape Nothing p q = absurd (escapes_some u p.0 q)
-one_kind rows u f Escape Escape p q = refl
-one_kind rows u f Escape Sequence p q = absurd (q.1 p.0)
-one_kind rows u f Escape Character p q = absurd (escapes_no_character u p.0 (bytes_of_character u q.0))
-one_kind rows u f Escape Paste p q = absurd (escapes_no_paste u q.body p.0 q.splits)
-one_kind rows u f Sequence Nothing p q = absurd (held_some u p.0 q)
-one_kind rows u f Sequence Escape p q = absurd (p.1 q.0)
-one_kind rows u f Sequence Sequence p q = refl
-one_kind rows u f Sequence Character p q = absurd (sequence_no_character rows u p.0 (bytes_of_character u q.0))
-one_kind rows u f Sequence Paste p q = absurd (sequence_no_paste rows u q.body p.0 q.splits)
-one_kind rows u f Character Nothing p q = absurd (held_some u p.0 q)
-one_kind rows u f Character Escape p q = absurd (escapes_no_character u q.0 (bytes_of_character u p.0))
-one_kind rows u f Character Sequence p q = absurd (sequence_no_character rows u q.0 (bytes_of_character u p.0))
-one_kind rows u f Character Character p q = refl
-one_kind rows u f Character Paste p q = absurd (start_no_character u (q.body, q.splits) (bytes_of_character u p.0))
-one_kind rows u f Paste Nothing p q = absurd (cc (q, p.splits))
-one_kind rows u f Paste Escape p q = absurd (escapes_no_paste u p.body q.0 p.splits)
-one_kind rows u f Paste Sequence p q = absurd (sequence_no_paste rows u p.body q.0 p.splits)
-one_kind rows u f Paste Character p q = absurd (start_no_character u (p.body, p.splits) (bytes_of_character u q.0))
-one_kind rows u f Paste Paste p q = refl
+one_kind : (protocol : Protocol) (u : List ℕ) (f : Bool) (a b : Waiting) → IsKind protocol u f a → IsKind protocol u f b → b ≡ a
+one_kind protocol u f Nothing Nothing p q = refl
+one_kind protocol u f Nothing Escape p q = absurd (escapes_some u q.0 p)
+one_kind protocol u f Nothing Sequence p q = absurd (held_some u q.0 p)
+one_kind protocol u f Nothing Character p q = absurd (held_some u q.0 p)
+one_kind protocol u f Nothing Paste p q = absurd (cc (p, q.splits))
+one_kind protocol u f Escape Nothing p q = absurd (escapes_some u p.0 q)
+one_kind protocol u f Escape Escape p q = refl
+one_kind protocol u f Escape Sequence p q = absurd (q.1 p.0)
+one_kind protocol u f Escape Character p q = absurd (escapes_no_character u p.0 (bytes_of_character u q.0))
+one_kind protocol u f Escape Paste p q = absurd (escapes_no_paste u q.body p.0 q.splits)
+one_kind protocol u f Sequence Nothing p q = absurd (held_some u p.0 q)
+one_kind protocol u f Sequence Escape p q = absurd (p.1 q.0)
+one_kind protocol u f Sequence Sequence p q = refl
+one_kind protocol u f Sequence Character p q = absurd (sequence_no_character protocol u p.0 (bytes_of_character u q.0))
+one_kind protocol u f Sequence Paste p q = absurd (sequence_no_paste protocol u q.body p.0 q.splits)
+one_kind protocol u f Character Nothing p q = absurd (held_some u p.0 q)
+one_kind protocol u f Character Escape p q = absurd (escapes_no_character u q.0 (bytes_of_character u p.0))
+one_kind protocol u f Character Sequence p q = absurd (sequence_no_character protocol u q.0 (bytes_of_character u p.0))
+one_kind protocol u f Character Character p q = refl
+one_kind protocol u f Character Paste p q = absurd (start_no_character u (q.body, q.splits) (bytes_of_character u p.0))
+one_kind protocol u f Paste Nothing p q = absurd (cc (q, p.splits))
+one_kind protocol u f Paste Escape p q = absurd (escapes_no_paste u p.body q.0 p.splits)
+one_kind protocol u f Paste Sequence p q = absurd (sequence_no_paste protocol u p.body q.0 p.splits)
+one_kind protocol u f Paste Character p q = absurd (start_no_character u (p.body, p.splits) (bytes_of_character u q.0))
+one_kind protocol u f Paste Paste p q = refl
 
 one_or_two_or_not : (u : List ℕ) → IsOneOrTwoEscapes u ⊎ (IsOneOrTwoEscapes u → ⊥)
 one_or_two_or_not u = ⊎_elim
@@ -220,19 +220,19 @@ one_or_two_or_not u = ⊎_elim
     (same_or_not u (ESC ++ ESC)))
     (same_or_not u ESC)
 
-some_kind : (rows : Rows) (u : List ℕ) (f : Bool) → Kinds rows u f → (kind : Waiting) × IsKind rows u f kind
-some_kind rows u f (none e) = (Nothing, e)
-some_kind rows u f (pasted body e is) = (Paste, is)
-some_kind rows u f (sequence held bytes is e n h m) = ⊎_elim
+some_kind : (protocol : Protocol) (u : List ℕ) (f : Bool) → Kinds protocol u f → (kind : Waiting) × IsKind protocol u f kind
+some_kind protocol u f (none e) = (Nothing, e)
+some_kind protocol u f (pasted body e is) = (Paste, is)
+some_kind protocol u f (sequence held bytes is e n h m) = ⊎_elim
     (λ (escapes : IsOneOrTwoEscapes u). (Escape, (escapes, m)))
     (λ other. (
       Sequence,
       (record { held = held; bytes = bytes; is_held = is; splits = e; some = n; unfinished = h }, other, m),
     ))
     (one_or_two_or_not u)
-some_kind rows u f (character c is m) = (Character, (is, m))
+some_kind protocol u f (character c is m) = (Character, (is, m))
 
 pub waiting_kinds : WaitingKinds
-waiting_kinds rows u f rest =
-    let it = some_kind rows u f (kinds rows u f rest) in
-    (it.0, it.1, λ other is. one_kind rows u f it.0 other it.1 is)
+waiting_kinds protocol u f rest =
+    let it = some_kind protocol u f (kinds protocol u f rest) in
+    (it.0, it.1, λ other is. one_kind protocol u f it.0 other it.1 is)

@@ -7,7 +7,7 @@ use Rattle.termwiz_keys.specs.declared.types.InputEvent.{InputEvent}
 use Rattle.termwiz_grammar.specs.Grammar as port
 use Rattle.termwiz_grammar.specs.WaitingKinds.{IsOneOrTwoEscapes}
 use Rattle.termwiz_extended_events.specs.declared.types.ExtendedEvent.TheVariants.{Input}
-use Rattle.termwiz_extended_events.specs.declared.types.Rows.{Rows}
+use Rattle.termwiz_extended_events.specs.declared.types.Protocol.{Protocol}
 use Rattle.termwiz_extended_grammar.specs.ExtraSequences.{StartsWithExtra}
 use Rattle.termwiz_extended_grammar.specs.ExtendedGrammar.{Means}
 use Rattle.termwiz_extended_grammar.specs.ExtendedLaws.{HasNoExtra, LooksAt}
@@ -19,9 +19,9 @@ abbrev AreEscapes : List ℕ → Type 0
 AreEscapes u = AllByRecursion (λ b. b ≡ 27) u
 
 -- no extra sequence begins among ESCs
-no_extra : (rows : Rows) (u : List ℕ) → AreEscapes u → StartsWithExtra rows u → ⊥
-no_extra rows u all h =
-    let s = starts_shape rows u h in
+no_extra : (protocol : Protocol) (u : List ℕ) → AreEscapes u → StartsWithExtra protocol u → ⊥
+no_extra protocol u all h =
+    let s = starts_shape protocol u h in
     let here : AreEscapes (27 ∷ s.0 ∷ s.1) = subst AreEscapes s.2 all in
     second_not_escape s.0 s.3 here.1.0
 
@@ -31,12 +31,12 @@ left_escapes [] T W f h all = subst AreEscapes h all
 left_escapes (e ∷ E) T W f (bytes, rest, stands, splits, steps) all =
     left_escapes E rest W f steps (true_at_end (λ b. b ≡ 27) bytes rest (subst AreEscapes splits all))
 
-met : (rows : Rows) (T u : List ℕ) → AreEscapes T → LooksAt T false u → HasNoExtra rows u false
-met rows T u all (at_item E steps) =
-    record { none = no_extra rows u (left_escapes E T u false steps all); open_to_port = λ h. absurd (cc (h.more_comes)) }
-met rows T u all (after_escape E before steps is split) =
+met : (protocol : Protocol) (T u : List ℕ) → AreEscapes T → LooksAt T false u → HasNoExtra protocol u false
+met protocol T u all (at_item E steps) =
+    record { none = no_extra protocol u (left_escapes E T u false steps all); open_to_port = λ h. absurd (cc (h.more_comes)) }
+met protocol T u all (after_escape E before steps is split) =
     let rest : AreEscapes (ESC ++ u) = subst AreEscapes split (left_escapes E T before false steps all) in
-    record { none = no_extra rows u rest.1; open_to_port = λ h. absurd (cc (h.more_comes)) }
+    record { none = no_extra protocol u rest.1; open_to_port = λ h. absurd (cc (h.more_comes)) }
 
 are_escapes : (u : List ℕ) → IsOneOrTwoEscapes u → AreEscapes u
 are_escapes u is = ⊎_elim
@@ -44,7 +44,7 @@ are_escapes u is = ⊎_elim
     (λ (h : u ≡ ESC ++ ESC). subst AreEscapes (sym h) (refl, (refl, tt)))
     is
 
-pub escapes_flushed : (rows : Rows) (u left : List ℕ) (event : InputEvent) → IsOneOrTwoEscapes u
-    → port.Means u false (event ∷ []) left → Means rows u false (Input event ∷ []) left
-escapes_flushed rows u left event is means =
-    conservative rows u left (event ∷ []) false (λ v looks. met rows u v (are_escapes u is) looks) means
+pub escapes_flushed : (protocol : Protocol) (u left : List ℕ) (event : InputEvent) → IsOneOrTwoEscapes u
+    → port.Means u false (event ∷ []) left → Means protocol u false (Input event ∷ []) left
+escapes_flushed protocol u left event is means =
+    conservative protocol u left (event ∷ []) false (λ v looks. met protocol u v (are_escapes u is) looks) means

@@ -22,15 +22,15 @@ use Rattle.termwiz_input.proofs.lemmas.items.ItemByHead.{alt_row_stands, charact
 use Rattle.termwiz_input.proofs.lemmas.items.PrintableAscii.{printable_run}
 use Rattle.termwiz_extended_events.specs.declared.types.ExtendedEvent.{ExtendedEvent}
 use Rattle.termwiz_extended_events.specs.declared.types.ExtendedEvent.TheVariants.{Input, Csi}
-use Rattle.termwiz_extended_events.specs.declared.types.Rows.{Rows}
-use Rattle.termwiz_extended_events.specs.declared.types.Rows.TheVariants.{Port, Kitty}
+use Rattle.termwiz_extended_events.specs.declared.types.Protocol.{Protocol}
+use Rattle.termwiz_extended_events.specs.declared.types.Protocol.TheVariants.{Legacy, Kitty}
 use Rattle.termwiz_extended_events.specs.Meanings.{event_of, IsKeyOrPosition}
 use Rattle.termwiz_extended_events.proofs.Examples.{written_out}
 use Rattle.termwiz_extended_grammar.specs.Forms.{IsForm}
 use Rattle.termwiz_extended_grammar.specs.ExtraSequences.{IsExtra, StartsWithExtra, IsUnfinishedExtra}
 use Rattle.termwiz_extended_grammar.specs.ExtendedGrammar.{Steps}
 use Rattle.termwiz_extended_grammar.proofs.lemmas.forms.FormEnds.{sequence_after_form, form_after_sequence}
-use Rattle.termwiz_input_extended.specs.ExtendedFronts.{IsLongRowAt, IsPortsOwn, IsShortRowAt}
+use Rattle.termwiz_input_extended.specs.NextItems.{IsLongRowAt, IsPortsOwn, IsShortRowAt}
 use Rattle.termwiz_input_extended.proofs.lemmas.fronts.FrontItems.{not_two_escapes, own_after_escape, own_after_two_escapes, own_item, own_without_escape, two_escapes_finished}
 use Rattle.termwiz_input_extended.proofs.lemmas.fronts.MouseForms.{report_escape, report_item, report_no_extra, report_not_unfinished, report_one}
 
@@ -47,7 +47,7 @@ long_ends y tail m long is some form = ⊎_elim
     more)
     (form_after_sequence y tail m is some form)
 
-module _ (rows : Rows) (u y : List ℕ) (m : Meaning) (long : 2 < length y) (is : IsSequence y m) (b : Begins y u) where
+module _ (protocol : Protocol) (u y : List ℕ) (m : Meaning) (long : 2 < length y) (is : IsSequence y m) (b : Begins y u) where
   -- the form at the front of a text that begins with such a sequence is the sequence
   form_is : (text : List ℕ) → IsForm text → Begins text u → text ≡ y
   form_is text form c = go (overlap y b.0 text c.0 (sym c.1 ∙ b.1))
@@ -60,14 +60,14 @@ module _ (rows : Rows) (u y : List ℕ) (m : Meaning) (long : 2 < length y) (is 
 
   -- so the text is the port's own, unless the sequence is extra
   pub own_by_sequence : (f : Bool) → Begins ESC u → (Begins (ESC ++ ESC) u → ⊥)
-      → (((event : ExtendedEvent) × IsExtra rows y event) → ⊥) → IsPortsOwn rows u f
-  own_by_sequence f escape one never = own_after_escape rows u f escape one none (λ comes. finished)
+      → (((event : ExtendedEvent) × IsExtra protocol y event) → ⊥) → IsPortsOwn protocol u f
+  own_by_sequence f escape one never = own_after_escape protocol u f escape one none (λ comes. finished)
     where
-      none : StartsWithExtra rows u → ⊥
+      none : StartsWithExtra protocol u → ⊥
       none h = never
-          (h.event, subst (λ z. IsExtra rows z h.event) (form_is h.text h.is_extra.is_form h.begins) h.is_extra)
+          (h.event, subst (λ z. IsExtra protocol z h.event) (form_is h.text h.is_extra.is_form h.begins) h.is_extra)
 
-      finished : IsUnfinishedExtra rows u → ⊥
+      finished : IsUnfinishedExtra protocol u → ⊥
       finished h = long_ends y (b.0 ++ h.tail) m long is (append-some b.0 h.tail h.longer)
           (subst (λ z. IsForm z) (ap (λ z. z ++ h.tail) b.1 ∙ append_assoc y b.0 h.tail) h.is_extra.is_form)
 
@@ -76,14 +76,14 @@ start_means : event_of START ≡ Csi (codes "200~")
 unfolding written_out
 start_means = refl
 
-start_not_extra : (rows : Rows) → ((event : ExtendedEvent) × IsExtra rows START event) → ⊥
-start_not_extra Port h = h.1.is_free (Row start) start_is_sequence
+start_not_extra : (protocol : Protocol) → ((event : ExtendedEvent) × IsExtra protocol START event) → ⊥
+start_not_extra Legacy h = h.1.is_free (Row start) start_is_sequence
 start_not_extra Kitty h = subst IsKeyOrPosition start_means (h.1.is_free (Row start) start_is_sequence).2
 
-pub own_start : (rows : Rows) (u : List ℕ) (f : Bool) → Begins START u → IsPortsOwn rows u f
-own_start rows u f b = own_by_sequence rows u START (Row start) (omega arith) start_is_sequence b f
+pub own_start : (protocol : Protocol) (u : List ℕ) (f : Bool) → Begins START u → IsPortsOwn protocol u f
+own_start protocol u f b = own_by_sequence protocol u START (Row start) (omega arith) start_is_sequence b f
     (codes "[200~" ++ b.0, b.1) (λ two. let second : ◌≡◌ {A = ℕ} 91 27 = cc (b.1, two.1) in omega arith)
-    (start_not_extra rows)
+    (start_not_extra protocol)
 
 -- a character from SPACE to ~ at the front
 pub printable_item : (u : List ℕ) (f : Bool) → 0 < length u → IsPrintableAscii (get_or u 0 0)
@@ -91,8 +91,8 @@ pub printable_item : (u : List ℕ) (f : Bool) → 0 < length u → IsPrintableA
 printable_item [] f some is = absurd (omega arith)
 printable_item (b ∷ u) f some is = (printable_run (b ∷ u) 1 (omega arith) (is, tt) (omega arith)).first f
 
-pub own_printable : (rows : Rows) (u : List ℕ) (f : Bool) → IsPrintableAscii (get_or u 0 0) → IsPortsOwn rows u f
-own_printable rows u f is = own_without_escape rows u f
+pub own_printable : (protocol : Protocol) (u : List ℕ) (f : Bool) → IsPrintableAscii (get_or u 0 0) → IsPortsOwn protocol u f
+own_printable protocol u f is = own_without_escape protocol u f
     (λ b. let first : get_or u 0 0 ≡ 27 = ap (λ z. get_or z 0 0) b.1 in omega (arith, is.0))
 
 -- a character whose first byte is from 0x80 on, at the front
@@ -102,46 +102,46 @@ character_item u f c n some high is =
     let apart = apart_from_sequences u some (omega arith) (λ e. omega arith) in
     character_stands u f c n (character_closed u f c n (λ m. apart.finished) is) (character_front u c n apart.no_sequence is)
 
-pub own_high : (rows : Rows) (u : List ℕ) (f : Bool) → 0x80 ≤ slice_index_or u 0 0 → IsPortsOwn rows u f
-own_high rows u f high = own_without_escape rows u f
+pub own_high : (protocol : Protocol) (u : List ℕ) (f : Bool) → 0x80 ≤ slice_index_or u 0 0 → IsPortsOwn protocol u f
+own_high protocol u f high = own_without_escape protocol u f
     (λ b. let first : slice_index_or u 0 0 ≡ 27 = ap (λ z. slice_index_or z 0 0) b.1 in omega (arith, high))
 
 -- where the first byte is from 0x80 on, a character is an item
 pub high_character : (u : List ℕ) → 0 < length u → 0x80 ≤ slice_index_or u 0 0
-    → IfSome (character_of u) (λ found. (rows : Rows) (more : Bool)
-    → IsPortsOwn rows u more × IsItemAt u more (Key (plain found.0)) found.1)
+    → IfSome (character_of u) (λ found. (protocol : Protocol) (more : Bool)
+    → IsPortsOwn protocol u more × IsItemAt u more (Key (plain found.0)) found.1)
 high_character u some high = go (character_of u) refl
   where
     go : (found : Option (ℕ × ℕ)) → character_of u ≡ found
-        → IfSome found (λ found. (rows : Rows) (more : Bool)
-        → IsPortsOwn rows u more × IsItemAt u more (Key (plain found.0)) found.1)
+        → IfSome found (λ found. (protocol : Protocol) (more : Bool)
+        → IsPortsOwn protocol u more × IsItemAt u more (Key (plain found.0)) found.1)
     go None e = tt
-    go (Some (c, n)) e = λ rows more. (own_high rows u more high, character_item u more c n some high e)
+    go (Some (c, n)) e = λ protocol more. (own_high protocol u more high, character_item u more c n some high e)
 
 -- an item of the port's is one step
-pub item_step : (rows : Rows) (u : List ℕ) (event : InputEvent) (len : ℕ) (f : Bool) → IsPortsOwn rows u f → IsItemAt u f event len
-    → Steps rows u f (Input event ∷ []) (drop len u)
-item_step rows u event len f own is = (
+pub item_step : (protocol : Protocol) (u : List ℕ) (event : InputEvent) (len : ℕ) (f : Bool) → IsPortsOwn protocol u f → IsItemAt u f event len
+    → Steps protocol u f (Input event ∷ []) (drop len u)
+item_step protocol u event len f own is = (
   take len u,
   drop len u,
-  own_item rows u (take len u) event f own is.1,
+  own_item protocol u (take len u) event f own is.1,
   sym (take-append-drop len u),
   refl,
 )
 
--- a row of three or more bytes is the port's own under `Rows::Port`, and an item
-module _ (rows : Rows) (u : List ℕ) (f : Bool) (key : KeyEvent) (len : ℕ) (is : IsLongRowAt rows u f key len) where
+-- a row of three or more bytes is the port's own under `Protocol::Legacy`, and an item
+module _ (protocol : Protocol) (u : List ℕ) (f : Bool) (key : KeyEvent) (len : ℕ) (is : IsLongRowAt protocol u f key len) where
   longer_than_two : 2 < length (take len u)
   longer_than_two = omega (arith, is.long, is.row.0, length-take-le len u is.row.0)
 
-  row_is_never_extra : (rows : Rows) → rows ≡ Port → ((event : ExtendedEvent) × IsExtra rows (take len u) event) → ⊥
+  row_is_never_extra : (protocol : Protocol) → protocol ≡ Legacy → ((event : ExtendedEvent) × IsExtra protocol (take len u) event) → ⊥
   unfolding IsSequence
-  row_is_never_extra Port e h = h.1.is_free (Row key) is.row.1.is_sequence
+  row_is_never_extra Legacy e h = h.1.is_free (Row key) is.row.1.is_sequence
   row_is_never_extra Kitty e h = cc (e)
 
-  pub long_row_own : Begins ESC u → (Begins (ESC ++ ESC) u → ⊥) → IsPortsOwn rows u f
-  long_row_own escape one = own_by_sequence rows u (take len u) (Row key) longer_than_two is.row.1.is_sequence is.row.1.begins f
-      escape one (row_is_never_extra rows is.port)
+  pub long_row_own : Begins ESC u → (Begins (ESC ++ ESC) u → ⊥) → IsPortsOwn protocol u f
+  long_row_own escape one = own_by_sequence protocol u (take len u) (Row key) longer_than_two is.row.1.is_sequence is.row.1.begins f
+      escape one (row_is_never_extra protocol is.port)
 
   pub long_row_item : (Begins START u → ⊥) → IsItemAt u f (Key key) len
   long_row_item no_paste = row_stands u f key len is.closed is.row no_paste
@@ -153,31 +153,31 @@ short_row_item u f key is no_paste = row_stands u f key 2 is.closed is.row no_pa
     (λ e. let one : length (take 2 u) ≡ 1 = ap length e in absurd (omega (arith, one, is.row.0, length-take-le 2 u is.row.0)))
 
 -- a mouse report is one step
-pub mouse_report_step : (rows : Rows) (u : List ℕ) (event : MouseEvent) (len : ℕ) (f : Bool) → len ≤ length u
-    → IsMouseReport (take len u) event → Steps rows u f (Input (Mouse event) ∷ []) (drop len u)
-mouse_report_step rows u event len f inside is =
-    let own = own_after_escape rows u f (report_escape rows u len event is) (report_one rows u len event is)
-    (report_no_extra rows u len event is) (λ m. report_not_unfinished rows u len event is) in
-    item_step rows u (Mouse event) len f own (report_item rows u len event is f inside)
+pub mouse_report_step : (protocol : Protocol) (u : List ℕ) (event : MouseEvent) (len : ℕ) (f : Bool) → len ≤ length u
+    → IsMouseReport (take len u) event → Steps protocol u f (Input (Mouse event) ∷ []) (drop len u)
+mouse_report_step protocol u event len f inside is =
+    let own = own_after_escape protocol u f (report_escape protocol u len event is) (report_one protocol u len event is)
+    (report_no_extra protocol u len event is) (λ m. report_not_unfinished protocol u len event is) in
+    item_step protocol u (Mouse event) len f own (report_item protocol u len event is f inside)
 
 -- ESC ESC before a third ESC is the Escape key with ALT
-three_escapes : (rows : Rows) (u : List ℕ) (f : Bool)
-    → IsPortsOwn rows (27 ∷ 27 ∷ 27 ∷ u) f × IsItemAt (27 ∷ 27 ∷ 27 ∷ u) f (Key (with_alt escape_key)) 2
-three_escapes rows u f =
+three_escapes : (protocol : Protocol) (u : List ℕ) (f : Bool)
+    → IsPortsOwn protocol (27 ∷ 27 ∷ 27 ∷ u) f × IsItemAt (27 ∷ 27 ∷ 27 ∷ u) f (Key (with_alt escape_key)) 2
+three_escapes protocol u f =
     let here = lone_escape 27 (27 ∷ u) (λ h. omega (arith, h.0)) in
     let after = lone_escape 27 u (λ h. omega (arith, h.0)) in (
-      own_after_two_escapes rows (27 ∷ 27 ∷ u) f (27 ∷ u, refl) (not_two_escapes rows (27 ∷ u) (u, refl))
-          (λ m h. two_escapes_finished rows (27 ∷ u) (u, refl) h),
+      own_after_two_escapes protocol (27 ∷ 27 ∷ u) f (27 ∷ u, refl) (not_two_escapes protocol (27 ∷ u) (u, refl))
+          (λ m h. two_escapes_finished protocol (27 ∷ u) (u, refl) h),
       alt_row_stands (27 ∷ 27 ∷ u) f escape_key 1 (here.closed f) here.head (λ e. cc (e)) (after.closed f) (omega arith, after.head)
           (λ b. let second : ◌≡◌ {A = ℕ} 27 91 = cc (b.1) in omega arith),
     )
 
-pub escapes_front : (rows : Rows) (v : List ℕ) (f : Bool) → Begins ESC v → 1 < length v → slice_index_or v 1 0 ≡ 27
-    → IsPortsOwn rows (27 ∷ v) f × IsItemAt (27 ∷ v) f (Key (with_alt escape_key)) 2
-escapes_front rows [] f b long second = absurd (omega arith)
-escapes_front rows (x ∷ []) f b long second = absurd (omega arith)
-escapes_front rows (x ∷ y ∷ u) f b long second =
+pub escapes_front : (protocol : Protocol) (v : List ℕ) (f : Bool) → Begins ESC v → 1 < length v → slice_index_or v 1 0 ≡ 27
+    → IsPortsOwn protocol (27 ∷ v) f × IsItemAt (27 ∷ v) f (Key (with_alt escape_key)) 2
+escapes_front protocol [] f b long second = absurd (omega arith)
+escapes_front protocol (x ∷ []) f b long second = absurd (omega arith)
+escapes_front protocol (x ∷ y ∷ u) f b long second =
     let first : 27 ≡ x = cc (b.1) in
-    subst (λ z. IsPortsOwn rows (27 ∷ z ∷ y ∷ u) f × IsItemAt (27 ∷ z ∷ y ∷ u) f (Key (with_alt escape_key)) 2) first
-    (subst (λ z. IsPortsOwn rows (27 ∷ 27 ∷ z ∷ u) f × IsItemAt (27 ∷ 27 ∷ z ∷ u) f (Key (with_alt escape_key)) 2) (sym second)
-    (three_escapes rows u f))
+    subst (λ z. IsPortsOwn protocol (27 ∷ z ∷ y ∷ u) f × IsItemAt (27 ∷ z ∷ y ∷ u) f (Key (with_alt escape_key)) 2) first
+    (subst (λ z. IsPortsOwn protocol (27 ∷ 27 ∷ z ∷ u) f × IsItemAt (27 ∷ 27 ∷ z ∷ u) f (Key (with_alt escape_key)) 2) (sym second)
+    (three_escapes protocol u f))

@@ -15,7 +15,7 @@ use Rattle.termwiz_input.specs.Matches.{IsItemAt}
 use Rattle.termwiz_input.specs.MouseReportAnswers.{IsBegun}
 use Rattle.termwiz_input.proofs.lemmas.heads.HeadLookup.{mouse_report_front, report_closed}
 use Rattle.termwiz_input.proofs.lemmas.items.ItemByHead.{report_stands}
-use Rattle.termwiz_extended_events.specs.declared.types.Rows.{Rows}
+use Rattle.termwiz_extended_events.specs.declared.types.Protocol.{Protocol}
 use Rattle.termwiz_extended_grammar.specs.Forms.{IsInner, IsFinal, IsForm, IsUnfinishedForm}
 use Rattle.termwiz_extended_grammar.specs.Forms.IsForm.{control}
 use Rattle.termwiz_extended_grammar.specs.ExtraSequences.{StartsWithExtra, IsUnfinishedExtra}
@@ -76,10 +76,10 @@ unfolding IsSequence
 report_known text r f = f
 
 -- where a mouse report begins the text, no extra sequence does, and the text begins none
-module _ (rows : Rows) (u : List ℕ) (len : ℕ) (r : MouseEvent) (is : IsMouseReport (take len u) r) where
-  pub report_no_extra : StartsWithExtra rows u → ⊥
-  report_no_extra = no_extra_starts rows u len (report_is_form (take len u) r is)
-      (λ h. report_not_extra rows (take len u) r h.0 is h.1)
+module _ (protocol : Protocol) (u : List ℕ) (len : ℕ) (r : MouseEvent) (is : IsMouseReport (take len u) r) where
+  pub report_no_extra : StartsWithExtra protocol u → ⊥
+  report_no_extra = no_extra_starts protocol u len (report_is_form (take len u) r is)
+      (λ h. report_not_extra protocol (take len u) r h.0 is h.1)
 
   -- the text begins with one ESC alone
   introduced : u ≡ 27 ∷ 91 ∷ ((inner_of is.code is.x is.y ++ is.last ∷ []) ++ drop len u)
@@ -92,8 +92,8 @@ module _ (rows : Rows) (u : List ℕ) (len : ℕ) (r : MouseEvent) (is : IsMouse
   pub report_one : Begins (ESC ++ ESC) u → ⊥
   report_one two = let second : ◌≡◌ {A = ℕ} 91 27 = cc (introduced, two.1) in omega arith
 
-  pub report_not_unfinished : IsUnfinishedExtra rows u → ⊥
-  report_not_unfinished = no_extra_unfinished rows u len (report_is_form (take len u) r is)
+  pub report_not_unfinished : IsUnfinishedExtra protocol u → ⊥
+  report_not_unfinished = no_extra_unfinished protocol u len (report_is_form (take len u) r is)
 
   -- it is the port's item
   pub report_item : (more : Bool) → len ≤ length u → IsItemAt u more (Mouse r) len

@@ -5,7 +5,7 @@ use Rattle.termwiz_keymap.proofs.lemmas.lists.CommonPrefixes.{Begins-append}
 use Rattle.termwiz_keys.specs.Introducers.{ESC}
 use Rattle.termwiz_input_extended.specs.FormAnswers.{IsScanned}
 use Rattle.termwiz_input_extended.specs.FormAnswers.IsScanned.{at_start}
-use Rattle.termwiz_input_extended.specs.ExtendedFronts.{IsScannedTo}
+use Rattle.termwiz_input_extended.specs.NextItems.{IsScannedTo}
 use Rattle.termwiz_input_extended.proofs.lemmas.forms.Scanned.{scanned_grows}
 
 -- nothing was looked at

@@ -11,7 +11,7 @@ use Rattle.termwiz_grammar.specs.Sequences.Meaning.{Row}
 use Rattle.termwiz_grammar.specs.Grammar.{IsUnfinishedSequence}
 use Rattle.termwiz_grammar.specs.Table.{rows, table}
 use Rattle.termwiz_grammar.proofs.lemmas.table.TableAsMap.{row_from_table, table_from_row}
-use Rattle.termwiz_input_extended.specs.ExtendedFronts.{HasNoLongRow}
+use Rattle.termwiz_input_extended.specs.NextItems.{HasNoLongRow}
 
 -- the longest row that begins a text, where it is as long as the text
 pub row_whole : (u : List ℕ) (len : ℕ) (key : KeyEvent) → IsLongestKey table u len key → len ≡ length u

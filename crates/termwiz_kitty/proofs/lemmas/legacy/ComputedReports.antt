@@ -1,4 +1,4 @@
--- What the texts of keys report under Rows::Kitty, computed over lists of keys with modifiers.
+-- What the texts of keys report under Protocol::Kitty, computed over lists of keys with modifiers.
 use Rattle.std.proofs.Common.{◌≡◌, ℕ, Bool, true, false, List, map, drop, Option, Some, None, refl, sym, ap, ◌∙◌, subst, Contains}
 use Rattle.std.specs.Prelude.{if◌then◌else◌}
 use Rattle.termwiz_keys.specs.Encoding.{enc}

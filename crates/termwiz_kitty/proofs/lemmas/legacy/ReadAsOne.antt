@@ -1,4 +1,4 @@
--- A text that the port reads as one key is, under Rows::Kitty, that key, or one extra sequence, or ESC before one.
+-- A text that the port reads as one key is, under Protocol::Kitty, that key, or one extra sequence, or ESC before one.
 use Rattle.std.proofs.Common.{◌≡◌, ◌≢◌, inl, inr, ⊎_elim, ℕ, ◌<◌, ◌≤◌, Bool, false, List, [], ◌∷◌, ◌++◌, length, refl, sym, ap, ◌∙◌, subst, arith, Contains, append-nil, length-append}
 use Rattle.std.specs.Char.{IsScalar, encode_utf8}
 use Rattle.termwiz_keymap.proofs.lemmas.lists.CommonPrefixes.{append-some_left}
@@ -19,7 +19,7 @@ use Rattle.termwiz_laws.proofs.lemmas.further_keys.SingleKey.{Plainly, Single, s
 use Rattle.termwiz_laws.proofs.lemmas.further_keys.SingleKey.Plainly.{by_row, by_character, by_broken_byte}
 use Rattle.termwiz_laws.proofs.lemmas.further_keys.SingleKey.Single.{plainly, after_escape}
 use Rattle.termwiz_extended_events.specs.declared.types.ExtendedEvent.TheVariants.{Input}
-use Rattle.termwiz_extended_events.specs.declared.types.Rows.TheVariants.{Kitty}
+use Rattle.termwiz_extended_events.specs.declared.types.Protocol.TheVariants.{Kitty}
 use Rattle.termwiz_extended_events.specs.Meanings.{event_of, IsKeyOrPosition}
 use Rattle.termwiz_extended_grammar.specs.ExtraSequences.{IsExtra, StartsWithExtra}
 use Rattle.termwiz_extended_grammar.specs.ExtendedGrammar.{IsOpen, IsUsual, Steps, Means}

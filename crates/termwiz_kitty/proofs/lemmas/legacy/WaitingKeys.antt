@@ -24,7 +24,7 @@ use Rattle.termwiz_laws.proofs.lemmas.further_keys.SingleKey.{Plainly, Single, s
 use Rattle.termwiz_laws.proofs.lemmas.further_keys.SingleKey.Plainly.{by_row, by_character, by_broken_byte}
 use Rattle.termwiz_laws.proofs.lemmas.further_keys.SingleKey.Single.{plainly, after_escape}
 use Rattle.termwiz_laws.proofs.lemmas.shared_texts.TwinKeys.{read_once, sent_means}
-use Rattle.termwiz_extended_events.specs.declared.types.Rows.TheVariants.{Kitty}
+use Rattle.termwiz_extended_events.specs.declared.types.Protocol.TheVariants.{Kitty}
 use Rattle.termwiz_extended_grammar.specs.ExtraSequences.{IsUnfinishedExtra}
 use Rattle.termwiz_extended_grammar.specs.ExtendedGrammar.{BeginsKnown}
 use Rattle.termwiz_extended_grammar.proofs.lemmas.forms.FormBytes.{IsSecond, form_shape}

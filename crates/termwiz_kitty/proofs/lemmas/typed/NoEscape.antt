@@ -6,7 +6,7 @@ use Rattle.termwiz_keys.specs.declared.types.InputEvent.{InputEvent}
 use Rattle.termwiz_grammar.specs.Grammar as port
 use Rattle.termwiz_grammar.specs.Grammar.{IsBeginning}
 use Rattle.termwiz_extended_events.specs.declared.types.ExtendedEvent.TheVariants.{Input}
-use Rattle.termwiz_extended_events.specs.declared.types.Rows.{Rows}
+use Rattle.termwiz_extended_events.specs.declared.types.Protocol.{Protocol}
 use Rattle.termwiz_extended_grammar.specs.ExtendedGrammar.{BeginsKnown, Means}
 use Rattle.termwiz_extended_grammar.specs.ExtendedLaws.{HasNoExtra, LooksAt}
 use Rattle.termwiz_extended_grammar.specs.ExtendedLaws.LooksAt.{at_item, after_escape}
@@ -35,18 +35,18 @@ looked_at T u f a (after_escape E before steps is splits) =
     after_front ESC u (subst HasNoEscape splits (left_over E T before f steps a))
 
 -- no extra sequence begins without ESC
-has_no_extra : (rows : Rows) (u : List ℕ) (f : Bool) → HasNoEscape u → HasNoExtra rows u f
-has_no_extra rows [] f a = record { none = none_at_end rows; open_to_port = λ h. absurd (h.some refl) }
-has_no_extra rows (c ∷ t) f a = record {
-  none = λ h. (let s = starts_shape rows (c ∷ t) h in a.0 (cc (s.2)));
+has_no_extra : (protocol : Protocol) (u : List ℕ) (f : Bool) → HasNoEscape u → HasNoExtra protocol u f
+has_no_extra protocol [] f a = record { none = none_at_end protocol; open_to_port = λ h. absurd (h.some refl) }
+has_no_extra protocol (c ∷ t) f a = record {
+  none = λ h. (let s = starts_shape protocol (c ∷ t) h in a.0 (cc (s.2)));
   open_to_port = λ h. record { more_comes = h.more_comes; some = h.some; beginning = to_port h.beginning };
 }
   where
-    to_port : BeginsKnown rows (c ∷ t) → IsBeginning (c ∷ t)
+    to_port : BeginsKnown protocol (c ∷ t) → IsBeginning (c ∷ t)
     to_port (inl b) = b
     to_port (inr x) = (let s = form_shape (c ∷ t ++ x.tail) x.is_extra.is_form in absurd (a.0 (cc (s.2))))
 
-pub same_without_escape : (rows : Rows) (T W : List ℕ) (E : List InputEvent) (f : Bool) → HasNoEscape T → port.Means T f E W
-    → Means rows T f (map (λ e. Input e) E) W
-same_without_escape rows T W E f a means =
-    conservative rows T W E f (λ u looks. has_no_extra rows u f (looked_at T u f a looks)) means
+pub same_without_escape : (protocol : Protocol) (T W : List ℕ) (E : List InputEvent) (f : Bool) → HasNoEscape T → port.Means T f E W
+    → Means protocol T f (map (λ e. Input e) E) W
+same_without_escape protocol T W E f a means =
+    conservative protocol T W E f (λ u looks. has_no_extra protocol u f (looked_at T u f a looks)) means

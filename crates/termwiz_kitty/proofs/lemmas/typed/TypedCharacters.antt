@@ -11,7 +11,7 @@ use Rattle.std.proofs.lemmas.Str.{chars-encodes, encodes-chars, scalars-chars, I
 use Rattle.termwiz_keymap.proofs.lemmas.lists.CommonPrefixes.{true_from}
 use Rattle.termwiz_keys.specs.declared.types.KeyCode.TheVariants.{Char}
 use Rattle.termwiz_extended_events.specs.declared.types.ExtendedEvent.TheVariants.{Input}
-use Rattle.termwiz_extended_events.specs.declared.types.Rows.TheVariants.{Kitty}
+use Rattle.termwiz_extended_events.specs.declared.types.Protocol.TheVariants.{Kitty}
 use Rattle.termwiz_extended_grammar.specs.ExtendedGrammar.{Means}
 use Rattle.termwiz_extended_grammar.proofs.lemmas.forms.FormBytes.{all_append}
 use Rattle.termwiz_laws.specs.BrokenBytes.{GoesOn}

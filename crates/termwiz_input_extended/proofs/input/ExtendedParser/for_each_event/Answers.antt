@@ -7,7 +7,7 @@ use Rattle.termwiz_input_extended.proofs.input.ExtendedParser.for_each_event.Goa
 pub callback-requires : goal.callback-requires
 callback-requires g c =
     let step = subst (λ r. Steps r c.loop-event.self.text c.args.maybe_more (c.in-Some.event ∷ []) c.next_event.new.self.text)
-    c.loop-event.invariant.rows (rw c.in-Some.is at c.in_ok-event.ensures.event) in
+    c.loop-event.invariant.protocol (rw c.in-Some.is at c.in_ok-event.ensures.event) in
     (c.loop-event.invariant.callable (c.in-Some.event ∷ []) _ step).0
 
 pub loop-event-smaller : goal.loop-event-smaller
@@ -15,7 +15,7 @@ loop-event-smaller g c =
     let step = rw c.in-Some.is at c.in_ok-event.ensures.event in
     omega (
       arith,
-      few_events c.loop-event.self.rows c.loop-event.self.text c.next_event.new.self.text (c.in-Some.event ∷ []) c.args.maybe_more
+      few_events c.loop-event.self.protocol c.loop-event.self.text c.next_event.new.self.text (c.in-Some.event ∷ []) c.args.maybe_more
           step,
     )
 
@@ -23,13 +23,13 @@ pub loop-event-preserved : goal.loop-event-preserved
 loop-event-preserved g c =
     let now = c.loop-event.callback in
     let next = c.callback.new.self in
-    let rows = c.args.self.now.rows in
+    let protocol = c.args.self.now.protocol in
     let step = subst (λ r. Steps r c.loop-event.self.text c.args.maybe_more (c.in-Some.event ∷ []) c.next_event.new.self.text)
-    c.loop-event.invariant.rows (rw c.in-Some.is at c.in_ok-event.ensures.event) in
+    c.loop-event.invariant.protocol (rw c.in-Some.is at c.in_ok-event.ensures.event) in
     record {
-      rows = c.in_ok-event.ensures.rows ∙ c.loop-event.invariant.rows;
-      given = given_one_more g.F.FnMut rows c.args.maybe_more _ _ c.loop-event.self.text now c.in-Some.event
+      protocol = c.in_ok-event.ensures.protocol ∙ c.loop-event.invariant.protocol;
+      given = given_one_more g.F.FnMut protocol c.args.maybe_more _ _ c.loop-event.self.text now c.in-Some.event
           c.next_event.new.self.text next c.loop-event.invariant.given step c.callback.ensures;
-      callable = may_give_more g.F.FnMut rows c.args.maybe_more c.loop-event.self.text now c.in-Some.event
+      callable = may_give_more g.F.FnMut protocol c.args.maybe_more c.loop-event.self.text now c.in-Some.event
           c.next_event.new.self.text next c.loop-event.invariant.callable step c.callback.ensures;
     }

@@ -6,11 +6,11 @@ use Rattle.termwiz_input_extended.proofs.input.ExtendedParser.for_each_event.Giv
 
 abbrev pub invariant-loop-event : goal.invariant-loop-event
 invariant-loop-event g l = record {
-  rows : l.self.rows ≡ l.fn.self.rows;
+  protocol : l.self.protocol ≡ l.fn.self.protocol;
   given : (events : List ExtendedEvent)
-      × Steps l.fn.self.rows l.fn.self.text l.fn.maybe_more events l.self.text
+      × Steps l.fn.self.protocol l.fn.self.text l.fn.maybe_more events l.self.text
       × WasCalledOn (goal.F-step g) l.fn.callback events l.callback;
-  callable : (events : List ExtendedEvent) (rest : List ℕ) → Steps l.fn.self.rows l.self.text l.fn.maybe_more events rest
+  callable : (events : List ExtendedEvent) (rest : List ℕ) → Steps l.fn.self.protocol l.self.text l.fn.maybe_more events rest
       → MayBeCalledOn g.F.FnMut l.callback events;
 }
 

@@ -5,56 +5,56 @@ use Rattle.termwiz_extended_events.specs.KeyReports.{plain_report}
 use Rattle.termwiz_extended_events.specs.Meanings.{NeedsMemory, event_from, event_of}
 use Rattle.termwiz_extended_grammar.specs.ExtendedGrammar.{Steps}
 use Rattle.termwiz_input_extended.specs.Buffered.{Buffered}
-use Rattle.termwiz_input_extended.specs.ExtendedFronts.{IsExtraAt, IsPortsOwn}
+use Rattle.termwiz_input_extended.specs.NextItems.{IsExtraAt, IsPortsOwn}
 use Rattle.termwiz_input_extended.proofs.lemmas.fronts.EmittedItems.{emits_event, emits_refused}
 use Rattle.termwiz_input_extended.proofs.lemmas.fronts.FrontItems.{extra_refused, extra_step}
 use Rattle.termwiz_input_extended.proofs.input.ExtendedParser.next_form.Goals as goal
 
 pub returns-in-Some : goal.returns-in-Some
 returns-in-Some c =
-    let rows = ap (λ (b : Buffered). b.rows) c.self.view_is in
+    let protocol = ap (λ (b : Buffered). b.protocol) c.self.view_is in
     let u = c.args.self.now.text in
     let found =
-    subst (λ t. IsExtraAt c.self.inside.rows t c.args.len × (event_of (take c.args.len t) ≡ Key (plain_report c.in-Some.report)))
+    subst (λ t. IsExtraAt c.self.inside.protocol t c.args.len × (event_of (take c.args.len t) ≡ Key (plain_report c.in-Some.report)))
     c.waiting_text-text.ensures c.in-Some.ensures in
-    let is = subst (λ r. IsExtraAt r u c.args.len) rows found.0 in
+    let is = subst (λ r. IsExtraAt r u c.args.len) protocol found.0 in
     emits_event c.args.self.now _ c.args.maybe_more (Key c.whole.result)
-    (subst (λ t. Steps c.args.self.now.rows u c.args.maybe_more (Key c.whole.result ∷ []) t)
+    (subst (λ t. Steps c.args.self.now.protocol u c.args.maybe_more (Key c.whole.result ∷ []) t)
     (sym (ap (λ (b : Buffered). b.text) c.consume.ensures))
-    (extra_step c.args.self.now.rows u c.args.len _ c.args.maybe_more is.1 (Key c.whole.result)
+    (extra_step c.args.self.now.protocol u c.args.len _ c.args.maybe_more is.1 (Key c.whole.result)
     (ap (λ report. Key report) c.whole.ensures ∙ sym found.1)))
-    (ap (λ (b : Buffered). b.rows) c.consume.ensures)
+    (ap (λ (b : Buffered). b.protocol) c.consume.ensures)
 
 pub returns-in_err-event : goal.returns-in_err-event
 returns-in_err-event c =
-    let rows = ap (λ (b : Buffered). b.rows) c.self.view_is in
+    let protocol = ap (λ (b : Buffered). b.protocol) c.self.view_is in
     let u = c.args.self.now.text in
-    let is = subst (λ r. IsExtraAt r u c.args.len) rows
-    (subst (λ t. IsExtraAt c.self.inside.rows t c.args.len) c.waiting_text-text.ensures (c.is_extra_at.ensures.some c.if-not-is_extra_at.false)) in
+    let is = subst (λ r. IsExtraAt r u c.args.len) protocol
+    (subst (λ t. IsExtraAt c.self.inside.protocol t c.args.len) c.waiting_text-text.ensures (c.is_extra_at.ensures.some c.if-not-is_extra_at.false)) in
     let means = subst (λ t. event_from c.meaning_of-meaning.result ≡ Some (event_of (take c.args.len t))) c.waiting_text-text.ensures
     c.meaning_of-meaning.ensures in
     emits_refused c.args.self.now _ c.args.maybe_more _ c.from_residual.ensures.0
-    (extra_refused c.args.self.now.rows u c.args.len _ c.args.maybe_more is.1
+    (extra_refused c.args.self.now.protocol u c.args.len _ c.args.maybe_more is.1
     (subst (λ made. IfSome made NeedsMemory) means c.in_err-event.ensures.refused))
     refl
 
 pub returns : goal.returns
 returns c =
-    let rows = ap (λ (b : Buffered). b.rows) c.self.view_is in
+    let protocol = ap (λ (b : Buffered). b.protocol) c.self.view_is in
     let u = c.args.self.now.text in
     let event = c.in_ok-event.event in
-    let is = subst (λ r. IsExtraAt r u c.args.len) rows
-    (subst (λ t. IsExtraAt c.self.inside.rows t c.args.len) c.waiting_text-text.ensures (c.is_extra_at.ensures.some c.if-not-is_extra_at.false)) in
+    let is = subst (λ r. IsExtraAt r u c.args.len) protocol
+    (subst (λ t. IsExtraAt c.self.inside.protocol t c.args.len) c.waiting_text-text.ensures (c.is_extra_at.ensures.some c.if-not-is_extra_at.false)) in
     let means = subst (λ t. event_from c.meaning_of-meaning.result ≡ Some (event_of (take c.args.len t))) c.waiting_text-text.ensures
     c.meaning_of-meaning.ensures in
     emits_event c.args.self.now _ c.args.maybe_more event
-    (subst (λ t. Steps c.args.self.now.rows u c.args.maybe_more (event ∷ []) t) (sym (ap (λ (b : Buffered). b.text) c.consume-2.ensures))
-    (extra_step c.args.self.now.rows u c.args.len _ c.args.maybe_more is.1 event (cc (means, c.in_ok-event.ensures.ok))))
-    (ap (λ (b : Buffered). b.rows) c.consume-2.ensures)
+    (subst (λ t. Steps c.args.self.now.protocol u c.args.maybe_more (event ∷ []) t) (sym (ap (λ (b : Buffered). b.text) c.consume-2.ensures))
+    (extra_step c.args.self.now.protocol u c.args.len _ c.args.maybe_more is.1 event (cc (means, c.in_ok-event.ensures.ok))))
+    (ap (λ (b : Buffered). b.protocol) c.consume-2.ensures)
 
 pub next_of_port-requires : goal.next_of_port-requires
 next_of_port-requires c =
-    let rows = ap (λ (b : Buffered). b.rows) c.self.view_is in
-    subst (λ r. IsPortsOwn r c.args.self.now.text c.args.maybe_more) rows
-    (subst (λ t. IsPortsOwn c.self.inside.rows t c.args.maybe_more) c.waiting_text-text.ensures
+    let protocol = ap (λ (b : Buffered). b.protocol) c.self.view_is in
+    subst (λ r. IsPortsOwn r c.args.self.now.text c.args.maybe_more) protocol
+    (subst (λ t. IsPortsOwn c.self.inside.protocol t c.args.maybe_more) c.waiting_text-text.ensures
     (c.is_extra_at.ensures.none c.if-not-is_extra_at.true c.args.maybe_more))

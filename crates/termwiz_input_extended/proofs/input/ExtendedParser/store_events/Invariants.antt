@@ -4,8 +4,8 @@ use Rattle.termwiz_input_extended.proofs.input.ExtendedParser.store_events.Given
 
 abbrev pub invariant-loop : goal.invariant-loop
 invariant-loop l = record {
-  rows : l.self.rows ≡ l.fn.self.rows;
-  steps : Steps l.fn.self.rows l.fn.self.text l.maybe_more l.events.items l.self.text;
+  protocol : l.self.protocol ≡ l.fn.self.protocol;
+  steps : Steps l.fn.self.protocol l.fn.self.text l.maybe_more l.events.items l.self.text;
   few : length l.events.items + length l.self.text ≤ length l.fn.self.text;
 }
 

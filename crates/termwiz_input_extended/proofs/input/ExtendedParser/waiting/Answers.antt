@@ -7,5 +7,5 @@ use Rattle.termwiz_input_extended.proofs.input.ExtendedParser.waiting.Goals as g
 pub returns : goal.returns
 returns c =
     let text : c.self.inside.parser ≡ c.args.self.now.text = ap (λ (b : Buffered). b.text) c.self.view_is in
-    λ more rest. told_kind c.args.self.now.rows c.args.self.now.text more c.waiting.result
+    λ more rest. told_kind c.args.self.now.protocol c.args.self.now.text more c.waiting.result
     (subst (λ t. IsToldByBytes t c.waiting.result) text c.waiting.ensures.bytes) rest

@@ -1,0 +1,689 @@
+/* Key, mouse and paste events from the bytes that a terminal sends, and the bytes that it sends for a key. A map from byte strings to
+ * numbers, for key bindings.
+ *
+ *     hed_parser parser = HED_PARSER_NONE;
+ *     hed_event event;
+ *     if (!hed_parser_init(&parser)) ...                        // no memory
+ *     for (;;) {
+ *       int ms = hed_parser_waiting(&parser) == HED_WAITING_ESCAPE ? 50 : -1;
+ *       if (poll(&keyboard, 1, ms) == 0) {                     // nothing followed the ESC
+ *         if (hed_parser_flush_escape(&parser, &event) == HED_NEXT_EVENT) ...
+ *         continue;
+ *       }
+ *       if ((n = read(0, bytes, sizeof bytes)) <= 0) break;
+ *       if (!hed_parser_feed(&parser, bytes, n)) ...            // no memory: none of the bytes is buffered
+ *       while (hed_parser_next(&parser, true, &event) == HED_NEXT_EVENT) ...
+ *     }
+ *     while (hed_parser_next(&parser, false, &event) == HED_NEXT_EVENT) ...
+ *     hed_parser_free(&parser);
+ *
+ * hed_parser_feed buffers bytes, and hed_parser_next emits events, one at a time. However the bytes are cut into calls, the events are
+ * the same. An ESC stays buffered, since it may begin a sequence: only a pause tells that it is the Escape key.
+ *
+ * The bodies of the calls are proved. The duties of a caller are not checked:
+ *
+ * - A pointer of length 0 may be NULL. Every other pointer must be non-null.
+ * - Two pointers of one call must not lead to the same memory, but for a table that parsers share. Each leads to as much as its type or
+ *   length says.
+ * - A hed_parser, a hed_extended and a hed_keymap are all zero (HED_PARSER_NONE, HED_EXTENDED_NONE, HED_KEYMAP_NONE) or as a call of this
+ *   library left them.
+ * - Any thread may call, but no two calls on the same parser or the same map may run at the same time, not even two that only read.
+ *   Parsers that share a table are different parsers.
+ * - A parser or a map that one thread has used may be used by another once the two are ordered, as by a lock or by a join.
+ * - No call is made in a signal handler nor, if the program has threads, in a forked child before it calls exec: the calls ask malloc.
+ * - A bool is false or true.
+ *
+ * The caller owns all memory that it passes. The library keeps no pointer to it, and reads and writes nothing else of the caller's. A call
+ * with a const pointer to a parser or a map changes neither the struct nor what it leads to, but for the number of parsers that share its
+ * table. What a parser or a map owns it gets from malloc and realloc, and hed_parser_free, hed_extended_free or hed_keymap_free frees it. That
+ * what it owns may pass from thread to thread is proved.
+ *
+ * The library is built for Linux on x86-64, and so are its layouts: for anything else this header doesn't compile. The numbers are those
+ * of c/numbers.txt, and a number never changes its meaning. */
+#ifndef HEDRUGAL_H
+#define HEDRUGAL_H
+
+#if !defined(__linux__) || !defined(__x86_64__) || defined(__ILP32__)
+#error "hedrugal.h: the library is built for Linux on x86-64 with 64-bit pointers alone, and this compiler builds for something else"
+#endif
+
+#include <stdbool.h>
+#include <stddef.h>
+#include <stdint.h>
+
+/* The version of this header, and of the library that lies beside it. The first number is also in the name by which programs ask for the
+ * shared library, libhedrugal.so.0. */
+#define HED_VERSION_MAJOR 0
+#define HED_VERSION_MINOR 1
+#define HED_VERSION_PATCH 0
+#define HED_VERSION "0.1.0"
+
+/* The version in one number, which grows with it. hed_version returns that of the library. */
+#define HED_VERSION_NUMBER (HED_VERSION_MAJOR * 65536 + HED_VERSION_MINOR * 256 + HED_VERSION_PATCH)
+
+#ifdef __cplusplus
+extern "C" {
+#endif
+
+/* A parser, or none. Its fields are the library's. It may be moved, as by memcpy, and is then used at its new place alone: of two
+ * copies only one may ever be used, and only one freed. */
+typedef struct hed_parser {
+  bool live;
+  void *state;
+} hed_parser;
+
+/* The value of a hed_parser that is none. */
+#define HED_PARSER_NONE { false, NULL }
+
+/* The kinds of events: the field kind of a hed_event. */
+enum hed_kind {
+  /* numbers.txt: kind c */
+  HED_KIND_OTHER = 0, /* None of these. No event has this kind. */
+  HED_KIND_KEY = 1, /* A key was pressed. */
+  HED_KIND_MOUSE = 2, /* The mouse was moved, one of its buttons was pressed or released, or a wheel was turned. */
+  HED_KIND_PASTE = 3 /* Text was pasted, in bracketed paste mode. */
+  /* numbers.txt: end */
+};
+
+/* An event. What its kind has no use for is 0. */
+typedef struct hed_event {
+  uint8_t kind;       /* an enum hed_kind */
+  uint8_t buttons;    /* HED_KIND_MOUSE: a set of HED_BUTTON_.., empty after a release and for a move with no button down */
+  uint16_t modifiers; /* HED_KIND_KEY, HED_KIND_MOUSE: a set of HED_TERMWIZ_MOD_.. */
+  uint16_t key;       /* HED_KIND_KEY: an enum hed_key */
+  uint16_t x;         /* HED_KIND_MOUSE: the column, as the terminal sent it: the leftmost is 1 */
+  uint16_t y;         /* HED_KIND_MOUSE: the row, as the terminal sent it: the topmost is 1 */
+  uint32_t detail;    /* HED_KIND_KEY: the code point with HED_KEY_CHAR, the number with HED_KEY_FUNCTION (1 for F1) */
+  size_t paste_len;   /* HED_KIND_PASTE: the number of bytes of the text, which hed_parser_paste copies */
+} hed_event;
+
+/* What hed_parser_next, hed_parser_flush_escape and hed_parser_end_paste return. */
+enum hed_next {
+  /* numbers.txt: next c */
+  HED_NEXT_NONE = 0, /* There is no such event. Nothing changed. */
+  HED_NEXT_EVENT = 1, /* An event was written, and its bytes were consumed. */
+  HED_NEXT_NO_MEMORY = 2, /* Memory was refused. Nothing changed, and the call may be made again. */
+  HED_NEXT_NO_PARSER = 3 /* There is no parser: it wasn't made yet, or it was freed. */
+  /* numbers.txt: end */
+};
+
+/* Makes a parser with an empty buffer. If there was one, it is freed. The caller owes a hed_parser_free.
+ *
+ * A parser takes some half a millisecond to make, and some 160 KB, most of it a table of sequences. So make one and keep it:
+ * hed_parser_reset empties its buffer, and further parsers share its table by hed_parser_init_sharing.
+ *
+ * Returns false if memory is refused: then the parser is unchanged. */
+bool hed_parser_init(hed_parser *parser);
+
+/* Makes a parser with an empty buffer that shares the table of another. If there was one, it is freed. The caller owes a hed_parser_free.
+ *
+ * It is for programs with many sessions, such as a server: make one parser by hed_parser_init, and the others from that one or from each
+ * other. Each takes some hundred bytes beside its buffer. The table is freed with the last parser that has it, in whatever order they are
+ * freed. Threads may make parsers of one idle parser, but one at a time: this is a call on the other parser too.
+ *
+ * Returns false if memory is refused or there is no other parser. Then the parser is unchanged. The other is unchanged in any case. */
+bool hed_parser_init_sharing(hed_parser *parser, const hed_parser *other);
+
+/* Frees what the parser owns, and leaves HED_PARSER_NONE. If there is no parser, it does nothing, so it may be called twice. */
+void hed_parser_free(hed_parser *parser);
+
+/* Appends len bytes to the buffer. They are copied.
+ *
+ * Returns false if memory is refused: then none of them is buffered, and the call may be made again. It also returns false if there is
+ * no parser. A call without bytes needs no memory. */
+bool hed_parser_feed(hed_parser *parser, const uint8_t *bytes, size_t len);
+
+/* Consumes the item at the front of the buffer, and writes its event to *event. The caller calls this until it returns HED_NEXT_NONE.
+ *
+ * Pass more as true while more bytes may come: then bytes that may still become a longer sequence or a character, such as a lone ESC,
+ * stay buffered. After a pause call hed_parser_flush_escape instead. Pass more as false at the end of the input: then only an open paste
+ * stays. Before the end this breaks a sequence or a character of which the rest is still to come.
+ *
+ * Returns an enum hed_next. *event is written only with HED_NEXT_EVENT. With HED_NEXT_NO_MEMORY, which only a paste can meet, nothing changed. */
+uint32_t hed_parser_next(hed_parser *parser, bool more, hed_event *event);
+
+/* Copies the text of the last HED_KIND_PASTE to out, at most len bytes of it. The text is UTF-8 without a final 0. The rest of out is
+ * unchanged.
+ *
+ * Returns the number of bytes of the whole text, as paste_len has it, so a caller whose room was short can call again: the parser keeps
+ * the text until the next HED_KIND_PASTE or hed_parser_drop_paste. Returns 0 if there is no such text, or if there is no parser. */
+size_t hed_parser_paste(const hed_parser *parser, uint8_t *out, size_t len);
+
+/* Frees the text of the last HED_KIND_PASTE: hed_parser_paste returns 0 until the next. The caller calls it once it has copied a text that is
+ * too long to be kept. If there is no text or no parser, it does nothing. */
+void hed_parser_drop_paste(hed_parser *parser);
+
+/* Frees memory that holds nothing, of the buffer and of the text of the last HED_KIND_PASTE. The buffer keeps its room for min_capacity bytes, if
+ * it has that. What is buffered, that text and all later events are unchanged. A session that is quiet after a long paste calls
+ * hed_parser_drop_paste, and this with 0. If the smaller memory is refused, the larger is kept. If there is no parser, it does nothing. */
+void hed_parser_shrink_to(hed_parser *parser, size_t min_capacity);
+
+/* Returns the number of bytes that are buffered, 0 if there is no parser. */
+size_t hed_parser_waiting_len(const hed_parser *parser);
+
+/* What stays buffered, as hed_parser_waiting returns it. */
+enum hed_waiting {
+  /* numbers.txt: waiting c */
+  HED_WAITING_NOTHING = 0, /* Nothing is buffered. */
+  HED_WAITING_ESCAPE = 1, /* ESC, or ESC ESC: the Escape key, alone or with Alt, unless more bytes follow. */
+  HED_WAITING_SEQUENCE = 2, /* A longer prefix of a sequence, after an ESC or not. */
+  HED_WAITING_CHARACTER = 3, /* A prefix of a character in UTF-8, after an ESC or not. */
+  HED_WAITING_PASTE = 4 /* An open paste: its start, and its text so far. */
+  /* numbers.txt: end */
+};
+
+/* Returns what stays buffered, an enum hed_waiting. The caller calls it after HED_NEXT_NONE: before that, events may still be next.
+ *
+ * It says what a pause means. After some 50 ms with HED_WAITING_ESCAPE call hed_parser_flush_escape. HED_WAITING_SEQUENCE may be half of a
+ * sequence on a slow line: flush it after a much longer pause, say 1000 ms, or never. Never flush the other two.
+ *
+ * Returns HED_WAITING_NOTHING if there is no parser. */
+uint32_t hed_parser_waiting(const hed_parser *parser);
+
+/* Writes the Escape key to *event if ESC alone is buffered, with HED_TERMWIZ_MOD_ALT if ESC ESC is, and consumes it. The caller calls it when
+ * some 50 ms have passed without a byte. Whatever else is buffered stays, so a pause breaks only what is cut right after its ESC or
+ * ESC ESC: a sequence, the start of a paste, or a key with Alt.
+ *
+ * Returns HED_NEXT_EVENT, HED_NEXT_NONE if anything else or nothing is buffered, or HED_NEXT_NO_PARSER. *event is written only with HED_NEXT_EVENT. */
+uint32_t hed_parser_flush_escape(hed_parser *parser, hed_event *event);
+
+/* Returns whether the buffer begins with the start of a paste. Such a paste is buffered without limit until its end arrives: a caller
+ * with a limit, say 1 MB, calls hed_parser_end_paste once hed_parser_waiting_len is above it. Returns false if there is no parser. */
+bool hed_parser_is_paste_open(const hed_parser *parser);
+
+/* Ends an open paste where it is: writes a HED_KIND_PASTE to *event, whose text is what came so far, and consumes the whole buffer.
+ * hed_parser_paste copies the text. The rest of the paste then arrives as typed keys, Enter included, and its end as
+ * HED_KEY_INTERNAL_PASTE_END; if the text ended inside that, the rest of it is typed keys too.
+ *
+ * Returns HED_NEXT_EVENT, HED_NEXT_NONE if no paste is open, HED_NEXT_NO_MEMORY, or HED_NEXT_NO_PARSER. *event is written only with HED_NEXT_EVENT. With HED_NEXT_NO_MEMORY
+ * nothing changed, and the call may be made again. */
+uint32_t hed_parser_end_paste(hed_parser *parser, hed_event *event);
+
+/* Forgets all that is buffered, an open paste too: the next byte that is fed comes first. The caller calls it where earlier bytes no
+ * longer count, as after another program had the terminal. The text of the last HED_KIND_PASTE is kept, and no memory is freed.
+ *
+ * Returns the number of bytes that were buffered, 0 if there is no parser. */
+size_t hed_parser_reset(hed_parser *parser);
+
+/* The modifier keys, as bits of a set: the field modifiers of a hed_event, and what hed_encode is given. */
+enum hed_termwiz_mod {
+  /* numbers.txt: modifier c */
+  HED_TERMWIZ_MOD_NONE = 0, /* No modifier. */
+  HED_TERMWIZ_MOD_SHIFT = 2, /* Shift. */
+  HED_TERMWIZ_MOD_ALT = 4, /* Alt. */
+  HED_TERMWIZ_MOD_CTRL = 8, /* Ctrl. */
+  HED_TERMWIZ_MOD_SUPER = 16, /* Super: the key with the Windows logo, or Command. */
+  HED_TERMWIZ_MOD_LEFT_ALT = 32, /* The left Alt key. */
+  HED_TERMWIZ_MOD_RIGHT_ALT = 64, /* The right Alt key. */
+  HED_TERMWIZ_MOD_LEADER = 128, /* A leader key, for programs that define one. */
+  HED_TERMWIZ_MOD_LEFT_CTRL = 256, /* The left Ctrl key. */
+  HED_TERMWIZ_MOD_RIGHT_CTRL = 512, /* The right Ctrl key. */
+  HED_TERMWIZ_MOD_LEFT_SHIFT = 1024, /* The left Shift key. */
+  HED_TERMWIZ_MOD_RIGHT_SHIFT = 2048 /* The right Shift key. */
+  /* numbers.txt: end */
+};
+
+/* The buttons and wheels of the mouse, as bits of a set: the field buttons of a hed_event. */
+enum hed_button {
+  /* numbers.txt: button c */
+  HED_BUTTON_NONE = 0, /* No button and no wheel. */
+  HED_BUTTON_LEFT = 2, /* The left button. */
+  HED_BUTTON_RIGHT = 4, /* The right button. */
+  HED_BUTTON_MIDDLE = 8, /* The middle button. */
+  HED_BUTTON_VERT_WHEEL = 16, /* The wheel that scrolls up and down. It was turned up if WHEEL_POSITIVE is set too, and down if not. */
+  HED_BUTTON_HORZ_WHEEL = 32, /* The wheel that scrolls to the sides. It was turned left if WHEEL_POSITIVE is set too, and right if not. */
+  HED_BUTTON_WHEEL_POSITIVE = 64 /* Set with a wheel that was turned up or left. */
+  /* numbers.txt: end */
+};
+
+/* The keys, in the order of termwiz's KeyCode: the field key of a hed_event, and what hed_key_name and hed_encode are given. */
+enum hed_key {
+  /* numbers.txt: key c */
+  HED_KEY_CHAR = 1, /* A key that types a character: `A` is what Shift-A types, and Ctrl-C is `c` with CTRL. */
+  HED_KEY_HYPER = 2, /* Hyper, a modifier key. */
+  HED_KEY_SUPER = 3, /* Super, a modifier key: on most keyboards the one with the Windows logo, or Command. */
+  HED_KEY_META = 4, /* Meta, a modifier key. The key that is labelled Alt is `Alt`. */
+  HED_KEY_CANCEL = 5, /* Cancel, which on PC keyboards is Ctrl-Break. */
+  HED_KEY_BACKSPACE = 6, /* Backspace, which deletes the character before the cursor. */
+  HED_KEY_TAB = 7, /* Tab. Shift-Tab is this key with SHIFT. */
+  HED_KEY_CLEAR = 8, /* Clear, which on PC keyboards is the 5 of the keypad while Num Lock is off. */
+  HED_KEY_ENTER = 9, /* Enter, also called Return. */
+  HED_KEY_SHIFT = 10, /* Shift, where it isn't known which of the two. */
+  HED_KEY_ESCAPE = 11, /* Escape. */
+  HED_KEY_LEFT_SHIFT = 12, /* The left Shift key. */
+  HED_KEY_RIGHT_SHIFT = 13, /* The right Shift key. */
+  HED_KEY_CONTROL = 14, /* Ctrl, where it isn't known which of the two. */
+  HED_KEY_LEFT_CONTROL = 15, /* The left Ctrl key. */
+  HED_KEY_RIGHT_CONTROL = 16, /* The right Ctrl key. */
+  HED_KEY_ALT = 17, /* Alt, or Option, where it isn't known which of the two. */
+  HED_KEY_LEFT_ALT = 18, /* The left Alt key. */
+  HED_KEY_RIGHT_ALT = 19, /* The right Alt key, also called AltGr. */
+  HED_KEY_MENU = 20, /* Menu, Windows' name for Alt (`VK_MENU`). The key that opens a context menu is `Applications`. */
+  HED_KEY_LEFT_MENU = 21, /* Windows' name for the left Alt key (`VK_LMENU`). */
+  HED_KEY_RIGHT_MENU = 22, /* Windows' name for the right Alt key (`VK_RMENU`). */
+  HED_KEY_PAUSE = 23, /* Pause. */
+  HED_KEY_CAPS_LOCK = 24, /* Caps Lock. */
+  HED_KEY_PAGE_UP = 25, /* Page Up. */
+  HED_KEY_PAGE_DOWN = 26, /* Page Down. */
+  HED_KEY_END = 27, /* End. */
+  HED_KEY_HOME = 28, /* Home. */
+  HED_KEY_LEFT_ARROW = 29, /* The left arrow key. */
+  HED_KEY_RIGHT_ARROW = 30, /* The right arrow key. */
+  HED_KEY_UP_ARROW = 31, /* The up arrow key. */
+  HED_KEY_DOWN_ARROW = 32, /* The down arrow key. */
+  HED_KEY_SELECT = 33, /* Select, as on the VT220's editing keypad. */
+  HED_KEY_PRINT = 34, /* Print (`VK_PRINT`), which few keyboards have. It isn't `PrintScreen`. */
+  HED_KEY_EXECUTE = 35, /* Execute (`VK_EXECUTE`), which few keyboards have. */
+  HED_KEY_PRINT_SCREEN = 36, /* Print Screen. */
+  HED_KEY_INSERT = 37, /* Insert. */
+  HED_KEY_DELETE = 38, /* Delete, which deletes the character at the cursor. */
+  HED_KEY_HELP = 39, /* Help. */
+  HED_KEY_LEFT_WINDOWS = 40, /* The left key with the Windows logo. */
+  HED_KEY_RIGHT_WINDOWS = 41, /* The right key with the Windows logo. */
+  HED_KEY_APPLICATIONS = 42, /* The Applications key, which opens a context menu. */
+  HED_KEY_SLEEP = 43, /* Sleep, which suspends the computer. */
+  HED_KEY_NUMPAD_0 = 44, /* The 0 of the numeric keypad, while Num Lock is on. */
+  HED_KEY_NUMPAD_1 = 45, /* The 1 of the numeric keypad, while Num Lock is on. */
+  HED_KEY_NUMPAD_2 = 46, /* The 2 of the numeric keypad, while Num Lock is on. */
+  HED_KEY_NUMPAD_3 = 47, /* The 3 of the numeric keypad, while Num Lock is on. */
+  HED_KEY_NUMPAD_4 = 48, /* The 4 of the numeric keypad, while Num Lock is on. */
+  HED_KEY_NUMPAD_5 = 49, /* The 5 of the numeric keypad, while Num Lock is on. */
+  HED_KEY_NUMPAD_6 = 50, /* The 6 of the numeric keypad, while Num Lock is on. */
+  HED_KEY_NUMPAD_7 = 51, /* The 7 of the numeric keypad, while Num Lock is on. */
+  HED_KEY_NUMPAD_8 = 52, /* The 8 of the numeric keypad, while Num Lock is on. */
+  HED_KEY_NUMPAD_9 = 53, /* The 9 of the numeric keypad, while Num Lock is on. */
+  HED_KEY_MULTIPLY = 54, /* The `*` of the numeric keypad. */
+  HED_KEY_ADD = 55, /* The `+` of the numeric keypad. */
+  HED_KEY_SEPARATOR = 56, /* The thousands separator of the numeric keypad, on keyboards that have one. */
+  HED_KEY_SUBTRACT = 57, /* The `-` of the numeric keypad. */
+  HED_KEY_DECIMAL = 58, /* The decimal point of the numeric keypad. */
+  HED_KEY_DIVIDE = 59, /* The `/` of the numeric keypad. */
+  HED_KEY_FUNCTION = 60, /* A function key, by its number: F1 has the number 1. */
+  HED_KEY_NUM_LOCK = 61, /* Num Lock. */
+  HED_KEY_SCROLL_LOCK = 62, /* Scroll Lock. */
+  HED_KEY_COPY = 63, /* A key of its own for copying. */
+  HED_KEY_CUT = 64, /* A key of its own for cutting. */
+  HED_KEY_PASTE = 65, /* A key of its own for pasting. Text that was pasted comes as an event of its own kind. */
+  HED_KEY_BROWSER_BACK = 66, /* Back, for a web browser. */
+  HED_KEY_BROWSER_FORWARD = 67, /* Forward, for a web browser. */
+  HED_KEY_BROWSER_REFRESH = 68, /* Refresh, for a web browser. */
+  HED_KEY_BROWSER_STOP = 69, /* Stop loading, for a web browser. */
+  HED_KEY_BROWSER_SEARCH = 70, /* Search, for a web browser. */
+  HED_KEY_BROWSER_FAVORITES = 71, /* Favorites, for a web browser. */
+  HED_KEY_BROWSER_HOME = 72, /* Home page, for a web browser. */
+  HED_KEY_VOLUME_MUTE = 73, /* Mute the sound. */
+  HED_KEY_VOLUME_DOWN = 74, /* Turn the volume down. */
+  HED_KEY_VOLUME_UP = 75, /* Turn the volume up. */
+  HED_KEY_MEDIA_NEXT_TRACK = 76, /* Skip to the next track. */
+  HED_KEY_MEDIA_PREV_TRACK = 77, /* Skip to the previous track. */
+  HED_KEY_MEDIA_STOP = 78, /* Stop playing. */
+  HED_KEY_MEDIA_PLAY_PAUSE = 79, /* Play, or pause. */
+  HED_KEY_APPLICATION_LEFT_ARROW = 80, /* The left arrow key while the terminal is in application cursor mode (DECCKM). */
+  HED_KEY_APPLICATION_RIGHT_ARROW = 81, /* The right arrow key in application cursor mode. */
+  HED_KEY_APPLICATION_UP_ARROW = 82, /* The up arrow key in application cursor mode. */
+  HED_KEY_APPLICATION_DOWN_ARROW = 83, /* The down arrow key in application cursor mode. */
+  HED_KEY_KEY_PAD_HOME = 84, /* Home on the numeric keypad: the 7 while Num Lock is off. */
+  HED_KEY_KEY_PAD_END = 85, /* End on the numeric keypad: the 1 while Num Lock is off. */
+  HED_KEY_KEY_PAD_PAGE_UP = 86, /* Page Up on the numeric keypad: the 9 while Num Lock is off. */
+  HED_KEY_KEY_PAD_PAGE_DOWN = 87, /* Page Down on the numeric keypad: the 3 while Num Lock is off. */
+  HED_KEY_KEY_PAD_BEGIN = 88, /* Begin on the numeric keypad: the 5 while Num Lock is off. */
+  HED_KEY_INTERNAL_PASTE_START = 89, /* The start of a bracketed paste. No event carries it: the paste comes as one event. */
+  HED_KEY_INTERNAL_PASTE_END = 90 /* The end of a bracketed paste, where none was started. */
+  /* numbers.txt: end */
+};
+
+/* Copies the name of a key to out, at most len bytes of it: "LeftArrow" for HED_KEY_LEFT_ARROW, "Char" for HED_KEY_CHAR. If a byte more
+ * fits, a final 0 follows, so with 22 bytes every name is a string. The rest of out is unchanged.
+ *
+ * Returns the number of bytes of the whole name without the 0, at most 21. For a number that is no key's it returns 0, and out is
+ * unchanged. */
+size_t hed_key_name(uint16_t key, uint8_t *out, size_t len);
+
+/* The encodings of keys: the field encoding of a hed_modes. */
+enum hed_encoding {
+  /* numbers.txt: encoding c */
+  HED_ENCODING_XTERM = 0, /* The characters themselves, and xterm's control sequences. */
+  HED_ENCODING_CSI_U = 1, /* The same, but a character with modifiers that it can't show is sent as ESC [ c ; m u (fixterms). */
+  HED_ENCODING_WIN32 = 2, /* Records of the Windows console. Keys are encoded as with XTERM. */
+  HED_ENCODING_KITTY = 3 /* kitty's keyboard protocol. Keys are encoded as with XTERM. */
+  /* numbers.txt: end */
+};
+
+/* The flags of kitty's keyboard protocol, as bits of a set: the field kitty_flags of a hed_modes, and what hed_encode_kitty is given. */
+enum hed_kitty_flag {
+  /* numbers.txt: kitty c */
+  HED_KITTY_FLAG_NONE = 0, /* Nothing is asked for. */
+  HED_KITTY_FLAG_DISAMBIGUATE_ESCAPE_CODES = 1, /* Keys whose plain text is ambiguous, as that of Escape, are reported as escape codes. */
+  HED_KITTY_FLAG_REPORT_EVENT_TYPES = 2, /* Repeats and releases of a key are reported, and not presses alone. */
+  HED_KITTY_FLAG_REPORT_ALTERNATE_KEYS = 4, /* A key is reported with its shifted code and with its code on the standard layout. */
+  HED_KITTY_FLAG_REPORT_ALL_KEYS_AS_ESCAPE_CODES = 8, /* Keys that make text are reported as escape codes too. */
+  HED_KITTY_FLAG_REPORT_ASSOCIATED_TEXT = 16 /* A key that makes text is reported with that text. */
+  /* numbers.txt: end */
+};
+
+/* The modes of a terminal that change the text of a key. All zero is xterm with every mode off. */
+typedef struct hed_modes {
+  int64_t modify_other_keys;    /* the level of xterm's modifyOtherKeys; not read if has_modify_other_keys is false */
+  uint8_t encoding;             /* an enum hed_encoding */
+  uint8_t kitty_flags;          /* a set of HED_KITTY_..; read only with HED_ENCODING_KITTY */
+  bool application_cursor_keys; /* the arrows, Home and End send ESC O in place of ESC [ (DECCKM) */
+  bool newline_mode;            /* Enter sends a line feed after the carriage return (LNM) */
+  bool has_modify_other_keys;   /* modifyOtherKeys is on, at the level above */
+} hed_modes;
+
+/* What hed_encode and hed_encode_kitty return. */
+enum hed_encoded {
+  /* numbers.txt: encoded c */
+  HED_ENCODED_TEXT = 0, /* The key's text, which may be empty. */
+  HED_ENCODED_REFUSED_KEY = 1, /* The key has no text. Of hed_encode it is a function key, since only F1 to F24 have one. */
+  HED_ENCODED_REFUSED_MEMORY = 2, /* Memory was refused. The call may be made again. */
+  HED_ENCODED_BAD_NUMBER = 3, /* A number names nothing. */
+  HED_ENCODED_TOO_LONG = 4, /* The key's sequence would have more than 256 bytes. Only a key report with a long text has such a one. */
+  HED_ENCODED_BAD_TEXT = 5 /* The text of the key report isn't UTF-8. */
+  /* numbers.txt: end */
+};
+
+/* Writes the text that a terminal in these modes sends for a key to out, and its length to *text_len. The text is UTF-8
+ * without a final 0. It is empty for a key that sends nothing, and for every key that is up (is_down is false), which needs no memory.
+ *
+ * The key is an enum hed_key. detail is its code point if it is HED_KEY_CHAR, its number if it is HED_KEY_FUNCTION, and isn't read for other
+ * keys. modifiers is a set of HED_TERMWIZ_MOD_...
+ *
+ * Returns an enum hed_encoded. With HED_ENCODED_TEXT *text_len is the length of the whole text, and out has as much of it as len bytes hold: if
+ * *text_len is above len, call again with more room. The rest of out is unchanged. Otherwise *text_len is 0 and out is unchanged:
+ * HED_ENCODED_REFUSED_KEY for a function key, down, that isn't one of F1 to F24; HED_ENCODED_REFUSED_MEMORY if memory was refused; HED_ENCODED_BAD_NUMBER if no key has
+ * the number, if detail is no Unicode scalar value or above 255, or if modifiers, encoding or (with HED_ENCODING_KITTY) kitty_flags have a value
+ * or a bit without a name. */
+uint32_t hed_encode(uint16_t key, uint32_t detail, uint16_t modifiers, bool is_down, const hed_modes *modes, uint8_t *out, size_t len,
+                   size_t *text_len);
+
+/* The sequence table, which each parser has: the rows are in the order of their bytes, and the first place is 0. */
+#define HED_ENTRY_COUNT 2937 /* how many rows there are */
+#define HED_ENTRY_MOST 11    /* the length of the longest */
+
+/* Tells the row at a place: the bytes of a sequence, and its key. Writes as many of the bytes as capacity says, and the key to *event, a
+ * HED_KIND_KEY. The start and the end of a paste are rows too, with the keys HED_KEY_INTERNAL_PASTE_START and HED_KEY_INTERNAL_PASTE_END.
+ *
+ * Returns how many bytes the row has, 0 if place isn't below HED_ENTRY_COUNT or there is no parser; then nothing is written. The parser is
+ * unchanged, and no memory is needed. */
+size_t hed_parser_entry(const hed_parser *parser, size_t place, uint8_t *bytes, size_t capacity, hed_event *event);
+
+/* Some rows of the table, one after another. */
+typedef struct hed_entries {
+  size_t first;  /* the place of the first */
+  size_t count;  /* how many there are */
+  bool with_alt; /* whether their keys get HED_TERMWIZ_MOD_ALT */
+} hed_entries;
+
+/* Tells which rows would complete what stays buffered: those that begin with it and are longer. If there are none, those that begin with
+ * what follows its ESC, and with_alt is true. Ask while hed_parser_waiting is HED_WAITING_ESCAPE or HED_WAITING_SEQUENCE. A mouse
+ * report and a character aren't rows, and after an ESC any character follows as a key with HED_TERMWIZ_MOD_ALT. Only the start of a paste gets no
+ * modifier after ESC: that ESC is the Escape key.
+ *
+ * Returns false if there is no parser, and *rows isn't written. The parser is unchanged, and no memory is needed. */
+bool hed_parser_completions(const hed_parser *parser, hed_entries *rows);
+
+/* A map from byte strings to numbers, or none. Its fields are the library's, and it may be moved as a hed_parser may. A program keeps its
+ * key bindings in one: the bytes of each, and the number of what it does. */
+typedef struct hed_keymap {
+  bool live;
+  void *state;
+} hed_keymap;
+
+/* The value of a hed_keymap that is none. */
+#define HED_KEYMAP_NONE { false, NULL }
+
+/* A key that hed_keymap_lookup found. */
+typedef struct hed_match {
+  size_t len;     /* the number of its bytes */
+  uint64_t value; /* its value */
+} hed_match;
+
+/* What hed_keymap_lookup returns. */
+enum hed_found {
+  /* numbers.txt: found c */
+  HED_FOUND_NONE = 0, /* No key is a prefix of the text, and the text is a prefix of no key. */
+  HED_FOUND_EXACT = 1, /* The longest key that is a prefix of the text was written to *match. */
+  HED_FOUND_AMBIGUOUS = 2, /* The same, but more may follow, and the text is a prefix of a longer key too. */
+  HED_FOUND_NEED_DATA = 3, /* No key is a prefix of the text, but the text is a prefix of some key. */
+  HED_FOUND_NO_MAP = 4 /* There is no map: it wasn't made yet, or it was freed. */
+  /* numbers.txt: end */
+};
+
+/* Makes an empty map. If there was one, it is freed. The caller owes a hed_keymap_free.
+ *
+ * Returns false if memory is refused: then the map is unchanged. */
+bool hed_keymap_init(hed_keymap *map);
+
+/* Frees what the map owns, and leaves HED_KEYMAP_NONE. If there is no map, it does nothing, so it may be called twice. */
+void hed_keymap_free(hed_keymap *map);
+
+/* Sets the value of the key that has these len bytes, in place of the one that it has, if any. The bytes are copied. The empty key is a
+ * key like any other, and is a prefix of every text.
+ *
+ * Returns false if memory is refused: then the map is unchanged, and the call may be made again. It also returns false if there is no
+ * map. */
+bool hed_keymap_insert(hed_keymap *map, const uint8_t *key, size_t len, uint64_t value);
+
+/* Finds the longest key that is a prefix of a text of len bytes. Pass maybe_more as true while more of the text may come. The caller of
+ * a HED_FOUND_EXACT consumes as many bytes as match->len says, and looks up the rest.
+ *
+ * Returns an enum hed_found. *match is written only with HED_FOUND_EXACT and HED_FOUND_AMBIGUOUS. Without maybe_more the longest key is
+ * always HED_FOUND_EXACT. The map is unchanged, and no memory is needed. */
+uint32_t hed_keymap_lookup(const hed_keymap *map, const uint8_t *text, size_t len, bool maybe_more, hed_match *match);
+
+/* Returns the number of keys, 0 if there is no map. */
+size_t hed_keymap_len(const hed_keymap *map);
+
+/* The extended parser, or none. It reads what a hed_parser reads, and what terminals send beyond the sequence table: replies to questions,
+ * focus reports, other mouse reports, control sequences and strings, and Kitty's keyboard protocol. docs/EXTENDED.md says what bytes mean
+ * to it. A program makes it in place of a hed_parser and calls it in the same way. It may be moved as a hed_parser may. */
+typedef struct hed_extended {
+  bool live;
+  void *state;
+} hed_extended;
+
+/* The value of a hed_extended that is none. */
+#define HED_EXTENDED_NONE { false, NULL }
+
+/* How the rows of the sequence table are read: what hed_extended_init is given. */
+enum hed_protocol {
+  /* numbers.txt: rows c */
+  HED_PROTOCOL_LEGACY = 0, /* Each row keeps its key. For programs that leave Kitty's keyboard protocol off. */
+  HED_PROTOCOL_KITTY = 1 /* A row that reports a key or the cursor's position is read as that report. For programs that turn the protocol on. */
+  /* numbers.txt: end */
+};
+
+/* The kinds of events of the extended parser: the field kind of a hed_extended_event. The first four are those of enum hed_kind. */
+enum hed_kind {
+  /* numbers.txt: event c */
+  HED_KIND_OTHER = 0, /* None of these. No event has this kind. */
+  HED_KIND_KEY = 1, /* A key was pressed: a row of the sequence table, or a character. */
+  HED_KIND_MOUSE = 2, /* The mouse was moved, one of its buttons was pressed or released, or a wheel was turned. */
+  HED_KIND_PASTE = 3, /* Text was pasted, in bracketed paste mode. */
+  HED_KIND_REPORT = 4, /* A key report: a key was pressed, held down or released. */
+  HED_KIND_FOCUS_GAINED = 5, /* The terminal's window gained the focus (mode 1004). */
+  HED_KIND_FOCUS_LOST = 6, /* The terminal's window lost the focus. */
+  HED_KIND_CURSOR_POSITION = 7, /* The reply to a question for the cursor's position. */
+  HED_KIND_RESIZE = 8, /* The terminal has a new size (mode 2048). */
+  HED_KIND_KEYBOARD_FLAGS = 9, /* The reply to a question for the flags of Kitty's keyboard protocol. */
+  HED_KIND_CSI = 10, /* Any other control sequence. */
+  HED_KIND_OSC = 11, /* An operating system command, such as the reply to a question for a colour. */
+  HED_KIND_DCS = 12, /* A device control string, such as the reply to a question for the terminal's name and version. */
+  HED_KIND_APC = 13 /* An application program command, such as a reply of Kitty's graphics protocol. */
+  /* numbers.txt: end */
+};
+
+/* What happened to a key: the field action of a hed_key_report. */
+enum hed_key_event_kind {
+  /* numbers.txt: action c */
+  HED_KEY_EVENT_KIND_PRESS = 1, /* It was pressed. */
+  HED_KEY_EVENT_KIND_REPEAT = 2, /* It was held down so long that it repeats. */
+  HED_KEY_EVENT_KIND_RELEASE = 3 /* It was released. */
+  /* numbers.txt: end */
+};
+
+/* The modifiers of a key report, by Kitty's bits. */
+enum hed_kitty_mod {
+  /* numbers.txt: held c */
+  HED_KITTY_MOD_NONE = 0, /* No modifier. */
+  HED_KITTY_MOD_SHIFT = 1, /* Shift. */
+  HED_KITTY_MOD_ALT = 2, /* Alt. */
+  HED_KITTY_MOD_CTRL = 4, /* Ctrl. */
+  HED_KITTY_MOD_SUPER = 8, /* Super: the key with the Windows logo, or Command. */
+  HED_KITTY_MOD_HYPER = 16, /* Hyper. */
+  HED_KITTY_MOD_META = 32, /* Meta. */
+  HED_KITTY_MOD_CAPS_LOCK = 64, /* Caps Lock is on. */
+  HED_KITTY_MOD_NUM_LOCK = 128 /* Num Lock is on. */
+  /* numbers.txt: end */
+};
+
+/* The code point in shifted and base of a hed_key_report, if the terminal didn't report one. */
+#define HED_NO_CODE 0xffffffffu
+
+/* A key, what happened to it, and what the terminal reported of it. */
+typedef struct hed_key_report {
+  uint8_t action;    /* an enum hed_key_event_kind */
+  uint8_t modifiers; /* a set of HED_KITTY_MOD_.. */
+  uint16_t key;      /* an enum hed_key, or 0 for a key that has no name there */
+  uint32_t detail;   /* the code point with HED_KEY_CHAR, the number with HED_KEY_FUNCTION, with key 0 the number in Kitty's table of keys */
+  uint32_t shifted;  /* the code point that the key types with Shift, or HED_NO_CODE */
+  uint32_t base;     /* the code point that the key at this place types on the standard layout (PC-101), or HED_NO_CODE */
+} hed_key_report;
+
+/* An event of the extended parser. What its kind has no use for is 0. */
+typedef struct hed_extended_event {
+  uint8_t kind;         /* an enum hed_kind */
+  uint8_t flags;        /* HED_KIND_KEYBOARD_FLAGS: a set of HED_KITTY_.. */
+  uint16_t row;         /* HED_KIND_CURSOR_POSITION: the row, as the terminal sent it: the topmost is 1 */
+  uint16_t column;      /* HED_KIND_CURSOR_POSITION: the column, as the terminal sent it: the leftmost is 1 */
+  uint16_t rows;        /* HED_KIND_RESIZE: the number of rows */
+  uint16_t columns;     /* HED_KIND_RESIZE: the number of columns */
+  uint16_t height;      /* HED_KIND_RESIZE: the height in pixels */
+  uint16_t width;       /* HED_KIND_RESIZE: the width in pixels */
+  hed_key_report report; /* HED_KIND_REPORT: the report; HED_KIND_KEY: the same key as a press, so that a program needs one case for both */
+  hed_event input;       /* HED_KIND_KEY, HED_KIND_MOUSE, HED_KIND_PASTE: the event as hed_parser_next writes it */
+  size_t text_len;      /* the number of bytes that the event brought, which hed_extended_text copies: see there */
+} hed_extended_event;
+
+/* Makes an extended parser with an empty buffer. If there was one, it is freed. The caller owes a hed_extended_free. Pass HED_PROTOCOL_KITTY
+ * if the program turns Kitty's keyboard protocol on, and HED_PROTOCOL_LEGACY otherwise. It costs what a hed_parser costs.
+ *
+ * Returns false if memory is refused or rows is no enum hed_protocol: then the parser is unchanged. */
+bool hed_extended_init(hed_extended *parser, uint32_t rows);
+
+/* Makes an extended parser with an empty buffer that shares the table of another, as hed_parser_init_sharing does. The two may read the rows
+ * in different ways.
+ *
+ * Returns false if memory is refused, rows is no enum hed_protocol, or there is no other parser. Then the parser is unchanged. The other
+ * is unchanged in any case. */
+bool hed_extended_init_sharing(hed_extended *parser, uint32_t rows, const hed_extended *other);
+
+/* The same from a parser of the other kind: a program with both kinds needs one table. */
+bool hed_extended_init_sharing_parser(hed_extended *parser, uint32_t rows, const hed_parser *other);
+
+/* Makes a parser that shares the table of an extended parser, as hed_parser_init_sharing does from a parser. */
+bool hed_parser_init_sharing_extended(hed_parser *parser, const hed_extended *other);
+
+/* Frees what the parser owns, and leaves HED_EXTENDED_NONE. If there is no parser, it does nothing, so it may be called twice. */
+void hed_extended_free(hed_extended *parser);
+
+/* Appends len bytes to the buffer, as hed_parser_feed does.
+ *
+ * Returns false if memory is refused: then none of them is buffered, and the call may be made again. It also returns false if there is
+ * no parser. A call without bytes needs no memory. */
+bool hed_extended_feed(hed_extended *parser, const uint8_t *bytes, size_t len);
+
+/* Consumes the item at the front of the buffer, and writes its event to *event. The caller calls this until it returns HED_NEXT_NONE, and passes
+ * more as to hed_parser_next.
+ *
+ * Returns an enum hed_next. *event is written only with HED_NEXT_EVENT. HED_NEXT_NO_MEMORY comes only if a paste or an extra sequence is at the
+ * front. Then nothing changed. */
+uint32_t hed_extended_next(hed_extended *parser, bool more, hed_extended_event *event);
+
+/* Copies the bytes of the last event that brought some to out, at most len of them. A HED_KIND_PASTE brings its text. A HED_KIND_REPORT
+ * brings the text that the key types, if the terminal reported it. A HED_KIND_CSI, _OSC, _DCS or _APC brings its bytes after ESC and the
+ * byte that introduces it, without the end of a string. The two texts are UTF-8. The rest of out is unchanged.
+ *
+ * Returns the number of all these bytes, as text_len has it: the parser keeps them until the next event of one of these kinds or
+ * hed_extended_drop_text. Returns 0 if there are none, or if there is no parser. */
+size_t hed_extended_text(const hed_extended *parser, uint8_t *out, size_t len);
+
+/* Frees these bytes: hed_extended_text returns 0 until the next event that brings some. If there are none or there is no parser, it does
+ * nothing. */
+void hed_extended_drop_text(hed_extended *parser);
+
+/* Frees memory that holds nothing, of the buffer and of these bytes, as hed_parser_shrink_to does. */
+void hed_extended_shrink_to(hed_extended *parser, size_t min_capacity);
+
+/* Returns the number of bytes that are buffered, 0 if there is no parser. Once hed_extended_next returned HED_NEXT_NONE, it is at most 65536, or
+ * the buffer begins with the start of a paste. */
+size_t hed_extended_waiting_len(const hed_extended *parser);
+
+/* Returns what stays buffered, an enum hed_waiting, as hed_parser_waiting does. The beginning of a control sequence or of a string is a
+ * HED_WAITING_SEQUENCE. */
+uint32_t hed_extended_waiting(const hed_extended *parser);
+
+/* Writes the Escape key to *event if ESC alone is buffered, with HED_TERMWIZ_MOD_ALT if ESC ESC is, and consumes it, as hed_parser_flush_escape does.
+ *
+ * Returns HED_NEXT_EVENT, HED_NEXT_NONE if anything else or nothing is buffered, or HED_NEXT_NO_PARSER. *event is written only with HED_NEXT_EVENT. */
+uint32_t hed_extended_flush_escape(hed_extended *parser, hed_extended_event *event);
+
+/* Returns whether the buffer begins with the start of a paste, which is buffered without limit until its end arrives. Returns false if
+ * there is no parser. */
+bool hed_extended_is_paste_open(const hed_extended *parser);
+
+/* Ends an open paste where it is, as hed_parser_end_paste does: the event is a HED_KIND_PASTE, whose text is what came so far.
+ *
+ * Returns HED_NEXT_EVENT, HED_NEXT_NONE if no paste is open, HED_NEXT_NO_MEMORY, or HED_NEXT_NO_PARSER. *event is written only with HED_NEXT_EVENT. With HED_NEXT_NO_MEMORY
+ * nothing changed, and the call may be made again. */
+uint32_t hed_extended_end_paste(hed_extended *parser, hed_extended_event *event);
+
+/* Forgets all that is buffered, an open paste too. The bytes of the last event are kept, and no memory is freed.
+ *
+ * Returns the number of bytes that were buffered, 0 if there is no parser. */
+size_t hed_extended_reset(hed_extended *parser);
+
+/* Writes what a terminal sends for a key to out, and the number of these bytes to *sent_len, if the program asked for these flags of Kitty's
+ * keyboard protocol: the other way from a HED_KIND_REPORT. A terminal or a multiplexer calls it. The bytes are UTF-8 without a final 0. There
+ * are none for a key that isn't sent, such as a release without HED_KITTY_FLAG_REPORT_EVENT_TYPES. The rules are those of Kitty's page "Comprehensive
+ * keyboard handling in terminals" (https://sw.kovidgoyal.net/kitty/keyboard-protocol/), as "Keys to bytes" of docs/EXTENDED.md lists them. If
+ * flags has neither HED_KITTY_FLAG_DISAMBIGUATE_ESCAPE_CODES nor HED_KITTY_FLAG_REPORT_ALL_KEYS_AS_ESCAPE_CODES, that is what terminals sent before the
+ * protocol: a control character for a letter with HED_KITTY_MOD_CTRL, and the key's report for what has no such text.
+ *
+ * report has the key as hed_extended_next writes it, and detail isn't read for a key that has none. text is what the key types, text_len bytes
+ * of UTF-8, or nothing if that isn't known; a text with control characters counts as none. flags is a set of HED_KITTY_... What no flag asks
+ * for isn't sent.
+ *
+ * Returns an enum hed_encoded. With HED_ENCODED_TEXT *sent_len is the number of all these bytes, and out has as many of them as len says: if *sent_len
+ * is above len, call again with more room. The rest of out is unchanged. A sequence has at most 256 bytes; a key that is sent as its text
+ * alone may have more. Otherwise *sent_len is 0 and out is unchanged: HED_ENCODED_REFUSED_KEY if the key's report would be sent and the protocol has no
+ * number for the key; HED_ENCODED_REFUSED_MEMORY if memory was refused; HED_ENCODED_TOO_LONG if the sequence would have more than 256 bytes; HED_ENCODED_BAD_TEXT if the
+ * text isn't UTF-8; HED_ENCODED_BAD_NUMBER if action is no enum hed_key_event_kind, no key has the number, detail, shifted or base is no Unicode scalar value,
+ * a function key's number is above 255, or a bit of flags has no name. */
+uint32_t hed_encode_kitty(const hed_key_report *report, const uint8_t *text, size_t text_len, uint8_t flags, uint8_t *out, size_t len,
+                         size_t *sent_len);
+
+/* Returns the version of the library that is linked, as HED_VERSION_NUMBER has that of the header. */
+uint32_t hed_version(void);
+
+/* The layouts that the library was proved with. A line that doesn't compile says that this machine has others. */
+#define HED_IS(name, holds) typedef char hed_is_##name[(holds) ? 1 : -1]
+HED_IS(parser, sizeof(hed_parser) == 16 && offsetof(hed_parser, state) == 8);
+HED_IS(event, sizeof(hed_event) == 24 && offsetof(hed_event, modifiers) == 2 && offsetof(hed_event, y) == 8);
+HED_IS(event_end, offsetof(hed_event, detail) == 12 && offsetof(hed_event, paste_len) == 16);
+HED_IS(keymap, sizeof(hed_keymap) == 16 && offsetof(hed_keymap, state) == 8);
+HED_IS(rows, sizeof(hed_entries) == 24 && offsetof(hed_entries, count) == 8 && offsetof(hed_entries, with_alt) == 16);
+HED_IS(match, sizeof(hed_match) == 16 && offsetof(hed_match, value) == 8);
+HED_IS(extended, sizeof(hed_extended) == 16 && offsetof(hed_extended, state) == 8);
+HED_IS(report, sizeof(hed_key_report) == 16 && offsetof(hed_key_report, key) == 2 && offsetof(hed_key_report, base) == 12);
+HED_IS(extended_event, sizeof(hed_extended_event) == 64 && offsetof(hed_extended_event, row) == 2 && offsetof(hed_extended_event, width) == 12);
+HED_IS(extended_end, offsetof(hed_extended_event, report) == 16 && offsetof(hed_extended_event, input) == 32);
+HED_IS(extended_text, offsetof(hed_extended_event, text_len) == 56);
+HED_IS(modes, sizeof(hed_modes) == 16 && offsetof(hed_modes, encoding) == 8 && offsetof(hed_modes, has_modify_other_keys) == 12);
+#undef HED_IS
+
+#ifdef __cplusplus
+}
+#endif
+#endif

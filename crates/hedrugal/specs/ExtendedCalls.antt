@@ -1,0 +1,117 @@
+-- What the calls do to an extended parser that C holds: to the parser that its handle leads to, if there is one.
+use Rattle.std.specs.Prelude.{◌≡◌, ℕ, Bool, false, List, [], ◌∷◌, ◌++◌, length, Option, Some, None, unwrap_or}
+use Rattle.termwiz_input.specs.Bytes.{Begins, START}
+use Rattle.termwiz_input.specs.Waiting.{Waiting}
+use Rattle.termwiz_input.specs.WaitingKinds.{IsOneOrTwoEscapes, IsOpenPaste}
+use Rattle.termwiz_extended_events.specs.declared.types.ExtendedEvent.{ExtendedEvent}
+use Rattle.termwiz_extended_events.specs.declared.types.Protocol.{Protocol}
+use Rattle.termwiz_extended_grammar.specs.ExtendedGrammar.{IsRest, Means, Steps}
+use Rattle.termwiz_input_extended.specs.NextItems.{HasItemThatNeedsMemory, IsPasteEvent}
+use Rattle.termwiz_extended_grammar.specs.ExtendedKinds.{IsKind}
+use Rattle.hedrugal.specs.declared.extended_and_text.ExtendedAndText.{ExtendedAndText}
+use Rattle.hedrugal.specs.declared.extended_events.CExtendedEvent.{CExtendedEvent}
+use Rattle.hedrugal.specs.Calls.{waiting_number}
+use Rattle.hedrugal.specs.ExtendedEvents.{c_extended_event, own_bytes, protocol_number}
+
+-- there is a parser that reads the rows in the way with this number, nothing waits in it, and no event brought bytes
+abbrev pub IsFresh : Option ExtendedAndText → ℕ → Type 0
+IsFresh (Some held) protocol = (protocol_number held.parser.protocol ≡ protocol) × (held.parser.text ≡ []) × (held.text.items ≡ [])
+IsFresh None protocol = ⊥
+
+-- no way of reading the rows has this number
+abbrev pub IsNoProtocol : ℕ → Type 0
+IsNoProtocol number = (protocol : Protocol) → ¬ (protocol_number protocol ≡ number)
+
+-- the length of the waiting text; 0 without a parser
+abbrev pub waiting_len : Option ExtendedAndText → ℕ
+waiting_len (Some held) = length held.parser.text
+waiting_len None = 0
+
+-- the waiting text begins with the start of a paste
+abbrev pub HasOpenPaste : Option ExtendedAndText → Type 0
+HasOpenPaste (Some held) = Begins START held.parser.text
+HasOpenPaste None = ⊥
+
+-- the bytes of the last event that brought bytes; none without a parser
+abbrev pub kept : Option ExtendedAndText → List ℕ
+kept (Some held) = held.text.items
+kept None = []
+
+-- the bytes were appended to the waiting text, and nothing else changed
+abbrev pub Took : Option ExtendedAndText → List ℕ → Option ExtendedAndText → Type 0
+Took (Some before) bytes (Some after) =
+    (after.parser.text ≡ before.parser.text ++ bytes) × (after.parser.protocol ≡ before.parser.protocol)
+    × (after.text.items ≡ before.text.items)
+Took _ bytes _ = ⊥
+
+-- the bytes of the last event that brought bytes, after this event
+abbrev pub text_after : ExtendedEvent → List ℕ → List ℕ
+text_after event before = unwrap_or (own_bytes event) before
+
+-- this is the event in numbers, its bytes are kept, and the rows are read as before
+abbrev pub Shows : ExtendedAndText → ExtendedEvent → CExtendedEvent → ExtendedAndText → Type 0
+Shows before event shown after =
+    (shown ≡ c_extended_event event) × (after.text.items ≡ text_after event before.text.items)
+    × (after.parser.protocol ≡ before.parser.protocol)
+
+-- the item at the front was taken, and this is its event
+abbrev pub Gave : Option ExtendedAndText → Bool → CExtendedEvent → Option ExtendedAndText → Type 0
+Gave (Some before) more shown (Some after) =
+    (event : ExtendedEvent) × Steps before.parser.protocol before.parser.text more (event ∷ []) after.parser.text
+    × Shows before event shown after
+Gave _ more shown _ = ⊥
+
+-- no item stands at the front of what waits
+abbrev pub Rests : Option ExtendedAndText → Bool → Type 0
+Rests (Some held) more = IsRest held.parser.protocol held.parser.text more
+Rests None more = ⊥
+
+-- an item whose event may hold memory stands at the front of what waits
+abbrev pub NeedsMemoryNext : Option ExtendedAndText → Bool → Type 0
+NeedsMemoryNext (Some held) more = HasItemThatNeedsMemory held.parser.protocol held.parser.text more
+NeedsMemoryNext None more = ⊥
+
+-- a rest that is buffered is of the kind with this number; 0 without a parser
+abbrev pub HasKind : Option ExtendedAndText → ℕ → Type 0
+HasKind (Some held) number = (kind : Waiting) × (number ≡ waiting_number kind) × ((more : Bool)
+    → IsRest held.parser.protocol held.parser.text more → IsKind held.parser.protocol held.parser.text more kind)
+HasKind None number = number ≡ 0
+
+-- ESC or ESC ESC is buffered
+abbrev pub HasEscape : Option ExtendedAndText → Type 0
+HasEscape (Some held) = IsOneOrTwoEscapes held.parser.text
+HasEscape None = ⊥
+
+-- what was buffered is this event, with no more to come
+abbrev pub Flushed : Option ExtendedAndText → CExtendedEvent → Option ExtendedAndText → Type 0
+Flushed (Some before) shown (Some after) =
+    (event : ExtendedEvent) × Means before.parser.protocol before.parser.text false (event ∷ []) after.parser.text
+    × (shown ≡ c_extended_event event) × (after.text.items ≡ before.text.items) × (after.parser.protocol ≡ before.parser.protocol)
+Flushed _ shown _ = ⊥
+
+-- a paste without an end is buffered, and no more than it
+abbrev pub HasEndlessPaste : Option ExtendedAndText → Type 0
+HasEndlessPaste (Some held) = IsOpenPaste held.parser.text
+HasEndlessPaste None = ⊥
+
+-- the open paste was ended, and this is its event
+abbrev pub Ended : Option ExtendedAndText → CExtendedEvent → Option ExtendedAndText → Type 0
+Ended (Some before) shown (Some after) =
+    (event : ExtendedEvent) × IsPasteEvent before.parser.text event × (after.parser.text ≡ []) × Shows before event shown after
+Ended _ shown _ = ⊥
+
+-- what was buffered is forgotten, and nothing else changed
+abbrev pub IsReset : Option ExtendedAndText → Option ExtendedAndText → Type 0
+IsReset (Some before) (Some after) =
+    (after.parser.text ≡ []) × (after.parser.protocol ≡ before.parser.protocol) × (after.text.items ≡ before.text.items)
+IsReset before after = after ≡ before
+
+-- the bytes of the last event are forgotten, and nothing else changed
+abbrev pub HasDroppedText : Option ExtendedAndText → Option ExtendedAndText → Type 0
+HasDroppedText (Some before) (Some after) = (after.parser ≡ before.parser) × (after.text.items ≡ [])
+HasDroppedText before after = after ≡ before
+
+-- what is buffered, how the rows are read and the bytes of the last event are as they were
+abbrev pub IsUnchanged : Option ExtendedAndText → Option ExtendedAndText → Type 0
+IsUnchanged (Some before) (Some after) = (after.parser ≡ before.parser) × (after.text.items ≡ before.text.items)
+IsUnchanged before after = after ≡ before

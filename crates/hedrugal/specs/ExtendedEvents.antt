@@ -1,0 +1,123 @@
+-- Events of the extended parser as C has them.
+use Rattle.std.specs.Prelude.{ℕ, List, [], length, Option, Some, None, unwrap_or}
+use Rattle.termwiz_input.specs.InputEvent.TheVariants as input
+use Rattle.termwiz_extended_events.specs.declared.types.ExtendedEvent.{ExtendedEvent}
+use Rattle.termwiz_extended_events.specs.declared.types.ExtendedEvent.TheVariants.{Input, Key, FocusGained, FocusLost, CursorPosition, Resize, KeyboardFlags, Csi, Osc, Dcs, Apc}
+use Rattle.termwiz_extended_events.specs.declared.types.KeyEventKind.{KeyEventKind}
+use Rattle.termwiz_extended_events.specs.declared.types.KeyEventKind.TheVariants.{Press, Repeat, Release}
+use Rattle.termwiz_extended_events.specs.declared.types.KeyReport.{KeyReport}
+use Rattle.termwiz_extended_events.specs.declared.types.ReportedKey.{ReportedKey}
+use Rattle.termwiz_extended_events.specs.declared.types.ReportedKey.TheVariants.{Named, Functional}
+use Rattle.termwiz_extended_events.specs.declared.types.Protocol.{Protocol}
+use Rattle.termwiz_extended_events.specs.declared.types.Protocol.TheVariants.{Legacy, Kitty}
+use Rattle.termwiz_extended_events.specs.EventKeys.{key_of_event}
+use Rattle.hedrugal.specs.declared.events.CEvent.{CEvent}
+use Rattle.hedrugal.specs.declared.extended_events.CExtendedEvent.{CExtendedEvent}
+use Rattle.hedrugal.specs.declared.extended_events.CKeyReport.{CKeyReport}
+use Rattle.hedrugal.specs.Events.{c_event}
+use Rattle.hedrugal.specs.Keys.{key_number, key_detail}
+
+-- the number of how the rows of the sequence table are read
+unfoldable pub protocol_number : Protocol → ℕ
+protocol_number Legacy = 0
+protocol_number Kitty = 1
+
+-- the number of what happened to a key
+unfoldable pub action_number : KeyEventKind → ℕ
+action_number Press = 1
+action_number Repeat = 2
+action_number Release = 3
+
+-- the number of a reported key: 0 if it has no name
+unfoldable pub reported_number : ReportedKey → ℕ
+reported_number (Named key) = key_number key
+reported_number (Functional number) = 0
+
+-- what a reported key carries: the number in Kitty's table of functional keys, if it has no name
+unfoldable pub reported_detail : ReportedKey → ℕ
+reported_detail (Named key) = key_detail key
+reported_detail (Functional number) = number
+
+-- what stands for a code point that the terminal didn't report
+abbrev pub no_code : ℕ
+no_code = 0xffffffff
+
+-- a key report in numbers
+abbrev pub c_report : KeyReport → CKeyReport
+c_report report = record {
+  action = action_number report.kind;
+  modifiers = report.modifiers;
+  key = reported_number report.key;
+  detail = reported_detail report.key;
+  shifted = unwrap_or report.shifted no_code;
+  base = unwrap_or report.base no_code;
+}
+
+-- the same of an event that may have none: all of it is then 0
+abbrev pub c_report_if : Option KeyReport → CKeyReport
+c_report_if (Some report) = c_report report
+c_report_if None = record { action = 0; modifiers = 0; key = 0; detail = 0; shifted = 0; base = 0 }
+
+-- the bytes that an event brings, if its kind has bytes: the text of a paste or of a key report, and the bytes of a sequence
+unfoldable pub own_bytes : ExtendedEvent → Option (List ℕ)
+own_bytes (Input (input.Paste text)) = Some text
+own_bytes (Key report) = Some report.text
+own_bytes (Csi bytes) = Some bytes
+own_bytes (Osc bytes) = Some bytes
+own_bytes (Dcs bytes) = Some bytes
+own_bytes (Apc bytes) = Some bytes
+own_bytes event = None
+
+-- the same, or no bytes
+abbrev pub bytes_of : ExtendedEvent → List ℕ
+bytes_of event = unwrap_or (own_bytes event) []
+
+-- the number of an event's kind
+unfoldable pub kind_number : ExtendedEvent → ℕ
+kind_number (Input (input.Key key)) = 1
+kind_number (Input (input.Mouse mouse)) = 2
+kind_number (Input (input.Paste text)) = 3
+kind_number (Input event) = 0
+kind_number (Key report) = 4
+kind_number FocusGained = 5
+kind_number FocusLost = 6
+kind_number (CursorPosition row column) = 7
+kind_number (Resize rows columns height width) = 8
+kind_number (KeyboardFlags flags) = 9
+kind_number (Csi bytes) = 10
+kind_number (Osc bytes) = 11
+kind_number (Dcs bytes) = 12
+kind_number (Apc bytes) = 13
+
+-- the event of the port that C has of an event of another kind: all of it is 0
+abbrev pub no_input : CEvent
+no_input = record { kind = 0; buttons = 0; modifiers = 0; key = 0; x = 0; y = 0; detail = 0; paste_len = 0 }
+
+-- of an event what each kind has: its number, the report of its key, and how many bytes it brings
+abbrev pub common : ExtendedEvent → CExtendedEvent
+common event = record {
+  kind = kind_number event;
+  flags = 0;
+  row = 0;
+  column = 0;
+  rows = 0;
+  columns = 0;
+  height = 0;
+  width = 0;
+  report = c_report_if (key_of_event event);
+  input = no_input;
+  text_len = length (bytes_of event);
+}
+
+-- the same with what only some kinds have
+abbrev pub with_own : ExtendedEvent → CExtendedEvent → CExtendedEvent
+with_own (Input event) shown = record shown { input = c_event event }
+with_own (CursorPosition row column) shown = record shown { row = row; column = column }
+with_own (Resize rows columns height width) shown =
+    record shown { rows = rows; columns = columns; height = height; width = width }
+with_own (KeyboardFlags flags) shown = record shown { flags = flags }
+with_own event shown = shown
+
+-- An event in numbers. What its kind has no use for is 0.
+unfoldable pub c_extended_event : ExtendedEvent → CExtendedEvent
+c_extended_event event = with_own event (common event)

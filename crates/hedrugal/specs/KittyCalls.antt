@@ -1,0 +1,55 @@
+-- What the numbers of a key report stand for, and what a terminal sends for it under Kitty's keyboard protocol.
+use Rattle.std.specs.Prelude.{◌≡◌, ℕ, List, length, Option, Some, None}
+use Rattle.std.specs.Char.{IsScalar}
+use Rattle.termwiz_base.specs.Bits.{HasEvery}
+use Rattle.termwiz_base.specs.Kitty as kitty
+use Rattle.termwiz_extended_events.specs.declared.types.KeyReport.{KeyReport}
+use Rattle.termwiz_extended_events.specs.declared.types.ReportedKey.{ReportedKey}
+use Rattle.termwiz_extended_events.specs.declared.types.ReportedKey.TheVariants.{Named, Functional}
+use Rattle.termwiz_kitty.specs.KittyTexts.{kitty_text, IsTooLong, IsWithin}
+use Rattle.hedrugal.specs.declared.extended_events.CKeyReport.{CKeyReport}
+use Rattle.hedrugal.specs.Calls.{copied}
+use Rattle.hedrugal.specs.ExtendedEvents.{action_number, no_code}
+use Rattle.hedrugal.specs.Keys.{StandFor}
+
+-- the number and the detail stand for this key of a report: with the number 0 the detail is that of Kitty's table
+abbrev pub StandForReported : ℕ → ℕ → ReportedKey → Type 0
+StandForReported number detail (Named key) = StandFor number detail key
+StandForReported number detail (Functional functional) = (number ≡ 0) × (functional ≡ detail)
+
+-- the number is this character, or says that there is none
+abbrev pub IsCode : ℕ → Option ℕ → Type 0
+IsCode number (Some character) = (character ≡ number) × IsScalar number
+IsCode number None = number ≡ no_code
+
+-- the numbers stand for this report, whatever its text is
+abbrev pub StandForReport : CKeyReport → KeyReport → Type 0
+StandForReport numbers report =
+    (action_number report.kind ≡ numbers.action) × (report.modifiers ≡ numbers.modifiers)
+    × StandForReported numbers.key numbers.detail report.key
+    × IsCode numbers.shifted report.shifted × IsCode numbers.base report.base
+
+-- the numbers and the text stand for this report, and each bit of the flags has a name
+abbrev pub IsAskedFor : CKeyReport → List ℕ → ℕ → KeyReport → Type 0
+IsAskedFor numbers text flags report =
+    StandForReport numbers report × (report.text ≡ text) × HasEvery kitty.every_flag flags
+
+-- one of the numbers stands for nothing, or a bit of the flags has no name
+abbrev pub IsBadReport : CKeyReport → ℕ → Type 0
+IsBadReport numbers flags = (report : KeyReport) → ¬ (StandForReport numbers report × HasEvery kitty.every_flag flags)
+
+-- a key is sent so: `out` has as much of the bytes as it has room for, and `len` is how many they are
+abbrev pub WroteReport : CKeyReport → List ℕ → ℕ → List ℕ → List ℕ → ℕ → Type 0
+WroteReport numbers text flags before after len =
+    (report : KeyReport) × (sent : List ℕ) × IsAskedFor numbers text flags report × (kitty_text report flags ≡ Some sent)
+    × IsWithin report flags sent × (len ≡ length sent) × (after ≡ copied sent before)
+
+-- the key's report would be sent, and the protocol has no number for the key
+abbrev pub HasNoSequence : CKeyReport → List ℕ → ℕ → Type 0
+HasNoSequence numbers text flags =
+    (report : KeyReport) × IsAskedFor numbers text flags report × (kitty_text report flags ≡ None)
+
+-- the key's sequence would be longer than one may be
+abbrev pub HasLongSequence : CKeyReport → List ℕ → ℕ → Type 0
+HasLongSequence numbers text flags =
+    (report : KeyReport) × IsAskedFor numbers text flags report × IsTooLong report flags

@@ -1,0 +1,11 @@
+pub mod Calls
+pub mod Events
+pub mod ExtendedCalls
+pub mod ExtendedEvents
+pub mod KeymapCalls
+pub mod Keys
+pub mod KittyCalls
+pub mod Lent
+pub mod Owned
+pub mod Presses
+pub mod EntryCalls

@@ -1,0 +1,67 @@
+// The calls that show the sequence table.
+ghost use Rattle.std.specs.Prelude.{◌≡◌, ◌≢◌, ◌↔◌, ℕ, List, length, true, false, None};
+ghost use Rattle.termwiz_input.specs.InputEvent.TheVariants.{Key};
+ghost use Rattle.termwiz_input.specs.KeyEvent.{KeyEvent};
+ghost use Rattle.termwiz_input.specs.RowsInOrder.{IsRowAt};
+ghost use Rattle.hedrugal.specs.Calls.{copied};
+ghost use Rattle.hedrugal.specs.Events.{c_event};
+ghost use Rattle.hedrugal.specs.EntryCalls.{AreToComplete, IsNoRow};
+
+use crate::events::CEvent;
+use crate::parser_handle::ParserHandle;
+
+/// `hed_entries`: some rows of the sequence table, one after another.
+#[repr(C)]
+#[derive(Clone, Copy)]
+pub struct CEntries {
+    /// The place of the first.
+    pub first: usize,
+    /// How many there are.
+    pub count: usize,
+    /// Whether their keys get ALT.
+    pub with_alt: bool,
+}
+
+/// Copies the bytes of the row of the sequence table at a place, as many of them as `bytes` has room for, sets `event` to its key, and
+/// returns how many bytes the row has. From the number of rows on, or if there is no parser, the answer is 0 and nothing changes.
+#[unsafe(no_mangle)]
+pub extern "C" fn hed_parser_entry(
+    parser: &mut ParserHandle,
+    place: usize,
+    bytes: &mut [u8],
+    event: &mut CEvent,
+) -> usize
+    ensures same { parser.new.owned ≡ parser.old.owned }
+    ensures len { (row : List ℕ) (key : KeyEvent) → parser.old.owned.held ≢ None → IsRowAt place row key → result ≡ length row }
+    ensures bytes { (row : List ℕ) (key : KeyEvent) → parser.old.owned.held ≢ None → IsRowAt place row key
+        → bytes.new ≡ copied row bytes.old }
+    ensures event { (row : List ℕ) (key : KeyEvent) → parser.old.owned.held ≢ None → IsRowAt place row key
+        → event.new ≡ c_event (Key key) }
+    ensures none { IsNoRow parser.old.owned.held place → result ≡ 0 }
+    ensures bytes_same { IsNoRow parser.old.owned.held place → bytes.new ≡ bytes.old }
+    ensures event_same { IsNoRow parser.old.owned.held place → event.new ≡ event.old }
+{
+    if !parser.live {
+        return 0;
+    }
+    let held = parser.owned.get_mut();
+    held.copy_row(place, bytes, event)
+}
+
+/// Tells which rows would complete what is buffered: those that begin with it and are longer. If there are none, those that begin with
+/// what follows its ESC, and their keys get ALT. Only the start of a paste gets none: it opens a paste, and the ESC before it is the Escape
+/// key. If there is no parser, the answer is false and `rows` is unchanged.
+#[unsafe(no_mangle)]
+pub extern "C" fn hed_parser_completions(parser: &mut ParserHandle, rows: &mut CEntries) -> bool
+    ensures same { parser.new.owned ≡ parser.old.owned }
+    ensures some { result ≡ true → AreToComplete parser.old.owned.held rows.new }
+    ensures no_parser { result ≡ false ↔ (parser.old.owned.held ≡ None) }
+    ensures rows_same { result ≡ false → rows.new ≡ rows.old }
+{
+    if !parser.live {
+        return false;
+    }
+    let held = parser.owned.get_mut();
+    *rows = held.completions();
+    true
+}

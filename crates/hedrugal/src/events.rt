@@ -1,0 +1,71 @@
+// Events as C has them.
+ghost use Rattle.std.specs.Prelude.{◌≡◌};
+ghost use Rattle.hedrugal.specs.Events.{c_event};
+
+use crate::keys::{key_detail, key_number};
+use bitflags::Flags;
+use termwiz_input::types::InputEvent;
+
+/// `hed_event`: an event in numbers. What its kind has no use for is 0.
+#[repr(C)]
+#[derive(Clone, Copy)]
+pub struct CEvent {
+    /// 1 for a key, 2 for the mouse, 3 for a paste.
+    pub kind: u8,
+    /// The mouse buttons that are down, by the bits of `MouseButtons`.
+    pub buttons: u8,
+    /// The modifiers that were held, by the bits of `Modifiers`.
+    pub modifiers: u16,
+    /// The number of the key.
+    pub key: u16,
+    /// The mouse's column.
+    pub x: u16,
+    /// The mouse's row.
+    pub y: u16,
+    /// The code point of a character, or the number of a function key.
+    pub detail: u32,
+    /// The length of a paste's text.
+    pub paste_len: usize,
+}
+
+// All zero: what an event of no kind has.
+pub(crate) const NO_EVENT: CEvent = CEvent {
+    kind: 0,
+    buttons: 0,
+    modifiers: 0,
+    key: 0,
+    x: 0,
+    y: 0,
+    detail: 0,
+    paste_len: 0,
+};
+
+// An event as C has it.
+#[tactic(auto, unfolding(crate::specs::Events::c_event))]
+pub(crate) fn c_event(event: &InputEvent) -> CEvent
+    ensures { result ≡ c_event event.now }
+{
+    match event {
+        InputEvent::Key(key) => CEvent {
+            kind: 1,
+            modifiers: key.modifiers.bits(),
+            key: key_number(key.key),
+            detail: key_detail(key.key),
+            ..NO_EVENT
+        },
+        InputEvent::Mouse(mouse) => CEvent {
+            kind: 2,
+            buttons: mouse.mouse_buttons.bits(),
+            modifiers: mouse.modifiers.bits(),
+            x: mouse.x,
+            y: mouse.y,
+            ..NO_EVENT
+        },
+        InputEvent::Paste(text) => CEvent {
+            kind: 3,
+            paste_len: text.as_str().len(),
+            ..NO_EVENT
+        },
+        _ => NO_EVENT,
+    }
+}

@@ -1,0 +1,132 @@
+// What the handle of an extended parser leads to.
+ghost use Rattle.std.specs.Prelude.{◌≡◌, ◌↔◌, [], ◌∷◌, false, length, IfOk, IfSome, IfNone, IsSome, OnErr};
+ghost use Rattle.termwiz_input.specs.WaitingKinds.{IsOneOrTwoEscapes, IsOpenPaste};
+ghost use Rattle.termwiz_extended_events.specs.declared.types.ExtendedEvent.{ExtendedEvent as Event};
+ghost use Rattle.termwiz_extended_grammar.specs.ExtendedGrammar.{IsRest, Means, Steps};
+ghost use Rattle.termwiz_input_extended.specs.NextItems.{HasItemThatNeedsMemory, IsPasteEvent};
+ghost use Rattle.hedrugal.specs.Calls.{copied};
+ghost use Rattle.hedrugal.specs.ExtendedEvents.{c_extended_event};
+ghost use Rattle.hedrugal.specs.ExtendedCalls.{text_after};
+
+use crate::copying::copy_prefix;
+use crate::extended_events::{CExtendedEvent, c_extended_event, own_bytes};
+use std::alloc::{AllocError, Global};
+use termwiz_input_extended::input::ExtendedParser;
+use termwiz_input_extended::types::{ExtendedEvent, Protocol};
+
+/// An extended parser, and the bytes of the last event that brought bytes.
+#[derive(Drop)]
+pub struct ExtendedAndText {
+    pub(crate) parser: ExtendedParser,
+    pub(crate) text: Vec<u8>,
+}
+
+impl ExtendedAndText {
+    pub(crate) fn new(alloc: Global, protocol: Protocol) -> Result<ExtendedAndText, AllocError>
+        ensures waiting { IfOk result (λ held. held.parser.text ≡ []) }
+        ensures protocol { IfOk result (λ held. held.parser.protocol ≡ protocol) }
+        ensures text { IfOk result (λ held. held.text.items ≡ []) }
+    {
+        Ok(ExtendedAndText::of(alloc, ExtendedParser::new(alloc, protocol)?))
+    }
+
+    // The parser, with no bytes of an event.
+    pub(crate) fn of(alloc: Global, parser: ExtendedParser) -> ExtendedAndText
+        ensures parser { result.parser ≡ parser }
+        ensures text { result.text.items ≡ [] }
+    {
+        ExtendedAndText {
+            parser,
+            text: Vec::new(alloc),
+        }
+    }
+
+    // Keeps the bytes that an event brings, and returns the event as C has it.
+    fn keep_text(&mut self, event: ExtendedEvent) -> CExtendedEvent
+        ensures event { result ≡ c_extended_event event }
+        ensures text { self.new.text.items ≡ text_after event self.old.text.items }
+        ensures parser { self.new.parser ≡ self.old.parser }
+    {
+        let shown = c_extended_event(&event);
+        if let Some(bytes) = own_bytes(event) {
+            self.text = bytes;
+        }
+        shown
+    }
+
+    // The next event, as C has it.
+    pub(crate) fn next(&mut self, maybe_more: bool) -> Result<Option<CExtendedEvent>, AllocError>
+        ensures event { IfOk result (λ found. IfSome found (λ shown. (event : Event)
+            × Steps self.old.parser.protocol self.old.parser.text maybe_more (event ∷ []) self.new.parser.text
+            × (shown ≡ c_extended_event event)
+            × (self.new.text.items ≡ text_after event self.old.text.items))) }
+        ensures protocol { self.new.parser.protocol ≡ self.old.parser.protocol }
+        ensures none { IfOk result (λ found. IfNone found (IsRest self.old.parser.protocol self.old.parser.text maybe_more)) }
+        ensures none_same { IfOk result (λ found. IfNone found (self.new ≡ self.old)) }
+        ensures refused { OnErr result (HasItemThatNeedsMemory self.old.parser.protocol self.old.parser.text maybe_more) }
+        ensures refused_same { OnErr result (self.new ≡ self.old) }
+    {
+        match self.parser.next_event(maybe_more)? {
+            Some(event) => Ok(Some(self.keep_text(event))),
+            None => Ok(None),
+        }
+    }
+
+    // The Escape key, as C has it, if nothing else is buffered.
+    pub(crate) fn flush_escape(&mut self) -> Option<CExtendedEvent>
+        ensures event { IfSome result (λ shown. (event : Event)
+            × Means self.old.parser.protocol self.old.parser.text false (event ∷ []) self.new.parser.text
+            × (shown ≡ c_extended_event event)) }
+        ensures protocol { self.new.parser.protocol ≡ self.old.parser.protocol }
+        ensures when { IsSome result ↔ IsOneOrTwoEscapes self.old.parser.text }
+        ensures none { IfNone result (self.new.parser ≡ self.old.parser) }
+        ensures text { self.new.text ≡ self.old.text }
+    {
+        let event = self.parser.flush_escape()?;
+        Some(c_extended_event(&event))
+    }
+
+    // The text so far of an open paste, which ends there, as C has it.
+    pub(crate) fn end_paste(&mut self) -> Result<Option<CExtendedEvent>, AllocError>
+        ensures event { IfOk result (λ found. IfSome found (λ shown. (event : Event)
+            × IsPasteEvent self.old.parser.text event
+            × (shown ≡ c_extended_event event)
+            × (self.new.text.items ≡ text_after event self.old.text.items))) }
+        ensures nothing { IfOk result (λ found. IfSome found (λ _. self.new.parser.text ≡ [])) }
+        ensures protocol { self.new.parser.protocol ≡ self.old.parser.protocol }
+        ensures none { IfOk result (λ found. IfNone found (¬ IsOpenPaste self.old.parser.text)) }
+        ensures none_same { IfOk result (λ found. IfNone found (self.new ≡ self.old)) }
+        ensures refused { OnErr result (IsOpenPaste self.old.parser.text) }
+        ensures refused_same { OnErr result (self.new ≡ self.old) }
+    {
+        match self.parser.end_paste()? {
+            Some(event) => Ok(Some(self.keep_text(event))),
+            None => Ok(None),
+        }
+    }
+
+    // Frees the bytes of the last event that brought bytes.
+    pub(crate) fn drop_text(&mut self, alloc: Global)
+        ensures text { self.new.text.items ≡ [] }
+        ensures parser { self.new.parser ≡ self.old.parser }
+    {
+        self.text = Vec::new(alloc);
+    }
+
+    // Frees memory that holds nothing: of the buffer beyond `min_capacity` bytes, and of the bytes of the last event.
+    pub(crate) fn shrink_to(&mut self, min_capacity: usize)
+        ensures parser { self.new.parser ≡ self.old.parser }
+        ensures text { self.new.text.items ≡ self.old.text.items }
+    {
+        self.parser.shrink_to(min_capacity);
+        self.text.shrink_to_fit();
+    }
+
+    // Copies as much of these bytes as `out` has room for, and returns how many they are.
+    pub(crate) fn copy_text(&self, out: &mut [u8]) -> usize
+        ensures len { result ≡ length self.now.text.items }
+        ensures bytes { out.new ≡ copied self.now.text.items out.old }
+    {
+        copy_prefix(self.text.as_slice(), out)
+    }
+}

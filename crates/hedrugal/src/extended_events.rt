@@ -1,0 +1,291 @@
+// Events of the extended parser as C has them.
+ghost use Rattle.std.specs.Prelude.{◌≡◌, option_map};
+ghost use Rattle.termwiz_extended_events.specs.EventKeys.{key_of_event, pressed_key};
+ghost use Rattle.hedrugal.specs.ExtendedEvents.{action_number, bytes_of, c_extended_event, c_report, c_report_if, kind_number, own_bytes, reported_detail, reported_number};
+
+use crate::events::{CEvent, NO_EVENT, c_event};
+use crate::keys::{key_detail, key_number};
+use termwiz_input::types::{InputEvent, KeyEvent};
+use termwiz_input_extended::types::{ExtendedEvent, KeyEventKind, KeyReport, ReportedKey};
+
+// The kinds of events.
+const EVENT_OTHER: u8 = 0;
+
+const EVENT_KEY: u8 = 1;
+
+const EVENT_MOUSE: u8 = 2;
+
+const EVENT_PASTE: u8 = 3;
+
+const EVENT_REPORT: u8 = 4;
+
+const EVENT_FOCUS_GAINED: u8 = 5;
+
+const EVENT_FOCUS_LOST: u8 = 6;
+
+const EVENT_CURSOR_POSITION: u8 = 7;
+
+const EVENT_RESIZE: u8 = 8;
+
+const EVENT_KEYBOARD_FLAGS: u8 = 9;
+
+const EVENT_CSI: u8 = 10;
+
+const EVENT_OSC: u8 = 11;
+
+const EVENT_DCS: u8 = 12;
+
+const EVENT_APC: u8 = 13;
+
+// What happened to a key.
+pub(crate) const ACTION_PRESS: u8 = 1;
+
+pub(crate) const ACTION_REPEAT: u8 = 2;
+
+pub(crate) const ACTION_RELEASE: u8 = 3;
+
+// What stands for a code point that the terminal didn't report.
+pub(crate) const NO_CODE: u32 = 0xffff_ffff;
+
+/// `hed_key_report`: a key report in numbers.
+#[repr(C)]
+#[derive(Clone, Copy)]
+pub struct CKeyReport {
+    /// 1 for a press, 2 for a repeat, 3 for a release.
+    pub action: u8,
+    /// The modifiers that were held, as Kitty's bits.
+    pub modifiers: u8,
+    /// The number of the key, or 0 for a key without a name.
+    pub key: u16,
+    /// The code point of a character, the number of a function key, or the number of a key without a name in Kitty's table.
+    pub detail: u32,
+    /// The code point that the key types with Shift, or 0xffffffff.
+    pub shifted: u32,
+    /// The code point that the key at this place types on the standard layout, or 0xffffffff.
+    pub base: u32,
+}
+
+/// `hed_extended_event`: an event of the extended parser in numbers. What its kind has no use for is 0.
+#[repr(C)]
+#[derive(Clone, Copy)]
+pub struct CExtendedEvent {
+    /// 1 for a key, 2 for the mouse, 3 for a paste, 4 for a key report, 5 and 6 for a focus gained and lost, 7 for the position of
+    /// the cursor, 8 for a new size, 9 for keyboard flags, and 10 to 13 for a control sequence, an operating system command, a device
+    /// control string and an application program command.
+    pub kind: u8,
+    /// The flags of Kitty's keyboard protocol.
+    pub flags: u8,
+    /// The cursor's row.
+    pub row: u16,
+    /// The cursor's column.
+    pub column: u16,
+    /// The terminal's number of rows.
+    pub rows: u16,
+    /// The terminal's number of columns.
+    pub columns: u16,
+    /// The terminal's height in pixels.
+    pub height: u16,
+    /// The terminal's width in pixels.
+    pub width: u16,
+    /// The report of a key; also of a key of the port, as a press.
+    pub report: CKeyReport,
+    /// An event of the port.
+    pub input: CEvent,
+    /// How many bytes the event brings.
+    pub text_len: usize,
+}
+
+// All zero: what an event without a key has.
+const NO_REPORT: CKeyReport = CKeyReport {
+    action: 0,
+    modifiers: 0,
+    key: 0,
+    detail: 0,
+    shifted: 0,
+    base: 0,
+};
+
+// All zero: what an event of no kind has.
+const NO_EXTENDED_EVENT: CExtendedEvent = CExtendedEvent {
+    kind: EVENT_OTHER,
+    flags: 0,
+    row: 0,
+    column: 0,
+    rows: 0,
+    columns: 0,
+    height: 0,
+    width: 0,
+    report: NO_REPORT,
+    input: NO_EVENT,
+    text_len: 0,
+};
+
+// The number of what happened to a key.
+#[tactic(auto, unfolding(crate::specs::ExtendedEvents::action_number))]
+fn action_number(kind: KeyEventKind) -> u8
+    ensures { result ≡ action_number kind }
+{
+    match kind {
+        KeyEventKind::Press => ACTION_PRESS,
+        KeyEventKind::Repeat => ACTION_REPEAT,
+        KeyEventKind::Release => ACTION_RELEASE,
+    }
+}
+
+// The number of a key: 0 if it has no name.
+#[tactic(auto, unfolding(crate::specs::ExtendedEvents::reported_number))]
+fn reported_number(key: ReportedKey) -> u16
+    ensures { result ≡ reported_number key }
+{
+    match key {
+        ReportedKey::Named(named) => key_number(named),
+        ReportedKey::Functional(_) => 0,
+    }
+}
+
+// What a key carries, or its number in Kitty's table if it has no name.
+#[tactic(auto, unfolding(crate::specs::ExtendedEvents::reported_detail))]
+fn reported_detail(key: ReportedKey) -> u32
+    ensures { result ≡ reported_detail key }
+{
+    match key {
+        ReportedKey::Named(named) => key_detail(named),
+        ReportedKey::Functional(number) => number,
+    }
+}
+
+// A key report as C has it.
+fn c_report(report: &KeyReport) -> CKeyReport
+    ensures { result ≡ c_report report.now }
+{
+    CKeyReport {
+        action: action_number(report.kind),
+        modifiers: report.modifiers,
+        key: reported_number(report.key),
+        detail: reported_detail(report.key),
+        shifted: report.shifted.map_or(NO_CODE, u32::from),
+        base: report.base.map_or(NO_CODE, u32::from),
+    }
+}
+
+// A key of the port, as the report of a press.
+#[tactic(auto, unfolding(crate::specs::ExtendedEvents::action_number, crate::specs::ExtendedEvents::reported_number, crate::specs::ExtendedEvents::reported_detail))]
+fn c_press(event: &KeyEvent) -> CKeyReport
+    ensures { result ≡ c_report (pressed_key event.now) }
+{
+    CKeyReport {
+        action: ACTION_PRESS,
+        modifiers: event.modifiers.encode_xterm(),
+        key: key_number(event.key),
+        detail: key_detail(event.key),
+        shifted: NO_CODE,
+        base: NO_CODE,
+    }
+}
+
+// The report of an event's key, all zero if it has none.
+fn c_key_of(event: &ExtendedEvent) -> CKeyReport
+    ensures { result ≡ c_report_if (key_of_event event.now) }
+{
+    match event {
+        ExtendedEvent::Key(report) => c_report(report),
+        ExtendedEvent::Input(InputEvent::Key(key)) => c_press(key),
+        _ => NO_REPORT,
+    }
+}
+
+// The bytes that an event brings.
+#[tactic(auto, unfolding(crate::specs::ExtendedEvents::own_bytes))]
+fn bytes_of(event: &ExtendedEvent) -> &[u8]
+    ensures { result.now ≡ bytes_of event.now }
+{
+    match event {
+        ExtendedEvent::Input(InputEvent::Paste(text)) => text.as_str().as_bytes(),
+        ExtendedEvent::Key(report) => report.text.as_str().as_bytes(),
+        ExtendedEvent::Csi(bytes)
+        | ExtendedEvent::Osc(bytes)
+        | ExtendedEvent::Dcs(bytes)
+        | ExtendedEvent::Apc(bytes) => bytes.as_slice(),
+        _ => &[],
+    }
+}
+
+// The same, taken out of the event. `None` if its kind has no bytes.
+#[tactic(auto, unfolding(crate::specs::ExtendedEvents::own_bytes))]
+pub(crate) fn own_bytes(event: ExtendedEvent) -> Option<Vec<u8>>
+    ensures { option_map (λ bytes. bytes.items) result ≡ own_bytes event }
+{
+    match event {
+        ExtendedEvent::Input(InputEvent::Paste(text)) => Some(text.into_string().into_bytes()),
+        ExtendedEvent::Key(report) => Some(report.text.into_string().into_bytes()),
+        ExtendedEvent::Csi(bytes)
+        | ExtendedEvent::Osc(bytes)
+        | ExtendedEvent::Dcs(bytes)
+        | ExtendedEvent::Apc(bytes) => Some(bytes.into_vec()),
+        _ => None,
+    }
+}
+
+// The number of an event's kind.
+#[tactic(auto, unfolding(crate::specs::ExtendedEvents::kind_number))]
+fn kind_number(event: &ExtendedEvent) -> u8
+    ensures { result ≡ kind_number event.now }
+{
+    match event {
+        ExtendedEvent::Input(InputEvent::Key(_)) => EVENT_KEY,
+        ExtendedEvent::Input(InputEvent::Mouse(_)) => EVENT_MOUSE,
+        ExtendedEvent::Input(InputEvent::Paste(_)) => EVENT_PASTE,
+        ExtendedEvent::Input(_) => EVENT_OTHER,
+        ExtendedEvent::Key(_) => EVENT_REPORT,
+        ExtendedEvent::FocusGained => EVENT_FOCUS_GAINED,
+        ExtendedEvent::FocusLost => EVENT_FOCUS_LOST,
+        ExtendedEvent::CursorPosition { .. } => EVENT_CURSOR_POSITION,
+        ExtendedEvent::Resize { .. } => EVENT_RESIZE,
+        ExtendedEvent::KeyboardFlags(_) => EVENT_KEYBOARD_FLAGS,
+        ExtendedEvent::Csi(_) => EVENT_CSI,
+        ExtendedEvent::Osc(_) => EVENT_OSC,
+        ExtendedEvent::Dcs(_) => EVENT_DCS,
+        ExtendedEvent::Apc(_) => EVENT_APC,
+    }
+}
+
+// An event as C has it.
+#[tactic(auto, unfolding(crate::specs::ExtendedEvents::c_extended_event))]
+pub(crate) fn c_extended_event(event: &ExtendedEvent) -> CExtendedEvent
+    ensures { result ≡ c_extended_event event.now }
+{
+    let shown = CExtendedEvent {
+        kind: kind_number(event),
+        report: c_key_of(event),
+        text_len: bytes_of(event).len(),
+        ..NO_EXTENDED_EVENT
+    };
+    match event {
+        ExtendedEvent::Input(input) => CExtendedEvent {
+            input: c_event(input),
+            ..shown
+        },
+        ExtendedEvent::CursorPosition { row, column } => CExtendedEvent {
+            row: *row,
+            column: *column,
+            ..shown
+        },
+        ExtendedEvent::Resize {
+            rows,
+            columns,
+            height,
+            width,
+        } => CExtendedEvent {
+            rows: *rows,
+            columns: *columns,
+            height: *height,
+            width: *width,
+            ..shown
+        },
+        ExtendedEvent::KeyboardFlags(flags) => CExtendedEvent {
+            flags: *flags,
+            ..shown
+        },
+        _ => shown,
+    }
+}

@@ -1,0 +1,70 @@
+// What the numbers of a key report stand for.
+ghost use Rattle.std.specs.Prelude.{◌≡◌, ℕ, [], Option, IfSome, IfNone};
+ghost use Rattle.termwiz_extended_events.specs.declared.types.KeyEventKind.{KeyEventKind as Kind};
+ghost use Rattle.termwiz_extended_events.specs.declared.types.KeyReport.{KeyReport as Report};
+ghost use Rattle.termwiz_extended_events.specs.declared.types.ReportedKey.{ReportedKey as Key};
+ghost use Rattle.hedrugal.specs.ExtendedEvents.{action_number};
+ghost use Rattle.hedrugal.specs.KittyCalls.{IsCode, StandForReport, StandForReported};
+
+use crate::extended_events::{ACTION_PRESS, ACTION_RELEASE, ACTION_REPEAT, CKeyReport, NO_CODE};
+use crate::keys::key_of;
+use std::alloc::Global;
+use termwiz_input_extended::types::{KeyEventKind, KeyReport, KeyText, ReportedKey};
+
+// What happened to a key, by its number.
+#[tactic(auto, unfolding(crate::specs::ExtendedEvents::action_number))]
+fn kind_of(action: u8) -> Option<KeyEventKind>
+    ensures some { IfSome result (λ kind. action_number kind ≡ action) }
+    ensures none { IfNone result ((kind : Kind) → ¬ (action_number kind ≡ action)) }
+{
+    match action {
+        ACTION_PRESS => Some(KeyEventKind::Press),
+        ACTION_REPEAT => Some(KeyEventKind::Repeat),
+        ACTION_RELEASE => Some(KeyEventKind::Release),
+        _ => None,
+    }
+}
+
+// The key of a report, by its number and its detail.
+fn reported_key(number: u16, detail: u32) -> Option<ReportedKey>
+    ensures some { IfSome result (λ key. StandForReported number detail key) }
+    ensures none { IfNone result ((key : Key) → ¬ StandForReported number detail key) }
+{
+    if number == 0 {
+        return Some(ReportedKey::Functional(detail));
+    }
+    match key_of(number, detail) {
+        Some(key) => Some(ReportedKey::Named(key)),
+        None => None,
+    }
+}
+
+// A character that may be missing, by its code point. The outer `None` is for a number that is neither.
+fn character_of(code: u32) -> Option<Option<char>>
+    ensures some { IfSome result (λ character. IsCode code character) }
+    ensures none { IfNone result ((character : Option ℕ) → ¬ IsCode code character) }
+{
+    if code == NO_CODE {
+        return Some(None);
+    }
+    match char::from_u32(code) {
+        Some(character) => Some(Some(character)),
+        None => None,
+    }
+}
+
+// The report that the numbers stand for, with no text.
+pub(crate) fn report_of(alloc: Global, numbers: &CKeyReport) -> Option<KeyReport>
+    ensures some { IfSome result (λ report. StandForReport numbers.now report) }
+    ensures text { IfSome result (λ report. report.text ≡ []) }
+    ensures none { IfNone result ((report : Report) → ¬ StandForReport numbers.now report) }
+{
+    Some(KeyReport {
+        key: reported_key(numbers.key, numbers.detail)?,
+        modifiers: numbers.modifiers,
+        kind: kind_of(numbers.action)?,
+        shifted: character_of(numbers.shifted)?,
+        base: character_of(numbers.base)?,
+        text: KeyText::new(String::new(alloc)),
+    })
+}

@@ -1,0 +1,116 @@
+// The calls of a key map.
+ghost use Rattle.std.specs.Prelude.{◌≡◌, ◌≢◌, ◌≤◌, ◌↔◌, true, false, None};
+ghost use Rattle.hedrugal.specs.KeymapCalls.{Finds, Inserted, IsEmpty, keymap_len};
+
+use crate::bindings::Bindings;
+use crate::keymap_handle::KeymapHandle;
+use std::alloc::Global;
+use termwiz_input::keymap::Found;
+
+// The answers of `hed_keymap_lookup`.
+const FOUND_NONE: u32 = 0;
+
+const FOUND_EXACT: u32 = 1;
+
+const FOUND_AMBIGUOUS: u32 = 2;
+
+const FOUND_NEED_DATA: u32 = 3;
+
+const FOUND_NO_MAP: u32 = 4;
+
+/// `hed_match`: the key that a lookup found.
+#[repr(C)]
+#[derive(Clone, Copy)]
+pub struct CMatch {
+    /// The key's length.
+    pub len: usize,
+    /// Its value.
+    pub value: u64,
+}
+
+/// Makes an empty key map, and frees the one that was there. If memory is refused, the answer is false and nothing changes.
+#[unsafe(no_mangle)]
+pub extern "C" fn hed_keymap_init(alloc: Global, map: &mut KeymapHandle) -> bool
+    ensures made { result ≡ true → IsEmpty map.new.owned.held }
+    ensures refused { result ≡ false → map.new.owned.held ≡ map.old.owned.held }
+{
+    let Ok(block) = Box::new(alloc, Bindings::new(alloc)) else {
+        return false;
+    };
+    let before = map.take(alloc);
+    drop(before);
+    map.put(block);
+    true
+}
+
+/// Frees the key map, if there is one, and leaves none.
+#[unsafe(no_mangle)]
+pub extern "C" fn hed_keymap_free(alloc: Global, map: &mut KeymapHandle)
+    ensures { map.new.owned.held ≡ None }
+{
+    drop(map.take(alloc));
+}
+
+/// Sets the value of a key, in place of the one that it has, if any. If memory is refused, or there is no map, the answer is false and
+/// nothing changes.
+#[unsafe(no_mangle)]
+pub extern "C" fn hed_keymap_insert(map: &mut KeymapHandle, key: &[u8], value: u64) -> bool
+    ensures inserted { result ≡ true → Inserted map.old.owned.held key.now value map.new.owned.held }
+    ensures refused { result ≡ false → map.new.owned.held ≡ map.old.owned.held }
+{
+    if !map.live {
+        return false;
+    }
+    let held = map.owned.get_mut();
+    held.map.insert(key, value).is_ok()
+}
+
+/// Finds the longest key that is a prefix of a text. The answer is 1 if `found` is that key's length and value; 2 if more may follow,
+/// and the text is a prefix of a longer key too; 3 if no key is a prefix of the text, but the text is a prefix of a key; 0 if neither
+/// is so; and 4 if there is no map.
+#[unsafe(no_mangle)]
+pub extern "C" fn hed_keymap_lookup(
+    map: &mut KeymapHandle,
+    text: &[u8],
+    maybe_more: bool,
+    found: &mut CMatch,
+) -> u32
+    ensures answers { result ≤ 4 }
+    ensures none { result ≡ FOUND_NONE → Finds map.old.owned.held text.now maybe_more Found.None }
+    ensures exact { result ≡ FOUND_EXACT → Finds map.old.owned.held text.now maybe_more (Found.Exact found.new.len found.new.value) }
+    ensures ambiguous { result ≡ FOUND_AMBIGUOUS → Finds map.old.owned.held text.now maybe_more (Found.Ambiguous found.new.len found.new.value) }
+    ensures need_data { result ≡ FOUND_NEED_DATA → Finds map.old.owned.held text.now maybe_more Found.NeedData }
+    ensures no_map { result ≡ FOUND_NO_MAP ↔ (map.old.owned.held ≡ None) }
+    ensures same { map.new.owned ≡ map.old.owned }
+    ensures match_same { result ≢ FOUND_EXACT → result ≢ FOUND_AMBIGUOUS → found.new ≡ found.old }
+{
+    if !map.live {
+        return FOUND_NO_MAP;
+    }
+    let held = map.owned.get_mut();
+    match held.lookup(text, maybe_more) {
+        Found::None => FOUND_NONE,
+        Found::Exact(len, value) => {
+            *found = CMatch { len, value };
+            FOUND_EXACT
+        }
+        Found::Ambiguous(len, value) => {
+            *found = CMatch { len, value };
+            FOUND_AMBIGUOUS
+        }
+        Found::NeedData => FOUND_NEED_DATA,
+    }
+}
+
+/// The number of keys; 0 if there is no map.
+#[unsafe(no_mangle)]
+pub extern "C" fn hed_keymap_len(map: &mut KeymapHandle) -> usize
+    ensures same { map.new.owned ≡ map.old.owned }
+    ensures len { result ≡ keymap_len map.old.owned.held }
+{
+    if !map.live {
+        return 0;
+    }
+    let held = map.owned.get_mut();
+    held.map.len()
+}

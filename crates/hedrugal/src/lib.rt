@@ -1,0 +1,368 @@
+//! The parser and the key map of `termwiz_input` for programs in C, and in other languages that call C. Numbers stand for keys,
+//! flags and answers, as the C header lists them.
+//!
+//! The caller keeps a `hed_parser`, all zero at first, gives bytes to it by `hed_parser_feed` and takes the events, one at a time,
+//! by `hed_parser_next`. A `hed_keymap` is kept in the same way. `hed_encode` and `hed_encode_kitty` go the other way, from a key to the
+//! bytes that a terminal sends for it.
+#![tactic(auto)]
+
+ghost use Rattle.std.specs.Prelude.{◌≡◌, ◌≢◌, ◌≤◌, ◌↔◌, ◌+◌, ◌*◌, ◌++◌, [], ◌∷◌, length, true, false, None, IsTrue};
+ghost use Rattle.event_text.specs.Names.{variant_name};
+ghost use Rattle.termwiz_input.specs.KeyCode.{KeyCode as Key};
+ghost use Rattle.hedrugal.specs.Calls.{Ended, Flushed, Gave, HasDroppedPaste, HasEndlessPaste, HasEscape, HasKind, HasOpenPaste, HasPasteNext, IsFresh, IsReset, IsUnchanged, Rests, Took, copied, pasted, waiting_len, waiting_number};
+ghost use Rattle.hedrugal.specs.Keys.{IsNoKey, key_number};
+ghost use Rattle.hedrugal.specs.Presses.{HasNoText, IsBad, Wrote};
+
+mod bindings;
+mod copying;
+mod entry_calls;
+mod events;
+mod extended_and_text;
+mod extended_calls;
+mod extended_events;
+mod extended_handle;
+mod key_reports;
+mod keymap_calls;
+mod keymap_handle;
+mod keys;
+mod kitty_calls;
+mod modes;
+mod owned_extended;
+mod owned_keymap;
+mod owned_parser;
+mod parser_and_paste;
+mod parser_handle;
+mod raw_box;
+mod sending;
+mod sharing_calls;
+
+use crate::copying::{copy_prefix, copy_with_zero};
+use crate::events::CEvent;
+use crate::keys::key_at;
+use crate::modes::{CModes, press_of};
+use crate::parser_and_paste::ParserAndPaste;
+use crate::parser_handle::ParserHandle;
+use event_text::variant_name;
+use std::alloc::Global;
+use termwiz_input::input::{EncodeError, Waiting};
+
+// The version of the library, which the header and the other packages have too.
+const VERSION_MAJOR: u32 = 0;
+
+const VERSION_MINOR: u32 = 1;
+
+const VERSION_PATCH: u32 = 0;
+
+// The answers of `hed_parser_next`, `hed_parser_flush_escape` and `hed_parser_end_paste`.
+const NONE: u32 = 0;
+
+const EVENT: u32 = 1;
+
+const NO_MEMORY: u32 = 2;
+
+const NO_PARSER: u32 = 3;
+
+// The answers of `hed_parser_waiting`.
+const WAITING_NOTHING: u32 = 0;
+
+const WAITING_ESCAPE: u32 = 1;
+
+const WAITING_SEQUENCE: u32 = 2;
+
+const WAITING_CHARACTER: u32 = 3;
+
+const WAITING_PASTE: u32 = 4;
+
+// The answers of `hed_encode` and `hed_encode_kitty`.
+const TEXT: u32 = 0;
+
+const REFUSED_KEY: u32 = 1;
+
+const REFUSED_MEMORY: u32 = 2;
+
+const BAD_NUMBER: u32 = 3;
+
+const TOO_LONG: u32 = 4;
+
+const BAD_TEXT: u32 = 5;
+
+/// Makes a parser, and frees the one that was there. If memory is refused, the answer is false and nothing changes.
+#[unsafe(no_mangle)]
+pub extern "C" fn hed_parser_init(alloc: Global, parser: &mut ParserHandle) -> bool
+    ensures made { result ≡ true → IsFresh parser.new.owned.held }
+    ensures refused { result ≡ false → parser.new.owned.held ≡ parser.old.owned.held }
+{
+    let Ok(held) = ParserAndPaste::new(alloc) else {
+        return false;
+    };
+    parser.replace(alloc, held)
+}
+
+/// Frees the parser, if there is one, and leaves none.
+#[unsafe(no_mangle)]
+pub extern "C" fn hed_parser_free(alloc: Global, parser: &mut ParserHandle)
+    ensures { parser.new.owned.held ≡ None }
+{
+    drop(parser.take(alloc));
+}
+
+/// Appends bytes to the waiting text. If memory is refused, or there is no parser, the answer is false and nothing changes. No bytes
+/// need no memory.
+#[unsafe(no_mangle)]
+pub extern "C" fn hed_parser_feed(parser: &mut ParserHandle, bytes: &[u8]) -> bool
+    ensures took { result ≡ true → Took parser.old.owned.held bytes.now parser.new.owned.held }
+    ensures refused { result ≡ false → parser.new.owned.held ≡ parser.old.owned.held }
+    ensures no_bytes { bytes.now ≡ [] → parser.old.owned.held ≢ None → result ≡ true }
+{
+    if !parser.live {
+        return false;
+    }
+    let held = parser.owned.get_mut();
+    held.parser.feed(bytes).is_ok()
+}
+
+/// Takes the item at the front of the waiting text. The answer is 1 if `event` is its event; 0 if no item stands there; 2 if
+/// memory for the text of a paste is refused, and the paste still stands there; and 3 if there is no parser.
+#[unsafe(no_mangle)]
+pub extern "C" fn hed_parser_next(parser: &mut ParserHandle, more: bool, event: &mut CEvent) -> u32
+    ensures answers { result ≤ 3 }
+    ensures none { result ≡ NONE → Rests parser.old.owned.held more }
+    ensures event { result ≡ EVENT → Gave parser.old.owned.held more event.new parser.new.owned.held }
+    ensures refused { result ≡ NO_MEMORY → HasPasteNext parser.old.owned.held more }
+    ensures no_parser { result ≡ NO_PARSER ↔ (parser.old.owned.held ≡ None) }
+    ensures same { result ≢ EVENT → parser.new.owned.held ≡ parser.old.owned.held }
+    ensures event_same { result ≢ EVENT → event.new ≡ event.old }
+{
+    if !parser.live {
+        return NO_PARSER;
+    }
+    let held = parser.owned.get_mut();
+    match held.next(more) {
+        Ok(Some(next)) => {
+            *event = next;
+            EVENT
+        }
+        Ok(None) => NONE,
+        Err(_) => NO_MEMORY,
+    }
+}
+
+/// Copies the text of the last paste that was taken, as much of it as `out` has room for, and returns its whole length.
+#[unsafe(no_mangle)]
+pub extern "C" fn hed_parser_paste(parser: &mut ParserHandle, out: &mut [u8]) -> usize
+    ensures same { parser.new.owned ≡ parser.old.owned }
+    ensures len { result ≡ length (pasted parser.old.owned.held) }
+    ensures bytes { out.new ≡ copied (pasted parser.old.owned.held) out.old }
+{
+    if !parser.live {
+        return 0;
+    }
+    let held = parser.owned.get_mut();
+    held.copy_pasted(out)
+}
+
+/// The length of the waiting text; 0 if there is no parser.
+#[unsafe(no_mangle)]
+pub extern "C" fn hed_parser_waiting_len(parser: &mut ParserHandle) -> usize
+    ensures same { parser.new.owned ≡ parser.old.owned }
+    ensures len { result ≡ waiting_len parser.old.owned.held }
+{
+    if !parser.live {
+        return 0;
+    }
+    let held = parser.owned.get_mut();
+    held.parser.waiting_len()
+}
+
+/// Whether the waiting text begins with the start of a paste; false if there is no parser.
+#[unsafe(no_mangle)]
+pub extern "C" fn hed_parser_is_paste_open(parser: &mut ParserHandle) -> bool
+    ensures same { parser.new.owned ≡ parser.old.owned }
+    ensures open { IsTrue result ↔ HasOpenPaste parser.old.owned.held }
+{
+    if !parser.live {
+        return false;
+    }
+    let held = parser.owned.get_mut();
+    held.parser.is_paste_open()
+}
+
+// The number of a kind.
+#[tactic(auto, unfolding(crate::specs::Calls::waiting_number))]
+fn waiting_number(kind: Waiting) -> u32
+    ensures { result ≡ waiting_number kind }
+{
+    match kind {
+        Waiting::Nothing => WAITING_NOTHING,
+        Waiting::Escape => WAITING_ESCAPE,
+        Waiting::Sequence => WAITING_SEQUENCE,
+        Waiting::Character => WAITING_CHARACTER,
+        Waiting::Paste => WAITING_PASTE,
+    }
+}
+
+/// The kind of what stays buffered, once `hed_parser_next` answered 0: 1 for ESC or ESC ESC, 2 for a longer beginning of a sequence, 3 for
+/// one of a character, 4 for an open paste, and 0 for nothing or if there is no parser.
+#[unsafe(no_mangle)]
+pub extern "C" fn hed_parser_waiting(parser: &mut ParserHandle) -> u32
+    ensures same { parser.new.owned ≡ parser.old.owned }
+    ensures kind { HasKind parser.old.owned.held result }
+{
+    if !parser.live {
+        return WAITING_NOTHING;
+    }
+    let held = parser.owned.get_mut();
+    waiting_number(held.parser.waiting())
+}
+
+/// Takes ESC or ESC ESC, if no more than that is buffered. The answer is 1 if `event` is its event, the Escape key; 0 if something else
+/// is buffered; and 3 if there is no parser.
+#[unsafe(no_mangle)]
+pub extern "C" fn hed_parser_flush_escape(parser: &mut ParserHandle, event: &mut CEvent) -> u32
+    ensures answers { result ≤ 3 }
+    ensures granted { result ≢ NO_MEMORY }
+    ensures when { result ≡ EVENT ↔ HasEscape parser.old.owned.held }
+    ensures event { result ≡ EVENT → Flushed parser.old.owned.held event.new parser.new.owned.held }
+    ensures no_parser { result ≡ NO_PARSER ↔ (parser.old.owned.held ≡ None) }
+    ensures same { result ≢ EVENT → parser.new.owned.held ≡ parser.old.owned.held }
+    ensures event_same { result ≢ EVENT → event.new ≡ event.old }
+{
+    if !parser.live {
+        return NO_PARSER;
+    }
+    let held = parser.owned.get_mut();
+    match held.flush_escape() {
+        Some(escape) => {
+            *event = escape;
+            EVENT
+        }
+        None => NONE,
+    }
+}
+
+/// Ends an open paste where it is. The answer is 1 if `event` is its event, whose text is what came so far; 0 if no paste is open;
+/// 2 if memory for the text is refused; and 3 if there is no parser.
+#[unsafe(no_mangle)]
+pub extern "C" fn hed_parser_end_paste(parser: &mut ParserHandle, event: &mut CEvent) -> u32
+    ensures answers { result ≤ 3 }
+    ensures none { result ≡ NONE → ¬ HasEndlessPaste parser.old.owned.held }
+    ensures event { result ≡ EVENT → Ended parser.old.owned.held event.new parser.new.owned.held }
+    ensures refused { result ≡ NO_MEMORY → HasEndlessPaste parser.old.owned.held }
+    ensures no_parser { result ≡ NO_PARSER ↔ (parser.old.owned.held ≡ None) }
+    ensures same { result ≢ EVENT → parser.new.owned.held ≡ parser.old.owned.held }
+    ensures event_same { result ≢ EVENT → event.new ≡ event.old }
+{
+    if !parser.live {
+        return NO_PARSER;
+    }
+    let held = parser.owned.get_mut();
+    match held.end_paste() {
+        Ok(Some(paste)) => {
+            *event = paste;
+            EVENT
+        }
+        Ok(None) => NONE,
+        Err(_) => NO_MEMORY,
+    }
+}
+
+/// Forgets what is buffered, and returns how many bytes these were; 0 if there is no parser.
+#[unsafe(no_mangle)]
+pub extern "C" fn hed_parser_reset(parser: &mut ParserHandle) -> usize
+    ensures len { result ≡ waiting_len parser.old.owned.held }
+    ensures reset { IsReset parser.old.owned.held parser.new.owned.held }
+{
+    if !parser.live {
+        return 0;
+    }
+    let held = parser.owned.get_mut();
+    held.parser.reset()
+}
+
+/// Frees the text of the last paste that was taken, which is then empty.
+#[unsafe(no_mangle)]
+pub extern "C" fn hed_parser_drop_paste(alloc: Global, parser: &mut ParserHandle)
+    ensures { HasDroppedPaste parser.old.owned.held parser.new.owned.held }
+{
+    if !parser.live {
+        return;
+    }
+    let held = parser.owned.get_mut();
+    held.drop_paste(alloc);
+}
+
+/// Frees memory that holds nothing: of the buffer, in which `min_capacity` bytes keep their room, and of the text of the last paste. What
+/// is buffered, that text and all later answers are unchanged.
+#[unsafe(no_mangle)]
+pub extern "C" fn hed_parser_shrink_to(parser: &mut ParserHandle, min_capacity: usize)
+    ensures same { IsUnchanged parser.old.owned.held parser.new.owned.held }
+{
+    if !parser.live {
+        return;
+    }
+    let held = parser.owned.get_mut();
+    held.shrink_to(min_capacity);
+}
+
+/// Encodes a key that is pressed while `modifiers` are held, or that is up. The answer is 0 if `out` has as much of the text as it
+/// has room for, and `text_len` its whole length. It is 1 for a function key that has no text, 2 if memory is refused, and 3 if a
+/// number names nothing; then `text_len` is 0.
+#[tactic(auto, using(crate::proofs::Pressed::not_bad))]
+#[unsafe(no_mangle)]
+pub extern "C" fn hed_encode(
+    alloc: Global,
+    key: u16,
+    detail: u32,
+    modifiers: u16,
+    is_down: bool,
+    modes: &CModes,
+    out: &mut [u8],
+    text_len: &mut usize,
+) -> u32
+    ensures answers { result ≤ 3 }
+    ensures text { result ≡ TEXT → Wrote key detail modifiers is_down modes.now out.old out.new text_len.new }
+    ensures refused_key { result ≡ REFUSED_KEY ↔ HasNoText key detail modifiers is_down modes.now }
+    ensures bad_number { result ≡ BAD_NUMBER ↔ IsBad key detail modifiers modes.now }
+    ensures up { is_down ≡ false → result ≢ REFUSED_MEMORY }
+    ensures none { result ≢ TEXT → text_len.new ≡ 0 }
+    ensures same { result ≢ TEXT → out.new ≡ out.old }
+{
+    *text_len = 0;
+    let Some(press) = press_of(key, detail, modifiers, modes) else {
+        return BAD_NUMBER;
+    };
+    match press
+        .key
+        .encode(alloc, press.modifiers, press.modes, is_down)
+    {
+        Ok(text) => {
+            *text_len = copy_prefix(text.as_bytes(), out);
+            TEXT
+        }
+        Err(EncodeError::UnhandledFunctionKey(_)) => REFUSED_KEY,
+        Err(EncodeError::Memory) => REFUSED_MEMORY,
+    }
+}
+
+/// Copies the name of the key with this number and a final zero byte, as much of both as `out` has room for, and returns the length of
+/// the name. The length is 0, and `out` unchanged, if no key has the number.
+#[unsafe(no_mangle)]
+pub extern "C" fn hed_key_name(key: u16, out: &mut [u8]) -> usize
+    ensures len { (named : Key) → key_number named ≡ key → result ≡ length (variant_name named) }
+    ensures bytes { (named : Key) → key_number named ≡ key → out.new ≡ copied (variant_name named ++ (0 ∷ [])) out.old }
+    ensures no_key { IsNoKey key → result ≡ 0 }
+    ensures no_key_same { IsNoKey key → out.new ≡ out.old }
+{
+    match key_at(key) {
+        Some(named) => copy_with_zero(variant_name(named).as_bytes(), out),
+        None => 0,
+    }
+}
+
+/// The version of the library in one number: 65536 times the first of its three numbers, 256 times the second, and the third.
+#[unsafe(no_mangle)]
+pub extern "C" fn hed_version() -> u32
+    ensures { result ≡ VERSION_MAJOR * 65536 + VERSION_MINOR * 256 + VERSION_PATCH }
+{
+    VERSION_MAJOR * 65536 + VERSION_MINOR * 256 + VERSION_PATCH
+}

@@ -1,0 +1,109 @@
+// The calls that make a parser with the sequence table of another.
+ghost use Rattle.std.specs.Prelude.{◌≡◌, true, false, None};
+ghost use Rattle.hedrugal.specs.Calls.{IsFresh};
+ghost use Rattle.hedrugal.specs.ExtendedCalls.{IsNoProtocol, IsFresh as IsFreshExtended};
+
+use crate::extended_and_text::ExtendedAndText;
+use crate::extended_calls::protocol_at;
+use crate::extended_handle::ExtendedHandle;
+use crate::parser_and_paste::ParserAndPaste;
+use crate::parser_handle::ParserHandle;
+use std::alloc::Global;
+use termwiz_input_extended::input::ExtendedParser;
+
+/// Makes a parser with the sequence table of another, and frees the one that was there. If memory is refused, or there is no other, the
+/// answer is false and nothing changes.
+#[unsafe(no_mangle)]
+pub extern "C" fn hed_parser_init_sharing(
+    alloc: Global,
+    parser: &mut ParserHandle,
+    other: &mut ParserHandle,
+) -> bool
+    ensures made { result ≡ true → IsFresh parser.new.owned.held }
+    ensures refused { result ≡ false → parser.new.owned.held ≡ parser.old.owned.held }
+    ensures no_other { other.old.owned.held ≡ None → result ≡ false }
+    ensures same { other.new.owned ≡ other.old.owned }
+{
+    if !other.live {
+        return false;
+    }
+    let Ok(made) = other.owned.get_mut().parser.sharing() else {
+        return false;
+    };
+    parser.replace(alloc, ParserAndPaste::of(alloc, made))
+}
+
+/// Makes a parser with the sequence table of an extended parser, as [`hed_parser_init_sharing`] does.
+#[unsafe(no_mangle)]
+pub extern "C" fn hed_parser_init_sharing_extended(
+    alloc: Global,
+    parser: &mut ParserHandle,
+    other: &mut ExtendedHandle,
+) -> bool
+    ensures made { result ≡ true → IsFresh parser.new.owned.held }
+    ensures refused { result ≡ false → parser.new.owned.held ≡ parser.old.owned.held }
+    ensures no_other { other.old.owned.held ≡ None → result ≡ false }
+    ensures same { other.new.owned ≡ other.old.owned }
+{
+    if !other.live {
+        return false;
+    }
+    let Ok(made) = other.owned.get_mut().parser.input_sharing() else {
+        return false;
+    };
+    parser.replace(alloc, ParserAndPaste::of(alloc, made))
+}
+
+/// Makes an extended parser with the sequence table of another, which reads its rows in the way with this number, and frees the one that
+/// was there. If memory is refused, no way has the number, or there is no other, the answer is false and nothing changes.
+#[unsafe(no_mangle)]
+pub extern "C" fn hed_extended_init_sharing(
+    alloc: Global,
+    parser: &mut ExtendedHandle,
+    protocol: u32,
+    other: &mut ExtendedHandle,
+) -> bool
+    ensures made { result ≡ true → IsFreshExtended parser.new.owned.held protocol }
+    ensures refused { result ≡ false → parser.new.owned.held ≡ parser.old.owned.held }
+    ensures no_protocol { IsNoProtocol protocol → result ≡ false }
+    ensures no_other { other.old.owned.held ≡ None → result ≡ false }
+    ensures same { other.new.owned ≡ other.old.owned }
+{
+    let Some(protocol) = protocol_at(protocol) else {
+        return false;
+    };
+    if !other.live {
+        return false;
+    }
+    let Ok(made) = other.owned.get_mut().parser.sharing(protocol) else {
+        return false;
+    };
+    parser.replace(alloc, ExtendedAndText::of(alloc, made))
+}
+
+/// Makes an extended parser with the sequence table of a parser that isn't, as [`hed_extended_init_sharing`] does.
+#[unsafe(no_mangle)]
+pub extern "C" fn hed_extended_init_sharing_parser(
+    alloc: Global,
+    parser: &mut ExtendedHandle,
+    protocol: u32,
+    other: &mut ParserHandle,
+) -> bool
+    ensures made { result ≡ true → IsFreshExtended parser.new.owned.held protocol }
+    ensures refused { result ≡ false → parser.new.owned.held ≡ parser.old.owned.held }
+    ensures no_protocol { IsNoProtocol protocol → result ≡ false }
+    ensures no_other { other.old.owned.held ≡ None → result ≡ false }
+    ensures same { other.new.owned ≡ other.old.owned }
+{
+    let Some(protocol) = protocol_at(protocol) else {
+        return false;
+    };
+    if !other.live {
+        return false;
+    }
+    let held = other.owned.get_mut();
+    let Ok(made) = ExtendedParser::sharing_table_of(alloc, &held.parser, protocol) else {
+        return false;
+    };
+    parser.replace(alloc, ExtendedAndText::of(alloc, made))
+}

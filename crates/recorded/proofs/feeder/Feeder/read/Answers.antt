@@ -1,7 +1,0 @@
-use Rattle.std.proofs.lemmas.Result.{IfOk-weaker}
-use Rattle.recorded.proofs.WholeTexts.{as_whole}
-use Rattle.recorded.proofs.feeder.Feeder.read.Goals as goal
-
-pub returns : goal.returns
-returns c = IfOk-weaker c.answer_to_pieces.result _ _
-    (λ answer is. as_whole c.args.reader _ _ c.args.text.now _ _ c.renew.ensures c.requires is) c.answer_to_pieces.ensures

@@ -1,0 +1,37 @@
+use Rattle.std.proofs.Common.{take, drop, sym, take-append-drop}
+use Rattle.termwiz_extended_grammar.proofs.lemmas.forms.ExtraFacts.{unfinished_from_form}
+use Rattle.termwiz_input_extended.proofs.lemmas.fronts.ExtraAnswers.{no_extra_without_form}
+use Rattle.termwiz_input_extended.proofs.lemmas.fronts.FrontItems.{own_without_form, waits_for_extra}
+use Rattle.termwiz_input_extended.proofs.lemmas.fronts.ScannedPlaces.{scanned_once}
+use Rattle.termwiz_input_extended.proofs.next_item.item_of_form.Goals as goal
+
+pub returns-in-Whole : goal.returns-in-Whole
+returns-in-Whole c = λ protocol no_row. record {
+  plain = record {
+    within = c.in-Whole.ensures.0;
+    form = c.in-Whole.ensures.1;
+    no_mouse = λ event is. c.requires.no_mouse.0 (take c.in-Whole.len c.args.text.now) event is
+        (drop c.in-Whole.len c.args.text.now, sym (take-append-drop c.in-Whole.len c.args.text.now));
+  };
+  escape = c.requires.escape;
+  one = c.requires.one;
+  no_row = no_row;
+}
+
+pub returns-in-Unfinished : goal.returns-in-Unfinished
+returns-in-Unfinished c = λ protocol no_row. (
+  waits_for_extra protocol c.args.text.now c.args.maybe_more c.requires.escape c.requires.one
+      (no_extra_without_form protocol c.args.text.now c.in-Unfinished.ensures.0) c.if-maybe_more.true
+      (unfinished_from_form protocol c.args.text.now c.in-Unfinished.ensures.1),
+  scanned_once c.args.text.now c.next_scan.result c.requires.one c.next_scan.ensures.within c.next_scan.ensures.place,
+)
+
+pub returns-in-Unfinished-2 : goal.returns-in-Unfinished-2
+returns-in-Unfinished-2 c = λ protocol no_row.
+    own_without_form protocol c.args.text.now c.args.maybe_more c.requires.escape c.requires.one c.in-Unfinished-2.ensures.0
+    (λ m. absurd (cc (m, c.if-maybe_more.false)))
+
+pub returns-in-Absent : goal.returns-in-Absent
+returns-in-Absent c = λ protocol no_row.
+    own_without_form protocol c.args.text.now c.args.maybe_more c.requires.escape c.requires.one c.in-Absent.ensures.0
+    (λ m. c.in-Absent.ensures.1)

@@ -1,0 +1,18 @@
+use Rattle.std.proofs.Common.{take, refl, sym, subst}
+use Rattle.termwiz_extended_events.specs.Meanings.{IsKeyOrPosition, event_of}
+use Rattle.termwiz_input_extended.proofs.lemmas.fronts.EmittedItems.{if_some}
+use Rattle.termwiz_input_extended.proofs.lemmas.fronts.ExtraAnswers.{reported_event_is}
+use Rattle.termwiz_input_extended.proofs.next_item.plain_report_at.Goals as goal
+
+pub returns-in-Kitty : goal.returns-in-Kitty
+returns-in-Kitty c =
+    let form = c.requires.plain in
+    let text = take c.args.len c.args.text.now in
+    if_some c.plain_report.result (λ report means. (
+      (
+        form.within,
+        reported_event_is c.args.protocol text (event_of text) form.form (λ h. form.no_mouse h.0 h.1)
+            (c.in-Kitty.is, subst IsKeyOrPosition (sym means) tt) refl,
+      ),
+      means,
+    )) c.plain_report.ensures

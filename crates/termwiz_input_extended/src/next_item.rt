@@ -1,0 +1,334 @@
+// What is at the front of a text: an extra sequence, the Escape key before one, or what the port finds there.
+ghost use Rattle.std.specs.Prelude.{◌≡◌, ◌≢◌, ◌↔◌, ◌++◌, ℕ, Bool, false, List, [], take, IfSome, IsTrue, Some, Contains};
+ghost use Rattle.termwiz_keymap.specs.Bytes.{Begins};
+ghost use Rattle.termwiz_keys.specs.Introducers.{ESC, START};
+ghost use Rattle.termwiz_keys.specs.declared.types.InputEvent.TheVariants.{Key as PortsKey};
+ghost use Rattle.termwiz_keys.specs.declared.types.KeyEvent.{KeyEvent as Key};
+ghost use Rattle.termwiz_keys.specs.declared.types.MouseEvent.{MouseEvent as Mouse};
+ghost use Rattle.termwiz_grammar.specs.MouseReports.{IsMouseReport};
+ghost use Rattle.termwiz_grammar.specs.Table.{rows as table_rows};
+ghost use Rattle.termwiz_input.specs.Matches.{IsItemAt};
+ghost use Rattle.termwiz_input.specs.MouseReportAnswers.{HasNoPartInMouseReports};
+ghost use Rattle.termwiz_extended_events.specs.declared.types.Protocol.TheVariants.{Legacy};
+ghost use Rattle.termwiz_extended_events.specs.declared.types.ExtendedEvent.TheVariants.{Key as KeyReported};
+ghost use Rattle.termwiz_extended_events.specs.KeyReports.{plain_report};
+ghost use Rattle.termwiz_extended_events.specs.Meanings.{event_from, event_of};
+ghost use Rattle.termwiz_extended_grammar.specs.Forms.{IsForm};
+ghost use Rattle.termwiz_input_extended.specs.FormAnswers.{IsScanned};
+ghost use Rattle.termwiz_input_extended.specs.NextItems.{IsFormMatch, HasNoLongRow, IsNextItem, IsExtraAt, IsFormAt, IsRowMatch, IsPortsOwn, IsReported, IsScannedTo, IsSomeExtra};
+
+use crate::characters::is_control_key;
+use crate::form::{ESCAPE, FormAt, form_at, next_scan};
+use termwiz_extended_events::meanings::{Meaning, meaning_of, plain_report};
+use termwiz_extended_events::types::{PlainReport, Protocol};
+use termwiz_input::input::{
+    FrontReport, InputParser, begins_paste, follows_escape, mouse_report_at,
+};
+use termwiz_input::keymap::Found;
+use termwiz_keys::types::{KeyEvent, MouseEvent};
+
+// What form is at the front of a text. A `usize` is the number of its bytes.
+#[derive(Drop)]
+pub(crate) enum FormMatch {
+    // A form that is no mouse report: an extra sequence, or a row of the sequence table.
+    Form(usize),
+    // A mouse report, which has the form of a control sequence.
+    MouseReport,
+    // The whole text properly begins a form.
+    Unfinished,
+    // None begins the text, and the text begins none.
+    Absent,
+}
+
+// What a look for a row of two or more bytes at the front of a text finds.
+#[derive(Drop)]
+pub(crate) enum RowMatch<'k> {
+    // The row of this key, of so many bytes: three or more. No longer sequence can begin there.
+    Long(&'k KeyEvent, usize),
+    // The row of this key, of two bytes. No longer row can begin there, but a form can.
+    Short(&'k KeyEvent),
+    // More may come, and the whole text properly begins a row.
+    Begun,
+    // This decides nothing.
+    Absent,
+}
+
+// What is at the front of a text that no character begins. A `usize` is the number of its bytes, but for `Incomplete`.
+#[derive(Drop)]
+pub(crate) enum NextItem<'k> {
+    // A control character, but ESC, that is read as its key.
+    Control(u8),
+    // A row of the sequence table that is read as its key.
+    Key(&'k KeyEvent, usize),
+    // A form that is no mouse report: an extra sequence or, under `Protocol::Kitty`, a row of the sequence table.
+    Form(usize),
+    // A mouse report, which the port finds there too.
+    MouseReport(MouseEvent, usize),
+    // The Escape key before an extra sequence.
+    Escape,
+    // The Escape key with ALT: two ESC before a third one.
+    AltEscape,
+    // The start of a paste.
+    Paste,
+    // What the port finds there, whatever it is.
+    Usual,
+    // No item: more bytes may complete a sequence. The search for the end of an extra one goes on from this place.
+    Incomplete(usize),
+}
+
+// Whether bytes are a row of the sequence table.
+fn is_table_row(parser: &InputParser, bytes: &[u8]) -> bool
+    ensures { IsTrue result ↔ ((key : Key) × Contains table_rows (bytes.now, key)) }
+{
+    match parser.lookup(bytes, false) {
+        Found::Exact(len, _) => len == bytes.len(),
+        Found::Ambiguous(..) => false,
+        Found::NeedData => false,
+        Found::None => false,
+    }
+}
+
+// Whether a form of this meaning is read as a report of a key or of the cursor's position, even if it is a row.
+fn is_reported(protocol: Protocol, meaning: &Meaning<'_>) -> bool
+    ensures { (form : List ℕ) → event_from meaning.now ≡ Some (event_of form) → IsTrue result ↔ IsReported protocol form }
+{
+    match protocol {
+        Protocol::Legacy => false,
+        Protocol::Kitty => meaning.is_key_or_position(),
+    }
+}
+
+// Whether a form that is no mouse report is an extra sequence.
+fn is_extra(parser: &InputParser, protocol: Protocol, form: &[u8], meaning: &Meaning<'_>) -> bool
+    requires form { IsForm form.now }
+    requires no_mouse { (event : Mouse) → ¬ IsMouseReport form.now event }
+    requires means { event_from meaning.now ≡ Some (event_of form.now) }
+    ensures { IsTrue result ↔ IsSomeExtra protocol form.now }
+{
+    if is_reported(protocol, meaning) {
+        return true;
+    }
+    !is_table_row(parser, form)
+}
+
+// The same of a form whose meaning isn't asked for. Inlined, that meaning would have its place in the frame of every sequence.
+#[inline(never)]
+fn is_extra_form(parser: &InputParser, protocol: Protocol, form: &[u8]) -> bool
+    requires form { IsForm form.now }
+    requires no_mouse { (event : Mouse) → ¬ IsMouseReport form.now event }
+    ensures { IsTrue result ↔ IsSomeExtra protocol form.now }
+{
+    is_extra(parser, protocol, form, &meaning_of(form))
+}
+
+// Whether the form of so many bytes at the front of a text, which has this meaning, is an extra sequence. Under `Protocol::Legacy` the text was
+// looked up before: the form is no row.
+#[inline(always)]
+pub(crate) fn is_extra_at(
+    parser: &InputParser,
+    protocol: Protocol,
+    text: &[u8],
+    len: usize,
+    meaning: &Meaning<'_>,
+) -> bool
+    requires form { IsFormAt protocol text.now len }
+    requires means { event_from meaning.now ≡ Some (event_of (take len text.now)) }
+    ensures some { IsTrue result → IsExtraAt protocol text.now len }
+    ensures none { result ≡ false → (more : Bool) → IsPortsOwn protocol text.now more }
+{
+    match protocol {
+        Protocol::Legacy => true,
+        Protocol::Kitty => is_extra(parser, protocol, &text[..len], meaning),
+    }
+}
+
+// The key report of the form of so many bytes at the front of a text, if it is read as one that says no more than a key and its manner. It
+// is a small value, from which the event is built once, and so it is quicker than a meaning. `None` decides nothing.
+#[inline(always)]
+pub(crate) fn plain_report_at(protocol: Protocol, text: &[u8], len: usize) -> Option<PlainReport>
+    requires { IsFormAt protocol text.now len }
+    ensures { IfSome result (λ report. IsExtraAt protocol text.now len × (event_of (take len text.now) ≡ KeyReported (plain_report report))) }
+{
+    match protocol {
+        Protocol::Legacy => None,
+        Protocol::Kitty => plain_report(&text[..len]),
+    }
+}
+
+// What form is at the front of a text. The bytes before `scanned` were looked at before.
+#[inline(always)]
+fn match_form(text: &[u8], scanned: usize) -> FormMatch
+    requires some { text.now ≢ [] }
+    requires scanned { IsScanned text.now scanned }
+    ensures { IsFormMatch text.now result }
+{
+    match mouse_report_at(text) {
+        FrontReport::Whole(..) => FormMatch::MouseReport,
+        FrontReport::Begun => FormMatch::Unfinished,
+        FrontReport::Absent => match form_at(text, scanned) {
+            FormAt::Whole(len) => FormMatch::Form(len),
+            FormAt::Unfinished => FormMatch::Unfinished,
+            FormAt::Absent => FormMatch::Absent,
+        },
+    }
+}
+
+// What is at the front of a text that starts with ESC ESC, by what follows the first one.
+fn item_of_two_escapes<'k>(
+    parser: &InputParser,
+    protocol: Protocol,
+    after: &[u8],
+    scanned: usize,
+    maybe_more: bool,
+) -> NextItem<'k>
+    requires escape { Begins ESC after.now }
+    requires scanned { IsScanned after.now scanned }
+    ensures { IsNextItem protocol (ESC ++ after.now) maybe_more result }
+{
+    // Before a third ESC the first two are a key, whatever comes.
+    if let [_, ESCAPE, ..] = after {
+        return NextItem::AltEscape;
+    }
+    match match_form(after, scanned) {
+        FormMatch::Form(len) if is_extra_form(parser, protocol, &after[..len]) => NextItem::Escape,
+        FormMatch::Form(_) => NextItem::Usual,
+        FormMatch::MouseReport => NextItem::Usual,
+        FormMatch::Unfinished if maybe_more => NextItem::Incomplete(1 + next_scan(after)),
+        FormMatch::Unfinished => NextItem::Usual,
+        FormMatch::Absent => NextItem::Usual,
+    }
+}
+
+// What is at the front of a text that begins with one ESC alone, and with no part of a mouse report: a form, or what the port finds.
+#[inline(always)]
+fn item_of_form<'k>(text: &[u8], scanned: usize, maybe_more: bool) -> NextItem<'k>
+    requires escape { Begins ESC text.now }
+    requires one { ¬ Begins (ESC ++ ESC) text.now }
+    requires no_mouse { HasNoPartInMouseReports text.now }
+    requires scanned { IsScanned text.now scanned }
+    ensures { (protocol : Protocol) → (protocol ≡ Legacy → HasNoLongRow text.now) → IsNextItem protocol text.now maybe_more result }
+{
+    match form_at(text, scanned) {
+        FormAt::Whole(len) => NextItem::Form(len),
+        FormAt::Unfinished if maybe_more => NextItem::Incomplete(next_scan(text)),
+        FormAt::Unfinished => NextItem::Usual,
+        FormAt::Absent => NextItem::Usual,
+    }
+}
+
+// What is at the front of such a text, if it also begins with the row of this key, of two bytes, and no longer one: a form, or else the row.
+#[inline(always)]
+fn item_of_short_row<'k>(
+    text: &[u8],
+    key: &'k KeyEvent,
+    scanned: usize,
+    maybe_more: bool,
+) -> NextItem<'k>
+    requires escape { Begins ESC text.now }
+    requires one { ¬ Begins (ESC ++ ESC) text.now }
+    requires no_mouse { HasNoPartInMouseReports text.now }
+    requires scanned { IsScanned text.now scanned }
+    requires row { IsItemAt text.now maybe_more (PortsKey key.now) 2 }
+    requires no_row { HasNoLongRow text.now }
+    ensures { (protocol : Protocol) → IsNextItem protocol text.now maybe_more result }
+{
+    match item_of_form(text, scanned, maybe_more) {
+        NextItem::Usual => NextItem::Key(key, 2),
+        form => form,
+    }
+}
+
+// Looks for a row of two or more bytes at the front of a text, under `Protocol::Legacy`.
+#[inline(always)]
+fn match_row<'k>(
+    parser: &'k InputParser,
+    protocol: Protocol,
+    text: &[u8],
+    maybe_more: bool,
+) -> RowMatch<'k>
+    requires { HasNoPartInMouseReports text.now }
+    ensures { IsRowMatch protocol text.now maybe_more result }
+{
+    match protocol {
+        Protocol::Legacy => match parser.lookup(text, maybe_more) {
+            Found::Exact(2, key) => RowMatch::Short(key),
+            Found::Exact(len, key) if len > 2 => RowMatch::Long(key, len),
+            Found::Exact(..) => RowMatch::Absent,
+            Found::Ambiguous(..) => RowMatch::Begun,
+            Found::NeedData => RowMatch::Absent,
+            Found::None => RowMatch::Absent,
+        },
+        Protocol::Kitty => RowMatch::Absent,
+    }
+}
+
+// What is at the front of a text that begins with one ESC alone. A mouse report is looked for first.
+#[inline(always)]
+fn item_of_one_escape<'k>(
+    parser: &'k InputParser,
+    protocol: Protocol,
+    text: &[u8],
+    scanned: usize,
+    maybe_more: bool,
+) -> NextItem<'k>
+    requires escape { Begins ESC text.now }
+    requires one { ¬ Begins (ESC ++ ESC) text.now }
+    requires scanned { IsScanned text.now scanned }
+    ensures { IsNextItem protocol text.now maybe_more result }
+{
+    match mouse_report_at(text) {
+        FrontReport::Whole(event, len) => NextItem::MouseReport(event, len),
+        FrontReport::Begun if maybe_more => NextItem::Incomplete(next_scan(text)),
+        FrontReport::Begun => NextItem::Usual,
+        FrontReport::Absent if begins_paste(text) => NextItem::Paste,
+        FrontReport::Absent => match match_row(parser, protocol, text, maybe_more) {
+            RowMatch::Long(key, len) => NextItem::Key(key, len),
+            RowMatch::Short(key) => item_of_short_row(text, key, scanned, maybe_more),
+            RowMatch::Begun => NextItem::Incomplete(0),
+            RowMatch::Absent => item_of_form(text, scanned, maybe_more),
+        },
+    }
+}
+
+// What is at the front of a text that begins with no ESC.
+#[inline(always)]
+fn item_without_escape<'k>(text: &[u8]) -> NextItem<'k>
+    requires { ¬ Begins ESC text.now }
+    ensures { (protocol : Protocol) (more : Bool) → IsNextItem protocol text.now more result }
+{
+    match text {
+        [] => NextItem::Incomplete(0),
+        [first, ..] if is_control_key(*first) => NextItem::Control(*first),
+        _ => NextItem::Usual,
+    }
+}
+
+// What is at the front of a text. A character is the port's: `match_character` is quicker for it. The bytes before `scanned` were looked at
+// before.
+#[inline(always)]
+pub(crate) fn next_item<'k>(
+    parser: &'k InputParser,
+    protocol: Protocol,
+    text: &[u8],
+    scanned: usize,
+    maybe_more: bool,
+) -> NextItem<'k>
+    requires { IsScannedTo text.now scanned }
+    ensures { IsNextItem protocol text.now maybe_more result }
+{
+    match follows_escape(text) {
+        None => item_without_escape(text),
+        Some(after) => match follows_escape(after) {
+            Some(_) => {
+                item_of_two_escapes(
+                    parser,
+                    protocol,
+                    after,
+                    scanned.saturating_sub(1),
+                    maybe_more,
+                )
+            }
+            None => item_of_one_escape(parser, protocol, text, scanned, maybe_more),
+        },
+    }
+}
