@@ -242,10 +242,6 @@ impl ExtendedParser {
         ensures { Emits self.old maybe_more self.new result }
     {
         let text = self.waiting_text();
-        if let Some(report) = plain_report_at(self.protocol, text, len) {
-            self.consume(len);
-            return Ok(Some(ExtendedEvent::Key(report.whole(self.alloc))));
-        }
         let meaning = meaning_of(&text[..len]);
         if !is_extra_at(&self.parser, self.protocol, text, len, &meaning) {
             return self.next_of_port(maybe_more);
@@ -271,7 +267,14 @@ impl ExtendedParser {
                 self.consume(len);
                 Ok(Some(key_event(key)))
             }
-            NextItem::Form(len) => self.next_form(len, maybe_more),
+            NextItem::Form(len) => {
+                // The frame of `next_form` is large, and an event that is returned from here isn't copied on its way.
+                if let Some(report) = plain_report_at(self.protocol, self.waiting_text(), len) {
+                    self.consume(len);
+                    return Ok(Some(ExtendedEvent::Key(report.whole(self.alloc))));
+                }
+                self.next_form(len, maybe_more)
+            }
             NextItem::MouseReport(event, len) => {
                 self.consume(len);
                 Ok(Some(mouse_event(event)))

@@ -144,7 +144,7 @@ pub(crate) fn is_extra_at(
 
 // The key report of the form of so many bytes at the front of a text, if it is read as one that says no more than a key and its manner. It
 // is a small value, from which the event is built once, and so it is quicker than a meaning. `None` decides nothing.
-#[inline(always)]
+#[inline(never)]
 pub(crate) fn plain_report_at(protocol: Protocol, text: &[u8], len: usize) -> Option<PlainReport>
     requires { IsFormAt protocol text.now len }
     ensures { IfSome result (λ report. IsExtraAt protocol text.now len × (event_of (take len text.now) ≡ KeyReported (plain_report report))) }

@@ -1,11 +1,14 @@
-use Rattle.std.proofs.Common.{◌∷◌, [], sym, ap, subst}
+use Rattle.std.proofs.Common.{◌≡◌, ◌∷◌, [], take, sym, ap, ◌∙◌, subst}
 use Rattle.termwiz_keys.specs.Keys.{escape, with_alt}
 use Rattle.termwiz_keys.specs.declared.types.InputEvent.TheVariants.{Key, Mouse}
-use Rattle.termwiz_extended_events.specs.declared.types.ExtendedEvent.TheVariants.{Input}
+use Rattle.termwiz_extended_events.specs.declared.types.ExtendedEvent.TheVariants.{Input, Key as Reported}
+use Rattle.termwiz_extended_events.specs.KeyReports.{plain_report}
+use Rattle.termwiz_extended_events.specs.Meanings.{event_of}
 use Rattle.termwiz_extended_grammar.specs.ExtendedGrammar.{Steps}
 use Rattle.termwiz_input_extended.specs.Buffered.{Buffered}
+use Rattle.termwiz_input_extended.specs.NextItems.{IsExtraAt}
 use Rattle.termwiz_input_extended.proofs.lemmas.fronts.EmittedItems.{emits_event, emits_none}
-use Rattle.termwiz_input_extended.proofs.lemmas.fronts.FrontItems.{escape_step}
+use Rattle.termwiz_input_extended.proofs.lemmas.fronts.FrontItems.{escape_step, extra_step}
 use Rattle.termwiz_input_extended.proofs.lemmas.fronts.KnownFronts.{item_step, mouse_report_step}
 use Rattle.termwiz_input_extended.proofs.lemmas.fronts.ControlFirst.{control_item, control_own}
 use Rattle.termwiz_input_extended.proofs.input.ExtendedParser.emit_item.Goals as goal
@@ -61,3 +64,18 @@ returns-in-Escape c = rw (c.key_event-in-Escape.ensures, c.escape_key.ensures) (
 
 pub returns-in-Incomplete : goal.returns-in-Incomplete
 returns-in-Incomplete c = emits_none c.args.self.now _ c.args.maybe_more c.in-Incomplete.ensures.0 c.self.view_is
+
+pub returns-in-Some : goal.returns-in-Some
+returns-in-Some c =
+    let protocol = ap (λ (b : Buffered). b.protocol) c.self.view_is in
+    let u = c.args.self.now.text in
+    let found =
+    subst (λ t. IsExtraAt c.self.inside.protocol t c.in-Form.len × (event_of (take c.in-Form.len t) ≡ Reported (plain_report c.in-Some.report)))
+    c.waiting_text.ensures c.in-Some.ensures in
+    let is = subst (λ r. IsExtraAt r u c.in-Form.len) protocol found.0 in
+    emits_event c.args.self.now _ c.args.maybe_more (Reported c.whole.result)
+    (subst (λ t. Steps c.args.self.now.protocol u c.args.maybe_more (Reported c.whole.result ∷ []) t)
+    (sym (ap (λ (b : Buffered). b.text) c.consume-in-Some.ensures))
+    (extra_step c.args.self.now.protocol u c.in-Form.len _ c.args.maybe_more is.1 (Reported c.whole.result)
+    (ap (λ report. Reported report) c.whole.ensures ∙ sym found.1)))
+    (ap (λ (b : Buffered). b.protocol) c.consume-in-Some.ensures)

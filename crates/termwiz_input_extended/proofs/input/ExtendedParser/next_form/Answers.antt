@@ -10,21 +10,6 @@ use Rattle.termwiz_input_extended.proofs.lemmas.fronts.EmittedItems.{emits_event
 use Rattle.termwiz_input_extended.proofs.lemmas.fronts.FrontItems.{extra_refused, extra_step}
 use Rattle.termwiz_input_extended.proofs.input.ExtendedParser.next_form.Goals as goal
 
-pub returns-in-Some : goal.returns-in-Some
-returns-in-Some c =
-    let protocol = ap (λ (b : Buffered). b.protocol) c.self.view_is in
-    let u = c.args.self.now.text in
-    let found =
-    subst (λ t. IsExtraAt c.self.inside.protocol t c.args.len × (event_of (take c.args.len t) ≡ Key (plain_report c.in-Some.report)))
-    c.waiting_text-text.ensures c.in-Some.ensures in
-    let is = subst (λ r. IsExtraAt r u c.args.len) protocol found.0 in
-    emits_event c.args.self.now _ c.args.maybe_more (Key c.whole.result)
-    (subst (λ t. Steps c.args.self.now.protocol u c.args.maybe_more (Key c.whole.result ∷ []) t)
-    (sym (ap (λ (b : Buffered). b.text) c.consume.ensures))
-    (extra_step c.args.self.now.protocol u c.args.len _ c.args.maybe_more is.1 (Key c.whole.result)
-    (ap (λ report. Key report) c.whole.ensures ∙ sym found.1)))
-    (ap (λ (b : Buffered). b.protocol) c.consume.ensures)
-
 pub returns-in_err-event : goal.returns-in_err-event
 returns-in_err-event c =
     let protocol = ap (λ (b : Buffered). b.protocol) c.self.view_is in
@@ -48,9 +33,9 @@ returns c =
     let means = subst (λ t. event_from c.meaning_of-meaning.result ≡ Some (event_of (take c.args.len t))) c.waiting_text-text.ensures
     c.meaning_of-meaning.ensures in
     emits_event c.args.self.now _ c.args.maybe_more event
-    (subst (λ t. Steps c.args.self.now.protocol u c.args.maybe_more (event ∷ []) t) (sym (ap (λ (b : Buffered). b.text) c.consume-2.ensures))
+    (subst (λ t. Steps c.args.self.now.protocol u c.args.maybe_more (event ∷ []) t) (sym (ap (λ (b : Buffered). b.text) c.consume.ensures))
     (extra_step c.args.self.now.protocol u c.args.len _ c.args.maybe_more is.1 event (cc (means, c.in_ok-event.ensures.ok))))
-    (ap (λ (b : Buffered). b.protocol) c.consume-2.ensures)
+    (ap (λ (b : Buffered). b.protocol) c.consume.ensures)
 
 pub next_of_port-requires : goal.next_of_port-requires
 next_of_port-requires c =
