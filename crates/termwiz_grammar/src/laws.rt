@@ -55,7 +55,7 @@ pub fn few_events()
     ensures { FewEvents }
 {}
 
-/// A whole stream, read from an empty waiting text, has no more events than bytes. The events of all reads, each with its own
+/// A whole stream, read from an empty buffer, has no more events than bytes. The events of all reads, each with its own
 /// flag, and the bytes left at the end are together at most as many as the bytes of all reads. Reads may also stop between two
 /// items, as after a refusal of memory.
 pub fn few_events_in_stream()

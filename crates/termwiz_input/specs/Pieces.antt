@@ -48,7 +48,7 @@ pub record AreNumbered (waiting : List ℕ) (pieces : List (List ℕ)) (given : 
 abbrev pub flag_at : List (List ℕ) → Bool → ℕ → Bool
 flag_at pieces more taken = if taken == length pieces then more else true
 
--- So many first pieces were taken, after the waiting text, and these events were given: each with its piece's number.
+-- So many first pieces were taken, after the buffered bytes, and these events were given: each with its piece's number.
 -- The last piece may have been read in part.
 pub record ReadsFirst (waiting : List ℕ) (pieces : List (List ℕ)) (more : Bool) (taken : ℕ) (given : List NumberedEvent)
     (rest : List ℕ) : Type 0 where

@@ -120,7 +120,7 @@ pub struct InputParser {
     // The parsers that were made from this one share it, and it is freed with the last of them.
     key_map: Arc<KeyMap<KeyEvent>, Global>,
     buffer: ReadBuffer,
-    // END begins nowhere in the waiting text before this offset: a search of an open paste needn't start before it.
+    // END begins nowhere in the buffer before this offset: a search of an open paste needn't start before it.
     searched: usize,
     alloc: Global,
 }
@@ -143,7 +143,7 @@ impl InputParser {
     ghost use Rattle.std.specs.FinMap as map;
     ghost use Rattle.termwiz_grammar.specs.Table.{rows, table};
 
-    /// A parser whose key map is exactly the sequence table, and whose waiting text is empty.
+    /// A parser whose key map is exactly the sequence table, and whose buffer is empty.
     ///
     /// The clause `exactly` says which rows the table has. That the parser's key map is this table, now and in every later state, is the
     /// invariant of the type: [`InputParser::lookup`] answers from it, and every event is one that the table means.
@@ -154,7 +154,7 @@ impl InputParser {
         Ok(InputParser::over(alloc, new_table(alloc)?))
     }
 
-    // A parser over this table, whose waiting text is empty.
+    // A parser over this table, whose buffer is empty.
     fn over(alloc: Global, key_map: Arc<KeyMap<KeyEvent>, Global>) -> InputParser
         requires { arc_value key_map ≡ table }
         ensures { result ≡ [] }
@@ -167,7 +167,7 @@ impl InputParser {
         }
     }
 
-    /// Another parser with the sequence table of this one, whose waiting text is empty.
+    /// Another parser with the sequence table of this one, whose buffer is empty.
     ///
     /// A table costs memory and time, and parsers may share one: make the first parser by [`InputParser::new`], and the others from any
     /// that has the table. It is freed with the last of them, in whatever order they go. The call takes no memory. It fails only if
@@ -200,13 +200,13 @@ impl InputParser {
         self.key_map.get_index(place)
     }
 
-    /// The rows of the sequence table that would complete the waiting text: those that begin with it and are longer. If there are none,
+    /// The rows of the sequence table that would complete what is buffered: those that begin with it and are longer. If there are none,
     /// those that begin with what follows its ESC; these get ALT.
     ///
     /// Ask for them while [`InputParser::waiting`] is `Escape` or `Sequence`. A mouse report, a character and a paste are completed by bytes
     /// that aren't in the table, and an ESC by any character too.
     ///
-    /// The waiting text and the rest of such a row mean the row's key, with ALT if `with_alt` is true (`completions_are_read` of
+    /// The buffered bytes and the rest of such a row mean the row's key, with ALT if `with_alt` is true (`completions_are_read` of
     /// `termwiz_laws`). The start of a paste is the exception: it opens a paste, and an ESC before it is the Escape key.
     pub fn completions(&self) -> Completions
         ensures { AreCompletions self.now result.with_alt result.rows.start result.rows.end }
@@ -214,21 +214,21 @@ impl InputParser {
         completions_of(&self.key_map, self.buffer.as_slice())
     }
 
-    /// The length of the waiting text.
+    /// The number of buffered bytes.
     pub fn waiting_len(&self) -> usize
         ensures { result ≡ length self.now }
     {
         self.buffer.len()
     }
 
-    /// The waiting text: the bytes that are buffered.
+    /// The buffered bytes.
     pub fn waiting_text(&self) -> &[u8]
         ensures { result.now ≡ self.now }
     {
         self.buffer.as_slice()
     }
 
-    /// Whether the waiting text begins with the start of a paste.
+    /// Whether the buffer begins with the start of a paste.
     pub fn is_paste_open(&self) -> bool
         ensures { IsTrue result ↔ Begins START self.now }
     {
@@ -248,7 +248,7 @@ impl InputParser {
         kind_of(self.buffer.as_slice())
     }
 
-    // What is at the front of the waiting text. A run of printable ASCII has at most `most` characters.
+    // What is at the front of the buffer. A run of printable ASCII has at most `most` characters.
     #[inline(always)]
     fn front(&self, most: usize, maybe_more: bool) -> AtFront<'_, '_>
         requires { 0 < most }
@@ -258,7 +258,7 @@ impl InputParser {
         front(&self.key_map, text, self.searched, most, maybe_more)
     }
 
-    /// Whether an item is at the front of the waiting text: whether [`InputParser::next_event`] emits an event, if memory is granted.
+    /// Whether an item is at the front of the buffer: whether [`InputParser::next_event`] emits an event, if memory is granted.
     pub fn has_item(&self, maybe_more: bool) -> bool
         ensures some { IsTrue result → HasItem self.now maybe_more }
         ensures none { result ≡ false → IsRest self.now maybe_more }
@@ -280,7 +280,7 @@ impl InputParser {
         }
     }
 
-    /// Whether an open paste is buffered: the waiting text begins with the start of a paste, and its end isn't there yet. Then no event needs
+    /// Whether an open paste is buffered: the buffer begins with the start of a paste, and its end isn't there yet. Then no event needs
     /// room, whatever flag is passed.
     ///
     /// It notes how far it searched, so that no call searches these bytes again.
@@ -346,10 +346,10 @@ impl InputParser {
         len
     }
 
-    /// Gives back memory that holds no waiting text, as far as there is room for `min_capacity` bytes afterwards.
+    /// Gives back memory that holds no buffered bytes, as far as there is room for `min_capacity` bytes afterwards.
     ///
     /// The buffer grows with what it has to hold, such as a long paste, and keeps that memory for what comes next. Call this for a
-    /// parser of a session that is quiet now. The waiting text and all later answers are unchanged. If the smaller memory is refused, the
+    /// parser of a session that is quiet now. What is buffered and all later answers are unchanged. If the smaller memory is refused, the
     /// buffer keeps the one that it has.
     pub fn shrink_to(&mut self, min_capacity: usize)
         ensures { self.new ≡ self.old }
@@ -357,7 +357,7 @@ impl InputParser {
         self.buffer.shrink_to(min_capacity);
     }
 
-    /// Drops the first bytes of the waiting text, as if they had never come.
+    /// Drops the first buffered bytes, as if they had never come.
     ///
     /// It is for a parser that reads sequences of its own before this one does. What is left wasn't searched for the end of a paste.
     pub fn consume(&mut self, len: usize)
@@ -368,7 +368,7 @@ impl InputParser {
         self.searched = 0;
     }
 
-    /// Appends bytes to the waiting text. If memory is refused, the parser is unchanged; no bytes need no memory.
+    /// Buffers bytes. If memory is refused, the parser is unchanged; no bytes need no memory.
     ///
     /// Then call [`InputParser::next_event`] until it returns `None`.
     pub fn feed(&mut self, bytes: &[u8]) -> Result<(), AllocError>
@@ -389,7 +389,7 @@ impl InputParser {
         Ok(Some(event))
     }
 
-    // Consumes the item at the front of the waiting text, and returns its event. `None` if no item is there.
+    // Consumes the item at the front of the buffer, and returns its event. `None` if no item is there.
     fn emit_front(&mut self, maybe_more: bool) -> Result<Option<InputEvent>, AllocError>
         ensures { Emits self.old maybe_more self.new result }
     {
@@ -425,7 +425,7 @@ impl InputParser {
         }
     }
 
-    /// Takes the item at the front of the waiting text, and returns its event. `None` if no item stands there: what waits is
+    /// Consumes the item at the front of the buffer, and returns its event. `None` if no item stands there: what waits is
     /// the rest, and the parser is unchanged.
     ///
     /// Pass `maybe_more` as for [`InputParser::parse`]. Only the text of a paste needs memory: if it is refused, the parser is
@@ -447,7 +447,7 @@ impl InputParser {
         self.emit_front(maybe_more)
     }
 
-    /// Calls `callback` with each event of the waiting text in order: a loop over [`InputParser::next_event`] up to `None`. A program that has
+    /// Calls `callback` with each event of the buffered bytes in order: a loop over [`InputParser::next_event`] up to `None`. A program that has
     /// such a loop of its own has the same events.
     ///
     /// Pass `maybe_more` as for [`InputParser::parse`]. If memory for the text of a paste is refused, the paste is still at the front of what
@@ -482,7 +482,7 @@ impl InputParser {
         }
     }
 
-    /// Appends `bytes` to the waiting text, and calls `callback` with each of its events in order. What is no event yet waits.
+    /// Buffers `bytes`, and calls `callback` with each of its events in order. What is no event yet stays buffered.
     ///
     /// Pass `maybe_more` as true while more bytes may come: then a text that may yet become a longer sequence or a character
     /// stays buffered. After a pause call [`InputParser::flush_escape`]. Pass false at the end of the input: then only an open
@@ -516,7 +516,7 @@ impl InputParser {
             × WasCalledOn F.step callback.old events callback.new }
         ensures taken_paste { IsErrOf result ParseError.Taken → HasPaste self.new maybe_more }
 
-        // No bytes need no memory, unless the waiting text gives a paste.
+        // No bytes need no memory, unless the buffered bytes give a paste.
         ensures granted { bytes.now ≡ [] → GivesNoPaste self.old maybe_more → IsOk result }
     {
         if self.feed(bytes).is_err() {
@@ -528,7 +528,7 @@ impl InputParser {
         }
     }
 
-    // Appends a piece to the waiting text, and calls `callback` with the piece's number and each of the events in order.
+    // Buffers a piece, and calls `callback` with the piece's number and each of the events in order.
     fn parse_piece<F: FnMut(usize, InputEvent)>(
         &mut self,
         number: usize,
@@ -558,7 +558,7 @@ impl InputParser {
         )
     }
 
-    /// Appends each piece to the waiting text in turn, and calls `callback` with the number of the piece, from 0, and each of
+    /// Buffers each piece in turn, and calls `callback` with the number of the piece, from 0, and each of
     /// the events. All pieces but the last are read with more to come, and the last under `maybe_more`. No pieces are one
     /// piece without bytes.
     ///
@@ -593,7 +593,7 @@ impl InputParser {
             × IsRefusedReading self.old (texts pieces.now) maybe_more e.taken given self.new
             × WasCalledOnNumbered F.step callback.old given callback.new) }
 
-        // No pieces need no memory, unless the waiting text gives a paste.
+        // No pieces need no memory, unless the buffered bytes give a paste.
         ensures granted { pieces.now ≡ [] → GivesNoPaste self.old maybe_more → IsOk result }
     {
         if pieces.is_empty() {
@@ -623,7 +623,7 @@ impl InputParser {
         events.reserve(self.waiting_len().min(SHORT_TEXT).max(count))
     }
 
-    // Appends the event of the first `len` bytes of the waiting text, and returns `len`.
+    // Appends the event of the first `len` buffered bytes, and returns `len`.
     #[inline(always)]
     fn store(
         &self,
@@ -638,7 +638,7 @@ impl InputParser {
         Ok(Some(len))
     }
 
-    // Appends the events of what is at the front of the waiting text, and returns the number of their bytes. `None` if it is incomplete.
+    // Appends the events of what is at the front of the buffer, and returns the number of their bytes. `None` if it is incomplete.
     // Each arm builds the event that it stores.
     fn store_front(
         &self,
@@ -675,7 +675,7 @@ impl InputParser {
         }
     }
 
-    // Moves the events of the waiting text to an empty list, in order. An event's bytes are consumed only after it is stored.
+    // Moves the events of the buffered bytes to an empty list, in order. An event's bytes are consumed only after it is stored.
     fn store_events(
         &mut self,
         events: &mut Vec<InputEvent>,
@@ -698,7 +698,7 @@ impl InputParser {
         }
     }
 
-    /// Appends `bytes` to the waiting text, and returns its events in order. What is no event yet waits.
+    /// Buffers `bytes`, and returns its events in order. What is no event yet stays buffered.
     ///
     /// Pass `maybe_more` as true while more bytes may come: then a text that may yet become a longer sequence or a character
     /// stays buffered. After a pause call [`InputParser::flush_escape`]. Pass false at the end of the input: then only an open

@@ -38,10 +38,10 @@ pub struct ExtendedVecError {
 /// Contracts see a parser as its `Protocol` and its buffered bytes.
 #[derive(Debug, Drop)]
 pub struct ExtendedParser {
-    // Its waiting text is that of this parser.
+    // Its buffered bytes are those of this parser.
     parser: InputParser,
     protocol: Protocol,
-    // The bytes of the waiting text before this offset were looked at: a search for the end of a sequence goes on from there.
+    // The bytes of the buffer before this offset were looked at: a search for the end of a sequence goes on from there.
     scanned: usize,
     alloc: Global,
 }
@@ -75,7 +75,7 @@ fn mouse_event(event: MouseEvent) -> ExtendedEvent
 }
 
 impl ExtendedParser {
-    /// A parser that reads the rows of the sequence table in this way, and whose waiting text is empty.
+    /// A parser that reads the rows of the sequence table in this way, and whose buffer is empty.
     pub fn new(alloc: Global, protocol: Protocol) -> Result<ExtendedParser, AllocError>
         ensures empty { IfOk result (λ parser. parser.text ≡ []) }
         ensures protocol { IfOk result (λ parser. parser.protocol ≡ protocol) }
@@ -83,7 +83,7 @@ impl ExtendedParser {
         Ok(ExtendedParser::over(alloc, InputParser::new(alloc)?, protocol))
     }
 
-    // A parser over another, of whose waiting text nothing was searched.
+    // A parser over another, of whose buffer nothing was searched.
     fn over(alloc: Global, parser: InputParser, protocol: Protocol) -> ExtendedParser
         ensures text { result.text ≡ parser }
         ensures protocol { result.protocol ≡ protocol }
@@ -96,7 +96,7 @@ impl ExtendedParser {
         }
     }
 
-    /// Another parser with the sequence table of this one, which reads its rows in this way, and whose waiting text is empty. It asks for
+    /// Another parser with the sequence table of this one, which reads its rows in this way, and whose buffer is empty. It asks for
     /// no memory; see [`InputParser::sharing`].
     pub fn sharing(&self, protocol: Protocol) -> Result<ExtendedParser, AllocError>
         ensures empty { IfOk result (λ parser. parser.text ≡ []) }
@@ -118,14 +118,14 @@ impl ExtendedParser {
         Ok(ExtendedParser::over(alloc, parser.sharing()?, protocol))
     }
 
-    /// An [`InputParser`] with the sequence table of this parser, whose waiting text is empty.
+    /// An [`InputParser`] with the sequence table of this parser, whose buffer is empty.
     pub fn input_sharing(&self) -> Result<InputParser, AllocError>
         ensures { IfOk result (λ parser. parser ≡ []) }
     {
         self.parser.sharing()
     }
 
-    /// Gives back memory that holds no waiting text, as [`InputParser::shrink_to`] does.
+    /// Gives back memory that holds no buffered bytes, as [`InputParser::shrink_to`] does.
     pub fn shrink_to(&mut self, min_capacity: usize)
         ensures { self.new ≡ self.old }
     {
@@ -139,28 +139,28 @@ impl ExtendedParser {
         self.protocol
     }
 
-    /// The waiting text: the bytes that are buffered.
+    /// The buffered bytes.
     pub fn waiting_text(&self) -> &[u8]
         ensures { result.now ≡ self.now.text }
     {
         self.parser.waiting_text()
     }
 
-    /// The length of the waiting text.
+    /// The number of buffered bytes.
     pub fn waiting_len(&self) -> usize
         ensures { result ≡ length self.now.text }
     {
         self.parser.waiting_len()
     }
 
-    /// Whether the waiting text begins with the start of a paste.
+    /// Whether the buffer begins with the start of a paste.
     pub fn is_paste_open(&self) -> bool
         ensures { IsTrue result ↔ Begins START self.now.text }
     {
         self.parser.is_paste_open()
     }
 
-    // What is at the front of the waiting text.
+    // What is at the front of the buffer.
     #[inline(always)]
     fn next_item(&self, maybe_more: bool) -> NextItem<'_>
         ensures { IsNextItem self.now.protocol self.now.text maybe_more result }
@@ -185,7 +185,7 @@ impl ExtendedParser {
         len
     }
 
-    // Drops the first bytes of the waiting text. What is left wasn't looked at.
+    // Drops the first buffered bytes. What is left wasn't looked at.
     fn consume(&mut self, len: usize)
         requires { len ≤ length self.old.text }
         ensures { self.new ≡ record self.old { text = drop len self.old.text } }
@@ -194,7 +194,7 @@ impl ExtendedParser {
         self.scanned = 0;
     }
 
-    /// Appends bytes to the waiting text. If memory is refused, the parser is unchanged; no bytes need no memory.
+    /// Buffers bytes. If memory is refused, the parser is unchanged; no bytes need no memory.
     ///
     /// Then call [`ExtendedParser::next_event`] until it returns `None`.
     pub fn feed(&mut self, bytes: &[u8]) -> Result<(), AllocError>
@@ -205,7 +205,7 @@ impl ExtendedParser {
         self.parser.feed(bytes)
     }
 
-    // Consumes what the port finds at the front of the waiting text.
+    // Consumes what the port finds at the front of the buffer.
     fn next_of_port(&mut self, maybe_more: bool) -> Result<Option<ExtendedEvent>, AllocError>
         requires { IsPortsOwn self.old.protocol self.old.text maybe_more }
         ensures { Emits self.old maybe_more self.new result }
@@ -231,7 +231,7 @@ impl ExtendedParser {
         self.next_of_port(maybe_more)
     }
 
-    // Consumes the form of so many bytes at the front of the waiting text, and returns its event. A row of the table is the port's.
+    // Consumes the form of so many bytes at the front of the buffer, and returns its event. A row of the table is the port's.
     #[inline(never)]
     fn next_form(
         &mut self,
@@ -251,7 +251,7 @@ impl ExtendedParser {
         Ok(Some(event))
     }
 
-    // Consumes the item at the front of the waiting text, and returns its event. `None` if no item is there. `next_event` is quicker for
+    // Consumes the item at the front of the buffer, and returns its event. `None` if no item is there. `next_event` is quicker for
     // characters.
     #[inline(never)]
     fn emit_item(&mut self, maybe_more: bool) -> Result<Option<ExtendedEvent>, AllocError>
@@ -378,7 +378,7 @@ impl ExtendedParser {
         }
     }
 
-    /// Calls `callback` with each event of the waiting text in order: a loop over [`ExtendedParser::next_event`] up to `None`. A program that
+    /// Calls `callback` with each event of the buffered bytes in order: a loop over [`ExtendedParser::next_event`] up to `None`. A program that
     /// has such a loop of its own has the same events.
     ///
     /// Pass `maybe_more` as for [`ExtendedParser::parse`]. If memory for an event is refused, its item is still at the front of what waits,
@@ -413,7 +413,7 @@ impl ExtendedParser {
         }
     }
 
-    /// Appends `bytes` to the waiting text, and calls `callback` with each of its events in order. What is no event yet stays buffered.
+    /// Buffers `bytes`, and calls `callback` with each of its events in order. What is no event yet stays buffered.
     ///
     /// Pass `maybe_more` as true while more bytes may come: then a text that may yet become a longer sequence or a character
     /// stays buffered. After a pause call [`ExtendedParser::flush_escape`]. Pass false at the end of the input: then only an open
@@ -448,7 +448,7 @@ impl ExtendedParser {
             × WasCalledOn F.step callback.old events callback.new }
         ensures taken_item { IsErrOf result ParseError.Taken → HasItemThatNeedsMemory self.new.protocol self.new.text maybe_more }
 
-        // No bytes need no memory, unless the waiting text gives an event that does.
+        // No bytes need no memory, unless the buffered bytes give an event that does.
         ensures granted { bytes.now ≡ [] → GivesNoneThatNeedsMemory self.old.protocol self.old.text maybe_more → IsOk result }
     {
         if self.feed(bytes).is_err() {
@@ -460,7 +460,7 @@ impl ExtendedParser {
         }
     }
 
-    // Whether an item is at the front of the waiting text.
+    // Whether an item is at the front of the buffer.
     fn has_item(&self, maybe_more: bool) -> bool
         ensures some { IsTrue result → HasItem self.now.protocol self.now.text maybe_more }
         ensures none { result ≡ false → IsRest self.now.protocol self.now.text maybe_more }
@@ -480,7 +480,7 @@ impl ExtendedParser {
         }
     }
 
-    // Makes room in the list for one more event, if an item is at the front of the waiting text.
+    // Makes room in the list for one more event, if an item is at the front of the buffer.
     fn make_room(&self, events: &mut Vec<ExtendedEvent>, maybe_more: bool) -> Result<(), AllocError>
         ensures items { events.new.items ≡ events.old.items }
         ensures room { OnOk result (HasItem self.now.protocol self.now.text maybe_more → vec_len events.new < vec_capacity events.new) }
@@ -495,7 +495,7 @@ impl ExtendedParser {
         events.reserve(self.waiting_len().min(FIRST_ROOM).max(1))
     }
 
-    // Moves the event of the item at the front of the waiting text to the list. False if no item is there. There is room for the event before
+    // Moves the event of the item at the front of the buffer to the list. False if no item is there. There is room for the event before
     // its bytes are consumed.
     fn store_next(
         &mut self,
@@ -514,7 +514,7 @@ impl ExtendedParser {
         }
     }
 
-    // Moves the events of the waiting text to an empty list, in order. An event's bytes are consumed only after there is room for it.
+    // Moves the events of the buffered bytes to an empty list, in order. An event's bytes are consumed only after there is room for it.
     fn store_events(
         &mut self,
         events: &mut Vec<ExtendedEvent>,
@@ -531,7 +531,7 @@ impl ExtendedParser {
         Ok(())
     }
 
-    /// Appends `bytes` to the waiting text, and returns its events in order. What is no event yet stays buffered.
+    /// Buffers `bytes`, and returns its events in order. What is no event yet stays buffered.
     ///
     /// Pass `maybe_more` as true while more bytes may come: then a text that may yet become a longer sequence or a character
     /// stays buffered. After a pause call [`ExtendedParser::flush_escape`]. Pass false at the end of the input: then only an open
