@@ -8,7 +8,7 @@
 # prints the least nanoseconds per event of each, or milliseconds if there are few events, as the table of docs/PERFORMANCE.md. The reads
 # and the corpora are those of tools/measure.sh; if no corpus is named, typed, keys, csiu, utf8, mouse and paste.
 #
-# DIR is a folder that tools/c_library.sh wrote; without --library the library is built.
+# DIR is the library's folder; without --library make builds it in out/lib.
 #
 # It needs rt, cc, ar, objcopy, cargo and python3, and fails if one isn't there. --without-rt leaves out `parse_as_vec`, and wants
 # --library; --without-cargo leaves out Rust. It says on standard error what it does.
@@ -39,12 +39,9 @@ want_number "$runs" --runs
 for read in ${reads//,/ }; do want_number "$read" --reads; done
 for case in "$@"; do [ "${case%:*}" != new ] || refuse_word "$case"; done
 wants rt || [ -n "$library" ] || refuse '--without-rt wants --library, since rt builds it'
-! wants rt || need rt 'the Rattle kit' --without-rt
-need cc gcc
-[ -n "$library" ] || for tool in ar objcopy; do need $tool binutils; done
-! wants cargo || need cargo cargo --without-cargo
-need python3 python3
-stop_if_missing
+! wants rt || need rt 'the Rattle kit (or --without-rt)'
+! wants cargo || need cargo 'cargo (or --without-cargo)'
+need cc gcc python3 python3
 [ $# -gt 0 ] || set -- typed keys csiu utf8 mouse paste
 work=$(mktemp -d)
 trap 'rm -rf "$work"' EXIT
@@ -59,8 +56,8 @@ else
 fi
 if [ -z "$library" ]; then
     progress 'building the library'
-    library=$work/lib
-    "$top/tools/c_library.sh" "$library" >&2
+    library=$top/out/lib
+    make -s -C "$top" library >&2
 fi
 progress 'building the programs in C and Rust'
 cc -O2 -I"$library" -o "$work/in_c" "$top/tools/measure/measure.c" "$top/tools/measure/c_pass.c" "$library/libhedrugal.a"

@@ -1,7 +1,7 @@
 #!/usr/bin/env bash
 # Calls the C library with inputs that clang's libFuzzer makes, and checks what it answers.
 #
-#     tools/fuzz.sh [--library DIR] [--repeat HARNESS FILE] [--if-clang] [--without-clang] [SECONDS]
+#     tools/fuzz.sh [--repeat HARNESS FILE] [SECONDS]
 #
 # There are five harnesses in tools/fuzz, and the head of each says what it checks: cuts (a stream read whole and in pieces), extended (the
 # same for the extended parser, whose keys are encoded and read back), calls (calls in any order, with requests for memory refused), maps (a
@@ -11,25 +11,16 @@
 # The harnesses are built with clang's checks of addresses and of undefined behaviour. The archive is compiled already and has no such
 # checks in it. So each argument lies beside a page that can't be touched, and each block of the library's memory between marks.
 #
-# DIR is a folder that tools/c_library.sh wrote; without --library the library is built, which needs rt. An input that fails is kept in a
-# folder that the script names, with the words that repeat it: --repeat runs that input alone. The last line is 'N passed, N failed', the
-# status 1 if a harness failed.
-#
-# It needs clang with its runtime, and objcopy of binutils, and fails if one isn't there. With --if-clang, as the gate runs it, it doesn't
-# fail if clang or its runtime isn't there: its last line is then 'fuzz: not run: ..', and its status 77. With --without-clang it checks
-# nothing and says so.
+# The library is that of HEDRUGAL_LIBRARY, else of out/lib. An input that fails is kept in a folder that the script names, with the words
+# that repeat it: --repeat runs that input alone. The last line is 'N passed, N failed', the status 1 if a harness failed. It needs clang
+# with its runtime, and objcopy of binutils.
 set -u
 export LC_ALL=C
 . "$(dirname "$0")/common.sh"
-harnesses='cuts extended calls maps keys' library='' harness='' input='' seconds='' left_out='' if_clang=''
+harnesses='cuts extended calls maps keys' harness='' input='' seconds=''
 while [ $# -gt 0 ]; do
     case $1 in
         --help) show_help; exit ;;
-        --library)
-            want_next "$@"
-            [ -f "$2/libhedrugal.a" ] || refuse "there is no libhedrugal.a in $2"
-            library=$(realpath "$2")
-            shift ;;
         --repeat)
             [ $# -gt 2 ] || refuse '--repeat wants a harness and a file after it'
             [[ " $harnesses " == *" $2 "* ]] || refuse_word "$2"
@@ -37,47 +28,14 @@ while [ $# -gt 0 ]; do
             [ -f "$3" ] || refuse "there is no file $3"
             input=$(realpath "$3")
             shift 2 ;;
-        --if-clang) if_clang=yes ;;
-        --without-clang) left_out=clang ;;
         -*) refuse_word "$1" ;;
         *) [ -z "$seconds" ] || refuse_word "$1"; want_number "$1" SECONDS; seconds=$1 ;;
     esac
     shift
 done
-if [ -n "$left_out" ]; then
-    echo 'fuzz: left out by --without-clang: the library gets no inputs of libFuzzer'
-    echo '0 passed, 0 failed'
-    exit
-fi
-# Ends the script since a part of clang isn't there.
-stop_without() { # what package
-    if [ -n "$if_clang" ]; then
-        echo "fuzz: not run: $1 isn't here (Debian has it in $2)"
-        exit 77
-    fi
-    echo "fuzz: not run, $1 isn't here: install $2 (or leave it out by --without-clang)" >&2
-    exit 1
-}
-
-[ -n "$library" ] || need rt 'the Rattle kit'
-need objcopy binutils
-stop_if_missing
-command -v clang > /dev/null || stop_without clang 'clang and libclang-rt-VERSION-dev'
-cd "$(dirname "$0")/.." || exit
-work=$(mktemp -d)
-trap 'rm -rf "$work"' EXIT
+need objcopy binutils clang clang
+enter
 checks='-fsanitize=address,undefined -fno-sanitize-recover=all'
-echo 'int LLVMFuzzerTestOneInput(const char *it, unsigned long len) { return it && len ? 0 : 0; }' > "$work/empty.c"
-version=$(clang -dumpversion)
-# shellcheck disable=SC2086
-clang $checks -fsanitize=fuzzer "$work/empty.c" -o "$work/empty" 2> "$work/log" ||
-    stop_without "clang's runtime with libFuzzer" "libclang-rt-${version%%.*}-dev"
-if [ -z "$library" ]; then
-    progress 'builds the library'
-    library=$work/lib
-    tools/c_library.sh "$library" > "$work/log" 2>&1 || { cat "$work/log" >&2; exit 1; }
-fi
-
 # Builds the harnesses over an archive whose requests for memory are those of tools/fuzz/fuzz.c. What they share isn't traced.
 build() {
     local name options="-std=c11 -O1 -g -Wall -Wextra -pedantic -Werror -I$library"
@@ -105,7 +63,6 @@ write_seeds() { # harness
     done < "tools/fuzz/corpus/$1.txt"
 }
 
-passed=0 failed=0
 export ASAN_OPTIONS=quarantine_size_mb=32:detect_stack_use_after_return=1
 # Runs a harness with further words. What it says goes to the log.
 run() { # harness words..
@@ -120,7 +77,7 @@ stat_of() { # name
 # Says what failed, and keeps the input.
 keep_find() { # harness
     local kept
-    kept=$(mktemp -d -t termwiz-fuzz.XXXXXX)
+    kept=$(mktemp -d -t hedrugal-fuzz.XXXXXX)
     cp "$work/log" "$kept/log"
     grep -v '^#\|^INFO' "$work/log" | head -n 60
     for found in "$work"/found-*; do
@@ -167,5 +124,4 @@ else
     fuzz maps "$sixth" 300
     fuzz keys "$sixth" 48
 fi
-echo "$passed passed, $failed failed"
-[ "$failed" = 0 ]
+print_counts

@@ -1,3 +1,105 @@
 #!/usr/bin/env bash
-# The gate: every proof, must-fail edit, test and check of this repository. `tools/gate.sh --help` says more.
-exec python3 -B "$(dirname "$0")/gate/gate.py" "$@"
+# Runs the parts of `make gate` and `make check`, and counts what passed.
+#
+#     tools/gate.sh part NAME COMMAND    runs a command of the shell. out/gate/NAME.log is what it printed, and out/gate/NAME.count has
+#                                        how many cases passed and failed, when it began and ended, and its processor time, in seconds
+#     tools/gate.sh wait CRATE..         waits until the part ci, which is `rt ci`, has proved these crates
+#     tools/gate.sh table NAME..         prints a table of these parts, and how many cases passed and failed in all
+#
+# The counts of a part are those of its last line 'N passed, N failed', or of pytest's; without one it is one case. Each must-fail edit that
+# `rt ci` calls a BAD EDIT or NOT TRIED is a failed one.
+set -uo pipefail
+usage() { sed -n '2,/^set/{/^set/d;s/^# \{0,1\}//;p;}' "$0"; }
+cd "$(dirname "$0")/.." || exit
+gate=out/gate
+
+count() { # status log
+    awk -v status="$1" '
+        /^=* ?[0-9]+ (passed|failed|skipped|error).* in [0-9.]+s/ || /^[0-9]+ passed, [0-9]+ failed/ {
+            passed = failed = 0
+            for (i = 2; i <= NF; i++) {
+                if ($i ~ /^passed/) passed = $(i - 1)
+                if ($i ~ /^(failed|errors?)/) failed += $(i - 1)
+            }
+            counted = 1
+        }
+        /: (BAD EDIT|NOT TRIED)(:|$)/ { bad++ }
+        END {
+            if (!counted) passed = !status
+            if (status && !failed) failed = 1
+            print passed + 0, failed + bad
+        }' "$2"
+}
+
+part() { # name command
+    local log=$gate/$1.log began ended status=0 counts TIMEFORMAT='%U %S'
+    mkdir -p "$gate"
+    began=$(date +%s)
+    # what make tells the makes below it is not the command's
+    unset MAKEFLAGS MFLAGS MAKELEVEL GATE
+    # the part that takes longest is shown as it goes
+    if [ "$1" = ci ]; then
+        { time bash -c "$2" 2>&1 < /dev/null | tee "$log"; } 2> "$gate/$1.time" || status=$?
+    else
+        { time timeout 1200 bash -c "$2" > "$log" 2>&1 < /dev/null; } 2> "$gate/$1.time" || status=$?
+    fi
+    ended=$(date +%s)
+    counts=$(count "$status" "$log")
+    { echo "== $1"; [ "$1" = ci ] || cat "$log"; echo "gate: $1: ${counts/ / passed, } failed, $((ended - began)) s"; } > "$gate/$1.shown"
+    flock "$gate" cat "$gate/$1.shown"
+    echo "$counts $began $ended $(awk '{ print $1 + $2 }' "$gate/$1.time")" > "$gate/$1.count"
+    rm "$gate/$1".{shown,time}
+    [ "${counts#* }" = 0 ]
+}
+
+# Whether `rt ci` has said this of a crate.
+has_said() { # crate pattern
+    grep -qE "^rt: $1 $2" $gate/ci.log 2> /dev/null
+}
+
+wait_for() { # crates..
+    local crate is_over=no
+    for crate; do
+        while :; do
+            [ ! -e $gate/ci.count ] || is_over=yes
+            has_said "$crate" '(proved$|is kept: )' && break
+            if [ $is_over = yes ] || has_said "$crate" 'NOT PROVED'; then
+                echo "gate: $crate isn't proved" >&2
+                exit 1
+            fi
+            sleep 1
+        done
+    done
+}
+
+table() { # names..
+    local name
+    for name; do
+        echo "$name $(cat "$gate/$name.count" 2> /dev/null)"
+    done | awk '
+        function clock(seconds) { return sprintf("%d:%02d", seconds / 60, seconds % 60) }
+        { names[NR] = $1; passed[NR] = $2; failed[NR] = $3; began[NR] = $4; ended[NR] = $5; used[NR] = $6 }
+        $4 && (!first || $4 < first) { first = $4 }
+        $5 > last { last = $5 }
+        END {
+            printf "\n%-12s %7s %7s %7s %10s  %s\n", "part", "from", "to", "takes", "processor", "result"
+            for (n = 1; n <= NR; n++) {
+                if (!began[n]) { failed[n] = 1; printf "%-12s %46s\n", names[n], "NOT RUN, since what it needs failed" }
+                else printf "%-12s %7s %7s %7s %10s  %d passed, %d failed\n", names[n], clock(began[n] - first), clock(ended[n] - first),
+                    clock(ended[n] - began[n]), clock(used[n]), passed[n], failed[n]
+                all_passed += passed[n]; all_failed += failed[n]; all_used += used[n]
+            }
+            printf "%-12s %7s %7s %7s %10s\n\n%d passed, %d failed\n", "all", clock(0), clock(last - first), clock(last - first), clock(all_used),
+                all_passed, all_failed
+            exit all_failed > 0
+        }'
+}
+
+verb=${1-}
+[ $# -eq 0 ] || shift
+case $verb in
+    part | table) "$verb" "$@" ;;
+    wait) wait_for "$@" ;;
+    --help) usage ;;
+    *) usage >&2; exit 2 ;;
+esac

@@ -1,48 +1,29 @@
 #!/usr/bin/env bash
-# Installs the library for C, keyshow and hedrugal-keys in temporary folders by tools/install.sh, and tests what lies there.
-#
-#     tools/install_test.sh [--library DIR] [--keyshow FILE] [--keys FILE]
+# Installs the library, keyshow and hedrugal-keys in temporary folders by `make install`, and tests what lies there: `make check-install`.
+# HEDRUGAL_LIBRARY names the library's folder, else it is out/lib; KEYSHOW names the program, else it is out/bin/keyshow.
 #
 # Programs are built by pkg-config, with the shared library and with the archive, where the files were installed and after the prefix was
-# moved. The shared library has to export the calls of the header alone, and to be linked as tools/c_library.sh says. The manual page has to
+# moved. The shared library has to export the calls of the header alone, and to be linked as the Makefile says. The manual page has to
 # have each call as the header declares it. Each file has to be gone once it is uninstalled, and no other. The folders of /usr/local have to
-# stay; they are an empty file system's, if the system lets a program have such a view.
-#
-# DIR is a folder that tools/c_library.sh wrote, each FILE the program; what isn't named is proved and built first. The last line is
-# 'N passed, N failed', the status 1 if a case failed. It needs cc, binutils and pkg-config, and rt to build. The manual pages are checked
-# by mandoc or man too if one of them is there.
-set -u
-export LC_ALL=C
+# stay; they are an empty file system's, if the system lets a program have such a view. The last line is 'N passed, N failed', the status 1
+# if a case failed.
 . "$(dirname "$0")/common.sh"
-library='' keyshow='' keys=''
-while [ $# -gt 0 ]; do
-    case $1 in
-        --help) show_help; exit ;;
-        --library) want_next "$@"; library=$(realpath -- "$2") || exit; shift ;;
-        --keyshow) want_next "$@"; keyshow=$(realpath -- "$2") || exit; shift ;;
-        --keys) want_next "$@"; keys=$(realpath -- "$2") || exit; shift ;;
-        *) refuse_word "$1" ;;
-    esac
-    shift
-done
-need cc gcc
-for tool in nm readelf; do need $tool binutils; done
-need pkg-config pkg-config
-stop_if_missing
-cd "$(dirname "$0")/.." || exit
-work=$(mktemp -d)
-trap 'rm -rf "$work"' EXIT
-build_unnamed
+start_cases "$@"
+keyshow=$(realpath -m -- "${KEYSHOW:-out/bin/keyshow}")
+[ -x "$keyshow" ] || refuse "there is no $keyshow: make builds it, or KEYSHOW names another"
 
-install=$PWD/tools/install.sh
 page=docs/man/hedrugal.3
 version=$(library_version)
 major=${version%%.*}
-built=(--library "$library" --keyshow "$keyshow" --keys "$keys")
-top=$work/stage/usr/local
-strict='-std=c99 -O1 -Wall -Wextra -pedantic -Werror'
+stage=$work/stage/usr/local
+strict=(-std=c99 -O1 -Wall -Wextra -pedantic -Werror)
 # Beside the source the header of these sources would be found first.
 cp c/events.c "$work/"
+
+# make over what was built, with further words.
+over_built() { # words..
+    make -s LIBRARY="$library" KEYSHOW="$keyshow" "$@"
+}
 
 # What lies below a folder: links with what they lead to, files with their modes.
 listed() { # folder
@@ -63,7 +44,7 @@ check_files() {
         echo 'share/man/man1/keyshow.1 644'
         echo 'share/man/man3/hedrugal.3 644'
         library_calls | sed 's|.*|share/man/man3/&.3 -> hedrugal.3|'
-    } | sort | diff - <(listed "$top")
+    } | sort | diff - <(listed "$stage")
 }
 
 # What pkg-config answers, about this library alone.
@@ -72,20 +53,20 @@ asked() { # prefix libdir words..
 }
 
 check_versions() {
-    [ "$(asked "$top" lib --modversion)" = "$version" ] &&
-        readelf -dW "$top/lib/libhedrugal.so" | grep -F "soname: [libhedrugal.so.$major]" &&
-        printf '#include <hedrugal.h>\nTW_VERSION_MAJOR.HED_VERSION_MINOR.HED_VERSION_PATCH HED_VERSION\n' |
-        cc -E -P -I"$top/include" - | tail -n 1 | tr -d ' ' | grep -xF "$version\"$version\""
+    [ "$(asked "$stage" lib --modversion)" = "$version" ] &&
+        readelf -dW "$stage/lib/libhedrugal.so" | grep -F "soname: [libhedrugal.so.$major]" &&
+        printf '#include <hedrugal.h>\nHED_VERSION_MAJOR.HED_VERSION_MINOR.HED_VERSION_PATCH HED_VERSION\n' |
+        cc -E -P -I"$stage/include" - | tail -n 1 | tr -d ' ' | grep -xF "$version\"$version\""
 }
 
 # Exactly the calls of the header are exported.
 check_exports() {
-    diff <(nm -D --defined-only "$top/lib/libhedrugal.so" | awk '{ print $3 }' | sort) <(library_calls | sort)
+    diff <(nm -D --defined-only "$stage/lib/libhedrugal.so" | awk '{ print $3 }' | sort) <(library_calls | sort)
 }
 
 # Nothing of it is written or resolved while it runs, its stack isn't executed, and it needs the C library alone.
 check_hardening() {
-    readelf -dW "$top/lib/libhedrugal.so" > "$work/dynamic" && readelf -lW "$top/lib/libhedrugal.so" > "$work/segments" || return
+    readelf -dW "$stage/lib/libhedrugal.so" > "$work/dynamic" && readelf -lW "$stage/lib/libhedrugal.so" > "$work/segments" || return
     cat "$work/dynamic" "$work/segments"
     grep -q 'FLAGS.*BIND_NOW' "$work/dynamic" && ! grep -qE 'TEXTREL|RPATH|RUNPATH' "$work/dynamic" &&
         [ "$(grep -o 'Shared library: .*' "$work/dynamic")" = 'Shared library: [libc.so.6]' ] &&
@@ -103,33 +84,33 @@ needed() {
 
 check_shared() { # prefix libdir
     local flags
-    flags=$(asked "$1" "$2" --cflags --libs) && cc $strict "$work/events.c" $flags -o "$work/events" &&
+    read -ra flags <<< "$(asked "$1" "$2" --cflags --libs)" && cc "${strict[@]}" "$work/events.c" "${flags[@]}" -o "$work/events" &&
         needed | grep -F "[libhedrugal.so.$major]" && runs "$1/$2"
 }
 
 check_static() { # prefix libdir
     local flags
-    flags=$(asked "$1" "$2" --static --cflags --libs) || return
-    cc $strict "$work/events.c" -Wl,-Bstatic $flags -Wl,-Bdynamic -o "$work/events" || return
-    ! needed | grep termwiz && runs && ! readelf -lW "$work/events" | grep RWE
+    read -ra flags <<< "$(asked "$1" "$2" --static --cflags --libs)" || return
+    cc "${strict[@]}" "$work/events.c" -Wl,-Bstatic "${flags[@]}" -Wl,-Bdynamic -o "$work/events" || return
+    ! needed | grep hedrugal && runs && ! readelf -lW "$work/events" | grep RWE
 }
 
 check_keyshow() {
-    printf '\033[1;5Az\033' | "$top/bin/keyshow" > "$work/lines" && [ -s "$work/lines" ] &&
-        diff "$work/lines" <(sed -n '/| keyshow$/,/^\.Ed/p' "$top/share/man/man1/keyshow.1" | sed '1d;$d')
+    printf '\033[1;5Az\033' | "$stage/bin/keyshow" > "$work/lines" && [ -s "$work/lines" ] &&
+        diff "$work/lines" <(sed -n '/| keyshow$/,/^\.Ed/p' "$stage/share/man/man1/keyshow.1" | sed '1d;$d')
 }
 
 # It needs the C library alone.
 check_keys() {
-    [ "$(readelf -dW "$top/bin/hedrugal-keys" | grep -o 'Shared library: .*')" = 'Shared library: [libc.so.6]' ] &&
-        "$top/bin/hedrugal-keys" --version | grep -xF "hedrugal-keys $version" &&
-        printf 'z\033[1;5A\033' | "$top/bin/hedrugal-keys" > "$work/lines" && [ -s "$work/lines" ] &&
-        diff "$work/lines" <(sed -n '/| hedrugal-keys$/,/^\.Ed/p' "$top/share/man/man1/hedrugal-keys.1" | sed '1d;$d')
+    [ "$(readelf -dW "$stage/bin/hedrugal-keys" | grep -o 'Shared library: .*')" = 'Shared library: [libc.so.6]' ] &&
+        "$stage/bin/hedrugal-keys" --version | grep -xF "hedrugal-keys $version" &&
+        printf 'z\033[1;5A\033' | "$stage/bin/hedrugal-keys" > "$work/lines" && [ -s "$work/lines" ] &&
+        diff "$work/lines" <(sed -n '/| hedrugal-keys$/,/^\.Ed/p' "$stage/share/man/man1/hedrugal-keys.1" | sed '1d;$d')
 }
 
 # For another target the compiler says what the library is built for.
 check_refused() { # option for the compiler
-    ! printf '#include <hedrugal.h>\n' | cc "$1" -fsyntax-only -I"$top/include" -xc - 2> "$work/words" &&
+    ! printf '#include <hedrugal.h>\n' | cc "$1" -fsyntax-only -I"$stage/include" -xc - 2> "$work/words" &&
         grep -F '#error "hedrugal.h: the library is built for Linux on x86-64' "$work/words"
 }
 
@@ -156,7 +137,7 @@ documented() {
 # The fields of the structs that are open to the caller.
 fields() { # file
     local name
-    for name in event modes rows match; do sed -nE "/^typedef struct hed_$name \\{\$/,/^\\}/{s| */\\*.*||;p}" "$1"; done
+    for name in event modes entries match; do sed -nE "/^typedef struct hed_$name \\{\$/,/^\\}/{s| */\\*.*||;p}" "$1"; done
 }
 
 # The page has each call in its name, its synopsis and its description, and no name that the header hasn't.
@@ -164,20 +145,18 @@ check_calls_page() {
     diff <(declared) <(documented) && diff <(fields c/hedrugal.h) <(fields $page) &&
         diff <(library_calls) <(sed -n '/^\.Sh NAME/,/^\.Nd/s/^\.Nm \(hed_[a-z_]*\).*/\1/p' $page) &&
         diff <(library_calls | sort) <(sed -n 's/^\.It Fn //p' $page | sort) &&
-        grep -oE '\b(tw|TW)_[A-Za-z_0-9]*[A-Za-z0-9]\b' $page | sort -u | while read -r name; do
+        grep -oE '\b(hed|HED)_[A-Za-z_0-9]*[A-Za-z0-9]\b' $page | sort -u | while read -r name; do
             grep -qw "$name" c/hedrugal.h || { echo "the header has no $name"; exit 1; }
         done
 }
 
 # The page's program.
 check_example() {
+    local flags
     sed -n '/^\.Sh EXAMPLES/,/^\.Ed/p' $page | sed '1,/^\.Bd/d;/^\.Ed/d' > "$work/example.c"
-    cc $strict "$work/example.c" $(asked "$top" lib --cflags --libs) -o "$work/events" &&
-        printf 'a\033[1;5A\033' | LD_LIBRARY_PATH=$top/lib "$work/events" | diff - <(printf '%s\n' Char 'UpArrow with Ctrl' Escape)
-}
-
-check_by_mandoc() {
-    mandoc -T lint -W warning docs/man/*
+    read -ra flags <<< "$(asked "$stage" lib --cflags --libs)"
+    cc "${strict[@]}" "$work/example.c" "${flags[@]}" -o "$work/events" &&
+        printf 'a\033[1;5A\033' | LD_LIBRARY_PATH=$stage/lib "$work/events" | diff - <(printf '%s\n' Char 'UpArrow with Ctrl' Escape)
 }
 
 check_by_man() {
@@ -191,42 +170,40 @@ check_by_man() {
 
 # The whole prefix elsewhere.
 move() {
-    mkdir "$work/elsewhere" && mv "$top" "$work/elsewhere/moved" && [ ! -e "$top" ]
+    mkdir "$work/elsewhere" && mv "$stage" "$work/elsewhere/moved" && [ ! -e "$stage" ]
 }
 
 check_moved_away() {
-    "$install" --uninstall --prefix "$work/elsewhere/moved" 2> "$work/words" && [ ! -s "$work/words" ] && [ ! -e "$work/elsewhere/moved" ]
+    make -s uninstall PREFIX="$work/elsewhere/moved" 2> "$work/words" && [ ! -s "$work/words" ] && [ ! -e "$work/elsewhere/moved" ]
 }
 
-# Folders of the caller's, and a folder of the libraries with another name.
-install_from_caller() {
-    cd "$work" && "$install" "${built[@]}" --prefix own --libdir lib/x86_64-linux-gnu
-}
+# A relative prefix, and a folder of the libraries with another name.
+own=(PREFIX="$(realpath --relative-to=. "$work")/own" LIBDIR=lib/x86_64-linux-gnu)
 
 # Another's file stays with its folders, and what is gone already is named.
 check_uninstall() {
-    cd "$work" && touch own/lib/another && rm own/bin/keyshow || return
-    "$install" --uninstall --prefix own --libdir lib/x86_64-linux-gnu 2> "$work/words" || return
-    diff "$work/words" <(echo "install: there was no $work/own/bin/keyshow") &&
-        diff <(find own | sort) <(printf '%s\n' own own/lib own/lib/another)
+    touch "$work/own/lib/another" && rm "$work/own/bin/keyshow" || return
+    make -s uninstall "${own[@]}" 2> "$work/words" || return
+    diff "$work/words" <(echo "make: there was no $work/own/bin/keyshow") &&
+        diff <(cd "$work" && find own | sort) <(printf '%s\n' own own/lib own/lib/another)
 }
 
 check_nothing_to_uninstall() {
-    ! "$install" --uninstall --prefix "$work/none" && [ ! -e "$work/none" ]
+    ! make -s uninstall PREFIX="$work/none" && [ ! -e "$work/none" ]
 }
 
 # In a folder for packages nothing is left.
 check_uninstall_of_stage() {
-    rm -rf "$work/stage" && mkdir "$work/stage" && "$install" "${built[@]}" --prefix /usr --destdir "$work/stage" &&
-        [ -f "$work/stage/usr/include/hedrugal.h" ] && "$install" --uninstall --prefix /usr --destdir "$work/stage" &&
+    rm -rf "$work/stage" && mkdir "$work/stage" && over_built install PREFIX=/usr DESTDIR="$work/stage" &&
+        [ -f "$work/stage/usr/include/hedrugal.h" ] && make -s uninstall PREFIX=/usr DESTDIR="$work/stage" &&
         [ -z "$(find "$work/stage" -mindepth 1)" ]
 }
 
 # Nothing is installed outside the prefix, nor in a folder with a name that pkg-config would misread.
 check_libdir() { # name
     rm -rf "$work/outer" && mkdir "$work/outer" || return
-    ! "$install" "${built[@]}" --prefix "$work/outer/none" --libdir "$1" 2> "$work/words" &&
-        grep -F -- "--libdir wants a folder's name below the prefix, and not '$1'" "$work/words" && [ -z "$(ls "$work/outer")" ]
+    ! over_built install PREFIX="$work/outer/none" LIBDIR="$1" 2> "$work/words" &&
+        grep -F -- "LIBDIR wants a folder's name below the prefix, and not '$1'" "$work/words" && [ -z "$(ls "$work/outer")" ]
 }
 
 # Finds how a program is given an empty /usr/local of its own.
@@ -239,42 +216,38 @@ find_view() {
 
 # The usual prefix is the system's: its folders stay, empty or not.
 check_system_folders() {
-    "${view[@]}" bash -ec '"$1" "${@:2}" && [ -f /usr/local/include/hedrugal.h ] && "$1" --uninstall &&
-        find /usr/local -mindepth 1 -printf "%P\n" | sort' bash "$install" "${built[@]}" > "$work/lines" &&
-        diff <(grep -v '^install: ' "$work/lines") <(printf '%s\n' bin include lib lib/pkgconfig share share/man share/man/man1 share/man/man3)
+    # shellcheck disable=SC2016
+    "${view[@]}" bash -ec 'make -s install "$@" && [ -f /usr/local/include/hedrugal.h ] && make -s uninstall &&
+        find /usr/local -mindepth 1 -printf "%P\n" | sort' bash LIBRARY="$library" KEYSHOW="$keyshow" > "$work/lines" &&
+        diff <(grep -v '^make: ' "$work/lines") <(printf '%s\n' bin include lib lib/pkgconfig share share/man share/man/man1 share/man/man3)
 }
 
 # A library of other sources isn't installed.
 check_stale() {
     cp -a "$library" "$work/stale" && echo >> "$work/stale/hedrugal.h" &&
-        ! "$install" --library "$work/stale" --keyshow "$keyshow" --keys "$keys" --prefix "$work/none" 2> "$work/words" &&
+        ! make -s install LIBRARY="$work/stale" KEYSHOW="$keyshow" PREFIX="$work/none" 2> "$work/words" &&
         grep -F 'was built from other sources' "$work/words" && [ ! -e "$work/none" ]
 }
 
-check 'install in a folder for packages' "$install" "${built[@]}" --destdir "$work/stage"
+check 'install in a folder for packages' over_built install DESTDIR="$work/stage"
 check 'files' check_files
 check 'versions' check_versions
 check 'exports of the shared library' check_exports
 check 'hardening of the shared library' check_hardening
-check 'program with the shared library' check_shared "$top" lib
-check 'program with the archive' check_static "$top" lib
+check 'program with the shared library' check_shared "$stage" lib
+check 'program with the archive' check_static "$stage" lib
 check 'keyshow, as its manual page shows it' check_keyshow
 check 'hedrugal-keys, as its manual page shows it' check_keys
 for option in -m32 -mx32 -U__linux__; do check "header with $option" check_refused $option; done
 check 'calls in the manual page' check_calls_page
 check 'example of the manual page' check_example
-if command -v mandoc > /dev/null; then
-    check 'manual pages by mandoc' check_by_mandoc
-elif command -v man > /dev/null; then
-    check 'manual pages by man' check_by_man
-else
-    echo "install_test: the form of the manual pages isn't checked: there is neither mandoc nor man"
-fi
+check 'manual pages by man' check_by_man
+! command -v mandoc > /dev/null || check 'manual pages by mandoc' mandoc -T lint -W warning docs/man/*
 check 'move of the prefix' move
 check 'program with the shared library, moved' check_shared "$work/elsewhere/moved" lib
 check 'program with the archive, moved' check_static "$work/elsewhere/moved" lib
 check 'uninstall, moved' check_moved_away
-check 'install from another folder' install_from_caller
+check 'install below a relative prefix' over_built install "${own[@]}"
 check 'program with the shared library, there' check_shared "$work/own" lib/x86_64-linux-gnu
 check 'uninstall among other files' check_uninstall
 check 'uninstall of nothing' check_nothing_to_uninstall

@@ -21,8 +21,8 @@
 #
 # With --parsers it measures parsers of the library for C, which get reads in turn: for each number in LIST as many as that, once with a
 # table that all share, and once with a table each. It prints for each parser the time of making it and its resident memory, before and after
-# a first read, and the least time per event of each corpus (keys and csiu, if none is named). DIR is a folder that tools/c_library.sh wrote;
-# without --library the library is built.
+# a first read, and the least time per event of each corpus (keys and csiu, if none is named). DIR is the library's folder;
+# without --library make builds it in out/lib.
 #
 # It needs rt, cc and python3. It says on standard error what it does.
 set -eu
@@ -67,10 +67,7 @@ for case in "$@"; do
     esac
 done
 [ -z "$against" ] || git -C "$top" rev-parse --quiet --verify "$against^{commit}" > /dev/null || refuse "there is no commit $against"
-need rt 'the Rattle kit'
-need cc gcc
-need python3 python3
-stop_if_missing
+need rt 'the Rattle kit' cc gcc python3 python3
 if [ -n "$keep" ]; then
     mkdir -p "$keep"
     work=$(cd "$keep" && pwd)
@@ -82,7 +79,7 @@ fi
 # Measures many parsers of the library for C, one pass a process. A line of the results is the number of the parsers, whether their table
 # is shared, the size of the reads, the corpus, and what tools/measure/parsers.c printed.
 measure_parsers() { # corpora..
-    [ -n "$library" ] || { progress 'building the library'; library=$work/lib; "$top/tools/c_library.sh" "$library" >&2; }
+    [ -n "$library" ] || { progress 'building the library'; library=$top/out/lib; make -s -C "$top" library >&2; }
     cc -std=c11 -D_POSIX_C_SOURCE=200809L -O2 -I"$library" -o "$work/parsers" "$top/tools/measure/parsers.c" "$library/libhedrugal.a"
     mkdir "$work/corpora"
     python3 "$top/tools/measure/corpora.py" "$work/corpora" "$@"
@@ -139,6 +136,7 @@ emptied() { # folder
 
 trees=here
 emptied "$work/here"
+# shellcheck disable=SC2086
 (cd "$top/crates" && tar c --exclude=out --exclude=must-fail $crates) | tar x -C "$work/here/crates"
 cp "$top/crates.txt" "$work/here/listed"
 warm "$work/here"
@@ -155,6 +153,7 @@ fi
 if [ -n "$against" ]; then
     trees="here other"
     emptied "$work/other"
+    # shellcheck disable=SC2046
     git -C "$top" archive "$against" crates.txt $(git -C "$top" ls-tree --name-only "$against" crates/ |
         grep -E "/(${crates// /|})$") | tar x -C "$work/other"
     mv "$work/other/crates.txt" "$work/other/listed"
@@ -164,6 +163,7 @@ if [ -n "$against" ]; then
 fi
 
 mkdir -p "$work/corpora"
+# shellcheck disable=SC2046
 python3 "$top/tools/measure/corpora.py" "$work/corpora" $(printf '%s\n' "$@" | grep -vx new || true)
 : > "$work/results"
 [ "$runs" = 0 ] || note_load

@@ -24,7 +24,6 @@ for word; do
 done
 [ -n "$name" ] || refuse 'wants the name of the program'
 need rt 'the Rattle kit'
-stop_if_missing
 [ -z "$folder" ] || folder=$(realpath -m -- "$folder")
 cd "$(dirname "$0")/.."
 : "${folder:=$PWD}"

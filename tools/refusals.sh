@@ -1,58 +1,36 @@
 #!/usr/bin/env bash
-# Refuses each request for memory in turn, and checks what is seen.
+# Refuses each request for memory in turn, and checks what is seen: `make check-refusals`.
 #
-#     tools/refusals.sh [--built] [--without-cc]
+#     tools/refusals.sh [REFUSALS KEYSHOW]
 #
-# It builds the programs refusals and keyshow, runs each case of the first and a stream through the second again and again, and
-# refuses one more request for memory each time (tools/refusals/refuse.c, preloaded), until a run meets no refusal.
+# REFUSALS and KEYSHOW are the programs of the crates test_refusals and keyshow, else those that rt and make have built. It runs each
+# case of the first and a stream through the second again and again, and refuses one more request for memory each time
+# (tools/refusals/refuse.c, preloaded), until a run meets no refusal.
 #
 # A case passes if the runs print the lines that tools/refusals/seen.txt has for it and no others, each of them at least once;
 # the first of its lines in the run that meets no refusal, and only there. keyshow passes if each run that meets a refusal
-# reports it, ends with status 1 and has printed a prefix of the whole output. The last line is 'N passed, N failed', the status 1 if a
-# case failed.
-#
-# With --built it builds nothing, and runs the programs that `rt ci` left in crates/refusals/out and crates/keyshow/out. A run of a
-# program has a minute.
-#
-# It needs rt, a C compiler (cc) and nm of binutils, and fails if one isn't there. With --without-cc it checks nothing and says so.
+# reports it, ends with status 1 and has printed a prefix of the whole output. A run of a program has a minute. The last line is
+# 'N passed, N failed', the status 1 if a case failed.
 set -u
 export LC_ALL=C
 . "$(dirname "$0")/common.sh"
-is_built=no left_out=''
-for word; do
-    case $word in
-        --help) show_help; exit ;;
-        --built) is_built=yes ;;
-        --without-cc) left_out=cc ;;
-        *) refuse_word "$word" ;;
-    esac
-done
-if [ -n "$left_out" ]; then
-    echo 'refusals: left out by --without-cc: no request for memory is refused'
-    echo '0 passed, 0 failed'
-    exit
-fi
-need rt 'the Rattle kit'
-need cc gcc --without-cc
-need nm binutils
-stop_if_missing
-cd "$(dirname "$0")/.." || exit
+[ "${1-}" != --help ] || { show_help; exit; }
+here=$(cd "$(dirname "$0")/.." && pwd)
+case $# in
+    0) refusals=$here/crates/test_refusals/out/test_refusals keyshow=${KEYSHOW:-$here/out/bin/keyshow} ;;
+    2) refusals=$(realpath -m -- "$1") keyshow=$(realpath -m -- "$2") ;;
+    *) refuse 'wants two programs or none' ;;
+esac
+for program in "$refusals" "$keyshow"; do [ -x "$program" ] || refuse "there is no $program"; done
+need cc gcc nm binutils
+cd "$here" || exit
 work=$(mktemp -d)
 trap 'rm -rf "$work"' EXIT
-
-# Builds a program, which proves it first, unless it is built.
-build() { # crate
-    [ "$is_built" = yes ] || (cd "crates/$1" && rt run < /dev/null) > "$work/log" 2>&1 || { cat "$work/log" >&2; exit 1; }
-    [ -x "crates/$1/out/$1" ] || { echo "refusals: there is no crates/$1/out/$1: leave --built out" >&2; exit 1; }
-}
-
 cc -O1 -shared -fPIC -o "$work/refuse.so" tools/refusals/refuse.c -ldl || exit 1
-build refusals
-build keyshow
 
 # All requests have to be calls of malloc or realloc, which refuse.c replaces.
-for program in refusals keyshow; do
-    if nm -D "crates/$program/out/$program" | grep -qE ' U (calloc|aligned_alloc|memalign|posix_memalign|reallocarray|mmap)'; then
+for program in "$refusals" "$keyshow"; do
+    if nm -D "$program" | grep -qE ' U (calloc|aligned_alloc|memalign|posix_memalign|reallocarray|mmap)'; then
         echo "refusals: $program asks for memory by a call that tools/refusals/refuse.c doesn't replace" >&2
         exit 1
     fi
@@ -68,7 +46,6 @@ refuse() { # number program words..
     [ ! -s "$work/met" ] || met=1
 }
 
-passed=0 failed=0
 # Notes the outcome of a case, with what was wrong, if anything was.
 note() { # case number wrong
     if [ -z "$3" ]; then
@@ -82,7 +59,7 @@ note() { # case number wrong
     fi
 }
 
-# Refuses each request of a case of the program refusals. Status 3 is a refusal before the case's call, which comes before any
+# Refuses each request of a case of the program of refusals. Status 3 is a refusal before the case's call, which comes before any
 # other answer.
 : > "$work/stream"
 check_case() { # case
@@ -92,7 +69,7 @@ check_case() { # case
     granted=$(head -n 1 "$work/wanted")
     : > "$work/seen"
     while :; do
-        refuse "$number" crates/refusals/out/refusals "$1"
+        refuse "$number" "$refusals" "$1"
         line=$(cat "$work/out")
         if [ "$met" = 0 ]; then
             [ "$status $line" = "0 $granted" ] || wrong='another answer without a refusal'
@@ -118,11 +95,11 @@ check_keyshow() {
     local wrong=''
     number=1
     printf 'hello\033[A\033\033[200~ab\033[201~q\033[<0;3;4M\033' > "$work/stream"
-    refuse 0 crates/keyshow/out/keyshow 5
+    refuse 0 "$keyshow" 5
     cp "$work/out" "$work/whole"
     [ "$status" = 0 ] && [ -s "$work/whole" ] || wrong='no output without a refusal'
     while [ -z "$wrong" ]; do
-        refuse "$number" crates/keyshow/out/keyshow 5
+        refuse "$number" "$keyshow" 5
         if [ "$met" = 0 ]; then
             [ "$status" = 0 ] && cmp -s "$work/out" "$work/whole" || wrong='another output without a refusal'
             break
@@ -143,5 +120,4 @@ for case in "${cases[@]}"; do
     check_case "$case"
 done
 check_keyshow
-echo "$passed passed, $failed failed"
-[ "$failed" = 0 ]
+print_counts

@@ -1,0 +1,279 @@
+# Hedrugal: builds, installs and tests the library for C, keyshow and hedrugal-keys. `make help` lists the targets and the variables.
+SHELL := /bin/bash
+.SHELLFLAGS := -eu -o pipefail -c
+.DELETE_ON_ERROR:
+.SECONDARY:
+.SUFFIXES:
+MAKEFLAGS += --no-builtin-rules
+export LC_ALL = C.UTF-8
+export PYTHONDONTWRITEBYTECODE = 1
+
+# As packagers set them. LIBDIR is a folder's name below the prefix.
+PREFIX ?= /usr/local
+LIBDIR ?= lib
+DESTDIR ?=
+CC ?= cc
+CFLAGS ?= -O2 -fstack-protector-strong
+CPPFLAGS ?= -D_FORTIFY_SOURCE=2
+LDFLAGS ?= -Wl,-z,relro,-z,now
+OBJCOPY ?= objcopy
+PYTHON ?= /usr/bin/python3
+
+VERSION := $(shell sed -n 's/^\#define HED_VERSION "\(.*\)"$$/\1/p' c/hedrugal.h)
+open := (
+CALLS := $(shell sed -nE 's/^[a-z].*[ *](hed_[a-z_]+)\$(open).*$$/\1/p' c/hedrugal.h)
+SONAME := libhedrugal.so.$(firstword $(subst ., ,$(VERSION)))
+
+# A library and a program that were built before are taken where they are, and rt isn't needed.
+lib := $(or $(LIBRARY),out/lib)
+keyshow := $(or $(KEYSHOW),out/bin/keyshow)
+library_files := $(addprefix $(lib)/,libhedrugal.a libhedrugal.so.$(VERSION) hedrugal.h hedrugal.pc)
+
+.PHONY: all library clean help
+all: library $(keyshow) out/bin/hedrugal-keys ## builds the library and the programs, in out/lib and out/bin; what needs a proof is proved
+
+library: $(library_files) ## builds the library alone
+
+clean: ## removes what was built, but for what the prover keeps in crates/*/out
+	rm -rf out rust/target rust/serde/target
+
+help: ## prints this
+	@sed -nE 's/^([a-z-]+):[^#]*## (.*)/make \1\t\2/p' Makefile dist.mk | expand -t 22
+	@echo
+	@echo 'LIBRARY=DIR    a folder with a library that was built from these sources before, in place of out/lib'
+	@echo 'KEYSHOW=FILE   a program keyshow that was built before; with both no target but gate needs rt'
+	@echo 'PREFIX=DIR     where make install puts its files: $(PREFIX)'
+	@echo 'LIBDIR=NAME    the folder of the libraries below the prefix, such as lib64: $(LIBDIR)'
+	@echo 'DESTDIR=DIR    a folder that is put before the prefix, as a package is made'
+	@echo 'CC, CFLAGS, CPPFLAGS, LDFLAGS, AR, OBJCOPY, PYTHON, as usual'
+
+# What is proved. By itself a target is proved and built by rt, over what earlier runs kept in crates/*/out. With GATE it is built over what
+# the running `rt ci` has proved: see the gate, below.
+crate_files := crates.txt $(shell find crates -name out -prune -o -name must-fail -prune -o -type f -print)
+kit = $(shell dirname "$$(rt doc)")
+libraries_of = $(shell sed -nE 's/^$(1)( staticlib)?://p' crates.txt)
+# The words by which rattle finds libraries: those of this repository where rt leaves them, and the kit's.
+rlibs_of = $(if $(wildcard crates/$(1)/src),$(CURDIR)/crates/$(1)/out/rlib,$(kit)/rlibs)
+over = $(foreach it,std $(1),--extern $(it)=$(call rlibs_of,$(it))/$(it).rlib) -L dependency=$(kit)/rlibs \
+	$(patsubst %/src/lib.rt,-L dependency=$(CURDIR)/%/out/rlib,$(filter-out crates/test_%,$(wildcard crates/*/src/lib.rt))) \
+	--antt-project $(kit)/rattle/logic/antt-project.json --logic-built $(kit)/logic_built --jobs 1 --list-axioms
+# The command that proves a folder's src/lib.rt and writes a static library: NAME,LIBRARIES,FILE
+static_library = rattle build --crate-name $(1) src/lib.rt $(call over,$(2)) --links $(1)= --crate-type staticlib \
+	--toolchain $(kit)/toolchain --backend llvm -o $(abspath $(3))
+# Keeps what a command prints in a file of out/build, and shows it if the command fails.
+logged = > $(abspath out/build/$(1).log) 2>&1 || { cat $(abspath out/build/$(1).log) >&2; exit 1; }
+
+ifdef GATE
+# (A wait takes no processor, and one of the JOBS.)
+proved_libraries := out/gate/libraries.proved
+out/gate/libraries.proved:
+	@tools/gate.sh wait $(patsubst crates/%,%,$(wildcard $(addprefix crates/,$(call libraries_of,hedrugal) $(call libraries_of,keyshow))))
+	@touch $@
+out/gate/%.proved:
+	@tools/gate.sh wait $* && touch $@
+
+out/build/libhedrugal.a: $(proved_libraries)
+	@mkdir -p out/build
+	@tools/gate.sh part library '(cd crates/hedrugal && $(call static_library,hedrugal,$(call libraries_of,hedrugal),$@)) && \
+		tools/axioms.sh hedrugal out/gate/library.log'
+
+out/build/keyshow.log: $(proved_libraries)
+	@mkdir -p out/build
+	@cd crates/keyshow && rattle check --crate-name keyshow src/main.rt $(call over,$(call libraries_of,keyshow)) $(call logged,keyshow)
+
+crates/%/out/keyshow crates/%/out/test_refusals: out/gate/%.proved ;
+else
+proved_libraries := $(crate_files)
+out/build/libhedrugal.a: $(crate_files)
+	@tools/needs.sh library && mkdir -p out/build
+	@echo 'make: proves and builds the crate hedrugal and those below it; out/build/hedrugal.log shows how far it is'
+	@cd crates/hedrugal && rt lib --list-axioms $(call logged,hedrugal)
+	@tools/axioms.sh hedrugal out/build/hedrugal.log
+	@cp crates/hedrugal/out/libhedrugal.a $@
+
+out/build/keyshow.log: $(crate_files)
+	@tools/needs.sh axioms && mkdir -p out/build
+	@cd crates/keyshow && rt check --list-axioms $(call logged,keyshow)
+
+crates/keyshow/out/keyshow crates/test_refusals/out/test_refusals: $(crate_files)
+	@tools/needs.sh library && mkdir -p out/build
+	@echo 'make: proves and builds the crate $(@F) and those below it; out/build/$(@F).log shows how far it is'
+	@cd crates/$(@F) && rm -f out/$(@F) && { rt run < /dev/null || [ -x out/$(@F) ]; } $(call logged,$(@F))
+	@touch $@
+endif
+
+# The library stands on the kit's heap, three functions over malloc, realloc and free. The two become one object, in which only the calls
+# of the header keep their names, so that no other library meets them.
+out/build/hedrugal.o: out/build/libhedrugal.a
+	rm -rf out/build/objects && mkdir -p out/build/objects
+	cd out/build/objects && $(AR) x ../libhedrugal.a && $(AR) x $(kit)/c/liblibc_c.a
+	$(CC) -nostdlib -r -o $@ out/build/objects/*.o
+	$(OBJCOPY) --wildcard --keep-global-symbol='hed_*' $@
+
+ifndef LIBRARY
+out/lib/libhedrugal.a: out/build/hedrugal.o
+	@mkdir -p out/lib
+	rm -f $@ && $(AR) rcs $@ $<
+
+# (Its other names are no symbolic links here: rt refuses those in a repository.)
+out/lib/libhedrugal.so.$(VERSION): out/build/hedrugal.o c/hedrugal.map
+	@mkdir -p out/lib
+	$(CC) -shared -Wl,-soname,$(SONAME) -Wl,--version-script=c/hedrugal.map -Wl,-z,now,-z,relro,-z,noexecstack -o $@ $<
+	ln -f $@ out/lib/$(SONAME) && ln -f $@ out/lib/libhedrugal.so
+
+out/lib/hedrugal.h out/lib/hedrugal.pc: out/lib/%: c/%
+	@mkdir -p out/lib
+	cp $< $@
+else
+$(library_files):
+	$(error there is no $(@F) in LIBRARY, '$(lib)')
+ifneq ($(wildcard $(lib)/hedrugal.h)$(wildcard $(lib)/hedrugal.pc),)
+ifneq ($(shell cmp $(lib)/hedrugal.h c/hedrugal.h && cmp $(lib)/hedrugal.pc c/hedrugal.pc || echo other),)
+$(error the library in '$(lib)' was built from other sources: its header or hedrugal.pc is another)
+endif
+endif
+endif
+
+# A program in Rattle, of tools/measure, as a static library.
+out/build/lib%.a: tools/measure/%.rt.txt $(proved_libraries)
+	@mkdir -p out/build
+	@$(if $(GATE),,cd crates/termwiz_input && rt lib $(call logged,termwiz_input))
+	@folder=$$(mktemp -d) && trap 'rm -rf "$$folder"' EXIT && mkdir "$$folder/src" && cp $< "$$folder/src/lib.rt" && cd "$$folder" && \
+		{ $(call static_library,$*,termwiz_input,$@); } $(call logged,$*)
+
+# The programs.
+out/bin/keyshow: crates/keyshow/out/keyshow
+	@mkdir -p out/bin
+	cp $< $@
+
+out/bin/hedrugal-keys: $(wildcard keys/*.[ch]) $(lib)/libhedrugal.a
+	@mkdir -p out/bin
+	$(CC) -std=c11 $(CPPFLAGS) $(CFLAGS) -fPIE -I$(lib) keys/*.c $(lib)/libhedrugal.a $(LDFLAGS) -pie -o $@
+
+# Install. Relative folders are those of the folder in which make runs.
+destdir = $(shell realpath -ms -- '$(DESTDIR)/')
+prefix = $(shell realpath -ms -- '$(PREFIX)')
+root = $(patsubst %/,%,$(if $(DESTDIR),$(destdir)))$(patsubst %/,%,$(prefix))
+installed = include/hedrugal.h $(addprefix $(LIBDIR)/,libhedrugal.a libhedrugal.so.$(VERSION) $(SONAME) libhedrugal.so pkgconfig/hedrugal.pc) \
+	bin/keyshow bin/hedrugal-keys share/man/man1/keyshow.1 share/man/man1/hedrugal-keys.1 \
+	share/man/man3/hedrugal.3 $(patsubst %,share/man/man3/%.3,$(CALLS))
+# hedrugal.pc names no folder but by where it lies itself, so the prefix may be moved as a whole.
+up = $(shell realpath -ms --relative-to='/$(LIBDIR)/pkgconfig' /)
+
+.PHONY: libdir install uninstall
+libdir:
+	@[[ '/$(LIBDIR)/' != *//* && '/$(LIBDIR)/' != */.*/* && '$(LIBDIR)' != *[^A-Za-z0-9_+./-]* ]] || \
+	{ echo "make: LIBDIR wants a folder's name below the prefix, and not '$(LIBDIR)'" >&2; exit 1; }
+
+install: libdir all ## puts the library, the programs and their manual pages below DESTDIR and PREFIX
+	install -d '$(root)'/{include,$(LIBDIR)/pkgconfig,bin,share/man/man1,share/man/man3}
+	install -m 644 $(lib)/hedrugal.h '$(root)/include/'
+	install -m 644 $(lib)/libhedrugal.a '$(root)/$(LIBDIR)/'
+	install -m 755 $(lib)/libhedrugal.so.$(VERSION) '$(root)/$(LIBDIR)/'
+	for name in $(SONAME) libhedrugal.so; do ln -sfn libhedrugal.so.$(VERSION) "$(root)/$(LIBDIR)/$$name"; done
+	sed -e '/^#/d' -e 's|^prefix=.*|prefix=$${pcfiledir}/$(up)|' -e 's|^includedir=.*|&/include|' -e 's|^libdir=.*|&/$(LIBDIR)|' \
+		c/hedrugal.pc | install -m 644 /dev/stdin '$(root)/$(LIBDIR)/pkgconfig/hedrugal.pc'
+	install -m 755 $(keyshow) '$(root)/bin/keyshow'
+	install -m 755 out/bin/hedrugal-keys '$(root)/bin/'
+	install -m 644 docs/man/*.1 '$(root)/share/man/man1/'
+	install -m 644 docs/man/hedrugal.3 '$(root)/share/man/man3/'
+	@for call in $(CALLS); do ln -sfn hedrugal.3 "$(root)/share/man/man3/$$call.3"; done
+	@echo 'make: wrote $(words $(installed)) files below $(or $(root),/)'
+
+# The folders of the system stay, but in a DESTDIR.
+uninstall: libdir ## removes these files, and their folders that are left empty, but for those of /, /usr and /usr/local
+	@removed=0; for file in $(installed); do \
+	  if [ -e "$(root)/$$file" ] || [ -L "$(root)/$$file" ]; then rm "$(root)/$$file"; removed=$$((removed + 1)); \
+	  else echo "make: there was no $(root)/$$file" >&2; fi; \
+	done; \
+	if [ -n '$(DESTDIR)' ] || [[ '$(prefix)' != / && '$(prefix)' != /usr && '$(prefix)' != /usr/local ]]; then \
+	  for folder in $$(dirname $(installed) | sort -u); do \
+	    [ ! -d "$(root)/$$folder" ] || (cd '$(root)' && rmdir -p --ignore-fail-on-non-empty "$$folder"); \
+	  done; \
+	  if [ -z '$(DESTDIR)' ]; then [ ! -d '$(root)' ] || rmdir --ignore-fail-on-non-empty '$(root)'; \
+	  elif [ '$(prefix)' != / ] && [ -d '$(root)' ]; then (cd '$(destdir)' && rmdir -p --ignore-fail-on-non-empty '$(patsubst /%,%,$(prefix))'); fi; \
+	fi; \
+	echo "make: removed $$removed files below $(or $(root),/)"; \
+	[ $$removed -gt 0 ]
+
+# Packages.
+include dist.mk
+
+# Tests. Each part by itself is `make check-NAME`; the last line of what it prints counts its cases.
+CHECKS ?= lint numbers c rust python programs page install packages docs fuzz
+kit_checks := axioms growth refusals listings
+every_check := lint numbers c rust python programs page install packages docs fuzz $(kit_checks)
+# What the tests of a part read.
+export HEDRUGAL_LIBRARY := $(abspath $(lib))
+export HEDRUGAL_KEYS := $(abspath out/bin/hedrugal-keys)
+check_env = KEYSHOW=$(abspath $(keyshow))
+
+check-lint := pre-commit run --all-files
+check-numbers := tools/numbers.py --check
+check-c := tools/c_test.sh
+check-rust := tools/rust_test.sh
+check-python := $(PYTHON) -m pytest python
+check-programs := $(PYTHON) -m pytest $(filter-out tests/test_page%,$(wildcard tests/test_*.py))
+check-page := $(PYTHON) -m pytest $(wildcard tests/test_page*.py)
+check-install := tools/install_test.sh
+check-packages := tools/package_test.sh
+check-docs := tools/docs.sh --library $(lib) --only links,c,rust,rattle,lines
+check-fuzz := tools/fuzz.sh 30
+check-axioms := tools/axioms.sh keyshow out/build/keyshow.log
+check-growth := tools/growth.sh out/build/libfeed.a
+check-refusals := tools/refusals.sh
+check-listings := tools/docs.sh --library $(lib) --built --only sh,keyshow
+
+.PHONY: check lint format $(addprefix check-,$(every_check))
+$(filter-out check-lint check-numbers check-axioms,$(addprefix check-,$(every_check))): all
+check-growth: out/build/libfeed.a
+check-refusals: crates/test_refusals/out/test_refusals
+check-axioms: out/build/keyshow.log
+$(addprefix check-,$(every_check)): check-%:
+	@tools/needs.sh $*
+	@$(check_env) $($@)
+
+# A part that was left out is named.
+check: all ## runs the tests that need no kit; CHECKS="c rust" names the parts, of which check-NAME is one alone
+	@rm -rf out/gate
+	@for part in $(CHECKS); do \
+	  tools/gate.sh part "$$part" "make -s check-$$part LIBRARY='$(lib)' KEYSHOW='$(keyshow)'" || true; \
+	done
+	@$(if $(filter-out $(CHECKS),$(every_check)),echo 'check: left out: $(filter-out $(CHECKS),$(every_check))')
+	@tools/gate.sh table $(CHECKS)
+
+lint: check-lint ## checks the layout of the sources in C, Rust and Python, and runs flake8 and shellcheck
+
+format: ## lays out the sources in C, Rust and Python
+	git ls-files -z '*.[ch]' | xargs -0 clang-format-14 -i
+	git ls-files -z '*.rs' | xargs -0 rustfmt --edition 2021
+	git ls-files -z '*.py' | xargs -0 black --quiet --line-length 100
+
+# The gate. Each part runs `make check-NAME` once what it needs is there; out/gate/NAME.log keeps what it printed.
+#
+# `rt ci` is the first part: it proves each crate from nothing, or takes what an earlier run on this machine proved of the same files. It
+# keeps no static library, and leaves what it proves without the stamp by which `rt lib` would know it. So the library is proved and built by
+# rattle itself over the libraries that `rt ci` has written to crates/*/out by then, and nothing below it is proved twice. keyshow and the
+# other programs are those that `rt ci` builds. The parts that test them run beside its must-fail edits, to which they are preferred.
+JOBS ?= 6
+gate_parts := ci library lint numbers rust c packages programs page docs growth listings refusals python install axioms fuzz
+gate_checks := $(filter-out ci library,$(gate_parts))
+
+.PHONY: gate gate-parts $(addprefix gate-,$(gate_parts))
+gate: ## proves everything from nothing, tries the must-fail edits, and runs every test
+	@tools/needs.sh all
+	@rm -rf out crates/*/out/rlib
+	@$(MAKE) --no-print-directory -k -j$(JOBS) gate-parts GATE=yes LIBRARY= KEYSHOW= || true
+	@tools/gate.sh table $(gate_parts)
+
+gate-parts: $(addprefix gate-,$(gate_parts))
+gate-ci:
+	@tools/gate.sh part ci 'nice -n 5 rt ci'
+gate-library: out/build/libhedrugal.a
+$(addprefix gate-,$(filter-out lint numbers axioms,$(gate_checks))): all
+gate-axioms: out/build/keyshow.log
+gate-growth: out/build/libfeed.a
+gate-refusals: crates/test_refusals/out/test_refusals
+gate-listings: out/gate/example.proved
+$(addprefix gate-,$(gate_checks)): gate-%:
+	@tools/gate.sh part $* 'make -s check-$* LIBRARY=out/lib KEYSHOW=out/bin/keyshow'

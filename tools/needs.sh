@@ -1,0 +1,50 @@
+#!/usr/bin/env bash
+# Says in one line what tools/needs.txt lists for these parts and isn't there, and what to install. The status is then 1.
+#
+#     tools/needs.sh [--install] PART..
+#
+# The part all stands for each of them. With --install it first installs what Debian has of it, where this user can.
+set -eu
+usage() { sed -n '2,/^set/{/^set/d;s/^# \{0,1\}//;p;}' "$0"; }
+installs=no
+case ${1-} in
+    --help) usage; exit ;;
+    --install) installs=yes; shift ;;
+esac
+[ $# -gt 0 ] || { usage >&2; exit 2; }
+
+# Sets $lacking and $packages to what isn't there.
+look() { # parts..
+    local thing package parts part
+    lacking='' packages=''
+    while read -r thing package parts; do
+        for part; do
+            if [[ $thing != '#' && " $parts all " == *" $part "* ]] && ! is_there "$thing"; then
+                lacking+=" ${thing##*/}"
+                [ "$package" = - ] || packages+=" $package"
+                break
+            fi
+        done
+    done < "$(dirname "$0")/needs.txt"
+}
+
+is_there() { # program, or a pattern of files
+    case $1 in
+        /*) compgen -G "$1" ;;
+        *) command -v "$1" ;;
+    esac > /dev/null
+}
+
+look "$@"
+if [ $installs = yes ] && [ -n "$packages" ] && [ "$(id -u)" = 0 ] && command -v apt-get > /dev/null; then
+    echo "needs: installs$packages" >&2
+    export DEBIAN_FRONTEND=noninteractive
+    # shellcheck disable=SC2086
+    timeout 600 sh -c "apt-get -q update && apt-get -q -y --no-install-recommends install $packages" > /dev/null 2>&1 || true
+    look "$@"
+fi
+[ -n "$lacking" ] || exit 0
+hint=${packages:+", install the packages$packages"}
+[[ "$lacking " != *' rt '* ]] || hint+=', put rt of the Rattle kit (rattle-kit-13f) on the path, or name what was built before by LIBRARY and KEYSHOW'
+echo "needs: not there:$lacking$hint" >&2
+exit 1

@@ -1,0 +1,91 @@
+#!/usr/bin/env bash
+# Tests the Rust package over the library: `make check-rust`. HEDRUGAL_LIBRARY names the library's folder, else it is out/lib; KEYSHOW names
+# the program, else it is out/bin/keyshow.
+#
+# The package is built with its tests, with the examples of its documentation, and with serde. It has to find the library in each way that
+# docs/rust.md names, and to say so if there is none. All tests but the longest also run under valgrind, and one refuses every request for
+# memory in turn. cargo asks no registry. The last line is 'N passed, N failed', the status 1 if a case failed.
+. "$(dirname "$0")/common.sh"
+start_cases "$@"
+export KEYSHOW=${KEYSHOW:-$PWD/out/bin/keyshow}
+# Where Debian's packages have the sources of Rust crates.
+system_crates=/usr/share/cargo/registry
+
+# cargo on the package. The lock file stays as it is.
+rust() { # command words..
+    HEDRUGAL_LIBRARY="$library" CARGO_TARGET_DIR="$work/target" \
+        cargo "$1" --quiet --locked --offline --manifest-path rust/Cargo.toml "${@:2}"
+}
+
+rust_tests() {
+    rust build --examples && rust test --tests
+}
+
+rust_memcheck() { # words..
+    local host
+    host=$(rustc -vV | sed -n 's/^host: //p' | tr 'a-z-' 'A-Z_')
+    export "CARGO_TARGET_${host}_RUNNER=valgrind --quiet --error-exitcode=9 --leak-check=full --errors-for-leak-kinds=definite"
+    rust test "$@"
+}
+
+# The documentation of the public items, and that of all: rustdoc has to warn of nothing.
+rust_documentation() {
+    export RUSTDOCFLAGS='-D warnings'
+    rust doc --no-deps && rust doc --no-deps --document-private-items
+}
+
+# cargo writes a lock file beside the manifest, so these tests are a copy's.
+rust_serde_tests() {
+    mkdir "$work/rust" && cp -r rust/build.rs rust/src rust/tests rust/serde "$work/rust/" || return
+    HEDRUGAL_LIBRARY="$library" CARGO_TARGET_DIR="$work/serde" \
+        cargo test --quiet --offline --manifest-path "$work/rust/serde/Cargo.toml" --features use_serde --test serde \
+        --config 'source.crates-io.replace-with="system"' --config "source.system.directory=\"$system_crates\""
+}
+
+# Builds a program over the package in a new folder, with these variables in place of the one that names the library.
+rust_builds() { # NAME=VALUE..
+    rm -rf "$work/found"
+    env -u HEDRUGAL_LIBRARY CARGO_TARGET_DIR="$work/found" "$@" \
+        cargo build --quiet --locked --offline --manifest-path "$top/rust/Cargo.toml" --example measure
+}
+
+# The program so built finds two events in four bytes.
+rust_finds() { # NAME=VALUE..
+    rust_builds "$@" || return
+    printf 'q\033[A' > "$work/keys" && env "$@" "$work/found/debug/examples/measure" "$work/keys" 1 | grep -x '[0-9]* 2 0'
+}
+
+rust_finds_from() { # folder NAME=VALUE..
+    cd "$1" && rust_finds "${@:2}"
+}
+
+# The build stops with a message of two lines, of which the first says this.
+rust_stops() { # text NAME=VALUE..
+    if rust_builds "${@:2}" 2> "$work/message"; then return 1; fi
+    cat "$work/message"
+    sed '1,/^ *--- stderr/d;/^$/d' "$work/message" > "$work/said"
+    [ "$(wc -l < "$work/said")" = 2 ] && head -n 1 "$work/said" | grep -F "hedrugal: $1"
+}
+
+check 'tests' rust_tests
+check 'examples of the documentation' rust test --doc
+check 'documentation' rust_documentation
+check 'clippy' rust clippy --all-targets -- -D warnings
+check 'tests with serde' rust_serde_tests
+check 'tests under valgrind' rust_memcheck --test parser --test keymap -- \
+    --skip streams --skip recorded --skip generated --skip undecided --skip long::reads
+
+mkdir "$work/shared" && cp -a "$library"/libhedrugal.so* "$work/shared/" || exit
+ln -s "$library" "$work/lib"
+check 'absolute folder' rust_finds HEDRUGAL_LIBRARY="$library"
+check 'relative folder' rust_finds_from "$work/shared" HEDRUGAL_LIBRARY=../lib
+check 'file of the archive' rust_finds HEDRUGAL_LIBRARY="$library/libhedrugal.a"
+check 'shared library' rust_finds HEDRUGAL_LIBRARY="$work/shared" LD_LIBRARY_PATH="$work/shared"
+# A folder in which linkers look unasked isn't named by pkg-config itself.
+check 'pkg-config' rust_finds PKG_CONFIG_PATH="$library"
+check 'pkg-config of the system' rust_finds PKG_CONFIG_PATH="$library" PKG_CONFIG_SYSTEM_LIBRARY_PATH="$library"
+check 'no library' rust_stops 'pkg-config finds no hedrugal' PKG_CONFIG=false
+check 'folder without a library' rust_stops "there is no libhedrugal.a in $work/no" HEDRUGAL_LIBRARY="$work/no"
+check 'file that is no library' rust_stops "$work/keys isn't a libhedrugal.a" HEDRUGAL_LIBRARY="$work/keys"
+check 'other target' rust_stops 'the library is for Linux on x86-64' CARGO_BUILD_TARGET=i686-unknown-linux-gnu
+print_counts
