@@ -1,82 +1,57 @@
 #!/usr/bin/env bash
-# Makes the packages of tools/package.sh, and tests them as on a machine without the Rattle kit.
-#
-#     tools/package_test.sh [--library DIR] [--keyshow FILE] [--keys FILE] [--without-lintian]
+# Tests what `make dist` makes, as on a machine without the Rattle kit: `make check-packages`. HEDRUGAL_LIBRARY names the library's folder,
+# else it is out/lib; KEYSHOW names the program, else it is out/bin/keyshow.
 #
 # The packages are made twice, from two folders, and have to be the same bytes. lintian has to find nothing in the Debian packages but what
-# the files tools/package/debian/*.lintian-overrides explain. Their files, fields and exported calls have to be those that are expected.
+# debian/*.lintian-overrides explain. Their files, fields and exported calls have to be those that are expected.
 #
 # Then the listings of docs/packages.md are run where no program finds the kit: rt isn't on the path, and the folders of the kit and of this
 # repository are empty, if the system lets a program have such a view of them. The Debian packages are installed by dpkg in a folder in
 # place of the system's root, the tarball is unpacked in a folder whose name has a space, and the wheel is installed in a virtual
-# environment. At last dpkg has to remove all that it installed.
-#
-# DIR is a folder that tools/c_library.sh wrote, each FILE the program; what isn't named is proved and built first. The last line is 'N passed,
-# N failed', the status 1 if a case failed. It needs lintian (but for --without-lintian), dpkg, cc, binutils, pkg-config, cargo, python3 with venv and pip, and what
-# tools/package.sh needs.
-set -u
-export LC_ALL=C.UTF-8
+# environment. At last dpkg has to remove all that it installed. The last line is 'N passed, N failed', the status 1 if a case failed.
 . "$(dirname "$0")/common.sh"
-library='' keyshow='' keys='' has_lintian=yes
-while [ $# -gt 0 ]; do
-    case $1 in
-        --help) show_help; exit ;;
-        --library) want_next "$@"; library=$(realpath -- "$2") || exit; shift ;;
-        --keyshow) want_next "$@"; keyshow=$(realpath -- "$2") || exit; shift ;;
-        --keys) want_next "$@"; keys=$(realpath -- "$2") || exit; shift ;;
-        --without-lintian) has_lintian=no ;;
-        *) refuse_word "$1" ;;
-    esac
-    shift
-done
-[ $has_lintian = no ] || need lintian lintian --without-lintian
-need cc gcc
-for tool in dpkg dpkg-deb dpkg-query; do need $tool dpkg; done
-need dpkg-shlibdeps dpkg-dev
-for tool in nm objdump readelf; do need $tool binutils; done
-for tool in pkg-config cargo python3 git unshare; do need $tool $tool; done
-stop_if_missing
-python3 -c 'import ensurepip, venv' || refuse 'python3 has no venv: install python3-venv'
-cd "$(dirname "$0")/.." || exit
-work=$(mktemp -d)
-trap 'rm -rf "$work"' EXIT
-build_unnamed
+start_cases "$@"
+keyshow=$(realpath -m -- "${KEYSHOW:-out/bin/keyshow}")
+[ -x "$keyshow" ] || refuse "there is no $keyshow: make builds it, or KEYSHOW names another"
 
 version=$(library_version)
 major=${version%%.*}
-debian='keyshow libhedrugal-dev libhedrugal0'
+mapfile -t calls < <(library_calls | sort)
+debian=(hedrugal libhedrugal-dev libhedrugal0)
+tarball=hedrugal-$version-x86_64-linux
 packages=$work/packages unpacked=$work/unpacked root=$work/root
-built=(--library "$library" --keyshow "$keyshow" --keys "$keys")
 libdir=usr/lib/x86_64-linux-gnu
 system_library=$unpacked/libhedrugal0/$libdir/libhedrugal.so.$version
-SOURCE_DATE_EPOCH=${SOURCE_DATE_EPOCH:-$(git log -1 --format=%ct)}
-export SOURCE_DATE_EPOCH
-
-kit=$PWD
+kit=$top
 ! command -v rt > /dev/null || kit=$(dirname "$(rt doc)")
+
+make_dist() { # folder of the sources, folder of the packages
+    make -s -C "$1" dist DIST="$2" LIBRARY="$library" KEYSHOW="$keyshow"
+}
 
 # Makes a copy of the sources as another user may have it: only that user reads it, and it has what Python and cargo left there.
 copy_sources() { # folder
-    mkdir "$1" && tar --exclude=target -c CHANGELOG.md LICENSE c docs keys python rust tools | tar -C "$1" -x && chmod -R go= "$1" &&
-        mkdir -p "$1"/python/hedrugal/{__pycache__,page/__pycache__} "$1"/rust/{target/debug,serde/target} &&
-        touch "$1"/python/hedrugal/{__pycache__,page/__pycache__}/old.pyc "$1"/rust/{target/debug,serde/target}/old
+    mkdir "$1" && tar --exclude=.git --exclude=out --exclude=target -c . | tar -C "$1" -x && chmod -R go= "$1" &&
+        mkdir -p "$1"/python/{build/lib/hedrugal,hedrugal/__pycache__,hedrugal/page/__pycache__} "$1"/rust/{target/debug,serde/target} &&
+        touch "$1"/python/{build/lib/hedrugal/old.py,hedrugal/__pycache__/old.pyc,hedrugal/page/__pycache__/old.pyc} \
+            "$1"/rust/{target/debug,serde/target}/old
 }
 
 # From such a copy, in another folder, for another user's settings and over the packages of an older version. Other files stay.
 make_again() {
-    local copy="$work/a copy" again=$work/again
+    local copy="$work/a copy" again="$work/over another"
     copy_sources "$copy" && mkdir "$again" || return
-    touch "$again"/another "$again"/{libhedrugal0,libhedrugal-dev,keyshow}_0.0.1-1_amd64.deb \
+    touch "$again"/another "$again"/{libhedrugal0,libhedrugal-dev,hedrugal}_0.0.1-1_amd64.deb \
         "$again"/hedrugal-0.0.1-{x86_64-linux.tar.gz,py3-none-manylinux_2_5_x86_64.whl}
-    (cd / && umask 077 && TZ=Asia/Tokyo "$copy/tools/package.sh" "${built[@]}" "$again") && rm "$again/another" && diff -r "$packages" "$again"
+    (cd / && umask 077 && TZ=Asia/Tokyo make_dist "$copy" "$again") && rm "$again/another" && diff -r "$packages" "$again"
 }
 
 check_names() {
-    diff <(ls "$packages" | sed 's/linux_[0-9]*_[0-9]*_/linux_A_B_/') - << END
+    diff <(find "$packages" -type f -printf '%f\n' | sort | sed 's/linux_[0-9]*_[0-9]*_/linux_A_B_/') - << END
 SHA256SUMS
 hedrugal-$version-py3-none-manylinux_A_B_x86_64.whl
-hedrugal-$version-x86_64-linux.tar.gz
-keyshow_$version-1_amd64.deb
+$tarball.tar.gz
+hedrugal_$version-1_amd64.deb
 libhedrugal-dev_$version-1_amd64.deb
 libhedrugal0_$version-1_amd64.deb
 END
@@ -92,22 +67,19 @@ check_by_lintian() {
         "$packages"/*.deb
 }
 
+# (wheel compares each file with its checksum.)
 unpack() {
     local package
-    mkdir "$unpacked" && tar -C "$unpacked" -xzf "$packages"/*.tar.gz && python3 -m zipfile -e "$packages"/*.whl "$unpacked/wheel" || return
-    for package in $debian; do dpkg-deb -R "$packages/${package}_$version-1_amd64.deb" "$unpacked/$package" || return; done
-}
-
-# What documents and overrides each package has.
-expected_documents() { # package
-    printf "usr/share/doc/$1/%s 644\n" changelog.Debian.gz changelog.gz copyright
-    echo "usr/share/lintian/overrides/$1 644"
+    mkdir "$unpacked" && tar -C "$unpacked" -xzf "$packages"/*.tar.gz && /usr/bin/python3 -m wheel unpack -d "$work" "$packages"/*.whl &&
+        mv "$work/hedrugal-$version" "$unpacked/wheel" || return
+    for package in "${debian[@]}"; do dpkg-deb -R "$packages/${package}_$version-1_amd64.deb" "$unpacked/$package" || return; done
 }
 
 expected_files() { # package
-    expected_documents "$1"
+    printf "usr/share/doc/$1/%s 644\n" THIRD-PARTY changelog.Debian.gz changelog.gz copyright hedrugal.spdx.json
+    echo "usr/share/lintian/overrides/$1 644"
     case $1 in
-        keyshow)
+        hedrugal)
             printf 'usr/bin/%s 755\n' hedrugal-keys keyshow
             printf 'usr/share/man/man1/%s.1.gz 644\n' hedrugal-keys keyshow ;;
         libhedrugal-dev)
@@ -117,7 +89,7 @@ expected_files() { # package
             echo "$libdir/pkgconfig/hedrugal.pc 644"
             printf "usr/share/doc/$1/examples/%s 644\n" ask.c events.c live.c
             echo 'usr/share/man/man3/hedrugal.3.gz 644'
-            library_calls | sed 's|.*|usr/share/man/man3/&.3.gz -> hedrugal.3.gz|' ;;
+            printf 'usr/share/man/man3/%s.3.gz -> hedrugal.3.gz\n' "${calls[@]}" ;;
         libhedrugal0)
             echo "$libdir/libhedrugal.so.$major -> libhedrugal.so.$version"
             echo "$libdir/libhedrugal.so.$version 644" ;;
@@ -130,15 +102,10 @@ check_files() { # package
 }
 
 # Whether a package has these fields. What it depends on is left to other cases.
-check_fields() { # package section [multi-arch]
-    diff <(dpkg-deb -f "$packages/$1"_*.deb Package Source Version Architecture Section Multi-Arch) - << END
-Package: $1
-Source: libhedrugal
-Version: $version-1
-Architecture: amd64
-Section: $2${3:+
-Multi-Arch: $3}
-END
+check_fields() { # package section multi-arch
+    # shellcheck disable=SC2016
+    local fields='${Package} ${source:Package} ${Version} ${Architecture} ${Section} ${Multi-Arch}'
+    diff <(dpkg-deb -W --showformat="$fields" "$packages/$1"_*.deb) <(printf '%s' "$1 hedrugal $version-1 amd64 $2 $3")
 }
 
 check_dev_dependency() {
@@ -149,8 +116,8 @@ check_dev_dependency() {
 check_exports() {
     local control=$unpacked/libhedrugal0/DEBIAN
     readelf -dW "$system_library" | grep -F "soname: [libhedrugal.so.$major]" &&
-        diff <(nm -D --defined-only "$system_library" | awk '{ print $3 }' | sort) <(library_calls | sort) &&
-        diff <(sed -n 's/^ \(.*\)@Base .*/\1/p' "$control/symbols") <(library_calls | sort) &&
+        diff <(nm -D --defined-only "$system_library" | awk '{ print $3 }' | sort) <(printf '%s\n' "${calls[@]}") &&
+        diff <(sed -n 's/^ \(.*\)@Base .*/\1/p' "$control/symbols") <(printf '%s\n' "${calls[@]}") &&
         grep -xF "libhedrugal $major libhedrugal0 (>= $version)" "$control/shlibs" &&
         grep -xF 'activate-noawait ldconfig' "$control/triggers"
 }
@@ -164,42 +131,48 @@ check_dependency() { # package files..
 # No instruction of AVX, BMI and other extensions that a processor of the level x86-64-v2 may lack.
 check_processor() { # file
     local later='v[a-z0-9]+|lzcnt|andn|bextr|bls[ir]|blsmsk|bzhi|mulx|pdep|pext|rorx|sarx|shlx|shrx|movbe'
-    ! objdump -d --no-show-raw-insn "$1" | grep -E "%[yz]mm|%k[0-7]|\\s($later)\\s"
+    objdump -d --no-show-raw-insn "$1" > "$work/code" && ! grep -E "%[yz]mm|%k[0-7]|\\s($later)\\s" "$work/code"
 }
 
-# The wheel's checksums are right, and its tag is for no older C library than its own file needs.
+# The wheel's tag is for the C library that its own file needs, or the oldest that pip knows.
 check_wheel() {
-    python3 tools/package/check_wheel.py "$packages"/*.whl \
-        "$(objdump -T "$unpacked/wheel/hedrugal/libhedrugal.so" | sed -n 's/.*GLIBC_\([0-9.]*\).*/\1/p' | sort -V | tail -n 1)"
+    local needed
+    needed=$(objdump -T "$unpacked/wheel/hedrugal/libhedrugal.so" | sed -n 's/.*GLIBC_\([0-9]*\.[0-9]*\).*/\1/p' | sort -V | tail -n 1)
+    needed=$(printf '%s\n' 2.5 "$needed" | sort -V | tail -n 1)
+    [ -f "$packages/hedrugal-$version-py3-none-manylinux_${needed/./_}_x86_64.whl" ]
 }
 
 # The tarball and the wheel have the files of the Python module, as they lie here, and the library where it looks for it.
 check_python() {
     local folder
-    for folder in "$unpacked/hedrugal-$version-x86_64-linux/python" "$unpacked/wheel"; do
-        diff -r --exclude=__pycache__ --exclude=libhedrugal.so python/hedrugal "$folder/hedrugal" && [ -f "$folder/hedrugal/libhedrugal.so" ] || return
+    for folder in "$unpacked/$tarball/python" "$unpacked/wheel"; do
+        diff -r --exclude=__pycache__ --exclude=libhedrugal.so python/hedrugal "$folder/hedrugal" &&
+            [ -f "$folder/hedrugal/libhedrugal.so" ] || return
     done
 }
 
 # Everyone reads the tarball's files, and runs the programs and the shared library. All belong to root.
 check_modes() {
-    local name=hedrugal-$version-x86_64-linux
-    tar --numeric-owner -tvzf "$packages/$name.tar.gz" > "$work/listed" && [ -s "$work/listed" ] || return
+    tar --numeric-owner -tvzf "$packages/$tarball.tar.gz" > "$work/listed" && [ -s "$work/listed" ] || return
     diff <(awk '{ print $1, $2 }' "$work/listed" | sort -u) <(printf '%s 0/0\n' -rw-r--r-- -rwxr-xr-x drwxr-xr-x lrwxrwxrwx) &&
         diff <(awk '$1 == "-rwxr-xr-x" { print $NF }' "$work/listed" | sort) \
-            <(printf "$name/%s\n" bin/hedrugal-keys bin/keyshow "lib/libhedrugal.so.$version")
+            <(printf "$tarball/%s\n" bin/hedrugal-keys bin/keyshow "lib/libhedrugal.so.$version")
 }
 
-# The notices of the tarball, the wheel and the Debian packages.
+# The notices and the list of parts in the tarball, the wheel and the Debian packages.
 check_notices() {
-    for folder in "$unpacked/hedrugal-$version-x86_64-linux" "$unpacked/wheel/hedrugal-$version.dist-info"; do
-        cmp LICENSE "$folder/LICENSE" && cmp tools/package/THIRD-PARTY "$folder/THIRD-PARTY" || return
+    local folder package
+    for folder in "$unpacked/$tarball" "$unpacked/wheel/hedrugal-$version.dist-info"; do
+        cmp LICENSE "$folder/LICENSE" && check_third_party_in "$folder" || return
     done
-    sed -e 's/^ //' -e 's/^\.$//' "$unpacked/keyshow/usr/share/doc/keyshow/copyright" > "$work/copyright"
-    for file in LICENSE tools/package/THIRD-PARTY; do
-        grep -vxFf "$work/copyright" "$file" | grep . && return 1
+    for package in "${debian[@]}"; do
+        folder=$unpacked/$package/usr/share/doc/$package
+        diff LICENSE <(sed -n '/^ MIT License/,$s/^ \.\{0,1\}//p' "$folder/copyright") && check_third_party_in "$folder" || return
     done
-    cmp "$unpacked"/{keyshow/usr/share/doc/keyshow,libhedrugal0/usr/share/doc/libhedrugal0}/copyright
+}
+
+check_third_party_in() { # folder
+    cmp tools/package/THIRD-PARTY "$1/THIRD-PARTY" && cmp "$unpacked/$tarball/hedrugal.spdx.json" "$1/hedrugal.spdx.json"
 }
 
 # Prints the kit's crates that what is packaged stands on.
@@ -226,6 +199,21 @@ check_third_party() {
     done < "$work/crates"
 }
 
+# The list of parts has this library, the kit and those crates, but for the kit's own, and says of each that it is linked.
+check_parts() {
+    local program='
+import json, sys
+document = json.load(sys.stdin)
+assert document["spdxVersion"] == "SPDX-2.3"
+described, *linked = document["relationships"]
+assert (described["relationshipType"], described["relatedSpdxElement"]) == ("DESCRIBES", "SPDXRef-hedrugal")
+assert {it["relationshipType"] for it in linked} == {"STATIC_LINK"}
+names = {it["SPDXID"]: it["name"] for it in document["packages"]}
+print("hedrugal", *(names[it["relatedSpdxElement"]] for it in linked), sep="\n")'
+    diff <({ kit_crates | grep -vxE 'core|std|std_alloc'; printf '%s\n' hedrugal rattle-kit; } | sort) \
+        <(/usr/bin/python3 -c "$program" < "$unpacked/$tarball/hedrugal.spdx.json" | sort)
+}
+
 # A folder in place of the system's root, for which dpkg knows the C library alone.
 make_root() {
     mkdir -p "$root/var/lib/dpkg" "$work/bin" && dpkg-query -s libc6:amd64 > "$root/var/lib/dpkg/status" || return
@@ -246,7 +234,8 @@ path_without_rt() {
 find_view() {
     local user=(--map-root-user)
     [ "$(id -u)" != 0 ] || user=()
-    view=(unshare "${user[@]}" --mount bash -c 'mount -t tmpfs none "$0" && mount -t tmpfs none "$1" && shift && exec "$@"' "$kit" "$PWD")
+    # shellcheck disable=SC2016
+    view=(unshare "${user[@]}" --mount bash -c 'mount -t tmpfs none "$0" && mount -t tmpfs none "$1" && shift && exec "$@"' "$kit" "$top")
     "${view[@]}" true 2> /dev/null || {
         view=()
         progress 'note: the kit is only taken off the path, since this system lets no program hide folders'
@@ -305,7 +294,7 @@ run_session() { # name folder steps..
 
 # Runs a command without the kit. Cargo asks no registry, and pip none of its own.
 without_kit() { # words..
-    env -u HEDRUGAL_LIBRARY -u HEDRUGAL_LIBRARY -u CARGO_TARGET_DIR PATH="$(path_without_rt)" CARGO_NET_OFFLINE=true \
+    env -u HEDRUGAL_LIBRARY -u CARGO_TARGET_DIR PATH="$(path_without_rt)" CARGO_NET_OFFLINE=true \
         PIP_DISABLE_PIP_VERSION_CHECK=1 PIP_ROOT_USER_ACTION=ignore "${view[@]}" "$@"
 }
 
@@ -316,7 +305,7 @@ on_system() { # words..
 
 # Programs find neither rt nor, if folders can be hidden, anything of the kit and this repository.
 check_view() {
-    ! without_kit bash -c 'command -v rt' && { [ ${#view[@]} = 0 ] || [ -z "$(without_kit find "$kit" "$PWD" -mindepth 1)" ]; }
+    ! without_kit bash -c 'command -v rt' && { [ ${#view[@]} = 0 ] || [ -z "$(without_kit find "$kit" "$top" -mindepth 1)" ]; }
 }
 
 # Nothing is left of the packages but dpkg's own lists.
@@ -325,29 +314,27 @@ check_removed() {
 }
 
 progress 'makes the packages twice'
-check 'packages' tools/package.sh "${built[@]}" "$packages"
+check 'packages' make_dist . "$packages"
 check 'the same bytes again' make_again
 check 'names of the packages' check_names
 check 'checksums' check_checksums
-if [ $has_lintian = yes ]; then
-    progress 'calls lintian'
-    check 'Debian packages by lintian' check_by_lintian
-fi
+check 'Debian packages by lintian' check_by_lintian
 check 'packages unpacked' unpack
-for package in $debian; do check "files of $package" check_files $package; done
-check 'fields of keyshow' check_fields keyshow utils
+for package in "${debian[@]}"; do check "files of $package" check_files "$package"; done
+check 'fields of hedrugal' check_fields hedrugal utils no
 check 'fields of libhedrugal-dev' check_fields libhedrugal-dev libdevel same
 check 'fields of libhedrugal0' check_fields libhedrugal0 libs same
 check 'dependency of libhedrugal-dev' check_dev_dependency
 check 'dependency of libhedrugal0' check_dependency libhedrugal0 "$system_library"
-check 'dependency of keyshow' check_dependency keyshow "$unpacked"/keyshow/usr/bin/*
+check 'dependency of hedrugal' check_dependency hedrugal "$unpacked"/hedrugal/usr/bin/*
 check 'name and exports of the library' check_exports
-for file in "$system_library" "$unpacked"/keyshow/usr/bin/*; do check "processor for ${file##*/}" check_processor "$file"; done
+for file in "$system_library" "$unpacked"/hedrugal/usr/bin/*; do check "processor for ${file##*/}" check_processor "$file"; done
 check 'wheel' check_wheel
 check 'Python module' check_python
 check "modes of the tarball's files" check_modes
 check 'notices' check_notices
-check 'parts of the kit' check_third_party
+check 'notices of the kit' check_third_party
+check 'list of parts' check_parts
 find_view
 check 'view without the kit' check_view
 check 'root for dpkg' make_root

@@ -1,0 +1,64 @@
+# `make dist`: what a machine without the kit installs; docs/packages.md says how each file is used. The same sources, library and programs
+# make the same bytes, in any folder. All dates are SOURCE_DATE_EPOCH, or that of the newest entry of debian/changelog.
+DIST ?= out/dist
+
+.PHONY: dist dist-needs
+dist: dist-needs all ## makes the Debian packages, the tarball, the Python wheel and their checksums, in the folder DIST
+	@umask 022; work=$$(mktemp -d); trap 'rm -rf "$$work"' EXIT; $(MAKE) --silent --no-print-directory dist-files dist_work="$$work"
+
+dist-needs:
+	@tools/needs.sh dist
+
+ifdef dist_work
+export SOURCE_DATE_EPOCH := $(or $(SOURCE_DATE_EPOCH),$(shell dpkg-parsechangelog -S Timestamp))
+source := $(dist_work)/source
+tarball := hedrugal-$(VERSION)-x86_64-linux
+tree := $(dist_work)/$(tarball)
+# Shows what was logged if a command fails: NAME
+dist_logged = > $(dist_work)/$(1).log 2>&1 || { cat $(dist_work)/$(1).log >&2; exit 1; }
+
+.PHONY: dist-files dist-source dist-tree dist-tarball dist-wheel dist-debs
+# Files of another name stay in DIST, and those of an earlier version go.
+dist-files: dist-tarball dist-wheel dist-debs
+	cd $(dist_work)/made && sha256sum -- * > ../SHA256SUMS
+	mkdir -p '$(DIST)'
+	rm -f '$(DIST)'/{libhedrugal0,libhedrugal-dev,hedrugal}_*_amd64.deb '$(DIST)'/hedrugal-*-{x86_64-linux.tar.gz,py3-none-manylinux_*.whl}
+	install -m 644 $(dist_work)/made/* $(dist_work)/SHA256SUMS '$(DIST)/'
+	echo "make: wrote $$(ls $(dist_work)/made | wc -l) packages and SHA256SUMS to $(DIST)"
+
+# A copy without what was built here, which everyone may read.
+dist-source:
+	mkdir $(source) $(dist_work)/made
+	tar -c --exclude={.git,out,target,__pycache__,./python/build,*.egg-info} --mode=u=rwX,go=rX . | tar -C $(source) -xm
+	$(PYTHON) tools/package/sbom.py > $(source)/python/hedrugal.spdx.json
+
+# What the tarball has. The library and the programs are stripped of what they don't need to be linked or run.
+dist-tree: dist-source
+	$(MAKE) --silent install DESTDIR=$(tree) PREFIX=/ LIBDIR=lib $(call dist_logged,install)
+	strip -D --strip-debug --remove-section=.comment $(tree)/lib/libhedrugal.a
+	strip --strip-unneeded --remove-section=.comment --remove-section=.note $(tree)/lib/libhedrugal.so.$(VERSION) $(tree)/bin/*
+	mkdir $(tree)/c $(tree)/python
+	cd $(source) && cp c/events.c c/live.c c/ask.c $(tree)/c/ && cp -r python/hedrugal $(tree)/python/ && \
+		cp -r rust LICENSE tools/package/THIRD-PARTY python/hedrugal.spdx.json $(tree)/
+	ln -s ../../lib/libhedrugal.so $(tree)/python/hedrugal/
+	sed 's/@VERSION@/$(VERSION)/' tools/package/README > $(tree)/README
+
+dist-tarball: dist-tree
+	echo 'make: makes the tarball'
+	tar -C $(dist_work) --sort=name --format=gnu --owner=root:0 --group=root:0 --mtime=@$(SOURCE_DATE_EPOCH) -c $(tarball) | \
+		gzip -9n > $(dist_work)/made/$(tarball).tar.gz
+
+dist-wheel: dist-tree
+	echo 'make: makes the wheel'
+	HEDRUGAL_LIBRARY=$(tree)/lib $(PYTHON) -m build --wheel --no-isolation --outdir $(dist_work)/made $(source)/python \
+		$(call dist_logged,wheel)
+
+# (The variables of this make aren't those of the one in the copy.)
+dist-debs: dist-tree
+	echo 'make: makes the Debian packages'
+	mkdir $(source)/built
+	cp $(tree)/lib/libhedrugal.* $(tree)/include/hedrugal.h c/hedrugal.pc $(tree)/bin/keyshow $(source)/built/
+	cd $(source) && env -u MAKEFLAGS -u MFLAGS -u MAKELEVEL LIBRARY=built KEYSHOW=built/keyshow dpkg-buildpackage \
+		--build=binary --no-sign $(call dist_logged,debs)
+	mv $(dist_work)/*.deb $(dist_work)/made/
+endif
