@@ -1,5 +1,6 @@
-"""measure.py FILE READ: feeds the file in reads of READ bytes, and prints the nanoseconds that this took, the events, and the bytes that
-stay buffered at the end. tools/c_measure.sh runs it beside programs in C and Rust."""
+"""measure.py FILE READ: feeds the file in reads of READ bytes, and prints the nanoseconds that this
+took, the events, and the bytes that stay buffered at the end. tools/c_measure.sh runs it beside
+programs in C and Rust."""
 import sys
 import time
 

@@ -1,4 +1,5 @@
-// Finds libhedrugal: in the folder that HEDRUGAL_LIBRARY names, or else by pkg-config.
+// Finds libhedrugal: the file that HEDRUGAL_LIBRARY names, or the one in the folder that it names,
+// or else by pkg-config.
 use std::env;
 use std::path::{Path, PathBuf};
 use std::process::{self, Command};
@@ -22,12 +23,14 @@ fn stop(fault: &str, advice: &str) -> ! {
 // Whether the program is built for Linux on x86-64 with 64-bit pointers, as the library is.
 fn is_for_linux() -> bool {
     let is = |name: &str, value: &str| env::var_os(name).is_some_and(|known| known == value);
-    is("CARGO_CFG_TARGET_OS", "linux") && is("CARGO_CFG_TARGET_ARCH", "x86_64") && is("CARGO_CFG_TARGET_POINTER_WIDTH", "64")
+    is("CARGO_CFG_TARGET_OS", "linux")
+        && is("CARGO_CFG_TARGET_ARCH", "x86_64")
+        && is("CARGO_CFG_TARGET_POINTER_WIDTH", "64")
 }
 
-// The folder that HEDRUGAL_LIBRARY names. A relative one begins where cargo was called: cargo runs this program elsewhere, but leaves the
-// shell's PWD as it is, which then counts too.
-fn named_folder() -> Option<PathBuf> {
+// What HEDRUGAL_LIBRARY names. A relative path begins where cargo was called: cargo runs this
+// program elsewhere, but leaves the shell's PWD as it is, which then counts too.
+fn named_path() -> Option<PathBuf> {
     let named = PathBuf::from(env::var_os("HEDRUGAL_LIBRARY")?);
     if named.is_absolute() {
         return Some(named);
@@ -36,7 +39,8 @@ fn named_folder() -> Option<PathBuf> {
     Some(Path::new(&caller).join(named))
 }
 
-// The words of a line of pkg-config, which writes a backslash before a space that is part of a word.
+// The words of a line of pkg-config, which writes a backslash before a space that is part of a
+// word.
 fn words(line: &str) -> Vec<String> {
     let (mut words, mut word) = (Vec::new(), String::new());
     let mut characters = line.chars();
@@ -52,7 +56,8 @@ fn words(line: &str) -> Vec<String> {
     words
 }
 
-// The folders that pkg-config names, also those in which a linker looks unasked. `None` if it isn't there, or doesn't know the library.
+// The folders that pkg-config names, also those in which a linker looks unasked. `None` if it isn't
+// there, or doesn't know the library.
 fn by_pkg_config() -> Option<Vec<PathBuf>> {
     let program = env::var_os("PKG_CONFIG").unwrap_or_else(|| "pkg-config".into());
     let done = Command::new(program)
@@ -70,6 +75,9 @@ fn by_pkg_config() -> Option<Vec<PathBuf>> {
     Some(folders.collect())
 }
 
+// The files that may be the library, and how each is linked. The first that is there is taken.
+const FORMS: [(&str, &str); 2] = [("libhedrugal.a", "static"), ("libhedrugal.so", "dylib")];
+
 // A library, and how it is linked.
 struct Library {
     folder: PathBuf,
@@ -79,33 +87,57 @@ struct Library {
 
 // The library in a folder: the archive, or the shared library if there is no archive.
 fn library_in(folder: &Path) -> Option<Library> {
-    let forms = [("libhedrugal.a", "static"), ("libhedrugal.so", "dylib")];
-    let (file, kind) = forms.into_iter().find(|(file, _)| folder.join(file).is_file())?;
+    let (file, kind) = FORMS
+        .into_iter()
+        .find(|(file, _)| folder.join(file).is_file())?;
     let folder = folder.to_path_buf();
     Some(Library { folder, file, kind })
 }
 
+// The library at a path: the file itself, or the one in a folder.
+fn library_at(path: &Path) -> Option<Library> {
+    if path.is_dir() {
+        return library_in(path);
+    }
+    let (file, kind) = FORMS
+        .into_iter()
+        .find(|(file, _)| path.is_file() && path.ends_with(file))?;
+    let folder = path.parent()?.to_path_buf();
+    Some(Library { folder, file, kind })
+}
+
 fn library() -> Library {
-    if let Some(folder) = named_folder() {
-        return library_in(&folder).unwrap_or_else(|| {
+    if let Some(path) = named_path() {
+        return library_at(&path).unwrap_or_else(|| {
+            let shown = path.display();
+            let fault = if path.is_file() {
+                format!("{shown} isn't a libhedrugal.a or a libhedrugal.so")
+            } else {
+                format!("there is no libhedrugal.a in {shown}")
+            };
             stop(
-                &format!("there is no libhedrugal.a in {}", folder.display()),
-                "Set HEDRUGAL_LIBRARY to the folder of the library, absolute or from where cargo runs.",
+                &fault,
+                "Set HEDRUGAL_LIBRARY to the library's file or folder, absolute or from where \
+                 cargo runs.",
             )
         });
     }
     let Some(folders) = by_pkg_config() else {
         stop(
             "pkg-config finds no hedrugal, and HEDRUGAL_LIBRARY isn't set",
-            "Install the library, or set HEDRUGAL_LIBRARY to its folder, absolute or from where cargo runs.",
+            "Install the library, or set HEDRUGAL_LIBRARY to its file or folder, absolute or from \
+             where cargo runs.",
         )
     };
-    folders.iter().find_map(|folder| library_in(folder)).unwrap_or_else(|| {
-        stop(
-            "there is no libhedrugal.a in the folder that pkg-config names for hedrugal",
-            "Install the library again, or set HEDRUGAL_LIBRARY to its folder.",
-        )
-    })
+    folders
+        .iter()
+        .find_map(|folder| library_in(folder))
+        .unwrap_or_else(|| {
+            stop(
+                "there is no libhedrugal.a in the folder that pkg-config names for hedrugal",
+                "Install the library again, or set HEDRUGAL_LIBRARY to its file or folder.",
+            )
+        })
 }
 
 fn main() {

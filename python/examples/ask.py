@@ -1,10 +1,11 @@
-"""Asks the terminal where its cursor is, which background colour it has and which flags of Kitty's keyboard protocol are set, and prints
-what it replies:
+"""Asks the terminal where its cursor is, which background colour it has and which flags of Kitty's
+keyboard protocol are set, and prints what it replies:
 
     python3 python/examples/ask.py [SECONDS]
 
-The last question is the one for the terminal's attributes (DA1). Every terminal answers it, and answers in order, so what wasn't answered
-before won't be. The program ends with that answer, or after so many seconds, one if none are named. What is typed meanwhile is counted."""
+The last question is the one for the terminal's attributes (DA1). Every terminal answers it, and
+answers in order, so what wasn't answered before won't be. The program ends with that answer, or
+after so many seconds, one if none are named. What is typed meanwhile is counted."""
 import os
 import select
 import signal
@@ -32,7 +33,8 @@ def read_within(terminal: int, seconds: float) -> bytes:
 
 
 def ask(terminal: int, seconds: float) -> List[ExtendedEvent]:
-    """Asks all questions at once. Returns the events until the last answer, or until the time is over."""
+    """Asks all questions at once. Returns the events until the last answer, or until the time is
+    over."""
     os.write(terminal, CURSOR + BACKGROUND + KEYBOARD + ATTRIBUTES)
     events: List[ExtendedEvent] = []
     end = time.monotonic() + seconds
@@ -46,7 +48,8 @@ def ask(terminal: int, seconds: float) -> List[ExtendedEvent]:
 
 
 def ask_in_raw_mode(terminal: int, seconds: float) -> List[ExtendedEvent]:
-    """Asks while the terminal passes each byte on, and then restores its modes. An answer that comes too late is thrown away."""
+    """Asks while the terminal passes each byte on, and then restores its modes. An answer that
+    comes too late is thrown away."""
     saved = termios.tcgetattr(terminal)
     try:
         tty.setraw(terminal)

@@ -1,19 +1,25 @@
-r"""Key, mouse and paste events from the bytes that a terminal sends, and the bytes that it sends for a key.
+r"""Key, mouse and paste events from the bytes that a terminal sends, and the bytes that it sends
+for a key.
 
     >>> with InputParser() as parser:
-    ...     parser.parse(b"q\x1b[1;5A")
-    [KeyEvent(key='q', modifiers=Modifiers.NONE), KeyEvent(key=KeyCode.UpArrow, modifiers=Modifiers.CTRL)]
-    >>> encode(KeyCode.UpArrow, Modifiers.CTRL)
+    ...     for event in parser.parse(b"q\x1b[1;5A"):
+    ...         print(event)
+    KeyEvent(key='q', modifiers=Modifiers.NONE)
+    KeyEvent(key=KeyCode.UP_ARROW, modifiers=Modifiers.CTRL)
+    >>> encode(KeyCode.UP_ARROW, Modifiers.CTRL)
     b'\x1b[1;5A'
 
-The parser does no input of its own. The caller reads bytes from a terminal and passes them on. The events are the same however the bytes
-are cut into calls. A KeyMap maps byte strings to values of the program, such as its commands.
+The parser does no input of its own. The caller reads bytes from a terminal and passes them on. The
+events are the same however the bytes are cut into calls. A KeyMap maps byte strings to values of
+the program, such as its commands.
 
-The module calls the shared library libhedrugal.so by ctypes. The environment variable HEDRUGAL_LIBRARY names the library's file. If the
-variable isn't set, the library is looked for in this package's folder, and then where the system has its libraries. The import raises
-ImportError if no library is found, or if its version isn't that of the module.
+The module calls the shared library libhedrugal.so by ctypes. The environment variable
+HEDRUGAL_LIBRARY names the library's file, or the folder that has it. If the variable isn't set, the
+library is looked for in this package's folder, and then where the system has its libraries. The
+import raises ImportError if no library is found, or if its version isn't that of the module.
 
-Names such as Modifiers and KeyCode are those of the Rust crate termwiz. Their numbers are those of hedrugal.h."""
+Names such as Modifiers and KeyCode are those of the Rust crate termwiz. Their numbers are those of
+hedrugal.h."""
 from __future__ import annotations
 
 import ctypes
@@ -27,7 +33,22 @@ import struct
 import sys
 import weakref
 from dataclasses import dataclass
-from typing import Any, Callable, ClassVar, Dict, Generic, Iterator, List, NamedTuple, NoReturn, Optional, Tuple, TypeVar, Union, cast
+from typing import (
+    Any,
+    Callable,
+    ClassVar,
+    Dict,
+    Generic,
+    Iterator,
+    List,
+    NamedTuple,
+    NoReturn,
+    Optional,
+    Tuple,
+    TypeVar,
+    Union,
+    cast,
+)
 
 __version__ = "0.1.0"
 
@@ -39,6 +60,7 @@ __all__ = [
     "CursorPosition",
     "Dcs",
     "EncodeError",
+    "Entry",
     "Event",
     "Exact",
     "ExtendedEvent",
@@ -47,18 +69,18 @@ __all__ = [
     "FocusLost",
     "Found",
     "Function",
-    "Held",
     "InputParser",
     "Key",
-    "KeyAction",
+    "KeyboardEncoding",
+    "KeyboardFlags",
     "KeyCode",
     "KeyCodeEncodeModes",
     "KeyEvent",
+    "KeyEventKind",
     "KeyMap",
     "KeyReport",
-    "KeyboardEncoding",
-    "KeyboardFlags",
     "KittyKeyboardFlags",
+    "KittyModifiers",
     "Modifiers",
     "MouseButtons",
     "MouseEvent",
@@ -67,10 +89,9 @@ __all__ = [
     "Osc",
     "ParseError",
     "Paste",
+    "Protocol",
     "ReportedKey",
     "Resize",
-    "Row",
-    "Rows",
     "Waiting",
     "encode",
     "key_report",
@@ -84,8 +105,15 @@ class _Named(enum.Enum):
         return f"{type(self).__name__}.{self.name}"
 
 
-class _Flags(enum.IntFlag):
-    """A set of flags, printed by their names."""
+# The first versions of Python 3.11 drop a bit without a name, unless they are told to refuse it.
+_STRICT: Dict[str, Any] = {"boundary": enum.STRICT} if sys.version_info >= (3, 11) else {}
+
+
+class _Flags(enum.Flag, **_STRICT):
+    """A set of flags, printed by their names.
+
+    Sets of different types are never equal and can't be combined, nor can a set and an int. A bit
+    without a name raises ValueError."""
 
     def __repr__(self) -> str:
         names = [str(flag.name) for flag in type(self) if flag.value and flag.value & self.value]
@@ -97,6 +125,7 @@ class _Flags(enum.IntFlag):
 class Modifiers(_Flags):
     """A set of modifier keys."""
 
+    # numbers.txt: termwiz_mod member
     NONE = 0  # No modifier.
     SHIFT = 2  # Shift.
     ALT = 4  # Alt.
@@ -109,141 +138,164 @@ class Modifiers(_Flags):
     RIGHT_CTRL = 512  # The right Ctrl key.
     LEFT_SHIFT = 1024  # The left Shift key.
     RIGHT_SHIFT = 2048  # The right Shift key.
+    # numbers.txt: end
 
 
 class MouseButtons(_Flags):
     """A set of buttons and wheels of the mouse."""
 
+    # numbers.txt: button member
     NONE = 0  # No button and no wheel.
     LEFT = 2  # The left button.
     RIGHT = 4  # The right button.
     MIDDLE = 8  # The middle button.
-    VERT_WHEEL = 16  # The wheel that scrolls up and down. It was turned up if WHEEL_POSITIVE is set too, and down if not.
-    HORZ_WHEEL = 32  # The wheel that scrolls to the sides. It was turned left if WHEEL_POSITIVE is set too, and right if not.
+    # The wheel that scrolls up and down. It was turned up if WHEEL_POSITIVE is set too, and down if
+    # not.
+    VERT_WHEEL = 16
+    # The wheel that scrolls to the sides. It was turned left if WHEEL_POSITIVE is set too, and
+    # right if not.
+    HORZ_WHEEL = 32
     WHEEL_POSITIVE = 64  # Set with a wheel that was turned up or left.
+    # numbers.txt: end
 
 
 class KittyKeyboardFlags(_Flags):
     """A set of flags of kitty's keyboard protocol."""
 
+    # numbers.txt: kitty_flag member
     NONE = 0  # Nothing is asked for.
-    DISAMBIGUATE_ESCAPE_CODES = 1  # Keys whose plain text is ambiguous, as that of Escape, are reported as escape codes.
+    # Keys whose plain text is ambiguous, as that of Escape, are reported as escape codes.
+    DISAMBIGUATE_ESCAPE_CODES = 1
     REPORT_EVENT_TYPES = 2  # Repeats and releases of a key are reported, and not presses alone.
-    REPORT_ALTERNATE_KEYS = 4  # A key is reported with its shifted code and with its code on the standard layout.
+    # A key is reported with its shifted code and with its code on the standard layout.
+    REPORT_ALTERNATE_KEYS = 4
     REPORT_ALL_KEYS_AS_ESCAPE_CODES = 8  # Keys that make text are reported as escape codes too.
     REPORT_ASSOCIATED_TEXT = 16  # A key that makes text is reported with that text.
+    # numbers.txt: end
 
 
 class KeyboardEncoding(_Named):
     """How a terminal encodes the keys that it sends."""
 
-    Xterm = 0  # The characters themselves, and xterm's control sequences.
-    CsiU = 1  # The same, but a character with modifiers that it can't show is sent as ESC [ c ; m u (fixterms).
-    Win32 = 2  # Records of the Windows console. Keys are encoded as with XTERM.
-    Kitty = 3  # kitty's keyboard protocol. Keys are encoded as with XTERM.
+    # numbers.txt: encoding member
+    XTERM = 0  # The characters themselves, and xterm's control sequences.
+    # The same, but a character with modifiers that it can't show is sent as ESC [ c ; m u
+    # (fixterms).
+    CSI_U = 1
+    WIN32 = 2  # Records of the Windows console. Keys are encoded as with XTERM.
+    KITTY = 3  # kitty's keyboard protocol. Keys are encoded as with XTERM.
+    # numbers.txt: end
 
 
 class Waiting(_Named):
     """What stays buffered, and so what a pause means: see `InputParser.waiting`."""
 
-    Nothing = 0  # Nothing is buffered.
-    Escape = 1  # ESC, or ESC ESC: the Escape key, alone or with Alt, unless more bytes follow.
-    Sequence = 2  # A longer prefix of a sequence, after an ESC or not.
-    Character = 3  # A prefix of a character in UTF-8, after an ESC or not.
-    Paste = 4  # An open paste: its start, and its text so far.
+    # numbers.txt: waiting member
+    NOTHING = 0  # Nothing is buffered.
+    ESCAPE = 1  # ESC, or ESC ESC: the Escape key, alone or with Alt, unless more bytes follow.
+    SEQUENCE = 2  # A longer prefix of a sequence, after an ESC or not.
+    CHARACTER = 3  # A prefix of a character in UTF-8, after an ESC or not.
+    PASTE = 4  # An open paste: its start, and its text so far.
+    # numbers.txt: end
 
 
 class KeyCode(_Named):
     """A key that types no character and is no function key."""
 
-    Hyper = 2  # Hyper, a modifier key.
-    Super = 3  # Super, a modifier key: on most keyboards the one with the Windows logo, or Command.
-    Meta = 4  # Meta, a modifier key. The key that is labelled Alt is `Alt`.
-    Cancel = 5  # Cancel, which on PC keyboards is Ctrl-Break.
-    Backspace = 6  # Backspace, which deletes the character before the cursor.
-    Tab = 7  # Tab. Shift-Tab is this key with SHIFT.
-    Clear = 8  # Clear, which on PC keyboards is the 5 of the keypad while Num Lock is off.
-    Enter = 9  # Enter, also called Return.
-    Shift = 10  # Shift, where it isn't known which of the two.
-    Escape = 11  # Escape.
-    LeftShift = 12  # The left Shift key.
-    RightShift = 13  # The right Shift key.
-    Control = 14  # Ctrl, where it isn't known which of the two.
-    LeftControl = 15  # The left Ctrl key.
-    RightControl = 16  # The right Ctrl key.
-    Alt = 17  # Alt, or Option, where it isn't known which of the two.
-    LeftAlt = 18  # The left Alt key.
-    RightAlt = 19  # The right Alt key, also called AltGr.
-    Menu = 20  # Menu, Windows' name for Alt (`VK_MENU`). The key that opens a context menu is `Applications`.
-    LeftMenu = 21  # Windows' name for the left Alt key (`VK_LMENU`).
-    RightMenu = 22  # Windows' name for the right Alt key (`VK_RMENU`).
-    Pause = 23  # Pause.
-    CapsLock = 24  # Caps Lock.
-    PageUp = 25  # Page Up.
-    PageDown = 26  # Page Down.
-    End = 27  # End.
-    Home = 28  # Home.
-    LeftArrow = 29  # The left arrow key.
-    RightArrow = 30  # The right arrow key.
-    UpArrow = 31  # The up arrow key.
-    DownArrow = 32  # The down arrow key.
-    Select = 33  # Select, as on the VT220's editing keypad.
-    Print = 34  # Print (`VK_PRINT`), which few keyboards have. It isn't `PrintScreen`.
-    Execute = 35  # Execute (`VK_EXECUTE`), which few keyboards have.
-    PrintScreen = 36  # Print Screen.
-    Insert = 37  # Insert.
-    Delete = 38  # Delete, which deletes the character at the cursor.
-    Help = 39  # Help.
-    LeftWindows = 40  # The left key with the Windows logo.
-    RightWindows = 41  # The right key with the Windows logo.
-    Applications = 42  # The Applications key, which opens a context menu.
-    Sleep = 43  # Sleep, which suspends the computer.
-    Numpad0 = 44  # The 0 of the numeric keypad, while Num Lock is on.
-    Numpad1 = 45  # The 1 of the numeric keypad, while Num Lock is on.
-    Numpad2 = 46  # The 2 of the numeric keypad, while Num Lock is on.
-    Numpad3 = 47  # The 3 of the numeric keypad, while Num Lock is on.
-    Numpad4 = 48  # The 4 of the numeric keypad, while Num Lock is on.
-    Numpad5 = 49  # The 5 of the numeric keypad, while Num Lock is on.
-    Numpad6 = 50  # The 6 of the numeric keypad, while Num Lock is on.
-    Numpad7 = 51  # The 7 of the numeric keypad, while Num Lock is on.
-    Numpad8 = 52  # The 8 of the numeric keypad, while Num Lock is on.
-    Numpad9 = 53  # The 9 of the numeric keypad, while Num Lock is on.
-    Multiply = 54  # The `*` of the numeric keypad.
-    Add = 55  # The `+` of the numeric keypad.
-    Separator = 56  # The thousands separator of the numeric keypad, on keyboards that have one.
-    Subtract = 57  # The `-` of the numeric keypad.
-    Decimal = 58  # The decimal point of the numeric keypad.
-    Divide = 59  # The `/` of the numeric keypad.
-    NumLock = 61  # Num Lock.
-    ScrollLock = 62  # Scroll Lock.
-    Copy = 63  # A key of its own for copying.
-    Cut = 64  # A key of its own for cutting.
-    Paste = 65  # A key of its own for pasting. Text that was pasted comes as an event of its own kind.
-    BrowserBack = 66  # Back, for a web browser.
-    BrowserForward = 67  # Forward, for a web browser.
-    BrowserRefresh = 68  # Refresh, for a web browser.
-    BrowserStop = 69  # Stop loading, for a web browser.
-    BrowserSearch = 70  # Search, for a web browser.
-    BrowserFavorites = 71  # Favorites, for a web browser.
-    BrowserHome = 72  # Home page, for a web browser.
-    VolumeMute = 73  # Mute the sound.
-    VolumeDown = 74  # Turn the volume down.
-    VolumeUp = 75  # Turn the volume up.
-    MediaNextTrack = 76  # Skip to the next track.
-    MediaPrevTrack = 77  # Skip to the previous track.
-    MediaStop = 78  # Stop playing.
-    MediaPlayPause = 79  # Play, or pause.
-    ApplicationLeftArrow = 80  # The left arrow key while the terminal is in application cursor mode (DECCKM).
-    ApplicationRightArrow = 81  # The right arrow key in application cursor mode.
-    ApplicationUpArrow = 82  # The up arrow key in application cursor mode.
-    ApplicationDownArrow = 83  # The down arrow key in application cursor mode.
-    KeyPadHome = 84  # Home on the numeric keypad: the 7 while Num Lock is off.
-    KeyPadEnd = 85  # End on the numeric keypad: the 1 while Num Lock is off.
-    KeyPadPageUp = 86  # Page Up on the numeric keypad: the 9 while Num Lock is off.
-    KeyPadPageDown = 87  # Page Down on the numeric keypad: the 3 while Num Lock is off.
-    KeyPadBegin = 88  # Begin on the numeric keypad: the 5 while Num Lock is off.
-    InternalPasteStart = 89  # The start of a bracketed paste. No event carries it: the paste comes as one event.
-    InternalPasteEnd = 90  # The end of a bracketed paste, where none was started.
+    # numbers.txt: key member
+    HYPER = 2  # Hyper, a modifier key.
+    SUPER = 3  # Super, a modifier key: on most keyboards the one with the Windows logo, or Command.
+    META = 4  # Meta, a modifier key. The key that is labelled Alt is `Alt`.
+    CANCEL = 5  # Cancel, which on PC keyboards is Ctrl-Break.
+    BACKSPACE = 6  # Backspace, which deletes the character before the cursor.
+    TAB = 7  # Tab. Shift-Tab is this key with SHIFT.
+    CLEAR = 8  # Clear, which on PC keyboards is the 5 of the keypad while Num Lock is off.
+    ENTER = 9  # Enter, also called Return.
+    SHIFT = 10  # Shift, where it isn't known which of the two.
+    ESCAPE = 11  # Escape.
+    LEFT_SHIFT = 12  # The left Shift key.
+    RIGHT_SHIFT = 13  # The right Shift key.
+    CONTROL = 14  # Ctrl, where it isn't known which of the two.
+    LEFT_CONTROL = 15  # The left Ctrl key.
+    RIGHT_CONTROL = 16  # The right Ctrl key.
+    ALT = 17  # Alt, or Option, where it isn't known which of the two.
+    LEFT_ALT = 18  # The left Alt key.
+    RIGHT_ALT = 19  # The right Alt key, also called AltGr.
+    # Menu, Windows' name for Alt (`VK_MENU`). The key that opens a context menu is `Applications`.
+    MENU = 20
+    LEFT_MENU = 21  # Windows' name for the left Alt key (`VK_LMENU`).
+    RIGHT_MENU = 22  # Windows' name for the right Alt key (`VK_RMENU`).
+    PAUSE = 23  # Pause.
+    CAPS_LOCK = 24  # Caps Lock.
+    PAGE_UP = 25  # Page Up.
+    PAGE_DOWN = 26  # Page Down.
+    END = 27  # End.
+    HOME = 28  # Home.
+    LEFT_ARROW = 29  # The left arrow key.
+    RIGHT_ARROW = 30  # The right arrow key.
+    UP_ARROW = 31  # The up arrow key.
+    DOWN_ARROW = 32  # The down arrow key.
+    SELECT = 33  # Select, as on the VT220's editing keypad.
+    PRINT = 34  # Print (`VK_PRINT`), which few keyboards have. It isn't `PrintScreen`.
+    EXECUTE = 35  # Execute (`VK_EXECUTE`), which few keyboards have.
+    PRINT_SCREEN = 36  # Print Screen.
+    INSERT = 37  # Insert.
+    DELETE = 38  # Delete, which deletes the character at the cursor.
+    HELP = 39  # Help.
+    LEFT_WINDOWS = 40  # The left key with the Windows logo.
+    RIGHT_WINDOWS = 41  # The right key with the Windows logo.
+    APPLICATIONS = 42  # The Applications key, which opens a context menu.
+    SLEEP = 43  # Sleep, which suspends the computer.
+    NUMPAD_0 = 44  # The 0 of the numeric keypad, while Num Lock is on.
+    NUMPAD_1 = 45  # The 1 of the numeric keypad, while Num Lock is on.
+    NUMPAD_2 = 46  # The 2 of the numeric keypad, while Num Lock is on.
+    NUMPAD_3 = 47  # The 3 of the numeric keypad, while Num Lock is on.
+    NUMPAD_4 = 48  # The 4 of the numeric keypad, while Num Lock is on.
+    NUMPAD_5 = 49  # The 5 of the numeric keypad, while Num Lock is on.
+    NUMPAD_6 = 50  # The 6 of the numeric keypad, while Num Lock is on.
+    NUMPAD_7 = 51  # The 7 of the numeric keypad, while Num Lock is on.
+    NUMPAD_8 = 52  # The 8 of the numeric keypad, while Num Lock is on.
+    NUMPAD_9 = 53  # The 9 of the numeric keypad, while Num Lock is on.
+    MULTIPLY = 54  # The `*` of the numeric keypad.
+    ADD = 55  # The `+` of the numeric keypad.
+    SEPARATOR = 56  # The thousands separator of the numeric keypad, on keyboards that have one.
+    SUBTRACT = 57  # The `-` of the numeric keypad.
+    DECIMAL = 58  # The decimal point of the numeric keypad.
+    DIVIDE = 59  # The `/` of the numeric keypad.
+    NUM_LOCK = 61  # Num Lock.
+    SCROLL_LOCK = 62  # Scroll Lock.
+    COPY = 63  # A key of its own for copying.
+    CUT = 64  # A key of its own for cutting.
+    # A key of its own for pasting. Text that was pasted comes as an event of its own kind.
+    PASTE = 65
+    BROWSER_BACK = 66  # Back, for a web browser.
+    BROWSER_FORWARD = 67  # Forward, for a web browser.
+    BROWSER_REFRESH = 68  # Refresh, for a web browser.
+    BROWSER_STOP = 69  # Stop loading, for a web browser.
+    BROWSER_SEARCH = 70  # Search, for a web browser.
+    BROWSER_FAVORITES = 71  # Favorites, for a web browser.
+    BROWSER_HOME = 72  # Home page, for a web browser.
+    VOLUME_MUTE = 73  # Mute the sound.
+    VOLUME_DOWN = 74  # Turn the volume down.
+    VOLUME_UP = 75  # Turn the volume up.
+    MEDIA_NEXT_TRACK = 76  # Skip to the next track.
+    MEDIA_PREV_TRACK = 77  # Skip to the previous track.
+    MEDIA_STOP = 78  # Stop playing.
+    MEDIA_PLAY_PAUSE = 79  # Play, or pause.
+    # The left arrow key while the terminal is in application cursor mode (DECCKM).
+    APPLICATION_LEFT_ARROW = 80
+    APPLICATION_RIGHT_ARROW = 81  # The right arrow key in application cursor mode.
+    APPLICATION_UP_ARROW = 82  # The up arrow key in application cursor mode.
+    APPLICATION_DOWN_ARROW = 83  # The down arrow key in application cursor mode.
+    KEY_PAD_HOME = 84  # Home on the numeric keypad: the 7 while Num Lock is off.
+    KEY_PAD_END = 85  # End on the numeric keypad: the 1 while Num Lock is off.
+    KEY_PAD_PAGE_UP = 86  # Page Up on the numeric keypad: the 9 while Num Lock is off.
+    KEY_PAD_PAGE_DOWN = 87  # Page Down on the numeric keypad: the 3 while Num Lock is off.
+    KEY_PAD_BEGIN = 88  # Begin on the numeric keypad: the 5 while Num Lock is off.
+    # The start of a bracketed paste. No event carries it: the paste comes as one event.
+    INTERNAL_PASTE_START = 89
+    INTERNAL_PASTE_END = 90  # The end of a bracketed paste, where none was started.
+    # numbers.txt: end
 
 
 @dataclass(frozen=True)
@@ -253,7 +305,8 @@ class Function:
     number: int
 
 
-# A key: the character that it types, as a text of one character, or a key without one. `"A"` is what Shift-A types.
+# A key: the character that it types, as a text of one character, or a key without one. `"A"` is
+# what Shift-A types.
 Key = Union[str, KeyCode, Function]
 
 
@@ -269,8 +322,9 @@ class KeyEvent:
 class MouseEvent:
     """The mouse was moved, one of its buttons was pressed or released, or a wheel was turned.
 
-    x is the column and y the row, as the terminal sent them. The cell at the top left is 1, 1. `buttons` are those that are down. They are
-    empty after a release, and for a move with no button down."""
+    x is the column and y the row, as the terminal sent them. The cell at the top left is 1, 1.
+    `buttons` are those that are down. They are empty after a release, and for a move with no button
+    down."""
 
     x: int
     y: int
@@ -289,8 +343,8 @@ Event = Union[KeyEvent, MouseEvent, Paste]
 
 
 @dataclass(frozen=True)
-class Row:
-    """A row of the sequence table: its bytes, and the key and the modifiers that they mean."""
+class Entry:
+    """An entry of the sequence table: its bytes, and the key and the modifiers that they mean."""
 
     bytes: bytes
     key: Key
@@ -299,11 +353,12 @@ class Row:
 
 @dataclass(frozen=True)
 class Completions:
-    """The rows that would complete what stays buffered: see `InputParser.completions`.
+    """The entries that would complete what stays buffered: see `InputParser.completions`.
 
-    `rows` are their places. If `with_alt` is true, they complete what follows the ESC, and their keys get ALT."""
+    `entries` are their places. If `with_alt` is true, they complete what follows the ESC, and their
+    keys get ALT."""
 
-    rows: range
+    entries: range
     with_alt: bool = False
 
 
@@ -312,15 +367,17 @@ Bytes = Union[bytes, bytearray, memoryview]
 
 @dataclass(frozen=True)
 class KeyCodeEncodeModes:
-    """The modes of a terminal that change the text of a key. Without arguments it is xterm with every mode off.
+    """The modes of a terminal that change the text of a key. Without arguments it is xterm with
+    every mode off.
 
     encoding: how keys are encoded.
     application_cursor_keys: the arrows, Home and End send ESC O in place of ESC [ (DECCKM).
     newline_mode: Enter sends a line feed after the carriage return (LNM).
     modify_other_keys: the level of xterm's modifyOtherKeys, or None if it is off.
-    kitty_flags: what the program asked of kitty's protocol. They are read with KeyboardEncoding.Kitty alone."""
+    kitty_flags: what the program asked of kitty's protocol; read with its encoding alone.
+    """
 
-    encoding: KeyboardEncoding = KeyboardEncoding.Xterm
+    encoding: KeyboardEncoding = KeyboardEncoding.XTERM
     application_cursor_keys: bool = False
     newline_mode: bool = False
     modify_other_keys: Optional[int] = None
@@ -361,15 +418,17 @@ Found = Union[Nothing, Exact[Value], Ambiguous[Value], NeedData]
 
 
 class EncodeError(ValueError):
-    """A key has no text: it is a function key other than F1 to F24, or Kitty's protocol has no number for it. Or a number, a text or a flag
-    names nothing."""
+    """A key has no text: it is a function key other than F1 to F24, or Kitty's protocol has no
+    number for it. Or a number or a text names nothing."""
 
 
 class ParseError(MemoryError):
-    """Memory was refused while bytes were parsed. No event is lost, and the parser may be used again.
+    """Memory was refused while bytes were parsed. No event is lost, and the parser may be used
+    again.
 
-    If `taken` is false, none of the bytes is buffered, and the call may be made again. If it is true, all of them are buffered. Then parse
-    b"" with the same flag, or the next bytes. That call returns the events that were found before."""
+    If `taken` is false, none of the bytes is buffered, and the call may be made again. If it is
+    true, all of them are buffered. Then parse b"" with the same flag, or the next bytes. That call
+    returns the events that were found before."""
 
     def __init__(self, taken: bool) -> None:
         super().__init__(f"out of memory: the bytes were {'' if taken else 'not '}taken")
@@ -419,21 +478,57 @@ class _RawMatch(ctypes.Structure):
     _fields_ = [("len", ctypes.c_size_t), ("value", ctypes.c_uint64)]
 
 
-class _RawRows(ctypes.Structure):
+class _RawEntries(ctypes.Structure):
     _fields_ = [("first", ctypes.c_size_t), ("count", ctypes.c_size_t), ("with_alt", ctypes.c_bool)]
 
 
 # The numbers of hedrugal.h that no enum above has.
-_KIND_KEY, _KIND_MOUSE, _KIND_PASTE = 1, 2, 3
-_NEXT_NONE, _NEXT_EVENT, _NEXT_NO_MEMORY, _NEXT_NO_PARSER = 0, 1, 2, 3
-_ENCODED_TEXT, _ENCODED_REFUSED_KEY, _ENCODED_REFUSED_MEMORY, _ENCODED_BAD_NUMBER, _ENCODED_TOO_LONG, _ENCODED_BAD_TEXT = 0, 1, 2, 3, 4, 5
-_KEY_CHAR, _KEY_FUNCTION = 1, 60
-_FOUND_NONE, _FOUND_EXACT, _FOUND_AMBIGUOUS, _FOUND_NEED_DATA, _FOUND_NO_MAP = 0, 1, 2, 3, 4
+# numbers.txt: next private
+_NEXT_NONE = 0
+_NEXT_EVENT = 1
+_NEXT_NO_MEMORY = 2
+_NEXT_NO_PARSER = 3
+# numbers.txt: end
+# numbers.txt: encoded private
+_ENCODED_TEXT = 0
+_ENCODED_REFUSED_KEY = 1
+_ENCODED_REFUSED_MEMORY = 2
+_ENCODED_BAD_NUMBER = 3
+_ENCODED_TOO_LONG = 4
+_ENCODED_BAD_TEXT = 5
+# numbers.txt: end
+# numbers.txt: found private
+_FOUND_NONE = 0
+_FOUND_EXACT = 1
+_FOUND_AMBIGUOUS = 2
+_FOUND_NEED_DATA = 3
+_FOUND_NO_MAP = 4
+# numbers.txt: end
+# numbers.txt: kind private
+_KIND_OTHER = 0
+_KIND_KEY = 1
+_KIND_MOUSE = 2
+_KIND_PASTE = 3
+_KIND_REPORT = 4
+_KIND_FOCUS_GAINED = 5
+_KIND_FOCUS_LOST = 6
+_KIND_CURSOR_POSITION = 7
+_KIND_RESIZE = 8
+_KIND_KEYBOARD_FLAGS = 9
+_KIND_CSI = 10
+_KIND_OSC = 11
+_KIND_DCS = 12
+_KIND_APC = 13
+# numbers.txt: end
+# numbers.txt: key private
+_KEY_CHAR = 1
+_KEY_FUNCTION = 60
+# numbers.txt: end
 
-# More bytes than a row or the text of a key has.
+# More bytes than an entry or the text of a key has.
 _ROOM = 64
 
-_PARSER = ctypes.POINTER(_RawParser)
+_PARSER: Any = ctypes.POINTER(_RawParser)
 _EVENT = ctypes.POINTER(_RawEvent)
 _MAP = ctypes.POINTER(_RawKeyMap)
 # A uint8_t *, as which ctypes passes a bytes object without a copy.
@@ -455,8 +550,11 @@ _CALLS: Dict[str, Tuple[Any, List[Any]]] = {
     "hed_parser_is_paste_open": (ctypes.c_bool, [_PARSER]),
     "hed_parser_end_paste": (ctypes.c_uint32, [_PARSER, _EVENT]),
     "hed_parser_reset": (ctypes.c_size_t, [_PARSER]),
-    "hed_parser_entry": (ctypes.c_size_t, [_PARSER, ctypes.c_size_t, _BYTES, ctypes.c_size_t, _EVENT]),
-    "hed_parser_completions": (ctypes.c_bool, [_PARSER, ctypes.POINTER(_RawRows)]),
+    "hed_parser_entry": (
+        ctypes.c_size_t,
+        [_PARSER, ctypes.c_size_t, _BYTES, ctypes.c_size_t, _EVENT],
+    ),
+    "hed_parser_completions": (ctypes.c_bool, [_PARSER, ctypes.POINTER(_RawEntries)]),
     "hed_key_name": (ctypes.c_size_t, [ctypes.c_uint16, _BYTES, ctypes.c_size_t]),
     "hed_encode": (
         ctypes.c_uint32,
@@ -474,7 +572,10 @@ _CALLS: Dict[str, Tuple[Any, List[Any]]] = {
     "hed_keymap_init": (ctypes.c_bool, [_MAP]),
     "hed_keymap_free": (None, [_MAP]),
     "hed_keymap_insert": (ctypes.c_bool, [_MAP, _BYTES, ctypes.c_size_t, ctypes.c_uint64]),
-    "hed_keymap_lookup": (ctypes.c_uint32, [_MAP, _BYTES, ctypes.c_size_t, ctypes.c_bool, ctypes.POINTER(_RawMatch)]),
+    "hed_keymap_lookup": (
+        ctypes.c_uint32,
+        [_MAP, _BYTES, ctypes.c_size_t, ctypes.c_bool, ctypes.POINTER(_RawMatch)],
+    ),
     "hed_keymap_len": (ctypes.c_size_t, [_MAP]),
     "hed_version": (ctypes.c_uint32, []),
 }
@@ -484,21 +585,29 @@ def _library_file() -> str:
     """Returns the file of the library, or the name by which the system finds it."""
     named = os.environ.get("HEDRUGAL_LIBRARY")
     if named:
-        return os.path.abspath(named)
-    beside = os.path.join(os.path.dirname(os.path.abspath(__file__)), "libhedrugal.so")
+        named = os.path.abspath(named)
+        return os.path.join(named, "libhedrugal.so") if os.path.isdir(named) else named
+    folder = os.path.dirname(os.path.abspath(__file__))
+    beside = os.path.join(folder, "libhedrugal.so")
     if os.path.exists(beside):
         return beside
     found = ctypes.util.find_library("hedrugal")
     if found:
         return found
-    raise ImportError(f"hedrugal: no libhedrugal.so in {os.path.dirname(__file__)} nor in the system's folders\nHEDRUGAL_LIBRARY can name its file.")
+    raise ImportError(
+        f"hedrugal: no libhedrugal.so in {folder} nor in the system's folders\n"
+        "HEDRUGAL_LIBRARY can name its file or its folder."
+    )
 
 
 def _load() -> ctypes.PyDLL:
     """Loads the library, and declares its calls."""
     machine, bits = platform.machine(), 8 * ctypes.sizeof(ctypes.c_void_p)
     if not sys.platform.startswith("linux") or machine not in ("x86_64", "AMD64") or bits != 64:
-        raise ImportError(f"hedrugal: the library is for x86-64 Linux, and this is a Python of {bits} bits for {machine} {sys.platform}")
+        raise ImportError(
+            "hedrugal: the library is for x86-64 Linux, "
+            f"and this is a Python of {bits} bits for {machine} {sys.platform}"
+        )
     file = _library_file()
     try:
         # A PyDLL keeps Python's lock while a call runs, so no two threads are in a call at once.
@@ -509,7 +618,10 @@ def _load() -> ctypes.PyDLL:
     number = library.hed_version()
     version = f"{number >> 16}.{number >> 8 & 255}.{number & 255}"
     if version != __version__:
-        raise _not_loaded(f"{file} is version {version} of the library, and this module is for version {__version__}")
+        raise _not_loaded(
+            f"{file} is version {version} of the library, "
+            f"and this module is for version {__version__}"
+        )
     return library
 
 
@@ -524,18 +636,24 @@ def _declare(library: ctypes.PyDLL, calls: Dict[str, Tuple[Any, List[Any]]]) -> 
 
 
 def _not_loaded(why: str) -> ImportError:
-    return ImportError(f"hedrugal: {why}\nHEDRUGAL_LIBRARY has to name a libhedrugal.so of this version.")
+    return ImportError(
+        f"hedrugal: {why}\n"
+        "HEDRUGAL_LIBRARY has to name a libhedrugal.so of this version, or its folder."
+    )
 
 
 _library: ctypes.PyDLL = _load()
 _lookup = _library.hed_keymap_lookup
-# hed_parser_next again, for `_skip`: a call whose arguments have no types takes a third of the time.
+# hed_parser_next again, for `_skip`: a call whose arguments have no types takes a third of the
+# time.
 _next_untyped = _library["hed_parser_next"]
 _next_untyped.restype = ctypes.c_uint32
 
 
 def _fault() -> NoReturn:
-    raise RuntimeError("libhedrugal.so answers what this module doesn't know: they are of different versions")
+    raise RuntimeError(
+        "libhedrugal.so answers what this module doesn't know: they are of different versions"
+    )
 
 
 def _refused() -> MemoryError:
@@ -560,12 +678,14 @@ def _is_event(answer: int) -> bool:
 
 
 def _borrowed(data: Bytes) -> Tuple[Any, int]:
-    """Returns what ctypes passes as the pointer to the bytes, and their number. Only a memoryview that is read-only or has gaps is copied,
-    since ctypes can't borrow its bytes."""
+    """Returns what ctypes passes as the pointer to the bytes, and their number. Only a memoryview
+    that is read-only or has gaps is copied, since ctypes can't borrow its bytes."""
     if isinstance(data, bytes):
         return data, len(data)
     if not isinstance(data, (bytearray, memoryview)):
-        raise TypeError(f"bytes, a bytearray or a memoryview is required, not {type(data).__name__}")
+        raise TypeError(
+            f"bytes, a bytearray or a memoryview is required, not {type(data).__name__}"
+        )
     view = memoryview(data)
     if view.readonly or not view.c_contiguous or not view.nbytes:
         return view.tobytes(), view.nbytes
@@ -627,15 +747,18 @@ def _key_event(number: int, detail: int, modifiers: int) -> KeyEvent:
     return KeyEvent(_key(number, detail), _modifiers(modifiers))
 
 
-# The idle parser whose sequence table all parsers share. It is never freed, so the table stays until the process ends.
+# The idle parser whose sequence table all parsers share. It is never freed, so the table stays
+# until the process ends.
 _idle = _RawParser()
 
 
 def _parser_with_table() -> _RawParser:
-    """The idle parser, which is made with the first parser. If it is refused memory, the next parser tries again.
+    """The idle parser, which is made with the first parser. If it is refused memory, the next
+    parser tries again.
 
-    A call of the library keeps Python's lock. Between two calls another thread may come in, and both may make the idle parser. The second
-    call then frees the first's, whose table stays with the parsers that share it."""
+    A call of the library keeps Python's lock. Between two calls another thread may come in, and
+    both may make the idle parser. The second call then frees the first's, whose table stays with
+    the parsers that share it."""
     if not _idle.live and not _library.hed_parser_init(_idle):
         raise _refused()
     return _idle
@@ -648,8 +771,8 @@ class _ParserCalls(NamedTuple):
     next: Any
     text: Any
     drop_text: Any
+    waiting_len: Any
     waiting: Any
-    waiting_kind: Any
     flush_escape: Any
     is_paste_open: Any
     end_paste: Any
@@ -661,41 +784,48 @@ _AnyEvent = TypeVar("_AnyEvent")
 
 
 class _EventParser(_Closable, Generic[_AnyEvent]):
-    """What both parsers have in common. Each names the library's calls for it, and makes its events."""
+    """What both parsers have in common. Each names the library's calls for it, and makes its
+    events."""
 
     _calls: ClassVar[_ParserCalls]
 
     def __init__(self, raw: Any, front: Any, init: Any, free: Any) -> None:
         super().__init__("parser", raw, init, free)
-        # The event that the library wrote last, and whether the caller has yet to get it: it stays until memory for it is granted.
+        # The event that the library wrote last, and whether the caller has yet to get it: it stays
+        # until memory for it is granted.
         self._front, self._has_front = front, False
         # Whether the library may keep a text of that event.
         self._has_text = False
         # The call that is made for each event: to find it once makes a loop a little quicker.
         self._next = self._calls.next
-        # Events that `parse` found before it was refused memory. They come before that at the front.
+        # Events that `parse` found before it was refused memory. They come before that at the
+        # front.
         self._kept: List[_AnyEvent] = []
 
     def __repr__(self) -> str:
-        return f"<{type(self).__name__}, {'closed' if self.closed else f'{self.waiting_len} bytes are buffered'}>"
+        state = "closed" if self.closed else f"{self.waiting_len} bytes are buffered"
+        return f"<{type(self).__name__}, {state}>"
 
     def feed(self, data: Bytes) -> None:
-        """Appends bytes to the buffer. `next_event`, or a loop over the parser, then returns the events.
+        """Appends bytes to the buffer. `next_event`, or a loop over the parser, then returns the
+        events.
 
-        Raises MemoryError if memory is refused. Then none of the bytes is buffered, and the call may be made again."""
+        Raises MemoryError if memory is refused. Then none of the bytes is buffered, and the call
+        may be made again."""
         pointer, length = _borrowed(data)
         if not self._calls.feed(self._raw, pointer, length):
             self._check_open()
             raise _refused()
 
     def next_event(self, maybe_more: bool = True) -> Optional[_AnyEvent]:
-        """Returns the event at the front of the buffer, and consumes its bytes. Returns None if there is no event.
+        """Returns the event at the front of the buffer, and consumes its bytes. Returns None if
+        there is no event.
 
-        While more bytes may come, pass maybe_more as True. Bytes that may still become a longer sequence or a character then stay buffered.
-        After a pause call `flush_escape`.
+        While more bytes may come, pass maybe_more as True. Bytes that may still become a longer
+        sequence or a character then stay buffered. After a pause call `flush_escape`.
 
-        At the end of the input pass False. Then only an open paste stays buffered. Before the end, False breaks a sequence or a character
-        whose last bytes are still to come.
+        At the end of the input pass False. Then only an open paste stays buffered. Before the end,
+        False breaks a sequence or a character whose last bytes are still to come.
 
         Raises MemoryError if memory is refused. Nothing changed, and the call may be made again."""
         self._check_open()
@@ -716,9 +846,11 @@ class _EventParser(_Closable, Generic[_AnyEvent]):
             yield event
 
     def parse(self, data: Bytes, maybe_more: bool = True) -> List[_AnyEvent]:
-        """Appends bytes to the buffer, and returns the events in order. Bytes that are no event yet stay buffered, as `next_event` says.
+        """Appends bytes to the buffer, and returns the events in order. Bytes that are no event yet
+        stay buffered, as `next_event` says.
 
-        Raises ParseError, which is a MemoryError, if memory is refused. It says whether the bytes are buffered."""
+        Raises ParseError, which is a MemoryError, if memory is refused. It says whether the bytes
+        are buffered."""
         try:
             self.feed(data)
             kept: List[_AnyEvent] = []
@@ -735,16 +867,20 @@ class _EventParser(_Closable, Generic[_AnyEvent]):
         return events
 
     def flush(self) -> List[_AnyEvent]:
-        """Returns the events of all that is buffered but an open paste, as at the end of the input: `parse(b"", False)`.
+        """Returns the events of all that is buffered but an open paste, as at the end of the input:
+        `parse(b"", False)`.
 
-        After a pause call `flush_escape` instead, since half a sequence or a character may be buffered."""
+        After a pause call `flush_escape` instead, since half a sequence or a character may be
+        buffered."""
         return self.parse(b"", False)
 
     def flush_escape(self) -> Optional[KeyEvent]:
-        """Returns the Escape key if ESC alone is buffered, with ALT if ESC ESC is, and consumes these bytes. Returns None otherwise.
+        """Returns the Escape key if ESC alone is buffered, with ALT if ESC ESC is, and consumes
+        these bytes. Returns None otherwise.
 
-        Call it when some 50 ms have passed without a byte. Anything else stays buffered. So a pause breaks only what is cut right after its
-        ESC or ESC ESC: a sequence, the start of a paste, or a key with Alt."""
+        Call it when some 50 ms have passed without a byte. Anything else stays buffered. So a pause
+        breaks only what is cut right after its ESC or ESC ESC: a sequence, the start of a paste, or
+        a key with Alt."""
         self._check_open()
         # What was refused memory comes before what is buffered.
         if self._kept or self._has_front:
@@ -756,35 +892,40 @@ class _EventParser(_Closable, Generic[_AnyEvent]):
 
     @property
     def waiting(self) -> Waiting:
-        """What stays buffered. Read it once `parse` has returned, or `next_event` has returned None: before that, events may be next.
+        """What stays buffered. Read it once `parse` has returned, or `next_event` has returned
+        None: before that, events may be next.
 
-        It says what a pause means. After some 50 ms with Waiting.Escape call `flush_escape`. Waiting.Sequence may be half of a sequence on
-        a slow line: call `flush` after a much longer pause, say 1000 ms, or never. Never flush the others."""
+        It says what a pause means. After some 50 ms with Waiting.ESCAPE call `flush_escape`.
+        Waiting.SEQUENCE may be half of a sequence on a slow line: call `flush` after a much longer
+        pause, say 1000 ms, or never. Never flush the others."""
         self._check_open()
-        return _waitings.get(self._calls.waiting_kind(self._raw)) or _fault()
+        return _waitings.get(self._calls.waiting(self._raw)) or _fault()
 
     @property
     def waiting_len(self) -> int:
         """The number of bytes that are buffered."""
         self._check_open()
-        return cast(int, self._calls.waiting(self._raw))
+        return cast(int, self._calls.waiting_len(self._raw))
 
     @property
     def is_paste_open(self) -> bool:
         """Whether the buffer begins with the start of a paste.
 
-        Such a paste is buffered without limit until its end arrives. A caller with a limit, say 1 MB, calls `end_paste` once `waiting_len`
-        is above it."""
+        Such a paste is buffered without limit until its end arrives. A caller with a limit, say 1
+        MB, calls `end_paste` once `waiting_len` is above it."""
         self._check_open()
         return cast(bool, self._calls.is_paste_open(self._raw))
 
     def end_paste(self) -> Optional[Paste]:
-        """Ends an open paste where it is. Returns its text so far, and consumes all that is buffered. Returns None if no paste is open.
+        """Ends an open paste where it is. Returns its text so far, and consumes all that is
+        buffered. Returns None if no paste is open.
 
-        The rest of the paste then arrives as typed keys, Enter included, and its end as KeyCode.InternalPasteEnd. If a part of the end was
-        buffered, the rest of the end arrives as typed keys too.
+        The rest of the paste then arrives as typed keys, Enter included, and its end as
+        KeyCode.INTERNAL_PASTE_END. If a part of the end was buffered, the rest of the end arrives
+        as typed keys too.
 
-        Raises MemoryError if memory is refused. The paste isn't lost, and the call may be made again."""
+        Raises MemoryError if memory is refused. The paste isn't lost, and the call may be made
+        again."""
         self._check_open()
         if self._kept:
             return None
@@ -806,10 +947,12 @@ class _EventParser(_Closable, Generic[_AnyEvent]):
         return cast(int, self._calls.reset(self._raw))
 
     def shrink_to(self, min_capacity: int = 0) -> None:
-        """Gives back memory that holds no buffered bytes, but for room for so many. What is buffered and all later events are unchanged.
+        """Gives back memory that holds no buffered bytes, but for room for so many. What is
+        buffered and all later events are unchanged.
 
-        The buffer grows with what it has to hold, such as a long paste, and keeps that memory for what comes next. Call this for the parser
-        of a session that is quiet. Raises ValueError if min_capacity is negative."""
+        The buffer grows with what it has to hold, such as a long paste, and keeps that memory for
+        what comes next. Call this for the parser of a session that is quiet. Raises ValueError if
+        min_capacity is negative."""
         self._check_open()
         if not isinstance(min_capacity, int):
             raise TypeError(f"an int is required, not {type(min_capacity).__name__}")
@@ -857,24 +1000,26 @@ class _EventParser(_Closable, Generic[_AnyEvent]):
 class InputParser(_EventParser[Event]):
     """Reads events from the bytes that a terminal sends, however they are cut into calls.
 
-    Bytes that are no event yet stay buffered. So does a lone ESC, since it may begin a sequence. Only a pause tells that it is the Escape
-    key: see `waiting`.
+    Bytes that are no event yet stay buffered. So does a lone ESC, since it may begin a sequence.
+    Only a pause tells that it is the Escape key: see `waiting`.
 
-    A parser owns memory outside of Python. `close` frees it; so do the end of a `with` block and the end of the parser's life. Every other
-    call raises ValueError once the parser is closed. One thread at a time uses a parser. It can't be copied or pickled.
+    A parser owns memory outside of Python. `close` frees it; so do the end of a `with` block and
+    the end of the parser's life. Every other call raises ValueError once the parser is closed. One
+    thread at a time uses a parser. It can't be copied or pickled.
 
-    All parsers share one sequence table, which the first of them makes and which stays. So a program may have thousands of them.
+    All parsers share one sequence table, which the first of them makes and which stays. So a
+    program may have thousands of them.
 
-    Making a parser raises MemoryError if memory is refused. So do the calls that say it. No event is then lost, and the parser may be used
-    again."""
+    Making a parser raises MemoryError if memory is refused. So do the calls that say it. No event
+    is then lost, and the parser may be used again."""
 
     _calls = _ParserCalls(
         feed=_library.hed_parser_feed,
         next=_library.hed_parser_next,
         text=_library.hed_parser_paste,
         drop_text=_library.hed_parser_drop_paste,
-        waiting=_library.hed_parser_waiting_len,
-        waiting_kind=_library.hed_parser_waiting,
+        waiting_len=_library.hed_parser_waiting_len,
+        waiting=_library.hed_parser_waiting,
         flush_escape=_library.hed_parser_flush_escape,
         is_paste_open=_library.hed_parser_is_paste_open,
         end_paste=_library.hed_parser_end_paste,
@@ -889,12 +1034,13 @@ class InputParser(_EventParser[Event]):
 
         super().__init__(_RawParser(), _RawEvent(), init, _library.hed_parser_free)
 
-    def row(self, place: int) -> Optional[Row]:
-        r"""Returns the row of the sequence table at a place, in the order of the rows' bytes. Returns None from the end of the table on.
+    def entry(self, place: int) -> Optional[Entry]:
+        r"""Returns the entry of the sequence table at a place, in the order of the entries' bytes.
+        Returns None from the end of the table on.
 
             >>> with InputParser() as parser:
-            ...     parser.row(0)
-            Row(bytes=b'\x01', key='a', modifiers=Modifiers.CTRL)"""
+            ...     parser.entry(0)
+            Entry(bytes=b'\x01', key='a', modifiers=Modifiers.CTRL)"""
         self._check_open()
         if not isinstance(place, int):
             raise TypeError(f"an int is required, not {type(place).__name__}")
@@ -908,38 +1054,46 @@ class InputParser(_EventParser[Event]):
         if length > size or event.kind != _KIND_KEY:
             _fault()
         pressed = _key_event(event.key, event.detail, event.modifiers)
-        return Row(bytes(room[:length]), pressed.key, pressed.modifiers)
+        return Entry(bytes(room[:length]), pressed.key, pressed.modifiers)
 
-    def rows(self) -> Iterator[Row]:
-        """Returns the rows of the sequence table one by one, in the order of their bytes."""
+    def entries(self) -> Iterator[Entry]:
+        """Returns the entries of the sequence table one by one, in the order of their bytes."""
         for place in itertools.count():
-            row = self.row(place)
-            if row is None:
+            entry = self.entry(place)
+            if entry is None:
                 return
-            yield row
+            yield entry
 
     def completions(self) -> Completions:
-        r"""Returns the rows that would complete what stays buffered: those that begin with it and are longer. If there are none, they are
-        those that begin with what follows its ESC. Their keys then get ALT.
+        r"""Returns the entries that would complete what stays buffered: those that begin with it
+        and are longer. If there are none, they are those that begin with what follows its ESC.
+        Their keys then get ALT.
 
-        Read it while `waiting` is Waiting.Escape or Waiting.Sequence. A mouse report or a character isn't in the table. So there may be no
-        such row. The start of a paste is no key event: after an ESC the Escape key is emitted, and the paste is open.
+        Read it while `waiting` is Waiting.ESCAPE or Waiting.SEQUENCE. A mouse report or a character
+        isn't in the table. So there may be no such entry. The start of a paste is no key event:
+        after an ESC the Escape key is emitted, and the paste is open.
 
             >>> with InputParser() as parser:
             ...     parser.feed(b"\x1b[1;5")
             ...     events = list(parser)
-            ...     rows = [parser.row(place) for place in parser.completions().rows]
-            >>> events, rows[0]
-            ([], Row(bytes=b'\x1b[1;5A', key=KeyCode.UpArrow, modifiers=Modifiers.CTRL))"""
+            ...     entries = [parser.entry(place) for place in parser.completions().entries]
+            >>> events, entries[0]
+            ([], Entry(bytes=b'\x1b[1;5A', key=KeyCode.UP_ARROW, modifiers=Modifiers.CTRL))"""
         self._check_open()
-        found = _RawRows()
+        found = _RawEntries()
         if not _library.hed_parser_completions(self._raw, found):
             _fault()
         return Completions(range(found.first, found.first + found.count), bool(found.with_alt))
 
     def _skip(self, maybe_more: bool, most: int) -> int:
-        """Consumes at most so many events, without making them, and returns how many there were. It is for the page, which counts them."""
-        count, parser, front, more = 0, ctypes.byref(self._raw), ctypes.byref(self._front), int(maybe_more)
+        """Consumes at most so many events, without making them, and returns how many there were. It
+        is for the page, which counts them."""
+        count, parser, front, more = (
+            0,
+            ctypes.byref(self._raw),
+            ctypes.byref(self._front),
+            int(maybe_more),
+        )
         while count < most and self._find_front(maybe_more):
             self._has_front = False
             count += 1
@@ -966,10 +1120,12 @@ class KeyMap(_Closable, Generic[Value]):
         Exact(len=3, value='delete the word')
         Nothing()
 
-    A value may be any object. The map keeps it until the key is inserted with another value, or the map is closed.
+    A value may be any object. The map keeps it until the key is inserted with another value, or the
+    map is closed.
 
-    A map owns memory outside of Python. `close` frees it; so do the end of a `with` block and the end of the map's life. Every other call
-    raises ValueError once the map is closed. One thread at a time uses a map. It can't be copied or pickled.
+    A map owns memory outside of Python. `close` frees it; so do the end of a `with` block and the
+    end of the map's life. Every other call raises ValueError once the map is closed. One thread at
+    a time uses a map. It can't be copied or pickled.
 
     Making a map raises MemoryError if memory is refused."""
 
@@ -989,11 +1145,15 @@ class KeyMap(_Closable, Generic[Value]):
     def insert(self, key: Bytes, value: Value) -> None:
         """Maps a key to a value. A value that the key had before is let go.
 
-        Raises MemoryError if memory is refused. Then the map is unchanged, and the call may be made again."""
+        Raises MemoryError if memory is refused. Then the map is unchanged, and the call may be made
+        again."""
         self._check_open()
         pointer, length = _borrowed(key)
         match = _RawMatch()
-        if _lookup(self._raw, pointer, length, False, match) == _FOUND_EXACT and match.len == length:
+        if (
+            _lookup(self._raw, pointer, length, False, match) == _FOUND_EXACT
+            and match.len == length
+        ):
             # The key keeps its place.
             self._values[match.value] = value
             return
@@ -1004,18 +1164,20 @@ class KeyMap(_Closable, Generic[Value]):
             raise _refused()
 
     def lookup(self, text: Bytes, maybe_more: bool = True) -> Found[Value]:
-        """Finds the longest key that is a prefix of the text, and returns an Exact with its length and its value.
+        """Finds the longest key that is a prefix of the text, and returns an Exact with its length
+        and its value.
 
-        While more of the text may follow, pass maybe_more as True. The answer is then an Ambiguous if the text is a prefix of a longer key
-        too, and an Exact holds however the text goes on.
+        While more of the text may follow, pass maybe_more as True. The answer is then an Ambiguous
+        if the text is a prefix of a longer key too, and an Exact holds however the text goes on.
 
-        If no key is a prefix of the text, the answer is NeedData() if the text is a prefix of some key, and else Nothing().
+        If no key is a prefix of the text, the answer is NeedData() if the text is a prefix of some
+        key, and else Nothing().
 
             >>> with KeyMap[int]() as keys:
             ...     keys.insert(b"gg", 1)
             ...     keys.insert(b"ggx", 2)
-            ...     [keys.lookup(b"g"), keys.lookup(b"g", False), keys.lookup(b"gg"), keys.lookup(b"gg", False)]
-            [NeedData(), NeedData(), Ambiguous(len=2, value=1), Exact(len=2, value=1)]"""
+            ...     [keys.lookup(b"g"), keys.lookup(b"gg"), keys.lookup(b"gg", False)]
+            [NeedData(), Ambiguous(len=2, value=1), Exact(len=2, value=1)]"""
         pointer, length = _borrowed(text)
         match = _RawMatch()
         answer = _lookup(self._raw, pointer, length, maybe_more, match)
@@ -1044,7 +1206,9 @@ def _number_and_detail(key: Key) -> Tuple[int, int]:
     if isinstance(key, Function):
         return _KEY_FUNCTION, _whole(key.number, 0, 255)
     if not isinstance(key, str):
-        raise TypeError(f"a character, a KeyCode or a Function is required, not {type(key).__name__}")
+        raise TypeError(
+            f"a character, a KeyCode or a Function is required, not {type(key).__name__}"
+        )
     if len(key) != 1:
         raise EncodeError(f"a key types one character, and {key!r} has {len(key)}")
     return _KEY_CHAR, ord(key)
@@ -1066,7 +1230,7 @@ def _raw_modes(modes: KeyCodeEncodeModes) -> _RawModes:
     return _RawModes(
         0 if level is None else _whole(level, -(2**63), 2**63 - 1),
         encoding.value,
-        _whole(flags.value, 0, 255),
+        flags.value,
         bool(modes.application_cursor_keys),
         bool(modes.newline_mode),
         level is not None,
@@ -1074,7 +1238,8 @@ def _raw_modes(modes: KeyCodeEncodeModes) -> _RawModes:
 
 
 def _sent(call: Callable[[Any, int, ctypes.c_size_t], int]) -> Tuple[int, bytes]:
-    """What a call of the library that encodes a key answers, and the bytes that it writes: it is made again if the room was too short."""
+    """What a call of the library that encodes a key answers, and the bytes that it writes: it is
+    made again if the room was too short."""
     length, room = ctypes.c_size_t(), bytearray(_ROOM)
     while True:
         pointer, size = _borrowed(room)
@@ -1085,22 +1250,29 @@ def _sent(call: Callable[[Any, int, ctypes.c_size_t], int]) -> Tuple[int, bytes]
 
 
 def encode(
-    key: Key, modifiers: Modifiers = Modifiers.NONE, modes: KeyCodeEncodeModes = KeyCodeEncodeModes(), is_down: bool = True
+    key: Key,
+    modifiers: Modifiers = Modifiers.NONE,
+    modes: KeyCodeEncodeModes = KeyCodeEncodeModes(),
+    is_down: bool = True,
 ) -> bytes:
-    """Returns the bytes, in UTF-8, that a terminal in these modes sends for a key, with the modifiers that are held. They are empty for a
-    key that sends nothing, and for every key that is up (is_down is False).
+    """Returns the bytes, in UTF-8, that a terminal in these modes sends for a key, with the
+    modifiers that are held. They are empty for a key that sends nothing, and for every key that is
+    up (is_down is False).
 
-    Raises EncodeError, which is a ValueError, for a function key other than F1 to F24 that is down. Whether the key is up or down, raises
-    it for a text that isn't one character, a surrogate, a number out of range, or a bit that no flag has. Raises MemoryError if memory is
-    refused."""
+    Raises EncodeError, which is a ValueError, for a function key other than F1 to F24 that is down.
+    Whether the key is up or down, raises it for a text that isn't one character, a surrogate, or a
+    number out of range. Raises MemoryError if memory is refused."""
     number, detail = _number_and_detail(key)
     if not isinstance(modifiers, Modifiers):
         raise TypeError(f"Modifiers are required, not {type(modifiers).__name__}")
-    held = _whole(modifiers.value, 0, 0xFFFF)
     raw_modes = _raw_modes(modes)
 
     def call(out: Any, size: int, length: ctypes.c_size_t) -> int:
-        return int(_library.hed_encode(number, detail, held, is_down, raw_modes, out, size, length))
+        return int(
+            _library.hed_encode(
+                number, detail, modifiers.value, is_down, raw_modes, out, size, length
+            )
+        )
 
     answer, sent = _sent(call)
     if answer == _ENCODED_TEXT:
@@ -1110,11 +1282,12 @@ def encode(
     if answer == _ENCODED_REFUSED_MEMORY:
         raise _refused()
     if answer == _ENCODED_BAD_NUMBER:
-        raise EncodeError("a surrogate, or a bit that no flag has, names nothing")
+        raise EncodeError("a surrogate names nothing")
     _fault()
 
 
-# The extended parser has a file of its own, which imports names of this one: so these lines come last.
+# The extended parser has a file of its own, which imports names of this one: so these lines come
+# last.
 from .extended import (  # noqa: E402
     Apc,
     Csi,
@@ -1124,13 +1297,13 @@ from .extended import (  # noqa: E402
     ExtendedParser,
     FocusGained,
     FocusLost,
-    Held,
-    KeyAction,
     KeyboardFlags,
+    KeyEventKind,
     KeyReport,
+    KittyModifiers,
     Osc,
+    Protocol,
     ReportedKey,
     Resize,
-    Rows,
     key_report,
 )

@@ -1,11 +1,15 @@
-r"""What terminals send beyond the sequence table, as events: replies to questions, focus reports, other mouse reports, control sequences
-and strings, and Kitty's keyboard protocol.
+r"""What terminals send beyond the sequence table, as events: replies to questions, focus reports,
+other mouse reports, control sequences and strings, and Kitty's keyboard protocol.
 
     >>> with ExtendedParser() as parser:
-    ...     parser.parse(b"q\x1b[24;80R\x1b]11;rgb:0/0/0\x07")
-    [KeyEvent(key='q', modifiers=Modifiers.NONE), CursorPosition(row=24, column=80), Osc(data=b'11;rgb:0/0/0')]
+    ...     for event in parser.parse(b"q\x1b[24;80R\x1b]11;rgb:0/0/0\x07"):
+    ...         print(event)
+    KeyEvent(key='q', modifiers=Modifiers.NONE)
+    CursorPosition(row=24, column=80)
+    Osc(data=b'11;rgb:0/0/0')
 
-A program imports these names from the package hedrugal. docs/EXTENDED.md says what bytes mean to an ExtendedParser."""
+A program imports these names from the package hedrugal. docs/EXTENDED.md says what bytes mean to an
+ExtendedParser."""
 from __future__ import annotations
 
 import ctypes
@@ -22,6 +26,19 @@ from . import (
     _ENCODED_REFUSED_MEMORY,
     _ENCODED_TEXT,
     _ENCODED_TOO_LONG,
+    _KIND_APC,
+    _KIND_CSI,
+    _KIND_CURSOR_POSITION,
+    _KIND_DCS,
+    _KIND_FOCUS_GAINED,
+    _KIND_FOCUS_LOST,
+    _KIND_KEY,
+    _KIND_KEYBOARD_FLAGS,
+    _KIND_MOUSE,
+    _KIND_OSC,
+    _KIND_PASTE,
+    _KIND_REPORT,
+    _KIND_RESIZE,
     EncodeError,
     Event,
     Key,
@@ -47,24 +64,33 @@ from . import (
 )
 
 
-class Rows(_Named):
-    """How an ExtendedParser reads the rows of the sequence table."""
+class Protocol(_Named):
+    """The keyboard protocol that the program turned on. It tells how an ExtendedParser reads the
+    entries of the sequence table."""
 
-    PORT = 0  # Each row keeps its key. For programs that leave Kitty's keyboard protocol off.
-    KITTY = 1  # A row that reports a key or the cursor's position is read as that report. For programs that turn the protocol on.
+    # numbers.txt: protocol member
+    LEGACY = 0  # For programs that leave Kitty's keyboard protocol off: each entry keeps its key.
+    # For programs that turn it on: an entry that reports a key or the cursor's position is read as
+    # that report.
+    KITTY = 1
+    # numbers.txt: end
 
 
-class KeyAction(_Named):
+class KeyEventKind(_Named):
     """What happened to a key."""
 
+    # numbers.txt: key_event_kind member
     PRESS = 1  # It was pressed.
     REPEAT = 2  # It was held down so long that it repeats.
     RELEASE = 3  # It was released.
+    # numbers.txt: end
 
 
-class Held(_Flags):
-    """A set of modifiers of a key report. The bits are Kitty's."""
+class KittyModifiers(_Flags):
+    """A set of modifiers, as Kitty's keyboard protocol reports them: keys that are held, and locks
+    that are on."""
 
+    # numbers.txt: kitty_mod member
     NONE = 0  # No modifier.
     SHIFT = 1  # Shift.
     ALT = 2  # Alt.
@@ -74,6 +100,7 @@ class Held(_Flags):
     META = 32  # Meta.
     CAPS_LOCK = 64  # Caps Lock is on.
     NUM_LOCK = 128  # Num Lock is on.
+    # numbers.txt: end
 
 
 # The key of a report: a key that has no name is its number in Kitty's table of functional keys.
@@ -84,35 +111,39 @@ ReportedKey = Union[Key, int]
 class KeyReport:
     """A key was pressed, held down or released.
 
-    shifted is the character that the key types with Shift, base the one that the key at this place types on the standard layout (PC-101).
-    Each is None if the terminal didn't report it. text is the text that the key types, if the terminal reported it, and else empty."""
+    shifted is the character that the key types with Shift, base the one that the key at this place
+    types on the standard layout (PC-101). Each is None if the terminal didn't report it. text is
+    the text that the key types, if the terminal reported it, and else empty."""
 
     key: ReportedKey
-    modifiers: Held = Held.NONE
-    action: KeyAction = KeyAction.PRESS
+    modifiers: KittyModifiers = KittyModifiers.NONE
+    kind: KeyEventKind = KeyEventKind.PRESS
     shifted: Optional[str] = None
     base: Optional[str] = None
     text: str = ""
 
     def encode(self, flags: KittyKeyboardFlags) -> bytes:
-        r"""Returns the bytes, in UTF-8, that a terminal sends for the key, if the program asked for these flags of Kitty's keyboard protocol:
-        the other way from an ExtendedParser. A terminal or a multiplexer calls it.
+        r"""Returns the bytes, in UTF-8, that a terminal sends for the key, if the program asked for
+        these flags of Kitty's keyboard protocol: the other way from an ExtendedParser. A terminal
+        or a multiplexer calls it.
 
-            >>> released = KeyReport("a", Held.CTRL, KeyAction.RELEASE)
+            >>> released = KeyReport("a", KittyModifiers.CTRL, KeyEventKind.RELEASE)
             >>> released.encode(KittyKeyboardFlags.REPORT_EVENT_TYPES)
             b'\x1b[97;5:3u'
             >>> released.encode(KittyKeyboardFlags.NONE)
             b''
 
-        There are none for a key that isn't sent. Of the report only what a flag asks for is sent, and a text with control characters counts
-        as none. The rules are those of Kitty's page "Comprehensive keyboard handling in terminals",
+        There are none for a key that isn't sent. Of the report only what a flag asks for is sent,
+        and a text with control characters counts as none. The rules are those of Kitty's page
+        "Comprehensive keyboard handling in terminals",
         https://sw.kovidgoyal.net/kitty/keyboard-protocol/.
 
-        Raises EncodeError, which is a ValueError, if the key's report would be sent and the protocol has no number for the key, for a text
-        too long for a sequence of 256 bytes, and for what names nothing, as encode does. Raises MemoryError if memory is refused."""
+        Raises EncodeError, which is a ValueError, if the key's report would be sent and the
+        protocol has no number for the key, for a text too long for a sequence of 256 bytes, and for
+        what names nothing, as encode does. Raises MemoryError if memory is refused."""
         if not isinstance(flags, KittyKeyboardFlags):
             raise TypeError(f"KittyKeyboardFlags are required, not {type(flags).__name__}")
-        report, bits = _raw_report(self), _whole(flags.value, 0, 255)
+        report, bits = _raw_report(self), flags.value
         # A surrogate is passed on: the library refuses it.
         text, length = _borrowed(self.text.encode("utf-8", "surrogatepass"))
 
@@ -127,7 +158,7 @@ class KeyReport:
         if answer == _ENCODED_TOO_LONG:
             raise EncodeError("the text is too long: a sequence has at most 256 bytes")
         if answer in (_ENCODED_BAD_NUMBER, _ENCODED_BAD_TEXT):
-            raise EncodeError("a surrogate, or a bit that no flag has, names nothing")
+            raise EncodeError("a surrogate names nothing")
         if answer == _ENCODED_REFUSED_MEMORY:
             raise _refused()
         _fault()
@@ -145,7 +176,8 @@ class FocusLost:
 
 @dataclass(frozen=True)
 class CursorPosition:
-    """The reply to a question for the cursor's position. The first row and the first column are 1."""
+    """The reply to a question for the cursor's position. The first row and the first column are
+    1."""
 
     row: int
     column: int
@@ -153,7 +185,8 @@ class CursorPosition:
 
 @dataclass(frozen=True)
 class Resize:
-    """The terminal has a new size (mode 2048): in rows and columns, and its height and width in pixels."""
+    """The terminal has a new size (mode 2048): in rows and columns, and its height and width in
+    pixels."""
 
     rows: int
     columns: int
@@ -163,9 +196,13 @@ class Resize:
 
 @dataclass(frozen=True)
 class KeyboardFlags:
-    """The reply to a question for the flags of Kitty's keyboard protocol."""
+    """The reply to a question for the flags of Kitty's keyboard protocol.
+
+    unnamed has the bits of the reply that are no flag of KittyKeyboardFlags, as a later version of
+    the protocol may send them."""
 
     flags: KittyKeyboardFlags
+    unnamed: int = 0
 
 
 @dataclass(frozen=True)
@@ -177,26 +214,41 @@ class Csi:
 
 @dataclass(frozen=True)
 class Osc:
-    """An operating system command, such as the reply to a question for a colour: its bytes after ESC ], without its end."""
+    """An operating system command, such as the reply to a question for a colour: its bytes after
+    ESC ], without its end."""
 
     data: bytes
 
 
 @dataclass(frozen=True)
 class Dcs:
-    """A device control string, such as the reply to a question for the terminal's version: its bytes after ESC P, without its end."""
+    """A device control string, such as the reply to a question for the terminal's version: its
+    bytes after ESC P, without its end."""
 
     data: bytes
 
 
 @dataclass(frozen=True)
 class Apc:
-    """An application program command, such as a reply of Kitty's graphics protocol: its bytes after ESC _, without its end."""
+    """An application program command, such as a reply of Kitty's graphics protocol: its bytes after
+    ESC _, without its end."""
 
     data: bytes
 
 
-ExtendedEvent = Union[Event, KeyReport, FocusGained, FocusLost, CursorPosition, Resize, KeyboardFlags, Csi, Osc, Dcs, Apc]
+ExtendedEvent = Union[
+    Event,
+    KeyReport,
+    FocusGained,
+    FocusLost,
+    CursorPosition,
+    Resize,
+    KeyboardFlags,
+    Csi,
+    Osc,
+    Dcs,
+    Apc,
+]
 
 
 # The structs of hedrugal.h.
@@ -208,7 +260,7 @@ class _RawExtended(ctypes.Structure):
 
 class _RawReport(ctypes.Structure):
     _fields_ = [
-        ("action", ctypes.c_uint8),
+        ("kind", ctypes.c_uint8),
         ("modifiers", ctypes.c_uint8),
         ("key", ctypes.c_uint16),
         ("detail", ctypes.c_uint32),
@@ -237,9 +289,7 @@ class _RawExtendedEvent(ctypes.Structure):
 _REPORT_AT, _INPUT_AT = _RawExtendedEvent.report.offset, _RawExtendedEvent.input.offset
 _report_fields_of = struct.Struct("@BBHIII").unpack_from
 
-# The numbers of hedrugal.h that no enum above has.
-_EVENT_KEY, _EVENT_MOUSE, _EVENT_PASTE, _EVENT_REPORT, _EVENT_FOCUS_GAINED, _EVENT_FOCUS_LOST = 1, 2, 3, 4, 5, 6
-_EVENT_CURSOR_POSITION, _EVENT_RESIZE, _EVENT_KEYBOARD_FLAGS, _EVENT_CSI, _EVENT_OSC, _EVENT_DCS, _EVENT_APC = 7, 8, 9, 10, 11, 12, 13
+# What stands for a code point that the terminal did not report.
 _NO_CODE = 0xFFFFFFFF
 
 _PARSER = ctypes.POINTER(_RawExtended)
@@ -266,14 +316,29 @@ _CALLS: Dict[str, Tuple[Any, List[Any]]] = {
     "hed_extended_reset": (ctypes.c_size_t, [_PARSER]),
     "hed_encode_kitty": (
         ctypes.c_uint32,
-        [_REPORT, _BYTES, ctypes.c_size_t, ctypes.c_uint8, _BYTES, ctypes.c_size_t, ctypes.POINTER(ctypes.c_size_t)],
+        [
+            _REPORT,
+            _BYTES,
+            ctypes.c_size_t,
+            ctypes.c_uint8,
+            _BYTES,
+            ctypes.c_size_t,
+            ctypes.POINTER(ctypes.c_size_t),
+        ],
     ),
 }
 _declare(_library, _CALLS)
 
 _focus_gained, _focus_lost = FocusGained(), FocusLost()
-_of_data: Dict[int, Callable[[bytes], ExtendedEvent]] = {_EVENT_CSI: Csi, _EVENT_OSC: Osc, _EVENT_DCS: Dcs, _EVENT_APC: Apc}
-_actions = {action.value: action for action in KeyAction}
+_of_data: Dict[int, Callable[[bytes], ExtendedEvent]] = {
+    _KIND_CSI: Csi,
+    _KIND_OSC: Osc,
+    _KIND_DCS: Dcs,
+    _KIND_APC: Apc,
+}
+_kinds = {kind.value: kind for kind in KeyEventKind}
+# The bits of all flags that have names.
+_NAMED_FLAGS = (~KittyKeyboardFlags.NONE).value
 
 
 def _character(code: int) -> Optional[str]:
@@ -289,36 +354,57 @@ def _code(character: Optional[str]) -> int:
 
 
 def _raw_report(report: KeyReport) -> _RawReport:
-    """The numbers of a report. What no enum or set of flags has is refused, since ctypes would cut a number that is too large."""
-    key, held, action = report.key, report.modifiers, report.action
-    if not isinstance(held, Held) or not isinstance(action, KeyAction):
-        raise TypeError("a KeyReport has Held modifiers and a KeyAction")
-    number, detail = (0, _whole(key, 0, 0xFFFFFFFF)) if isinstance(key, int) else _number_and_detail(key)
-    return _RawReport(action.value, _whole(held.value, 0, 255), number, detail, _code(report.shifted), _code(report.base))
+    """The numbers of a report."""
+    key, modifiers, kind = report.key, report.modifiers, report.kind
+    if not isinstance(modifiers, KittyModifiers) or not isinstance(kind, KeyEventKind):
+        raise TypeError("a KeyReport has KittyModifiers and a KeyEventKind")
+    number, detail = (
+        (0, _whole(key, 0, 0xFFFFFFFF)) if isinstance(key, int) else _number_and_detail(key)
+    )
+    return _RawReport(
+        kind.value, modifiers.value, number, detail, _code(report.shifted), _code(report.base)
+    )
 
 
 @functools.lru_cache(maxsize=4096)
-def _key_report(action: int, modifiers: int, number: int, detail: int, shifted: int, base: int, text: str) -> KeyReport:
+def _key_report(
+    kind: int, modifiers: int, number: int, detail: int, shifted: int, base: int, text: str
+) -> KeyReport:
     key = _key(number, detail) if number else detail
-    return KeyReport(key, Held(modifiers), _actions.get(action) or _fault(), _character(shifted), _character(base), text)
+    return KeyReport(
+        key,
+        KittyModifiers(modifiers),
+        _kinds.get(kind) or _fault(),
+        _character(shifted),
+        _character(base),
+        text,
+    )
+
+
+def _keyboard_flags(bits: int) -> KeyboardFlags:
+    return KeyboardFlags(KittyKeyboardFlags(bits & _NAMED_FLAGS), bits & ~_NAMED_FLAGS)
 
 
 class ExtendedParser(_EventParser[ExtendedEvent]):
-    r"""Reads what an InputParser reads, and what terminals send beyond the sequence table. It is used in the same way.
+    r"""Reads what an InputParser reads, and what terminals send beyond the sequence table. It is
+    used in the same way.
 
-    A program that asks its terminal questions, or turns Kitty's keyboard protocol on, makes it in place of an InputParser. In the second
-    case it passes Protocol.KITTY, since that protocol sends some rows of the table in another sense:
+    A program that asks its terminal questions, or turns Kitty's keyboard protocol on, makes it in
+    place of an InputParser. In the second case it passes Protocol.KITTY, since that protocol sends
+    some entries of the table in another sense:
 
-        >>> for rows in Rows:
-        ...     with ExtendedParser(rows) as parser:
-        ...         parser.parse(b"\x1b[1;9A")
-        [KeyEvent(key=KeyCode.UpArrow, modifiers=Modifiers.ALT)]
-        [KeyReport(key=KeyCode.UpArrow, modifiers=Held.SUPER, action=KeyAction.PRESS, shifted=None, base=None, text='')]
+        >>> for protocol in Protocol:
+        ...     with ExtendedParser(protocol) as parser:
+        ...         [event] = parser.parse(b"\x1b[1;9A")
+        ...     print(type(event).__name__, event.key, event.modifiers)
+        KeyEvent KeyCode.UP_ARROW Modifiers.ALT
+        KeyReport KeyCode.UP_ARROW KittyModifiers.SUPER
 
     A key is a KeyEvent or a KeyReport: `key_report` makes one of both.
 
-    The bytes of an event are the same however they are cut into calls. The beginning of a control sequence or of a string stays buffered as
-    Waiting.Sequence. Without an open paste at most 65536 bytes are buffered.
+    The bytes of an event are the same however they are cut into calls. The beginning of a control
+    sequence or of a string stays buffered as Waiting.SEQUENCE. Without an open paste at most 65536
+    bytes are buffered.
 
     What an InputParser says of its memory, of threads and of errors holds here too."""
 
@@ -327,8 +413,8 @@ class ExtendedParser(_EventParser[ExtendedEvent]):
         next=_library.hed_extended_next,
         text=_library.hed_extended_text,
         drop_text=_library.hed_extended_drop_text,
-        waiting=_library.hed_extended_waiting_len,
-        waiting_kind=_library.hed_extended_waiting,
+        waiting_len=_library.hed_extended_waiting_len,
+        waiting=_library.hed_extended_waiting,
         flush_escape=_library.hed_extended_flush_escape,
         is_paste_open=_library.hed_extended_is_paste_open,
         end_paste=_library.hed_extended_end_paste,
@@ -336,65 +422,72 @@ class ExtendedParser(_EventParser[ExtendedEvent]):
         shrink_to=_library.hed_extended_shrink_to,
     )
 
-    def __init__(self, rows: Rows = Protocol.LEGACY) -> None:
-        if not isinstance(rows, Rows):
-            raise TypeError(f"Rows are required, not {type(rows).__name__}")
+    def __init__(self, protocol: Protocol = Protocol.LEGACY) -> None:
+        if not isinstance(protocol, Protocol):
+            raise TypeError(f"a Protocol is required, not {type(protocol).__name__}")
 
         def init(raw: _RawExtended) -> bool:
-            return bool(_library.hed_extended_init_sharing_parser(raw, rows.value, _parser_with_table()))
+            return bool(
+                _library.hed_extended_init_sharing_parser(raw, protocol.value, _parser_with_table())
+            )
 
         super().__init__(_RawExtended(), _RawExtendedEvent(), init, _library.hed_extended_free)
-        self._rows = rows
+        self._protocol = protocol
 
     @property
-    def rows(self) -> Rows:
-        """How the rows of the sequence table are read."""
-        return self._rows
+    def protocol(self) -> Protocol:
+        """The keyboard protocol that the program turned on."""
+        return self._protocol
 
     def _front_event(self) -> ExtendedEvent:
         front = self._front
         kind = front.kind
-        if kind in (_EVENT_KEY, _EVENT_MOUSE, _EVENT_PASTE):
+        if kind in (_KIND_KEY, _KIND_MOUSE, _KIND_PASTE):
             return self._input_event(_INPUT_AT)
-        if kind == _EVENT_REPORT:
+        if kind == _KIND_REPORT:
             text = self._text(front.text_len).decode("utf-8") if front.text_len else ""
             return _key_report(*_report_fields_of(front, _REPORT_AT), text)
         if kind in _of_data:
             return _of_data[kind](bytes(self._text(front.text_len)))
-        if kind == _EVENT_CURSOR_POSITION:
+        if kind == _KIND_CURSOR_POSITION:
             return CursorPosition(front.row, front.column)
-        if kind == _EVENT_RESIZE:
+        if kind == _KIND_RESIZE:
             return Resize(front.rows, front.columns, front.height, front.width)
-        if kind == _EVENT_KEYBOARD_FLAGS:
-            return KeyboardFlags(KittyKeyboardFlags(front.flags))
-        if kind == _EVENT_FOCUS_GAINED:
+        if kind == _KIND_KEYBOARD_FLAGS:
+            return _keyboard_flags(front.flags)
+        if kind == _KIND_FOCUS_GAINED:
             return _focus_gained
-        if kind == _EVENT_FOCUS_LOST:
+        if kind == _KIND_FOCUS_LOST:
             return _focus_lost
         _fault()
 
 
 # The modifiers of a key event, and what they are in a report.
-_REPORTED = [(Modifiers.SHIFT, Held.SHIFT), (Modifiers.ALT, Held.ALT), (Modifiers.CTRL, Held.CTRL)]
+_REPORTED = [
+    (Modifiers.SHIFT, KittyModifiers.SHIFT),
+    (Modifiers.ALT, KittyModifiers.ALT),
+    (Modifiers.CTRL, KittyModifiers.CTRL),
+]
 
 
 def key_report(event: ExtendedEvent) -> Optional[KeyReport]:
-    r"""Returns the report of a key, so that a program needs one case for keys: a KeyReport as it is, and for a KeyEvent a press of its key
-    with its SHIFT, ALT and CTRL. Returns None for any other event.
+    r"""Returns the report of a key, so that a program needs one case for keys: a KeyReport as it
+    is, and for a KeyEvent a press of its key with its SHIFT, ALT and CTRL. Returns None for any
+    other event.
 
         >>> with ExtendedParser() as parser:
         ...     events = parser.parse(b"\x03\x1b[99;5:3u")
         >>> for event in events:
         ...     report = key_report(event)
-        ...     print(report.key, report.modifiers, report.action)
-        c Held.CTRL KeyAction.PRESS
-        c Held.CTRL KeyAction.RELEASE"""
+        ...     print(report.key, report.modifiers, report.kind)
+        c KittyModifiers.CTRL KeyEventKind.PRESS
+        c KittyModifiers.CTRL KeyEventKind.RELEASE"""
     if isinstance(event, KeyReport):
         return event
     if not isinstance(event, KeyEvent):
         return None
-    held = Held.NONE
+    modifiers = KittyModifiers.NONE
     for flag, reported in _REPORTED:
         if flag & event.modifiers:
-            held |= reported
-    return KeyReport(event.key, held)
+            modifiers |= reported
+    return KeyReport(event.key, modifiers)

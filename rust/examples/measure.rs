@@ -1,5 +1,5 @@
-//! One pass of a parser over a file: `measure FILE READ` feeds the file in reads of READ bytes, and prints its nanoseconds, the
-//! number of events, and the number of bytes that stay buffered.
+//! One pass of a parser over a file: `measure FILE READ` feeds the file in reads of READ bytes, and
+//! prints its nanoseconds, the number of events, and the number of bytes that stay buffered.
 use hedrugal::input::{InputEvent, InputParser};
 use std::error::Error;
 use std::time::Instant;
@@ -19,6 +19,10 @@ fn main() -> Result<(), Box<dyn Error>> {
         parser.parse(bytes, &mut count, true);
     }
     parser.parse(b"", &mut count, false);
-    println!("{} {events} {}", start.elapsed().as_nanos(), parser.waiting_len());
+    println!(
+        "{} {events} {}",
+        start.elapsed().as_nanos(),
+        parser.waiting_len()
+    );
     Ok(())
 }

@@ -1,12 +1,13 @@
 //! The parser for programs that ask their terminal questions, or turn Kitty's keyboard protocol on.
 //!
-//! It reads what [`InputParser`](crate::input::InputParser) reads, and what terminals send beyond termwiz's sequence table: the position of
-//! the cursor, focus reports, colours and other strings, further mouse reports, control sequences, and Kitty's keyboard protocol.
-//! docs/EXTENDED.md of the repository says what bytes mean to it. [`KeyReport::encode`] is the other way: what a terminal sends for a key
-//! under Kitty's keyboard protocol.
+//! It reads what [`InputParser`](crate::input::InputParser) reads, and what terminals send beyond
+//! termwiz's sequence table: the position of the cursor, focus reports, colours and other strings,
+//! further mouse reports, control sequences, and Kitty's keyboard protocol. docs/EXTENDED.md of the
+//! repository says what bytes mean to it. [`KeyReport::encode`] is the other way: what a terminal
+//! sends for a key under Kitty's keyboard protocol.
 //!
 //! ```
-//! use hedrugal::extended::{ExtendedEvent, ExtendedParser, Rows};
+//! use hedrugal::extended::{ExtendedEvent, ExtendedParser, Protocol};
 //!
 //! let mut parser = ExtendedParser::new(Protocol::Legacy);
 //! for event in parser.parse_as_vec(b"\x1b[?24;80R\x1b]11;rgb:1e1e/1e1e/1e1e\x1b\\q", true) {
@@ -24,4 +25,4 @@ mod parser;
 pub use crate::input::flags::KittyModifiers;
 pub use encode::KittyEncodeError;
 pub use events::{ExtendedEvent, KeyEventKind, KeyReport, ReportedKey};
-pub use parser::{ExtendedParser, Rows};
+pub use parser::{ExtendedParser, Protocol};

@@ -9,18 +9,20 @@
 //! }
 //! ```
 mod encode;
+mod entries;
 mod events;
 pub(crate) mod flags;
 mod keys;
 mod parser;
-mod rows;
 
 pub use encode::{EncodeError, KeyCodeEncodeModes, KeyboardEncoding, CSI, SS3};
+pub use entries::{Completions, EntryBytes};
 pub use events::{InputEvent, KeyEvent, MouseEvent, PixelMouseEvent};
-pub use flags::{FlagIter, FlagNames, KittyKeyboardFlags, Modifiers, MouseButtons, ParseFlagsError};
+pub use flags::{
+    FlagIter, FlagNames, KittyKeyboardFlags, Modifiers, MouseButtons, ParseFlagsError,
+};
 pub use keys::KeyCode;
 pub use parser::{AllocError, InputParser, ParseError, ParseVecError, Waiting};
-pub use rows::{Completions, RowBytes};
 
 // What is said if the library answers otherwise than its header says.
 pub(crate) const FAULT: &str = "the library answers as c/hedrugal.h says";

@@ -52,7 +52,8 @@ impl<Value> Found<Value> {
     }
 }
 
-/// [`KeyMap::try_insert`] was refused memory. The map is unchanged, and `value` is what was to be inserted.
+/// [`KeyMap::try_insert`] was refused memory. The map is unchanged, and `value` is what was to be
+/// inserted.
 ///
 /// ```
 /// use hedrugal::keymap::InsertError;
@@ -73,11 +74,11 @@ impl<Value> fmt::Display for InsertError<Value> {
 
 impl<Value: Debug> error::Error for InsertError<Value> {}
 
-/// A map from byte strings to values. A lookup finds the longest key that is a prefix of a text, and tells whether a longer key may still
-/// follow.
+/// A map from byte strings to values. A lookup finds the longest key that is a prefix of a text,
+/// and tells whether a longer key may still follow.
 ///
-/// The library holds the keys, each with the place of its entry in a list of keys and values; lookups are the library's. A map that is
-/// empty owns no memory.
+/// The library holds the keys, each with the place of its entry in a list of keys and values;
+/// lookups are the library's. A map that is empty owns no memory.
 ///
 /// ```
 /// use hedrugal::keymap::{Found, KeyMap};
@@ -113,7 +114,8 @@ impl<Value: Debug + Clone> KeyMap<Value> {
         }
     }
 
-    /// Sets the value of a key. The value that it had is dropped. The empty key is a key as any other.
+    /// Sets the value of a key. The value that it had is dropped. The empty key is a key as any
+    /// other.
     ///
     /// ```
     /// use hedrugal::keymap::{Found, KeyMap};
@@ -142,8 +144,13 @@ impl<Value: Debug + Clone> KeyMap<Value> {
     ///
     /// # Errors
     ///
-    /// If memory is refused. The map is unchanged, and the error has the value. A key that the map has already needs no memory.
-    pub fn try_insert<K: AsRef<[u8]>>(&mut self, key: K, value: Value) -> Result<(), InsertError<Value>> {
+    /// If memory is refused. The map is unchanged, and the error has the value. A key that the map
+    /// has already needs no memory.
+    pub fn try_insert<K: AsRef<[u8]>>(
+        &mut self,
+        key: K,
+        value: Value,
+    ) -> Result<(), InsertError<Value>> {
         let key = key.as_ref();
         if let Some(place) = self.places.of(key) {
             self.entries[place].value = value;
@@ -158,8 +165,9 @@ impl<Value: Debug + Clone> KeyMap<Value> {
         }
     }
 
-    /// Finds the longest key that is a prefix of `key`, and returns its length and a clone of its value. Pass `maybe_more` as true while
-    /// more of the text may follow: the answer is `Ambiguous` if the text is a prefix of a longer key too. An `Exact` answer then holds
+    /// Finds the longest key that is a prefix of `key`, and returns its length and a clone of its
+    /// value. Pass `maybe_more` as true while more of the text may follow: the answer is
+    /// `Ambiguous` if the text is a prefix of a longer key too. An `Exact` answer then holds
     /// however the text goes on.
     ///
     /// ```
@@ -179,8 +187,8 @@ impl<Value: Debug + Clone> KeyMap<Value> {
         found.map(|place| self.entries[place].value.clone())
     }
 
-    // Has a new key lead to the end of the list, and returns its copy for the entry there. There is room for the entry before the library
-    // has the key, so that nothing is refused afterwards.
+    // Has a new key lead to the end of the list, and returns its copy for the entry there. There is
+    // room for the entry before the library has the key, so that nothing is refused afterwards.
     fn add_place(&mut self, key: &[u8]) -> Result<Vec<u8>, AllocError> {
         self.entries.try_reserve(1).map_err(|_| AllocError)?;
         let mut copy = Vec::new();
@@ -211,7 +219,10 @@ impl<Value: Debug + Clone> Clone for KeyMap<Value> {
 /// The keys with their values, in the order in which the keys were inserted first.
 impl<Value: Debug + Clone> Debug for KeyMap<Value> {
     fn fmt(&self, f: &mut fmt::Formatter<'_>) -> fmt::Result {
-        let entries = self.entries.iter().map(|entry| (Text(&entry.key), &entry.value));
+        let entries = self
+            .entries
+            .iter()
+            .map(|entry| (Text(&entry.key), &entry.value));
         f.debug_map().entries(entries).finish()
     }
 }
@@ -225,17 +236,21 @@ impl Debug for Text<'_> {
     }
 }
 
-// A map of the library, from keys to places in a list. There is none until the first key is inserted. The library allows one thread at a
-// time, also in a lookup, so a call through a shared reference locks it.
+// A map of the library, from keys to places in a list. There is none until the first key is
+// inserted. The library allows one thread at a time, also in a lookup, so a call through a shared
+// reference locks it.
 struct Places(Mutex<raw::KeyMap>);
 
 impl Places {
     // Has a key lead to a place. At place 0 a map is made first, in place of one that has no key.
     fn insert(&mut self, key: &[u8], place: usize) -> Result<(), AllocError> {
         let map = self.raw();
-        // SAFETY: `map` is a map or none. A slice's pointer isn't null, also if the slice is empty, and leads to as many bytes.
-        let inserted =
-            unsafe { (place > 0 || raw::hed_keymap_init(map)) && raw::hed_keymap_insert(map, key.as_ptr(), key.len(), place as u64) };
+        // SAFETY: `map` is a map or none. A slice's pointer isn't null, also if the slice is empty,
+        // and leads to as many bytes.
+        let inserted = unsafe {
+            (place > 0 || raw::hed_keymap_init(map))
+                && raw::hed_keymap_insert(map, key.as_ptr(), key.len(), place as u64)
+        };
         if inserted {
             Ok(())
         } else {
@@ -247,8 +262,11 @@ impl Places {
     fn lookup(&self, text: &[u8], maybe_more: bool) -> Found<usize> {
         let mut found = raw::Match::default();
         let mut map = self.0.lock().unwrap_or_else(PoisonError::into_inner);
-        // SAFETY: `map` is a map or none, `found` another value, and the slice's pointer leads to as many bytes.
-        let answer = unsafe { raw::hed_keymap_lookup(&mut *map, text.as_ptr(), text.len(), maybe_more, &mut found) };
+        // SAFETY: `map` is a map or none, `found` another value, and the slice's pointer leads to
+        // as many bytes.
+        let answer = unsafe {
+            raw::hed_keymap_lookup(&mut *map, text.as_ptr(), text.len(), maybe_more, &mut found)
+        };
         let place = found.value as usize;
         match answer {
             raw::FOUND_NONE | raw::FOUND_NO_MAP => Found::None,

@@ -10,8 +10,8 @@ pub(crate) struct Calls<Raw, RawEvent> {
     pub next: unsafe extern "C" fn(*mut Raw, bool, *mut RawEvent) -> u32,
     pub text: unsafe extern "C" fn(*mut Raw, *mut u8, usize) -> usize,
     pub drop_text: unsafe extern "C" fn(*mut Raw),
-    pub waiting: unsafe extern "C" fn(*mut Raw) -> usize,
-    pub waiting_kind: unsafe extern "C" fn(*mut Raw) -> u32,
+    pub waiting_len: unsafe extern "C" fn(*mut Raw) -> usize,
+    pub waiting: unsafe extern "C" fn(*mut Raw) -> u32,
     pub flush_escape: unsafe extern "C" fn(*mut Raw, *mut RawEvent) -> u32,
     pub is_paste_open: unsafe extern "C" fn(*mut Raw) -> bool,
     pub end_paste: unsafe extern "C" fn(*mut Raw, *mut RawEvent) -> u32,
@@ -35,15 +35,21 @@ pub(crate) unsafe trait RawParser: Sized {
     // Whether the event is a paste.
     fn is_paste(event: &Self::RawEvent) -> bool;
 
-    // The event that the library wrote. `text` returns the bytes that it brought, of which there are so many.
-    fn event(event: &Self::RawEvent, text: impl FnOnce(usize) -> Result<Vec<u8>, AllocError>) -> Result<Self::Event, AllocError>;
+    // The event that the library wrote. `text` returns the bytes that it brought, of which there
+    // are so many.
+    fn event(
+        event: &Self::RawEvent,
+        text: impl FnOnce(usize) -> Result<Vec<u8>, AllocError>,
+    ) -> Result<Self::Event, AllocError>;
 }
 
 // A parser that the library made.
 pub(crate) struct LibraryParser<Raw: RawParser> {
-    // The library allows one thread at a time, also in calls that only read, so a call through a shared reference locks it.
+    // The library allows one thread at a time, also in calls that only read, so a call through a
+    // shared reference locks it.
     raw: Mutex<Raw>,
-    // The library's last event, and whether this parser has yet to emit it: it stays until memory for it is granted.
+    // The library's last event, and whether this parser has yet to emit it: it stays until memory
+    // for it is granted.
     front: Raw::RawEvent,
     has_front: bool,
 }
@@ -58,7 +64,8 @@ impl<Raw: RawParser> LibraryParser<Raw> {
         }
     }
 
-    // The library's parser, for a call that reads. Only a fault of the library panics while it is locked.
+    // The library's parser, for a call that reads. Only a fault of the library panics while it is
+    // locked.
     pub fn locked(&self) -> MutexGuard<'_, Raw> {
         self.raw.lock().unwrap_or_else(PoisonError::into_inner)
     }
@@ -70,7 +77,8 @@ impl<Raw: RawParser> LibraryParser<Raw> {
 
     // Appends bytes to the buffer.
     pub fn feed(&mut self, bytes: &[u8]) -> Result<(), AllocError> {
-        // SAFETY: `raw` is a parser. A slice's pointer isn't null, also if the slice is empty, and leads to as many bytes.
+        // SAFETY: `raw` is a parser. A slice's pointer isn't null, also if the slice is empty, and
+        // leads to as many bytes.
         let fed = unsafe { (Raw::CALLS.feed)(self.raw(), bytes.as_ptr(), bytes.len()) };
         if fed {
             Ok(())
@@ -89,7 +97,12 @@ impl<Raw: RawParser> LibraryParser<Raw> {
     }
 
     // Appends bytes to the buffer, and emits the events.
-    pub fn parse(&mut self, bytes: &[u8], mut callback: impl FnMut(Raw::Event), maybe_more: bool) -> Result<(), ParseError> {
+    pub fn parse(
+        &mut self,
+        bytes: &[u8],
+        mut callback: impl FnMut(Raw::Event),
+        maybe_more: bool,
+    ) -> Result<(), ParseError> {
         self.feed(bytes).map_err(|_| ParseError::NotTaken)?;
         while let Some(event) = self.next_event(maybe_more).map_err(|_| ParseError::Taken)? {
             callback(event);
@@ -98,7 +111,11 @@ impl<Raw: RawParser> LibraryParser<Raw> {
     }
 
     // Appends bytes to the buffer. Returns the events.
-    pub fn parse_as_vec(&mut self, bytes: &[u8], maybe_more: bool) -> Result<Vec<Raw::Event>, ParseVecError<Raw::Event>> {
+    pub fn parse_as_vec(
+        &mut self,
+        bytes: &[u8],
+        maybe_more: bool,
+    ) -> Result<Vec<Raw::Event>, ParseVecError<Raw::Event>> {
         let mut events = Vec::new();
         let taken = self.feed(bytes).is_ok();
         if taken && self.store_events(&mut events, maybe_more).is_ok() {
@@ -110,13 +127,13 @@ impl<Raw: RawParser> LibraryParser<Raw> {
     // The number of bytes that are buffered.
     pub fn waiting_len(&self) -> usize {
         // SAFETY: `raw` is a parser, which this thread alone has.
-        unsafe { (Raw::CALLS.waiting)(&mut *self.locked()) }
+        unsafe { (Raw::CALLS.waiting_len)(&mut *self.locked()) }
     }
 
     // What stays buffered.
     pub fn waiting(&self) -> Waiting {
         // SAFETY: `raw` is a parser, which this thread alone has.
-        match unsafe { (Raw::CALLS.waiting_kind)(&mut *self.locked()) } {
+        match unsafe { (Raw::CALLS.waiting)(&mut *self.locked()) } {
             raw::WAITING_NOTHING => Waiting::Nothing,
             raw::WAITING_ESCAPE => Waiting::Escape,
             raw::WAITING_SEQUENCE => Waiting::Sequence,
@@ -148,7 +165,8 @@ impl<Raw: RawParser> LibraryParser<Raw> {
     pub fn end_paste(&mut self) -> Result<Option<Raw::Event>, AllocError> {
         if !self.has_front {
             // SAFETY: `raw` is a parser, and `front` another value.
-            self.has_front = is_event(unsafe { (Raw::CALLS.end_paste)(self.raw(), &mut self.front) })?;
+            self.has_front =
+                is_event(unsafe { (Raw::CALLS.end_paste)(self.raw(), &mut self.front) })?;
         }
         // A paste that was refused memory before is at the front, where another call left it.
         if self.has_front && Raw::is_paste(&self.front) {
@@ -158,27 +176,32 @@ impl<Raw: RawParser> LibraryParser<Raw> {
         }
     }
 
-    // Forgets all that is buffered, and an event that was refused memory. Returns how many bytes were buffered.
+    // Forgets all that is buffered, and an event that was refused memory. Returns how many bytes
+    // were buffered.
     pub fn reset(&mut self) -> usize {
         self.has_front = false;
-        // SAFETY: `raw` is a parser. The library may still have the text of an event that was refused memory.
+        // SAFETY: `raw` is a parser. The library may still have the text of an event that was
+        // refused memory.
         unsafe {
             (Raw::CALLS.drop_text)(self.raw());
             (Raw::CALLS.reset)(self.raw())
         }
     }
 
-    // Gives back memory that holds nothing, but for room for so many bytes. A text that the library still has stays.
+    // Gives back memory that holds nothing, but for room for so many bytes. A text that the library
+    // still has stays.
     pub fn shrink_to(&mut self, min_capacity: usize) {
         // SAFETY: `raw` is a parser.
         unsafe { (Raw::CALLS.shrink_to)(self.raw(), min_capacity) }
     }
 
-    // Whether there is an event at the front. It is `front` then, and stays there until `take_front` moves it out.
+    // Whether there is an event at the front. It is `front` then, and stays there until
+    // `take_front` moves it out.
     fn find_front(&mut self, maybe_more: bool) -> Result<bool, AllocError> {
         if !self.has_front {
             // SAFETY: `raw` is a parser, and `front` another value.
-            self.has_front = is_event(unsafe { (Raw::CALLS.next)(self.raw(), maybe_more, &mut self.front) })?;
+            self.has_front =
+                is_event(unsafe { (Raw::CALLS.next)(self.raw(), maybe_more, &mut self.front) })?;
         }
         Ok(self.has_front)
     }
@@ -190,8 +213,13 @@ impl<Raw: RawParser> LibraryParser<Raw> {
         Ok(event)
     }
 
-    // Moves the events of the buffered bytes to a list. There is room for an event before it leaves the parser.
-    fn store_events(&mut self, events: &mut Vec<Raw::Event>, maybe_more: bool) -> Result<(), AllocError> {
+    // Moves the events of the buffered bytes to a list. There is room for an event before it leaves
+    // the parser.
+    fn store_events(
+        &mut self,
+        events: &mut Vec<Raw::Event>,
+        maybe_more: bool,
+    ) -> Result<(), AllocError> {
         while self.find_front(maybe_more)? {
             events.try_reserve(1).map_err(|_| AllocError)?;
             events.push(self.take_front()?);
@@ -205,12 +233,14 @@ impl<Raw: RawParser> LibraryParser<Raw> {
         Raw::event(&event, |len| self.text(len))
     }
 
-    // The bytes that the last event brought. Once they are copied, the library keeps them no longer.
+    // The bytes that the last event brought. Once they are copied, the library keeps them no
+    // longer.
     fn text(&mut self, len: usize) -> Result<Vec<u8>, AllocError> {
         let mut text = Vec::new();
         text.try_reserve_exact(len).map_err(|_| AllocError)?;
         text.resize(len, 0);
-        // SAFETY: `raw` is a parser. A vector's pointer isn't null, and leads to as many bytes, which no other value has.
+        // SAFETY: `raw` is a parser. A vector's pointer isn't null, and leads to as many bytes,
+        // which no other value has.
         let whole = unsafe { (Raw::CALLS.text)(self.raw(), text.as_mut_ptr(), text.len()) };
         assert_eq!(whole, len, "{FAULT}");
         // SAFETY: `raw` is a parser.

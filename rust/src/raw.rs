@@ -1,5 +1,5 @@
-// The C library, as c/hedrugal.h declares it. This is where its proof ends: these lines are written by hand.
-// A number that the library uses may have no use here.
+// The C library, as c/hedrugal.h declares it. This is where its proof ends: these lines are written
+// by hand. A number that the library uses may have no use here.
 #![allow(dead_code)]
 
 use std::ffi::c_void;
@@ -61,59 +61,48 @@ pub const FOUND_NO_MAP: u32 = 4;
 // numbers.txt: kind const
 /// None of these. No event has this kind.
 pub const KIND_OTHER: u8 = 0;
-/// A key was pressed.
+/// A key was pressed: an entry of the sequence table, or a character.
 pub const KIND_KEY: u8 = 1;
 /// The mouse was moved, one of its buttons was pressed or released, or a wheel was turned.
 pub const KIND_MOUSE: u8 = 2;
 /// Text was pasted, in bracketed paste mode.
 pub const KIND_PASTE: u8 = 3;
+/// A key report: a key was pressed, held down or released.
+pub const KIND_REPORT: u8 = 4;
+/// The terminal's window gained the focus (mode 1004).
+pub const KIND_FOCUS_GAINED: u8 = 5;
+/// The terminal's window lost the focus.
+pub const KIND_FOCUS_LOST: u8 = 6;
+/// The reply to a question for the cursor's position.
+pub const KIND_CURSOR_POSITION: u8 = 7;
+/// The terminal has a new size (mode 2048).
+pub const KIND_RESIZE: u8 = 8;
+/// The reply to a question for the flags of Kitty's keyboard protocol.
+pub const KIND_KEYBOARD_FLAGS: u8 = 9;
+/// Any other control sequence.
+pub const KIND_CSI: u8 = 10;
+/// An operating system command, such as the reply to a question for a colour.
+pub const KIND_OSC: u8 = 11;
+/// A device control string, such as the reply to a question for the terminal's name and version.
+pub const KIND_DCS: u8 = 12;
+/// An application program command, such as a reply of Kitty's graphics protocol.
+pub const KIND_APC: u8 = 13;
 // numbers.txt: end
 
-// numbers.txt: rows const
-/// Each row keeps its key. For programs that leave Kitty's keyboard protocol off.
+// numbers.txt: protocol const
+/// For programs that leave Kitty's keyboard protocol off: each entry keeps its key.
 pub const PROTOCOL_LEGACY: u32 = 0;
-/// A row that reports a key or the cursor's position is read as that report. For programs that turn the protocol on.
+/// For programs that turn it on: an entry that reports a key or the cursor's position is read as that report.
 pub const PROTOCOL_KITTY: u32 = 1;
 // numbers.txt: end
 
-// numbers.txt: event const
-/// None of these. No event has this kind.
-pub const EVENT_OTHER: u8 = 0;
-/// A key was pressed: a row of the sequence table, or a character.
-pub const EVENT_KEY: u8 = 1;
-/// The mouse was moved, one of its buttons was pressed or released, or a wheel was turned.
-pub const EVENT_MOUSE: u8 = 2;
-/// Text was pasted, in bracketed paste mode.
-pub const EVENT_PASTE: u8 = 3;
-/// A key report: a key was pressed, held down or released.
-pub const EVENT_REPORT: u8 = 4;
-/// The terminal's window gained the focus (mode 1004).
-pub const EVENT_FOCUS_GAINED: u8 = 5;
-/// The terminal's window lost the focus.
-pub const EVENT_FOCUS_LOST: u8 = 6;
-/// The reply to a question for the cursor's position.
-pub const EVENT_CURSOR_POSITION: u8 = 7;
-/// The terminal has a new size (mode 2048).
-pub const EVENT_RESIZE: u8 = 8;
-/// The reply to a question for the flags of Kitty's keyboard protocol.
-pub const EVENT_KEYBOARD_FLAGS: u8 = 9;
-/// Any other control sequence.
-pub const EVENT_CSI: u8 = 10;
-/// An operating system command, such as the reply to a question for a colour.
-pub const EVENT_OSC: u8 = 11;
-/// A device control string, such as the reply to a question for the terminal's name and version.
-pub const EVENT_DCS: u8 = 12;
-/// An application program command, such as a reply of Kitty's graphics protocol.
-pub const EVENT_APC: u8 = 13;
-// numbers.txt: end
-
-// numbers.txt: action const
+// numbers.txt: key_event_kind const
 /// It was pressed.
-pub const ACTION_PRESS: u8 = 1;
+pub const KEY_EVENT_KIND_PRESS: u8 = 1;
 /// It was held down so long that it repeats.
-pub const ACTION_REPEAT: u8 = 2;
+pub const KEY_EVENT_KIND_REPEAT: u8 = 2;
 /// It was released.
-pub const ACTION_RELEASE: u8 = 3;
+pub const KEY_EVENT_KIND_RELEASE: u8 = 3;
 // numbers.txt: end
 
 // numbers.txt: encoding const
@@ -142,8 +131,9 @@ impl Parser {
     };
 }
 
-// SAFETY: `Send` of the library's handle is proved. What a parser owns is reached through it alone, but for a table that parsers share. No
-// call changes that, and the library counts these parsers atomically.
+// SAFETY: `Send` of the library's handle is proved. What a parser owns is reached through it alone,
+// but for a table that parsers share. No call changes that, and the library counts these parsers
+// atomically.
 unsafe impl Send for Parser {}
 
 /// An event. What its kind has no use for is 0.
@@ -171,13 +161,13 @@ pub struct Modes {
     pub has_modify_other_keys: bool,
 }
 
-/// The length of the longest row of the sequence table.
-pub const ROW_MOST: usize = 11;
+/// The length of the longest entry of the sequence table.
+pub const ENTRY_MOST: usize = 11;
 
-/// Some rows of the sequence table, one after another.
+/// Some entries of the sequence table, one after another.
 #[repr(C)]
 #[derive(Clone, Copy, Default)]
-pub struct Rows {
+pub struct Entries {
     pub first: usize,
     pub count: usize,
     pub with_alt: bool,
@@ -234,7 +224,7 @@ pub const NO_CODE: u32 = 0xffff_ffff;
 #[repr(C)]
 #[derive(Clone, Copy, Default)]
 pub struct KeyReport {
-    pub action: u8,
+    pub kind: u8,
     pub modifiers: u8,
     pub key: u16,
     pub detail: u32,
@@ -262,16 +252,30 @@ pub struct ExtendedEvent {
 // The layouts that the library was proved with.
 const _: () = {
     assert!(size_of::<Parser>() == 16 && offset_of!(Parser, state) == 8);
-    assert!(size_of::<Event>() == 24 && offset_of!(Event, modifiers) == 2 && offset_of!(Event, y) == 8);
+    assert!(
+        size_of::<Event>() == 24 && offset_of!(Event, modifiers) == 2 && offset_of!(Event, y) == 8
+    );
     assert!(offset_of!(Event, detail) == 12 && offset_of!(Event, paste_len) == 16);
     assert!(size_of::<Modes>() == 16 && offset_of!(Modes, encoding) == 8);
     assert!(offset_of!(Modes, has_modify_other_keys) == 12);
     assert!(size_of::<KeyMap>() == 16 && offset_of!(KeyMap, state) == 8);
-    assert!(size_of::<Rows>() == 24 && offset_of!(Rows, count) == 8 && offset_of!(Rows, with_alt) == 16);
+    assert!(
+        size_of::<Entries>() == 24
+            && offset_of!(Entries, count) == 8
+            && offset_of!(Entries, with_alt) == 16
+    );
     assert!(size_of::<Match>() == 16 && offset_of!(Match, value) == 8);
     assert!(size_of::<Extended>() == 16 && offset_of!(Extended, state) == 8);
-    assert!(size_of::<KeyReport>() == 16 && offset_of!(KeyReport, key) == 2 && offset_of!(KeyReport, base) == 12);
-    assert!(size_of::<ExtendedEvent>() == 64 && offset_of!(ExtendedEvent, row) == 2 && offset_of!(ExtendedEvent, width) == 12);
+    assert!(
+        size_of::<KeyReport>() == 16
+            && offset_of!(KeyReport, key) == 2
+            && offset_of!(KeyReport, base) == 12
+    );
+    assert!(
+        size_of::<ExtendedEvent>() == 64
+            && offset_of!(ExtendedEvent, row) == 2
+            && offset_of!(ExtendedEvent, width) == 12
+    );
     assert!(offset_of!(ExtendedEvent, report) == 16 && offset_of!(ExtendedEvent, input) == 32);
     assert!(offset_of!(ExtendedEvent, text_len) == 56);
 };
@@ -302,16 +306,36 @@ extern "C" {
         len: usize,
         text_len: *mut usize,
     ) -> u32;
-    pub fn hed_parser_entry(parser: *mut Parser, place: usize, bytes: *mut u8, capacity: usize, event: *mut Event) -> usize;
-    pub fn hed_parser_completions(parser: *mut Parser, rows: *mut Rows) -> bool;
+    pub fn hed_parser_entry(
+        parser: *mut Parser,
+        place: usize,
+        bytes: *mut u8,
+        capacity: usize,
+        event: *mut Event,
+    ) -> usize;
+    pub fn hed_parser_completions(parser: *mut Parser, entries: *mut Entries) -> bool;
     pub fn hed_keymap_init(map: *mut KeyMap) -> bool;
     pub fn hed_keymap_free(map: *mut KeyMap);
     pub fn hed_keymap_insert(map: *mut KeyMap, key: *const u8, len: usize, value: u64) -> bool;
-    pub fn hed_keymap_lookup(map: *mut KeyMap, text: *const u8, len: usize, maybe_more: bool, found: *mut Match) -> u32;
+    pub fn hed_keymap_lookup(
+        map: *mut KeyMap,
+        text: *const u8,
+        len: usize,
+        maybe_more: bool,
+        found: *mut Match,
+    ) -> u32;
     pub fn hed_keymap_len(map: *mut KeyMap) -> usize;
-    pub fn hed_extended_init(parser: *mut Extended, rows: u32) -> bool;
-    pub fn hed_extended_init_sharing(parser: *mut Extended, rows: u32, other: *mut Extended) -> bool;
-    pub fn hed_extended_init_sharing_parser(parser: *mut Extended, rows: u32, other: *mut Parser) -> bool;
+    pub fn hed_extended_init(parser: *mut Extended, protocol: u32) -> bool;
+    pub fn hed_extended_init_sharing(
+        parser: *mut Extended,
+        protocol: u32,
+        other: *mut Extended,
+    ) -> bool;
+    pub fn hed_extended_init_sharing_parser(
+        parser: *mut Extended,
+        protocol: u32,
+        other: *mut Parser,
+    ) -> bool;
     pub fn hed_extended_free(parser: *mut Extended);
     pub fn hed_extended_feed(parser: *mut Extended, bytes: *const u8, len: usize) -> bool;
     pub fn hed_extended_next(parser: *mut Extended, more: bool, event: *mut ExtendedEvent) -> u32;

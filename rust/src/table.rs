@@ -1,14 +1,17 @@
 // The sequence table, which all parsers of the process share.
 //
-// The library makes a parser with a table of its own, or one that shares the table of another. Here one idle parser has the table. It is
-// made with the first parser that a program asks for, and is never freed. Every other parser, of either kind, is made from it.
+// The library makes a parser with a table of its own, or one that shares the table of another. Here
+// one idle parser has the table. It is made with the first parser that a program asks for, and is
+// never freed. Every other parser, of either kind, is made from it.
 //
-// Parsers of several threads read the table at the same time. That is sound: no call changes a table, and the library counts those that
-// share it by an atomic counter (an `Arc`), so each of them is used and freed in whatever thread it is. What one thread at a time may use
-// is the idle parser's handle, also to make a parser from it. So the lock is held in that call.
+// Parsers of several threads read the table at the same time. That is sound: no call changes a
+// table, and the library counts those that share it by an atomic counter (an `Arc`), so each of
+// them is used and freed in whatever thread it is. What one thread at a time may use is the idle
+// parser's handle, also to make a parser from it. So the lock is held in that call.
 //
-// A child of fork has a copy of the table, and may make parsers. If its parent has threads, it may not before exec, as the library's header
-// says: another thread may have held this lock at the fork, or malloc's.
+// A child of fork has a copy of the table, and may make parsers. If its parent has threads, it may
+// not before exec, as the library's header says: another thread may have held this lock at the
+// fork, or malloc's.
 use crate::input::AllocError;
 use crate::raw;
 use std::sync::{Mutex, PoisonError};
@@ -16,7 +19,8 @@ use std::sync::{Mutex, PoisonError};
 // The idle parser. There is none until the first call that isn't refused memory.
 static IDLE: Mutex<Option<raw::Parser>> = Mutex::new(None);
 
-// Makes a parser by `init`, which is called with the idle parser while this thread alone has it, and returns whether memory was granted.
+// Makes a parser by `init`, which is called with the idle parser while this thread alone has it,
+// and returns whether memory was granted.
 pub(crate) fn share(init: impl FnOnce(&mut raw::Parser) -> bool) -> Result<(), AllocError> {
     // Nothing panics while it is locked.
     let mut locked = IDLE.lock().unwrap_or_else(PoisonError::into_inner);

@@ -1,21 +1,30 @@
-// The key map: termwiz's own cases, worked examples, and lookups in generated maps against a plain map.
+// The key map: termwiz's own cases, worked examples, and lookups in generated maps against a plain
+// map.
 use hedrugal::keymap::{Found, KeyMap};
 use std::collections::BTreeMap;
 use std::fmt::Debug;
 use std::ops::Bound::{Excluded, Unbounded};
 use std::rc::Rc;
 
-// Entries that are inserted one after another, and what lookups then return: the text, whether more of it may follow, and the answer.
+// Entries that are inserted one after another, and what lookups then return: the text, whether more
+// of it may follow, and the answer.
 struct Case<'a, Key> {
     entries: &'a [(Key, bool)],
     lookups: &'a [(Key, bool, Found<bool>)],
 }
 
 // Three keys of which each is a prefix of the next, and one that is apart.
-const NESTED: &[(&str, bool)] = &[("boa", false), ("boo", false), ("boom", true), ("boom!!", false)];
+const NESTED: &[(&str, bool)] = &[
+    ("boa", false),
+    ("boo", false),
+    ("boom", true),
+    ("boom!!", false),
+];
 
 // Inserts the entries, from the first to the last or backwards.
-fn filled<'a, Key: AsRef<[u8]> + 'a>(entries: impl Iterator<Item = &'a (Key, bool)>) -> KeyMap<bool> {
+fn filled<'a, Key: AsRef<[u8]> + 'a>(
+    entries: impl Iterator<Item = &'a (Key, bool)>,
+) -> KeyMap<bool> {
     let mut map = KeyMap::new();
     for (key, value) in entries {
         map.insert(key, *value);
@@ -23,13 +32,18 @@ fn filled<'a, Key: AsRef<[u8]> + 'a>(entries: impl Iterator<Item = &'a (Key, boo
     map
 }
 
-// Checks a case whose keys are all different in a map, in a clone of it, and in a map whose keys were inserted in reverse order.
+// Checks a case whose keys are all different in a map, in a clone of it, and in a map whose keys
+// were inserted in reverse order.
 fn check<Key: AsRef<[u8]>>(case: &Case<Key>) {
     let map = filled(case.entries.iter());
     for map in [&map, &map.clone(), &filled(case.entries.iter().rev())] {
         for (text, maybe_more, answer) in case.lookups {
             let shown = text.as_ref().escape_ascii();
-            assert_eq!(map.lookup(text, *maybe_more), *answer, "{shown} {maybe_more}");
+            assert_eq!(
+                map.lookup(text, *maybe_more),
+                *answer,
+                "{shown} {maybe_more}"
+            );
         }
     }
 }
@@ -166,7 +180,10 @@ fn numbered(numbers: impl Iterator<Item = u16>) -> KeyMap<u16> {
 // The map has the numbers below a limit, and no other.
 fn check_numbers(map: &KeyMap<u16>, limit: u16) {
     for number in 0..limit {
-        assert_eq!(map.lookup(number.to_be_bytes(), true), Found::Exact(2, number));
+        assert_eq!(
+            map.lookup(number.to_be_bytes(), true),
+            Found::Exact(2, number)
+        );
     }
     assert_eq!(map.lookup(limit.to_be_bytes(), true), Found::None);
 }
@@ -178,10 +195,14 @@ fn has_many_keys() {
     check_numbers(&map.clone(), 3000);
 }
 
-// Keys come alternately from both ends of their order, so that each insert is far from the one before.
+// Keys come alternately from both ends of their order, so that each insert is far from the one
+// before.
 #[test]
 fn has_keys_that_were_inserted_far_apart() {
-    check_numbers(&numbered((0..3000).flat_map(|number| [number, 5999 - number])), 6000);
+    check_numbers(
+        &numbered((0..3000).flat_map(|number| [number, 5999 - number])),
+        6000,
+    );
 }
 
 #[test]
@@ -204,7 +225,10 @@ fn shows_its_entries() {
     map.insert(b"\x1b[\"\xff", Some("x"));
     map.insert("", None);
     map.insert(b"\x1b[\"\xff", Some("y"));
-    assert_eq!(format!("{map:?}"), r#"{b"\x1b[\"\xff": Some("y"), b"": None}"#);
+    assert_eq!(
+        format!("{map:?}"),
+        r#"{b"\x1b[\"\xff": Some("y"), b"": None}"#
+    );
 }
 
 // A map is read by two threads at once, and moved to a third.
@@ -215,7 +239,10 @@ fn is_shared_between_threads() {
     is_shared(&map);
     std::thread::scope(|scope| {
         for _ in 0..2 {
-            scope.spawn(|| (0..1000).for_each(|_| assert_eq!(map.lookup("boom!", true), Found::Ambiguous(4, true))));
+            scope.spawn(|| {
+                (0..1000)
+                    .for_each(|_| assert_eq!(map.lookup("boom!", true), Found::Ambiguous(4, true)))
+            });
         }
     });
     let moved = std::thread::spawn(move || map.lookup("boa", true)).join();
@@ -228,13 +255,18 @@ struct Draws(u64);
 impl Draws {
     // A number below a limit.
     fn below(&mut self, limit: usize) -> usize {
-        self.0 = self.0.wrapping_mul(6364136223846793005).wrapping_add(1442695040888963407);
+        self.0 = self
+            .0
+            .wrapping_mul(6364136223846793005)
+            .wrapping_add(1442695040888963407);
         (self.0 >> 33) as usize % limit
     }
 
     // Up to `len` of these bytes.
     fn bytes(&mut self, len: usize, of: &[u8]) -> Vec<u8> {
-        (0..self.below(len + 1)).map(|_| of[self.below(of.len())]).collect()
+        (0..self.below(len + 1))
+            .map(|_| of[self.below(of.len())])
+            .collect()
     }
 
     // A text of at most six bytes, of three different ones.
@@ -244,7 +276,11 @@ impl Draws {
 
     // A text that begins as all of its kind do, and goes on with at most three of four bytes.
     fn nested(&mut self) -> Vec<u8> {
-        [&b"a common beginning"[..self.below(19)], &self.bytes(3, b"\x00\x01\xfe\xff")].concat()
+        [
+            &b"a common beginning"[..self.below(19)],
+            &self.bytes(3, b"\x00\x01\xfe\xff"),
+        ]
+        .concat()
     }
 
     // Five bytes, of which the last three are any of four.
@@ -262,7 +298,11 @@ impl Draws {
     fn text(&mut self) -> Vec<u8> {
         match self.below(8) {
             0..=3 => self.bytes(6, b"abc"),
-            4..=6 => [&b"\x1b[common"[..self.below(9)], &self.bytes(3, b"\x00\x01\xfe\xff")].concat(),
+            4..=6 => [
+                &b"\x1b[common"[..self.below(9)],
+                &self.bytes(3, b"\x00\x01\xfe\xff"),
+            ]
+            .concat(),
             _ => [vec![b'l'; 298 + self.below(4)], self.bytes(2, b"\x00\xff")].concat(),
         }
     }
@@ -271,7 +311,8 @@ impl Draws {
 // Draws a text of one kind.
 type Kind = fn(&mut Draws) -> Vec<u8>;
 
-// A lookup by the rule itself: the longest key that is a prefix of the text, and whether the text is a prefix of a longer key.
+// A lookup by the rule itself: the longest key that is a prefix of the text, and whether the text
+// is a prefix of a longer key.
 fn plain_lookup(map: &BTreeMap<Vec<u8>, u32>, text: &[u8], maybe_more: bool) -> Found<u32> {
     let longest = (0..=text.len())
         .rev()
@@ -300,7 +341,8 @@ fn number(found: Found<Counted>) -> Found<u32> {
     }
 }
 
-// The plain map with what is inserted into a map, the token of that map's values, and how many answers were of each kind.
+// The plain map with what is inserted into a map, the token of that map's values, and how many
+// answers were of each kind.
 #[derive(Default)]
 struct Plain {
     token: Rc<()>,
@@ -324,7 +366,11 @@ impl Plain {
         let answer = plain_lookup(&self.map, text, maybe_more);
         self.answers[place_of(&answer)] += 1;
         let shown = text.escape_ascii();
-        assert_eq!(number(map.lookup(text, maybe_more)), answer, "{shown} {maybe_more}");
+        assert_eq!(
+            number(map.lookup(text, maybe_more)),
+            answer,
+            "{shown} {maybe_more}"
+        );
     }
 
     // Looks texts of a kind up in both.
@@ -373,7 +419,11 @@ fn grown(plain: &mut Plain, draws: &mut Draws, has_empty: bool) -> KeyMap<Counte
         }
         plain.check(&map, draws, Draws::text, 4);
     }
-    assert!((40..100).contains(&plain.map.len()), "{} keys", plain.map.len());
+    assert!(
+        (40..100).contains(&plain.map.len()),
+        "{} keys",
+        plain.map.len()
+    );
     map
 }
 
@@ -390,7 +440,8 @@ fn check_clone(mut map: KeyMap<Counted>, plain: &mut Plain, draws: &mut Draws) {
     plain.check(&copy, draws, Draws::text, 100);
 }
 
-// Keys and texts of one kind: the empty key and sixty others, with lookups after each of these, and in a clone.
+// Keys and texts of one kind: the empty key and sixty others, with lookups after each of these, and
+// in a clone.
 fn check_kind(draws: &mut Draws, kind: Kind) {
     let (mut plain, mut map) = (Plain::default(), KeyMap::new());
     plain.insert(&mut map, Vec::new(), 60);
@@ -414,7 +465,8 @@ fn agrees_with_a_plain_map_on_each_kind_of_texts() {
     check_kind(&mut draws, Draws::long);
 }
 
-// Decimal numbers are inserted in reverse order. They are looked up without their last byte, and with a byte after it.
+// Decimal numbers are inserted in reverse order. They are looked up without their last byte, and
+// with a byte after it.
 #[test]
 fn agrees_with_a_plain_map_on_decimal_numbers() {
     let (mut plain, mut map) = (Plain::default(), KeyMap::new());

@@ -1,7 +1,10 @@
 // The paths of termwiz, as a program has them that names this package `termwiz`.
 use hedrugal as termwiz;
 use termwiz::escape::csi::KittyKeyboardFlags;
-use termwiz::input::{InputEvent, InputParser, KeyCode, KeyCodeEncodeModes, KeyboardEncoding, Modifiers, MouseButtons, Waiting};
+use termwiz::input::{
+    EncodeError, InputEvent, InputParser, KeyCode, KeyCodeEncodeModes, KeyboardEncoding, Modifiers,
+    MouseButtons, Waiting,
+};
 
 // What stays buffered is read by two threads at once, and the parser then goes on in a third.
 #[test]
@@ -12,14 +15,20 @@ fn shares_a_parser_between_threads() {
         for _ in 0..2 {
             scope.spawn(|| {
                 for _ in 0..1000 {
-                    assert_eq!((parser.waiting(), parser.waiting_len()), (Waiting::Paste, 10));
+                    assert_eq!(
+                        (parser.waiting(), parser.waiting_len()),
+                        (Waiting::Paste, 10)
+                    );
                     assert!(parser.is_paste_open());
                 }
             });
         }
     });
     let events = std::thread::spawn(move || parser.parse_as_vec(b"\x1b[201~", true)).join();
-    assert_eq!(events.ok(), Some(vec![InputEvent::Paste("text".to_string())]));
+    assert_eq!(
+        events.ok(),
+        Some(vec![InputEvent::Paste("text".to_string())])
+    );
 }
 
 #[test]
@@ -31,20 +40,35 @@ fn has_the_traits() {
     is_shared::<MouseButtons>();
 }
 
-// The library refuses bits without a name, so they don't reach it.
+// A bit without a name is refused, whether the key is up or down.
 #[test]
-fn encodes_with_bits_without_a_name() {
+fn refuses_bits_without_a_name() {
     let modes = |encoding| KeyCodeEncodeModes {
         encoding,
         application_cursor_keys: false,
         newline_mode: false,
         modify_other_keys: None,
     };
-    let held = Modifiers::CTRL | Modifiers::from_bits_retain(0xf001);
-    for encoding in [
-        KeyboardEncoding::Xterm,
-        KeyboardEncoding::Kitty(KittyKeyboardFlags::from_bits_retain(0xffff)),
-    ] {
-        assert_eq!(KeyCode::UpArrow.encode(held, modes(encoding), true).as_deref(), Ok("\x1b[1;5A"));
+    let kitty = |bits| KeyboardEncoding::Kitty(KittyKeyboardFlags::from_bits_retain(bits));
+    for is_down in [true, false] {
+        for place in (0..16).filter(|place| Modifiers::from_bits(1 << place).is_none()) {
+            let held = Modifiers::CTRL | Modifiers::from_bits_retain(1 << place);
+            let sent = KeyCode::UpArrow.encode(held, modes(KeyboardEncoding::Xterm), is_down);
+            assert_eq!(sent, Err(EncodeError::UnnamedBits), "bit {place}");
+        }
+        for place in 5..16 {
+            let sent = KeyCode::UpArrow.encode(Modifiers::CTRL, modes(kitty(1 << place)), is_down);
+            assert_eq!(sent, Err(EncodeError::UnnamedBits), "flag {place}");
+        }
     }
+    let all = kitty(KittyKeyboardFlags::all().bits());
+    assert_eq!(
+        KeyCode::UpArrow
+            .encode(Modifiers::CTRL, modes(all), true)
+            .as_deref(),
+        Ok("\x1b[1;5A")
+    );
+    assert!(KeyCode::UpArrow
+        .encode(Modifiers::all(), modes(all), true)
+        .is_ok());
 }

@@ -1,11 +1,16 @@
-// Refuses each request for memory in turn, the library's and this crate's, and goes on: the events must be those of a run without a refusal,
-// and each refusal must be told once.
+// Refuses each request for memory in turn, the library's and this crate's, and goes on: the events
+// must be those of a run without a refusal, and each refusal must be told once.
 //
 // What a thread of the tests asks for is refused if that thread said so.
 mod malloc;
 
-use hedrugal::extended::{ExtendedEvent, ExtendedParser, KeyEventKind, KeyReport, KittyEncodeError, KittyModifiers, ReportedKey, Rows};
-use hedrugal::input::{AllocError, EncodeError, InputEvent, InputParser, KeyCode, KeyCodeEncodeModes, KeyboardEncoding};
+use hedrugal::extended::{
+    ExtendedEvent, ExtendedParser, KeyEventKind, KeyReport, KittyEncodeError, KittyModifiers,
+    Protocol, ReportedKey,
+};
+use hedrugal::input::{
+    AllocError, EncodeError, InputEvent, InputParser, KeyCode, KeyCodeEncodeModes, KeyboardEncoding,
+};
 use hedrugal::input::{KittyKeyboardFlags, Modifiers, ParseError, Waiting};
 use hedrugal::keymap::{Found, InsertError, KeyMap};
 use malloc::{in_use, refusing};
@@ -18,8 +23,14 @@ fn room() -> Vec<InputEvent> {
     Vec::with_capacity(64)
 }
 
-// Gives a piece by `try_parse` until it is taken, and all its events are given. Returns the refusals that were told.
-fn give(parser: &mut InputParser, mut bytes: &[u8], events: &mut Vec<InputEvent>, more: bool) -> usize {
+// Gives a piece by `try_parse` until it is taken, and all its events are given. Returns the
+// refusals that were told.
+fn give(
+    parser: &mut InputParser,
+    mut bytes: &[u8],
+    events: &mut Vec<InputEvent>,
+    more: bool,
+) -> usize {
     let mut told = 0;
     while let Err(error) = parser.try_parse(bytes, |event| events.push(event), more) {
         told += 1;
@@ -31,7 +42,12 @@ fn give(parser: &mut InputParser, mut bytes: &[u8], events: &mut Vec<InputEvent>
 }
 
 // The same by `try_parse_as_vec`.
-fn give_as_vec(parser: &mut InputParser, mut bytes: &[u8], events: &mut Vec<InputEvent>, more: bool) -> usize {
+fn give_as_vec(
+    parser: &mut InputParser,
+    mut bytes: &[u8],
+    events: &mut Vec<InputEvent>,
+    more: bool,
+) -> usize {
     let mut told = 0;
     loop {
         match parser.try_parse_as_vec(bytes, more) {
@@ -53,7 +69,8 @@ fn give_as_vec(parser: &mut InputParser, mut bytes: &[u8], events: &mut Vec<Inpu
 
 type Give = fn(&mut InputParser, &[u8], &mut Vec<InputEvent>, bool) -> usize;
 
-// Reads the stream in pieces with one request refused. Returns the events, and how many refusals were told.
+// Reads the stream in pieces with one request refused. Returns the events, and how many refusals
+// were told.
 fn read(give: Give, piece: usize, number: usize) -> (Vec<InputEvent>, usize) {
     let mut parser = InputParser::new();
     let mut events = room();
@@ -99,7 +116,8 @@ fn goes_on_with_try_parse_as_vec() {
 const REPLIES: &[u8] =
     b"q\x1b[97;5:3u\x1b[97;2;65u\x1b[24;80R\x1b[?62;22c\x1b]11;rgb:1e1e/1e1e/1e1e\x1b\\\x1bP>|kitty\x1b\\\x1b[200~text\x1b[201~";
 
-// Reads these in pieces by the extended parser with one request refused. Returns the events, and how many refusals were told.
+// Reads these in pieces by the extended parser with one request refused. Returns the events, and
+// how many refusals were told.
 fn read_replies(piece: usize, number: usize) -> (Vec<ExtendedEvent>, usize) {
     let mut parser = ExtendedParser::new(Protocol::Kitty);
     let mut events = Vec::with_capacity(64);
@@ -126,7 +144,11 @@ fn goes_on_with_the_extended_parser() {
         assert_eq!((whole.len(), none), (8, 0));
         let mut number = 1;
         while read_replies(piece, number).1 > 0 {
-            assert_eq!(read_replies(piece, number).0, whole, "pieces of {piece}, request {number}");
+            assert_eq!(
+                read_replies(piece, number).0,
+                whole,
+                "pieces of {piece}, request {number}"
+            );
             number += 1;
         }
         assert!(number > 8);
@@ -136,7 +158,10 @@ fn goes_on_with_the_extended_parser() {
 // A parser with an open paste, which has the text `OPEN_TEXT` if it is ended.
 fn parser_in_a_paste() -> InputParser {
     let mut parser = InputParser::new();
-    assert_eq!(parser.parse_as_vec(b"\x1b[200~h\xc3\xb6lle \xff\xff \x1b[", true), []);
+    assert_eq!(
+        parser.parse_as_vec(b"\x1b[200~h\xc3\xb6lle \xff\xff \x1b[", true),
+        []
+    );
     parser
 }
 
@@ -154,8 +179,15 @@ fn check_end(go_on: impl Fn(&mut InputParser) -> Vec<InputEvent>) {
             break;
         }
         assert_eq!((ended, parser.flush_escape()), (Err(AllocError), None));
-        assert_eq!(go_on(&mut parser).first(), Some(&wanted), "request {number}");
-        assert_eq!((parser.waiting(), parser.try_end_paste()), (Waiting::Nothing, Ok(None)));
+        assert_eq!(
+            go_on(&mut parser).first(),
+            Some(&wanted),
+            "request {number}"
+        );
+        assert_eq!(
+            (parser.waiting(), parser.try_end_paste()),
+            (Waiting::Nothing, Ok(None))
+        );
         number += 1;
     }
     assert!(number > 2);
@@ -195,7 +227,10 @@ const PASTE_AND_ESCAPE: &[u8] = b"\x1b[200~text\x1b[201~\x1b";
 fn emits_a_refused_event_before_an_escape() {
     for mut parser in refused_parsers(PASTE_AND_ESCAPE) {
         assert_eq!(parser.flush_escape(), None);
-        assert_eq!(parser.parse_as_vec(b"", true), [InputEvent::Paste("text".to_string())]);
+        assert_eq!(
+            parser.parse_as_vec(b"", true),
+            [InputEvent::Paste("text".to_string())]
+        );
         assert_eq!(parser.waiting(), Waiting::Escape);
         assert!(parser.flush_escape().is_some());
     }
@@ -206,7 +241,10 @@ fn emits_a_refused_event_before_an_open_paste() {
     for mut parser in refused_parsers(b"\x1b[A\x1b[200~text") {
         assert_eq!(parser.try_end_paste(), Ok(None));
         assert_eq!(parser.parse_as_vec(b"", true).len(), 1);
-        assert_eq!(parser.end_paste(), Some(InputEvent::Paste("text".to_string())));
+        assert_eq!(
+            parser.end_paste(),
+            Some(InputEvent::Paste("text".to_string()))
+        );
     }
 }
 
@@ -214,7 +252,10 @@ fn emits_a_refused_event_before_an_open_paste() {
 fn forgets_a_refused_event() {
     for mut parser in refused_parsers(PASTE_AND_ESCAPE) {
         assert!(parser.reset() > 0);
-        assert_eq!((parser.parse_as_vec(b"", false), parser.waiting_len()), (Vec::new(), 0));
+        assert_eq!(
+            (parser.parse_as_vec(b"", false), parser.waiting_len()),
+            (Vec::new(), 0)
+        );
     }
 }
 
@@ -300,15 +341,19 @@ fn assert_numbered(map: &KeyMap<usize>, count: usize) {
     }
 }
 
-// Inserts a key more with each request refused in turn: the map is unchanged, the value comes back, and the key can be inserted then.
-// Returns the number of requests.
+// Inserts a key more with each request refused in turn: the map is unchanged, the value comes back,
+// and the key can be inserted then. Returns the number of requests.
 fn check_insert(count: usize) -> usize {
     let key = "a key of more bytes than are stored beside its value";
     for number in 1.. {
         let mut map = numbered_keys(count);
         let (inserted, refused) = refusing(number, || map.try_insert(key, 1000));
         if refused > 0 {
-            assert_eq!(inserted, Err(InsertError { value: 1000 }), "{count} keys, request {number}");
+            assert_eq!(
+                inserted,
+                Err(InsertError { value: 1000 }),
+                "{count} keys, request {number}"
+            );
             assert_eq!(map.lookup(key, false), Found::None);
             assert_numbered(&map, count);
             map.insert(key, 1000);
@@ -335,7 +380,10 @@ fn inserts_after_a_refusal() {
 fn replaces_and_looks_up_without_memory() {
     let mut map = numbered_keys(20);
     assert_eq!(refusing(1, || map.try_insert("7", 8)), (Ok(()), 0));
-    assert_eq!(refusing(1, || map.lookup("7", true)), (Found::Exact(1, 8), 0));
+    assert_eq!(
+        refusing(1, || map.lookup("7", true)),
+        (Found::Exact(1, 8), 0)
+    );
     assert_eq!(refusing(1, KeyMap::<usize>::new).1, 0);
 }
 
@@ -345,9 +393,14 @@ fn tells_rows_without_memory() {
     assert_eq!(parser.parse_as_vec(b"\x1b\x1b[1;5", true), []);
     let (completions, refused) = refusing(1, || parser.completions());
     assert_eq!((completions.with_alt, refused), (true, 0));
-    let all_told = || completions.rows.clone().all(|place| parser.row(place).is_some());
+    let all_told = || {
+        completions
+            .entries
+            .clone()
+            .all(|place| parser.entry(place).is_some())
+    };
     assert_eq!(refusing(1, all_told), (true, 0));
-    assert_eq!(refusing(1, || parser.row(usize::MAX)), (None, 0));
+    assert_eq!(refusing(1, || parser.entry(usize::MAX)), (None, 0));
 }
 
 // A parser of either kind, as the tests of its memory use it.
@@ -392,8 +445,8 @@ fn long_paste() -> String {
     format!("\x1b[200~{}\x1b[201~", "x".repeat(LONG))
 }
 
-// The library keeps a text no longer once it is an event, and nothing past the parser's end. Keys of as many bytes come first, so that the
-// buffer has room.
+// The library keeps a text no longer once it is an event, and nothing past the parser's end. Keys
+// of as many bytes come first, so that the buffer has room.
 fn check_freed<Parser: Session>() {
     drop(Parser::make());
     let (keys, paste) = ("x".repeat(LONG + 12), long_paste());
@@ -413,8 +466,8 @@ fn frees_memory() {
     check_freed::<ExtendedParser>();
 }
 
-// A parser that read a long paste gives its memory back, but for the room that is asked for, as far as there is that room. What is buffered
-// stays.
+// A parser that read a long paste gives its memory back, but for the room that is asked for, as far
+// as there is that room. What is buffered stays.
 fn check_shrunk<Parser: Session>() {
     drop(Parser::make());
     let paste = long_paste() + "\x1b[1;5";
@@ -431,7 +484,11 @@ fn check_shrunk<Parser: Session>() {
         (LONG, 0..1024),
     ] {
         parser.shrink_to(kept);
-        assert!(wanted.contains(&(in_use() - before)), "{} for {kept}", in_use() - before);
+        assert!(
+            wanted.contains(&(in_use() - before)),
+            "{} for {kept}",
+            in_use() - before
+        );
     }
     assert_eq!((parser.read(b"A"), parser.read(paste.as_bytes())), (1, 1));
 }
@@ -447,7 +504,10 @@ fn shrinks() {
 fn shrinks_behind_a_refused_event() {
     for mut parser in refused_parsers(PASTE_AND_ESCAPE) {
         parser.shrink_to(0);
-        assert_eq!(parser.parse_as_vec(b"", true), [InputEvent::Paste("text".to_string())]);
+        assert_eq!(
+            parser.parse_as_vec(b"", true),
+            [InputEvent::Paste("text".to_string())]
+        );
         assert_eq!(parser.waiting(), Waiting::Escape);
     }
 }
@@ -460,5 +520,8 @@ fn panics_if_refused() {
     let mut parser = parser_in_a_paste();
     let end = std::panic::AssertUnwindSafe(|| parser.end_paste());
     assert!(refusing(1, || std::panic::catch_unwind(end)).0.is_err());
-    assert_eq!(parser.end_paste(), Some(InputEvent::Paste(OPEN_TEXT.to_string())));
+    assert_eq!(
+        parser.end_paste(),
+        Some(InputEvent::Paste(OPEN_TEXT.to_string()))
+    );
 }

@@ -1,7 +1,8 @@
-// All parsers of a process share one sequence table, which is made with the first. There is one test, since a process has one first parser.
+// All parsers of a process share one sequence table, which is made with the first. There is one
+// test, since a process has one first parser.
 mod malloc;
 
-use hedrugal::extended::{ExtendedEvent, ExtendedParser, Rows};
+use hedrugal::extended::{ExtendedEvent, ExtendedParser, Protocol};
 use hedrugal::input::{AllocError, InputEvent, InputParser, KeyCode, KeyEvent, Modifiers};
 use malloc::{in_use, refusing};
 
@@ -11,8 +12,9 @@ const PARSERS: usize = 1000;
 const TABLE: usize = 100_000;
 const PARSER: usize = 1024;
 
-// Each request of the first parser is refused in turn, of one kind and of the other. Nothing is left of it, and the next call tries again.
-// The last request is the parser's own: then the table is there.
+// Each request of the first parser is refused in turn, of one kind and of the other. Nothing is
+// left of it, and the next call tries again. The last request is the parser's own: then the table
+// is there.
 fn refuse_the_first() {
     let start = in_use();
     for number in 1.. {
@@ -23,12 +25,20 @@ fn refuse_the_first() {
                 ExtendedParser::try_new(Protocol::Legacy).err()
             }
         });
-        assert_eq!((refusal, refused), (Some(AllocError), 1), "request {number}");
+        assert_eq!(
+            (refusal, refused),
+            (Some(AllocError), 1),
+            "request {number}"
+        );
         if in_use() != start {
             break;
         }
     }
-    assert!((TABLE..2 * TABLE).contains(&(in_use() - start)), "{} bytes", in_use() - start);
+    assert!(
+        (TABLE..2 * TABLE).contains(&(in_use() - start)),
+        "{} bytes",
+        in_use() - start
+    );
 }
 
 // A key as it is read by each kind of parser.
@@ -39,17 +49,27 @@ fn up() -> InputEvent {
     })
 }
 
-// Many parsers of both kinds, in place of as many tables, read the same; and the last of them reads when the others are gone.
+// Many parsers of both kinds, in place of as many tables, read the same; and the last of them reads
+// when the others are gone.
 fn share_the_table() {
     let start = in_use();
     let mut parsers: Vec<_> = (0..PARSERS).map(|_| InputParser::new()).collect();
-    let mut extended: Vec<_> = (0..PARSERS).map(|_| ExtendedParser::new(Protocol::Legacy)).collect();
-    assert!(in_use() - start < 2 * PARSERS * PARSER, "{} bytes", in_use() - start);
+    let mut extended: Vec<_> = (0..PARSERS)
+        .map(|_| ExtendedParser::new(Protocol::Legacy))
+        .collect();
+    assert!(
+        in_use() - start < 2 * PARSERS * PARSER,
+        "{} bytes",
+        in_use() - start
+    );
     while let Some(mut parser) = parsers.pop() {
         assert_eq!(parser.parse_as_vec(b"\x1b[1;5A", true), [up()]);
     }
     for mut parser in extended.drain(..) {
-        assert_eq!(parser.parse_as_vec(b"\x1b[1;5A", true), [ExtendedEvent::Input(up())]);
+        assert_eq!(
+            parser.parse_as_vec(b"\x1b[1;5A", true),
+            [ExtendedEvent::Input(up())]
+        );
     }
     drop((parsers, extended));
     assert_eq!(in_use(), start);

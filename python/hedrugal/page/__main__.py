@@ -2,8 +2,8 @@
 
     python3 -m hedrugal.page [--port N]
 
-It prints the page's address. Open it in a browser. N is a port of 127.0.0.1, and a free one if it is left out. No other machine reaches
-the server. It ends at Ctrl-C."""
+It prints the page's address. Open it in a browser. N is a port of 127.0.0.1, and a free one if it
+is left out. No other machine reaches the server. It ends at Ctrl-C."""
 from __future__ import annotations
 
 import sys
@@ -11,7 +11,8 @@ from typing import List, Optional
 
 
 def port_of(words: List[str]) -> Optional[int]:
-    """The port that the words name, 0 if they name none. None if they can't be read: then it said why."""
+    """The port that the words name, 0 if they name none. None if they can't be read: then it said
+    why."""
     if not words:
         return 0
     if words[0] != "--port" or len(words) > 2:
@@ -20,7 +21,10 @@ def port_of(words: List[str]) -> Optional[int]:
         return None
     text = words[1] if len(words) > 1 else ""
     if not (text.isascii() and text.isdigit() and len(text) < 6 and 0 < int(text) < 65536):
-        print("hedrugal.page: --port wants a number from 1 to 65535 after it; --help says more", file=sys.stderr)
+        print(
+            "hedrugal.page: --port wants a number from 1 to 65535 after it; --help says more",
+            file=sys.stderr,
+        )
         return None
     return int(text)
 

@@ -1,5 +1,5 @@
-"""What the page shows, as values for JSON. The library alone decides what bytes mean: this module asks it, and names its answers as the
-program keyshow does."""
+"""What the page shows, as values for JSON. The library alone decides what bytes mean: this module
+asks it, and names its answers as the program keyshow does."""
 from __future__ import annotations
 
 import itertools
@@ -13,6 +13,7 @@ from hedrugal import (
     CursorPosition,
     Dcs,
     EncodeError,
+    Entry,
     ExtendedEvent,
     ExtendedParser,
     FocusGained,
@@ -30,16 +31,16 @@ from hedrugal import (
     MouseEvent,
     Osc,
     Paste,
+    Protocol,
     ReportedKey,
     Resize,
-    Row,
-    Rows,
     Waiting,
     __version__,
     encode,
 )
 
-# The items that one answer lists, the reads of one byte that it lists, and the events that it lists of a read.
+# The items that one answer lists, the reads of one byte that it lists, and the events that it lists
+# of a read.
 ITEMS, STEPS, LINES = 300, 300, 40
 # How many bytes are read in pieces too, to compare the events.
 COMPARED = 1 << 14
@@ -51,23 +52,30 @@ NAMED = 6
 # A mouse report, whose ends are tried on what stays buffered.
 REPORT = b"\x1b[<0;3;4M"
 
-# What may come after the bytes: more bytes, nothing (a flush), or nothing and the end of an open paste.
+# What may come after the bytes: more bytes, nothing (a flush), or nothing and the end of an open
+# paste.
 ENDS = ("more", "flush", "paste")
 
 AnyParser = Union[InputParser, ExtendedParser]
 
-# How the bytes are read, and what makes the parser: by the sequence table alone, with replies and reports, for Kitty's keyboard protocol.
+# How the bytes are read, and what makes the parser: by the sequence table alone, with replies and
+# reports, for Kitty's keyboard protocol.
 READINGS: Dict[str, Callable[[], AnyParser]] = {
     "table": InputParser,
     "extended": lambda: ExtendedParser(Protocol.LEGACY),
     "kitty": lambda: ExtendedParser(Protocol.KITTY),
 }
 
-# What bytes may begin that begin no row of the sequence table, by the event that they become; and what may end them.
+# What bytes may begin that begin no entry of the sequence table, by the event that they become; and
+# what may end them.
 BEGUN = {Csi: "csi", Osc: "osc", Dcs: "dcs", Apc: "apc", KeyReport: "report"}
 ENDINGS = (b"\\", b"\x1b\\", b"\a", b"A")
 
 Json = Dict[str, Any]
+
+
+# What keyshow calls the keys: UpArrow is KeyCode.UP_ARROW.
+KEY_NAMES = {code: code.name.title().replace("_", "") for code in KeyCode}
 
 
 class Wrong(ValueError):
@@ -75,17 +83,25 @@ class Wrong(ValueError):
 
 
 def key_name(key: ReportedKey) -> str:
-    """The name of a key: `U+0041` for a character, `F5`, `UpArrow`, `functional 57414` for one without a name."""
+    """The name of a key: `U+0041` for a character, `F5`, `UpArrow`, `functional 57414` for one
+    without a name."""
     if isinstance(key, Function):
         return f"F{key.number}"
     if isinstance(key, KeyCode):
-        return key.name
+        return KEY_NAMES[key]
     return f"U+{ord(key):04X}" if isinstance(key, str) else f"functional {key}"
 
 
 def set_name(flags: Any) -> str:
     """The names of the flags of a set."""
-    return "+".join(str(flag.name) for flag in type(flags) if flag.value and flag.value & flags.value) or "NONE"
+    return (
+        "+".join(str(flag.name) for flag in type(flags) if flag.value and flag.value & flags.value)
+        or "NONE"
+    )
+
+
+def waiting_name(kind: Waiting) -> str:
+    return kind.name.title()
 
 
 def key_line(key: Key, modifiers: Modifiers) -> str:
@@ -98,7 +114,7 @@ def text_line(name: str, text: bytes) -> str:
 
 
 def report_line(report: KeyReport) -> str:
-    parts = ["report", key_name(report.key), set_name(report.modifiers), report.action.name.lower()]
+    parts = ["report", key_name(report.key), set_name(report.modifiers), report.kind.name.lower()]
     parts += [f"shifted {key_name(report.shifted)}"] if report.shifted is not None else []
     parts += [f"base {key_name(report.base)}"] if report.base is not None else []
     parts += [text_line("text", report.text.encode())] if report.text else []
@@ -112,7 +128,7 @@ EXTENDED_LINES: Dict[type, Callable[[Any], str]] = {
     FocusLost: lambda _: "focus lost",
     CursorPosition: lambda it: f"cursor {it.row} {it.column}",
     Resize: lambda it: f"resize {it.rows} {it.columns} {it.height} {it.width}",
-    KeyboardFlags: lambda it: f"keyboard flags {it.flags.value}",
+    KeyboardFlags: lambda it: f"keyboard flags {it.flags.value | it.unnamed}",
     Csi: lambda it: text_line("csi", it.data),
     Osc: lambda it: text_line("osc", it.data),
     Dcs: lambda it: text_line("dcs", it.data),
@@ -121,7 +137,8 @@ EXTENDED_LINES: Dict[type, Callable[[Any], str]] = {
 
 
 def line(event: ExtendedEvent) -> str:
-    """The line that keyshow prints for an event, or else the one that hedrugal-keys shows. A long text is cut."""
+    """The line that keyshow prints for an event, or else the one that hedrugal-keys shows. A long
+    text is cut."""
     if isinstance(event, KeyEvent):
         return key_line(event.key, event.modifiers)
     if isinstance(event, MouseEvent):
@@ -132,14 +149,19 @@ def line(event: ExtendedEvent) -> str:
 
 
 def glyphs(event: ExtendedEvent) -> str:
-    """The character of a key, or the beginning of the text that an event brings, as far as they can be printed."""
+    """The character of a key, or the beginning of the text that an event brings, as far as they can
+    be printed."""
     if isinstance(event, KeyReport) and event.text:
         return printed(event.text)
     if isinstance(event, (KeyEvent, KeyReport)):
         return event.key if isinstance(event.key, str) and event.key.isprintable() else ""
     if isinstance(event, Paste):
         return printed(event.text)
-    return printed(event.data.decode(errors="replace")) if isinstance(event, (Csi, Osc, Dcs, Apc)) else ""
+    return (
+        printed(event.data.decode(errors="replace"))
+        if isinstance(event, (Csi, Osc, Dcs, Apc))
+        else ""
+    )
 
 
 def printed(text: str) -> str:
@@ -185,9 +207,12 @@ def lines(data: bytes, reading: str) -> List[str]:
         return [line(event) for event in parser.parse(data, False)]
 
 
-def became(rest: bytes, ends: Iterable[bytes], kind: Tuple[type, ...], reading: str) -> Optional[Tuple[bytes, ExtendedEvent]]:
-    """The rest and one of these ends, if the library reads an event of this kind from the rest on, and the event. None if it does so with
-    none of the ends. Before the event there may be an Escape key, and nothing else."""
+def became(
+    rest: bytes, ends: Iterable[bytes], kind: Tuple[type, ...], reading: str
+) -> Optional[Tuple[bytes, ExtendedEvent]]:
+    """The rest and one of these ends, if the library reads an event of this kind from the rest on,
+    and the event. None if it does so with none of the ends. Before the event there may be an Escape
+    key, and nothing else."""
     with READINGS[reading]() as parser:
         for end in ends:
             parser.feed(rest + end)
@@ -199,7 +224,7 @@ def became(rest: bytes, ends: Iterable[bytes], kind: Tuple[type, ...], reading: 
 
 
 def completions(rest: bytes) -> Completions:
-    """The rows of the sequence table that would complete these bytes."""
+    """The entries of the sequence table that would complete these bytes."""
     with InputParser() as parser:
         parser.feed(rest)
         return parser.completions()
@@ -207,14 +232,17 @@ def completions(rest: bytes) -> Completions:
 
 def key_of(name: str) -> Key:
     """The key that has a name."""
-    character, function = re.fullmatch(r"U\+([0-9A-F]{4,6})", name), re.fullmatch(r"F([0-9]{1,3})", name)
+    character, function = re.fullmatch(r"U\+([0-9A-F]{4,6})", name), re.fullmatch(
+        r"F([0-9]{1,3})", name
+    )
     if function:
         return Function(int(function[1]))
     if character and int(character[1], 16) < 0x110000:
         return chr(int(character[1], 16))
-    if name not in KeyCode.__members__:
-        raise Wrong(f"no key is called {name!r}")
-    return KeyCode[name]
+    for code, known in KEY_NAMES.items():
+        if known == name:
+            return code
+    raise Wrong(f"no key is called {name!r}")
 
 
 def modifiers_of(names: str) -> Modifiers:
@@ -227,10 +255,11 @@ def modifiers_of(names: str) -> Modifiers:
     return held
 
 
-# Each mode of a terminal in which the text of a key may be another, in the order in which `texts` lists them.
+# Each mode of a terminal in which the text of a key may be another, in the order in which `texts`
+# lists them.
 MODES = [
     KeyCodeEncodeModes(encoding, cursor, newline, level)
-    for encoding in (KeyboardEncoding.Xterm, KeyboardEncoding.CsiU)
+    for encoding in (KeyboardEncoding.XTERM, KeyboardEncoding.CSI_U)
     for cursor in (False, True)
     for newline in (False, True)
     for level in (None, 1, 2)
@@ -238,7 +267,8 @@ MODES = [
 
 
 def texts(name: str, names: str) -> Json:
-    """The bytes that a terminal sends for a key in each of MODES, and what the library reads in them."""
+    """The bytes that a terminal sends for a key in each of MODES, and what the library reads in
+    them."""
     key, modifiers = key_of(name), modifiers_of(names)
     try:
         sent = [encode(key, modifiers, modes).hex() for modes in MODES]
@@ -253,15 +283,38 @@ def texts(name: str, names: str) -> Json:
 
 
 # The keys that are named first.
-KNOWN: List[Key] = [KeyCode.UpArrow, KeyCode.DownArrow, KeyCode.RightArrow, KeyCode.LeftArrow, KeyCode.Home, KeyCode.End, KeyCode.Delete]
-KNOWN += [KeyCode.Insert, KeyCode.PageUp, KeyCode.PageDown, KeyCode.Tab, KeyCode.Enter, KeyCode.Backspace, KeyCode.Escape]
+KNOWN: List[Key] = [
+    KeyCode.UP_ARROW,
+    KeyCode.DOWN_ARROW,
+    KeyCode.RIGHT_ARROW,
+    KeyCode.LEFT_ARROW,
+    KeyCode.HOME,
+    KeyCode.END,
+    KeyCode.DELETE,
+]
+KNOWN += [
+    KeyCode.INSERT,
+    KeyCode.PAGE_UP,
+    KeyCode.PAGE_DOWN,
+    KeyCode.TAB,
+    KeyCode.ENTER,
+    KeyCode.BACKSPACE,
+    KeyCode.ESCAPE,
+]
 KNOWN += [Function(number) for number in range(1, 25)]
 
 
-def rank(row: Row) -> Tuple[bool, int, int, int, bytes]:
-    """The order in which rows are named: known keys with few modifiers first, of these the shortest, and characters last."""
-    place = KNOWN.index(row.key) if row.key in KNOWN else len(KNOWN)
-    return isinstance(row.key, str), place, bin(row.modifiers.value).count("1"), len(row.bytes), row.bytes
+def rank(entry: Entry) -> Tuple[bool, int, int, int, bytes]:
+    """The order in which entries are named: known keys with few modifiers first, of these the
+    shortest, and characters last."""
+    place = KNOWN.index(entry.key) if entry.key in KNOWN else len(KNOWN)
+    return (
+        isinstance(entry.key, str),
+        place,
+        bin(entry.modifiers.value).count("1"),
+        len(entry.bytes),
+        entry.bytes,
+    )
 
 
 class Meanings:
@@ -269,22 +322,29 @@ class Meanings:
 
     def __init__(self) -> None:
         with InputParser() as parser:
-            self.rows: List[Row] = list(parser.rows())
-        self.start = next(row.bytes for row in self.rows if row.key is KeyCode.InternalPasteStart)
-        self.end = next(row.bytes for row in self.rows if row.key is KeyCode.InternalPasteEnd)
+            self.entries: List[Entry] = list(parser.entries())
+        self.start = next(
+            entry.bytes for entry in self.entries if entry.key is KeyCode.INTERNAL_PASTE_START
+        )
+        self.end = next(
+            entry.bytes for entry in self.entries if entry.key is KeyCode.INTERNAL_PASTE_END
+        )
 
     def table(self) -> Json:
-        """The rows, and the names of all keys that can be asked for."""
-        keys = [code.name for code in KeyCode if not code.name.startswith("Internal")]
+        """The entries, and the names of all keys that can be asked for."""
+        keys = [name for name in KEY_NAMES.values() if not name.startswith("Internal")]
         return {
             "version": __version__,
             "keys": keys + [f"F{number}" for number in range(1, 25)],
             "modifiers": ["SHIFT", "ALT", "CTRL", "SUPER"],
-            "rows": [[row.bytes.hex(), key_name(row.key), set_name(row.modifiers)] for row in self.rows],
+            "rows": [
+                [it.bytes.hex(), key_name(it.key), set_name(it.modifiers)] for it in self.entries
+            ],
         }
 
     def read(self, data: bytes, reading: str, end: str, first: int) -> Json:
-        """The items of the bytes from the first one on, how many there are, and what stays buffered."""
+        """The items of the bytes from the first one on, how many there are, and what stays
+        buffered."""
         with READINGS[reading]() as parser:
             parser.feed(data)
             count = at = 0
@@ -306,35 +366,51 @@ class Meanings:
                     listed.append([length, line(paste), glyphs(paste)])
                 count += 1
             waits = self.waits(parser, data, reading)
-        return {"bytes": len(data), "events": count, "first": first, "at": at, "items": listed, "flushed": flushed, "waits": waits}
+        return {
+            "bytes": len(data),
+            "events": count,
+            "first": first,
+            "at": at,
+            "items": listed,
+            "flushed": flushed,
+            "waits": waits,
+        }
 
     def waits(self, parser: AnyParser, data: bytes, reading: str) -> Optional[Json]:
-        """What stays buffered, what it may become, and what a flush makes of it. The flush is made here."""
+        """What stays buffered, what it may become, and what a flush makes of it. The flush is made
+        here."""
         kind, length = parser.waiting, parser.waiting_len
-        if kind is Waiting.Nothing:
+        if kind is Waiting.NOTHING:
             return None
-        told: Json = {"kind": kind.name, "length": length}
-        if kind is Waiting.Paste:
+        told: Json = {"kind": waiting_name(kind), "length": length}
+        if kind is Waiting.PASTE:
             paste = parser.end_paste()
             ended = [line(paste)] if paste else []
-            told.update(text=length - len(self.start), start=self.start.hex(), end=self.end.hex(), flushed=ended, emits=len(ended))
+            told.update(
+                text=length - len(self.start),
+                start=self.start.hex(),
+                end=self.end.hex(),
+                flushed=ended,
+                emits=len(ended),
+            )
             return told
         rest = data[len(data) - length :]
-        if kind is not Waiting.Character:
+        if kind is not Waiting.CHARACTER:
             told.update(self.may_become(rest, reading))
-        if kind is Waiting.Escape:
+        if kind is Waiting.ESCAPE:
             told["alt"] = [(rest + b"q").hex(), *lines(rest + b"q", reading)]
         flushed = [line(event) for _, event in itertools.islice(items(parser, False), LINES)]
         told.update(flushed=flushed, emits=len(flushed) + skip(parser, False, length))
         return told
 
     def may_become(self, rest: bytes, reading: str) -> Json:
-        """What the beginning of a sequence may become: rows of the table, of which some are named, what else it begins, a mouse report."""
+        """What the beginning of a sequence may become: entries of the table, of which some are
+        named, what else it begins, a mouse report."""
         found = completions(rest)
         begun = became(rest, ENDINGS, tuple(BEGUN), reading)
         mouse = became(rest, (REPORT[at:] for at in range(len(REPORT))), (MouseEvent,), reading)
         return {
-            "count": len(found.rows),
+            "count": len(found.entries),
             "with_alt": found.with_alt,
             "named": self.named(found, rest, reading),
             "begins": begun and BEGUN[type(begun[1])],
@@ -342,19 +418,24 @@ class Meanings:
         }
 
     def named(self, found: Completions, rest: bytes, reading: str) -> List[List[str]]:
-        """Bytes that complete the rest, and what they are read as: of some of these rows, each of another key. First are those that most
-        readers know."""
-        chosen: Dict[Key, Row] = {}
-        for row in sorted(self.rows[found.rows.start : found.rows.stop], key=rank):
-            chosen.setdefault(row.key, row)
+        """Bytes that complete the rest, and what they are read as: of some of these entries, each
+        of another key. First are those that most readers know."""
+        chosen: Dict[Key, Entry] = {}
+        for entry in sorted(self.entries[found.entries.start : found.entries.stop], key=rank):
+            chosen.setdefault(entry.key, entry)
             if len(chosen) == NAMED:
                 break
         before, alt = (rest[:1], Modifiers.ALT) if found.with_alt else (b"", Modifiers.NONE)
         told = []
-        for row in chosen.values():
-            data = before + row.bytes
+        for entry in chosen.values():
+            data = before + entry.bytes
             # The start of a paste is no event.
-            told.append([data.hex(), *(lines(data, reading) or [key_line(row.key, row.modifiers | alt)])])
+            told.append(
+                [
+                    data.hex(),
+                    *(lines(data, reading) or [key_line(entry.key, entry.modifiers | alt)]),
+                ]
+            )
         return told
 
     def reads(self, data: bytes, reading: str, end: str) -> Json:
@@ -373,20 +454,37 @@ class Meanings:
             last = finish(parser, end)
             events += last
         flushed = [line(event) for event in last] if len(steps) == len(head) else []
-        return {"bytes": len(head), "events": len(events), "same": events == wanted, "steps": steps, "flushed": flushed}
+        return {
+            "bytes": len(head),
+            "events": len(events),
+            "same": events == wanted,
+            "steps": steps,
+            "flushed": flushed,
+        }
 
     def cut(self, data: bytes, reading: str, end: str, at: int) -> Json:
-        """The same bytes in two reads, the first of so many bytes, and whether the events are those of one read."""
+        """The same bytes in two reads, the first of so many bytes, and whether the events are those
+        of one read."""
         head, end = self.head(data, end)
         at = min(at, len(head))
         with READINGS[reading]() as parser:
             wanted = [*parser.parse(head), *finish(parser, end)]
             parser.reset()
             first = [*parser.parse(head[:at])]
-            kind, length = parser.waiting.name, parser.waiting_len
+            kind, length = waiting_name(parser.waiting), parser.waiting_len
             second = [*parser.parse(head[at:]), *finish(parser, end)]
-        reads = [{"events": len(it), "lines": [line(event) for event in it[:LINES]]} for it in (first, second)]
-        return {"bytes": len(head), "at": at, "same": first + second == wanted, "reads": reads, "kind": kind, "length": length}
+        reads = [
+            {"events": len(it), "lines": [line(event) for event in it[:LINES]]}
+            for it in (first, second)
+        ]
+        return {
+            "bytes": len(head),
+            "at": at,
+            "same": first + second == wanted,
+            "reads": reads,
+            "kind": kind,
+            "length": length,
+        }
 
     def head(self, data: bytes, end: str) -> Tuple[bytes, str]:
         """The bytes that are compared. If they are not all, more bytes come after them."""

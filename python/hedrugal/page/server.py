@@ -1,8 +1,9 @@
-"""The server of the page. It is reached from this machine alone, by its own page alone, and serves nothing but the page's files and the
-answers of `meanings`.
+"""The server of the page. It is reached from this machine alone, by its own page alone, and serves
+nothing but the page's files and the answers of `meanings`.
 
-A request is answered only if its Host is this server's address, so that no other name can be bound to the address. Its Origin, if there is
-one, has to be the page's. No file is named by a request: the four files are read once."""
+A request is answered only if its Host is this server's address, so that no other name can be bound
+to the address. Its Origin, if there is one, has to be the page's. No file is named by a request:
+the four files are read once."""
 from __future__ import annotations
 
 import json
@@ -19,7 +20,8 @@ from urllib.parse import parse_qs, urlsplit
 from .meanings import ENDS, READINGS, Meanings, Wrong, texts
 
 ADDRESS = "127.0.0.1"
-# The bytes that a request may have, and the bytes and the seconds for which one that was refused is read on.
+# The bytes that a request may have, and the bytes and the seconds for which one that was refused is
+# read on.
 MOST, MOST_IGNORED, IGNORING = 1 << 20, 1 << 26, 2
 # The requests that are computed at one time.
 AT_ONCE = 4
@@ -33,11 +35,19 @@ FILES = {
 }
 
 # The answers, by path, and the method by which each is asked for.
-ANSWERS = {"/api/table": "GET", "/api/encode": "GET", "/api/read": "POST", "/api/reads": "POST", "/api/cut": "POST"}
+ANSWERS = {
+    "/api/table": "GET",
+    "/api/encode": "GET",
+    "/api/read": "POST",
+    "/api/reads": "POST",
+    "/api/cut": "POST",
+}
 
-# What the browser may do with the page: load the files above, ask this server, and run no other script.
+# What the browser may do with the page: load the files above, ask this server, and run no other
+# script.
 POLICY = (
-    "default-src 'none'; script-src 'self'; style-src 'self'; img-src 'self'; connect-src 'self'; base-uri 'none'; form-action 'none'; "
+    "default-src 'none'; script-src 'self'; style-src 'self'; img-src 'self'; "
+    "connect-src 'self'; base-uri 'none'; form-action 'none'; "
     "frame-ancestors 'none'; require-trusted-types-for 'script'; trusted-types 'none'"
 )
 
@@ -57,7 +67,11 @@ class Refused(Exception):
 
     def __init__(self, status: int, why: str, **headers: str) -> None:
         super().__init__(why)
-        self.status, self.why, self.headers = status, why, {name.title(): value for name, value in headers.items()}
+        self.status, self.why, self.headers = (
+            status,
+            why,
+            {name.title(): value for name, value in headers.items()},
+        )
 
 
 class Server(ThreadingHTTPServer):
@@ -69,7 +83,10 @@ class Server(ThreadingHTTPServer):
         self.meanings = Meanings()
         self.table = as_json(self.meanings.table())
         folder = os.path.dirname(os.path.abspath(__file__))
-        self.files = {path: (content(os.path.join(folder, name)), kind) for path, (name, kind) in FILES.items()}
+        self.files = {
+            path: (content(os.path.join(folder, name)), kind)
+            for path, (name, kind) in FILES.items()
+        }
         self.turn = threading.Semaphore(AT_ONCE)
         super().__init__((ADDRESS, port), Handler)
         self.hosts = [f"{name}:{self.port}" for name in (ADDRESS, "localhost")]
@@ -146,9 +163,19 @@ class Handler(BaseHTTPRequestHandler):
             raise Refused(405, f"this path is asked by {ANSWERS[path]}", allow=ANSWERS[path])
         data = self.body()
         try:
-            named = parse_qs(query, keep_blank_values=True, strict_parsing=bool(query), max_num_fields=4, errors="strict")
+            named = parse_qs(
+                query,
+                keep_blank_values=True,
+                strict_parsing=bool(query),
+                max_num_fields=4,
+                errors="strict",
+            )
             with self.server.turn:
-                told = self.server.table if path == "/api/table" else as_json(self.told(path, named, data))
+                told = (
+                    self.server.table
+                    if path == "/api/table"
+                    else as_json(self.told(path, named, data))
+                )
         except Wrong as wrong:
             raise Refused(400, str(wrong)) from None
         except ValueError:
@@ -195,9 +222,15 @@ class Handler(BaseHTTPRequestHandler):
             raise Refused(400, "this path takes no body")
 
     def refuse(self, refused: Refused) -> None:
-        """Says why, and ends the connection. What else the sender sends is read for a moment, since it may get no answer otherwise."""
+        """Says why, and ends the connection. What else the sender sends is read for a moment, since
+        it may get no answer otherwise."""
         self.close_connection = True
-        self.reply(refused.status, f"{refused.why}\n".encode(), "text/plain; charset=utf-8", {**refused.headers, "Connection": "close"})
+        self.reply(
+            refused.status,
+            f"{refused.why}\n".encode(),
+            "text/plain; charset=utf-8",
+            {**refused.headers, "Connection": "close"},
+        )
         end, left = time.monotonic() + IGNORING, MOST_IGNORED
         self.connection.shutdown(socket.SHUT_WR)
         self.connection.settimeout(IGNORING)
@@ -207,11 +240,15 @@ class Handler(BaseHTTPRequestHandler):
                 break
             left -= read
 
-    def send_error(self, code: int, message: Optional[str] = None, explain: Optional[str] = None) -> None:
+    def send_error(
+        self, code: int, message: Optional[str] = None, explain: Optional[str] = None
+    ) -> None:
         """What http.server itself refuses, as a line too long."""
         self.refuse(Refused(int(code), "the request can't be read"))
 
-    def reply(self, status: int, data: bytes, kind: str, headers: Optional[Dict[str, str]] = None) -> None:
+    def reply(
+        self, status: int, data: bytes, kind: str, headers: Optional[Dict[str, str]] = None
+    ) -> None:
         self.send_response(status)
         sizes = {"Content-Type": kind, "Content-Length": str(len(data))}
         for name, value in {**HEADERS, **sizes, **(headers or {})}.items():
@@ -230,7 +267,8 @@ def number(words: Dict[str, str], name: str) -> int:
 
 
 def one_of(names: Iterable[str], words: Dict[str, str], name: str) -> str:
-    """The one of these names that a word of the query has, the first of them if there is no such word."""
+    """The one of these names that a word of the query has, the first of them if there is no such
+    word."""
     known = [*names]
     word = words.get(name, known[0])
     if word not in known:

@@ -1,12 +1,15 @@
-//! Asks a terminal where its cursor is, for its background colour, and for the flags of Kitty's keyboard protocol, and prints the replies.
+//! Asks a terminal where its cursor is, for its background colour, and for the flags of Kitty's
+//! keyboard protocol, and prints the replies.
 //!
 //!     HEDRUGAL_LIBRARY=DIR cargo run --example ask
 //!
-//! A terminal leaves a question without a reply if it doesn't know it. So the last question is for its attributes (DA1), which
-//! nearly every terminal answers: once that reply came, no other will. The program waits for a second at most.
+//! A terminal leaves a question without a reply if it doesn't know it. So the last question is for
+//! its attributes (DA1), which nearly every terminal answers: once that reply came, no other will.
+//! The program waits for a second at most.
 //!
-//! What is typed meanwhile comes as events like any other. This program counts them; an editor would handle them. The terminal is restored
-//! whenever the program ends, also by SIGHUP, SIGINT, SIGQUIT and SIGTERM. A SIGTSTP stops it once the terminal is restored.
+//! What is typed meanwhile comes as events like any other. This program counts them; an editor
+//! would handle them. The terminal is restored whenever the program ends, also by SIGHUP, SIGINT,
+//! SIGQUIT and SIGTERM. A SIGTSTP stops it once the terminal is restored.
 #[allow(dead_code)]
 #[path = "../live/terminal.rs"]
 mod terminal;
@@ -14,7 +17,7 @@ mod terminal;
 #[path = "../live/unix.rs"]
 mod unix;
 
-use hedrugal::extended::{ExtendedEvent, ExtendedParser, Rows};
+use hedrugal::extended::{ExtendedEvent, ExtendedParser, Protocol};
 use std::fs::File;
 use std::io::{self, Read, Write};
 use std::os::fd::AsRawFd;
@@ -41,8 +44,12 @@ struct Replies {
 impl Replies {
     fn note(&mut self, event: ExtendedEvent) {
         let line = match event {
-            ExtendedEvent::CursorPosition { row, column } => format!("cursor in row {row}, column {column}"),
-            ExtendedEvent::Osc(bytes) if bytes.starts_with(b"11;") => format!("background {}", bytes[3..].escape_ascii()),
+            ExtendedEvent::CursorPosition { row, column } => {
+                format!("cursor in row {row}, column {column}")
+            }
+            ExtendedEvent::Osc(bytes) if bytes.starts_with(b"11;") => {
+                format!("background {}", bytes[3..].escape_ascii())
+            }
             ExtendedEvent::KeyboardFlags(flags) => format!("keyboard flags {flags}"),
             ExtendedEvent::Csi(bytes) if bytes.starts_with(b"?") && bytes.ends_with(b"c") => {
                 self.is_whole = true;
@@ -67,7 +74,8 @@ impl Replies {
     }
 }
 
-/// Waits for input. Returns false once there is no reason to: the time is up, or a signal ends the program.
+/// Waits for input. Returns false once there is no reason to: the time is up, or a signal ends the
+/// program.
 fn has_input(input: &File, wake: &mut UnixStream, end: Instant) -> io::Result<bool> {
     loop {
         let left = end.saturating_duration_since(Instant::now());
@@ -87,7 +95,11 @@ fn has_input(input: &File, wake: &mut UnixStream, end: Instant) -> io::Result<bo
 }
 
 /// Reads until the last reply came, the time is up, the input ended, or a signal ends the program.
-fn read_replies(input: &mut File, wake: &mut UnixStream, parser: &mut ExtendedParser) -> io::Result<Replies> {
+fn read_replies(
+    input: &mut File,
+    wake: &mut UnixStream,
+    parser: &mut ExtendedParser,
+) -> io::Result<Replies> {
     let end = Instant::now() + LONGEST_WAIT;
     let mut replies = Replies::default();
     while !replies.is_whole && has_input(input, wake, end)? {
@@ -97,7 +109,9 @@ fn read_replies(input: &mut File, wake: &mut UnixStream, parser: &mut ExtendedPa
             break;
         }
         let note = |event| replies.note(event);
-        parser.try_parse(&bytes[..count], note, true).map_err(io::Error::other)?;
+        parser
+            .try_parse(&bytes[..count], note, true)
+            .map_err(io::Error::other)?;
     }
     // A beginning that nothing continued was typed.
     parser

@@ -2,12 +2,13 @@
 //!
 //!     HEDRUGAL_LIBRARY=DIR cargo run --example live [-- --mouse]
 //!
-//! Bracketed paste is always on, or pasted text would count as typed. --mouse switches mouse reports on too, which keep most terminals
-//! from selecting text. A new size of the terminal is printed as well.
+//! Bracketed paste is always on, or pasted text would count as typed. --mouse switches mouse
+//! reports on too, which keep most terminals from selecting text. A new size of the terminal is
+//! printed as well.
 //!
-//! q ends the program, and so do the end of the input, SIGHUP, SIGINT, SIGQUIT and SIGTERM. ^C, ^Z and ^\ are keys like any other, as in an
-//! editor; SIGTSTP from another process stops it until SIGCONT. The terminal is restored whenever it ends or stops in one of
-//! these ways.
+//! q ends the program, and so do the end of the input, SIGHUP, SIGINT, SIGQUIT and SIGTERM. ^C, ^Z
+//! and ^\ are keys like any other, as in an editor; SIGTSTP from another process stops it until
+//! SIGCONT. The terminal is restored whenever it ends or stops in one of these ways.
 mod terminal;
 mod unix;
 
@@ -25,7 +26,11 @@ const SEQUENCE_MS: i32 = 1000;
 const LONGEST_PASTE: usize = 1 << 20;
 
 fn with_modifiers(mut line: String, modifiers: Modifiers) -> String {
-    for (flag, name) in [(Modifiers::SHIFT, " shift"), (Modifiers::ALT, " alt"), (Modifiers::CTRL, " ctrl")] {
+    for (flag, name) in [
+        (Modifiers::SHIFT, " shift"),
+        (Modifiers::ALT, " alt"),
+        (Modifiers::CTRL, " ctrl"),
+    ] {
         if modifiers.contains(flag) {
             line.push_str(name);
         }
@@ -43,7 +48,12 @@ fn key_line(event: &KeyEvent) -> String {
 }
 
 fn mouse_line(event: &MouseEvent) -> String {
-    let report = format!("mouse at {}, {}, buttons {}", event.x, event.y, event.mouse_buttons.bits());
+    let report = format!(
+        "mouse at {}, {}, buttons {}",
+        event.x,
+        event.y,
+        event.mouse_buttons.bits()
+    );
     with_modifiers(report, event.modifiers)
 }
 
@@ -65,7 +75,7 @@ fn ends_paste(event: &InputEvent) -> bool {
 }
 
 fn is_q(event: &InputEvent) -> bool {
-    matches!(event, InputEvent::Key(key) if key.key == KeyCode::Char('q') && key.modifiers.is_empty())
+    matches!(event, InputEvent::Key(it) if it.key == KeyCode::Char('q') && it.modifiers.is_empty())
 }
 
 /// What the events are shown on.
@@ -159,12 +169,14 @@ impl Live {
                 goes_on = self.view.handle(&event);
             }
         };
-        self.parser.try_parse(bytes, handle, more).map_err(io::Error::other)?;
+        self.parser
+            .try_parse(bytes, handle, more)
+            .map_err(io::Error::other)?;
         goes_on
     }
 
-    /// Ends a paste at the limit. The rest arrives as keys, which weren't typed: they are passed over up to the paste's end, or up to a
-    /// pause if the limit cut that end.
+    /// Ends a paste at the limit. The rest arrives as keys, which weren't typed: they are passed
+    /// over up to the paste's end, or up to a pause if the limit cut that end.
     fn limit_paste(&mut self) -> io::Result<bool> {
         if self.parser.waiting_len() > LONGEST_PASTE {
             if let Some(paste) = self.parser.try_end_paste().map_err(io::Error::other)? {
@@ -194,7 +206,8 @@ impl Live {
         Ok(true)
     }
 
-    /// Another program had the terminal: what was buffered before no longer counts, and the size may be new.
+    /// Another program had the terminal: what was buffered before no longer counts, and the size
+    /// may be new.
     fn resume(&mut self) -> io::Result<()> {
         self.parser.reset();
         self.view.passes_over = false;

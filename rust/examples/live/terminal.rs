@@ -20,7 +20,9 @@ pub struct Terminal {
 impl Terminal {
     pub fn find(mouse: bool) -> io::Result<Terminal> {
         if !io::stdin().is_terminal() || !io::stdout().is_terminal() {
-            return Err(io::Error::other("standard input and output have to be a terminal"));
+            return Err(io::Error::other(
+                "standard input and output have to be a terminal",
+            ));
         }
         // io::stdin has a buffer, into which poll can't look.
         let input = File::from(io::stdin().as_fd().try_clone_to_owned()?);
@@ -40,8 +42,9 @@ impl Terminal {
         print(if self.mouse { ALL_ON } else { PASTE_ON })
     }
 
-    /// Restores the terminal, unless another program has it, and discards what it sent meanwhile, so that no mouse report reaches the
-    /// shell. A terminal that is gone can't be restored, so errors count for nothing.
+    /// Restores the terminal, unless another program has it, and discards what it sent meanwhile,
+    /// so that no mouse report reaches the shell. A terminal that is gone can't be restored, so
+    /// errors count for nothing.
     pub fn leave(&mut self) {
         if !self.is_raw {
             return;

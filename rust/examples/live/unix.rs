@@ -1,5 +1,6 @@
-//! The calls of Unix that the program needs and std doesn't have, with the numbers of x86-64 Linux. This package depends on no other crate;
-//! a program of your own has all this from `libc`, or from a crate that is safe to call.
+//! The calls of Unix that the program needs and std doesn't have, with the numbers of x86-64 Linux.
+//! This package depends on no other crate; a program of your own has all this from `libc`, or from
+//! a crate that is safe to call.
 use std::ffi::{c_int, c_short, c_ulong};
 use std::io;
 use std::os::fd::RawFd;
@@ -43,7 +44,8 @@ fn checked(answer: c_int) -> io::Result<c_int> {
     }
 }
 
-/// The settings of a terminal, a `struct termios`. Only the C library looks into it; its own has 60 bytes.
+/// The settings of a terminal, a `struct termios`. Only the C library looks into it; its own has 60
+/// bytes.
 #[repr(C, align(8))]
 #[derive(Clone, Copy)]
 pub struct Settings([u8; 256]);
@@ -87,7 +89,8 @@ pub fn size(terminal: RawFd) -> io::Result<(u16, u16)> {
     Ok((size.columns, size.rows))
 }
 
-/// Waits until a descriptor can be read or is at its end, for ever if the time is below zero. Returns which of them are ready.
+/// Waits until a descriptor can be read or is at its end, for ever if the time is below zero.
+/// Returns which of them are ready.
 pub fn poll_all<const N: usize>(descriptors: [RawFd; N], ms: i32) -> io::Result<[bool; N]> {
     let mut polled = descriptors.map(|descriptor| PollFd {
         descriptor,
@@ -99,8 +102,8 @@ pub fn poll_all<const N: usize>(descriptors: [RawFd; N], ms: i32) -> io::Result<
     Ok(polled.map(|it| it.ready != 0))
 }
 
-/// Signals are noted by their handler, and handled in the loop. The handler also writes to a socket, which is polled: so no signal is missed
-/// between a look at these and the poll.
+/// Signals are noted by their handler, and handled in the loop. The handler also writes to a
+/// socket, which is polled: so no signal is missed between a look at these and the poll.
 pub mod signals {
     use std::ffi::{c_int, c_void};
     use std::io;
@@ -138,8 +141,8 @@ pub mod signals {
             SIGWINCH => RESIZED.store(true, SeqCst),
             _ => ENDING.store(number, SeqCst),
         }
-        // SAFETY: a handler may call `write`, and there is a byte. errno is that of the code that was interrupted. A full socket ends the
-        // poll as well.
+        // SAFETY: a handler may call `write`, and there is a byte. errno is that of the code that
+        // was interrupted. A full socket ends the poll as well.
         unsafe {
             let errno = *__errno_location();
             write(WAKE.load(SeqCst), b"!".as_ptr().cast(), 1);
@@ -189,7 +192,8 @@ pub mod signals {
         }
     }
 
-    /// Stops as a program does that handles no SIGTSTP. Returns once it is continued, or at once if no shell could continue it.
+    /// Stops as a program does that handles no SIGTSTP. Returns once it is continued, or at once if
+    /// no shell could continue it.
     pub fn stop() {
         let _ = handle(SIGTSTP, SIG_DFL).map(|()| raised(SIGTSTP));
         let _ = noted(SIGTSTP);

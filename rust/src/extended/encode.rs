@@ -17,6 +17,8 @@ pub enum KittyEncodeError {
     UnknownKey,
     /// The sequence would have more than 256 bytes. Only a report with a long text has such a one.
     TooLong,
+    /// The flags have a bit that no flag has.
+    UnnamedBits,
     /// Memory was refused. The call may be made again.
     Memory,
 }
@@ -26,6 +28,7 @@ impl fmt::Display for KittyEncodeError {
         f.write_str(match self {
             KittyEncodeError::UnknownKey => "the protocol has no number for the key",
             KittyEncodeError::TooLong => "the text of the key is too long",
+            KittyEncodeError::UnnamedBits => "a bit has no name",
             KittyEncodeError::Memory => "out of memory",
         })
     }
@@ -37,14 +40,17 @@ impl error::Error for KittyEncodeError {}
 const ROOM: usize = 256;
 
 impl KeyReport {
-    /// Returns what a terminal sends for the key, if the program asked for these flags of Kitty's keyboard protocol. It is empty for a key
-    /// that isn't sent, such as a release without `REPORT_EVENT_TYPES`. Of the report only what a flag asks for is sent, and a text with
-    /// control characters counts as none. Bits of `flags` that no flag has don't count. A terminal or a multiplexer calls it.
+    /// Returns what a terminal sends for the key, if the program asked for these flags of Kitty's
+    /// keyboard protocol. It is empty for a key that isn't sent, such as a release without
+    /// `REPORT_EVENT_TYPES`. Of the report only what a flag asks for is sent, and a text with
+    /// control characters counts as none. A terminal or a multiplexer calls it.
     ///
-    /// The rules are those of Kitty's page ["Comprehensive keyboard handling in terminals"][page]. Without `DISAMBIGUATE_ESCAPE_CODES` and
-    /// `REPORT_ALL_KEYS_AS_ESCAPE_CODES` that is what terminals sent before the protocol: a control character for a letter with CTRL, the
-    /// main key for one of the keypad, and the key's report for what has no such text. Under all flags an
-    /// [`ExtendedParser`](super::ExtendedParser) with [`Protocol::Kitty`](super::Protocol::Kitty) reads back each report that a terminal can send.
+    /// The rules are those of Kitty's page ["Comprehensive keyboard handling in terminals"][page].
+    /// Without `DISAMBIGUATE_ESCAPE_CODES` and `REPORT_ALL_KEYS_AS_ESCAPE_CODES` that is what
+    /// terminals sent before the protocol: a control character for a letter with CTRL, the main key
+    /// for one of the keypad, and the key's report for what has no such text. Under all flags an
+    /// [`ExtendedParser`](super::ExtendedParser) with [`Protocol::Kitty`](super::Protocol::Kitty)
+    /// reads back each report that a terminal can send.
     ///
     /// ```
     /// use hedrugal::extended::{KeyEventKind, KeyReport, KittyModifiers, ReportedKey};
@@ -58,13 +64,15 @@ impl KeyReport {
     ///     base: None,
     ///     text: String::new(),
     /// };
-    /// assert_eq!(released.encode(KittyKeyboardFlags::REPORT_EVENT_TYPES).as_deref(), Ok("\x1b[1;5:3A"));
-    /// assert_eq!(released.encode(KittyKeyboardFlags::NONE).as_deref(), Ok(""));
+    /// let sent = |flags| released.encode(flags).unwrap();
+    /// assert_eq!(sent(KittyKeyboardFlags::REPORT_EVENT_TYPES), "\x1b[1;5:3A");
+    /// assert_eq!(sent(KittyKeyboardFlags::NONE), "");
     /// ```
     ///
     /// # Errors
     ///
-    /// `UnknownKey` for a key that the flags leave without bytes, and `TooLong` for a text that no sequence can carry.
+    /// `UnknownKey` for a key that the flags leave without bytes, `TooLong` for a text that no
+    /// sequence can carry, and `UnnamedBits` for flags with a bit that no flag has.
     ///
     /// # Panics
     ///
@@ -80,7 +88,7 @@ impl KeyReport {
     /// Returns what [`KeyReport::encode`] returns.
     ///
     /// ```
-    /// use hedrugal::extended::{ExtendedParser, KittyEncodeError, ReportedKey, Rows};
+    /// use hedrugal::extended::{ExtendedParser, KittyEncodeError, Protocol, ReportedKey};
     /// use hedrugal::input::{KeyCode, KittyKeyboardFlags};
     ///
     /// let events = ExtendedParser::new(Protocol::Kitty).parse_as_vec(b"\x1b[97;5u", true);
@@ -97,7 +105,9 @@ impl KeyReport {
         let mut room = [0; ROOM];
         let len = self.encode_to(flags, &mut room)?;
         let mut bytes = Vec::new();
-        bytes.try_reserve_exact(len).map_err(|_| KittyEncodeError::Memory)?;
+        bytes
+            .try_reserve_exact(len)
+            .map_err(|_| KittyEncodeError::Memory)?;
         match room.get(..len) {
             Some(sent) => bytes.extend_from_slice(sent),
             None => {
@@ -110,11 +120,16 @@ impl KeyReport {
     }
 
     // Writes as many of the bytes as there is room for, and returns how many they are.
-    fn encode_to(&self, flags: KittyKeyboardFlags, out: &mut [u8]) -> Result<usize, KittyEncodeError> {
+    fn encode_to(
+        &self,
+        flags: KittyKeyboardFlags,
+        out: &mut [u8],
+    ) -> Result<usize, KittyEncodeError> {
         let report = self.raw();
-        let flags = u8::try_from((flags & KittyKeyboardFlags::all()).bits()).expect("each flag is below 256");
+        let flags = u8::try_from(flags.bits()).map_err(|_| KittyEncodeError::UnnamedBits)?;
         let mut len = 0;
-        // SAFETY: the pointers lead to values of their types that live through the call, with as many bytes as the lengths say.
+        // SAFETY: the pointers lead to values of their types that live through the call, with as
+        // many bytes as the lengths say.
         let answer = unsafe {
             raw::hed_encode_kitty(
                 &report,
@@ -130,6 +145,8 @@ impl KeyReport {
             raw::ENCODED_TEXT => Ok(len),
             raw::ENCODED_REFUSED_KEY => Err(KittyEncodeError::UnknownKey),
             raw::ENCODED_TOO_LONG => Err(KittyEncodeError::TooLong),
+            // The only number of a report that may name nothing is that of the flags.
+            raw::ENCODED_BAD_NUMBER => Err(KittyEncodeError::UnnamedBits),
             raw::ENCODED_REFUSED_MEMORY => Err(KittyEncodeError::Memory),
             _ => unreachable!("{FAULT}"),
         }
@@ -142,10 +159,10 @@ impl KeyReport {
             ReportedKey::Functional(number) => (0, number),
         };
         raw::KeyReport {
-            action: match self.kind {
-                KeyEventKind::Press => raw::ACTION_PRESS,
-                KeyEventKind::Repeat => raw::ACTION_REPEAT,
-                KeyEventKind::Release => raw::ACTION_RELEASE,
+            kind: match self.kind {
+                KeyEventKind::Press => raw::KEY_EVENT_KIND_PRESS,
+                KeyEventKind::Repeat => raw::KEY_EVENT_KIND_REPEAT,
+                KeyEventKind::Release => raw::KEY_EVENT_KIND_RELEASE,
             },
             modifiers: self.modifiers.bits(),
             key,

@@ -6,7 +6,7 @@ use crate::raw;
 /// What happened to a key.
 ///
 /// ```
-/// use hedrugal::extended::{ExtendedParser, KeyEventKind, Rows};
+/// use hedrugal::extended::{ExtendedParser, KeyEventKind, Protocol};
 ///
 /// let events = ExtendedParser::new(Protocol::Kitty).parse_as_vec(b"\x1b[1;1:3A", true);
 /// assert_eq!(events[0].key().unwrap().kind, KeyEventKind::Release);
@@ -25,7 +25,7 @@ pub enum KeyEventKind {
 /// The key of a report.
 ///
 /// ```
-/// use hedrugal::extended::{ExtendedParser, ReportedKey, Rows};
+/// use hedrugal::extended::{ExtendedParser, Protocol, ReportedKey};
 /// use hedrugal::input::KeyCode;
 ///
 /// let events = ExtendedParser::new(Protocol::Kitty).parse_as_vec(b"\x1b[27u\x1b[57428u", true);
@@ -44,7 +44,8 @@ pub enum ReportedKey {
 /// A key that was pressed, held or released, with all that Kitty's keyboard protocol reports of it.
 ///
 /// ```
-/// use hedrugal::extended::{ExtendedEvent, ExtendedParser, KeyEventKind, KeyReport, KittyModifiers, ReportedKey, Rows};
+/// use hedrugal::extended::{ExtendedEvent, ExtendedParser, KeyEventKind, KeyReport};
+/// use hedrugal::extended::{KittyModifiers, Protocol, ReportedKey};
 /// use hedrugal::input::KeyCode;
 ///
 /// let report = KeyReport {
@@ -69,7 +70,8 @@ pub struct KeyReport {
     pub kind: KeyEventKind,
     /// What the key types with Shift, if the terminal reported it.
     pub shifted: Option<char>,
-    /// What the key at this place types on the standard layout (PC-101), if the terminal reported it.
+    /// What the key at this place types on the standard layout (PC-101), if the terminal reported
+    /// it.
     pub base: Option<char>,
     /// The text that the key types, if the terminal reported it; otherwise empty.
     pub text: String,
@@ -78,7 +80,7 @@ pub struct KeyReport {
 /// Something that happened at the terminal, or that it replied.
 ///
 /// ```
-/// use hedrugal::extended::{ExtendedEvent, ExtendedParser, Rows};
+/// use hedrugal::extended::{ExtendedEvent, ExtendedParser, Protocol};
 ///
 /// let events = ExtendedParser::new(Protocol::Legacy).parse_as_vec(b"\x1b[I\x1b[?62;22c", true);
 /// assert_eq!(events, [ExtendedEvent::FocusGained, ExtendedEvent::Csi(b"?62;22c".to_vec())]);
@@ -94,7 +96,8 @@ pub enum ExtendedEvent {
     FocusGained,
     /// The terminal's window lost the focus.
     FocusLost,
-    /// The reply to a question for the cursor's position (DSR 6), as it was sent: the first row and the first column are 1.
+    /// The reply to a question for the cursor's position (DSR 6), as it was sent: the first row and
+    /// the first column are 1.
     CursorPosition {
         /// The row.
         row: u16,
@@ -126,15 +129,15 @@ pub enum ExtendedEvent {
 }
 
 impl ExtendedEvent {
-    /// Returns the report of a key: of `Key` a clone, and of a key in `Input` a press with its SHIFT, ALT and CTRL. Returns `None` for
-    /// any other event.
+    /// Returns the report of a key: of `Key` a clone, and of a key in `Input` a press with its
+    /// SHIFT, ALT and CTRL. Returns `None` for any other event.
     ///
     /// ```
-    /// use hedrugal::extended::{ExtendedParser, KittyModifiers, ReportedKey, Rows};
+    /// use hedrugal::extended::{ExtendedParser, KittyModifiers, Protocol, ReportedKey};
     /// use hedrugal::input::KeyCode;
     ///
-    /// for rows in [Protocol::Legacy, Protocol::Kitty] {
-    ///     let events = ExtendedParser::new(rows).parse_as_vec(b"\x1b[1;5A\x1b[I", true);
+    /// for protocol in [Protocol::Legacy, Protocol::Kitty] {
+    ///     let events = ExtendedParser::new(protocol).parse_as_vec(b"\x1b[1;5A\x1b[I", true);
     ///     let report = events[0].key().unwrap();
     ///     assert_eq!(report.key, ReportedKey::Named(KeyCode::UpArrow));
     ///     assert_eq!(report.modifiers, KittyModifiers::CTRL);
@@ -150,31 +153,36 @@ impl ExtendedEvent {
         }
     }
 
-    // An event of the library. `text` returns the bytes that it brought, of which there are so many.
+    // An event of the library. `text` returns the bytes that it brought, of which there are so
+    // many.
     pub(super) fn of(
         event: &raw::ExtendedEvent,
         text: impl FnOnce(usize) -> Result<Vec<u8>, AllocError>,
     ) -> Result<ExtendedEvent, AllocError> {
         Ok(match event.kind {
-            raw::EVENT_KEY | raw::EVENT_MOUSE | raw::EVENT_PASTE => ExtendedEvent::Input(InputEvent::of(&event.input, text)?),
-            raw::EVENT_REPORT => ExtendedEvent::Key(KeyReport::of(&event.report, text(event.text_len)?)),
-            raw::EVENT_FOCUS_GAINED => ExtendedEvent::FocusGained,
-            raw::EVENT_FOCUS_LOST => ExtendedEvent::FocusLost,
-            raw::EVENT_CURSOR_POSITION => ExtendedEvent::CursorPosition {
+            raw::KIND_KEY | raw::KIND_MOUSE | raw::KIND_PASTE => {
+                ExtendedEvent::Input(InputEvent::of(&event.input, text)?)
+            }
+            raw::KIND_REPORT => {
+                ExtendedEvent::Key(KeyReport::of(&event.report, text(event.text_len)?))
+            }
+            raw::KIND_FOCUS_GAINED => ExtendedEvent::FocusGained,
+            raw::KIND_FOCUS_LOST => ExtendedEvent::FocusLost,
+            raw::KIND_CURSOR_POSITION => ExtendedEvent::CursorPosition {
                 row: event.row,
                 column: event.column,
             },
-            raw::EVENT_RESIZE => ExtendedEvent::Resize {
+            raw::KIND_RESIZE => ExtendedEvent::Resize {
                 rows: event.rows,
                 columns: event.columns,
                 height: event.height,
                 width: event.width,
             },
-            raw::EVENT_KEYBOARD_FLAGS => ExtendedEvent::KeyboardFlags(event.flags),
-            raw::EVENT_CSI => ExtendedEvent::Csi(text(event.text_len)?),
-            raw::EVENT_OSC => ExtendedEvent::Osc(text(event.text_len)?),
-            raw::EVENT_DCS => ExtendedEvent::Dcs(text(event.text_len)?),
-            raw::EVENT_APC => ExtendedEvent::Apc(text(event.text_len)?),
+            raw::KIND_KEYBOARD_FLAGS => ExtendedEvent::KeyboardFlags(event.flags),
+            raw::KIND_CSI => ExtendedEvent::Csi(text(event.text_len)?),
+            raw::KIND_OSC => ExtendedEvent::Osc(text(event.text_len)?),
+            raw::KIND_DCS => ExtendedEvent::Dcs(text(event.text_len)?),
+            raw::KIND_APC => ExtendedEvent::Apc(text(event.text_len)?),
             _ => unreachable!("{FAULT}"),
         })
     }
@@ -202,10 +210,10 @@ impl KeyReport {
                 key => ReportedKey::Named(KeyCode::of(key, report.detail).expect(FAULT)),
             },
             modifiers: KittyModifiers::from_bits(report.modifiers).expect(FAULT),
-            kind: match report.action {
-                raw::ACTION_PRESS => KeyEventKind::Press,
-                raw::ACTION_REPEAT => KeyEventKind::Repeat,
-                raw::ACTION_RELEASE => KeyEventKind::Release,
+            kind: match report.kind {
+                raw::KEY_EVENT_KIND_PRESS => KeyEventKind::Press,
+                raw::KEY_EVENT_KIND_REPEAT => KeyEventKind::Repeat,
+                raw::KEY_EVENT_KIND_RELEASE => KeyEventKind::Release,
                 _ => unreachable!("{FAULT}"),
             },
             shifted: character(report.shifted),

@@ -5,10 +5,11 @@ use crate::library_parser::{Calls, LibraryParser, RawParser};
 use crate::{raw, table};
 use std::fmt;
 
-/// Which rows of the sequence table keep the key that [`InputParser`](crate::input::InputParser) reads from them.
+/// The keyboard protocol that the program turned on. It tells which entries of the sequence table
+/// keep the key that [`InputParser`](crate::input::InputParser) reads from them.
 ///
 /// ```
-/// use hedrugal::extended::{ExtendedEvent, ExtendedParser, Rows};
+/// use hedrugal::extended::{ExtendedEvent, ExtendedParser, Protocol};
 /// use hedrugal::input::{InputEvent, KeyCode, KeyEvent, Modifiers};
 ///
 /// let f3 = KeyEvent {
@@ -21,16 +22,17 @@ use std::fmt;
 /// assert_eq!(events, [ExtendedEvent::CursorPosition { row: 1, column: 5 }]);
 /// ```
 #[derive(Debug, Clone, Copy, PartialEq, Eq, Hash)]
-pub enum Rows {
-    /// All rows keep their keys. For programs that leave Kitty's keyboard protocol off. Ask for the cursor's position by ESC `[?6n`, since
-    /// the reply to ESC `[6n` may be the row of an F3.
-    Port,
-    /// Rows that report a key, or the position of the cursor, are read as these reports. For programs that turn Kitty's keyboard protocol
-    /// on, so that a press and its release name the same key.
+pub enum Protocol {
+    /// All entries keep their keys. For programs that leave Kitty's keyboard protocol off. Ask for
+    /// the cursor's position by ESC `[?6n`, since the reply to ESC `[6n` may be the entry of an F3.
+    Legacy,
+    /// Entries that report a key, or the position of the cursor, are read as these reports. For
+    /// programs that turn Kitty's keyboard protocol on, so that a press and its release name the
+    /// same key.
     Kitty,
 }
 
-impl Rows {
+impl Protocol {
     // The number of the library.
     fn number(self) -> u32 {
         match self {
@@ -51,8 +53,8 @@ unsafe impl RawParser for raw::Extended {
         next: raw::hed_extended_next,
         text: raw::hed_extended_text,
         drop_text: raw::hed_extended_drop_text,
-        waiting: raw::hed_extended_waiting_len,
-        waiting_kind: raw::hed_extended_waiting,
+        waiting_len: raw::hed_extended_waiting_len,
+        waiting: raw::hed_extended_waiting,
         flush_escape: raw::hed_extended_flush_escape,
         is_paste_open: raw::hed_extended_is_paste_open,
         end_paste: raw::hed_extended_end_paste,
@@ -61,34 +63,40 @@ unsafe impl RawParser for raw::Extended {
     };
 
     fn is_paste(event: &raw::ExtendedEvent) -> bool {
-        event.kind == raw::EVENT_PASTE
+        event.kind == raw::KIND_PASTE
     }
 
-    fn event(event: &raw::ExtendedEvent, text: impl FnOnce(usize) -> Result<Vec<u8>, AllocError>) -> Result<ExtendedEvent, AllocError> {
+    fn event(
+        event: &raw::ExtendedEvent,
+        text: impl FnOnce(usize) -> Result<Vec<u8>, AllocError>,
+    ) -> Result<ExtendedEvent, AllocError> {
         ExtendedEvent::of(event, text)
     }
 }
 
-/// Reads events from the bytes that a terminal sends, however they are cut into calls: keys, mouse reports and pastes as
-/// [`InputParser`](crate::input::InputParser), and what terminals send beyond them.
+/// Reads events from the bytes that a terminal sends, however they are cut into calls: keys, mouse
+/// reports and pastes as [`InputParser`](crate::input::InputParser), and what terminals send beyond
+/// them.
 ///
 /// ```
-/// use hedrugal::extended::{ExtendedEvent, ExtendedParser, Rows};
+/// use hedrugal::extended::{ExtendedEvent, ExtendedParser, Protocol};
 ///
 /// let mut parser = ExtendedParser::new(Protocol::Legacy);
 /// assert!(parser.parse_as_vec(b"\x1b[?24;8", true).is_empty());
-/// assert_eq!(parser.parse_as_vec(b"0R", true), [ExtendedEvent::CursorPosition { row: 24, column: 80 }]);
+/// let position = ExtendedEvent::CursorPosition { row: 24, column: 80 };
+/// assert_eq!(parser.parse_as_vec(b"0R", true), [position]);
 /// ```
 pub struct ExtendedParser {
     parser: LibraryParser<raw::Extended>,
-    rows: Rows,
+    protocol: Protocol,
 }
 
 impl ExtendedParser {
-    /// Makes a parser with an empty buffer. It shares the process's sequence table with all parsers of both kinds.
+    /// Makes a parser with an empty buffer. It shares the process's sequence table with all parsers
+    /// of both kinds.
     ///
     /// ```
-    /// use hedrugal::extended::{ExtendedParser, Rows};
+    /// use hedrugal::extended::{ExtendedParser, Protocol};
     ///
     /// assert_eq!(ExtendedParser::new(Protocol::Legacy).waiting_len(), 0);
     /// ```
@@ -97,45 +105,51 @@ impl ExtendedParser {
     ///
     /// If memory is refused.
     #[must_use]
-    pub fn new(rows: Rows) -> ExtendedParser {
-        ExtendedParser::try_new(rows).expect("a parser is made")
+    pub fn new(protocol: Protocol) -> ExtendedParser {
+        ExtendedParser::try_new(protocol).expect("a parser is made")
     }
 
     /// Does what [`ExtendedParser::new`] does.
     ///
     /// ```
-    /// use hedrugal::extended::{ExtendedParser, Rows};
+    /// use hedrugal::extended::{ExtendedParser, Protocol};
     ///
     /// assert!(ExtendedParser::try_new(Protocol::Kitty).is_ok());
     /// ```
     ///
     /// # Errors
     ///
-    /// If memory is refused, for the parser or for the table of the process's first one. Call again.
-    pub fn try_new(rows: Rows) -> Result<ExtendedParser, AllocError> {
+    /// If memory is refused, for the parser or for the table of the process's first one. Call
+    /// again.
+    pub fn try_new(protocol: Protocol) -> Result<ExtendedParser, AllocError> {
         let mut raw = raw::Extended::NONE;
-        // SAFETY: `raw` is no parser yet, which the call allows. `idle` is another one, which this thread alone has.
-        table::share(|idle| unsafe { raw::hed_extended_init_sharing_parser(&mut raw, rows.number(), idle) })?;
+        // SAFETY: `raw` is no parser yet, which the call allows. `idle` is another one, which this
+        // thread alone has.
+        table::share(|idle| unsafe {
+            raw::hed_extended_init_sharing_parser(&mut raw, protocol.number(), idle)
+        })?;
         let parser = LibraryParser::of(raw);
-        Ok(ExtendedParser { parser, rows })
+        Ok(ExtendedParser { parser, protocol })
     }
 
-    /// Returns how the parser reads the rows of the sequence table, as [`ExtendedParser::new`] was told.
+    /// Returns the keyboard protocol that the program turned on, as [`ExtendedParser::new`] was
+    /// told.
     ///
     /// ```
-    /// use hedrugal::extended::{ExtendedParser, Rows};
+    /// use hedrugal::extended::{ExtendedParser, Protocol};
     ///
-    /// assert_eq!(ExtendedParser::new(Protocol::Kitty).rows(), Protocol::Kitty);
+    /// assert_eq!(ExtendedParser::new(Protocol::Kitty).protocol(), Protocol::Kitty);
     /// ```
     #[must_use]
-    pub fn rows(&self) -> Rows {
-        self.rows
+    pub fn protocol(&self) -> Protocol {
+        self.protocol
     }
 
-    /// Appends `bytes` to the buffer. [`ExtendedParser::next_event`] then emits the events, one at a time.
+    /// Appends `bytes` to the buffer. [`ExtendedParser::next_event`] then emits the events, one at
+    /// a time.
     ///
     /// ```
-    /// use hedrugal::extended::{ExtendedParser, Rows};
+    /// use hedrugal::extended::{ExtendedParser, Protocol};
     ///
     /// let mut parser = ExtendedParser::new(Protocol::Legacy);
     /// parser.feed(b"ab");
@@ -152,7 +166,7 @@ impl ExtendedParser {
     /// Does what [`ExtendedParser::feed`] does.
     ///
     /// ```
-    /// use hedrugal::extended::{ExtendedParser, Rows};
+    /// use hedrugal::extended::{ExtendedParser, Protocol};
     ///
     /// assert_eq!(ExtendedParser::new(Protocol::Legacy).try_feed(b"ab"), Ok(()));
     /// ```
@@ -164,11 +178,11 @@ impl ExtendedParser {
         self.parser.feed(bytes)
     }
 
-    /// Consumes the item at the front of the buffer, and returns its event. Returns `None` if the bytes are no event yet. Pass `maybe_more`
-    /// as to [`ExtendedParser::parse`].
+    /// Consumes the item at the front of the buffer, and returns its event. Returns `None` if the
+    /// bytes are no event yet. Pass `maybe_more` as to [`ExtendedParser::parse`].
     ///
     /// ```
-    /// use hedrugal::extended::{ExtendedEvent, ExtendedParser, Rows};
+    /// use hedrugal::extended::{ExtendedEvent, ExtendedParser, Protocol};
     ///
     /// let mut parser = ExtendedParser::new(Protocol::Legacy);
     /// parser.feed(b"\x1b[I\x1b[O\x1b[");
@@ -182,13 +196,14 @@ impl ExtendedParser {
     /// If memory is refused.
     #[must_use]
     pub fn next_event(&mut self, maybe_more: bool) -> Option<ExtendedEvent> {
-        self.try_next_event(maybe_more).expect("the event is emitted")
+        self.try_next_event(maybe_more)
+            .expect("the event is emitted")
     }
 
     /// Does what [`ExtendedParser::next_event`] does.
     ///
     /// ```
-    /// use hedrugal::extended::{ExtendedParser, Rows};
+    /// use hedrugal::extended::{ExtendedParser, Protocol};
     ///
     /// assert_eq!(ExtendedParser::new(Protocol::Legacy).try_next_event(true), Ok(None));
     /// ```
@@ -196,19 +211,24 @@ impl ExtendedParser {
     /// # Errors
     ///
     /// If memory is refused. The event isn't lost: call again.
-    pub fn try_next_event(&mut self, maybe_more: bool) -> Result<Option<ExtendedEvent>, AllocError> {
+    pub fn try_next_event(
+        &mut self,
+        maybe_more: bool,
+    ) -> Result<Option<ExtendedEvent>, AllocError> {
         self.parser.next_event(maybe_more)
     }
 
-    /// Appends `bytes` to the buffer, and calls `callback` with each event in order. Bytes that are no event yet stay buffered.
+    /// Appends `bytes` to the buffer, and calls `callback` with each event in order. Bytes that are
+    /// no event yet stay buffered.
     ///
-    /// Pass `maybe_more` as true while more bytes may come: then bytes that may still become a longer sequence, a string or a character
-    /// stay buffered. After a pause call [`ExtendedParser::flush_escape`]. Pass false at the end of the input: then only an open paste
-    /// stays. Call with no bytes and false to flush. Before the end this breaks a sequence, a string or a character of which the rest is
-    /// still to come.
+    /// Pass `maybe_more` as true while more bytes may come: then bytes that may still become a
+    /// longer sequence, a string or a character stay buffered. After a pause call
+    /// [`ExtendedParser::flush_escape`]. Pass false at the end of the input: then only an open
+    /// paste stays. Call with no bytes and false to flush. Before the end this breaks a sequence, a
+    /// string or a character of which the rest is still to come.
     ///
     /// ```
-    /// use hedrugal::extended::{ExtendedParser, Rows};
+    /// use hedrugal::extended::{ExtendedParser, Protocol};
     ///
     /// let mut parser = ExtendedParser::new(Protocol::Legacy);
     /// let mut count = 0;
@@ -220,13 +240,14 @@ impl ExtendedParser {
     ///
     /// If memory is refused.
     pub fn parse<F: FnMut(ExtendedEvent)>(&mut self, bytes: &[u8], callback: F, maybe_more: bool) {
-        self.try_parse(bytes, callback, maybe_more).expect("the input is parsed");
+        self.try_parse(bytes, callback, maybe_more)
+            .expect("the input is parsed");
     }
 
     /// Does what [`ExtendedParser::parse`] does.
     ///
     /// ```
-    /// use hedrugal::extended::{ExtendedParser, Rows};
+    /// use hedrugal::extended::{ExtendedParser, Protocol};
     ///
     /// let mut parser = ExtendedParser::new(Protocol::Legacy);
     /// assert_eq!(parser.try_parse(b"\x1b[I", |event| println!("{event:?}"), true), Ok(()));
@@ -234,15 +255,21 @@ impl ExtendedParser {
     ///
     /// # Errors
     ///
-    /// If memory is refused. The error says whether the bytes were buffered, and so how to go on; no event is lost.
-    pub fn try_parse<F: FnMut(ExtendedEvent)>(&mut self, bytes: &[u8], callback: F, maybe_more: bool) -> Result<(), ParseError> {
+    /// If memory is refused. The error says whether the bytes were buffered, and so how to go on;
+    /// no event is lost.
+    pub fn try_parse<F: FnMut(ExtendedEvent)>(
+        &mut self,
+        bytes: &[u8],
+        callback: F,
+        maybe_more: bool,
+    ) -> Result<(), ParseError> {
         self.parser.parse(bytes, callback, maybe_more)
     }
 
     /// Returns the events with which [`ExtendedParser::parse`] calls its callback.
     ///
     /// ```
-    /// use hedrugal::extended::{ExtendedEvent, ExtendedParser, Rows};
+    /// use hedrugal::extended::{ExtendedEvent, ExtendedParser, Protocol};
     ///
     /// let mut parser = ExtendedParser::new(Protocol::Legacy);
     /// assert_eq!(parser.parse_as_vec(b"\x1bP>|kitty\x1b", true), []);
@@ -254,13 +281,14 @@ impl ExtendedParser {
     /// If memory is refused.
     #[must_use]
     pub fn parse_as_vec(&mut self, bytes: &[u8], maybe_more: bool) -> Vec<ExtendedEvent> {
-        self.try_parse_as_vec(bytes, maybe_more).expect("the input is parsed")
+        self.try_parse_as_vec(bytes, maybe_more)
+            .expect("the input is parsed")
     }
 
     /// Returns the events with which [`ExtendedParser::parse`] calls its callback.
     ///
     /// ```
-    /// use hedrugal::extended::{ExtendedParser, Rows};
+    /// use hedrugal::extended::{ExtendedParser, Protocol};
     ///
     /// let mut parser = ExtendedParser::new(Protocol::Legacy);
     /// assert_eq!(parser.try_parse_as_vec(b"ab", true).map(|events| events.len()), Ok(2));
@@ -268,16 +296,22 @@ impl ExtendedParser {
     ///
     /// # Errors
     ///
-    /// If memory is refused. The error has the events so far, and says whether the bytes were buffered; no event is lost.
-    pub fn try_parse_as_vec(&mut self, bytes: &[u8], maybe_more: bool) -> Result<Vec<ExtendedEvent>, ParseVecError<ExtendedEvent>> {
+    /// If memory is refused. The error has the events so far, and says whether the bytes were
+    /// buffered; no event is lost.
+    pub fn try_parse_as_vec(
+        &mut self,
+        bytes: &[u8],
+        maybe_more: bool,
+    ) -> Result<Vec<ExtendedEvent>, ParseVecError<ExtendedEvent>> {
         self.parser.parse_as_vec(bytes, maybe_more)
     }
 
-    /// Returns the number of bytes that are buffered. Those of an event that was refused memory may no longer be among them. Between calls
-    /// that parse it is at most 65536, unless a paste is open.
+    /// Returns the number of bytes that are buffered. Those of an event that was refused memory may
+    /// no longer be among them. Between calls that parse it is at most 65536, unless a paste is
+    /// open.
     ///
     /// ```
-    /// use hedrugal::extended::{ExtendedParser, Rows};
+    /// use hedrugal::extended::{ExtendedParser, Protocol};
     ///
     /// let mut parser = ExtendedParser::new(Protocol::Legacy);
     /// parser.parse(b"a\x1b]0;t", |_| {}, true);
@@ -288,11 +322,11 @@ impl ExtendedParser {
         self.parser.waiting_len()
     }
 
-    /// Returns what stays buffered, once a call that parses has succeeded. The beginning of a control sequence or of a string is a
-    /// [`Waiting::Sequence`].
+    /// Returns what stays buffered, once a call that parses has succeeded. The beginning of a
+    /// control sequence or of a string is a [`Waiting::Sequence`].
     ///
     /// ```
-    /// use hedrugal::extended::{ExtendedParser, Rows};
+    /// use hedrugal::extended::{ExtendedParser, Protocol};
     /// use hedrugal::input::Waiting;
     ///
     /// let mut parser = ExtendedParser::new(Protocol::Legacy);
@@ -304,14 +338,14 @@ impl ExtendedParser {
         self.parser.waiting()
     }
 
-    /// Returns the Escape key if ESC alone is buffered, with ALT if ESC ESC is, and consumes it. Returns `None` otherwise; the parser is
-    /// then unchanged.
+    /// Returns the Escape key if ESC alone is buffered, with ALT if ESC ESC is, and consumes it.
+    /// Returns `None` otherwise; the parser is then unchanged.
     ///
-    /// Call it when some 50 ms have passed without a byte. Whatever else is buffered stays, so a pause breaks only what is cut right after
-    /// its ESC or ESC ESC.
+    /// Call it when some 50 ms have passed without a byte. Whatever else is buffered stays, so a
+    /// pause breaks only what is cut right after its ESC or ESC ESC.
     ///
     /// ```
-    /// use hedrugal::extended::{ExtendedEvent, ExtendedParser, Rows};
+    /// use hedrugal::extended::{ExtendedEvent, ExtendedParser, Protocol};
     /// use hedrugal::input::{InputEvent, KeyCode, KeyEvent, Modifiers};
     ///
     /// let mut parser = ExtendedParser::new(Protocol::Legacy);
@@ -328,11 +362,12 @@ impl ExtendedParser {
         self.parser.flush_escape()
     }
 
-    /// Returns whether the buffer begins with the start of a paste. Such a paste is buffered without limit until its end arrives:
-    /// with a limit, say 1 MB, call [`ExtendedParser::end_paste`] once [`ExtendedParser::waiting_len`] is above it.
+    /// Returns whether the buffer begins with the start of a paste. Such a paste is buffered
+    /// without limit until its end arrives: with a limit, say 1 MB, call
+    /// [`ExtendedParser::end_paste`] once [`ExtendedParser::waiting_len`] is above it.
     ///
     /// ```
-    /// use hedrugal::extended::{ExtendedParser, Rows};
+    /// use hedrugal::extended::{ExtendedParser, Protocol};
     ///
     /// let mut parser = ExtendedParser::new(Protocol::Legacy);
     /// parser.parse(b"\x1b[200~te", |_| {}, true);
@@ -343,15 +378,15 @@ impl ExtendedParser {
         self.parser.is_paste_open()
     }
 
-    /// Ends an open paste where it is: returns a `Paste` of the text that came so far, and consumes all that is buffered. Returns `None`
-    /// if no paste is open; the parser is then unchanged.
+    /// Ends an open paste where it is: returns a `Paste` of the text that came so far, and consumes
+    /// all that is buffered. Returns `None` if no paste is open; the parser is then unchanged.
     ///
     /// The rest of the paste then arrives as if it were typed, and its end as
-    /// [`KeyCode::InternalPasteEnd`](crate::input::KeyCode::InternalPasteEnd). If the text ended inside that, the rest of it is typed keys
-    /// too.
+    /// [`KeyCode::InternalPasteEnd`](crate::input::KeyCode::InternalPasteEnd). If the text ended
+    /// inside that, the rest of it is typed keys too.
     ///
     /// ```
-    /// use hedrugal::extended::{ExtendedEvent, ExtendedParser, Rows};
+    /// use hedrugal::extended::{ExtendedEvent, ExtendedParser, Protocol};
     /// use hedrugal::input::InputEvent;
     ///
     /// let mut parser = ExtendedParser::new(Protocol::Legacy);
@@ -372,7 +407,7 @@ impl ExtendedParser {
     /// Does what [`ExtendedParser::end_paste`] does.
     ///
     /// ```
-    /// use hedrugal::extended::{ExtendedParser, Rows};
+    /// use hedrugal::extended::{ExtendedParser, Protocol};
     ///
     /// assert_eq!(ExtendedParser::new(Protocol::Legacy).try_end_paste(), Ok(None));
     /// ```
@@ -384,13 +419,14 @@ impl ExtendedParser {
         self.parser.end_paste()
     }
 
-    /// Forgets all that is buffered, an open paste too, and an event that was refused memory. Returns the number of bytes that were
-    /// buffered, as [`ExtendedParser::waiting_len`] counts them.
+    /// Forgets all that is buffered, an open paste too, and an event that was refused memory.
+    /// Returns the number of bytes that were buffered, as [`ExtendedParser::waiting_len`] counts
+    /// them.
     ///
     /// Call it where earlier bytes no longer count, as after another program had the terminal.
     ///
     /// ```
-    /// use hedrugal::extended::{ExtendedParser, Rows};
+    /// use hedrugal::extended::{ExtendedParser, Protocol};
     ///
     /// let mut parser = ExtendedParser::new(Protocol::Legacy);
     /// parser.parse(b"\x1b]0;title", |_| {}, true);
@@ -401,14 +437,15 @@ impl ExtendedParser {
         self.parser.reset()
     }
 
-    /// Gives back memory that holds no buffered bytes, but for room for `min_capacity` bytes, as `Vec::shrink_to` does. What is buffered and
-    /// all later events are unchanged. If a smaller block is refused, the parser keeps the one that it has.
+    /// Gives back memory that holds no buffered bytes, but for room for `min_capacity` bytes, as
+    /// `Vec::shrink_to` does. What is buffered and all later events are unchanged. If a smaller
+    /// block is refused, the parser keeps the one that it has.
     ///
-    /// Call it for the parser of a session that is quiet, with 0 or with the length of a usual read: see
-    /// [`InputParser::shrink_to`](crate::input::InputParser::shrink_to).
+    /// Call it for the parser of a session that is quiet, with 0 or with the length of a usual
+    /// read: see [`InputParser::shrink_to`](crate::input::InputParser::shrink_to).
     ///
     /// ```
-    /// use hedrugal::extended::{ExtendedParser, Rows};
+    /// use hedrugal::extended::{ExtendedParser, Protocol};
     ///
     /// let mut parser = ExtendedParser::new(Protocol::Legacy);
     /// let reply = format!("\x1b]52;c;{}\x1b\\\x1b]", "dGV4dA==".repeat(1000));
@@ -424,7 +461,7 @@ impl ExtendedParser {
 impl fmt::Debug for ExtendedParser {
     fn fmt(&self, f: &mut fmt::Formatter<'_>) -> fmt::Result {
         f.debug_struct("ExtendedParser")
-            .field("rows", &self.rows)
+            .field("protocol", &self.protocol)
             .field("waiting_len", &self.waiting_len())
             .finish_non_exhaustive()
     }

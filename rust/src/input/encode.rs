@@ -32,11 +32,13 @@ pub const SS3: &str = "\x1bO";
 pub enum KeyboardEncoding {
     /// The characters themselves, and xterm's control sequences.
     Xterm,
-    /// The same, but a character with modifiers that it can't show is sent as ESC `[` c `;` m `u` (fixterms).
+    /// The same, but a character with modifiers that it can't show is sent as ESC `[` c `;` m `u`
+    /// (fixterms).
     CsiU,
     /// Records of the Windows console. [`KeyCode::encode`] treats it as `Xterm`.
     Win32,
-    /// kitty's keyboard protocol, with the flags that the program asked for. [`KeyCode::encode`] treats it as `Xterm`.
+    /// kitty's keyboard protocol, with the flags that the program asked for. [`KeyCode::encode`]
+    /// treats it as `Xterm`.
     Kitty(KittyKeyboardFlags),
 }
 
@@ -57,7 +59,8 @@ pub enum KeyboardEncoding {
 pub struct KeyCodeEncodeModes {
     /// The encoding of keys.
     pub encoding: KeyboardEncoding,
-    /// Whether the arrows, Home and End send ESC `O` in place of ESC `[` (application cursor mode, DECCKM).
+    /// Whether the arrows, Home and End send ESC `O` in place of ESC `[` (application cursor mode,
+    /// DECCKM).
     pub application_cursor_keys: bool,
     /// Whether Enter sends a line feed after the carriage return (newline mode, LNM).
     pub newline_mode: bool,
@@ -66,21 +69,21 @@ pub struct KeyCodeEncodeModes {
 }
 
 impl KeyCodeEncodeModes {
-    fn raw(self) -> raw::Modes {
+    fn raw(self) -> Result<raw::Modes, EncodeError> {
         let (encoding, kitty) = match self.encoding {
             KeyboardEncoding::Xterm => (raw::ENCODING_XTERM, KittyKeyboardFlags::NONE),
             KeyboardEncoding::CsiU => (raw::ENCODING_CSI_U, KittyKeyboardFlags::NONE),
             KeyboardEncoding::Win32 => (raw::ENCODING_WIN32, KittyKeyboardFlags::NONE),
             KeyboardEncoding::Kitty(flags) => (raw::ENCODING_KITTY, flags),
         };
-        raw::Modes {
+        Ok(raw::Modes {
             modify_other_keys: self.modify_other_keys.unwrap_or(0),
             encoding,
-            kitty_flags: u8::try_from((kitty & KittyKeyboardFlags::all()).bits()).expect("each flag is below 256"),
+            kitty_flags: u8::try_from(kitty.bits()).map_err(|_| EncodeError::UnnamedBits)?,
             application_cursor_keys: self.application_cursor_keys,
             newline_mode: self.newline_mode,
             has_modify_other_keys: self.modify_other_keys.is_some(),
-        }
+        })
     }
 }
 
@@ -95,6 +98,8 @@ impl KeyCodeEncodeModes {
 pub enum EncodeError {
     /// The function key with this number isn't one of F1 to F24.
     UnhandledFunctionKey(u8),
+    /// The modifiers or Kitty's flags have a bit that no flag has.
+    UnnamedBits,
     /// Memory was refused. The call may be made again.
     Memory,
 }
@@ -102,7 +107,10 @@ pub enum EncodeError {
 impl fmt::Display for EncodeError {
     fn fmt(&self, f: &mut fmt::Formatter<'_>) -> fmt::Result {
         match self {
-            EncodeError::UnhandledFunctionKey(number) => write!(f, "unhandled fkey number {number}"),
+            EncodeError::UnhandledFunctionKey(number) => {
+                write!(f, "unhandled fkey number {number}")
+            }
+            EncodeError::UnnamedBits => f.write_str("a bit has no name"),
             EncodeError::Memory => f.write_str("out of memory"),
         }
     }
@@ -114,8 +122,9 @@ impl error::Error for EncodeError {}
 const ROOM: usize = 64;
 
 impl KeyCode {
-    /// Returns the text that a terminal in these modes sends for the key, with the modifiers that are held. It is empty for a key
-    /// that sends nothing, and for every key that is up (`is_down` is false). Bits of `mods` that no flag has don't count.
+    /// Returns the text that a terminal in these modes sends for the key, with the modifiers that
+    /// are held. It is empty for a key that sends nothing, and for every key that is up (`is_down`
+    /// is false).
     ///
     /// ```
     /// use hedrugal::input::{KeyCode, KeyCodeEncodeModes, KeyboardEncoding, Modifiers};
@@ -126,19 +135,25 @@ impl KeyCode {
     ///     newline_mode: false,
     ///     modify_other_keys: None,
     /// };
-    /// assert_eq!(KeyCode::UpArrow.encode(Modifiers::CTRL, modes, true).as_deref(), Ok("\x1b[1;5A"));
-    /// assert_eq!(KeyCode::UpArrow.encode(Modifiers::CTRL, modes, false).as_deref(), Ok(""));
+    /// let sent = |is_down| KeyCode::UpArrow.encode(Modifiers::CTRL, modes, is_down).unwrap();
+    /// assert_eq!((sent(true), sent(false)), ("\x1b[1;5A".to_string(), String::new()));
     /// assert!(KeyCode::Function(25).encode(Modifiers::NONE, modes, true).is_err());
     /// ```
     ///
     /// # Errors
     ///
-    /// `UnhandledFunctionKey` for `Function(0)` and the function keys above F24 while they are down.
+    /// `UnhandledFunctionKey` for `Function(0)` and the function keys above F24 while they are
+    /// down. `UnnamedBits` for modifiers or Kitty's flags with a bit that no flag has.
     ///
     /// # Panics
     ///
     /// If memory is refused.
-    pub fn encode(&self, mods: Modifiers, modes: KeyCodeEncodeModes, is_down: bool) -> Result<String, EncodeError> {
+    pub fn encode(
+        &self,
+        mods: Modifiers,
+        modes: KeyCodeEncodeModes,
+        is_down: bool,
+    ) -> Result<String, EncodeError> {
         let text = self.try_encode(mods, modes, is_down);
         assert!(text != Err(EncodeError::Memory), "out of memory");
         text
@@ -161,16 +176,22 @@ impl KeyCode {
     /// # Errors
     ///
     /// The same, and `Memory` if memory is refused.
-    pub fn try_encode(&self, mods: Modifiers, modes: KeyCodeEncodeModes, is_down: bool) -> Result<String, EncodeError> {
-        let modes = modes.raw();
+    pub fn try_encode(
+        &self,
+        mods: Modifiers,
+        modes: KeyCodeEncodeModes,
+        is_down: bool,
+    ) -> Result<String, EncodeError> {
+        let modes = modes.raw()?;
         let mut room = [0; ROOM];
         let mut len = 0;
-        // SAFETY: the pointers lead to values of their types that live through the call, and `room` has as many bytes as it says.
+        // SAFETY: the pointers lead to values of their types that live through the call, and `room`
+        // has as many bytes as it says.
         let answer = unsafe {
             raw::hed_encode(
                 self.number(),
                 self.detail(),
-                (mods & Modifiers::all()).bits(),
+                mods.bits(),
                 is_down,
                 &modes,
                 room.as_mut_ptr(),
@@ -183,13 +204,18 @@ impl KeyCode {
                 let bytes = room.get(..len).expect(FAULT);
                 copied(str::from_utf8(bytes).expect(FAULT))
             }
-            (raw::ENCODED_REFUSED_KEY, KeyCode::Function(number)) => Err(EncodeError::UnhandledFunctionKey(*number)),
+            (raw::ENCODED_REFUSED_KEY, KeyCode::Function(number)) => {
+                Err(EncodeError::UnhandledFunctionKey(*number))
+            }
+            // The only number here that may name nothing is that of a set.
+            (raw::ENCODED_BAD_NUMBER, _) => Err(EncodeError::UnnamedBits),
             (raw::ENCODED_REFUSED_MEMORY, _) => Err(EncodeError::Memory),
             _ => unreachable!("{FAULT}"),
         }
     }
 
-    /// Returns whether the key is one of the modifier keys: Hyper, Super, Meta, and each Shift, Ctrl, Alt and Windows key.
+    /// Returns whether the key is one of the modifier keys: Hyper, Super, Meta, and each Shift,
+    /// Ctrl, Alt and Windows key.
     ///
     /// ```
     /// use hedrugal::input::KeyCode;
@@ -218,7 +244,8 @@ impl KeyCode {
         )
     }
 
-    /// Returns the upper case letter if the key is a lower case letter of ASCII and SHIFT is held, and else the key itself.
+    /// Returns the upper case letter if the key is a lower case letter of ASCII and SHIFT is held,
+    /// and else the key itself.
     ///
     /// ```
     /// use hedrugal::input::{KeyCode, Modifiers};
@@ -230,7 +257,9 @@ impl KeyCode {
     #[must_use]
     pub fn normalize_shift_to_upper_case(self, modifiers: Modifiers) -> KeyCode {
         match self {
-            KeyCode::Char(c) if modifiers.contains(Modifiers::SHIFT) => KeyCode::Char(c.to_ascii_uppercase()),
+            KeyCode::Char(c) if modifiers.contains(Modifiers::SHIFT) => {
+                KeyCode::Char(c.to_ascii_uppercase())
+            }
             _ => self,
         }
     }
@@ -239,7 +268,8 @@ impl KeyCode {
 // The text as a string of its own.
 fn copied(text: &str) -> Result<String, EncodeError> {
     let mut copy = String::new();
-    copy.try_reserve_exact(text.len()).map_err(|_| EncodeError::Memory)?;
+    copy.try_reserve_exact(text.len())
+        .map_err(|_| EncodeError::Memory)?;
     copy.push_str(text);
     Ok(copy)
 }

@@ -42,7 +42,8 @@ pub struct MouseEvent {
     pub x: u16,
     /// The row, as the terminal sent it: the topmost is 1.
     pub y: u16,
-    /// The button that is down, or the wheel that was turned. Empty after a release, and for a move with no button down.
+    /// The button that is down, or the wheel that was turned. Empty after a release, and for a move
+    /// with no button down.
     pub mouse_buttons: MouseButtons,
     /// The modifier keys that were held.
     pub modifiers: Modifiers,
@@ -68,14 +69,15 @@ pub struct PixelMouseEvent {
     pub x_pixels: u16,
     /// The distance from the top, in pixels.
     pub y_pixels: u16,
-    /// The button that is down, or the wheel that was turned. Empty after a release, and for a move with no button down.
+    /// The button that is down, or the wheel that was turned. Empty after a release, and for a move
+    /// with no button down.
     pub mouse_buttons: MouseButtons,
     /// The modifier keys that were held.
     pub modifiers: Modifiers,
 }
 
-/// Something that happened at the terminal. The parser makes keys, mouse reports and pastes; the other events are for programs that put
-/// input from elsewhere into the same stream.
+/// Something that happened at the terminal. The parser makes keys, mouse reports and pastes; the
+/// other events are for programs that put input from elsewhere into the same stream.
 ///
 /// ```
 /// use hedrugal::input::{InputEvent, InputParser};
@@ -122,7 +124,10 @@ impl KeyEvent {
 
 impl InputEvent {
     // An event of the library. `text` returns the bytes of a paste, of which there are so many.
-    pub(crate) fn of(event: &raw::Event, text: impl FnOnce(usize) -> Result<Vec<u8>, AllocError>) -> Result<InputEvent, AllocError> {
+    pub(crate) fn of(
+        event: &raw::Event,
+        text: impl FnOnce(usize) -> Result<Vec<u8>, AllocError>,
+    ) -> Result<InputEvent, AllocError> {
         Ok(match event.kind {
             raw::KIND_KEY => InputEvent::Key(KeyEvent::of(event)),
             raw::KIND_MOUSE => InputEvent::Mouse(MouseEvent {
@@ -131,7 +136,9 @@ impl InputEvent {
                 mouse_buttons: MouseButtons::from_bits(event.buttons).expect(FAULT),
                 modifiers: modifiers_of(event),
             }),
-            raw::KIND_PASTE => InputEvent::Paste(String::from_utf8(text(event.paste_len)?).expect(FAULT)),
+            raw::KIND_PASTE => {
+                InputEvent::Paste(String::from_utf8(text(event.paste_len)?).expect(FAULT))
+            }
             _ => unreachable!("{FAULT}"),
         })
     }

@@ -1,5 +1,7 @@
 // Sets of flags, each a number whose bits have names.
-use std::ops::{BitAnd, BitAndAssign, BitOr, BitOrAssign, BitXor, BitXorAssign, Not, Sub, SubAssign};
+use std::ops::{
+    BitAnd, BitAndAssign, BitOr, BitOrAssign, BitXor, BitXorAssign, Not, Sub, SubAssign,
+};
 use std::str::FromStr;
 use std::{error, fmt};
 
@@ -24,7 +26,8 @@ impl fmt::Display for ParseFlagsError {
 
 impl error::Error for ParseFlagsError {}
 
-/// The flags of a set one by one, lowest first, as `iter` returns them. Bits that no flag has come last, together.
+/// The flags of a set one by one, lowest first, as `iter` returns them. Bits that no flag has come
+/// last, together.
 ///
 /// ```
 /// use hedrugal::input::Modifiers;
@@ -98,8 +101,8 @@ macro_rules! base {
     };
 }
 
-// A type of sets, with the calls and operators that such a type has in termwiz. `module` has it, and `head` begins each example: it makes
-// two flags, a and b.
+// A type of sets, with the calls and operators that such a type has in termwiz. `module` has it,
+// and `head` begins each example: it makes two flags, a and b.
 macro_rules! flags {
     (
         in $module:literal
@@ -125,7 +128,8 @@ macro_rules! flags {
                 ///
                 /// ```
                 #[doc = concat!("use hedrugal::", $module, "::", stringify!($name), " as Flags;")]
-                #[doc = concat!("assert_eq!(Flags::", stringify!($flag), ".bits(), ", stringify!($value), ");")]
+                #[doc = concat!("let bits = Flags::", stringify!($flag), ".bits();")]
+                #[doc = concat!("assert_eq!(bits, ", stringify!($value), ");")]
                 /// ```
                 pub const $flag: $name = $name($value);
             )*
@@ -197,7 +201,8 @@ macro_rules! flags {
                 Some($name(found.1))
             }
 
-            /// Returns the flags of the set one by one, lowest first. Bits that no flag has come last, together.
+            /// Returns the flags of the set one by one, lowest first. Bits that no flag has come
+            /// last, together.
             ///
             /// ```
             #[doc = $head]
@@ -212,7 +217,8 @@ macro_rules! flags {
             ///
             /// ```
             #[doc = $head]
-            /// assert_eq!(a.iter_names().next().map(|(name, _)| name), Some(a.to_string()).as_deref());
+            /// assert_eq!(a.iter_names().next().map(|(name, _)| name),
+            /// Some(a.to_string()).as_deref());
             /// ```
             #[must_use]
             pub const fn iter_names(&self) -> FlagNames<$name> {
@@ -393,9 +399,13 @@ macro_rules! flags {
                 $name(!self.0 & $name::all().0)
             }
 
-            // Writes the names with a text between them, and after them the bits without a name in hexadecimal. Returns whether there
-            // was anything to write.
-            fn write_names(self, f: &mut fmt::Formatter<'_>, between: &str) -> Result<bool, fmt::Error> {
+            // Writes the names with a text between them, and after them the bits without a name in
+            // hexadecimal. Returns whether there was anything to write.
+            fn write_names(
+                self,
+                f: &mut fmt::Formatter<'_>,
+                between: &str,
+            ) -> Result<bool, fmt::Error> {
                 let mut names = self.iter_names();
                 let mut is_first = true;
                 for (name, _) in &mut names {
@@ -464,8 +474,8 @@ macro_rules! flags {
             }
         }
 
-        /// The type's name and, in parentheses, the names of the flags joined by ` | `, or `0x0` if there are none. Bits that no flag has
-        /// come last, in hexadecimal.
+        /// The type's name and, in parentheses, the names of the flags joined by ` | `, or `0x0` if
+        /// there are none. Bits that no flag has come last, in hexadecimal.
         impl fmt::Debug for $name {
             fn fmt(&self, f: &mut fmt::Formatter<'_>) -> fmt::Result {
                 // The names as one value, which `{:#?}` puts on a line of its own.
@@ -484,7 +494,8 @@ macro_rules! flags {
             }
         }
 
-        /// The names of the flags joined by `|`; `NONE` if there are none. Bits that no flag has come last, in hexadecimal.
+        /// The names of the flags joined by `|`; `NONE` if there are none. Bits that no flag has
+        /// come last, in hexadecimal.
         impl fmt::Display for $name {
             fn fmt(&self, f: &mut fmt::Formatter<'_>) -> fmt::Result {
                 if !self.write_names(f, "|")? {
@@ -496,8 +507,8 @@ macro_rules! flags {
 
         base!($name: Binary Octal LowerHex UpperHex);
 
-        /// Reads names joined by `|`, with or without spaces around them. `NONE` and no text at all name no flag; a number in
-        /// hexadecimal, as in `0x8`, is the set with these bits.
+        /// Reads names joined by `|`, with or without spaces around them. `NONE` and no text at all
+        /// name no flag; a number in hexadecimal, as in `0x8`, is the set with these bits.
         impl FromStr for $name {
             type Err = ParseFlagsError;
 
@@ -507,7 +518,8 @@ macro_rules! flags {
                     return Ok(set);
                 }
                 for name in text.split('|').map(str::trim) {
-                    let number = name.strip_prefix("0x").and_then(|digits| <$bits>::from_str_radix(digits, 16).ok());
+                    let digits = name.strip_prefix("0x");
+                    let number = digits.and_then(|it| <$bits>::from_str_radix(it, 16).ok());
                     let found = match name {
                         $($alias => Some($name::$named),)*
                         _ => number.map($name).or_else(|| $name::from_name(name)),
@@ -568,7 +580,10 @@ macro_rules! flags {
 
         #[cfg(feature = "use_serde")]
         impl<'de> serde::Deserialize<'de> for $name {
-            fn deserialize<From: serde::Deserializer<'de>>(from: From) -> Result<$name, From::Error> {
+            fn deserialize<From>(from: From) -> Result<$name, From::Error>
+            where
+                From: serde::Deserializer<'de>,
+            {
                 use serde::de::Error;
                 if from.is_human_readable() {
                     String::deserialize(from)?.parse().map_err(From::Error::custom)
@@ -585,7 +600,7 @@ flags! {
     "use hedrugal::input::Modifiers as Flags;\nlet (a, b) = (Flags::SHIFT, Flags::CTRL);"
     /// A set of modifier keys, such as those held while another key is pressed.
     Modifiers: u16 {
-        // numbers.txt: modifier flag
+        // numbers.txt: termwiz_mod flag
         /// No modifier.
         const NONE = 0;
         /// Shift.
@@ -621,8 +636,8 @@ flags! {
 }
 
 impl Modifiers {
-    /// Returns the modifiers without the six flags that name a left or a right key. The other flags are unchanged: a caller that
-    /// doesn't care which Alt key is held looks at ALT alone.
+    /// Returns the modifiers without the six flags that name a left or a right key. The other flags
+    /// are unchanged: a caller that doesn't care which Alt key is held looks at ALT alone.
     ///
     /// ```
     /// use hedrugal::input::Modifiers;
@@ -637,8 +652,9 @@ impl Modifiers {
             .difference(Modifiers::LEFT_SHIFT.union(Modifiers::RIGHT_SHIFT))
     }
 
-    /// Returns the number by which xterm's key sequences tell these modifiers: 1 for SHIFT plus 2 for ALT plus 4 for CTRL. Other flags
-    /// don't count. The parameter in a sequence is one more than this number.
+    /// Returns the number by which xterm's key sequences tell these modifiers: 1 for SHIFT plus 2
+    /// for ALT plus 4 for CTRL. Other flags don't count. The parameter in a sequence is one more
+    /// than this number.
     ///
     /// ```
     /// use hedrugal::input::Modifiers;
@@ -680,10 +696,11 @@ flags! {
 
 flags! {
     in "input"
-    "use hedrugal::input::KittyKeyboardFlags as Flags;\nlet (a, b) = (Flags::DISAMBIGUATE_ESCAPE_CODES, Flags::REPORT_EVENT_TYPES);"
+    "use hedrugal::input::KittyKeyboardFlags as Flags;\n\
+     let (a, b) = (Flags::DISAMBIGUATE_ESCAPE_CODES, Flags::REPORT_EVENT_TYPES);"
     /// What a program asks of a terminal in kitty's keyboard protocol.
     KittyKeyboardFlags: u16 {
-        // numbers.txt: kitty flag
+        // numbers.txt: kitty_flag flag
         /// Nothing is asked for.
         const NONE = 0;
         /// Keys whose plain text is ambiguous, as that of Escape, are reported as escape codes.
@@ -704,9 +721,10 @@ flags! {
 flags! {
     in "extended"
     "use hedrugal::extended::KittyModifiers as Flags;\nlet (a, b) = (Flags::SHIFT, Flags::CTRL);"
-    /// A set of modifiers, as Kitty's keyboard protocol reports them: keys that are held, and locks that are on.
+    /// A set of modifiers, as Kitty's keyboard protocol reports them: keys that are held, and locks
+    /// that are on.
     KittyModifiers: u8 {
-        // numbers.txt: held flag
+        // numbers.txt: kitty_mod flag
         /// No modifier.
         const NONE = 0;
         /// Shift.

@@ -2,7 +2,8 @@
 
 /// A key: by the character that it types, or by its name.
 ///
-/// Terminals report only some of these keys; the rest are for programs that have keys from elsewhere, such as a window system.
+/// Terminals report only some of these keys; the rest are for programs that have keys from
+/// elsewhere, such as a window system.
 ///
 /// ```
 /// use hedrugal::input::KeyCode;

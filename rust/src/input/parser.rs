@@ -1,5 +1,5 @@
 // The parser: bytes of a terminal to events.
-use super::{Completions, InputEvent, KeyEvent, RowBytes, FAULT};
+use super::{Completions, EntryBytes, InputEvent, KeyEvent, FAULT};
 use crate::library_parser::{Calls, LibraryParser, RawParser};
 use crate::{raw, table};
 use std::{error, fmt};
@@ -22,8 +22,9 @@ impl fmt::Display for AllocError {
 
 impl error::Error for AllocError {}
 
-/// A call of [`InputParser::try_parse`] or [`ExtendedParser::try_parse`](crate::extended::ExtendedParser::try_parse) was refused memory. The
-/// parser may be used again.
+/// A call of [`InputParser::try_parse`] or
+/// [`ExtendedParser::try_parse`](crate::extended::ExtendedParser::try_parse) was refused memory.
+/// The parser may be used again.
 ///
 /// ```
 /// use hedrugal::input::ParseError;
@@ -32,10 +33,12 @@ impl error::Error for AllocError {}
 /// ```
 #[derive(Debug, Clone, Copy, PartialEq, Eq)]
 pub enum ParseError {
-    /// The bytes weren't buffered: no event was emitted, and the parser is unchanged. Call again with the same bytes.
+    /// The bytes weren't buffered: no event was emitted, and the parser is unchanged. Call again
+    /// with the same bytes.
     NotTaken,
-    /// The bytes were buffered, and the events before a paste, or another event with bytes of its own, were emitted. Call again with no
-    /// bytes and the same flag, or with the next bytes if more may come: that event comes first.
+    /// The bytes were buffered, and the events before a paste, or another event with bytes of its
+    /// own, were emitted. Call again with no bytes and the same flag, or with the next bytes if
+    /// more may come: that event comes first.
     Taken,
 }
 
@@ -51,7 +54,8 @@ impl fmt::Display for ParseError {
 impl error::Error for ParseError {}
 
 /// A call of [`InputParser::try_parse_as_vec`] or
-/// [`ExtendedParser::try_parse_as_vec`](crate::extended::ExtendedParser::try_parse_as_vec) was refused memory. The parser may be used again.
+/// [`ExtendedParser::try_parse_as_vec`](crate::extended::ExtendedParser::try_parse_as_vec) was
+/// refused memory. The parser may be used again.
 ///
 /// ```
 /// use hedrugal::input::{InputEvent, ParseVecError};
@@ -66,22 +70,27 @@ impl error::Error for ParseError {}
 pub struct ParseVecError<Event = InputEvent> {
     /// The events so far. The parser doesn't emit them again.
     pub events: Vec<Event>,
-    /// Whether the bytes were buffered. If not, call again with the same bytes. If they were, call again with no bytes and the same flag,
-    /// or with the next bytes if more may come.
+    /// Whether the bytes were buffered. If not, call again with the same bytes. If they were, call
+    /// again with no bytes and the same flag, or with the next bytes if more may come.
     pub taken: bool,
 }
 
 impl<Event> fmt::Display for ParseVecError<Event> {
     fn fmt(&self, f: &mut fmt::Formatter<'_>) -> fmt::Result {
-        let refused = if self.taken { ParseError::Taken } else { ParseError::NotTaken };
+        let refused = if self.taken {
+            ParseError::Taken
+        } else {
+            ParseError::NotTaken
+        };
         refused.fmt(f)
     }
 }
 
 impl<Event: fmt::Debug> error::Error for ParseVecError<Event> {}
 
-/// What stays buffered, as [`InputParser::waiting`] and [`ExtendedParser::waiting`](crate::extended::ExtendedParser::waiting) return it. It
-/// says what a pause means.
+/// What stays buffered, as [`InputParser::waiting`] and
+/// [`ExtendedParser::waiting`](crate::extended::ExtendedParser::waiting) return it. It says what a
+/// pause means.
 ///
 /// ```
 /// use hedrugal::input::{InputParser, Waiting};
@@ -94,15 +103,16 @@ impl<Event: fmt::Debug> error::Error for ParseVecError<Event> {}
 pub enum Waiting {
     /// Nothing is buffered.
     Nothing,
-    /// ESC, or ESC ESC: the Escape key, alone or with Alt, unless more bytes follow. After a pause of some 50 ms call
-    /// [`InputParser::flush_escape`].
+    /// ESC, or ESC ESC: the Escape key, alone or with Alt, unless more bytes follow. After a pause
+    /// of some 50 ms call [`InputParser::flush_escape`].
     Escape,
-    /// A longer prefix of a sequence, after an ESC or not. On a slow line the rest may come late: flush it after a much longer pause, say
-    /// 1000 ms, or never.
+    /// A longer prefix of a sequence, after an ESC or not. On a slow line the rest may come late:
+    /// flush it after a much longer pause, say 1000 ms, or never.
     Sequence,
     /// A prefix of a character in UTF-8, after an ESC or not. Never flush it.
     Character,
-    /// An open paste: its start, and its text so far. There is nothing to flush; [`InputParser::end_paste`] ends it.
+    /// An open paste: its start, and its text so far. There is nothing to flush;
+    /// [`InputParser::end_paste`] ends it.
     Paste,
 }
 
@@ -130,8 +140,8 @@ unsafe impl RawParser for raw::Parser {
         next: raw::hed_parser_next,
         text: raw::hed_parser_paste,
         drop_text: raw::hed_parser_drop_paste,
-        waiting: raw::hed_parser_waiting_len,
-        waiting_kind: raw::hed_parser_waiting,
+        waiting_len: raw::hed_parser_waiting_len,
+        waiting: raw::hed_parser_waiting,
         flush_escape: raw::hed_parser_flush_escape,
         is_paste_open: raw::hed_parser_is_paste_open,
         end_paste: raw::hed_parser_end_paste,
@@ -143,13 +153,17 @@ unsafe impl RawParser for raw::Parser {
         event.kind == raw::KIND_PASTE
     }
 
-    fn event(event: &raw::Event, text: impl FnOnce(usize) -> Result<Vec<u8>, AllocError>) -> Result<InputEvent, AllocError> {
+    fn event(
+        event: &raw::Event,
+        text: impl FnOnce(usize) -> Result<Vec<u8>, AllocError>,
+    ) -> Result<InputEvent, AllocError> {
         InputEvent::of(event, text)
     }
 }
 
 impl InputParser {
-    /// Makes a parser with an empty buffer. It shares the process's sequence table, which the first such call makes.
+    /// Makes a parser with an empty buffer. It shares the process's sequence table, which the first
+    /// such call makes.
     ///
     /// ```
     /// use hedrugal::input::InputParser;
@@ -178,17 +192,21 @@ impl InputParser {
     /// If memory is refused, for the parser or for the table of the first. Call again.
     pub fn try_new() -> Result<InputParser, AllocError> {
         let mut raw = raw::Parser::NONE;
-        // SAFETY: `raw` is no parser yet, which the call allows. `idle` is another one, which this thread alone has.
+        // SAFETY: `raw` is no parser yet, which the call allows. `idle` is another one, which this
+        // thread alone has.
         table::share(|idle| unsafe { raw::hed_parser_init_sharing(&mut raw, idle) })?;
         let parser = LibraryParser::of(raw);
         Ok(InputParser { parser })
     }
 
-    /// Appends `bytes` to the buffer, and calls `callback` with each event in order. Bytes that are no event yet stay buffered.
+    /// Appends `bytes` to the buffer, and calls `callback` with each event in order. Bytes that are
+    /// no event yet stay buffered.
     ///
-    /// Pass `maybe_more` as true while more bytes may come: then bytes that may still become a longer sequence or a character stay
-    /// buffered. After a pause call [`InputParser::flush_escape`]. Pass false at the end of the input: then only an open paste stays.
-    /// Call with no bytes and false to flush. Before the end this breaks a sequence or a character of which the rest is still to come.
+    /// Pass `maybe_more` as true while more bytes may come: then bytes that may still become a
+    /// longer sequence or a character stay buffered. After a pause call
+    /// [`InputParser::flush_escape`]. Pass false at the end of the input: then only an open paste
+    /// stays. Call with no bytes and false to flush. Before the end this breaks a sequence or a
+    /// character of which the rest is still to come.
     ///
     /// ```
     /// use hedrugal::input::InputParser;
@@ -203,7 +221,8 @@ impl InputParser {
     ///
     /// If memory is refused.
     pub fn parse<F: FnMut(InputEvent)>(&mut self, bytes: &[u8], callback: F, maybe_more: bool) {
-        self.try_parse(bytes, callback, maybe_more).expect("the input is parsed");
+        self.try_parse(bytes, callback, maybe_more)
+            .expect("the input is parsed");
     }
 
     /// Does what [`InputParser::parse`] does.
@@ -217,8 +236,14 @@ impl InputParser {
     ///
     /// # Errors
     ///
-    /// If memory is refused. The error says whether the bytes were buffered, and so how to go on; no event is lost.
-    pub fn try_parse<F: FnMut(InputEvent)>(&mut self, bytes: &[u8], callback: F, maybe_more: bool) -> Result<(), ParseError> {
+    /// If memory is refused. The error says whether the bytes were buffered, and so how to go on;
+    /// no event is lost.
+    pub fn try_parse<F: FnMut(InputEvent)>(
+        &mut self,
+        bytes: &[u8],
+        callback: F,
+        maybe_more: bool,
+    ) -> Result<(), ParseError> {
         self.parser.parse(bytes, callback, maybe_more)
     }
 
@@ -237,7 +262,8 @@ impl InputParser {
     /// If memory is refused.
     #[must_use]
     pub fn parse_as_vec(&mut self, bytes: &[u8], maybe_more: bool) -> Vec<InputEvent> {
-        self.try_parse_as_vec(bytes, maybe_more).expect("the input is parsed")
+        self.try_parse_as_vec(bytes, maybe_more)
+            .expect("the input is parsed")
     }
 
     /// Returns the events with which [`InputParser::parse`] calls its callback.
@@ -251,12 +277,18 @@ impl InputParser {
     ///
     /// # Errors
     ///
-    /// If memory is refused. The error has the events so far, and says whether the bytes were buffered; no event is lost.
-    pub fn try_parse_as_vec(&mut self, bytes: &[u8], maybe_more: bool) -> Result<Vec<InputEvent>, ParseVecError> {
+    /// If memory is refused. The error has the events so far, and says whether the bytes were
+    /// buffered; no event is lost.
+    pub fn try_parse_as_vec(
+        &mut self,
+        bytes: &[u8],
+        maybe_more: bool,
+    ) -> Result<Vec<InputEvent>, ParseVecError> {
         self.parser.parse_as_vec(bytes, maybe_more)
     }
 
-    /// Returns the number of bytes that are buffered. Those of a paste that was refused memory may no longer be among them.
+    /// Returns the number of bytes that are buffered. Those of a paste that was refused memory may
+    /// no longer be among them.
     ///
     /// ```
     /// use hedrugal::input::InputParser;
@@ -284,11 +316,12 @@ impl InputParser {
         self.parser.waiting()
     }
 
-    /// Returns the Escape key if ESC alone is buffered, with ALT if ESC ESC is, and consumes it. Returns `None` otherwise; the parser is
-    /// then unchanged.
+    /// Returns the Escape key if ESC alone is buffered, with ALT if ESC ESC is, and consumes it.
+    /// Returns `None` otherwise; the parser is then unchanged.
     ///
-    /// Call it when some 50 ms have passed without a byte. Whatever else is buffered stays, so a pause breaks only what is cut right after
-    /// its ESC or ESC ESC: a sequence, the start of a paste, or a key with Alt.
+    /// Call it when some 50 ms have passed without a byte. Whatever else is buffered stays, so a
+    /// pause breaks only what is cut right after its ESC or ESC ESC: a sequence, the start of a
+    /// paste, or a key with Alt.
     ///
     /// ```
     /// use hedrugal::input::{InputEvent, InputParser, KeyCode, KeyEvent, Modifiers};
@@ -307,8 +340,9 @@ impl InputParser {
         self.parser.flush_escape()
     }
 
-    /// Returns whether the buffer begins with the start of a paste. Such a paste is buffered without limit until its end arrives:
-    /// with a limit, say 1 MB, call [`InputParser::end_paste`] once [`InputParser::waiting_len`] is above it.
+    /// Returns whether the buffer begins with the start of a paste. Such a paste is buffered
+    /// without limit until its end arrives: with a limit, say 1 MB, call [`InputParser::end_paste`]
+    /// once [`InputParser::waiting_len`] is above it.
     ///
     /// ```
     /// use hedrugal::input::InputParser;
@@ -322,11 +356,12 @@ impl InputParser {
         self.parser.is_paste_open()
     }
 
-    /// Ends an open paste where it is: returns a `Paste` of the text that came so far, and consumes all that is buffered. Returns `None`
-    /// if no paste is open; the parser is then unchanged.
+    /// Ends an open paste where it is: returns a `Paste` of the text that came so far, and consumes
+    /// all that is buffered. Returns `None` if no paste is open; the parser is then unchanged.
     ///
     /// The rest of the paste then arrives as typed keys, Enter included, and its end as
-    /// [`KeyCode::InternalPasteEnd`](super::KeyCode::InternalPasteEnd). If the text ended inside that, the rest of it is typed keys too.
+    /// [`KeyCode::InternalPasteEnd`](super::KeyCode::InternalPasteEnd). If the text ended inside
+    /// that, the rest of it is typed keys too.
     ///
     /// ```
     /// use hedrugal::input::{InputEvent, InputParser};
@@ -361,8 +396,8 @@ impl InputParser {
         self.parser.end_paste()
     }
 
-    /// Forgets all that is buffered, an open paste too, and an event that was refused memory. Returns the number of bytes that were
-    /// buffered, as [`InputParser::waiting_len`] counts them.
+    /// Forgets all that is buffered, an open paste too, and an event that was refused memory.
+    /// Returns the number of bytes that were buffered, as [`InputParser::waiting_len`] counts them.
     ///
     /// Call it where earlier bytes no longer count, as after another program had the terminal.
     ///
@@ -378,11 +413,13 @@ impl InputParser {
         self.parser.reset()
     }
 
-    /// Gives back memory that holds no buffered bytes, but for room for `min_capacity` bytes, as `Vec::shrink_to` does. What is buffered and
-    /// all later events are unchanged. If a smaller block is refused, the parser keeps the one that it has.
+    /// Gives back memory that holds no buffered bytes, but for room for `min_capacity` bytes, as
+    /// `Vec::shrink_to` does. What is buffered and all later events are unchanged. If a smaller
+    /// block is refused, the parser keeps the one that it has.
     ///
-    /// The buffer grows with what it has to hold, such as a long paste, and keeps that memory for what comes next. Call this for the parser
-    /// of a session that is quiet, with 0 or with the length of a usual read.
+    /// The buffer grows with what it has to hold, such as a long paste, and keeps that memory for
+    /// what comes next. Call this for the parser of a session that is quiet, with 0 or with the
+    /// length of a usual read.
     ///
     /// ```
     /// use hedrugal::input::InputParser;
@@ -397,10 +434,12 @@ impl InputParser {
         self.parser.shrink_to(min_capacity);
     }
 
-    /// Returns the row of the sequence table at a place: the bytes of a sequence, and its key. Rows are in the order of their bytes; the
-    /// first place is 0, and the result is `None` from 2937 on, the number of rows. The table is the same in every parser.
+    /// Returns the entry of the sequence table at a place: the bytes of a sequence, and its key.
+    /// Entries are in the order of their bytes. The first place is 0, and the result is `None` from
+    /// the end of the table on. The table is the same in every parser.
     ///
-    /// The start and the end of a paste are rows too, with the keys [`KeyCode::InternalPasteStart`](super::KeyCode::InternalPasteStart) and
+    /// The start and the end of a paste are entries too, with the keys
+    /// [`KeyCode::InternalPasteStart`](super::KeyCode::InternalPasteStart) and
     /// [`KeyCode::InternalPasteEnd`](super::KeyCode::InternalPasteEnd).
     ///
     /// ```
@@ -411,32 +450,43 @@ impl InputParser {
     ///     key: KeyCode::UpArrow,
     ///     modifiers: Modifiers::CTRL,
     /// };
-    /// let rows = (0..).map_while(|place| parser.row(place));
-    /// let of_ctrl_up: Vec<_> = rows.filter(|(_, key)| *key == ctrl_up).collect();
+    /// let entries = (0..).map_while(|place| parser.entry(place));
+    /// let of_ctrl_up: Vec<_> = entries.filter(|(_, key)| *key == ctrl_up).collect();
     /// assert_eq!(of_ctrl_up.len(), 2);
     /// assert_eq!(&of_ctrl_up[0].0[..], b"\x1bOa");
     /// assert_eq!(&of_ctrl_up[1].0[..], b"\x1b[1;5A");
-    /// assert_eq!(parser.row(2937), None);
+    /// assert_eq!(parser.entry(usize::MAX), None);
     /// ```
     #[must_use]
-    pub fn row(&self, place: usize) -> Option<(RowBytes, KeyEvent)> {
-        let mut bytes = [0; raw::ROW_MOST];
+    pub fn entry(&self, place: usize) -> Option<(EntryBytes, KeyEvent)> {
+        let mut bytes = [0; raw::ENTRY_MOST];
         let mut event = raw::Event::default();
-        // SAFETY: `raw` is a parser, which this thread alone has. The array's pointer leads to as many bytes, and `event` is another value.
-        let len = unsafe { raw::hed_parser_entry(&mut *self.parser.locked(), place, bytes.as_mut_ptr(), bytes.len(), &mut event) };
+        // SAFETY: `raw` is a parser, which this thread alone has. The array's pointer leads to as
+        // many bytes, and `event` is another value.
+        let len = unsafe {
+            raw::hed_parser_entry(
+                &mut *self.parser.locked(),
+                place,
+                bytes.as_mut_ptr(),
+                bytes.len(),
+                &mut event,
+            )
+        };
         if len == 0 {
             return None;
         }
         assert!(len <= bytes.len(), "{FAULT}");
-        Some((RowBytes::of(bytes, len), KeyEvent::of(&event)))
+        Some((EntryBytes::of(bytes, len), KeyEvent::of(&event)))
     }
 
-    /// Returns the rows of the sequence table that would complete what stays buffered: those that begin with it and are longer. If there
-    /// are none, those that begin with what follows its ESC; the keys of these get ALT.
+    /// Returns the entries of the sequence table that would complete what stays buffered: those
+    /// that begin with it and are longer. If there are none, those that begin with what follows its
+    /// ESC; the keys of these get ALT.
     ///
-    /// Call it while [`InputParser::waiting`] is `Escape` or `Sequence`. A mouse report, a character and a paste are completed by bytes
-    /// that aren't in the table, and an ESC by any character too. The start of a paste is no key event: after an ESC the Escape key is
-    /// emitted, and the paste is open.
+    /// Call it while [`InputParser::waiting`] is `Escape` or `Sequence`. A mouse report, a
+    /// character and a paste are completed by bytes that aren't in the table, and an ESC by any
+    /// character too. The start of a paste is no key event: after an ESC the Escape key is emitted,
+    /// and the paste is open.
     ///
     /// ```
     /// use hedrugal::input::{InputParser, KeyCode};
@@ -444,20 +494,20 @@ impl InputParser {
     /// let mut parser = InputParser::new();
     /// parser.parse(b"\x1b[23;5", |_| {}, true);
     /// let completions = parser.completions();
-    /// let keys: Vec<_> = completions.rows.filter_map(|place| parser.row(place)).collect();
+    /// let keys: Vec<_> = completions.entries.filter_map(|place| parser.entry(place)).collect();
     /// assert_eq!((&keys[0].0[..], keys[0].1.key), (&b"\x1b[23;5u"[..], KeyCode::Char('\x17')));
     /// assert_eq!((&keys[1].0[..], keys[1].1.key), (&b"\x1b[23;5~"[..], KeyCode::Function(11)));
     /// assert_eq!(keys.len(), 2);
     /// ```
     #[must_use]
     pub fn completions(&self) -> Completions {
-        let mut rows = raw::Rows::default();
-        // SAFETY: `raw` is a parser, which this thread alone has, and `rows` another value.
-        let told = unsafe { raw::hed_parser_completions(&mut *self.parser.locked(), &mut rows) };
+        let mut found = raw::Entries::default();
+        // SAFETY: `raw` is a parser, which this thread alone has, and `found` another value.
+        let told = unsafe { raw::hed_parser_completions(&mut *self.parser.locked(), &mut found) };
         assert!(told, "{FAULT}");
         Completions {
-            rows: rows.first..rows.first + rows.count,
-            with_alt: rows.with_alt,
+            entries: found.first..found.first + found.count,
+            with_alt: found.with_alt,
         }
     }
 }

@@ -3,12 +3,12 @@ use crate::draws::Draws;
 use crate::examples::{Step, BOTH, LAST, MORE};
 use crate::generated::any_text;
 use crate::plain::PlainReader;
-use hedrugal::extended::{ExtendedParser, Rows};
+use hedrugal::extended::{ExtendedParser, Protocol};
 
 // The end of a paste.
 const END: &[u8] = b"\x1b[201~";
 
-// The parser, the plain reader, and what waits for the reader.
+// The parser, the plain reader, and what the reader has buffered.
 pub struct Comparison {
     parser: ExtendedParser,
     reader: PlainReader,
@@ -16,31 +16,36 @@ pub struct Comparison {
 }
 
 impl Comparison {
-    pub fn new(rows: Rows) -> Comparison {
+    pub fn new(protocol: Protocol) -> Comparison {
         Comparison {
-            parser: ExtendedParser::new(rows),
-            reader: PlainReader::new(rows),
+            parser: ExtendedParser::new(protocol),
+            reader: PlainReader::new(protocol),
             waiting: Vec::new(),
         }
     }
 
-    // Forgets what waits.
+    // Forgets what is buffered.
     fn begin(&mut self) {
         self.parser.reset();
         self.waiting.clear();
     }
 
-    // A call has the events of the plain reader, and as many bytes wait after it.
+    // A call has the events of the plain reader, and as many bytes are buffered after it.
     fn check_call(&mut self, bytes: &[u8], more: bool) {
         let text = [&self.waiting, bytes].concat();
         let (events, rest) = self.reader.read(&text, more);
         let parsed = self.parser.parse_as_vec(bytes, more);
         assert_eq!(parsed, events, "{}, {more}", text.escape_ascii());
-        assert_eq!(self.parser.waiting_len(), rest.len(), "{}, {more}", text.escape_ascii());
+        assert_eq!(
+            self.parser.waiting_len(),
+            rest.len(),
+            "{}, {more}",
+            text.escape_ascii()
+        );
         self.waiting = rest.to_vec();
     }
 
-    // What waits after a flush is an open paste: its end tells the text of it.
+    // What is buffered after a flush is an open paste: its end tells the text of it.
     fn check_rest(&mut self) {
         self.check_call(b"", LAST);
         self.check_call(END, LAST);
@@ -72,8 +77,8 @@ impl Comparison {
 const TEXTS: usize = 1000;
 
 fn check_texts(seed: u64) {
-    for rows in BOTH {
-        let (mut comparison, mut draws) = (Comparison::new(*rows), Draws::new(seed));
+    for protocol in BOTH {
+        let (mut comparison, mut draws) = (Comparison::new(*protocol), Draws::new(seed));
         for _ in 0..TEXTS {
             let text = any_text(&mut draws);
             let place = draws.place_in(&text);
@@ -95,10 +100,14 @@ fn reads_as_the_plain_reader_2() {
 // Each number that may name a key, and each letter.
 #[test]
 fn reads_keys_as_the_plain_reader() {
-    for rows in BOTH {
-        let mut comparison = Comparison::new(*rows);
+    for protocol in BOTH {
+        let mut comparison = Comparison::new(*protocol);
         for number in (0..=300).chain(57300..=57500).chain(63740..=63750) {
-            for text in [format!("\x1b[{number}u"), format!("\x1b[{number}~"), format!("\x1b[27;5;{number}~")] {
+            for text in [
+                format!("\x1b[{number}u"),
+                format!("\x1b[{number}~"),
+                format!("\x1b[27;5;{number}~"),
+            ] {
                 comparison.check_text(text.as_bytes(), 3);
             }
         }

@@ -1,11 +1,18 @@
-// Examples whose calls are cut: each call gives the same events, and as many bytes wait after it.
+// Examples whose calls are cut: each call gives the same events, and as many bytes are buffered
+// after it.
 use crate::examples::{Step, MORE};
 use crate::parser::given;
 use hedrugal::extended::{ExtendedEvent, ExtendedParser};
 
-// The events of bytes that are cut: those before `place` in pieces of `size`, with more to come, and the others by one call under the
-// flag.
-pub fn read_cut(parser: &mut ExtendedParser, bytes: &[u8], more: bool, place: usize, size: usize) -> Vec<ExtendedEvent> {
+// The events of bytes that are cut: those before `place` in pieces of `size`, with more to come,
+// and the others by one call under the flag.
+pub fn read_cut(
+    parser: &mut ExtendedParser,
+    bytes: &[u8],
+    more: bool,
+    place: usize,
+    size: usize,
+) -> Vec<ExtendedEvent> {
     let (front, last) = bytes.split_at(place.min(bytes.len()));
     let mut events = Vec::new();
     for piece in front.chunks(size) {
@@ -24,13 +31,14 @@ fn check_cut(parser: &mut ExtendedParser, steps: &[Step], place: usize, size: us
             given(&events, parser),
             *wanted,
             "{:?} {}, to {place} in pieces of {size}",
-            parser.rows(),
+            parser.protocol(),
             bytes.escape_ascii()
         );
     }
 }
 
-// Makes the calls of an example whole, cut in two at each place, and with the bytes before each place one by one.
+// Makes the calls of an example whole, cut in two at each place, and with the bytes before each
+// place one by one.
 pub fn check_cuts(parser: &mut ExtendedParser, steps: &[Step]) {
     let longest = steps.iter().map(|(bytes, _, _)| bytes.len()).max();
     for place in 0..=longest.unwrap_or(0) {

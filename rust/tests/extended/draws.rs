@@ -10,7 +10,10 @@ impl Draws {
 
     // A number below the limit.
     pub fn below(&mut self, limit: usize) -> usize {
-        self.0 = self.0.wrapping_mul(6364136223846793005).wrapping_add(1442695040888963407);
+        self.0 = self
+            .0
+            .wrapping_mul(6364136223846793005)
+            .wrapping_add(1442695040888963407);
         (self.0 >> 33) as usize % limit
     }
 
@@ -21,6 +24,9 @@ impl Draws {
 
     // A text of so many symbols.
     pub fn text(&mut self, count: usize, symbols: &[&[u8]]) -> Vec<u8> {
-        (0..count).flat_map(|_| symbols[self.below(symbols.len())]).copied().collect()
+        (0..count)
+            .flat_map(|_| symbols[self.below(symbols.len())])
+            .copied()
+            .collect()
     }
 }

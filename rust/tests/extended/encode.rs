@@ -1,8 +1,15 @@
 // Key reports to bytes, and back.
-use hedrugal::extended::{ExtendedEvent, ExtendedParser, KeyEventKind, KeyReport, KittyEncodeError, KittyModifiers, ReportedKey, Rows};
+use hedrugal::extended::{
+    ExtendedEvent, ExtendedParser, KeyEventKind, KeyReport, KittyEncodeError, KittyModifiers,
+    Protocol, ReportedKey,
+};
 use hedrugal::input::{KeyCode, KittyKeyboardFlags as Flags};
 
-const KINDS: [KeyEventKind; 3] = [KeyEventKind::Press, KeyEventKind::Repeat, KeyEventKind::Release];
+const KINDS: [KeyEventKind; 3] = [
+    KeyEventKind::Press,
+    KeyEventKind::Repeat,
+    KeyEventKind::Release,
+];
 
 const NONE: KittyModifiers = KittyModifiers::NONE;
 
@@ -63,20 +70,64 @@ fn shift_a_alone(text: &str) -> KeyReport {
 }
 
 fn check(report: &KeyReport, flags: Flags, wanted: &str) {
-    assert_eq!(report.encode(flags).as_deref(), Ok(wanted), "{report:?} {flags}");
-    assert_eq!(report.try_encode(flags).as_deref(), Ok(wanted), "{report:?} {flags}");
+    assert_eq!(
+        report.encode(flags).as_deref(),
+        Ok(wanted),
+        "{report:?} {flags}"
+    );
+    assert_eq!(
+        report.try_encode(flags).as_deref(),
+        Ok(wanted),
+        "{report:?} {flags}"
+    );
 }
 
 // A key, the modifiers that are held, what happened to it, the flags, and the bytes.
 type Example = (KeyCode, KittyModifiers, KeyEventKind, Flags, &'static str);
 
 const EXAMPLES: &[Example] = &[
-    (KeyCode::Escape, NONE, KeyEventKind::Press, Flags::NONE, "\x1b"),
-    (KeyCode::Escape, NONE, KeyEventKind::Press, DISAMBIGUATE, "\x1b[27u"),
-    (KeyCode::Char('a'), CTRL, KeyEventKind::Press, Flags::NONE, "\x01"),
-    (KeyCode::Char('a'), CTRL, KeyEventKind::Press, DISAMBIGUATE, "\x1b[97;5u"),
-    (KeyCode::Char('a'), CAPS_LOCK, KeyEventKind::Press, DISAMBIGUATE, "a"),
-    (KeyCode::Char('a'), NUM_LOCK, KeyEventKind::Press, DISAMBIGUATE, "a"),
+    (
+        KeyCode::Escape,
+        NONE,
+        KeyEventKind::Press,
+        Flags::NONE,
+        "\x1b",
+    ),
+    (
+        KeyCode::Escape,
+        NONE,
+        KeyEventKind::Press,
+        DISAMBIGUATE,
+        "\x1b[27u",
+    ),
+    (
+        KeyCode::Char('a'),
+        CTRL,
+        KeyEventKind::Press,
+        Flags::NONE,
+        "\x01",
+    ),
+    (
+        KeyCode::Char('a'),
+        CTRL,
+        KeyEventKind::Press,
+        DISAMBIGUATE,
+        "\x1b[97;5u",
+    ),
+    (
+        KeyCode::Char('a'),
+        CAPS_LOCK,
+        KeyEventKind::Press,
+        DISAMBIGUATE,
+        "a",
+    ),
+    (
+        KeyCode::Char('a'),
+        NUM_LOCK,
+        KeyEventKind::Press,
+        DISAMBIGUATE,
+        "a",
+    ),
     (
         KeyCode::Char('a'),
         CTRL_AND_CAPS_LOCK,
@@ -91,52 +142,248 @@ const EXAMPLES: &[Example] = &[
         DISAMBIGUATE,
         "\x1b[97;5u",
     ),
-    (KeyCode::Char('a'), CTRL_AND_CAPS_LOCK, KeyEventKind::Press, ALL_KEYS, "\x1b[97;69u"),
-    (KeyCode::Char('a'), CTRL_AND_NUM_LOCK, KeyEventKind::Press, ALL_KEYS, "\x1b[97;133u"),
-    (KeyCode::Enter, CAPS_LOCK, KeyEventKind::Press, DISAMBIGUATE, "\r"),
-    (KeyCode::Enter, NUM_LOCK, KeyEventKind::Press, DISAMBIGUATE, "\r"),
-    (KeyCode::Tab, CAPS_LOCK, KeyEventKind::Press, DISAMBIGUATE, "\t"),
-    (KeyCode::Tab, NUM_LOCK, KeyEventKind::Press, DISAMBIGUATE, "\t"),
-    (KeyCode::Backspace, CAPS_LOCK, KeyEventKind::Press, DISAMBIGUATE, "\x7f"),
-    (KeyCode::Backspace, NUM_LOCK, KeyEventKind::Press, DISAMBIGUATE, "\x7f"),
-    (KeyCode::UpArrow, CAPS_LOCK, KeyEventKind::Press, DISAMBIGUATE, "\x1b[1;65A"),
-    (KeyCode::UpArrow, NUM_LOCK, KeyEventKind::Press, DISAMBIGUATE, "\x1b[1;129A"),
-    (KeyCode::UpArrow, CAPS_LOCK, KeyEventKind::Press, Flags::NONE, "\x1b[A"),
-    (KeyCode::UpArrow, NUM_LOCK, KeyEventKind::Press, Flags::NONE, "\x1b[A"),
-    (KeyCode::UpArrow, NONE, KeyEventKind::Release, EVENT_TYPES, "\x1b[1;1:3A"),
-    (KeyCode::UpArrow, NONE, KeyEventKind::Release, DISAMBIGUATE, ""),
-    (KeyCode::UpArrow, NONE, KeyEventKind::Repeat, EVENT_TYPES, "\x1b[1;1:2A"),
-    (KeyCode::UpArrow, NONE, KeyEventKind::Repeat, DISAMBIGUATE, "\x1b[A"),
-    (KeyCode::UpArrow, NONE, KeyEventKind::Repeat, Flags::NONE, "\x1b[A"),
-    (KeyCode::Delete, SUPER, KeyEventKind::Release, Flags::NONE, ""),
-    (KeyCode::Delete, SUPER, KeyEventKind::Release, EVENT_TYPES, "\x1b[3;9:3~"),
-    (KeyCode::Function(3), NONE, KeyEventKind::Press, DISAMBIGUATE, "\x1b[13~"),
-    (KeyCode::Function(3), SHIFT, KeyEventKind::Press, DISAMBIGUATE, "\x1b[13;2~"),
-    (KeyCode::Function(13), NONE, KeyEventKind::Press, DISAMBIGUATE, "\x1b[57376u"),
-    (KeyCode::Char('\u{85}'), NONE, KeyEventKind::Press, DISAMBIGUATE, "\x1b[133u"),
-    (KeyCode::Char('a'), NONE, KeyEventKind::Release, EVENT_TYPES, "\x1b[97;1:3u"),
-    (KeyCode::Enter, NONE, KeyEventKind::Press, DISAMBIGUATE, "\r"),
-    (KeyCode::Enter, NONE, KeyEventKind::Release, EVENT_TYPES, ""),
-    (KeyCode::Enter, NONE, KeyEventKind::Press, ALL_KEYS, "\x1b[13u"),
-    (KeyCode::Tab, NONE, KeyEventKind::Press, DISAMBIGUATE, "\t"),
-    (KeyCode::Backspace, NONE, KeyEventKind::Press, DISAMBIGUATE, "\x7f"),
-    (KeyCode::LeftShift, SHIFT, KeyEventKind::Press, DISAMBIGUATE, ""),
-    (KeyCode::LeftShift, SHIFT, KeyEventKind::Press, ALL_KEYS, "\x1b[57441;2u"),
-];
-
-// The page's table of C0 controls: each key without modifiers, and with Ctrl, Alt, Shift, Ctrl and Shift, Alt and Shift, Ctrl and Alt.
-const C0_KEYS: [(KeyCode, [&str; 7]); 5] = [
-    (KeyCode::Enter, ["\r", "\r", "\x1b\r", "\r", "\r", "\x1b\r", "\x1b\r"]),
     (
-        KeyCode::Escape,
-        ["\x1b", "\x1b", "\x1b\x1b", "\x1b", "\x1b", "\x1b\x1b", "\x1b\x1b"],
+        KeyCode::Char('a'),
+        CTRL_AND_CAPS_LOCK,
+        KeyEventKind::Press,
+        ALL_KEYS,
+        "\x1b[97;69u",
+    ),
+    (
+        KeyCode::Char('a'),
+        CTRL_AND_NUM_LOCK,
+        KeyEventKind::Press,
+        ALL_KEYS,
+        "\x1b[97;133u",
+    ),
+    (
+        KeyCode::Enter,
+        CAPS_LOCK,
+        KeyEventKind::Press,
+        DISAMBIGUATE,
+        "\r",
+    ),
+    (
+        KeyCode::Enter,
+        NUM_LOCK,
+        KeyEventKind::Press,
+        DISAMBIGUATE,
+        "\r",
+    ),
+    (
+        KeyCode::Tab,
+        CAPS_LOCK,
+        KeyEventKind::Press,
+        DISAMBIGUATE,
+        "\t",
+    ),
+    (
+        KeyCode::Tab,
+        NUM_LOCK,
+        KeyEventKind::Press,
+        DISAMBIGUATE,
+        "\t",
     ),
     (
         KeyCode::Backspace,
-        ["\x7f", "\x08", "\x1b\x7f", "\x7f", "\x08", "\x1b\x7f", "\x1b\x08"],
+        CAPS_LOCK,
+        KeyEventKind::Press,
+        DISAMBIGUATE,
+        "\x7f",
     ),
-    (KeyCode::Tab, ["\t", "\t", "\x1b\t", "\x1b[Z", "\x1b[Z", "\x1b\x1b[Z", "\x1b\t"]),
-    (KeyCode::Char(' '), [" ", "\0", "\x1b ", " ", "\0", "\x1b ", "\x1b\0"]),
+    (
+        KeyCode::Backspace,
+        NUM_LOCK,
+        KeyEventKind::Press,
+        DISAMBIGUATE,
+        "\x7f",
+    ),
+    (
+        KeyCode::UpArrow,
+        CAPS_LOCK,
+        KeyEventKind::Press,
+        DISAMBIGUATE,
+        "\x1b[1;65A",
+    ),
+    (
+        KeyCode::UpArrow,
+        NUM_LOCK,
+        KeyEventKind::Press,
+        DISAMBIGUATE,
+        "\x1b[1;129A",
+    ),
+    (
+        KeyCode::UpArrow,
+        CAPS_LOCK,
+        KeyEventKind::Press,
+        Flags::NONE,
+        "\x1b[A",
+    ),
+    (
+        KeyCode::UpArrow,
+        NUM_LOCK,
+        KeyEventKind::Press,
+        Flags::NONE,
+        "\x1b[A",
+    ),
+    (
+        KeyCode::UpArrow,
+        NONE,
+        KeyEventKind::Release,
+        EVENT_TYPES,
+        "\x1b[1;1:3A",
+    ),
+    (
+        KeyCode::UpArrow,
+        NONE,
+        KeyEventKind::Release,
+        DISAMBIGUATE,
+        "",
+    ),
+    (
+        KeyCode::UpArrow,
+        NONE,
+        KeyEventKind::Repeat,
+        EVENT_TYPES,
+        "\x1b[1;1:2A",
+    ),
+    (
+        KeyCode::UpArrow,
+        NONE,
+        KeyEventKind::Repeat,
+        DISAMBIGUATE,
+        "\x1b[A",
+    ),
+    (
+        KeyCode::UpArrow,
+        NONE,
+        KeyEventKind::Repeat,
+        Flags::NONE,
+        "\x1b[A",
+    ),
+    (
+        KeyCode::Delete,
+        SUPER,
+        KeyEventKind::Release,
+        Flags::NONE,
+        "",
+    ),
+    (
+        KeyCode::Delete,
+        SUPER,
+        KeyEventKind::Release,
+        EVENT_TYPES,
+        "\x1b[3;9:3~",
+    ),
+    (
+        KeyCode::Function(3),
+        NONE,
+        KeyEventKind::Press,
+        DISAMBIGUATE,
+        "\x1b[13~",
+    ),
+    (
+        KeyCode::Function(3),
+        SHIFT,
+        KeyEventKind::Press,
+        DISAMBIGUATE,
+        "\x1b[13;2~",
+    ),
+    (
+        KeyCode::Function(13),
+        NONE,
+        KeyEventKind::Press,
+        DISAMBIGUATE,
+        "\x1b[57376u",
+    ),
+    (
+        KeyCode::Char('\u{85}'),
+        NONE,
+        KeyEventKind::Press,
+        DISAMBIGUATE,
+        "\x1b[133u",
+    ),
+    (
+        KeyCode::Char('a'),
+        NONE,
+        KeyEventKind::Release,
+        EVENT_TYPES,
+        "\x1b[97;1:3u",
+    ),
+    (
+        KeyCode::Enter,
+        NONE,
+        KeyEventKind::Press,
+        DISAMBIGUATE,
+        "\r",
+    ),
+    (KeyCode::Enter, NONE, KeyEventKind::Release, EVENT_TYPES, ""),
+    (
+        KeyCode::Enter,
+        NONE,
+        KeyEventKind::Press,
+        ALL_KEYS,
+        "\x1b[13u",
+    ),
+    (KeyCode::Tab, NONE, KeyEventKind::Press, DISAMBIGUATE, "\t"),
+    (
+        KeyCode::Backspace,
+        NONE,
+        KeyEventKind::Press,
+        DISAMBIGUATE,
+        "\x7f",
+    ),
+    (
+        KeyCode::LeftShift,
+        SHIFT,
+        KeyEventKind::Press,
+        DISAMBIGUATE,
+        "",
+    ),
+    (
+        KeyCode::LeftShift,
+        SHIFT,
+        KeyEventKind::Press,
+        ALL_KEYS,
+        "\x1b[57441;2u",
+    ),
+];
+
+// The page's table of C0 controls: each key without modifiers, and with Ctrl, Alt, Shift, Ctrl and
+// Shift, Alt and Shift, Ctrl and Alt.
+const C0_KEYS: [(KeyCode, [&str; 7]); 5] = [
+    (
+        KeyCode::Enter,
+        ["\r", "\r", "\x1b\r", "\r", "\r", "\x1b\r", "\x1b\r"],
+    ),
+    (
+        KeyCode::Escape,
+        [
+            "\x1b", "\x1b", "\x1b\x1b", "\x1b", "\x1b", "\x1b\x1b", "\x1b\x1b",
+        ],
+    ),
+    (
+        KeyCode::Backspace,
+        [
+            "\x7f", "\x08", "\x1b\x7f", "\x7f", "\x08", "\x1b\x7f", "\x1b\x08",
+        ],
+    ),
+    (
+        KeyCode::Tab,
+        [
+            "\t",
+            "\t",
+            "\x1b\t",
+            "\x1b[Z",
+            "\x1b[Z",
+            "\x1b\x1b[Z",
+            "\x1b\t",
+        ],
+    ),
+    (
+        KeyCode::Char(' '),
+        [" ", "\0", "\x1b ", " ", "\0", "\x1b ", "\x1b\0"],
+    ),
 ];
 
 // The page's table of what Ctrl makes of ASCII keys.
@@ -154,31 +401,103 @@ const CTRL_MAPPING: [(&str, &str); 3] = [
 
 // The keys of the keypad and the main keys, as keys and as numbers of Kitty's table.
 const KEYPAD: &[(ReportedKey, u32, KeyCode)] = &[
-    (ReportedKey::Named(KeyCode::Numpad0), 57399, KeyCode::Char('0')),
-    (ReportedKey::Named(KeyCode::Numpad1), 57400, KeyCode::Char('1')),
-    (ReportedKey::Named(KeyCode::Numpad2), 57401, KeyCode::Char('2')),
-    (ReportedKey::Named(KeyCode::Numpad3), 57402, KeyCode::Char('3')),
-    (ReportedKey::Named(KeyCode::Numpad4), 57403, KeyCode::Char('4')),
-    (ReportedKey::Named(KeyCode::Numpad5), 57404, KeyCode::Char('5')),
-    (ReportedKey::Named(KeyCode::Numpad6), 57405, KeyCode::Char('6')),
-    (ReportedKey::Named(KeyCode::Numpad7), 57406, KeyCode::Char('7')),
-    (ReportedKey::Named(KeyCode::Numpad8), 57407, KeyCode::Char('8')),
-    (ReportedKey::Named(KeyCode::Numpad9), 57408, KeyCode::Char('9')),
-    (ReportedKey::Named(KeyCode::Decimal), 57409, KeyCode::Char('.')),
-    (ReportedKey::Named(KeyCode::Divide), 57410, KeyCode::Char('/')),
-    (ReportedKey::Named(KeyCode::Multiply), 57411, KeyCode::Char('*')),
-    (ReportedKey::Named(KeyCode::Subtract), 57412, KeyCode::Char('-')),
+    (
+        ReportedKey::Named(KeyCode::Numpad0),
+        57399,
+        KeyCode::Char('0'),
+    ),
+    (
+        ReportedKey::Named(KeyCode::Numpad1),
+        57400,
+        KeyCode::Char('1'),
+    ),
+    (
+        ReportedKey::Named(KeyCode::Numpad2),
+        57401,
+        KeyCode::Char('2'),
+    ),
+    (
+        ReportedKey::Named(KeyCode::Numpad3),
+        57402,
+        KeyCode::Char('3'),
+    ),
+    (
+        ReportedKey::Named(KeyCode::Numpad4),
+        57403,
+        KeyCode::Char('4'),
+    ),
+    (
+        ReportedKey::Named(KeyCode::Numpad5),
+        57404,
+        KeyCode::Char('5'),
+    ),
+    (
+        ReportedKey::Named(KeyCode::Numpad6),
+        57405,
+        KeyCode::Char('6'),
+    ),
+    (
+        ReportedKey::Named(KeyCode::Numpad7),
+        57406,
+        KeyCode::Char('7'),
+    ),
+    (
+        ReportedKey::Named(KeyCode::Numpad8),
+        57407,
+        KeyCode::Char('8'),
+    ),
+    (
+        ReportedKey::Named(KeyCode::Numpad9),
+        57408,
+        KeyCode::Char('9'),
+    ),
+    (
+        ReportedKey::Named(KeyCode::Decimal),
+        57409,
+        KeyCode::Char('.'),
+    ),
+    (
+        ReportedKey::Named(KeyCode::Divide),
+        57410,
+        KeyCode::Char('/'),
+    ),
+    (
+        ReportedKey::Named(KeyCode::Multiply),
+        57411,
+        KeyCode::Char('*'),
+    ),
+    (
+        ReportedKey::Named(KeyCode::Subtract),
+        57412,
+        KeyCode::Char('-'),
+    ),
     (ReportedKey::Named(KeyCode::Add), 57413, KeyCode::Char('+')),
     (ReportedKey::Functional(57414), 57414, KeyCode::Enter),
     (ReportedKey::Functional(57415), 57415, KeyCode::Char('=')),
-    (ReportedKey::Named(KeyCode::Separator), 57416, KeyCode::Char(',')),
+    (
+        ReportedKey::Named(KeyCode::Separator),
+        57416,
+        KeyCode::Char(','),
+    ),
     (ReportedKey::Functional(57417), 57417, KeyCode::LeftArrow),
     (ReportedKey::Functional(57418), 57418, KeyCode::RightArrow),
     (ReportedKey::Functional(57419), 57419, KeyCode::UpArrow),
     (ReportedKey::Functional(57420), 57420, KeyCode::DownArrow),
-    (ReportedKey::Named(KeyCode::KeyPadPageUp), 57421, KeyCode::PageUp),
-    (ReportedKey::Named(KeyCode::KeyPadPageDown), 57422, KeyCode::PageDown),
-    (ReportedKey::Named(KeyCode::KeyPadHome), 57423, KeyCode::Home),
+    (
+        ReportedKey::Named(KeyCode::KeyPadPageUp),
+        57421,
+        KeyCode::PageUp,
+    ),
+    (
+        ReportedKey::Named(KeyCode::KeyPadPageDown),
+        57422,
+        KeyCode::PageDown,
+    ),
+    (
+        ReportedKey::Named(KeyCode::KeyPadHome),
+        57423,
+        KeyCode::Home,
+    ),
     (ReportedKey::Named(KeyCode::KeyPadEnd), 57424, KeyCode::End),
     (ReportedKey::Functional(57425), 57425, KeyCode::Insert),
     (ReportedKey::Functional(57426), 57426, KeyCode::Delete),
@@ -191,7 +510,11 @@ const LEGACY: &[(KeyCode, KittyModifiers, &str)] = &[
     (KeyCode::Char('q'), KittyModifiers::HYPER, "\x1b[113;17u"),
     (KeyCode::Char('q'), KittyModifiers::META, "\x1b[113;33u"),
     (KeyCode::Char('a'), CTRL.union(SHIFT), "\x1b[97;6u"),
-    (KeyCode::Char('a'), CTRL.union(ALT).union(SHIFT), "\x1b[97;8u"),
+    (
+        KeyCode::Char('a'),
+        CTRL.union(ALT).union(SHIFT),
+        "\x1b[97;8u",
+    ),
     (KeyCode::Char('a'), CTRL.union(ALT), "\x1b\x01"),
     (KeyCode::Char('a'), ALT.union(SHIFT), "\x1bA"),
     (KeyCode::Char('['), ALT, "\x1b["),
@@ -208,7 +531,11 @@ const LEGACY: &[(KeyCode, KittyModifiers, &str)] = &[
     (KeyCode::Enter, SUPER.union(CAPS_LOCK), "\x1b[13;9u"),
     (KeyCode::Enter, SUPER.union(NUM_LOCK), "\x1b[13;9u"),
     (KeyCode::UpArrow, SUPER, "\x1b[1;9A"),
-    (KeyCode::Delete, KittyModifiers::META.union(SHIFT), "\x1b[3;34~"),
+    (
+        KeyCode::Delete,
+        KittyModifiers::META.union(SHIFT),
+        "\x1b[3;34~",
+    ),
     (KeyCode::Function(1), NONE, "\x1bOP"),
     (KeyCode::Function(2), NUM_LOCK, "\x1bOQ"),
     (KeyCode::Function(3), NONE, "\x1bOR"),
@@ -235,21 +562,45 @@ fn functional(number: u32, modifiers: KittyModifiers) -> KeyReport {
 
 #[test]
 fn legacy_keys() {
-    let columns = [NONE, CTRL, ALT, SHIFT, CTRL | SHIFT, ALT | SHIFT, CTRL | ALT];
+    let columns = [
+        NONE,
+        CTRL,
+        ALT,
+        SHIFT,
+        CTRL | SHIFT,
+        ALT | SHIFT,
+        CTRL | ALT,
+    ];
     for (key, texts) in C0_KEYS {
         for (modifiers, text) in columns.into_iter().zip(texts) {
             for locks in [NONE, CAPS_LOCK, NUM_LOCK] {
                 check(&press(key, modifiers | locks), Flags::NONE, text);
-                check(&report(key, modifiers | locks, KeyEventKind::Repeat), Flags::NONE, text);
+                check(
+                    &report(key, modifiers | locks, KeyEventKind::Repeat),
+                    Flags::NONE,
+                    text,
+                );
                 check(&press(key, modifiers | locks), EVENT_TYPES, text);
             }
         }
     }
     for (keys, texts) in CTRL_MAPPING {
         for (key, text) in keys.chars().zip(texts.chars()) {
-            check(&press(KeyCode::Char(key), CTRL), Flags::NONE, &text.to_string());
-            check(&press(KeyCode::Char(key), CTRL | ALT), Flags::NONE, &format!("\x1b{text}"));
-            check(&press(KeyCode::Char(key), ALT), Flags::NONE, &format!("\x1b{key}"));
+            check(
+                &press(KeyCode::Char(key), CTRL),
+                Flags::NONE,
+                &text.to_string(),
+            );
+            check(
+                &press(KeyCode::Char(key), CTRL | ALT),
+                Flags::NONE,
+                &format!("\x1b{text}"),
+            );
+            check(
+                &press(KeyCode::Char(key), ALT),
+                Flags::NONE,
+                &format!("\x1b{key}"),
+            );
         }
         assert_eq!(keys.len(), texts.len());
     }
@@ -262,10 +613,15 @@ fn legacy_keys() {
         EVENT_TYPES,
         "\x1b[57363;1:3u",
     );
-    check(&press(KeyCode::Applications, SHIFT), DISAMBIGUATE, "\x1b[57363;2u");
+    check(
+        &press(KeyCode::Applications, SHIFT),
+        DISAMBIGUATE,
+        "\x1b[57363;2u",
+    );
 }
 
-// With Alt and Shift the character that the key types with Shift is sent, if it is known and no control character.
+// With Alt and Shift the character that the key types with Shift is sent, if it is known and no
+// control character.
 #[test]
 fn shifted_characters() {
     let typed = |c, shifted| KeyReport {
@@ -283,19 +639,27 @@ fn shifted_characters() {
     check(&press(KeyCode::Char('1'), SHIFT), DISAMBIGUATE, "1");
 }
 
-// A key of the keypad is its main key where neither DISAMBIGUATE_ESCAPE_CODES nor REPORT_ALL_KEYS_AS_ESCAPE_CODES is on.
+// A key of the keypad is its main key where neither DISAMBIGUATE_ESCAPE_CODES nor
+// REPORT_ALL_KEYS_AS_ESCAPE_CODES is on.
 #[test]
 fn keypad() {
     for (key, number, main) in KEYPAD {
         for modifiers in [NONE, CTRL, SHIFT | ALT, SUPER, NUM_LOCK, CTRL_AND_NUM_LOCK] {
             for kind in KINDS {
                 let main = report(*main, modifiers, kind);
-                let named = KeyReport { key: *key, ..main.clone() };
+                let named = KeyReport {
+                    key: *key,
+                    ..main.clone()
+                };
                 let numbered = KeyReport {
                     key: ReportedKey::Functional(*number),
                     ..main.clone()
                 };
-                for flags in [Flags::NONE, EVENT_TYPES, EVENT_TYPES | Flags::REPORT_ALTERNATE_KEYS] {
+                for flags in [
+                    Flags::NONE,
+                    EVENT_TYPES,
+                    EVENT_TYPES | Flags::REPORT_ALTERNATE_KEYS,
+                ] {
                     let wanted = main.encode(flags).unwrap();
                     check(&named, flags, &wanted);
                     check(&numbered, flags, &wanted);
@@ -328,7 +692,11 @@ fn level_shifts() {
         for flags in [Flags::NONE, DISAMBIGUATE, EVENT_TYPES] {
             check(&functional(number, NONE), flags, "");
         }
-        check(&functional(number, NONE), ALL_KEYS, &format!("\x1b[{number}u"));
+        check(
+            &functional(number, NONE),
+            ALL_KEYS,
+            &format!("\x1b[{number}u"),
+        );
     }
 }
 
@@ -344,20 +712,37 @@ fn each_flag() {
     check(&shift_a("A€"), Flags::NONE, "A€");
     check(&shift_a(""), Flags::NONE, "A");
     check(&shift_a("A€"), ALL_KEYS, "\x1b[97;2u");
-    check(&shift_a("A€"), ALL_KEYS | Flags::REPORT_ALTERNATE_KEYS, "\x1b[97:65:98;2u");
-    check(&shift_a("A€"), ALL_KEYS | Flags::REPORT_ASSOCIATED_TEXT, "\x1b[97;2;65:8364u");
+    check(
+        &shift_a("A€"),
+        ALL_KEYS | Flags::REPORT_ALTERNATE_KEYS,
+        "\x1b[97:65:98;2u",
+    );
+    check(
+        &shift_a("A€"),
+        ALL_KEYS | Flags::REPORT_ASSOCIATED_TEXT,
+        "\x1b[97;2;65:8364u",
+    );
     check(&shift_a("A€"), Flags::all(), "\x1b[97:65:98;2;65:8364u");
     check(&shift_a_alone("A"), Flags::all(), "\x1b[97:65;2;65u");
     check(&shift_a_alone("A"), DISAMBIGUATE, "A");
     check(&shift_a_alone(""), DISAMBIGUATE, "A");
 
-    // A bit that no flag has doesn't count.
+    // A bit that no flag has is refused.
     let escape = press(KeyCode::Escape, NONE);
-    check(&escape, Flags::from_bits_retain(0xff20), "\x1b");
-    check(&escape, Flags::from_bits_retain(0xff21), "\x1b[27u");
+    for place in 5..16 {
+        for flags in [Flags::NONE, DISAMBIGUATE, Flags::all()] {
+            let sent = escape.encode(flags | Flags::from_bits_retain(1 << place));
+            assert_eq!(
+                sent,
+                Err(KittyEncodeError::UnnamedBits),
+                "{flags} and bit {place}"
+            );
+        }
+    }
 }
 
-// A text with control characters counts as none, and so does such a character for the key with Shift.
+// A text with control characters counts as none, and so does such a character for the key with
+// Shift.
 #[test]
 fn control_characters() {
     check(&shift_a("A\t"), Flags::NONE, "A");
@@ -366,7 +751,10 @@ fn control_characters() {
         let typed = shift_a_alone(&format!("A{c}"));
         check(&typed, DISAMBIGUATE, "A");
         check(&typed, Flags::all(), "\x1b[97:65;2u");
-        let shifted = KeyReport { shifted: Some(c), ..typed };
+        let shifted = KeyReport {
+            shifted: Some(c),
+            ..typed
+        };
         check(&shifted, DISAMBIGUATE, "A");
     }
 }
@@ -376,18 +764,34 @@ fn keys_without_bytes() {
     let copy = press(KeyCode::Copy, NONE);
     assert_eq!(copy.encode(Flags::all()), Err(KittyEncodeError::UnknownKey));
     assert_eq!(copy.encode(Flags::NONE), Err(KittyEncodeError::UnknownKey));
-    for (number, flags) in [(36, Flags::NONE), (36, Flags::all()), (0, Flags::NONE), (0, Flags::all())] {
+    for (number, flags) in [
+        (36, Flags::NONE),
+        (36, Flags::all()),
+        (0, Flags::NONE),
+        (0, Flags::all()),
+    ] {
         let function = press(KeyCode::Function(number), NONE);
-        assert_eq!(function.try_encode(flags), Err(KittyEncodeError::UnknownKey), "F{number}");
+        assert_eq!(
+            function.try_encode(flags),
+            Err(KittyEncodeError::UnknownKey),
+            "F{number}"
+        );
     }
     let application = press(KeyCode::ApplicationUpArrow, NONE);
-    assert_eq!(application.encode(Flags::NONE), Err(KittyEncodeError::UnknownKey));
+    assert_eq!(
+        application.encode(Flags::NONE),
+        Err(KittyEncodeError::UnknownKey)
+    );
     for number in [0, 57343, 63744, u32::MAX] {
         let functional = KeyReport {
             key: ReportedKey::Functional(number),
             ..copy.clone()
         };
-        assert_eq!(functional.encode(Flags::all()), Err(KittyEncodeError::UnknownKey), "{number}");
+        assert_eq!(
+            functional.encode(Flags::all()),
+            Err(KittyEncodeError::UnknownKey),
+            "{number}"
+        );
     }
     let first_functional = KeyReport {
         key: ReportedKey::Functional(57344),
@@ -403,7 +807,11 @@ fn keys_without_bytes() {
             ..first_functional
         },
     ] {
-        assert_eq!(unknown.encode(ALL_KEYS), Err(KittyEncodeError::UnknownKey), "{unknown:?}");
+        assert_eq!(
+            unknown.encode(ALL_KEYS),
+            Err(KittyEncodeError::UnknownKey),
+            "{unknown:?}"
+        );
     }
 }
 
@@ -414,7 +822,10 @@ fn long_texts() {
         check(&shift_a(&text), Flags::NONE, &text);
         let sent = shift_a(&text).encode(Flags::all());
         if len == 50 {
-            assert_eq!(sent.unwrap().len(), "\x1b[97:65:98;2;u".len() + "120:".len() * 50 - 1);
+            assert_eq!(
+                sent.unwrap().len(),
+                "\x1b[97:65:98;2;u".len() + "120:".len() * 50 - 1
+            );
         } else {
             assert_eq!(sent, Err(KittyEncodeError::TooLong));
         }
@@ -469,8 +880,8 @@ fn read_back() {
     read(shift_a(""));
 }
 
-// What is sent without flags is one key, that of the report, with all its modifiers. By the text a key can be another: 29 is F16, and
-// what Ctrl makes of i is Tab.
+// What is sent without flags is one key, that of the report, with all its modifiers. By the text a
+// key can be another: 29 is F16, and what Ctrl makes of i is Tab.
 #[test]
 fn legacy_read_back() {
     let mut parser = ExtendedParser::new(Protocol::Kitty);
@@ -502,7 +913,12 @@ fn legacy_read_back() {
             );
         }
         if bits & 0x3f > 7 {
-            for key in [KeyCode::Char('q'), KeyCode::Enter, KeyCode::Escape, KeyCode::Tab] {
+            for key in [
+                KeyCode::Char('q'),
+                KeyCode::Enter,
+                KeyCode::Escape,
+                KeyCode::Tab,
+            ] {
                 read(&press(key, modifiers), key, modifiers);
             }
         }
@@ -514,11 +930,19 @@ fn legacy_read_back() {
             shifted: Some('Ω'),
             ..press(KeyCode::Char(c), ALT | SHIFT)
         };
-        read(&shifted, KeyCode::Char(if c == ' ' { ' ' } else { 'Ω' }), ALT);
+        read(
+            &shifted,
+            KeyCode::Char(if c == ' ' { ' ' } else { 'Ω' }),
+            ALT,
+        );
     }
     for c in ('a'..='z').filter(|c| !"hijm".contains(*c)) {
         read(&press(KeyCode::Char(c), CTRL), KeyCode::Char(c), CTRL);
-        read(&press(KeyCode::Char(c), CTRL | ALT), KeyCode::Char(c), CTRL | ALT);
+        read(
+            &press(KeyCode::Char(c), CTRL | ALT),
+            KeyCode::Char(c),
+            CTRL | ALT,
+        );
     }
     for (key, modifiers) in [
         (KeyCode::Escape, NONE),
@@ -531,18 +955,29 @@ fn legacy_read_back() {
     ] {
         read(&press(key, modifiers), key, modifiers);
     }
-    read(&press(KeyCode::Applications, SHIFT), KeyCode::Function(16), SHIFT);
+    read(
+        &press(KeyCode::Applications, SHIFT),
+        KeyCode::Function(16),
+        SHIFT,
+    );
     read(&press(KeyCode::Char('i'), CTRL), KeyCode::Tab, NONE);
 }
 
 #[test]
 fn errors_as_texts() {
-    let texts = [KittyEncodeError::UnknownKey, KittyEncodeError::TooLong, KittyEncodeError::Memory].map(|error| error.to_string());
+    let texts = [
+        KittyEncodeError::UnknownKey,
+        KittyEncodeError::TooLong,
+        KittyEncodeError::UnnamedBits,
+        KittyEncodeError::Memory,
+    ]
+    .map(|error| error.to_string());
     assert_eq!(
         texts,
         [
             "the protocol has no number for the key",
             "the text of the key is too long",
+            "a bit has no name",
             "out of memory"
         ]
     );

@@ -1,21 +1,22 @@
 // Examples: what each call of a fresh parser gives.
-use hedrugal::extended::Rows;
+use hedrugal::extended::Protocol;
 
 pub const MORE: bool = true;
 
 pub const LAST: bool = false;
 
-pub const PORT: &[Rows] = &[Protocol::Legacy];
+pub const LEGACY: &[Protocol] = &[Protocol::Legacy];
 
-pub const KITTY: &[Rows] = &[Protocol::Kitty];
+pub const KITTY: &[Protocol] = &[Protocol::Kitty];
 
-pub const BOTH: &[Rows] = &[Protocol::Legacy, Protocol::Kitty];
+pub const BOTH: &[Protocol] = &[Protocol::Legacy, Protocol::Kitty];
 
-// The bytes of one call, its flag, and what it gives: the lines of the events, and how many bytes wait then, if any do.
+// The bytes of one call, its flag, and what it gives: the lines of the events, and how many bytes
+// are buffered then, if any are.
 pub type Step = (&'static [u8], bool, &'static str);
 
-// For which rows an example is, and its calls.
-pub type Example = (&'static [Rows], &'static [Step]);
+// For which protocols an example is, and its calls.
+pub type Example = (&'static [Protocol], &'static [Step]);
 
 pub const REPLIES: &[Example] = &[
     (
@@ -26,16 +27,50 @@ pub const REPLIES: &[Example] = &[
             "cursor 24 80, cursor 20 10, cursor 24 80, cursor 24 80",
         )],
     ),
-    (PORT, &[(b"\x1b[1;5R\x1b[?1;5R", LAST, "key Function(3) CTRL, cursor 1 5")]),
-    (KITTY, &[(b"\x1b[1;5R\x1b[?1;5R", LAST, "cursor 1 5, cursor 1 5")]),
-    (BOTH, &[(b"\x1b[24;8", MORE, "; 6"), (b"0R", MORE, "cursor 24 80")]),
-    (BOTH, &[(b"\x1b[65535;99999R\x1b[65536;1R", MORE, "csi 65535;99999R, csi 65536;1R")]),
-    (BOTH, &[(b"\x1b[I\x1b[O", MORE, "focus gained, focus lost")]),
-    (BOTH, &[(b"\x1b\x1b[I", MORE, "key Escape NONE, focus gained")]),
-    (BOTH, &[(b"\x1b[?62;22c\x1b[>1;10;0c", MORE, "csi ?62;22c, csi >1;10;0c")]),
+    (
+        LEGACY,
+        &[(
+            b"\x1b[1;5R\x1b[?1;5R",
+            LAST,
+            "key Function(3) CTRL, cursor 1 5",
+        )],
+    ),
+    (
+        KITTY,
+        &[(b"\x1b[1;5R\x1b[?1;5R", LAST, "cursor 1 5, cursor 1 5")],
+    ),
     (
         BOTH,
-        &[(b"\x1b[?2026;2$y\x1b[?997;1n\x1b[?5u", MORE, "csi ?2026;2$y, csi ?997;1n, flags 5")],
+        &[(b"\x1b[24;8", MORE, "; 6"), (b"0R", MORE, "cursor 24 80")],
+    ),
+    (
+        BOTH,
+        &[(
+            b"\x1b[65535;99999R\x1b[65536;1R",
+            MORE,
+            "csi 65535;99999R, csi 65536;1R",
+        )],
+    ),
+    (BOTH, &[(b"\x1b[I\x1b[O", MORE, "focus gained, focus lost")]),
+    (
+        BOTH,
+        &[(b"\x1b\x1b[I", MORE, "key Escape NONE, focus gained")],
+    ),
+    (
+        BOTH,
+        &[(
+            b"\x1b[?62;22c\x1b[>1;10;0c",
+            MORE,
+            "csi ?62;22c, csi >1;10;0c",
+        )],
+    ),
+    (
+        BOTH,
+        &[(
+            b"\x1b[?2026;2$y\x1b[?997;1n\x1b[?5u",
+            MORE,
+            "csi ?2026;2$y, csi ?997;1n, flags 5",
+        )],
     ),
     (
         BOTH,
@@ -45,39 +80,84 @@ pub const REPLIES: &[Example] = &[
             "flags 0, flags 31, flags 255, csi ?256u",
         )],
     ),
-    (BOTH, &[(b"\x1b[48;24;80;480;800t", MORE, "size 24 80 480 800")]),
     (
         BOTH,
-        &[(b"\x1b[48;24;80;480t\x1b[8;24;80t", MORE, "csi 48;24;80;480t, csi 8;24;80t")],
+        &[(b"\x1b[48;24;80;480;800t", MORE, "size 24 80 480 800")],
+    ),
+    (
+        BOTH,
+        &[(
+            b"\x1b[48;24;80;480t\x1b[8;24;80t",
+            MORE,
+            "csi 48;24;80;480t, csi 8;24;80t",
+        )],
     ),
     (BOTH, &[(b"\x1b[x", MORE, "csi x")]),
     (BOTH, &[(b"\x1b[2D", LAST, "csi 2D")]),
 ];
 
 pub const STRINGS: &[Example] = &[
-    (BOTH, &[(b"\x1b]11;rgb:1e1e/1e1e/1e1e\x1b\\", MORE, "osc 11;rgb:1e1e/1e1e/1e1e")]),
-    (BOTH, &[(b"\x1b]10;#fff\x07q", LAST, "osc 10;#fff, key Char('q') NONE")]),
-    (BOTH, &[(b"\x1b]0;\xc3\xa9\x1b", MORE, "; 7"), (b"\\", MORE, r"osc 0;\xc3\xa9")]),
+    (
+        BOTH,
+        &[(
+            b"\x1b]11;rgb:1e1e/1e1e/1e1e\x1b\\",
+            MORE,
+            "osc 11;rgb:1e1e/1e1e/1e1e",
+        )],
+    ),
+    (
+        BOTH,
+        &[(
+            b"\x1b]10;#fff\x07q",
+            LAST,
+            "osc 10;#fff, key Char('q') NONE",
+        )],
+    ),
+    (
+        BOTH,
+        &[
+            (b"\x1b]0;\xc3\xa9\x1b", MORE, "; 7"),
+            (b"\\", MORE, r"osc 0;\xc3\xa9"),
+        ],
+    ),
     (BOTH, &[(b"\x1b]\x07\x1b]\x1b\\", LAST, "osc , osc ")]),
     (BOTH, &[(b"\x1b]0;a\x07", MORE, "osc 0;a")]),
     (BOTH, &[(b"\x1bP>", MORE, "; 3")]),
     (BOTH, &[(b"\x1bP>|kitty\x1b\\", LAST, "dcs >|kitty")]),
-    (BOTH, &[(b"\x1bP>|kitty(0.39.1)\x1b\\", LAST, "dcs >|kitty(0.39.1)")]),
-    (BOTH, &[(b"\x1b_Gi=31;OK\x1b\\", MORE, "apc Gi=31;OK")]),
-    (BOTH, &[(b"\x1b\x1b]0;t\x07", LAST, "key Escape NONE, osc 0;t")]),
     (
         BOTH,
-        &[(b"\x1bPa\x07", MORE, "key Char('P') ALT, key Char('a') NONE, key Char('g') CTRL")],
+        &[(b"\x1bP>|kitty(0.39.1)\x1b\\", LAST, "dcs >|kitty(0.39.1)")],
+    ),
+    (BOTH, &[(b"\x1b_Gi=31;OK\x1b\\", MORE, "apc Gi=31;OK")]),
+    (
+        BOTH,
+        &[(b"\x1b\x1b]0;t\x07", LAST, "key Escape NONE, osc 0;t")],
     ),
     (
         BOTH,
-        &[(b"\x1b]a\x1b[I", MORE, "key Char(']') ALT, key Char('a') NONE, focus gained")],
+        &[(
+            b"\x1bPa\x07",
+            MORE,
+            "key Char('P') ALT, key Char('a') NONE, key Char('g') CTRL",
+        )],
+    ),
+    (
+        BOTH,
+        &[(
+            b"\x1b]a\x1b[I",
+            MORE,
+            "key Char(']') ALT, key Char('a') NONE, focus gained",
+        )],
     ),
     (
         BOTH,
         &[
             (b"\x1b]ab", MORE, "; 4"),
-            (b"", LAST, "key Char(']') ALT, key Char('a') NONE, key Char('b') NONE"),
+            (
+                b"",
+                LAST,
+                "key Char(']') ALT, key Char('a') NONE, key Char('b') NONE",
+            ),
         ],
     ),
     (
@@ -99,11 +179,21 @@ pub const STRINGS: &[Example] = &[
             "key Char(']') ALT, key Char('a') NONE, key Char('b') NONE, key Enter NONE",
         )],
     ),
-    (BOTH, &[(b"\x1b]", MORE, "; 2"), (b"", LAST, "key Char(']') ALT")]),
-    (BOTH, &[(b"\x1bP", MORE, "; 2"), (b"", LAST, "key Char('P') ALT")]),
     (
         BOTH,
-        &[(b"\x1b^a\x1b\\", MORE, "key Char('^') ALT, key Char('a') NONE, key Char('\\\\') ALT")],
+        &[(b"\x1b]", MORE, "; 2"), (b"", LAST, "key Char(']') ALT")],
+    ),
+    (
+        BOTH,
+        &[(b"\x1bP", MORE, "; 2"), (b"", LAST, "key Char('P') ALT")],
+    ),
+    (
+        BOTH,
+        &[(
+            b"\x1b^a\x1b\\",
+            MORE,
+            "key Char('^') ALT, key Char('a') NONE, key Char('\\\\') ALT",
+        )],
     ),
 ];
 
@@ -117,7 +207,7 @@ pub const KEYS: &[Example] = &[
         )],
     ),
     (
-        PORT,
+        LEGACY,
         &[(
             b"\x1b[97;5u\x1b[27u\x1b[1;9A",
             MORE,
@@ -142,7 +232,7 @@ pub const KEYS: &[Example] = &[
     ),
     (KITTY, &[(b"\x1b[5~\x1b[H", MORE, "report PageUp NONE, report Home NONE")]),
     (KITTY, &[(b"\x1b\x1b[97;5u", MORE, "key Escape NONE, report Char('a') CTRL")]),
-    (PORT, &[(b"\x1b\x1b[97;5u", MORE, "key Char('a') ALT|CTRL")]),
+    (LEGACY, &[(b"\x1b\x1b[97;5u", MORE, "key Char('a') ALT|CTRL")]),
 ];
 
 pub const KINDS_AND_MODIFIERS: &[Example] = &[
@@ -274,10 +364,19 @@ pub const MOUSE_REPORTS: &[Example] = &[
         )],
     ),
     (BOTH, &[(b"\x1b[M0\x60\x70", MORE, "mouse 64 80 LEFT CTRL")]),
-    (BOTH, &[(b"\x1b[M ", MORE, "; 4"), (b"!\xff", MORE, "mouse 1 223 LEFT NONE")]),
     (
         BOTH,
-        &[(b"\x1b[M", MORE, "; 3"), (b"", LAST, "key Char('[') ALT, key Char('M') NONE")],
+        &[
+            (b"\x1b[M ", MORE, "; 4"),
+            (b"!\xff", MORE, "mouse 1 223 LEFT NONE"),
+        ],
+    ),
+    (
+        BOTH,
+        &[
+            (b"\x1b[M", MORE, "; 3"),
+            (b"", LAST, "key Char('[') ALT, key Char('M') NONE"),
+        ],
     ),
     (
         BOTH,
@@ -287,7 +386,8 @@ pub const MOUSE_REPORTS: &[Example] = &[
             "mouse 30 40 LEFT NONE, mouse 30 40 NONE NONE",
         )],
     ),
-    // By xterm's ctlseqs, "Mouse Tracking", the wheel turned right is 32 + 64 + 3. Shift adds 4, Meta 8 and Control 16: 127 in all.
+    // By xterm's ctlseqs, "Mouse Tracking", the wheel turned right is 32 + 64 + 3. Shift adds 4,
+    // Meta 8 and Control 16: 127 in all.
     (
         BOTH,
         &[(
@@ -296,10 +396,31 @@ pub const MOUSE_REPORTS: &[Example] = &[
             "mouse 1 1 HORZ_WHEEL SHIFT|ALT|CTRL, mouse 1 1 HORZ_WHEEL SHIFT|ALT|CTRL",
         )],
     ),
-    (BOTH, &[(b"\x1b[M\x80!!\x1b[128;1;1M", MORE, r"csi M\x80!!, csi 128;1;1M")]),
+    (
+        BOTH,
+        &[(
+            b"\x1b[M\x80!!\x1b[128;1;1M",
+            MORE,
+            r"csi M\x80!!, csi 128;1;1M",
+        )],
+    ),
     (BOTH, &[(b"\x1b[32;30;40;M", MORE, "csi 32;30;40;M")]),
-    (BOTH, &[(b"\x1b[<0;20;10;M\x1b[<0;20;10;m", MORE, "csi <0;20;10;M, csi <0;20;10;m")]),
-    (BOTH, &[(b"\x1b[<128;20;10M\x1b[<0;-5;10M", MORE, "csi <128;20;10M, csi <0;-5;10M")]),
+    (
+        BOTH,
+        &[(
+            b"\x1b[<0;20;10;M\x1b[<0;20;10;m",
+            MORE,
+            "csi <0;20;10;M, csi <0;20;10;m",
+        )],
+    ),
+    (
+        BOTH,
+        &[(
+            b"\x1b[<128;20;10M\x1b[<0;-5;10M",
+            MORE,
+            "csi <128;20;10M, csi <0;-5;10M",
+        )],
+    ),
 ];
 
 pub const PASTES: &[Example] = &[
@@ -365,7 +486,7 @@ pub const OTHERS: &[Example] = &[
         )],
     ),
     (
-        PORT,
+        LEGACY,
         &[(
             b"\x1b[24\x1b[A",
             LAST,

@@ -1,12 +1,14 @@
-// Texts that look random: how they are cut, by which call they are read, and what the port reads of them.
+// Texts that look random: how they are cut, by which call they are read, and what the port reads of
+// them.
 use crate::cuts::read_cut;
 use crate::draws::Draws;
 use crate::examples::BOTH;
 use crate::parser::{parsed, CALLS};
-use hedrugal::extended::{ExtendedEvent, ExtendedParser, Rows};
+use hedrugal::extended::{ExtendedEvent, ExtendedParser, Protocol};
 use hedrugal::input::InputParser;
 
-// The bytes that the forms name, and parts and wholes of sequences. ESC stands twice, so that it is drawn more often.
+// The bytes that the forms name, and parts and wholes of sequences. ESC stands twice, so that it is
+// drawn more often.
 const SYMBOLS: &[&[u8]] = &[
     b"\x1b",
     b"\x1b",
@@ -46,8 +48,8 @@ const SYMBOLS: &[&[u8]] = &[
     b"\x1b[201~",
 ];
 
-// Of these no text has an extra sequence: neither ST nor BEL ends a string, and no byte that ends a control sequence comes after the
-// beginning of one.
+// Of these no text has an extra sequence: neither ST nor BEL ends a string, and no byte that ends a
+// control sequence comes after the beginning of one.
 const USUAL_SYMBOLS: &[&[u8]] = &[
     b"\x1b",
     b"\x1b",
@@ -92,7 +94,7 @@ pub fn any_text(draws: &mut Draws) -> Vec<u8> {
     drawn(draws, SYMBOLS)
 }
 
-// The text has the same events, and as many bytes wait, in whatever pieces it is read.
+// The text has the same events, and as many bytes are buffered, in whatever pieces it is read.
 fn check_cuts(draws: &mut Draws, parser: &mut ExtendedParser, text: &[u8], more: bool) {
     parser.reset();
     let wanted = parser.parse_as_vec(text, more);
@@ -102,27 +104,42 @@ fn check_cuts(draws: &mut Draws, parser: &mut ExtendedParser, text: &[u8], more:
         let size = 1 + draws.below(limit);
         parser.reset();
         let events = read_cut(parser, text, more, place, size);
-        assert_eq!(events, wanted, "{}, to {place} in pieces of {size}", text.escape_ascii());
+        assert_eq!(
+            events,
+            wanted,
+            "{}, to {place} in pieces of {size}",
+            text.escape_ascii()
+        );
         assert_eq!(parser.waiting_len(), waiting_len, "{}", text.escape_ascii());
     }
 }
 
-// The text has the same events, and as many bytes wait, by whatever call it is read.
+// The text has the same events, and as many bytes are buffered, by whatever call it is read.
 fn check_calls(parser: &mut ExtendedParser, text: &[u8], more: bool) {
     parser.reset();
     let wanted = parser.parse_as_vec(text, more);
     let waiting_len = parser.waiting_len();
     for call in 0..CALLS {
         parser.reset();
-        assert_eq!(parsed(call, parser, text, more), wanted, "{}, call {call}", text.escape_ascii());
-        assert_eq!(parser.waiting_len(), waiting_len, "{}, call {call}", text.escape_ascii());
+        assert_eq!(
+            parsed(call, parser, text, more),
+            wanted,
+            "{}, call {call}",
+            text.escape_ascii()
+        );
+        assert_eq!(
+            parser.waiting_len(),
+            waiting_len,
+            "{}, call {call}",
+            text.escape_ascii()
+        );
     }
 }
 
 #[test]
 fn reads_2000_texts_however_cut() {
-    for rows in BOTH {
-        let (mut draws, mut parser) = (Draws::new(1), ExtendedParser::new(*rows));
+    for protocol in BOTH {
+        let (mut draws, mut parser) = (Draws::new(1), ExtendedParser::new(*protocol));
         for _ in 0..2000 {
             let text = any_text(&mut draws);
             let more = draws.below(2) == 0;
@@ -141,8 +158,22 @@ fn reads_2000_usual_texts_as_the_port() {
         let text = drawn(&mut draws, USUAL_SYMBOLS);
         port.reset();
         parser.reset();
-        let wanted: Vec<ExtendedEvent> = port.parse_as_vec(&text, false).into_iter().map(ExtendedEvent::Input).collect();
-        assert_eq!(parser.parse_as_vec(&text, false), wanted, "{}", text.escape_ascii());
-        assert_eq!(parser.waiting_len(), port.waiting_len(), "{}", text.escape_ascii());
+        let wanted: Vec<ExtendedEvent> = port
+            .parse_as_vec(&text, false)
+            .into_iter()
+            .map(ExtendedEvent::Input)
+            .collect();
+        assert_eq!(
+            parser.parse_as_vec(&text, false),
+            wanted,
+            "{}",
+            text.escape_ascii()
+        );
+        assert_eq!(
+            parser.waiting_len(),
+            port.waiting_len(),
+            "{}",
+            text.escape_ascii()
+        );
     }
 }

@@ -1,6 +1,9 @@
-// What kitty sent for keys (kitty.tsv), and what is written for their reports. The report of a key is what kitty sent for it with all
-// flags. So it shows which key that was, what it types with Shift, and its text.
-use hedrugal::extended::{ExtendedEvent, ExtendedParser, KeyEventKind, KeyReport, KittyModifiers, ReportedKey, Rows};
+// What kitty sent for keys (kitty.tsv), and what is written for their reports. The report of a key
+// is what kitty sent for it with all flags. So it shows which key that was, what it types with
+// Shift, and its text.
+use hedrugal::extended::{
+    ExtendedEvent, ExtendedParser, KeyEventKind, KeyReport, KittyModifiers, Protocol, ReportedKey,
+};
 use hedrugal::input::{KeyCode, KittyKeyboardFlags as Flags};
 
 const RECORDED: &str = include_str!("kitty.tsv");
@@ -74,8 +77,14 @@ fn is_legacy(sent: &Sent) -> bool {
 
 // Enter, Tab, Backspace, Escape, and Enter of the keypad.
 fn sends_control(report: &KeyReport) -> bool {
-    let named = [KeyCode::Enter, KeyCode::Tab, KeyCode::Backspace, KeyCode::Escape];
-    report.key == ReportedKey::Functional(57414) || named.map(ReportedKey::Named).contains(&report.key)
+    let named = [
+        KeyCode::Enter,
+        KeyCode::Tab,
+        KeyCode::Backspace,
+        KeyCode::Escape,
+    ];
+    report.key == ReportedKey::Functional(57414)
+        || named.map(ReportedKey::Named).contains(&report.key)
 }
 
 fn has_no_column(modifiers: KittyModifiers) -> bool {
@@ -90,7 +99,9 @@ fn shows_other(report: &KeyReport) -> bool {
 
 fn is_other_digit(report: &KeyReport) -> bool {
     use KeyCode::{Numpad1, Numpad2, Numpad3, Numpad4, Numpad5, Numpad6, Numpad7, Numpad8};
-    let digits = [Numpad1, Numpad2, Numpad3, Numpad4, Numpad5, Numpad6, Numpad7, Numpad8];
+    let digits = [
+        Numpad1, Numpad2, Numpad3, Numpad4, Numpad5, Numpad6, Numpad7, Numpad8,
+    ];
     digits.map(ReportedKey::Named).contains(&report.key)
 }
 
@@ -100,7 +111,11 @@ fn unescaped(column: &str) -> String {
     let mut rest = column;
     while let Some((before, escaped)) = rest.split_once('\\') {
         text.push_str(before);
-        let len = if escaped.starts_with(['e', '\\']) { 1 } else { 3 };
+        let len = if escaped.starts_with(['e', '\\']) {
+            1
+        } else {
+            3
+        };
         text.push(match &escaped[..len] {
             "e" => '\x1b',
             "\\" => '\\',
@@ -124,7 +139,11 @@ fn told(name: &str, modifiers: &str, sent: &str, is_press: bool) -> KeyReport {
         return KeyReport {
             key: ReportedKey::Named(KeyCode::Function(3)),
             modifiers: held(modifiers),
-            kind: if is_press { KeyEventKind::Press } else { KeyEventKind::Release },
+            kind: if is_press {
+                KeyEventKind::Press
+            } else {
+                KeyEventKind::Release
+            },
             shifted: None,
             base: None,
             text: String::new(),
@@ -144,15 +163,30 @@ fn sent_of(line: &'static str) -> Vec<Sent> {
         panic!("{line}");
     };
     let texts: Vec<String> = sent.iter().map(|column| unescaped(column)).collect();
-    let [press, release] = [true, false].map(|is_press| told(name, modifiers, &texts[usize::from(!is_press)], is_press));
+    let [press, release] = [true, false]
+        .map(|is_press| told(name, modifiers, &texts[usize::from(!is_press)], is_press));
     for flags in [Flags::NONE, DISAMBIGUATE] {
         assert_eq!(release.encode(flags).as_deref(), Ok(""), "{line}");
     }
-    let reports = COLUMNS.map(|(flags, is_press)| (flags, if is_press { press.clone() } else { release.clone() }));
+    let reports = COLUMNS.map(|(flags, is_press)| {
+        (
+            flags,
+            if is_press {
+                press.clone()
+            } else {
+                release.clone()
+            },
+        )
+    });
     reports
         .into_iter()
         .zip(texts)
-        .map(|((flags, report), text)| Sent { name, report, flags, text })
+        .map(|((flags, report), text)| Sent {
+            name,
+            report,
+            flags,
+            text,
+        })
         .collect()
 }
 
@@ -160,11 +194,24 @@ fn sent_of(line: &'static str) -> Vec<Sent> {
 fn as_kitty_but_for_these() {
     let mut count = 0;
     let mut found = [0; DIFFERENCES.len()];
-    for sent in RECORDED.lines().filter(|line| !line.starts_with('#')).flat_map(sent_of) {
+    for sent in RECORDED
+        .lines()
+        .filter(|line| !line.starts_with('#'))
+        .flat_map(sent_of)
+    {
         count += 1;
         let is_same = sent.report.encode(sent.flags).as_deref() == Ok(&sent.text);
-        let listed = DIFFERENCES.iter().position(|difference| difference.2(&sent));
-        assert_eq!(is_same, listed.is_none(), "{} {:?} {}", sent.name, sent.report, sent.flags);
+        let listed = DIFFERENCES
+            .iter()
+            .position(|difference| difference.2(&sent));
+        assert_eq!(
+            is_same,
+            listed.is_none(),
+            "{} {:?} {}",
+            sent.name,
+            sent.report,
+            sent.flags
+        );
         if let Some(number) = listed {
             found[number] += 1;
         }

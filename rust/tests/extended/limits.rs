@@ -2,19 +2,31 @@
 use crate::cuts::read_cut;
 use crate::examples::{BOTH, MORE};
 use crate::parser::given;
-use hedrugal::extended::{ExtendedParser, Rows};
+use hedrugal::extended::{ExtendedParser, Protocol};
 
 // A text, or what it gives with more to come, by its parts, each so many times.
 type Parts<Part> = &'static [(Part, usize)];
 
 pub type LongExample = (Parts<&'static [u8]>, Parts<&'static str>);
 
-// The longest string of each kind, also after an ESC, and the longest text that waits.
+// The longest string of each kind, also after an ESC, and the longest text that stays buffered.
 const STRINGS: &[LongExample] = &[
-    (&[(b"\x1b]", 1), (b"x", 65533), (b"\x07", 1)], &[("osc ", 1), ("x", 65533)]),
-    (&[(b"\x1b]", 1), (b"x", 65532), (b"\x1b\\", 1)], &[("osc ", 1), ("x", 65532)]),
-    (&[(b"\x1bP", 1), (b"x", 65532), (b"\x1b\\", 1)], &[("dcs ", 1), ("x", 65532)]),
-    (&[(b"\x1b_", 1), (b"x", 65532), (b"\x1b\\", 1)], &[("apc ", 1), ("x", 65532)]),
+    (
+        &[(b"\x1b]", 1), (b"x", 65533), (b"\x07", 1)],
+        &[("osc ", 1), ("x", 65533)],
+    ),
+    (
+        &[(b"\x1b]", 1), (b"x", 65532), (b"\x1b\\", 1)],
+        &[("osc ", 1), ("x", 65532)],
+    ),
+    (
+        &[(b"\x1bP", 1), (b"x", 65532), (b"\x1b\\", 1)],
+        &[("dcs ", 1), ("x", 65532)],
+    ),
+    (
+        &[(b"\x1b_", 1), (b"x", 65532), (b"\x1b\\", 1)],
+        &[("apc ", 1), ("x", 65532)],
+    ),
     (
         &[(b"\x1b\x1b]", 1), (b"x", 65533), (b"\x07", 1)],
         &[("key Escape NONE, osc ", 1), ("x", 65533)],
@@ -50,24 +62,39 @@ const TYPED_STRINGS: &[LongExample] = &[
     ),
     (
         &[(b"\x1b\x1b]", 1), (b"x", 65534)],
-        &[("key Escape ALT, key Char(']') NONE", 1), (", key Char('x') NONE", 65534)],
+        &[
+            ("key Escape ALT, key Char(']') NONE", 1),
+            (", key Char('x') NONE", 65534),
+        ],
     ),
     (
         &[(b"\x1bP", 1), (b"x", 65533), (b"\x1b", 1)],
-        &[("key Char('P') ALT", 1), (", key Char('x') NONE", 65533), ("; 1", 1)],
+        &[
+            ("key Char('P') ALT", 1),
+            (", key Char('x') NONE", 65533),
+            ("; 1", 1),
+        ],
     ),
 ];
 
-// The same for control sequences, whose limit is 256 bytes; the second is a key report with as long a text as fits.
+// The same for control sequences, whose limit is 256 bytes; the second is a key report with as long
+// a text as fits.
 const CONTROLS: &[LongExample] = &[
-    (&[(b"\x1b[", 1), (b"1", 253), (b"x", 1)], &[("csi ", 1), ("1", 253), ("x", 1)]),
+    (
+        &[(b"\x1b[", 1), (b"1", 253), (b"x", 1)],
+        &[("csi ", 1), ("1", 253), ("x", 1)],
+    ),
     (
         &[(b"\x1b[97;;", 1), (b"65:", 82), (b"229u", 1)],
         &[("report Char('a') NONE text \"", 1), ("A", 82), ("å\"", 1)],
     ),
     (
         &[(b"\x1b[", 1), (b"1", 254), (b"x", 1)],
-        &[("key Char('[') ALT", 1), (", key Char('1') NONE", 254), (", key Char('x') NONE", 1)],
+        &[
+            ("key Char('[') ALT", 1),
+            (", key Char('1') NONE", 254),
+            (", key Char('x') NONE", 1),
+        ],
     ),
     (&[(b"\x1b[", 1), (b"1", 253)], &[("; 255", 1)]),
     (
@@ -78,22 +105,29 @@ const CONTROLS: &[LongExample] = &[
 
 // The bytes of the parts.
 pub fn joined<Part: AsRef<[u8]>>(parts: Parts<Part>) -> Vec<u8> {
-    parts.iter().flat_map(|(part, times)| part.as_ref().repeat(*times)).collect()
+    parts
+        .iter()
+        .flat_map(|(part, times)| part.as_ref().repeat(*times))
+        .collect()
 }
 
-// The parser reads the text of an example by one call, and in pieces of 64 bytes, with its last byte alone or not.
+// The parser reads the text of an example by one call, and in pieces of 64 bytes, with its last
+// byte alone or not.
 fn check(parser: &mut ExtendedParser, (parts, wanted): &LongExample) {
     let (text, wanted) = (joined(parts), joined(wanted));
     for place in [0, text.len() - 1, text.len()] {
         parser.reset();
         let events = read_cut(parser, &text, MORE, place, 64);
-        assert!(given(&events, parser).as_bytes() == wanted, "{parts:?}, to {place}");
+        assert!(
+            given(&events, parser).as_bytes() == wanted,
+            "{parts:?}, to {place}"
+        );
     }
 }
 
-pub fn check_all(readings: &[Rows], examples: &[LongExample]) {
-    for rows in readings {
-        let mut parser = ExtendedParser::new(*rows);
+pub fn check_all(readings: &[Protocol], examples: &[LongExample]) {
+    for protocol in readings {
+        let mut parser = ExtendedParser::new(*protocol);
         for example in examples {
             check(&mut parser, example);
         }

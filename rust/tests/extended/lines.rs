@@ -5,7 +5,10 @@ use hedrugal::input::InputEvent;
 fn input(event: &InputEvent) -> String {
     match event {
         InputEvent::Key(event) => format!("key {:?} {}", event.key, event.modifiers),
-        InputEvent::Mouse(event) => format!("mouse {} {} {} {}", event.x, event.y, event.mouse_buttons, event.modifiers),
+        InputEvent::Mouse(event) => format!(
+            "mouse {} {} {} {}",
+            event.x, event.y, event.mouse_buttons, event.modifiers
+        ),
         InputEvent::Paste(text) => format!("paste {text:?}"),
         event => panic!("the parser never makes {event:?}"),
     }

@@ -3,20 +3,26 @@ use crate::examples::{BOTH, LAST};
 use crate::limits::{check_all, joined, LongExample};
 use crate::lines::lines;
 use crate::parser::{parsed, CALLS};
-use hedrugal::extended::{ExtendedEvent, ExtendedParser, Rows};
+use hedrugal::extended::{ExtendedEvent, ExtendedParser, Protocol};
 use hedrugal::input::InputEvent;
 
 // A text of one event, by each call as a whole, and in reads of 4096 bytes.
 fn check(text: &[u8], wanted: &ExtendedEvent) {
-    for rows in BOTH {
-        let mut parser = ExtendedParser::new(*rows);
+    for protocol in BOTH {
+        let mut parser = ExtendedParser::new(*protocol);
         for call in 0..CALLS {
-            assert!(parsed(call, &mut parser, text, true) == [wanted.clone()], "{rows:?}, call {call}");
+            assert!(
+                parsed(call, &mut parser, text, true) == [wanted.clone()],
+                "{protocol:?}, call {call}"
+            );
             let mut events = Vec::new();
             for bytes in text.chunks(4096) {
                 events.extend(parsed(call, &mut parser, bytes, true));
             }
-            assert!(events == [wanted.clone()], "{rows:?}, call {call}, in reads");
+            assert!(
+                events == [wanted.clone()],
+                "{protocol:?}, call {call}, in reads"
+            );
             assert_eq!(parser.waiting_len(), 0);
         }
     }
@@ -34,7 +40,10 @@ fn a_paste_of_100_kb() {
 fn a_command_of_60000_bytes() {
     let text = b"52;c;".repeat(12000);
     for end in [&b"\x1b\\"[..], b"\x07"] {
-        check(&[b"\x1b]", &text[..], end].concat(), &ExtendedEvent::Osc(text.clone()));
+        check(
+            &[b"\x1b]", &text[..], end].concat(),
+            &ExtendedEvent::Osc(text.clone()),
+        );
     }
 }
 
@@ -47,24 +56,32 @@ fn strings_at_the_limit() {
     check(&string(b"\x1bP", &text), &ExtendedEvent::Dcs(text.clone()));
     check(&string(b"\x1b_", &text), &ExtendedEvent::Apc(text.clone()));
     let longer = vec![b'x'; 65533];
-    for rows in BOTH {
-        let mut parser = ExtendedParser::new(*rows);
+    for protocol in BOTH {
+        let mut parser = ExtendedParser::new(*protocol);
         let events = parser.parse_as_vec(&string(b"\x1b_", &longer), true);
         assert_eq!(events.len(), longer.len() + 2);
-        assert!(events.iter().all(|event| matches!(event, ExtendedEvent::Input(InputEvent::Key(_)))));
+        assert!(events
+            .iter()
+            .all(|event| matches!(event, ExtendedEvent::Input(InputEvent::Key(_)))));
     }
 }
 
 // 70000 events in one call.
 #[test]
 fn events_70000_at_once() {
-    for rows in BOTH {
-        let mut parser = ExtendedParser::new(*rows);
+    for protocol in BOTH {
+        let mut parser = ExtendedParser::new(*protocol);
         for call in 0..CALLS {
             let events = parsed(call, &mut parser, &b"\x1b[I\x1b]a\x07".repeat(35000), true);
-            let wanted = [ExtendedEvent::FocusGained, ExtendedEvent::Osc(b"a".to_vec())];
+            let wanted = [
+                ExtendedEvent::FocusGained,
+                ExtendedEvent::Osc(b"a".to_vec()),
+            ];
             assert_eq!(events.len(), 70000);
-            assert!(events.chunks(2).all(|pair| pair == wanted), "{rows:?}, call {call}");
+            assert!(
+                events.chunks(2).all(|pair| pair == wanted),
+                "{protocol:?}, call {call}"
+            );
         }
     }
 }

@@ -1,12 +1,17 @@
 // The extended parser on worked examples.
 use crate::compared::Comparison;
 use crate::cuts::check_cuts;
-use crate::examples::{Example, Step, BOTH, KEYS, KINDS_AND_MODIFIERS, MOUSE_REPORTS, NAMES_AND_FIELDS, OTHERS, PASTES, REPLIES, STRINGS};
+use crate::examples::{
+    Example, Step, BOTH, KEYS, KINDS_AND_MODIFIERS, MOUSE_REPORTS, NAMES_AND_FIELDS, OTHERS,
+    PASTES, REPLIES, STRINGS,
+};
 use crate::lines::lines;
-use hedrugal::extended::{ExtendedEvent, ExtendedParser, KeyEventKind, KeyReport, KittyModifiers, ReportedKey, Rows};
+use hedrugal::extended::{
+    ExtendedEvent, ExtendedParser, KeyEventKind, KeyReport, KittyModifiers, Protocol, ReportedKey,
+};
 use hedrugal::input::{InputEvent, InputParser, KeyCode, KittyKeyboardFlags, Waiting};
 
-// What a call gave, and how many bytes wait after it.
+// What a call gave, and how many bytes are buffered after it.
 pub fn given(events: &[ExtendedEvent], parser: &ExtendedParser) -> String {
     let mut given = lines(events);
     if parser.waiting_len() > 0 {
@@ -19,11 +24,20 @@ pub fn given(events: &[ExtendedEvent], parser: &ExtendedParser) -> String {
 }
 
 // The events of a call, by each way to call the parser.
-pub fn parsed(call: usize, parser: &mut ExtendedParser, bytes: &[u8], more: bool) -> Vec<ExtendedEvent> {
+pub fn parsed(
+    call: usize,
+    parser: &mut ExtendedParser,
+    bytes: &[u8],
+    more: bool,
+) -> Vec<ExtendedEvent> {
     let mut events = Vec::new();
     match call {
         0 => return parser.parse_as_vec(bytes, more),
-        1 => return parser.try_parse_as_vec(bytes, more).expect("memory is granted"),
+        1 => {
+            return parser
+                .try_parse_as_vec(bytes, more)
+                .expect("memory is granted")
+        }
         2 => parser.parse(bytes, |event| events.push(event), more),
         3 => parser
             .try_parse(bytes, |event| events.push(event), more)
@@ -34,7 +48,9 @@ pub fn parsed(call: usize, parser: &mut ExtendedParser, bytes: &[u8], more: bool
         }
         _ => {
             parser.try_feed(bytes).expect("memory is granted");
-            events.extend(std::iter::from_fn(|| parser.try_next_event(more).expect("memory is granted")));
+            events.extend(std::iter::from_fn(|| {
+                parser.try_next_event(more).expect("memory is granted")
+            }));
         }
     }
     events
@@ -52,15 +68,18 @@ fn check_steps(parser: &mut ExtendedParser, steps: &[Step]) {
                 given(&events, parser),
                 *wanted,
                 "{:?} {}, call {call}",
-                parser.rows(),
+                parser.protocol(),
                 bytes.escape_ascii()
             );
         }
     }
 }
 
-// The events of a text in pieces and what waits then, and then of a flush.
-fn in_pieces<'a>(parser: &mut ExtendedParser, pieces: impl IntoIterator<Item = &'a [u8]>) -> [String; 2] {
+// The events of a text in pieces and what is buffered then, and then of a flush.
+fn in_pieces<'a>(
+    parser: &mut ExtendedParser,
+    pieces: impl IntoIterator<Item = &'a [u8]>,
+) -> [String; 2] {
     parser.reset();
     let mut events = Vec::new();
     for bytes in pieces {
@@ -73,9 +92,17 @@ fn in_pieces<'a>(parser: &mut ExtendedParser, pieces: impl IntoIterator<Item = &
 
 // All bytes of an example, byte by byte and cut at each place, give what they give as a whole.
 fn check_pieces(parser: &mut ExtendedParser, steps: &[Step]) {
-    let text: Vec<u8> = steps.iter().flat_map(|(bytes, _, _)| bytes.iter().copied()).collect();
+    let text: Vec<u8> = steps
+        .iter()
+        .flat_map(|(bytes, _, _)| bytes.iter().copied())
+        .collect();
     let whole = in_pieces(parser, [&text[..]]);
-    assert_eq!(in_pieces(parser, text.chunks(1)), whole, "{}", text.escape_ascii());
+    assert_eq!(
+        in_pieces(parser, text.chunks(1)),
+        whole,
+        "{}",
+        text.escape_ascii()
+    );
     for place in 0..text.len() {
         assert_eq!(
             in_pieces(parser, [&text[..place], &text[place..]]),
@@ -87,10 +114,11 @@ fn check_pieces(parser: &mut ExtendedParser, steps: &[Step]) {
 }
 
 fn check_all(examples: &[Example]) {
-    for rows in BOTH {
-        let (mut parser, mut comparison) = (ExtendedParser::new(*rows), Comparison::new(*rows));
-        assert_eq!(parser.rows(), *rows);
-        for (_, steps) in examples.iter().filter(|(read, _)| read.contains(rows)) {
+    for protocol in BOTH {
+        let (mut parser, mut comparison) =
+            (ExtendedParser::new(*protocol), Comparison::new(*protocol));
+        assert_eq!(parser.protocol(), *protocol);
+        for (_, steps) in examples.iter().filter(|(read, _)| read.contains(protocol)) {
             check_steps(&mut parser, steps);
             check_cuts(&mut parser, steps);
             check_pieces(&mut parser, steps);
@@ -159,15 +187,34 @@ fn finds_keys_of_events() {
     };
     let plain = pressed(KeyCode::Char('a'), KittyModifiers::NONE);
     let up = pressed(KeyCode::UpArrow, held);
-    assert_eq!(keys, [Some(plain), Some(up), None, Some(released), None, None, None, None]);
+    assert_eq!(
+        keys,
+        [
+            Some(plain),
+            Some(up),
+            None,
+            Some(released),
+            None,
+            None,
+            None,
+            None
+        ]
+    );
 }
 
 // Each key is found as a report, also one with a text and a key of the port.
 #[test]
 fn finds_keys_of_reports() {
     let mut parser = ExtendedParser::new(Protocol::Legacy);
-    let events = parser.parse_as_vec(b"a\x1b[97;5u\x1b[I\x1b[1;2:3A\x1b[200~p\x1b[201~\x1b[97;;65u\x1bOP", false);
-    let keys: Vec<ExtendedEvent> = events.iter().filter_map(ExtendedEvent::key).map(ExtendedEvent::Key).collect();
+    let events = parser.parse_as_vec(
+        b"a\x1b[97;5u\x1b[I\x1b[1;2:3A\x1b[200~p\x1b[201~\x1b[97;;65u\x1bOP",
+        false,
+    );
+    let keys: Vec<ExtendedEvent> = events
+        .iter()
+        .filter_map(ExtendedEvent::key)
+        .map(ExtendedEvent::Key)
+        .collect();
     assert_eq!(
         lines(&keys),
         "report Char('a') NONE, report Char('a') CTRL, report UpArrow SHIFT Release, report Char('a') NONE text \"A\", \
@@ -182,14 +229,18 @@ fn tells_keyboard_flags() {
     let [ExtendedEvent::KeyboardFlags(bits)] = events[..] else {
         panic!("{events:?}")
     };
-    let flags = KittyKeyboardFlags::DISAMBIGUATE_ESCAPE_CODES | KittyKeyboardFlags::REPORT_ALTERNATE_KEYS;
+    let flags =
+        KittyKeyboardFlags::DISAMBIGUATE_ESCAPE_CODES | KittyKeyboardFlags::REPORT_ALTERNATE_KEYS;
     assert_eq!(KittyKeyboardFlags::from_bits(bits.into()), Some(flags));
 }
 
 #[test]
 fn writes_and_reads_modifiers() {
     let held = KittyModifiers::CTRL | KittyModifiers::NUM_LOCK;
-    assert_eq!((held.bits(), held.to_string()), (132, "CTRL|NUM_LOCK".to_string()));
+    assert_eq!(
+        (held.bits(), held.to_string()),
+        (132, "CTRL|NUM_LOCK".to_string())
+    );
     assert_eq!("CTRL|NUM_LOCK".parse(), Ok(held));
     assert_eq!(KittyModifiers::from_bits(255), Some(KittyModifiers::all()));
 }
@@ -199,10 +250,17 @@ fn writes_and_reads_modifiers() {
 fn goes_on_after_a_panic() {
     let mut parser = ExtendedParser::new(Protocol::Legacy);
     let caught = std::panic::catch_unwind(std::panic::AssertUnwindSafe(|| {
-        parser.parse(b"\x1b[I\x1b]a\x07", |_| std::panic::resume_unwind(Box::new(())), true);
+        parser.parse(
+            b"\x1b[I\x1b]a\x07",
+            |_| std::panic::resume_unwind(Box::new(())),
+            true,
+        );
     }));
     assert!(caught.is_err());
-    assert_eq!(parser.parse_as_vec(b"", true), [ExtendedEvent::Osc(b"a".to_vec())]);
+    assert_eq!(
+        parser.parse_as_vec(b"", true),
+        [ExtendedEvent::Osc(b"a".to_vec())]
+    );
 }
 
 // What stays buffered is read by two threads at once, and the parser then goes on in a third.
@@ -214,14 +272,20 @@ fn shares_a_parser_between_threads() {
         for _ in 0..2 {
             scope.spawn(|| {
                 for _ in 0..1000 {
-                    assert_eq!((parser.waiting(), parser.waiting_len()), (Waiting::Sequence, 9));
+                    assert_eq!(
+                        (parser.waiting(), parser.waiting_len()),
+                        (Waiting::Sequence, 9)
+                    );
                     assert!(!parser.is_paste_open());
                 }
             });
         }
     });
     let events = std::thread::spawn(move || parser.parse_as_vec(b"\x07", true)).join();
-    assert_eq!(events.ok(), Some(vec![ExtendedEvent::Osc(b"0;title".to_vec())]));
+    assert_eq!(
+        events.ok(),
+        Some(vec![ExtendedEvent::Osc(b"0;title".to_vec())])
+    );
 }
 
 #[test]
@@ -236,7 +300,10 @@ fn has_the_traits() {
 fn shows_a_parser() {
     let mut parser = ExtendedParser::new(Protocol::Legacy);
     parser.parse(b"\x1b[", |_| (), true);
-    assert_eq!(format!("{parser:?}"), "ExtendedParser { rows: Port, waiting_len: 2, .. }");
+    assert_eq!(
+        format!("{parser:?}"),
+        "ExtendedParser { protocol: Legacy, waiting_len: 2, .. }"
+    );
 }
 
 // Two parsers at once, of either kind, have nothing in common.
@@ -247,5 +314,8 @@ fn parts_parsers() {
     assert_eq!(extended.parse_as_vec(b"\x1b[200~b", true), []);
     let [a, b] = ["a", "b"].map(|text| InputEvent::Paste(text.to_string()));
     assert_eq!(plain.parse_as_vec(b"\x1b[201~", true), [a]);
-    assert_eq!(extended.parse_as_vec(b"\x1b[201~", true), [ExtendedEvent::Input(b)]);
+    assert_eq!(
+        extended.parse_as_vec(b"\x1b[201~", true),
+        [ExtendedEvent::Input(b)]
+    );
 }

@@ -1,20 +1,23 @@
-// A slow reader. It follows docs/EXTENDED.md sentence by sentence and by trying everything, and shares nothing with the extended parser but
-// the types of events. What the port knows it asks the port's plain reader. A number in a comment is that of the page's sentence.
+// A slow reader. It follows docs/EXTENDED.md sentence by sentence and by trying everything, and
+// shares nothing with the extended parser but the types of events. What the port knows it asks the
+// port's plain reader. A number in a comment is that of the page's sentence.
 mod forms;
 mod keys;
 mod meanings;
 
 use crate::port::plain::{report_of, PlainReader as PortReader};
 use forms::is_form;
-use hedrugal::extended::{ExtendedEvent, Rows};
+use hedrugal::extended::{ExtendedEvent, Protocol};
 use hedrugal::input::{InputEvent, KeyCode, KeyEvent, Modifiers};
 use meanings::event_of;
 
 const ESC: &[u8] = b"\x1b";
 
-// 5: ends of forms. With one of these each text that properly begins a form is a whole one, and it is no sequence of the port, since no
-// row ends with `x`.
-const ENDS_OF_FORMS: &[&[u8]] = &[b"[x", b"x", b"   ", b"  ", b" ", b"A", b"M", b"\x07", b"\x1b\\", b"\\"];
+// 5: ends of forms. With one of these each text that properly begins a form is a whole one, and it
+// is no sequence of the port, since no row ends with `x`.
+const ENDS_OF_FORMS: &[&[u8]] = &[
+    b"[x", b"x", b"   ", b"  ", b" ", b"A", b"M", b"\x07", b"\x1b\\", b"\\",
+];
 
 // 7: the key Escape.
 fn escape_key() -> ExtendedEvent {
@@ -26,12 +29,15 @@ fn escape_key() -> ExtendedEvent {
 
 // 3: whether the events read a row as a key report or a cursor position.
 fn is_key_or_position(event: &ExtendedEvent) -> bool {
-    matches!(event, ExtendedEvent::Key(_) | ExtendedEvent::CursorPosition { .. })
+    matches!(
+        event,
+        ExtendedEvent::Key(_) | ExtendedEvent::CursorPosition { .. }
+    )
 }
 
-// The reader, by how the rows are read.
+// The reader, by the protocol.
 pub struct PlainReader {
-    rows: Rows,
+    protocol: Protocol,
     port: PortReader,
 }
 
@@ -39,9 +45,9 @@ pub struct PlainReader {
 type Item<'a> = (ExtendedEvent, &'a [u8]);
 
 impl PlainReader {
-    pub fn new(rows: Rows) -> PlainReader {
+    pub fn new(protocol: Protocol) -> PlainReader {
         PlainReader {
-            rows,
+            protocol,
             port: PortReader::new(),
         }
     }
@@ -57,7 +63,7 @@ impl PlainReader {
             return None;
         }
         let event = event_of(text)?;
-        if self.is_row(text) && (self.rows == Protocol::Legacy || !is_key_or_position(&event)) {
+        if self.is_row(text) && (self.protocol == Protocol::Legacy || !is_key_or_position(&event)) {
             return None;
         }
         Some(event)
@@ -73,10 +79,13 @@ impl PlainReader {
 
     // 5: whether some extra sequence is longer than the text and begins with it.
     fn begins_extra(&self, text: &[u8]) -> bool {
-        ENDS_OF_FORMS.iter().any(|end| self.extra_event(&[text, end].concat()).is_some())
+        ENDS_OF_FORMS
+            .iter()
+            .any(|end| self.extra_event(&[text, end].concat()).is_some())
     }
 
-    // 5: whether the text is open. The port knows whether a sequence of its own or a character begins with it.
+    // 5: whether the text is open. The port knows whether a sequence of its own or a character
+    // begins with it.
     fn is_open(&self, text: &[u8], more: bool) -> bool {
         more && !text.is_empty() && (self.begins_extra(text) || self.port.is_open(text, more))
     }
@@ -107,7 +116,7 @@ impl PlainReader {
         self.item_of_port(text, more)
     }
 
-    // 9: the events of a text under a flag, and the rest that waits.
+    // 9: the events of a text under a flag, and the rest that stays buffered.
     pub fn read<'a>(&self, text: &'a [u8], more: bool) -> (Vec<ExtendedEvent>, &'a [u8]) {
         let mut events = Vec::new();
         let mut rest = text;

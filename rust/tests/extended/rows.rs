@@ -1,11 +1,9 @@
-// The rows of the sequence table, read in both ways.
-use hedrugal::extended::{ExtendedEvent, ExtendedParser, KeyReport, Rows};
+// The entries of the sequence table, read under both protocols.
+use crate::port::plain::PlainReader;
+use hedrugal::extended::{ExtendedEvent, ExtendedParser, KeyReport, Protocol};
 use hedrugal::input::{InputParser, KeyCode};
 
-// How many rows the sequence table has, as docs/GRAMMAR.md lists them.
-const ROW_COUNT: usize = 2937;
-
-// How many rows are read otherwise under `Protocol::Kitty`.
+// How many entries are read otherwise under `Protocol::Kitty`.
 #[derive(Default, PartialEq, Debug)]
 struct Counts {
     // Key reports.
@@ -22,12 +20,12 @@ fn same_key(first: &KeyReport, second: &KeyReport) -> bool {
 }
 
 impl Counts {
-    // Counts the reading of a row, which is the port's unless it is a report.
+    // Counts the reading of an entry, which is the port's unless it is a report.
     fn add(&mut self, port: &[ExtendedEvent], kitty: &[ExtendedEvent]) {
         match kitty {
             [ExtendedEvent::Key(report)] => {
                 self.reports += 1;
-                let key = port[0].key().expect("the row has a key");
+                let key = port[0].key().expect("the entry has a key");
                 self.renamed += usize::from(!same_key(&key, report));
             }
             [ExtendedEvent::CursorPosition { .. }] => self.positions += 1,
@@ -36,22 +34,34 @@ impl Counts {
     }
 }
 
-// Each row is read as `InputParser` reads it, or under `Protocol::Kitty` as a report. The start of a paste alone has no event.
+// Each entry is read as `InputParser` reads it, or under `Protocol::Kitty` as a report. The start
+// of a paste alone has no event.
 #[test]
-fn reads_each_row() {
+fn reads_each_entry() {
     let mut plain = InputParser::new();
-    let (mut port, mut kitty) = (ExtendedParser::new(Protocol::Legacy), ExtendedParser::new(Protocol::Kitty));
+    let (mut port, mut kitty) = (
+        ExtendedParser::new(Protocol::Legacy),
+        ExtendedParser::new(Protocol::Kitty),
+    );
     let mut counts = Counts::default();
-    for place in 0..ROW_COUNT {
-        let (row, key) = plain.row(place).expect("there are so many rows");
-        let wanted: Vec<ExtendedEvent> = plain.parse_as_vec(&row, false).into_iter().map(ExtendedEvent::Input).collect();
-        assert_eq!(wanted.len(), usize::from(key.key != KeyCode::InternalPasteStart), "{row:?}");
-        assert_eq!(port.parse_as_vec(&row, false), wanted, "{row:?}");
-        counts.add(&wanted, &kitty.parse_as_vec(&row, false));
+    let entries: Vec<_> = (0..).map_while(|place| plain.entry(place)).collect();
+    assert_eq!(entries.len(), PlainReader::new().row_count());
+    for (bytes, key) in entries {
+        let wanted: Vec<ExtendedEvent> = plain
+            .parse_as_vec(&bytes, false)
+            .into_iter()
+            .map(ExtendedEvent::Input)
+            .collect();
+        assert_eq!(
+            wanted.len(),
+            usize::from(key.key != KeyCode::InternalPasteStart),
+            "{bytes:?}"
+        );
+        assert_eq!(port.parse_as_vec(&bytes, false), wanted, "{bytes:?}");
+        counts.add(&wanted, &kitty.parse_as_vec(&bytes, false));
         let left = plain.reset();
         assert_eq!((port.reset(), kitty.reset()), (left, left));
     }
-    assert_eq!(plain.row(ROW_COUNT), None);
     let wanted = Counts {
         reports: 2783,
         renamed: 300,

@@ -40,7 +40,8 @@ const SYMBOLS: &[&[u8]] = &[
     b"\x1b[201~",
 ];
 
-// The events of a text in pieces, and of a flush at its end; then what an open paste gives. What waits is as long after each cut.
+// The events of a text in pieces, and of a flush at its end; then what an open paste gives. As much
+// is buffered after each cut.
 fn read(parser: &mut ExtendedParser, text: &[u8], piece: usize) -> (Vec<ExtendedEvent>, usize) {
     let mut events = Vec::new();
     for bytes in text.chunks(piece) {
@@ -55,8 +56,8 @@ fn read(parser: &mut ExtendedParser, text: &[u8], piece: usize) -> (Vec<Extended
 
 #[test]
 fn cuts_change_nothing() {
-    for rows in BOTH {
-        let (mut draws, mut parser) = (Draws::new(31), ExtendedParser::new(*rows));
+    for protocol in BOTH {
+        let (mut draws, mut parser) = (Draws::new(31), ExtendedParser::new(*protocol));
         let mut extra = 0;
         for _ in 0..5000 {
             let count = 1 + draws.below(20);
@@ -66,11 +67,15 @@ fn cuts_change_nothing() {
                 assert_eq!(
                     read(&mut parser, &text, piece),
                     whole,
-                    "{rows:?}, pieces of {piece}: {}",
+                    "{protocol:?}, pieces of {piece}: {}",
                     text.escape_ascii()
                 );
             }
-            extra += whole.0.iter().filter(|event| !matches!(event, ExtendedEvent::Input(_))).count();
+            extra += whole
+                .0
+                .iter()
+                .filter(|event| !matches!(event, ExtendedEvent::Input(_)))
+                .count();
         }
         assert!(extra > 5000, "{extra}");
     }

@@ -34,13 +34,18 @@ fn check_rest(parser: &ExtendedParser, rest: &[u8], kind: Waiting) {
         "{}",
         rest.escape_ascii()
     );
-    assert_eq!(parser.is_paste_open(), kind == Waiting::Paste, "{}", rest.escape_ascii());
+    assert_eq!(
+        parser.is_paste_open(),
+        kind == Waiting::Paste,
+        "{}",
+        rest.escape_ascii()
+    );
 }
 
 // Calls with a parser, and each text that stays buffered in it and its kind.
 fn for_each_rest(check: impl Fn(&mut ExtendedParser, &[u8], Waiting)) {
-    for rows in BOTH {
-        let mut parser = ExtendedParser::new(*rows);
+    for protocol in BOTH {
+        let mut parser = ExtendedParser::new(*protocol);
         for (rest, kind) in RESTS {
             assert_eq!(parser.parse_as_vec(rest, true), []);
             check_rest(&parser, rest, *kind);
@@ -60,7 +65,10 @@ fn tells_kinds() {
         }
         check_rest(parser, rest, kind);
         parser.reset();
-        assert_eq!(lines(&parser.parse_as_vec(b"q", true)), "key Char('q') NONE");
+        assert_eq!(
+            lines(&parser.parse_as_vec(b"q", true)),
+            "key Char('q') NONE"
+        );
     });
 }
 
@@ -91,7 +99,10 @@ fn flushes_escapes_alone() {
         assert_eq!(parser.flush_escape(), None);
         if kind == Waiting::Escape {
             check_rest(parser, b"", Waiting::Nothing);
-            assert_eq!(lines(&parser.parse_as_vec(b"[I", true)), "key Char('[') NONE, key Char('I') NONE");
+            assert_eq!(
+                lines(&parser.parse_as_vec(b"[I", true)),
+                "key Char('[') NONE, key Char('I') NONE"
+            );
         } else {
             check_rest(parser, rest, kind);
         }
@@ -107,7 +118,10 @@ fn ends_open_pastes_alone() {
             assert_eq!(paste, Some(ExtendedEvent::Input(InputEvent::Paste(text))));
             check_rest(parser, b"", Waiting::Nothing);
             let after = parser.parse_as_vec(b"c\x1b[I\x1b[201~", true);
-            assert_eq!(lines(&after), "key Char('c') NONE, focus gained, key InternalPasteEnd NONE");
+            assert_eq!(
+                lines(&after),
+                "key Char('c') NONE, focus gained, key InternalPasteEnd NONE"
+            );
         } else {
             assert_eq!(paste, None);
             check_rest(parser, rest, kind);
@@ -119,8 +133,8 @@ fn ends_open_pastes_alone() {
 // A pause in a string or a control sequence breaks nothing.
 #[test]
 fn goes_on_after_a_pause() {
-    for rows in BOTH {
-        let mut parser = ExtendedParser::new(*rows);
+    for protocol in BOTH {
+        let mut parser = ExtendedParser::new(*protocol);
         let texts: [(&[u8], &[u8], &str); 4] = [
             (b"\x1b[?24;", b"80R", "cursor 24 80"),
             (b"\x1b]0;a\x1b", b"\\", "osc 0;a"),
@@ -138,8 +152,8 @@ fn goes_on_after_a_pause() {
 // What the terminal still sends of a paste that was ended is read as typed text.
 #[test]
 fn ends_a_long_paste_and_reads_on() {
-    for rows in BOTH {
-        let mut parser = ExtendedParser::new(*rows);
+    for protocol in BOTH {
+        let mut parser = ExtendedParser::new(*protocol);
         assert_eq!(parser.parse_as_vec(b"\x1b[200~", true), []);
         assert_eq!(parser.parse_as_vec(&b"x".repeat(300_000), true), []);
         assert_eq!(parser.waiting_len(), 300_006);
@@ -147,6 +161,9 @@ fn ends_a_long_paste_and_reads_on() {
         assert!(parser.end_paste() == Some(paste));
         assert_eq!(parser.waiting_len(), 0);
         let events = parser.parse_as_vec(b"q\x1b[I\x1b[201~", false);
-        assert_eq!(lines(&events), "key Char('q') NONE, focus gained, key InternalPasteEnd NONE");
+        assert_eq!(
+            lines(&events),
+            "key Char('q') NONE, focus gained, key InternalPasteEnd NONE"
+        );
     }
 }

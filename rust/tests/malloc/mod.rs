@@ -1,5 +1,6 @@
-// `malloc`, `realloc` and `free` of a test program, over the C library's (glibc's names for them), so all requests for memory come here. A
-// thread says which of its requests is refused, and its blocks are counted.
+// `malloc`, `realloc` and `free` of a test program, over the C library's (glibc's names for them),
+// so all requests for memory come here. A thread says which of its requests is refused, and its
+// blocks are counted.
 use std::cell::Cell;
 use std::ffi::c_void;
 
@@ -62,14 +63,22 @@ unsafe extern "C" fn free(block: *mut c_void) {
 // Counts a new block. SAFETY for callers: it is one, or null.
 unsafe fn counted(block: *mut c_void) -> *mut c_void {
     // SAFETY: of null the size is 0.
-    IN_USE.set(IN_USE.get().wrapping_add(unsafe { malloc_usable_size(block) }));
+    IN_USE.set(
+        IN_USE
+            .get()
+            .wrapping_add(unsafe { malloc_usable_size(block) }),
+    );
     block
 }
 
 // Takes a block out of the count. SAFETY for callers: it is one, or null.
 unsafe fn uncount(block: *mut c_void) {
     // SAFETY: of null the size is 0.
-    IN_USE.set(IN_USE.get().wrapping_sub(unsafe { malloc_usable_size(block) }));
+    IN_USE.set(
+        IN_USE
+            .get()
+            .wrapping_sub(unsafe { malloc_usable_size(block) }),
+    );
 }
 
 // What a call returns if one request in it is refused, and how many were.

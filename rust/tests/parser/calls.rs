@@ -1,7 +1,8 @@
 // The calls that parse.
 use hedrugal::input::{InputEvent, InputParser};
 
-// The most that stays buffered, but for an open paste: one ESC, and the longest proper beginning of a sequence.
+// The most that stays buffered, but for an open paste: one ESC, and the longest proper beginning of
+// a sequence.
 pub const MOST: usize = 21;
 
 // By which call bytes are read.
@@ -20,12 +21,17 @@ pub enum Call {
 pub const CALLS: [Call; 4] = [Call::List, Call::TryList, Call::Callback, Call::TryCallback];
 
 impl Call {
-    // The events of what is buffered and of these bytes. After the call few bytes stay buffered, or a paste is open.
+    // The events of what is buffered and of these bytes. After the call few bytes stay buffered, or
+    // a paste is open.
     pub fn events(self, parser: &mut InputParser, bytes: &[u8], more: bool) -> Vec<InputEvent> {
         let mut events = Vec::new();
         match self {
             Call::List => events = parser.parse_as_vec(bytes, more),
-            Call::TryList => events = parser.try_parse_as_vec(bytes, more).expect("memory is granted"),
+            Call::TryList => {
+                events = parser
+                    .try_parse_as_vec(bytes, more)
+                    .expect("memory is granted")
+            }
             Call::Callback => parser.parse(bytes, |event| events.push(event), more),
             Call::TryCallback => parser
                 .try_parse(bytes, |event| events.push(event), more)
@@ -40,8 +46,14 @@ impl Call {
     }
 }
 
-// The events of a text in pieces of this size, each with more to come, and then of a flush; and how many bytes stay buffered then.
-pub fn read_in_pieces(call: Call, parser: &mut InputParser, text: &[u8], piece: usize) -> (Vec<InputEvent>, usize) {
+// The events of a text in pieces of this size, each with more to come, and then of a flush; and how
+// many bytes stay buffered then.
+pub fn read_in_pieces(
+    call: Call,
+    parser: &mut InputParser,
+    text: &[u8],
+    piece: usize,
+) -> (Vec<InputEvent>, usize) {
     let mut events = Vec::new();
     for bytes in text.chunks(piece) {
         events.append(&mut call.events(parser, bytes, true));

@@ -1,8 +1,8 @@
 // Texts that look random, and are the same in each run.
 use crate::plain::PlainReader;
 
-// The bytes that the grammar names, parts and wholes of sequences, and beginnings of characters. ESC stands twice, so that it is drawn
-// more often.
+// The bytes that the grammar names, parts and wholes of sequences, and beginnings of characters.
+// ESC stands twice, so that it is drawn more often.
 const SYMBOLS: &[&[u8]] = &[
     b"\x1b",
     b"\x1b",
@@ -39,7 +39,8 @@ const SYMBOLS: &[&[u8]] = &[
     b"\x1b[<95;65535;65535M",
 ];
 
-// Limits of the lengths of pieces: below 2 a piece is a byte or empty, and below 61 most texts are one piece or two.
+// Limits of the lengths of pieces: below 2 a piece is a byte or empty, and below 61 most texts are
+// one piece or two.
 const LIMITS: &[usize] = &[2, 4, 8, 16, 61];
 
 // A linear congruential generator, and the rows of the sequence table, from which texts are made.
@@ -58,7 +59,10 @@ impl Draws {
 
     // A number below the limit.
     pub fn below(&mut self, limit: usize) -> usize {
-        self.state = self.state.wrapping_mul(6364136223846793005).wrapping_add(1442695040888963407);
+        self.state = self
+            .state
+            .wrapping_mul(6364136223846793005)
+            .wrapping_add(1442695040888963407);
         (self.state >> 33) as usize % limit
     }
 
@@ -76,7 +80,8 @@ impl Draws {
         self.rows[place].clone()
     }
 
-    // A mouse report; in some draws a number is past its limit or has six digits, so that it is none.
+    // A mouse report; in some draws a number is past its limit or has six digits, so that it is
+    // none.
     fn mouse_report(&mut self) -> Vec<u8> {
         let code = self.below(100);
         let x = self.below(70000) >> self.below(16);

@@ -1,6 +1,9 @@
 // The texts of keys, on worked examples.
 use crate::names::PLAIN_KEYS;
-use hedrugal::input::{EncodeError, KeyCode, KeyCodeEncodeModes, KeyboardEncoding, KittyKeyboardFlags, Modifiers, CSI, SS3};
+use hedrugal::input::{
+    EncodeError, KeyCode, KeyCodeEncodeModes, KeyboardEncoding, KittyKeyboardFlags, Modifiers, CSI,
+    SS3,
+};
 
 // A key that is pressed, the modifiers that are held, and the text.
 type Example = (KeyCode, Modifiers, &'static str);
@@ -51,8 +54,16 @@ const NEWLINE: KeyCodeEncodeModes = KeyCodeEncodeModes {
 fn check(modes: KeyCodeEncodeModes, examples: &[Example]) {
     for (key, mods, wanted) in examples {
         let wanted = Ok(wanted.to_string());
-        assert_eq!(key.encode(*mods, modes, true), wanted, "{key:?} {mods:?} {modes:?}");
-        assert_eq!(key.try_encode(*mods, modes, true), wanted, "{key:?} {mods:?} {modes:?}");
+        assert_eq!(
+            key.encode(*mods, modes, true),
+            wanted,
+            "{key:?} {mods:?} {modes:?}"
+        );
+        assert_eq!(
+            key.try_encode(*mods, modes, true),
+            wanted,
+            "{key:?} {mods:?} {modes:?}"
+        );
     }
 }
 
@@ -116,7 +127,10 @@ fn encode_issue_892() {
     );
     check(
         APPLICATION,
-        &[(KeyCode::UpArrow, NONE, "\x1bOA"), (KeyCode::UpArrow, SHIFT, "\x1b[1;2A")],
+        &[
+            (KeyCode::UpArrow, NONE, "\x1bOA"),
+            (KeyCode::UpArrow, SHIFT, "\x1b[1;2A"),
+        ],
     );
 }
 
@@ -180,10 +194,19 @@ fn encodes_characters_in_other_modes() {
             (KeyCode::Escape, SHIFT, "\x1b[27;2u"),
         ],
     );
-    check(encoded_as(KeyboardEncoding::Win32), &[(KeyCode::Char('i'), CTRL, "\x09")]);
+    check(
+        encoded_as(KeyboardEncoding::Win32),
+        &[(KeyCode::Char('i'), CTRL, "\x09")],
+    );
     let kitty = KeyboardEncoding::Kitty(KittyKeyboardFlags::all());
     check(encoded_as(kitty), &[(KeyCode::Char('i'), CTRL, "\x09")]);
-    check(NEWLINE, &[(KeyCode::Enter, NONE, "\r\n"), (KeyCode::Enter, ALT, "\x1b\r\n")]);
+    check(
+        NEWLINE,
+        &[
+            (KeyCode::Enter, NONE, "\r\n"),
+            (KeyCode::Enter, ALT, "\x1b\r\n"),
+        ],
+    );
 }
 
 #[test]
@@ -244,9 +267,9 @@ fn encodes_keys_with_shift() {
 
 // The texts of F1 to F24.
 const FUNCTION_KEYS: [&str; 24] = [
-    "\x1bOP", "\x1bOQ", "\x1bOR", "\x1bOS", "\x1b[15~", "\x1b[17~", "\x1b[18~", "\x1b[19~", "\x1b[20~", "\x1b[21~", "\x1b[23~", "\x1b[24~",
-    "\x1b[25~", "\x1b[26~", "\x1b[28~", "\x1b[29~", "\x1b[31~", "\x1b[32~", "\x1b[33~", "\x1b[34~", "\x1b[42~", "\x1b[43~", "\x1b[44~",
-    "\x1b[45~",
+    "\x1bOP", "\x1bOQ", "\x1bOR", "\x1bOS", "\x1b[15~", "\x1b[17~", "\x1b[18~", "\x1b[19~",
+    "\x1b[20~", "\x1b[21~", "\x1b[23~", "\x1b[24~", "\x1b[25~", "\x1b[26~", "\x1b[28~", "\x1b[29~",
+    "\x1b[31~", "\x1b[32~", "\x1b[33~", "\x1b[34~", "\x1b[42~", "\x1b[43~", "\x1b[44~", "\x1b[45~",
 ];
 
 #[test]
@@ -261,10 +284,16 @@ fn encodes_every_function_key() {
 fn refuses_unknown_function_keys() {
     for number in [0, 25, 255] {
         let key = KeyCode::Function(number);
-        assert_eq!(key.encode(NONE, XTERM, true), Err(EncodeError::UnhandledFunctionKey(number)));
+        assert_eq!(
+            key.encode(NONE, XTERM, true),
+            Err(EncodeError::UnhandledFunctionKey(number))
+        );
         assert_eq!(key.encode(NONE, XTERM, false), Ok(String::new()));
     }
-    assert_eq!(KeyCode::Char('a').encode(NONE, XTERM, false), Ok(String::new()));
+    assert_eq!(
+        KeyCode::Char('a').encode(NONE, XTERM, false),
+        Ok(String::new())
+    );
 }
 
 // A key that is up has the empty text, and every key but a function key has a text.
@@ -273,13 +302,21 @@ fn encodes_every_key() {
     let keys = PLAIN_KEYS.iter().copied().chain([KeyCode::Char('a')]);
     for key in keys.chain((1..=24).map(KeyCode::Function)) {
         assert!(key.encode(SHIFT, XTERM, true).is_ok(), "{key:?}");
-        assert_eq!(key.encode(SHIFT, XTERM, false), Ok(String::new()), "{key:?}");
+        assert_eq!(
+            key.encode(SHIFT, XTERM, false),
+            Ok(String::new()),
+            "{key:?}"
+        );
     }
 }
 
 #[test]
 fn tells_errors() {
-    assert_eq!(EncodeError::UnhandledFunctionKey(25).to_string(), "unhandled fkey number 25");
+    assert_eq!(
+        EncodeError::UnhandledFunctionKey(25).to_string(),
+        "unhandled fkey number 25"
+    );
+    assert_eq!(EncodeError::UnnamedBits.to_string(), "a bit has no name");
     assert_eq!(EncodeError::Memory.to_string(), "out of memory");
 }
 
@@ -308,6 +345,10 @@ fn shifts_letters() {
         (KeyCode::Char('é'), SHIFT, KeyCode::Char('é')),
         (KeyCode::Tab, SHIFT, KeyCode::Tab),
     ] {
-        assert_eq!(key.normalize_shift_to_upper_case(modifiers), wanted, "{key:?}");
+        assert_eq!(
+            key.normalize_shift_to_upper_case(modifiers),
+            wanted,
+            "{key:?}"
+        );
     }
 }

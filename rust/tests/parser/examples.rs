@@ -4,7 +4,8 @@ pub const MORE: bool = true;
 
 pub const LAST: bool = false;
 
-// The bytes of one call, its flag, and what it gives: the events as keyshow's lines, and how many bytes wait then, if any do.
+// The bytes of one call, its flag, and what it gives: the events as keyshow's lines, and how many
+// bytes are buffered then, if any are.
 pub type Step = (&'static [u8], bool, &'static str);
 
 // The name of an example, and its calls.
@@ -225,12 +226,20 @@ pub const PASTES: &[Example] = &[
     ),
     (
         "paste-after-held-escape",
-        &[(b"\x1b\x1b[200~x\x1b[201~", LAST, "key Escape NONE,paste 1:78")],
+        &[(
+            b"\x1b\x1b[200~x\x1b[201~",
+            LAST,
+            "key Escape NONE,paste 1:78",
+        )],
     ),
     (
         "paste-after-held-escape-end-cut",
         &[
-            (b"\x1b\x1b[200~a\x1b[20", MORE, "key Escape NONE ; 11 in a paste"),
+            (
+                b"\x1b\x1b[200~a\x1b[20",
+                MORE,
+                "key Escape NONE ; 11 in a paste",
+            ),
             (b"1~", MORE, "paste 1:61"),
         ],
     ),
@@ -257,7 +266,11 @@ pub const PASTES: &[Example] = &[
     ),
     (
         "paste-not-utf8",
-        &[(b"\x1b[200~\xff\x1b[201~z", LAST, "paste 3:efbfbd,key U+007A NONE")],
+        &[(
+            b"\x1b[200~\xff\x1b[201~z",
+            LAST,
+            "paste 3:efbfbd,key U+007A NONE",
+        )],
     ),
     (
         "paste-of-a-broken-character",
@@ -278,21 +291,45 @@ pub const CUTS: &[Example] = &[
             (b"", LAST, "key U+005B ALT,key U+0031 NONE,key U+0031 NONE"),
         ],
     ),
-    ("arrow-cut", &[(b"\x1b[", MORE, "; 2"), (b"B", MORE, "key DownArrow NONE")]),
-    ("beginning-broken", &[(b"\x1b[z", MORE, "key U+005B ALT,key U+007A NONE")]),
-    ("alt-o-flushed", &[(b"\x1bO", MORE, "; 2"), (b"", LAST, "key U+004F ALT")]),
+    (
+        "arrow-cut",
+        &[(b"\x1b[", MORE, "; 2"), (b"B", MORE, "key DownArrow NONE")],
+    ),
+    (
+        "beginning-broken",
+        &[(b"\x1b[z", MORE, "key U+005B ALT,key U+007A NONE")],
+    ),
+    (
+        "alt-o-flushed",
+        &[(b"\x1bO", MORE, "; 2"), (b"", LAST, "key U+004F ALT")],
+    ),
     (
         "longest-row-cut",
-        &[(b"\x1b[27;8;127", MORE, "; 10"), (b"~", MORE, "key Backspace SHIFT+ALT+CTRL")],
+        &[
+            (b"\x1b[27;8;127", MORE, "; 10"),
+            (b"~", MORE, "key Backspace SHIFT+ALT+CTRL"),
+        ],
     ),
-    ("character-cut", &[(b"\xe2\x82", MORE, "; 2"), (b"\xac", MORE, "key U+20AC NONE")]),
+    (
+        "character-cut",
+        &[
+            (b"\xe2\x82", MORE, "; 2"),
+            (b"\xac", MORE, "key U+20AC NONE"),
+        ],
+    ),
     (
         "long-character-cut",
-        &[(b"\xf0\x9f\x98", MORE, "; 3"), (b"\x80", MORE, "key U+1F600 NONE")],
+        &[
+            (b"\xf0\x9f\x98", MORE, "; 3"),
+            (b"\x80", MORE, "key U+1F600 NONE"),
+        ],
     ),
     (
         "character-flushed",
-        &[(b"\xe2\x82", MORE, "; 2"), (b"", LAST, "key U+FFFD NONE,key U+FFFD NONE")],
+        &[
+            (b"\xe2\x82", MORE, "; 2"),
+            (b"", LAST, "key U+FFFD NONE,key U+FFFD NONE"),
+        ],
     ),
     (
         "character-flushed-and-ended",
@@ -304,33 +341,65 @@ pub const CUTS: &[Example] = &[
     ),
     (
         "broken-byte",
-        &[(b"\xff", LAST, "key U+FFFD NONE"), (b"a", LAST, "key U+0061 NONE")],
+        &[
+            (b"\xff", LAST, "key U+FFFD NONE"),
+            (b"a", LAST, "key U+0061 NONE"),
+        ],
     ),
-    ("broken-byte-with-more-to-come", &[(b"\xff", MORE, "key U+FFFD NONE")]),
-    ("character-broken", &[(b"\xe2A", MORE, "key U+FFFD NONE,key U+0041 NONE")]),
+    (
+        "broken-byte-with-more-to-come",
+        &[(b"\xff", MORE, "key U+FFFD NONE")],
+    ),
+    (
+        "character-broken",
+        &[(b"\xe2A", MORE, "key U+FFFD NONE,key U+0041 NONE")],
+    ),
     (
         "character-broken-late",
         &[
             (b"\xf0\x9f\x98", MORE, "; 3"),
-            (b"A", MORE, "key U+FFFD NONE,key U+FFFD NONE,key U+FFFD NONE,key U+0041 NONE"),
+            (
+                b"A",
+                MORE,
+                "key U+FFFD NONE,key U+FFFD NONE,key U+FFFD NONE,key U+0041 NONE",
+            ),
         ],
     ),
     (
         "characters-cut-short",
-        &[(b"\xe2\xe2\x82\xac\xc3", MORE, "key U+FFFD NONE,key U+20AC NONE ; 1")],
+        &[(
+            b"\xe2\xe2\x82\xac\xc3",
+            MORE,
+            "key U+FFFD NONE,key U+20AC NONE ; 1",
+        )],
     ),
     (
         "continuation-alone",
-        &[(b"a\x80b", LAST, "key U+0061 NONE,key U+FFFD NONE,key U+0062 NONE")],
+        &[(
+            b"a\x80b",
+            LAST,
+            "key U+0061 NONE,key U+FFFD NONE,key U+0062 NONE",
+        )],
     ),
-    ("overlong-nul", &[(b"\xc0\x80", LAST, "key U+FFFD NONE,key U+FFFD NONE")]),
+    (
+        "overlong-nul",
+        &[(b"\xc0\x80", LAST, "key U+FFFD NONE,key U+FFFD NONE")],
+    ),
     (
         "overlong-character",
-        &[(b"\xe0\x80a", LAST, "key U+FFFD NONE,key U+FFFD NONE,key U+0061 NONE")],
+        &[(
+            b"\xe0\x80a",
+            LAST,
+            "key U+FFFD NONE,key U+FFFD NONE,key U+0061 NONE",
+        )],
     ),
     (
         "surrogate",
-        &[(b"\xed\xa0\x80", LAST, "key U+FFFD NONE,key U+FFFD NONE,key U+FFFD NONE")],
+        &[(
+            b"\xed\xa0\x80",
+            LAST,
+            "key U+FFFD NONE,key U+FFFD NONE,key U+FFFD NONE",
+        )],
     ),
     (
         "character-past-the-last",
@@ -340,7 +409,10 @@ pub const CUTS: &[Example] = &[
             "key U+FFFD NONE,key U+FFFD NONE,key U+FFFD NONE,key U+FFFD NONE",
         )],
     ),
-    ("replacement-character", &[(b"\xef\xbf\xbd", LAST, "key U+FFFD NONE")]),
+    (
+        "replacement-character",
+        &[(b"\xef\xbf\xbd", LAST, "key U+FFFD NONE")],
+    ),
     (
         "broken-byte-before-a-key",
         &[(b"\xc3\x1b[A", MORE, "key U+FFFD NONE,key UpArrow NONE")],
@@ -362,19 +434,34 @@ pub const CUTS: &[Example] = &[
         "alt-character-of-three-flushed",
         &[(b"\x1b\xe2\x82", LAST, "key U+FFFD ALT,key U+FFFD NONE")],
     ),
-    ("alt-character-broken", &[(b"\x1b\xe2A", MORE, "key U+FFFD ALT,key U+0041 NONE")]),
+    (
+        "alt-character-broken",
+        &[(b"\x1b\xe2A", MORE, "key U+FFFD ALT,key U+0041 NONE")],
+    ),
     (
         "two-escapes-and-a-character-cut",
-        &[(b"\x1b\x1b\xc3", MORE, "key Escape ALT ; 1"), (b"\xa9", MORE, "key U+00E9 NONE")],
+        &[
+            (b"\x1b\x1b\xc3", MORE, "key Escape ALT ; 1"),
+            (b"\xa9", MORE, "key U+00E9 NONE"),
+        ],
     ),
-    ("lone-escape", &[(b"\x1b", MORE, "; 1"), (b"", LAST, "key Escape NONE")]),
+    (
+        "lone-escape",
+        &[(b"\x1b", MORE, "; 1"), (b"", LAST, "key Escape NONE")],
+    ),
     (
         "alt-character-cut",
-        &[(b"\x1b\xc3", MORE, "; 2"), (b"\xa9", MORE, "key U+00E9 ALT")],
+        &[
+            (b"\x1b\xc3", MORE, "; 2"),
+            (b"\xa9", MORE, "key U+00E9 ALT"),
+        ],
     ),
     (
         "two-escapes",
-        &[(b"\x1b\x1b", MORE, "; 2"), (b"x", LAST, "key Escape ALT,key U+0078 NONE")],
+        &[
+            (b"\x1b\x1b", MORE, "; 2"),
+            (b"x", LAST, "key Escape ALT,key U+0078 NONE"),
+        ],
     ),
     (
         "alt-beginning-broken",
@@ -389,7 +476,10 @@ pub const CUTS: &[Example] = &[
     ),
     (
         "alt-beginning-flushed",
-        &[(b"\x1b\x1b[1", MORE, "; 4"), (b"", LAST, "key U+005B ALT,key U+0031 NONE")],
+        &[
+            (b"\x1b\x1b[1", MORE, "; 4"),
+            (b"", LAST, "key U+005B ALT,key U+0031 NONE"),
+        ],
     ),
 ];
 
@@ -398,7 +488,11 @@ pub const DIFFERENCES: &[Example] = &[
     (
         "past_a_dead_end",
         &[
-            (b"\x1b[11q", MORE, "key U+005B ALT,key U+0031 NONE,key U+0031 NONE,key U+0071 NONE"),
+            (
+                b"\x1b[11q",
+                MORE,
+                "key U+005B ALT,key U+0031 NONE,key U+0031 NONE,key U+0071 NONE",
+            ),
             (b"", LAST, ""),
         ],
     ),
@@ -411,11 +505,19 @@ pub const DIFFERENCES: &[Example] = &[
     ),
     (
         "mouse_report_after_escape",
-        &[(b"\x1b\x1b[<0;1;1M", LAST, "key Escape NONE,mouse 1 1 LEFT NONE")],
+        &[(
+            b"\x1b\x1b[<0;1;1M",
+            LAST,
+            "key Escape NONE,mouse 1 1 LEFT NONE",
+        )],
     ),
     (
         "paste_that_is_not_utf_8",
-        &[(b"\x1b[200~\xff\x1b[201~z", LAST, "paste 3:efbfbd,key U+007A NONE")],
+        &[(
+            b"\x1b[200~\xff\x1b[201~z",
+            LAST,
+            "paste 3:efbfbd,key U+007A NONE",
+        )],
     ),
     (
         "half_a_character_in_a_paste",
@@ -427,10 +529,16 @@ pub const DIFFERENCES: &[Example] = &[
     ),
     (
         "escape_by_its_code_at_the_end_of_a_read",
-        &[(b"\x1b[27;1;27~", MORE, "key Escape NONE"), (b"a", LAST, "key U+0061 NONE")],
+        &[
+            (b"\x1b[27;1;27~", MORE, "key Escape NONE"),
+            (b"a", LAST, "key U+0061 NONE"),
+        ],
     ),
     (
         "byte_that_begins_no_character",
-        &[(b"\xff", MORE, "key U+FFFD NONE"), (b"a", LAST, "key U+0061 NONE")],
+        &[
+            (b"\xff", MORE, "key U+FFFD NONE"),
+            (b"a", LAST, "key U+0061 NONE"),
+        ],
     ),
 ];

@@ -3,7 +3,8 @@ use crate::names::{BUTTONS, MODIFIERS};
 use hedrugal::input::{KittyKeyboardFlags, Modifiers, MouseButtons};
 use std::collections::BTreeSet;
 
-// Tries the operations of a type on every pair of sets of at most two flags. A model of a set is the set of its bits' places.
+// Tries the operations of a type on every pair of sets of at most two flags. A model of a set is
+// the set of its bits' places.
 macro_rules! tries_pairs {
     ($test:ident, $name:ident: $bits:ty, $places:expr) => {
         #[test]
@@ -28,7 +29,11 @@ macro_rules! tries_pairs {
                 assert_eq!(!x, complement, "! of {a:?}");
                 assert_eq!(x.is_empty(), a.is_empty(), "is_empty of {a:?}");
                 assert_eq!(x.is_all(), *a == whole, "is_all of {a:?}");
-                assert_eq!($name::from_bits_truncate(x.bits()), x, "from_bits_truncate of {a:?}");
+                assert_eq!(
+                    $name::from_bits_truncate(x.bits()),
+                    x,
+                    "from_bits_truncate of {a:?}"
+                );
                 for b in &models {
                     let (y, pair) = (set_of(b), format!("{a:?} and {b:?}"));
                     let (either, both) = (set_of(&(a | b)), set_of(&(a & b)));
@@ -39,7 +44,11 @@ macro_rules! tries_pairs {
                     assert_eq!(x.union(y), either, "union on {pair}");
                     assert_eq!(x.intersection(y), both, "intersection on {pair}");
                     assert_eq!(x.difference(y), first_alone, "difference on {pair}");
-                    assert_eq!(x.symmetric_difference(y), one_alone, "symmetric_difference on {pair}");
+                    assert_eq!(
+                        x.symmetric_difference(y),
+                        one_alone,
+                        "symmetric_difference on {pair}"
+                    );
                     assert_eq!(x | y, either, "| on {pair}");
                     assert_eq!(x & y, both, "& on {pair}");
                     assert_eq!(x - y, first_alone, "- on {pair}");
@@ -49,10 +58,26 @@ macro_rules! tries_pairs {
                     assert_eq!(changed(a, &|set| *set -= y), first_alone, "-= on {pair}");
                     assert_eq!(changed(a, &|set| *set ^= y), one_alone, "^= on {pair}");
                     assert_eq!(changed(a, &|set| set.insert(y)), either, "insert on {pair}");
-                    assert_eq!(changed(a, &|set| set.remove(y)), first_alone, "remove on {pair}");
-                    assert_eq!(changed(a, &|set| set.toggle(y)), one_alone, "toggle on {pair}");
-                    assert_eq!(changed(a, &|set| set.set(y, true)), either, "set to true on {pair}");
-                    assert_eq!(changed(a, &|set| set.set(y, false)), first_alone, "set to false on {pair}");
+                    assert_eq!(
+                        changed(a, &|set| set.remove(y)),
+                        first_alone,
+                        "remove on {pair}"
+                    );
+                    assert_eq!(
+                        changed(a, &|set| set.toggle(y)),
+                        one_alone,
+                        "toggle on {pair}"
+                    );
+                    assert_eq!(
+                        changed(a, &|set| set.set(y, true)),
+                        either,
+                        "set to true on {pair}"
+                    );
+                    assert_eq!(
+                        changed(a, &|set| set.set(y, false)),
+                        first_alone,
+                        "set to false on {pair}"
+                    );
                 }
             }
         }
@@ -65,7 +90,9 @@ tries_pairs!(computes_as_sets_of_kitty_flags, KittyKeyboardFlags: u16, 0..=4);
 
 // The sets of none, one and two of these.
 fn small_sets(flags: &[u32]) -> BTreeSet<BTreeSet<u32>> {
-    let pairs = flags.iter().flat_map(|a| flags.iter().map(move |b| BTreeSet::from([*a, *b])));
+    let pairs = flags
+        .iter()
+        .flat_map(|a| flags.iter().map(move |b| BTreeSet::from([*a, *b])));
     pairs.chain([BTreeSet::new()]).collect()
 }
 
@@ -110,7 +137,9 @@ fn drops_or_keeps_bits_without_a_name() {
     assert_eq!(Modifiers::from_bits_truncate(0xf003), SHIFT);
     assert_eq!(Modifiers::from_bits_retain(0xf003).bits(), 0xf003);
     assert_eq!((!Modifiers::from_bits_retain(0xf000)).bits(), 0x0ffe);
-    assert!(!Modifiers::from_bits_retain(1).is_empty() && Modifiers::from_bits_retain(0xffff).is_all());
+    assert!(
+        !Modifiers::from_bits_retain(1).is_empty() && Modifiers::from_bits_retain(0xffff).is_all()
+    );
     assert_eq!(Modifiers::all().bits(), 0x0ffe);
     assert_eq!(MouseButtons::all().bits(), 0x7e);
     assert_eq!(MouseButtons::from_bits(0x80), None);
@@ -145,10 +174,22 @@ fn iterates() {
     let set = CTRL | unnamed | SHIFT;
     assert_eq!(set.iter().collect::<Vec<_>>(), [SHIFT, CTRL, unnamed]);
     assert_eq!(set.into_iter().collect::<Vec<_>>(), [SHIFT, CTRL, unnamed]);
-    assert_eq!(set.iter_names().collect::<Vec<_>>(), [("SHIFT", SHIFT), ("CTRL", CTRL)]);
+    assert_eq!(
+        set.iter_names().collect::<Vec<_>>(),
+        [("SHIFT", SHIFT), ("CTRL", CTRL)]
+    );
     assert_eq!(Modifiers::all().iter_names().collect::<Vec<_>>(), MODIFIERS);
-    assert_eq!(MouseButtons::all().iter_names().collect::<Vec<_>>(), BUTTONS);
-    assert_eq!((Modifiers::NONE.iter().next(), Modifiers::NONE.iter_names().next()), (None, None));
+    assert_eq!(
+        MouseButtons::all().iter_names().collect::<Vec<_>>(),
+        BUTTONS
+    );
+    assert_eq!(
+        (
+            Modifiers::NONE.iter().next(),
+            Modifiers::NONE.iter_names().next()
+        ),
+        (None, None)
+    );
     let mut names = set.iter_names();
     assert_eq!(names.by_ref().count(), 2);
     assert_eq!(names.remaining(), &unnamed);
@@ -158,7 +199,10 @@ fn iterates() {
 
 #[test]
 fn collects() {
-    assert_eq!([SHIFT, CTRL, SHIFT].into_iter().collect::<Modifiers>(), SHIFT | CTRL);
+    assert_eq!(
+        [SHIFT, CTRL, SHIFT].into_iter().collect::<Modifiers>(),
+        SHIFT | CTRL
+    );
     assert_eq!(Modifiers::from_iter([]), Modifiers::NONE);
     let mut set = SHIFT;
     set.extend([CTRL, Modifiers::ALT]);
@@ -203,8 +247,14 @@ fn shows_names() {
 fn shows_numbers() {
     let set = SHIFT | CTRL;
     assert_eq!(format!("{set:x} {set:X} {set:o} {set:b}"), "a A 12 1010");
-    assert_eq!(format!("{set:#06x} {set:#X} {set:#o} {set:#b}"), "0x000a 0xA 0o12 0b1010");
-    assert_eq!(format!("{:x} {:b}", MouseButtons::RIGHT, KittyKeyboardFlags::all()), "4 11111");
+    assert_eq!(
+        format!("{set:#06x} {set:#X} {set:#o} {set:#b}"),
+        "0x000a 0xA 0o12 0b1010"
+    );
+    assert_eq!(
+        format!("{:x} {:b}", MouseButtons::RIGHT, KittyKeyboardFlags::all()),
+        "4 11111"
+    );
 }
 
 #[test]
@@ -236,7 +286,10 @@ fn reads_names() {
     ] {
         let error = text.parse::<Modifiers>().expect_err(text);
         assert_eq!(error.to_string(), format!("no flag is named {name}"));
-        assert_eq!(Modifiers::try_from(text.to_string()), Err(error.to_string()));
+        assert_eq!(
+            Modifiers::try_from(text.to_string()),
+            Err(error.to_string())
+        );
     }
     assert!("CMD".parse::<MouseButtons>().is_err());
 }

@@ -1,9 +1,10 @@
-// Instances of the laws of crates/termwiz_laws, computed by the parser: for each law the texts that it speaks of.
+// Instances of the laws of crates/termwiz_laws, computed by the parser: for each law the texts that
+// it speaks of.
 use crate::examples::{Example, LAST, MORE};
 use crate::parser::check_all;
 
-// `paste_is_one_event`: sequences, START, a control character, Enter and a byte that is no UTF-8 in the text of a paste; also after ESC,
-// and between other texts.
+// `paste_is_one_event`: sequences, START, a control character, Enter and a byte that is no UTF-8 in
+// the text of a paste; also after ESC, and between other texts.
 const ONE_PASTE: &[Example] = &[
     (
         "anything-in-a-paste",
@@ -15,7 +16,11 @@ const ONE_PASTE: &[Example] = &[
     ),
     (
         "paste-after-one-escape",
-        &[(b"\x1b\x1b[200~q\x1b[201~", LAST, "key Escape NONE,paste 1:71")],
+        &[(
+            b"\x1b\x1b[200~q\x1b[201~",
+            LAST,
+            "key Escape NONE,paste 1:71",
+        )],
     ),
     (
         "paste-between-keys",
@@ -35,7 +40,8 @@ const ONE_PASTE: &[Example] = &[
     ),
 ];
 
-// `plain_text_is_itself`: one, two, three and four bytes for a character, and the control characters from U+0080 on.
+// `plain_text_is_itself`: one, two, three and four bytes for a character, and the control
+// characters from U+0080 on.
 const PLAIN_TEXT: &[Example] = &[
     (
         "characters-of-each-length",
@@ -64,7 +70,8 @@ const PLAIN_TEXT: &[Example] = &[
     ),
 ];
 
-// `broken_byte_costs_one_event` and `cut_characters`: bytes that begin no character, alone and after ESC, and cut characters.
+// `broken_byte_costs_one_event` and `cut_characters`: bytes that begin no character, alone and
+// after ESC, and cut characters.
 const BROKEN_BYTES: &[Example] = &[
     (
         "broken-bytes-between-keys",
@@ -88,7 +95,8 @@ const BROKEN_BYTES: &[Example] = &[
     ),
 ];
 
-// `broken_byte_cuts_short`: such a byte after ESC ESC, the beginning of a sequence, and that of a character.
+// `broken_byte_cuts_short`: such a byte after ESC ESC, the beginning of a sequence, and that of a
+// character.
 const CUT_SHORT: &[Example] = &[
     (
         "sequence-cut-by-a-byte",
@@ -117,7 +125,8 @@ const CUT_SHORT: &[Example] = &[
     ),
 ];
 
-// `flush_separates_escape` and `flush_of_beginnings`: a flush of ESC before a key, and of the beginning of a sequence or of a character.
+// `flush_separates_escape` and `flush_of_beginnings`: a flush of ESC before a key, and of the
+// beginning of a sequence or of a character.
 const FLUSHED: &[Example] = &[
     (
         "escape-flushed-before-a-key",
@@ -127,14 +136,24 @@ const FLUSHED: &[Example] = &[
             (b"q", MORE, "key U+0071 NONE"),
         ],
     ),
-    ("escape-before-a-key", &[(b"\x1b", MORE, "; 1"), (b"q", MORE, "key U+0071 ALT")]),
+    (
+        "escape-before-a-key",
+        &[(b"\x1b", MORE, "; 1"), (b"q", MORE, "key U+0071 ALT")],
+    ),
     (
         "two-escapes-flushed-before-a-sequence",
-        &[(b"\x1b\x1b", LAST, "key Escape ALT"), (b"\x1b[A", MORE, "key UpArrow NONE")],
+        &[
+            (b"\x1b\x1b", LAST, "key Escape ALT"),
+            (b"\x1b[A", MORE, "key UpArrow NONE"),
+        ],
     ),
     (
         "beginning-flushed-after-an-escape",
-        &[(b"\x1b\x1b[1;", LAST, "key U+005B ALT,key U+0031 NONE,key U+003B NONE")],
+        &[(
+            b"\x1b\x1b[1;",
+            LAST,
+            "key U+005B ALT,key U+0031 NONE,key U+003B NONE",
+        )],
     ),
     (
         "character-flushed-after-an-escape",
@@ -142,33 +161,54 @@ const FLUSHED: &[Example] = &[
     ),
 ];
 
-// `flush_adds_events`: what completes a sequence or a character, with a flush before it and without one.
+// `flush_adds_events`: what completes a sequence or a character, with a flush before it and without
+// one.
 const FLUSHES: &[Example] = &[
-    ("arrow-unbroken", &[(b"\x1b[1;5A", LAST, "key UpArrow CTRL")]),
+    (
+        "arrow-unbroken",
+        &[(b"\x1b[1;5A", LAST, "key UpArrow CTRL")],
+    ),
     (
         "arrow-flushed-within",
         &[
             (b"\x1b[1", LAST, "key U+005B ALT,key U+0031 NONE"),
-            (b";5A", LAST, "key U+003B NONE,key U+0035 NONE,key U+0041 NONE"),
+            (
+                b";5A",
+                LAST,
+                "key U+003B NONE,key U+0035 NONE,key U+0041 NONE",
+            ),
         ],
     ),
-    ("alt-character-unbroken", &[(b"\x1b\xc3\xa9", LAST, "key U+00E9 ALT")]),
+    (
+        "alt-character-unbroken",
+        &[(b"\x1b\xc3\xa9", LAST, "key U+00E9 ALT")],
+    ),
     (
         "alt-character-flushed-within",
-        &[(b"\x1b\xc3", LAST, "key U+FFFD ALT"), (b"\xa9", LAST, "key U+FFFD NONE")],
+        &[
+            (b"\x1b\xc3", LAST, "key U+FFFD ALT"),
+            (b"\xa9", LAST, "key U+FFFD NONE"),
+        ],
     ),
-    ("start-unbroken", &[(b"\x1b\x1b[200~", LAST, "key Escape NONE ; 6 in a paste")]),
+    (
+        "start-unbroken",
+        &[(b"\x1b\x1b[200~", LAST, "key Escape NONE ; 6 in a paste")],
+    ),
     (
         "start-flushed-within",
         &[
-            (b"\x1b\x1b[20", LAST, "key U+005B ALT,key U+0032 NONE,key U+0030 NONE"),
+            (
+                b"\x1b\x1b[20",
+                LAST,
+                "key U+005B ALT,key U+0032 NONE,key U+0030 NONE",
+            ),
             (b"0~", LAST, "key U+0030 NONE,key U+007E NONE"),
         ],
     ),
 ];
 
-// `listed_stream_reads_back`, `few_need_flush` and `joined_texts_read_back`: texts of listed keys, each flushed; the four that need it; and
-// others joined, of which the last may need it.
+// `listed_stream_reads_back`, `few_need_flush` and `joined_texts_read_back`: texts of listed keys,
+// each flushed; the four that need it; and others joined, of which the last may need it.
 const LISTED_KEYS: &[Example] = &[
     ("listed-keys-each-flushed", &[(b"\x1b", LAST, "key Escape NONE"), (b"\x1b[", LAST, "key U+005B ALT"), (b"\x1b[A", LAST, "key UpArrow NONE"), (b"\x1b\x1b", LAST, "key Escape ALT"), (b"\x1bO", LAST, "key U+004F ALT")]),
     ("listed-keys-that-need-a-flush", &[(b"\x1b", MORE, "; 1"), (b"\x1b", MORE, "; 2"), (b"", LAST, "key Escape ALT"), (b"\x1bO", MORE, "; 2")]),

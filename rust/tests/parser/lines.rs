@@ -12,11 +12,21 @@ fn joined(names: impl Iterator<Item = &'static str>) -> String {
 }
 
 fn modifiers(held: Modifiers) -> String {
-    joined(MODIFIERS.iter().filter(|(_, flag)| held.contains(*flag)).map(|(name, _)| *name))
+    joined(
+        MODIFIERS
+            .iter()
+            .filter(|(_, flag)| held.contains(*flag))
+            .map(|(name, _)| *name),
+    )
 }
 
 fn buttons(down: MouseButtons) -> String {
-    joined(BUTTONS.iter().filter(|(_, flag)| down.contains(*flag)).map(|(name, _)| *name))
+    joined(
+        BUTTONS
+            .iter()
+            .filter(|(_, flag)| down.contains(*flag))
+            .map(|(name, _)| *name),
+    )
 }
 
 fn key(event: &KeyEvent) -> String {
@@ -61,7 +71,7 @@ pub fn lines(events: &[InputEvent]) -> String {
     lines.join(",")
 }
 
-// The events of a call and what waits after it, as the files of crates/replay/data have them.
+// The events of a call and what is buffered after it, as the files of tests/recorded have them.
 pub fn answer(events: &[InputEvent], waiting: &[u8]) -> String {
     match (events, waiting) {
         ([], []) => "nothing".to_string(),

@@ -1,4 +1,5 @@
-// Input far past any small bound: many keys in one call, many calls, a long paste, and beginnings without an end.
+// Input far past any small bound: many keys in one call, many calls, a long paste, and beginnings
+// without an end.
 use crate::calls::{check_sizes, read_in_pieces, Call, CALLS};
 use crate::examples::{LAST, MORE};
 use crate::parser::given;
@@ -11,7 +12,11 @@ const KEYS: &[u8] = b"\x1b[Aq";
 fn keys(count: usize) -> Vec<InputEvent> {
     let plain = |number| {
         InputEvent::Key(KeyEvent {
-            key: if number % 2 == 0 { KeyCode::UpArrow } else { KeyCode::Char('q') },
+            key: if number % 2 == 0 {
+                KeyCode::UpArrow
+            } else {
+                KeyCode::Char('q')
+            },
             modifiers: Modifiers::NONE,
         })
     };
@@ -25,7 +30,10 @@ fn gives_70000_keys_at_once() {
     let mut parser = InputParser::new();
     for call in CALLS {
         for more in [true, false] {
-            assert!(call.events(&mut parser, &text, more) == wanted, "{call:?}, {more}");
+            assert!(
+                call.events(&mut parser, &text, more) == wanted,
+                "{call:?}, {more}"
+            );
             assert_eq!(parser.waiting_len(), 0);
         }
     }
@@ -38,7 +46,10 @@ fn reads_70000_bytes_one_at_a_time() {
     let wanted = (keys(35000), 0);
     let mut parser = InputParser::new();
     for call in CALLS {
-        assert!(read_in_pieces(call, &mut parser, &text, 1) == wanted, "{call:?}");
+        assert!(
+            read_in_pieces(call, &mut parser, &text, 1) == wanted,
+            "{call:?}"
+        );
     }
 }
 
@@ -49,7 +60,10 @@ fn check_paste(text: &str) {
     let wanted = [InputEvent::Paste(text.to_string())];
     let mut parser = InputParser::new();
     for call in CALLS {
-        assert!(call.events(&mut parser, paste.as_bytes(), true) == wanted, "{call:?}");
+        assert!(
+            call.events(&mut parser, paste.as_bytes(), true) == wanted,
+            "{call:?}"
+        );
         assert_eq!(parser.waiting_len(), 0);
         for piece in [999, 4096] {
             let (events, waiting_len) = read_in_pieces(call, &mut parser, paste.as_bytes(), piece);
@@ -96,13 +110,20 @@ const ENDLESS: &[(&str, &[LongStep])] = &[
         &[(
             &[(b"\x1b[<", 1), (b"0", 100_000)],
             MORE,
-            &[("key U+005B ALT,key U+003C NONE", 1), (",key U+0030 NONE", 100_000)],
+            &[
+                ("key U+005B ALT,key U+003C NONE", 1),
+                (",key U+0030 NONE", 100_000),
+            ],
         )],
     ),
     (
         "only-escapes",
         &[
-            (&[(b"\x1b", 1000)], MORE, &[("key Escape ALT,", 498), ("key Escape ALT ; 2", 1)]),
+            (
+                &[(b"\x1b", 1000)],
+                MORE,
+                &[("key Escape ALT,", 498), ("key Escape ALT ; 2", 1)],
+            ),
             (&[], LAST, &[("key Escape ALT", 1)]),
         ],
     ),
@@ -111,7 +132,11 @@ const ENDLESS: &[(&str, &[LongStep])] = &[
         &[(
             &[(b"\x1b[200~", 1), (b"\xff", 1000), (b"\x1b[201~z", 1)],
             LAST,
-            &[("paste 3000:", 1), ("efbfbd", 1000), (",key U+007A NONE", 1)],
+            &[
+                ("paste 3000:", 1),
+                ("efbfbd", 1000),
+                (",key U+007A NONE", 1),
+            ],
         )],
     ),
 ];
@@ -121,8 +146,14 @@ fn check_endless(name: &str, steps: &[LongStep]) {
     let mut parser = InputParser::new();
     let mut text = Vec::new();
     for (parts, more, wanted) in steps {
-        let bytes: Vec<u8> = parts.iter().flat_map(|(part, times)| part.repeat(*times)).collect();
-        let wanted: String = wanted.iter().map(|(part, times)| part.repeat(*times)).collect();
+        let bytes: Vec<u8> = parts
+            .iter()
+            .flat_map(|(part, times)| part.repeat(*times))
+            .collect();
+        let wanted: String = wanted
+            .iter()
+            .map(|(part, times)| part.repeat(*times))
+            .collect();
         let events = Call::List.events(&mut parser, &bytes, *more);
         assert!(given(&events, &parser) == wanted, "{name}");
         text.extend(bytes);

@@ -2,7 +2,7 @@
 use hedrugal::input::{KeyCode, Modifiers, MouseButtons};
 
 pub const MODIFIERS: &[(&str, Modifiers)] = &[
-    // numbers.txt: modifier named
+    // numbers.txt: termwiz_mod named
     ("SHIFT", Modifiers::SHIFT),
     ("ALT", Modifiers::ALT),
     ("CTRL", Modifiers::CTRL),

@@ -4,7 +4,7 @@ use crate::examples::{Example, Step, CARRIED, CUTS, DIFFERENCES, KEYS, MOUSE_REP
 use crate::lines::lines;
 use hedrugal::input::{InputEvent, InputParser, KeyCode, KeyEvent, Modifiers};
 
-// What a call gave, and how many bytes wait after it.
+// What a call gave, and how many bytes are buffered after it.
 pub fn given(events: &[InputEvent], parser: &InputParser) -> String {
     let mut given = lines(events);
     if parser.waiting_len() > 0 {
@@ -22,7 +22,11 @@ fn check_steps(parser: &mut InputParser, call: Call, name: &str, steps: &[Step])
     parser.reset();
     for (number, (bytes, more, wanted)) in steps.iter().enumerate() {
         let events = call.events(parser, bytes, *more);
-        assert_eq!(given(&events, parser), *wanted, "{name}, step {number}, {call:?}");
+        assert_eq!(
+            given(&events, parser),
+            *wanted,
+            "{name}, step {number}, {call:?}"
+        );
         assert_eq!(events.clone(), events, "{name}");
     }
 }
@@ -32,7 +36,10 @@ fn check(parser: &mut InputParser, name: &str, steps: &[Step]) {
     for call in CALLS {
         check_steps(parser, call, name, steps);
     }
-    let text: Vec<u8> = steps.iter().flat_map(|(bytes, _, _)| bytes.iter().copied()).collect();
+    let text: Vec<u8> = steps
+        .iter()
+        .flat_map(|(bytes, _, _)| bytes.iter().copied())
+        .collect();
     check_sizes(parser, name, &text);
 }
 
@@ -88,7 +95,7 @@ fn goes_on_after_a_panic() {
     assert_eq!(parser.parse_as_vec(b"", true), [InputEvent::Key(b)]);
 }
 
-// A parser that bytes wait in goes to another thread.
+// A parser with buffered bytes goes to another thread.
 #[test]
 fn goes_to_another_thread() {
     let mut parser = InputParser::new();

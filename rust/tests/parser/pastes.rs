@@ -11,7 +11,10 @@ fn reads_a_paste_byte_by_byte() {
     for byte in format!("\x1b[200~{body}\x1b[201").as_bytes().chunks(1) {
         assert_eq!(Call::List.events(&mut parser, byte, true), []);
     }
-    assert_eq!(Call::List.events(&mut parser, b"~", true), [InputEvent::Paste(body)]);
+    assert_eq!(
+        Call::List.events(&mut parser, b"~", true),
+        [InputEvent::Paste(body)]
+    );
     assert_eq!(parser.waiting_len(), 0);
 }
 

@@ -1,9 +1,12 @@
-// A slow reader. It follows docs/GRAMMAR.md sentence by sentence and by trying everything, and shares nothing with the parser but the types of
-// events and of what waits. A number in a comment is that of the page's sentence.
+// A slow reader. It follows docs/GRAMMAR.md sentence by sentence and by trying everything, and
+// shares nothing with the parser but the types of events and of what stays buffered. A number in a
+// comment is that of the page's sentence.
 mod rows;
 
-use hedrugal::input::{InputEvent, KeyCode, KeyEvent, Modifiers, MouseButtons, MouseEvent, Waiting};
-use rows::Rows;
+use hedrugal::input::{
+    InputEvent, KeyCode, KeyEvent, Modifiers, MouseButtons, MouseEvent, Waiting,
+};
+use rows::Table;
 use std::collections::BTreeMap;
 use std::str;
 
@@ -114,8 +117,8 @@ fn is_character(bytes: &[u8]) -> bool {
     character_at(bytes).is_some_and(|head| head.rest.is_empty())
 }
 
-// 5: whether the text, this byte and at most two more bytes are a character. These two may be any of 0x80 to 0xbf, so that 0x80 stands for
-// them.
+// 5: whether the text, this byte and at most two more bytes are a character. These two may be any
+// of 0x80 to 0xbf, so that 0x80 stands for them.
 fn goes_on_with(text: &[u8], byte: u8) -> bool {
     let mut whole = text.to_vec();
     whole.push(byte);
@@ -128,16 +131,21 @@ fn goes_on_with(text: &[u8], byte: u8) -> bool {
     is_character(&whole)
 }
 
-// 5: whether the encoding of some character is longer than the text and begins with it. It has at most four bytes.
+// 5: whether the encoding of some character is longer than the text and begins with it. It has at
+// most four bytes.
 fn begins_character(text: &[u8]) -> bool {
     text.len() <= 3 && (0x80..0xc0).any(|byte| goes_on_with(text, byte))
 }
 
-// 5: whether some mouse report is longer than the text and begins with it. A number that has begun may end where it is, and a 0 stands for
-// each number that is missing, so that one of these ends makes a mouse report of each text that begins one.
+// 5: whether some mouse report is longer than the text and begins with it. A number that has begun
+// may end where it is, and a 0 stands for each number that is missing, so that one of these ends
+// makes a mouse report of each text that begins one.
 fn begins_report(text: &[u8]) -> bool {
-    let ends = ["[<0;0;0M", "<0;0;0M", "0;0;0M", ";0;0M", "0;0M", ";0M", "0M", "M"];
-    ends.iter().any(|end| report_of(&[text, end.as_bytes()].concat()).is_some())
+    let ends = [
+        "[<0;0;0M", "<0;0;0M", "0;0;0M", ";0;0M", "0;0M", ";0M", "0M", "M",
+    ];
+    ends.iter()
+        .any(|end| report_of(&[text, end.as_bytes()].concat()).is_some())
 }
 
 // 6: the paste that begins the text, and what follows it.
@@ -155,27 +163,29 @@ fn paste_at(text: &[u8]) -> Option<(InputEvent, &[u8])> {
 
 // The reader, by the rows of the sequence table.
 pub struct PlainReader {
-    rows: Rows,
+    table: Table,
 }
 
 impl PlainReader {
     // 1: the rows, rule by rule.
     pub fn new() -> PlainReader {
-        PlainReader { rows: Rows::new() }
+        PlainReader {
+            table: Table::new(),
+        }
     }
 
     // How many rows the rules gave, also where two have the same bytes.
     pub fn row_count(&self) -> usize {
-        self.rows.given()
+        self.table.given()
     }
 
     pub fn rows(&self) -> &BTreeMap<Vec<u8>, KeyEvent> {
-        self.rows.by_bytes()
+        self.table.by_bytes()
     }
 
     // 3: what a sequence stands for.
     fn known(&self, text: &[u8]) -> Option<Kind> {
-        if let Some(row) = self.rows.by_bytes().get(text) {
+        if let Some(row) = self.table.by_bytes().get(text) {
             return Some(Kind::Row(row.clone()));
         }
         report_of(text).map(Kind::Report)
@@ -190,12 +200,15 @@ impl PlainReader {
                 longest = Some(Head { kind, bytes, rest });
             }
         }
-        longest.or_else(|| character_at(text)).or_else(|| first_byte_of(text))
+        longest
+            .or_else(|| character_at(text))
+            .or_else(|| first_byte_of(text))
     }
 
     // 5: whether the text is open.
     pub fn is_open(&self, text: &[u8], more: bool) -> bool {
-        more && !text.is_empty() && (self.rows.extend(text) || begins_report(text) || begins_character(text))
+        more && !text.is_empty()
+            && (self.table.extend(text) || begins_report(text) || begins_character(text))
     }
 
     // 6: the item at an ESC that is a head, by what follows the ESC: a lone escape or an alt.
@@ -207,7 +220,9 @@ impl PlainReader {
         let (key, modifiers) = match head.kind {
             Kind::Row(row) if head.bytes != START => (row.key, row.modifiers),
             Kind::Character(character) => (KeyCode::Char(character), Modifiers::NONE),
-            Kind::Row(_) | Kind::Report(_) => return Some((key_event(KeyCode::Escape, Modifiers::NONE), rest)),
+            Kind::Row(_) | Kind::Report(_) => {
+                return Some((key_event(KeyCode::Escape, Modifiers::NONE), rest))
+            }
         };
         Some((key_event(key, modifiers | Modifiers::ALT), head.rest))
     }
@@ -232,7 +247,7 @@ impl PlainReader {
         Some((event, head.rest))
     }
 
-    // 7: the events of a text under a flag, and the rest that waits.
+    // 7: the events of a text under a flag, and the rest that stays buffered.
     pub fn read<'a>(&self, text: &'a [u8], more: bool) -> (Vec<InputEvent>, &'a [u8]) {
         let mut events = Vec::new();
         let mut rest = text;
@@ -254,12 +269,14 @@ impl PlainReader {
         ends
     }
 
-    // "What stays buffered": whether bytes that stand there as they are, or after one ESC, are undecided.
+    // "What stays buffered": whether bytes that stand there as they are, or after one ESC, are
+    // undecided.
     fn are_undecided(&self, bytes: &[u8], more: bool) -> bool {
         bytes.len() <= 20 && self.is_open(bytes, more)
     }
 
-    // "What stays buffered": the kind of bytes that are undecided as they stand there, or after one ESC.
+    // "What stays buffered": the kind of bytes that are undecided as they stand there, or after one
+    // ESC.
     fn kind_of_undecided(&self, bytes: &[u8], more: bool) -> Option<Waiting> {
         if !self.are_undecided(bytes, more) {
             return None;

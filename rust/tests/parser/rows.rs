@@ -1,27 +1,36 @@
-// The rows of the sequence table, against those of the plain reader, and the rows that would complete what stays buffered.
+// The entries of the sequence table, against the rows of the plain reader, and the entries that
+// would complete what stays buffered.
 use crate::calls::Call;
 use crate::lines::hex;
 use crate::plain::PlainReader;
 use hedrugal::input::{InputEvent, InputParser, KeyCode, KeyEvent, Modifiers, Waiting};
 
-const ROW_COUNT: usize = 2937;
+// All entries, by their places.
+fn entries(parser: &InputParser) -> Vec<(Vec<u8>, KeyEvent)> {
+    let entries = (0..).map_while(|place| parser.entry(place));
+    entries.map(|(bytes, key)| (bytes.to_vec(), key)).collect()
+}
 
-// All rows, by their places.
-fn rows(parser: &InputParser) -> Vec<(Vec<u8>, KeyEvent)> {
-    let rows = (0..).map_while(|place| parser.row(place));
-    rows.map(|(bytes, key)| (bytes.to_vec(), key)).collect()
+// How many there are: as many as the rules gave rows.
+fn entry_count() -> usize {
+    PlainReader::new().row_count()
 }
 
 // The same key, with ALT if a first ESC was buffered.
 fn with_alt(key: &KeyEvent, with_alt: bool) -> KeyEvent {
-    let alt = if with_alt { Modifiers::ALT } else { Modifiers::NONE };
+    let alt = if with_alt {
+        Modifiers::ALT
+    } else {
+        Modifiers::NONE
+    };
     KeyEvent {
         key: key.key,
         modifiers: key.modifiers | alt,
     }
 }
 
-// Parses the rest of a row: its key is the event, but the start of a paste opens one, after an Escape if there was a first ESC.
+// Parses the rest of an entry: its key is the event, but the start of a paste opens one, after an
+// Escape if there was a first ESC.
 fn check_completed(parser: &mut InputParser, rest: &[u8], key: &KeyEvent, has_alt: bool) {
     let events = parser.parse_as_vec(rest, false);
     let escape = KeyEvent {
@@ -39,41 +48,53 @@ fn check_completed(parser: &mut InputParser, rest: &[u8], key: &KeyEvent, has_al
 }
 
 #[test]
-fn tells_rows() {
+fn tells_entries() {
     let mut parser = InputParser::new();
-    let rows = rows(&parser);
-    assert_eq!(rows.len(), ROW_COUNT);
-    assert!(rows.windows(2).all(|two| two[0].0 < two[1].0));
-    for (bytes, key) in &rows {
+    let entries = entries(&parser);
+    assert_eq!(entries.len(), entry_count());
+    assert!(entries.windows(2).all(|two| two[0].0 < two[1].0));
+    for (bytes, key) in &entries {
         check_completed(&mut parser, bytes, key, false);
     }
-    assert_eq!(rows.iter().map(|(bytes, _)| bytes.len()).max(), Some(11));
+    assert_eq!(entries.iter().map(|(bytes, _)| bytes.len()).max(), Some(11));
 }
 
-// The plain reader has as many rows as the parser's table, with different bytes, and they are the same.
+// The entries are the rows of the plain reader, whose bytes differ.
 #[test]
 fn has_the_rows_of_the_plain_reader() {
     let reader = PlainReader::new();
-    assert_eq!(reader.row_count(), ROW_COUNT);
-    assert_eq!(reader.rows().len(), ROW_COUNT, "all bytes differ");
-    let rows = rows(&InputParser::new());
-    assert!(rows.iter().map(|(bytes, key)| (bytes, key)).eq(reader.rows()));
+    assert_eq!(reader.rows().len(), reader.row_count(), "all bytes differ");
+    let entries = entries(&InputParser::new());
+    assert!(entries
+        .iter()
+        .map(|(bytes, key)| (bytes, key))
+        .eq(reader.rows()));
 }
 
-// The text of a row has this one event, after which nothing waits.
+// The text of a row has this one event, after which nothing is buffered.
 fn check_event(parser: &mut InputParser, text: &[u8], event: KeyEvent) {
-    assert_eq!(Call::List.events(parser, text, false), [InputEvent::Key(event)], "{}", hex(text));
+    assert_eq!(
+        Call::List.events(parser, text, false),
+        [InputEvent::Key(event)],
+        "{}",
+        hex(text)
+    );
     assert_eq!(parser.waiting_len(), 0, "{}", hex(text));
 }
 
-// Alone each row of the plain reader is read as its key, and after one ESC as its key with ALT. Only the start of a paste isn't a key.
+// Alone each row of the plain reader is read as its key, and after one ESC as its key with ALT.
+// Only the start of a paste isn't a key.
 #[test]
 fn reads_rows_of_the_plain_reader() {
     let mut parser = InputParser::new();
     for (bytes, key) in PlainReader::new().rows() {
         if key.key != KeyCode::InternalPasteStart {
             check_event(&mut parser, bytes, key.clone());
-            check_event(&mut parser, &[b"\x1b", &bytes[..]].concat(), with_alt(key, true));
+            check_event(
+                &mut parser,
+                &[b"\x1b", &bytes[..]].concat(),
+                with_alt(key, true),
+            );
         }
     }
 }
@@ -85,7 +106,13 @@ fn check_cuts(parser: &mut InputParser, bytes: &[u8]) {
         let (first, second) = bytes.split_at(place);
         let mut events = Call::List.events(parser, first, true);
         events.append(&mut Call::List.events(parser, second, false));
-        assert_eq!((events, parser.reset()), wanted, "{}|{}", hex(first), hex(second));
+        assert_eq!(
+            (events, parser.reset()),
+            wanted,
+            "{}|{}",
+            hex(first),
+            hex(second)
+        );
     }
 }
 
@@ -98,22 +125,24 @@ fn reads_rows_cut_in_two() {
 }
 
 #[test]
-fn has_no_other_rows() {
-    let mut parser = InputParser::new();
+fn has_no_other_entries() {
+    let (mut parser, count) = (InputParser::new(), entry_count());
     parser.parse(b"\x1b[200~text", |_| {}, true);
-    for place in [ROW_COUNT, ROW_COUNT + 1, usize::MAX] {
-        assert_eq!(parser.row(place), None);
+    for place in [count, count + 1, usize::MAX] {
+        assert_eq!(parser.entry(place), None);
     }
-    let (bytes, key) = parser.row(ROW_COUNT - 1).expect("there is a last row");
-    assert_eq!((&bytes[..], bytes.as_ref().len(), key.key), (&b"\x7f"[..], 1, KeyCode::Backspace));
+    let (bytes, key) = parser.entry(count - 1).expect("there is a last entry");
+    assert_eq!(
+        (&bytes[..], bytes.as_ref().len(), key.key),
+        (&b"\x7f"[..], 1, KeyCode::Backspace)
+    );
     assert_eq!(parser.waiting_len(), 10);
 }
 
-// A text, how many rows would complete it, and whether their keys get ALT.
+// A text, how many entries would complete it, and whether their keys get ALT.
 const BEGUN: &[(&[u8], usize, bool)] = &[
-    (b"", ROW_COUNT, false),
-    (b"\x1b", ROW_COUNT - 28, false),
-    (b"\x1b\x1b", ROW_COUNT - 28, true),
+    (b"\x1b", 2909, false),
+    (b"\x1b\x1b", 2909, true),
     (b"\x1b[", 2832, false),
     (b"\x1b\x1b[", 2832, true),
     (b"\x1bO", 50, false),
@@ -137,31 +166,44 @@ const BEGUN: &[(&[u8], usize, bool)] = &[
 #[test]
 fn tells_completions() {
     let mut parser = InputParser::new();
-    let rows = rows(&parser);
-    for (text, count, has_alt) in BEGUN {
+    let entries = entries(&parser);
+    for (text, count, has_alt) in [&[(&b""[..], entries.len(), false)], BEGUN].concat() {
         parser.parse(text, |_| {}, true);
         let completions = parser.completions();
-        assert_eq!((completions.rows.len(), completions.with_alt), (*count, *has_alt), "{}", hex(text));
+        assert_eq!(
+            (completions.entries.len(), completions.with_alt),
+            (count, has_alt),
+            "{}",
+            hex(text)
+        );
         assert_eq!(parser.waiting_len(), text.len());
         parser.reset();
-        let begun = &text[usize::from(*has_alt)..];
-        for (place, (bytes, key)) in rows.iter().enumerate() {
+        let begun = &text[usize::from(has_alt)..];
+        for (place, (bytes, key)) in entries.iter().enumerate() {
             let goes_on = bytes.starts_with(begun) && bytes.len() > begun.len();
-            assert_eq!(completions.rows.contains(&place), goes_on, "{} {}", hex(text), hex(bytes));
+            assert_eq!(
+                completions.entries.contains(&place),
+                goes_on,
+                "{} {}",
+                hex(text),
+                hex(bytes)
+            );
             if goes_on {
                 parser.parse(text, |_| panic!("{} stays buffered", hex(text)), true);
-                check_completed(&mut parser, &bytes[begun.len()..], key, *has_alt);
+                check_completed(&mut parser, &bytes[begun.len()..], key, has_alt);
             }
         }
     }
 }
 
-// The first row that would complete ESC [ 1 ; 5 is the one of the up arrow with CTRL.
+// The first entry that would complete ESC [ 1 ; 5 is the one of the up arrow with CTRL.
 #[test]
 fn tells_the_first_completion() {
     let mut parser = InputParser::new();
     parser.parse(b"\x1b[1;5", |_| {}, true);
-    let (bytes, key) = parser.row(parser.completions().rows.start).expect("there is a first row");
+    let (bytes, key) = parser
+        .entry(parser.completions().entries.start)
+        .expect("there is a first entry");
     assert_eq!(
         (&bytes[..], key.key, key.modifiers),
         (&b"\x1b[1;5A"[..], KeyCode::UpArrow, Modifiers::CTRL)
@@ -177,7 +219,10 @@ fn shares_the_table() {
         for _ in 0..2 {
             scope.spawn(|| {
                 let completions = parser.completions();
-                assert!(completions.rows.clone().all(|place| parser.row(place).is_some()));
+                assert!(completions
+                    .entries
+                    .clone()
+                    .all(|place| parser.entry(place).is_some()));
                 assert_eq!(parser.waiting(), Waiting::Sequence);
             });
         }

@@ -1,8 +1,11 @@
-// Random streams: this crate's events against the lines that keyshow prints, both in pieces of the same sizes.
+// Random streams: this crate's events against the lines that keyshow prints, both in pieces of the
+// same sizes.
 //
-// A process for each stream would take minutes. So the streams are joined to one: after each comes the end of a paste, after which nothing
-// waits, whatever came before, and then a mouse report with the number of the stream, by which a difference is told from where it is. What a
-// flush does in the middle of a sequence is tested on some of the streams, each in a process of its own.
+// A process for each stream would take minutes. So the streams are joined to one: after each comes
+// the end of a paste, after which nothing is buffered, whatever came before, and then a mouse
+// report with the number of the stream, by which a difference is told from where it is. What a
+// flush does in the middle of a sequence is tested on some of the streams, each in a process of its
+// own.
 use crate::draws::Draws;
 use crate::lines::{hex, line};
 use crate::plain::PlainReader;
@@ -27,7 +30,11 @@ fn keyshow() -> PathBuf {
     let built = concat!(env!("CARGO_MANIFEST_DIR"), "/../crates/keyshow/out/keyshow");
     let program = env::var_os("KEYSHOW").map_or_else(|| PathBuf::from(built), PathBuf::from);
     let how = "build it by `rt run < stdin` in crates/keyshow, or name it in KEYSHOW";
-    assert!(program.is_file(), "there is no {}: {how}", program.display());
+    assert!(
+        program.is_file(),
+        "there is no {}: {how}",
+        program.display()
+    );
     program
 }
 
@@ -49,7 +56,7 @@ fn shown(text: &[u8], piece: usize) -> Vec<String> {
     lines.lines().map(str::to_string).collect()
 }
 
-// The lines of this crate's events, and of what waits.
+// The lines of this crate's events, and of what is buffered.
 fn parsed(text: &[u8], piece: usize) -> Vec<String> {
     let mut parser = InputParser::new();
     let mut lines = Vec::new();
@@ -84,7 +91,8 @@ fn parted(lines: &[String]) -> Vec<&[String]> {
     for number in 0..STREAMS {
         let (_, line) = mark(number);
         let end = rest.iter().position(|other| *other == line);
-        let (part, after) = rest.split_at(end.unwrap_or_else(|| panic!("no mark after stream {number}")) + 1);
+        let (part, after) =
+            rest.split_at(end.unwrap_or_else(|| panic!("no mark after stream {number}")) + 1);
         parts.push(part);
         rest = after;
     }
@@ -114,7 +122,12 @@ fn alone() {
     let check = || {
         while let Some(stream) = { left.lock().expect("no panic").next() } {
             for piece in PIECES {
-                assert_eq!(parsed(stream, *piece), shown(stream, *piece), "pieces of {piece}: {}", hex(stream));
+                assert_eq!(
+                    parsed(stream, *piece),
+                    shown(stream, *piece),
+                    "pieces of {piece}: {}",
+                    hex(stream)
+                );
             }
         }
     };

@@ -1,5 +1,5 @@
 // Threads that make, use and free parsers. All of these share one sequence table.
-use hedrugal::extended::{ExtendedEvent, ExtendedParser, Rows};
+use hedrugal::extended::{ExtendedEvent, ExtendedParser, Protocol};
 use hedrugal::input::{InputEvent, InputParser, KeyCode, KeyEvent, Modifiers};
 use std::sync::mpsc::{channel, Sender};
 use std::thread;
@@ -14,12 +14,17 @@ fn ctrl_up() -> InputEvent {
     })
 }
 
-// Makes parsers and reads with them. Some are freed here, and some are passed on in the middle of a key.
+// Makes parsers and reads with them. Some are freed here, and some are passed on in the middle of a
+// key.
 fn make_and_use(passed_on: &Sender<InputParser>) {
     for _ in 0..ROUNDS {
-        let (mut parser, mut extended) = (InputParser::new(), ExtendedParser::new(Protocol::Legacy));
+        let (mut parser, mut extended) =
+            (InputParser::new(), ExtendedParser::new(Protocol::Legacy));
         assert_eq!(parser.parse_as_vec(b"\x1b[1;5A", true), [ctrl_up()]);
-        assert_eq!(extended.parse_as_vec(b"\x1b[1;5A", true), [ExtendedEvent::Input(ctrl_up())]);
+        assert_eq!(
+            extended.parse_as_vec(b"\x1b[1;5A", true),
+            [ExtendedEvent::Input(ctrl_up())]
+        );
         drop(extended);
         parser.parse(b"\x1b[1;", |_| {}, true);
         passed_on.send(parser).expect("the main thread takes it");

@@ -1,5 +1,6 @@
-// What waits for a sequence or a character isn't decided: each beginning of a row, of a mouse report or of a character, alone and after one
-// ESC, waits as a whole, and a flush before the rest of it changes the events.
+// What is buffered as a sequence or a character isn't decided: each beginning of a row, of a mouse
+// report or of a character, alone and after one ESC, stays buffered whole, and a flush before the
+// rest of it changes the events.
 use crate::calls::{Call, MOST};
 use crate::lines::hex;
 use crate::plain::PlainReader;
@@ -7,7 +8,7 @@ use hedrugal::input::{InputEvent, InputParser};
 
 const HELD: [&[u8]; 2] = [b"", b"\x1b"];
 
-// The events of the text, after which nothing waits but a paste that the text begins.
+// The events of the text, after which nothing is buffered but a paste that the text begins.
 fn flushed_events(parser: &mut InputParser, text: &[u8]) -> Vec<InputEvent> {
     let events = Call::List.events(parser, text, false);
     if parser.is_paste_open() {
@@ -24,15 +25,15 @@ fn check_waits(parser: &mut InputParser, text: &[u8]) {
     assert!(text.len() <= MOST, "{}", hex(text));
 }
 
-// The events of what waits, flushed, and then those of the end.
+// The events of what is buffered, flushed, and then those of the end.
 fn events_with_flush(parser: &mut InputParser, end: &[u8]) -> Vec<InputEvent> {
     let mut events = flushed_events(parser, b"");
     events.extend(flushed_events(parser, end));
     events
 }
 
-// Parts a sequence or a character in two, behind what is held. The first part waits as a whole, and the events of both parts at once aren't
-// those of the first, flushed, and of the second.
+// Parts a sequence or a character in two, behind what is held. The first part is buffered whole,
+// and the events of both parts at once aren't those of the first, flushed, and of the second.
 fn check_parted(parser: &mut InputParser, held: &[u8], (beginning, end): (&[u8], &[u8])) {
     check_waits(parser, &[held, beginning].concat());
     let with_flush = events_with_flush(parser, end);

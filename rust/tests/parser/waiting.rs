@@ -47,8 +47,18 @@ fn kind_of(rest: &[u8]) -> Waiting {
 }
 
 fn check_rest(parser: &InputParser, rest: &[u8], kind: Waiting) {
-    assert_eq!((parser.waiting_len(), parser.waiting()), (rest.len(), kind), "{}", hex(rest));
-    assert_eq!(parser.is_paste_open(), kind == Waiting::Paste, "{}", hex(rest));
+    assert_eq!(
+        (parser.waiting_len(), parser.waiting()),
+        (rest.len(), kind),
+        "{}",
+        hex(rest)
+    );
+    assert_eq!(
+        parser.is_paste_open(),
+        kind == Waiting::Paste,
+        "{}",
+        hex(rest)
+    );
 }
 
 // Parses a rest where nothing was buffered.
@@ -73,14 +83,20 @@ fn tells_kinds() {
         assert_eq!((parser.reset(), parser.reset()), (rest.len(), 0));
         assert_eq!(lines(&parser.parse_as_vec(b"q", true)), "key U+0071 NONE");
     }
-    assert_eq!(lines(&parser.parse_as_vec(b"\x1b", false)), "key Escape NONE");
+    assert_eq!(
+        lines(&parser.parse_as_vec(b"\x1b", false)),
+        "key Escape NONE"
+    );
 }
 
 // With no more to come nothing stays buffered but an open paste.
 #[test]
 fn keeps_open_pastes_under_either_flag() {
     let (mut parser, reader) = (InputParser::new(), PlainReader::new());
-    for (rest, kind) in RESTS.iter().filter(|(_, kind)| matches!(kind, Waiting::Nothing | Waiting::Paste)) {
+    for (rest, kind) in RESTS
+        .iter()
+        .filter(|(_, kind)| matches!(kind, Waiting::Nothing | Waiting::Paste))
+    {
         assert_eq!(reader.kind_of(rest, false), Some(*kind), "{}", hex(rest));
         assert_eq!(parser.parse_as_vec(rest, false), []);
         check_rest(&parser, rest, *kind);
@@ -107,12 +123,18 @@ fn flushes() {
 #[test]
 fn flushes_escapes() {
     let mut parser = InputParser::new();
-    for (rest, key) in [(&b"\x1b"[..], "key Escape NONE"), (b"\x1b\x1b", "key Escape ALT")] {
+    for (rest, key) in [
+        (&b"\x1b"[..], "key Escape NONE"),
+        (b"\x1b\x1b", "key Escape ALT"),
+    ] {
         parse_rest(&mut parser, rest, Waiting::Escape);
         assert_eq!(lines(parser.flush_escape().as_slice()), key);
         assert_eq!(parser.flush_escape(), None);
         check_rest(&parser, b"", Waiting::Nothing);
-        assert_eq!(lines(&parser.parse_as_vec(b"[A", true)), "key U+005B NONE,key U+0041 NONE");
+        assert_eq!(
+            lines(&parser.parse_as_vec(b"[A", true)),
+            "key U+005B NONE,key U+0041 NONE"
+        );
     }
 }
 
@@ -168,7 +190,10 @@ fn ends_pastes() {
     ];
     for (text, wanted) in texts {
         assert_eq!(parser.parse_as_vec(&[PASTE_START, text].concat(), true), []);
-        assert_eq!(parser.end_paste(), Some(InputEvent::Paste(wanted.to_string())));
+        assert_eq!(
+            parser.end_paste(),
+            Some(InputEvent::Paste(wanted.to_string()))
+        );
         assert_eq!(parser.end_paste(), None);
         check_rest(&parser, b"", Waiting::Nothing);
     }
@@ -192,12 +217,21 @@ fn ends_open_pastes_alone() {
 fn ends_a_long_paste() {
     let text = "täxt \x1b[201".repeat(30000);
     let mut parser = InputParser::new();
-    for (piece, is_ended) in [(4096, true), (4096, false), (text.len(), true), (text.len(), false), (4096, true)] {
+    for (piece, is_ended) in [
+        (4096, true),
+        (4096, false),
+        (text.len(), true),
+        (text.len(), false),
+        (4096, true),
+    ] {
         assert_eq!(parser.parse_as_vec(PASTE_START, true), []);
         for bytes in text.as_bytes().chunks(piece) {
             assert_eq!(parser.parse_as_vec(bytes, true), []);
         }
-        assert_eq!((parser.waiting_len(), parser.waiting()), (text.len() + 6, Waiting::Paste));
+        assert_eq!(
+            (parser.waiting_len(), parser.waiting()),
+            (text.len() + 6, Waiting::Paste)
+        );
         if is_ended {
             assert!(parser.end_paste() == Some(InputEvent::Paste(text.clone())));
         } else {
@@ -214,15 +248,24 @@ fn streams() -> Vec<Vec<u8>> {
     (0..5000).map(|_| draws.text()).collect()
 }
 
-// The events of a stream in pieces, and of a flush at its end. After a piece comes a pause with flush_escape, if pauses are wanted, but
-// not after an ESC that the next piece may continue. Counts the pauses with each kind.
-fn read(parser: &mut InputParser, stream: &[u8], piece: usize, mut pauses: Option<&mut [usize; 5]>) -> Vec<InputEvent> {
+// The events of a stream in pieces, and of a flush at its end. After a piece comes a pause with
+// flush_escape, if pauses are wanted, but not after an ESC that the next piece may continue. Counts
+// the pauses with each kind.
+fn read(
+    parser: &mut InputParser,
+    stream: &[u8],
+    piece: usize,
+    mut pauses: Option<&mut [usize; 5]>,
+) -> Vec<InputEvent> {
     let mut events = Vec::new();
     let mut pieces = stream.chunks(piece).peekable();
     while let Some(bytes) = pieces.next() {
         parser.parse(bytes, |event| events.push(event), true);
         let kind = parser.waiting();
-        if let Some(pauses) = pauses.as_mut().filter(|_| kind != Waiting::Escape || pieces.peek().is_none()) {
+        if let Some(pauses) = pauses
+            .as_mut()
+            .filter(|_| kind != Waiting::Escape || pieces.peek().is_none())
+        {
             events.extend(parser.flush_escape());
             pauses[kind as usize] += 1;
         }
@@ -247,7 +290,8 @@ fn pauses_in_streams() {
     assert!(pauses.iter().all(|count| *count > 100), "{pauses:?}");
 }
 
-// After each byte of random streams the kind is that of the bytes, and an open paste is ended with its text.
+// After each byte of random streams the kind is that of the bytes, and an open paste is ended with
+// its text.
 #[test]
 fn kinds_in_streams() {
     let mut parser = InputParser::new();

@@ -1,14 +1,23 @@
 // The derives behind the feature `use_serde`, which rust/serde builds.
 use hedrugal::extended::{ExtendedEvent, KeyEventKind, KeyReport, KittyModifiers, ReportedKey};
-use hedrugal::input::{InputEvent, KeyCode, KeyEvent, KittyKeyboardFlags, Modifiers, MouseButtons, MouseEvent, PixelMouseEvent};
+use hedrugal::input::{
+    InputEvent, KeyCode, KeyEvent, KittyKeyboardFlags, Modifiers, MouseButtons, MouseEvent,
+    PixelMouseEvent,
+};
 use serde::de::DeserializeOwned;
 use serde::Serialize;
 use std::fmt::Debug;
 
 // A value and its JSON, in both directions.
 fn check<T: Serialize + DeserializeOwned + PartialEq + Debug>(value: T, json: &str) {
-    assert_eq!(serde_json::to_string(&value).expect("JSON is written"), json);
-    assert_eq!(serde_json::from_str::<T>(json).expect("JSON is read"), value);
+    assert_eq!(
+        serde_json::to_string(&value).expect("JSON is written"),
+        json
+    );
+    assert_eq!(
+        serde_json::from_str::<T>(json).expect("JSON is read"),
+        value
+    );
 }
 
 const BOTH: Modifiers = Modifiers::SHIFT.union(Modifiers::CTRL);
@@ -19,7 +28,10 @@ fn writes_and_reads_flags() {
     check(Modifiers::NONE, "\"\"");
     check(Modifiers::from_bits_retain(0x8002), "\"SHIFT | 0x8000\"");
     check(MouseButtons::VERT_WHEEL, "\"VERT_WHEEL\"");
-    check(KittyKeyboardFlags::REPORT_EVENT_TYPES, "\"REPORT_EVENT_TYPES\"");
+    check(
+        KittyKeyboardFlags::REPORT_EVENT_TYPES,
+        "\"REPORT_EVENT_TYPES\"",
+    );
     assert!(serde_json::from_str::<Modifiers>("\"SHFT\"").is_err());
     assert!(serde_json::from_str::<Modifiers>("2").is_err());
 }
@@ -57,7 +69,10 @@ fn writes_and_reads_events() {
         }),
         r#"{"PixelMouse":{"x_pixels":30,"y_pixels":40,"mouse_buttons":"LEFT","modifiers":"SHIFT | CTRL"}}"#,
     );
-    check(InputEvent::Resized { cols: 80, rows: 24 }, r#"{"Resized":{"cols":80,"rows":24}}"#);
+    check(
+        InputEvent::Resized { cols: 80, rows: 24 },
+        r#"{"Resized":{"cols":80,"rows":24}}"#,
+    );
     check(InputEvent::Paste("text".to_string()), r#"{"Paste":"text"}"#);
     check(InputEvent::Wake, "\"Wake\"");
 }
@@ -76,9 +91,15 @@ fn writes_and_reads_extended_events() {
         ExtendedEvent::Key(report),
         r#"{"Key":{"key":{"Functional":57428},"modifiers":"SHIFT | NUM_LOCK","kind":"Release","shifted":"A","base":null,"text":""}}"#,
     );
-    check(ExtendedEvent::Input(InputEvent::Wake), r#"{"Input":"Wake"}"#);
     check(
-        ExtendedEvent::CursorPosition { row: 24, column: 80 },
+        ExtendedEvent::Input(InputEvent::Wake),
+        r#"{"Input":"Wake"}"#,
+    );
+    check(
+        ExtendedEvent::CursorPosition {
+            row: 24,
+            column: 80,
+        },
         r#"{"CursorPosition":{"row":24,"column":80}}"#,
     );
     check(ExtendedEvent::Osc(b"1;".to_vec()), r#"{"Osc":[49,59]}"#);

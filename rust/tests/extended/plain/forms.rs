@@ -28,7 +28,10 @@ fn is_control_sequence(text: &[u8]) -> bool {
     let Some((last, inner)) = t.split_last() else {
         return false;
     };
-    text.len() <= 256 && matches!(last, 0x40..=0x7e) && inner.iter().all(|byte| is_inner(*byte)) && !begins_no_control(t)
+    text.len() <= 256
+        && matches!(last, 0x40..=0x7e)
+        && inner.iter().all(|byte| is_inner(*byte))
+        && !begins_no_control(t)
 }
 
 fn is_x10_report(text: &[u8]) -> bool {
@@ -59,5 +62,9 @@ pub fn string_of(text: &[u8]) -> Option<(u8, &[u8])> {
 
 // Whether the text is of a form.
 pub fn is_form(text: &[u8]) -> bool {
-    is_control_sequence(text) || is_x10_report(text) || is_console_key(text) || is_keypad_key(text) || string_of(text).is_some()
+    is_control_sequence(text)
+        || is_x10_report(text)
+        || is_console_key(text)
+        || is_keypad_key(text)
+        || string_of(text).is_some()
 }

@@ -1,4 +1,5 @@
-// The keys of "Events", by their letters and numbers. The names of functional keys are those of Kitty's table.
+// The keys of "Events", by their letters and numbers. The names of functional keys are those of
+// Kitty's table.
 use hedrugal::extended::ReportedKey;
 use hedrugal::input::KeyCode;
 
@@ -27,7 +28,8 @@ const EDIT_KEYS: &[(u32, KeyCode)] = &[
     (6, KeyCode::PageDown),
 ];
 
-// The codes of the rules `numbered_function_keys` and `high_function_keys`, in the order of their keys from F1 on.
+// The codes of the rules `numbered_function_keys` and `high_function_keys`, in the order of their
+// keys from F1 on.
 const FUNCTION_CODES: &[u32] = &[
     11, 12, 13, 14, 15, 17, 18, 19, 20, 21, 23, 24, 25, 26, 28, 29, 31, 32, 33, 34, 42, 43, 44, 45,
 ];
@@ -132,7 +134,11 @@ fn function_key(number: u32) -> Option<ReportedKey> {
 pub fn key_of_number(number: u32) -> Option<ReportedKey> {
     listed(EDIT_KEYS, number)
         .or_else(|| function_key(number))
-        .or_else(|| (57344..=63743).contains(&number).then(|| functional_key(number)))
+        .or_else(|| {
+            (57344..=63743)
+                .contains(&number)
+                .then(|| functional_key(number))
+        })
 }
 
 // The key of a letter of the Linux console.

@@ -1,6 +1,8 @@
 // "Events": the event of a text of a form. `t` is what follows ESC `[`.
 use super::forms::string_of;
-use super::keys::{console_key_of, key_of, key_of_letter, key_of_number, keypad_key_of, other_key_of};
+use super::keys::{
+    console_key_of, key_of, key_of_letter, key_of_number, keypad_key_of, other_key_of,
+};
 use crate::port::plain::buttons_of;
 use hedrugal::extended::{ExtendedEvent, KeyEventKind, KeyReport, KittyModifiers, ReportedKey};
 use hedrugal::input::{InputEvent, Modifiers, MouseEvent};
@@ -42,7 +44,9 @@ const PRESSED: Manner = Manner {
 
 // The bits of a number that is one more than they are.
 fn modifiers_before(number: u32) -> Option<KittyModifiers> {
-    Some(KittyModifiers::from_bits_retain(u8::try_from(number - 1).ok()?))
+    Some(KittyModifiers::from_bits_retain(
+        u8::try_from(number - 1).ok()?,
+    ))
 }
 
 // mods: one more than the bits. Missing, it is 1.
@@ -156,7 +160,10 @@ fn numbered_key(t: &[u8]) -> Option<KeyReport> {
     let body = t.strip_suffix(b"~")?;
     let len = body.split(|byte| *byte == b';').next()?.len();
     let (number, tail) = body.split_at(len);
-    Some(report_of(key_of_number(number_of(number, 7)?)?, manner_after(tail)?))
+    Some(report_of(
+        key_of_number(number_of(number, 7)?)?,
+        manner_after(tail)?,
+    ))
 }
 
 // The line `27;` m `;` c `~`.
@@ -188,7 +195,10 @@ fn key_event(t: &[u8]) -> Option<ExtendedEvent> {
 fn cursor_position(t: &[u8]) -> Option<ExtendedEvent> {
     let body = t.strip_suffix(b"R")?;
     let is_marked = body.starts_with(b"?");
-    let mut fields = body.strip_prefix(b"?").unwrap_or(body).split(|byte| *byte == b';');
+    let mut fields = body
+        .strip_prefix(b"?")
+        .unwrap_or(body)
+        .split(|byte| *byte == b';');
     let row = short_number(fields.next()?)?;
     let column = short_number(fields.next()?)?;
     if let Some(page) = fields.next() {
@@ -269,7 +279,10 @@ fn x10_report(t: &[u8]) -> Option<ExtendedEvent> {
 // The line of the Linux console's keys.
 fn console_key(t: &[u8]) -> Option<ExtendedEvent> {
     match t {
-        [b'[', letter] => Some(ExtendedEvent::Key(report_of(console_key_of(*letter)?, PRESSED))),
+        [b'[', letter] => Some(ExtendedEvent::Key(report_of(
+            console_key_of(*letter)?,
+            PRESSED,
+        ))),
         _ => None,
     }
 }
@@ -309,7 +322,10 @@ pub fn event_of(text: &[u8]) -> Option<ExtendedEvent> {
         return Some(event_of_control(t));
     }
     match text {
-        [0x1b, b'O', letter] => Some(ExtendedEvent::Key(report_of(keypad_key_of(*letter)?, PRESSED))),
+        [0x1b, b'O', letter] => Some(ExtendedEvent::Key(report_of(
+            keypad_key_of(*letter)?,
+            PRESSED,
+        ))),
         _ => None,
     }
 }

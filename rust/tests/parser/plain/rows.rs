@@ -1,12 +1,12 @@
-// The rows of the sequence table, rule by rule, as docs/GRAMMAR.md gives them under "The sequence table". A new row of the page is added here,
-// to the list or the loop of its rule.
+// The rows of the sequence table, rule by rule, as docs/GRAMMAR.md gives them under "The sequence
+// table". A new row of the page is added here, to the list or the loop of its rule.
 use super::modifiers_of;
 use hedrugal::input::{KeyCode, KeyEvent, Modifiers};
 use std::collections::{BTreeMap, BTreeSet};
 use std::ops::Range;
 
-// The modifiers of a suffix by its number; 0 stands for the empty suffix. One less than the number has the bits 1 for SHIFT, 2 for ALT, 4 for
-// CTRL and 8 for Meta.
+// The modifiers of a suffix by its number; 0 stands for the empty suffix. One less than the number
+// has the bits 1 for SHIFT, 2 for ALT, 4 for CTRL and 8 for Meta.
 fn modifiers_of_suffix(number: u8) -> Modifiers {
     let bits = number.saturating_sub(1);
     modifiers_of(bits & 1 != 0, bits & (2 | 8) != 0, bits & 4 != 0)
@@ -23,7 +23,8 @@ fn key_of_code(code: u8) -> KeyCode {
     }
 }
 
-// The codes of the rules `numbered_function_keys` and `high_function_keys`, in the order of their keys from F1 on.
+// The codes of the rules `numbered_function_keys` and `high_function_keys`, in the order of their
+// keys from F1 on.
 const FUNCTION_CODES: &[u8] = &[
     11, 12, 13, 14, 15, 17, 18, 19, 20, 21, 23, 24, 25, 26, 28, 29, 31, 32, 33, 34, 42, 43, 44, 45,
 ];
@@ -79,27 +80,27 @@ const MODIFIED_EDIT_KEYS: &[(char, KeyCode)] = &[
 const HOME_AND_END: &[(char, KeyCode)] = &[('H', KeyCode::Home), ('F', KeyCode::End)];
 
 // The rows by their bytes, and each text that properly begins one.
-pub struct Rows {
+pub struct Table {
     by_bytes: BTreeMap<Vec<u8>, KeyEvent>,
     prefixes: BTreeSet<Vec<u8>>,
     // How many rows the rules gave.
     given: usize,
 }
 
-impl Rows {
-    pub fn new() -> Rows {
-        let mut rows = Rows {
+impl Table {
+    pub fn new() -> Table {
+        let mut table = Table {
             by_bytes: BTreeMap::new(),
             prefixes: BTreeSet::new(),
             given: 0,
         };
-        rows.add_bytes();
-        rows.add_alt();
-        rows.add_characters();
-        rows.add_functions();
-        rows.add_modified_edit_keys();
-        rows.add_lists();
-        rows
+        table.add_bytes();
+        table.add_alt();
+        table.add_characters();
+        table.add_functions();
+        table.add_modified_edit_keys();
+        table.add_lists();
+        table
     }
 
     // How many rows the rules gave, also where two have the same bytes.
@@ -121,7 +122,8 @@ impl Rows {
         for len in 1..bytes.len() {
             self.prefixes.insert(bytes[..len].to_vec());
         }
-        self.by_bytes.insert(bytes.to_vec(), KeyEvent { key, modifiers });
+        self.by_bytes
+            .insert(bytes.to_vec(), KeyEvent { key, modifiers });
         self.given += 1;
     }
 
@@ -169,14 +171,23 @@ impl Rows {
     // The rules `alt_letters` and `alt_bracket`: in ASCII the bracket follows `Z`.
     fn add_alt(&mut self) {
         for letter in 'A'..='[' {
-            self.add(&format!("\x1b{letter}"), KeyCode::Char(letter), Modifiers::ALT);
+            self.add(
+                &format!("\x1b{letter}"),
+                KeyCode::Char(letter),
+                Modifiers::ALT,
+            );
         }
     }
 
     // The rules `csi_u` and `modify_other_keys`.
     fn add_characters(&mut self) {
         for code in 0..128u8 {
-            self.add_suffixed(&format!("\x1b[{code}"), 0..9, "u", KeyCode::Char(char::from(code)));
+            self.add_suffixed(
+                &format!("\x1b[{code}"),
+                0..9,
+                "u",
+                KeyCode::Char(char::from(code)),
+            );
             self.add_suffixed("\x1b[27", 1..9, &format!(";{code}~"), key_of_code(code));
         }
     }
@@ -184,7 +195,12 @@ impl Rows {
     // The rules `numbered_function_keys` and `high_function_keys`.
     fn add_functions(&mut self) {
         for (code, number) in FUNCTION_CODES.iter().zip(1..) {
-            self.add_suffixed(&format!("\x1b[{code}"), 0..17, "~", KeyCode::Function(number));
+            self.add_suffixed(
+                &format!("\x1b[{code}"),
+                0..17,
+                "~",
+                KeyCode::Function(number),
+            );
         }
     }
 

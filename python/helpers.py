@@ -1,0 +1,100 @@
+"""What several files of tests use."""
+import os
+import re
+import subprocess
+import sys
+
+import hedrugal
+from hedrugal import KeyCode, KeyEvent, Modifiers, MouseButtons, MouseEvent, Paste, Waiting
+
+HERE = os.path.dirname(os.path.abspath(__file__))
+TOP = os.path.dirname(HERE)
+# The file of the library.
+LIBRARY = os.path.abspath(hedrugal._library._name)
+# No test waits longer for another process, so that a machine with much to do fails none.
+SECONDS = 60
+
+STREAM = b"hello\x1b[A\x1b\x1b[200~ab\xc3\xa9cd\x1b[201~q\x1b[<0;3;4M\xff\x1b[27;5;13~\xc3\xa9\x1b"
+EVENTS = [
+    *(KeyEvent(it) for it in "hello"),
+    KeyEvent(KeyCode.UP_ARROW),
+    KeyEvent(KeyCode.ESCAPE),
+    Paste("abécd"),
+    KeyEvent("q"),
+    MouseEvent(3, 4, MouseButtons.LEFT),
+    KeyEvent("\ufffd"),
+    KeyEvent(KeyCode.ENTER, Modifiers.CTRL),
+    KeyEvent("é"),
+    KeyEvent(KeyCode.ESCAPE),
+]
+
+
+def read(path):
+    with open(os.path.join(TOP, path), encoding="utf-8") as opened:
+        return opened.read()
+
+
+def constants(prefix):
+    """The numbers of the header's constants that begin so, by the rest of their names."""
+    found = re.findall(
+        rf"^ *(?:#define )?{prefix}(\w+) (?:= )?(0x[0-9a-f]+|\d+)", read("c/hedrugal.h"), flags=re.M
+    )
+    return {name: int(number, 0) for name, number in found}
+
+
+def assert_rest(parser, length, kind):
+    """So many bytes are buffered, and they are this."""
+    assert (parser.waiting_len, parser.waiting, parser.is_paste_open) == (
+        length,
+        kind,
+        kind is Waiting.PASTE,
+    )
+
+
+def run_python(text, env=None, cwd=None):
+    """Runs a program in another Python, and returns its status and what it printed."""
+    env = {
+        **{name: value for name, value in os.environ.items() if name != "HEDRUGAL_LIBRARY"},
+        "PYTHONPATH": HERE,
+        **(env or {}),
+    }
+    words = [sys.executable, "-B", "-c", text]
+    done = subprocess.run(
+        words,
+        env=env,
+        cwd=cwd,
+        stdin=subprocess.DEVNULL,
+        capture_output=True,
+        timeout=SECONDS,
+        check=False,
+    )
+    return done.returncode, done.stdout.decode(), done.stderr.decode()
+
+
+def assert_prints(text, wanted, **env):
+    """A program prints this with the library, and nothing else."""
+    assert run_python(text, {"HEDRUGAL_LIBRARY": LIBRARY, **env}) == (0, wanted, "")
+
+
+def listings():
+    """The listings in Python of docs/python.md, each with what it prints: an event loop, a key map,
+    the extended parser and the encoder of key reports."""
+    pattern = r"^```python\n(.*?)^```\n.*?<!-- prints -->\n```\n(.*?)^```"
+    return re.findall(pattern, read("docs/python.md"), flags=re.M | re.S)
+
+
+# Sets the most memory that this process may have to what it has, and some bytes more, or to all.
+LIMITS = """
+import resource
+from hedrugal import *
+def limit(more):
+    pages = int(open("/proc/self/statm").read().split()[0])
+    most = resource.RLIM_INFINITY if more is None else pages * resource.getpagesize() + more
+    resource.setrlimit(resource.RLIMIT_AS, (most, resource.RLIM_INFINITY))
+MB = 1 << 20
+def refused(call):
+    try:
+        return None, call()
+    except MemoryError as error:
+        return error, None
+"""

@@ -1,0 +1,248 @@
+"""The numbers, layouts and calls are those of C, and the library is found."""
+import ctypes
+import os
+import re
+import shutil
+
+import pytest
+
+import hedrugal
+from hedrugal import (
+    KeyboardEncoding,
+    KeyCode,
+    KeyEventKind,
+    KittyKeyboardFlags,
+    KittyModifiers,
+    Modifiers,
+    MouseButtons,
+    Protocol,
+    Waiting,
+    extended,
+)
+from helpers import HERE, LIBRARY, constants, read, run_python
+
+
+@pytest.mark.parametrize(
+    "enum, prefix",
+    [
+        (Modifiers, "HED_TERMWIZ_MOD_"),
+        (KittyModifiers, "HED_KITTY_MOD_"),
+        (MouseButtons, "HED_BUTTON_"),
+        (KittyKeyboardFlags, "HED_KITTY_FLAG_"),
+        (KeyboardEncoding, "HED_ENCODING_"),
+        (Waiting, "HED_WAITING_"),
+        (Protocol, "HED_PROTOCOL_"),
+        (KeyEventKind, "HED_KEY_EVENT_KIND_"),
+    ],
+)
+def test_enums(enum, prefix):
+    """Each enum has the header's names and numbers, and no others."""
+    members = {name: member.value for name, member in enum.__members__.items()}
+    assert members == constants(prefix) and len(members) > 1
+
+
+def keys_of_header():
+    return {
+        name: number
+        for name, number in constants("HED_KEY_").items()
+        if not name.startswith("EVENT_KIND_")
+    }
+
+
+def test_keys():
+    """The two keys that have a detail are no KeyCode."""
+    assert {
+        **{key.name: key.value for key in KeyCode},
+        "CHAR": 1,
+        "FUNCTION": 60,
+    } == keys_of_header()
+
+
+@pytest.mark.parametrize("module, least", [(hedrugal, 31), (extended, 20)])
+def test_other_numbers(module, least):
+    """So have the modules' constants for the numbers that no enum has."""
+    found = {
+        name: number
+        for name, number in vars(module).items()
+        if re.match("_(KIND|NEXT|ENCODED|KEY|FOUND|NO)_[A-Z]", name)
+    }
+    known = constants("HED_")
+    assert found == {name: known[name[1:]] for name in found} and len(found) >= least
+
+
+def test_key_names():
+    names = {number: name.title().replace("_", "") for name, number in keys_of_header().items()}
+    assert names[44] == "Numpad0" and len(names) == max(names)
+    for number in [0, *names, len(names) + 1, 65535]:
+        room, name = ctypes.create_string_buffer(b"-" * 32, 32), names.get(number, "").encode()
+        written = name + b"\0" if name else b""
+        assert hedrugal._library.hed_key_name(number, room, len(room)) == len(name)
+        assert room.raw == written + b"-" * (len(room) - len(written))
+
+
+def test_layouts():
+    parser, event, modes = hedrugal._RawParser, hedrugal._RawEvent, hedrugal._RawModes
+    assert [ctypes.sizeof(it) for it in (parser, event, modes)] == [16, 24, 16]
+    offsets = [event.modifiers.offset, event.y.offset, event.detail.offset, event.paste_len.offset]
+    assert offsets == [2, 8, 12, 16]
+    assert [parser.state.offset, modes.encoding.offset, modes.has_modify_other_keys.offset] == [
+        8,
+        8,
+        12,
+    ]
+    entries = hedrugal._RawEntries
+    assert [ctypes.sizeof(entries), entries.count.offset, entries.with_alt.offset] == [24, 8, 16]
+    keys, match = hedrugal._RawKeyMap, hedrugal._RawMatch
+    assert [ctypes.sizeof(keys), keys.state.offset, ctypes.sizeof(match), match.value.offset] == [
+        16,
+        8,
+        16,
+        8,
+    ]
+    raw = event(1, 2, 3, 4, 5, 6, 7, 8)
+    assert hedrugal._fields_of(raw) == (1, 2, 3, 4, 5, 6, 7, 8)
+
+
+def test_calls():
+    """All calls of the header are declared, with as many arguments."""
+    header = re.sub(r"/\*.*?\*/", "", read("c/hedrugal.h"), flags=re.S)
+    calls = re.findall(r"^[a-z].*?[ *](hed_\w+)\(([^;]*)\);", header, flags=re.M)
+    counts = {name: 0 if taken == "void" else taken.count(",") + 1 for name, taken in calls}
+    declared = {**hedrugal._CALLS, **hedrugal.extended._CALLS}
+    assert counts == {name: len(taken) for name, (_, taken) in declared.items()}
+
+
+def test_version():
+    assert f'#define HED_VERSION "{hedrugal.__version__}"\n' in read("c/hedrugal.h")
+
+
+def test_layouts_of_the_extended_parser():
+    parser, report, event = extended._RawExtended, extended._RawReport, extended._RawExtendedEvent
+    assert [ctypes.sizeof(it) for it in (parser, report, event)] == [16, 16, 64]
+    assert [parser.state.offset, report.key.offset, report.base.offset] == [8, 2, 12]
+    offsets = [
+        event.row.offset,
+        event.width.offset,
+        event.report.offset,
+        event.input.offset,
+        event.text_len.offset,
+    ]
+    assert offsets == [2, 12, 16, 32, 56]
+    raw = event(report=report(1, 2, 3, 4, 5, 6), input=hedrugal._RawEvent(1, 2, 3, 4, 5, 6, 7, 8))
+    assert extended._report_fields_of(raw, extended._REPORT_AT) == (1, 2, 3, 4, 5, 6)
+    assert hedrugal._fields_of(raw, extended._INPUT_AT) == (1, 2, 3, 4, 5, 6, 7, 8)
+
+
+IMPORT = """
+try:
+    import hedrugal
+    print(hedrugal._library._name)
+except ImportError as error:
+    print(error)
+"""
+
+
+def import_it(env, before="", cwd=None):
+    status, printed, errors = run_python(before + IMPORT, env, cwd)
+    assert (status, errors) == (0, "")
+    return printed
+
+
+def test_named(tmp_path):
+    name = os.path.basename(LIBRARY)
+    assert import_it({"HEDRUGAL_LIBRARY": LIBRARY}, cwd="/") == f"{LIBRARY}\n"
+    assert import_it({"HEDRUGAL_LIBRARY": name}, cwd=os.path.dirname(LIBRARY)) == f"{LIBRARY}\n"
+    assert (
+        import_it({"HEDRUGAL_LIBRARY": os.path.relpath(LIBRARY, tmp_path)}, cwd=tmp_path)
+        == f"{LIBRARY}\n"
+    )
+
+
+def test_a_named_folder(tmp_path):
+    """A folder is named too, and then the library in it is loaded."""
+    folder = tmp_path / "libraries"
+    folder.mkdir()
+    assert_message(import_it({"HEDRUGAL_LIBRARY": str(folder)}), f"{folder}/libhedrugal.so")
+    (folder / "libhedrugal.so").symlink_to(LIBRARY)
+    for named in (str(folder), f"{folder}/", "libraries"):
+        assert import_it({"HEDRUGAL_LIBRARY": named}, cwd=tmp_path) == f"{folder}/libhedrugal.so\n"
+
+
+def test_it_keeps_pythons_lock():
+    """So no two threads are in a call at once."""
+    assert isinstance(hedrugal._library, ctypes.PyDLL)
+
+
+def test_beside_the_module(tmp_path):
+    package = tmp_path / "hedrugal"
+    shutil.copytree(os.path.join(HERE, "hedrugal"), package)
+    shutil.copy(LIBRARY, package / "libhedrugal.so")
+    for named in ({}, {"HEDRUGAL_LIBRARY": ""}):
+        found = import_it({"PYTHONPATH": str(tmp_path), **named}, cwd="/")
+        assert found == f"{package}/libhedrugal.so\n"
+
+
+def test_in_the_systems_folders():
+    before = f"import ctypes.util\nctypes.util.find_library = {{'hedrugal': {LIBRARY!r}}}.get\n"
+    assert import_it({}, before=before) == f"{LIBRARY}\n"
+
+
+def assert_message(printed, *words):
+    assert printed.count("\n") <= 2, printed
+    assert printed.startswith("hedrugal: "), printed
+    for word in words:
+        assert word in printed
+
+
+def test_not_found(tmp_path):
+    missing, text = str(tmp_path / "none.so"), str(tmp_path / "text.so")
+    (tmp_path / "text.so").write_text("text")
+    assert_message(import_it({"HEDRUGAL_LIBRARY": missing}), missing)
+    assert_message(import_it({"HEDRUGAL_LIBRARY": "none.so"}, cwd=tmp_path), missing)
+    assert_message(import_it({"HEDRUGAL_LIBRARY": text}), text)
+    assert_message(
+        import_it({}, before="import ctypes.util as util\nutil.find_library = lambda name: None\n"),
+        HERE,
+    )
+
+
+def test_another_library():
+    other = re.search(r"\S+/libc\.so\.6", read("/proc/self/maps"))
+    if not other:
+        pytest.skip("no libc.so.6")
+    assert_message(
+        import_it({"HEDRUGAL_LIBRARY": other.group()}), "hed_parser_init", "of this version"
+    )
+
+
+def test_another_version(tmp_path):
+    """A module is loaded with the library of its own version alone."""
+    line, text = f'__version__ = "{hedrugal.__version__}"\n', read("python/hedrugal/__init__.py")
+    assert text.count(line) == 1
+    major, minor, patch = map(int, hedrugal.__version__.split("."))
+    for other in (
+        f"{major + 1}.{minor}.{patch}",
+        f"{major}.{minor + 1}.{patch}",
+        f"{major}.{minor}.{patch + 1}",
+    ):
+        (tmp_path / "hedrugal.py").write_text(
+            text.replace(line, f'__version__ = "{other}"\n'), encoding="utf-8"
+        )
+        printed = import_it(
+            {"PYTHONPATH": str(tmp_path), "HEDRUGAL_LIBRARY": LIBRARY}, cwd=tmp_path
+        )
+        assert_message(
+            printed, LIBRARY, f"is version {hedrugal.__version__} of", f"is for version {other}\n"
+        )
+
+
+@pytest.mark.parametrize(
+    "before",
+    [
+        "import platform\nplatform.machine = lambda: 'aarch64'\n",
+        "import ctypes.util, sys\nsys.platform = 'darwin'\n",
+        "import ctypes\nctypes.sizeof = lambda _, size=ctypes.sizeof: size(ctypes.c_uint32)\n",
+    ],
+)
+def test_another_processor(before):
+    assert_message(import_it({"HEDRUGAL_LIBRARY": LIBRARY}, before=before), "x86-64 Linux")

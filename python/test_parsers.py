@@ -1,0 +1,369 @@
+"""What both parsers read in the same way."""
+import copy
+import ctypes
+import gc
+import pickle
+import weakref
+
+import pytest
+
+import hedrugal
+from hedrugal import (
+    Function,
+    InputParser,
+    KeyCode,
+    KeyCodeEncodeModes,
+    KeyEvent,
+    Modifiers,
+    MouseButtons,
+    MouseEvent,
+    Paste,
+    Waiting,
+)
+from helpers import EVENTS, STREAM, assert_rest
+
+# What stays buffered, and its kind.
+RESTS = [
+    (b"", Waiting.NOTHING),
+    (b"\x1b", Waiting.ESCAPE),
+    (b"\x1b\x1b", Waiting.ESCAPE),
+    (b"\x1b[", Waiting.SEQUENCE),
+    (b"\x1bO", Waiting.SEQUENCE),
+    (b"\x1b[1;5", Waiting.SEQUENCE),
+    (b"\x1b[<0;3", Waiting.SEQUENCE),
+    (b"\x1b[200", Waiting.SEQUENCE),
+    (b"\x1b\x1b[", Waiting.SEQUENCE),
+    (b"\x1b\x1b[<00095;65535;65535", Waiting.SEQUENCE),
+    (b"\xc3", Waiting.CHARACTER),
+    (b"\xe2\x82", Waiting.CHARACTER),
+    (b"\x1b\xf0\x9f\x98", Waiting.CHARACTER),
+    (b"\x1b[200~", Waiting.PASTE),
+    (b"\x1b[200~\x1b", Waiting.PASTE),
+    (b"\x1b[200~\xc3", Waiting.PASTE),
+    (b"\x1b[200~ab\x1b[201", Waiting.PASTE),
+]
+
+
+def test_keys(parser):
+    for data, key, modifiers in [
+        (b"\x1b[1;3A", KeyCode.UP_ARROW, Modifiers.ALT),
+        (b"\x1b[15;6~", Function(5), Modifiers.SHIFT | Modifiers.CTRL),
+        (b"\x03", "c", Modifiers.CTRL),
+        ("é".encode(), "é", Modifiers.NONE),
+        ("\U0010ffff".encode(), "\U0010ffff", Modifiers.NONE),
+        (b"\x00", "\0", Modifiers.NONE),
+        (b"\xff", "\ufffd", Modifiers.NONE),
+        (b"\x1b[201~", KeyCode.INTERNAL_PASTE_END, Modifiers.NONE),
+    ]:
+        assert parser.parse(data) == [KeyEvent(key, modifiers)]
+    assert_rest(parser, 0, Waiting.NOTHING)
+
+
+def test_mouse_reports(parser):
+    left = MouseEvent(65535, 9, MouseButtons.LEFT, Modifiers.CTRL)
+    wheel = MouseEvent(42, 12, MouseButtons.HORZ_WHEEL | MouseButtons.WHEEL_POSITIVE)
+    assert parser.parse(b"\x1b[<16;65535;9M\x1b[<66;42;12M") == [left, wheel]
+    assert parser.parse(b"\x1b[<0;1;2m") == [MouseEvent(1, 2, MouseButtons.NONE, Modifiers.NONE)]
+
+
+def test_pastes(parser):
+    assert parser.parse(b"\x1b[200~ab") == []
+    assert_rest(parser, 8, Waiting.PASTE)
+    assert parser.flush() == []
+    assert_rest(parser, 8, Waiting.PASTE)
+    assert parser.parse(b"c\xc3\xa9\xff\0\x1b[201~q") == [Paste("abcé\ufffd\0"), KeyEvent("q")]
+    assert parser.parse(b"\x1b[200~\x1b[201~") == [Paste("")]
+    # The library keeps no text that was copied.
+    assert parser.parse(b"\x1b[200~a\x1b[201~") == [Paste("a")]
+    assert parser._calls.text(parser._raw, b"", 0) == 0
+
+
+def test_pastes_in_a_row(parser):
+    texts = ["", "a", "bc" * 1000, "\n", "d"]
+    data = b"".join(b"\x1b[200~%s\x1b[201~" % text.encode() for text in texts)
+    assert parser.parse(data) == [Paste(text) for text in texts]
+
+
+def test_events_are_values(parser):
+    first, second = parser.parse(b"qq")
+    assert (first, hash(first)) == (second, hash(second))
+    for event in [first, MouseEvent(1, 2), Paste("a"), Function(1), KeyCodeEncodeModes()]:
+        assert pickle.loads(pickle.dumps(event)) == event
+        with pytest.raises(AttributeError):
+            event.key = event.x = event.text = event.number = event.encoding = 1
+    assert first != KeyEvent("q", Modifiers.ALT)
+
+
+def test_reprs(parser):
+    events = parser.parse(b"\x1b[15;6~\x1b[<0;3;4M\x1b[200~a\x1b[201~")
+    assert [repr(event) for event in events] == [
+        "KeyEvent(key=Function(number=5), modifiers=Modifiers.SHIFT|CTRL)",
+        "MouseEvent(x=3, y=4, buttons=MouseButtons.LEFT, modifiers=Modifiers.NONE)",
+        "Paste(text='a')",
+    ]
+    assert (
+        f"{Waiting.ESCAPE!r} {Modifiers.ALT} {Modifiers(0)}"
+        == "Waiting.ESCAPE Modifiers.ALT Modifiers.NONE"
+    )
+    parser.feed(b"\x1b")
+    assert repr(parser) == f"<{type(parser).__name__}, 1 bytes are buffered>"
+    parser.close()
+    assert repr(parser) == f"<{type(parser).__name__}, closed>"
+
+
+def test_one_by_one(parser):
+    parser.feed(b"ab\x1b[")
+    assert parser.next_event() == KeyEvent("a")
+    assert parser.waiting_len == 3
+    assert parser.next_event(True) == KeyEvent("b")
+    assert parser.next_event() is None
+    assert parser.next_event(False) == KeyEvent("[", Modifiers.ALT)
+    assert parser.next_event(maybe_more=False) is None
+
+
+def test_iteration(parser):
+    parser.feed(b"ab\x1b")
+    events = iter(parser)
+    assert next(events) == KeyEvent("a")
+    parser.feed(b"[A")
+    assert list(events) == [KeyEvent("b"), KeyEvent(KeyCode.UP_ARROW)]
+    assert list(parser) == []
+
+
+def test_cuts(parser):
+    """However a stream is cut, in two or into pieces of any length, its events are the same."""
+    assert parser.parse(STREAM, False) == EVENTS
+    for place in range(len(STREAM) + 1):
+        assert (
+            parser.parse(STREAM[:place]) + parser.parse(STREAM[place:]) + parser.flush() == EVENTS
+        )
+    for piece in range(1, len(STREAM)):
+        events = []
+        for at in range(0, len(STREAM), piece):
+            parser.feed(STREAM[at : at + piece])
+            events += parser
+        assert events + parser.flush() == EVENTS
+    assert_rest(parser, 0, Waiting.NOTHING)
+
+
+def test_kinds_of_bytes(parser):
+    """Bytes are taken from each type that has them, and such a value may be changed at once."""
+    gaps = bytes(2 * len(STREAM))
+    array = bytearray(gaps)
+    array[::2] = STREAM
+    for data in [
+        bytearray(STREAM),
+        memoryview(STREAM),
+        memoryview(bytearray(STREAM)),
+        memoryview(b"xx" + STREAM + b"x")[2:-1],
+        memoryview(bytearray(b"xx" + STREAM + b"x"))[2:-1],
+        memoryview(array)[::2],
+        memoryview(bytearray(STREAM)).cast("b"),
+    ]:
+        assert parser.parse(data, False) == EVENTS
+    words = bytearray(b"\x1b[1;3Aab")
+    assert parser.parse(memoryview(words).cast("I")) == parser.parse(words)
+    parser.feed(words)
+    words.clear()
+    assert len(list(parser)) == 3
+    for empty in (b"", bytearray(), memoryview(b""), memoryview(bytearray(b"x"))[1:]):
+        assert parser.parse(empty) == []
+
+
+def test_many_keys(parser):
+    pair = [KeyEvent(KeyCode.UP_ARROW), KeyEvent("q")]
+    assert parser.parse(b"\x1b[Aq" * 35000) == pair * 35000
+    assert_rest(parser, 0, Waiting.NOTHING)
+
+
+def test_many_different_keys(parser):
+    text = "".join(map(chr, [*range(0xA0, 0xD800), *range(0xE000, 0x11000)]))
+    assert [event.key for event in parser.parse(text.encode())] == list(text)
+    # Of the events that were made, a bounded number is kept.
+    assert hedrugal._key_event.cache_info().currsize < 5000
+
+
+def test_a_long_paste(parser):
+    body = "0123456789abcdef" * 6400
+    assert len(body) == 102400
+    data = b"\x1b[200~" + body.encode() + b"\x1b[201~"
+    assert parser.parse(data) == [Paste(body)]
+    for at in range(0, len(data) - 1, 4096):
+        events = parser.parse(data[at : at + 4096])
+    assert events == [Paste(body)]
+
+
+# What stays buffered, and what becomes of it.
+
+
+def feed_rest(parser, rest, kind):
+    assert_rest(parser, 0, Waiting.NOTHING)
+    assert parser.parse(rest) == []
+    assert_rest(parser, len(rest), kind)
+
+
+def test_kinds_and_reset(parser):
+    for rest, kind in RESTS:
+        feed_rest(parser, rest, kind)
+        assert [parser.reset(), parser.reset()] == [len(rest), 0]
+        assert parser.parse(b"q") == [KeyEvent("q")]
+        for at in range(len(rest)):
+            assert parser.parse(rest[at : at + 1]) == []
+        assert_rest(parser, len(rest), kind)
+        parser.reset()
+
+
+def test_reset_forgets_events(parser):
+    parser.feed(b"ab\x1b[A\x1b[200~text\x1b[201~")
+    assert parser.next_event() == KeyEvent("a")
+    assert parser.reset() == 20
+    assert parser.flush() == []
+
+
+def test_flush(parser):
+    """After a flush nothing but an open paste stays."""
+    for rest, kind in RESTS:
+        feed_rest(parser, rest, kind)
+        events = parser.flush()
+        assert bool(events) == (kind not in (Waiting.NOTHING, Waiting.PASTE))
+        assert_rest(parser, *((len(rest), kind) if kind is Waiting.PASTE else (0, Waiting.NOTHING)))
+        parser.reset()
+
+
+def test_flush_escape(parser):
+    """ESC is Escape after a pause, ESC ESC is it with Alt, and nothing else is flushed."""
+    for rest, kind in RESTS:
+        feed_rest(parser, rest, kind)
+        wanted = {
+            b"\x1b": KeyEvent(KeyCode.ESCAPE),
+            b"\x1b\x1b": KeyEvent(KeyCode.ESCAPE, Modifiers.ALT),
+        }.get(rest)
+        assert parser.flush_escape() == wanted
+        assert_rest(parser, *((0, Waiting.NOTHING) if wanted else (len(rest), kind)))
+        parser.reset()
+    assert parser.parse(b"\x1b[1;5") == []
+    assert parser.flush_escape() is None
+    assert parser.parse(b"A") == [KeyEvent(KeyCode.UP_ARROW, Modifiers.CTRL)]
+    parser.feed(b"q\x1b")
+    assert parser.flush_escape() is None
+
+
+def test_end_paste(parser):
+    for body, text in [
+        (b"", ""),
+        (b"ab\n", "ab\n"),
+        (b"\xc3\xa9\xe2\x82", "é\ufffd"),
+        (b"ab\x1b[201", "ab\x1b[201"),
+    ]:
+        assert parser.parse(b"q\x1b[200~" + body) == [KeyEvent("q")]
+        assert parser.end_paste() == Paste(text)
+        assert_rest(parser, 0, Waiting.NOTHING)
+    assert parser.parse(b"c\x1b[201~") == [KeyEvent("c"), KeyEvent(KeyCode.INTERNAL_PASTE_END)]
+
+
+def test_end_paste_ends_open_pastes_alone(parser):
+    for rest, kind in RESTS:
+        if kind is not Waiting.PASTE:
+            feed_rest(parser, rest, kind)
+            assert parser.end_paste() is None
+            assert_rest(parser, len(rest), kind)
+            parser.reset()
+    parser.feed(b"\x1b[200~ab\x1b[201~\x1b[200~c")
+    assert parser.end_paste() is None
+    assert parser.waiting_len == 21
+    assert [parser.next_event(), parser.end_paste()] == [Paste("ab"), Paste("c")]
+
+
+def test_end_of_a_long_paste(parser):
+    body = ("0123456789abcdef\x1b[201" * 20000)[:300000]
+    parser.feed(b"\x1b[200~")
+    for at in range(0, len(body), 4000):
+        assert parser.parse(body[at : at + 4000].encode()) == []
+    assert_rest(parser, 300006, Waiting.PASTE)
+    assert parser.end_paste() == Paste(body)
+    assert_rest(parser, 0, Waiting.NOTHING)
+
+
+# Each call of a parser, but close. The calls on entries are those of an InputParser alone.
+ENTRY_USES = [
+    lambda parser: parser.entry(0),
+    lambda parser: next(parser.entries()),
+    lambda parser: parser.completions(),
+]
+USES = [
+    lambda parser: parser.feed(b"q"),
+    lambda parser: parser.feed(b""),
+    lambda parser: parser.parse(b"q"),
+    lambda parser: parser.parse(bytearray(b"q"), False),
+    lambda parser: parser.next_event(),
+    lambda parser: parser.next_event(False),
+    lambda parser: next(iter(parser)),
+    lambda parser: parser.flush(),
+    lambda parser: parser.flush_escape(),
+    lambda parser: parser.end_paste(),
+    lambda parser: parser.reset(),
+    lambda parser: parser.shrink_to(),
+    lambda parser: parser.waiting,
+    lambda parser: parser.waiting_len,
+    lambda parser: parser.is_paste_open,
+    lambda parser: parser.__enter__(),
+]
+
+
+def test_use_after_close(make):
+    parser = make()
+    assert parser.parse(b"q\x1b[200~ab") == [KeyEvent("q")]
+    events = iter(parser)
+    assert not parser.closed
+    for _ in range(2):
+        parser.close()
+        assert parser.closed
+        for use in USES + (ENTRY_USES if make is InputParser else []):
+            with pytest.raises(ValueError, match="^the parser is closed$"):
+                use(parser)
+    with pytest.raises(ValueError):
+        next(events)
+
+
+def test_with(make):
+    with pytest.raises(KeyError):
+        with make() as parser:
+            assert parser.parse(b"q") == [KeyEvent("q")]
+            raise KeyError
+    assert parser.closed
+
+
+def test_end_of_life(make):
+    parser = make()
+    raw, seen = parser._raw, weakref.ref(parser)
+    del parser
+    gc.collect()
+    assert seen() is None
+    assert not raw.live
+
+
+def test_parsers_are_apart(make):
+    one, other = make(), make()
+    one.feed(b"\x1b[200~a")
+    assert other.parse(b"q") == [KeyEvent("q")]
+    other.close()
+    assert one.parse(b"\x1b[201~") == [Paste("a")]
+    one.close()
+
+
+@pytest.mark.parametrize("copied", [copy.copy, copy.deepcopy, pickle.dumps])
+def test_no_copies(parser, copied):
+    with pytest.raises(TypeError, match="can't be copied"):
+        copied(parser)
+
+
+def test_wrong_bytes(parser):
+    for wrong in ("q", 65, None, [65], b"q"[0], object(), ctypes.create_string_buffer(b"q")):
+        for use in (parser.feed, parser.parse):
+            with pytest.raises(TypeError, match="is required, not"):
+                use(wrong)
+    released = memoryview(b"q")
+    released.release()
+    with pytest.raises(ValueError):
+        parser.feed(released)
+    assert_rest(parser, 0, Waiting.NOTHING)

@@ -1,0 +1,177 @@
+"""The recorded answers of termwiz 0.23.3, fed in every way that was recorded.
+rust/tests/recorded/README.md has their form."""
+import re
+
+import pytest
+
+from hedrugal import (
+    EncodeError,
+    Function,
+    InputParser,
+    KeyboardEncoding,
+    KeyCode,
+    KeyCodeEncodeModes,
+    KeyEvent,
+    Modifiers,
+    MouseButtons,
+    MouseEvent,
+    Paste,
+    encode,
+)
+from helpers import read
+
+# The keys by the names that they have there: UpArrow is KeyCode.UP_ARROW.
+KEYS = {key.name.title().replace("_", ""): key for key in KeyCode}
+
+
+def key_named(name):
+    if name.startswith("U+"):
+        return chr(int(name[2:], 16))
+    return Function(int(name[1:])) if re.fullmatch(r"F\d+", name) else KEYS[name]
+
+
+def set_named(flags, names):
+    held = flags.NONE
+    for name in names.split("+"):
+        held |= flags[name]
+    return held
+
+
+def event_of(line):
+    kind, *words = line.split(" ")
+    if kind == "key":
+        return KeyEvent(key_named(words[0]), set_named(Modifiers, words[1]))
+    if kind == "mouse":
+        x, y, buttons, modifiers = words
+        return MouseEvent(
+            int(x), int(y), set_named(MouseButtons, buttons), set_named(Modifiers, modifiers)
+        )
+    length, _, digits = words[0].partition(":")
+    text = bytes.fromhex(digits)
+    assert kind == "paste" and len(text) == int(length), line
+    return Paste(text.decode())
+
+
+def answer_of(text):
+    """The events and the bytes that stay buffered."""
+    events, _, rest = text.partition("; ")
+    lines = [] if text == "nothing" else [line for line in events.strip().split(",") if line]
+    return [event_of(line) for line in lines], bytes.fromhex(rest)
+
+
+def check_file(file, check_line):
+    """Checks each line by a call that returns how many comparisons it made. A second count tells
+    that no line was left out."""
+    text = read(f"rust/tests/recorded/{file}")
+    lines = [line for line in text.split("\n") if line and not line.startswith("#")]
+    for line in lines:
+        assert check_line(line) > 0, line
+    assert len(lines) == len(re.findall("^[^#\n]", text, flags=re.M)) > 300
+
+
+class Feeder:
+    def __init__(self, parser):
+        self.parser = parser
+
+    def check(self, pieces, more, wanted):
+        """Feeds pieces, the last with this flag, and compares all that they give."""
+        self.parser.reset()
+        *firsts, last = pieces
+        events = []
+        for piece in firsts:
+            self.parser.feed(piece)
+            events += self.parser
+        events += self.parser.parse(last, more)
+        fed = b"".join(pieces)
+        assert (events, fed[len(fed) - self.parser.waiting_len :]) == wanted, pieces
+        return 1
+
+    def check_text(self, text, wanted):
+        """Feeds a text whole, cut in two at each place, each with and without a flush, and byte by
+        byte."""
+        count = self.check([text], False, wanted) + self.check([text, b""], False, wanted)
+        for place in range(1, len(text)):
+            count += self.check([text[:place], text[place:]], False, wanted)
+            count += self.check([text[:place], text[place:], b""], False, wanted)
+        return count + self.check(
+            [*(text[at : at + 1] for at in range(len(text))), b""], False, wanted
+        )
+
+    def check_steps(self, steps, answers):
+        """Feeds texts one after another, each with a flag, and compares what each gives."""
+        assert len(steps) == len(answers)
+        self.parser.reset()
+        fed = b""
+        for step, answer in zip(steps, answers):
+            data = bytes.fromhex(step[1:])
+            fed += data
+            events = self.parser.parse(data, step[0] == "+")
+            assert (events, fed[len(fed) - self.parser.waiting_len :]) == answer_of(answer), fed
+        return len(steps)
+
+    def check_rows(self, line):
+        """`ROW,ROW,.. = NEXT = ALONE = AFTER ESC = BEFORE NEXT`."""
+        rows, after, *answers = line.split(" = ")
+        answers = [None if answer == "-" else answer_of(answer) for answer in answers]
+        assert len(answers) == 3
+        count = 0
+        for row in map(bytes.fromhex, rows.split(",")):
+            for text, wanted in zip([row, b"\x1b" + row, row + bytes.fromhex(after)], answers):
+                if wanted is not None:
+                    count += self.check_text(text, wanted)
+            for length in range(1, len(row)):
+                for beginning in (row[:length], b"\x1b" + row[:length]):
+                    count += self.check([beginning], True, ([], beginning))
+        return count
+
+    def check_line(self, line):
+        asked, answers = line.split(" = ", 1)
+        if asked.startswith("*"):
+            return self.check_text(bytes.fromhex(asked[1:]), answer_of(answers))
+        if asked.startswith(("+", "-")):
+            return self.check_steps(asked.split(" "), answers.split(" | "))
+        return self.check_rows(line)
+
+
+@pytest.mark.parametrize("file", ["parse-rows.txt", "parse-cases.txt", "rules.txt"])
+def test_events(file):
+    """The answers of rules.txt weren't recorded, but written down from docs/GRAMMAR.md."""
+    with InputParser() as parser:
+        check_file(file, Feeder(parser).check_line)
+
+
+def check_encoding(key, modifiers, mode, text):
+    modes = KeyCodeEncodeModes(
+        encoding=KeyboardEncoding.CSI_U if mode & 16 else KeyboardEncoding.XTERM,
+        application_cursor_keys=bool(mode & 1),
+        newline_mode=bool(mode & 2),
+        modify_other_keys=[None, 0, 1, 2][mode >> 2 & 3],
+    )
+    assert encode(key, modifiers, modes, is_down=False) == b""
+    if text == "refused":
+        with pytest.raises(EncodeError):
+            encode(key, modifiers, modes)
+    else:
+        wanted = b"" if text == "-" else bytes.fromhex(text)
+        assert encode(key, modifiers, modes) == wanted, (key, modifiers, mode)
+
+
+def check_keys(line):
+    """`KEY,.. MODIFIERS,.. = TEXT@MODES ..`: in all 32 modes if none is named."""
+    asked, texts = line.split(" = ")
+    keys, sets = (names.split(",") for names in asked.split(" "))
+    for key in map(key_named, keys):
+        for modifiers in [set_named(Modifiers, names) for names in sets]:
+            seen = 0
+            for text in texts.split(" "):
+                text, _, mask = text.partition("@")
+                mask = int(mask or "ffffffff", 16)
+                for mode in (it for it in range(32) if mask >> it & 1):
+                    check_encoding(key, modifiers, mode, text)
+                seen |= mask
+            assert seen == 0xFFFFFFFF
+    return len(keys) * len(sets)
+
+
+def test_encodings():
+    check_file("encode.txt", check_keys)
