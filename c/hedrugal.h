@@ -35,8 +35,8 @@
  *
  * The caller owns all memory that it passes. The library keeps no pointer to it, and reads and writes nothing else of the caller's. A call
  * with a const pointer to a parser or a map changes neither the struct nor what it leads to, but for the number of parsers that share its
- * table. What a parser or a map owns it gets from malloc and realloc, and hed_parser_free, hed_extended_free or hed_keymap_free frees it. That
- * what it owns may pass from thread to thread is proved.
+ * table. What a parser or a map owns it gets from malloc and realloc, and hed_parser_free, hed_extended_free or hed_keymap_free frees it.
+ * That what it owns may pass from thread to thread is proved.
  *
  * The library is built for Linux on x86-64, and so are its layouts: for anything else this header doesn't compile. The numbers are those
  * of c/numbers.txt, and a number never changes its meaning. */
@@ -75,13 +75,23 @@ typedef struct hed_parser {
 /* The value of a hed_parser that is none. */
 #define HED_PARSER_NONE { false, NULL }
 
-/* The kinds of events: the field kind of a hed_event. */
+/* The kinds of events: the field kind of a hed_event, which has none but the first four, and of a hed_extended_event. */
 enum hed_kind {
   /* numbers.txt: kind c */
   HED_KIND_OTHER = 0, /* None of these. No event has this kind. */
-  HED_KIND_KEY = 1, /* A key was pressed. */
+  HED_KIND_KEY = 1, /* A key was pressed: an entry of the sequence table, or a character. */
   HED_KIND_MOUSE = 2, /* The mouse was moved, one of its buttons was pressed or released, or a wheel was turned. */
-  HED_KIND_PASTE = 3 /* Text was pasted, in bracketed paste mode. */
+  HED_KIND_PASTE = 3, /* Text was pasted, in bracketed paste mode. */
+  HED_KIND_REPORT = 4, /* A key report: a key was pressed, held down or released. */
+  HED_KIND_FOCUS_GAINED = 5, /* The terminal's window gained the focus (mode 1004). */
+  HED_KIND_FOCUS_LOST = 6, /* The terminal's window lost the focus. */
+  HED_KIND_CURSOR_POSITION = 7, /* The reply to a question for the cursor's position. */
+  HED_KIND_RESIZE = 8, /* The terminal has a new size (mode 2048). */
+  HED_KIND_KEYBOARD_FLAGS = 9, /* The reply to a question for the flags of Kitty's keyboard protocol. */
+  HED_KIND_CSI = 10, /* Any other control sequence. */
+  HED_KIND_OSC = 11, /* An operating system command, such as the reply to a question for a colour. */
+  HED_KIND_DCS = 12, /* A device control string, such as the reply to a question for the terminal's name and version. */
+  HED_KIND_APC = 13 /* An application program command, such as a reply of Kitty's graphics protocol. */
   /* numbers.txt: end */
 };
 
@@ -139,7 +149,8 @@ bool hed_parser_feed(hed_parser *parser, const uint8_t *bytes, size_t len);
  * stay buffered. After a pause call hed_parser_flush_escape instead. Pass more as false at the end of the input: then only an open paste
  * stays. Before the end this breaks a sequence or a character of which the rest is still to come.
  *
- * Returns an enum hed_next. *event is written only with HED_NEXT_EVENT. With HED_NEXT_NO_MEMORY, which only a paste can meet, nothing changed. */
+ * Returns an enum hed_next. *event is written only with HED_NEXT_EVENT. With HED_NEXT_NO_MEMORY, which only a paste can meet, nothing
+ * changed. */
 uint32_t hed_parser_next(hed_parser *parser, bool more, hed_event *event);
 
 /* Copies the text of the last HED_KIND_PASTE to out, at most len bytes of it. The text is UTF-8 without a final 0. The rest of out is
@@ -149,12 +160,12 @@ uint32_t hed_parser_next(hed_parser *parser, bool more, hed_event *event);
  * the text until the next HED_KIND_PASTE or hed_parser_drop_paste. Returns 0 if there is no such text, or if there is no parser. */
 size_t hed_parser_paste(const hed_parser *parser, uint8_t *out, size_t len);
 
-/* Frees the text of the last HED_KIND_PASTE: hed_parser_paste returns 0 until the next. The caller calls it once it has copied a text that is
- * too long to be kept. If there is no text or no parser, it does nothing. */
+/* Frees the text of the last HED_KIND_PASTE: hed_parser_paste returns 0 until the next. The caller calls it once it has copied a text that
+ * is too long to be kept. If there is no text or no parser, it does nothing. */
 void hed_parser_drop_paste(hed_parser *parser);
 
-/* Frees memory that holds nothing, of the buffer and of the text of the last HED_KIND_PASTE. The buffer keeps its room for min_capacity bytes, if
- * it has that. What is buffered, that text and all later events are unchanged. A session that is quiet after a long paste calls
+/* Frees memory that holds nothing, of the buffer and of the text of the last HED_KIND_PASTE. The buffer keeps its room for min_capacity
+ * bytes, if it has that. What is buffered, that text and all later events are unchanged. A session that is quiet after a long paste calls
  * hed_parser_drop_paste, and this with 0. If the smaller memory is refused, the larger is kept. If there is no parser, it does nothing. */
 void hed_parser_shrink_to(hed_parser *parser, size_t min_capacity);
 
@@ -180,11 +191,12 @@ enum hed_waiting {
  * Returns HED_WAITING_NOTHING if there is no parser. */
 uint32_t hed_parser_waiting(const hed_parser *parser);
 
-/* Writes the Escape key to *event if ESC alone is buffered, with HED_TERMWIZ_MOD_ALT if ESC ESC is, and consumes it. The caller calls it when
- * some 50 ms have passed without a byte. Whatever else is buffered stays, so a pause breaks only what is cut right after its ESC or
+/* Writes the Escape key to *event if ESC alone is buffered, with HED_TERMWIZ_MOD_ALT if ESC ESC is, and consumes it. The caller calls it
+ * when some 50 ms have passed without a byte. Whatever else is buffered stays, so a pause breaks only what is cut right after its ESC or
  * ESC ESC: a sequence, the start of a paste, or a key with Alt.
  *
- * Returns HED_NEXT_EVENT, HED_NEXT_NONE if anything else or nothing is buffered, or HED_NEXT_NO_PARSER. *event is written only with HED_NEXT_EVENT. */
+ * Returns HED_NEXT_EVENT, HED_NEXT_NONE if anything else or nothing is buffered, or HED_NEXT_NO_PARSER. *event is written only with
+ * HED_NEXT_EVENT. */
 uint32_t hed_parser_flush_escape(hed_parser *parser, hed_event *event);
 
 /* Returns whether the buffer begins with the start of a paste. Such a paste is buffered without limit until its end arrives: a caller
@@ -195,8 +207,8 @@ bool hed_parser_is_paste_open(const hed_parser *parser);
  * hed_parser_paste copies the text. The rest of the paste then arrives as typed keys, Enter included, and its end as
  * HED_KEY_INTERNAL_PASTE_END; if the text ended inside that, the rest of it is typed keys too.
  *
- * Returns HED_NEXT_EVENT, HED_NEXT_NONE if no paste is open, HED_NEXT_NO_MEMORY, or HED_NEXT_NO_PARSER. *event is written only with HED_NEXT_EVENT. With HED_NEXT_NO_MEMORY
- * nothing changed, and the call may be made again. */
+ * Returns HED_NEXT_EVENT, HED_NEXT_NONE if no paste is open, HED_NEXT_NO_MEMORY, or HED_NEXT_NO_PARSER. *event is written only with
+ * HED_NEXT_EVENT. With HED_NEXT_NO_MEMORY nothing changed, and the call may be made again. */
 uint32_t hed_parser_end_paste(hed_parser *parser, hed_event *event);
 
 /* Forgets all that is buffered, an open paste too: the next byte that is fed comes first. The caller calls it where earlier bytes no
@@ -205,9 +217,10 @@ uint32_t hed_parser_end_paste(hed_parser *parser, hed_event *event);
  * Returns the number of bytes that were buffered, 0 if there is no parser. */
 size_t hed_parser_reset(hed_parser *parser);
 
-/* The modifier keys, as bits of a set: the field modifiers of a hed_event, and what hed_encode is given. */
+/* The modifiers by termwiz's bits, as a set: the field modifiers of a hed_event, and what hed_encode is given. A hed_key_report has others,
+ * those of enum hed_kitty_mod. */
 enum hed_termwiz_mod {
-  /* numbers.txt: modifier c */
+  /* numbers.txt: termwiz_mod c */
   HED_TERMWIZ_MOD_NONE = 0, /* No modifier. */
   HED_TERMWIZ_MOD_SHIFT = 2, /* Shift. */
   HED_TERMWIZ_MOD_ALT = 4, /* Alt. */
@@ -351,7 +364,7 @@ enum hed_encoding {
 
 /* The flags of kitty's keyboard protocol, as bits of a set: the field kitty_flags of a hed_modes, and what hed_encode_kitty is given. */
 enum hed_kitty_flag {
-  /* numbers.txt: kitty c */
+  /* numbers.txt: kitty_flag c */
   HED_KITTY_FLAG_NONE = 0, /* Nothing is asked for. */
   HED_KITTY_FLAG_DISAMBIGUATE_ESCAPE_CODES = 1, /* Keys whose plain text is ambiguous, as that of Escape, are reported as escape codes. */
   HED_KITTY_FLAG_REPORT_EVENT_TYPES = 2, /* Repeats and releases of a key are reported, and not presses alone. */
@@ -365,7 +378,7 @@ enum hed_kitty_flag {
 typedef struct hed_modes {
   int64_t modify_other_keys;    /* the level of xterm's modifyOtherKeys; not read if has_modify_other_keys is false */
   uint8_t encoding;             /* an enum hed_encoding */
-  uint8_t kitty_flags;          /* a set of HED_KITTY_..; read only with HED_ENCODING_KITTY */
+  uint8_t kitty_flags;          /* a set of HED_KITTY_FLAG_..; read only with HED_ENCODING_KITTY */
   bool application_cursor_keys; /* the arrows, Home and End send ESC O in place of ESC [ (DECCKM) */
   bool newline_mode;            /* Enter sends a line feed after the carriage return (LNM) */
   bool has_modify_other_keys;   /* modifyOtherKeys is on, at the level above */
@@ -386,42 +399,43 @@ enum hed_encoded {
 /* Writes the text that a terminal in these modes sends for a key to out, and its length to *text_len. The text is UTF-8
  * without a final 0. It is empty for a key that sends nothing, and for every key that is up (is_down is false), which needs no memory.
  *
- * The key is an enum hed_key. detail is its code point if it is HED_KEY_CHAR, its number if it is HED_KEY_FUNCTION, and isn't read for other
- * keys. modifiers is a set of HED_TERMWIZ_MOD_...
+ * The key is an enum hed_key. detail is its code point if it is HED_KEY_CHAR, its number if it is HED_KEY_FUNCTION, and isn't read for
+ * other keys. modifiers is a set of HED_TERMWIZ_MOD_...
  *
- * Returns an enum hed_encoded. With HED_ENCODED_TEXT *text_len is the length of the whole text, and out has as much of it as len bytes hold: if
- * *text_len is above len, call again with more room. The rest of out is unchanged. Otherwise *text_len is 0 and out is unchanged:
- * HED_ENCODED_REFUSED_KEY for a function key, down, that isn't one of F1 to F24; HED_ENCODED_REFUSED_MEMORY if memory was refused; HED_ENCODED_BAD_NUMBER if no key has
- * the number, if detail is no Unicode scalar value or above 255, or if modifiers, encoding or (with HED_ENCODING_KITTY) kitty_flags have a value
- * or a bit without a name. */
+ * Returns an enum hed_encoded. With HED_ENCODED_TEXT *text_len is the length of the whole text, and out has as much of it as len bytes
+ * hold: if *text_len is above len, call again with more room. The rest of out is unchanged. Otherwise *text_len is 0 and out is unchanged:
+ * HED_ENCODED_REFUSED_KEY for a function key, down, that isn't one of F1 to F24; HED_ENCODED_REFUSED_MEMORY if memory was refused;
+ * HED_ENCODED_BAD_NUMBER if no key has the number, if detail is no Unicode scalar value or above 255, or if modifiers, encoding or (with
+ * HED_ENCODING_KITTY) kitty_flags have a value or a bit without a name. */
 uint32_t hed_encode(uint16_t key, uint32_t detail, uint16_t modifiers, bool is_down, const hed_modes *modes, uint8_t *out, size_t len,
-                   size_t *text_len);
+                    size_t *text_len);
 
-/* The sequence table, which each parser has: the rows are in the order of their bytes, and the first place is 0. */
-#define HED_ENTRY_COUNT 2937 /* how many rows there are */
+/* The sequence table, which each parser has: the entries are in the order of their bytes, and the first place is 0. */
+#define HED_ENTRY_COUNT 2937 /* how many entries there are */
 #define HED_ENTRY_MOST 11    /* the length of the longest */
 
-/* Tells the row at a place: the bytes of a sequence, and its key. Writes as many of the bytes as capacity says, and the key to *event, a
- * HED_KIND_KEY. The start and the end of a paste are rows too, with the keys HED_KEY_INTERNAL_PASTE_START and HED_KEY_INTERNAL_PASTE_END.
+/* Tells the entry at a place: the bytes of a sequence, and its key. Writes as many of the bytes as capacity says, and the key to *event, a
+ * HED_KIND_KEY. The start and the end of a paste are entries too, with the keys HED_KEY_INTERNAL_PASTE_START and
+ * HED_KEY_INTERNAL_PASTE_END.
  *
- * Returns how many bytes the row has, 0 if place isn't below HED_ENTRY_COUNT or there is no parser; then nothing is written. The parser is
- * unchanged, and no memory is needed. */
+ * Returns how many bytes the entry has, 0 if place isn't below HED_ENTRY_COUNT or there is no parser; then nothing is written. The parser
+ * is unchanged, and no memory is needed. */
 size_t hed_parser_entry(const hed_parser *parser, size_t place, uint8_t *bytes, size_t capacity, hed_event *event);
 
-/* Some rows of the table, one after another. */
+/* Some entries of the table, one after another. */
 typedef struct hed_entries {
   size_t first;  /* the place of the first */
   size_t count;  /* how many there are */
   bool with_alt; /* whether their keys get HED_TERMWIZ_MOD_ALT */
 } hed_entries;
 
-/* Tells which rows would complete what stays buffered: those that begin with it and are longer. If there are none, those that begin with
- * what follows its ESC, and with_alt is true. Ask while hed_parser_waiting is HED_WAITING_ESCAPE or HED_WAITING_SEQUENCE. A mouse
- * report and a character aren't rows, and after an ESC any character follows as a key with HED_TERMWIZ_MOD_ALT. Only the start of a paste gets no
- * modifier after ESC: that ESC is the Escape key.
+/* Tells which entries would complete what stays buffered: those that begin with it and are longer. If there are none, those that begin
+ * with what follows its ESC, and with_alt is true. Ask while hed_parser_waiting is HED_WAITING_ESCAPE or HED_WAITING_SEQUENCE. A mouse
+ * report and a character aren't entries, and after an ESC any character follows as a key with HED_TERMWIZ_MOD_ALT. Only the start of a
+ * paste gets no modifier after ESC: that ESC is the Escape key.
  *
- * Returns false if there is no parser, and *rows isn't written. The parser is unchanged, and no memory is needed. */
-bool hed_parser_completions(const hed_parser *parser, hed_entries *rows);
+ * Returns false if there is no parser, and *entries isn't written. The parser is unchanged, and no memory is needed. */
+bool hed_parser_completions(const hed_parser *parser, hed_entries *entries);
 
 /* A map from byte strings to numbers, or none. Its fields are the library's, and it may be moved as a hed_parser may. A program keeps its
  * key bindings in one: the bytes of each, and the number of what it does. */
@@ -486,46 +500,28 @@ typedef struct hed_extended {
 /* The value of a hed_extended that is none. */
 #define HED_EXTENDED_NONE { false, NULL }
 
-/* How the rows of the sequence table are read: what hed_extended_init is given. */
+/* The keyboard protocol that the program turned on, which says how the entries of the sequence table are read: what hed_extended_init is
+ * given. */
 enum hed_protocol {
-  /* numbers.txt: rows c */
-  HED_PROTOCOL_LEGACY = 0, /* Each row keeps its key. For programs that leave Kitty's keyboard protocol off. */
-  HED_PROTOCOL_KITTY = 1 /* A row that reports a key or the cursor's position is read as that report. For programs that turn the protocol on. */
+  /* numbers.txt: protocol c */
+  HED_PROTOCOL_LEGACY = 0, /* For programs that leave Kitty's keyboard protocol off: each entry keeps its key. */
+  HED_PROTOCOL_KITTY = 1 /* For programs that turn it on: an entry that reports a key or the cursor's position is read as that report. */
   /* numbers.txt: end */
 };
 
-/* The kinds of events of the extended parser: the field kind of a hed_extended_event. The first four are those of enum hed_kind. */
-enum hed_kind {
-  /* numbers.txt: event c */
-  HED_KIND_OTHER = 0, /* None of these. No event has this kind. */
-  HED_KIND_KEY = 1, /* A key was pressed: a row of the sequence table, or a character. */
-  HED_KIND_MOUSE = 2, /* The mouse was moved, one of its buttons was pressed or released, or a wheel was turned. */
-  HED_KIND_PASTE = 3, /* Text was pasted, in bracketed paste mode. */
-  HED_KIND_REPORT = 4, /* A key report: a key was pressed, held down or released. */
-  HED_KIND_FOCUS_GAINED = 5, /* The terminal's window gained the focus (mode 1004). */
-  HED_KIND_FOCUS_LOST = 6, /* The terminal's window lost the focus. */
-  HED_KIND_CURSOR_POSITION = 7, /* The reply to a question for the cursor's position. */
-  HED_KIND_RESIZE = 8, /* The terminal has a new size (mode 2048). */
-  HED_KIND_KEYBOARD_FLAGS = 9, /* The reply to a question for the flags of Kitty's keyboard protocol. */
-  HED_KIND_CSI = 10, /* Any other control sequence. */
-  HED_KIND_OSC = 11, /* An operating system command, such as the reply to a question for a colour. */
-  HED_KIND_DCS = 12, /* A device control string, such as the reply to a question for the terminal's name and version. */
-  HED_KIND_APC = 13 /* An application program command, such as a reply of Kitty's graphics protocol. */
-  /* numbers.txt: end */
-};
-
-/* What happened to a key: the field action of a hed_key_report. */
+/* What happened to a key: the field kind of a hed_key_report. */
 enum hed_key_event_kind {
-  /* numbers.txt: action c */
+  /* numbers.txt: key_event_kind c */
   HED_KEY_EVENT_KIND_PRESS = 1, /* It was pressed. */
   HED_KEY_EVENT_KIND_REPEAT = 2, /* It was held down so long that it repeats. */
   HED_KEY_EVENT_KIND_RELEASE = 3 /* It was released. */
   /* numbers.txt: end */
 };
 
-/* The modifiers of a key report, by Kitty's bits. */
+/* The modifiers by Kitty's bits, as a set: the field modifiers of a hed_key_report. A hed_event has others, those of enum
+ * hed_termwiz_mod. */
 enum hed_kitty_mod {
-  /* numbers.txt: held c */
+  /* numbers.txt: kitty_mod c */
   HED_KITTY_MOD_NONE = 0, /* No modifier. */
   HED_KITTY_MOD_SHIFT = 1, /* Shift. */
   HED_KITTY_MOD_ALT = 2, /* Alt. */
@@ -543,44 +539,45 @@ enum hed_kitty_mod {
 
 /* A key, what happened to it, and what the terminal reported of it. */
 typedef struct hed_key_report {
-  uint8_t action;    /* an enum hed_key_event_kind */
+  uint8_t kind;      /* an enum hed_key_event_kind */
   uint8_t modifiers; /* a set of HED_KITTY_MOD_.. */
   uint16_t key;      /* an enum hed_key, or 0 for a key that has no name there */
-  uint32_t detail;   /* the code point with HED_KEY_CHAR, the number with HED_KEY_FUNCTION, with key 0 the number in Kitty's table of keys */
+  uint32_t detail;   /* the code point with HED_KEY_CHAR, the number with HED_KEY_FUNCTION, with key 0 that of Kitty's table of keys */
   uint32_t shifted;  /* the code point that the key types with Shift, or HED_NO_CODE */
   uint32_t base;     /* the code point that the key at this place types on the standard layout (PC-101), or HED_NO_CODE */
 } hed_key_report;
 
 /* An event of the extended parser. What its kind has no use for is 0. */
 typedef struct hed_extended_event {
-  uint8_t kind;         /* an enum hed_kind */
-  uint8_t flags;        /* HED_KIND_KEYBOARD_FLAGS: a set of HED_KITTY_.. */
-  uint16_t row;         /* HED_KIND_CURSOR_POSITION: the row, as the terminal sent it: the topmost is 1 */
-  uint16_t column;      /* HED_KIND_CURSOR_POSITION: the column, as the terminal sent it: the leftmost is 1 */
-  uint16_t rows;        /* HED_KIND_RESIZE: the number of rows */
-  uint16_t columns;     /* HED_KIND_RESIZE: the number of columns */
-  uint16_t height;      /* HED_KIND_RESIZE: the height in pixels */
-  uint16_t width;       /* HED_KIND_RESIZE: the width in pixels */
+  uint8_t kind;          /* an enum hed_kind */
+  uint8_t flags;         /* HED_KIND_KEYBOARD_FLAGS: a set of HED_KITTY_FLAG_.. */
+  uint16_t row;          /* HED_KIND_CURSOR_POSITION: the row, as the terminal sent it: the topmost is 1 */
+  uint16_t column;       /* HED_KIND_CURSOR_POSITION: the column, as the terminal sent it: the leftmost is 1 */
+  uint16_t rows;         /* HED_KIND_RESIZE: the number of rows */
+  uint16_t columns;      /* HED_KIND_RESIZE: the number of columns */
+  uint16_t height;       /* HED_KIND_RESIZE: the height in pixels */
+  uint16_t width;        /* HED_KIND_RESIZE: the width in pixels */
   hed_key_report report; /* HED_KIND_REPORT: the report; HED_KIND_KEY: the same key as a press, so that a program needs one case for both */
   hed_event input;       /* HED_KIND_KEY, HED_KIND_MOUSE, HED_KIND_PASTE: the event as hed_parser_next writes it */
-  size_t text_len;      /* the number of bytes that the event brought, which hed_extended_text copies: see there */
+  size_t text_len;       /* the number of bytes that the event brought, which hed_extended_text copies: see there */
 } hed_extended_event;
 
-/* Makes an extended parser with an empty buffer. If there was one, it is freed. The caller owes a hed_extended_free. Pass HED_PROTOCOL_KITTY
- * if the program turns Kitty's keyboard protocol on, and HED_PROTOCOL_LEGACY otherwise. It costs what a hed_parser costs.
+/* Makes an extended parser with an empty buffer. If there was one, it is freed. The caller owes a hed_extended_free. Pass
+ * HED_PROTOCOL_KITTY if the program turns Kitty's keyboard protocol on, and HED_PROTOCOL_LEGACY otherwise. It costs what a hed_parser
+ * costs.
  *
- * Returns false if memory is refused or rows is no enum hed_protocol: then the parser is unchanged. */
-bool hed_extended_init(hed_extended *parser, uint32_t rows);
+ * Returns false if memory is refused or protocol is no enum hed_protocol: then the parser is unchanged. */
+bool hed_extended_init(hed_extended *parser, uint32_t protocol);
 
-/* Makes an extended parser with an empty buffer that shares the table of another, as hed_parser_init_sharing does. The two may read the rows
- * in different ways.
+/* Makes an extended parser with an empty buffer that shares the table of another, as hed_parser_init_sharing does. The two may be for
+ * different protocols.
  *
- * Returns false if memory is refused, rows is no enum hed_protocol, or there is no other parser. Then the parser is unchanged. The other
- * is unchanged in any case. */
-bool hed_extended_init_sharing(hed_extended *parser, uint32_t rows, const hed_extended *other);
+ * Returns false if memory is refused, protocol is no enum hed_protocol, or there is no other parser. Then the parser is unchanged. The
+ * other is unchanged in any case. */
+bool hed_extended_init_sharing(hed_extended *parser, uint32_t protocol, const hed_extended *other);
 
 /* The same from a parser of the other kind: a program with both kinds needs one table. */
-bool hed_extended_init_sharing_parser(hed_extended *parser, uint32_t rows, const hed_parser *other);
+bool hed_extended_init_sharing_parser(hed_extended *parser, uint32_t protocol, const hed_parser *other);
 
 /* Makes a parser that shares the table of an extended parser, as hed_parser_init_sharing does from a parser. */
 bool hed_parser_init_sharing_extended(hed_parser *parser, const hed_extended *other);
@@ -594,11 +591,11 @@ void hed_extended_free(hed_extended *parser);
  * no parser. A call without bytes needs no memory. */
 bool hed_extended_feed(hed_extended *parser, const uint8_t *bytes, size_t len);
 
-/* Consumes the item at the front of the buffer, and writes its event to *event. The caller calls this until it returns HED_NEXT_NONE, and passes
- * more as to hed_parser_next.
+/* Consumes the item at the front of the buffer, and writes its event to *event. The caller calls this until it returns HED_NEXT_NONE, and
+ * passes more as to hed_parser_next.
  *
- * Returns an enum hed_next. *event is written only with HED_NEXT_EVENT. HED_NEXT_NO_MEMORY comes only if a paste or an extra sequence is at the
- * front. Then nothing changed. */
+ * Returns an enum hed_next. *event is written only with HED_NEXT_EVENT. HED_NEXT_NO_MEMORY comes only if a paste or an extra sequence is at
+ * the front. Then nothing changed. */
 uint32_t hed_extended_next(hed_extended *parser, bool more, hed_extended_event *event);
 
 /* Copies the bytes of the last event that brought some to out, at most len of them. A HED_KIND_PASTE brings its text. A HED_KIND_REPORT
@@ -616,17 +613,19 @@ void hed_extended_drop_text(hed_extended *parser);
 /* Frees memory that holds nothing, of the buffer and of these bytes, as hed_parser_shrink_to does. */
 void hed_extended_shrink_to(hed_extended *parser, size_t min_capacity);
 
-/* Returns the number of bytes that are buffered, 0 if there is no parser. Once hed_extended_next returned HED_NEXT_NONE, it is at most 65536, or
- * the buffer begins with the start of a paste. */
+/* Returns the number of bytes that are buffered, 0 if there is no parser. Once hed_extended_next returned HED_NEXT_NONE, it is at most
+ * 65536, or the buffer begins with the start of a paste. */
 size_t hed_extended_waiting_len(const hed_extended *parser);
 
 /* Returns what stays buffered, an enum hed_waiting, as hed_parser_waiting does. The beginning of a control sequence or of a string is a
  * HED_WAITING_SEQUENCE. */
 uint32_t hed_extended_waiting(const hed_extended *parser);
 
-/* Writes the Escape key to *event if ESC alone is buffered, with HED_TERMWIZ_MOD_ALT if ESC ESC is, and consumes it, as hed_parser_flush_escape does.
+/* Writes the Escape key to *event if ESC alone is buffered, with HED_TERMWIZ_MOD_ALT if ESC ESC is, and consumes it, as
+ * hed_parser_flush_escape does.
  *
- * Returns HED_NEXT_EVENT, HED_NEXT_NONE if anything else or nothing is buffered, or HED_NEXT_NO_PARSER. *event is written only with HED_NEXT_EVENT. */
+ * Returns HED_NEXT_EVENT, HED_NEXT_NONE if anything else or nothing is buffered, or HED_NEXT_NO_PARSER. *event is written only with
+ * HED_NEXT_EVENT. */
 uint32_t hed_extended_flush_escape(hed_extended *parser, hed_extended_event *event);
 
 /* Returns whether the buffer begins with the start of a paste, which is buffered without limit until its end arrives. Returns false if
@@ -635,8 +634,8 @@ bool hed_extended_is_paste_open(const hed_extended *parser);
 
 /* Ends an open paste where it is, as hed_parser_end_paste does: the event is a HED_KIND_PASTE, whose text is what came so far.
  *
- * Returns HED_NEXT_EVENT, HED_NEXT_NONE if no paste is open, HED_NEXT_NO_MEMORY, or HED_NEXT_NO_PARSER. *event is written only with HED_NEXT_EVENT. With HED_NEXT_NO_MEMORY
- * nothing changed, and the call may be made again. */
+ * Returns HED_NEXT_EVENT, HED_NEXT_NONE if no paste is open, HED_NEXT_NO_MEMORY, or HED_NEXT_NO_PARSER. *event is written only with
+ * HED_NEXT_EVENT. With HED_NEXT_NO_MEMORY nothing changed, and the call may be made again. */
 uint32_t hed_extended_end_paste(hed_extended *parser, hed_extended_event *event);
 
 /* Forgets all that is buffered, an open paste too. The bytes of the last event are kept, and no memory is freed.
@@ -644,25 +643,27 @@ uint32_t hed_extended_end_paste(hed_extended *parser, hed_extended_event *event)
  * Returns the number of bytes that were buffered, 0 if there is no parser. */
 size_t hed_extended_reset(hed_extended *parser);
 
-/* Writes what a terminal sends for a key to out, and the number of these bytes to *sent_len, if the program asked for these flags of Kitty's
- * keyboard protocol: the other way from a HED_KIND_REPORT. A terminal or a multiplexer calls it. The bytes are UTF-8 without a final 0. There
- * are none for a key that isn't sent, such as a release without HED_KITTY_FLAG_REPORT_EVENT_TYPES. The rules are those of Kitty's page "Comprehensive
- * keyboard handling in terminals" (https://sw.kovidgoyal.net/kitty/keyboard-protocol/), as "Keys to bytes" of docs/EXTENDED.md lists them. If
- * flags has neither HED_KITTY_FLAG_DISAMBIGUATE_ESCAPE_CODES nor HED_KITTY_FLAG_REPORT_ALL_KEYS_AS_ESCAPE_CODES, that is what terminals sent before the
- * protocol: a control character for a letter with HED_KITTY_MOD_CTRL, and the key's report for what has no such text.
+/* Writes what a terminal sends for a key to out, and the number of these bytes to *sent_len, if the program asked for these flags of
+ * Kitty's keyboard protocol: the other way from a HED_KIND_REPORT. A terminal or a multiplexer calls it. The bytes are UTF-8 without a
+ * final 0. There are none for a key that isn't sent, such as a release without HED_KITTY_FLAG_REPORT_EVENT_TYPES. The rules are those of
+ * Kitty's page "Comprehensive keyboard handling in terminals" (https://sw.kovidgoyal.net/kitty/keyboard-protocol/), as "Keys to bytes" of
+ * docs/EXTENDED.md lists them. If flags has neither HED_KITTY_FLAG_DISAMBIGUATE_ESCAPE_CODES nor
+ * HED_KITTY_FLAG_REPORT_ALL_KEYS_AS_ESCAPE_CODES, that is what terminals sent before the protocol: a control character for a letter with
+ * HED_KITTY_MOD_CTRL, and the key's report for what has no such text.
  *
- * report has the key as hed_extended_next writes it, and detail isn't read for a key that has none. text is what the key types, text_len bytes
- * of UTF-8, or nothing if that isn't known; a text with control characters counts as none. flags is a set of HED_KITTY_... What no flag asks
- * for isn't sent.
+ * report has the key as hed_extended_next writes it, and detail isn't read for a key that has none. text is what the key types, text_len
+ * bytes of UTF-8, or nothing if that isn't known; a text with control characters counts as none. flags is a set of HED_KITTY_FLAG_... What
+ * no flag asks for isn't sent.
  *
- * Returns an enum hed_encoded. With HED_ENCODED_TEXT *sent_len is the number of all these bytes, and out has as many of them as len says: if *sent_len
- * is above len, call again with more room. The rest of out is unchanged. A sequence has at most 256 bytes; a key that is sent as its text
- * alone may have more. Otherwise *sent_len is 0 and out is unchanged: HED_ENCODED_REFUSED_KEY if the key's report would be sent and the protocol has no
- * number for the key; HED_ENCODED_REFUSED_MEMORY if memory was refused; HED_ENCODED_TOO_LONG if the sequence would have more than 256 bytes; HED_ENCODED_BAD_TEXT if the
- * text isn't UTF-8; HED_ENCODED_BAD_NUMBER if action is no enum hed_key_event_kind, no key has the number, detail, shifted or base is no Unicode scalar value,
- * a function key's number is above 255, or a bit of flags has no name. */
+ * Returns an enum hed_encoded. With HED_ENCODED_TEXT *sent_len is the number of all these bytes, and out has as many of them as len says:
+ * if *sent_len is above len, call again with more room. The rest of out is unchanged. A sequence has at most 256 bytes; a key that is sent
+ * as its text alone may have more. Otherwise *sent_len is 0 and out is unchanged: HED_ENCODED_REFUSED_KEY if the key's report would be sent
+ * and the protocol has no number for the key; HED_ENCODED_REFUSED_MEMORY if memory was refused; HED_ENCODED_TOO_LONG if the sequence would
+ * have more than 256 bytes; HED_ENCODED_BAD_TEXT if the text isn't UTF-8; HED_ENCODED_BAD_NUMBER if kind is no enum hed_key_event_kind, no
+ * key has the number, detail, shifted or base is no Unicode scalar value, a function key's number is above 255, or a bit of flags has no
+ * name. */
 uint32_t hed_encode_kitty(const hed_key_report *report, const uint8_t *text, size_t text_len, uint8_t flags, uint8_t *out, size_t len,
-                         size_t *sent_len);
+                          size_t *sent_len);
 
 /* Returns the version of the library that is linked, as HED_VERSION_NUMBER has that of the header. */
 uint32_t hed_version(void);
@@ -673,11 +674,12 @@ HED_IS(parser, sizeof(hed_parser) == 16 && offsetof(hed_parser, state) == 8);
 HED_IS(event, sizeof(hed_event) == 24 && offsetof(hed_event, modifiers) == 2 && offsetof(hed_event, y) == 8);
 HED_IS(event_end, offsetof(hed_event, detail) == 12 && offsetof(hed_event, paste_len) == 16);
 HED_IS(keymap, sizeof(hed_keymap) == 16 && offsetof(hed_keymap, state) == 8);
-HED_IS(rows, sizeof(hed_entries) == 24 && offsetof(hed_entries, count) == 8 && offsetof(hed_entries, with_alt) == 16);
+HED_IS(entries, sizeof(hed_entries) == 24 && offsetof(hed_entries, count) == 8 && offsetof(hed_entries, with_alt) == 16);
 HED_IS(match, sizeof(hed_match) == 16 && offsetof(hed_match, value) == 8);
 HED_IS(extended, sizeof(hed_extended) == 16 && offsetof(hed_extended, state) == 8);
 HED_IS(report, sizeof(hed_key_report) == 16 && offsetof(hed_key_report, key) == 2 && offsetof(hed_key_report, base) == 12);
-HED_IS(extended_event, sizeof(hed_extended_event) == 64 && offsetof(hed_extended_event, row) == 2 && offsetof(hed_extended_event, width) == 12);
+HED_IS(extended_event, sizeof(hed_extended_event) == 64 && offsetof(hed_extended_event, row) == 2);
+HED_IS(extended_width, offsetof(hed_extended_event, width) == 12);
 HED_IS(extended_end, offsetof(hed_extended_event, report) == 16 && offsetof(hed_extended_event, input) == 32);
 HED_IS(extended_text, offsetof(hed_extended_event, text_len) == 56);
 HED_IS(modes, sizeof(hed_modes) == 16 && offsetof(hed_modes, encoding) == 8 && offsetof(hed_modes, has_modify_other_keys) == 12);

@@ -6,6 +6,8 @@
 #include <string.h>
 #include <sys/mman.h>
 
+enum { LAST_KEY = HED_KEY_INTERNAL_PASTE_END };
+
 static hed_event taken;
 
 /* Returns what hed_parser_next answers; its event is in `taken`. */
@@ -28,16 +30,16 @@ static bool is_key(uint16_t key, uint32_t detail, uint16_t modifiers) {
          && taken.x == 0 && taken.y == 0 && taken.paste_len == 0;
 }
 
-/* Without a parser there are no rows, and nothing is written. */
+/* Without a parser there are no entries, and nothing is written. */
 static void no_rows_answer(const hed_parser *parser) {
   hed_event event, before;
-  hed_entries rows = {7, 8, true};
+  hed_entries entries = {7, 8, true};
   uint8_t byte = 'x';
   memset(&event, 0x55, sizeof event);
   memset(&before, 0x55, sizeof before);
   EXPECT(hed_parser_entry(parser, 0, &byte, 1, &event) == 0 && hed_parser_entry(parser, HED_ENTRY_COUNT, &byte, 1, &event) == 0);
   EXPECT(byte == 'x' && memcmp(&event, &before, sizeof event) == 0);
-  EXPECT(!hed_parser_completions(parser, &rows) && rows.first == 7 && rows.count == 8 && rows.with_alt);
+  EXPECT(!hed_parser_completions(parser, &entries) && entries.first == 7 && entries.count == 8 && entries.with_alt);
 }
 
 /* Nothing is there before init and after free, and each call says so. */
@@ -416,43 +418,43 @@ static void shrinks(hed_parser *parser) {
   }
 }
 
-/* The row that was asked for last: its bytes and its key. */
-static uint8_t row_bytes[HED_ENTRY_MOST];
-static hed_event row_key;
+/* The entry that was asked for last: its bytes and its key. */
+static uint8_t entry_bytes[HED_ENTRY_MOST];
+static hed_event entry_key;
 
-/* Asks for a row, and returns how many bytes it has. */
-static size_t row_at(const hed_parser *parser, size_t place) {
-  memset(row_bytes, '.', sizeof row_bytes);
-  memset(&row_key, 0xaa, sizeof row_key);
-  return hed_parser_entry(parser, place, row_bytes, sizeof row_bytes, &row_key);
+/* Asks for an entry, and returns how many bytes it has. */
+static size_t entry_at(const hed_parser *parser, size_t place) {
+  memset(entry_bytes, '.', sizeof entry_bytes);
+  memset(&entry_key, 0xaa, sizeof entry_key);
+  return hed_parser_entry(parser, place, entry_bytes, sizeof entry_bytes, &entry_key);
 }
 
-/* Whether the event `taken` is the last row's key with these modifiers more. */
-static bool is_row_key(uint16_t modifiers) { return is_key(row_key.key, row_key.detail, row_key.modifiers | modifiers); }
+/* Whether the event `taken` is that entry's key with these modifiers more. */
+static bool is_entry_key(uint16_t modifiers) { return is_key(entry_key.key, entry_key.detail, entry_key.modifiers | modifiers); }
 
-/* However few bytes there is room for, the length and the key are those of the whole row, and the bytes after the room are unchanged. */
-static void cuts_row(const hed_parser *parser, size_t place, size_t len) {
+/* However few bytes there is room for, the length and the key are those of the whole entry, and the bytes after the room are unchanged. */
+static void cuts_entry(const hed_parser *parser, size_t place, size_t len) {
   uint8_t room[HED_ENTRY_MOST + 2];
   for (size_t has = 0; has <= sizeof room; has++) {
     memset(room, '#', sizeof room);
     memset(&taken, 0xaa, sizeof taken);
-    EXPECT(hed_parser_entry(parser, place, room, has, &taken) == len && is_row_key(HED_TERMWIZ_MOD_NONE));
+    EXPECT(hed_parser_entry(parser, place, room, has, &taken) == len && is_entry_key(HED_TERMWIZ_MOD_NONE));
     size_t copied = has < len ? has : len, at = copied;
     while (at < sizeof room && room[at] == '#') at++;
-    EXPECT(memcmp(room, row_bytes, copied) == 0 && at == sizeof room);
+    EXPECT(memcmp(room, entry_bytes, copied) == 0 && at == sizeof room);
   }
-  EXPECT(hed_parser_entry(parser, place, NULL, 0, &taken) == len && is_row_key(HED_TERMWIZ_MOD_NONE));
+  EXPECT(hed_parser_entry(parser, place, NULL, 0, &taken) == len && is_entry_key(HED_TERMWIZ_MOD_NONE));
 }
 
-/* Feeds what a row has after the bytes that are buffered, and flushes: its key is the event, with these modifiers more. The start of a
+/* Feeds what an entry has after the bytes that are buffered, and flushes: its key is the event, with these modifiers more. The start of a
  * paste opens one instead, after the Escape key if an ESC was buffered before it. */
-static void reads_row(hed_parser *parser, const uint8_t *bytes, size_t len, uint16_t modifiers) {
+static void reads_entry(hed_parser *parser, const uint8_t *bytes, size_t len, uint16_t modifiers) {
   uint32_t answer = next_of(parser, (const char *)bytes, len, false);
-  bool is_start = row_key.key == HED_KEY_INTERNAL_PASTE_START;
+  bool is_start = entry_key.key == HED_KEY_INTERNAL_PASTE_START;
   if (is_start && modifiers == HED_TERMWIZ_MOD_ALT) {
     EXPECT(answer == HED_NEXT_EVENT && is_key(HED_KEY_ESCAPE, 0, HED_TERMWIZ_MOD_NONE));
   } else {
-    EXPECT(is_start ? answer == HED_NEXT_NONE : answer == HED_NEXT_EVENT && is_row_key(modifiers));
+    EXPECT(is_start ? answer == HED_NEXT_NONE : answer == HED_NEXT_EVENT && is_entry_key(modifiers));
   }
   EXPECT(is_start ? is_rest(parser, 6, HED_WAITING_PASTE) : is_rest(parser, 0, HED_WAITING_NOTHING));
   hed_parser_reset(parser);
@@ -464,123 +466,130 @@ static bool is_before(const uint8_t *one, size_t one_len, const uint8_t *other, 
   return order < 0 || (order == 0 && one_len < other_len);
 }
 
-/* Every row: its bytes come after those of the row before it, and are read as its key. */
-static void tells_rows(hed_parser *parser) {
+/* Every entry: its bytes come after those of the entry before it, and are read as its key. */
+static void tells_entries(hed_parser *parser) {
   uint8_t before[HED_ENTRY_MOST];
   size_t before_len = 0, longest = 0;
   unsigned starts = 0, ends = 0;
   for (size_t place = 0; place < HED_ENTRY_COUNT; place++) {
-    size_t len = row_at(parser, place);
-    EXPECT(len > 0 && len <= HED_ENTRY_MOST && is_before(before, before_len, row_bytes, len));
-    cuts_row(parser, place, len);
-    reads_row(parser, row_bytes, len, HED_TERMWIZ_MOD_NONE);
-    starts += row_key.key == HED_KEY_INTERNAL_PASTE_START;
-    ends += row_key.key == HED_KEY_INTERNAL_PASTE_END;
-    memcpy(before, row_bytes, sizeof before);
+    size_t len = entry_at(parser, place);
+    EXPECT(len > 0 && len <= HED_ENTRY_MOST && is_before(before, before_len, entry_bytes, len));
+    cuts_entry(parser, place, len);
+    reads_entry(parser, entry_bytes, len, HED_TERMWIZ_MOD_NONE);
+    starts += entry_key.key == HED_KEY_INTERNAL_PASTE_START;
+    ends += entry_key.key == HED_KEY_INTERNAL_PASTE_END;
+    memcpy(before, entry_bytes, sizeof before);
     before_len = len;
     if (len > longest) longest = len;
   }
   EXPECT(longest == HED_ENTRY_MOST && starts == 1 && ends == 1);
 }
 
-/* From the number of rows on there is none, and nothing is written. What is buffered makes no difference, and stays. */
-static void has_no_other_rows(hed_parser *parser) {
+/* From the number of entries on there is none, and nothing is written. What is buffered makes no difference, and stays. */
+static void has_no_other_entries(hed_parser *parser) {
   static const size_t places[] = {HED_ENTRY_COUNT, HED_ENTRY_COUNT + 1, (size_t)1 << 32, SIZE_MAX};
   hed_event untouched;
   memset(&untouched, 0xaa, sizeof untouched);
   for (size_t i = 0; i < 4; i++) {
-    EXPECT(row_at(parser, places[i]) == 0 && memcmp(row_bytes, "...........", HED_ENTRY_MOST) == 0);
-    EXPECT(memcmp(&row_key, &untouched, sizeof row_key) == 0);
-    EXPECT(hed_parser_entry(parser, places[i], NULL, 0, &row_key) == 0 && memcmp(&row_key, &untouched, sizeof row_key) == 0);
+    EXPECT(entry_at(parser, places[i]) == 0 && memcmp(entry_bytes, "...........", HED_ENTRY_MOST) == 0);
+    EXPECT(memcmp(&entry_key, &untouched, sizeof entry_key) == 0);
+    EXPECT(hed_parser_entry(parser, places[i], NULL, 0, &entry_key) == 0 && memcmp(&entry_key, &untouched, sizeof entry_key) == 0);
   }
   EXPECT(NEXT(parser, "\033[200~ab", true) == HED_NEXT_NONE);
-  EXPECT(row_at(parser, 0) == 1 && row_bytes[0] == 1 && row_key.key == HED_KEY_CHAR && row_key.detail == 'a');
-  EXPECT(row_key.modifiers == HED_TERMWIZ_MOD_CTRL && is_rest(parser, 8, HED_WAITING_PASTE) && hed_parser_reset(parser) == 8);
+  EXPECT(entry_at(parser, 0) == 1 && entry_bytes[0] == 1 && entry_key.key == HED_KEY_CHAR && entry_key.detail == 'a');
+  EXPECT(entry_key.modifiers == HED_TERMWIZ_MOD_CTRL && is_rest(parser, 8, HED_WAITING_PASTE) && hed_parser_reset(parser) == 8);
 }
 
-/* Row 706 is the up arrow with CTRL, and 2936, the byte 0x7f, is the last. Nothing is written past a row, nor of one that isn't there. */
-static void has_rows_at_their_places(void) {
+/* The place of the entry with these bytes, or of the first after them. */
+static size_t place_of(const hed_parser *parser, const char *bytes) {
+  size_t place = 0, len = strlen(bytes), entry_len;
+  while ((entry_len = entry_at(parser, place)) > 0 && is_before(entry_bytes, entry_len, (const uint8_t *)bytes, len)) place++;
+  return place;
+}
+
+/* The up arrow with CTRL has an entry, and the byte 0x7f the last. Nothing is written past an entry, nor of one that isn't there. */
+static void has_entries_at_their_places(void) {
   hed_parser parser = HED_PARSER_NONE;
   uint8_t room[12];
   memset(room, 7, sizeof room);
   EXPECT(hed_parser_entry(&parser, 0, room, sizeof room, &taken) == 0 && room[0] == 7);
-  EXPECT(hed_parser_init(&parser) && hed_parser_entry(&parser, 706, room, sizeof room, &taken) == 6);
+  EXPECT(hed_parser_init(&parser) && hed_parser_entry(&parser, place_of(&parser, "\033[1;5A"), room, sizeof room, &taken) == 6);
   EXPECT(memcmp(room, "\033[1;5A\007\007\007\007\007\007", sizeof room) == 0 && is_key(HED_KEY_UP_ARROW, 0, HED_TERMWIZ_MOD_CTRL));
-  EXPECT(hed_parser_entry(&parser, 2936, room, 0, &taken) == 1 && is_key(HED_KEY_BACKSPACE, 0, HED_TERMWIZ_MOD_NONE));
-  EXPECT(hed_parser_entry(&parser, 2937, room, sizeof room, &taken) == 0 && is_key(HED_KEY_BACKSPACE, 0, HED_TERMWIZ_MOD_NONE));
+  EXPECT(hed_parser_entry(&parser, HED_ENTRY_COUNT - 1, room, 0, &taken) == 1 && is_key(HED_KEY_BACKSPACE, 0, HED_TERMWIZ_MOD_NONE));
+  EXPECT(hed_parser_entry(&parser, HED_ENTRY_COUNT, room, sizeof room, &taken) == 0 && is_key(HED_KEY_BACKSPACE, 0, HED_TERMWIZ_MOD_NONE));
   EXPECT(memcmp(room, "\033[1;5A\007\007\007\007\007\007", sizeof room) == 0);
   hed_parser_free(&parser);
 }
 
-/* Whether the rows that would complete what is buffered are these. */
+/* Whether the entries that would complete what is buffered are these. */
 static bool is_completed_by(const hed_parser *parser, size_t first, size_t count, bool with_alt) {
-  hed_entries rows;
-  memset(&rows, 0xaa, sizeof rows);
-  return hed_parser_completions(parser, &rows) && rows.first == first && rows.count == count && rows.with_alt == with_alt;
+  hed_entries entries;
+  memset(&entries, 0xaa, sizeof entries);
+  return hed_parser_completions(parser, &entries) && entries.first == first && entries.count == count && entries.with_alt == with_alt;
 }
 
-/* While nothing is buffered all rows are told, and after ESC [ 1 ; 5 twelve, whether an ESC was before it or not. */
+/* While nothing is buffered all entries are told, and after ESC [ 1 ; 5 twelve, whether an ESC was before it or not. */
 static void has_completions_at_their_places(void) {
   hed_parser parser = HED_PARSER_NONE;
-  EXPECT(hed_parser_init(&parser) && is_completed_by(&parser, 0, 2937, false));
-  EXPECT(FEED(&parser, "\033[1;5") && is_completed_by(&parser, 706, 12, false));
+  EXPECT(hed_parser_init(&parser) && is_completed_by(&parser, 0, HED_ENTRY_COUNT, false));
+  EXPECT(FEED(&parser, "\033[1;5") && is_completed_by(&parser, place_of(&parser, "\033[1;5"), 12, false));
   hed_parser_free(&parser);
-  EXPECT(hed_parser_init(&parser) && FEED(&parser, "\033\033[1;5") && is_completed_by(&parser, 706, 12, true));
+  EXPECT(hed_parser_init(&parser) && FEED(&parser, "\033\033[1;5"));
+  EXPECT(is_completed_by(&parser, place_of(&parser, "\033[1;5"), 12, true));
   hed_parser_free(&parser);
 }
 
-/* A text that stays buffered, and what would complete it. The counts are those of docs/GRAMMAR.md. */
+/* A text that stays buffered, and whether what would complete it follows its ESC. */
 struct begun {
   const char *text;
-  size_t count;
   bool with_alt;
 };
 
 static const struct begun begun[] = {
-    {"", HED_ENTRY_COUNT, false},
-    {"\033", HED_ENTRY_COUNT - 28, false}, /* all but those of one byte */
-    {"\033\033", HED_ENTRY_COUNT - 28, true},
-    {"\033O", 50, false},
-    {"\033\033O", 50, true},
-    {"\033[", HED_ENTRY_COUNT - 28 - 26 - 1 - 50, false}, /* of two bytes there are 26 letters and the bracket */
-    {"\033\033[", HED_ENTRY_COUNT - 28 - 26 - 1 - 50, true},
-    {"\033[1", 662, false},
-    {"\033\033[1;", 169, true},
-    {"\033[20", 9 + 17 + 2, false}, /* CSI u, F9, and the start and the end of a paste */
-    {"\033\033[20", 28, true},
-    {"\033\033[200", 1, true},
-    {"\033[27;5;13", 1, false},
-    {"\033[<", 0, false}, /* a mouse report */
-    {"\033\033[<0;3", 0, false},
-    {"\303", 0, false}, /* half a character */
-    {"\033\360\237\230", 0, false},
-    {"\033[200~", 0, false}, /* an open paste */
-    {"\033[200~ab\033[201", 0, false},
+    {"", false},
+    {"\033", false},
+    {"\033\033", true},
+    {"\033O", false},
+    {"\033\033O", true},
+    {"\033[", false},
+    {"\033\033[", true},
+    {"\033[1", false},
+    {"\033\033[1;", true},
+    {"\033[20", false}, /* CSI u, F9, and the start and the end of a paste */
+    {"\033\033[20", true},
+    {"\033\033[200", true},
+    {"\033[27;5;13", false},
+    {"\033[<", false}, /* a mouse report */
+    {"\033\033[<0;3", false},
+    {"\303", false}, /* half a character */
+    {"\033\360\237\230", false},
+    {"\033[200~", false}, /* an open paste */
+    {"\033[200~ab\033[201", false},
 };
 
-/* Whether the last row begins with a text and is longer. */
+/* Whether that entry begins with a text and is longer. */
 static bool goes_on_from(size_t len, const char *text, size_t text_len) {
-  return len > text_len && memcmp(row_bytes, text, text_len) == 0;
+  return len > text_len && memcmp(entry_bytes, text, text_len) == 0;
 }
 
-/* The rows are those that begin with what is buffered, or with what follows its ESC, and are longer; and there are no others. What each has
+/* The entries are those that begin with what is buffered, or with what follows its ESC, and are longer; and there are no others. What each has
  * more makes it of what is buffered. */
 static void completes(hed_parser *parser, const struct begun *it) {
   size_t len = strlen(it->text), after = len - it->with_alt;
   const char *text = it->text + it->with_alt;
-  hed_entries rows;
-  memset(&rows, 0xaa, sizeof rows);
-  EXPECT(next_of(parser, it->text, len, true) == HED_NEXT_NONE && hed_parser_completions(parser, &rows));
-  EXPECT(rows.count == it->count && rows.with_alt == it->with_alt);
-  EXPECT(rows.first <= HED_ENTRY_COUNT && rows.count <= HED_ENTRY_COUNT - rows.first);
+  hed_entries entries;
+  memset(&entries, 0xaa, sizeof entries);
+  EXPECT(next_of(parser, it->text, len, true) == HED_NEXT_NONE && hed_parser_completions(parser, &entries));
+  EXPECT(entries.with_alt == it->with_alt);
+  EXPECT(entries.first <= HED_ENTRY_COUNT && entries.count <= HED_ENTRY_COUNT - entries.first);
   for (size_t place = 0; place < HED_ENTRY_COUNT; place++) {
-    size_t row_len = row_at(parser, place);
-    bool is_among = place >= rows.first && place - rows.first < rows.count;
-    EXPECT(goes_on_from(row_len, text, after) == is_among);
-    EXPECT(!it->with_alt || !goes_on_from(row_len, it->text, len));
+    size_t entry_len = entry_at(parser, place);
+    bool is_among = place >= entries.first && place - entries.first < entries.count;
+    EXPECT(goes_on_from(entry_len, text, after) == is_among);
+    EXPECT(!it->with_alt || !goes_on_from(entry_len, it->text, len));
     if (!is_among) continue;
     EXPECT(hed_parser_waiting_len(parser) == len || next_of(parser, it->text, len, true) == HED_NEXT_NONE);
-    reads_row(parser, row_bytes + after, row_len - after, it->with_alt ? HED_TERMWIZ_MOD_ALT : HED_TERMWIZ_MOD_NONE);
+    reads_entry(parser, entry_bytes + after, entry_len - after, it->with_alt ? HED_TERMWIZ_MOD_ALT : HED_TERMWIZ_MOD_NONE);
   }
   hed_parser_reset(parser);
 }
@@ -589,15 +598,15 @@ static void tells_completions(hed_parser *parser) {
   for (size_t i = 0; i < sizeof begun / sizeof begun[0]; i++) completes(parser, &begun[i]);
 }
 
-/* Every rest: if nothing but a row could complete it, there are rows. */
+/* Every rest: if nothing but an entry could complete it, there are entries. */
 static void completes_every_rest(hed_parser *parser) {
   for (size_t i = 0; i < RESTS; i++) {
-    hed_entries rows;
+    hed_entries entries;
     bool is_report = strstr(rests[i].text, "[<") != NULL;
     feed_rest(parser, &rests[i]);
-    EXPECT(hed_parser_completions(parser, &rows) && is_rest(parser, strlen(rests[i].text), rests[i].kind));
-    EXPECT((rows.count > 0) == (!is_report && rests[i].kind != HED_WAITING_CHARACTER && rests[i].kind != HED_WAITING_PASTE));
-    EXPECT(rows.count > 0 || !rows.with_alt);
+    EXPECT(hed_parser_completions(parser, &entries) && is_rest(parser, strlen(rests[i].text), rests[i].kind));
+    EXPECT((entries.count > 0) == (!is_report && rests[i].kind != HED_WAITING_CHARACTER && rests[i].kind != HED_WAITING_PASTE));
+    EXPECT(entries.count > 0 || !entries.with_alt);
     hed_parser_reset(parser);
   }
 }
@@ -716,7 +725,7 @@ static void names_keys(const char *numbers) {
   EXPECT(list != NULL);
   if (!list) return;
   while (fgets(line, sizeof line, list))
-    if (sscanf(line, "key %63s %u", name, &number) == 2) {
+    if (strncmp(line, "key ", 4) == 0 && sscanf(line + 4, "%63s %u", name, &number) == 2) {
       check_name((uint16_t)number, name);
       keys++;
     }
@@ -733,10 +742,10 @@ static void has_numbers(void) {
   EXPECT(HED_KEY_CHAR == 1 && HED_KEY_BACKSPACE == 6 && HED_KEY_ENTER == 9 && HED_KEY_ESCAPE == 11 && HED_KEY_UP_ARROW == 31);
   EXPECT(HED_KEY_FUNCTION == 60 && HED_KEY_APPLICATION_LEFT_ARROW == 80);
   EXPECT(HED_ENCODING_XTERM == 0 && HED_ENCODING_CSI_U == 1 && HED_ENCODING_WIN32 == 2 && HED_ENCODING_KITTY == 3);
-  check_name(1, "Char");
-  check_name(31, "UpArrow");
-  check_name(90, "InternalPasteEnd");
-  EXPECT(hed_key_name(91, &room, 1) == 0 && room == '.');
+  check_name(HED_KEY_CHAR, "Char");
+  check_name(HED_KEY_UP_ARROW, "UpArrow");
+  check_name(LAST_KEY, "InternalPasteEnd");
+  EXPECT(hed_key_name(LAST_KEY + 1, &room, 1) == 0 && room == '.');
 }
 
 static hed_modes modes;
@@ -793,7 +802,7 @@ static const struct press presses[] = {
     {HED_KEY_FUNCTION, 5, HED_TERMWIZ_MOD_SHIFT, HED_ENCODING_XTERM, 0, HED_ENCODED_TEXT, "\033[15;2~"},
     {HED_KEY_FUNCTION, 25, HED_TERMWIZ_MOD_NONE, HED_ENCODING_XTERM, 0, HED_ENCODED_REFUSED_KEY, ""},
     {0, 0, HED_TERMWIZ_MOD_NONE, HED_ENCODING_XTERM, 0, HED_ENCODED_BAD_NUMBER, ""},
-    {91, 0, HED_TERMWIZ_MOD_NONE, HED_ENCODING_XTERM, 0, HED_ENCODED_BAD_NUMBER, ""},
+    {LAST_KEY + 1, 0, HED_TERMWIZ_MOD_NONE, HED_ENCODING_XTERM, 0, HED_ENCODED_BAD_NUMBER, ""},
     {HED_KEY_CHAR, 0xd800, HED_TERMWIZ_MOD_NONE, HED_ENCODING_XTERM, 0, HED_ENCODED_BAD_NUMBER, ""},
     {HED_KEY_FUNCTION, 256, HED_TERMWIZ_MOD_NONE, HED_ENCODING_XTERM, 0, HED_ENCODED_BAD_NUMBER, ""},
     {HED_KEY_UP_ARROW, 0, 1, HED_ENCODING_XTERM, 0, HED_ENCODED_BAD_NUMBER, ""},
@@ -849,7 +858,7 @@ static void refuses_numbers_that_stand_for_nothing(void) {
   memset(&modes, 0, sizeof modes);
   for (int is_down = 0; is_down < 2; is_down++) {
     EXPECT(encode(0, 0, 0, is_down, 16) == HED_ENCODED_BAD_NUMBER && is_untouched());
-    EXPECT(encode(91, 0, 0, is_down, 16) == HED_ENCODED_BAD_NUMBER && is_untouched());
+    EXPECT(encode(LAST_KEY + 1, 0, 0, is_down, 16) == HED_ENCODED_BAD_NUMBER && is_untouched());
     EXPECT(encode(HED_KEY_CHAR, 0xd800, 0, is_down, 16) == HED_ENCODED_BAD_NUMBER && is_untouched());
     EXPECT(encode(HED_KEY_CHAR, 0xdfff, 0, is_down, 16) == HED_ENCODED_BAD_NUMBER && is_untouched());
     EXPECT(encode(HED_KEY_CHAR, 0x110000, 0, is_down, 16) == HED_ENCODED_BAD_NUMBER && is_untouched());
@@ -1165,7 +1174,7 @@ static void *page(void) {
 static void reads_from_a_page_that_is_read_only(void) {
   struct { hed_parser parser; hed_keymap map; } *it = page();
   hed_match match = { 7, 7 };
-  hed_entries rows = { 7, 7, true };
+  hed_entries entries = { 7, 7, true };
   uint8_t text[4] = "....";
   hed_parser sharing = HED_PARSER_NONE;
   hed_extended extended = HED_EXTENDED_NONE;
@@ -1176,8 +1185,8 @@ static void reads_from_a_page_that_is_read_only(void) {
   EXPECT(hed_parser_waiting_len(&it->parser) == 7 && hed_parser_waiting(&it->parser) == HED_WAITING_PASTE);
   EXPECT(hed_parser_is_paste_open(&it->parser));
   EXPECT(hed_parser_paste(&it->parser, text, sizeof text) == 2 && memcmp(text, "ab..", 4) == 0);
-  EXPECT(row_at(&it->parser, 0) == 1 && row_at(&it->parser, HED_ENTRY_COUNT - 1) > 0 && row_at(&it->parser, HED_ENTRY_COUNT) == 0);
-  EXPECT(hed_parser_completions(&it->parser, &rows) && rows.count == 0 && !rows.with_alt);
+  EXPECT(entry_at(&it->parser, 0) == 1 && entry_at(&it->parser, HED_ENTRY_COUNT - 1) > 0 && entry_at(&it->parser, HED_ENTRY_COUNT) == 0);
+  EXPECT(hed_parser_completions(&it->parser, &entries) && entries.count == 0 && !entries.with_alt);
   EXPECT(hed_parser_init_sharing(&sharing, &it->parser) && hed_extended_init_sharing_parser(&extended, HED_PROTOCOL_LEGACY, &it->parser));
   hed_parser_free(&sharing);
   hed_extended_free(&extended);
@@ -1223,14 +1232,14 @@ int main(int argc, char **argv) {
   drops_pastes(&parser);
   shrinks(&parser);
   ends_a_long_paste(&parser);
-  tells_rows(&parser);
-  has_no_other_rows(&parser);
+  tells_entries(&parser);
+  has_no_other_entries(&parser);
   tells_completions(&parser);
   completes_every_rest(&parser);
   hed_parser_free(&parser);
   flushes_what_was_fed();
   ends_a_paste_that_was_fed();
-  has_rows_at_their_places();
+  has_entries_at_their_places();
   has_completions_at_their_places();
   cuts_make_no_difference();
   names_keys(argv[1]);

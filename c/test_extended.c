@@ -55,8 +55,8 @@ static void tell_report(const hed_extended *parser, const hed_extended_event *ev
   tell("Key(");
   tell_key_name(report->key, report->detail);
   tell_held(report);
-  if (report->action == HED_KEY_EVENT_KIND_REPEAT) tell(" Repeat");
-  if (report->action == HED_KEY_EVENT_KIND_RELEASE) tell(" Release");
+  if (report->kind == HED_KEY_EVENT_KIND_REPEAT) tell(" Repeat");
+  if (report->kind == HED_KEY_EVENT_KIND_RELEASE) tell(" Release");
   if (report->shifted != HED_NO_CODE) tell(" shifted %c", (char)report->shifted);
   if (report->base != HED_NO_CODE) tell(" base %c", (char)report->base);
   if (event->text_len > 0) tell_text(parser, " text", event->text_len);
@@ -70,7 +70,7 @@ static void tell_input_key(const hed_extended_event *event) {
   tell_key_name(event->input.key, event->input.detail);
   tell_held(report);
   EXPECT(event->input.kind == HED_KIND_KEY && report->key == event->input.key && report->detail == event->input.detail);
-  EXPECT(report->action == HED_KEY_EVENT_KIND_PRESS && report->shifted == HED_NO_CODE && report->base == HED_NO_CODE && event->text_len == 0);
+  EXPECT(report->kind == HED_KEY_EVENT_KIND_PRESS && report->shifted == HED_NO_CODE && report->base == HED_NO_CODE && event->text_len == 0);
   EXPECT(!(held & HED_KITTY_MOD_SHIFT) == !(event->input.modifiers & HED_TERMWIZ_MOD_SHIFT));
   EXPECT(!(held & HED_KITTY_MOD_ALT) == !(event->input.modifiers & HED_TERMWIZ_MOD_ALT));
   EXPECT(!(held & HED_KITTY_MOD_CTRL) == !(event->input.modifiers & HED_TERMWIZ_MOD_CTRL));
@@ -115,9 +115,9 @@ static void feed(hed_extended *parser, const char *text, size_t len, bool more) 
   tell_events(parser, more);
 }
 
-/* A text, whether more may come, its events under one reading of the rows or under both, and how many bytes stay buffered. */
+/* A text, whether more may come, its events under one protocol or under both, and how many bytes stay buffered. */
 struct example {
-  uint32_t rows;
+  uint32_t protocol;
   const char *text;
   size_t len;
   bool more;
@@ -173,10 +173,10 @@ static const struct example examples[] = {
 };
 
 /* Reads a text, cut into pieces: the first of the given length, the others of another one. Only the last says that no more comes. */
-static void read_in_pieces(const struct example *it, uint32_t rows, size_t first, size_t others) {
+static void read_in_pieces(const struct example *it, uint32_t protocol, size_t first, size_t others) {
   hed_extended parser = HED_EXTENDED_NONE;
   told[0] = '\0';
-  EXPECT(hed_extended_init(&parser, rows));
+  EXPECT(hed_extended_init(&parser, protocol));
   for (size_t at = 0, len = first; at < it->len || at == 0; at += len, len = others) {
     if (len > it->len - at) len = it->len - at;
     feed(&parser, it->text + at, len, at + len < it->len || it->more);
@@ -187,20 +187,20 @@ static void read_in_pieces(const struct example *it, uint32_t rows, size_t first
   hed_extended_free(&parser);
 }
 
-static void reads_example(const struct example *it, uint32_t rows) {
-  for (size_t cut = 1; cut <= it->len; cut++) read_in_pieces(it, rows, cut, it->len);
-  read_in_pieces(it, rows, 1, 1);
+static void reads_example(const struct example *it, uint32_t protocol) {
+  for (size_t cut = 1; cut <= it->len; cut++) read_in_pieces(it, protocol, cut, it->len);
+  read_in_pieces(it, protocol, 1, 1);
 }
 
 static void reads_examples(void) {
   for (size_t i = 0; i < sizeof examples / sizeof *examples; i++) {
-    if (examples[i].rows != HED_PROTOCOL_KITTY) reads_example(&examples[i], HED_PROTOCOL_LEGACY);
-    if (examples[i].rows != HED_PROTOCOL_LEGACY) reads_example(&examples[i], HED_PROTOCOL_KITTY);
+    if (examples[i].protocol != HED_PROTOCOL_KITTY) reads_example(&examples[i], HED_PROTOCOL_LEGACY);
+    if (examples[i].protocol != HED_PROTOCOL_LEGACY) reads_example(&examples[i], HED_PROTOCOL_KITTY);
   }
 }
 
 static bool same_report(const hed_key_report *one, const hed_key_report *other) {
-  return one->action == other->action && one->modifiers == other->modifiers && one->key == other->key && one->detail == other->detail
+  return one->kind == other->kind && one->modifiers == other->modifiers && one->key == other->key && one->detail == other->detail
          && one->shifted == other->shifted && one->base == other->base;
 }
 
@@ -216,12 +216,12 @@ static bool same_event(const hed_extended_event *one, const hed_extended_event *
          && same_report(&one->report, &other->report) && same_input(&one->input, &other->input);
 }
 
-#define KEY(action, held, key, detail) { (action), (held), (key), (detail), HED_NO_CODE, HED_NO_CODE }
+#define KEY(kind, held, key, detail) { (kind), (held), (key), (detail), HED_NO_CODE, HED_NO_CODE }
 #define PRESS(held, key, detail) KEY(HED_KEY_EVENT_KIND_PRESS, held, key, detail)
 
-/* How the rows are read, a text, the one event that it is, and the bytes that the event brings. */
+/* The protocol, a text, the one event that it is, and the bytes that the event brings. */
 struct reading {
-  uint32_t rows;
+  uint32_t protocol;
   const char *text;
   size_t len;
   hed_extended_event event;
@@ -264,7 +264,7 @@ static void reads_fields(hed_extended *parser, const struct reading *it) {
   memset(room, '.', sizeof room);
   memset(&next, 0x55, sizeof next);
   memset(&before, 0x55, sizeof before);
-  EXPECT(hed_extended_init(parser, it->rows) && hed_extended_feed(parser, (const uint8_t *)it->text, it->len));
+  EXPECT(hed_extended_init(parser, it->protocol) && hed_extended_feed(parser, (const uint8_t *)it->text, it->len));
   EXPECT(hed_extended_next(parser, false, &event) == HED_NEXT_EVENT && same_event(&event, &it->event) && event.text_len == len);
   EXPECT(hed_extended_next(parser, false, &next) == HED_NEXT_NONE && memcmp(&next, &before, sizeof next) == 0);
   EXPECT(hed_extended_text(parser, room, sizeof room) == len && memcmp(room, it->bytes, len) == 0);
@@ -408,12 +408,12 @@ static void ends_pastes(hed_extended *parser) {
 }
 
 /* Before an event is asked for, the Escape key is flushed and an open paste is ended. A parser that was just made has neither. */
-static void ends_what_was_fed(uint32_t rows) {
+static void ends_what_was_fed(uint32_t protocol) {
   static const hed_key_report escape = { HED_KEY_EVENT_KIND_PRESS, HED_KITTY_MOD_ALT, HED_KEY_ESCAPE, 0, HED_NO_CODE, HED_NO_CODE };
   uint8_t room[4] = "....";
   hed_extended parser = HED_EXTENDED_NONE;
   hed_extended_event event;
-  EXPECT(hed_extended_init(&parser, rows) && hed_extended_text(&parser, room, 4) == 0);
+  EXPECT(hed_extended_init(&parser, protocol) && hed_extended_text(&parser, room, 4) == 0);
   EXPECT(hed_extended_flush_escape(&parser, &event) == HED_NEXT_NONE && hed_extended_end_paste(&parser, &event) == HED_NEXT_NONE);
   EXPECT(FEED(&parser, "\033\033") && hed_extended_flush_escape(&parser, &event) == HED_NEXT_EVENT && event.kind == HED_KIND_KEY);
   EXPECT(event.input.key == HED_KEY_ESCAPE && event.input.modifiers == HED_TERMWIZ_MOD_ALT && same_report(&event.report, &escape));
@@ -488,7 +488,7 @@ static void reads_from_a_page_that_is_read_only(void) {
   munmap(parser, 4096);
 }
 
-enum { ALL_FLAGS = 31, KEYS = 90, KEYS_OF_KITTY = 58 };
+enum { ALL_FLAGS = 31, KEYS = HED_KEY_INTERNAL_PASTE_END, KEYS_OF_KITTY = 58 };
 
 /* A key report with its text, the flags, what hed_encode_kitty returns, and the bytes. */
 struct encoding {
@@ -499,7 +499,7 @@ struct encoding {
   const char *bytes;
 };
 
-#define LETTER(action, held) KEY(action, held, HED_KEY_CHAR, 'a')
+#define LETTER(kind, held) KEY(kind, held, HED_KEY_CHAR, 'a')
 #define WHOLE_LETTER { HED_KEY_EVENT_KIND_PRESS, HED_KITTY_MOD_SHIFT, HED_KEY_CHAR, 'a', 'A', 'b' }
 
 static const struct encoding encodings[] = {
@@ -663,8 +663,8 @@ static bool reads_back(hed_extended *parser, const hed_key_report *report, const
 static bool reads_key_back(hed_extended *parser, uint16_t key, uint32_t detail) {
   bool is_sent = true;
   for (unsigned held = 0; held < 256; held++)
-    for (unsigned action = HED_KEY_EVENT_KIND_PRESS; action <= HED_KEY_EVENT_KIND_RELEASE; action++) {
-      hed_key_report report = KEY((uint8_t)action, (uint8_t)held, key, detail);
+    for (unsigned kind = HED_KEY_EVENT_KIND_PRESS; kind <= HED_KEY_EVENT_KIND_RELEASE; kind++) {
+      hed_key_report report = KEY((uint8_t)kind, (uint8_t)held, key, detail);
       if (!reads_back(parser, &report, "")) is_sent = false;
     }
   return is_sent;
@@ -686,8 +686,8 @@ int main(void) {
   reads_examples();
   reads_all_fields();
   has_numbers();
-  for (uint32_t rows = HED_PROTOCOL_LEGACY; rows <= HED_PROTOCOL_KITTY; rows++) {
-    EXPECT(hed_extended_init(&parser, rows));
+  for (uint32_t protocol = HED_PROTOCOL_LEGACY; protocol <= HED_PROTOCOL_KITTY; protocol++) {
+    EXPECT(hed_extended_init(&parser, protocol));
     told[0] = '\0';
     tells_kinds(&parser);
     keeps_texts(&parser);
@@ -697,7 +697,7 @@ int main(void) {
     reads_a_long_paste(&parser, true);
     reads_a_string_in_pieces(&parser);
     reads_long_strings(&parser);
-    ends_what_was_fed(rows);
+    ends_what_was_fed(protocol);
   }
   hed_extended_free(&parser);
   hed_extended_free(&parser);

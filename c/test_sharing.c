@@ -97,7 +97,7 @@ static void shares_the_table_alone(bool is_extended) {
   end(&second);
 }
 
-/* Without another parser, or with a number that names no way of reading the rows, nothing changes. */
+/* Without another parser, or with a number that names no protocol, nothing changes. */
 static void refuses(bool is_extended) {
   static const uint32_t no_rows[] = { 2, 256, 65536, UINT32_MAX };
   session none = session_of(is_extended), first = session_of(is_extended), of_other = session_of(!is_extended), second = session_of(true);
@@ -117,7 +117,7 @@ static void refuses(bool is_extended) {
   end(&first);
 }
 
-/* Two parsers of one table read its rows each in its own way. */
+/* Two parsers of one table read its entries each by its own protocol. */
 static void reads_rows_in_each_way(void) {
   hed_extended port = HED_EXTENDED_NONE, kitty = HED_EXTENDED_NONE;
   hed_extended_event event;

@@ -80,8 +80,8 @@ static void put_code(const char *name, uint32_t code) {
 }
 
 static void put_report(const hed_key_report *report) {
-  put_key(report->key, report->detail, held_flags, report->modifiers);
-  printf(",\"action\":\"%s\"", action_name(report->action));
+  put_key(report->key, report->detail, kitty_modifier_flags, report->modifiers);
+  printf(",\"action\":\"%s\"", key_event_kind_name(report->kind));
   put_code("shifted", report->shifted);
   put_code("base", report->base);
 }

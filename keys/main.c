@@ -56,7 +56,7 @@ static bool is_key(const hed_extended_event *event) {
 /* Whether a key is a modifier key or was not pressed, so that it may come between two presses of ^D. */
 static bool is_no_press(const hed_key_report *report) {
   bool is_modifier = report->key >= HED_KEY_SHIFT && report->key <= HED_KEY_RIGHT_ALT && report->key != HED_KEY_ESCAPE;
-  return is_modifier || report->action != HED_KEY_EVENT_KIND_PRESS;
+  return is_modifier || report->kind != HED_KEY_EVENT_KIND_PRESS;
 }
 
 static void note_end(keys *it, const hed_extended_event *event) {

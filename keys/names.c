@@ -1,6 +1,7 @@
 #include "names.h"
 
 const flag modifier_flags[] = {
+  /* numbers.txt: termwiz_mod table */
   { HED_TERMWIZ_MOD_SHIFT, "SHIFT", "Shift-" },
   { HED_TERMWIZ_MOD_ALT, "ALT", "Alt-" },
   { HED_TERMWIZ_MOD_CTRL, "CTRL", "Ctrl-" },
@@ -12,28 +13,33 @@ const flag modifier_flags[] = {
   { HED_TERMWIZ_MOD_RIGHT_CTRL, "RIGHT_CTRL", "RightCtrl-" },
   { HED_TERMWIZ_MOD_LEFT_SHIFT, "LEFT_SHIFT", "LeftShift-" },
   { HED_TERMWIZ_MOD_RIGHT_SHIFT, "RIGHT_SHIFT", "RightShift-" },
+  /* numbers.txt: end */
   { 0, NULL, NULL },
 };
 
 const flag button_flags[] = {
+  /* numbers.txt: button table */
   { HED_BUTTON_LEFT, "LEFT", NULL },
   { HED_BUTTON_RIGHT, "RIGHT", NULL },
   { HED_BUTTON_MIDDLE, "MIDDLE", NULL },
   { HED_BUTTON_VERT_WHEEL, "VERT_WHEEL", NULL },
   { HED_BUTTON_HORZ_WHEEL, "HORZ_WHEEL", NULL },
   { HED_BUTTON_WHEEL_POSITIVE, "WHEEL_POSITIVE", NULL },
+  /* numbers.txt: end */
   { 0, NULL, NULL },
 };
 
-const flag held_flags[] = {
-  { HED_KITTY_MOD_SHIFT, "SHIFT", NULL },
-  { HED_KITTY_MOD_ALT, "ALT", NULL },
-  { HED_KITTY_MOD_CTRL, "CTRL", NULL },
-  { HED_KITTY_MOD_SUPER, "SUPER", NULL },
-  { HED_KITTY_MOD_HYPER, "HYPER", NULL },
-  { HED_KITTY_MOD_META, "META", NULL },
-  { HED_KITTY_MOD_CAPS_LOCK, "CAPS_LOCK", NULL },
-  { HED_KITTY_MOD_NUM_LOCK, "NUM_LOCK", NULL },
+const flag kitty_modifier_flags[] = {
+  /* numbers.txt: kitty_mod table */
+  { HED_KITTY_MOD_SHIFT, "SHIFT", "Shift-" },
+  { HED_KITTY_MOD_ALT, "ALT", "Alt-" },
+  { HED_KITTY_MOD_CTRL, "CTRL", "Ctrl-" },
+  { HED_KITTY_MOD_SUPER, "SUPER", "Super-" },
+  { HED_KITTY_MOD_HYPER, "HYPER", "Hyper-" },
+  { HED_KITTY_MOD_META, "META", "Meta-" },
+  { HED_KITTY_MOD_CAPS_LOCK, "CAPS_LOCK", "CapsLock-" },
+  { HED_KITTY_MOD_NUM_LOCK, "NUM_LOCK", "NumLock-" },
+  /* numbers.txt: end */
   { 0, NULL, NULL },
 };
 
@@ -47,9 +53,9 @@ const char *kind_name(uint8_t kind) {
   return names[kind];
 }
 
-const char *action_name(uint8_t action) {
-  if (action == HED_KEY_EVENT_KIND_REPEAT) return "repeat";
-  return action == HED_KEY_EVENT_KIND_RELEASE ? "release" : "press";
+const char *key_event_kind_name(uint8_t kind) {
+  if (kind == HED_KEY_EVENT_KIND_REPEAT) return "repeat";
+  return kind == HED_KEY_EVENT_KIND_RELEASE ? "release" : "press";
 }
 
 void add_byte(text *out, uint8_t byte, bool is_hex) {

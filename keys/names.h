@@ -12,13 +12,13 @@ typedef struct flag {
 } flag;
 
 /* All modifiers, all buttons and all modifiers of a key report. The last has no name. */
-extern const flag modifier_flags[], button_flags[], held_flags[];
+extern const flag modifier_flags[], button_flags[], kitty_modifier_flags[];
 
 /* The kind of an event in one word: key, mouse, paste, report, focus, cursor, resize, flags, csi, osc, dcs or apc. */
 const char *kind_name(uint8_t kind);
 
 /* What happened to a key: press, repeat or release. */
-const char *action_name(uint8_t action);
+const char *key_event_kind_name(uint8_t kind);
 
 /* Appends a byte: printable ASCII as itself, ESC, SP for a space, ^A to ^_ and ^? for control characters, others in hexadecimal. With
  * is_hex each byte is in hexadecimal. */

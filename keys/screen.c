@@ -169,8 +169,8 @@ static void add_report(text *out, const group *of) {
   text_add(out, "report ");
   add_key(out, report->key, report->detail);
   text_add(out, " ");
-  add_flags(out, held_flags, report->modifiers);
-  text_add(out, " %s", action_name(report->action));
+  add_flags(out, kitty_modifier_flags, report->modifiers);
+  text_add(out, " %s", key_event_kind_name(report->kind));
   add_code(out, "shifted", report->shifted);
   add_code(out, "base", report->base);
   if (of->event.text_len > 0) add_text(out, " text", of);

@@ -44,7 +44,7 @@ static bool is_key(const hed_extended_event *event) { return event->kind == HED_
 /* What holds for every report: it says what happened to a key, which has a name or a number in Kitty's table. */
 static void check_report(const hed_key_report *report) {
   uint8_t name[22];
-  HOLDS(report->action >= HED_KEY_EVENT_KIND_PRESS && report->action <= HED_KEY_EVENT_KIND_RELEASE);
+  HOLDS(report->kind >= HED_KEY_EVENT_KIND_PRESS && report->kind <= HED_KEY_EVENT_KIND_RELEASE);
   HOLDS(report->key == 0 ? report->detail >= 57344 && report->detail <= 63743 : hed_key_name(report->key, name, sizeof name) > 0);
   HOLDS(report->shifted <= 0x10ffff || report->shifted == HED_NO_CODE);
   HOLDS(report->base <= 0x10ffff || report->base == HED_NO_CODE);
@@ -59,11 +59,11 @@ static void check_extended_event(const hed_extended_event *event) {
   HOLDS((event->input.kind == HED_KIND_OTHER) == (event->kind > HED_KIND_PASTE));
   HOLDS(event->kind > HED_KIND_PASTE || event->input.kind == event->kind);
   if (event->kind == HED_KIND_PASTE) HOLDS(event->text_len == event->input.paste_len);
-  note(0x60000u | event->kind, event->report.action);
+  note(0x60000u | event->kind, event->report.kind);
 }
 
 static bool same_report(const hed_key_report *one, const hed_key_report *other) {
-  return one->action == other->action && one->modifiers == other->modifiers && one->key == other->key && one->detail == other->detail
+  return one->kind == other->kind && one->modifiers == other->modifiers && one->key == other->key && one->detail == other->detail
          && one->shifted == other->shifted && one->base == other->base;
 }
 
@@ -220,7 +220,7 @@ static bool send_and_read(const hed_extended_event *event, const uint8_t *of_key
   if (it.encoded != HED_ENCODED_TEXT) return false;
   HOLDS(it.len > 0 && it.len <= SENT_MAX && hed_extended_feed(&back, it.bytes, it.len));
   HOLDS(hed_extended_next(&back, true, read) == HED_NEXT_EVENT && read->kind == HED_KIND_REPORT);
-  HOLDS(read->report.action == event->report.action && read->report.modifiers == event->report.modifiers);
+  HOLDS(read->report.kind == event->report.kind && read->report.modifiers == event->report.modifiers);
   HOLDS(hed_extended_text(&back, of_read, SENT_MAX) == read->text_len && (read->text_len == event->text_len || read->text_len == 0));
   HOLDS(memcmp(of_read, of_key, read->text_len) == 0);
   HOLDS(hed_extended_next(&back, true, &more) == HED_NEXT_NONE && hed_extended_waiting_len(&back) == 0);

@@ -170,18 +170,18 @@ static told_key take_report(input *it, const press *is, bool stays) {
   hed_key_report *report = &key.report;
   report->key = is->key;
   report->detail = is->detail;
-  report->action = take_byte(it);
+  report->kind = take_byte(it);
   report->modifiers = take_byte(it);
   report->shifted = (uint32_t)take_number(it, 4);
   report->base = (uint32_t)take_number(it, 4);
   const uint8_t *text = take_bytes(it, TYPED_MAX, &key.len);
   if (key.len > 0) memcpy(key.text, text, key.len);
   if (stays) return key;
-  if (report->action & 0x80) {
+  if (report->kind & 0x80) {
     report->key = 0;
     report->detail = 57344 + report->detail % 128;
   }
-  report->action = report->action % 3 + HED_KEY_EVENT_KIND_PRESS;
+  report->kind = report->kind % 3 + HED_KEY_EVENT_KIND_PRESS;
   if (!is_scalar(report->shifted)) report->shifted = HED_NO_CODE;
   if (!is_scalar(report->base)) report->base = HED_NO_CODE;
   return key;
@@ -226,7 +226,7 @@ static bool is_utf8(const uint8_t *text, size_t len) {
 
 static bool is_bad_report(const told_key *key) {
   const hed_key_report *report = &key->report;
-  if (report->action < HED_KEY_EVENT_KIND_PRESS || report->action > HED_KEY_EVENT_KIND_RELEASE || report->key > KEYS || key->flags & ~ALL_KITTY) return true;
+  if (report->kind < HED_KEY_EVENT_KIND_PRESS || report->kind > HED_KEY_EVENT_KIND_RELEASE || report->key > KEYS || key->flags & ~ALL_KITTY) return true;
   if (report->key == HED_KEY_CHAR && !is_scalar(report->detail)) return true;
   if (report->key == HED_KEY_FUNCTION && report->detail > 255) return true;
   if (report->shifted != HED_NO_CODE && !is_scalar(report->shifted)) return true;
@@ -240,7 +240,7 @@ static void check_told(const told_key *key, const answer *whole) {
   else HOLDS(whole->encoded == HED_ENCODED_TEXT || whole->encoded == HED_ENCODED_REFUSED_KEY);
   HOLDS(whole->encoded != HED_ENCODED_REFUSED_KEY || key->report.key != HED_KEY_CHAR);
   note(0x70000u | whole->encoded, (unsigned)whole->len);
-  note(0x80000u | key->report.key << 5 | key->flags, key->report.action);
+  note(0x80000u | key->report.key << 5 | key->flags, key->report.kind);
 }
 
 static void check_report(const told_key *key, unsigned number) {

@@ -13,12 +13,12 @@ use Rattle.hedrugal.specs.declared.extended_events.CExtendedEvent.{CExtendedEven
 use Rattle.hedrugal.specs.Calls.{waiting_number}
 use Rattle.hedrugal.specs.ExtendedEvents.{c_extended_event, own_bytes, protocol_number}
 
--- there is a parser that reads the rows in the way with this number, nothing waits in it, and no event brought bytes
+-- there is a parser for the protocol with this number, nothing waits in it, and no event brought bytes
 abbrev pub IsFresh : Option ExtendedAndText → ℕ → Type 0
 IsFresh (Some held) protocol = (protocol_number held.parser.protocol ≡ protocol) × (held.parser.text ≡ []) × (held.text.items ≡ [])
 IsFresh None protocol = ⊥
 
--- no way of reading the rows has this number
+-- no protocol has this number
 abbrev pub IsNoProtocol : ℕ → Type 0
 IsNoProtocol number = (protocol : Protocol) → ¬ (protocol_number protocol ≡ number)
 
@@ -48,7 +48,7 @@ Took _ bytes _ = ⊥
 abbrev pub text_after : ExtendedEvent → List ℕ → List ℕ
 text_after event before = unwrap_or (own_bytes event) before
 
--- this is the event in numbers, its bytes are kept, and the rows are read as before
+-- this is the event in numbers, its bytes are kept, and the protocol is as before
 abbrev pub Shows : ExtendedAndText → ExtendedEvent → CExtendedEvent → ExtendedAndText → Type 0
 Shows before event shown after =
     (shown ≡ c_extended_event event) × (after.text.items ≡ text_after event before.text.items)
@@ -111,7 +111,7 @@ abbrev pub HasDroppedText : Option ExtendedAndText → Option ExtendedAndText �
 HasDroppedText (Some before) (Some after) = (after.parser ≡ before.parser) × (after.text.items ≡ [])
 HasDroppedText before after = after ≡ before
 
--- what is buffered, how the rows are read and the bytes of the last event are as they were
+-- what is buffered, the protocol and the bytes of the last event are as they were
 abbrev pub IsUnchanged : Option ExtendedAndText → Option ExtendedAndText → Type 0
 IsUnchanged (Some before) (Some after) = (after.parser ≡ before.parser) × (after.text.items ≡ before.text.items)
 IsUnchanged before after = after ≡ before

@@ -17,16 +17,16 @@ use Rattle.hedrugal.specs.declared.extended_events.CKeyReport.{CKeyReport}
 use Rattle.hedrugal.specs.Events.{c_event}
 use Rattle.hedrugal.specs.Keys.{key_number, key_detail}
 
--- the number of how the rows of the sequence table are read
+-- the number of the protocol that the program turned on
 unfoldable pub protocol_number : Protocol → ℕ
 protocol_number Legacy = 0
 protocol_number Kitty = 1
 
 -- the number of what happened to a key
-unfoldable pub action_number : KeyEventKind → ℕ
-action_number Press = 1
-action_number Repeat = 2
-action_number Release = 3
+unfoldable pub key_event_kind_number : KeyEventKind → ℕ
+key_event_kind_number Press = 1
+key_event_kind_number Repeat = 2
+key_event_kind_number Release = 3
 
 -- the number of a reported key: 0 if it has no name
 unfoldable pub reported_number : ReportedKey → ℕ
@@ -45,7 +45,7 @@ no_code = 0xffffffff
 -- a key report in numbers
 abbrev pub c_report : KeyReport → CKeyReport
 c_report report = record {
-  action = action_number report.kind;
+  kind = key_event_kind_number report.kind;
   modifiers = report.modifiers;
   key = reported_number report.key;
   detail = reported_detail report.key;
@@ -56,7 +56,7 @@ c_report report = record {
 -- the same of an event that may have none: all of it is then 0
 abbrev pub c_report_if : Option KeyReport → CKeyReport
 c_report_if (Some report) = c_report report
-c_report_if None = record { action = 0; modifiers = 0; key = 0; detail = 0; shifted = 0; base = 0 }
+c_report_if None = record { kind = 0; modifiers = 0; key = 0; detail = 0; shifted = 0; base = 0 }
 
 -- the bytes that an event brings, if its kind has bytes: the text of a paste or of a key report, and the bytes of a sequence
 unfoldable pub own_bytes : ExtendedEvent → Option (List ℕ)

@@ -9,7 +9,7 @@ use Rattle.termwiz_extended_events.specs.declared.types.ReportedKey.TheVariants.
 use Rattle.termwiz_kitty.specs.KittyTexts.{kitty_text, IsTooLong, IsWithin}
 use Rattle.hedrugal.specs.declared.extended_events.CKeyReport.{CKeyReport}
 use Rattle.hedrugal.specs.Calls.{copied}
-use Rattle.hedrugal.specs.ExtendedEvents.{action_number, no_code}
+use Rattle.hedrugal.specs.ExtendedEvents.{key_event_kind_number, no_code}
 use Rattle.hedrugal.specs.Keys.{StandFor}
 
 -- the number and the detail stand for this key of a report: with the number 0 the detail is that of Kitty's table
@@ -25,7 +25,7 @@ IsCode number None = number ≡ no_code
 -- the numbers stand for this report, whatever its text is
 abbrev pub StandForReport : CKeyReport → KeyReport → Type 0
 StandForReport numbers report =
-    (action_number report.kind ≡ numbers.action) × (report.modifiers ≡ numbers.modifiers)
+    (key_event_kind_number report.kind ≡ numbers.kind) × (report.modifiers ≡ numbers.modifiers)
     × StandForReported numbers.key numbers.detail report.key
     × IsCode numbers.shifted report.shifted × IsCode numbers.base report.base
 

@@ -6,6 +6,15 @@ use crate::keys::{key_detail, key_number};
 use bitflags::Flags;
 use termwiz_input::types::InputEvent;
 
+// The kinds of events that both parsers have.
+pub(crate) const KIND_OTHER: u8 = 0;
+
+pub(crate) const KIND_KEY: u8 = 1;
+
+pub(crate) const KIND_MOUSE: u8 = 2;
+
+pub(crate) const KIND_PASTE: u8 = 3;
+
 /// `hed_event`: an event in numbers. What its kind has no use for is 0.
 #[repr(C)]
 #[derive(Clone, Copy)]
@@ -30,7 +39,7 @@ pub struct CEvent {
 
 // All zero: what an event of no kind has.
 pub(crate) const NO_EVENT: CEvent = CEvent {
-    kind: 0,
+    kind: KIND_OTHER,
     buttons: 0,
     modifiers: 0,
     key: 0,
@@ -47,14 +56,14 @@ pub(crate) fn c_event(event: &InputEvent) -> CEvent
 {
     match event {
         InputEvent::Key(key) => CEvent {
-            kind: 1,
+            kind: KIND_KEY,
             modifiers: key.modifiers.bits(),
             key: key_number(key.key),
             detail: key_detail(key.key),
             ..NO_EVENT
         },
         InputEvent::Mouse(mouse) => CEvent {
-            kind: 2,
+            kind: KIND_MOUSE,
             buttons: mouse.mouse_buttons.bits(),
             modifiers: mouse.modifiers.bits(),
             x: mouse.x,
@@ -62,7 +71,7 @@ pub(crate) fn c_event(event: &InputEvent) -> CEvent
             ..NO_EVENT
         },
         InputEvent::Paste(text) => CEvent {
-            kind: 3,
+            kind: KIND_PASTE,
             paste_len: text.as_str().len(),
             ..NO_EVENT
         },

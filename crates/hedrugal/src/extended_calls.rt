@@ -7,16 +7,18 @@ ghost use Rattle.hedrugal.specs.ExtendedEvents.{protocol_number};
 use crate::extended_and_text::ExtendedAndText;
 use crate::extended_events::CExtendedEvent;
 use crate::extended_handle::ExtendedHandle;
-use crate::{EVENT, NO_MEMORY, NO_PARSER, NONE, WAITING_NOTHING, waiting_number};
+use crate::{
+    NEXT_EVENT, NEXT_NO_MEMORY, NEXT_NO_PARSER, NEXT_NONE, WAITING_NOTHING, waiting_number,
+};
 use std::alloc::Global;
 use termwiz_input_extended::types::Protocol;
 
-// How the rows of the sequence table are read.
+// The protocols that a program may have turned on.
 const PROTOCOL_LEGACY: u32 = 0;
 
 const PROTOCOL_KITTY: u32 = 1;
 
-// The way of reading the rows that has this number.
+// The protocol that has this number.
 #[tactic(auto, unfolding(crate::specs::ExtendedEvents::protocol_number))]
 pub(crate) fn protocol_at(number: u32) -> Option<Protocol>
     ensures some { IfSome result (λ protocol. protocol_number protocol ≡ number) }
@@ -29,8 +31,8 @@ pub(crate) fn protocol_at(number: u32) -> Option<Protocol>
     }
 }
 
-/// Makes an extended parser that reads the rows of the sequence table in the way with this number, and frees the one that was there. If
-/// memory is refused, or no way has the number, the answer is false and nothing changes.
+/// Makes an extended parser for the protocol with this number, and frees the one that was there. If memory is refused, or no protocol has
+/// the number, the answer is false and nothing changes.
 #[unsafe(no_mangle)]
 pub extern "C" fn hed_extended_init(
     alloc: Global,
@@ -82,24 +84,24 @@ pub extern "C" fn hed_extended_next(
     event: &mut CExtendedEvent,
 ) -> u32
     ensures answers { result ≤ 3 }
-    ensures none { result ≡ NONE → Rests parser.old.owned.held more }
-    ensures event { result ≡ EVENT → Gave parser.old.owned.held more event.new parser.new.owned.held }
-    ensures refused { result ≡ NO_MEMORY → NeedsMemoryNext parser.old.owned.held more }
-    ensures no_parser { result ≡ NO_PARSER ↔ (parser.old.owned.held ≡ None) }
-    ensures same { result ≢ EVENT → parser.new.owned.held ≡ parser.old.owned.held }
-    ensures event_same { result ≢ EVENT → event.new ≡ event.old }
+    ensures none { result ≡ NEXT_NONE → Rests parser.old.owned.held more }
+    ensures event { result ≡ NEXT_EVENT → Gave parser.old.owned.held more event.new parser.new.owned.held }
+    ensures refused { result ≡ NEXT_NO_MEMORY → NeedsMemoryNext parser.old.owned.held more }
+    ensures no_parser { result ≡ NEXT_NO_PARSER ↔ (parser.old.owned.held ≡ None) }
+    ensures same { result ≢ NEXT_EVENT → parser.new.owned.held ≡ parser.old.owned.held }
+    ensures event_same { result ≢ NEXT_EVENT → event.new ≡ event.old }
 {
     if !parser.live {
-        return NO_PARSER;
+        return NEXT_NO_PARSER;
     }
     let held = parser.owned.get_mut();
     match held.next(more) {
         Ok(Some(next)) => {
             *event = next;
-            EVENT
+            NEXT_EVENT
         }
-        Ok(None) => NONE,
-        Err(_) => NO_MEMORY,
+        Ok(None) => NEXT_NONE,
+        Err(_) => NEXT_NO_MEMORY,
     }
 }
 
@@ -177,23 +179,23 @@ pub extern "C" fn hed_extended_flush_escape(
     event: &mut CExtendedEvent,
 ) -> u32
     ensures answers { result ≤ 3 }
-    ensures granted { result ≢ NO_MEMORY }
-    ensures when { result ≡ EVENT ↔ HasEscape parser.old.owned.held }
-    ensures event { result ≡ EVENT → Flushed parser.old.owned.held event.new parser.new.owned.held }
-    ensures no_parser { result ≡ NO_PARSER ↔ (parser.old.owned.held ≡ None) }
-    ensures same { result ≢ EVENT → parser.new.owned.held ≡ parser.old.owned.held }
-    ensures event_same { result ≢ EVENT → event.new ≡ event.old }
+    ensures granted { result ≢ NEXT_NO_MEMORY }
+    ensures when { result ≡ NEXT_EVENT ↔ HasEscape parser.old.owned.held }
+    ensures event { result ≡ NEXT_EVENT → Flushed parser.old.owned.held event.new parser.new.owned.held }
+    ensures no_parser { result ≡ NEXT_NO_PARSER ↔ (parser.old.owned.held ≡ None) }
+    ensures same { result ≢ NEXT_EVENT → parser.new.owned.held ≡ parser.old.owned.held }
+    ensures event_same { result ≢ NEXT_EVENT → event.new ≡ event.old }
 {
     if !parser.live {
-        return NO_PARSER;
+        return NEXT_NO_PARSER;
     }
     let held = parser.owned.get_mut();
     match held.flush_escape() {
         Some(escape) => {
             *event = escape;
-            EVENT
+            NEXT_EVENT
         }
-        None => NONE,
+        None => NEXT_NONE,
     }
 }
 
@@ -218,24 +220,24 @@ pub extern "C" fn hed_extended_end_paste(
     event: &mut CExtendedEvent,
 ) -> u32
     ensures answers { result ≤ 3 }
-    ensures none { result ≡ NONE → ¬ HasEndlessPaste parser.old.owned.held }
-    ensures event { result ≡ EVENT → Ended parser.old.owned.held event.new parser.new.owned.held }
-    ensures refused { result ≡ NO_MEMORY → HasEndlessPaste parser.old.owned.held }
-    ensures no_parser { result ≡ NO_PARSER ↔ (parser.old.owned.held ≡ None) }
-    ensures same { result ≢ EVENT → parser.new.owned.held ≡ parser.old.owned.held }
-    ensures event_same { result ≢ EVENT → event.new ≡ event.old }
+    ensures none { result ≡ NEXT_NONE → ¬ HasEndlessPaste parser.old.owned.held }
+    ensures event { result ≡ NEXT_EVENT → Ended parser.old.owned.held event.new parser.new.owned.held }
+    ensures refused { result ≡ NEXT_NO_MEMORY → HasEndlessPaste parser.old.owned.held }
+    ensures no_parser { result ≡ NEXT_NO_PARSER ↔ (parser.old.owned.held ≡ None) }
+    ensures same { result ≢ NEXT_EVENT → parser.new.owned.held ≡ parser.old.owned.held }
+    ensures event_same { result ≢ NEXT_EVENT → event.new ≡ event.old }
 {
     if !parser.live {
-        return NO_PARSER;
+        return NEXT_NO_PARSER;
     }
     let held = parser.owned.get_mut();
     match held.end_paste() {
         Ok(Some(paste)) => {
             *event = paste;
-            EVENT
+            NEXT_EVENT
         }
-        Ok(None) => NONE,
-        Err(_) => NO_MEMORY,
+        Ok(None) => NEXT_NONE,
+        Err(_) => NEXT_NO_MEMORY,
     }
 }
 

@@ -1,48 +1,40 @@
 // Events of the extended parser as C has them.
 ghost use Rattle.std.specs.Prelude.{◌≡◌, option_map};
 ghost use Rattle.termwiz_extended_events.specs.EventKeys.{key_of_event, pressed_key};
-ghost use Rattle.hedrugal.specs.ExtendedEvents.{action_number, bytes_of, c_extended_event, c_report, c_report_if, kind_number, own_bytes, reported_detail, reported_number};
+ghost use Rattle.hedrugal.specs.ExtendedEvents.{key_event_kind_number, bytes_of, c_extended_event, c_report, c_report_if, kind_number, own_bytes, reported_detail, reported_number};
 
-use crate::events::{CEvent, NO_EVENT, c_event};
+use crate::events::{CEvent, KIND_KEY, KIND_MOUSE, KIND_OTHER, KIND_PASTE, NO_EVENT, c_event};
 use crate::keys::{key_detail, key_number};
 use termwiz_input::types::{InputEvent, KeyEvent};
 use termwiz_input_extended::types::{ExtendedEvent, KeyEventKind, KeyReport, ReportedKey};
 
-// The kinds of events.
-const EVENT_OTHER: u8 = 0;
+// The kinds of events that only this parser has.
+const KIND_REPORT: u8 = 4;
 
-const EVENT_KEY: u8 = 1;
+const KIND_FOCUS_GAINED: u8 = 5;
 
-const EVENT_MOUSE: u8 = 2;
+const KIND_FOCUS_LOST: u8 = 6;
 
-const EVENT_PASTE: u8 = 3;
+const KIND_CURSOR_POSITION: u8 = 7;
 
-const EVENT_REPORT: u8 = 4;
+const KIND_RESIZE: u8 = 8;
 
-const EVENT_FOCUS_GAINED: u8 = 5;
+const KIND_KEYBOARD_FLAGS: u8 = 9;
 
-const EVENT_FOCUS_LOST: u8 = 6;
+const KIND_CSI: u8 = 10;
 
-const EVENT_CURSOR_POSITION: u8 = 7;
+const KIND_OSC: u8 = 11;
 
-const EVENT_RESIZE: u8 = 8;
+const KIND_DCS: u8 = 12;
 
-const EVENT_KEYBOARD_FLAGS: u8 = 9;
-
-const EVENT_CSI: u8 = 10;
-
-const EVENT_OSC: u8 = 11;
-
-const EVENT_DCS: u8 = 12;
-
-const EVENT_APC: u8 = 13;
+const KIND_APC: u8 = 13;
 
 // What happened to a key.
-pub(crate) const ACTION_PRESS: u8 = 1;
+pub(crate) const KEY_EVENT_KIND_PRESS: u8 = 1;
 
-pub(crate) const ACTION_REPEAT: u8 = 2;
+pub(crate) const KEY_EVENT_KIND_REPEAT: u8 = 2;
 
-pub(crate) const ACTION_RELEASE: u8 = 3;
+pub(crate) const KEY_EVENT_KIND_RELEASE: u8 = 3;
 
 // What stands for a code point that the terminal didn't report.
 pub(crate) const NO_CODE: u32 = 0xffff_ffff;
@@ -52,7 +44,7 @@ pub(crate) const NO_CODE: u32 = 0xffff_ffff;
 #[derive(Clone, Copy)]
 pub struct CKeyReport {
     /// 1 for a press, 2 for a repeat, 3 for a release.
-    pub action: u8,
+    pub kind: u8,
     /// The modifiers that were held, as Kitty's bits.
     pub modifiers: u8,
     /// The number of the key, or 0 for a key without a name.
@@ -97,7 +89,7 @@ pub struct CExtendedEvent {
 
 // All zero: what an event without a key has.
 const NO_REPORT: CKeyReport = CKeyReport {
-    action: 0,
+    kind: 0,
     modifiers: 0,
     key: 0,
     detail: 0,
@@ -107,7 +99,7 @@ const NO_REPORT: CKeyReport = CKeyReport {
 
 // All zero: what an event of no kind has.
 const NO_EXTENDED_EVENT: CExtendedEvent = CExtendedEvent {
-    kind: EVENT_OTHER,
+    kind: KIND_OTHER,
     flags: 0,
     row: 0,
     column: 0,
@@ -121,14 +113,14 @@ const NO_EXTENDED_EVENT: CExtendedEvent = CExtendedEvent {
 };
 
 // The number of what happened to a key.
-#[tactic(auto, unfolding(crate::specs::ExtendedEvents::action_number))]
-fn action_number(kind: KeyEventKind) -> u8
-    ensures { result ≡ action_number kind }
+#[tactic(auto, unfolding(crate::specs::ExtendedEvents::key_event_kind_number))]
+fn key_event_kind_number(kind: KeyEventKind) -> u8
+    ensures { result ≡ key_event_kind_number kind }
 {
     match kind {
-        KeyEventKind::Press => ACTION_PRESS,
-        KeyEventKind::Repeat => ACTION_REPEAT,
-        KeyEventKind::Release => ACTION_RELEASE,
+        KeyEventKind::Press => KEY_EVENT_KIND_PRESS,
+        KeyEventKind::Repeat => KEY_EVENT_KIND_REPEAT,
+        KeyEventKind::Release => KEY_EVENT_KIND_RELEASE,
     }
 }
 
@@ -159,7 +151,7 @@ fn c_report(report: &KeyReport) -> CKeyReport
     ensures { result ≡ c_report report.now }
 {
     CKeyReport {
-        action: action_number(report.kind),
+        kind: key_event_kind_number(report.kind),
         modifiers: report.modifiers,
         key: reported_number(report.key),
         detail: reported_detail(report.key),
@@ -169,12 +161,12 @@ fn c_report(report: &KeyReport) -> CKeyReport
 }
 
 // A key of the port, as the report of a press.
-#[tactic(auto, unfolding(crate::specs::ExtendedEvents::action_number, crate::specs::ExtendedEvents::reported_number, crate::specs::ExtendedEvents::reported_detail))]
+#[tactic(auto, unfolding(crate::specs::ExtendedEvents::key_event_kind_number, crate::specs::ExtendedEvents::reported_number, crate::specs::ExtendedEvents::reported_detail))]
 fn c_press(event: &KeyEvent) -> CKeyReport
     ensures { result ≡ c_report (pressed_key event.now) }
 {
     CKeyReport {
-        action: ACTION_PRESS,
+        kind: KEY_EVENT_KIND_PRESS,
         modifiers: event.modifiers.encode_xterm(),
         key: key_number(event.key),
         detail: key_detail(event.key),
@@ -232,20 +224,20 @@ fn kind_number(event: &ExtendedEvent) -> u8
     ensures { result ≡ kind_number event.now }
 {
     match event {
-        ExtendedEvent::Input(InputEvent::Key(_)) => EVENT_KEY,
-        ExtendedEvent::Input(InputEvent::Mouse(_)) => EVENT_MOUSE,
-        ExtendedEvent::Input(InputEvent::Paste(_)) => EVENT_PASTE,
-        ExtendedEvent::Input(_) => EVENT_OTHER,
-        ExtendedEvent::Key(_) => EVENT_REPORT,
-        ExtendedEvent::FocusGained => EVENT_FOCUS_GAINED,
-        ExtendedEvent::FocusLost => EVENT_FOCUS_LOST,
-        ExtendedEvent::CursorPosition { .. } => EVENT_CURSOR_POSITION,
-        ExtendedEvent::Resize { .. } => EVENT_RESIZE,
-        ExtendedEvent::KeyboardFlags(_) => EVENT_KEYBOARD_FLAGS,
-        ExtendedEvent::Csi(_) => EVENT_CSI,
-        ExtendedEvent::Osc(_) => EVENT_OSC,
-        ExtendedEvent::Dcs(_) => EVENT_DCS,
-        ExtendedEvent::Apc(_) => EVENT_APC,
+        ExtendedEvent::Input(InputEvent::Key(_)) => KIND_KEY,
+        ExtendedEvent::Input(InputEvent::Mouse(_)) => KIND_MOUSE,
+        ExtendedEvent::Input(InputEvent::Paste(_)) => KIND_PASTE,
+        ExtendedEvent::Input(_) => KIND_OTHER,
+        ExtendedEvent::Key(_) => KIND_REPORT,
+        ExtendedEvent::FocusGained => KIND_FOCUS_GAINED,
+        ExtendedEvent::FocusLost => KIND_FOCUS_LOST,
+        ExtendedEvent::CursorPosition { .. } => KIND_CURSOR_POSITION,
+        ExtendedEvent::Resize { .. } => KIND_RESIZE,
+        ExtendedEvent::KeyboardFlags(_) => KIND_KEYBOARD_FLAGS,
+        ExtendedEvent::Csi(_) => KIND_CSI,
+        ExtendedEvent::Osc(_) => KIND_OSC,
+        ExtendedEvent::Dcs(_) => KIND_DCS,
+        ExtendedEvent::Apc(_) => KIND_APC,
     }
 }
 

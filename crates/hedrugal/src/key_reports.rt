@@ -3,24 +3,26 @@ ghost use Rattle.std.specs.Prelude.{◌≡◌, ℕ, [], Option, IfSome, IfNone};
 ghost use Rattle.termwiz_extended_events.specs.declared.types.KeyEventKind.{KeyEventKind as Kind};
 ghost use Rattle.termwiz_extended_events.specs.declared.types.KeyReport.{KeyReport as Report};
 ghost use Rattle.termwiz_extended_events.specs.declared.types.ReportedKey.{ReportedKey as Key};
-ghost use Rattle.hedrugal.specs.ExtendedEvents.{action_number};
+ghost use Rattle.hedrugal.specs.ExtendedEvents.{key_event_kind_number};
 ghost use Rattle.hedrugal.specs.KittyCalls.{IsCode, StandForReport, StandForReported};
 
-use crate::extended_events::{ACTION_PRESS, ACTION_RELEASE, ACTION_REPEAT, CKeyReport, NO_CODE};
+use crate::extended_events::{
+    CKeyReport, KEY_EVENT_KIND_PRESS, KEY_EVENT_KIND_RELEASE, KEY_EVENT_KIND_REPEAT, NO_CODE,
+};
 use crate::keys::key_of;
 use std::alloc::Global;
 use termwiz_input_extended::types::{KeyEventKind, KeyReport, KeyText, ReportedKey};
 
 // What happened to a key, by its number.
-#[tactic(auto, unfolding(crate::specs::ExtendedEvents::action_number))]
-fn kind_of(action: u8) -> Option<KeyEventKind>
-    ensures some { IfSome result (λ kind. action_number kind ≡ action) }
-    ensures none { IfNone result ((kind : Kind) → ¬ (action_number kind ≡ action)) }
+#[tactic(auto, unfolding(crate::specs::ExtendedEvents::key_event_kind_number))]
+fn kind_of(number: u8) -> Option<KeyEventKind>
+    ensures some { IfSome result (λ kind. key_event_kind_number kind ≡ number) }
+    ensures none { IfNone result ((kind : Kind) → ¬ (key_event_kind_number kind ≡ number)) }
 {
-    match action {
-        ACTION_PRESS => Some(KeyEventKind::Press),
-        ACTION_REPEAT => Some(KeyEventKind::Repeat),
-        ACTION_RELEASE => Some(KeyEventKind::Release),
+    match number {
+        KEY_EVENT_KIND_PRESS => Some(KeyEventKind::Press),
+        KEY_EVENT_KIND_REPEAT => Some(KeyEventKind::Repeat),
+        KEY_EVENT_KIND_RELEASE => Some(KeyEventKind::Release),
         _ => None,
     }
 }
@@ -62,7 +64,7 @@ pub(crate) fn report_of(alloc: Global, numbers: &CKeyReport) -> Option<KeyReport
     Some(KeyReport {
         key: reported_key(numbers.key, numbers.detail)?,
         modifiers: numbers.modifiers,
-        kind: kind_of(numbers.action)?,
+        kind: kind_of(numbers.kind)?,
         shifted: character_of(numbers.shifted)?,
         base: character_of(numbers.base)?,
         text: KeyText::new(String::new(alloc)),

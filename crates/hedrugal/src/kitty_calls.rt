@@ -7,7 +7,10 @@ use crate::copying::copy_prefix;
 use crate::extended_events::CKeyReport;
 use crate::key_reports::report_of;
 use crate::modes::flags_of;
-use crate::{BAD_NUMBER, BAD_TEXT, REFUSED_KEY, REFUSED_MEMORY, TEXT, TOO_LONG};
+use crate::{
+    ENCODED_BAD_NUMBER, ENCODED_BAD_TEXT, ENCODED_REFUSED_KEY, ENCODED_REFUSED_MEMORY,
+    ENCODED_TEXT, ENCODED_TOO_LONG,
+};
 use std::alloc::Global;
 use std::str;
 use termwiz_input_extended::types::KeyText;
@@ -27,35 +30,35 @@ pub extern "C" fn hed_encode_kitty(
     sent_len: &mut usize,
 ) -> u32
     ensures answers { result ≤ 5 }
-    ensures text { result ≡ TEXT → WroteReport report.now text.now flags out.old out.new sent_len.new }
-    ensures refused_key { result ≡ REFUSED_KEY → HasNoSequence report.now text.now flags }
-    ensures too_long { result ≡ TOO_LONG → HasLongSequence report.now text.now flags }
-    ensures bad_number { result ≡ BAD_NUMBER ↔ IsBadReport report.now flags }
-    ensures bad_text { result ≡ BAD_TEXT ↔ ((¬ IsBadReport report.now flags) × (¬ IsUtf8 text.now)) }
-    ensures none { result ≢ TEXT → sent_len.new ≡ 0 }
-    ensures same { result ≢ TEXT → out.new ≡ out.old }
+    ensures text { result ≡ ENCODED_TEXT → WroteReport report.now text.now flags out.old out.new sent_len.new }
+    ensures refused_key { result ≡ ENCODED_REFUSED_KEY → HasNoSequence report.now text.now flags }
+    ensures too_long { result ≡ ENCODED_TOO_LONG → HasLongSequence report.now text.now flags }
+    ensures bad_number { result ≡ ENCODED_BAD_NUMBER ↔ IsBadReport report.now flags }
+    ensures bad_text { result ≡ ENCODED_BAD_TEXT ↔ ((¬ IsBadReport report.now flags) × (¬ IsUtf8 text.now)) }
+    ensures none { result ≢ ENCODED_TEXT → sent_len.new ≡ 0 }
+    ensures same { result ≢ ENCODED_TEXT → out.new ≡ out.old }
 {
     *sent_len = 0;
     let Some(asked) = flags_of(flags) else {
-        return BAD_NUMBER;
+        return ENCODED_BAD_NUMBER;
     };
     let Some(mut told) = report_of(alloc, report) else {
-        return BAD_NUMBER;
+        return ENCODED_BAD_NUMBER;
     };
     let Ok(typed) = str::from_utf8(text) else {
-        return BAD_TEXT;
+        return ENCODED_BAD_TEXT;
     };
     let Ok(typed) = String::from_str(alloc, typed) else {
-        return REFUSED_MEMORY;
+        return ENCODED_REFUSED_MEMORY;
     };
     told.text = KeyText::new(typed);
     match encode_kitty(alloc, &told, asked) {
         Ok(sent) => {
             *sent_len = copy_prefix(sent.as_bytes(), out);
-            TEXT
+            ENCODED_TEXT
         }
-        Err(KittyEncodeError::UnknownKey) => REFUSED_KEY,
-        Err(KittyEncodeError::TooLong) => TOO_LONG,
-        Err(KittyEncodeError::Memory) => REFUSED_MEMORY,
+        Err(KittyEncodeError::UnknownKey) => ENCODED_REFUSED_KEY,
+        Err(KittyEncodeError::TooLong) => ENCODED_TOO_LONG,
+        Err(KittyEncodeError::Memory) => ENCODED_REFUSED_MEMORY,
     }
 }

@@ -54,13 +54,13 @@ const VERSION_MINOR: u32 = 1;
 const VERSION_PATCH: u32 = 0;
 
 // The answers of `hed_parser_next`, `hed_parser_flush_escape` and `hed_parser_end_paste`.
-const NONE: u32 = 0;
+const NEXT_NONE: u32 = 0;
 
-const EVENT: u32 = 1;
+const NEXT_EVENT: u32 = 1;
 
-const NO_MEMORY: u32 = 2;
+const NEXT_NO_MEMORY: u32 = 2;
 
-const NO_PARSER: u32 = 3;
+const NEXT_NO_PARSER: u32 = 3;
 
 // The answers of `hed_parser_waiting`.
 const WAITING_NOTHING: u32 = 0;
@@ -74,17 +74,17 @@ const WAITING_CHARACTER: u32 = 3;
 const WAITING_PASTE: u32 = 4;
 
 // The answers of `hed_encode` and `hed_encode_kitty`.
-const TEXT: u32 = 0;
+const ENCODED_TEXT: u32 = 0;
 
-const REFUSED_KEY: u32 = 1;
+const ENCODED_REFUSED_KEY: u32 = 1;
 
-const REFUSED_MEMORY: u32 = 2;
+const ENCODED_REFUSED_MEMORY: u32 = 2;
 
-const BAD_NUMBER: u32 = 3;
+const ENCODED_BAD_NUMBER: u32 = 3;
 
-const TOO_LONG: u32 = 4;
+const ENCODED_TOO_LONG: u32 = 4;
 
-const BAD_TEXT: u32 = 5;
+const ENCODED_BAD_TEXT: u32 = 5;
 
 /// Makes a parser, and frees the one that was there. If memory is refused, the answer is false and nothing changes.
 #[unsafe(no_mangle)]
@@ -126,24 +126,24 @@ pub extern "C" fn hed_parser_feed(parser: &mut ParserHandle, bytes: &[u8]) -> bo
 #[unsafe(no_mangle)]
 pub extern "C" fn hed_parser_next(parser: &mut ParserHandle, more: bool, event: &mut CEvent) -> u32
     ensures answers { result ≤ 3 }
-    ensures none { result ≡ NONE → Rests parser.old.owned.held more }
-    ensures event { result ≡ EVENT → Gave parser.old.owned.held more event.new parser.new.owned.held }
-    ensures refused { result ≡ NO_MEMORY → HasPasteNext parser.old.owned.held more }
-    ensures no_parser { result ≡ NO_PARSER ↔ (parser.old.owned.held ≡ None) }
-    ensures same { result ≢ EVENT → parser.new.owned.held ≡ parser.old.owned.held }
-    ensures event_same { result ≢ EVENT → event.new ≡ event.old }
+    ensures none { result ≡ NEXT_NONE → Rests parser.old.owned.held more }
+    ensures event { result ≡ NEXT_EVENT → Gave parser.old.owned.held more event.new parser.new.owned.held }
+    ensures refused { result ≡ NEXT_NO_MEMORY → HasPasteNext parser.old.owned.held more }
+    ensures no_parser { result ≡ NEXT_NO_PARSER ↔ (parser.old.owned.held ≡ None) }
+    ensures same { result ≢ NEXT_EVENT → parser.new.owned.held ≡ parser.old.owned.held }
+    ensures event_same { result ≢ NEXT_EVENT → event.new ≡ event.old }
 {
     if !parser.live {
-        return NO_PARSER;
+        return NEXT_NO_PARSER;
     }
     let held = parser.owned.get_mut();
     match held.next(more) {
         Ok(Some(next)) => {
             *event = next;
-            EVENT
+            NEXT_EVENT
         }
-        Ok(None) => NONE,
-        Err(_) => NO_MEMORY,
+        Ok(None) => NEXT_NONE,
+        Err(_) => NEXT_NO_MEMORY,
     }
 }
 
@@ -220,23 +220,23 @@ pub extern "C" fn hed_parser_waiting(parser: &mut ParserHandle) -> u32
 #[unsafe(no_mangle)]
 pub extern "C" fn hed_parser_flush_escape(parser: &mut ParserHandle, event: &mut CEvent) -> u32
     ensures answers { result ≤ 3 }
-    ensures granted { result ≢ NO_MEMORY }
-    ensures when { result ≡ EVENT ↔ HasEscape parser.old.owned.held }
-    ensures event { result ≡ EVENT → Flushed parser.old.owned.held event.new parser.new.owned.held }
-    ensures no_parser { result ≡ NO_PARSER ↔ (parser.old.owned.held ≡ None) }
-    ensures same { result ≢ EVENT → parser.new.owned.held ≡ parser.old.owned.held }
-    ensures event_same { result ≢ EVENT → event.new ≡ event.old }
+    ensures granted { result ≢ NEXT_NO_MEMORY }
+    ensures when { result ≡ NEXT_EVENT ↔ HasEscape parser.old.owned.held }
+    ensures event { result ≡ NEXT_EVENT → Flushed parser.old.owned.held event.new parser.new.owned.held }
+    ensures no_parser { result ≡ NEXT_NO_PARSER ↔ (parser.old.owned.held ≡ None) }
+    ensures same { result ≢ NEXT_EVENT → parser.new.owned.held ≡ parser.old.owned.held }
+    ensures event_same { result ≢ NEXT_EVENT → event.new ≡ event.old }
 {
     if !parser.live {
-        return NO_PARSER;
+        return NEXT_NO_PARSER;
     }
     let held = parser.owned.get_mut();
     match held.flush_escape() {
         Some(escape) => {
             *event = escape;
-            EVENT
+            NEXT_EVENT
         }
-        None => NONE,
+        None => NEXT_NONE,
     }
 }
 
@@ -245,24 +245,24 @@ pub extern "C" fn hed_parser_flush_escape(parser: &mut ParserHandle, event: &mut
 #[unsafe(no_mangle)]
 pub extern "C" fn hed_parser_end_paste(parser: &mut ParserHandle, event: &mut CEvent) -> u32
     ensures answers { result ≤ 3 }
-    ensures none { result ≡ NONE → ¬ HasEndlessPaste parser.old.owned.held }
-    ensures event { result ≡ EVENT → Ended parser.old.owned.held event.new parser.new.owned.held }
-    ensures refused { result ≡ NO_MEMORY → HasEndlessPaste parser.old.owned.held }
-    ensures no_parser { result ≡ NO_PARSER ↔ (parser.old.owned.held ≡ None) }
-    ensures same { result ≢ EVENT → parser.new.owned.held ≡ parser.old.owned.held }
-    ensures event_same { result ≢ EVENT → event.new ≡ event.old }
+    ensures none { result ≡ NEXT_NONE → ¬ HasEndlessPaste parser.old.owned.held }
+    ensures event { result ≡ NEXT_EVENT → Ended parser.old.owned.held event.new parser.new.owned.held }
+    ensures refused { result ≡ NEXT_NO_MEMORY → HasEndlessPaste parser.old.owned.held }
+    ensures no_parser { result ≡ NEXT_NO_PARSER ↔ (parser.old.owned.held ≡ None) }
+    ensures same { result ≢ NEXT_EVENT → parser.new.owned.held ≡ parser.old.owned.held }
+    ensures event_same { result ≢ NEXT_EVENT → event.new ≡ event.old }
 {
     if !parser.live {
-        return NO_PARSER;
+        return NEXT_NO_PARSER;
     }
     let held = parser.owned.get_mut();
     match held.end_paste() {
         Ok(Some(paste)) => {
             *event = paste;
-            EVENT
+            NEXT_EVENT
         }
-        Ok(None) => NONE,
-        Err(_) => NO_MEMORY,
+        Ok(None) => NEXT_NONE,
+        Err(_) => NEXT_NO_MEMORY,
     }
 }
 
@@ -320,16 +320,16 @@ pub extern "C" fn hed_encode(
     text_len: &mut usize,
 ) -> u32
     ensures answers { result ≤ 3 }
-    ensures text { result ≡ TEXT → Wrote key detail modifiers is_down modes.now out.old out.new text_len.new }
-    ensures refused_key { result ≡ REFUSED_KEY ↔ HasNoText key detail modifiers is_down modes.now }
-    ensures bad_number { result ≡ BAD_NUMBER ↔ IsBad key detail modifiers modes.now }
-    ensures up { is_down ≡ false → result ≢ REFUSED_MEMORY }
-    ensures none { result ≢ TEXT → text_len.new ≡ 0 }
-    ensures same { result ≢ TEXT → out.new ≡ out.old }
+    ensures text { result ≡ ENCODED_TEXT → Wrote key detail modifiers is_down modes.now out.old out.new text_len.new }
+    ensures refused_key { result ≡ ENCODED_REFUSED_KEY ↔ HasNoText key detail modifiers is_down modes.now }
+    ensures bad_number { result ≡ ENCODED_BAD_NUMBER ↔ IsBad key detail modifiers modes.now }
+    ensures up { is_down ≡ false → result ≢ ENCODED_REFUSED_MEMORY }
+    ensures none { result ≢ ENCODED_TEXT → text_len.new ≡ 0 }
+    ensures same { result ≢ ENCODED_TEXT → out.new ≡ out.old }
 {
     *text_len = 0;
     let Some(press) = press_of(key, detail, modifiers, modes) else {
-        return BAD_NUMBER;
+        return ENCODED_BAD_NUMBER;
     };
     match press
         .key
@@ -337,10 +337,10 @@ pub extern "C" fn hed_encode(
     {
         Ok(text) => {
             *text_len = copy_prefix(text.as_bytes(), out);
-            TEXT
+            ENCODED_TEXT
         }
-        Err(EncodeError::UnhandledFunctionKey(_)) => REFUSED_KEY,
-        Err(EncodeError::Memory) => REFUSED_MEMORY,
+        Err(EncodeError::UnhandledFunctionKey(_)) => ENCODED_REFUSED_KEY,
+        Err(EncodeError::Memory) => ENCODED_REFUSED_MEMORY,
     }
 }
 

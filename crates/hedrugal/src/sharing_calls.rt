@@ -54,8 +54,8 @@ pub extern "C" fn hed_parser_init_sharing_extended(
     parser.replace(alloc, ParserAndPaste::of(alloc, made))
 }
 
-/// Makes an extended parser with the sequence table of another, which reads its rows in the way with this number, and frees the one that
-/// was there. If memory is refused, no way has the number, or there is no other, the answer is false and nothing changes.
+/// Makes an extended parser for the protocol with this number, with the sequence table of another, and frees the one that was there. If
+/// memory is refused, no protocol has the number, or there is no other, the answer is false and nothing changes.
 #[unsafe(no_mangle)]
 pub extern "C" fn hed_extended_init_sharing(
     alloc: Global,

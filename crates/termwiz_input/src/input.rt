@@ -189,7 +189,7 @@ impl InputParser {
     }
 
     /// The row of the sequence table at a place: the bytes of a sequence, and its key. Rows are in the order of their bytes; the first
-    /// place is 0, and `None` is returned from 2937 on, the number of rows.
+    /// place is 0, and from the number of rows on `None` is returned.
     ///
     /// By the law `rows_in_order` each row of the table is at one place. The rows of the start and the end of a paste have the keys
     /// `InternalPasteStart` and `InternalPasteEnd`.
