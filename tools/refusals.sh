@@ -59,7 +59,7 @@ note() { # case number wrong
     fi
 }
 
-# Refuses each request of a case of the program of refusals. Status 3 is a refusal before the case's call, which comes before any
+# Refuses each request of a case of the program test_refusals. Status 3 is a refusal before the case's call, which comes before any
 # other answer.
 : > "$work/stream"
 check_case() { # case

@@ -30,6 +30,26 @@ impl Comparison {
         self.waiting.clear();
     }
 
+    // The calls have the events of the plain reader. Returns whether an extra sequence is among them.
+    pub fn check_calls(&mut self, calls: &[(Vec<u8>, bool)]) -> bool {
+        self.begin();
+        let mut has_extra = false;
+        for (bytes, more) in calls {
+            has_extra |= self.reader.has_extra(&[&self.waiting, &bytes[..]].concat(), *more);
+            self.check_call(bytes, *more);
+        }
+        has_extra
+    }
+
+    // Whether what is buffered begins an extra sequence, after at most one ESC.
+    pub fn begins_extra(&self) -> bool {
+        let after_escape = self.waiting.strip_prefix(b"\x1b");
+        [Some(&self.waiting[..]), after_escape]
+            .into_iter()
+            .flatten()
+            .any(|text| self.reader.begins_extra(text))
+    }
+
     // A call has the events of the plain reader, and as many bytes are buffered after it.
     fn check_call(&mut self, bytes: &[u8], more: bool) {
         let text = [&self.waiting, bytes].concat();

@@ -11,13 +11,18 @@ mod lines;
 mod long;
 mod parser;
 mod plain;
+mod recorded;
 mod rows;
 mod streams;
 mod waiting;
 
-// The plain reader of the port. The tests of the port use more of it.
+// The plain reader of the port, its texts, and how recorded answers are fed. The tests of the port use more of these.
 #[allow(dead_code)]
 #[path = "../parser"]
 mod port {
+    pub mod draws;
+    pub mod feeder;
+    pub mod lines;
+    pub mod names;
     pub mod plain;
 }

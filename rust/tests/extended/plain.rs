@@ -78,7 +78,7 @@ impl PlainReader {
     }
 
     // 5: whether some extra sequence is longer than the text and begins with it.
-    fn begins_extra(&self, text: &[u8]) -> bool {
+    pub fn begins_extra(&self, text: &[u8]) -> bool {
         ENDS_OF_FORMS
             .iter()
             .any(|end| self.extra_event(&[text, end].concat()).is_some())
@@ -114,6 +114,18 @@ impl PlainReader {
             return None;
         }
         self.item_of_port(text, more)
+    }
+
+    // Whether an item of a text under a flag is an extra sequence.
+    pub fn has_extra(&self, text: &[u8], more: bool) -> bool {
+        let mut rest = text;
+        while let Some((_, after)) = self.item_at(rest, more) {
+            if self.extra_at(rest).is_some() {
+                return true;
+            }
+            rest = after;
+        }
+        false
     }
 
     // 9: the events of a text under a flag, and the rest that stays buffered.

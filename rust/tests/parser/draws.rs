@@ -1,5 +1,5 @@
 // Texts that look random, and are the same in each run.
-use crate::plain::PlainReader;
+use super::plain::PlainReader;
 
 // The bytes that the grammar names, parts and wholes of sequences, and beginnings of characters.
 // ESC stands twice, so that it is drawn more often.

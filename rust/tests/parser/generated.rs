@@ -1,9 +1,8 @@
-// Generated texts in pieces, as the plain reader and the parsers read them: this crate's by its own calls, and Rattle's by the program replay.
+// Generated texts in pieces, read by the parser as by the plain reader.
 use crate::calls::{Call, CALLS, MOST};
 use crate::draws::Draws;
-use crate::lines::{answer, hex};
+use crate::lines::hex;
 use crate::plain::PlainReader;
-use crate::replay;
 use hedrugal::input::{InputEvent, InputParser, Waiting};
 
 // What the plain reader finds in a call with these bytes.
@@ -16,7 +15,7 @@ struct Reading<'a> {
 }
 
 impl<'a> Reading<'a> {
-    // How the reader reads these bytes after a waiting text. What it leaves may stay buffered.
+    // How the reader reads these bytes after what is buffered. What it leaves may stay buffered.
     fn new(reader: &PlainReader, waiting: &[u8], bytes: &'a [u8], more: bool) -> Reading<'a> {
         let text = [waiting, bytes].concat();
         let (events, rest) = reader.read(&text, more);
@@ -37,47 +36,46 @@ impl<'a> Reading<'a> {
         }
     }
 
-    fn answer(&self) -> String {
-        answer(&self.events, &self.rest)
-    }
-
-    // The call in a line of cases.
-    fn call(&self) -> String {
+    // The call, `+` with more to come and `-` without.
+    fn name(&self) -> String {
         let mark = if self.more { '+' } else { '-' };
         format!("{mark}{}", hex(self.bytes))
     }
 }
 
-// The line of calls that follow one another, in the form that `case_of` in crates/recorded reads.
-fn line_of_calls(readings: &[Reading]) -> String {
-    let calls: Vec<String> = readings.iter().map(Reading::call).collect();
-    let answers: Vec<String> = readings.iter().map(Reading::answer).collect();
-    format!("{} = {}", calls.join(" "), answers.join(" | "))
+// The calls that follow one another.
+fn names(readings: &[Reading]) -> String {
+    let names: Vec<String> = readings.iter().map(Reading::name).collect();
+    names.join(" ")
 }
 
-// The line of a text that is read in every way.
-fn line_of_text(reading: &Reading) -> String {
-    format!("*{} = {}", hex(reading.bytes), reading.answer())
-}
-
-// A parser in which nothing waits gives each reading by this call.
+// A parser whose buffer is empty gives each reading by this call.
 fn check_readings(parser: &mut InputParser, call: Call, readings: &[Reading]) {
     for (number, reading) in readings.iter().enumerate() {
-        let name = || format!("call {number} by {call:?}, {}", line_of_calls(readings));
-        assert_eq!(call.events(parser, reading.bytes, reading.more), reading.events, "{}", name());
+        let name = || format!("call {number} of {} by {call:?}", names(readings));
+        assert_eq!(
+            call.events(parser, reading.bytes, reading.more),
+            reading.events,
+            "{}",
+            name()
+        );
         assert_eq!(parser.waiting_len(), reading.rest.len(), "{}", name());
         assert_eq!(parser.waiting(), reading.kind, "{}", name());
-        assert_eq!(parser.is_paste_open(), reading.kind == Waiting::Paste, "{}", name());
+        assert_eq!(
+            parser.is_paste_open(),
+            reading.kind == Waiting::Paste,
+            "{}",
+            name()
+        );
     }
     parser.reset();
 }
 
-// The parser, what it is compared with, what draws the texts, and the lines of cases for replay.
+// The parser, what it is compared with, and what draws the texts.
 struct Comparison {
     parser: InputParser,
     reader: PlainReader,
     draws: Draws,
-    lines: Vec<String>,
 }
 
 impl Comparison {
@@ -88,7 +86,6 @@ impl Comparison {
             parser: InputParser::new(),
             reader,
             draws,
-            lines: Vec::new(),
         }
     }
 
@@ -109,16 +106,26 @@ impl Comparison {
         let pieces = self.draws.pieces(text);
         let more = self.draws.below(2) == 0;
         let readings = self.readings(&pieces, more);
-        self.lines.push(line_of_calls(&readings));
         for call in CALLS {
             check_readings(&mut self.parser, call, &readings);
         }
     }
 
-    // The same of the text as a whole, which replay also cuts in two at each place.
+    // The same of the text as a whole. It has the same events cut in two at each place.
     fn check_whole(&mut self, text: &[u8]) {
         let reading = Reading::new(&self.reader, b"", text, false);
-        self.lines.push(line_of_text(&reading));
+        for place in 1..text.len() {
+            let (first, second) = text.split_at(place);
+            let mut events = Call::List.events(&mut self.parser, first, true);
+            events.extend(Call::List.events(&mut self.parser, second, false));
+            assert_eq!(events, reading.events, "{} cut at {place}", hex(text));
+            assert_eq!(
+                self.parser.reset(),
+                reading.rest.len(),
+                "{} cut at {place}",
+                hex(text)
+            );
+        }
         check_readings(&mut self.parser, Call::List, &[reading]);
     }
 
@@ -138,7 +145,6 @@ fn check_texts(seed: u64) {
         let text = comparison.draws.text();
         comparison.check(&text);
     }
-    replay::check_lines(&format!("generated-{seed}.txt"), &comparison.lines);
 }
 
 #[test]
@@ -168,7 +174,6 @@ fn reads_long_texts_as_the_plain_reader() {
         let text = comparison.draws.symbols(200);
         comparison.check(&text);
     }
-    replay::check_lines("generated-5.txt", &comparison.lines);
 }
 
 // Reads the pieces of a text, and a flush. Where an item of the whole text ends, and ESC or ESC ESC waits, the Escape key is flushed.
@@ -193,7 +198,11 @@ fn pauses_between_items() {
     let mut draws = Draws::new(6, &reader);
     for _ in 0..3000 {
         let text = draws.text();
-        let events = read_with_pauses(&mut parser, &draws.pieces(&text), &reader.ends_of(&text, false));
+        let events = read_with_pauses(
+            &mut parser,
+            &draws.pieces(&text),
+            &reader.ends_of(&text, false),
+        );
         let (wanted, rest) = reader.read(&text, false);
         assert_eq!(events, wanted, "{}", hex(&text));
         assert_eq!(parser.reset(), rest.len(), "{}", hex(&text));

@@ -1,5 +1,5 @@
 // Events as keyshow's lines, and what is read back from such lines.
-use crate::names::{BUTTONS, MODIFIERS, PLAIN_KEYS};
+use super::names::{BUTTONS, MODIFIERS, PLAIN_KEYS};
 use hedrugal::input::{InputEvent, KeyCode, KeyEvent, Modifiers, MouseButtons};
 
 // The names that are in a set, joined by +.
@@ -69,16 +69,6 @@ pub fn line(event: &InputEvent) -> String {
 pub fn lines(events: &[InputEvent]) -> String {
     let lines: Vec<String> = events.iter().map(line).collect();
     lines.join(",")
-}
-
-// The events of a call and what is buffered after it, as the files of tests/recorded have them.
-pub fn answer(events: &[InputEvent], waiting: &[u8]) -> String {
-    match (events, waiting) {
-        ([], []) => "nothing".to_string(),
-        (events, []) => lines(events),
-        ([], waiting) => format!("; {}", hex(waiting)),
-        (events, waiting) => format!("{} ; {}", lines(events), hex(waiting)),
-    }
 }
 
 // The modifiers of names joined by +.

@@ -1,2 +1,0 @@
-pub mod GoneOn
-pub mod ListedLines

@@ -1,5 +1,0 @@
-use denote.Param.Always.{mut_total}
-use Rattle.input_tests.proofs.tests.pulled.looped.Goals as goal
-
-pub for_each_event-requires : goal.for_each_event-requires
-for_each_event-requires g c = λ events rest steps. (mut_total _ _ (λ s a. tt)).at _

@@ -1,0 +1,3 @@
+pub mod GoneOn
+pub mod ListedLines
+mod PlainLookups

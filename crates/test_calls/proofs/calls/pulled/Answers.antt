@@ -1,0 +1,10 @@
+use Rattle.std.proofs.Common.{[], ◌∷◌, arith, length}
+use Rattle.test_calls.proofs.calls.pulled.Goals as goal
+
+pub loop-events-smaller : goal.loop-events-smaller
+loop-events-smaller c =
+    let step = rw c.in-Some.is at c.in_ok-event.ensures.event in
+    omega (
+      arith,
+      c.few_events.ensures c.loop-events.parser c.next_event.new.self (c.in-Some.event ∷ []) c.args.more step,
+    )

@@ -1,0 +1,67 @@
+//! Events that all differ.
+use std::alloc::{AllocError, Global};
+use termwiz_input::input::{
+    InputEvent, KeyCode, KeyEvent, Modifiers, MouseButtons, MouseEvent, PastedText, PixelMouseEvent,
+};
+
+fn pasted(alloc: Global, text: &str) -> Result<InputEvent, AllocError> {
+    Ok(InputEvent::Paste(PastedText::new(String::from_str(alloc, text)?)))
+}
+
+fn key(key: KeyCode, modifiers: Modifiers) -> InputEvent {
+    InputEvent::Key(KeyEvent { key, modifiers })
+}
+
+fn mouse(x: u16, y: u16, mouse_buttons: MouseButtons, modifiers: Modifiers) -> InputEvent {
+    InputEvent::Mouse(MouseEvent {
+        x,
+        y,
+        mouse_buttons,
+        modifiers,
+    })
+}
+
+fn pixel_mouse(
+    x_pixels: u16,
+    y_pixels: u16,
+    mouse_buttons: MouseButtons,
+    modifiers: Modifiers,
+) -> InputEvent {
+    InputEvent::PixelMouse(PixelMouseEvent {
+        x_pixels,
+        y_pixels,
+        mouse_buttons,
+        modifiers,
+    })
+}
+
+/// Events that all differ, many of them from another one in one field alone.
+pub fn different_events(alloc: Global) -> Result<Vec<InputEvent>, AllocError> {
+    let mut events = vec![in alloc;
+        key(KeyCode::Char('a'), Modifiers::NONE),
+        key(KeyCode::Char('b'), Modifiers::NONE),
+        key(KeyCode::Char('a'), Modifiers::ALT),
+        key(KeyCode::Function(1), Modifiers::NONE),
+        key(KeyCode::Function(2), Modifiers::NONE),
+        key(KeyCode::Home, Modifiers::NONE),
+        key(KeyCode::KeyPadHome, Modifiers::NONE),
+        mouse(1, 2, MouseButtons::NONE, Modifiers::NONE),
+        mouse(3, 2, MouseButtons::NONE, Modifiers::NONE),
+        mouse(1, 3, MouseButtons::NONE, Modifiers::NONE),
+        mouse(1, 2, MouseButtons::LEFT, Modifiers::NONE),
+        mouse(1, 2, MouseButtons::NONE, Modifiers::CTRL),
+        pixel_mouse(1, 2, MouseButtons::NONE, Modifiers::NONE),
+        pixel_mouse(3, 2, MouseButtons::NONE, Modifiers::NONE),
+        pixel_mouse(1, 3, MouseButtons::NONE, Modifiers::NONE),
+        pixel_mouse(1, 2, MouseButtons::LEFT, Modifiers::NONE),
+        pixel_mouse(1, 2, MouseButtons::NONE, Modifiers::CTRL),
+        InputEvent::Resized { cols: 1, rows: 2 },
+        InputEvent::Resized { cols: 3, rows: 2 },
+        InputEvent::Resized { cols: 1, rows: 3 },
+        InputEvent::Wake,
+    ]?;
+    for text in ["", "a", "b", "ab"] {
+        events.push(pasted(alloc, text)?)?;
+    }
+    Ok(events)
+}

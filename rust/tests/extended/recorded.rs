@@ -1,0 +1,158 @@
+// The answers in tests/recorded, and the port's on generated texts. Under `Protocol::Legacy` the
+// extended parser gives the same, but where an extra sequence occurs or has begun.
+use crate::compared::Comparison;
+use crate::lines;
+use crate::port::draws::Draws;
+use crate::port::feeder::{answer, feed_file, Counts, Feeder, Reader};
+use crate::port::lines::{hex, line};
+use crate::port::plain::PlainReader as PortReader;
+use hedrugal::extended::{ExtendedEvent, ExtendedParser, Protocol};
+use hedrugal::input::InputParser;
+
+// The parser, its calls since the last reset, and whether one had another answer than the port's.
+struct LegacyReader {
+    parser: ExtendedParser,
+    calls: Vec<(Vec<u8>, bool)>,
+    is_other: bool,
+    comparison: Comparison,
+    // The text and the answer that the plain reader gave last.
+    compared: (Vec<u8>, String),
+}
+
+impl LegacyReader {
+    fn new() -> LegacyReader {
+        LegacyReader {
+            parser: ExtendedParser::new(Protocol::Legacy),
+            calls: Vec::new(),
+            is_other: false,
+            comparison: Comparison::new(Protocol::Legacy),
+            compared: Default::default(),
+        }
+    }
+}
+
+impl Reader for LegacyReader {
+    fn reset(&mut self) {
+        self.parser.reset();
+        self.calls.clear();
+        self.is_other = false;
+    }
+
+    fn call(&mut self, bytes: &[u8], more: bool) -> Vec<String> {
+        self.calls.push((bytes.to_vec(), more));
+        let events = self.parser.parse_as_vec(bytes, more);
+        let answers = events.iter().map(|event| match event {
+            ExtendedEvent::Input(event) => line(event),
+            event => lines::line(event),
+        });
+        answers.collect()
+    }
+
+    fn waiting_len(&self) -> usize {
+        self.parser.waiting_len()
+    }
+
+    // The plain reader answers the calls as the parser does. In the first other answer there is an
+    // extra sequence, or the beginning of one is buffered that the port doesn't buffer.
+    fn check_other(&mut self, came: &str, waiting: &[u8], wanted: &str) {
+        let text = self
+            .calls
+            .iter()
+            .flat_map(|(bytes, _)| bytes)
+            .copied()
+            .collect();
+        let compared = (text, came.to_string());
+        if compared == self.compared {
+            return;
+        }
+        self.compared = compared;
+        let has_extra = self.comparison.check_calls(&self.calls);
+        let has_begun = self.comparison.begins_extra() && !wanted.ends_with(&hex(waiting));
+        assert!(
+            self.is_other || has_extra || has_begun,
+            "{came}, and not {wanted}"
+        );
+        self.is_other = true;
+    }
+}
+
+// So many lines are answered otherwise than the port answers.
+fn check(file: &str, lines: usize, feedings: usize, others: usize) {
+    let wanted = Counts {
+        lines,
+        feedings,
+        others,
+    };
+    assert_eq!(feed_file(&mut LegacyReader::new(), file), wanted, "{file}");
+}
+
+#[test]
+fn rows() {
+    check("parse-rows.txt", 1314, 195498, 0);
+}
+
+#[test]
+fn cases() {
+    check("parse-cases.txt", 1334, 8708, 73);
+}
+
+#[test]
+fn rules() {
+    check("rules.txt", 388, 11886, 66);
+}
+
+#[test]
+fn examples() {
+    check("examples.txt", 256, 2526, 23);
+}
+
+// 5000 texts that the port's generated tests draw, each whole, cut in two at each place and byte by
+// byte. So many of them are answered otherwise than the port answers.
+fn check_drawn(seed: u64, others: usize) {
+    let (mut port, mut reader) = (InputParser::new(), LegacyReader::new());
+    let mut draws = Draws::new(seed, &PortReader::new());
+    let mut seen = 0;
+    for _ in 0..5000 {
+        let text = draws.text();
+        let events = port.parse_as_vec(&text, false);
+        let lines: Vec<String> = events.iter().map(line).collect();
+        let waiting = &text[text.len() - port.reset()..];
+        let mut feeder = Feeder::new(&mut reader);
+        feeder.check_whole(&text, &answer(&lines, waiting));
+        seen += usize::from(feeder.is_other);
+    }
+    assert_eq!(seen, others, "seed {seed}");
+}
+
+#[test]
+fn generated_texts_1() {
+    check_drawn(1, 419);
+}
+
+#[test]
+fn generated_texts_2() {
+    check_drawn(2, 461);
+}
+
+#[test]
+fn generated_texts_3() {
+    check_drawn(3, 414);
+}
+
+#[test]
+fn generated_texts_4() {
+    check_drawn(4, 414);
+}
+
+// Long ones, which the plain reader reads.
+#[test]
+fn long_generated_texts() {
+    let mut comparison = Comparison::new(Protocol::Legacy);
+    let mut draws = Draws::new(5, &PortReader::new());
+    for _ in 0..20 {
+        let text = draws.symbols(200);
+        let (first, second) = text.split_at(text.len() / 2);
+        comparison.check_calls(&[(text.clone(), false)]);
+        comparison.check_calls(&[(first.to_vec(), true), (second.to_vec(), false)]);
+    }
+}
