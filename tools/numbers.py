@@ -282,6 +282,7 @@ SAME = [
     ("HED_ENTRY_MOST", "rust/src/raw.rs", r"^pub const ENTRY_MOST: usize = (?P<it>\d+);$"),
     ("HED_VERSION", "c/hedrugal.pc", rf"^Version: {VERSION}$"),
     ("HED_VERSION", "CHANGELOG.md", rf"^## \[?{VERSION}"),
+    ("HED_VERSION", "debian/changelog", rf"^hedrugal \({VERSION}-"),
     ("HED_VERSION", "rust/Cargo.toml", rf'^version = "{VERSION}"$'),
     ("HED_VERSION", "rust/Cargo.lock", rf'^name = "hedrugal"\nversion = "{VERSION}"$'),
     ("HED_VERSION", "rust/serde/Cargo.toml", rf'^version = "{VERSION}"$'),

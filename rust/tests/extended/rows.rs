@@ -1,71 +1,39 @@
 // The entries of the sequence table, read under both protocols.
-use crate::port::plain::PlainReader;
-use hedrugal::extended::{ExtendedEvent, ExtendedParser, KeyReport, Protocol};
+use crate::plain::PlainReader;
+use crate::port::plain::PlainReader as PortReader;
+use hedrugal::extended::{ExtendedEvent, ExtendedParser, Protocol};
 use hedrugal::input::{InputParser, KeyCode};
 
-// How many entries are read otherwise under `Protocol::Kitty`.
-#[derive(Default, PartialEq, Debug)]
-struct Counts {
-    // Key reports.
-    reports: usize,
-    // Of these, those whose key or modifiers aren't the port's.
-    renamed: usize,
-    // Cursor positions.
-    positions: usize,
-}
-
-// Whether both are of one key with one set of modifiers.
-fn same_key(first: &KeyReport, second: &KeyReport) -> bool {
-    first.key == second.key && first.modifiers == second.modifiers
-}
-
-impl Counts {
-    // Counts the reading of an entry, which is the port's unless it is a report.
-    fn add(&mut self, port: &[ExtendedEvent], kitty: &[ExtendedEvent]) {
-        match kitty {
-            [ExtendedEvent::Key(report)] => {
-                self.reports += 1;
-                let key = port[0].key().expect("the entry has a key");
-                self.renamed += usize::from(!same_key(&key, report));
-            }
-            [ExtendedEvent::CursorPosition { .. }] => self.positions += 1,
-            events => assert_eq!(events, port),
+// Under `Protocol::Kitty` an entry is a key report, a cursor position, or what the port reads.
+fn check_kitty(port: &[ExtendedEvent], kitty: &[ExtendedEvent]) {
+    match kitty {
+        [ExtendedEvent::Key(_) | ExtendedEvent::CursorPosition { .. }] => {
+            assert!(port[0].key().is_some());
         }
+        events => assert_eq!(events, port),
     }
 }
 
-// Each entry is read as `InputParser` reads it, or under `Protocol::Kitty` as a report. The start
-// of a paste alone has no event.
+// Each entry is read as `InputParser` reads it, or under `Protocol::Kitty` as the plain reader
+// does. The start of a paste alone has no event.
 #[test]
 fn reads_each_entry() {
     let mut plain = InputParser::new();
-    let (mut port, mut kitty) = (
-        ExtendedParser::new(Protocol::Legacy),
-        ExtendedParser::new(Protocol::Kitty),
-    );
-    let mut counts = Counts::default();
+    let mut port = ExtendedParser::new(Protocol::Legacy);
+    let mut kitty = ExtendedParser::new(Protocol::Kitty);
+    let reader = PlainReader::new(Protocol::Kitty);
     let entries: Vec<_> = (0..).map_while(|place| plain.entry(place)).collect();
-    assert_eq!(entries.len(), PlainReader::new().row_count());
+    assert_eq!(entries.len(), PortReader::new().row_count());
     for (bytes, key) in entries {
-        let wanted: Vec<ExtendedEvent> = plain
-            .parse_as_vec(&bytes, false)
-            .into_iter()
-            .map(ExtendedEvent::Input)
-            .collect();
-        assert_eq!(
-            wanted.len(),
-            usize::from(key.key != KeyCode::InternalPasteStart),
-            "{bytes:?}"
-        );
+        let events = plain.parse_as_vec(&bytes, false);
+        let wanted: Vec<_> = events.into_iter().map(ExtendedEvent::Input).collect();
+        let has_event = key.key != KeyCode::InternalPasteStart;
+        assert_eq!(wanted.len(), usize::from(has_event), "{bytes:?}");
         assert_eq!(port.parse_as_vec(&bytes, false), wanted, "{bytes:?}");
-        counts.add(&wanted, &kitty.parse_as_vec(&bytes, false));
+        let reported = kitty.parse_as_vec(&bytes, false);
+        assert_eq!(reported, reader.read(&bytes, false).0, "{bytes:?}");
+        check_kitty(&wanted, &reported);
         let left = plain.reset();
         assert_eq!((port.reset(), kitty.reset()), (left, left));
     }
-    let wanted = Counts {
-        reports: 2783,
-        renamed: 300,
-        positions: 16,
-    };
-    assert_eq!(counts, wanted);
 }

@@ -35,6 +35,23 @@ pub fn data(file: &str) -> String {
     fs::read_to_string(&path).unwrap_or_else(|error| panic!("{}: {error}", path.display()))
 }
 
+// The counts of a file, as the table of tests/recorded/README.md tells them.
+pub fn told(file: &str) -> Counts {
+    let table = data("README.md");
+    let begin = format!("| `{file}` |");
+    let line = table
+        .lines()
+        .find(|line| line.starts_with(&begin))
+        .expect(file);
+    let cells: Vec<&str> = line.split('|').map(str::trim).collect();
+    let number = |column: usize| cells[column].parse().expect(line);
+    Counts {
+        lines: number(2),
+        feedings: number(3),
+        others: number(4),
+    }
+}
+
 // The answer of lines of events and buffered bytes.
 pub fn answer(events: &[String], waiting: &[u8]) -> String {
     match (events, waiting) {
