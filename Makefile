@@ -38,7 +38,7 @@ clean: ## removes what was built, but for what the prover keeps in crates/*/out
 	rm -rf out rust/target rust/serde/target
 
 help: ## prints this
-	@sed -nE 's/^([a-z-]+):[^#]*## (.*)/make \1\t\2/p' Makefile dist.mk | expand -t 22
+	@sed -nE 's/^([a-z-]+):[^#]*## (.*)/make \1\t\2/p' Makefile $(wildcard *.mk) | expand -t 22
 	@echo
 	@echo 'LIBRARY=DIR    a folder with a library that was built from these sources before, in place of out/lib'
 	@echo 'KEYSHOW=FILE   a program keyshow that was built before; with both no target but gate needs rt'
@@ -197,7 +197,7 @@ uninstall: libdir ## removes these files, and their folders that are left empty,
 	[ $$removed -gt 0 ]
 
 # Packages.
-include dist.mk
+include $(wildcard *.mk)
 
 # Tests. Each part by itself is `make check-NAME`; the last line of what it prints counts its cases.
 CHECKS ?= lint numbers c rust python programs page install packages docs fuzz

@@ -8,7 +8,7 @@
 /* Writes the object of a group's event. The bytes that it brought are the reader's. Returns false if memory is refused. */
 bool json_event(const line *of, const group *its, const reader *reader);
 
-/* Writes the object of the bytes that wait at the end. */
+/* Writes the object of the bytes that are buffered at the end. */
 void json_waiting(const line *of, const char *reason);
 
 #endif

@@ -1,4 +1,4 @@
-/* The line of a read: its bytes in groups, each with the event that consumed it. Bytes at the end that no event consumed wait. */
+/* The line of a read: its bytes in groups, each with the event that consumed it. Bytes at the end that no event consumed are buffered. */
 #ifndef KEYS_LINE_H
 #define KEYS_LINE_H
 
@@ -14,7 +14,7 @@ typedef struct group {
 
 typedef struct line {
   size_t read;   /* the number of the read, from 1 on; 0 before the first */
-  uint8_t *bytes; /* those that waited when the read came, and those of the read */
+  uint8_t *bytes; /* those that were buffered when the read came, and those of the read */
   size_t length, room;
   size_t earlier; /* how many of the bytes came with earlier reads */
   size_t settled; /* how many of the bytes belong to a group */
@@ -22,20 +22,20 @@ typedef struct line {
   size_t group_count, group_room;
 } line;
 
-/* Begins the line of the next read. What waited on the line before comes first. Returns false if memory is refused: then it is
+/* Begins the line of the next read. What was buffered on the line before comes first. Returns false if memory is refused: then it is
  * unchanged. */
 bool line_begin(line *it, const uint8_t *bytes, size_t length);
 
-/* Adds the group of an event, which consumed all bytes but those that still wait. Returns NULL if memory is refused. */
+/* Adds the group of an event, which consumed all bytes but those that are still buffered. Returns NULL if memory is refused. */
 group *line_settle(line *it, const hed_extended_event *event, size_t waiting);
 
-/* The number of bytes that wait. */
+/* The number of buffered bytes. */
 size_t line_waiting(const line *it);
 
 /* How many bytes of those from a place on came with earlier reads, at most length. */
 size_t line_earlier(const line *it, size_t start, size_t length);
 
-/* Forgets the bytes that wait. */
+/* Forgets the buffered bytes. */
 void line_forget(line *it);
 
 void line_free(line *it);

@@ -1,7 +1,7 @@
 /* hedrugal-keys: shows what a terminal sends, read by read and byte by byte, and what the bytes mean. docs/keys.md is its page.
  *
- * It has no grammar of its own: the library says which bytes an event consumed, and why others wait. ^C, ^Z and ^\ are keys like any other
- * (ISIG is off). The terminal is restored whenever the program ends or stops, as in c/live.c. */
+ * It has no grammar of its own: the library says which bytes an event consumed, and why others are buffered. ^C, ^Z and ^\ are keys like
+ * any other (ISIG is off). The terminal is restored whenever the program ends or stops, as in c/live.c. */
 #define _POSIX_C_SOURCE 200809L
 #include "json.h"
 #include "options.h"
@@ -91,7 +91,7 @@ static void draw(keys *it, const text *reason) {
   if (!it->options.is_json) screen_draw(&it->screen, &it->line, reason->bytes);
 }
 
-/* Shows the line with what waits. Without pauses the next read settles that, so the line is shown then. */
+/* Shows the line with what is buffered. Without pauses the next read settles that, so the line is shown then. */
 static void show(keys *it) {
   text reason = { .length = 0 };
   if (!it->is_live && line_waiting(&it->line) > 0) return;
@@ -100,7 +100,7 @@ static void show(keys *it) {
   draw(it, &reason);
 }
 
-/* What waits belongs to a group of the next line. */
+/* What is buffered belongs to a group of the next line. */
 static void leave_line(keys *it) {
   text reason = { .length = 0 };
   text_add(&reason, "goes on in read %zu", it->line.read + 1);
@@ -131,7 +131,7 @@ static bool handle_pause(keys *it) {
   return goes_on;
 }
 
-/* Flushes what waits once nothing more can come. An open paste stays. */
+/* Flushes what is buffered once nothing more can come. An open paste stays. */
 static bool handle_end(keys *it) {
   text reason = { .length = 0 };
   if (line_waiting(&it->line) == 0) return true;
@@ -194,7 +194,7 @@ static void run(keys *it) {
   while (goes_on && flush_output(it)) goes_on = it->is_live ? wait_and_handle(it) : handle_input(it);
 }
 
-/* The last line of JSON, if bytes wait at the end. */
+/* The last line of JSON, if bytes are buffered at the end. */
 static void show_waiting(keys *it) {
   text reason = { .length = 0 };
   if (!it->options.is_json || line_waiting(&it->line) == 0) return;

@@ -64,10 +64,10 @@ uint32_t reader_waiting_kind(const reader *it) {
   return it->is_extended ? hed_extended_waiting(&it->extended) : hed_parser_waiting(&it->usual);
 }
 
-const hed_parser *reader_completions(reader *it, const uint8_t *waiting, size_t length, hed_entries *rows) {
-  memset(rows, 0, sizeof *rows);
+const hed_parser *reader_completions(reader *it, const uint8_t *waiting, size_t length, hed_entries *entries) {
+  memset(entries, 0, sizeof *entries);
   if (it->is_extended) hed_parser_reset(&it->usual);
-  if (!it->is_extended || hed_parser_feed(&it->usual, waiting, length)) hed_parser_completions(&it->usual, rows);
+  if (!it->is_extended || hed_parser_feed(&it->usual, waiting, length)) hed_parser_completions(&it->usual, entries);
   return &it->usual;
 }
 

@@ -6,14 +6,14 @@
 
 typedef enum reading {
   READ_USUALLY,
-  READ_EXTENDED,      /* by the extended parser, each row of the sequence table with its key */
+  READ_EXTENDED,      /* by the extended parser, each entry of the sequence table with its key */
   READ_EXTENDED_KITTY /* by the extended parser, for Kitty's keyboard protocol */
 } reading;
 
 typedef struct reader {
   bool is_extended;
   hed_extended extended;
-  hed_parser usual; /* reads the input, or tells the extended one the rows of the sequence table */
+  hed_parser usual; /* reads the input, or tells the extended one the entries of the sequence table */
 } reader;
 
 /* Returns false if memory is refused. Either way the caller owes a reader_free. */
@@ -33,8 +33,8 @@ void reader_drop_text(reader *it);
 size_t reader_waiting(const reader *it);
 uint32_t reader_waiting_kind(const reader *it);
 
-/* Finds the rows of the sequence table that would complete the bytes that wait, and returns the parser to ask for them. */
-const hed_parser *reader_completions(reader *it, const uint8_t *waiting, size_t length, hed_entries *rows);
+/* Finds the entries of the sequence table that would complete the buffered bytes, and returns the parser to ask for them. */
+const hed_parser *reader_completions(reader *it, const uint8_t *waiting, size_t length, hed_entries *entries);
 
 void reader_reset(reader *it);
 void reader_free(reader *it);

@@ -92,7 +92,7 @@ static void put_words(screen *it, const char *style, const char *words) {
   }
 }
 
-/* A group, or what waits: its bytes, of which those of earlier reads are in parentheses, and what they mean. */
+/* A group, or what is buffered: its bytes, of which those of earlier reads are in parentheses, and what they mean. */
 typedef struct item {
   const uint8_t *bytes;
   size_t length, earlier;

@@ -24,7 +24,7 @@ void screen_find(screen *it);
 /* Takes the terminal's size. What is written stays where it is, so the line before can't be written in place any more. */
 void screen_resize(screen *it, size_t width, size_t height);
 
-/* Writes a line, in place of what was written of it. The reason is why its last bytes wait; they are dimmed. */
+/* Writes a line, in place of what was written of it. The reason is why its last bytes are buffered; they are dimmed. */
 void screen_draw(screen *it, const line *shown, const char *reason);
 
 /* Whether the line that is written can be written again in its place. */

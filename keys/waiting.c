@@ -17,59 +17,59 @@ static size_t paste_start_length(const hed_parser *parser) {
   return 0;
 }
 
-typedef struct row {
+typedef struct entry {
   hed_event event;
   size_t length;
-} row;
+} entry;
 
-/* The rows that are named, the first of them first. No two have the same key. */
+/* The entries that are named, the first of them first. No two have the same key. */
 typedef struct named {
-  row rows[NAMED];
+  entry entries[NAMED];
   size_t count;
 } named;
 
-static bool is_character(const row *it) {
+static bool is_character(const entry *it) {
   return it->event.key == HED_KEY_CHAR;
 }
 
-static bool has_modifiers(const row *it) {
+static bool has_modifiers(const entry *it) {
   return it->event.modifiers != HED_TERMWIZ_MOD_NONE;
 }
 
 /* Named are first the keys that people know by their names, then those without modifiers, then those with the fewest bytes. */
-static bool comes_before(const row *one, const row *other) {
+static bool comes_before(const entry *one, const entry *other) {
   if (is_character(one) != is_character(other)) return is_character(other);
   if (has_modifiers(one) != has_modifiers(other)) return has_modifiers(other);
   return one->length < other->length;
 }
 
-static bool has_same_key(const row *one, const row *other) {
+static bool has_same_key(const entry *one, const entry *other) {
   bool is_same = one->event.key == other->event.key && one->event.detail == other->event.detail;
   return is_same && one->event.modifiers == other->event.modifiers;
 }
 
-/* The place of the row that has the same key, or that after the last. */
-static size_t place_of_key(const named *it, const row *added) {
+/* The place of the entry that has the same key, or that after the last. */
+static size_t place_of_key(const named *it, const entry *added) {
   size_t place = 0;
-  while (place < it->count && !has_same_key(&it->rows[place], added)) place++;
+  while (place < it->count && !has_same_key(&it->entries[place], added)) place++;
   return place;
 }
 
-/* Puts a row behind those that don't come after it. It takes the place of one with its key, or of the last if all are taken. */
-static void name_row(named *it, const row *added) {
+/* Puts an entry behind those that don't come after it. It takes the place of one with its key, or of the last if all are taken. */
+static void name_entry(named *it, const entry *added) {
   size_t place = place_of_key(it, added);
   if (place == NAMED) place--;
-  if (place < it->count && !comes_before(added, &it->rows[place])) return;
+  if (place < it->count && !comes_before(added, &it->entries[place])) return;
   if (place == it->count) it->count++;
-  for (; place > 0 && comes_before(added, &it->rows[place - 1]); place--) it->rows[place] = it->rows[place - 1];
-  it->rows[place] = *added;
+  for (; place > 0 && comes_before(added, &it->entries[place - 1]); place--) it->entries[place] = it->entries[place - 1];
+  it->entries[place] = *added;
 }
 
-static void find_named(named *it, const hed_parser *parser, const hed_entries *rows) {
-  for (size_t place = rows->first; place < rows->first + rows->count; place++) {
-    row found;
+static void find_named(named *it, const hed_parser *parser, const hed_entries *entries) {
+  for (size_t place = entries->first; place < entries->first + entries->count; place++) {
+    entry found;
     found.length = hed_parser_entry(parser, place, NULL, 0, &found.event);
-    if (found.length > 0) name_row(it, &found);
+    if (found.length > 0) name_entry(it, &found);
   }
 }
 
@@ -81,17 +81,17 @@ static void add_listed_key(text *out, const hed_event *event, bool with_alt) {
   else add_key(out, event->key, event->detail);
 }
 
-static void add_keys(text *out, const hed_parser *parser, const hed_entries *rows) {
+static void add_keys(text *out, const hed_parser *parser, const hed_entries *entries) {
   named found = { .count = 0 };
-  find_named(&found, parser, rows);
+  find_named(&found, parser, entries);
   for (size_t i = 0; i < found.count; i++) {
     if (i > 0) text_add(out, ", ");
-    add_listed_key(out, &found.rows[i].event, rows->with_alt);
+    add_listed_key(out, &found.entries[i].event, entries->with_alt);
   }
-  if (rows->count > found.count) text_add(out, ", .. (%zu more)", rows->count - found.count);
+  if (entries->count > found.count) text_add(out, ", .. (%zu more)", entries->count - found.count);
 }
 
-/* What bytes begin that begin no row of the sequence table. */
+/* What bytes begin that begin no entry of the sequence table. */
 static const char *begun_by(const reader *reader, const uint8_t *waiting, size_t length) {
   if (!reader->is_extended || length < 2) return "a mouse report";
   switch (waiting[waiting[1] == '\033' && length > 2 ? 2 : 1]) {
@@ -103,14 +103,14 @@ static const char *begun_by(const reader *reader, const uint8_t *waiting, size_t
 }
 
 static void add_sequence(text *out, reader *reader, const uint8_t *waiting, size_t length) {
-  hed_entries rows;
-  const hed_parser *table = reader_completions(reader, waiting, length, &rows);
-  if (rows.count == 0) {
+  hed_entries entries;
+  const hed_parser *table = reader_completions(reader, waiting, length, &entries);
+  if (entries.count == 0) {
     text_add(out, "the beginning of %s", begun_by(reader, waiting, length));
     return;
   }
-  text_add(out, "the beginning of %zu sequence%s: ", rows.count, rows.count == 1 ? "" : "s");
-  add_keys(out, table, &rows);
+  text_add(out, "the beginning of %zu sequence%s: ", entries.count, entries.count == 1 ? "" : "s");
+  add_keys(out, table, &entries);
 }
 
 void add_waiting(text *out, reader *reader, const line *shown) {

@@ -1,4 +1,4 @@
-/* Why bytes wait, in plain words. */
+/* Why bytes are buffered, in plain words. */
 #ifndef KEYS_WAITING_H
 #define KEYS_WAITING_H
 
@@ -8,13 +8,13 @@
 
 enum { ESCAPE_MS = 50, SEQUENCE_MS = 1000 };
 
-/* After how many milliseconds without a byte what waits is flushed. -1 if never: what waits then is a character, a paste or nothing. */
+/* After how many milliseconds without a byte what is buffered is flushed. -1 if never: it is then a character, a paste or nothing. */
 int waiting_ms(const reader *reader);
 
-/* Appends what the bytes are that wait on a line: half a character, say. */
+/* Appends what the bytes are that are buffered on a line: half a character, say. */
 void add_waiting(text *out, reader *reader, const line *shown);
 
-/* Appends for what they wait, where pauses count. */
+/* Appends what they wait for, where pauses count. */
 void add_waiting_for(text *out, const reader *reader);
 
 #endif

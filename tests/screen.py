@@ -1,14 +1,18 @@
-"""A screen for exactly the control sequences that hedrugal-keys writes. It refuses all others, so a byte of the input that reaches the
-terminal as it came fails a case, where a whole terminal emulator would obey it."""
+"""A screen for exactly the control sequences that hedrugal-keys writes. It refuses all others, so a
+byte of the input that reaches the terminal as it came fails a case, where a whole terminal emulator
+would obey it."""
 import re
-from terminal import Failed
 
-TOKEN = re.compile(rb"\033\[(\d+)A|\033\[J|\033\[([0126]|36)m|\033\[(\?\d+)([hl])|\033\[(>4)(;[12])?m|\033\[(>31|<)u|\r\n|([ -~]+)")
+TOKEN = re.compile(
+    rb"\033\[(\d+)A|\033\[J|\033\[([0126]|36)m|\033\[(\?\d+)([hl])|\033\[(>4)(;[12])?m"
+    rb"|\033\[(>31|<)u|\r\n|([ -~]+)"
+)
 STYLES = {b"0": "", b"1": "*", b"2": "~", b"36": "_"}
 
 
 class Screen:
-    """Rows of characters, each with its style: bold is *, dim ~, a colour _. `top` is the first row that has not scrolled away."""
+    """Rows of characters, each with its style: bold is *, dim ~, a colour _. `top` is the first row
+    that has not scrolled away."""
 
     def __init__(self, columns=80, height=24):
         self.columns, self.height = columns, height
@@ -24,8 +28,7 @@ class Screen:
         at = 0
         while at < len(output):
             token = TOKEN.match(output, at)
-            if not token:
-                raise Failed(f"written to the terminal: {output[at:at + 30]!r}")
+            assert token, f"written to the terminal: {output[at:at + 30]!r}"
             self.obey(token)
             at = token.end()
         return self
@@ -46,15 +49,14 @@ class Screen:
         elif kitty:
             self.modes["kitty"] = kitty == b">31"
         elif token[0] == b"\033[J":
-            self.rows[self.row:] = [[]]
+            self.rows[self.row :] = [[]]
         else:
             self.end_row()
 
     def put(self, characters):
         row = self.rows[self.row]
         row.extend((it, self.style) for it in characters)
-        if len(row) >= self.columns:
-            raise Failed(f"a row reaches the last column: {self.text()[self.row]!r}")
+        assert len(row) < self.columns, f"a row reaches the last column: {row!r}"
 
     def end_row(self):
         self.row += 1
@@ -67,7 +69,10 @@ class Screen:
 
     def styled(self):
         """The same, with the style before and after each run of characters that has one."""
-        return [re.sub(r"([*~_])\1", "", "".join(f"{style}{it}{style}" for it, style in row)) for row in self.rows[:-1]]
+        return [
+            re.sub(r"([*~_])\1", "", "".join(f"{style}{it}{style}" for it, style in row))
+            for row in self.rows[:-1]
+        ]
 
     def switched_on(self):
         return {mode: to for mode, to in self.modes.items() if to}

@@ -1,0 +1,76 @@
+"""Programs that ask their terminal, c/ask.c and that in rust/examples/ask, on a pseudo-terminal
+that answers.
+
+Each asks for the position of the cursor, for colours and for the flags of Kitty's keyboard
+protocol, and last what the terminal is. It has to print what came, end with the right status, and
+leave the terminal's settings as they were."""
+import contextlib
+import subprocess
+import time
+
+import pytest
+from terminal import SECONDS, Terminal
+
+# The question that every terminal answers, and so the last.
+LAST_QUESTION = b"\033[c"
+POSITION, TEXT, GROUND = (
+    b"\033[?12;40R",
+    b"\033]10;rgb:dada/dada/dada\033\\",
+    b"\033]11;rgb:1e1e/1e1e/1e1e\007",
+)
+FLAGS, ATTRIBUTES = b"\033[?5u", b"\033[?62;22c"
+REPLIES = POSITION + TEXT + GROUND + FLAGS + ATTRIBUTES
+# What has to be printed of the replies. A program may ask for the colour of the background alone.
+ALL = [b"12", b"40", b"rgb:1e1e/1e1e/1e1e", b"5", b"62;22"]
+# The replies, the pause before each, what has to be printed of them, and the status. They have to
+# come within a second.
+ANSWERED = {
+    "all replies": ([REPLIES], 0, ALL, 0),
+    "all replies, byte by byte": ([bytes([it]) for it in REPLIES], 0.002, ALL, 0),
+    # A terminal that knows neither colours nor Kitty's protocol.
+    "few replies": ([POSITION, ATTRIBUTES], 0, [b"12", b"40", b"62;22"], 0),
+    # Keys that are typed between the replies are no part of them.
+    "keys between the replies": (
+        [b"q" + POSITION + b"\033[A" + TEXT + b"x", GROUND + FLAGS + ATTRIBUTES],
+        0,
+        ALL,
+        0,
+    ),
+    "half of the last reply": ([POSITION, b"\033[?62;"], 0, [b"12", b"40"], 1),
+}
+
+
+@pytest.fixture(scope="session", params=["c", "rust"])
+def program(request, example):
+    return example(request.param, "ask")
+
+
+def asked(program, replies, status, pause=0):
+    """Answers the questions by these texts, with a pause before each, and returns what was
+    printed."""
+    with contextlib.closing(Terminal(program)) as terminal:
+        terminal.wait_for(lambda: LAST_QUESTION in terminal.output, "last question")
+        for text in replies:
+            time.sleep(pause)
+            terminal.send(text)
+        assert terminal.wait_for_end() == status
+        assert terminal.settings() == terminal.before
+        return terminal.read_all().rpartition(LAST_QUESTION)[2]
+
+
+@pytest.mark.timed
+@pytest.mark.parametrize("replies, pause, texts, status", ANSWERED.values(), ids=ANSWERED)
+def test_replies(program, replies, pause, texts, status):
+    printed = asked(program, replies, status, pause)
+    assert [it for it in texts if it not in printed] == [], printed
+
+
+def test_no_reply(program):
+    start = time.monotonic()
+    asked(program, [], 1)
+    assert time.monotonic() - start >= 0.9
+
+
+def test_no_terminal(program):
+    how = {"stdin": subprocess.DEVNULL, "capture_output": True, "timeout": SECONDS, "check": False}
+    assert subprocess.run(program, **how).returncode in (1, 2)

@@ -1,0 +1,713 @@
+"""hedrugal-keys on a pseudo-terminal, over pipes and on files.
+
+Bytes are typed, some cut by pauses, and the screen has to be the expected one: each kind of bytes
+that are buffered, with its reason, and what becomes of them where they are; reads that share a
+sequence; pastes, broken bytes and control characters; narrow and low terminals. Each mode has to be
+switched on and off again, and the terminal restored, however the program ends. Nothing else may
+reach the terminal than printable ASCII and the control sequences that screen.py lists. The output
+fails, and each request for memory in turn. """
+import json
+import os
+import random
+import re
+import signal
+import subprocess
+import time
+
+import pytest
+from conftest import TOP, entries_after
+from screen import Screen
+from terminal import SECONDS, Terminal
+
+START, END = b"\033[200~", b"\033[201~"
+# Longer than the 50 ms after which an ESC is Escape, and shorter than the second after which a
+# sequence is flushed.
+PAUSE = 0.2
+LONG_PAUSE = 1.3
+HELLO = "hedrugal-keys: press keys; ^D twice ends it."
+CTRL_D = "^D -> key U+0064 CTRL"
+MODES = {
+    "--application-cursor-keys": {"?1": True},
+    "--modify-other-keys=1": {">4": 1},
+    "--modify-other-keys=2": {">4": 2},
+    "--mouse": {"?1003": True, "?1006": True},
+    "--bracketed-paste": {"?2004": True},
+    "--focus": {"?1004": True},
+    "--kitty-keyboard": {"kitty": True},
+}
+ALL_MODES = ["--application-cursor-keys", "--modify-other-keys=2", *list(MODES)[3:6]]
+ALL_SWITCHED = {"?1": True, ">4": 2, "?1003": True, "?1006": True, "?2004": True, "?1004": True}
+ESCAPE = "may begin a key; if nothing follows in 50 ms: key Escape NONE"
+ALT_ESCAPE = "may begin a key with Alt; if nothing follows in 50 ms: key Escape ALT"
+MOUSE = "the beginning of a mouse report: waits up to 1 s"
+NO_SPACE = "hedrugal-keys: the output can't be written: No space left on device\n"
+
+
+class Keys(Terminal):
+    """The program on a terminal. Its screen is what it has written so far. `output_to` is a file
+    for its standard output."""
+
+    def __init__(self, *words, size=(80, 24), output_to=None, is_orphaned=False, **variables):
+        if output_to:
+            words = ["/bin/sh", "-c", f'exec "$0" "$@" > {output_to}', *words]
+        env = {**os.environ, "TERM": "xterm", "NO_COLOR": "1", **variables}
+        self.size = size
+        env = {name: it for name, it in env.items() if it is not None}
+        super().__init__(words, size, is_orphaned, env)
+
+    def screen(self):
+        return Screen(*self.size).take(re.sub(rb"(\033\[?[0-9;?>]*|\r)\Z", b"", self.output))
+
+    def wait_for_text(self, text):
+        self.wait_for(lambda: text.encode() in self.output, f"text {text!r}")
+
+    def wait_for_screen(self, *lines):
+        self.wait_for(lambda: self.screen().text() == [HELLO, *lines], f"screen {lines!r}")
+
+    def type(self, typed, *lines):
+        """Types bytes, and waits until the lines are shown."""
+        self.send(typed)
+        self.wait_for_screen(*lines)
+
+    def play(self, steps):
+        """Types bytes, waits for texts, and pauses."""
+        for step in steps:
+            if isinstance(step, bytes):
+                self.send(step)
+            elif isinstance(step, str):
+                self.wait_for_text(step)
+            else:
+                time.sleep(step)
+
+    def wait_for_end_of_modes(self):
+        self.wait_for(lambda: not self.screen().switched_on(), "end of the modes")
+
+    def end(self):
+        """Ends it by ^D twice."""
+        self.send(b"\x04\x04")
+        self.check_end(0)
+
+    def end_with(self, *lines):
+        """Ends it so, and compares all lines but that of the end."""
+        self.end()
+        text = self.screen().text()
+        last = max(at for at, row in enumerate(text) if re.match(r" *\d+  \^D", row))
+        assert text[:last] == [HELLO, *lines]
+
+    def check_end(self, status):
+        """Checks how it ends, and that it restores the terminal."""
+        assert self.wait_for_end() == status
+        assert self.settings() == self.before
+        while self.read():
+            pass
+        self.wait_for_end_of_modes()
+
+    def stop(self):
+        self.kill(signal.SIGTSTP)
+        self.wait_for_stop()
+        assert self.settings() == self.before
+        self.wait_for_end_of_modes()
+
+
+@pytest.fixture
+def start(hedrugal_keys, closing):
+    def begin(*words, **how):
+        keys = closing(Keys(hedrugal_keys, *words, **how))
+        keys.wait_for_text(HELLO)
+        assert keys.is_raw()
+        return keys
+
+    return begin
+
+
+@pytest.fixture
+def run(hedrugal_keys):
+    """Runs the program without a terminal, and returns its status, its standard output, and its
+    standard error."""
+
+    def run_it(*words, typed=b"", program=hedrugal_keys, out=subprocess.PIPE, **variables):
+        how = {"stdout": out, "stderr": subprocess.PIPE, "timeout": SECONDS, "check": False}
+        env = {**os.environ, **variables}
+        done = subprocess.run([program, *words], input=typed, env=env, **how)
+        return done.returncode, (done.stdout or b"").decode("ascii"), done.stderr.decode()
+
+    return run_it
+
+
+def begins(count, *keys):
+    """The reason of a sequence that may become so many, with the keys that are named."""
+    text = f"the beginning of {count} sequence{'s' * (count > 1)}: {', '.join(keys)}"
+    return f"{text}{f', .. ({count - 3} more)' * (count > 3)}: waits up to 1 s"
+
+
+def spelled(typed):
+    return " ".join({27: "ESC", 7: "^G"}.get(it, chr(it)) for it in typed)
+
+
+def characters(text):
+    return "".join(f" | {it} -> key U+{ord(it):04X} NONE" for it in text)
+
+
+MANY = entries_after(b"\033[")
+ARROWS = ["UpArrow", "DownArrow", "RightArrow"]
+BRACKET = "ESC [ -> key U+005B ALT"
+# What is typed, for which reason it stays buffered, and what it becomes where it is when the pause
+# comes.
+FLUSHED = {
+    "Escape": (b"\033", ESCAPE, "ESC -> key Escape NONE"),
+    "Alt-Escape": (b"\033\033", ALT_ESCAPE, "ESC ESC -> key Escape ALT"),
+    "a sequence": (b"\033[", begins(MANY, *ARROWS), BRACKET),
+    "after ESC": (b"\033\033[", begins(MANY, *(f"Alt-{it}" for it in ARROWS)), f"ESC {BRACKET}"),
+    "longer": (b"\033[15", begins(26, "F5", "Shift-F5", "Alt-F5"), BRACKET + characters("15")),
+    "two": (b"\033[15;5", begins(2, "Ctrl-F5", "Ctrl-U+000F"), BRACKET + characters("15;5")),
+    "the start of a paste": (b"\033[200", begins(1, "a paste"), BRACKET + characters("200")),
+    "a mouse report": (b"\033[<0", MOUSE, BRACKET + characters("<0")),
+}
+
+
+@pytest.mark.parametrize("typed, reason, events", FLUSHED.values(), ids=FLUSHED)
+def test_flushed_by_a_pause(start, typed, reason, events):
+    keys = start(size=(200, 24))
+    keys.type(typed, f"   1  {events}")
+    keys.end_with(f"   1  {events}")
+    assert keys.screen().frames == [[HELLO, f"   1  {spelled(typed)} -> {reason}"]]
+
+
+OSC = "the beginning of a command (OSC): waits up to 1 s"
+# The words, what is typed in time, with texts to wait for and pauses, and the lines. The line of a
+# read says where its bytes went. A second ESC belongs to the group of the first.
+IN_TIME = {
+    "ESC, then [ A": (
+        [],
+        [b"\033", ESCAPE, b"[A", "UpArrow"],
+        ["   1  ESC -> goes on in read 2", "   2  (ESC) [ A -> key UpArrow NONE"],
+    ),
+    "ESC, then ESC": (
+        [],
+        [b"\033", ESCAPE, b"\033", "-> key Escape ALT"],
+        ["   1  ESC -> goes on in read 2", "   2  (ESC) ESC -> key Escape ALT"],
+    ),
+    "a sequence over three reads": (
+        [],
+        [b"a\033[1", "waits up to 1 s", PAUSE, b";5", "   2  ", PAUSE, b"Ab", "U+0062"],
+        [
+            "   1  a -> key U+0061 NONE | ESC [ 1 -> goes on in read 2",
+            "   2  (ESC [ 1) ; 5 -> goes on in read 3",
+            "   3  (ESC [ 1 ; 5) A -> key UpArrow CTRL | b -> key U+0062 NONE",
+        ],
+    ),
+    "a string over two reads": (
+        ["--extended"],
+        [b"\033]11;r", OSC, b"\007\033[I", "focus gained"],
+        [
+            "   1  ESC ] 1 1 ; r -> goes on in read 2",
+            "   2  (ESC ] 1 1 ; r) ^G -> osc 4:31313b72 | ESC [ I -> focus gained",
+        ],
+    ),
+}
+
+
+@pytest.mark.timed
+@pytest.mark.parametrize("words, steps, lines", IN_TIME.values(), ids=IN_TIME)
+def test_in_time(start, words, steps, lines):
+    keys = start(*words, size=(200, 24))
+    keys.play(steps)
+    keys.end_with(*lines)
+
+
+def test_half_a_character(start):
+    """No pause flushes it."""
+    keys = start()
+    keys.type(b"\xc3", "   1  c3 -> half a character: waits for the rest")
+    time.sleep(LONG_PAUSE)
+    keys.wait_for_screen("   1  c3 -> half a character: waits for the rest")
+    keys.type(b"\xa9", "   1  c3 -> goes on in read 2", "   2  (c3) a9 -> key U+00E9 NONE")
+    keys.end()
+
+
+def test_open_paste(start):
+    """No pause flushes it, and ^D twice is text of it."""
+    keys = start("--bracketed-paste", size=(200, 24))
+    keys.send(START + b"h\x04\x04")
+    first = "   1  ESC [ 2 0 0 ~ h ^D ^D -> "
+    keys.wait_for_screen(first + "a paste of 3 bytes so far: waits for its end")
+    time.sleep(LONG_PAUSE)
+    keys.wait_for_screen(first + "a paste of 3 bytes so far: waits for its end")
+    keys.send(b"\033[2")
+    first += "goes on in read 2"
+    second = "   2  (ESC [ 2 0 0 ~ h ^D ^D) ESC [ 2 -> "
+    keys.wait_for_screen(first, second + "a paste of 6 bytes so far: waits for its end")
+    keys.send(b"01~q")
+    third = "   3  (ESC [ 2 0 0 ~ h ^D ^D ESC [ 2) 0 1 ~ -> paste 3:680404 | q -> key U+0071 NONE"
+    keys.wait_for_screen(first, second + "goes on in read 3", third)
+    keys.end()
+
+
+# The words, what is typed in one read, and its lines.
+CONTROL = """   1  ^@ -> key U+0000 NONE | ^A -> key U+0061 CTRL | ^M -> key Enter NONE |
+      ^? -> key Backspace NONE | SP -> key U+0020 NONE"""
+BROKEN = """   1  ff -> key U+FFFD NONE | c3 -> key U+FFFD NONE | a -> key U+0061 NONE |
+      9b -> key U+FFFD NONE"""
+PASTED_CONTROL = """   1  ESC [ 2 0 0 ~ ESC ] 0 ; x ^G 9b ^M ^J ESC [ 2 0 1 ~ -> paste
+      11:1b5d303b7807efbfbd0d0a"""
+# What a terminal's driver obeys unless it is set otherwise: the keys of signals, and those that
+# stop and start the output.
+DRIVER = """   1  ^C -> key U+0063 CTRL | ^Z -> key U+007A CTRL | ^\\ -> key U+001C NONE |
+      ^S -> key U+0073 CTRL | ^Q -> key U+0071 CTRL"""
+HEX = "   1  61 -> key U+0061 NONE | 1b 5b 41 -> key UpArrow NONE"
+SHOWN = {
+    "control characters": ([], b"\x00\x01\r\x7f ", CONTROL),
+    "bytes that aren't UTF-8": ([], b"\xff\xc3a\x9b", BROKEN),
+    "control characters in a paste": ([], START + b"\033]0;x\x07\x9b\r\n" + END, PASTED_CONTROL),
+    "^C, ^Z, ^\\, ^S and ^Q": ([], b"\x03\x1a\x1c\x13\x11", DRIVER),
+    "hexadecimal": (["--hex"], b"a\033[A", HEX),
+}
+
+
+@pytest.mark.parametrize("words, typed, lines", SHOWN.values(), ids=SHOWN)
+def test_shown(start, words, typed, lines):
+    keys = start(*words)
+    keys.type(typed, *lines.split("\n"))
+    keys.end()
+
+
+def test_long_paste(start):
+    """Of many bytes only the first and the last are shown, and of the text the first."""
+    keys = start()
+    keys.send(START + b"x" * 1000 + END)
+    keys.wait_for(lambda: "paste 1000:" in " ".join(keys.screen().text()), "event of the paste")
+    shown = " ".join(" ".join(keys.screen().text()[1:]).split())
+    last = shown[shown.rindex("ESC [ 2 0 0 ~") :]
+    text = r"ESC \[ 2 0 0 ~ x x .*\.\. 984 more \.\.\)? .*ESC \[ 2 0 1 ~"
+    assert re.fullmatch(text + r" -> paste 1000:(78){16}\.\.", last)
+    keys.end()
+
+
+HEAD = ["   1  a -> key U+0061 NONE |", "      b -> key U+0062 NONE |"]
+WAITING = [
+    *HEAD,
+    "      ESC -> may begin a key; if nothing",
+    "      follows in 50 ms: key Escape NONE",
+]
+
+
+def test_narrow_terminal(start):
+    """The program breaks the rows itself, and the last column stays empty. A line of several rows
+    is written again in its place."""
+    keys = start(size=(46, 24))
+    keys.type(b"ab\033", *HEAD, "      ESC -> key Escape NONE")
+    assert [it[1:] for it in keys.screen().frames] == [WAITING]
+    keys.end()
+
+
+def test_terminal_of_three_rows(start):
+    """Where the line begins above the screen, it is written again below."""
+    keys = start(size=(46, 3))
+    keys.type(b"ab\033", *WAITING, *HEAD, "      ESC -> key Escape NONE")
+    assert keys.screen().frames == []
+    keys.end()
+
+
+def test_terminal_of_twelve_columns(start):
+    """Words longer than a row are cut. There is no room for an indent."""
+    keys = start(size=(46, 24))
+    keys.resize(12, 24)
+    time.sleep(PAUSE)
+    skip = len(keys.output)
+    keys.send(START + b"abcdef" + END)
+    keys.wait_for(lambda: b"616263" in keys.output.replace(b"\r\n", b""), "event of the paste")
+    keys.end()
+    rows = Screen(12, 24).take(keys.output[skip:]).text()
+    text = "1 ESC [ 2 0 0 ~ a b c d e f ESC [ 2 0 1 ~ -> paste 6:616263646566"
+    text += f"2 {CTRL_D} | {CTRL_D}"
+    assert "".join(rows).replace(" ", "") == text.replace(" ", "")
+
+
+@pytest.mark.timed
+def test_new_size(start):
+    """Terminals differ in how they move what was written to rows of another length, so the line is
+    written again below."""
+    keys = start()
+    keys.send(b"\033[")
+    keys.wait_for_text("waits up to 1 s")
+    keys.resize(100, 30)
+    keys.wait_for(lambda: "key U+005B ALT" in keys.screen().text()[-1], "event after the resize")
+    assert [len(keys.screen().frames), keys.screen().text()[-1]] == [0, f"   1  {BRACKET}"]
+    keys.end()
+
+
+# By the convention of that name an empty variable counts as none.
+@pytest.mark.parametrize("value", [None, ""], ids=["no NO_COLOR", "an empty NO_COLOR"])
+def test_colours(start, value):
+    keys = start(NO_COLOR=value)
+    keys.type(b"a\033", "   1  a -> key U+0061 NONE | ESC -> key Escape NONE")
+    wanted = "   1  _a_ -> *key* *U+0061* *NONE* | _ESC_ -> *key* *Escape* *NONE*"
+    assert keys.screen().styled()[1] == wanted
+    # What is buffered is dimmed.
+    dimmed = b"\033[2mESC\033[0m \033[2m->\033[0m \033[2mmay\033[0m \033[2mbegin"
+    assert dimmed in keys.output
+    keys.end()
+
+
+def test_no_colours(start):
+    keys = start(NO_COLOR="1")
+    keys.type(b"a\033", "   1  a -> key U+0061 NONE | ESC -> key Escape NONE")
+    keys.end()
+    assert not re.search(rb"\033\[[0-9;]*m", keys.output)
+
+
+@pytest.mark.parametrize("term", ["dumb", None], ids=["TERM=dumb", "no TERM"])
+def test_without_moves(start, term):
+    """Where the cursor can't be moved, the settled line comes below."""
+    keys = start(TERM=term, NO_COLOR=None)
+    keys.type(b"\033", f"   1  ESC -> {ESCAPE}", "   1  ESC -> key Escape NONE")
+    keys.end()
+    assert b"\033" not in keys.output
+
+
+@pytest.mark.parametrize("word, switched", MODES.items(), ids=MODES)
+def test_mode(start, word, switched):
+    keys = start(word)
+    assert keys.screen().switched_on() == switched
+    keys.end()
+
+
+def test_no_mode(start):
+    keys = start()
+    assert keys.screen().modes == {}
+    keys.end()
+    assert keys.screen().modes == {}
+
+
+def test_one_ctrl_d_is_no_end(start):
+    """^D, another key and ^D are three keys."""
+    keys = start()
+    keys.send(b"\x04a\x04")
+    line = f"   1  {CTRL_D} | a -> key U+0061 NONE | {CTRL_D}"
+    keys.wait_for_screen(line)
+    keys.type(b"b", line, "   2  b -> key U+0062 NONE")
+    keys.end()
+
+
+def test_end_over_two_reads(start):
+    keys = start()
+    keys.type(b"\x04", f"   1  {CTRL_D}")
+    keys.send(b"\x04")
+    keys.check_end(0)
+    assert keys.screen().text() == [HELLO, f"   1  {CTRL_D}", f"   2  {CTRL_D}"]
+
+
+def test_end_by_sequences(start):
+    """Two ^D as the terminal sends them with modifyOtherKeys are two such keys too."""
+    keys = start("--modify-other-keys=2")
+    keys.send(b"\033[100;5u\033[100;5u")
+    keys.check_end(0)
+
+
+def test_kitty_keyboard(start):
+    """With Kitty's protocol ^D is a report, and neither a release nor a modifier key between two
+    counts."""
+    keys = start("--kitty-keyboard", size=(200, 24))
+    keys.send(b"\033[97;5:3u\033[A")
+    release = "ESC [ 9 7 ; 5 : 3 u -> report U+0061 CTRL release"
+    keys.wait_for_screen(f"   1  {release} | ESC [ A -> report UpArrow NONE press")
+    keys.send(b"\033[100;5u\033[100;5:3u\033[57442;5u\033[100;69u")
+    keys.check_end(0)
+
+
+@pytest.mark.parametrize(
+    "number", [signal.SIGHUP, signal.SIGINT, signal.SIGQUIT, signal.SIGTERM], ids=lambda it: it.name
+)
+def test_signal(start, number):
+    keys = start(*ALL_MODES)
+    assert keys.screen().switched_on() == ALL_SWITCHED
+    keys.type(b"a", "   1  a -> key U+0061 NONE")
+    keys.kill(number)
+    keys.check_end(-number)
+
+
+def test_sigtstp_sigcont_sigterm(start):
+    """What was buffered before the stop no longer counts."""
+    keys = start(*ALL_MODES)
+    first = "   1  ESC [ 2 0 0 ~ a -> a paste of 1 bytes so far: waits for its end"
+    keys.type(START + b"a", first)
+    keys.stop()
+    keys.continue_in_foreground()
+    keys.wait_for(lambda: keys.screen().switched_on() == ALL_SWITCHED, "modes")
+    assert keys.is_raw()
+    keys.send(b"b")
+    second = "   1  ESC [ 2 0 0 ~ a -> forgotten, since another program had the terminal"
+    keys.wait_for_screen(first, second, "   2  b -> key U+0062 NONE")
+    keys.stop()
+    keys.kill(signal.SIGTERM)
+    keys.kill(signal.SIGCONT)
+    keys.check_end(-signal.SIGTERM)
+
+
+def test_sigtstp_where_no_shell_could_continue_it(start):
+    """It stops nothing: the modes are switched off and on again."""
+    keys = start("--focus", is_orphaned=True)
+    keys.kill(signal.SIGTSTP)
+    keys.wait_for(lambda: keys.output.count(b"\033[?1004h") == 2, "focus mode again")
+    assert keys.is_raw()
+    keys.type(b"b", "   1  b -> key U+0062 NONE")
+    keys.end()
+
+
+def test_end_of_the_input(start):
+    """What is buffered is flushed."""
+    keys = start()
+    keys.send(b"z\033[")
+    keys.wait_for_text("waits up to 1 s")
+    keys.let_end_input()
+    keys.send(b"\x04")
+    keys.check_end(0)
+    assert keys.screen().text()[1:] == [f"   1  z -> key U+007A NONE | {BRACKET}"]
+
+
+def test_terminal_that_is_gone(start):
+    keys = start()
+    keys.hang_up()
+    keys.wait_for_end()
+
+
+def test_json_from_a_terminal(start, tmp_path):
+    """The modes go to the terminal, and nothing but JSON to the output."""
+    out = tmp_path / "out"
+    keys = start("--json", "--mouse", output_to=out)
+    assert keys.screen().switched_on() == MODES["--mouse"]
+    keys.send(b"\033")
+    keys.wait_for(lambda: "Escape" in out.read_text(), "event")
+    keys.end()
+    assert keys.screen().text() == [HELLO]
+    found = [json.loads(line) for line in out.read_text().splitlines()]
+    shown = [(it["read"], it["key"], it["modifiers"]) for it in found]
+    assert shown == [(1, "Escape", []), (2, "U+0064", ["CTRL"]), (2, "U+0064", ["CTRL"])]
+
+
+def test_json_of_what_is_buffered_at_a_signal(start, tmp_path):
+    out = tmp_path / "out"
+    keys = start("--json", output_to=out)
+    keys.send(b"a\xc3")
+    keys.wait_for(lambda: "U+0061" in out.read_text(), "event")
+    keys.kill(signal.SIGTERM)
+    keys.check_end(-signal.SIGTERM)
+    wanted = {
+        "read": 1,
+        "bytes": "c3",
+        "earlier": 0,
+        "kind": "waiting",
+        "reason": "half a character",
+    }
+    assert json.loads(out.read_text().splitlines()[-1]) == wanted
+
+
+def test_full_disk_on_a_terminal(start):
+    """The terminal is restored."""
+    keys = start(*ALL_MODES, output_to="/dev/full")
+    keys.send(b"a")
+    keys.check_end(1)
+    assert keys.errors.read_text() == NO_SPACE
+
+
+def as_json(items):
+    """The lines of JSON for bytes that one read brings, with what is told of them."""
+    told = [{"read": 1, "bytes": typed.hex(), "earlier": 0, **words} for typed, words in items]
+    lines = [json.dumps(it, separators=(",", ":")).replace("\x7f", "\\u007f") for it in told]
+    return "".join(f"{it}\n" for it in lines)
+
+
+def joined(items):
+    return b"".join(it[0] for it in items)
+
+
+TEXT = 'h\x1b"\U0001f600'
+WHEEL = {"x": 3, "y": 4, "buttons": ["VERT_WHEEL", "WHEEL_POSITIVE"], "modifiers": []}
+ALL_KINDS = [
+    (b"a", {"kind": "key", "key": "U+0061", "modifiers": []}),
+    (b"\033[1;5A", {"kind": "key", "key": "UpArrow", "modifiers": ["CTRL"]}),
+    (b"\033[<64;3;4M", {"kind": "mouse", **WHEEL}),
+    (b"\xc3\xa9", {"kind": "key", "key": "U+00E9", "modifiers": []}),
+    (START + TEXT.encode() + END, {"kind": "paste", "length": 7, "text": TEXT}),
+    (START + b"x", {"kind": "waiting", "reason": "a paste of 1 bytes so far"}),
+]
+# The first and the last character of each length in UTF-8.
+EDGES = "\0\x7f\x80\u07ff\u0800\uffff\U00010000\U0010ffff"
+PASTED = {"kind": "paste", "length": len(EDGES.encode()), "text": EDGES}
+ALL_EDGES = [(START + EDGES.encode() + END, PASTED)]
+# What the table doesn't know, the line of each, and what is told of it in JSON.
+A = {"kind": "report", "key": "U+0061", "modifiers": ["SHIFT"], "action": "repeat"}
+A.update(shifted=65, base=99, length=1, text="A")
+VOLUME = {"kind": "report", "key": "functional 57428", "modifiers": [], "action": "press"}
+VOLUME.update(length=0, text="")
+SIZE = {"kind": "resize", "rows": 24, "columns": 80, "height": 480, "width": 800}
+A_LINE = "report U+0061 SHIFT repeat shifted U+0041 base U+0063 text 1:41"
+REPORTS = [
+    (b"\033[97:65:99;2:2;65u", A_LINE, A),
+    (b"\033[24;80R", "cursor 24 80", {"kind": "cursor", "row": 24, "column": 80}),
+    (b"\033[?5u", "keyboard flags 5", {"kind": "flags", "flags": 5}),
+    (b"\033[48;24;80;480;800t", "resize 24 80 480 800", SIZE),
+    (b"\033[I", "focus gained", {"kind": "focus", "gained": True}),
+    (b"\033[O", "focus lost", {"kind": "focus", "gained": False}),
+    (b"\033[?62c", "csi 4:3f363263", {"kind": "csi", "length": 4, "data": "3f363263"}),
+    (b"\033]0;a\007", "osc 3:303b61", {"kind": "osc", "length": 3, "data": "303b61"}),
+    (b"\033Px\033\\", "dcs 1:78", {"kind": "dcs", "length": 1, "data": "78"}),
+    (b"\033_y\033\\", "apc 1:79", {"kind": "apc", "length": 1, "data": "79"}),
+    (b"\033[57428u", "report functional 57428 NONE press", VOLUME),
+]
+REPORTS_AS_LINE = " | ".join(f"{spelled(typed)} -> {line}" for typed, line, _ in REPORTS)
+REPORTS_AS_JSON = as_json((typed, told) for typed, _, told in REPORTS)
+OPEN = "   1  ESC [ 2 0 0 ~ x -> a paste of 1 bytes so far: its end never came\n"
+QUIT = "   1  q -> key U+0071 NONE | ESC [ A -> key UpArrow NONE | ESC -> key Escape NONE\n"
+UP = b"\033[1;9A"
+# The words, what is read, and what is printed of it.
+PRINTED = {
+    "keys": ("", b"q\033[A\033", QUIT),
+    "nothing": ("", b"", ""),
+    "an open paste at the end": ("", START + b"x", OPEN),
+    "hexadecimal": ("--hex", b"a\033[A", f"{HEX}\n"),
+    "JSON": ("--json", joined(ALL_KINDS), as_json(ALL_KINDS)),
+    "JSON of characters of each length": ("--json", joined(ALL_EDGES), as_json(ALL_EDGES)),
+    "reports": ("--extended", joined(REPORTS), f"   1  {REPORTS_AS_LINE}\n"),
+    "reports as JSON": ("--extended --json", joined(REPORTS), REPORTS_AS_JSON),
+    "entries": ("--extended", UP, f"   1  {spelled(UP)} -> key UpArrow ALT\n"),
+    "Kitty": ("--extended=kitty", UP, f"   1  {spelled(UP)} -> report UpArrow SUPER press\n"),
+    "all events by --extended": ("--extended --json", joined(ALL_KINDS), as_json(ALL_KINDS)),
+}
+
+
+@pytest.mark.parametrize("source", ["pipe", "file"])
+@pytest.mark.parametrize("words, typed, lines", PRINTED.values(), ids=PRINTED)
+def test_printed(run, tmp_path, source, words, typed, lines):
+    if source == "pipe":
+        assert run(*words.split(), typed=typed) == (0, lines, "")
+    else:
+        (tmp_path / "typed").write_bytes(typed)
+        assert run(*words.split(), tmp_path / "typed") == (0, lines, "")
+
+
+def test_reads_of_4096_bytes(run, tmp_path):
+    """A sequence that the end of a read cuts belongs to the line of the next."""
+    (tmp_path / "typed").write_bytes(b"a" * 4094 + b"\033[Ab\033")
+    status, out, errors = run(tmp_path / "typed")
+    assert (status, errors) == (0, "")
+    first, second = out.splitlines()
+    assert first.count("a -> key U+0061 NONE") == 4094
+    assert first.endswith(" | ESC [ -> goes on in read 2")
+    wanted = "   2  (ESC [) A -> key UpArrow NONE | b -> key U+0062 NONE | ESC -> key Escape NONE"
+    assert second == wanted
+
+
+def test_file_on_a_terminal(hedrugal_keys, closing, tmp_path):
+    """It is shown as on a terminal, and the terminal's settings and modes stay."""
+    (tmp_path / "typed").write_bytes(b"abcd\033")
+    keys = closing(Keys(hedrugal_keys, str(tmp_path / "typed")))
+    keys.check_end(0)
+    screen = keys.screen()
+    assert (screen.modes, screen.frames) == ({}, [])
+    first = "   1  a -> key U+0061 NONE | b -> key U+0062 NONE | c -> key U+0063 NONE |"
+    assert screen.text() == [first, "      d -> key U+0064 NONE | ESC -> key Escape NONE"]
+
+
+def test_random_bytes(run):
+    """Each byte belongs to exactly one group, and what is shown is printable ASCII."""
+    pieces = [START, END, b"\033", b"\033[", b"\033[A", b"\033[<0;3;4M", b"\033[1;5"]
+    pieces += [b"\xc3", b"\xa9", b"\xff", b"\x00", b"\x9b", b"a", b"u", b"~"]
+    chosen = random.Random(7)
+    for _ in range(20):
+        typed = b"".join(chosen.choice(pieces) for _ in range(chosen.randrange(3000)))
+        status, out, errors = run("--json", typed=typed)
+        groups = [bytes.fromhex(json.loads(line)["bytes"]) for line in out.splitlines()]
+        assert (status, errors, b"".join(groups)) == (0, "", typed)
+        status, out, errors = run(typed=typed)
+        assert (status, errors, re.findall(r"[^ -~\n]", out)) == (0, "", [])
+
+
+def test_closed_pipe(run):
+    reader, writer = os.pipe()
+    os.close(reader)
+    with os.fdopen(writer, "wb") as out:
+        wanted = (1, "", "hedrugal-keys: the output can't be written: Broken pipe\n")
+        assert run(typed=b"a", out=out) == wanted
+
+
+@pytest.mark.parametrize("words", [[], ["--json"], ["--help"]], ids=["lines", "JSON", "help"])
+def test_full_disk(run, words):
+    with open("/dev/full", "wb") as out:
+        assert run(*words, typed=b"a", out=out) == (1, "", NO_SPACE)
+
+
+@pytest.mark.parametrize("words", [[], ["--json"]], ids=["lines", "JSON"])
+def test_memory_refused(run, compiled, tmp_path, words):
+    """Each request is refused in turn. The program says so, or it needed no more than were
+    granted."""
+    wraps = ["-Wl,--wrap=malloc", "-Wl,--wrap=realloc"]
+    program = compiled("refusing", "c11", *wraps, *TOP.glob("keys/*.c"), TOP / "tests/refuse.c")
+    (tmp_path / "typed").write_bytes(b"abc" * 50 + START + b"x" * 5000 + END)
+    words = [*words, tmp_path / "typed"]
+    for count in range(1000):
+        found = run(*words, program=program, GRANTED=str(count))
+        if found[0] == 0:
+            break
+        assert (found[0], found[2]) == (1, "hedrugal-keys: out of memory\n"), count
+    assert count >= 5
+    assert found == run(*words)
+
+
+# The words for which nothing is read, the status, and the one line that says why.
+REFUSED = {
+    "an unknown word": (["--foo"], 2, "what is '--foo'? --help lists the words"),
+    "an unknown reading": (
+        ["--extended=vt52"],
+        2,
+        "what is '--extended=vt52'? --help lists the words",
+    ),
+    "an unknown level": (
+        ["--modify-other-keys=3"],
+        2,
+        "what is '--modify-other-keys=3'? --help lists the words",
+    ),
+    "two files": (["a", "b"], 2, "wants one file, and 'b' is another; --help says more"),
+    "a mode without a terminal": (
+        ["--mouse"],
+        2,
+        "--mouse wants a terminal as the input; --help says more",
+    ),
+    "no such file": (["/no/such"], 1, "/no/such: No such file or directory"),
+    "a folder": (["/"], 1, "the input can't be read: Is a directory"),
+}
+
+
+@pytest.mark.parametrize("words, status, says", REFUSED.values(), ids=REFUSED)
+def test_refused(run, words, status, says):
+    assert run(*words, typed=b"a") == (status, "", f"hedrugal-keys: {says}\n")
+
+
+def test_version(run):
+    number = re.search(r'HED_VERSION "(.*)"', (TOP / "c/hedrugal.h").read_text())[1]
+    assert run("--version") == (0, f"hedrugal-keys {number}\n", "")
+
+
+def test_help(run):
+    status, out, errors = run("--help")
+    assert (status, errors) == (0, "")
+    for word in [*MODES, "--extended", "--hex", "--json", "--version"]:
+        name, _, level = word.partition("=")
+        assert (f"{name}=1|2" if level else name) in out
+
+
+@pytest.mark.timed
+def test_screen_of_the_page(start):
+    """The screen that docs/keys.md shows, and the line that it shows before."""
+    page = (TOP / "docs/keys.md").read_text(encoding="utf-8")
+    listing = r"<!-- not run: tests/test_keys[^>]*-->\n```(?:sh)?\n(.*?)\n```"
+    before, screen, waiting = re.findall(listing, page, re.S)
+    assert before == "hedrugal-keys"
+    pasted = START + b"hi\r" + END
+    reads = [b"a", b"\033", b"\033[", b"A", b"\033[<0;3;4M", b"\xc3", b"\xa9", pasted, b"\033[1"]
+    keys = start("--mouse", "--bracketed-paste")
+    for read, typed in enumerate(reads, 1):
+        keys.play([typed, f"   {read}  ", PAUSE * (read in (2, 3))])
+    assert keys.screen().text() == screen.split("\n")
+    assert [waiting] in [it[-1:] for it in keys.screen().frames]
+    keys.end()

@@ -1,0 +1,677 @@
+"""The server of the page, python/hedrugal/page, over sockets: what it refuses, and that its answers
+are the library's. It is asked under other names and origins, by other methods and paths, and with
+bodies of any size."""
+import http.client
+import itertools
+import json
+import random
+import re
+import signal
+import socket
+import subprocess
+import sys
+import threading
+import time
+import unittest.mock
+
+import hedrugal
+import pytest
+from conftest import TOP, entries_after, header_constant
+from hedrugal import InputParser, KeyCode, Modifiers, encode
+from hedrugal.page import meanings
+from hedrugal.page.server import AT_ONCE, FILES, MOST, Handler
+
+STREAM = b"hello\x1b[A\x1b\x1b[200~ab\xc3\xa9cd\x1b[201~q\x1b[<0;3;4M\xff\x1b[27;5;13~\xc3\xa9"
+STREAM += b"<script>alert(1)</script>"
+RESTS = b"\x1b \x1b\x1b \x1b[ \x1bO \x1b[1; \x1b\x1b[1 \x1b[<0;3 \xe2\x82 \x1b[200~ab \x1b[200~\xc3"
+RESTS = [b"", *RESTS.split()]
+# What the sequence table doesn't know: replies, reports and strings, and their beginnings.
+EXTENDED_STREAM = (
+    b"q\x1b[24;80R\x1b\x1b[I\x1b]11;#fff\a\x1b[1;9A\x1b[97;5:3u\x1bP>|x\x1b\\\x1b]a\rb"
+)
+EXTENDED_STREAM += b"\x1b[M !!\x1b[?62;4c\xc3\xa9"
+BEGINNINGS = (
+    b"\x1b[? \x1b]11; \x1b]11;\x1b \x1bP \x1b_G \x1b[[ \x1b[M! \x1b\x1b]1 \x1b\x1b[?1".split()
+)
+SECONDS = 60
+# What each answer, also a refusal, tells the browser.
+POLICY = """default-src 'none'; script-src 'self'; style-src 'self'; img-src 'self';
+connect-src 'self'; base-uri 'none'; form-action 'none'; frame-ancestors 'none';
+require-trusted-types-for 'script'; trusted-types 'none'"""
+HEADERS = {
+    "Cache-Control": "no-store",
+    "Content-Security-Policy": POLICY.replace("\n", " "),
+    "Cross-Origin-Opener-Policy": "same-origin",
+    "Cross-Origin-Resource-Policy": "same-origin",
+    "Referrer-Policy": "no-referrer",
+    "X-Content-Type-Options": "nosniff",
+    "X-Frame-Options": "DENY",
+}
+POSTED = ["/api/read", "/api/reads", "/api/cut"]
+
+
+def has(told, **wanted):
+    assert {name: told[name] for name in wanted} == wanted
+
+
+class Client:
+    """Asks the server, and compares its answers with the library's."""
+
+    def __init__(self, server):
+        self.port = server.port
+        self.host = f"127.0.0.1:{server.port}"
+
+    def connect(self):
+        return socket.create_connection(("127.0.0.1", self.port), SECONDS)
+
+    def ask(self, method, path, body=None, **headers):
+        """The status, the headers and the body of an answer. A header None is left out."""
+        connection = http.client.HTTPConnection(self.host, timeout=SECONDS)
+        sent = {"Host": self.host}
+        if body is not None:
+            sent["Content-Length"] = str(len(body))
+        sent.update({name.replace("_", "-"): value for name, value in headers.items()})
+        connection.putrequest(method, path, skip_host=True, skip_accept_encoding=True)
+        for name, value in sent.items():
+            for each in value if isinstance(value, list) else [value]:
+                if each is not None:
+                    connection.putheader(name, each)
+        connection.endheaders(body)
+        answer = connection.getresponse()
+        data = answer.read()
+        connection.close()
+        for name, value in HEADERS.items():
+            assert answer.headers.get_all(name) == [value], (method, path)
+        return answer.status, answer.headers, data
+
+    def status(self, method, path, body=None, **headers):
+        return self.ask(method, path, body, **headers)[0]
+
+    def told(self, path, data=None):
+        status, headers, body = self.ask("GET" if data is None else "POST", path, data)
+        assert (status, headers["Content-Type"]) == (200, "application/json")
+        return json.loads(body)
+
+    def waits(self, data, reading="table"):
+        return self.told(f"/api/read?reading={reading}", data)["waits"]
+
+    def raw(self, data, is_all=True):
+        """What comes back for these bytes, after which more are to come unless they are all."""
+        with self.connect() as it:
+            it.sendall(data)
+            if is_all:
+                it.shutdown(socket.SHUT_WR)
+            return b"".join(iter(lambda: it.recv(1 << 16), b""))
+
+    def posted(self, length, body, is_all=True):
+        """The status that comes back for a body under a Content-Length, both as bytes, None if
+        nothing comes back."""
+        head = (
+            f"POST /api/read HTTP/1.1\r\nHost: {self.host}\r\nConnection: close\r\nContent-Length: "
+        )
+        words = self.raw(head.encode() + length + b"\r\n\r\n" + body, is_all).split(b" ")
+        return int(words[1]) if len(words) > 1 else None
+
+    def all_items(self, data, end, reading):
+        """The items of all portions, and the last answer."""
+        items, told = [], None
+        while told is None or len(items) < told["events"]:
+            told = self.told(f"/api/read?end={end}&reading={reading}&first={len(items)}", data)
+            has(told, bytes=len(data), first=len(items), at=sum(it[0] for it in items))
+            assert told["items"] or not told["events"]
+            assert len(told["items"]) <= meanings.ITEMS
+            items += told["items"]
+        return items, told
+
+    def check(self, data, end, reading="table"):
+        with meanings.READINGS[reading]() as parser:
+            wanted = parser.parse(data)
+            flushed = len(wanted)
+            wanted += meanings.finish(parser, end)
+            waiting, kind = parser.waiting_len, parser.waiting
+        items, told = self.all_items(data, end, reading)
+        assert [it[1] for it in items] == [meanings.line(event) for event in wanted], data
+        assert told["flushed"] == (None if end == "more" else flushed)
+        has(
+            told["waits"] or {"length": 0, "kind": "Nothing"},
+            length=waiting,
+            kind=meanings.waiting_name(kind),
+        )
+        assert sum(it[0] for it in items) + waiting == len(data)
+        # Each item's bytes, read alone, emit its event, and no other.
+        at = 0
+        for length, line, _ in items[: None if end == "more" else flushed]:
+            assert meanings.lines(data[at : at + length], reading) == [line], data[at : at + length]
+            at += length
+        cuts = (f"cut?at={at}&" for at in (0, 1, len(data) // 2, len(data), len(data) + 9))
+        for path in ("reads?", *cuts):
+            other = self.told(f"/api/{path}end={end}&reading={reading}", data)
+            assert (other["same"], other["bytes"]) == (True, len(data)), (path, data)
+        return items, told
+
+
+@pytest.fixture
+def client(server):
+    return Client(server)
+
+
+def test_files(client):
+    for path, (name, kind) in FILES.items():
+        wanted = (TOP / "python/hedrugal/page" / name).read_bytes()
+        status, headers, body = client.ask("GET", path)
+        assert (status, headers["Content-Type"], body) == (200, kind, wanted)
+        status, headers, body = client.ask("HEAD", path)
+        assert (status, headers["Content-Length"], body) == (200, str(len(wanted)), b"")
+
+
+def test_files_have_nothing_that_the_policy_refuses(client):
+    """No script, style or handler in the page's HTML, no address of another server, and nothing in
+    the script that makes HTML."""
+    texts = {path: client.ask("GET", path)[2].decode() for path in FILES}
+    inline = r"<script(?! src=\"page\.js\")|<style|\sstyle=|\son\w+=|javascript:"
+    assert not re.search(inline, texts["/"])
+    for path, text in texts.items():
+        assert re.findall(r"https?://(?!www\.w3\.org/2000/svg)\S*", text) == [], path
+    makers = r"innerHTML|outerHTML|insertAdjacentHTML|document\.write|\beval\b|new Function"
+    assert not re.search(makers + "|DOMParser|srcdoc|setHTML", texts["/page.js"])
+
+
+@pytest.mark.parametrize("path", ["/", "/page.js", "/api/table", "/api/read"])
+def test_hosts(client, path):
+    method, body = ("POST", b"q") if path == "/api/read" else ("GET", None)
+    here, port = client.host, client.port
+    for host in (here, f"localhost:{port}"):
+        assert client.status(method, path, body, Host=host) == 200, host
+    others = [
+        f"{here}.evil.example",
+        f"user@{here}",
+        f"{here}@evil.example",
+        f"127.0.0.1:{port + 1}",
+    ]
+    others += [f"{it}:{port}" for it in ("evil.example", "[::1]", "127.0.0.2", "0.0.0.0")]
+    others += ["127.0.0.1", "localhost", "", None, [here, "evil.example"], [here, here]]
+    for host in others:
+        assert client.status(method, path, body, Host=host) == 403, host
+
+
+@pytest.mark.parametrize("path", ["/", "/api/table", "/api/encode?key=F1", "/api/read"])
+def test_origins(client, path):
+    method, body = ("POST", b"q") if path == "/api/read" else ("GET", None)
+    here, evil = f"http://{client.host}", "http://evil.example"
+    assert client.status(method, path, body, Origin=here) == 200
+    others = [
+        "null",
+        evil,
+        f"https://{client.host}",
+        f"{here}1",
+        f"{here}/",
+        "http://127.0.0.1",
+        "",
+    ]
+    for origin in (*others, f"http://localhost:{client.port}", [here, evil]):
+        assert client.status(method, path, body, Origin=origin) == 403, origin
+
+
+def test_sites(client):
+    assert client.status("POST", "/api/read", b"q", Sec_Fetch_Site="same-origin") == 200
+    for site in ("cross-site", "same-site", "none"):
+        assert client.status("POST", "/api/read", b"q", Sec_Fetch_Site=site) == 403
+    # A link on another page may lead here.
+    assert client.status("GET", "/", Sec_Fetch_Site="cross-site") == 200
+
+
+def test_no_answer_is_for_other_origins(client):
+    for words in ("GET /", "POST /api/read", "OPTIONS /api/read", "GET /none"):
+        headers = client.ask(*words.split(), b"q" if words.startswith("POST") else None)[1]
+        assert [name for name in headers if name.lower().startswith("access-control")] == []
+
+
+def test_paths(client):
+    paths = "/none /server.py /__main__.py /page/ /page.css/ /PAGE.CSS /%70age.css /./page.css /api"
+    paths += " /../page/page.css /..%2f__init__.py /etc/passwd //etc/passwd /favicon.ico"
+    for path in f"{paths} /api/ /api/read/ /api/other".split():
+        assert client.status("GET", path) == 404, path
+        assert client.status("POST", path, b"q") == 404, path
+    assert client.status("GET", "/?a=b") == 200
+
+
+def test_methods(client):
+    methods = {*"GET HEAD POST PUT PATCH DELETE OPTIONS TRACE CONNECT".split()}
+    for path in [*FILES, "/api/table", "/api/encode", *POSTED]:
+        right = ["GET", "HEAD"] if path in FILES else ["POST"] if path in POSTED else ["GET"]
+        for method in methods - {*right}:
+            status, headers, _ = client.ask(method, path, b"" if method == "POST" else None)
+            assert (status, headers["Allow"]) == (405, ", ".join(right)), (method, path)
+    assert client.raw(b"BREW / HTTP/1.1\r\n\r\n").split(b" ")[1] in (b"501", b"403")
+
+
+@pytest.mark.parametrize("path", POSTED)
+def test_sizes(client, path):
+    for count in (0, MOST):
+        assert client.status("POST", path, b"q" * count) == 200
+    for more in (1, MOST):
+        status, headers, _ = client.ask("POST", path, b"q" * (MOST + more))
+        assert (status, headers["Connection"]) == (413, "close")
+    assert client.status("POST", path, b"q", Content_Length=str(10**12)) == 413
+    assert client.status("POST", path, b"", Content_Length=None) == 411
+    chunks = {"Content_Length": None, "Transfer_Encoding": "chunked"}
+    assert client.status("POST", path, b"1\r\nq\r\n0\r\n\r\n", **chunks) == 411
+    assert client.status("POST", path, b"q", Content_Length=["1", "1"]) == 411
+
+
+def test_get_with_a_body(client):
+    assert client.status("GET", "/", b"q" * 10) == 400
+
+
+def test_lengths(client):
+    """A Content-Length is a number in ASCII, and the body isn't shorter. Of a longer one the rest
+    isn't read."""
+    for length in ("-1", "+1", "x", "", "1.0", "0x1", "1" * 30, "١"):
+        assert client.posted(length.encode(), b"q") == 400, length
+    for length in (b"\xb2", b"1\xb9"):
+        assert client.posted(length, b"q") == 400, length
+    for count in range(9):
+        assert client.posted(b"8", b"q" * count) == (200 if count == 8 else 400), count
+    assert client.posted(b"8", b"q" * 9) == 200
+
+
+def test_seconds(client):
+    """A request that doesn't come in time ends the connection. The server serves on."""
+    assert Handler.timeout == 30
+    with unittest.mock.patch.object(Handler, "timeout", 0.2):
+        assert client.raw(b"GET / HTTP/1.1\r\n", is_all=False) == b""
+        assert client.posted(b"8", b"q", is_all=False) is None
+    assert client.posted(b"1", b"q") == 200
+
+
+def test_broken_requests(client):
+    for case in (
+        b"\r\n\r\n",
+        b"\x16\x03\x01\0\xff",
+        b"GET\r\n\r\n",
+        b"GET / HTTP/9.9\r\n\r\n",
+        b"GET / HTTP/1.1\r\n" + b"A: b\r\n" * 200 + b"\r\n",
+        b"GET /%s HTTP/1.1\r\nHost: %s\r\n\r\n" % (b"a" * 70000, client.host.encode()),
+    ):
+        answer = client.raw(case)
+        assert b"<" not in answer, case[:40]
+        if answer.startswith(b"HTTP"):
+            assert int(answer.split(b" ")[1]) >= 400, case[:40]
+    assert client.status("GET", "/") == 200
+
+
+def test_queries(client):
+    wrong = (
+        f"end=all end= first=-1 first=x first=1e3 first={'9' * 10} a a=1&b=2&c=3&d=4&e=5 end=%ff"
+    )
+    for query in f"{wrong} first=%D9%A1".split():
+        assert client.status("POST", f"/api/read?{query}", b"q") == 400, query
+    readings = ["x", "", "Kitty", "table,kitty", "kitty&reading=x", "%ff"]
+    for path, reading in itertools.product(POSTED, readings):
+        assert client.status("POST", f"{path}?reading={reading}", b"q") == 400, (path, reading)
+    says = client.ask("POST", "/api/read?reading=x", b"q")[2]
+    assert says == b"reading is one of table, extended, kitty\n"
+
+
+def test_queries_for_encodings(client):
+    wrong = "Up|U%2BD800|U%2B110000|F25|F256|a|F1&modifiers=HYPER|InternalPasteStart2|".split("|")
+    for query in ("", *(f"key={it}" for it in wrong)):
+        assert client.status("GET", f"/api/encode?{query}") == 400, query
+    status, headers, body = client.ask("GET", "/api/encode?key=<script>alert(1)</script>")
+    assert (status, headers["Content-Type"]) == (400, "text/plain; charset=utf-8")
+    assert b"no key is called" in body
+
+
+def test_one_connection(client):
+    """A connection is kept for the next request, and ends after a refusal."""
+    connection = http.client.HTTPConnection(client.host, timeout=SECONDS)
+    for _ in range(3):
+        connection.request("POST", "/api/read", b"q")
+        assert json.loads(connection.getresponse().read())["events"] == 1
+    connection.request("GET", "/none")
+    answer = connection.getresponse()
+    assert (answer.status, answer.read()) == (404, b"there is no such path\n")
+    assert answer.headers["Connection"] == "close"
+    connection.close()
+
+
+def test_only_this_machine(client, server):
+    assert server.server_address[0] == "127.0.0.1"
+    for address in {"127.0.0.2", socket.gethostbyname(socket.gethostname())} - {"127.0.0.1"}:
+        with pytest.raises(OSError):
+            socket.create_connection((address, client.port), 5).close()
+
+
+def test_at_one_time(client):
+    """Requests at one time get their own answers, more of them than are computed at once; a slow
+    sender stops none of them."""
+    right = []
+
+    def work(letter):
+        for length in range(1, 20):
+            items = client.told("/api/read", letter.encode() * length)["items"]
+            right.append(items == [[1, f"key U+{ord(letter):04X} NONE", letter]] * length)
+
+    with client.connect() as slow:
+        head = f"POST /api/read HTTP/1.1\r\nHost: {client.host}\r\nContent-Length: 5\r\n\r\nq"
+        slow.sendall(head.encode())
+        threads = [threading.Thread(target=work, args=[chr(97 + it)]) for it in range(2 * AT_ONCE)]
+        for it in threads:
+            it.start()
+        for it in threads:
+            it.join()
+    assert right == [True] * (2 * AT_ONCE * 19)
+
+
+@pytest.mark.parametrize("end", meanings.ENDS)
+def test_streams(client, end):
+    for rest in RESTS:
+        client.check(STREAM + rest, end)
+        client.check(rest, end)
+    for reading, rest in itertools.product(meanings.READINGS, RESTS + BEGINNINGS):
+        client.check(EXTENDED_STREAM + rest, end, reading)
+        client.check(rest, end, reading)
+
+
+@pytest.mark.parametrize("end", meanings.ENDS)
+def test_portions(client, end):
+    for count in (299, 300, 301, 600, 601, 1000):
+        items, _ = client.check(b"q" * count + b"\x1b[1;", end)
+        assert len(items) == count + (0 if end == "more" else 3)
+        client.check(b"q" * count + b"\x1b[200~a", end)
+
+
+@pytest.mark.parametrize("reading", meanings.READINGS)
+def test_random_bytes(client, reading):
+    seed = random.randrange(1 << 32)
+    print(f"the seed is {seed}")
+    chance = random.Random(seed)
+    pieces = b"\x1b [ O 1;5A <0;3;4 M 200~ \x1b[201~ \xe2 \x82\xac q \xff \0".split(b" ")
+    others = b"\x1b] \x1bP \x1b_ \x1b\\ \a \x1b[1;9 A R u :3 ? $ \x1b[[".split(b" ")
+    for _ in range(60):
+        count = chance.randrange(30)
+        chosen = [chance.choice(pieces if chance.random() < 0.6 else others) for _ in range(count)]
+        client.check(b"".join(chosen), chance.choice(meanings.ENDS), reading)
+
+
+# Bytes, and their lines in each reading.
+TYPED = ["key U+005B ALT", *(f"key U+{ord(it):04X} NONE" for it in "24;80R")]
+KEYS = ["key U+0071 NONE", "key U+0063 CTRL", "key U+00E9 NONE"]
+READ = [
+    (b"\x1b[1;9A", ["key UpArrow ALT"], ["key UpArrow ALT"], ["report UpArrow SUPER press"]),
+    (b"\x1b[24;80R", TYPED, ["cursor 24 80"], ["cursor 24 80"]),
+    (b"\x1b[27u", ["key U+001B NONE"], ["key U+001B NONE"], ["report Escape NONE press"]),
+    (b"\x1b[1;5R", ["key F3 CTRL"], ["key F3 CTRL"], ["cursor 1 5"]),
+    (b"\x1b[1;5A", ["key UpArrow CTRL"], ["key UpArrow CTRL"], ["report UpArrow CTRL press"]),
+    (b"q\x03\xc3\xa9", KEYS, KEYS, KEYS),
+]
+
+
+@pytest.mark.parametrize("data, table, extended, kitty", READ)
+def test_readings(client, data, table, extended, kitty):
+    """Each reading has its own events. The table's is that of a request that names none."""
+    for reading, wanted in {"table": table, "extended": extended, "kitty": kitty}.items():
+        items, _ = client.check(data, "more", reading)
+        assert [it[1] for it in items] == wanted, reading
+        steps = client.told(f"/api/reads?reading={reading}", data)["steps"]
+        assert [line for _, *came in steps for line in came] == wanted
+        reads = client.told(f"/api/cut?at=2&reading={reading}", data)["reads"]
+        assert reads[0]["lines"] + reads[1]["lines"] == wanted
+    for path in POSTED:
+        assert client.told(path, data) == client.told(f"{path}?reading=table", data)
+
+
+ALL_HELD = "SHIFT+ALT+CTRL+SUPER+HYPER+META+CAPS_LOCK+NUM_LOCK"
+# Bytes that the table doesn't know, their line as hedrugal-keys has it, and what is shown of their
+# text.
+REPORTS = [
+    (b"\x1b[97;5:3u", "report U+0061 CTRL release", "a"),
+    (b"\x1b[97;1:2u", "report U+0061 NONE repeat", "a"),
+    (b"\x1b[97:65:99;2;65u", "report U+0061 SHIFT press shifted U+0041 base U+0063 text 1:41", "A"),
+    (b"\x1b[97::99;;228u", "report U+0061 NONE press base U+0063 text 2:c3a4", "ä"),
+    (b"\x1b[97;256:1u", f"report U+0061 {ALL_HELD} press", "a"),
+    (b"\x1b[57414u", "report functional 57414 NONE press", ""),
+    (b"\x1b[[B", "report F2 NONE press", ""),
+    (b"\x1b[1;1:3A", "report UpArrow NONE release", ""),
+    (b"\x1b[I", "focus gained", ""),
+    (b"\x1b[O", "focus lost", ""),
+    (b"\x1b[?24;80;1R", "cursor 24 80", ""),
+    (b"\x1b[48;24;80;480;800t", "resize 24 80 480 800", ""),
+    (b"\x1b[?31u", "keyboard flags 31", ""),
+    (b"\x1b[32;3;4M", "mouse 3 4 LEFT NONE", ""),
+    (b"\x1b[M !!", "mouse 1 1 LEFT NONE", ""),
+    (b"\x1b[?62;4c", "csi 6:3f36323b3463", "?62;4c"),
+    (b"\x1b]11;#fff\a", "osc 7:31313b23666666", "11;#fff"),
+    (b"\x1b]\xff<b>\x1b\\", "osc 4:ff3c623e", "\ufffd<b>"),
+    (b"\x1b]\a", "osc 0:", ""),
+    (b"\x1bP>|x\x1b\\", "dcs 3:3e7c78", ">|x"),
+    (b"\x1b_Gi=1;OK\x1b\\", "apc 7:47693d313b4f4b", "Gi=1;OK"),
+    (b"\x1b]" + b"x" * 30 + b"\a", "osc 30:" + "78" * 24 + "…", "x" * 24 + "…"),
+]
+
+
+@pytest.mark.parametrize("reading", ["extended", "kitty"])
+@pytest.mark.parametrize("data, line, glyphs", REPORTS)
+def test_lines_beyond_the_table(client, reading, data, line, glyphs):
+    items, told = client.check(data, "more", reading)
+    assert (items, told["waits"]) == ([[len(data), line, glyphs]], None)
+
+
+@pytest.mark.parametrize("reading", ["extended", "kitty"])
+def test_beginnings(client, reading):
+    """What begins no entry of the table is named by what it becomes."""
+    begun = ["csi", "osc", "osc", "dcs", "apc", "report", None, "osc", "csi"]
+    for rest, begins in zip(BEGINNINGS, begun):
+        waits = client.waits(rest, reading)
+        has(waits, kind="Sequence", length=len(rest), count=0, named=[], begins=begins)
+        assert waits["emits"] == len(waits["flushed"])
+        assert (waits["mouse"] is not None) == (rest == b"\x1b[M!"), rest
+
+
+def test_beginnings_of_the_table_too(client):
+    up = ["1b5b313b3141", "key UpArrow NONE"]
+    kitty = ["1b5b313b3141", "report UpArrow NONE press"]
+    for reading, begins, named in (
+        ("table", None, up),
+        ("extended", "csi", up),
+        ("kitty", "csi", kitty),
+    ):
+        waits = client.waits(b"\x1b[1;", reading)
+        has(waits, begins=begins, count=169)
+        assert waits["named"][0] == named
+    waits = client.waits(b"\x1b[<0;3", "extended")
+    has(waits, count=0, begins="csi")
+    assert waits["mouse"][1] == "mouse 33 4 LEFT NONE"
+
+
+@pytest.mark.parametrize(
+    "begins, rest",
+    [
+        ("osc", b"\x1b]" + b"a" * 65533),
+        ("osc", b"\x1b]" + b"a" * 65532 + b"\x1b"),
+        ("dcs", b"\x1bP" + b"a" * 65532 + b"\x1b"),
+        ("apc", b"\x1b_" + b"a" * 60000),
+    ],
+)
+def test_long_beginnings(client, begins, rest):
+    """65,535 bytes of a string may be buffered. Of the many events that a flush makes of it some
+    are listed."""
+    began = time.process_time()
+    status, _, body = client.ask("POST", "/api/read?reading=extended", rest)
+    assert time.process_time() - began < 2
+    assert (status, len(body) < 1 << 16) == (200, True)
+    waits = json.loads(body)["waits"]
+    has(waits, length=len(rest), begins=begins, mouse=None, emits=len(rest) - 1)
+    assert len(waits["flushed"]) == meanings.LINES
+
+
+def test_long_strings(client):
+    told = client.told("/api/read?reading=extended", b"\x1b]" + b"a" * 65533 + b"\a")
+    assert told["events"] == 1
+    assert told["items"][0][:2] == [65536, "osc 65533:" + "61" * 24 + "…"]
+    has(
+        client.told("/api/read?reading=extended", b"\x1b]" + b"a" * 65534), events=65535, waits=None
+    )
+
+
+def test_waits(client):
+    """What stays buffered, and what it may become, for each kind."""
+    assert client.waits(b"q") is None
+    waits = client.waits(b"q\x1b")
+    has(waits, kind="Escape", length=1, flushed=["key Escape NONE"], with_alt=False)
+    has(waits, alt=["1b71", "key U+0071 ALT"], mouse=["1b5b3c303b333b344d", "mouse 3 4 LEFT NONE"])
+    assert waits["named"][0] == ["1b5b41", "key UpArrow NONE"]
+    assert waits["count"] == entries_after(b"\x1b")
+    waits = client.waits(b"\x1b\x1b")
+    has(waits, flushed=["key Escape ALT"], with_alt=True)
+    assert waits["named"][0] == ["1b1b5b41", "key UpArrow ALT"]
+    waits = client.waits(b"\x1b[24;5")
+    named = [["1b5b32343b357e", "key F12 CTRL"], ["1b5b32343b3575", "key U+0018 CTRL"]]
+    has(waits, kind="Sequence", count=2, named=named, mouse=None)
+    assert len(waits["flushed"]) == 5
+    waits = client.waits(b"\x1b[<0;3")
+    has(waits, kind="Sequence", count=0, named=[])
+    assert waits["mouse"][1].startswith("mouse ")
+    has(client.waits(b"\xe2\x82"), kind="Character", flushed=["key U+FFFD NONE"] * 2)
+    waits = client.waits(b"\x1b[200~abc")
+    has(waits, kind="Paste", length=9, text=3, flushed=["paste 3:616263"], end=b"\x1b[201~".hex())
+
+
+@pytest.mark.parametrize("reading", meanings.READINGS)
+def test_what_is_named_is_so(client, reading):
+    """Each key that bytes are said to begin is read from the named bytes."""
+    for rest in RESTS + BEGINNINGS:
+        waits = client.waits(rest, reading) or {}
+        alone = [it for it in (waits.get("mouse"), waits.get("alt")) if it]
+        for text, *lines in [*waits.get("named", []), *alone]:
+            assert bytes.fromhex(text).startswith(rest[len(rest) - waits["length"] :])
+            if "InternalPasteStart" not in lines[0]:
+                assert meanings.lines(bytes.fromhex(text), reading)[-len(lines) :] == lines
+
+
+def test_table(client):
+    told = client.told("/api/table")
+    assert told["version"] == hedrugal.__version__
+    assert len(told["rows"]) == header_constant("HED_ENTRY_COUNT")
+    assert [b"\x1b[15;5~".hex(), "F5", "CTRL"] in told["rows"]
+    assert told["rows"] == sorted(told["rows"], key=lambda row: bytes.fromhex(row[0]))
+    for name in told["keys"]:
+        assert meanings.key_name(meanings.key_of(name)) == name
+
+
+@pytest.mark.parametrize(
+    "words",
+    ["UpArrow NONE", "U+0069 CTRL", "Enter CTRL+ALT", "F5 SHIFT", "U+20AC ALT", "Tab SHIFT"],
+)
+def test_encodings(client, words):
+    name, modifiers = words.split()
+    query = f"key={name}&modifiers={modifiers}".replace("+", "%2B")
+    told = client.told(f"/api/encode?{query}")
+    key, held = meanings.key_of(name), meanings.modifiers_of(modifiers)
+    assert told["sent"] == [encode(key, held, modes).hex() for modes in meanings.MODES]
+    assert len(told["sent"]) == 24
+    for text, lines in told["reads"].items():
+        with InputParser() as parser:
+            events = parser.parse(bytes.fromhex(text), False)
+        assert lines == [meanings.line(event) for event in events]
+
+
+def test_encodings_in_all_modes(client):
+    told = client.told("/api/encode?key=UpArrow&modifiers=CTRL")
+    assert {*told["sent"]} == {b"\x1b[1;5A".hex()}
+
+
+def test_names_are_those_of_keyshow():
+    """The lines are those of the recorded answers."""
+    names = [meanings.key_name(it) for it in (KeyCode.UP_ARROW, "q", "\U0001f600")]
+    assert names == ["UpArrow", "U+0071", "U+1F600"]
+    assert meanings.set_name(Modifiers.CTRL | Modifiers.SHIFT | Modifiers.ALT) == "SHIFT+ALT+CTRL"
+    recorded = (TOP / "rust/tests/recorded/rules.txt").read_text(encoding="utf-8")
+    keys = {*re.findall(r"\bkey (\S+) ([A-Z+]+)(?=[,;|\s])", recorded)}
+    assert len(keys) > 20
+    for key, held in keys:
+        line = meanings.key_line(meanings.key_of(key), meanings.modifiers_of(held))
+        assert line == f"key {key} {held}"
+
+
+PIECES = [b"a", b"\x1b[A", b"\x1b", b"\xff", b"\x1b[200~a\x1b[201~"]
+OTHERS = [b"\xe2\x82\xac", b"\x1b[<0;3;4M"]
+BEYOND = [b"\x1b[97;5:3u", b"\x1b]11;#fff\a", b"\x1b]" + b"a" * 65536]
+
+
+@pytest.mark.parametrize("path", ["read?end=more&first=0&", "reads?", "cut?at=5000&"])
+@pytest.mark.parametrize(
+    "reading, seconds, piece",
+    [*(("table", 2, it) for it in PIECES + OTHERS), *(("kitty", 4, it) for it in PIECES + BEYOND)],
+    ids=lambda it: repr(it)[:20],
+)
+def test_a_megabyte(client, path, reading, seconds, piece):
+    """It takes two seconds, and four by the extended parser: of the processor's time, since other
+    programs may run on this machine."""
+    data = (piece * (MOST // len(piece) + 1))[:MOST]
+    began = time.process_time()
+    status, _, body = client.ask("POST", f"/api/{path}reading={reading}", data)
+    assert time.process_time() - began < seconds
+    assert (status, len(body) < 1 << 16) == (200, True)
+
+
+def heed_interrupts():
+    """A shell has what it starts in the background ignore them."""
+    signal.signal(signal.SIGINT, signal.SIG_DFL)
+
+
+def start_program(*words):
+    """Starts `python3 -m hedrugal.page`."""
+    pipe = subprocess.PIPE
+    how = {"stdin": subprocess.DEVNULL, "stdout": pipe, "stderr": pipe, "cwd": "/", "text": True}
+    words = [sys.executable, "-W", "error", "-m", "hedrugal.page", *words]
+    return subprocess.Popen(words, preexec_fn=heed_interrupts, **how)
+
+
+def run_program(*words):
+    with start_program(*words) as process:
+        printed, errors = process.communicate(timeout=SECONDS)
+    return process.returncode, printed, errors
+
+
+def test_program_help():
+    status, printed, errors = run_program("--help")
+    assert (status, errors) == (0, "")
+    assert "python3 -m hedrugal.page [--port N]" in printed
+
+
+@pytest.mark.parametrize("words", ["x", "--prot 1", "--port 8080 x", "--help x", "x --help", ""])
+def test_program_unknown_words(words):
+    status, printed, errors = run_program(*words.split(" "))
+    assert (status, printed) == (2, "")
+    assert re.fullmatch(r"hedrugal\.page: what is '.*'\? --help lists the words\n", errors)
+
+
+@pytest.mark.parametrize("words", [[], ["x"], ["0"], ["65536"], ["-1"], ["08080000"]])
+def test_program_wrong_ports(words):
+    status, printed, errors = run_program("--port", *words)
+    assert (status, printed) == (2, "")
+    assert "--port wants a number from 1 to 65535" in errors
+
+
+def test_program_serves_until_it_is_interrupted():
+    with start_program() as process:
+        port = re.fullmatch(r"http://127\.0\.0\.1:(\d+)/\n", process.stdout.readline())[1]
+        connection = http.client.HTTPConnection(f"127.0.0.1:{port}", timeout=SECONDS)
+        connection.request("GET", "/")
+        assert b"<h1>What do these bytes mean?</h1>" in connection.getresponse().read()
+        status, printed, errors = run_program("--port", port)
+        assert (status, printed) == (1, "")
+        assert f"port {port} can't be used" in errors
+        connection.request("GET", "/none")
+        assert connection.getresponse().status == 404
+        process.send_signal(signal.SIGINT)
+        assert process.wait(SECONDS) == 0
+        # No request is logged.
+        wanted = "hedrugal.page: open this address in a browser; Ctrl-C ends it\n\n"
+        assert process.stderr.read() == wanted
+        connection.close()
+    with start_program("--port", port) as process:
+        assert process.stdout.readline() == f"http://127.0.0.1:{port}/\n"
+        process.send_signal(signal.SIGINT)
+        assert process.wait(SECONDS) == 0
