@@ -24,7 +24,9 @@ static const char questions[] = "\033[?6n\033]10;?\033\\\033]11;?\033\\\033[?u\0
 
 static volatile sig_atomic_t ending;
 
-static void note_signal(int number) { ending = number; }
+static void note_signal(int number) {
+  ending = number;
+}
 
 static void handle_signals(void (*handler)(int)) {
   static const int numbers[] = { SIGHUP, SIGINT, SIGQUIT, SIGTERM };

@@ -73,7 +73,8 @@ typedef struct hed_parser {
 } hed_parser;
 
 /* The value of a hed_parser that is none. */
-#define HED_PARSER_NONE { false, NULL }
+#define HED_PARSER_NONE \
+  { false, NULL }
 
 /* The kinds of events: the field kind of a hed_event, which has none but the first four, and of a hed_extended_event. */
 enum hed_kind {
@@ -97,14 +98,14 @@ enum hed_kind {
 
 /* An event. What its kind has no use for is 0. */
 typedef struct hed_event {
-  uint8_t kind;       /* an enum hed_kind */
-  uint8_t buttons;    /* HED_KIND_MOUSE: a set of HED_BUTTON_.., empty after a release and for a move with no button down */
+  uint8_t kind; /* an enum hed_kind */
+  uint8_t buttons; /* HED_KIND_MOUSE: a set of HED_BUTTON_.., empty after a release and for a move with no button down */
   uint16_t modifiers; /* HED_KIND_KEY, HED_KIND_MOUSE: a set of HED_TERMWIZ_MOD_.. */
-  uint16_t key;       /* HED_KIND_KEY: an enum hed_key */
-  uint16_t x;         /* HED_KIND_MOUSE: the column, as the terminal sent it: the leftmost is 1 */
-  uint16_t y;         /* HED_KIND_MOUSE: the row, as the terminal sent it: the topmost is 1 */
-  uint32_t detail;    /* HED_KIND_KEY: the code point with HED_KEY_CHAR, the number with HED_KEY_FUNCTION (1 for F1) */
-  size_t paste_len;   /* HED_KIND_PASTE: the number of bytes of the text, which hed_parser_paste copies */
+  uint16_t key; /* HED_KIND_KEY: an enum hed_key */
+  uint16_t x; /* HED_KIND_MOUSE: the column, as the terminal sent it: the leftmost is 1 */
+  uint16_t y; /* HED_KIND_MOUSE: the row, as the terminal sent it: the topmost is 1 */
+  uint32_t detail; /* HED_KIND_KEY: the code point with HED_KEY_CHAR, the number with HED_KEY_FUNCTION (1 for F1) */
+  size_t paste_len; /* HED_KIND_PASTE: the number of bytes of the text, which hed_parser_paste copies */
 } hed_event;
 
 /* What hed_parser_next, hed_parser_flush_escape and hed_parser_end_paste return. */
@@ -376,12 +377,12 @@ enum hed_kitty_flag {
 
 /* The modes of a terminal that change the text of a key. All zero is xterm with every mode off. */
 typedef struct hed_modes {
-  int64_t modify_other_keys;    /* the level of xterm's modifyOtherKeys; not read if has_modify_other_keys is false */
-  uint8_t encoding;             /* an enum hed_encoding */
-  uint8_t kitty_flags;          /* a set of HED_KITTY_FLAG_..; read only with HED_ENCODING_KITTY */
+  int64_t modify_other_keys; /* the level of xterm's modifyOtherKeys; not read if has_modify_other_keys is false */
+  uint8_t encoding; /* an enum hed_encoding */
+  uint8_t kitty_flags; /* a set of HED_KITTY_FLAG_..; read only with HED_ENCODING_KITTY */
   bool application_cursor_keys; /* the arrows, Home and End send ESC O in place of ESC [ (DECCKM) */
-  bool newline_mode;            /* Enter sends a line feed after the carriage return (LNM) */
-  bool has_modify_other_keys;   /* modifyOtherKeys is on, at the level above */
+  bool newline_mode; /* Enter sends a line feed after the carriage return (LNM) */
+  bool has_modify_other_keys; /* modifyOtherKeys is on, at the level above */
 } hed_modes;
 
 /* What hed_encode and hed_encode_kitty return. */
@@ -412,7 +413,7 @@ uint32_t hed_encode(uint16_t key, uint32_t detail, uint16_t modifiers, bool is_d
 
 /* The sequence table, which each parser has: the entries are in the order of their bytes, and the first place is 0. */
 #define HED_ENTRY_COUNT 2937 /* how many entries there are */
-#define HED_ENTRY_MOST 11    /* the length of the longest */
+#define HED_ENTRY_MOST 11 /* the length of the longest */
 
 /* Tells the entry at a place: the bytes of a sequence, and its key. Writes as many of the bytes as capacity says, and the key to *event, a
  * HED_KIND_KEY. The start and the end of a paste are entries too, with the keys HED_KEY_INTERNAL_PASTE_START and
@@ -424,8 +425,8 @@ size_t hed_parser_entry(const hed_parser *parser, size_t place, uint8_t *bytes, 
 
 /* Some entries of the table, one after another. */
 typedef struct hed_entries {
-  size_t first;  /* the place of the first */
-  size_t count;  /* how many there are */
+  size_t first; /* the place of the first */
+  size_t count; /* how many there are */
   bool with_alt; /* whether their keys get HED_TERMWIZ_MOD_ALT */
 } hed_entries;
 
@@ -445,11 +446,12 @@ typedef struct hed_keymap {
 } hed_keymap;
 
 /* The value of a hed_keymap that is none. */
-#define HED_KEYMAP_NONE { false, NULL }
+#define HED_KEYMAP_NONE \
+  { false, NULL }
 
 /* A key that hed_keymap_lookup found. */
 typedef struct hed_match {
-  size_t len;     /* the number of its bytes */
+  size_t len; /* the number of its bytes */
   uint64_t value; /* its value */
 } hed_match;
 
@@ -498,7 +500,8 @@ typedef struct hed_extended {
 } hed_extended;
 
 /* The value of a hed_extended that is none. */
-#define HED_EXTENDED_NONE { false, NULL }
+#define HED_EXTENDED_NONE \
+  { false, NULL }
 
 /* The keyboard protocol that the program turned on, which says how the entries of the sequence table are read: what hed_extended_init is
  * given. */
@@ -539,27 +542,27 @@ enum hed_kitty_mod {
 
 /* A key, what happened to it, and what the terminal reported of it. */
 typedef struct hed_key_report {
-  uint8_t kind;      /* an enum hed_key_event_kind */
+  uint8_t kind; /* an enum hed_key_event_kind */
   uint8_t modifiers; /* a set of HED_KITTY_MOD_.. */
-  uint16_t key;      /* an enum hed_key, or 0 for a key that has no name there */
-  uint32_t detail;   /* the code point with HED_KEY_CHAR, the number with HED_KEY_FUNCTION, with key 0 that of Kitty's table of keys */
-  uint32_t shifted;  /* the code point that the key types with Shift, or HED_NO_CODE */
-  uint32_t base;     /* the code point that the key at this place types on the standard layout (PC-101), or HED_NO_CODE */
+  uint16_t key; /* an enum hed_key, or 0 for a key that has no name there */
+  uint32_t detail; /* the code point with HED_KEY_CHAR, the number with HED_KEY_FUNCTION, with key 0 that of Kitty's table of keys */
+  uint32_t shifted; /* the code point that the key types with Shift, or HED_NO_CODE */
+  uint32_t base; /* the code point that the key at this place types on the standard layout (PC-101), or HED_NO_CODE */
 } hed_key_report;
 
 /* An event of the extended parser. What its kind has no use for is 0. */
 typedef struct hed_extended_event {
-  uint8_t kind;          /* an enum hed_kind */
-  uint8_t flags;         /* HED_KIND_KEYBOARD_FLAGS: a set of HED_KITTY_FLAG_.. */
-  uint16_t row;          /* HED_KIND_CURSOR_POSITION: the row, as the terminal sent it: the topmost is 1 */
-  uint16_t column;       /* HED_KIND_CURSOR_POSITION: the column, as the terminal sent it: the leftmost is 1 */
-  uint16_t rows;         /* HED_KIND_RESIZE: the number of rows */
-  uint16_t columns;      /* HED_KIND_RESIZE: the number of columns */
-  uint16_t height;       /* HED_KIND_RESIZE: the height in pixels */
-  uint16_t width;        /* HED_KIND_RESIZE: the width in pixels */
+  uint8_t kind; /* an enum hed_kind */
+  uint8_t flags; /* HED_KIND_KEYBOARD_FLAGS: a set of HED_KITTY_FLAG_.. */
+  uint16_t row; /* HED_KIND_CURSOR_POSITION: the row, as the terminal sent it: the topmost is 1 */
+  uint16_t column; /* HED_KIND_CURSOR_POSITION: the column, as the terminal sent it: the leftmost is 1 */
+  uint16_t rows; /* HED_KIND_RESIZE: the number of rows */
+  uint16_t columns; /* HED_KIND_RESIZE: the number of columns */
+  uint16_t height; /* HED_KIND_RESIZE: the height in pixels */
+  uint16_t width; /* HED_KIND_RESIZE: the width in pixels */
   hed_key_report report; /* HED_KIND_REPORT: the report; HED_KIND_KEY: the same key as a press, so that a program needs one case for both */
-  hed_event input;       /* HED_KIND_KEY, HED_KIND_MOUSE, HED_KIND_PASTE: the event as hed_parser_next writes it */
-  size_t text_len;       /* the number of bytes that the event brought, which hed_extended_text copies: see there */
+  hed_event input; /* HED_KIND_KEY, HED_KIND_MOUSE, HED_KIND_PASTE: the event as hed_parser_next writes it */
+  size_t text_len; /* the number of bytes that the event brought, which hed_extended_text copies: see there */
 } hed_extended_event;
 
 /* Makes an extended parser with an empty buffer. If there was one, it is freed. The caller owes a hed_extended_free. Pass

@@ -186,7 +186,8 @@ static bool resume(live *it) {
 
 static bool handle_wake(live *it) {
   char bytes[64];
-  while (read(wake[0], bytes, sizeof bytes) > 0) {}
+  while (read(wake[0], bytes, sizeof bytes) > 0) {
+  }
   if (ending) return false;
   if (stopping) {
     stop(it);

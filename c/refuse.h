@@ -33,7 +33,9 @@ static void *counted(void *block) {
   return block;
 }
 
-void *__wrap_malloc(size_t size) { return refuses() ? NULL : counted(__real_malloc(size)); }
+void *__wrap_malloc(size_t size) {
+  return refuses() ? NULL : counted(__real_malloc(size));
+}
 
 void *__wrap_realloc(void *block, size_t size) {
   if (refuses()) return NULL;

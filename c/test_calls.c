@@ -33,7 +33,7 @@ static bool is_key(uint16_t key, uint32_t detail, uint16_t modifiers) {
 /* Without a parser there are no entries, and nothing is written. */
 static void no_rows_answer(const hed_parser *parser) {
   hed_event event, before;
-  hed_entries entries = {7, 8, true};
+  hed_entries entries = { 7, 8, true };
   uint8_t byte = 'x';
   memset(&event, 0x55, sizeof event);
   memset(&before, 0x55, sizeof before);
@@ -109,7 +109,8 @@ static void gives_events_in_turn(void) {
   EXPECT(hed_parser_init(&parser) && take(&parser, true) == HED_NEXT_NONE);
   EXPECT(FEED(&parser, "\033[1;3A\033[<0;7;9M\342\202\254\033"));
   EXPECT(take(&parser, true) == HED_NEXT_EVENT && is_key(HED_KEY_UP_ARROW, 0, HED_TERMWIZ_MOD_ALT));
-  EXPECT(take(&parser, true) == HED_NEXT_EVENT && taken.kind == HED_KIND_MOUSE && taken.buttons == HED_BUTTON_LEFT && taken.x == 7 && taken.y == 9);
+  EXPECT(take(&parser, true) == HED_NEXT_EVENT && taken.kind == HED_KIND_MOUSE && taken.buttons == HED_BUTTON_LEFT && taken.x == 7
+         && taken.y == 9);
   EXPECT(take(&parser, true) == HED_NEXT_EVENT && is_key(HED_KEY_CHAR, 0x20ac, HED_TERMWIZ_MOD_NONE));
   EXPECT(take(&parser, true) == HED_NEXT_NONE && hed_parser_waiting_len(&parser) == 1);
   EXPECT(take(&parser, false) == HED_NEXT_EVENT && is_key(HED_KEY_ESCAPE, 0, HED_TERMWIZ_MOD_NONE));
@@ -121,9 +122,12 @@ static void gives_events_in_turn(void) {
 /* Bytes may be fed while events are still to be taken. */
 static void takes_one_event_at_a_time(hed_parser *parser) {
   EXPECT(take(parser, true) == HED_NEXT_NONE && hed_parser_waiting_len(parser) == 0);
-  EXPECT(NEXT(parser, "a\033[A\033", true) == HED_NEXT_EVENT && is_key(HED_KEY_CHAR, 'a', HED_TERMWIZ_MOD_NONE) && hed_parser_waiting_len(parser) == 4);
-  EXPECT(NEXT(parser, "[<0;1;2M\033", true) == HED_NEXT_EVENT && is_key(HED_KEY_UP_ARROW, 0, HED_TERMWIZ_MOD_NONE) && hed_parser_waiting_len(parser) == 10);
-  EXPECT(take(parser, true) == HED_NEXT_EVENT && taken.kind == HED_KIND_MOUSE && taken.buttons == HED_BUTTON_LEFT && taken.modifiers == HED_TERMWIZ_MOD_NONE);
+  EXPECT(NEXT(parser, "a\033[A\033", true) == HED_NEXT_EVENT && is_key(HED_KEY_CHAR, 'a', HED_TERMWIZ_MOD_NONE)
+         && hed_parser_waiting_len(parser) == 4);
+  EXPECT(NEXT(parser, "[<0;1;2M\033", true) == HED_NEXT_EVENT && is_key(HED_KEY_UP_ARROW, 0, HED_TERMWIZ_MOD_NONE)
+         && hed_parser_waiting_len(parser) == 10);
+  EXPECT(take(parser, true) == HED_NEXT_EVENT && taken.kind == HED_KIND_MOUSE && taken.buttons == HED_BUTTON_LEFT
+         && taken.modifiers == HED_TERMWIZ_MOD_NONE);
   EXPECT(taken.x == 1 && taken.y == 2 && hed_parser_waiting_len(parser) == 1);
   EXPECT(take(parser, true) == HED_NEXT_NONE && hed_parser_waiting_len(parser) == 1);
   EXPECT(take(parser, false) == HED_NEXT_EVENT && is_key(HED_KEY_ESCAPE, 0, HED_TERMWIZ_MOD_NONE) && hed_parser_waiting_len(parser) == 0);
@@ -201,7 +205,7 @@ static void gives_a_long_paste(hed_parser *parser) {
   static uint8_t paste[MARK + BODY + MARK], room[BODY];
   uint8_t *body = paste + MARK;
   memcpy(paste, "\033[200~", MARK);
-  for (size_t at = 0; at < BODY; at++) body[at] = (uint8_t)"0123456789abcdef"[at % 16];
+  for (size_t at = 0; at < BODY; at++) body[at] = (uint8_t) "0123456789abcdef"[at % 16];
   memcpy(body + BODY, "\033[201~", MARK);
   for (int in_pieces = 0; in_pieces < 2; in_pieces++) {
     if (in_pieces) {
@@ -224,30 +228,30 @@ struct rest {
 };
 
 static const struct rest rests[] = {
-    {"", HED_WAITING_NOTHING},
-    {"\033", HED_WAITING_ESCAPE},
-    {"\033\033", HED_WAITING_ESCAPE},
-    {"\033[", HED_WAITING_SEQUENCE},
-    {"\033O", HED_WAITING_SEQUENCE},
-    {"\033[1;5", HED_WAITING_SEQUENCE},
-    {"\033[<0;1", HED_WAITING_SEQUENCE},
-    {"\033[<0;3", HED_WAITING_SEQUENCE},
-    {"\033[200", HED_WAITING_SEQUENCE},
-    {"\033\033[", HED_WAITING_SEQUENCE},
-    {"\033\033[<00095;65535;65535", HED_WAITING_SEQUENCE},
-    {"\303", HED_WAITING_CHARACTER},
-    {"\342\202", HED_WAITING_CHARACTER},
-    {"\360\237\230", HED_WAITING_CHARACTER},
-    {"\033\303", HED_WAITING_CHARACTER},
-    {"\033\342\202", HED_WAITING_CHARACTER},
-    {"\033\360\237\230", HED_WAITING_CHARACTER},
-    {"\033[200~", HED_WAITING_PASTE},
-    {"\033[200~\033", HED_WAITING_PASTE},
-    {"\033[200~ab", HED_WAITING_PASTE},
-    {"\033[200~ab\033\033", HED_WAITING_PASTE},
-    {"\033[200~\303", HED_WAITING_PASTE},
-    {"\033[200~ab\033[201", HED_WAITING_PASTE},
-    {"\033[200~\033[200~", HED_WAITING_PASTE},
+  { "", HED_WAITING_NOTHING },
+  { "\033", HED_WAITING_ESCAPE },
+  { "\033\033", HED_WAITING_ESCAPE },
+  { "\033[", HED_WAITING_SEQUENCE },
+  { "\033O", HED_WAITING_SEQUENCE },
+  { "\033[1;5", HED_WAITING_SEQUENCE },
+  { "\033[<0;1", HED_WAITING_SEQUENCE },
+  { "\033[<0;3", HED_WAITING_SEQUENCE },
+  { "\033[200", HED_WAITING_SEQUENCE },
+  { "\033\033[", HED_WAITING_SEQUENCE },
+  { "\033\033[<00095;65535;65535", HED_WAITING_SEQUENCE },
+  { "\303", HED_WAITING_CHARACTER },
+  { "\342\202", HED_WAITING_CHARACTER },
+  { "\360\237\230", HED_WAITING_CHARACTER },
+  { "\033\303", HED_WAITING_CHARACTER },
+  { "\033\342\202", HED_WAITING_CHARACTER },
+  { "\033\360\237\230", HED_WAITING_CHARACTER },
+  { "\033[200~", HED_WAITING_PASTE },
+  { "\033[200~\033", HED_WAITING_PASTE },
+  { "\033[200~ab", HED_WAITING_PASTE },
+  { "\033[200~ab\033\033", HED_WAITING_PASTE },
+  { "\033[200~\303", HED_WAITING_PASTE },
+  { "\033[200~ab\033[201", HED_WAITING_PASTE },
+  { "\033[200~\033[200~", HED_WAITING_PASTE },
 };
 
 enum { RESTS = sizeof rests / sizeof rests[0] };
@@ -325,7 +329,8 @@ static void flushes_escapes(hed_parser *parser) {
 static void flushes_what_was_fed(void) {
   hed_parser parser = HED_PARSER_NONE;
   EXPECT(hed_parser_init(&parser) && call(hed_parser_flush_escape, &parser) == HED_NEXT_NONE);
-  EXPECT(FEED(&parser, "\033\033") && call(hed_parser_flush_escape, &parser) == HED_NEXT_EVENT && is_key(HED_KEY_ESCAPE, 0, HED_TERMWIZ_MOD_ALT));
+  EXPECT(FEED(&parser, "\033\033") && call(hed_parser_flush_escape, &parser) == HED_NEXT_EVENT
+         && is_key(HED_KEY_ESCAPE, 0, HED_TERMWIZ_MOD_ALT));
   EXPECT(FEED(&parser, "\033[") && call(hed_parser_flush_escape, &parser) == HED_NEXT_NONE && hed_parser_waiting_len(&parser) == 2);
   hed_parser_free(&parser);
 }
@@ -353,8 +358,9 @@ static void flushes_escapes_alone(hed_parser *parser) {
 static bool is_paste(hed_parser *parser, const char *want) {
   uint8_t room[64];
   size_t len = strlen(want);
-  return taken.kind == HED_KIND_PASTE && taken.paste_len == len && taken.buttons == 0 && taken.modifiers == 0 && taken.key == 0 && taken.x == 0
-         && taken.y == 0 && taken.detail == 0 && hed_parser_paste(parser, room, sizeof room) == len && memcmp(room, want, len) == 0;
+  return taken.kind == HED_KIND_PASTE && taken.paste_len == len && taken.buttons == 0 && taken.modifiers == 0 && taken.key == 0
+         && taken.x == 0 && taken.y == 0 && taken.detail == 0 && hed_parser_paste(parser, room, sizeof room) == len
+         && memcmp(room, want, len) == 0;
 }
 
 /* A paste is ended where it is: what it has so far is its text. */
@@ -391,7 +397,7 @@ static void ends_open_pastes_alone(hed_parser *parser) {
 
 /* The text of a paste is kept until it is dropped, whatever is buffered. */
 static void drops_pastes(hed_parser *parser) {
-  uint8_t room[4] = {'.', '.', '.', '.'};
+  uint8_t room[4] = { '.', '.', '.', '.' };
   EXPECT(NEXT(parser, "\033[200~ab\033[201~\033[200~cd", true) == HED_NEXT_EVENT && is_paste(parser, "ab"));
   hed_parser_drop_paste(parser);
   EXPECT(hed_parser_paste(parser, room, sizeof room) == 0 && memcmp(room, "....", 4) == 0);
@@ -414,7 +420,8 @@ static void shrinks(hed_parser *parser) {
     EXPECT(take(parser, true) == HED_NEXT_EVENT && is_key(HED_KEY_CHAR, 'q', HED_TERMWIZ_MOD_NONE));
     hed_parser_shrink_to(parser, rooms[i]);
     EXPECT(NEXT(parser, "", true) == HED_NEXT_NONE && is_rest(parser, 4, HED_WAITING_SEQUENCE));
-    EXPECT(NEXT(parser, "5A", true) == HED_NEXT_EVENT && is_key(HED_KEY_UP_ARROW, 0, HED_TERMWIZ_MOD_CTRL) && hed_parser_waiting_len(parser) == 0);
+    EXPECT(NEXT(parser, "5A", true) == HED_NEXT_EVENT && is_key(HED_KEY_UP_ARROW, 0, HED_TERMWIZ_MOD_CTRL)
+           && hed_parser_waiting_len(parser) == 0);
   }
 }
 
@@ -430,7 +437,9 @@ static size_t entry_at(const hed_parser *parser, size_t place) {
 }
 
 /* Whether the event `taken` is that entry's key with these modifiers more. */
-static bool is_entry_key(uint16_t modifiers) { return is_key(entry_key.key, entry_key.detail, entry_key.modifiers | modifiers); }
+static bool is_entry_key(uint16_t modifiers) {
+  return is_key(entry_key.key, entry_key.detail, entry_key.modifiers | modifiers);
+}
 
 /* However few bytes there is room for, the length and the key are those of the whole entry, and the bytes after the room are unchanged. */
 static void cuts_entry(const hed_parser *parser, size_t place, size_t len) {
@@ -487,7 +496,7 @@ static void tells_entries(hed_parser *parser) {
 
 /* From the number of entries on there is none, and nothing is written. What is buffered makes no difference, and stays. */
 static void has_no_other_entries(hed_parser *parser) {
-  static const size_t places[] = {HED_ENTRY_COUNT, HED_ENTRY_COUNT + 1, (size_t)1 << 32, SIZE_MAX};
+  static const size_t places[] = { HED_ENTRY_COUNT, HED_ENTRY_COUNT + 1, (size_t)1 << 32, SIZE_MAX };
   hed_event untouched;
   memset(&untouched, 0xaa, sizeof untouched);
   for (size_t i = 0; i < 4; i++) {
@@ -546,25 +555,25 @@ struct begun {
 };
 
 static const struct begun begun[] = {
-    {"", false},
-    {"\033", false},
-    {"\033\033", true},
-    {"\033O", false},
-    {"\033\033O", true},
-    {"\033[", false},
-    {"\033\033[", true},
-    {"\033[1", false},
-    {"\033\033[1;", true},
-    {"\033[20", false}, /* CSI u, F9, and the start and the end of a paste */
-    {"\033\033[20", true},
-    {"\033\033[200", true},
-    {"\033[27;5;13", false},
-    {"\033[<", false}, /* a mouse report */
-    {"\033\033[<0;3", false},
-    {"\303", false}, /* half a character */
-    {"\033\360\237\230", false},
-    {"\033[200~", false}, /* an open paste */
-    {"\033[200~ab\033[201", false},
+  { "", false },
+  { "\033", false },
+  { "\033\033", true },
+  { "\033O", false },
+  { "\033\033O", true },
+  { "\033[", false },
+  { "\033\033[", true },
+  { "\033[1", false },
+  { "\033\033[1;", true },
+  { "\033[20", false }, /* CSI u, F9, and the start and the end of a paste */
+  { "\033\033[20", true },
+  { "\033\033[200", true },
+  { "\033[27;5;13", false },
+  { "\033[<", false }, /* a mouse report */
+  { "\033\033[<0;3", false },
+  { "\303", false }, /* half a character */
+  { "\033\360\237\230", false },
+  { "\033[200~", false }, /* an open paste */
+  { "\033[200~ab\033[201", false },
 };
 
 /* Whether that entry begins with a text and is longer. */
@@ -626,7 +635,7 @@ static void feed_long_paste(hed_parser *parser, const uint8_t *body) {
 /* A paste of 300 KB is ended, and another forgotten. */
 static void ends_a_long_paste(hed_parser *parser) {
   static uint8_t body[LONG], room[LONG];
-  for (size_t at = 0; at < LONG; at++) body[at] = (uint8_t)"0123456789abcdef\033[201"[at % 21];
+  for (size_t at = 0; at < LONG; at++) body[at] = (uint8_t) "0123456789abcdef\033[201"[at % 21];
   feed_long_paste(parser, body);
   EXPECT(call(hed_parser_flush_escape, parser) == HED_NEXT_NONE);
   EXPECT(call(hed_parser_end_paste, parser) == HED_NEXT_EVENT && taken.kind == HED_KIND_PASTE && taken.paste_len == LONG);
@@ -644,7 +653,7 @@ static void ends_a_paste_that_was_fed(void) {
   static uint8_t body[100000];
   hed_parser parser = HED_PARSER_NONE;
   uint8_t room[3] = "...";
-  for (size_t at = 0; at < sizeof body; at++) body[at] = (uint8_t)"ab"[at % 2];
+  for (size_t at = 0; at < sizeof body; at++) body[at] = (uint8_t) "ab"[at % 2];
   EXPECT(hed_parser_init(&parser) && call(hed_parser_end_paste, &parser) == HED_NEXT_NONE);
   EXPECT(FEED(&parser, "\033[200~") && hed_parser_feed(&parser, body, sizeof body));
   EXPECT(call(hed_parser_end_paste, &parser) == HED_NEXT_EVENT && taken.kind == HED_KIND_PASTE && taken.paste_len == sizeof body);
@@ -659,7 +668,7 @@ static void ends_a_paste_that_was_fed(void) {
 static void gives_many_keys(hed_parser *parser) {
   static uint8_t keys[140000];
   size_t right = 0;
-  for (size_t at = 0; at < sizeof keys; at++) keys[at] = (uint8_t)"\033[Aq"[at % 4];
+  for (size_t at = 0; at < sizeof keys; at++) keys[at] = (uint8_t) "\033[Aq"[at % 4];
   EXPECT(hed_parser_feed(parser, keys, sizeof keys));
   for (size_t pair = 0; pair < 35000; pair++) {
     right += NEXT(parser, "", true) == HED_NEXT_EVENT && is_key(HED_KEY_UP_ARROW, 0, HED_TERMWIZ_MOD_NONE);
@@ -671,8 +680,9 @@ static void gives_many_keys(hed_parser *parser) {
 
 /* Appends the fields of an event to `notes` as text. Returns where they end. */
 static size_t note(char *notes, size_t at, const hed_event *e) {
-  return at + (size_t)sprintf(notes + at, "%u %u %u %u %u %u %u %zu,", e->kind, e->buttons, e->modifiers, e->key, e->x, e->y,
-                              (unsigned)e->detail, e->paste_len);
+  return at
+         + (size_t)sprintf(notes + at, "%u %u %u %u %u %u %u %zu,", e->kind, e->buttons, e->modifiers, e->key, e->x, e->y,
+                           (unsigned)e->detail, e->paste_len);
 }
 
 static const char stream[] = "hello\033[A\033\033[200~ab\303\251cd\033[201~q\033[<0;3;4M\377\033[27;5;13~\303\251\033";
@@ -769,7 +779,9 @@ static bool is_text(const char *want, size_t room) {
 }
 
 /* Whether nothing was written. */
-static bool is_untouched(void) { return is_text("", 0); }
+static bool is_untouched(void) {
+  return is_text("", 0);
+}
 
 static void encodes(void) {
   memset(&modes, 0, sizeof modes);
@@ -796,18 +808,18 @@ struct press {
 
 /* Flags count only with kitty's encoding, and a detail only with a key that has one. */
 static const struct press presses[] = {
-    {HED_KEY_UP_ARROW, 7, HED_TERMWIZ_MOD_NONE, HED_ENCODING_XTERM, 0, HED_ENCODED_TEXT, "\033[A"},
-    {HED_KEY_UP_ARROW, 7, HED_TERMWIZ_MOD_NONE, HED_ENCODING_CSI_U, 32, HED_ENCODED_TEXT, "\033[A"},
-    {HED_KEY_CHAR, 'a', HED_TERMWIZ_MOD_ALT, HED_ENCODING_XTERM, 0, HED_ENCODED_TEXT, "\033a"},
-    {HED_KEY_FUNCTION, 5, HED_TERMWIZ_MOD_SHIFT, HED_ENCODING_XTERM, 0, HED_ENCODED_TEXT, "\033[15;2~"},
-    {HED_KEY_FUNCTION, 25, HED_TERMWIZ_MOD_NONE, HED_ENCODING_XTERM, 0, HED_ENCODED_REFUSED_KEY, ""},
-    {0, 0, HED_TERMWIZ_MOD_NONE, HED_ENCODING_XTERM, 0, HED_ENCODED_BAD_NUMBER, ""},
-    {LAST_KEY + 1, 0, HED_TERMWIZ_MOD_NONE, HED_ENCODING_XTERM, 0, HED_ENCODED_BAD_NUMBER, ""},
-    {HED_KEY_CHAR, 0xd800, HED_TERMWIZ_MOD_NONE, HED_ENCODING_XTERM, 0, HED_ENCODED_BAD_NUMBER, ""},
-    {HED_KEY_FUNCTION, 256, HED_TERMWIZ_MOD_NONE, HED_ENCODING_XTERM, 0, HED_ENCODED_BAD_NUMBER, ""},
-    {HED_KEY_UP_ARROW, 0, 1, HED_ENCODING_XTERM, 0, HED_ENCODED_BAD_NUMBER, ""},
-    {HED_KEY_UP_ARROW, 0, HED_TERMWIZ_MOD_NONE, 4, 0, HED_ENCODED_BAD_NUMBER, ""},
-    {HED_KEY_UP_ARROW, 0, HED_TERMWIZ_MOD_NONE, HED_ENCODING_KITTY, 32, HED_ENCODED_BAD_NUMBER, ""},
+  { HED_KEY_UP_ARROW, 7, HED_TERMWIZ_MOD_NONE, HED_ENCODING_XTERM, 0, HED_ENCODED_TEXT, "\033[A" },
+  { HED_KEY_UP_ARROW, 7, HED_TERMWIZ_MOD_NONE, HED_ENCODING_CSI_U, 32, HED_ENCODED_TEXT, "\033[A" },
+  { HED_KEY_CHAR, 'a', HED_TERMWIZ_MOD_ALT, HED_ENCODING_XTERM, 0, HED_ENCODED_TEXT, "\033a" },
+  { HED_KEY_FUNCTION, 5, HED_TERMWIZ_MOD_SHIFT, HED_ENCODING_XTERM, 0, HED_ENCODED_TEXT, "\033[15;2~" },
+  { HED_KEY_FUNCTION, 25, HED_TERMWIZ_MOD_NONE, HED_ENCODING_XTERM, 0, HED_ENCODED_REFUSED_KEY, "" },
+  { 0, 0, HED_TERMWIZ_MOD_NONE, HED_ENCODING_XTERM, 0, HED_ENCODED_BAD_NUMBER, "" },
+  { LAST_KEY + 1, 0, HED_TERMWIZ_MOD_NONE, HED_ENCODING_XTERM, 0, HED_ENCODED_BAD_NUMBER, "" },
+  { HED_KEY_CHAR, 0xd800, HED_TERMWIZ_MOD_NONE, HED_ENCODING_XTERM, 0, HED_ENCODED_BAD_NUMBER, "" },
+  { HED_KEY_FUNCTION, 256, HED_TERMWIZ_MOD_NONE, HED_ENCODING_XTERM, 0, HED_ENCODED_BAD_NUMBER, "" },
+  { HED_KEY_UP_ARROW, 0, 1, HED_ENCODING_XTERM, 0, HED_ENCODED_BAD_NUMBER, "" },
+  { HED_KEY_UP_ARROW, 0, HED_TERMWIZ_MOD_NONE, 4, 0, HED_ENCODED_BAD_NUMBER, "" },
+  { HED_KEY_UP_ARROW, 0, HED_TERMWIZ_MOD_NONE, HED_ENCODING_KITTY, 32, HED_ENCODED_BAD_NUMBER, "" },
 };
 
 /* Each with a level of modifyOtherKeys that isn't on, and with room for none of its bytes, for some and for all. */
@@ -846,7 +858,7 @@ static void encodes_in_modes(void) {
 }
 
 static void refuses_function_keys(void) {
-  static const uint32_t numbers[] = {0, 25, 255};
+  static const uint32_t numbers[] = { 0, 25, 255 };
   memset(&modes, 0, sizeof modes);
   for (size_t i = 0; i < 3; i++) {
     EXPECT(encode(HED_KEY_FUNCTION, numbers[i], HED_TERMWIZ_MOD_NONE, true, 16) == HED_ENCODED_REFUSED_KEY && is_untouched());
@@ -885,7 +897,7 @@ static void encodes_every_key(void) {
 }
 
 /* What the last lookup wrote, or this if it wrote nothing. */
-static const hed_match unwritten = {77, 777};
+static const hed_match unwritten = { 77, 777 };
 static hed_match found;
 
 static uint32_t look_up(hed_keymap *map, const void *bytes, size_t len, bool maybe_more) {
@@ -896,9 +908,13 @@ static uint32_t look_up(hed_keymap *map, const void *bytes, size_t len, bool may
 #define LOOK_UP(map, text, maybe_more) look_up(map, text, sizeof text - 1, maybe_more)
 #define INSERT(map, key, value) hed_keymap_insert(map, (const uint8_t *)key, sizeof key - 1, value)
 
-static bool is_found(size_t len, uint64_t value) { return found.len == len && found.value == value; }
+static bool is_found(size_t len, uint64_t value) {
+  return found.len == len && found.value == value;
+}
 
-static bool is_unwritten(void) { return is_found(unwritten.len, unwritten.value); }
+static bool is_unwritten(void) {
+  return is_found(unwritten.len, unwritten.value);
+}
 
 /* There is no map before init and after free, and each call says so. */
 static void no_map_answers(hed_keymap *map) {
@@ -955,16 +971,11 @@ struct lookup {
 };
 
 static const struct lookup lookups[] = {
-    {"", 0, true, HED_FOUND_NEED_DATA, {77, 777}},
-    {"bo", 2, true, HED_FOUND_NEED_DATA, {77, 777}},
-    {"bo", 2, false, HED_FOUND_NEED_DATA, {77, 777}},
-    {"boa", 3, true, HED_FOUND_EXACT, {3, 1}},
-    {"boo", 3, true, HED_FOUND_AMBIGUOUS, {3, 4}},
-    {"boo", 3, false, HED_FOUND_EXACT, {3, 4}},
-    {"boo!", 4, true, HED_FOUND_EXACT, {3, 4}},
-    {"boom!", 5, true, HED_FOUND_EXACT, {4, UINT64_MAX}},
-    {"box", 3, true, HED_FOUND_NONE, {77, 777}},
-    {"bo\0", 3, true, HED_FOUND_NONE, {77, 777}},
+  { "", 0, true, HED_FOUND_NEED_DATA, { 77, 777 } },    { "bo", 2, true, HED_FOUND_NEED_DATA, { 77, 777 } },
+  { "bo", 2, false, HED_FOUND_NEED_DATA, { 77, 777 } }, { "boa", 3, true, HED_FOUND_EXACT, { 3, 1 } },
+  { "boo", 3, true, HED_FOUND_AMBIGUOUS, { 3, 4 } },    { "boo", 3, false, HED_FOUND_EXACT, { 3, 4 } },
+  { "boo!", 4, true, HED_FOUND_EXACT, { 3, 4 } },       { "boom!", 5, true, HED_FOUND_EXACT, { 4, UINT64_MAX } },
+  { "box", 3, true, HED_FOUND_NONE, { 77, 777 } },      { "bo\0", 3, true, HED_FOUND_NONE, { 77, 777 } },
 };
 
 /* Words, before and after the empty key, which is a prefix of every text, and in a new map. */
@@ -1049,12 +1060,12 @@ struct kind {
 
 static char long_text[301];
 
-static const struct kind any_kind = {"", 0, 0, "\0a\033\377", 4, 0, 6};
+static const struct kind any_kind = { "", 0, 0, "\0a\033\377", 4, 0, 6 };
 static const struct kind kinds[] = {
-    {"", 0, 0, "abc", 3, 0, 6},
-    {"a common beginning", 0, 18, "\0\1\376\377", 4, 0, 3},
-    {"\0\377", 2, 2, "\0\1\376\377", 4, 3, 3},
-    {long_text, 298, 301, "\0\377", 2, 0, 2},
+  { "", 0, 0, "abc", 3, 0, 6 },
+  { "a common beginning", 0, 18, "\0\1\376\377", 4, 0, 3 },
+  { "\0\377", 2, 2, "\0\1\376\377", 4, 3, 3 },
+  { long_text, 298, 301, "\0\377", 2, 0, 2 },
 };
 
 /* Writes at most MOST_BYTES bytes of a kind, and returns how many. */
@@ -1107,12 +1118,12 @@ static void keeps_many_keys(void) {
   memset(prefix, 'x', sizeof prefix);
   EXPECT(hed_keymap_init(&map) && hed_keymap_insert(&map, prefix, sizeof prefix, 5));
   for (uint32_t number = 0; number < 5000; number++) {
-    memcpy(key, (uint8_t[]){(uint8_t)number, (uint8_t)(number >> 8), 0}, sizeof key);
+    memcpy(key, (uint8_t[]){ (uint8_t)number, (uint8_t)(number >> 8), 0 }, sizeof key);
     EXPECT(hed_keymap_insert(&map, key, sizeof key, number));
   }
   EXPECT(hed_keymap_len(&map) == 5001);
   for (uint32_t number = 0; number < 5000; number++) {
-    memcpy(key, (uint8_t[]){(uint8_t)number, (uint8_t)(number >> 8), 0}, sizeof key);
+    memcpy(key, (uint8_t[]){ (uint8_t)number, (uint8_t)(number >> 8), 0 }, sizeof key);
     EXPECT(look_up(&map, key, sizeof key, true) == HED_FOUND_EXACT && is_found(3, number));
     EXPECT(look_up(&map, key, 2, true) == HED_FOUND_NEED_DATA && is_unwritten());
   }
@@ -1133,7 +1144,7 @@ static const uint8_t *two_bytes(uint32_t number) {
 static void keeps_short_keys(void) {
   uint8_t digits[300];
   hed_keymap map = HED_KEYMAP_NONE;
-  for (size_t at = 0; at < sizeof digits; at++) digits[at] = (uint8_t)"0123456789"[at % 10];
+  for (size_t at = 0; at < sizeof digits; at++) digits[at] = (uint8_t) "0123456789"[at % 10];
   EXPECT(hed_keymap_init(&map) && hed_keymap_insert(&map, digits, sizeof digits, 5));
   for (uint32_t number = 0; number < 6000; number++) EXPECT(hed_keymap_insert(&map, two_bytes(number), 2, number * 7));
   EXPECT(hed_keymap_len(&map) == 6001);
@@ -1172,7 +1183,10 @@ static void *page(void) {
 
 /* The calls with a const pointer write nothing to the struct. */
 static void reads_from_a_page_that_is_read_only(void) {
-  struct { hed_parser parser; hed_keymap map; } *it = page();
+  struct {
+    hed_parser parser;
+    hed_keymap map;
+  } *it = page();
   hed_match match = { 7, 7 };
   hed_entries entries = { 7, 7, true };
   uint8_t text[4] = "....";

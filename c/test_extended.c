@@ -79,9 +79,7 @@ static void tell_input_key(const hed_extended_event *event) {
 static void tell_event(const hed_extended *parser, const hed_extended_event *event) {
   switch (event->kind) {
     case HED_KIND_KEY: tell_input_key(event); break;
-    case HED_KIND_MOUSE:
-      tell("Mouse(%u, %u, %u, %u)", event->input.x, event->input.y, event->input.buttons, event->input.modifiers);
-      break;
+    case HED_KIND_MOUSE: tell("Mouse(%u, %u, %u, %u)", event->input.x, event->input.y, event->input.buttons, event->input.modifiers); break;
     case HED_KIND_PASTE:
       EXPECT(event->input.kind == HED_KIND_PASTE && event->input.paste_len == event->text_len);
       tell_text(parser, "Paste", event->text_len);
@@ -216,7 +214,8 @@ static bool same_event(const hed_extended_event *one, const hed_extended_event *
          && same_report(&one->report, &other->report) && same_input(&one->input, &other->input);
 }
 
-#define KEY(kind, held, key, detail) { (kind), (held), (key), (detail), HED_NO_CODE, HED_NO_CODE }
+#define KEY(kind, held, key, detail) \
+  { (kind), (held), (key), (detail), HED_NO_CODE, HED_NO_CODE }
 #define PRESS(held, key, detail) KEY(HED_KEY_EVENT_KIND_PRESS, held, key, detail)
 
 /* The protocol, a text, the one event that it is, and the bytes that the event brings. */
@@ -230,30 +229,46 @@ struct reading {
 
 /* Fields that aren't named are 0. */
 static const struct reading readings[] = {
-  { HED_PROTOCOL_LEGACY, TEXT("\033[1;3A"),
-    { .kind = HED_KIND_KEY, .report = PRESS(HED_KITTY_MOD_ALT, HED_KEY_UP_ARROW, 0),
-      .input = { .kind = HED_KIND_KEY, .modifiers = HED_TERMWIZ_MOD_ALT, .key = HED_KEY_UP_ARROW } }, "" },
-  { HED_PROTOCOL_LEGACY, TEXT("\033[<0;7;9M"),
-    { .kind = HED_KIND_MOUSE, .input = { .kind = HED_KIND_MOUSE, .buttons = HED_BUTTON_LEFT, .x = 7, .y = 9 } }, "" },
-  { HED_PROTOCOL_LEGACY, TEXT("\033[200~ab\033[201~"), { .kind = HED_KIND_PASTE, .input = { .kind = HED_KIND_PASTE, .paste_len = 2 } }, "ab" },
+  { HED_PROTOCOL_LEGACY,
+    TEXT("\033[1;3A"),
+    { .kind = HED_KIND_KEY,
+      .report = PRESS(HED_KITTY_MOD_ALT, HED_KEY_UP_ARROW, 0),
+      .input = { .kind = HED_KIND_KEY, .modifiers = HED_TERMWIZ_MOD_ALT, .key = HED_KEY_UP_ARROW } },
+    "" },
+  { HED_PROTOCOL_LEGACY,
+    TEXT("\033[<0;7;9M"),
+    { .kind = HED_KIND_MOUSE, .input = { .kind = HED_KIND_MOUSE, .buttons = HED_BUTTON_LEFT, .x = 7, .y = 9 } },
+    "" },
+  { HED_PROTOCOL_LEGACY,
+    TEXT("\033[200~ab\033[201~"),
+    { .kind = HED_KIND_PASTE, .input = { .kind = HED_KIND_PASTE, .paste_len = 2 } },
+    "ab" },
   { HED_PROTOCOL_LEGACY, TEXT("\033[I"), { .kind = HED_KIND_FOCUS_GAINED }, "" },
   { HED_PROTOCOL_LEGACY, TEXT("\033[O"), { .kind = HED_KIND_FOCUS_LOST }, "" },
   { HED_PROTOCOL_LEGACY, TEXT("\033[?24;80R"), { .kind = HED_KIND_CURSOR_POSITION, .row = 24, .column = 80 }, "" },
-  { HED_PROTOCOL_LEGACY, TEXT("\033[48;24;80;480;800t"),
-    { .kind = HED_KIND_RESIZE, .rows = 24, .columns = 80, .height = 480, .width = 800 }, "" },
+  { HED_PROTOCOL_LEGACY,
+    TEXT("\033[48;24;80;480;800t"),
+    { .kind = HED_KIND_RESIZE, .rows = 24, .columns = 80, .height = 480, .width = 800 },
+    "" },
   { HED_PROTOCOL_LEGACY, TEXT("\033[?31u"), { .kind = HED_KIND_KEYBOARD_FLAGS, .flags = 31 }, "" },
   { HED_PROTOCOL_LEGACY, TEXT("\033[?62;22c"), { .kind = HED_KIND_CSI }, "?62;22c" },
   { HED_PROTOCOL_LEGACY, TEXT("\033]11;rgb:0/0/0\007"), { .kind = HED_KIND_OSC }, "11;rgb:0/0/0" },
   { HED_PROTOCOL_LEGACY, TEXT("\033P>|kitty\033\\"), { .kind = HED_KIND_DCS }, ">|kitty" },
   { HED_PROTOCOL_LEGACY, TEXT("\033_Gi=31;OK\033\\"), { .kind = HED_KIND_APC }, "Gi=31;OK" },
-  { HED_PROTOCOL_KITTY, TEXT("\033[97:65:98;2:2;65:8364u"),
-    { .kind = HED_KIND_REPORT, .report = { HED_KEY_EVENT_KIND_REPEAT, HED_KITTY_MOD_SHIFT, HED_KEY_CHAR, 'a', 'A', 'b' } }, "A\342\202\254" },
-  { HED_PROTOCOL_KITTY, TEXT("\033[57414;129:3u"),
-    { .kind = HED_KIND_REPORT, .report = KEY(HED_KEY_EVENT_KIND_RELEASE, HED_KITTY_MOD_NUM_LOCK, 0, 57414) }, "" },
+  { HED_PROTOCOL_KITTY,
+    TEXT("\033[97:65:98;2:2;65:8364u"),
+    { .kind = HED_KIND_REPORT, .report = { HED_KEY_EVENT_KIND_REPEAT, HED_KITTY_MOD_SHIFT, HED_KEY_CHAR, 'a', 'A', 'b' } },
+    "A\342\202\254" },
+  { HED_PROTOCOL_KITTY,
+    TEXT("\033[57414;129:3u"),
+    { .kind = HED_KIND_REPORT, .report = KEY(HED_KEY_EVENT_KIND_RELEASE, HED_KITTY_MOD_NUM_LOCK, 0, 57414) },
+    "" },
   { HED_PROTOCOL_KITTY, TEXT("\033[57376u"), { .kind = HED_KIND_REPORT, .report = PRESS(0, HED_KEY_FUNCTION, 13) }, "" },
   { HED_PROTOCOL_KITTY, TEXT("\033[27u"), { .kind = HED_KIND_REPORT, .report = PRESS(0, HED_KEY_ESCAPE, 0) }, "" },
-  { HED_PROTOCOL_LEGACY, TEXT("\033[27u"),
-    { .kind = HED_KIND_KEY, .report = PRESS(0, HED_KEY_CHAR, 27), .input = { .kind = HED_KIND_KEY, .key = HED_KEY_CHAR, .detail = 27 } }, "" },
+  { HED_PROTOCOL_LEGACY,
+    TEXT("\033[27u"),
+    { .kind = HED_KIND_KEY, .report = PRESS(0, HED_KEY_CHAR, 27), .input = { .kind = HED_KIND_KEY, .key = HED_KEY_CHAR, .detail = 27 } },
+    "" },
 };
 
 /* Reads a text by a parser that is made in place of the last one. After its one event nothing is written. */
@@ -285,7 +300,8 @@ static void has_numbers(void) {
   EXPECT(HED_KIND_CSI == 10 && HED_KIND_OSC == 11 && HED_KIND_DCS == 12 && HED_KIND_APC == 13);
   EXPECT(HED_KEY_EVENT_KIND_PRESS == 1 && HED_KEY_EVENT_KIND_REPEAT == 2 && HED_KEY_EVENT_KIND_RELEASE == 3);
   EXPECT(HED_KITTY_MOD_SHIFT == 1 && HED_KITTY_MOD_ALT == 2 && HED_KITTY_MOD_CTRL == 4 && HED_KITTY_MOD_NUM_LOCK == 128);
-  EXPECT(HED_KITTY_FLAG_DISAMBIGUATE_ESCAPE_CODES == 1 && HED_KITTY_FLAG_REPORT_EVENT_TYPES == 2 && HED_KITTY_FLAG_REPORT_ALTERNATE_KEYS == 4);
+  EXPECT(HED_KITTY_FLAG_DISAMBIGUATE_ESCAPE_CODES == 1 && HED_KITTY_FLAG_REPORT_EVENT_TYPES == 2
+         && HED_KITTY_FLAG_REPORT_ALTERNATE_KEYS == 4);
   EXPECT(HED_KITTY_FLAG_REPORT_ALL_KEYS_AS_ESCAPE_CODES == 8 && HED_KITTY_FLAG_REPORT_ASSOCIATED_TEXT == 16);
 }
 
@@ -326,11 +342,23 @@ static void answers_before_init_and_after_free(void) {
 
 /* What stays buffered, by kind; a lone ESC is flushed, and nothing else is. All of it can be forgotten. */
 static void tells_kinds(hed_extended *parser) {
-  static const struct { const char *text; size_t len; uint32_t kind; } rests[] = {
-    { TEXT(""), HED_WAITING_NOTHING }, { TEXT("\033"), HED_WAITING_ESCAPE }, { TEXT("\033\033"), HED_WAITING_ESCAPE },
-    { TEXT("\033[1;"), HED_WAITING_SEQUENCE }, { TEXT("\033[97;2"), HED_WAITING_SEQUENCE }, { TEXT("\033]0;a"), HED_WAITING_SEQUENCE },
-    { TEXT("\033]11;rgb"), HED_WAITING_SEQUENCE }, { TEXT("\033\033P"), HED_WAITING_SEQUENCE }, { TEXT("\303"), HED_WAITING_CHARACTER },
-    { TEXT("\033\342\202"), HED_WAITING_CHARACTER }, { TEXT("\033[200~a"), HED_WAITING_PASTE }, { TEXT("\033[200~ab"), HED_WAITING_PASTE },
+  static const struct {
+    const char *text;
+    size_t len;
+    uint32_t kind;
+  } rests[] = {
+    { TEXT(""), HED_WAITING_NOTHING },
+    { TEXT("\033"), HED_WAITING_ESCAPE },
+    { TEXT("\033\033"), HED_WAITING_ESCAPE },
+    { TEXT("\033[1;"), HED_WAITING_SEQUENCE },
+    { TEXT("\033[97;2"), HED_WAITING_SEQUENCE },
+    { TEXT("\033]0;a"), HED_WAITING_SEQUENCE },
+    { TEXT("\033]11;rgb"), HED_WAITING_SEQUENCE },
+    { TEXT("\033\033P"), HED_WAITING_SEQUENCE },
+    { TEXT("\303"), HED_WAITING_CHARACTER },
+    { TEXT("\033\342\202"), HED_WAITING_CHARACTER },
+    { TEXT("\033[200~a"), HED_WAITING_PASTE },
+    { TEXT("\033[200~ab"), HED_WAITING_PASTE },
   };
   for (size_t i = 0; i < sizeof rests / sizeof *rests; i++) {
     hed_extended_event event;
@@ -428,7 +456,7 @@ static void ends_what_was_fed(uint32_t protocol) {
 static void reads_a_long_paste(hed_extended *parser, bool is_asked) {
   static uint8_t body[(1 << 20) + 1], copy[sizeof body + 1];
   hed_extended_event event;
-  for (size_t at = 0; at < sizeof body; at++) body[at] = (uint8_t)"ab"[at % 2];
+  for (size_t at = 0; at < sizeof body; at++) body[at] = (uint8_t) "ab"[at % 2];
   memset(copy, '.', sizeof copy);
   EXPECT(FEED(parser, "\033[200~") && hed_extended_feed(parser, body, sizeof body));
   EXPECT(!is_asked || hed_extended_next(parser, true, &event) == HED_NEXT_NONE);
@@ -462,7 +490,8 @@ static void reads_long_strings(hed_extended *parser) {
   EXPECT(hed_extended_next(parser, true, &event) == HED_NEXT_EVENT && event.kind == HED_KIND_OSC && event.text_len == STRING);
   EXPECT(hed_extended_text(parser, copy, LONG) == STRING && memcmp(copy, text, STRING) == 0);
   EXPECT(hed_extended_feed(parser, (const uint8_t *)"\033]", 2) && hed_extended_feed(parser, text, 65534));
-  EXPECT(hed_extended_next(parser, true, &event) == HED_NEXT_EVENT && event.input.detail == ']' && event.input.modifiers == HED_TERMWIZ_MOD_ALT);
+  EXPECT(hed_extended_next(parser, true, &event) == HED_NEXT_EVENT && event.input.detail == ']'
+         && event.input.modifiers == HED_TERMWIZ_MOD_ALT);
   EXPECT(hed_extended_reset(parser) == 65534);
   free(text);
   free(copy);
@@ -500,7 +529,8 @@ struct encoding {
 };
 
 #define LETTER(kind, held) KEY(kind, held, HED_KEY_CHAR, 'a')
-#define WHOLE_LETTER { HED_KEY_EVENT_KIND_PRESS, HED_KITTY_MOD_SHIFT, HED_KEY_CHAR, 'a', 'A', 'b' }
+#define WHOLE_LETTER \
+  { HED_KEY_EVENT_KIND_PRESS, HED_KITTY_MOD_SHIFT, HED_KEY_CHAR, 'a', 'A', 'b' }
 
 static const struct encoding encodings[] = {
   /* nothing is asked for */
@@ -515,7 +545,11 @@ static const struct encoding encodings[] = {
   { LETTER(HED_KEY_EVENT_KIND_PRESS, HED_KITTY_MOD_CTRL | HED_KITTY_MOD_CAPS_LOCK), "", HED_KITTY_FLAG_NONE, HED_ENCODED_TEXT, "\001" },
   { LETTER(HED_KEY_EVENT_KIND_PRESS, HED_KITTY_MOD_CTRL | HED_KITTY_MOD_SHIFT), "", HED_KITTY_FLAG_NONE, HED_ENCODED_TEXT, "\033[97;6u" },
   { LETTER(HED_KEY_EVENT_KIND_PRESS, HED_KITTY_MOD_SUPER), "a", HED_KITTY_FLAG_NONE, HED_ENCODED_TEXT, "\033[97;9u" },
-  { { HED_KEY_EVENT_KIND_PRESS, HED_KITTY_MOD_ALT | HED_KITTY_MOD_SHIFT, HED_KEY_CHAR, '1', '!', HED_NO_CODE }, "", HED_KITTY_FLAG_NONE, HED_ENCODED_TEXT, "\033!" },
+  { { HED_KEY_EVENT_KIND_PRESS, HED_KITTY_MOD_ALT | HED_KITTY_MOD_SHIFT, HED_KEY_CHAR, '1', '!', HED_NO_CODE },
+    "",
+    HED_KITTY_FLAG_NONE,
+    HED_ENCODED_TEXT,
+    "\033!" },
   { PRESS(HED_KITTY_MOD_ALT | HED_KITTY_MOD_SHIFT, HED_KEY_CHAR, '['), "", HED_KITTY_FLAG_NONE, HED_ENCODED_TEXT, "\033[91;4u" },
   { PRESS(HED_KITTY_MOD_CTRL, HED_KEY_TAB, 0), "", HED_KITTY_FLAG_NONE, HED_ENCODED_TEXT, "\t" },
   { PRESS(HED_KITTY_MOD_SUPER, HED_KEY_UP_ARROW, 0), "", HED_KITTY_FLAG_NONE, HED_ENCODED_TEXT, "\033[1;9A" },
@@ -549,13 +583,16 @@ static const struct encoding encodings[] = {
   { KEY(HED_KEY_EVENT_KIND_REPEAT, 0, HED_KEY_UP_ARROW, 7), "", HED_KITTY_FLAG_REPORT_EVENT_TYPES, HED_ENCODED_TEXT, "\033[1;1:2A" },
   { KEY(HED_KEY_EVENT_KIND_RELEASE, 0, HED_KEY_UP_ARROW, 7), "", HED_KITTY_FLAG_REPORT_EVENT_TYPES, HED_ENCODED_TEXT, "\033[1;1:3A" },
   { KEY(HED_KEY_EVENT_KIND_RELEASE, 0, HED_KEY_TAB, 0), "", HED_KITTY_FLAG_REPORT_EVENT_TYPES, HED_ENCODED_TEXT, "" },
-  { LETTER(HED_KEY_EVENT_KIND_RELEASE, HED_KITTY_MOD_CTRL), "", HED_KITTY_FLAG_DISAMBIGUATE_ESCAPE_CODES | HED_KITTY_FLAG_REPORT_EVENT_TYPES, HED_ENCODED_TEXT,
-    "\033[97;5:3u" },
+  { LETTER(HED_KEY_EVENT_KIND_RELEASE, HED_KITTY_MOD_CTRL), "",
+    HED_KITTY_FLAG_DISAMBIGUATE_ESCAPE_CODES | HED_KITTY_FLAG_REPORT_EVENT_TYPES, HED_ENCODED_TEXT, "\033[97;5:3u" },
   /* all keys */
   { PRESS(0, HED_KEY_ENTER, 0), "", HED_KITTY_FLAG_REPORT_ALL_KEYS_AS_ESCAPE_CODES, HED_ENCODED_TEXT, "\033[13u" },
-  { PRESS(HED_KITTY_MOD_SHIFT, HED_KEY_LEFT_SHIFT, 0), "", HED_KITTY_FLAG_REPORT_ALL_KEYS_AS_ESCAPE_CODES, HED_ENCODED_TEXT, "\033[57441;2u" },
-  { LETTER(HED_KEY_EVENT_KIND_PRESS, HED_KITTY_MOD_CAPS_LOCK), "", HED_KITTY_FLAG_REPORT_ALL_KEYS_AS_ESCAPE_CODES, HED_ENCODED_TEXT, "\033[97;65u" },
-  { LETTER(HED_KEY_EVENT_KIND_PRESS, HED_KITTY_MOD_NUM_LOCK), "", HED_KITTY_FLAG_REPORT_ALL_KEYS_AS_ESCAPE_CODES, HED_ENCODED_TEXT, "\033[97;129u" },
+  { PRESS(HED_KITTY_MOD_SHIFT, HED_KEY_LEFT_SHIFT, 0), "", HED_KITTY_FLAG_REPORT_ALL_KEYS_AS_ESCAPE_CODES, HED_ENCODED_TEXT,
+    "\033[57441;2u" },
+  { LETTER(HED_KEY_EVENT_KIND_PRESS, HED_KITTY_MOD_CAPS_LOCK), "", HED_KITTY_FLAG_REPORT_ALL_KEYS_AS_ESCAPE_CODES, HED_ENCODED_TEXT,
+    "\033[97;65u" },
+  { LETTER(HED_KEY_EVENT_KIND_PRESS, HED_KITTY_MOD_NUM_LOCK), "", HED_KITTY_FLAG_REPORT_ALL_KEYS_AS_ESCAPE_CODES, HED_ENCODED_TEXT,
+    "\033[97;129u" },
   /* other codes, and the text */
   { WHOLE_LETTER, "A\342\202\254", HED_KITTY_FLAG_NONE, HED_ENCODED_TEXT, "A\342\202\254" },
   { WHOLE_LETTER, "", HED_KITTY_FLAG_NONE, HED_ENCODED_TEXT, "A" },
@@ -563,10 +600,12 @@ static const struct encoding encodings[] = {
   { WHOLE_LETTER, "", HED_KITTY_FLAG_DISAMBIGUATE_ESCAPE_CODES, HED_ENCODED_TEXT, "A" },
   { WHOLE_LETTER, "A", HED_KITTY_FLAG_REPORT_ALL_KEYS_AS_ESCAPE_CODES, HED_ENCODED_TEXT, "\033[97;2u" },
   { WHOLE_LETTER, "A\342\202\254", HED_KITTY_FLAG_REPORT_ALL_KEYS_AS_ESCAPE_CODES, HED_ENCODED_TEXT, "\033[97;2u" },
-  { WHOLE_LETTER, "A", HED_KITTY_FLAG_REPORT_ALL_KEYS_AS_ESCAPE_CODES | HED_KITTY_FLAG_REPORT_ALTERNATE_KEYS, HED_ENCODED_TEXT, "\033[97:65:98;2u" },
+  { WHOLE_LETTER, "A", HED_KITTY_FLAG_REPORT_ALL_KEYS_AS_ESCAPE_CODES | HED_KITTY_FLAG_REPORT_ALTERNATE_KEYS, HED_ENCODED_TEXT,
+    "\033[97:65:98;2u" },
   { WHOLE_LETTER, "A\342\202\254", HED_KITTY_FLAG_REPORT_ALL_KEYS_AS_ESCAPE_CODES | HED_KITTY_FLAG_REPORT_ALTERNATE_KEYS, HED_ENCODED_TEXT,
     "\033[97:65:98;2u" },
-  { WHOLE_LETTER, "A", HED_KITTY_FLAG_REPORT_ALL_KEYS_AS_ESCAPE_CODES | HED_KITTY_FLAG_REPORT_ASSOCIATED_TEXT, HED_ENCODED_TEXT, "\033[97;2;65u" },
+  { WHOLE_LETTER, "A", HED_KITTY_FLAG_REPORT_ALL_KEYS_AS_ESCAPE_CODES | HED_KITTY_FLAG_REPORT_ASSOCIATED_TEXT, HED_ENCODED_TEXT,
+    "\033[97;2;65u" },
   { WHOLE_LETTER, "A\342\202\254", ALL_FLAGS, HED_ENCODED_TEXT, "\033[97:65:98;2;65:8364u" },
   /* a text with control characters counts as none */
   { LETTER(HED_KEY_EVENT_KIND_PRESS, 0), "b\t", HED_KITTY_FLAG_NONE, HED_ENCODED_TEXT, "a" },
@@ -639,7 +678,8 @@ static void encodes_a_long_text(void) {
   memset(room, '.', sizeof room);
   EXPECT(hed_encode_kitty(&letter, text, sizeof text, ALL_FLAGS, room, sizeof room, &sent_len) == HED_ENCODED_TOO_LONG);
   EXPECT(sent_len == 0 && room[0] == '.');
-  EXPECT(hed_encode_kitty(&letter, text, sizeof text, HED_KITTY_FLAG_DISAMBIGUATE_ESCAPE_CODES, room, sizeof room, &sent_len) == HED_ENCODED_TEXT);
+  EXPECT(hed_encode_kitty(&letter, text, sizeof text, HED_KITTY_FLAG_DISAMBIGUATE_ESCAPE_CODES, room, sizeof room, &sent_len)
+         == HED_ENCODED_TEXT);
   EXPECT(sent_len == sizeof text && memcmp(room, text, sizeof text) == 0 && room[300] == '.');
   EXPECT(hed_encode_kitty(&letter, NULL, 0, ALL_FLAGS, NULL, 0, &sent_len) == HED_ENCODED_TEXT && sent_len == 5);
 }
@@ -671,9 +711,11 @@ static bool reads_key_back(hed_extended *parser, uint16_t key, uint32_t detail) 
 }
 
 static void reads_keys_back(hed_extended *parser) {
-  static const hed_key_report whole = WHOLE_LETTER, with_base = { HED_KEY_EVENT_KIND_REPEAT, HED_KITTY_MOD_CTRL, HED_KEY_CHAR, 0x10ffff, HED_NO_CODE, 0xe9 };
+  static const hed_key_report whole = WHOLE_LETTER,
+                              with_base = { HED_KEY_EVENT_KIND_REPEAT, HED_KITTY_MOD_CTRL, HED_KEY_CHAR, 0x10ffff, HED_NO_CODE, 0xe9 };
   unsigned count = 0;
-  for (uint16_t key = 1; key <= KEYS; key++) count += reads_key_back(parser, key, key == HED_KEY_CHAR ? 'a' : key == HED_KEY_FUNCTION ? 1 : 0);
+  for (uint16_t key = 1; key <= KEYS; key++)
+    count += reads_key_back(parser, key, key == HED_KEY_CHAR ? 'a' : key == HED_KEY_FUNCTION ? 1 : 0);
   EXPECT(count == KEYS_OF_KITTY);
   for (uint32_t number = 2; number <= 35; number++) EXPECT(reads_key_back(parser, HED_KEY_FUNCTION, number));
   EXPECT(reads_key_back(parser, 0, 57344) && reads_key_back(parser, 0, 57414) && reads_key_back(parser, 0, 63743));

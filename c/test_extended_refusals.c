@@ -24,9 +24,22 @@ static void see(const void *bytes, size_t len) {
 
 /* The fields one by one, since what lies between them has no meaning. */
 static void see_event(hed_extended *parser, const hed_extended_event *event) {
-  uint32_t fields[] = { event->kind, event->flags, event->row, event->column, event->report.kind, event->report.modifiers,
-                        event->report.key, event->report.detail, event->report.shifted, event->report.base, event->input.kind,
-                        event->input.key, event->input.detail, event->input.modifiers, event->input.x, (uint32_t)event->text_len };
+  uint32_t fields[] = { event->kind,
+                        event->flags,
+                        event->row,
+                        event->column,
+                        event->report.kind,
+                        event->report.modifiers,
+                        event->report.key,
+                        event->report.detail,
+                        event->report.shifted,
+                        event->report.base,
+                        event->input.kind,
+                        event->input.key,
+                        event->input.detail,
+                        event->input.modifiers,
+                        event->input.x,
+                        (uint32_t)event->text_len };
   uint8_t text[512];
   see(fields, sizeof fields);
   size_t len = hed_extended_text(parser, text, sizeof text);

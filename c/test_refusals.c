@@ -23,8 +23,8 @@ static void see(const void *bytes, size_t len) {
 
 /* The fields one by one, since what lies between them has no meaning. */
 static void see_event(hed_parser *parser, const hed_event *event) {
-  uint32_t fields[] = {event->kind, event->buttons, event->modifiers, event->key, event->x, event->y, event->detail,
-                       (uint32_t)event->paste_len};
+  uint32_t fields[] = { event->kind, event->buttons, event->modifiers, event->key,
+                        event->x,    event->y,       event->detail,    (uint32_t)event->paste_len };
   uint8_t text[256];
   see(fields, sizeof fields);
   if (event->kind != HED_KIND_PASTE) return;
@@ -202,7 +202,7 @@ static void refuse_sharing(void) {
 
 /* A key's text, with each request refused in turn. */
 static void refuse_while_encoding(void) {
-  static const hed_modes modes = {0, 0, 0, false, false, false};
+  static const hed_modes modes = { 0, 0, 0, false, false, false };
   uint8_t text[16];
   size_t len;
   long number = 0;
@@ -220,7 +220,8 @@ static void refuse_while_encoding(void) {
   EXPECT(number > 1);
   printf("encode: %ld refusals\n", number - 1);
   refuse(1);
-  EXPECT(hed_encode(HED_KEY_TAB, 0, HED_TERMWIZ_MOD_ALT, false, &modes, text, sizeof text, &len) == HED_ENCODED_TEXT && len == 0 && !refused);
+  EXPECT(hed_encode(HED_KEY_TAB, 0, HED_TERMWIZ_MOD_ALT, false, &modes, text, sizeof text, &len) == HED_ENCODED_TEXT && len == 0
+         && !refused);
   refuse(0);
 }
 
@@ -349,7 +350,7 @@ static void shrinks_to_a_room(void) {
 
 /* Keys that are inserted one after another, each with its place in the list as its value. A long one needs memory of its own. */
 static const char *const bound[] = {
-    LONG_KEY, "\033[A", "\033[B", "\033", "", LONG_KEY "a", "a", "ab", "\030\023", "\033[1;5A", LONG_KEY "b", "b", "c", "d", "e", "f", "g",
+  LONG_KEY, "\033[A", "\033[B", "\033", "", LONG_KEY "a", "a", "ab", "\030\023", "\033[1;5A", LONG_KEY "b", "b", "c", "d", "e", "f", "g",
 };
 
 enum { BOUND = sizeof bound / sizeof bound[0] };
@@ -362,7 +363,7 @@ static void expect_bound(hed_keymap *map, size_t count) {
   EXPECT(hed_keymap_len(map) == count);
   for (size_t at = 0; at < BOUND; at++) {
     size_t len = strlen(bound[at]);
-    hed_match match = {77, 777};
+    hed_match match = { 77, 777 };
     uint32_t answer = hed_keymap_lookup(map, (const uint8_t *)bound[at], len, false, &match);
     bool is_there = answer == HED_FOUND_EXACT && match.len == len;
     EXPECT(is_there == (at < count) && (!is_there || match.value == at));

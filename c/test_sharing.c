@@ -19,7 +19,9 @@ static session session_of(bool is_extended) {
   return none;
 }
 
-static bool init(session *it) { return it->is_extended ? hed_extended_init(&it->extended, HED_PROTOCOL_LEGACY) : hed_parser_init(&it->parser); }
+static bool init(session *it) {
+  return it->is_extended ? hed_extended_init(&it->extended, HED_PROTOCOL_LEGACY) : hed_parser_init(&it->parser);
+}
 
 static bool init_sharing(session *it, const session *other) {
   if (it->is_extended && other->is_extended) return hed_extended_init_sharing(&it->extended, HED_PROTOCOL_LEGACY, &other->extended);
@@ -28,9 +30,13 @@ static bool init_sharing(session *it, const session *other) {
   return hed_parser_init_sharing(&it->parser, &other->parser);
 }
 
-static bool is_live(const session *it) { return it->is_extended ? it->extended.live : it->parser.live; }
+static bool is_live(const session *it) {
+  return it->is_extended ? it->extended.live : it->parser.live;
+}
 
-static size_t waiting(const session *it) { return it->is_extended ? hed_extended_waiting_len(&it->extended) : hed_parser_waiting_len(&it->parser); }
+static size_t waiting(const session *it) {
+  return it->is_extended ? hed_extended_waiting_len(&it->extended) : hed_parser_waiting_len(&it->parser);
+}
 
 static void end(session *it) {
   hed_parser_free(&it->parser);
@@ -57,8 +63,8 @@ static bool next_is(session *it, uint16_t key, uint32_t detail, uint16_t modifie
 static bool reads(session *it) {
   return FEED(it, "\033[A\033[1;5D\033[27;5;13~q\033[97;5u\033") && next_is(it, HED_KEY_UP_ARROW, 0, HED_TERMWIZ_MOD_NONE)
          && next_is(it, HED_KEY_LEFT_ARROW, 0, HED_TERMWIZ_MOD_CTRL) && next_is(it, HED_KEY_ENTER, 0, HED_TERMWIZ_MOD_CTRL)
-         && next_is(it, HED_KEY_CHAR, 'q', HED_TERMWIZ_MOD_NONE) && next_is(it, HED_KEY_CHAR, 'a', HED_TERMWIZ_MOD_CTRL) && waiting(it) == 1 && FEED(it, "[B")
-         && next_is(it, HED_KEY_DOWN_ARROW, 0, HED_TERMWIZ_MOD_NONE) && waiting(it) == 0;
+         && next_is(it, HED_KEY_CHAR, 'q', HED_TERMWIZ_MOD_NONE) && next_is(it, HED_KEY_CHAR, 'a', HED_TERMWIZ_MOD_CTRL) && waiting(it) == 1
+         && FEED(it, "[B") && next_is(it, HED_KEY_DOWN_ARROW, 0, HED_TERMWIZ_MOD_NONE) && waiting(it) == 0;
 }
 
 /* Three parsers of these kinds, of which the second is made from the first and the third from the second. After each that is freed, the
@@ -124,7 +130,8 @@ static void reads_rows_in_each_way(void) {
   EXPECT(hed_extended_init(&port, HED_PROTOCOL_LEGACY) && hed_extended_init_sharing(&kitty, HED_PROTOCOL_KITTY, &port));
   EXPECT(hed_extended_feed(&port, (const uint8_t *)"\033[97;5u", 7) && hed_extended_feed(&kitty, (const uint8_t *)"\033[97;5u", 7));
   EXPECT(hed_extended_next(&port, true, &event) == HED_NEXT_EVENT && event.kind == HED_KIND_KEY);
-  EXPECT(hed_extended_next(&kitty, true, &event) == HED_NEXT_EVENT && event.kind == HED_KIND_REPORT && event.report.modifiers == HED_KITTY_MOD_CTRL);
+  EXPECT(hed_extended_next(&kitty, true, &event) == HED_NEXT_EVENT && event.kind == HED_KIND_REPORT
+         && event.report.modifiers == HED_KITTY_MOD_CTRL);
   hed_extended_free(&port);
   hed_extended_free(&kitty);
 }

@@ -13,7 +13,7 @@ typedef struct group {
 } group;
 
 typedef struct line {
-  size_t read;   /* the number of the read, from 1 on; 0 before the first */
+  size_t read; /* the number of the read, from 1 on; 0 before the first */
   uint8_t *bytes; /* those that were buffered when the read came, and those of the read */
   size_t length, room;
   size_t earlier; /* how many of the bytes came with earlier reads */

@@ -45,10 +45,19 @@ const flag kitty_modifier_flags[] = {
 
 const char *kind_name(uint8_t kind) {
   static const char *const names[] = {
-    [HED_KIND_KEY] = "key", [HED_KIND_MOUSE] = "mouse", [HED_KIND_PASTE] = "paste", [HED_KIND_REPORT] = "report",
-    [HED_KIND_FOCUS_GAINED] = "focus", [HED_KIND_FOCUS_LOST] = "focus", [HED_KIND_CURSOR_POSITION] = "cursor",
-    [HED_KIND_RESIZE] = "resize", [HED_KIND_KEYBOARD_FLAGS] = "flags", [HED_KIND_CSI] = "csi", [HED_KIND_OSC] = "osc",
-    [HED_KIND_DCS] = "dcs", [HED_KIND_APC] = "apc",
+    [HED_KIND_KEY] = "key",
+    [HED_KIND_MOUSE] = "mouse",
+    [HED_KIND_PASTE] = "paste",
+    [HED_KIND_REPORT] = "report",
+    [HED_KIND_FOCUS_GAINED] = "focus",
+    [HED_KIND_FOCUS_LOST] = "focus",
+    [HED_KIND_CURSOR_POSITION] = "cursor",
+    [HED_KIND_RESIZE] = "resize",
+    [HED_KIND_KEYBOARD_FLAGS] = "flags",
+    [HED_KIND_CSI] = "csi",
+    [HED_KIND_OSC] = "osc",
+    [HED_KIND_DCS] = "dcs",
+    [HED_KIND_APC] = "apc",
   };
   return names[kind];
 }

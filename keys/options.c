@@ -2,26 +2,26 @@
 #include <string.h>
 
 const char options_help[] =
-  "usage: hedrugal-keys [SWITCH..] [FILE]\n"
-  "\n"
-  "Shows what a terminal sends, read by read and byte by byte, and the keys, mouse reports and pastes that the bytes mean.\n"
-  "Two ^D keys in a row end it. With FILE or a pipe it shows that input, and flushes at its end what waits.\n"
-  "\n"
-  "  --application-cursor-keys   the terminal sends arrows, Home and End as ESC O in place of ESC [\n"
-  "  --modify-other-keys=1|2     it sends characters with modifiers as sequences, all of them at level 2\n"
-  "  --mouse                     it reports the mouse\n"
-  "  --bracketed-paste           it marks where a paste starts and ends\n"
-  "  --focus                     it reports when its window gains or loses the focus\n"
-  "  --kitty-keyboard            it reports keys by Kitty's protocol, with repeats and releases; implies --extended=kitty\n"
-  "  --extended, --extended=kitty\n"
-  "                              also reads what terminals send beyond the sequence table; =kitty as Kitty's protocol means it\n"
-  "  --hex                       bytes in hexadecimal\n"
-  "  --json                      an object on a line for each event\n"
-  "  --help, --version           print this, or the version, and end\n"
-  "\n"
-  "A line has the read's number, then groups: bytes -> event. Bytes of earlier reads are in parentheses.\n"
-  "Bytes that wait are dimmed, and the reason follows. SP is a space, ^A to ^_ and ^? are control characters,\n"
-  "and two hexadecimal digits any byte from 80 on. NO_COLOR switches off colours.\n";
+    "usage: hedrugal-keys [SWITCH..] [FILE]\n"
+    "\n"
+    "Shows what a terminal sends, read by read and byte by byte, and the keys, mouse reports and pastes that the bytes mean.\n"
+    "Two ^D keys in a row end it. With FILE or a pipe it shows that input, and flushes at its end what waits.\n"
+    "\n"
+    "  --application-cursor-keys   the terminal sends arrows, Home and End as ESC O in place of ESC [\n"
+    "  --modify-other-keys=1|2     it sends characters with modifiers as sequences, all of them at level 2\n"
+    "  --mouse                     it reports the mouse\n"
+    "  --bracketed-paste           it marks where a paste starts and ends\n"
+    "  --focus                     it reports when its window gains or loses the focus\n"
+    "  --kitty-keyboard            it reports keys by Kitty's protocol, with repeats and releases; implies --extended=kitty\n"
+    "  --extended, --extended=kitty\n"
+    "                              also reads what terminals send beyond the sequence table; =kitty as Kitty's protocol means it\n"
+    "  --hex                       bytes in hexadecimal\n"
+    "  --json                      an object on a line for each event\n"
+    "  --help, --version           print this, or the version, and end\n"
+    "\n"
+    "A line has the read's number, then groups: bytes -> event. Bytes of earlier reads are in parentheses.\n"
+    "Bytes that wait are dimmed, and the reason follows. SP is a space, ^A to ^_ and ^? are control characters,\n"
+    "and two hexadecimal digits any byte from 80 on. NO_COLOR switches off colours.\n";
 
 static bool read_mode(options *it, const char *word) {
   for (size_t i = 0; i < MODE_COUNT; i++) {

@@ -27,8 +27,12 @@ static void extend(hed_extended_event *event, const hed_event *input) {
   event->input = *input;
   event->text_len = input->paste_len;
   if (input->kind != HED_KIND_KEY) return;
-  event->report = (hed_key_report){ .kind = HED_KEY_EVENT_KIND_PRESS, .modifiers = held_of(input->modifiers), .key = input->key,
-                                   .detail = input->detail, .shifted = HED_NO_CODE, .base = HED_NO_CODE };
+  event->report = (hed_key_report){ .kind = HED_KEY_EVENT_KIND_PRESS,
+                                    .modifiers = held_of(input->modifiers),
+                                    .key = input->key,
+                                    .detail = input->detail,
+                                    .shifted = HED_NO_CODE,
+                                    .base = HED_NO_CODE };
 }
 
 uint32_t reader_next(reader *it, bool more, hed_extended_event *event) {

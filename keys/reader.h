@@ -6,7 +6,7 @@
 
 typedef enum reading {
   READ_USUALLY,
-  READ_EXTENDED,      /* by the extended parser, each entry of the sequence table with its key */
+  READ_EXTENDED, /* by the extended parser, each entry of the sequence table with its key */
   READ_EXTENDED_KITTY /* by the extended parser, for Kitty's keyboard protocol */
 } reading;
 

@@ -197,7 +197,8 @@ static void add_event(text *out, const group *of) {
     case HED_KIND_CURSOR_POSITION: text_add(out, "cursor %u %u", event->row, event->column); break;
     case HED_KIND_RESIZE: text_add(out, "resize %u %u %u %u", event->rows, event->columns, event->height, event->width); break;
     case HED_KIND_KEYBOARD_FLAGS: text_add(out, "keyboard flags %u", event->flags); break;
-    case HED_KIND_KEY: case HED_KIND_MOUSE: add_input(out, &event->input); break;
+    case HED_KIND_KEY:
+    case HED_KIND_MOUSE: add_input(out, &event->input); break;
     default: add_text(out, kind_name(event->kind), of);
   }
 }
@@ -205,8 +206,13 @@ static void add_event(text *out, const group *of) {
 static void put_group(screen *it, const line *shown, const group *of) {
   text event = { .length = 0 };
   add_event(&event, of);
-  item put = { .bytes = shown->bytes + of->start, .length = of->length, .earlier = line_earlier(shown, of->start, of->length),
-               .style = coloured, .arrow_style = plain, .meaning_style = bold, .meaning = event.bytes };
+  item put = { .bytes = shown->bytes + of->start,
+               .length = of->length,
+               .earlier = line_earlier(shown, of->start, of->length),
+               .style = coloured,
+               .arrow_style = plain,
+               .meaning_style = bold,
+               .meaning = event.bytes };
   put_item(it, &put, of == shown->groups);
 }
 
@@ -216,8 +222,13 @@ static void put_groups(screen *it, const line *shown) {
 
 static void put_waiting(screen *it, const line *shown, const char *reason) {
   size_t length = line_waiting(shown);
-  item put = { .bytes = shown->bytes + shown->settled, .length = length, .earlier = line_earlier(shown, shown->settled, length),
-               .style = dim, .arrow_style = dim, .meaning_style = dim, .meaning = reason };
+  item put = { .bytes = shown->bytes + shown->settled,
+               .length = length,
+               .earlier = line_earlier(shown, shown->settled, length),
+               .style = dim,
+               .arrow_style = dim,
+               .meaning_style = dim,
+               .meaning = reason };
   if (length > 0) put_item(it, &put, shown->group_count == 0);
 }
 

@@ -38,7 +38,8 @@ int signals_note(void) {
 
 void signals_heed(void) {
   char bytes[64];
-  while (read(wake[0], bytes, sizeof bytes) > 0) {}
+  while (read(wake[0], bytes, sizeof bytes) > 0) {
+  }
 }
 
 int signals_ending(void) {

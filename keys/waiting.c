@@ -116,9 +116,7 @@ static void add_sequence(text *out, reader *reader, const uint8_t *waiting, size
 void add_waiting(text *out, reader *reader, const line *shown) {
   size_t length = reader_waiting(reader);
   switch (reader_waiting_kind(reader)) {
-    case HED_WAITING_ESCAPE:
-      text_add(out, length == 1 ? "may begin a key" : "may begin a key with Alt");
-      break;
+    case HED_WAITING_ESCAPE: text_add(out, length == 1 ? "may begin a key" : "may begin a key with Alt"); break;
     case HED_WAITING_SEQUENCE: add_sequence(out, reader, shown->bytes + shown->settled, length); break;
     case HED_WAITING_CHARACTER: text_add(out, "half a character"); break;
     case HED_WAITING_PASTE: text_add(out, "a paste of %zu bytes so far", length - paste_start_length(&reader->usual)); break;

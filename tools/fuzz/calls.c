@@ -49,7 +49,9 @@ static hed_parser twin = HED_PARSER_NONE;
 static uint8_t text[TEXT_MAX], fed[FED_MAX];
 static size_t text_len, fed_len, waiting_len;
 
-static const uint8_t *waiting(void) { return fed + fed_len - waiting_len; }
+static const uint8_t *waiting(void) {
+  return fed + fed_len - waiting_len;
+}
 
 /* What the parser shows of itself. */
 static void check_state(void) {
@@ -133,7 +135,9 @@ static void check_completions(void) {
 }
 
 /* There is no parser, so nothing waits. */
-static void forget(void) { is_made = false, waiting_len = text_len = 0; }
+static void forget(void) {
+  is_made = false, waiting_len = text_len = 0;
+}
 
 static void clear_twin(void) {
   set_owner(TWIN);
@@ -145,7 +149,9 @@ static void clear_twin(void) {
 /* The calls that make a parser. */
 enum make { INIT, SHARE };
 
-static bool make(enum make how) { return how == INIT ? hed_parser_init(parser) : hed_parser_init_sharing(parser, &twin); }
+static bool make(enum make how) {
+  return how == INIT ? hed_parser_init(parser) : hed_parser_init_sharing(parser, &twin);
+}
 
 static void make_anew(enum make how, unsigned number) {
   size_t of_twin = hed_parser_waiting_len(&twin);
@@ -291,7 +297,8 @@ static uint32_t take(enum take what, unsigned number) {
 }
 
 static void take_all(enum take what, unsigned number) {
-  while (take(what, number) == HED_NEXT_EVENT) {}
+  while (take(what, number) == HED_NEXT_EVENT) {
+  }
 }
 
 static void reset(void) {
@@ -308,7 +315,9 @@ static void drop_paste(void) {
   text_len = 0;
 }
 
-static const uint8_t *take_some(input *it, size_t *len) { return take_bytes(it, take_byte(it) & ONE_FEED, len); }
+static const uint8_t *take_some(input *it, size_t *len) {
+  return take_bytes(it, take_byte(it) & ONE_FEED, len);
+}
 
 static void feed_some(input *it, unsigned number) {
   size_t len;
@@ -430,7 +439,7 @@ static void begin(bool wants_shared) {
 }
 
 int LLVMFuzzerTestOneInput(const uint8_t *bytes, size_t len) {
-  input it = {bytes, len};
+  input it = { bytes, len };
   begin(len > 0 && bytes[0] == 'W');
   for (int calls = 0; it.left > 0 && calls < MOST_CALLS; calls++) call(&it);
   end_map();

@@ -119,7 +119,7 @@ static void compare(void) {
 }
 
 int LLVMFuzzerTestOneInput(const uint8_t *bytes, size_t len) {
-  input it = {bytes, len};
+  input it = { bytes, len };
   size_t count, stream_len;
   uint8_t first = take_byte(&it);
   const uint8_t *pieces = take_bytes(&it, first & SIZE, &count);

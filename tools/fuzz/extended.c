@@ -39,7 +39,9 @@ typedef struct sent {
 static hed_extended back = HED_EXTENDED_NONE;
 static room told, typed, out, out_len;
 
-static bool is_key(const hed_extended_event *event) { return event->kind == HED_KIND_KEY || event->kind == HED_KIND_REPORT; }
+static bool is_key(const hed_extended_event *event) {
+  return event->kind == HED_KIND_KEY || event->kind == HED_KIND_REPORT;
+}
 
 /* What holds for every report: it says what happened to a key, which has a name or a number in Kitty's table. */
 static void check_report(const hed_key_report *report) {

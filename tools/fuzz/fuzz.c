@@ -35,7 +35,7 @@ const uint8_t *take_bytes(input *it, size_t want, size_t *got) {
 letter take_letter(input *it) {
   enum { LETTER = 0x1f, NO_REFUSAL = 2 };
   uint8_t byte = take_byte(it);
-  return (letter){(char)((byte & LETTER) | 0x40), (byte >> 5) ^ NO_REFUSAL};
+  return (letter){ (char)((byte & LETTER) | 0x40), (byte >> 5) ^ NO_REFUSAL };
 }
 
 /* Rooms. */
@@ -51,7 +51,9 @@ static uint8_t *make_pages(void) {
 }
 
 /* The marks beside a room, on the side where there is no page that can't be touched. */
-static uint8_t *margin_of(const room *it) { return it->is_at_end ? it->at - MARGIN : it->at + it->len; }
+static uint8_t *margin_of(const room *it) {
+  return it->is_at_end ? it->at - MARGIN : it->at + it->len;
+}
 
 void *room_of(room *it, size_t len) {
   HOLDS(len <= ROOM_MAX - MARGIN);
@@ -70,7 +72,9 @@ void *room_with(room *it, const void *bytes, size_t len) {
   return it->at;
 }
 
-void *pointer_to(const room *it) { return it->len == 0 && it->is_at_end ? NULL : it->at; }
+void *pointer_to(const room *it) {
+  return it->len == 0 && it->is_at_end ? NULL : it->at;
+}
 
 static bool are_marks(const uint8_t *bytes, size_t len) {
   static uint8_t marks[ROOM_MAX];
@@ -101,18 +105,26 @@ static enum owner owner;
 static long blocks[OWNERS];
 static unsigned refused_number, asked, refused;
 
-void set_owner(enum owner next) { owner = next; }
+void set_owner(enum owner next) {
+  owner = next;
+}
 
-long blocks_of(enum owner whose) { return blocks[whose]; }
+long blocks_of(enum owner whose) {
+  return blocks[whose];
+}
 
 void refuse_request(unsigned number) {
   refused_number = number;
   asked = refused = 0;
 }
 
-unsigned requests(void) { return asked; }
+unsigned requests(void) {
+  return asked;
+}
 
-unsigned refusals(void) { return refused; }
+unsigned refusals(void) {
+  return refused;
+}
 
 static bool refuses(void) {
   asked++;
@@ -124,7 +136,7 @@ static bool refuses(void) {
 static void *make_block(size_t size) {
   head *at = malloc(sizeof *at + size + TAIL);
   HOLDS(at);
-  *at = (head){size, owner, BLOCK_MARK};
+  *at = (head){ size, owner, BLOCK_MARK };
   uint8_t *block = (uint8_t *)(at + 1);
   memset(block + size, MARK, TAIL);
   ASAN_POISON_MEMORY_REGION(at, sizeof *at);
@@ -150,7 +162,9 @@ static void free_block(void *block) {
   free(at);
 }
 
-void *fuzz_malloc(size_t size) { return refuses() ? NULL : make_block(size); }
+void *fuzz_malloc(size_t size) {
+  return refuses() ? NULL : make_block(size);
+}
 
 void *fuzz_realloc(void *block, size_t size) {
   if (refuses()) return NULL;
@@ -222,7 +236,9 @@ void check_event(const hed_event *event) {
 static const char start[] = "\033[200~", end[] = "\033[201~";
 enum { BRACKET = sizeof start - 1, ESC = 0x1b, MOST_WAITING = 21 };
 
-bool begins_paste(const uint8_t *waiting, size_t len) { return len >= BRACKET && memcmp(waiting, start, BRACKET) == 0; }
+bool begins_paste(const uint8_t *waiting, size_t len) {
+  return len >= BRACKET && memcmp(waiting, start, BRACKET) == 0;
+}
 
 bool is_open_paste(const uint8_t *waiting, size_t len) {
   return begins_paste(waiting, len) && !memmem(waiting + BRACKET, len - BRACKET, end, BRACKET);

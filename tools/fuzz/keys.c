@@ -14,7 +14,11 @@
 #include <string.h>
 
 enum { TEXT_MAX = 128, TYPED_MAX = 12, NAME_MAX = 21, KEYS = HED_KEY_INTERNAL_PASTE_END };
-enum { ALL_MODIFIERS = 2 * HED_TERMWIZ_MOD_RIGHT_SHIFT - HED_TERMWIZ_MOD_SHIFT, ALL_KITTY = 2 * HED_KITTY_FLAG_REPORT_ASSOCIATED_TEXT - 1, FUNCTIONS = 24 };
+enum {
+  ALL_MODIFIERS = 2 * HED_TERMWIZ_MOD_RIGHT_SHIFT - HED_TERMWIZ_MOD_SHIFT,
+  ALL_KITTY = 2 * HED_KITTY_FLAG_REPORT_ASSOCIATED_TEXT - 1,
+  FUNCTIONS = 24
+};
 
 typedef struct press {
   uint16_t key, modifiers;
@@ -40,7 +44,9 @@ typedef struct told_key {
 
 static room out, out_len, modes, told, typed;
 
-static bool is_scalar(uint32_t code) { return code <= 0x10ffff && (code < 0xd800 || code > 0xdfff); }
+static bool is_scalar(uint32_t code) {
+  return code <= 0x10ffff && (code < 0xd800 || code > 0xdfff);
+}
 
 /* The press with numbers that name something. Those that do stay, but for function keys and levels that are far off. */
 static press named(press is) {
@@ -55,7 +61,7 @@ static press named(press is) {
 }
 
 static press take_press(input *it, bool *stays) {
-  press is = {.key = (uint16_t)take_number(it, 2)};
+  press is = { .key = (uint16_t)take_number(it, 2) };
   is.detail = (uint32_t)take_number(it, 4);
   is.modifiers = (uint16_t)take_number(it, 2);
   uint8_t flags = take_byte(it);
@@ -72,7 +78,7 @@ static press take_press(input *it, bool *stays) {
 
 /* Makes the call with a room of `room` bytes, and checks what it wrote. */
 static answer encode(const press *is, size_t room) {
-  answer got = {.len = 0};
+  answer got = { .len = 0 };
   room_of(&out, room);
   room_of(&out_len, sizeof(size_t));
   room_with(&modes, &is->modes, sizeof is->modes);
@@ -166,7 +172,7 @@ static void check_encoding(const press *is, unsigned number) {
 }
 
 static told_key take_report(input *it, const press *is, bool stays) {
-  told_key key = {.flags = is->modes.kitty_flags};
+  told_key key = { .flags = is->modes.kitty_flags };
   hed_key_report *report = &key.report;
   report->key = is->key;
   report->detail = is->detail;
@@ -189,7 +195,7 @@ static told_key take_report(input *it, const press *is, bool stays) {
 
 /* Makes the call with a room of `room` bytes, and checks what it wrote. */
 static answer encode_report(const told_key *key, size_t room) {
-  answer got = {.len = 0};
+  answer got = { .len = 0 };
   room_of(&out, room);
   room_of(&out_len, sizeof(size_t));
   room_with(&told, &key->report, sizeof key->report);
@@ -226,7 +232,8 @@ static bool is_utf8(const uint8_t *text, size_t len) {
 
 static bool is_bad_report(const told_key *key) {
   const hed_key_report *report = &key->report;
-  if (report->kind < HED_KEY_EVENT_KIND_PRESS || report->kind > HED_KEY_EVENT_KIND_RELEASE || report->key > KEYS || key->flags & ~ALL_KITTY) return true;
+  if (report->kind < HED_KEY_EVENT_KIND_PRESS || report->kind > HED_KEY_EVENT_KIND_RELEASE || report->key > KEYS || key->flags & ~ALL_KITTY)
+    return true;
   if (report->key == HED_KEY_CHAR && !is_scalar(report->detail)) return true;
   if (report->key == HED_KEY_FUNCTION && report->detail > 255) return true;
   if (report->shifted != HED_NO_CODE && !is_scalar(report->shifted)) return true;
@@ -286,7 +293,7 @@ static void check_name(uint16_t key) {
 }
 
 int LLVMFuzzerTestOneInput(const uint8_t *bytes, size_t len) {
-  input it = {bytes, len};
+  input it = { bytes, len };
   bool stays;
   press is = take_press(&it, &stays);
   refuse_request(0);

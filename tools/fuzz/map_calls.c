@@ -22,8 +22,8 @@ static bool is_made;
 static const hed_keymap none = HED_KEYMAP_NONE;
 
 /* Programs spend most of their time here. So the function has no checks of addresses, and is no memcmp, of which libFuzzer takes note. */
-__attribute__((no_sanitize("address", "undefined")))
-static bool is_prefix(const uint8_t *prefix, size_t prefix_len, const uint8_t *text, size_t len) {
+__attribute__((no_sanitize("address", "undefined"))) static bool is_prefix(const uint8_t *prefix, size_t prefix_len, const uint8_t *text,
+                                                                           size_t len) {
   size_t same = 0;
   if (prefix_len > len || (prefix_len > 0 && prefix[prefix_len - 1] != text[prefix_len - 1])) return false;
   while (same < prefix_len && prefix[same] == text[same]) same++;
@@ -37,7 +37,7 @@ static void insert_in_plain(const uint8_t *key, size_t len, uint64_t value) {
     return;
   }
   if (len > 0) memcpy(key_bytes + bytes_len, key, len);
-  entries[count++] = (entry){key_bytes + bytes_len, len, value};
+  entries[count++] = (entry){ key_bytes + bytes_len, len, value };
   bytes_len += len;
 }
 
@@ -50,7 +50,7 @@ static uint32_t look_up_in_plain(const uint8_t *text, size_t len, bool maybe_mor
     if (it->len > len && is_prefix(text, len, it->key, it->len)) is_extended = true;
   }
   if (!longest) return is_extended ? HED_FOUND_NEED_DATA : HED_FOUND_NONE;
-  *match = (hed_match){longest->len, longest->value};
+  *match = (hed_match){ longest->len, longest->value };
   return is_extended && maybe_more ? HED_FOUND_AMBIGUOUS : HED_FOUND_EXACT;
 }
 
@@ -95,7 +95,9 @@ static void look_so_many_up(size_t want) {
   end_reads();
 }
 
-void look_keys_up(void) { look_so_many_up(16); }
+void look_keys_up(void) {
+  look_so_many_up(16);
+}
 
 static void forget(void) {
   is_made = false;

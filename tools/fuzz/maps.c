@@ -25,7 +25,7 @@ static uint8_t text[TEXT_MAX + 1];
 static size_t text_len;
 
 static void append(uint8_t byte, bool is_few) {
-  static const uint8_t few[] = {0x00, 0x01, 0x61, 0xff};
+  static const uint8_t few[] = { 0x00, 0x01, 0x61, 0xff };
   if (text_len < TEXT_MAX) text[text_len++] = is_few ? few[byte & 3] : byte;
 }
 
@@ -44,7 +44,10 @@ static void take_text(input *it) {
   uint8_t first = take_byte(it);
   size_t n = first & 0xf;
   switch (first >> 4 & 3) {
-    case 0: text_len = 0; append_some(it, n, first & FEW); break;
+    case 0:
+      text_len = 0;
+      append_some(it, n, first & FEW);
+      break;
     case 1: append_some(it, n, first & FEW); break;
     case 2: text_len -= n < text_len ? n : text_len; break;
     default: append_many(take_byte(it), MANY * n, first & FEW); break;
@@ -71,7 +74,10 @@ static void call(input *it) {
     case 'J': init_map(of.refused); break;
     case 'P': insert_one(it, of.refused); break;
     case 'U': insert_many(it, of.refused); break;
-    case 'Q': take_text(it); look_up(text, text_len); break;
+    case 'Q':
+      take_text(it);
+      look_up(text, text_len);
+      break;
     case 'R': free_map(); break;
     case 'S': move_map(); break;
     case 'T': look_keys_up(); break;
@@ -80,7 +86,7 @@ static void call(input *it) {
 }
 
 int LLVMFuzzerTestOneInput(const uint8_t *bytes, size_t len) {
-  input it = {bytes, len};
+  input it = { bytes, len };
   text_len = 0;
   begin_map();
   init_map(0);

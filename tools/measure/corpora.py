@@ -1,7 +1,8 @@
-"""corpora.py FOLDER NAME[:MEGABYTES]..: writes each corpus to FOLDER/NAME-MEGABYTES, the same bytes on every run.
+"""corpora.py FOLDER NAME[:MEGABYTES]..: writes each corpus to FOLDER/NAME-MEGABYTES, the same bytes
+on every run.
 
 typed   words, spaces, Enter, Tab, Backspace and ^C
-keys    arrow, editing and function keys, plain and with modifiers: each is a row of the sequence table
+keys    arrow, editing and function keys, plain and with modifiers: rows of the sequence table
 csiu    keys in the forms ESC [ code ; modifiers u and ESC [ 27 ; modifiers ; code ~
 utf8    characters of two to four bytes, with some of one
 mouse   mouse reports
@@ -14,14 +15,16 @@ focus   focus reports
 device  primary device attributes (DA1)
 release key releases of Kitty's keyboard protocol
 
-A corpus ends with an event, so it is some bytes shorter than its name says. A megabyte is 2 ** 20 bytes."""
+A corpus ends with an event, so it is some bytes shorter than its name says. A megabyte is 2 ** 20
+bytes."""
 import random
 import sys
 
 ESC = b"\x1b"
 WORDS = (
-    "the quick brown fox jumps over a lazy dog while editors wait for input from slow links and every key "
-    "that was typed comes out once, in order: ls -la | grep foo; git commit -m fix {x[0]} let y = 42; // done"
+    "the quick brown fox jumps over a lazy dog while editors wait for input from slow links and "
+    "every key that was typed comes out once, in order: "
+    "ls -la | grep foo; git commit -m fix {x[0]} let y = 42; // done"
 ).split()
 CHARACTERS = list("éßñжΩλ中文字日本語한글€“”…😀🚀") + list(" a")
 MODIFIERS = range(2, 9)
@@ -54,7 +57,11 @@ def keys(pick):
 def csiu(pick):
     while True:
         code, modifiers = pick.randint(32, 126), pick.choice(MODIFIERS)
-        yield ESC + (b"[%d;%du" % (code, modifiers) if pick.random() < 0.5 else b"[27;%d;%d~" % (modifiers, code))
+        yield ESC + (
+            b"[%d;%du" % (code, modifiers)
+            if pick.random() < 0.5
+            else b"[27;%d;%d~" % (modifiers, code)
+        )
 
 
 def utf8(pick):
@@ -83,7 +90,9 @@ def escapes(pick):
         yield ESC
 
 
-CUT = [ESC + front for front in (b"", b"[", b"O", b"[1;", b"[27;5;12", b"O1;", b"[20", b"[11", b"[1;1")]
+CUT = [
+    ESC + front for front in (b"", b"[", b"O", b"[1;", b"[27;5;12", b"O1;", b"[20", b"[11", b"[1;1")
+]
 
 
 def cut(pick):
@@ -120,7 +129,9 @@ def whole_events(events, size):
 
 
 def paste(pick, size):
-    lines = (b" ".join(pick.choice(WORDS).encode() for _ in range(10)) + b"\n" for _ in iter(int, 1))
+    lines = (
+        b" ".join(pick.choice(WORDS).encode() for _ in range(10)) + b"\n" for _ in iter(int, 1)
+    )
     return ESC + b"[200~" + whole_events(lines, size - 12) + ESC + b"[201~"
 
 

@@ -1,6 +1,8 @@
-"""languages.py: reads the passes of tools/c_measure.sh on standard input, and prints the table of docs/PERFORMANCE.md.
+"""languages.py: reads the passes of tools/c_measure.sh on standard input, and prints the table of
+docs/PERFORMANCE.md.
 
-A line is a corpus, the size of its reads, the program, and what the program printed: nanoseconds, events, and bytes that stay buffered."""
+A line is a corpus, the size of its reads, the program, and what the program printed: nanoseconds,
+events, and bytes that stay buffered."""
 import sys
 
 TITLES = {
@@ -50,7 +52,11 @@ def main():
     print(f"| {' | '.join(heads)} |\n|{'---|' * len(heads)}")
     last = None
     for (corpus, read), times in least.items():
-        cells = ["" if corpus == last else title_of(corpus), f"{read} bytes", *(cell(times[it], events[corpus, read]) for it in programs)]
+        cells = [
+            "" if corpus == last else title_of(corpus),
+            f"{read} bytes",
+            *(cell(times[it], events[corpus, read]) for it in programs),
+        ]
         print("|" + "".join(f" {it} |" if it else " |" for it in cells))
         last = corpus
 

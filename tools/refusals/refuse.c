@@ -9,29 +9,25 @@
 static long requests;
 
 static int refused(void) {
-    static long nth = -1;
-    if (nth < 0) {
-        const char *text = getenv("REFUSE");
-        nth = text ? atol(text) : 0;
-    }
-    if (++requests != nth)
-        return 0;
-    if (write(3, "refused\n", 8) < 0)
-        abort();
-    errno = ENOMEM;
-    return 1;
+  static long nth = -1;
+  if (nth < 0) {
+    const char *text = getenv("REFUSE");
+    nth = text ? atol(text) : 0;
+  }
+  if (++requests != nth) return 0;
+  if (write(3, "refused\n", 8) < 0) abort();
+  errno = ENOMEM;
+  return 1;
 }
 
 void *malloc(size_t size) {
-    static void *(*next)(size_t);
-    if (!next)
-        next = (void *(*)(size_t))dlsym(RTLD_NEXT, "malloc");
-    return refused() ? NULL : next(size);
+  static void *(*next)(size_t);
+  if (!next) next = (void *(*)(size_t))dlsym(RTLD_NEXT, "malloc");
+  return refused() ? NULL : next(size);
 }
 
 void *realloc(void *block, size_t size) {
-    static void *(*next)(void *, size_t);
-    if (!next)
-        next = (void *(*)(void *, size_t))dlsym(RTLD_NEXT, "realloc");
-    return refused() ? NULL : next(block, size);
+  static void *(*next)(void *, size_t);
+  if (!next) next = (void *(*)(void *, size_t))dlsym(RTLD_NEXT, "realloc");
+  return refused() ? NULL : next(block, size);
 }

@@ -35,7 +35,9 @@ impl Comparison {
         self.begin();
         let mut has_extra = false;
         for (bytes, more) in calls {
-            has_extra |= self.reader.has_extra(&[&self.waiting, &bytes[..]].concat(), *more);
+            has_extra |= self
+                .reader
+                .has_extra(&[&self.waiting, &bytes[..]].concat(), *more);
             self.check_call(bytes, *more);
         }
         has_extra
