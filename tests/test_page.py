@@ -206,14 +206,16 @@ class Page:
             self.settle()
 
     def click(self, selector):
+        """Clicks on an element. A change of how bytes are read is asked for 60 ms later."""
         self.driver.find_element(By.CSS_SELECTOR, selector).click()
+        self.run("new Promise((done) => setTimeout(done, 100))")
+        self.settle()
 
     def read_as(self, reading):
         """Chooses how bytes are read."""
         if self.run(READING) != reading:
             self.run("document.body.setAttribute('aria-busy', 'true')")
             self.click(f"input[name=reading][value={reading}]")
-            self.settle()
 
     def find(self, text):
         """Searches the table, and returns the bytes and the keys that are found."""
@@ -672,8 +674,8 @@ def test_links_of_texts(page):
 
 
 def test_broken_links(page):
-    bytes_wrong = ("#bytes=1", "#bytes=zz", "#bytes=1b%3Cscript%3E", "#bytes=1b&cut=-1&end=%00")
-    for bad in (*bytes_wrong, "#<script>alert(1)</script>", "#%ff%fe"):
+    wrong = ("#bytes=1", "#bytes=zz", "#bytes=1b%3Cscript%3E", "#bytes=1b&cut=-1&end=%00")
+    for bad in (*wrong, "#<script>alert(1)</script>", "#%ff%fe"):
         page.open(bad)
         assert page.lines()
 

@@ -1,7 +1,7 @@
 #!/usr/bin/env bash
 # Measures the parser in process, on this machine, and another commit's beside it.
 #
-#     tools/measure.sh [--against COMMIT] [--extended ROWS] [--by-event] [--reads LIST] [--runs N] [--keep FOLDER]
+#     tools/measure.sh [--against COMMIT] [--extended PROTOCOL] [--by-event] [--reads LIST] [--runs N] [--keep FOLDER]
 #                      [new | CORPUS[:MEGABYTES]]..
 #     tools/measure.sh --parsers LIST [--library DIR] [--reads LIST] [--runs N] [CORPUS[:MEGABYTES]]..
 #
@@ -10,7 +10,7 @@
 # programs in turn, N times each (9), one pass a process, and prints a table: the least time, the middle one, and the least per event and
 # in megabytes per second.
 #
-# With --extended it measures the extended parser, which reads the rows of the sequence table as ROWS says (port or kitty). Beside it
+# With --extended it measures the extended parser, under PROTOCOL, legacy or kitty. Beside it
 # is InputParser or, with --against, the extended parser of COMMIT. With --by-event a loop over next_event is timed (next.rt.txt) in place of
 # parse_as_vec, and so it is with both --against and --extended.
 #
@@ -49,7 +49,7 @@ while [ $# -gt 0 ]; do
         *) break ;;
     esac
 done
-case $extended in '' | port | kitty) ;; *) refuse_word "$extended" ;; esac
+case $extended in '' | legacy | kitty) ;; *) refuse_word "$extended" ;; esac
 [ -z "$against" ] || [ -z "$extended" ] || source=next.rt.txt
 # (--runs 0 only builds and writes the corpora, for c_measure.sh.)
 [ "$runs" = 0 ] || want_number "$runs" --runs
@@ -101,15 +101,18 @@ fi
 crates='termwiz_base termwiz_keymap termwiz_keys termwiz_grammar termwiz_table termwiz_input'
 [ -z "$extended" ] || crates="$crates termwiz_extended_events termwiz_extended_grammar termwiz_input_extended"
 
-# Builds the program of the sources that lie in a folder. The second word says how the extended parser reads the rows, if it is the one.
-build() { # folder [port | kitty]
+# Builds the program of the sources that lie in a folder. The second word is the extended parser's protocol, if it is the one. An older
+# commit calls the two otherwise.
+build() { # folder [legacy | kitty]
     mkdir -p "$1/crates/feed/src"
     grep -E "^(${crates// /|}):" "$1/listed" > "$1/crates.txt"
     if [ -n "${2:-}" ]; then
-        [ "$2" = port ] && rows=Port || rows=Kitty
-        sed -e 's/^use termwiz_input::input::InputParser;/use termwiz_input_extended::input::ExtendedParser;\nuse termwiz_input_extended::types::Rows;/' \
-            -e 's/^use termwiz_input::input::{InputEvent, InputParser};/use termwiz_input_extended::input::ExtendedParser;\nuse termwiz_input_extended::types::{ExtendedEvent, Rows};/' \
-            -e "s/InputParser::new(alloc)/ExtendedParser::new(alloc, Rows::$rows)/" \
+        local type=Protocol name=Legacy
+        grep -q 'enum Protocol' "$1/crates/termwiz_extended_events/src/types.rt" || { type=Rows && name=Port; }
+        [ "$2" = legacy ] || name=Kitty
+        sed -e "s/^use termwiz_input::input::InputParser;/use termwiz_input_extended::input::ExtendedParser;\nuse termwiz_input_extended::types::$type;/" \
+            -e "s/^use termwiz_input::input::{InputEvent, InputParser};/use termwiz_input_extended::input::ExtendedParser;\nuse termwiz_input_extended::types::{ExtendedEvent, $type};/" \
+            -e "s/InputParser::new(alloc)/ExtendedParser::new(alloc, $type::$name)/" \
             -e 's/InputParser/ExtendedParser/g; s/InputEvent/ExtendedEvent/g' \
             "$top/tools/measure/$source" > "$1/crates/feed/src/lib.rt"
         echo 'feed staticlib: termwiz_input_extended' >> "$1/crates.txt"
