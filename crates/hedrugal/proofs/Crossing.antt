@@ -1,4 +1,4 @@
--- What a parser, an extended parser and a key map are made of may cross threads, and so may the block of each.
+-- What a parser, an extended parser and a key map are made of may cross threads, and so may the block of one.
 use Rattle.std.specs.Prelude.{List, [], ◌∷◌, Option, Some, None}
 use base.Shift.{Keyless}
 use mir.Raw.{raw}
@@ -25,6 +25,7 @@ use Rattle.termwiz_input.specs.contracts.input.InputParser as InputParser
 use Rattle.termwiz_input_extended.specs.contracts.input.ExtendedParser as ExtendedParser
 use Rattle.hedrugal.specs.contracts.bindings.Bindings as Bindings
 use Rattle.hedrugal.specs.contracts.extended_and_text.ExtendedAndText as ExtendedAndText
+use Rattle.hedrugal.specs.contracts.held.Held as Held
 use Rattle.hedrugal.specs.contracts.parser_and_paste.ParserAndPaste as ParserAndPaste
 use Rattle.hedrugal.specs.Owned.{heap, owned}
 
@@ -94,17 +95,24 @@ parser_send = search (sendable, crosses, event_send, event_sync, map_send, map_s
 extended_send : IsSend ExtendedParser.the_row
 extended_send = search (sendable, crosses, parser_send) depth 12
 
--- what the handles lead to
-pub parser_and_paste_send : IsSend ParserAndPaste.the_row
+-- what a handle leads to
+parser_and_paste_send : IsSend (ParserAndPaste.the_field).row
 parser_and_paste_send = search (sendable, crosses, maps, parser_send) depth 12
 
-pub extended_and_text_send : IsSend ExtendedAndText.the_row
+extended_and_text_send : IsSend (ExtendedAndText.the_field).row
 extended_and_text_send = search (sendable, crosses, extended_send) depth 12
 
-pub bindings_send : IsSend Bindings.the_row
+bindings_send : IsSend (Bindings.the_field).row
 bindings_send = search (sendable, crosses, map_send) depth 12
 
--- and the pointers to that: what one owns says the same to every thread
+kinds_send : IsSend (Enum (shape Held.the_type))
+kinds_send = enum_send (shape Held.the_type)
+    ((parser_and_paste_send, tt), ((extended_and_text_send, tt), ((bindings_send, tt), tt)))
+
+pub held_send : IsSend Held.the_row
+held_send = search (sendable, kinds_send) depth 10
+
+-- and the pointer to that: what it owns says the same to every thread
 pub pointer_send : IsSend RawPtr
 pointer_send = search sendable
 

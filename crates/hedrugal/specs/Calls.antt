@@ -12,17 +12,17 @@ use Rattle.hedrugal.specs.declared.parser_and_paste.ParserAndPaste.{ParserAndPas
 use Rattle.hedrugal.specs.declared.events.CEvent.{CEvent}
 use Rattle.hedrugal.specs.Events.{c_event}
 
--- there is a parser, in which nothing waits, and which gave no paste
+-- there is a parser, in which nothing is buffered, and which gave no paste
 abbrev pub IsFresh : Option ParserAndPaste → Type 0
 IsFresh (Some held) = (held.parser ≡ []) × (string_bytes held.pasted ≡ [])
 IsFresh None = ⊥
 
--- the length of the waiting text; 0 without a parser
+-- how many bytes are buffered; 0 without a parser
 abbrev pub waiting_len : Option ParserAndPaste → ℕ
 waiting_len (Some held) = length held.parser
 waiting_len None = 0
 
--- the waiting text begins with the start of a paste
+-- what is buffered begins with the start of a paste
 abbrev pub HasOpenPaste : Option ParserAndPaste → Type 0
 HasOpenPaste (Some held) = Begins START held.parser
 HasOpenPaste None = ⊥
@@ -32,7 +32,7 @@ abbrev pub pasted : Option ParserAndPaste → List ℕ
 pasted (Some held) = string_bytes held.pasted
 pasted None = []
 
--- the bytes were appended to the waiting text, and the text of the last paste stays
+-- the bytes were buffered behind what was, and the text of the last paste stays
 abbrev pub Took : Option ParserAndPaste → List ℕ → Option ParserAndPaste → Type 0
 Took (Some before) bytes (Some after) =
     (after.parser ≡ before.parser ++ bytes) × (string_bytes after.pasted ≡ string_bytes before.pasted)
@@ -50,12 +50,12 @@ Gave (Some before) more shown (Some after) =
     × (string_bytes after.pasted ≡ text_after event (string_bytes before.pasted))
 Gave _ more shown _ = ⊥
 
--- no item stands at the front of what waits
+-- no item stands at the front of what is buffered
 abbrev pub Rests : Option ParserAndPaste → Bool → Type 0
 Rests (Some held) more = IsRest held.parser more
 Rests None more = ⊥
 
--- a paste stands at the front of what waits
+-- a paste stands at the front of what is buffered
 abbrev pub HasPasteNext : Option ParserAndPaste → Bool → Type 0
 HasPasteNext (Some held) more = HasPaste held.parser more
 HasPasteNext None more = ⊥

@@ -13,7 +13,7 @@ use Rattle.hedrugal.specs.declared.extended_events.CExtendedEvent.{CExtendedEven
 use Rattle.hedrugal.specs.Calls.{waiting_number}
 use Rattle.hedrugal.specs.ExtendedEvents.{c_extended_event, own_bytes, protocol_number}
 
--- there is a parser for the protocol with this number, nothing waits in it, and no event brought bytes
+-- there is a parser for the protocol with this number, nothing is buffered in it, and no event brought bytes
 abbrev pub IsFresh : Option ExtendedAndText → ℕ → Type 0
 IsFresh (Some held) protocol = (protocol_number held.parser.protocol ≡ protocol) × (held.parser.text ≡ []) × (held.text.items ≡ [])
 IsFresh None protocol = ⊥
@@ -22,12 +22,12 @@ IsFresh None protocol = ⊥
 abbrev pub IsNoProtocol : ℕ → Type 0
 IsNoProtocol number = (protocol : Protocol) → ¬ (protocol_number protocol ≡ number)
 
--- the length of the waiting text; 0 without a parser
+-- how many bytes are buffered; 0 without a parser
 abbrev pub waiting_len : Option ExtendedAndText → ℕ
 waiting_len (Some held) = length held.parser.text
 waiting_len None = 0
 
--- the waiting text begins with the start of a paste
+-- what is buffered begins with the start of a paste
 abbrev pub HasOpenPaste : Option ExtendedAndText → Type 0
 HasOpenPaste (Some held) = Begins START held.parser.text
 HasOpenPaste None = ⊥
@@ -37,7 +37,7 @@ abbrev pub kept : Option ExtendedAndText → List ℕ
 kept (Some held) = held.text.items
 kept None = []
 
--- the bytes were appended to the waiting text, and nothing else changed
+-- the bytes were buffered behind what was, and nothing else changed
 abbrev pub Took : Option ExtendedAndText → List ℕ → Option ExtendedAndText → Type 0
 Took (Some before) bytes (Some after) =
     (after.parser.text ≡ before.parser.text ++ bytes) × (after.parser.protocol ≡ before.parser.protocol)
@@ -61,12 +61,12 @@ Gave (Some before) more shown (Some after) =
     × Shows before event shown after
 Gave _ more shown _ = ⊥
 
--- no item stands at the front of what waits
+-- no item stands at the front of what is buffered
 abbrev pub Rests : Option ExtendedAndText → Bool → Type 0
 Rests (Some held) more = IsRest held.parser.protocol held.parser.text more
 Rests None more = ⊥
 
--- an item whose event may hold memory stands at the front of what waits
+-- an item whose event may hold memory stands at the front of what is buffered
 abbrev pub NeedsMemoryNext : Option ExtendedAndText → Bool → Type 0
 NeedsMemoryNext (Some held) more = HasItemThatNeedsMemory held.parser.protocol held.parser.text more
 NeedsMemoryNext None more = ⊥

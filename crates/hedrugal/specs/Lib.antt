@@ -1,11 +1,13 @@
 pub mod Calls
+pub mod EntryCalls
 pub mod Events
 pub mod ExtendedCalls
 pub mod ExtendedEvents
+pub mod Handles
 pub mod KeymapCalls
 pub mod Keys
 pub mod KittyCalls
 pub mod Lent
+pub mod LentIf
 pub mod Owned
 pub mod Presses
-pub mod EntryCalls

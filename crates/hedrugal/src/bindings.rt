@@ -1,9 +1,6 @@
 // What the handle of a key map leads to.
-ghost use Rattle.std.specs.Prelude.{◌≡◌};
-ghost use Rattle.std.specs.FinMap as map;
 ghost use Rattle.termwiz_input.specs.Lookup.{LookupGives};
 
-use std::alloc::Global;
 use termwiz_input::keymap::{Found, KeyMap};
 
 /// A map from byte strings to numbers.
@@ -13,14 +10,6 @@ pub struct Bindings {
 }
 
 impl Bindings {
-    pub(crate) fn new(alloc: Global) -> Bindings
-        ensures { result.map ≡ map.empty }
-    {
-        Bindings {
-            map: KeyMap::new(alloc),
-        }
-    }
-
     // The answer of a lookup, with the number itself.
     pub(crate) fn lookup(&self, text: &[u8], maybe_more: bool) -> Found<u64>
         ensures { LookupGives self.now.map text.now maybe_more result }

@@ -1,18 +1,16 @@
 // What the handle of an extended parser leads to.
-ghost use Rattle.std.specs.Prelude.{◌≡◌, ◌↔◌, [], ◌∷◌, false, length, IfOk, IfSome, IfNone, IsSome, OnErr};
+ghost use Rattle.std.specs.Prelude.{◌≡◌, ◌↔◌, [], ◌∷◌, false, IfOk, IfSome, IfNone, IsSome, OnErr};
 ghost use Rattle.termwiz_input.specs.WaitingKinds.{IsOneOrTwoEscapes, IsOpenPaste};
 ghost use Rattle.termwiz_extended_events.specs.declared.types.ExtendedEvent.{ExtendedEvent as Event};
 ghost use Rattle.termwiz_extended_grammar.specs.ExtendedGrammar.{IsRest, Means, Steps};
 ghost use Rattle.termwiz_input_extended.specs.NextItems.{HasItemThatNeedsMemory, IsPasteEvent};
-ghost use Rattle.hedrugal.specs.Calls.{copied};
 ghost use Rattle.hedrugal.specs.ExtendedEvents.{c_extended_event};
 ghost use Rattle.hedrugal.specs.ExtendedCalls.{text_after};
 
-use crate::copying::copy_prefix;
 use crate::extended_events::{CExtendedEvent, c_extended_event, own_bytes};
 use std::alloc::{AllocError, Global};
 use termwiz_input_extended::input::ExtendedParser;
-use termwiz_input_extended::types::{ExtendedEvent, Protocol};
+use termwiz_input_extended::types::ExtendedEvent;
 
 /// An extended parser, and the bytes of the last event that brought bytes.
 #[derive(Drop)]
@@ -22,14 +20,6 @@ pub struct ExtendedAndText {
 }
 
 impl ExtendedAndText {
-    pub(crate) fn new(alloc: Global, protocol: Protocol) -> Result<ExtendedAndText, AllocError>
-        ensures waiting { IfOk result (λ held. held.parser.text ≡ []) }
-        ensures protocol { IfOk result (λ held. held.parser.protocol ≡ protocol) }
-        ensures text { IfOk result (λ held. held.text.items ≡ []) }
-    {
-        Ok(ExtendedAndText::of(alloc, ExtendedParser::new(alloc, protocol)?))
-    }
-
     // The parser, with no bytes of an event.
     pub(crate) fn of(alloc: Global, parser: ExtendedParser) -> ExtendedAndText
         ensures parser { result.parser ≡ parser }
@@ -103,30 +93,5 @@ impl ExtendedAndText {
             Some(event) => Ok(Some(self.keep_text(event))),
             None => Ok(None),
         }
-    }
-
-    // Frees the bytes of the last event that brought bytes.
-    pub(crate) fn drop_text(&mut self, alloc: Global)
-        ensures text { self.new.text.items ≡ [] }
-        ensures parser { self.new.parser ≡ self.old.parser }
-    {
-        self.text = Vec::new(alloc);
-    }
-
-    // Frees memory that holds nothing: of the buffer beyond `min_capacity` bytes, and of the bytes of the last event.
-    pub(crate) fn shrink_to(&mut self, min_capacity: usize)
-        ensures parser { self.new.parser ≡ self.old.parser }
-        ensures text { self.new.text.items ≡ self.old.text.items }
-    {
-        self.parser.shrink_to(min_capacity);
-        self.text.shrink_to_fit();
-    }
-
-    // Copies as much of these bytes as `out` has room for, and returns how many they are.
-    pub(crate) fn copy_text(&self, out: &mut [u8]) -> usize
-        ensures len { result ≡ length self.now.text.items }
-        ensures bytes { out.new ≡ copied self.now.text.items out.old }
-    {
-        copy_prefix(self.text.as_slice(), out)
     }
 }

@@ -3,14 +3,18 @@ ghost use Rattle.std.specs.Prelude.{◌≡◌, ◌≢◌, ◌≤◌, ◌↔◌, 
 ghost use Rattle.hedrugal.specs.Calls.{copied};
 ghost use Rattle.hedrugal.specs.ExtendedCalls.{IsNoProtocol, Ended, Flushed, Gave, HasDroppedText, HasEndlessPaste, HasEscape, HasKind, HasOpenPaste, IsFresh, IsReset, IsUnchanged, NeedsMemoryNext, Rests, Took, kept, waiting_len};
 ghost use Rattle.hedrugal.specs.ExtendedEvents.{protocol_number};
+ghost use Rattle.hedrugal.specs.Handles.{extended_of};
 
+use crate::copying::copy_prefix;
 use crate::extended_and_text::ExtendedAndText;
 use crate::extended_events::CExtendedEvent;
-use crate::extended_handle::ExtendedHandle;
+use crate::handle::Handle;
+use crate::held::Held;
 use crate::{
     NEXT_EVENT, NEXT_NO_MEMORY, NEXT_NO_PARSER, NEXT_NONE, WAITING_NOTHING, waiting_number,
 };
 use std::alloc::Global;
+use termwiz_input_extended::input::ExtendedParser;
 use termwiz_input_extended::types::Protocol;
 
 // The protocols that a program may have turned on.
@@ -34,67 +38,66 @@ pub(crate) fn protocol_at(number: u32) -> Option<Protocol>
 /// Makes an extended parser for the protocol with this number, and frees the one that was there. If memory is refused, or no protocol has
 /// the number, the answer is false and nothing changes.
 #[unsafe(no_mangle)]
-pub extern "C" fn hed_extended_init(
-    alloc: Global,
-    parser: &mut ExtendedHandle,
-    protocol: u32,
-) -> bool
-    ensures made { result ≡ true → IsFresh parser.new.owned.held protocol }
+pub extern "C" fn hed_extended_init(alloc: Global, parser: &mut Handle, protocol: u32) -> bool
+    ensures made { result ≡ true → IsFresh (extended_of parser.new) protocol }
     ensures refused { result ≡ false → parser.new.owned.held ≡ parser.old.owned.held }
     ensures no_protocol { IsNoProtocol protocol → result ≡ false }
 {
     let Some(protocol) = protocol_at(protocol) else {
         return false;
     };
-    let Ok(held) = ExtendedAndText::new(alloc, protocol) else {
+    let Ok(made) = ExtendedParser::new(alloc, protocol) else {
         return false;
     };
-    parser.replace(alloc, held)
+    parser.replace(alloc, Held::Extended(ExtendedAndText::of(alloc, made)))
 }
 
 /// Frees the parser, if there is one, and leaves none.
 #[unsafe(no_mangle)]
-pub extern "C" fn hed_extended_free(alloc: Global, parser: &mut ExtendedHandle)
+pub extern "C" fn hed_extended_free(alloc: Global, parser: &mut Handle)
     ensures { parser.new.owned.held ≡ None }
 {
-    drop(parser.take(alloc));
+    parser.free(alloc);
 }
 
-/// Appends bytes to the waiting text. If memory is refused, or there is no parser, the answer is false and nothing changes. No bytes
-/// need no memory.
+/// Buffers bytes. If memory is refused, or there is no parser, the answer is false and nothing changes. No bytes need no memory.
 #[unsafe(no_mangle)]
-pub extern "C" fn hed_extended_feed(parser: &mut ExtendedHandle, bytes: &[u8]) -> bool
-    ensures took { result ≡ true → Took parser.old.owned.held bytes.now parser.new.owned.held }
+pub extern "C" fn hed_extended_feed(parser: &mut Handle, bytes: &[u8]) -> bool
+    ensures took { result ≡ true → Took (extended_of parser.old) bytes.now (extended_of parser.new) }
     ensures refused { result ≡ false → parser.new.owned.held ≡ parser.old.owned.held }
-    ensures no_bytes { bytes.now ≡ [] → parser.old.owned.held ≢ None → result ≡ true }
+    ensures no_bytes { bytes.now ≡ [] → extended_of parser.old ≢ None → result ≡ true }
 {
-    if !parser.live {
+    let Some(held) = parser.get_mut() else {
         return false;
-    }
-    let held = parser.owned.get_mut();
+    };
+    let Some(held) = held.extended_mut() else {
+        return false;
+    };
     held.parser.feed(bytes).is_ok()
 }
 
-/// Takes the item at the front of the waiting text. The answer is 1 if `event` is its event; 0 if no item stands there; 2 if
+/// Takes the item at the front of what is buffered. The answer is 1 if `event` is its event; 0 if no item stands there; 2 if
 /// memory for the bytes of its event is refused, and it still stands there; and 3 if there is no parser.
 #[unsafe(no_mangle)]
 pub extern "C" fn hed_extended_next(
-    parser: &mut ExtendedHandle,
+    parser: &mut Handle,
     more: bool,
     event: &mut CExtendedEvent,
 ) -> u32
     ensures answers { result ≤ 3 }
-    ensures none { result ≡ NEXT_NONE → Rests parser.old.owned.held more }
-    ensures event { result ≡ NEXT_EVENT → Gave parser.old.owned.held more event.new parser.new.owned.held }
-    ensures refused { result ≡ NEXT_NO_MEMORY → NeedsMemoryNext parser.old.owned.held more }
-    ensures no_parser { result ≡ NEXT_NO_PARSER ↔ (parser.old.owned.held ≡ None) }
+    ensures none { result ≡ NEXT_NONE → Rests (extended_of parser.old) more }
+    ensures event { result ≡ NEXT_EVENT → Gave (extended_of parser.old) more event.new (extended_of parser.new) }
+    ensures refused { result ≡ NEXT_NO_MEMORY → NeedsMemoryNext (extended_of parser.old) more }
+    ensures no_parser { result ≡ NEXT_NO_PARSER ↔ (extended_of parser.old ≡ None) }
     ensures same { result ≢ NEXT_EVENT → parser.new.owned.held ≡ parser.old.owned.held }
     ensures event_same { result ≢ NEXT_EVENT → event.new ≡ event.old }
 {
-    if !parser.live {
+    let Some(held) = parser.get_mut() else {
         return NEXT_NO_PARSER;
-    }
-    let held = parser.owned.get_mut();
+    };
+    let Some(held) = held.extended_mut() else {
+        return NEXT_NO_PARSER;
+    };
     match held.next(more) {
         Ok(Some(next)) => {
             *event = next;
@@ -107,89 +110,99 @@ pub extern "C" fn hed_extended_next(
 
 /// Copies the bytes of the last event that brought bytes, as many of them as `out` has room for, and returns how many they are.
 #[unsafe(no_mangle)]
-pub extern "C" fn hed_extended_text(parser: &mut ExtendedHandle, out: &mut [u8]) -> usize
+pub extern "C" fn hed_extended_text(parser: &mut Handle, out: &mut [u8]) -> usize
     ensures same { parser.new.owned ≡ parser.old.owned }
-    ensures len { result ≡ length (kept parser.old.owned.held) }
-    ensures bytes { out.new ≡ copied (kept parser.old.owned.held) out.old }
+    ensures len { result ≡ length (kept (extended_of parser.old)) }
+    ensures bytes { out.new ≡ copied (kept (extended_of parser.old)) out.old }
 {
-    if !parser.live {
+    let Some(held) = parser.get_mut() else {
         return 0;
-    }
-    let held = parser.owned.get_mut();
-    held.copy_text(out)
+    };
+    let Some(held) = held.extended_mut() else {
+        return 0;
+    };
+    copy_prefix(held.text.as_slice(), out)
 }
 
 /// Frees the bytes of the last event that brought bytes. There are then none.
 #[unsafe(no_mangle)]
-pub extern "C" fn hed_extended_drop_text(alloc: Global, parser: &mut ExtendedHandle)
-    ensures { HasDroppedText parser.old.owned.held parser.new.owned.held }
+pub extern "C" fn hed_extended_drop_text(alloc: Global, parser: &mut Handle)
+    ensures { HasDroppedText (extended_of parser.old) (extended_of parser.new) }
 {
-    if !parser.live {
+    let Some(held) = parser.get_mut() else {
         return;
-    }
-    let held = parser.owned.get_mut();
-    held.drop_text(alloc);
+    };
+    let Some(held) = held.extended_mut() else {
+        return;
+    };
+    held.text = Vec::new(alloc);
 }
 
 /// Frees memory that holds nothing: of the buffer, in which `min_capacity` bytes keep their room, and of the bytes of the last event. What
 /// is buffered, these bytes and all later answers are unchanged.
 #[unsafe(no_mangle)]
-pub extern "C" fn hed_extended_shrink_to(parser: &mut ExtendedHandle, min_capacity: usize)
-    ensures same { IsUnchanged parser.old.owned.held parser.new.owned.held }
+pub extern "C" fn hed_extended_shrink_to(parser: &mut Handle, min_capacity: usize)
+    ensures same { IsUnchanged (extended_of parser.old) (extended_of parser.new) }
 {
-    if !parser.live {
+    let Some(held) = parser.get_mut() else {
         return;
-    }
-    let held = parser.owned.get_mut();
-    held.shrink_to(min_capacity);
+    };
+    let Some(held) = held.extended_mut() else {
+        return;
+    };
+    held.parser.shrink_to(min_capacity);
+    held.text.shrink_to_fit();
 }
 
-/// The length of the waiting text; 0 if there is no parser.
+/// How many bytes are buffered; 0 if there is no parser.
 #[unsafe(no_mangle)]
-pub extern "C" fn hed_extended_waiting_len(parser: &mut ExtendedHandle) -> usize
+pub extern "C" fn hed_extended_waiting_len(parser: &mut Handle) -> usize
     ensures same { parser.new.owned ≡ parser.old.owned }
-    ensures len { result ≡ waiting_len parser.old.owned.held }
+    ensures len { result ≡ waiting_len (extended_of parser.old) }
 {
-    if !parser.live {
+    let Some(held) = parser.get_mut() else {
         return 0;
-    }
-    let held = parser.owned.get_mut();
+    };
+    let Some(held) = held.extended_mut() else {
+        return 0;
+    };
     held.parser.waiting_len()
 }
 
 /// The kind of what stays buffered, once `hed_extended_next` answered 0: 1 for ESC or ESC ESC, 2 for a longer beginning of a sequence, 3
 /// for one of a character, 4 for an open paste, and 0 for nothing or if there is no parser.
 #[unsafe(no_mangle)]
-pub extern "C" fn hed_extended_waiting(parser: &mut ExtendedHandle) -> u32
+pub extern "C" fn hed_extended_waiting(parser: &mut Handle) -> u32
     ensures same { parser.new.owned ≡ parser.old.owned }
-    ensures kind { HasKind parser.old.owned.held result }
+    ensures kind { HasKind (extended_of parser.old) result }
 {
-    if !parser.live {
+    let Some(held) = parser.get_mut() else {
         return WAITING_NOTHING;
-    }
-    let held = parser.owned.get_mut();
+    };
+    let Some(held) = held.extended_mut() else {
+        return WAITING_NOTHING;
+    };
     waiting_number(held.parser.waiting())
 }
 
 /// Takes ESC or ESC ESC, if no more than that is buffered. The answer is 1 if `event` is its event, the Escape key; 0 if something else
 /// is buffered; and 3 if there is no parser.
 #[unsafe(no_mangle)]
-pub extern "C" fn hed_extended_flush_escape(
-    parser: &mut ExtendedHandle,
-    event: &mut CExtendedEvent,
-) -> u32
+pub extern "C" fn hed_extended_flush_escape(parser: &mut Handle, event: &mut CExtendedEvent) -> u32
     ensures answers { result ≤ 3 }
     ensures granted { result ≢ NEXT_NO_MEMORY }
-    ensures when { result ≡ NEXT_EVENT ↔ HasEscape parser.old.owned.held }
-    ensures event { result ≡ NEXT_EVENT → Flushed parser.old.owned.held event.new parser.new.owned.held }
-    ensures no_parser { result ≡ NEXT_NO_PARSER ↔ (parser.old.owned.held ≡ None) }
+    ensures when { result ≡ NEXT_EVENT ↔ HasEscape (extended_of parser.old) }
+    ensures event { result ≡ NEXT_EVENT → Flushed (extended_of parser.old) event.new (extended_of parser.new) }
+    ensures no_parser { result ≡ NEXT_NO_PARSER ↔ (extended_of parser.old ≡ None) }
     ensures same { result ≢ NEXT_EVENT → parser.new.owned.held ≡ parser.old.owned.held }
     ensures event_same { result ≢ NEXT_EVENT → event.new ≡ event.old }
 {
-    if !parser.live {
+    let Some(held) = parser.get_mut() else {
         return NEXT_NO_PARSER;
-    }
-    let held = parser.owned.get_mut();
+    };
+    let Some(held) = held.extended_mut() else {
+        return NEXT_NO_PARSER;
+    };
     match held.flush_escape() {
         Some(escape) => {
             *event = escape;
@@ -199,38 +212,39 @@ pub extern "C" fn hed_extended_flush_escape(
     }
 }
 
-/// Whether the waiting text begins with the start of a paste; false if there is no parser.
+/// Whether what is buffered begins with the start of a paste; false if there is no parser.
 #[unsafe(no_mangle)]
-pub extern "C" fn hed_extended_is_paste_open(parser: &mut ExtendedHandle) -> bool
+pub extern "C" fn hed_extended_is_paste_open(parser: &mut Handle) -> bool
     ensures same { parser.new.owned ≡ parser.old.owned }
-    ensures open { IsTrue result ↔ HasOpenPaste parser.old.owned.held }
+    ensures open { IsTrue result ↔ HasOpenPaste (extended_of parser.old) }
 {
-    if !parser.live {
+    let Some(held) = parser.get_mut() else {
         return false;
-    }
-    let held = parser.owned.get_mut();
+    };
+    let Some(held) = held.extended_mut() else {
+        return false;
+    };
     held.parser.is_paste_open()
 }
 
 /// Ends an open paste where it is. The answer is 1 if `event` is its event, whose text is what came so far; 0 if no paste is open;
 /// 2 if memory for the text is refused; and 3 if there is no parser.
 #[unsafe(no_mangle)]
-pub extern "C" fn hed_extended_end_paste(
-    parser: &mut ExtendedHandle,
-    event: &mut CExtendedEvent,
-) -> u32
+pub extern "C" fn hed_extended_end_paste(parser: &mut Handle, event: &mut CExtendedEvent) -> u32
     ensures answers { result ≤ 3 }
-    ensures none { result ≡ NEXT_NONE → ¬ HasEndlessPaste parser.old.owned.held }
-    ensures event { result ≡ NEXT_EVENT → Ended parser.old.owned.held event.new parser.new.owned.held }
-    ensures refused { result ≡ NEXT_NO_MEMORY → HasEndlessPaste parser.old.owned.held }
-    ensures no_parser { result ≡ NEXT_NO_PARSER ↔ (parser.old.owned.held ≡ None) }
+    ensures none { result ≡ NEXT_NONE → ¬ HasEndlessPaste (extended_of parser.old) }
+    ensures event { result ≡ NEXT_EVENT → Ended (extended_of parser.old) event.new (extended_of parser.new) }
+    ensures refused { result ≡ NEXT_NO_MEMORY → HasEndlessPaste (extended_of parser.old) }
+    ensures no_parser { result ≡ NEXT_NO_PARSER ↔ (extended_of parser.old ≡ None) }
     ensures same { result ≢ NEXT_EVENT → parser.new.owned.held ≡ parser.old.owned.held }
     ensures event_same { result ≢ NEXT_EVENT → event.new ≡ event.old }
 {
-    if !parser.live {
+    let Some(held) = parser.get_mut() else {
         return NEXT_NO_PARSER;
-    }
-    let held = parser.owned.get_mut();
+    };
+    let Some(held) = held.extended_mut() else {
+        return NEXT_NO_PARSER;
+    };
     match held.end_paste() {
         Ok(Some(paste)) => {
             *event = paste;
@@ -243,13 +257,15 @@ pub extern "C" fn hed_extended_end_paste(
 
 /// Forgets what is buffered, and returns how many bytes these were; 0 if there is no parser.
 #[unsafe(no_mangle)]
-pub extern "C" fn hed_extended_reset(parser: &mut ExtendedHandle) -> usize
-    ensures len { result ≡ waiting_len parser.old.owned.held }
-    ensures reset { IsReset parser.old.owned.held parser.new.owned.held }
+pub extern "C" fn hed_extended_reset(parser: &mut Handle) -> usize
+    ensures len { result ≡ waiting_len (extended_of parser.old) }
+    ensures reset { IsReset (extended_of parser.old) (extended_of parser.new) }
 {
-    if !parser.live {
+    let Some(held) = parser.get_mut() else {
         return 0;
-    }
-    let held = parser.owned.get_mut();
+    };
+    let Some(held) = held.extended_mut() else {
+        return 0;
+    };
     held.parser.reset()
 }

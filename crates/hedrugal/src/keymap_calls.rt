@@ -1,11 +1,13 @@
 // The calls of a key map.
 ghost use Rattle.std.specs.Prelude.{◌≡◌, ◌≢◌, ◌≤◌, ◌↔◌, true, false, None};
+ghost use Rattle.hedrugal.specs.Handles.{map_of};
 ghost use Rattle.hedrugal.specs.KeymapCalls.{Finds, Inserted, IsEmpty, keymap_len};
 
 use crate::bindings::Bindings;
-use crate::keymap_handle::KeymapHandle;
+use crate::handle::Handle;
+use crate::held::Held;
 use std::alloc::Global;
-use termwiz_input::keymap::Found;
+use termwiz_input::keymap::{Found, KeyMap};
 
 // The answers of `hed_keymap_lookup`.
 const FOUND_NONE: u32 = 0;
@@ -30,38 +32,39 @@ pub struct CMatch {
 
 /// Makes an empty key map, and frees the one that was there. If memory is refused, the answer is false and nothing changes.
 #[unsafe(no_mangle)]
-pub extern "C" fn hed_keymap_init(alloc: Global, map: &mut KeymapHandle) -> bool
-    ensures made { result ≡ true → IsEmpty map.new.owned.held }
+pub extern "C" fn hed_keymap_init(alloc: Global, map: &mut Handle) -> bool
+    ensures made { result ≡ true → IsEmpty (map_of map.new) }
     ensures refused { result ≡ false → map.new.owned.held ≡ map.old.owned.held }
 {
-    let Ok(block) = Box::new(alloc, Bindings::new(alloc)) else {
-        return false;
-    };
-    let before = map.take(alloc);
-    drop(before);
-    map.put(block);
-    true
+    map.replace(
+        alloc,
+        Held::Keymap(Bindings {
+            map: KeyMap::new(alloc),
+        }),
+    )
 }
 
 /// Frees the key map, if there is one, and leaves none.
 #[unsafe(no_mangle)]
-pub extern "C" fn hed_keymap_free(alloc: Global, map: &mut KeymapHandle)
+pub extern "C" fn hed_keymap_free(alloc: Global, map: &mut Handle)
     ensures { map.new.owned.held ≡ None }
 {
-    drop(map.take(alloc));
+    map.free(alloc);
 }
 
 /// Sets the value of a key, in place of the one that it has, if any. If memory is refused, or there is no map, the answer is false and
 /// nothing changes.
 #[unsafe(no_mangle)]
-pub extern "C" fn hed_keymap_insert(map: &mut KeymapHandle, key: &[u8], value: u64) -> bool
-    ensures inserted { result ≡ true → Inserted map.old.owned.held key.now value map.new.owned.held }
+pub extern "C" fn hed_keymap_insert(map: &mut Handle, key: &[u8], value: u64) -> bool
+    ensures inserted { result ≡ true → Inserted (map_of map.old) key.now value (map_of map.new) }
     ensures refused { result ≡ false → map.new.owned.held ≡ map.old.owned.held }
 {
-    if !map.live {
+    let Some(held) = map.get_mut() else {
         return false;
-    }
-    let held = map.owned.get_mut();
+    };
+    let Some(held) = held.map_mut() else {
+        return false;
+    };
     held.map.insert(key, value).is_ok()
 }
 
@@ -70,24 +73,26 @@ pub extern "C" fn hed_keymap_insert(map: &mut KeymapHandle, key: &[u8], value: u
 /// is so; and 4 if there is no map.
 #[unsafe(no_mangle)]
 pub extern "C" fn hed_keymap_lookup(
-    map: &mut KeymapHandle,
+    map: &mut Handle,
     text: &[u8],
     maybe_more: bool,
     found: &mut CMatch,
 ) -> u32
     ensures answers { result ≤ 4 }
-    ensures none { result ≡ FOUND_NONE → Finds map.old.owned.held text.now maybe_more Found.None }
-    ensures exact { result ≡ FOUND_EXACT → Finds map.old.owned.held text.now maybe_more (Found.Exact found.new.len found.new.value) }
-    ensures ambiguous { result ≡ FOUND_AMBIGUOUS → Finds map.old.owned.held text.now maybe_more (Found.Ambiguous found.new.len found.new.value) }
-    ensures need_data { result ≡ FOUND_NEED_DATA → Finds map.old.owned.held text.now maybe_more Found.NeedData }
-    ensures no_map { result ≡ FOUND_NO_MAP ↔ (map.old.owned.held ≡ None) }
+    ensures none { result ≡ FOUND_NONE → Finds (map_of map.old) text.now maybe_more Found.None }
+    ensures exact { result ≡ FOUND_EXACT → Finds (map_of map.old) text.now maybe_more (Found.Exact found.new.len found.new.value) }
+    ensures ambiguous { result ≡ FOUND_AMBIGUOUS → Finds (map_of map.old) text.now maybe_more (Found.Ambiguous found.new.len found.new.value) }
+    ensures need_data { result ≡ FOUND_NEED_DATA → Finds (map_of map.old) text.now maybe_more Found.NeedData }
+    ensures no_map { result ≡ FOUND_NO_MAP ↔ (map_of map.old ≡ None) }
     ensures same { map.new.owned ≡ map.old.owned }
     ensures match_same { result ≢ FOUND_EXACT → result ≢ FOUND_AMBIGUOUS → found.new ≡ found.old }
 {
-    if !map.live {
+    let Some(held) = map.get_mut() else {
         return FOUND_NO_MAP;
-    }
-    let held = map.owned.get_mut();
+    };
+    let Some(held) = held.map_mut() else {
+        return FOUND_NO_MAP;
+    };
     match held.lookup(text, maybe_more) {
         Found::None => FOUND_NONE,
         Found::Exact(len, value) => {
@@ -104,13 +109,15 @@ pub extern "C" fn hed_keymap_lookup(
 
 /// The number of keys; 0 if there is no map.
 #[unsafe(no_mangle)]
-pub extern "C" fn hed_keymap_len(map: &mut KeymapHandle) -> usize
+pub extern "C" fn hed_keymap_len(map: &mut Handle) -> usize
     ensures same { map.new.owned ≡ map.old.owned }
-    ensures len { result ≡ keymap_len map.old.owned.held }
+    ensures len { result ≡ keymap_len (map_of map.old) }
 {
-    if !map.live {
+    let Some(held) = map.get_mut() else {
         return 0;
-    }
-    let held = map.owned.get_mut();
+    };
+    let Some(held) = held.map_mut() else {
+        return 0;
+    };
     held.map.len()
 }

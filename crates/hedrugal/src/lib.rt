@@ -10,6 +10,7 @@ ghost use Rattle.std.specs.Prelude.{◌≡◌, ◌≢◌, ◌≤◌, ◌↔◌, 
 ghost use Rattle.event_text.specs.Names.{variant_name};
 ghost use Rattle.termwiz_input.specs.KeyCode.{KeyCode as Key};
 ghost use Rattle.hedrugal.specs.Calls.{Ended, Flushed, Gave, HasDroppedPaste, HasEndlessPaste, HasEscape, HasKind, HasOpenPaste, HasPasteNext, IsFresh, IsReset, IsUnchanged, Rests, Took, copied, pasted, waiting_len, waiting_number};
+ghost use Rattle.hedrugal.specs.Handles.{parser_of};
 ghost use Rattle.hedrugal.specs.Keys.{IsNoKey, key_number};
 ghost use Rattle.hedrugal.specs.Presses.{HasNoText, IsBad, Wrote};
 
@@ -20,31 +21,29 @@ mod events;
 mod extended_and_text;
 mod extended_calls;
 mod extended_events;
-mod extended_handle;
+mod handle;
+mod held;
 mod key_reports;
 mod keymap_calls;
-mod keymap_handle;
 mod keys;
 mod kitty_calls;
 mod modes;
-mod owned_extended;
-mod owned_keymap;
-mod owned_parser;
+mod owned;
 mod parser_and_paste;
-mod parser_handle;
 mod raw_box;
 mod sending;
 mod sharing_calls;
 
 use crate::copying::{copy_prefix, copy_with_zero};
 use crate::events::CEvent;
+use crate::handle::Handle;
+use crate::held::Held;
 use crate::keys::key_at;
 use crate::modes::{CModes, press_of};
 use crate::parser_and_paste::ParserAndPaste;
-use crate::parser_handle::ParserHandle;
 use event_text::variant_name;
 use std::alloc::Global;
-use termwiz_input::input::{EncodeError, Waiting};
+use termwiz_input::input::{EncodeError, InputParser, Waiting};
 
 // The version of the library, which the header and the other packages have too.
 const VERSION_MAJOR: u32 = 0;
@@ -88,55 +87,58 @@ const ENCODED_BAD_TEXT: u32 = 5;
 
 /// Makes a parser, and frees the one that was there. If memory is refused, the answer is false and nothing changes.
 #[unsafe(no_mangle)]
-pub extern "C" fn hed_parser_init(alloc: Global, parser: &mut ParserHandle) -> bool
-    ensures made { result ≡ true → IsFresh parser.new.owned.held }
+pub extern "C" fn hed_parser_init(alloc: Global, parser: &mut Handle) -> bool
+    ensures made { result ≡ true → IsFresh (parser_of parser.new) }
     ensures refused { result ≡ false → parser.new.owned.held ≡ parser.old.owned.held }
 {
-    let Ok(held) = ParserAndPaste::new(alloc) else {
+    let Ok(made) = InputParser::new(alloc) else {
         return false;
     };
-    parser.replace(alloc, held)
+    parser.replace(alloc, Held::Parser(ParserAndPaste::of(alloc, made)))
 }
 
 /// Frees the parser, if there is one, and leaves none.
 #[unsafe(no_mangle)]
-pub extern "C" fn hed_parser_free(alloc: Global, parser: &mut ParserHandle)
+pub extern "C" fn hed_parser_free(alloc: Global, parser: &mut Handle)
     ensures { parser.new.owned.held ≡ None }
 {
-    drop(parser.take(alloc));
+    parser.free(alloc);
 }
 
-/// Appends bytes to the waiting text. If memory is refused, or there is no parser, the answer is false and nothing changes. No bytes
-/// need no memory.
+/// Buffers bytes. If memory is refused, or there is no parser, the answer is false and nothing changes. No bytes need no memory.
 #[unsafe(no_mangle)]
-pub extern "C" fn hed_parser_feed(parser: &mut ParserHandle, bytes: &[u8]) -> bool
-    ensures took { result ≡ true → Took parser.old.owned.held bytes.now parser.new.owned.held }
+pub extern "C" fn hed_parser_feed(parser: &mut Handle, bytes: &[u8]) -> bool
+    ensures took { result ≡ true → Took (parser_of parser.old) bytes.now (parser_of parser.new) }
     ensures refused { result ≡ false → parser.new.owned.held ≡ parser.old.owned.held }
-    ensures no_bytes { bytes.now ≡ [] → parser.old.owned.held ≢ None → result ≡ true }
+    ensures no_bytes { bytes.now ≡ [] → parser_of parser.old ≢ None → result ≡ true }
 {
-    if !parser.live {
+    let Some(held) = parser.get_mut() else {
         return false;
-    }
-    let held = parser.owned.get_mut();
+    };
+    let Some(held) = held.parser_mut() else {
+        return false;
+    };
     held.parser.feed(bytes).is_ok()
 }
 
-/// Takes the item at the front of the waiting text. The answer is 1 if `event` is its event; 0 if no item stands there; 2 if
+/// Takes the item at the front of what is buffered. The answer is 1 if `event` is its event; 0 if no item stands there; 2 if
 /// memory for the text of a paste is refused, and the paste still stands there; and 3 if there is no parser.
 #[unsafe(no_mangle)]
-pub extern "C" fn hed_parser_next(parser: &mut ParserHandle, more: bool, event: &mut CEvent) -> u32
+pub extern "C" fn hed_parser_next(parser: &mut Handle, more: bool, event: &mut CEvent) -> u32
     ensures answers { result ≤ 3 }
-    ensures none { result ≡ NEXT_NONE → Rests parser.old.owned.held more }
-    ensures event { result ≡ NEXT_EVENT → Gave parser.old.owned.held more event.new parser.new.owned.held }
-    ensures refused { result ≡ NEXT_NO_MEMORY → HasPasteNext parser.old.owned.held more }
-    ensures no_parser { result ≡ NEXT_NO_PARSER ↔ (parser.old.owned.held ≡ None) }
+    ensures none { result ≡ NEXT_NONE → Rests (parser_of parser.old) more }
+    ensures event { result ≡ NEXT_EVENT → Gave (parser_of parser.old) more event.new (parser_of parser.new) }
+    ensures refused { result ≡ NEXT_NO_MEMORY → HasPasteNext (parser_of parser.old) more }
+    ensures no_parser { result ≡ NEXT_NO_PARSER ↔ (parser_of parser.old ≡ None) }
     ensures same { result ≢ NEXT_EVENT → parser.new.owned.held ≡ parser.old.owned.held }
     ensures event_same { result ≢ NEXT_EVENT → event.new ≡ event.old }
 {
-    if !parser.live {
+    let Some(held) = parser.get_mut() else {
         return NEXT_NO_PARSER;
-    }
-    let held = parser.owned.get_mut();
+    };
+    let Some(held) = held.parser_mut() else {
+        return NEXT_NO_PARSER;
+    };
     match held.next(more) {
         Ok(Some(next)) => {
             *event = next;
@@ -149,41 +151,47 @@ pub extern "C" fn hed_parser_next(parser: &mut ParserHandle, more: bool, event: 
 
 /// Copies the text of the last paste that was taken, as much of it as `out` has room for, and returns its whole length.
 #[unsafe(no_mangle)]
-pub extern "C" fn hed_parser_paste(parser: &mut ParserHandle, out: &mut [u8]) -> usize
+pub extern "C" fn hed_parser_paste(parser: &mut Handle, out: &mut [u8]) -> usize
     ensures same { parser.new.owned ≡ parser.old.owned }
-    ensures len { result ≡ length (pasted parser.old.owned.held) }
-    ensures bytes { out.new ≡ copied (pasted parser.old.owned.held) out.old }
+    ensures len { result ≡ length (pasted (parser_of parser.old)) }
+    ensures bytes { out.new ≡ copied (pasted (parser_of parser.old)) out.old }
 {
-    if !parser.live {
+    let Some(held) = parser.get_mut() else {
         return 0;
-    }
-    let held = parser.owned.get_mut();
-    held.copy_pasted(out)
+    };
+    let Some(held) = held.parser_mut() else {
+        return 0;
+    };
+    copy_prefix(held.pasted.as_bytes(), out)
 }
 
-/// The length of the waiting text; 0 if there is no parser.
+/// How many bytes are buffered; 0 if there is no parser.
 #[unsafe(no_mangle)]
-pub extern "C" fn hed_parser_waiting_len(parser: &mut ParserHandle) -> usize
+pub extern "C" fn hed_parser_waiting_len(parser: &mut Handle) -> usize
     ensures same { parser.new.owned ≡ parser.old.owned }
-    ensures len { result ≡ waiting_len parser.old.owned.held }
+    ensures len { result ≡ waiting_len (parser_of parser.old) }
 {
-    if !parser.live {
+    let Some(held) = parser.get_mut() else {
         return 0;
-    }
-    let held = parser.owned.get_mut();
+    };
+    let Some(held) = held.parser_mut() else {
+        return 0;
+    };
     held.parser.waiting_len()
 }
 
-/// Whether the waiting text begins with the start of a paste; false if there is no parser.
+/// Whether what is buffered begins with the start of a paste; false if there is no parser.
 #[unsafe(no_mangle)]
-pub extern "C" fn hed_parser_is_paste_open(parser: &mut ParserHandle) -> bool
+pub extern "C" fn hed_parser_is_paste_open(parser: &mut Handle) -> bool
     ensures same { parser.new.owned ≡ parser.old.owned }
-    ensures open { IsTrue result ↔ HasOpenPaste parser.old.owned.held }
+    ensures open { IsTrue result ↔ HasOpenPaste (parser_of parser.old) }
 {
-    if !parser.live {
+    let Some(held) = parser.get_mut() else {
         return false;
-    }
-    let held = parser.owned.get_mut();
+    };
+    let Some(held) = held.parser_mut() else {
+        return false;
+    };
     held.parser.is_paste_open()
 }
 
@@ -204,33 +212,37 @@ fn waiting_number(kind: Waiting) -> u32
 /// The kind of what stays buffered, once `hed_parser_next` answered 0: 1 for ESC or ESC ESC, 2 for a longer beginning of a sequence, 3 for
 /// one of a character, 4 for an open paste, and 0 for nothing or if there is no parser.
 #[unsafe(no_mangle)]
-pub extern "C" fn hed_parser_waiting(parser: &mut ParserHandle) -> u32
+pub extern "C" fn hed_parser_waiting(parser: &mut Handle) -> u32
     ensures same { parser.new.owned ≡ parser.old.owned }
-    ensures kind { HasKind parser.old.owned.held result }
+    ensures kind { HasKind (parser_of parser.old) result }
 {
-    if !parser.live {
+    let Some(held) = parser.get_mut() else {
         return WAITING_NOTHING;
-    }
-    let held = parser.owned.get_mut();
+    };
+    let Some(held) = held.parser_mut() else {
+        return WAITING_NOTHING;
+    };
     waiting_number(held.parser.waiting())
 }
 
 /// Takes ESC or ESC ESC, if no more than that is buffered. The answer is 1 if `event` is its event, the Escape key; 0 if something else
 /// is buffered; and 3 if there is no parser.
 #[unsafe(no_mangle)]
-pub extern "C" fn hed_parser_flush_escape(parser: &mut ParserHandle, event: &mut CEvent) -> u32
+pub extern "C" fn hed_parser_flush_escape(parser: &mut Handle, event: &mut CEvent) -> u32
     ensures answers { result ≤ 3 }
     ensures granted { result ≢ NEXT_NO_MEMORY }
-    ensures when { result ≡ NEXT_EVENT ↔ HasEscape parser.old.owned.held }
-    ensures event { result ≡ NEXT_EVENT → Flushed parser.old.owned.held event.new parser.new.owned.held }
-    ensures no_parser { result ≡ NEXT_NO_PARSER ↔ (parser.old.owned.held ≡ None) }
+    ensures when { result ≡ NEXT_EVENT ↔ HasEscape (parser_of parser.old) }
+    ensures event { result ≡ NEXT_EVENT → Flushed (parser_of parser.old) event.new (parser_of parser.new) }
+    ensures no_parser { result ≡ NEXT_NO_PARSER ↔ (parser_of parser.old ≡ None) }
     ensures same { result ≢ NEXT_EVENT → parser.new.owned.held ≡ parser.old.owned.held }
     ensures event_same { result ≢ NEXT_EVENT → event.new ≡ event.old }
 {
-    if !parser.live {
+    let Some(held) = parser.get_mut() else {
         return NEXT_NO_PARSER;
-    }
-    let held = parser.owned.get_mut();
+    };
+    let Some(held) = held.parser_mut() else {
+        return NEXT_NO_PARSER;
+    };
     match held.flush_escape() {
         Some(escape) => {
             *event = escape;
@@ -243,19 +255,21 @@ pub extern "C" fn hed_parser_flush_escape(parser: &mut ParserHandle, event: &mut
 /// Ends an open paste where it is. The answer is 1 if `event` is its event, whose text is what came so far; 0 if no paste is open;
 /// 2 if memory for the text is refused; and 3 if there is no parser.
 #[unsafe(no_mangle)]
-pub extern "C" fn hed_parser_end_paste(parser: &mut ParserHandle, event: &mut CEvent) -> u32
+pub extern "C" fn hed_parser_end_paste(parser: &mut Handle, event: &mut CEvent) -> u32
     ensures answers { result ≤ 3 }
-    ensures none { result ≡ NEXT_NONE → ¬ HasEndlessPaste parser.old.owned.held }
-    ensures event { result ≡ NEXT_EVENT → Ended parser.old.owned.held event.new parser.new.owned.held }
-    ensures refused { result ≡ NEXT_NO_MEMORY → HasEndlessPaste parser.old.owned.held }
-    ensures no_parser { result ≡ NEXT_NO_PARSER ↔ (parser.old.owned.held ≡ None) }
+    ensures none { result ≡ NEXT_NONE → ¬ HasEndlessPaste (parser_of parser.old) }
+    ensures event { result ≡ NEXT_EVENT → Ended (parser_of parser.old) event.new (parser_of parser.new) }
+    ensures refused { result ≡ NEXT_NO_MEMORY → HasEndlessPaste (parser_of parser.old) }
+    ensures no_parser { result ≡ NEXT_NO_PARSER ↔ (parser_of parser.old ≡ None) }
     ensures same { result ≢ NEXT_EVENT → parser.new.owned.held ≡ parser.old.owned.held }
     ensures event_same { result ≢ NEXT_EVENT → event.new ≡ event.old }
 {
-    if !parser.live {
+    let Some(held) = parser.get_mut() else {
         return NEXT_NO_PARSER;
-    }
-    let held = parser.owned.get_mut();
+    };
+    let Some(held) = held.parser_mut() else {
+        return NEXT_NO_PARSER;
+    };
     match held.end_paste() {
         Ok(Some(paste)) => {
             *event = paste;
@@ -268,40 +282,47 @@ pub extern "C" fn hed_parser_end_paste(parser: &mut ParserHandle, event: &mut CE
 
 /// Forgets what is buffered, and returns how many bytes these were; 0 if there is no parser.
 #[unsafe(no_mangle)]
-pub extern "C" fn hed_parser_reset(parser: &mut ParserHandle) -> usize
-    ensures len { result ≡ waiting_len parser.old.owned.held }
-    ensures reset { IsReset parser.old.owned.held parser.new.owned.held }
+pub extern "C" fn hed_parser_reset(parser: &mut Handle) -> usize
+    ensures len { result ≡ waiting_len (parser_of parser.old) }
+    ensures reset { IsReset (parser_of parser.old) (parser_of parser.new) }
 {
-    if !parser.live {
+    let Some(held) = parser.get_mut() else {
         return 0;
-    }
-    let held = parser.owned.get_mut();
+    };
+    let Some(held) = held.parser_mut() else {
+        return 0;
+    };
     held.parser.reset()
 }
 
 /// Frees the text of the last paste that was taken, which is then empty.
 #[unsafe(no_mangle)]
-pub extern "C" fn hed_parser_drop_paste(alloc: Global, parser: &mut ParserHandle)
-    ensures { HasDroppedPaste parser.old.owned.held parser.new.owned.held }
+pub extern "C" fn hed_parser_drop_paste(alloc: Global, parser: &mut Handle)
+    ensures { HasDroppedPaste (parser_of parser.old) (parser_of parser.new) }
 {
-    if !parser.live {
+    let Some(held) = parser.get_mut() else {
         return;
-    }
-    let held = parser.owned.get_mut();
-    held.drop_paste(alloc);
+    };
+    let Some(held) = held.parser_mut() else {
+        return;
+    };
+    held.pasted = String::new(alloc);
 }
 
 /// Frees memory that holds nothing: of the buffer, in which `min_capacity` bytes keep their room, and of the text of the last paste. What
 /// is buffered, that text and all later answers are unchanged.
 #[unsafe(no_mangle)]
-pub extern "C" fn hed_parser_shrink_to(parser: &mut ParserHandle, min_capacity: usize)
-    ensures same { IsUnchanged parser.old.owned.held parser.new.owned.held }
+pub extern "C" fn hed_parser_shrink_to(parser: &mut Handle, min_capacity: usize)
+    ensures same { IsUnchanged (parser_of parser.old) (parser_of parser.new) }
 {
-    if !parser.live {
+    let Some(held) = parser.get_mut() else {
         return;
-    }
-    let held = parser.owned.get_mut();
-    held.shrink_to(min_capacity);
+    };
+    let Some(held) = held.parser_mut() else {
+        return;
+    };
+    held.parser.shrink_to(min_capacity);
+    held.pasted.shrink_to_fit();
 }
 
 /// Encodes a key that is pressed while `modifiers` are held, or that is up. The answer is 0 if `out` has as much of the text as it

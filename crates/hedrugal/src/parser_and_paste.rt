@@ -26,13 +26,6 @@ pub struct ParserAndPaste {
 }
 
 impl ParserAndPaste {
-    pub(crate) fn new(alloc: Global) -> Result<ParserAndPaste, AllocError>
-        ensures waiting { IfOk result (λ held. held.parser ≡ []) }
-        ensures pasted { IfOk result (λ held. string_bytes held.pasted ≡ []) }
-    {
-        Ok(ParserAndPaste::of(alloc, InputParser::new(alloc)?))
-    }
-
     // The parser, with no text of a paste.
     pub(crate) fn of(alloc: Global, parser: InputParser) -> ParserAndPaste
         ensures waiting { result.parser ≡ parser }
@@ -106,23 +99,6 @@ impl ParserAndPaste {
         }
     }
 
-    // Frees the text of the last paste.
-    pub(crate) fn drop_paste(&mut self, alloc: Global)
-        ensures text { string_bytes self.new.pasted ≡ [] }
-        ensures parser { self.new.parser ≡ self.old.parser }
-    {
-        self.pasted = String::new(alloc);
-    }
-
-    // Frees memory that holds nothing: of the buffer beyond `min_capacity` bytes, and of the text of the last paste.
-    pub(crate) fn shrink_to(&mut self, min_capacity: usize)
-        ensures parser { self.new.parser ≡ self.old.parser }
-        ensures pasted { string_bytes self.new.pasted ≡ string_bytes self.old.pasted }
-    {
-        self.parser.shrink_to(min_capacity);
-        self.pasted.shrink_to_fit();
-    }
-
     // Copies as much of the row at a place as `out` has room for, shows its key, and returns the row's length; 0 if no row is there.
     pub(crate) fn copy_row(&self, place: usize, out: &mut [u8], event: &mut CEvent) -> usize
         ensures row { (row : List ℕ) (key : KeyEvent) → IsRowAt place row key
@@ -151,13 +127,5 @@ impl ParserAndPaste {
             count: found.rows.end - found.rows.start,
             with_alt: found.with_alt,
         }
-    }
-
-    // Copies as much of the last paste's text as `out` has room for, and returns its whole length.
-    pub(crate) fn copy_pasted(&self, out: &mut [u8]) -> usize
-        ensures len { result ≡ length (string_bytes self.now.pasted) }
-        ensures bytes { out.new ≡ copied (string_bytes self.now.pasted) out.old }
-    {
-        copy_prefix(self.pasted.as_bytes(), out)
     }
 }
