@@ -1,5 +1,5 @@
 -- A reader of whole texts that stand for one key, by the rows of a few rules.
-use Rattle.std.proofs.Common.{◌≡◌, ◌≢◌, ◌⊎◌, ⊎_elim, ℕ, suc, ◌<◌, ◌≤◌, Bool, true, false, List, [], ◌∷◌, ◌++◌, map, filter, flat_map, Option, Some, None, refl, sym, subst, arith, Contains, nat_lt, bytes_eq, ◌==◌, ◌&&◌, ◌||◌, encode_utf8}
+use Rattle.std.proofs.Common.{◌≡◌, ◌≢◌, ◌⊎◌, ⊎_elim, ℕ, ◌<◌, ◌≤◌, Bool, true, false, List, [], ◌∷◌, ◌++◌, map, filter, flat_map, Option, Some, None, refl, sym, subst, arith, Contains, nat_lt, bytes_eq, ◌==◌, ◌&&◌, ◌||◌, encode_utf8}
 use Rattle.std.specs.Map.{lookup}
 use Rattle.std.specs.Option.{option_map, option_or}
 use Rattle.std.specs.Prelude.{if◌then◌else◌}
@@ -7,7 +7,7 @@ use Rattle.std.proofs.Math.Utf8.{low_scalar}
 use Rattle.std.proofs.lemmas.Bool.{and_parts}
 use Rattle.std.proofs.lemmas.Bool.Decides.{nat_tests}
 use Rattle.std.proofs.lemmas.Str.{encode_ascii}
-use Rattle.std.proofs.lemmas.List.Elements.{Contains-append_cases}
+use Rattle.std.proofs.lemmas.List.Elements.{Contains-append_left, Contains-append_right, Contains-append_cases}
 use Rattle.std.proofs.lemmas.Map.Views.{Contains-from_lookup}
 use Rattle.std.proofs.lemmas.Slice.Eq.{bytes_eq-Decides}
 use Rattle.termwiz_keys.specs.declared.types.KeyCode.{KeyCode}
@@ -17,13 +17,13 @@ use Rattle.termwiz_keys.specs.declared.types.InputEvent.TheVariants.{Key}
 use Rattle.termwiz_keys.specs.Introducers.{START}
 use Rattle.termwiz_keys.specs.Keys.{plain, with_alt}
 use Rattle.termwiz_keys.specs.FunctionCodes.{function_codes, high_function_codes}
-use Rattle.termwiz_grammar.specs.Table.{TableRow, rows, numbers, function_key_of, csi_u_of, modify_other_key, to_eight, control_letters_rows, backspace_bytes_rows, tab_byte_rows, enter_bytes_rows, escape_byte_rows, alt_letters_rows, alt_bracket_rows, shift_tab_rows, csi_u_rows, modify_other_keys_rows, cursor_keys_rows, modified_cursor_keys_rows, shift_arrows_rows, ctrl_arrows_rows, application_arrows_rows, modified_application_arrows_rows, ss3_function_keys_rows, lettered_function_keys_rows, numbered_function_keys_rows, edit_keys_rows, paste_start_rows, paste_end_rows, modified_edit_keys_rows, high_function_keys_rows, application_home_end_rows, ctrl_shift_tab_rows}
+use Rattle.termwiz_grammar.specs.Table.{TableRow, rows, numbers, function_key_of, csi_u_of, modify_other_key, to_eight, control_letters_rows, backspace_bytes_rows, tab_byte_rows, enter_bytes_rows, escape_byte_rows, alt_letters_rows, alt_bracket_rows, shift_tab_rows, csi_u_rows, modify_other_keys_rows, cursor_keys_rows, modified_cursor_keys_rows, application_arrows_rows, ss3_function_keys_rows, lettered_function_keys_rows, numbered_function_keys_rows, edit_keys_rows, modified_edit_keys_rows, high_function_keys_rows, application_home_end_rows, ctrl_shift_tab_rows}
 use Rattle.termwiz_grammar.specs.Sequences.{IsSequence}
 use Rattle.termwiz_grammar.specs.Sequences.Meaning.{Row}
 use Rattle.termwiz_grammar.specs.Grammar.{Means, IsHead}
 use Rattle.termwiz_grammar.specs.Grammar.Head.{Sequence, Character}
 use Rattle.termwiz_grammar.proofs.lemmas.items.OneHead.{longest_whole}
-use Rattle.termwiz_grammar.proofs.lemmas.lists.ListMembers.{in_flat_map_filter, in_flat_map_filtered, in_first, in_later, joined}
+use Rattle.termwiz_grammar.proofs.lemmas.lists.ListMembers.{in_flat_map_filter, in_flat_map_filtered}
 use Rattle.termwiz_grammar.proofs.lemmas.read_back.WholeTexts.{row_means, alt_means, char_head}
 
 -- the key of the row with these bytes; START has none
@@ -131,35 +131,27 @@ reading_means part text k are e = go (row_key part text) refl
         subst (λ i. Means text false (Key i ∷ []) []) same (row_means text j row.0 row.1)
     go None missing = alt_key_means part text k are (rw missing at e)
 
--- the rules after the first
-abbrev rules : List (List TableRow)
-rules =
-    backspace_bytes_rows ∷ tab_byte_rows ∷ enter_bytes_rows ∷ escape_byte_rows ∷ alt_letters_rows ∷ alt_bracket_rows
-    ∷ ctrl_arrows_rows ∷ application_arrows_rows ∷ modified_application_arrows_rows ∷ ss3_function_keys_rows
-    ∷ application_home_end_rows ∷ cursor_keys_rows ∷ shift_tab_rows ∷ shift_arrows_rows ∷ edit_keys_rows
-    ∷ modified_edit_keys_rows ∷ paste_start_rows ∷ paste_end_rows ∷ modified_cursor_keys_rows
-    ∷ lettered_function_keys_rows ∷ ctrl_shift_tab_rows ∷ numbered_function_keys_rows ∷ high_function_keys_rows
-    ∷ csi_u_rows ∷ modify_other_keys_rows ∷ []
+-- the rows of one list are rows of another, which is joined from it and others
+pub record IsPart (part whole : List TableRow) : Type 0 where
+  pub within : (r : TableRow) → Contains part r → Contains whole r
 
-rows_are_joined : joined control_letters_rows rules ≡ rows
-unfolding rows
-rows_are_joined = refl
+pub whole_part : (part : List TableRow) → IsPart part part
+whole_part part = record { within = λ r h. h }
 
--- the rule at the front of a list, and one of those behind it
-first_rule : (rule : List TableRow) (others : List (List TableRow)) → Contains (rule ∷ others) rule
-first_rule rule others = (0, omega arith, refl)
+pub last_part : (before part : List TableRow) → IsPart part (before ++ part)
+last_part before part = record { within = λ r h. Contains-append_right before part r h }
 
-later_rule : (first rule : List TableRow) (others : List (List TableRow)) → Contains others rule
-    → Contains (first ∷ others) rule
-later_rule first rule others (i, l, e) = (suc i, omega arith, e)
+pub earlier_part : (part before last : List TableRow) → IsPart part before → IsPart part (before ++ last)
+earlier_part part before last is =
+    record { within = λ r h. Contains-append_left before last r (is.within r h) }
 
-rule_rows : (rule : List TableRow) → Contains rules rule → AreRows rule
-rule_rows rule c r h = subst (λ all. Contains all r) rows_are_joined (in_later control_letters_rows rules rule r c h)
+-- to find the rows of one rule among those of the table, by the way in which `rows` joins them
+pub ruleset table_parts = (whole_part, last_part, earlier_part)
 
-control_letters_are : AreRows control_letters_rows
-control_letters_are r h = subst (λ all. Contains all r) rows_are_joined (in_first control_letters_rows rules r h)
+pub part_rows : (part : List TableRow) → IsPart part rows → AreRows part
+part_rows part is r h = is.within r h
 
-both_are : (a b : List TableRow) → AreRows a → AreRows b → AreRows (a ++ b)
+pub both_are : (a b : List TableRow) → AreRows a → AreRows b → AreRows (a ++ b)
 both_are a b p q r h = ⊎_elim (p r) (q r) (Contains-append_cases a b r h)
 
 -- the rows of one code in the rules of all codes
@@ -176,25 +168,25 @@ abbrev high_function_rows_of : ℕ → List TableRow
 high_function_rows_of n = flat_map function_key_of (filter (λ f. f.1 == n) high_function_codes)
 
 pub csi_u_are : (c : ℕ) → AreRows (csi_u_rows_of c)
-unfolding csi_u_rows
-csi_u_are c r h = rule_rows csi_u_rows (search (first_rule, later_rule) depth 30) r
+unfolding rows csi_u_rows
+csi_u_are c r h = part_rows csi_u_rows (search table_parts depth 40) r
     (in_flat_map_filter csi_u_of (λ d. d == c) (numbers 0 128) r h)
 
 other_keys_are : (c : ℕ) → AreRows (other_keys_rows_of c)
-unfolding modify_other_keys_rows
-other_keys_are c r h = rule_rows modify_other_keys_rows (search (first_rule, later_rule) depth 30) r
+unfolding rows modify_other_keys_rows
+other_keys_are c r h = part_rows modify_other_keys_rows (search table_parts depth 40) r
     (in_flat_map_filtered modify_other_key (λ d. d == c) (numbers 0 128) to_eight r h)
 
 function_are : (n : ℕ) → AreRows (function_rows_of n)
-unfolding numbered_function_keys_rows
+unfolding rows numbered_function_keys_rows
 function_are n r h =
-    rule_rows numbered_function_keys_rows (search (first_rule, later_rule) depth 30) r
+    part_rows numbered_function_keys_rows (search table_parts depth 40) r
     (in_flat_map_filter function_key_of (λ f. f.1 == n) function_codes r h)
 
 high_function_are : (n : ℕ) → AreRows (high_function_rows_of n)
-unfolding high_function_keys_rows
+unfolding rows high_function_keys_rows
 high_function_are n r h =
-    rule_rows high_function_keys_rows (search (first_rule, later_rule) depth 30) r
+    part_rows high_function_keys_rows (search table_parts depth 40) r
     (in_flat_map_filter function_key_of (λ f. f.1 == n) high_function_codes r h)
 
 -- rows among which the texts of a key are, after at most one ESC
@@ -211,28 +203,29 @@ rows_for key =
     ++ modified_edit_keys_rows ++ application_home_end_rows
 
 pub rows_for_are : (key : KeyCode) → AreRows (rows_for key)
+unfolding rows
 rows_for_are (Char c) = both_are _ _ (both_are _ _
-    (both_are _ _ control_letters_are (rule_rows alt_letters_rows (search (first_rule, later_rule) depth 30)))
-    (rule_rows alt_bracket_rows (search (first_rule, later_rule) depth 30))) (other_keys_are c)
+    (both_are _ _ (part_rows control_letters_rows (search table_parts depth 40)) (part_rows alt_letters_rows (search table_parts depth 40)))
+    (part_rows alt_bracket_rows (search table_parts depth 40))) (other_keys_are c)
 rows_for_are (Function n) = both_are _ _
-    (both_are _ _ (both_are _ _ (rule_rows ss3_function_keys_rows (search (first_rule, later_rule) depth 30))
-    (rule_rows lettered_function_keys_rows (search (first_rule, later_rule) depth 30))) (function_are n))
+    (both_are _ _ (both_are _ _ (part_rows ss3_function_keys_rows (search table_parts depth 40))
+    (part_rows lettered_function_keys_rows (search table_parts depth 40))) (function_are n))
     (high_function_are n)
 rows_for_are Tab =
-    both_are _ _ (both_are _ _ (both_are _ _ (rule_rows tab_byte_rows (search (first_rule, later_rule) depth 30))
-    (rule_rows shift_tab_rows (search (first_rule, later_rule) depth 30)))
-    (rule_rows ctrl_shift_tab_rows (search (first_rule, later_rule) depth 30))) (other_keys_are 9)
+    both_are _ _ (both_are _ _ (both_are _ _ (part_rows tab_byte_rows (search table_parts depth 40))
+    (part_rows shift_tab_rows (search table_parts depth 40)))
+    (part_rows ctrl_shift_tab_rows (search table_parts depth 40))) (other_keys_are 9)
 rows_for_are Enter =
-    both_are _ _ (rule_rows enter_bytes_rows (search (first_rule, later_rule) depth 30)) (other_keys_are 13)
+    both_are _ _ (part_rows enter_bytes_rows (search table_parts depth 40)) (other_keys_are 13)
 rows_for_are Escape =
-    both_are _ _ (rule_rows escape_byte_rows (search (first_rule, later_rule) depth 30)) (other_keys_are 27)
+    both_are _ _ (part_rows escape_byte_rows (search table_parts depth 40)) (other_keys_are 27)
 rows_for_are Backspace = both_are _ _
-    (both_are _ _ (rule_rows backspace_bytes_rows (search (first_rule, later_rule) depth 30)) (other_keys_are 8))
+    (both_are _ _ (part_rows backspace_bytes_rows (search table_parts depth 40)) (other_keys_are 8))
     (other_keys_are 127)
 rows_for_are key = both_are _ _ (both_are _ _
-    (both_are _ _ (both_are _ _ (both_are _ _ (rule_rows cursor_keys_rows (search (first_rule, later_rule) depth 30))
-    (rule_rows modified_cursor_keys_rows (search (first_rule, later_rule) depth 30)))
-    (rule_rows application_arrows_rows (search (first_rule, later_rule) depth 30)))
-    (rule_rows edit_keys_rows (search (first_rule, later_rule) depth 30)))
-    (rule_rows modified_edit_keys_rows (search (first_rule, later_rule) depth 30)))
-    (rule_rows application_home_end_rows (search (first_rule, later_rule) depth 30))
+    (both_are _ _ (both_are _ _ (both_are _ _ (part_rows cursor_keys_rows (search table_parts depth 40))
+    (part_rows modified_cursor_keys_rows (search table_parts depth 40)))
+    (part_rows application_arrows_rows (search table_parts depth 40)))
+    (part_rows edit_keys_rows (search table_parts depth 40)))
+    (part_rows modified_edit_keys_rows (search table_parts depth 40)))
+    (part_rows application_home_end_rows (search table_parts depth 40))

@@ -1,5 +1,5 @@
 -- A text that is completed to a row means the row's key.
-use Rattle.std.proofs.Common.{◌≡◌, ◌≢◌, inl, inr, ⊎_elim, ℕ, ◌<◌, ◌≤◌, ◌⊎◌, Bool, true, false, List, [], ◌∷◌, ◌++◌, refl, sym, ap, ◌∙◌, subst, append_assoc, append-nil, arith, Contains}
+use Rattle.std.proofs.Common.{◌≡◌, ◌≢◌, inl, inr, ⊎_elim, ℕ, ◌<◌, ◌≤◌, ◌⊎◌, false, List, [], ◌∷◌, ◌++◌, refl, sym, ap, ◌∙◌, subst, arith, Contains}
 use Rattle.termwiz_keymap.specs.Bytes.{Occurs}
 use Rattle.termwiz_keymap.proofs.lemmas.lists.CommonPrefixes.{append-some, append-some_left}
 use Rattle.termwiz_keys.specs.declared.types.KeyEvent.{KeyEvent}
@@ -12,7 +12,7 @@ use Rattle.termwiz_grammar.specs.Sequences.Meaning.{Row}
 use Rattle.termwiz_grammar.specs.Grammar.{IsOpen, Means}
 use Rattle.termwiz_grammar.specs.Grammar.Head.{Sequence}
 use Rattle.termwiz_grammar.specs.Grammar.Item.{lone_escape}
-use Rattle.termwiz_grammar.specs.RowsInOrder.{AreCompletions, IsRowAt}
+use Rattle.termwiz_grammar.specs.RowsInOrder.{IsRowAt}
 use Rattle.termwiz_grammar.proofs.lemmas.items.OneHead.{longest_whole}
 use Rattle.termwiz_grammar.proofs.lemmas.read_back.WholeTexts.{row_means, escape_alone, alt_means}
 use Rattle.termwiz_grammar.proofs.lemmas.table.RowShape.{Bytes}

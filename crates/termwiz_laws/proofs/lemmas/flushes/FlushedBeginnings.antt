@@ -1,21 +1,19 @@
 -- What a flush makes of the beginning of a sequence or of a character, and what a byte does that cuts it short.
 use Rattle.std.proofs.Common.{◌≡◌, ◌≢◌, ◌⊎◌, inl, inr, ⊎_elim, ℕ, ◌-◌, ◌≤◌, ◌<◌, Bool, true, false, List, [], ◌∷◌, ◌++◌, length, refl, sym, ap, ◌∙◌, subst, append_assoc, append-nil, arith, Contains, bytes_eq, ◌||◌, ◌==◌, get_or}
-use Rattle.std.specs.Prelude.{replicate, Some}
+use Rattle.std.specs.Prelude.{replicate}
 use Rattle.std.specs.List.{AllByRecursion}
-use Rattle.std.specs.Map.{lookup}
 use Rattle.std.proofs.lemmas.Bool.{and_parts}
 use Rattle.std.proofs.lemmas.Bool.Decides.{nat_tests}
 use Rattle.std.proofs.lemmas.Map.Views.{Contains-from_lookup}
 use Rattle.std.proofs.lemmas.Slice.Eq.{bytes_eq-Decides}
 use Rattle.std.proofs.lemmas.Str.{encode_ascii}
-use Rattle.termwiz_keymap.specs.Bytes.{Begins}
 use Rattle.termwiz_keymap.proofs.lemmas.lists.CommonPrefixes.{Overlaps, overlap, append-some, true_at_end, true_at_front}
 use Rattle.termwiz_keymap.proofs.lemmas.lists.CommonPrefixes.Overlaps.{within, past}
 use Rattle.termwiz_keys.specs.declared.types.KeyCode.TheVariants.{Char}
 use Rattle.termwiz_keys.specs.declared.types.KeyEvent.{KeyEvent}
 use Rattle.termwiz_keys.specs.declared.types.InputEvent.{InputEvent}
 use Rattle.termwiz_keys.specs.declared.types.InputEvent.TheVariants.{Key}
-use Rattle.termwiz_keys.specs.Introducers.{ESC, CSI, SS3, START}
+use Rattle.termwiz_keys.specs.Introducers.{ESC, CSI, SS3}
 use Rattle.termwiz_keys.specs.Keys.{ALT, escape, key_with, plain, with_alt}
 use Rattle.termwiz_grammar.specs.declared.waiting.Waiting.TheVariants.{Sequence as IsSequenceKind}
 use Rattle.termwiz_grammar.specs.Table.{rows, written_out}
@@ -37,8 +35,8 @@ use Rattle.termwiz_grammar.proofs.lemmas.items.OneHead.{longest_whole}
 use Rattle.termwiz_grammar.proofs.lemmas.items.OneItem.{read_of, steps_once}
 use Rattle.termwiz_grammar.proofs.lemmas.read_back.WholeTexts.{escape_alone}
 use Rattle.termwiz_grammar.proofs.lemmas.waiting.RestShape.{empty_is_rest}
-use Rattle.termwiz_laws.specs.BrokenBytes.{IsBrokenBefore, broken_event, broken_event_with_alt, CutsShort, GoesNoFurther, BrokenByteCutsSequence, BrokenByteCutsCharacter}
-use Rattle.termwiz_laws.specs.Flushes.{IsIntroducer, IsFlushedSequence, FlushOfSequence, FlushOfCharacter}
+use Rattle.termwiz_laws.specs.BrokenBytes.{broken_event, broken_event_with_alt, CutsShort, BrokenByteCutsSequence, BrokenByteCutsCharacter}
+use Rattle.termwiz_laws.specs.Flushes.{IsIntroducer, FlushOfSequence, FlushOfCharacter}
 use Rattle.termwiz_laws.specs.PlainTexts.{keys_of}
 use Rattle.termwiz_laws.proofs.lemmas.broken_bytes.BrokenItems.{broken_then, with_escape_stands}
 use Rattle.termwiz_laws.proofs.lemmas.broken_bytes.CutCharacters.{EndsBefore, first_broken, later_bytes, others_later, cut_steps}

@@ -4,7 +4,7 @@ use Rattle.termwiz_keys.specs.declared.types.KeyEvent.{KeyEvent}
 use Rattle.termwiz_keys.specs.declared.types.InputEvent.{InputEvent}
 use Rattle.termwiz_keys.specs.declared.types.InputEvent.TheVariants.{Key}
 use Rattle.termwiz_keys.specs.Introducers.{ESC}
-use Rattle.termwiz_keys.specs.Keys.{escape, with_alt}
+use Rattle.termwiz_keys.specs.Keys.{escape}
 use Rattle.termwiz_grammar.specs.Sequences.Meaning.{Row}
 use Rattle.termwiz_grammar.specs.Grammar.{Means}
 use Rattle.termwiz_grammar.specs.Grammar.Head.{Sequence}

@@ -1,20 +1,23 @@
 -- No other key reads back.
 use Rattle.std.proofs.Common.{ℕ, refl, Contains, lit<}
 use Rattle.termwiz_keys.specs.declared.types.KeyCode.{KeyCode}
-use Rattle.termwiz_keys.specs.declared.types.KeyCode.TheVariants.{Char, Backspace, Tab, Enter, Escape, PageUp, PageDown, End, Home, LeftArrow, RightArrow, UpArrow, DownArrow, Insert, Delete, Function, ApplicationLeftArrow, ApplicationRightArrow, ApplicationUpArrow, ApplicationDownArrow, InternalPasteStart, InternalPasteEnd}
+use Rattle.termwiz_keys.specs.declared.types.KeyCode.TheVariants.{Char, Backspace, Tab, Enter, Escape, PageUp, PageDown, End, Home, LeftArrow, RightArrow, UpArrow, DownArrow, Insert, Delete, Function, ApplicationLeftArrow, ApplicationRightArrow, ApplicationUpArrow, ApplicationDownArrow}
 use Rattle.termwiz_keys.specs.declared.types.KeyEvent.{KeyEvent}
 use Rattle.termwiz_keys.specs.declared.encode.KeyCodeEncodeModes.{KeyCodeEncodeModes}
+use Rattle.termwiz_keys.specs.KeyCodes.{shifted}
+use Rattle.termwiz_keys.specs.Encoding.{enc, key_text, normal_key, named_key, keypad_text, keypad_number_text, keypad_letter_text}
 use Rattle.termwiz_grammar.specs.Listed.{any_of_three, ReadsBack}
 use Rattle.termwiz_grammar.proofs.lemmas.read_back.KeysReadBack.{read_back}
 use Rattle.termwiz_laws.specs.FurtherKeys.{ReadsBackToo, OnlyTheseReadBack, ListedAreAmongThem}
 use Rattle.termwiz_laws.specs.FurtherKeys.ReadsBackToo.{any_modifiers}
 use Rattle.termwiz_laws.proofs.lemmas.further_keys.FurtherReadings.{bits}
 use Rattle.termwiz_laws.proofs.lemmas.further_keys.SingleKey.{KeyFact, single, single_readable}
-use Rattle.termwiz_laws.proofs.lemmas.further_keys.OtherKeys.{arrow_line, application_line, tab_line, enter_line, two_line, function_range, function_named, no_paste_start, no_paste_end}
+use Rattle.termwiz_laws.proofs.lemmas.further_keys.OtherKeys.{arrow_line, application_line, tab_line, enter_line, two_line, function_range, function_named, nothing_read}
 use Rattle.termwiz_laws.proofs.lemmas.further_keys.CharacterKeys.{character_line}
 
 by_key : (key : KeyCode) (held : ℕ) (modes : KeyCodeEncodeModes) → KeyFact key → Contains any_of_three held
     → ReadsBack key (bits held) modes → ReadsBackToo key held modes
+unfolding enc key_text normal_key named_key shifted keypad_text keypad_number_text keypad_letter_text
 by_key (Char c) held modes fact here back = character_line c held modes fact here back
 by_key Home held modes fact here back = any_modifiers Home held modes (0, lit< tt, refl) here
 by_key End held modes fact here back = any_modifiers End held modes (1, lit< tt, refl) here
@@ -42,9 +45,8 @@ by_key Enter held modes fact here back = enter_line held modes here back
 by_key Escape held modes fact here back = two_line Escape held modes (0, lit< tt, refl) (1, lit< tt, refl) refl here back
 by_key Backspace held modes fact here back =
     two_line Backspace held modes (1, lit< tt, refl) (2, lit< tt, refl) refl here back
-by_key InternalPasteStart held modes fact here back = absurd (no_paste_start held modes back)
-by_key InternalPasteEnd held modes fact here back = absurd (no_paste_end held modes back)
-by_key key held modes fact here back = absurd (cc (fact))
+-- Any other key is one that nothing is sent for, or one of the keypad that no row has.
+by_key key held modes fact here back = absurd (nothing_read key held modes (cc) back)
 
 pub only_these_read_back : OnlyTheseReadBack
 only_these_read_back key modifiers modes back =

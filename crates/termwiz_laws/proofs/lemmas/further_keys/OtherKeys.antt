@@ -10,7 +10,7 @@ use Rattle.std.proofs.lemmas.List.Elements.{All-contains, Contains-append_right}
 use Rattle.std.proofs.lemmas.Str.{encode_same, encode_ascii}
 use Rattle.termwiz_base.specs.declared.modifiers.Modifiers.{Modifiers}
 use Rattle.termwiz_keys.specs.declared.types.KeyCode.{KeyCode}
-use Rattle.termwiz_keys.specs.declared.types.KeyCode.TheVariants.{Backspace, Tab, Enter, Escape, PageUp, PageDown, End, Home, Insert, Delete, Function, InternalPasteStart, InternalPasteEnd}
+use Rattle.termwiz_keys.specs.declared.types.KeyCode.TheVariants.{Backspace, Tab, Enter, Escape, PageUp, PageDown, End, Home, Insert, Delete, Function}
 use Rattle.termwiz_keys.specs.declared.types.KeyEvent.{KeyEvent}
 use Rattle.termwiz_keys.specs.declared.types.InputEvent.TheVariants.{Key}
 use Rattle.termwiz_keys.specs.declared.encode.KeyboardEncoding.{KeyboardEncoding}
@@ -18,7 +18,7 @@ use Rattle.termwiz_keys.specs.declared.encode.KeyboardEncoding.TheVariants.{Xter
 use Rattle.termwiz_keys.specs.declared.encode.KeyCodeEncodeModes.{KeyCodeEncodeModes}
 use Rattle.termwiz_keys.specs.Keys.{NONE, SHIFT, ALT, CTRL, key_with}
 use Rattle.termwiz_keys.specs.KeyCodes.{shifted}
-use Rattle.termwiz_keys.specs.Encoding.{enc, key_text, normal_key, normal_held, shows_shift, named_key, enter_text, keypad_text, is_csi_u, is_level}
+use Rattle.termwiz_keys.specs.Encoding.{enc, key_text, normal_key, normal_held, shows_shift, named_key, enter_text, is_csi_u, is_level}
 use Rattle.termwiz_grammar.specs.Table.{numbers}
 use Rattle.termwiz_grammar.specs.Grammar.{Steps}
 use Rattle.termwiz_grammar.specs.Listed.{any_of_three, ReadsBack}
@@ -35,7 +35,7 @@ use Rattle.termwiz_laws.proofs.lemmas.further_keys.SingleKey.{Plainly, Single, s
 use Rattle.termwiz_laws.proofs.lemmas.further_keys.SingleKey.Plainly.{by_row, by_character, by_broken_byte}
 use Rattle.termwiz_laws.proofs.lemmas.further_keys.SingleKey.Single.{plainly, after_escape}
 use Rattle.termwiz_laws.proofs.lemmas.further_keys.WideReadings as wide
-use Rattle.termwiz_laws.proofs.lemmas.further_keys.WideReadings.{AllOther, none_back, no_char_back, CharsOther, char_test, char_tests, sent_tests, some_test, part_of, rows_beside, application_arrows}
+use Rattle.termwiz_laws.proofs.lemmas.further_keys.WideReadings.{AllOther, none_back, some_test, part_of, rows_beside, application_arrows}
 
 -- what the tests of modes say
 pub csi_true : (e : KeyboardEncoding) → is_csi_u e ≡ true → e ≡ CsiU
@@ -315,16 +315,8 @@ function_named n low high =
     Contains-append_right (Home ∷ End ∷ Insert ∷ Delete ∷ PageUp ∷ PageDown ∷ []) (map (λ m. Function m) (numbers 1 24))
     (Function n) (in_map (λ m. Function m) (numbers 1 24) n number)
 
--- the ends of a paste are keys that nothing is sent for
-start_sends_nothing : (held : ℕ) (modes : KeyCodeEncodeModes) → enc InternalPasteStart (bits held) modes ≡ Some []
-unfolding enc key_text normal_key named_key shifted keypad_text
-start_sends_nothing held modes = refl
-
-end_sends_nothing : (held : ℕ) (modes : KeyCodeEncodeModes) → enc InternalPasteEnd (bits held) modes ≡ Some []
-unfolding enc key_text normal_key named_key shifted keypad_text
-end_sends_nothing held modes = refl
-
-nothing_read : (key : KeyCode) (held : ℕ) (modes : KeyCodeEncodeModes) → enc key (bits held) modes ≡ Some []
+-- a key that nothing is sent for isn't read
+pub nothing_read : (key : KeyCode) (held : ℕ) (modes : KeyCodeEncodeModes) → enc key (bits held) modes ≡ Some []
     → ReadsBack key (bits held) modes → ⊥
 nothing_read key held modes nothing (text, sends, means) =
     let same : text ≡ [] = (let e : Some text ≡ Some [] = sym sends ∙ nothing in cc (e)) in
@@ -332,9 +324,3 @@ nothing_read key held modes nothing (text, sends, means) =
   where
     no_event : Steps [] false (Key (key_with key held) ∷ []) [] → ⊥
     no_event (bytes, rest, stands, splits, none) = empty_is_rest false bytes (Key (key_with key held)) stands
-
-pub no_paste_start : (held : ℕ) (modes : KeyCodeEncodeModes) → ReadsBack InternalPasteStart (bits held) modes → ⊥
-no_paste_start held modes back = nothing_read InternalPasteStart held modes (start_sends_nothing held modes) back
-
-pub no_paste_end : (held : ℕ) (modes : KeyCodeEncodeModes) → ReadsBack InternalPasteEnd (bits held) modes → ⊥
-no_paste_end held modes back = nothing_read InternalPasteEnd held modes (end_sends_nothing held modes) back

@@ -7,12 +7,13 @@ use Rattle.std.proofs.lemmas.Bool.{and_parts, or_cases, ltb-true, eqb-true}
 use Rattle.std.proofs.lemmas.List.Sums.{AllPass-from_list_all}
 use Rattle.std.proofs.lemmas.List.Elements.{All-contains}
 use Rattle.termwiz_keys.specs.declared.types.KeyCode.{KeyCode}
-use Rattle.termwiz_keys.specs.declared.types.KeyCode.TheVariants.{Char, Backspace, Tab, Enter, Escape, PageUp, PageDown, End, Home, LeftArrow, RightArrow, UpArrow, DownArrow, Insert, Delete, Function, ApplicationLeftArrow, ApplicationRightArrow, ApplicationUpArrow, ApplicationDownArrow, InternalPasteStart, InternalPasteEnd}
+use Rattle.termwiz_keys.specs.declared.types.KeyCode.TheVariants.{Char, KeyPadHome, KeyPadEnd, KeyPadPageUp, KeyPadPageDown}
 use Rattle.termwiz_keys.specs.declared.types.KeyEvent.{KeyEvent}
 use Rattle.termwiz_keys.specs.declared.types.InputEvent.{InputEvent}
 use Rattle.termwiz_keys.specs.declared.types.InputEvent.TheVariants.{Key}
 use Rattle.termwiz_keys.specs.Introducers.{ESC}
-use Rattle.termwiz_keys.specs.Keys.{ALT, plain, with_alt}
+use Rattle.termwiz_keys.specs.Keys.{NONE, ALT, plain, with_alt}
+use Rattle.termwiz_keys.specs.Encoding.{keypad_text}
 use Rattle.termwiz_grammar.specs.Table.{TableRow, rows, written_out}
 use Rattle.termwiz_grammar.specs.Sequences.{IsSequence}
 use Rattle.termwiz_grammar.specs.Sequences.Meaning.{Row, Report}
@@ -67,31 +68,19 @@ single text k means = go means.steps
     go (bytes, rest, stands, splits, none) =
         item_single text bytes (Key k) k stands.item (sym (splits ∙ ap (λ r. bytes ++ r) none ∙ append-nil bytes)) refl
 
--- the keys of the table: of the characters only those of ASCII
+-- the text is empty
+abbrev pub is_nothing : List ℕ → Bool
+is_nothing [] = true
+is_nothing (b ∷ text) = false
+
+-- the keys that rows may have: of the characters those of ASCII, and no key of the keypad that has a text
 abbrev pub is_table_key : KeyCode → Bool
 is_table_key (Char c) = nat_lt c 128
-is_table_key Backspace = true
-is_table_key Tab = true
-is_table_key Enter = true
-is_table_key Escape = true
-is_table_key PageUp = true
-is_table_key PageDown = true
-is_table_key End = true
-is_table_key Home = true
-is_table_key LeftArrow = true
-is_table_key RightArrow = true
-is_table_key UpArrow = true
-is_table_key DownArrow = true
-is_table_key Insert = true
-is_table_key Delete = true
-is_table_key (Function n) = true
-is_table_key ApplicationLeftArrow = true
-is_table_key ApplicationRightArrow = true
-is_table_key ApplicationUpArrow = true
-is_table_key ApplicationDownArrow = true
-is_table_key InternalPasteStart = true
-is_table_key InternalPasteEnd = true
-is_table_key other = false
+is_table_key KeyPadHome = false
+is_table_key KeyPadEnd = false
+is_table_key KeyPadPageUp = false
+is_table_key KeyPadPageDown = false
+is_table_key key = is_nothing (keypad_text key NONE)
 
 abbrev pub among : List ℕ → ℕ → Bool
 among xs x = list_any (λ y. y == x) xs
@@ -107,7 +96,7 @@ abbrev row_test : TableRow → Bool
 row_test r = is_table_key r.1.key && among any_of_three r.1.modifiers.0
 
 rows_tested : list_all row_test rows ≡ true
-unfolding written_out
+unfolding written_out keypad_text
 rows_tested = refl
 
 -- what is true of each key that is read

@@ -1,5 +1,5 @@
 -- What the texts of other keys are read as, computed over lists of keys with modifiers.
-use Rattle.std.proofs.Common.{◌≡◌, ◌∙◌, inl, ⊎_elim, ℕ, zero, suc, ℤ, ◌+◌, ◌-◌, ◌<◌, Bool, true, false, not, List, [], ◌∷◌, ◌++◌, map, filter, flat_map, Option, Some, None, refl, sym, ap, subst, arith, Contains, ◌==◌, ◌&&◌, ◌||◌, nat_lt, nat_le}
+use Rattle.std.proofs.Common.{◌≡◌, ◌∙◌, inl, ℕ, zero, suc, ℤ, ◌+◌, ◌-◌, ◌<◌, Bool, true, false, not, List, [], ◌∷◌, ◌++◌, map, filter, flat_map, Option, Some, None, refl, sym, ap, subst, arith, Contains, ◌==◌, ◌&&◌, ◌||◌, nat_lt, nat_le}
 use Rattle.std.specs.Prelude.{codes, if◌then◌else◌}
 use Rattle.std.specs.List.{list_any, list_all}
 use Rattle.std.specs.Option.{option_or}
@@ -7,7 +7,7 @@ use Rattle.std.specs.Char.{is_ascii_lowercase, is_ascii_uppercase, is_ascii_digi
 use Rattle.std.proofs.Math.Utf8.{low_scalar}
 use Rattle.std.proofs.lemmas.Bool.{and_parts, ltb-true, eqb-true, eq-eqb, and_from, not_from_true, not_from_false}
 use Rattle.std.proofs.lemmas.List.Sums.{AllPass-from_list_all}
-use Rattle.std.proofs.lemmas.List.Elements.{All-contains, Contains-append_cases, Contains-append_left, Contains-append_right}
+use Rattle.std.proofs.lemmas.List.Elements.{All-contains, Contains-append_left, Contains-append_right}
 use Rattle.std.proofs.lemmas.Str.{encode_ascii}
 use Rattle.termwiz_keys.specs.declared.types.KeyCode.{KeyCode}
 use Rattle.termwiz_keys.specs.declared.types.KeyCode.TheVariants.{Char, Backspace, Tab, Enter, Escape, LeftArrow, RightArrow, UpArrow, DownArrow, ApplicationLeftArrow, ApplicationRightArrow, ApplicationUpArrow, ApplicationDownArrow}
@@ -18,49 +18,18 @@ use Rattle.termwiz_keys.specs.declared.encode.KeyboardEncoding.TheVariants.{Xter
 use Rattle.termwiz_keys.specs.declared.encode.KeyCodeEncodeModes.{KeyCodeEncodeModes}
 use Rattle.termwiz_keys.specs.Keys.{NONE, SHIFT, ALT, CTRL, key_with, plain, with_alt}
 use Rattle.termwiz_keys.specs.Encoding.{enc}
-use Rattle.termwiz_grammar.specs.Table.{TableRow, rows, numbers, written_out, csi_u_of, modify_other_key, to_eight, control_letters_rows, backspace_bytes_rows, tab_byte_rows, enter_bytes_rows, escape_byte_rows, alt_letters_rows, alt_bracket_rows, shift_tab_rows, csi_u_rows, modify_other_keys_rows, cursor_keys_rows, modified_cursor_keys_rows, shift_arrows_rows, ctrl_arrows_rows, application_arrows_rows, modified_application_arrows_rows, ss3_function_keys_rows, lettered_function_keys_rows, numbered_function_keys_rows, edit_keys_rows, paste_start_rows, paste_end_rows, modified_edit_keys_rows, high_function_keys_rows, application_home_end_rows, ctrl_shift_tab_rows}
+use Rattle.termwiz_grammar.specs.Table.{TableRow, rows, numbers, written_out, csi_u_of, modify_other_key, to_eight, control_letters_rows, backspace_bytes_rows, tab_byte_rows, enter_bytes_rows, escape_byte_rows, alt_letters_rows, alt_bracket_rows, csi_u_rows, modify_other_keys_rows, modified_cursor_keys_rows, application_arrows_rows, edit_keys_rows, modified_edit_keys_rows}
 use Rattle.termwiz_grammar.specs.Grammar.{Means}
 use Rattle.termwiz_grammar.specs.Grammar.Head.{Character}
 use Rattle.termwiz_grammar.specs.Listed.{any_of_three, ReadsBack}
-use Rattle.termwiz_grammar.proofs.lemmas.lists.ListMembers.{joined, pairs, in_map, in_flat_map, in_filter, in_pairs, in_later, in_first, in_numbers}
-use Rattle.termwiz_grammar.proofs.lemmas.read_back.RuleReader.{AreRows, reading, reading_means, ascii_key}
+use Rattle.termwiz_grammar.proofs.lemmas.lists.ListMembers.{pairs, in_map, in_flat_map, in_filter, in_pairs, in_numbers}
+use Rattle.termwiz_grammar.proofs.lemmas.read_back.RuleReader.{AreRows, part_rows, table_parts, both_are, reading, reading_means, ascii_key}
 use Rattle.termwiz_grammar.proofs.lemmas.read_back.WholeTexts.{alt_means, char_means}
 use Rattle.termwiz_laws.specs.FurtherKeys.{arrows, some_of_three, shift_or_ctrl, with_ctrl, ctrl_or_ctrl_alt, no_control_character, ambiguous_characters}
 use Rattle.termwiz_laws.proofs.lemmas.shared_texts.TwinKeys.{read_once}
 use Rattle.termwiz_laws.proofs.lemmas.further_keys.ComputedReadings.{mode, level, Held, enc_written_out, own_letter}
 use Rattle.termwiz_laws.proofs.lemmas.further_keys.SingleCharacters.{zero_head, zero_means}
 use Rattle.termwiz_laws.proofs.lemmas.further_keys.SingleKey.{among}
-
--- the rules after the first
-abbrev rules : List (List TableRow)
-rules =
-    backspace_bytes_rows ∷ tab_byte_rows ∷ enter_bytes_rows ∷ escape_byte_rows ∷ alt_letters_rows ∷ alt_bracket_rows
-    ∷ ctrl_arrows_rows ∷ application_arrows_rows ∷ modified_application_arrows_rows ∷ ss3_function_keys_rows
-    ∷ application_home_end_rows ∷ cursor_keys_rows ∷ shift_tab_rows ∷ shift_arrows_rows ∷ edit_keys_rows
-    ∷ modified_edit_keys_rows ∷ paste_start_rows ∷ paste_end_rows ∷ modified_cursor_keys_rows
-    ∷ lettered_function_keys_rows ∷ ctrl_shift_tab_rows ∷ numbered_function_keys_rows ∷ high_function_keys_rows
-    ∷ csi_u_rows ∷ modify_other_keys_rows ∷ []
-
-rows_are_joined : joined control_letters_rows rules ≡ rows
-unfolding rows
-rows_are_joined = refl
-
--- the rule at the front of a list, and one of those behind it
-first_rule : (rule : List TableRow) (others : List (List TableRow)) → Contains (rule ∷ others) rule
-first_rule rule others = (0, omega arith, refl)
-
-later_rule : (first rule : List TableRow) (others : List (List TableRow)) → Contains others rule
-    → Contains (first ∷ others) rule
-later_rule first rule others (i, l, e) = (suc i, omega arith, e)
-
-rule_rows : (rule : List TableRow) → Contains rules rule → AreRows rule
-rule_rows rule c r h = subst (λ all. Contains all r) rows_are_joined (in_later control_letters_rows rules rule r c h)
-
-control_letters_are : AreRows control_letters_rows
-control_letters_are r h = subst (λ all. Contains all r) rows_are_joined (in_first control_letters_rows rules r h)
-
-both_are : (a b : List TableRow) → AreRows a → AreRows b → AreRows (a ++ b)
-both_are a b p q r h = ⊎_elim (p r) (q r) (Contains-append_cases a b r h)
 
 -- the rows of one code, below 128, in CsiU and by modifyOtherKeys
 abbrev code_rows : ℕ → List TableRow
@@ -71,8 +40,8 @@ number_here c small = subst (λ n. Contains (numbers 0 128) n) (let e : 0 + c �
     (in_numbers 0 128 c small)
 
 csi_rows_are : (c : ℕ) → c < 128 → AreRows (csi_u_of c)
-unfolding csi_u_rows
-csi_rows_are c small r h = rule_rows csi_u_rows (search (first_rule, later_rule) depth 30) r
+unfolding rows csi_u_rows
+csi_rows_are c small r h = part_rows csi_u_rows (search table_parts depth 40) r
     (in_flat_map csi_u_of (numbers 0 128) c r (number_here c small) h)
 
 -- a row of one code among those of all codes
@@ -89,8 +58,8 @@ of_one_code (s ∷ suffixes) c r small (suc i, l, e) =
     (of_one_code suffixes c r small (i, omega arith, e))
 
 other_rows_are : (c : ℕ) → c < 128 → AreRows (map (λ s. modify_other_key s c) to_eight)
-unfolding modify_other_keys_rows
-other_rows_are c small r h = rule_rows modify_other_keys_rows (search (first_rule, later_rule) depth 30) r
+unfolding rows modify_other_keys_rows
+other_rows_are c small r h = part_rows modify_other_keys_rows (search table_parts depth 40) r
     (of_one_code to_eight c r small h)
 
 code_rows_are : (c : ℕ) → c < 128 → AreRows (code_rows c)
@@ -103,11 +72,13 @@ single_bytes =
     backspace_bytes_rows ++ tab_byte_rows ++ enter_bytes_rows ++ escape_byte_rows ++ control_letters_rows
 
 single_bytes_are : AreRows single_bytes
+unfolding rows
 single_bytes_are = both_are _ _ (both_are _ _ (both_are _ _
-    (both_are _ _ (rule_rows backspace_bytes_rows (search first_rule))
-    (rule_rows tab_byte_rows (search (first_rule, later_rule) depth 30)))
-    (rule_rows enter_bytes_rows (search (first_rule, later_rule) depth 30)))
-    (rule_rows escape_byte_rows (search (first_rule, later_rule) depth 30))) control_letters_are
+    (both_are _ _ (part_rows backspace_bytes_rows (search table_parts depth 40))
+    (part_rows tab_byte_rows (search table_parts depth 40)))
+    (part_rows enter_bytes_rows (search table_parts depth 40)))
+    (part_rows escape_byte_rows (search table_parts depth 40)))
+    (part_rows control_letters_rows (search table_parts depth 40))
 
 -- 8 and 127 are Backspace and Delete, and a lowercase letter with Shift is the uppercase one
 abbrev wide_rows : ℕ → List TableRow
@@ -116,12 +87,13 @@ wide_rows c =
     ++ code_rows c ++ code_rows (c - 32) ++ code_rows 8 ++ code_rows 127
 
 wide_rows_are : (c : ℕ) → c < 128 → AreRows (wide_rows c)
+unfolding rows
 wide_rows_are c small = both_are _ _ (both_are _ _ (both_are _ _ (both_are _ _ (both_are _ _ (both_are _ _
     (both_are _ _ (both_are _ _ single_bytes_are
-    (rule_rows alt_letters_rows (search (first_rule, later_rule) depth 30)))
-    (rule_rows alt_bracket_rows (search (first_rule, later_rule) depth 30)))
-    (rule_rows edit_keys_rows (search (first_rule, later_rule) depth 30)))
-    (rule_rows modified_edit_keys_rows (search (first_rule, later_rule) depth 30)))
+    (part_rows alt_letters_rows (search table_parts depth 40)))
+    (part_rows alt_bracket_rows (search table_parts depth 40)))
+    (part_rows edit_keys_rows (search table_parts depth 40)))
+    (part_rows modified_edit_keys_rows (search table_parts depth 40)))
     (code_rows_are c small)) (code_rows_are (c - 32) (omega arith))) (code_rows_are 8 (omega arith)))
     (code_rows_are 127 (omega arith))
 
@@ -131,10 +103,11 @@ rows_beside =
     ++ code_rows 27 ++ code_rows 127
 
 rows_beside_are : AreRows rows_beside
+unfolding rows
 rows_beside_are = both_are _ _ (both_are _ _ (both_are _ _ (both_are _ _ (both_are _ _
     (both_are _ _ (both_are _ _ single_bytes_are
-    (rule_rows application_arrows_rows (search (first_rule, later_rule) depth 30)))
-    (rule_rows modified_cursor_keys_rows (search (first_rule, later_rule) depth 30)))
+    (part_rows application_arrows_rows (search table_parts depth 40)))
+    (part_rows modified_cursor_keys_rows (search table_parts depth 40)))
     (code_rows_are 8 (omega arith))) (code_rows_are 9 (omega arith))) (code_rows_are 13 (omega arith)))
     (code_rows_are 27 (omega arith))) (code_rows_are 127 (omega arith))
 
