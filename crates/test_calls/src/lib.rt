@@ -1,16 +1,13 @@
-//! Calls under contracts of their own, which tests make: keys encoded and read back, values compared, the rows of the sequence table
-//! counted, and calls that can be refused memory, each with the call that goes on after a refusal.
+//! Calls under contracts of their own, which tests make: keys encoded and read back, and calls that can be refused memory, each with the
+//! call that goes on after a refusal.
 #![tactic(auto)]
 
 ghost use Rattle.std.specs.Prelude.{◌≡◌, ◌∷◌, ℕ, List, [], Some, Err, false, length, IfOk};
-ghost use Rattle.std.specs.List.{AllPairs};
 ghost use Rattle.termwiz_input.specs.EncodeError.TheVariants as error;
 ghost use Rattle.termwiz_input.specs.InputEvent.TheVariants.{Key};
 ghost use Rattle.termwiz_input.specs.Encoding.{unhandled};
 ghost use Rattle.termwiz_input.specs.Grammar.{Means};
-ghost use Rattle.termwiz_input.specs.Laws.{HasOtherBytes};
 ghost use Rattle.termwiz_input.specs.Listed.{IsListed};
-ghost use Rattle.termwiz_input.specs.Table.{rows};
 
 pub mod calls;
 pub mod draws;
@@ -27,20 +24,7 @@ use std::alloc::{AllocError, Global};
 use termwiz_input::input::{
     EncodeError, InputEvent, InputParser, KeyCode, KeyCodeEncodeModes, Modifiers,
 };
-use termwiz_input::laws::{one_meaning, read_back, table_facts};
-
-// How many rows the sequence table has, as docs/GRAMMAR.md lists them.
-const ROW_COUNT: usize = 2937;
-
-/// How many rows the sequence table has. No two of them have the same bytes, so a list of as many rows of the table, with
-/// different bytes, has all of them.
-pub fn table_rows() -> usize
-    ensures count { result ≡ length rows }
-    ensures differ { AllPairs HasOtherBytes rows }
-{
-    table_facts();
-    ROW_COUNT
-}
+use termwiz_input::laws::{one_meaning, read_back};
 
 /// What a fresh parser reads in a whole text.
 #[derive(Drop)]
