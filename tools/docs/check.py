@@ -34,12 +34,13 @@ nothing comes the word pause.
 
 --library names the library's folder, out/lib without it. With --built, `rt run` in a listing is
 the program that lies in the crate's out/; otherwise it proves and builds it. --only names some of
-links, c, rust, rattle, sh, lines, keyshow, separated by commas. --without-cc leaves out what needs
-the library. One line is printed for each check that failed, and at the end 'N passed, N failed'."""
+links, c, rust, rattle, sh, lines, keyshow, separated by commas. One line is printed for each check
+that failed, and at the end 'N passed, N failed'."""
 import argparse
 import contextlib
 import glob
 import io
+import itertools
 import os
 import re
 import shlex
@@ -48,13 +49,39 @@ import subprocess
 import sys
 import tempfile
 import time
+from pathlib import Path
 
 import pexpect
 
-TOP = os.path.dirname(os.path.dirname(os.path.dirname(os.path.abspath(__file__))))
-KINDS = ["links", "c", "rust", "rattle", "sh", "keyshow", "lines"]
+TOP = Path(__file__).resolve().parents[2]
+DOCUMENTS = ["README.md", "CONTRIBUTING.md", "CHANGELOG.md", "docs/*.md", "crates/*/README.md"]
 SUFFIXES = "md rt rs c h sh txt antt edit toml py awk".split()
 SECONDS = 1800
+# The kinds of listings, and the programs that each needs.
+TOOLS = {"c": "cc", "rust": "cc cargo", "rattle": "", "sh": "cc rt", "lines": "", "keyshow": "rt"}
+KINDS = ["links", *TOOLS]
+FENCED = r"^ *(?P<fence>```+).*\n(?P<block>(?:.*\n)*?) *(?P=fence)$"
+# What a document consists of.
+PARTS = re.compile(
+    rf"{FENCED}"
+    r"|^<!-- (?P<marker>(?:run|not run):.*|prints) -->$"
+    r"|(?P<table>(?:^\|.*\n)+)"
+    r"|^(?P<text>.*\S.*)$",
+    re.MULTILINE,
+)
+NAMED = {"ESC": b"\x1b", "TAB": b"\t", "CR": b"\r", "LF": b"\n", "DEL": b"\x7f", "SPACE": b" "}
+# A command in place of rt, for which `rt run` is the program that was built, once it is there.
+BUILT = """#!/usr/bin/env bash
+[ "${{1-}}" = run ] || exec {rt} "$@"
+program=$PWD/out/$(basename "$PWD")
+for _ in $(seq 1200); do
+    [ -x "$program" ] && break
+    sleep 1
+done
+shift
+[ "${{1-}}" != -- ] || shift
+exec "$program" "$@"
+"""
 
 
 class Failed(Exception):
@@ -64,195 +91,126 @@ class Failed(Exception):
 class Listing:
     """A fenced block or a table with the marker before it."""
 
-    def __init__(self, file, line, marker, text):
-        self.file, self.line, self.marker, self.text = file, line, marker, text
-        self.prints = None
-
-    @property
-    def words(self):
-        return shlex.split(self.marker.removeprefix("run:"))
-
-    @property
-    def name(self):
-        return f"{self.file}:{self.line}"
-
-
-def documents():
-    patterns = ["README.md", "CONTRIBUTING.md", "CHANGELOG.md", "docs/*.md", "crates/*/README.md"]
-    return [file for pattern in patterns for file in sorted(glob.glob(pattern))]
+    def __init__(self, name, marker, text):
+        self.name, self.text, self.prints = name, text, None
+        runs, _, words = marker.partition(":")
+        self.kind, *self.words = shlex.split(words) if runs == "run" else [None]
+        self.names_library = "DIR" in re.findall(r"\w+", text)
 
 
 def read(file):
-    with open(file, encoding="utf-8") as opened:
-        return opened.read()
+    return Path(file).read_text()
 
 
-def write(file, text):
-    with open(file, "w", encoding="utf-8") as opened:
-        opened.write(text)
-
-
-class Document:
-    """The listings of a document, and the faults in its markers."""
-
-    def __init__(self, file):
-        self.file, self.listings, self.faults = file, [], []
-        self.marker, self.block, self.start = None, [], 0
-        self.lines = read(file).split("\n") + [""]
-        self.read_lines()
-
-    def fault(self, number, reason):
-        self.faults.append(f"{self.file}:{number}: {reason}")
-
-    def read_lines(self):
-        fence = None
-        for number, line in enumerate(self.lines, 1):
-            opened = re.match(r"^\s*(```+)", line)
-            if fence and line.strip() != fence:
-                self.block.append(line)
-            elif fence:
-                fence = None
-                self.end_block()
-            elif opened:
-                fence, self.block, self.start = opened.group(1), [], number
-            else:
-                self.read_line(number, line)
-
-    def read_line(self, number, line):
-        comment = re.match(r"^<!-- ((?:run|not run):.*|prints) -->$", line.strip())
-        if comment:
-            if self.marker:
-                self.fault(number, "a marker without a listing")
-            self.marker = comment.group(1).strip()
-        elif self.marker and line.startswith("|"):
-            self.read_row(number, line)
-        elif self.marker and line.strip():
-            self.fault(number, "a marker without a listing")
-            self.marker = None
-        elif re.match(r"^    \S", line) and not self.lines[number - 2].strip():
-            self.fault(number, "an indented listing; write a fenced one")
-
-    def read_row(self, number, line):
-        if not self.lines[number - 2].startswith("|"):
-            self.block, self.start = [], number
-        self.block.append(line)
-        if not self.lines[number].startswith("|"):
-            self.end_table()
-
-    def end_block(self):
-        text = "\n".join(self.block) + "\n"
-        if self.marker == "prints" and self.listings:
-            self.listings[-1].prints = text
-        elif self.marker:
-            self.listings.append(Listing(self.file, self.start, self.marker, text))
-        else:
-            self.fault(self.start, "a listing without a marker")
-        self.marker = None
-
-    def end_table(self):
-        if self.marker == "prints" and self.listings:
-            self.listings[-1].prints = second_cells(self.block[2:])
-        else:
-            self.listings.append(
-                Listing(self.file, self.start, self.marker, "\n".join(self.block) + "\n")
-            )
-        self.marker = None
+def lines_in(text):
+    """The lines of a text that aren't empty, without the space around them."""
+    return [line.strip() for line in text.splitlines() if line.strip()]
 
 
 def cells_of(row):
     return [cell.strip() for cell in re.split(r"(?<!\\)\|", row)[1:-1]]
 
 
-def second_cells(rows):
-    """What stands in backticks in the second cell of each row, a line each."""
-    return "".join(
-        f"{line}\n" for row in rows for line in re.findall(r"`([^`]+)`", cells_of(row)[1])
-    )
-
-
-def slug(heading):
-    """The anchor that a heading has."""
-    text = re.sub(r"[`*]", "", re.sub(r"\[([^]]*)\]\([^)]*\)", r"\1", heading)).strip().lower()
-    return re.sub(r" ", "-", re.sub(r"[^\w\- ]", "", text))
+def quoted(text):
+    return re.findall(r"`([^`]+)`", text)
 
 
 def without_blocks(text):
-    return re.sub(r"^\s*(```+)[^\n]*\n.*?^\s*\1\s*$", "", text, flags=re.M | re.S)
+    return re.sub(FENCED, "", text, flags=re.MULTILINE)
+
+
+def read_document(file):
+    """The listings of a document, and what is wrong with its markers."""
+    text = read(file)
+    listings, faults, marker = [], [], None
+    for part in PARTS.finditer(text):
+        name = f"{file}:{text.count(chr(10), 0, part.start()) + 1}"
+        if part["marker"] or part["text"]:
+            if marker:
+                faults.append(f"{name}: a marker without a listing")
+            elif re.match(r" {4}\S", part[0]) and text[: part.start()].endswith("\n\n"):
+                faults.append(f"{name}: an indented listing; write a fenced one")
+            marker = part["marker"]
+            continue
+        if marker == "prints" and listings:
+            rows = (part["table"] or "").splitlines()[2:]
+            lines = [line for row in rows for line in quoted(cells_of(row)[1])]
+            listings[-1].prints = part["block"] or "\n".join([*lines, ""])
+        elif marker:
+            listings.append(Listing(name, marker, part["block"] or part["table"]))
+            if listings[-1].kind not in [None, *TOOLS]:
+                faults.append(f"{name}: what is {marker}? tools/docs.sh --help lists the markers")
+        elif part["fence"]:
+            faults.append(f"{name}: a listing without a marker")
+        marker = None
+    return listings, faults
 
 
 def anchors(file):
-    text = without_blocks(read(file))
-    return {slug(heading) for heading in re.findall(r"^#+ (.*)$", text, flags=re.M)}
+    """The anchors of a document's headings."""
+    for heading in re.findall(r"^#+ (.*)$", without_blocks(read(file)), flags=re.MULTILINE):
+        text = re.sub(r"[`*]", "", re.sub(r"\[([^]]*)\]\([^)]*\)", r"\1", heading)).strip().lower()
+        yield re.sub(r"[^\w\- ]", "", text).replace(" ", "-")
 
 
 def is_path(word):
     if not re.match(r"^\.?[\w][\w.\-]*(/[\w.\-*]+)*/?$", word) or ".." in word:
         return False
+    if "out" in word.split("/") or word.startswith("target/"):
+        return False
     return "/" in word or word.rsplit(".", 1)[-1] in SUFFIXES and "." in word.strip(".")
 
 
-def exists(word, bases):
-    pattern = re.sub(r"\bNAME\b", "*", word)
-    return any(glob.glob(os.path.join(base, pattern)) for base in bases)
+def check_link(file, target):
+    path, _, anchor = target.partition("#")
+    path = os.path.normpath(os.path.join(os.path.dirname(file), path)) if path else file
+    if not os.path.exists(path):
+        raise Failed(f"no file {target}")
+    if anchor and anchor not in anchors(path):
+        raise Failed(f"no heading {target}")
 
 
-def follow(file):
-    """Checks the links and the paths of a document, and returns how many held and the faults."""
-    folder = os.path.dirname(file)
-    held, faults = 0, []
-    bases = [".", folder or "."]
-    for line in without_blocks(read(file)).split("\n"):
-        base = re.match(r"^<!-- paths from: (.*) -->$", line)
-        if base:
-            bases = [".", folder or "."] + base.group(1).split()
-        for target in re.findall(r"\]\(([^)\s]+)\)", line):
-            if re.match(r"^[a-z]+:", target):
-                continue
-            path, _, anchor = target.partition("#")
-            path = os.path.normpath(os.path.join(folder, path)) if path else file
-            if not os.path.exists(path):
-                faults.append(f"{file}: no file {target}")
-            elif anchor and anchor not in anchors(path):
-                faults.append(f"{file}: no heading {target}")
-            else:
-                held += 1
-        for code in re.findall(r"`([^`]+)`", line):
-            word = code.split()[0] if code.split() else ""
-            if not is_path(word) or "out" in word.split("/") or word.startswith("target/"):
-                continue
-            if not exists(word, bases):
-                faults.append(f"{file}: no path {word}")
-            elif not all(option in read(word) for option in re.findall(r" (--[a-z-]+)", code)):
-                faults.append(f"{file}: no such option: {code}")
-            else:
-                held += 1
-    return held, faults
+def check_path(code, bases):
+    """Checks a path in one of these folders, and that a script knows the options after it."""
+    path, *words = code.split()
+    pattern = re.sub(r"\bNAME\b", "*", path)
+    if not any(glob.glob(os.path.join(base, pattern)) for base in bases):
+        raise Failed(f"no path {path}")
+    if not all(word in read(path) for word in re.findall(r" (--[a-z-]+)", code)):
+        raise Failed(f"no such option: {code}")
 
 
-def quote(file):
-    """Checks the numbers that a document quotes from other files. A marker has a phrase, a name and
-    a file. The phrase has to stand in the lines around the marker, up to empty ones, and its number
-    beside the name in the file."""
-    held, faults = 0, []
-    for block in re.split(r"\n\s*\n", without_blocks(read(file))):
-        lines = [line.strip() for line in block.split("\n")]
-        text = " ".join(line for line in lines if not line.startswith("<!--"))
-        for marker in (line for line in lines if line.startswith('<!-- "')):
-            parts = re.fullmatch(r'<!-- "(\D*(\d+).*)": (\w+) in (\S+) -->', marker)
-            if not parts:
-                faults.append(f"{file}: what is {marker}? tools/docs.sh --help lists the markers")
-                continue
-            phrase, number, name, source = parts.groups()
-            wanted = re.search(
-                rf"\b{name}\b(?:[^=\n]*=)? *(\d+)", read(source) if os.path.exists(source) else ""
-            )
-            if phrase not in text:
-                faults.append(f'{file}: "{phrase}" isn\'t beside its marker')
-            elif not wanted or wanted[1] != number:
-                faults.append(f'{file}: "{phrase}" isn\'t what {name} is in {source}')
-            else:
-                held += 1
-    return held, faults
+def check_quote(text, marker):
+    """Checks that a phrase stands in the text around its marker, and its number beside the name in
+    the file."""
+    parts = re.fullmatch(r'<!-- "(\D*(\d+).*)": (\w+) in (\S+) -->', marker)
+    if not parts:
+        raise Failed(f"what is {marker}? tools/docs.sh --help lists the markers")
+    phrase, number, name, source = parts.groups()
+    if phrase not in text:
+        raise Failed(f'"{phrase}" isn\'t beside its marker')
+    wanted = re.search(rf"\b{name}\b(?:[^=\n]*=)? *(\d+)", read(source))
+    if not wanted or wanted[1] != number:
+        raise Failed(f'"{phrase}" isn\'t what {name} is in {source}')
+
+
+def checks_of(file):
+    """The checks of a document's links, paths and quotes: functions with their arguments."""
+    text = without_blocks(read(file))
+    bases = own = [".", os.path.dirname(file) or "."]
+    for line in text.splitlines():
+        if base := re.match(r"<!-- paths from: (.*) -->$", line):
+            bases = own + base[1].split()
+        for target in re.findall(r"\]\((?![a-z]+:)([^)\s]+)\)", line):
+            yield file, check_link, file, target
+        for code in quoted(line):
+            if is_path((code.split() or [""])[0]):
+                yield file, check_path, code, bases
+    for lines in map(lines_in, re.split(r"\n\s*\n", text)):
+        around = " ".join(line for line in lines if not line.startswith("<!--"))
+        for marker in lines:
+            if marker.startswith('<!-- "'):
+                yield file, check_quote, around, marker
 
 
 def decoded(text):
@@ -260,16 +218,19 @@ def decoded(text):
     return text.encode("latin-1").decode("unicode_escape").encode("latin-1")
 
 
-def run(words, folder=".", given=b"", env=None):
-    done = subprocess.run(
-        words, cwd=folder, input=given, capture_output=True, timeout=SECONDS, env=env, check=False
-    )
+def bytes_of(word):
+    """The bytes of a word of a sequence such as `ESC [ 1 ; 5 A` or `0x08`."""
+    return bytes.fromhex(word[2:]) if word.startswith("0x") else NAMED.get(word, word.encode())
+
+
+def run(words, folder=".", given=b"", **variables):
+    """What a program prints. It has to end with status 0."""
+    how = {"cwd": folder, "input": given, "env": os.environ | variables, "timeout": SECONDS}
+    done = subprocess.run(words, capture_output=True, check=False, **how)
     if done.returncode:
-        raise Failed(
-            (done.stderr + done.stdout).decode("utf-8", "replace").strip()[-2000:]
-            or f"status {done.returncode}"
-        )
-    return done.stdout.decode("utf-8", "replace")
+        said = (done.stderr + done.stdout).decode(errors="replace").strip()
+        raise Failed(said or f"status {done.returncode}")
+    return done.stdout.decode(errors="replace")
 
 
 def wait_for_output(child):
@@ -280,10 +241,10 @@ def wait_for_output(child):
             child.read_nonblocking(4096, 0.2)
 
 
-def run_typed(words, texts):
+def run_typed(words, texts, **variables):
     """Runs a program on a pseudo-terminal. Each text is typed once something was printed for the
     one before."""
-    child = pexpect.spawn(words[0], words[1:])
+    child = pexpect.spawn(words[0], words[1:], env=os.environ | variables)
     child.delaybeforesend = None
     child.logfile_read = seen = io.BytesIO()
     try:
@@ -306,176 +267,100 @@ def run_typed(words, texts):
     if child.status:
         raise Failed(f"wait status {child.status} after: {seen.getvalue()!r}")
     # Modes that the program switches on and off aren't seen on a terminal.
-    printed = seen.getvalue().decode("utf-8", "replace").replace("\r\n", "\n")
+    printed = seen.getvalue().decode(errors="replace").replace("\r\n", "\n")
     return re.sub(r"\x1b\[\?\d+[hl]", "", printed)
 
 
+def run_with_input(words, listing, **variables):
+    """Runs a program on what the listing's marker gives it."""
+    if listing.words[:1] == ["typed"]:
+        return run_typed(words, listing.words[1:], **variables)
+    return run(words, given=decoded(listing.words[1]) if listing.words else b"", **variables)
+
+
 class Runner:
-    """Runs listings, over a library, in a folder."""
+    """Runs listings, over a library, in a folder. It has a method for each kind."""
 
-    def __init__(self, library, built, work):
+    def __init__(self, library, work):
         self.library, self.work = library, work
-        self.count = 0
-        self.keyshow = None
-        if built:
-            self.run_built()
-
-    def run_built(self):
-        """Puts a command before rt for which `rt run` is the program that was built, once it is
-        there."""
-        folder = os.path.join(self.work, "bin")
-        os.mkdir(folder)
-        write(f"{folder}/rt", BUILT.format(rt=shutil.which("rt")))
-        os.chmod(f"{folder}/rt", 0o755)
-        os.environ["PATH"] = f'{folder}:{os.environ["PATH"]}'
-
-    def folder(self):
-        self.count += 1
-        folder = os.path.join(self.work, f"listing{self.count}")
-        os.mkdir(folder)
-        return folder
-
-    def run_program(self, words, arguments):
-        if arguments[:1] == ["typed"]:
-            return run_typed(words, arguments[1:])
-        given = decoded(arguments[1]) if arguments[:1] == ["input"] else b""
-        return run(words, given=given)
 
     def c(self, listing):
-        library, folder = self.library, self.folder()
-        source, program, archive = (
-            f"{folder}/listing.c",
-            f"{folder}/listing",
-            f"{library}/libhedrugal.a",
-        )
-        write(source, listing.text)
+        folder = tempfile.mkdtemp(dir=self.work)
+        source, program = f"{folder}/listing.c", f"{folder}/listing"
+        Path(source).write_text(listing.text)
         strict = ["-std=c99", "-Wall", "-Wextra", "-pedantic", "-Werror"]
-        run(["cc", *strict, f"-I{library}", source, archive, "-o", program])
-        return self.run_program([program], listing.words[1:])
+        library = [f"-I{self.library}", f"{self.library}/libhedrugal.a"]
+        run(["cc", *strict, source, *library, "-o", program])
+        return run_with_input([program], listing)
 
     def rust(self, listing):
-        library, folder = self.library, self.folder()
+        folder, target = tempfile.mkdtemp(dir=self.work), f"{self.work}/target"
         os.mkdir(f"{folder}/src")
-        write(f"{folder}/src/main.rs", listing.text)
+        Path(f"{folder}/src/main.rs").write_text(listing.text)
         # A listing may name the package as termwiz.
         name = "termwiz" if "use termwiz::" in listing.text else "hedrugal"
-        package = f'[package]\nname = "listing"\nedition = "2021"\n[dependencies]\n{name} = '
-        write(
-            f"{folder}/Cargo.toml", package + f'{{ package = "hedrugal", path = "{TOP}/rust" }}\n'
+        package = f'{name} = {{ package = "hedrugal", path = "{TOP}/rust" }}'
+        Path(f"{folder}/Cargo.toml").write_text(
+            f'[package]\nname = "listing"\nedition = "2021"\n[dependencies]\n{package}\n'
         )
-        target = os.path.join(self.work, "target")
-        env = dict(
-            os.environ, HEDRUGAL_LIBRARY=library, CARGO_TARGET_DIR=target, RUSTFLAGS="-D warnings"
-        )
+        variables = {"HEDRUGAL_LIBRARY": self.library, "CARGO_TARGET_DIR": target}
         run(
-            [
-                "cargo",
-                "build",
-                "--quiet",
-                "--offline",
-                "--manifest-path",
-                os.path.join(folder, "Cargo.toml"),
-            ],
-            env=env,
+            ["cargo", "build", "--quiet", "--offline"], folder, RUSTFLAGS="-D warnings", **variables
         )
-        return self.run_program([os.path.join(target, "debug/listing")], listing.words[1:])
+        return run_with_input([f"{target}/debug/listing"], listing)
 
     def rattle(self, listing):
-        wanted = [
-            line.strip() for line in without_contracts(read(listing.words[1])) if line.strip()
-        ]
-        there = [line.strip() for line in listing.text.split("\n") if line.strip()]
-        for one, other in zip(there + [""], wanted + [""]):
+        file = listing.words[0]
+        wanted = lines_in("\n".join(without_contracts(read(file))))
+        for one, other in itertools.zip_longest(lines_in(listing.text), wanted, fillvalue=""):
             if one != other:
-                raise Failed(f'{listing.words[1]} has "{other}" in place of "{one}"')
-        return None
+                raise Failed(f'{file} has "{other}" in place of "{one}"')
 
     def lines(self, listing):
-        _, file, *rest = listing.words
-        there = {line.strip() for line in read(file).split("\n")}
-        for line in listing.text.split("\n"):
-            if (
-                line.strip()
-                and line.strip() not in there
-                and line.split()[0].rstrip(":") not in rest
-            ):
-                raise Failed(f'{file} has no line "{line.strip()}"')
-        return None
+        file, *left_out = listing.words
+        there = lines_in(read(file))
+        for line in lines_in(listing.text):
+            if line not in there and line.split()[0].rstrip(":") not in left_out:
+                raise Failed(f'{file} has no line "{line}"')
 
     def sh(self, listing):
-        env = dict(os.environ, TMPDIR=self.work)
-        if names_library(listing):
-            env["DIR"] = self.library
         words = ["bash", "-e", "-c", listing.text]
-        if listing.words[1:2] == ["typed"]:
-            return run_typed(words, listing.words[2:])
-        return run(words, env=env)
+        return run_with_input(words, listing, DIR=self.library, TMPDIR=self.work)
 
-    def keyshow_program(self):
-        if self.keyshow is None:
-            run(["rt", "run"], folder="crates/keyshow", given=b"")
-            self.keyshow = os.path.abspath("crates/keyshow/out/keyshow")
-        return self.keyshow
-
-    def table(self, listing):
-        """Each row: its first cell is a sequence, such as `ESC O P`, and its last the lines that
-        keyshow prints for it."""
-        program, rows = self.keyshow_program(), listing.text.split("\n")[2:]
-        for row in rows:
-            cells = cells_of(row)
-            if not cells:
-                continue
-            sequence = re.findall(r"`([^`]+)`", cells[0])[0]
-            printed = run([program], given=bytes_of(sequence)).strip().split("\n")
-            wanted = re.findall(r"`([^`]+)`", cells[-1])
-            if printed != wanted:
+    def keyshow(self, listing):
+        run(["rt", "run"], "crates/keyshow")
+        for row in lines_in(listing.text)[2:]:
+            first, *_, last = cells_of(row)
+            sequence = quoted(first)[0]
+            given = b"".join(map(bytes_of, sequence.split(" ")))
+            printed = run(["crates/keyshow/out/keyshow"], given=given).splitlines()
+            if printed != quoted(last):
                 raise Failed(f"{sequence}: keyshow prints {printed}")
-        return None
 
     def check(self, listing):
-        kind = listing.words[0]
-        printed = self.table(listing) if kind == "keyshow" else getattr(self, kind)(listing)
+        printed = getattr(self, listing.kind)(listing)
         if listing.prints is not None and printed != listing.prints:
             raise Failed(f"it prints {printed!r}")
-
-
-BUILT = """#!/usr/bin/env bash
-[ "${{1-}}" = run ] || exec {rt} "$@"
-program=$PWD/out/$(basename "$PWD")
-for _ in $(seq 1200); do
-    [ -x "$program" ] && break
-    sleep 1
-done
-shift
-[ "${{1-}}" != -- ] || shift
-exec "$program" "$@"
-"""
-
-NAMED = {"ESC": 0x1B, "TAB": 9, "CR": 13, "LF": 10, "DEL": 0x7F, "SPACE": 0x20}
-
-
-def bytes_of(sequence):
-    """The bytes of a sequence such as `ESC [ 1 ; 5 A` or `0x08`."""
-    text = bytearray()
-    for word in sequence.split(" "):
-        if word in NAMED:
-            text.append(NAMED[word])
-        elif word.startswith("0x"):
-            text.append(int(word, 16))
-        else:
-            text += word.encode("utf-8")
-    return bytes(text)
 
 
 def without_contracts(text):
     """The lines of a program, without contracts, what they cite, comments on items, and attributes
     of the file."""
     depth = 0
-    for line in text.split("\n"):
+    for line in text.splitlines():
         if depth or re.match(r"^\s*(requires|ensures)\b", line):
             depth += line.count("{") - line.count("}")
         elif not re.match(r"^\s*(//!|///|#!\[|ghost use\b)", line):
             yield line
+
+
+def use_built(work):
+    """Puts a command before rt for which `rt run` is the program that was built."""
+    command = Path(work, "bin", "rt")
+    command.parent.mkdir()
+    command.write_text(BUILT.format(rt=shutil.which("rt")))
+    command.chmod(0o755)
+    os.environ["PATH"] = f"{command.parent}:{os.environ['PATH']}"
 
 
 def kinds(text):
@@ -487,82 +372,53 @@ def kinds(text):
 def options():
     layout = argparse.RawDescriptionHelpFormatter
     parser = argparse.ArgumentParser("tools/docs.sh", description=__doc__, formatter_class=layout)
-    add = parser.add_argument
-    add("--library", metavar="DIR", type=os.path.abspath, default=f"{TOP}/out/lib")
-    add("--built", action="store_true")
-    add("--only", metavar="KINDS", type=kinds, default=KINDS)
-    add("--without-cc", action="store_true")
+    parser.add_argument("--library", metavar="DIR", type=os.path.abspath, default=f"{TOP}/out/lib")
+    parser.add_argument("--built", action="store_true")
+    parser.add_argument("--only", metavar="KINDS", type=kinds, default=KINDS)
     return parser.parse_args()
-
-
-def names_library(listing):
-    return re.search(r"\bDIR\b", listing.text)
-
-
-def needs_library(listing):
-    return listing.words[0] in ("c", "rust") or listing.words[0] == "sh" and names_library(listing)
 
 
 def missing_tool(listings, library):
     """Says what a listing needs and isn't there."""
-    if any(map(needs_library, listings)) and not os.path.exists(f"{library}/libhedrugal.a"):
+    reads_library = any(it.kind in ("c", "rust") or it.names_library for it in listings)
+    if reads_library and not os.path.exists(f"{library}/libhedrugal.a"):
         return f"there is no libhedrugal.a in {library}: make builds it, or --library names another"
-    tools = {"c": ["cc"], "rust": ["cc", "cargo"], "sh": ["cc", "rt"], "keyshow": ["rt"]}
-    install = {"cc": "install gcc", "cargo": "install cargo", "rt": "put the kit's on the path"}
-    for listing in listings:
-        for tool in tools.get(listing.words[0], []):
-            if not shutil.which(tool):
-                return f"no {tool}: {install[tool]}"
+    for tool in " ".join(TOOLS[it.kind] for it in listings).split():
+        if not shutil.which(tool):
+            return f"there is no {tool}: tools/needs.txt has its package"
     return None
-
-
-def check_links(found):
-    """Checks links, paths and markers of all documents. Returns how many held and the faults."""
-    passed, faults = 0, []
-    for document in found:
-        faults += document.faults
-        for held, broken in (follow(document.file), quote(document.file)):
-            passed += held
-            faults += broken
-    if read("README.md").count("\n") > 150:
-        faults.append("README.md: more than 150 lines")
-    return passed, faults
-
-
-def run_listings(runner, listings):
-    """Runs listings, and prints each that fails. Returns how many passed."""
-    passed = 0
-    for listing in listings:
-        try:
-            runner.check(listing)
-            passed += 1
-        except (Failed, OSError, subprocess.TimeoutExpired) as fault:
-            reason = (str(fault) or repr(fault)).splitlines()[-1]
-            print(f"{listing.name}: {reason}", flush=True)
-    return passed
 
 
 def main():
     chosen = options()
     os.chdir(TOP)
-    found = [Document(file) for file in documents()]
-    passed, faults = check_links(found) if "links" in chosen.only else (0, [])
-    for fault in faults:
-        print(fault)
-    listings = [
-        it for document in found for it in document.listings if it.marker.startswith("run:")
-    ]
-    listings = [it for it in listings if it.words[0] in chosen.only]
-    wanted = [it for it in listings if not (chosen.without_cc and needs_library(it))]
-    missing = missing_tool(wanted, chosen.library)
+    listings, checks, faults = [], [], []
+    for file in (file for pattern in DOCUMENTS for file in sorted(glob.glob(pattern))):
+        found, wrong = read_document(file)
+        listings += [it for it in found if it.kind in chosen.only]
+        if "links" in chosen.only:
+            faults += wrong
+            checks += checks_of(file)
+    if "links" in chosen.only and read("README.md").count("\n") > 150:
+        faults.append("README.md: more than 150 lines")
+    missing = missing_tool(listings, chosen.library)
     if missing:
         sys.exit(f"docs: {missing}")
+    for fault in faults:
+        print(fault)
+    passed, failed = 0, len(faults)
     with tempfile.TemporaryDirectory(ignore_cleanup_errors=True) as work:
-        ran = run_listings(Runner(chosen.library, chosen.built, work), wanted)
-    if len(wanted) < len(listings):
-        print(f"docs: left out {len(listings) - len(wanted)} listings that need the library")
-    failed = len(faults) + len(wanted) - ran
-    print(f"{passed + ran} passed, {failed} failed")
+        if chosen.built:
+            use_built(work)
+        runner = Runner(chosen.library, work)
+        for name, check, *arguments in [*checks, *((it.name, runner.check, it) for it in listings)]:
+            try:
+                check(*arguments)
+                passed += 1
+            except (Failed, OSError, subprocess.TimeoutExpired) as fault:
+                failed += 1
+                print(f"{name}: {(str(fault) or repr(fault)).splitlines()[-1]}", flush=True)
+    print(f"{passed} passed, {failed} failed")
     sys.exit(1 if failed else 0)
 
 
