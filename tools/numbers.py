@@ -38,15 +38,11 @@ class Number(NamedTuple):
 Numbers = Dict[str, List[Number]]
 
 
-class Fault(Exception):
-    """What is wrong, with its file and line."""
-
-
 def read(file: str) -> str:
     try:
         return (TOP / file).read_text(encoding="utf-8")
     except OSError as error:
-        raise Fault(f"{file}: {error.strerror}") from error
+        sys.exit(f"{file}: {error.strerror}")
 
 
 def read_list() -> Numbers:
@@ -57,13 +53,13 @@ def read_list() -> Numbers:
             continue
         found = re.fullmatch(r"([a-z_]+) (\w+) (\d+) (\S.*)", line)
         if not found:
-            raise Fault(f"{LIST}:{at}: isn't a group, a name, a number and what it is")
+            sys.exit(f"{LIST}:{at}: isn't a group, a name, a number and what it is")
         it = Number(found[1], found[2], int(found[3]), found[4], at)
         if "*/" in it.meaning:
-            raise Fault(f"{LIST}:{at}: would end a comment of the header")
+            sys.exit(f"{LIST}:{at}: would end a comment of the header")
         for other in groups[it.group]:
             if other.name == it.name or other.value == it.value:
-                raise Fault(f"{LIST}:{at}: repeats the name or the number of line {other.line}")
+                sys.exit(f"{LIST}:{at}: repeats the name or the number of line {other.line}")
         groups[it.group].append(it)
     return groups
 
@@ -88,13 +84,32 @@ PLACES = {
     "keys/names.c": {"table": "termwiz_mod button kitty_mod"},
 }
 
+# A place: its first line, those that are written, and its end.
+PLACE = re.compile(
+    r"^(?P<head>(?P<space> *)(?:/\*|//|#) numbers\.txt: (?P<group>\w+) (?P<form>\w+)(?: \*/)?\n)"
+    r"(?:(?!.* numbers\.txt: ).*\n)*?(?P<end> *(?:/\*|//|#) numbers\.txt: end(?: \*/)?)$",
+    re.MULTILINE,
+)
+
+# A number in each form.
+FORMS = {
+    "c": "{in_c} = {value}{comma} /* {meaning} */",
+    "table": '{{ {in_c}, "{name}", {prefix} }},',
+    "const": "/// {meaning}\npub const {capitals}_{name}: {rust_type} = {value};",
+    "flag": "/// {meaning}\nconst {name} = {value};",
+    "variant": "/// {meaning}\n{name}{carried},",
+    "number": "KeyCode::{name}{any_carried} => {value},",
+    "of": "{value} => KeyCode::{name}{made},",
+    "named": '("{name}", {rust_type}::{name}),',
+    "plain": "KeyCode::{name},",
+    "member": "{snake} = {value}  # {meaning}",
+    "private": "_{capitals}_{snake} = {value}",
+}
+
 # The types of groups in Rust; the others are u32.
 RUST_TYPES = {
-    "kind": "u8",
-    "key_event_kind": "u8",
-    "encoding": "u8",
-    "termwiz_mod": "Modifiers",
-    "button": "MouseButtons",
+    **dict.fromkeys(["kind", "key_event_kind", "encoding"], "u8"),
+    **{"termwiz_mod": "Modifiers", "button": "MouseButtons"},
 }
 
 # The keys that carry something: its type in Rust, and how it is made of a detail.
@@ -104,77 +119,56 @@ CARRIED = {
 }
 
 
-def snake(name: str) -> str:
-    """The name in capitals: LEFT_ARROW of LeftArrow. One of capitals alone is unchanged."""
-    return name if name.isupper() else re.sub(r"(?<!^)(?=[A-Z0-9])", "_", name).upper()
-
-
-def commented(code: str, comment: str) -> List[str]:
-    """A line of Python with its comment, before it if the two are too long at four more columns."""
-    if len(f"{code}  # {comment}") <= 96:
-        return [f"{code}  # {comment}"]
-    return [*textwrap.wrap(comment, 96, initial_indent="# ", subsequent_indent="# "), code]
-
-
 def lines_of(form: str, it: Number, is_last: bool) -> List[str]:
     """A number in a form, which may leave it out."""
-    group, name, value = it.group, it.name, it.value
-    rust_type, in_c = RUST_TYPES.get(group, "u32"), f"HED_{group.upper()}_{snake(name)}"
-    kind, made = CARRIED.get(name, ("", ""))
-    if form == "c":
-        return [f"{in_c} = {value}{'' if is_last else ','} /* {it.meaning} */"]
-    if form == "table" and value:
-        prefix = '"' + "".join(part.capitalize() for part in name.split("_")) + '-"'
-        return [f'{{ {in_c}, "{name}", {"NULL" if group == "button" else prefix} }},']
-    if form == "const":
-        constant = f"pub const {group.upper()}_{name}: {rust_type} = {value};"
-        return [f"/// {it.meaning}", constant]
-    if form == "flag":
-        return [f"/// {it.meaning}", f"const {name} = {value};"]
-    if form == "variant":
-        return [f"/// {it.meaning}", f"{name}{kind},"]
-    if form == "number":
-        return [f"KeyCode::{name}{'(_)' if kind else ''} => {value},"]
-    if form == "of":
-        return [f"{value} => KeyCode::{name}{made},"]
-    if form == "named" and value:
-        return [f'("{name}", {rust_type}::{name}),']
-    if form == "plain" and not kind:
-        return [f"KeyCode::{name},"]
-    if form == "member" and not kind:
-        return commented(f"{snake(name)} = {value}", it.meaning)
-    if form == "private" and (kind or group != "key"):
-        return [f"_{group.upper()}_{snake(name)} = {value}"]
-    return []
+    carried, made = CARRIED.get(it.name, ("", ""))
+    if (
+        (form in ("table", "named") and not it.value)
+        or (form in ("plain", "member") and carried)
+        or (form == "private" and it.group == "key" and not carried)
+    ):
+        return []
+    # LEFT_ARROW of LeftArrow; a name of capitals alone is unchanged.
+    snake = it.name if it.name.isupper() else re.sub(r"(?<!^)(?=[A-Z0-9])", "_", it.name).upper()
+    prefix = "".join(part.capitalize() for part in it.name.split("_"))
+    text = FORMS[form].format(
+        **it._asdict(),
+        capitals=it.group.upper(),
+        snake=snake,
+        in_c=f"HED_{it.group.upper()}_{snake}",
+        comma="" if is_last else ",",
+        prefix="NULL" if it.group == "button" else f'"{prefix}-"',
+        rust_type=RUST_TYPES.get(it.group, "u32"),
+        carried=carried,
+        any_carried=carried and "(_)",
+        made=made,
+    )
+    # In Python a comment is before its line if the two are too long at four more columns.
+    if form == "member" and len(text) > 96:
+        comment = textwrap.wrap(it.meaning, 96, initial_indent="# ", subsequent_indent="# ")
+        return [*comment, text.partition("  # ")[0]]
+    return text.split("\n")
 
 
 def with_numbers(file: str, numbers: Numbers) -> str:
     """The file's text with the numbers of the list at its places."""
-    missing = {f"{group} {form}" for form in PLACES[file] for group in PLACES[file][form].split()}
-    lines: List[str] = []
-    begun = 0
-    for at, line in enumerate(read(file).splitlines(), 1):
-        found = re.fullmatch(r"( *)(?:/\*|//|#) numbers\.txt: (.*?)(?: \*/)?", line)
-        if found and found[2] == "end":
-            begun = 0
-        elif found and begun:
-            break
-        if not begun:
-            lines.append(line)
-        if found and found[2] != "end":
-            if found[2] not in missing:
-                raise Fault(f"{file}:{at}: has a place {found[2]}, which is unknown or was before")
-            missing.remove(found[2])
-            begun = at
-            group, form = found[2].split()
-            for it in numbers[group]:
-                is_last = it is numbers[group][-1]
-                lines += [found[1] + text for text in lines_of(form, it, is_last)]
-    if begun:
-        raise Fault(f"{file}:{begun}: no 'numbers.txt: end' ends this place")
-    for place in sorted(missing):
-        raise Fault(f"{file}: has no place 'numbers.txt: {place}'")
-    return "\n".join(lines) + "\n"
+    text = read(file)
+    wanted = [f"{group} {form}" for form in PLACES[file] for group in PLACES[file][form].split()]
+    there = re.findall(r"^ *\S+ numbers\.txt: (\w+ \w+)", text, flags=re.M)
+    for place in sorted({*wanted, *there}):
+        if there.count(place) != wanted.count(place):
+            count = f"{there.count(place)} places 'numbers.txt: {place}'"
+            sys.exit(f"{file}: has {count}, and not {wanted.count(place)}")
+
+    def written(place: re.Match[str]) -> str:
+        group = numbers[place["group"]]
+        lines = [line for it in group for line in lines_of(place["form"], it, it is group[-1])]
+        return place["head"] + "".join(f"{place['space']}{line}\n" for line in lines) + place["end"]
+
+    text, ended = PLACE.subn(written, text)
+    if ended != len(wanted):
+        sys.exit(f"{file}: has a place without its 'numbers.txt: end'")
+    return text
 
 
 def write(numbers: Numbers) -> None:
@@ -188,12 +182,10 @@ def write(numbers: Numbers) -> None:
 def compare_places(numbers: Numbers) -> Iterator[str]:
     """What differs first in each file that has places."""
     for file in PLACES:
-        try:
-            wanted = with_numbers(file, numbers).splitlines()
-        except Fault as fault:
-            yield str(fault)
-            continue
-        for at, (one, other) in enumerate(zip([*read(file).splitlines(), ""], [*wanted, ""]), 1):
+        lines = zip(
+            (read(file) + "\n").splitlines(), (with_numbers(file, numbers) + "\n").splitlines()
+        )
+        for at, (one, other) in enumerate(lines, 1):
             if one != other:
                 yield f"{file}:{at}: has '{one}', and {LIST} gives '{other}'"
                 break
@@ -211,6 +203,8 @@ def constants(prefix: str) -> str:
 
 
 FLAG = r"^ *pub const (?P<name>[A-Z0-9_]+): \w+ = \w+\((?P<number>\d+)(?: << (?P<shift>\d+))?\);$"
+KEY_NAME = r'^ *KeyCode::(?P<name>\w+)(?:\(_\))? => "(?P<text>\w+)"'
+KEY_NAME_DEFINED = r'^variant_name \(?(?P<name>\w+).* = codes "(?P<text>\w+)"'
 FLAG_NAME = r'name: "(?P<text>\w+)",\n *value: \w+::(?P<name>\w+),$'
 
 # What has the numbers of a group or the names that are printed of it: files, and a pattern that
@@ -228,16 +222,8 @@ PROVED = [
     ("termwiz_mod", "termwiz_base/src/modifiers.rt", FLAG),
     ("kitty_flag", "termwiz_base/src/kitty.rt", FLAG),
     ("button", "termwiz_keys/src/types.rt", FLAG),
-    (
-        "key",
-        "event_text/src/names.rt",
-        r'^ *KeyCode::(?P<name>\w+)(?:\(_\))? => "(?P<text>\w+)"',
-    ),
-    (
-        "key",
-        "event_text/specs/Names.antt",
-        r'^variant_name \(?(?P<name>\w+).* = codes "(?P<text>\w+)"',
-    ),
+    ("key", "event_text/src/names.rt", KEY_NAME),
+    ("key", "event_text/specs/Names.antt", KEY_NAME_DEFINED),
     ("termwiz_mod", "termwiz_base/src/modifiers.rt", FLAG_NAME),
     ("kitty_flag", "termwiz_base/src/kitty.rt", FLAG_NAME),
     ("button", "termwiz_keys/src/types.rt", FLAG_NAME),
@@ -299,10 +285,11 @@ def defined(name: str) -> str:
     """What the header defines a name as."""
     for _, found in matches(HEADER, rf'^#define {name} "?(?P<it>[0-9.]+)"?(?: .*)?$'):
         return found["it"]
-    raise Fault(f"{HEADER}: doesn't define {name}")
+    sys.exit(f"{HEADER}: doesn't define {name}")
 
 
-def compare_same() -> Iterator[str]:
+def compare_same(_: Numbers) -> Iterator[str]:
+    """What files have otherwise than the header: the version, and counts."""
     parts = ".".join(defined(f"HED_VERSION_{part}") for part in ("MAJOR", "MINOR", "PATCH"))
     if parts != defined("HED_VERSION"):
         yield f"{HEADER}: HED_VERSION is {defined('HED_VERSION')}, and its numbers are {parts}"
@@ -312,41 +299,23 @@ def compare_same() -> Iterator[str]:
             yield f"{place}: has {found['it']}, and {name} of {HEADER} is {defined(name)}"
 
 
-def check(numbers: Numbers) -> int:
-    differ = [
-        *compare_places(numbers),
-        *compare_proved(numbers),
-        *compare_flag_names(numbers),
-        *compare_same(),
-    ]
+def check(numbers: Numbers) -> None:
+    comparisons = (compare_places, compare_proved, compare_flag_names, compare_same)
+    differ = [difference for compare in comparisons for difference in compare(numbers)]
     if differ:
-        print(*differ, sep="\n", file=sys.stderr)
-        return 1
-    count = sum(len(group) for group in numbers.values())
-    entries, most = defined("HED_ENTRY_COUNT"), defined("HED_ENTRY_MOST")
-    agree = "the header, both packages, hedrugal-keys and the proved crates agree"
-    print(f"numbers: {count} names, and {agree}")
-    print(f"rows: {entries}, of at most {most} bytes, in the header and the proved definitions")
-    where = "the header, the crate hedrugal, hedrugal.pc, both packages and the documents"
-    print(f"version: {defined('HED_VERSION')} in {where}")
-    return 0
+        sys.exit("\n".join(differ))
+    count = sum(map(len, numbers.values()))
+    rows = f"{defined('HED_ENTRY_COUNT')} rows of at most {defined('HED_ENTRY_MOST')} bytes"
+    version = f"version {defined('HED_VERSION')}"
+    print(f"numbers: {count} names, {rows} and {version} are the same wherever they stand")
 
 
-def main() -> int:
+def main() -> None:
     form = argparse.RawDescriptionHelpFormatter
     parser = argparse.ArgumentParser(description=__doc__, formatter_class=form)
     parser.add_argument("--check", action="store_true", help="compare, and write nothing")
-    is_check = parser.parse_args().check
-    try:
-        numbers = read_list()
-        if is_check:
-            return check(numbers)
-        write(numbers)
-    except Fault as fault:
-        print(fault, file=sys.stderr)
-        return 1
-    return 0
+    act = check if parser.parse_args().check else write
+    act(read_list())
 
 
-if __name__ == "__main__":
-    sys.exit(main())
+main()
