@@ -127,10 +127,8 @@ out/lib/hedrugal.h out/lib/hedrugal.pc: out/lib/%: c/%
 else
 $(library_files):
 	$(error there is no $(@F) in LIBRARY, '$(lib)')
-ifneq ($(wildcard $(lib)/hedrugal.h)$(wildcard $(lib)/hedrugal.pc),)
-ifneq ($(shell cmp $(lib)/hedrugal.h c/hedrugal.h && cmp $(lib)/hedrugal.pc c/hedrugal.pc || echo other),)
+ifneq ($(strip $(foreach it,hedrugal.h hedrugal.pc,$(shell [ ! -e $(lib)/$(it) ] || cmp $(lib)/$(it) c/$(it) 2>&1))),)
 $(error the library in '$(lib)' was built from other sources: its header or hedrugal.pc is another)
-endif
 endif
 endif
 
@@ -186,12 +184,10 @@ uninstall: libdir ## removes these files, and their folders that are left empty,
 	  if [ -e "$(root)/$$file" ] || [ -L "$(root)/$$file" ]; then rm "$(root)/$$file"; removed=$$((removed + 1)); \
 	  else echo "make: there was no $(root)/$$file" >&2; fi; \
 	done; \
-	if [ -n '$(DESTDIR)' ] || [[ '$(prefix)' != / && '$(prefix)' != /usr && '$(prefix)' != /usr/local ]]; then \
+	if [[ '$(DESTDIR)' || ! '$(prefix)' =~ ^/(usr(/local)?)?$$ ]] && cd "$(if $(DESTDIR),$(destdir),$$(dirname '$(root)'))" 2> /dev/null; then \
 	  for folder in $$(dirname $(installed) | sort -u); do \
-	    [ ! -d "$(root)/$$folder" ] || (cd '$(root)' && rmdir -p --ignore-fail-on-non-empty "$$folder"); \
+	    rmdir -p "$$(realpath -ms --relative-to="$$PWD" "$(root)/$$folder")" 2> /dev/null || true; \
 	  done; \
-	  if [ -z '$(DESTDIR)' ]; then [ ! -d '$(root)' ] || rmdir --ignore-fail-on-non-empty '$(root)'; \
-	  elif [ '$(prefix)' != / ] && [ -d '$(root)' ]; then (cd '$(destdir)' && rmdir -p --ignore-fail-on-non-empty '$(patsubst /%,%,$(prefix))'); fi; \
 	fi; \
 	echo "make: removed $$removed files below $(or $(root),/)"; \
 	[ $$removed -gt 0 ]
@@ -200,7 +196,7 @@ uninstall: libdir ## removes these files, and their folders that are left empty,
 include $(wildcard *.mk)
 
 # Tests. Each part by itself is `make check-NAME`; the last line of what it prints counts its cases.
-CHECKS ?= lint numbers c rust python programs page install packages docs fuzz
+CHECKS ?= $(filter-out $(kit_checks),$(every_check))
 kit_checks := axioms growth refusals listings
 every_check := lint numbers c rust python programs page install packages docs fuzz $(kit_checks)
 # What the tests of a part read.
@@ -225,10 +221,10 @@ check-refusals := tools/refusals.sh
 check-listings := tools/docs.sh --library $(lib) --built --only sh,keyshow
 
 .PHONY: check lint format $(addprefix check-,$(every_check))
-$(filter-out check-lint check-numbers check-axioms,$(addprefix check-,$(every_check))): all
-check-growth: out/build/libfeed.a
-check-refusals: crates/test_refusals/out/test_refusals
-check-axioms: out/build/keyshow.log
+$(foreach it,$(filter-out lint numbers axioms,$(every_check)),check-$(it) gate-$(it)): all
+check-growth gate-growth: out/build/libfeed.a
+check-refusals gate-refusals: crates/test_refusals/out/test_refusals
+check-axioms gate-axioms: out/build/keyshow.log
 $(addprefix check-,$(every_check)): check-%:
 	@tools/needs.sh $*
 	@$(check_env) $($@)
@@ -270,10 +266,6 @@ gate-parts: $(addprefix gate-,$(gate_parts))
 gate-ci:
 	@tools/gate.sh part ci 'nice -n 5 rt ci'
 gate-library: out/build/libhedrugal.a
-$(addprefix gate-,$(filter-out lint numbers axioms,$(gate_checks))): all
-gate-axioms: out/build/keyshow.log
-gate-growth: out/build/libfeed.a
-gate-refusals: crates/test_refusals/out/test_refusals
 gate-listings: out/gate/example.proved
 $(addprefix gate-,$(gate_checks)): gate-%:
 	@tools/gate.sh part $* 'make -s check-$* LIBRARY=out/lib KEYSHOW=out/bin/keyshow'

@@ -6,9 +6,9 @@
 # LOG is what rt or rattle printed with --list-axioms when it proved the crate. The status is 1 if the lists differ.
 set -eu
 export LC_ALL=C
-usage() { sed -n '2,/^set/{/^set/d;s/^# \{0,1\}//;p;}' "$0"; }
-[ "${1-}" != --help ] || { usage; exit; }
-[ $# = 2 ] || { usage >&2; exit 2; }
+. "$(dirname "$0")/common.sh"
+[ "${1-}" != --help ] || { show_help; exit; }
+[ $# = 2 ] || refuse 'wants a crate and a log'
 page=$(dirname "$0")/../docs/VERIFICATION.md
 
 # shellcheck disable=SC2016

@@ -51,12 +51,7 @@ need() { # program package ..
     [ -z "$missing" ] || { echo "$script: not run, not there:$missing: install$packages" >&2; exit 1; }
 }
 
-# Prints the library's version, as the header has it. It is called at the top of the repository, as the next is.
-library_version() {
-    sed -n 's/^#define HED_VERSION "\(.*\)"$/\1/p' c/hedrugal.h
-}
-
-# Prints the names of the header's calls.
+# Prints the names of the header's calls. It is called at the top of the repository.
 library_calls() {
     sed -nE 's/^[a-z].*[ *](hed_[a-z_]+)\(.*$/\1/p' c/hedrugal.h
 }
@@ -70,13 +65,14 @@ run_quietly() { # words..
     return "$status"
 }
 
-# Goes to the top of the repository, and sets $work to a folder that is removed at the end, and $library to that of HEDRUGAL_LIBRARY, which is
-# out/lib unless it is set.
+# Goes to the top of the repository, and sets $work to a folder that is removed at the end, $library to that of HEDRUGAL_LIBRARY, which is
+# out/lib unless it is set, $keyshow to the program of KEYSHOW, else out/bin/keyshow, and $version to that of the header.
 enter() {
-    local named=${HEDRUGAL_LIBRARY:+$(realpath -m -- "$HEDRUGAL_LIBRARY")}
-    cd "$(dirname "$0")/.." || exit
-    top=$PWD
-    library=${named:-$top/out/lib}
+    top=$(realpath -- "$(dirname "$0")/..")
+    library=$(realpath -m -- "${HEDRUGAL_LIBRARY:-$top/out/lib}")
+    keyshow=$(realpath -m -- "${KEYSHOW:-$top/out/bin/keyshow}")
+    cd "$top" || exit
+    version=$(sed -n 's/^#define HED_VERSION "\(.*\)"$/\1/p' c/hedrugal.h)
     [ ! -f "$library" ] || library=$(dirname "$library")
     [ -f "$library/libhedrugal.a" ] ||
         { echo "$script: there is no libhedrugal.a in '$library': make builds it, or HEDRUGAL_LIBRARY names another" >&2; exit 1; }
@@ -90,6 +86,37 @@ start_cases() { # words of the script
     export LC_ALL=C.UTF-8
     [ $# = 0 ] || { [ "$1" = --help ] && show_help && exit; refuse_word "$1"; }
     enter
+}
+
+# Ends the script unless the program keyshow is there.
+want_keyshow() {
+    [ -x "$keyshow" ] || refuse "there is no $keyshow: make builds it, or KEYSHOW names another"
+}
+
+# Prints what lies below a folder: links with what they lead to, and files with their modes.
+listed() { # folder
+    find "$1" -type l -printf '%P -> %l\n' -o -type f -printf '%P %m\n' | sort
+}
+
+# Prints the shared libraries that a program or library needs.
+needed() { # file
+    readelf -dW "$1" | grep -o 'Shared library: .*'
+}
+
+# Whether a shared library has the name by which programs ask for it, and exports the calls of the header alone.
+check_exports() { # file
+    readelf -dW "$1" | grep -F "soname: [libhedrugal.so.${version%%.*}]" &&
+        diff <(nm -D --defined-only "$1" | awk '{ print $3 }' | sort) <(library_calls | sort)
+}
+
+# Sets $view to the words before a command by which it finds these folders empty, or to none if the system lets no program have such a view.
+find_view() { # folders..
+    local user=(--map-root-user)
+    [ "$(id -u)" != 0 ] || user=()
+    # shellcheck disable=SC2016
+    view=(unshare "${user[@]}" --mount bash -c 'while [ "$1" != -- ]; do mount -t tmpfs none "$1" && shift || exit; done; exec "${@:2}"'
+        bash "$@" --)
+    "${view[@]}" true 2> /dev/null || view=()
 }
 
 passed=0 failed=0

@@ -9,7 +9,7 @@
 # The counts of a part are those of its last line 'N passed, N failed', or of pytest's; without one it is one case. Each must-fail edit that
 # `rt ci` calls a BAD EDIT or NOT TRIED is a failed one.
 set -uo pipefail
-usage() { sed -n '2,/^set/{/^set/d;s/^# \{0,1\}//;p;}' "$0"; }
+. "$(dirname "$0")/common.sh"
 cd "$(dirname "$0")/.." || exit
 gate=out/gate
 
@@ -45,10 +45,9 @@ part() { # name command
     fi
     ended=$(date +%s)
     counts=$(count "$status" "$log")
-    { echo "== $1"; [ "$1" = ci ] || cat "$log"; echo "gate: $1: ${counts/ / passed, } failed, $((ended - began)) s"; } > "$gate/$1.shown"
-    flock "$gate" cat "$gate/$1.shown"
+    { echo "== $1"; [ "$1" = ci ] || cat "$log"; echo "gate: $1: ${counts/ / passed, } failed, $((ended - began)) s"; } | flock "$gate" cat
     echo "$counts $began $ended $(awk '{ print $1 + $2 }' "$gate/$1.time")" > "$gate/$1.count"
-    rm "$gate/$1".{shown,time}
+    rm "$gate/$1.time"
     [ "${counts#* }" = 0 ]
 }
 
@@ -58,15 +57,10 @@ has_said() { # crate pattern
 }
 
 wait_for() { # crates..
-    local crate is_over=no
+    local crate is_over
     for crate; do
-        while :; do
-            [ ! -e $gate/ci.count ] || is_over=yes
-            has_said "$crate" '(proved$|is kept: )' && break
-            if [ $is_over = yes ] || has_said "$crate" 'NOT PROVED'; then
-                echo "gate: $crate isn't proved" >&2
-                exit 1
-            fi
+        while is_over=$(compgen -G $gate/ci.count); ! has_said "$crate" '(proved$|is kept: )'; do
+            [ -z "$is_over" ] && ! has_said "$crate" 'NOT PROVED' || { echo "gate: $crate isn't proved" >&2; exit 1; }
             sleep 1
         done
     done
@@ -76,30 +70,26 @@ table() { # names..
     local name
     for name; do
         echo "$name $(cat "$gate/$name.count" 2> /dev/null)"
-    done | awk '
+    done | awk -v first="$(cut -d ' ' -f 3 $gate/*.count | sort -n | head -n 1)" '
         function clock(seconds) { return sprintf("%d:%02d", seconds / 60, seconds % 60) }
-        { names[NR] = $1; passed[NR] = $2; failed[NR] = $3; began[NR] = $4; ended[NR] = $5; used[NR] = $6 }
-        $4 && (!first || $4 < first) { first = $4 }
+        function row(name, from, to, used, result) {
+            printf "%-12s %7s %7s %7s %10s%s\n", name, clock(from - first), clock(to - first), clock(to - from), clock(used), result
+        }
+        BEGIN { printf "\n%-12s %7s %7s %7s %10s  %s\n", "part", "from", "to", "takes", "processor", "result" }
+        NF == 1 { $3 = 1; printf "%-12s %46s\n", $1, "NOT RUN, since what it needs failed" }
+        NF > 3 { row($1, $4, $5, $6, "  " $2 " passed, " $3 " failed") }
+        { passed += $2; failed += $3; used += $6 }
         $5 > last { last = $5 }
         END {
-            printf "\n%-12s %7s %7s %7s %10s  %s\n", "part", "from", "to", "takes", "processor", "result"
-            for (n = 1; n <= NR; n++) {
-                if (!began[n]) { failed[n] = 1; printf "%-12s %46s\n", names[n], "NOT RUN, since what it needs failed" }
-                else printf "%-12s %7s %7s %7s %10s  %d passed, %d failed\n", names[n], clock(began[n] - first), clock(ended[n] - first),
-                    clock(ended[n] - began[n]), clock(used[n]), passed[n], failed[n]
-                all_passed += passed[n]; all_failed += failed[n]; all_used += used[n]
-            }
-            printf "%-12s %7s %7s %7s %10s\n\n%d passed, %d failed\n", "all", clock(0), clock(last - first), clock(last - first), clock(all_used),
-                all_passed, all_failed
-            exit all_failed > 0
+            row("all", first, last, used)
+            printf "\n%d passed, %d failed\n", passed, failed
+            exit failed > 0
         }'
 }
 
-verb=${1-}
-[ $# -eq 0 ] || shift
-case $verb in
-    part | table) "$verb" "$@" ;;
-    wait) wait_for "$@" ;;
-    --help) usage ;;
-    *) usage >&2; exit 2 ;;
+case ${1-} in
+    part | table) "$@" ;;
+    wait) wait_for "${@:2}" ;;
+    --help) show_help ;;
+    *) refuse_word "${1-}" ;;
 esac

@@ -9,11 +9,9 @@
 # if a case failed.
 . "$(dirname "$0")/common.sh"
 start_cases "$@"
-keyshow=$(realpath -m -- "${KEYSHOW:-out/bin/keyshow}")
-[ -x "$keyshow" ] || refuse "there is no $keyshow: make builds it, or KEYSHOW names another"
+want_keyshow
 
 page=docs/man/hedrugal.3
-version=$(library_version)
 major=${version%%.*}
 stage=$work/stage/usr/local
 strict=(-std=c99 -O1 -Wall -Wextra -pedantic -Werror)
@@ -25,26 +23,21 @@ over_built() { # words..
     make -s LIBRARY="$library" KEYSHOW="$keyshow" "$@"
 }
 
-# What lies below a folder: links with what they lead to, files with their modes.
-listed() { # folder
-    find "$1" -type l -printf '%P -> %l\n' -o -type f -printf '%P %m\n' | sort
-}
-
 check_files() {
-    {
-        echo 'bin/hedrugal-keys 755'
-        echo 'bin/keyshow 755'
-        echo 'include/hedrugal.h 644'
-        echo 'lib/libhedrugal.a 644'
-        echo "lib/libhedrugal.so -> libhedrugal.so.$version"
-        echo "lib/libhedrugal.so.$major -> libhedrugal.so.$version"
-        echo "lib/libhedrugal.so.$version 755"
-        echo 'lib/pkgconfig/hedrugal.pc 644'
-        echo 'share/man/man1/hedrugal-keys.1 644'
-        echo 'share/man/man1/keyshow.1 644'
-        echo 'share/man/man3/hedrugal.3 644'
-        library_calls | sed 's|.*|share/man/man3/&.3 -> hedrugal.3|'
-    } | sort | diff - <(listed "$stage")
+    sort << END | diff <(listed "$stage") -
+bin/hedrugal-keys 755
+bin/keyshow 755
+include/hedrugal.h 644
+lib/libhedrugal.a 644
+lib/libhedrugal.so -> libhedrugal.so.$version
+lib/libhedrugal.so.$major -> libhedrugal.so.$version
+lib/libhedrugal.so.$version 755
+lib/pkgconfig/hedrugal.pc 644
+share/man/man1/hedrugal-keys.1 644
+share/man/man1/keyshow.1 644
+share/man/man3/hedrugal.3 644
+$(library_calls | sed 's|.*|share/man/man3/&.3 -> hedrugal.3|')
+END
 }
 
 # What pkg-config answers, about this library alone.
@@ -54,14 +47,8 @@ asked() { # prefix libdir words..
 
 check_versions() {
     [ "$(asked "$stage" lib --modversion)" = "$version" ] &&
-        readelf -dW "$stage/lib/libhedrugal.so" | grep -F "soname: [libhedrugal.so.$major]" &&
         printf '#include <hedrugal.h>\nHED_VERSION_MAJOR.HED_VERSION_MINOR.HED_VERSION_PATCH HED_VERSION\n' |
         cc -E -P -I"$stage/include" - | tail -n 1 | tr -d ' ' | grep -xF "$version\"$version\""
-}
-
-# Exactly the calls of the header are exported.
-check_exports() {
-    diff <(nm -D --defined-only "$stage/lib/libhedrugal.so" | awk '{ print $3 }' | sort) <(library_calls | sort)
 }
 
 # Nothing of it is written or resolved while it runs, its stack isn't executed, and it needs the C library alone.
@@ -69,7 +56,7 @@ check_hardening() {
     readelf -dW "$stage/lib/libhedrugal.so" > "$work/dynamic" && readelf -lW "$stage/lib/libhedrugal.so" > "$work/segments" || return
     cat "$work/dynamic" "$work/segments"
     grep -q 'FLAGS.*BIND_NOW' "$work/dynamic" && ! grep -qE 'TEXTREL|RPATH|RUNPATH' "$work/dynamic" &&
-        [ "$(grep -o 'Shared library: .*' "$work/dynamic")" = 'Shared library: [libc.so.6]' ] &&
+        [ "$(needed "$stage/lib/libhedrugal.so")" = 'Shared library: [libc.so.6]' ] &&
         grep -q 'GNU_RELRO' "$work/segments" && grep -qE 'GNU_STACK .* RW +0x' "$work/segments" && ! grep -q 'RWE' "$work/segments"
 }
 
@@ -78,34 +65,29 @@ runs() {
     printf '\033[1;5Aq' | LD_LIBRARY_PATH=${1-} "$work/events" | diff - <(printf '%s\n' 'UpArrow ctrl' 'Char U+0071')
 }
 
-needed() {
-    readelf -dW "$work/events" | grep -o 'Shared library: .*'
-}
-
 check_shared() { # prefix libdir
     local flags
     read -ra flags <<< "$(asked "$1" "$2" --cflags --libs)" && cc "${strict[@]}" "$work/events.c" "${flags[@]}" -o "$work/events" &&
-        needed | grep -F "[libhedrugal.so.$major]" && runs "$1/$2"
+        needed "$work/events" | grep -F "[libhedrugal.so.$major]" && runs "$1/$2"
 }
 
 check_static() { # prefix libdir
     local flags
     read -ra flags <<< "$(asked "$1" "$2" --static --cflags --libs)" || return
     cc "${strict[@]}" "$work/events.c" -Wl,-Bstatic "${flags[@]}" -Wl,-Bdynamic -o "$work/events" || return
-    ! needed | grep hedrugal && runs && ! readelf -lW "$work/events" | grep RWE
+    ! needed "$work/events" | grep hedrugal && runs && ! readelf -lW "$work/events" | grep RWE
 }
 
-check_keyshow() {
-    printf '\033[1;5Az\033' | "$stage/bin/keyshow" > "$work/lines" && [ -s "$work/lines" ] &&
-        diff "$work/lines" <(sed -n '/| keyshow$/,/^\.Ed/p' "$stage/share/man/man1/keyshow.1" | sed '1d;$d')
+# Whether a program prints for these bytes what its manual page shows.
+check_program() { # name bytes
+    printf '%b' "$2" | "$stage/bin/$1" > "$work/lines" && [ -s "$work/lines" ] &&
+        diff "$work/lines" <(sed -n "/| $1\$/,/^\.Ed/p" "$stage/share/man/man1/$1.1" | sed '1d;$d')
 }
 
 # It needs the C library alone.
 check_keys() {
-    [ "$(readelf -dW "$stage/bin/hedrugal-keys" | grep -o 'Shared library: .*')" = 'Shared library: [libc.so.6]' ] &&
-        "$stage/bin/hedrugal-keys" --version | grep -xF "hedrugal-keys $version" &&
-        printf 'z\033[1;5A\033' | "$stage/bin/hedrugal-keys" > "$work/lines" && [ -s "$work/lines" ] &&
-        diff "$work/lines" <(sed -n '/| hedrugal-keys$/,/^\.Ed/p' "$stage/share/man/man1/hedrugal-keys.1" | sed '1d;$d')
+    [ "$(needed "$stage/bin/hedrugal-keys")" = 'Shared library: [libc.so.6]' ] &&
+        "$stage/bin/hedrugal-keys" --version | grep -xF "hedrugal-keys $version" && check_program hedrugal-keys 'z\033[1;5A\033'
 }
 
 # For another target the compiler says what the library is built for.
@@ -206,14 +188,6 @@ check_libdir() { # name
         grep -F -- "LIBDIR wants a folder's name below the prefix, and not '$1'" "$work/words" && [ -z "$(ls "$work/outer")" ]
 }
 
-# Finds how a program is given an empty /usr/local of its own.
-find_view() {
-    local user=(--map-root-user)
-    [ "$(id -u)" != 0 ] || user=()
-    view=(unshare "${user[@]}" --mount bash -c 'mount -t tmpfs none /usr/local && exec "$@"' bash)
-    "${view[@]}" true 2> /dev/null || view=()
-}
-
 # The usual prefix is the system's: its folders stay, empty or not.
 check_system_folders() {
     # shellcheck disable=SC2016
@@ -232,11 +206,11 @@ check_stale() {
 check 'install in a folder for packages' over_built install DESTDIR="$work/stage"
 check 'files' check_files
 check 'versions' check_versions
-check 'exports of the shared library' check_exports
+check 'exports of the shared library' check_exports "$stage/lib/libhedrugal.so"
 check 'hardening of the shared library' check_hardening
 check 'program with the shared library' check_shared "$stage" lib
 check 'program with the archive' check_static "$stage" lib
-check 'keyshow, as its manual page shows it' check_keyshow
+check 'keyshow, as its manual page shows it' check_program keyshow '\033[1;5Az\033'
 check 'hedrugal-keys, as its manual page shows it' check_keys
 for option in -m32 -mx32 -U__linux__; do check "header with $option" check_refused $option; done
 check 'calls in the manual page' check_calls_page
@@ -253,11 +227,8 @@ check 'uninstall among other files' check_uninstall
 check 'uninstall of nothing' check_nothing_to_uninstall
 check 'uninstall from a folder for packages' check_uninstall_of_stage
 for name in .. ../lib lib/../.. lib/./a . '' /lib lib/ lib//a 'a lib' 'a&b'; do check "folder of libraries '$name'" check_libdir "$name"; done
-find_view
-if [ ${#view[@]} -gt 0 ]; then
-    check 'folders of the system' check_system_folders
-else
-    echo "install_test: the system's folders aren't checked: this system gives no program a /usr/local of its own"
-fi
+find_view /usr/local
+if [ ${#view[@]} -gt 0 ]; then check 'folders of the system' check_system_folders
+else progress "the system's folders aren't checked: this system gives no program a /usr/local of its own"; fi
 check 'library of other sources' check_stale
 print_counts

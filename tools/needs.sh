@@ -5,13 +5,13 @@
 #
 # The part all stands for each of them. With --install it first installs what Debian has of it, where this user can.
 set -eu
-usage() { sed -n '2,/^set/{/^set/d;s/^# \{0,1\}//;p;}' "$0"; }
+. "$(dirname "$0")/common.sh"
 installs=no
 case ${1-} in
-    --help) usage; exit ;;
+    --help) show_help; exit ;;
     --install) installs=yes; shift ;;
 esac
-[ $# -gt 0 ] || { usage >&2; exit 2; }
+[ $# -gt 0 ] || refuse 'wants the names of parts'
 
 # Sets $lacking and $packages to what isn't there.
 look() { # parts..
@@ -19,20 +19,16 @@ look() { # parts..
     lacking='' packages=''
     while read -r thing package parts; do
         for part; do
-            if [[ $thing != '#' && " $parts all " == *" $part "* ]] && ! is_there "$thing"; then
-                lacking+=" ${thing##*/}"
-                [ "$package" = - ] || packages+=" $package"
-                break
-            fi
+            [[ $thing != '#' && " $parts all " == *" $part "* ]] && ! is_there "$thing" || continue
+            lacking+=" ${thing##*/}"
+            [ "$package" = - ] || packages+=" $package"
+            break
         done
     done < "$(dirname "$0")/needs.txt"
 }
 
 is_there() { # program, or a pattern of files
-    case $1 in
-        /*) compgen -G "$1" ;;
-        *) command -v "$1" ;;
-    esac > /dev/null
+    { [[ $1 == /* ]] && compgen -G "$1" || command -v "$1"; } > /dev/null
 }
 
 look "$@"

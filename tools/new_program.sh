@@ -11,20 +11,11 @@
 set -eu
 export LC_ALL=C
 . "$(dirname "$0")/common.sh"
-name='' folder=''
-for word; do
-    case $word in
-        --help) show_help; exit ;;
-        -*) refuse_word "$word" ;;
-        *)
-            if [ -z "$name" ]; then name=$word
-            elif [ -z "$folder" ]; then folder=$word
-            else refuse_word "$word"; fi ;;
-    esac
-done
-[ -n "$name" ] || refuse 'wants the name of the program'
+[ "${1-}" != --help ] || { show_help; exit; }
+[ $# = 1 ] || [ $# = 2 ] || refuse 'wants the name of the program, and at most a folder'
+[[ ${2-} != -* ]] || refuse_word "$2"
+name=$1 folder=${2:+$(realpath -m -- "$2")}
 need rt 'the Rattle kit'
-[ -z "$folder" ] || folder=$(realpath -m -- "$folder")
 cd "$(dirname "$0")/.."
 : "${folder:=$PWD}"
 
@@ -54,9 +45,7 @@ append_line() { # line
 
 [[ $name =~ ^[a-z][a-z0-9_]*$ ]] || refuse "a name is lowercase letters, digits and _, and not '$name'"
 [[ $name != *__* ]] || refuse "a name has no two underscores in a row, as '$name' has"
-for word in $words_of_rattle; do
-    [ "$name" != "$word" ] || refuse "$name is a word of the language"
-done
+[[ ! $words_of_rattle =~ (^|[[:space:]])$name($|[[:space:]]) ]] || refuse "$name is a word of the language"
 [ ! -e "$(dirname "$(rt doc)")/rlibs/$name.rlib" ] || refuse "the kit has a library $name"
 [ ! -e "$folder" ] || [ -d "$folder" ] || refuse "$folder is no folder"
 [ ! -e "$folder/crates/$name" ] || refuse "$folder/crates/$name is there already"
@@ -74,9 +63,7 @@ for crate in $(crates_below example); do
 done
 
 mkdir "$folder/crates/$name"
-for part in src specs proofs stdin stdout; do
-    [ ! -e "crates/example/$part" ] || cp -R "crates/example/$part" "$folder/crates/$name/"
-done
+cp -R crates/example/{src,proofs,stdin,stdout} "$folder/crates/$name/"
 find "$folder/crates/$name" '(' -name '*.rt' -o -name '*.antt' ')' -exec sed -i "s/\bRattle\.example\./Rattle.$name./g" {} +
 append_line "$name:$(line_of example crates.txt | cut -d: -f2)"
 

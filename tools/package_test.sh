@@ -11,12 +11,9 @@
 # environment. At last dpkg has to remove all that it installed. The last line is 'N passed, N failed', the status 1 if a case failed.
 . "$(dirname "$0")/common.sh"
 start_cases "$@"
-keyshow=$(realpath -m -- "${KEYSHOW:-out/bin/keyshow}")
-[ -x "$keyshow" ] || refuse "there is no $keyshow: make builds it, or KEYSHOW names another"
+want_keyshow
 
-version=$(library_version)
 major=${version%%.*}
-mapfile -t calls < <(library_calls | sort)
 debian=(hedrugal libhedrugal-dev libhedrugal0)
 tarball=hedrugal-$version-x86_64-linux
 packages=$work/packages unpacked=$work/unpacked root=$work/root
@@ -89,7 +86,7 @@ expected_files() { # package
             echo "$libdir/pkgconfig/hedrugal.pc 644"
             printf "usr/share/doc/$1/examples/%s 644\n" ask.c events.c live.c
             echo 'usr/share/man/man3/hedrugal.3.gz 644'
-            printf 'usr/share/man/man3/%s.3.gz -> hedrugal.3.gz\n' "${calls[@]}" ;;
+            library_calls | sed 's|.*|usr/share/man/man3/&.3.gz -> hedrugal.3.gz|' ;;
         libhedrugal0)
             echo "$libdir/libhedrugal.so.$major -> libhedrugal.so.$version"
             echo "$libdir/libhedrugal.so.$version 644" ;;
@@ -97,35 +94,28 @@ expected_files() { # package
 }
 
 check_files() { # package
-    diff <(expected_files "$1" | sort) <(cd "$unpacked/$1" && find usr -type l -printf '%p -> %l\n' -o -type f -printf '%p %m\n' | sort) &&
+    diff <(expected_files "$1" | sort) <(listed "$unpacked/$1" | grep -v ^DEBIAN/) &&
         ! dpkg-deb -c "$packages/$1"_*.deb | grep -v ' root/root '
 }
 
-# Whether a package has these fields. What it depends on is left to other cases.
-check_fields() { # package section multi-arch
+# What dpkg-shlibdeps says that files need.
+dependency_of() { # files..
+    mkdir -p "$work/source/debian" && printf 'Source: any\n\nPackage: any\nArchitecture: any\n' > "$work/source/debian/control" &&
+        (cd "$work/source" && dpkg-shlibdeps -O "$@") | sed 's/^shlibs:Depends=//'
+}
+
+check_fields() { # package section multi-arch dependency
     # shellcheck disable=SC2016
-    local fields='${Package} ${source:Package} ${Version} ${Architecture} ${Section} ${Multi-Arch}'
-    diff <(dpkg-deb -W --showformat="$fields" "$packages/$1"_*.deb) <(printf '%s' "$1 hedrugal $version-1 amd64 $2 $3")
+    local fields='${Package} ${source:Package} ${Version} ${Architecture} ${Section} ${Multi-Arch} ${Depends}\n'
+    [ -n "$4" ] && diff <(dpkg-deb -W --showformat="$fields" "$packages/$1"_*.deb) <(echo "$1 hedrugal $version-1 amd64 $2 $3 $4")
 }
 
-check_dev_dependency() {
-    [ "$(dpkg-deb -f "$packages"/libhedrugal-dev_*.deb Depends)" = "libhedrugal0 (= $version-1)" ]
-}
-
-# The name by which programs ask for the library, and what it exports: the calls of the header, as the package's file of symbols has them.
-check_exports() {
+# What the library exports is in the package's file of symbols too.
+check_library() {
     local control=$unpacked/libhedrugal0/DEBIAN
-    readelf -dW "$system_library" | grep -F "soname: [libhedrugal.so.$major]" &&
-        diff <(nm -D --defined-only "$system_library" | awk '{ print $3 }' | sort) <(printf '%s\n' "${calls[@]}") &&
-        diff <(sed -n 's/^ \(.*\)@Base .*/\1/p' "$control/symbols") <(printf '%s\n' "${calls[@]}") &&
+    check_exports "$system_library" && diff <(sed -n 's/^ \(.*\)@Base .*/\1/p' "$control/symbols") <(library_calls | sort) &&
         grep -xF "libhedrugal $major libhedrugal0 (>= $version)" "$control/shlibs" &&
         grep -xF 'activate-noawait ldconfig' "$control/triggers"
-}
-
-# What dpkg-shlibdeps says that files need is what their package depends on.
-check_dependency() { # package files..
-    mkdir -p "$work/source/debian" && printf 'Source: any\n\nPackage: any\nArchitecture: any\n' > "$work/source/debian/control" || return
-    diff <(cd "$work/source" && dpkg-shlibdeps -O "${@:2}") <(echo "shlibs:Depends=$(dpkg-deb -f "$packages/$1"_*.deb Depends)")
 }
 
 # No instruction of AVX, BMI and other extensions that a processor of the level x86-64-v2 may lack.
@@ -199,19 +189,19 @@ check_third_party() {
     done < "$work/crates"
 }
 
-# The list of parts has this library, the kit and those crates, but for the kit's own, and says of each that it is linked.
+# The list of parts has this library, and the kit and those crates, but for the kit's own, as linked with it.
 check_parts() {
     local program='
 import json, sys
 document = json.load(sys.stdin)
-assert document["spdxVersion"] == "SPDX-2.3"
-described, *linked = document["relationships"]
-assert (described["relationshipType"], described["relatedSpdxElement"]) == ("DESCRIBES", "SPDXRef-hedrugal")
-assert {it["relationshipType"] for it in linked} == {"STATIC_LINK"}
 names = {it["SPDXID"]: it["name"] for it in document["packages"]}
-print("hedrugal", *(names[it["relatedSpdxElement"]] for it in linked), sep="\n")'
-    diff <({ kit_crates | grep -vxE 'core|std|std_alloc'; printf '%s\n' hedrugal rattle-kit; } | sort) \
-        <(/usr/bin/python3 -c "$program" < "$unpacked/$tarball/hedrugal.spdx.json" | sort)
+print(document["spdxVersion"])
+for it in document["relationships"]:
+    print(it["relationshipType"], names[it["relatedSpdxElement"]])'
+    {
+        printf '%s\n' SPDX-2.3 'DESCRIBES hedrugal' 'STATIC_LINK rattle-kit'
+        kit_crates | grep -vxE 'core|std|std_alloc' | sed 's/^/STATIC_LINK /'
+    } | sort | diff - <(/usr/bin/python3 -c "$program" < "$unpacked/$tarball/hedrugal.spdx.json" | sort)
 }
 
 # A folder in place of the system's root, for which dpkg knows the C library alone.
@@ -230,65 +220,40 @@ path_without_rt() {
     tr : '\n' <<< "$PATH" | while read -r folder; do [ -e "$folder/rt" ] || printf '%s:' "$folder"; done
 }
 
-# Finds how a program is given a view in which the folders of the kit and of this repository are empty.
-find_view() {
-    local user=(--map-root-user)
-    [ "$(id -u)" != 0 ] || user=()
-    # shellcheck disable=SC2016
-    view=(unshare "${user[@]}" --mount bash -c 'mount -t tmpfs none "$0" && mount -t tmpfs none "$1" && shift && exec "$@"' "$kit" "$top")
-    "${view[@]}" true 2> /dev/null || {
-        view=()
-        progress 'note: the kit is only taken off the path, since this system lets no program hide folders'
-    }
-}
-
-# Writes the listings of a section of docs/packages.md as one script: each prints to a file N.out, and has a file N.done once it has ended.
-# What the page says that it prints is in N.wanted.
-write_listings() { # heading folder
-    mkdir "$2"
-    awk -v heading="$1" -v folder="$2" '
+# Prints the listings of a section of docs/packages.md as a script. Each prints to a file NAME.printed of $work/listings, and what the page says
+# that it prints is in NAME.wanted.
+section() { # heading
+    awk -v heading="$1" -v at="$work/listings/${1#'## '}, listing " '
         /^## / { inside = $0 == heading }
         !inside { next }
-        $0 == "```sh" { kind = "sh"; at = folder "/" ++count; printf "" > (at ".wanted"); print "{"; next }
-        $0 == "```" && kind == "sh" { printf "} > \"%s.out\" 2> \"%s.err\"\ntouch \"%s.done\"\n", at, at, at; kind = ""; next }
-        $0 == "```" { kind = kind == "" ? "wanted" : ""; next }
+        /^```/ { kind = kind != "" ? "" : $0 == "```sh" ? "sh" : "wanted" }
+        $0 == "```sh" { file = at (++count); printf "" > (file ".wanted"); printf "exec > \"%s.printed\"\n", file }
+        /^```/ { next }
         kind == "sh" { gsub("/usr/share/", "$ROOT&"); print }
-        kind == "wanted" { print > (at ".wanted") }
+        kind == "wanted" { print > (file ".wanted") }
         END { exit !count }' docs/packages.md
 }
 
-# Writes a script of steps, each a command or, as "## HEADING", a section of docs/packages.md.
-write_session() { # folder steps..
-    local at=$1
-    shift
-    echo 'set -eu'
-    for step; do
+# Runs steps in one shell, in a folder with the packages. Each is a command or, as "## HEADING", a section of docs/packages.md.
+run_steps() { # folder steps..
+    local step
+    mkdir -p "$1" "$work/listings" && cp "$packages"/* "$1/" || return
+    for step in "${@:2}"; do
         case $step in
-            '## '*) write_listings "$step" "$at/${step#'## '}" ;;
+            '## '*) section "$step" || return ;;
             *) echo "$step" ;;
         esac
-    done
+    done > "$work/script"
+    (cd "$1" && without_kit bash -eu "$work/script" < /dev/null)
 }
 
-check_listing() { # name of its files
-    [ -f "$1.out" ] || { echo 'an earlier step failed'; return 1; }
-    cat "$1.err"
-    diff "$1.wanted" "$1.out" && [ -f "$1.done" ]
-}
-
-# Runs the steps in one shell, in a folder with the packages, and counts each of their listings as a case.
-run_session() { # name folder steps..
-    local name=$1 folder=$2 at=$work/$1
-    shift 2
-    mkdir -p "$folder" "$at"
-    cp "$packages"/* "$folder/"
-    progress "runs the listings of docs/packages.md, $name"
-    write_session "$at" "$@" > "$at/script"
-    (cd "$folder" && without_kit bash "$at/script" < /dev/null)
-    for step; do
-        for wanted in "$at/${step#'## '}"/*.wanted; do
-            [ ! -f "$wanted" ] || check "$name: ${step#'## '}, listing $(basename "$wanted" .wanted)" check_listing "${wanted%.wanted}"
-        done
+# Counts such a run as a case, and what each of its listings prints.
+check_steps() { # name folder steps..
+    local wanted
+    rm -rf "$work/listings"
+    check "$1" run_steps "${@:2}"
+    for wanted in "$work/listings"/*.wanted; do
+        check "$1: $(basename "$wanted" .wanted)" diff "$wanted" "${wanted%.wanted}.printed"
     done
 }
 
@@ -321,13 +286,10 @@ check 'checksums' check_checksums
 check 'Debian packages by lintian' check_by_lintian
 check 'packages unpacked' unpack
 for package in "${debian[@]}"; do check "files of $package" check_files "$package"; done
-check 'fields of hedrugal' check_fields hedrugal utils no
-check 'fields of libhedrugal-dev' check_fields libhedrugal-dev libdevel same
-check 'fields of libhedrugal0' check_fields libhedrugal0 libs same
-check 'dependency of libhedrugal-dev' check_dev_dependency
-check 'dependency of libhedrugal0' check_dependency libhedrugal0 "$system_library"
-check 'dependency of hedrugal' check_dependency hedrugal "$unpacked"/hedrugal/usr/bin/*
-check 'name and exports of the library' check_exports
+check 'fields of hedrugal' check_fields hedrugal utils no "$(dependency_of "$unpacked"/hedrugal/usr/bin/*)"
+check 'fields of libhedrugal-dev' check_fields libhedrugal-dev libdevel same "libhedrugal0 (= $version-1)"
+check 'fields of libhedrugal0' check_fields libhedrugal0 libs same "$(dependency_of "$system_library")"
+check 'name and exports of the library' check_library
 for file in "$system_library" "$unpacked"/hedrugal/usr/bin/*; do check "processor for ${file##*/}" check_processor "$file"; done
 check 'wheel' check_wheel
 check 'Python module' check_python
@@ -335,13 +297,15 @@ check "modes of the tarball's files" check_modes
 check 'notices' check_notices
 check 'notices of the kit' check_third_party
 check 'list of parts' check_parts
-find_view
+find_view "$kit" "$top"
+[ ${#view[@]} -gt 0 ] || progress 'note: the kit is only taken off the path, since this system lets no program hide folders'
 check 'view without the kit' check_view
 check 'root for dpkg' make_root
-on_system run_session 'from the Debian packages' "$work/system" '## Debian packages' \
+progress 'runs the listings of docs/packages.md'
+on_system check_steps 'from the Debian packages' "$work/system" '## Debian packages' \
     'tar xzf hedrugal-*.tar.gz; cd hedrugal-*-linux' '## Rust'
-on_system run_session 'after the Debian packages' "$work/removal" '## Removal'
+on_system check_steps 'after the Debian packages' "$work/removal" '## Removal'
 check 'nothing is left' check_removed
-run_session 'from the tarball' "$work/a folder" '## Tarball' 'sed -n "s/^    \\b//p" README | bash -eu > /dev/null' '## Rust'
-run_session 'from the wheel' "$work/wheel" '## Python wheel'
+check_steps 'from the tarball' "$work/a folder" '## Tarball' 'sed -n "s/^    \\b//p" README | bash -eu > /dev/null' '## Rust'
+check_steps 'from the wheel' "$work/wheel" '## Python wheel'
 print_counts
