@@ -47,6 +47,9 @@ help: ## prints this
 	@echo 'DESTDIR=DIR    a folder that is put before the prefix, as a package is made'
 	@echo 'CC, CFLAGS, CPPFLAGS, LDFLAGS, AR, OBJCOPY, PYTHON, as usual'
 
+out/build out/lib out/bin:
+	@mkdir -p $@
+
 # What is proved. By itself a target is proved and built by rt, over what earlier runs kept in crates/*/out. With GATE it is built over what
 # the running `rt ci` has proved: see the gate, below.
 crate_files := crates.txt $(shell find crates -name out -prune -o -name must-fail -prune -o -type f -print)
@@ -72,31 +75,29 @@ out/gate/libraries.proved:
 out/gate/%.proved:
 	@tools/gate.sh wait $* && touch $@
 
-out/build/libhedrugal.a: $(proved_libraries)
-	@mkdir -p out/build
+out/build/libhedrugal.a: $(proved_libraries) | out/build
 	@tools/gate.sh part library '(cd crates/hedrugal && $(call static_library,hedrugal,$(call libraries_of,hedrugal),$@)) && \
 		tools/axioms.sh hedrugal out/gate/library.log'
 
-out/build/keyshow.log: $(proved_libraries)
-	@mkdir -p out/build
+out/build/keyshow.log: $(proved_libraries) | out/build
 	@cd crates/keyshow && rattle check --crate-name keyshow src/main.rt $(call over,$(call libraries_of,keyshow)) $(call logged,keyshow)
 
 crates/%/out/keyshow crates/%/out/test_refusals: out/gate/%.proved ;
 else
 proved_libraries := $(crate_files)
-out/build/libhedrugal.a: $(crate_files)
-	@tools/needs.sh library && mkdir -p out/build
+out/build/libhedrugal.a: $(crate_files) | out/build
+	@tools/needs.sh library
 	@echo 'make: proves and builds the crate hedrugal and those below it; out/build/hedrugal.log shows how far it is'
 	@cd crates/hedrugal && rt lib --list-axioms $(call logged,hedrugal)
 	@tools/axioms.sh hedrugal out/build/hedrugal.log
 	@cp crates/hedrugal/out/libhedrugal.a $@
 
-out/build/keyshow.log: $(crate_files)
-	@tools/needs.sh axioms && mkdir -p out/build
+out/build/keyshow.log: $(crate_files) | out/build
+	@tools/needs.sh axioms
 	@cd crates/keyshow && rt check --list-axioms $(call logged,keyshow)
 
-crates/keyshow/out/keyshow crates/test_refusals/out/test_refusals: $(crate_files)
-	@tools/needs.sh library && mkdir -p out/build
+crates/keyshow/out/keyshow crates/test_refusals/out/test_refusals: $(crate_files) | out/build
+	@tools/needs.sh library
 	@echo 'make: proves and builds the crate $(@F) and those below it; out/build/$(@F).log shows how far it is'
 	@cd crates/$(@F) && rm -f out/$(@F) && { rt run < /dev/null || [ -x out/$(@F) ]; } $(call logged,$(@F))
 	@touch $@
@@ -111,18 +112,15 @@ out/build/hedrugal.o: out/build/libhedrugal.a
 	$(OBJCOPY) --wildcard --keep-global-symbol='hed_*' $@
 
 ifndef LIBRARY
-out/lib/libhedrugal.a: out/build/hedrugal.o
-	@mkdir -p out/lib
+out/lib/libhedrugal.a: out/build/hedrugal.o | out/lib
 	rm -f $@ && $(AR) rcs $@ $<
 
 # (Its other names are no symbolic links here: rt refuses those in a repository.)
-out/lib/libhedrugal.so.$(VERSION): out/build/hedrugal.o c/hedrugal.map
-	@mkdir -p out/lib
+out/lib/libhedrugal.so.$(VERSION): out/build/hedrugal.o c/hedrugal.map | out/lib
 	$(CC) -shared -Wl,-soname,$(SONAME) -Wl,--version-script=c/hedrugal.map -Wl,-z,now,-z,relro,-z,noexecstack -o $@ $<
 	ln -f $@ out/lib/$(SONAME) && ln -f $@ out/lib/libhedrugal.so
 
-out/lib/hedrugal.h out/lib/hedrugal.pc: out/lib/%: c/%
-	@mkdir -p out/lib
+out/lib/hedrugal.h out/lib/hedrugal.pc: out/lib/%: c/% | out/lib
 	cp $< $@
 else
 $(library_files):
@@ -133,19 +131,16 @@ endif
 endif
 
 # A program in Rattle, of tools/measure, as a static library.
-out/build/lib%.a: tools/measure/%.rt.txt $(proved_libraries)
-	@mkdir -p out/build
+out/build/lib%.a: tools/measure/%.rt.txt $(proved_libraries) | out/build
 	@$(if $(GATE),,cd crates/termwiz_input && rt lib $(call logged,termwiz_input))
 	@folder=$$(mktemp -d) && trap 'rm -rf "$$folder"' EXIT && mkdir "$$folder/src" && cp $< "$$folder/src/lib.rt" && cd "$$folder" && \
 		{ $(call static_library,$*,termwiz_input,$@); } $(call logged,$*)
 
 # The programs.
-out/bin/keyshow: crates/keyshow/out/keyshow
-	@mkdir -p out/bin
+out/bin/keyshow: crates/keyshow/out/keyshow | out/bin
 	cp $< $@
 
-out/bin/hedrugal-keys: $(wildcard keys/*.[ch]) $(lib)/libhedrugal.a
-	@mkdir -p out/bin
+out/bin/hedrugal-keys: $(wildcard keys/*.[ch]) $(lib)/libhedrugal.a | out/bin
 	$(CC) -std=c11 $(CPPFLAGS) $(CFLAGS) -fPIE -I$(lib) keys/*.c $(lib)/libhedrugal.a $(LDFLAGS) -pie -o $@
 
 # Install. Relative folders are those of the folder in which make runs.

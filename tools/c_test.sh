@@ -35,7 +35,7 @@ build() { # name program [words..]
 }
 
 memcheck() { # words..
-    limited valgrind --quiet --error-exitcode=9 --leak-check=full --errors-for-leak-kinds=all "$@"
+    timeout 300 valgrind --quiet --error-exitcode=9 --leak-check=full --errors-for-leak-kinds=all "$@"
 }
 
 check 'names in the archive' check_names
@@ -52,16 +52,16 @@ check 'build of their refusals' build test_extended_refusals extended_refusals "
 check 'build of shared tables' build test_sharing sharing -pthread
 check 'asking program as C99' build ask ask
 check 'live program as C99' build live live
-check 'calls' limited "$work/calls" c/numbers.txt
-check 'calls of the shared library' limited "$work/calls_shared" c/numbers.txt
-check 'refusals' limited "$work/refusals"
-check 'extended calls' limited "$work/extended"
-check 'refusals of extended calls' limited "$work/extended_refusals"
-check 'shared tables' limited "$work/sharing"
+check 'calls' timeout 300 "$work/calls" c/numbers.txt
+check 'calls of the shared library' timeout 300 "$work/calls_shared" c/numbers.txt
+check 'refusals' timeout 300 "$work/refusals"
+check 'extended calls' timeout 300 "$work/extended"
+check 'refusals of extended calls' timeout 300 "$work/extended_refusals"
+check 'shared tables' timeout 300 "$work/sharing"
 check 'calls under valgrind' memcheck "$work/calls" c/numbers.txt
 check 'refusals under valgrind' memcheck "$work/refusals" 1000
 check 'extended calls under valgrind' memcheck "$work/extended"
 check 'refusals of extended calls under valgrind' memcheck "$work/extended_refusals" 1000
 check 'shared tables under valgrind' memcheck "$work/sharing"
-check 'shared tables under helgrind' limited valgrind --tool=helgrind --quiet --error-exitcode=9 "$work/sharing"
+check 'shared tables under helgrind' timeout 300 valgrind --tool=helgrind --quiet --error-exitcode=9 "$work/sharing"
 print_counts

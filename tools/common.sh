@@ -133,11 +133,6 @@ check() { # name words..
     fi
 }
 
-# Runs a program for at most five minutes.
-limited() { # words..
-    timeout 300 "$@"
-}
-
 # Prints how many cases passed and failed. The status is 1 if one failed.
 print_counts() {
     echo "$passed passed, $failed failed"

@@ -26,15 +26,13 @@ words_of_rattle='abbrev as async await axiom break const continue core crate dat
 
 # Prints the line of a crate in a crates.txt.
 line_of() { # crate file
-    awk -F: -v wanted="$1" '{ split($1, words, " "); if (words[1] == wanted) print }' "$2"
+    grep -E "^$1[ :]" "$2"
 }
 
-# Prints the crates of this repository that a crate stands on, lowest first.
+# Prints the crates of this repository that a crate stands on, lowest first, as crates.txt has them.
 crates_below() { # crate
-    local below
-    for below in $(line_of "$1" crates.txt | cut -d: -f2); do
-        [ ! -d "crates/$below" ] || echo "$(crates_below "$below") $below"
-    done | tr ' ' '\n' | awk 'NF && !seen[$0]++'
+    tac crates.txt | awk -F '[: ]+' -v crate="$1" -v wanted=" $1 " \
+        'index(wanted, " " $1 " ") { if ($1 != crate) print $1; wanted = wanted $0 " " }' | tac
 }
 
 # Appends a line to crates.txt there.
@@ -49,7 +47,7 @@ append_line() { # line
 [ ! -e "$(dirname "$(rt doc)")/rlibs/$name.rlib" ] || refuse "the kit has a library $name"
 [ ! -e "$folder" ] || [ -d "$folder" ] || refuse "$folder is no folder"
 [ ! -e "$folder/crates/$name" ] || refuse "$folder/crates/$name is there already"
-[ ! -f "$folder/crates.txt" ] || [ -z "$(line_of "$name" "$folder/crates.txt")" ] || refuse "$folder/crates.txt has a line for $name already"
+[ ! -f "$folder/crates.txt" ] || ! line_of "$name" "$folder/crates.txt" > /dev/null || refuse "$folder/crates.txt has a line for $name already"
 
 mkdir -p "$folder/crates"
 [ -e "$folder/crates.txt" ] || echo '# NAME: the crates that it stands on' > "$folder/crates.txt"
@@ -59,7 +57,7 @@ for crate in $(crates_below example); do
         mkdir "$folder/crates/$crate"
         tar -C "crates/$crate" --exclude=./out -cf - . | tar -C "$folder/crates/$crate" -xf -
     fi
-    [ -n "$(line_of "$crate" "$folder/crates.txt")" ] || append_line "$(line_of "$crate" crates.txt)"
+    line_of "$crate" "$folder/crates.txt" > /dev/null || append_line "$(line_of "$crate" crates.txt)"
 done
 
 mkdir "$folder/crates/$name"

@@ -7,7 +7,7 @@
 # memory in turn. cargo asks no registry. The last line is 'N passed, N failed', the status 1 if a case failed.
 . "$(dirname "$0")/common.sh"
 start_cases "$@"
-export KEYSHOW=${KEYSHOW:-$PWD/out/bin/keyshow}
+export KEYSHOW=$keyshow
 # Where Debian's packages have the sources of Rust crates.
 system_crates=/usr/share/cargo/registry
 
@@ -42,9 +42,10 @@ rust_serde_tests() {
         --config 'source.crates-io.replace-with="system"' --config "source.system.directory=\"$system_crates\""
 }
 
-# Builds a program over the package in a new folder, with these variables in place of the one that names the library.
+# Builds a program over the package in a new folder, with these variables in place of the one that names the library, beside $work/lib.
 rust_builds() { # NAME=VALUE..
     rm -rf "$work/found"
+    cd "$work/shared" || return
     env -u HEDRUGAL_LIBRARY CARGO_TARGET_DIR="$work/found" "$@" \
         cargo build --quiet --locked --offline --manifest-path "$top/rust/Cargo.toml" --example measure
 }
@@ -53,10 +54,6 @@ rust_builds() { # NAME=VALUE..
 rust_finds() { # NAME=VALUE..
     rust_builds "$@" || return
     printf 'q\033[A' > "$work/keys" && env "$@" "$work/found/debug/examples/measure" "$work/keys" 1 | grep -x '[0-9]* 2 0'
-}
-
-rust_finds_from() { # folder NAME=VALUE..
-    cd "$1" && rust_finds "${@:2}"
 }
 
 # The build stops with a message of two lines, of which the first says this.
@@ -78,7 +75,7 @@ check 'tests under valgrind' rust_memcheck --test parser --test keymap -- \
 mkdir "$work/shared" && cp -a "$library"/libhedrugal.so* "$work/shared/" || exit
 ln -s "$library" "$work/lib"
 check 'absolute folder' rust_finds HEDRUGAL_LIBRARY="$library"
-check 'relative folder' rust_finds_from "$work/shared" HEDRUGAL_LIBRARY=../lib
+check 'relative folder' rust_finds HEDRUGAL_LIBRARY=../lib
 check 'file of the archive' rust_finds HEDRUGAL_LIBRARY="$library/libhedrugal.a"
 check 'shared library' rust_finds HEDRUGAL_LIBRARY="$work/shared" LD_LIBRARY_PATH="$work/shared"
 # A folder in which linkers look unasked isn't named by pkg-config itself.

@@ -45,18 +45,6 @@ def found(pattern, file):
     return re.search(pattern, (TOP / file).read_text(), re.MULTILINE)[1]
 
 
-def parts(version):
-    """Returns this library, and after it what it is linked with."""
-    holders = found("^(Copyright .*)$", "LICENSE")
-    origin = "a port of the key input of termwiz 0.23.3, MIT, by Wez Furlong"
-    kit = "its libraries core, std, std_alloc and those below them"
-    return [
-        package("hedrugal", version, "MIT", "MIT", holders, comment=origin),
-        package("rattle-kit", None, "NONE", "NOASSERTION", "NONE", comment=kit),
-        *kit_crates(),
-    ]
-
-
 def relation(element, kind, other):
     return {"spdxElementId": element, "relationshipType": kind, "relatedSpdxElement": other}
 
@@ -64,7 +52,16 @@ def relation(element, kind, other):
 def document():
     version = found('^#define HED_VERSION "(.*)"$', "c/hedrugal.h")
     name = f"hedrugal-{version}"
-    packages = parts(version)
+    origin = "a port of the key input of termwiz 0.23.3, MIT, by Wez Furlong"
+    kit = "its libraries core, std, std_alloc and those below them"
+    packages = [
+        package(
+            "hedrugal", version, "MIT", "MIT", found("^(Copyright .*)$", "LICENSE"), comment=origin
+        ),
+        package("rattle-kit", None, "NONE", "NOASSERTION", "NONE", comment=kit),
+        *kit_crates(),
+    ]
+    # This library, and what it is linked with.
     library, *linked = [it["SPDXID"] for it in packages]
     number = uuid.uuid5(uuid.NAMESPACE_URL, json.dumps(packages))
     date = time.gmtime(int(os.environ.get("SOURCE_DATE_EPOCH", time.time())))
