@@ -29,7 +29,7 @@ lib := $(or $(LIBRARY),out/lib)
 keyshow := $(or $(KEYSHOW),out/bin/keyshow)
 library_files := $(addprefix $(lib)/,libhedrugal.a libhedrugal.so.$(VERSION) hedrugal.h hedrugal.pc)
 
-.PHONY: all library clean help
+.PHONY: all library clean help libdir install uninstall check lint format gate gate-parts
 all: library $(keyshow) out/bin/hedrugal-keys ## builds the library and the programs, in out/lib and out/bin; what needs a proof is proved
 
 library: $(library_files) ## builds the library alone
@@ -63,8 +63,9 @@ over = $(foreach it,std $(1),--extern $(it)=$(call rlibs_of,$(it))/$(it).rlib) -
 # The command that proves a folder's src/lib.rt and writes a static library: NAME,LIBRARIES,FILE
 static_library = rattle build --crate-name $(1) src/lib.rt $(call over,$(2)) --links $(1)= --crate-type staticlib \
 	--toolchain $(kit)/toolchain --backend llvm -o $(abspath $(3))
-# Keeps what a command prints in a file of out/build, and shows it if the command fails.
-logged = > $(abspath out/build/$(1).log) 2>&1 || { cat $(abspath out/build/$(1).log) >&2; exit 1; }
+# Keeps what a command prints in a file of out/build, or of the folder in which packages are made, and shows it if the command fails.
+logged = > $(abspath $(log_folder)/$(1).log) 2>&1 || { cat $(abspath $(log_folder)/$(1).log) >&2; exit 1; }
+log_folder = $(or $(dist_work),out/build)
 
 ifdef GATE
 # (A wait takes no processor, and one of the JOBS.)
@@ -153,7 +154,6 @@ installed = include/hedrugal.h $(addprefix $(LIBDIR)/,libhedrugal.a libhedrugal.
 # hedrugal.pc names no folder but by where it lies itself, so the prefix may be moved as a whole.
 up = $(shell realpath -ms --relative-to='/$(LIBDIR)/pkgconfig' /)
 
-.PHONY: libdir install uninstall
 libdir:
 	@[[ '/$(LIBDIR)/' != *//* && '/$(LIBDIR)/' != */.*/* && '$(LIBDIR)' != *[^A-Za-z0-9_+./-]* ]] || \
 	{ echo "make: LIBDIR wants a folder's name below the prefix, and not '$(LIBDIR)'" >&2; exit 1; }
@@ -197,7 +197,6 @@ every_check := lint numbers c rust python programs page install packages docs fu
 # What the tests of a part read.
 export HEDRUGAL_LIBRARY := $(abspath $(lib))
 export HEDRUGAL_KEYS := $(abspath out/bin/hedrugal-keys)
-check_env = KEYSHOW=$(abspath $(keyshow))
 
 check-lint := pre-commit run --all-files
 check-numbers := tools/numbers.py --check
@@ -215,14 +214,14 @@ check-growth := tools/growth.sh out/build/libfeed.a
 check-refusals := tools/refusals.sh
 check-listings := tools/docs.sh --library $(lib) --built --only sh,keyshow
 
-.PHONY: check lint format $(addprefix check-,$(every_check))
+.PHONY: gate-ci gate-library $(foreach it,$(every_check),check-$(it) gate-$(it))
 $(foreach it,$(filter-out lint numbers axioms,$(every_check)),check-$(it) gate-$(it)): all
 check-growth gate-growth: out/build/libfeed.a
 check-refusals gate-refusals: crates/test_refusals/out/test_refusals
 check-axioms gate-axioms: out/build/keyshow.log
 $(addprefix check-,$(every_check)): check-%:
 	@tools/needs.sh $*
-	@$(check_env) $($@)
+	@KEYSHOW=$(abspath $(keyshow)) $($@)
 
 # A part that was left out is named.
 check: all ## runs the tests that need no kit; CHECKS="c rust" names the parts, of which check-NAME is one alone
@@ -250,7 +249,6 @@ JOBS ?= 6
 gate_parts := ci library lint numbers rust c packages programs page docs growth listings refusals python install axioms fuzz
 gate_checks := $(filter-out ci library,$(gate_parts))
 
-.PHONY: gate gate-parts $(addprefix gate-,$(gate_parts))
 gate: ## proves everything from nothing, tries the must-fail edits, and runs every test
 	@tools/needs.sh all
 	@rm -rf out crates/*/out/rlib

@@ -2,7 +2,7 @@
 # make the same bytes, in any folder. All dates are SOURCE_DATE_EPOCH, or that of the newest entry of debian/changelog.
 DIST ?= out/dist
 
-.PHONY: dist dist-needs
+.PHONY: dist dist-needs dist-files dist-source dist-tree dist-tarball dist-wheel dist-debs
 dist: dist-needs all ## makes the Debian packages, the tarball, the Python wheel and their checksums, in the folder DIST
 	@umask 022; work=$$(mktemp -d); trap 'rm -rf "$$work"' EXIT; $(MAKE) --silent --no-print-directory dist-files dist_work="$$work"
 
@@ -14,10 +14,7 @@ export SOURCE_DATE_EPOCH := $(or $(SOURCE_DATE_EPOCH),$(shell dpkg-parsechangelo
 source := $(dist_work)/source
 tarball := hedrugal-$(VERSION)-x86_64-linux
 tree := $(dist_work)/$(tarball)
-# Shows what was logged if a command fails: NAME
-dist_logged = > $(dist_work)/$(1).log 2>&1 || { cat $(dist_work)/$(1).log >&2; exit 1; }
 
-.PHONY: dist-files dist-source dist-tree dist-tarball dist-wheel dist-debs
 # Files of another name stay in DIST, and those of an earlier version go.
 dist-files: dist-tarball dist-wheel dist-debs
 	cd $(dist_work)/made && sha256sum -- * > ../SHA256SUMS
@@ -34,7 +31,7 @@ dist-source:
 
 # What the tarball has. The library and the programs are stripped of what they don't need to be linked or run.
 dist-tree: dist-source
-	$(MAKE) --silent install DESTDIR=$(tree) PREFIX=/ LIBDIR=lib $(call dist_logged,install)
+	$(MAKE) --silent install DESTDIR=$(tree) PREFIX=/ LIBDIR=lib $(call logged,install)
 	strip -D --strip-debug --remove-section=.comment $(tree)/lib/libhedrugal.a
 	strip --strip-unneeded --remove-section=.comment --remove-section=.note $(tree)/lib/libhedrugal.so.$(VERSION) $(tree)/bin/*
 	mkdir $(tree)/c $(tree)/python
@@ -51,7 +48,7 @@ dist-tarball: dist-tree
 dist-wheel: dist-tree
 	echo 'make: makes the wheel'
 	HEDRUGAL_LIBRARY=$(tree)/lib $(PYTHON) -m build --wheel --no-isolation --outdir $(dist_work)/made $(source)/python \
-		$(call dist_logged,wheel)
+		$(call logged,wheel)
 
 # (The variables of this make aren't those of the one in the copy.)
 dist-debs: dist-tree
@@ -59,6 +56,6 @@ dist-debs: dist-tree
 	mkdir $(source)/built
 	cp $(tree)/lib/libhedrugal.* $(tree)/include/hedrugal.h c/hedrugal.pc $(tree)/bin/keyshow $(source)/built/
 	cd $(source) && env -u MAKEFLAGS -u MFLAGS -u MAKELEVEL LIBRARY=built KEYSHOW=built/keyshow dpkg-buildpackage \
-		--build=binary --no-sign $(call dist_logged,debs)
+		--build=binary --no-sign $(call logged,debs)
 	mv $(dist_work)/*.deb $(dist_work)/made/
 endif

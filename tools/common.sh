@@ -66,13 +66,13 @@ run_quietly() { # words..
 }
 
 # Goes to the top of the repository, and sets $work to a folder that is removed at the end, $library to that of HEDRUGAL_LIBRARY, which is
-# out/lib unless it is set, $keyshow to the program of KEYSHOW, else out/bin/keyshow, and $version to that of the header.
+# out/lib unless it is set, $keyshow to the program of KEYSHOW, else out/bin/keyshow, and $version and $major to those of the header.
 enter() {
     top=$(realpath -- "$(dirname "$0")/..")
     library=$(realpath -m -- "${HEDRUGAL_LIBRARY:-$top/out/lib}")
     keyshow=$(realpath -m -- "${KEYSHOW:-$top/out/bin/keyshow}")
     cd "$top" || exit
-    version=$(sed -n 's/^#define HED_VERSION "\(.*\)"$/\1/p' c/hedrugal.h)
+    version=$(sed -n 's/^#define HED_VERSION "\(.*\)"$/\1/p' c/hedrugal.h) major=${version%%.*}
     [ ! -f "$library" ] || library=$(dirname "$library")
     [ -f "$library/libhedrugal.a" ] ||
         { echo "$script: there is no libhedrugal.a in '$library': make builds it, or HEDRUGAL_LIBRARY names another" >&2; exit 1; }
@@ -105,18 +105,18 @@ needed() { # file
 
 # Whether a shared library has the name by which programs ask for it, and exports the calls of the header alone.
 check_exports() { # file
-    readelf -dW "$1" | grep -F "soname: [libhedrugal.so.${version%%.*}]" &&
+    readelf -dW "$1" | grep -F "soname: [libhedrugal.so.$major]" &&
         diff <(nm -D --defined-only "$1" | awk '{ print $3 }' | sort) <(library_calls | sort)
 }
 
-# Sets $view to the words before a command by which it finds these folders empty, or to none if the system lets no program have such a view.
+# Sets $view to the words before a command by which it finds these folders empty, or to none if the system lets no program hide folders.
 find_view() { # folders..
     local user=(--map-root-user)
     [ "$(id -u)" != 0 ] || user=()
     # shellcheck disable=SC2016
     view=(unshare "${user[@]}" --mount bash -c 'while [ "$1" != -- ]; do mount -t tmpfs none "$1" && shift || exit; done; exec "${@:2}"'
         bash "$@" --)
-    "${view[@]}" true 2> /dev/null || view=()
+    "${view[@]}" true 2> /dev/null || { view=(); progress "note: this system lets no program hide $*"; }
 }
 
 passed=0 failed=0

@@ -12,9 +12,7 @@ start_cases "$@"
 want_keyshow
 
 page=docs/man/hedrugal.3
-major=${version%%.*}
 stage=$work/stage/usr/local
-strict=(-std=c99 -O1 -Wall -Wextra -pedantic -Werror)
 # Beside the source the header of these sources would be found first.
 cp c/events.c "$work/"
 
@@ -65,17 +63,19 @@ runs() {
     printf '\033[1;5Aq' | LD_LIBRARY_PATH=${1-} "$work/events" | diff - <(printf '%s\n' 'UpArrow ctrl' 'Char U+0071')
 }
 
-check_shared() { # prefix libdir
+# Builds a program as pkg-config says.
+build() { # source prefix libdir [words before the library]
     local flags
-    read -ra flags <<< "$(asked "$1" "$2" --cflags --libs)" && cc "${strict[@]}" "$work/events.c" "${flags[@]}" -o "$work/events" &&
-        needed "$work/events" | grep -F "[libhedrugal.so.$major]" && runs "$1/$2"
+    read -ra flags <<< "$(asked "$2" "$3" ${4:+--static} --cflags --libs)"
+    cc -std=c99 -O1 -Wall -Wextra -pedantic -Werror "$1" "${@:4}" "${flags[@]}" -Wl,-Bdynamic -o "$work/events"
+}
+
+check_shared() { # prefix libdir
+    build "$work/events.c" "$@" && needed "$work/events" | grep -F "[libhedrugal.so.$major]" && runs "$1/$2"
 }
 
 check_static() { # prefix libdir
-    local flags
-    read -ra flags <<< "$(asked "$1" "$2" --static --cflags --libs)" || return
-    cc "${strict[@]}" "$work/events.c" -Wl,-Bstatic "${flags[@]}" -Wl,-Bdynamic -o "$work/events" || return
-    ! needed "$work/events" | grep hedrugal && runs && ! readelf -lW "$work/events" | grep RWE
+    build "$work/events.c" "$@" -Wl,-Bstatic && ! needed "$work/events" | grep hedrugal && runs && ! readelf -lW "$work/events" | grep RWE
 }
 
 # Whether a program prints for these bytes what its manual page shows.
@@ -134,10 +134,8 @@ check_calls_page() {
 
 # The page's program.
 check_example() {
-    local flags
     sed -n '/^\.Sh EXAMPLES/,/^\.Ed/p' $page | sed '1,/^\.Bd/d;/^\.Ed/d' > "$work/example.c"
-    read -ra flags <<< "$(asked "$stage" lib --cflags --libs)"
-    cc "${strict[@]}" "$work/example.c" "${flags[@]}" -o "$work/events" &&
+    build "$work/example.c" "$stage" lib &&
         printf 'a\033[1;5A\033' | LD_LIBRARY_PATH=$stage/lib "$work/events" | diff - <(printf '%s\n' Char 'UpArrow with Ctrl' Escape)
 }
 
@@ -145,14 +143,8 @@ check_by_man() {
     local file
     for file in docs/man/*; do
         man --warnings -E UTF-8 -l -Tutf8 -Z - < "$file" > "$work/shown" 2> "$work/words" && [ -s "$work/shown" ] || return
-        cat "$work/words"
-        [ ! -s "$work/words" ] || return
+        ! grep . "$work/words" || return
     done
-}
-
-# The whole prefix elsewhere.
-move() {
-    mkdir "$work/elsewhere" && mv "$stage" "$work/elsewhere/moved" && [ ! -e "$stage" ]
 }
 
 check_moved_away() {
@@ -217,7 +209,8 @@ check 'calls in the manual page' check_calls_page
 check 'example of the manual page' check_example
 check 'manual pages by man' check_by_man
 ! command -v mandoc > /dev/null || check 'manual pages by mandoc' mandoc -T lint -W warning docs/man/*
-check 'move of the prefix' move
+mkdir "$work/elsewhere"
+check 'move of the prefix' mv "$stage" "$work/elsewhere/moved"
 check 'program with the shared library, moved' check_shared "$work/elsewhere/moved" lib
 check 'program with the archive, moved' check_static "$work/elsewhere/moved" lib
 check 'uninstall, moved' check_moved_away
@@ -228,7 +221,6 @@ check 'uninstall of nothing' check_nothing_to_uninstall
 check 'uninstall from a folder for packages' check_uninstall_of_stage
 for name in .. ../lib lib/../.. lib/./a . '' /lib lib/ lib//a 'a lib' 'a&b'; do check "folder of libraries '$name'" check_libdir "$name"; done
 find_view /usr/local
-if [ ${#view[@]} -gt 0 ]; then check 'folders of the system' check_system_folders
-else progress "the system's folders aren't checked: this system gives no program a /usr/local of its own"; fi
+[ ${#view[@]} = 0 ] || check 'folders of the system' check_system_folders
 check 'library of other sources' check_stale
 print_counts

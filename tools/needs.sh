@@ -6,11 +6,9 @@
 # The part all stands for each of them. With --install it first installs what Debian has of it, where this user can.
 set -eu
 . "$(dirname "$0")/common.sh"
+[ "${1-}" != --help ] || { show_help; exit; }
 installs=no
-case ${1-} in
-    --help) show_help; exit ;;
-    --install) installs=yes; shift ;;
-esac
+[ "${1-}" != --install ] || { installs=yes; shift; }
 [ $# -gt 0 ] || refuse 'wants the names of parts'
 
 # Sets $lacking and $packages to what isn't there.

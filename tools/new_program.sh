@@ -35,12 +35,6 @@ crates_below() { # crate
         'index(wanted, " " $1 " ") { if ($1 != crate) print $1; wanted = wanted $0 " " }' | tac
 }
 
-# Appends a line to crates.txt there.
-append_line() { # line
-    [ -z "$(tail -c 1 "$folder/crates.txt")" ] || echo >> "$folder/crates.txt"
-    echo "$1" >> "$folder/crates.txt"
-}
-
 [[ $name =~ ^[a-z][a-z0-9_]*$ ]] || refuse "a name is lowercase letters, digits and _, and not '$name'"
 [[ $name != *__* ]] || refuse "a name has no two underscores in a row, as '$name' has"
 [[ ! $words_of_rattle =~ (^|[[:space:]])$name($|[[:space:]]) ]] || refuse "$name is a word of the language"
@@ -51,19 +45,21 @@ append_line() { # line
 
 mkdir -p "$folder/crates"
 [ -e "$folder/crates.txt" ] || echo '# NAME: the crates that it stands on' > "$folder/crates.txt"
+# Its last line may have no end.
+sed -i "\$a\\" "$folder/crates.txt"
 for crate in $(crates_below example); do
     if [ ! -e "$folder/crates/$crate" ]; then
         progress "copying $crate"
         mkdir "$folder/crates/$crate"
         tar -C "crates/$crate" --exclude=./out -cf - . | tar -C "$folder/crates/$crate" -xf -
     fi
-    line_of "$crate" "$folder/crates.txt" > /dev/null || append_line "$(line_of "$crate" crates.txt)"
+    line_of "$crate" "$folder/crates.txt" > /dev/null || line_of "$crate" crates.txt >> "$folder/crates.txt"
 done
 
 mkdir "$folder/crates/$name"
 cp -R crates/example/{src,proofs,stdin,stdout} "$folder/crates/$name/"
 find "$folder/crates/$name" '(' -name '*.rt' -o -name '*.antt' ')' -exec sed -i "s/\bRattle\.example\./Rattle.$name./g" {} +
-append_line "$name:$(line_of example crates.txt | cut -d: -f2)"
+echo "$name:$(line_of example crates.txt | cut -d: -f2)" >> "$folder/crates.txt"
 
 progress "wrote $folder/crates/$name, and its line in crates.txt"
 progress "next: cd $folder/crates/$name && rt run < stdin"

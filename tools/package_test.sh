@@ -13,7 +13,6 @@
 start_cases "$@"
 want_keyshow
 
-major=${version%%.*}
 debian=(hedrugal libhedrugal-dev libhedrugal0)
 tarball=hedrugal-$version-x86_64-linux
 packages=$work/packages unpacked=$work/unpacked root=$work/root
@@ -26,21 +25,17 @@ make_dist() { # folder of the sources, folder of the packages
     make -s -C "$1" dist DIST="$2" LIBRARY="$library" KEYSHOW="$keyshow"
 }
 
-# Makes a copy of the sources as another user may have it: only that user reads it, and it has what Python and cargo left there.
-copy_sources() { # folder
-    mkdir "$1" && tar --exclude=.git --exclude=out --exclude=target -c . | tar -C "$1" -x && chmod -R go= "$1" &&
-        mkdir -p "$1"/python/{build/lib/hedrugal,hedrugal/__pycache__,hedrugal/page/__pycache__} "$1"/rust/{target/debug,serde/target} &&
-        touch "$1"/python/{build/lib/hedrugal/old.py,hedrugal/__pycache__/old.pyc,hedrugal/page/__pycache__/old.pyc} \
-            "$1"/rust/{target/debug,serde/target}/old
-}
-
-# From such a copy, in another folder, for another user's settings and over the packages of an older version. Other files stay.
+# From a copy of the sources as another user may have it: only that user reads it, and it has what Python and cargo left there. It is made
+# in another folder, for another user's settings and over the packages of an older version. Other files stay.
 make_again() {
     local copy="$work/a copy" again="$work/over another"
-    copy_sources "$copy" && mkdir "$again" || return
-    touch "$again"/another "$again"/{libhedrugal0,libhedrugal-dev,hedrugal}_0.0.1-1_amd64.deb \
+    mkdir "$copy" "$again" && tar --exclude=.git --exclude=out --exclude=target -c . | tar -C "$copy" -x || return
+    mkdir -p "$copy"/python/{build/lib/hedrugal,hedrugal/__pycache__,hedrugal/page/__pycache__} "$copy"/rust/{target/debug,serde/target}
+    touch "$copy"/python/{build/lib/hedrugal/old.py,hedrugal/__pycache__/old.pyc,hedrugal/page/__pycache__/old.pyc} \
+        "$copy"/rust/{target/debug,serde/target}/old "$again"/another "$again"/{libhedrugal0,libhedrugal-dev,hedrugal}_0.0.1-1_amd64.deb \
         "$again"/hedrugal-0.0.1-{x86_64-linux.tar.gz,py3-none-manylinux_2_5_x86_64.whl}
-    (cd / && umask 077 && TZ=Asia/Tokyo make_dist "$copy" "$again") && rm "$again/another" && diff -r "$packages" "$again"
+    chmod -R go= "$copy" && (cd / && umask 077 && TZ=Asia/Tokyo make_dist "$copy" "$again") &&
+        rm "$again/another" && diff -r "$packages" "$again"
 }
 
 check_names() {
@@ -165,17 +160,12 @@ check_third_party_in() { # folder
     cmp tools/package/THIRD-PARTY "$1/THIRD-PARTY" && cmp "$unpacked/$tarball/hedrugal.spdx.json" "$1/hedrugal.spdx.json"
 }
 
-# Prints the kit's crates that what is packaged stands on.
+# Prints the kit's crates that what is packaged stands on. (In crates.txt a crate is below those that it stands on.)
 kit_crates() {
-    awk '
-        function visit(crate, names, count, i) {
-            if (seen[crate]++) return
-            if (!(crate in below)) print crate
-            count = split(below[crate], names)
-            for (i = 1; i <= count; i++) visit(names[i])
-        }
-        /^[a-z]/ { crate = $1; sub(":", "", crate); sub(".*:", ""); below[crate] = $0 }
-        END { visit("hedrugal"); visit("keyshow") }' crates.txt
+    tac crates.txt | awk -F '[: ]+' '
+        BEGIN { wanted["hedrugal"]; wanted["keyshow"] }
+        $1 in wanted { delete wanted[$1]; for (i = 2; i <= NF; i++) wanted[$i] }
+        END { delete wanted["staticlib"]; for (crate in wanted) print crate }'
 }
 
 # Each of them is named with its holders, as far as the kit's text of its licence names any.
@@ -273,11 +263,6 @@ check_view() {
     ! without_kit bash -c 'command -v rt' && { [ ${#view[@]} = 0 ] || [ -z "$(without_kit find "$kit" "$top" -mindepth 1)" ]; }
 }
 
-# Nothing is left of the packages but dpkg's own lists.
-check_removed() {
-    [ "$(ls "$root")" = var ]
-}
-
 progress 'makes the packages twice'
 check 'packages' make_dist . "$packages"
 check 'the same bytes again' make_again
@@ -298,14 +283,14 @@ check 'notices' check_notices
 check 'notices of the kit' check_third_party
 check 'list of parts' check_parts
 find_view "$kit" "$top"
-[ ${#view[@]} -gt 0 ] || progress 'note: the kit is only taken off the path, since this system lets no program hide folders'
 check 'view without the kit' check_view
 check 'root for dpkg' make_root
 progress 'runs the listings of docs/packages.md'
 on_system check_steps 'from the Debian packages' "$work/system" '## Debian packages' \
     'tar xzf hedrugal-*.tar.gz; cd hedrugal-*-linux' '## Rust'
 on_system check_steps 'after the Debian packages' "$work/removal" '## Removal'
-check 'nothing is left' check_removed
+# But dpkg's own lists.
+check 'nothing is left' diff <(ls "$root") <(echo var)
 check_steps 'from the tarball' "$work/a folder" '## Tarball' 'sed -n "s/^    \\b//p" README | bash -eu > /dev/null' '## Rust'
 check_steps 'from the wheel' "$work/wheel" '## Python wheel'
 print_counts

@@ -74,10 +74,7 @@ NAMED = {"ESC": b"\x1b", "TAB": b"\t", "CR": b"\r", "LF": b"\n", "DEL": b"\x7f",
 BUILT = """#!/usr/bin/env bash
 [ "${{1-}}" = run ] || exec {rt} "$@"
 program=$PWD/out/$(basename "$PWD")
-for _ in $(seq 1200); do
-    [ -x "$program" ] && break
-    sleep 1
-done
+until [ -x "$program" ]; do sleep 1; done
 shift
 [ "${{1-}}" != -- ] || shift
 exec "$program" "$@"
@@ -95,7 +92,6 @@ class Listing:
         self.name, self.text, self.prints = name, text, None
         runs, _, words = marker.partition(":")
         self.kind, *self.words = shlex.split(words) if runs == "run" else [None]
-        self.names_library = "DIR" in re.findall(r"\w+", text)
 
 
 def read(file):
@@ -172,7 +168,7 @@ def check_link(file, target):
 
 def check_path(code, bases):
     """Checks a path in one of these folders, and that a script knows the options after it."""
-    path, *words = code.split()
+    path = code.split()[0]
     pattern = re.sub(r"\bNAME\b", "*", path)
     if not any(glob.glob(os.path.join(base, pattern)) for base in bases):
         raise Failed(f"no path {path}")
@@ -304,9 +300,8 @@ class Runner:
             f'[package]\nname = "listing"\nedition = "2021"\n[dependencies]\n{package}\n'
         )
         variables = {"HEDRUGAL_LIBRARY": self.library, "CARGO_TARGET_DIR": target}
-        run(
-            ["cargo", "build", "--quiet", "--offline"], folder, RUSTFLAGS="-D warnings", **variables
-        )
+        variables["RUSTFLAGS"] = "-D warnings"
+        run(["cargo", "build", "--quiet", "--offline"], folder, **variables)
         return run_with_input([f"{target}/debug/listing"], listing)
 
     def rattle(self, listing):
@@ -363,25 +358,24 @@ def use_built(work):
     os.environ["PATH"] = f"{command.parent}:{os.environ['PATH']}"
 
 
-def kinds(text):
-    if set(text.split(",")) <= set(KINDS):
-        return text.split(",")
-    raise argparse.ArgumentTypeError(f"the kinds are {', '.join(KINDS)}")
-
-
 def options():
     layout = argparse.RawDescriptionHelpFormatter
     parser = argparse.ArgumentParser("tools/docs.sh", description=__doc__, formatter_class=layout)
     parser.add_argument("--library", metavar="DIR", type=os.path.abspath, default=f"{TOP}/out/lib")
     parser.add_argument("--built", action="store_true")
-    parser.add_argument("--only", metavar="KINDS", type=kinds, default=KINDS)
-    return parser.parse_args()
+    parser.add_argument("--only", metavar="KINDS", default=",".join(KINDS))
+    chosen = parser.parse_args()
+    chosen.only = chosen.only.split(",")
+    if not set(chosen.only) <= set(KINDS):
+        parser.error(f"the kinds are {', '.join(KINDS)}")
+    return chosen
 
 
 def missing_tool(listings, library):
     """Says what a listing needs and isn't there."""
-    reads_library = any(it.kind in ("c", "rust") or it.names_library for it in listings)
-    if reads_library and not os.path.exists(f"{library}/libhedrugal.a"):
+    in_sh = [it for it in listings if it.kind == "sh" and re.search(r"\bDIR\b", it.text)]
+    linked = [it for it in listings if it.kind in ("c", "rust")]
+    if in_sh + linked and not os.path.exists(f"{library}/libhedrugal.a"):
         return f"there is no libhedrugal.a in {library}: make builds it, or --library names another"
     for tool in " ".join(TOOLS[it.kind] for it in listings).split():
         if not shutil.which(tool):

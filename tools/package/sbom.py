@@ -32,9 +32,8 @@ def package(name, version, declared, concluded, holders, **more):
 def kit_crates():
     """Returns the kit's crates of the table in THIRD-PARTY."""
     notice = (TOP / "tools/package/THIRD-PARTY").read_text()
-    rows = re.findall(r"^ {4}(\w+) +after (\w+ [\d.]+), (.*)\n +(.*)$", notice, re.MULTILINE)
-    for name, origin, licences, holders in rows:
-        version = origin.split()[1]
+    rows = re.findall(r"^ {4}(\w+) +after (\w+ ([\d.]+)), (.*)\n +(.*)$", notice, re.MULTILINE)
+    for name, origin, version, licences, holders in rows:
         declared = licences.replace(" or ", " OR ")
         holders = holders if holders.startswith("Copyright") else "NONE"
         source = f"a crate of rattle-kit, after the Rust crate {origin}"
