@@ -68,9 +68,10 @@ wait_for() { # crates..
 
 table() { # names..
     local name
+    mkdir -p $gate && cd $gate || return
     for name; do
-        echo "$name $(cat "$gate/$name.count" 2> /dev/null)"
-    done | awk -v first="$(cut -d ' ' -f 3 $gate/*.count | sort -n | head -n 1)" '
+        echo "$name $(cat "$name.count" 2> /dev/null)"
+    done | awk -v first="$(cat "${@/%/.count}" 2> /dev/null | cut -d ' ' -f 3 | sort -n | head -n 1)" '
         function clock(seconds) { return sprintf("%d:%02d", seconds / 60, seconds % 60) }
         function row(name, from, to, used, result) {
             printf "%-12s %7s %7s %7s %10s%s\n", name, clock(from - first), clock(to - first), clock(to - from), clock(used), result
