@@ -24,21 +24,9 @@ want_number() { # text name
     [[ $1 =~ ^[1-9][0-9]{0,8}$ ]] || refuse "$2 wants a number from 1 on, and not '$1'"
 }
 
-# Ends the script over a word that nothing follows.
-want_next() { # word, and those that follow it
-    [ $# -gt 1 ] || refuse "$1 wants a value after it"
-}
-
 # Says what is being done, on standard error.
 progress() { # text
     echo "$script: $1" >&2
-}
-
-# Says that times will be too long if other programs run just now.
-note_load() {
-    local running
-    read -r _ _ _ running _ < /proc/loadavg
-    [ "${running%/*}" -le 1 ] || progress 'note: other programs run on this machine, so times will be too long'
 }
 
 # Ends the script if a program that it needs isn't there. Each is followed by the package that has it in Debian.

@@ -17,7 +17,7 @@
 # callgrind counts the instructions and a wrapped malloc the memory, so that each run finds the same numbers.
 #
 # The C library is that of HEDRUGAL_LIBRARY, else of out/lib. FEED is a static library that calls parse_as_vec, which make builds of
-# tools/measure/feed.rt.txt. The last line is 'N passed, N failed', the status 1 if a case failed.
+# tools/growth/feed.rt.txt. The last line is 'N passed, N failed', the status 1 if a case failed.
 set -u
 export LC_ALL=C
 . "$(dirname "$0")/common.sh"

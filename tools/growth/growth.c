@@ -7,7 +7,7 @@
  *                        after a read of keys, and some of them after a long paste, once they gave memory back; and what is left of all
  *
  * A pass makes a parser, gives it a text in reads of one size, takes the events, and ends the parser. It goes through parse_as_vec
- * (parser_pass of tools/measure/feed.rt.txt), through feed and next_event (the calls of c/hedrugal.h), or through the same calls of the
+ * (parser_pass of tools/growth/feed.rt.txt), through feed and next_event (the calls of c/hedrugal.h), or through the same calls of the
  * extended parser. A pass of no bytes shows what making a parser takes. */
 #include "hedrugal.h"
 #include <stdbool.h>

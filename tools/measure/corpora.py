@@ -1,24 +1,7 @@
-"""corpora.py FOLDER NAME[:MEGABYTES]..: writes each corpus to FOLDER/NAME-MEGABYTES, the same bytes
-on every run.
-
-typed   words, spaces, Enter, Tab, Backspace and ^C
-keys    arrow, editing and function keys, plain and with modifiers: rows of the sequence table
-csiu    keys in the forms ESC [ code ; modifiers u and ESC [ 27 ; modifiers ; code ~
-utf8    characters of two to four bytes, with some of one
-mouse   mouse reports
-mixed   mostly typed words, with characters, keys and a paste now and then between them
-escapes lone escapes
-cut     beginnings of keys that are cut off, and escapes
-paste   one bracketed paste
-cursor  replies to a question for the cursor's position (DSR 6)
-focus   focus reports
-device  primary device attributes (DA1)
-release key releases of Kitty's keyboard protocol
-
-A corpus ends with an event, so it is some bytes shorter than its name says. A megabyte is 2 ** 20
-bytes."""
+"""The inputs of tools/performance.py, the same bytes on every run. Each is a generator of items: a
+key, a mouse report or a reply. What it yields without an ESC counts as many items as it has
+characters."""
 import random
-import sys
 
 ESC = b"\x1b"
 WORDS = (
@@ -120,40 +103,43 @@ def release(pick):
         yield ESC + b"[%d;%d:3u" % (pick.randint(97, 122), pick.choice([1, *MODIFIERS]))
 
 
-def whole_events(events, size):
-    out = bytearray()
-    for event in events:
-        if len(out) + len(event) > size:
-            return bytes(out)
-        out += event
+def fitting(items, size):
+    """The first items, as many as fit into so many bytes."""
+    for item in items:
+        size -= len(item)
+        if size < 0:
+            return
+        yield item
 
 
 def paste(pick, size):
     lines = (
         b" ".join(pick.choice(WORDS).encode() for _ in range(10)) + b"\n" for _ in iter(int, 1)
     )
-    return ESC + b"[200~" + whole_events(lines, size - 12) + ESC + b"[201~"
+    return ESC + b"[200~" + b"".join(fitting(lines, size - 12)) + ESC + b"[201~"
 
 
-SOURCES = (typed, keys, csiu, utf8, mouse, mixed, escapes, cut, cursor, focus, device, release)
-EVENTS = {each.__name__: each for each in SOURCES}
+TITLES = {
+    "typed": "typed text",
+    "utf8": "characters of one to four bytes",
+    "keys": "arrow, editing and function keys",
+    "csiu": "CSI u and modifyOtherKeys",
+    "mouse": "mouse reports",
+    "mixed": "mostly typed text, with keys and pastes",
+    "escapes": "ESC again and again",
+    "cut": "beginnings of keys that are cut off",
+    "paste": "one paste, for each KB of it",
+    "cursor": "positions of the cursor",
+    "focus": "focus reports",
+    "device": "device attributes (DA1)",
+    "release": "releases of keys, by Kitty's protocol",
+}
 
 
 def corpus(name, size):
+    """Returns an input of at most so many bytes, and the number of its items."""
     pick = random.Random(name)
     if name == "paste":
-        return paste(pick, size)
-    if name not in EVENTS:
-        sys.exit(f"no corpus {name}: {' '.join(EVENTS)} paste")
-    return whole_events(EVENTS[name](pick), size)
-
-
-def main():
-    folder = sys.argv[1]
-    for word in sys.argv[2:]:
-        name, _, megabytes = word.partition(":")
-        with open(f"{folder}/{name}-{megabytes or 1}", "wb") as out:
-            out.write(corpus(name, int(megabytes or 1) << 20))
-
-
-main()
+        return paste(pick, size), size / 1024
+    items = list(fitting(globals()[name](pick), size))
+    return b"".join(items), sum(1 if it.startswith(ESC) else len(it.decode()) for it in items)

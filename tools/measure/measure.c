@@ -1,15 +1,19 @@
-/* One pass of a parser over a file: `measure FILE READ` feeds the file in reads of READ bytes and prints
- * the nanoseconds that this took, the events and the bytes that wait at the end. `measure new` prints the
- * nanoseconds that making a parser takes, twice: the first in the process, and the least of twenty more.
- * What it calls is the static library of feed.rt.txt. */
-#include <stdbool.h>
-#include <stdint.h>
+/* Times a parser, or many that get reads in turn.
+ *
+ *     measure FILE READ [COUNT]
+ *
+ * makes COUNT parsers (1) and gives them the reads of the file, of READ bytes each. One gets the whole file. Of more, each gets 64 reads, from
+ * a place of its own on: after the last of the file the first follows. With its last read a parser is flushed.
+ *
+ * It prints the nanoseconds that all reads took, the number of their events and that of their bytes. Then it prints for each parser the
+ * nanoseconds that it took to make, and the bytes of heap, once made and after its last read. */
+#include "reader.h"
+#include <malloc.h>
 #include <stdio.h>
 #include <stdlib.h>
-#include <string.h>
 #include <time.h>
 
-bool parser_pass(const uint8_t *bytes, size_t length, size_t read, uint64_t *events, size_t *waiting);
+enum { ROUNDS = 64 };
 
 static double now(void) {
   struct timespec t;
@@ -17,67 +21,48 @@ static double now(void) {
   return t.tv_sec * 1e9 + t.tv_nsec;
 }
 
-/* The nanoseconds of a pass, with the making and the flush of its parser. */
-static double timed(const uint8_t *bytes, size_t length, size_t read, uint64_t *events, size_t *waiting) {
-  double start = now();
-  if (!parser_pass(bytes, length, read, events, waiting)) {
-    fprintf(stderr, "memory refused\n");
-    exit(1);
-  }
-  return now() - start;
+static double heap(void) {
+  struct mallinfo2 info = mallinfo2();
+  return info.uordblks + info.hblkhd;
 }
 
-/* The nanoseconds that making a parser takes, with its flush and its end: the least of some. */
-static double making(int times) {
-  uint8_t nothing = 0;
-  uint64_t events;
-  size_t waiting;
-  double least = 0;
-  for (int i = 0; i < times; i++) {
-    double took = timed(&nothing, 0, 0, &events, &waiting);
-    if (i == 0 || took < least) least = took;
-  }
-  return least;
+static void stop(const char *why) {
+  fprintf(stderr, "measure: %s\n", why);
+  exit(1);
 }
 
 static uint8_t *contents(const char *path, size_t *length) {
   FILE *file = fopen(path, "rb");
-  if (!file) {
-    perror(path);
-    exit(2);
-  }
-  fseek(file, 0, SEEK_END);
+  if (!file || fseek(file, 0, SEEK_END) != 0) stop("the file can't be opened");
   *length = ftell(file);
   rewind(file);
-  uint8_t *bytes = malloc(*length + 1);
-  if (!bytes || fread(bytes, 1, *length, file) != *length) {
-    perror(path);
-    exit(2);
-  }
+  uint8_t *bytes = malloc(*length);
+  if (!bytes || fread(bytes, 1, *length, file) != *length) stop("the file can't be read");
   fclose(file);
   return bytes;
 }
 
 int main(int argc, char **argv) {
-  if (argc == 2 && !strcmp(argv[1], "new")) {
-    double first = making(1);
-    printf("%.0f %.0f\n", first, making(20));
-    return 0;
-  }
-  if (argc != 3) {
-    fprintf(stderr, "usage: measure FILE READ | measure new\n");
-    return 2;
-  }
-  size_t length, waiting;
-  uint64_t events;
+  size_t count = argc == 4 ? strtoul(argv[3], 0, 10) : 1, read = argc > 2 ? strtoul(argv[2], 0, 10) : 0, length;
+  if (count == 0 || read == 0) stop("usage: measure FILE READ [COUNT]");
   const uint8_t *bytes = contents(argv[1], &length);
-  size_t read = strtoul(argv[2], 0, 10);
-  if (read == 0) {
-    fprintf(stderr, "a read has at least one byte\n");
-    return 2;
-  }
-  double made = making(5);
-  double took = timed(bytes, length, read, &events, &waiting);
-  printf("%.0f %llu %zu\n", took - made, (unsigned long long)events, waiting);
+  void **readers = malloc(count * sizeof *readers);
+  if (!readers) stop("no memory");
+
+  double before = heap(), start = now();
+  for (size_t i = 0; i < count; i++)
+    if (!(readers[i] = reader_new())) stop("a parser can't be made");
+  double making = now() - start, made = heap() - before;
+
+  size_t reads = (length + read - 1) / read, rounds = count > 1 ? ROUNDS : reads, events = 0, given = 0;
+  start = now();
+  for (size_t round = 0; round < rounds; round++)
+    for (size_t i = 0; i < count; i++) {
+      size_t at = (i * 7919 + round) % reads * read, size = length - at < read ? length - at : read;
+      events += reader_read(readers[i], bytes + at, size, round + 1 == rounds);
+      given += size;
+    }
+  double took = now() - start;
+  printf("%.0f %zu %zu %.0f %.0f %.0f\n", took, events, given, making / count, made / count, (heap() - before) / count);
   return 0;
 }

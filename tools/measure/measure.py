@@ -1,0 +1,45 @@
+"""measure.py READER FILE READ: gives the file to a parser in reads of READ bytes, as measure.c
+does. It prints the nanoseconds that this took, and the number of events. READER is hedrugal or
+prompt_toolkit."""
+import codecs
+import sys
+import time
+
+
+def hedrugal():
+    from hedrugal import InputParser
+
+    parser = InputParser()
+    return lambda data, is_last: len(parser.parse(data, not is_last))
+
+
+def prompt_toolkit():
+    """Its parser wants text, which its reader decodes in this way."""
+    from prompt_toolkit.input.vt100_parser import Vt100Parser
+
+    keys = []
+    parser = Vt100Parser(keys.append)
+    decoder = codecs.getincrementaldecoder("utf-8")("surrogateescape")
+
+    def give(data, is_last):
+        keys.clear()
+        parser.feed(decoder.decode(data))
+        if is_last:
+            parser.flush()
+        return len(keys)
+
+    return give
+
+
+def main():
+    _, reader, file, read = sys.argv
+    with open(file, "rb") as opened:
+        text = opened.read()
+    reads = [text[at : at + int(read)] for at in range(0, len(text), int(read))]
+    give = {"hedrugal": hedrugal, "prompt_toolkit": prompt_toolkit}[reader]()
+    start = time.perf_counter_ns()
+    events = sum(give(data, False) for data in reads[:-1]) + give(reads[-1], True)
+    print(time.perf_counter_ns() - start, events)
+
+
+main()

@@ -1,0 +1,334 @@
+#!/usr/bin/env python3
+"""Measures the parsers of this library, and others beside them, on this machine.
+
+Each parser has a program (tools/measure), which is built in a temporary folder, over the library of
+out/lib. It gets an input in reads of one size, and a flush at the end alone. The programs run in
+turn, and of each the least time counts. What is printed is what docs/PERFORMANCE.md has: when and
+where it was; nanoseconds per item of an input, which is a character, a key or a report; how many
+events each parser makes of an input, where these aren't its items; and what many parsers cost that
+get reads in turn.
+
+The parsers are C (InputParser), Legacy and Kitty (the extended parser under that protocol, from C),
+Rust and Python (InputParser), libtermkey, crossterm and prompt_toolkit. The last three are those of
+Debian's packages. If one can't be built its column says why; `tools/needs.sh --install performance`
+installs them. To compare two commits there is tools/measure.sh."""
+import argparse
+import datetime
+import glob
+import os
+import re
+import shutil
+import subprocess
+import sys
+import tempfile
+import textwrap
+
+TOP = os.path.dirname(os.path.dirname(os.path.abspath(__file__)))
+TOOLS = f"{TOP}/tools/measure"
+sys.path.insert(0, TOOLS)
+from corpora import TITLES, corpus  # noqa: E402
+
+PAGE = f"{TOP}/docs/PERFORMANCE.md"
+BEGIN, END = "<!-- tools/performance.py writes this -->\n", "<!-- up to here -->\n"
+PYTHON, CRATES = "/usr/bin/python3", "/usr/share/cargo/registry"
+# The packages of other parsers.
+PEERS = {
+    "libtermkey": "libtermkey-dev",
+    "crossterm": "librust-crossterm-dev",
+    "prompt_toolkit": "python3-prompt-toolkit",
+}
+# A package that makes a library for C of crossterm.
+PEER = """[package]
+name = "peer"
+version = "0.0.0"
+edition = "2021"
+[lib]
+path = "peer.rs"
+crate-type = ["staticlib"]
+[dependencies]
+crossterm = { path = "crossterm" }
+"""
+
+
+class Missing(Exception):
+    """A program or package that isn't there."""
+
+
+def run(*words, **env):
+    """Runs a program at the top of the repository, and returns what it prints."""
+    if not shutil.which(words[0]):
+        raise Missing(f"no {words[0]}")
+    env = {**os.environ, **env}
+    done = subprocess.run(words, cwd=TOP, env=env, capture_output=True, text=True, check=False)
+    if done.returncode:
+        sys.exit(f"performance: {' '.join(words)}: {done.stderr or done.returncode}")
+    return done.stdout.strip()
+
+
+def version(package):
+    words = ["dpkg-query", "-W", "-f", "${Version}", package]
+    found = subprocess.run(words, capture_output=True, text=True, check=False).stdout
+    if not found:
+        raise Missing("not installed")
+    return found
+
+
+def progress(text):
+    print(f"performance: {text}", file=sys.stderr)
+
+
+def contents(path):
+    with open(path, encoding="utf-8") as opened:
+        return opened.read()
+
+
+def write(path, text):
+    with open(path, "w", encoding="utf-8") as opened:
+        opened.write(text)
+
+
+class Builder:
+    """Builds programs in a folder, over a library. A program is a list of words, which a file and
+    the size of the reads follow."""
+
+    def __init__(self, work, library):
+        self.work, self.library = work, library
+        os.mkdir(work)
+
+    def linked(self, *words):
+        """measure.c with a parser."""
+        program = tempfile.mkdtemp(dir=self.work) + "/measure"
+        run("cc", "-O2", "-o", program, f"{TOOLS}/measure.c", *words)
+        return [program]
+
+    def from_c(self, *flags):
+        library = [f"-I{self.library}", f"{self.library}/libhedrugal.a"]
+        return self.linked(*flags, f"{TOOLS}/hedrugal.c", *library)
+
+    def cargo(self, manifest, *words):
+        words = ["build", "--quiet", "--offline", "--release", "--manifest-path", manifest, *words]
+        run("cargo", *words, HEDRUGAL_LIBRARY=self.library, CARGO_TARGET_DIR=self.work)
+        return f"{self.work}/release"
+
+    def rust(self):
+        built = self.cargo("rust/Cargo.toml", "--locked", "--example", "measure")
+        return [f"{built}/examples/measure"]
+
+    def crossterm(self):
+        """Its parser is private. So a copy of the crate gets functions that call it."""
+        (crate,), copy = glob.glob(f"{CRATES}/crossterm-[0-9]*"), f"{self.work}/crossterm"
+        shutil.copytree(crate, copy)
+        unix = f"{copy}/src/event/source/unix.rs"
+        write(unix, contents(unix) + "\n" + contents(f"{TOOLS}/crossterm.rs"))
+        write(f"{self.work}/peer.rs", "extern crate crossterm;")
+        write(f"{self.work}/Cargo.toml", PEER)
+        system = ["crates-io.replace-with='system'", f"system.directory='{CRATES}'"]
+        words = [f"--config=source.{each}" for each in system]
+        built = self.cargo(f"{self.work}/Cargo.toml", *words)
+        return self.linked(f"{built}/libpeer.a", "-lpthread", "-ldl", "-lm")
+
+    def in_python(self, name):
+        env = [f"HEDRUGAL_LIBRARY={self.library}/libhedrugal.so", f"PYTHONPATH={TOP}/python"]
+        return ["env", *env, PYTHON, "-B", f"{TOOLS}/measure.py", name]
+
+
+PARSERS = {
+    "C": Builder.from_c,
+    "Legacy": lambda it: it.from_c("-DPROTOCOL=HED_PROTOCOL_LEGACY"),
+    "Kitty": lambda it: it.from_c("-DPROTOCOL=HED_PROTOCOL_KITTY"),
+    "Rust": Builder.rust,
+    "Python": lambda it: it.in_python("hedrugal"),
+    "libtermkey": lambda it: it.linked(f"{TOOLS}/libtermkey.c", "-ltermkey"),
+    "crossterm": Builder.crossterm,
+    "prompt_toolkit": lambda it: it.in_python("prompt_toolkit"),
+}
+# The parsers that may be many. Their inputs stay in the processor's cache.
+MANY = ["C", "Legacy", "Kitty", "libtermkey", "crossterm"]
+MANY_INPUTS, MANY_BYTES = ["keys", "csiu"], 1 << 15
+
+
+def build(chosen, work):
+    """Returns the programs, and why some couldn't be built."""
+    progress("building the library")
+    run("make", "-s", "library", f"LIBRARY={chosen.library or ''}")
+    builder = Builder(f"{work}/built", chosen.library or f"{TOP}/out/lib")
+    programs, missing = {}, {}
+    for name in chosen.only:
+        progress(f"building {name}")
+        try:
+            if name in PEERS:
+                version(PEERS[name])
+            programs[name] = PARSERS[name](builder)
+        except Missing as reason:
+            missing[name] = reason
+    return programs, missing
+
+
+class Input:
+    """An input in a file."""
+
+    def __init__(self, folder, name, size):
+        text, self.items = corpus(name, size)
+        self.size, self.file = len(text), f"{folder}/{name}-{size}"
+        with open(self.file, "wb") as out:
+            out.write(text)
+
+
+class Cell:
+    """The least of what a program printed of an input."""
+
+    def __init__(self, program, given, *words):
+        self.given, self.words = given, [*program, given.file, *map(str, words)]
+        self.numbers = []
+
+    def measure(self):
+        numbers = [float(number) for number in run(*self.words).split()]
+        if self.numbers and numbers[1] != self.numbers[1]:
+            sys.exit(f"performance: it made other events than before: {' '.join(self.words)}")
+        self.numbers = [*map(min, numbers, self.numbers or numbers)]
+
+    @property
+    def events(self):
+        return int(self.numbers[1])
+
+    @property
+    def nanoseconds(self):
+        """Those for each item. measure.c says how many bytes it gave."""
+        size = self.numbers[2] if len(self.numbers) > 3 else self.given.size
+        return self.numbers[0] / size * self.given.size / self.given.items
+
+
+def where(chosen, programs):
+    commit = run("git", "rev-parse", "--short", "HEAD")
+    if run("git", "status", "--porcelain", "--untracked-files=no", "--", ".", ":!docs"):
+        commit += " with changes"
+    processor = re.search(r"model name\s*: (.*)", contents("/proc/cpuinfo"))[1]
+    tools = [it for it in ("cc", "rustc", PYTHON) if shutil.which(it)]
+    names = [run(it, "--version").split("\n")[0] for it in tools]
+    names += [f"{it} {version(package)}" for it, package in PEERS.items() if it in programs]
+    text = f"""{datetime.date.today()}, commit {commit}, {os.cpu_count()} processors {processor};
+        {', '.join(names)}. Each figure is the least of {chosen.runs} passes. An input has
+        {chosen.kilobytes} KB, in reads of {chosen.read} bytes."""
+    return textwrap.fill(" ".join(text.split()), 120)
+
+
+def figure(value):
+    return f"{value:,.0f}" if value >= 20 else f"{value:.1f}" if value >= 1 else f"{value:.2f}"
+
+
+def table(heads, rows):
+    lines = [heads, ["---"] * len(heads), *rows]
+    return "\n".join(f"| {' | '.join(map(str, line))} |" for line in lines)
+
+
+def times(inputs, columns, cells):
+    for name, given in inputs.items():
+        found = [cells.get((name, column)) for column in columns]
+        row = [figure(cell.nanoseconds) if cell else "" for cell in found]
+        yield [TITLES[name], f"{given.size / given.items:.1f}", *row]
+
+
+def events(inputs, columns, cells):
+    """Of each input of which some parser doesn't make an event for each item."""
+    for name, given in inputs.items():
+        items = 1 if name == "paste" else given.items
+        found = {it: cells[name, it].events for it in columns if (name, it) in cells}
+        if len({found[it] for it in ("C", "Rust", "Python") if it in found}) > 1:
+            sys.exit(f"performance: C, Rust and Python make other events of {name}: {found}")
+        if set(found.values()) != {items}:
+            row = [f"{found[it]:,}" if it in found else "" for it in columns]
+            yield [TITLES[name], f"{items:,}", *row]
+
+
+def costs(many):
+    for (column, count), found in many.items():
+        making, *heap = found[0].numbers[3:]
+        row = [column, f"{count:,}", figure(making / 1000), *(f"{it:,.0f}" for it in heap)]
+        yield row + [figure(cell.nanoseconds) for cell in found]
+
+
+def report(chosen, work):
+    """Builds and measures, and returns the text."""
+    programs, missing = build(chosen, work)
+    size = chosen.kilobytes << 10
+    inputs = {name: Input(work, name, size) for name in chosen.inputs or TITLES}
+    cells = {
+        (name, it): Cell(program, given, chosen.read)
+        for name, given in inputs.items()
+        for it, program in programs.items()
+    }
+    one, more = ([Input(work, name, it) for name in MANY_INPUTS] for it in (size, MANY_BYTES))
+    many = {
+        (it, count): [Cell(program, given, chosen.read, count) for given in group]
+        for it, program in programs.items()
+        if it in MANY
+        for count, group in ((1, one), (chosen.parsers, more))
+    }
+    for number in range(chosen.runs):
+        progress(f"pass {number + 1} of {chosen.runs}")
+        for cell in [*cells.values(), *sum(many.values(), [])]:
+            cell.measure()
+
+    columns = chosen.only
+    heads = [f"{it} ({missing[it]})" if it in missing else it for it in columns]
+    costs_of = [
+        "µs to make one",
+        "bytes of heap",
+        "after its reads",
+        "ns for a key",
+        "ns for CSI u",
+    ]
+    counts = [*events(inputs, columns, cells)]
+    parts = [
+        where(chosen, programs),
+        "## Nanoseconds per item",
+        table(["Input", "bytes each", *heads], times(inputs, columns, cells)),
+        *(["## Events of an input", table(["Input", "items", *heads], counts)] if counts else []),
+        "## Many parsers",
+        table(["Parser", "how many", *costs_of], costs(many)),
+    ]
+    return "\n\n".join(parts)
+
+
+def number_of(text):
+    if not re.fullmatch("[1-9][0-9]{0,8}", text):
+        raise argparse.ArgumentTypeError(f"a number from 1 on, and not '{text}'")
+    return int(text)
+
+
+def options():
+    layout = argparse.RawDescriptionHelpFormatter
+    parser = argparse.ArgumentParser(description=__doc__, formatter_class=layout)
+    add = parser.add_argument
+    add("inputs", nargs="*", metavar="INPUT", help=f"{', '.join(TITLES)} (all)")
+    add("--library", metavar="DIR", type=os.path.abspath, help="the library's folder (out/lib)")
+    add("--only", metavar="PARSERS", type=lambda text: text.split(","), help="such as C,Kitty")
+    add("--runs", metavar="N", type=number_of, default=9, help="passes of each program (9)")
+    add("--read", metavar="N", type=number_of, default=64, help="bytes of a read (64)")
+    add("--kilobytes", metavar="N", type=number_of, default=256, help="of an input (256)")
+    add("--parsers", metavar="N", type=number_of, default=10000, help="that are many (10000)")
+    add("--write", action="store_true", help="writes it all into docs/PERFORMANCE.md")
+    chosen = parser.parse_args()
+    chosen.only = chosen.only or [*PARSERS]
+    for words, all_ in (chosen.inputs, TITLES), (chosen.only, PARSERS):
+        for word in set(words) - set(all_):
+            parser.error(f"what is '{word}'? It knows {', '.join(all_)}")
+    if chosen.write and (chosen.inputs or chosen.only != [*PARSERS]):
+        parser.error("--write wants all inputs and all parsers")
+    return chosen
+
+
+def main():
+    chosen = options()
+    with tempfile.TemporaryDirectory() as work:
+        try:
+            text = report(chosen, work)
+        except Missing as reason:
+            sys.exit(f"performance: {reason}")
+    print(text)
+    if chosen.write:
+        before, _, after = contents(PAGE).partition(BEGIN)
+        write(PAGE, f"{before}{BEGIN}\n{text}\n\n{END}{after.partition(END)[2]}")
+
+
+main()
