@@ -1,127 +1,92 @@
 #!/usr/bin/env bash
 # Calls the C library with inputs that clang's libFuzzer makes, and checks what it answers.
 #
-#     tools/fuzz.sh [--repeat HARNESS FILE] [SECONDS]
+#     tools/fuzz.sh [SECONDS]
+#     tools/fuzz.sh HARNESS FILE
 #
 # There are five harnesses in tools/fuzz, and the head of each says what it checks: cuts (a stream read whole and in pieces), extended (the
 # same for the extended parser, whose keys are encoded and read back), calls (calls in any order, with requests for memory refused), maps (a
 # key map beside a plain one) and keys (texts and names of keys, and what is sent for key reports). Each begins with the seeds of
-# tools/fuzz/corpus. calls runs for a third of the SECONDS (60 if left out), the others for a sixth each.
+# tools/fuzz/corpus. calls runs for a third of the SECONDS (60 if left out), the others for a sixth each. With a FILE it is run alone.
 #
 # The harnesses are built with clang's checks of addresses and of undefined behaviour. The archive is compiled already and has no such
 # checks in it. So each argument lies beside a page that can't be touched, and each block of the library's memory between marks.
 #
 # The library is that of HEDRUGAL_LIBRARY, else of out/lib. An input that fails is kept in a folder that the script names, with the words
-# that repeat it: --repeat runs that input alone. The last line is 'N passed, N failed', the status 1 if a harness failed. It needs clang
-# with its runtime, and objcopy of binutils.
+# that repeat it. The last line is 'N passed, N failed', the status 1 if a harness failed. It needs clang with its runtime, and objcopy.
 set -u
 export LC_ALL=C
 . "$(dirname "$0")/common.sh"
-harnesses='cuts extended calls maps keys' harness='' input='' seconds=''
-while [ $# -gt 0 ]; do
-    case $1 in
-        --help) show_help; exit ;;
-        --repeat)
-            [ $# -gt 2 ] || refuse '--repeat wants a harness and a file after it'
-            [[ " $harnesses " == *" $2 "* ]] || refuse_word "$2"
-            harness=$2
-            [ -f "$3" ] || refuse "there is no file $3"
-            input=$(realpath "$3")
-            shift 2 ;;
-        -*) refuse_word "$1" ;;
-        *) [ -z "$seconds" ] || refuse_word "$1"; want_number "$1" SECONDS; seconds=$1 ;;
-    esac
-    shift
-done
+declare -A longest=([cuts]=600 [extended]=600 [calls]=400 [maps]=300 [keys]=48)
+[ "${1-}" != --help ] || { show_help; exit; }
+if [ $# -lt 2 ]; then
+    want_number "${1-60}" SECONDS
+    sixth=$(((${1-60} + 5) / 6))
+else
+    [ $# = 2 ] || refuse_word "$3"
+    [ -n "${longest[$1]-}" ] || refuse_word "$1"
+    [ -f "$2" ] || refuse "there is no file $2"
+    input=$(realpath "$2")
+fi
 need objcopy binutils clang clang
 enter
-checks='-fsanitize=address,undefined -fno-sanitize-recover=all'
-# Builds the harnesses over an archive whose requests for memory are those of tools/fuzz/fuzz.c. What they share isn't traced.
-build() {
-    local name options="-std=c11 -O1 -g -Wall -Wextra -pedantic -Werror -I$library"
-    objcopy --redefine-sym malloc=fuzz_malloc --redefine-sym realloc=fuzz_realloc --redefine-sym free=fuzz_free \
-        "$library/libhedrugal.a" "$work/archive.a" || return 1
-    for name in fuzz map_calls; do
-        # shellcheck disable=SC2086
-        clang $options $checks -c "tools/fuzz/$name.c" -o "$work/$name.o" || return 1
-    done
-    for name in $harnesses; do
-        # shellcheck disable=SC2086
-        clang $options $checks -fsanitize=fuzzer "tools/fuzz/$name.c" "$work"/{fuzz,map_calls}.o "$work/archive.a" -o "$work/$name" || return 1
-    done
-}
+
+# The harnesses lie over an archive whose requests for memory are those of tools/fuzz/fuzz.c. What they share isn't traced.
 progress 'builds the harnesses'
-build > "$work/log" 2>&1 || { cat "$work/log" >&2; exit 1; }
+compile=(clang -std=c11 -O1 -g -Wall -Wextra -pedantic -Werror '-fsanitize=address,undefined' -fno-sanitize-recover=all -I"$library")
+objcopy --redefine-sym malloc=fuzz_malloc --redefine-sym realloc=fuzz_realloc --redefine-sym free=fuzz_free \
+    "$library/libhedrugal.a" "$work/archive.a" || exit 1
+(cd "$work" && run_quietly "${compile[@]}" -c "$top"/tools/fuzz/{fuzz,map_calls}.c) || exit 1
+for name in "${!longest[@]}"; do
+    run_quietly "${compile[@]}" -fsanitize=fuzzer "tools/fuzz/$name.c" "$work"/{fuzz.o,map_calls.o,archive.a} -o "$work/$name" || exit 1
+done
 
 # Writes the seeds of a harness, each to a file.
 write_seeds() { # harness
     local name text
-    mkdir "$work/seeds"
+    rm -rf "$work/seeds" "$work/new"
+    mkdir "$work/seeds" "$work/new"
     while read -r name text; do
-        case $name in '' | '#') continue ;; esac
-        printf '%b' "$text" > "$work/seeds/$name"
+        [[ $name = '' || $name = '#' ]] || printf '%b' "$text" > "$work/seeds/$name"
     done < "tools/fuzz/corpus/$1.txt"
 }
 
+kept=$(mktemp -d -t hedrugal-fuzz.XXXXXX)
 export ASAN_OPTIONS=quarantine_size_mb=32:detect_stack_use_after_return=1
-# Runs a harness with further words. What it says goes to the log.
+# Runs a harness with further words. What it says goes to its log.
 run() { # harness words..
-    "$work/$1" -timeout=20 -rss_limit_mb=2048 -artifact_prefix="$work/found-" "${@:2}" > "$work/log" 2>&1
+    "$work/$1" -timeout=20 -rss_limit_mb=2048 -artifact_prefix="$kept/$1-" "${@:2}" > "$kept/$1.log" 2>&1
 }
 
-# A number that the log of a run ends with.
-stat_of() { # name
-    sed -n "s/^stat::$1: *//p" "$work/log"
-}
-
-# Says what failed, and keeps the input.
-keep_find() { # harness
-    local kept
-    kept=$(mktemp -d -t hedrugal-fuzz.XXXXXX)
-    cp "$work/log" "$kept/log"
-    grep -v '^#\|^INFO' "$work/log" | head -n 60
-    for found in "$work"/found-*; do
-        [ -f "$found" ] || continue
-        mv "$found" "$kept/$1-${found##*/found-}"
-        echo "$1: the input is kept; repeat it by tools/fuzz.sh --repeat $1 $kept/$1-${found##*/found-}"
-    done
-    echo "$1: failed; what it said is in $kept/log"
-    failed=$((failed + 1))
-}
-
-# Lets libFuzzer make inputs from the seeds.
-fuzz() { # harness seconds longest
-    local runs seeds
-    rm -rf "$work/seeds" "$work/new"
-    mkdir "$work/new"
+# Lets libFuzzer make inputs from the seeds. An input that fails is kept, and what was said of it.
+fuzz() { # harness seconds
+    local runs=0 seeds log="$kept/$1.log"
     write_seeds "$1"
     seeds=$(find "$work/seeds" -type f | wc -l)
     progress "$1, $2 seconds"
-    if run "$1" -max_total_time="$2" -max_len="$3" -len_control=0 -dict=tools/fuzz/tokens.dict -print_final_stats=1 \
+    if run "$1" -max_total_time="$2" -max_len="${longest[$1]}" -len_control=0 -dict="$work/tokens" -print_final_stats=1 \
         "$work/new" "$work/seeds" &&
-        runs=$(stat_of number_of_executed_units) && [ "${runs:-0}" -gt "$seeds" ]; then
+        runs=$(sed -n 's/^stat::number_of_executed_units: *//p' "$log") && [ "${runs:-0}" -gt "$seeds" ]; then
         echo "$1: passed, $runs runs in $2 s, $seeds seeds, $(find "$work/new" -type f | wc -l) inputs that showed something new"
         passed=$((passed + 1))
+        rm "$log"
     else
-        keep_find "$1"
+        grep -v '^#\|^INFO' "$log" | head -n 60
+        sed -n "s|^.*Test unit written to |$1: the input is kept; repeat it by tools/fuzz.sh $1 |p" "$log"
+        echo "$1: failed; what it said is in $log"
+        failed=$((failed + 1))
     fi
 }
 
-if [ -n "$harness" ]; then
-    if run "$harness" "$input"; then
-        echo "$harness: passed, this input alone"
-        passed=1
-    else
-        cat "$work/log"
-        failed=1
-    fi
+if [ $# = 2 ]; then
+    check "$1, this input alone" run "$1" "$input"
+    cat "$kept/$1.log"
+    rm -r "$kept"
 else
-    seconds=${seconds:-60}
-    sixth=$(((seconds + 5) / 6))
-    fuzz cuts "$sixth" 600
-    fuzz extended "$sixth" 600
-    fuzz calls "$((2 * sixth))" 400
-    fuzz maps "$sixth" 300
-    fuzz keys "$sixth" 48
+    sed '/^#/d; s/[^ ]\+/"&"/g; s/ /\n/g' tools/fuzz/tokens.txt > "$work/tokens"
+    for harness in cuts extended calls maps keys; do
+        fuzz "$harness" "$([ "$harness" = calls ] && echo $((2 * sixth)) || echo "$sixth")"
+    done
+    rmdir --ignore-fail-on-non-empty "$kept"
 fi
 print_counts

@@ -34,12 +34,6 @@ run_quietly cc -std=c11 -O1 -g -fno-builtin -fno-tree-loop-distribute-patterns -
 # Each call of `counted` ends with a file of its own.
 timeout 300 valgrind --quiet --tool=callgrind --toggle-collect=counted --dump-after=counted --callgrind-out-file="$work/counts" \
     "$work/growth" > "$work/passes" 2> "$work/log" || { cat "$work/log" >&2; echo 'growth: the count failed, or took over five minutes' >&2; exit 1; }
-timeout 60 "$work/growth" heap > "$work/heap" || exit 1
 timeout 60 "$work/growth" parsers > "$work/parsers" || exit 1
-number=0
-while read -r pass; do
-    number=$((number + 1))
-    echo "$pass $(sed -n 's/^\(totals\|summary\): *//p' "$work/counts.$number" | head -n 1)"
-done < "$work/passes" > "$work/instructions"
-
-awk -f tools/growth/judge.awk "$work/instructions" "$work/heap" "$work/parsers"
+seq -f "$work/counts.%g" "$(wc -l < "$work/passes")" | xargs grep -hm 1 '^totals:\|^summary:' | cut -d ' ' -f 2 |
+    paste -d ' ' "$work/passes" - | awk -f tools/growth/judge.awk - "$work/parsers"

@@ -5,25 +5,22 @@
  *     I n    init                    F n bytes  feed n bytes, 63 at most     N  next, more to come     E    flush the escape
  *     K      free                    O n byte   feed 16 n times a byte       L  next, no more to come  C    end the paste
  *     B      reset                   M          move the parser              A  next until none, more  G n  copy n bytes of the paste
- *     D      drop the paste          V          the version                  H  the same, no more
- *     T n place  a row               X          the completions              Y    init that shares the second parser's table
- *                                                                             U n  shrink to 16 n bytes
+ *     D      drop the paste          V          the version                  H  the same, no more      U n  shrink to 16 n bytes
+ *     T n place  a row               X          the completions              Y  init that shares the second parser's table
  *
- *     J      init of a map           P n bytes value  insert                 Q n bytes  look up, under both flags
- *     R      free the map                                                    S          move the map
+ *     J, P, Q, R, S  the calls of a map, as in tools/fuzz/maps.c
  *
  * A place has two bytes, the lower first, and n bytes of its row are asked for.
  *
  * For init, which makes some hundreds of requests, 4 n is added to the number of the refused one. It takes a millisecond, so a program has
- * two of them at most. A program whose first letter is W begins with a parser that such programs share; it has room for all that a program
- * feeds. tools/fuzz/maps.c has programs of the map's calls alone.
+ * two of them at most. A program whose first letter is W begins with a parser that shares the second parser's table, and has room for all
+ * that a program feeds.
  *
  * A second parser gets the same calls and is never refused, and the waiting bytes are kept beside them. Each answer has to be the second
  * parser's, and what the waiting bytes say. The rows that would complete these begin with them, and the rows before and after don't. A call
  * that is refused changes nothing, and made again it is granted. What needs no memory asks for none. Before init and after free every call
  * says that there is no parser. At the end no memory is left. */
 #include "fuzz.h"
-#include "map_calls.h"
 #include <string.h>
 
 enum { FED_MAX = 1 << 12, TEXT_MAX = 3 * FED_MAX, ONE_FEED = 63, MANY = 16 };
@@ -31,18 +28,11 @@ enum { MOST_CALLS = 512, MOST_INITS = 2 };
 
 static const hed_parser none = HED_PARSER_NONE;
 
-/* The parser under test lies in a room, and moves to another. */
-static room places[2], given, taken, copied;
-static unsigned place;
+/* The parser under test lies in a room. */
+static room place, given, taken, copied;
 static hed_parser *parser;
 static bool is_made;
 static int inits;
-
-/* The parser that programs share, while none has it; whether this one began with it, and has made it anew or shrunk it; how many blocks are
- * no concern of this one. */
-static hed_parser shared = HED_PARSER_NONE;
-static bool is_shared, is_changed;
-static long other_blocks;
 
 /* The second parser; the text of the last paste; all that was fed, of which the last bytes wait in both parsers. */
 static hed_parser twin = HED_PARSER_NONE;
@@ -53,19 +43,6 @@ static const uint8_t *waiting(void) {
   return fed + fed_len - waiting_len;
 }
 
-/* What the parser shows of itself. */
-static void check_state(void) {
-  refuse_request(1);
-  HOLDS(hed_parser_waiting_len(parser) == waiting_len);
-  HOLDS(hed_parser_is_paste_open(parser) == begins_paste(waiting(), waiting_len));
-  HOLDS(hed_parser_waiting(parser) == (is_made ? hed_parser_waiting(&twin) : HED_WAITING_NOTHING));
-  room_of(&copied, 0);
-  HOLDS(hed_parser_paste(parser, pointer_to(&copied), 0) == text_len && is_untouched(&copied, 0));
-  HOLDS(is_untouched(&places[place], sizeof *parser));
-  HOLDS(requests() == 0);
-  refuse_request(0);
-}
-
 /* The paste's text, as much as there is room for. */
 static void copy_paste(size_t len) {
   size_t want = len < text_len ? len : text_len;
@@ -74,30 +51,34 @@ static void copy_paste(size_t len) {
   HOLDS(memcmp(out, text, want) == 0 && is_untouched(&copied, want));
 }
 
-/* A row of the sequence table: as many of its bytes as there is room for. Returns how many it has. */
-static size_t copy_row(size_t len, size_t at, hed_event **key) {
-  room_of(&copied, len);
-  *key = room_of(&taken, sizeof **key);
-  size_t whole = hed_parser_entry(parser, at, pointer_to(&copied), len, *key);
-  HOLDS((whole > 0) == (is_made && at < HED_ENTRY_COUNT) && whole <= HED_ENTRY_MOST);
-  HOLDS(is_untouched(&copied, whole < len ? whole : len) && is_untouched(&taken, whole > 0 ? sizeof **key : 0));
-  return whole;
+/* What the parser shows of itself. */
+static void check_state(void) {
+  begin_reads();
+  HOLDS(hed_parser_waiting_len(parser) == waiting_len);
+  HOLDS(hed_parser_is_paste_open(parser) == begins_paste(waiting(), waiting_len));
+  HOLDS(hed_parser_waiting(parser) == (is_made ? hed_parser_waiting(&twin) : HED_WAITING_NOTHING));
+  copy_paste(0);
+  HOLDS(is_untouched(&place, sizeof *parser));
+  end_reads();
 }
 
-/* The row is the second parser's, and its key an event's, but for the start of a paste. */
-static void check_row(size_t len, size_t at) {
+/* A row of the sequence table, as many of its bytes as there is room for. It is the second parser's, and its key an event's, but for the
+ * start of a paste. */
+static void check_row(input *it) {
   uint8_t bytes[HED_ENTRY_MOST];
-  hed_event *key, wanted;
-  refuse_request(1);
-  size_t whole = copy_row(len, at, &key);
+  size_t len = take_byte(it) & ONE_FEED, at = (size_t)take_number(it, 2);
+  hed_event *key = room_of(&taken, sizeof *key), wanted;
+  room_of(&copied, len);
+  begin_reads();
+  size_t whole = hed_parser_entry(parser, at, pointer_to(&copied), len, key), part = whole < len ? whole : len;
+  HOLDS((whole > 0) == (is_made && at < HED_ENTRY_COUNT) && whole <= HED_ENTRY_MOST);
+  HOLDS(is_untouched(&copied, part) && is_untouched(&taken, whole > 0 ? sizeof *key : 0));
   if (whole > 0) {
     HOLDS(hed_parser_entry(&twin, at, bytes, sizeof bytes, &wanted) == whole && same_event(key, &wanted));
-    HOLDS(memcmp(copied.at, bytes, whole < len ? whole : len) == 0);
+    HOLDS(memcmp(copied.at, bytes, part) == 0 && key->kind == HED_KIND_KEY);
     if (key->key != HED_KEY_INTERNAL_PASTE_START) check_event(key);
-    HOLDS(key->kind == HED_KIND_KEY);
   }
-  HOLDS(requests() == 0);
-  refuse_request(0);
+  end_reads();
 }
 
 /* Whether the row at a place begins with a text and is longer. */
@@ -120,7 +101,7 @@ static void check_range(const hed_entries *rows, const uint8_t *from, size_t len
 /* What would complete the waiting bytes. */
 static void check_completions(void) {
   hed_entries *rows = room_of(&taken, sizeof *rows), wanted;
-  refuse_request(1);
+  begin_reads();
   bool told = hed_parser_completions(parser, rows);
   HOLDS(told == is_made && is_untouched(&taken, told ? sizeof *rows : 0));
   if (told) {
@@ -130,8 +111,7 @@ static void check_completions(void) {
     check_range(rows, waiting() + rows->with_alt, waiting_len - rows->with_alt);
     note(0x50000u | rows->with_alt, (unsigned)rows->count);
   }
-  HOLDS(requests() == 0);
-  refuse_request(0);
+  end_reads();
 }
 
 /* There is no parser, so nothing waits. */
@@ -140,81 +120,65 @@ static void forget(void) {
 }
 
 static void clear_twin(void) {
-  set_owner(TWIN);
+  owner = TWIN;
+  if (!twin.live) HOLDS(hed_parser_init(&twin));
   hed_parser_reset(&twin);
   hed_parser_drop_paste(&twin);
-  set_owner(TESTED);
+  owner = TESTED;
 }
 
-/* The calls that make a parser. */
-enum make { INIT, SHARE };
-
-static bool make(enum make how) {
-  return how == INIT ? hed_parser_init(parser) : hed_parser_init_sharing(parser, &twin);
+static bool make(bool is_sharing) {
+  return is_sharing ? hed_parser_init_sharing(parser, &twin) : hed_parser_init(parser);
 }
 
-static void make_anew(enum make how, unsigned number) {
+static void make_anew(bool is_sharing) {
   size_t of_twin = hed_parser_waiting_len(&twin);
-  refuse_request(number);
-  bool made = make(how);
-  HOLDS(made == (refusals() == 0) && (how == INIT || requests() == 1));
+  bool made = make(is_sharing);
+  HOLDS(made == (refusals == 0) && (!is_sharing || requests == 1));
   if (!made) check_state();
   refuse_request(0);
-  HOLDS(made || make(how));
+  HOLDS(made || make(is_sharing));
   HOLDS(hed_parser_waiting_len(&twin) == of_twin);
   forget();
-  is_made = is_changed = true;
+  is_made = true;
   clear_twin();
 }
 
-static void init(unsigned number) {
-  if (++inits <= MOST_INITS) make_anew(INIT, number);
+static void init(input *it, unsigned number) {
+  refuse_request(number ? number + 4 * take_byte(it) : 0);
+  if (++inits <= MOST_INITS) make_anew(false);
 }
 
 /* Without another parser nothing changes, and with one the parser shares its table. */
 static void share(unsigned number) {
   HOLDS(!hed_parser_init_sharing(parser, &none));
   check_state();
-  make_anew(SHARE, number);
-}
-
-static void shrink(size_t room_left, unsigned number) {
   refuse_request(number);
-  hed_parser_shrink_to(parser, room_left);
-  is_changed = true;
+  make_anew(true);
 }
 
 static void free_parser(void) {
   hed_parser_free(parser);
-  HOLDS(!parser->live && parser->state == NULL && blocks_of(TESTED) == other_blocks);
+  HOLDS(!parser->live && parser->state == NULL && blocks[TESTED] == 0);
   forget();
 }
 
-static void move(void) {
-  hed_parser old = *parser;
-  memset(parser, 0xee, sizeof *parser);
-  place = !place;
-  parser = (hed_parser *)places[place].at;
-  *parser = old;
-}
-
 static void feed_twin(const uint8_t *bytes, size_t len) {
-  set_owner(TWIN);
+  owner = TWIN;
   HOLDS(hed_parser_feed(&twin, bytes, len));
-  set_owner(TESTED);
+  owner = TESTED;
   memcpy(fed + fed_len, bytes, len);
   fed_len += len;
   waiting_len += len;
 }
 
-static void feed(const uint8_t *bytes, size_t len, unsigned number) {
+static void feed(const uint8_t *bytes, size_t len) {
   if (len > FED_MAX - fed_len) return;
   room_with(&given, bytes, len);
-  refuse_request(number);
   bool is_fed = hed_parser_feed(parser, pointer_to(&given), len);
-  HOLDS(is_fed == (is_made && refusals() == 0));
-  HOLDS((is_made && len > 0) || requests() == 0);
-  note(0x40000, requests());
+  HOLDS(is_fed == (is_made && refusals == 0));
+  HOLDS((is_made && len > 0) || requests == 0);
+  note(0x40000, requests);
   if (!is_made) return;
   if (!is_fed) check_state();
   refuse_request(0);
@@ -233,14 +197,14 @@ static uint32_t ask(enum take what, hed_parser *of, hed_event *event) {
 }
 
 static uint32_t ask_twin(enum take what, hed_event *event) {
-  set_owner(TWIN);
+  owner = TWIN;
   refuse_request(0);
   uint32_t answer = ask(what, &twin, event);
   if (answer == HED_NEXT_EVENT && event->kind == HED_KIND_PASTE) {
     text_len = hed_parser_paste(&twin, text, sizeof text);
     HOLDS(text_len == event->paste_len && text_len <= sizeof text);
   }
-  set_owner(TESTED);
+  owner = TESTED;
   return answer;
 }
 
@@ -273,8 +237,8 @@ static uint32_t take(enum take what, unsigned number) {
   hed_event *event = room_of(&taken, sizeof *event), wanted;
   refuse_request(number);
   uint32_t answer = ask(what, parser, event);
-  unsigned asked = requests();
-  bool is_refused = refusals() > 0;
+  unsigned asked = requests;
+  bool is_refused = refusals > 0;
   HOLDS(answer == HED_NEXT_EVENT || is_untouched(&taken, 0));
   HOLDS((answer == HED_NEXT_NO_PARSER) == !is_made && (answer == HED_NEXT_NO_MEMORY) == is_refused);
   if (!is_made) return answer;
@@ -309,78 +273,37 @@ static void reset(void) {
 
 static void drop_paste(void) {
   hed_parser_drop_paste(parser);
-  set_owner(TWIN);
+  owner = TWIN;
   hed_parser_drop_paste(&twin);
-  set_owner(TESTED);
+  owner = TESTED;
   text_len = 0;
 }
 
-static const uint8_t *take_some(input *it, size_t *len) {
-  return take_bytes(it, take_byte(it) & ONE_FEED, len);
-}
-
-static void feed_some(input *it, unsigned number) {
+static void feed_some(input *it) {
   size_t len;
-  const uint8_t *bytes = take_some(it, &len);
-  feed(bytes, len, number);
+  const uint8_t *bytes = take_bytes(it, take_byte(it) & ONE_FEED, &len);
+  feed(bytes, len);
 }
 
-static void feed_many(input *it, unsigned number) {
+static void feed_many(input *it) {
   static uint8_t bytes[255 * MANY];
   size_t len = MANY * (size_t)take_byte(it);
   memset(bytes, take_byte(it), len);
-  feed(bytes, len, number);
-}
-
-static void insert_some(input *it, unsigned number) {
-  size_t len;
-  const uint8_t *key = take_some(it, &len);
-  insert_in_map(key, len, take_byte(it), number);
-}
-
-static void look_some_up(input *it) {
-  size_t len;
-  const uint8_t *text = take_some(it, &len);
-  look_up(text, len);
-}
-
-static void row_at(input *it) {
-  size_t len = take_byte(it) & ONE_FEED;
-  check_row(len, (size_t)take_number(it, 2));
-}
-
-static void check_version(void) {
-  refuse_request(1);
-  HOLDS(hed_version() == HED_VERSION_NUMBER && requests() == 0);
-  refuse_request(0);
-}
-
-/* Makes a call of the map, if the letter is of one, asks for the version, or for rows. */
-static void call_map(letter of, input *it) {
-  switch (of.capital) {
-    case 'J': init_map(of.refused); break;
-    case 'P': insert_some(it, of.refused); break;
-    case 'Q': look_some_up(it); break;
-    case 'R': free_map(); break;
-    case 'S': move_map(); break;
-    case 'V': check_version(); break;
-    case 'T': row_at(it); break;
-    case 'X': check_completions(); break;
-    default: break; /* (W too) */
-  }
+  feed(bytes, len);
 }
 
 static void call(input *it) {
   letter of = take_letter(it);
   unsigned number = of.refused;
+  refuse_request(number);
   switch (of.capital) {
-    case 'I': init(number ? number + 4 * take_byte(it) : 0); break;
+    case 'I': init(it, number); break;
     case 'K': free_parser(); break;
     case 'B': reset(); break;
     case 'D': drop_paste(); break;
-    case 'F': feed_some(it, number); break;
-    case 'O': feed_many(it, number); break;
-    case 'M': move(); break;
+    case 'F': feed_some(it); break;
+    case 'O': feed_many(it); break;
+    case 'M': parser = move_room(&place); break;
     case 'N': take(NEXT_MORE, number); break;
     case 'L': take(NEXT_LAST, number); break;
     case 'A': take_all(NEXT_MORE, number); break;
@@ -389,63 +312,33 @@ static void call(input *it) {
     case 'C': take(END_PASTE, number); break;
     case 'G': copy_paste(take_byte(it)); break;
     case 'Y': share(number); break;
-    case 'U': shrink(MANY * (size_t)take_byte(it), number); break;
+    case 'U': hed_parser_shrink_to(parser, MANY * (size_t)take_byte(it)); break;
+    case 'V': HOLDS(hed_version() == HED_VERSION_NUMBER && requests == 0); break;
+    case 'T': check_row(it); break;
+    case 'X': check_completions(); break;
     default: call_map(of, it);
   }
   check_state();
 }
 
-static void begin_twin(void) {
-  set_owner(TWIN);
-  if (!twin.live) HOLDS(hed_parser_init(&twin));
-  clear_twin();
-}
-
-/* Takes the parser that programs share, as it always is: empty, and with room for all that a program feeds. */
-static void take_shared(void) {
+static void begin_with_room(void) {
   static const uint8_t bytes[FED_MAX];
-  if (!shared.live) HOLDS(hed_parser_init(&shared) && hed_parser_feed(&shared, bytes, sizeof bytes));
-  *parser = shared;
-  shared = none;
+  HOLDS(hed_parser_init_sharing(parser, &twin) && hed_parser_feed(parser, bytes, sizeof bytes));
   hed_parser_reset(parser);
-  hed_parser_drop_paste(parser);
   is_made = true;
 }
 
-/* Puts it back, if the program still has it. */
-static void give_shared(void) {
-  if (!is_made || is_changed) return;
-  shared = *parser;
-  *parser = none;
-  other_blocks = blocks_of(TESTED);
-}
-
-static void begin(bool wants_shared) {
-  refuse_request(0);
-  begin_twin();
-  places[0].is_at_end = given.is_at_end = taken.is_at_end = copied.is_at_end = false;
-  places[1].is_at_end = true;
-  room_with(&places[1], &none, sizeof none);
-  parser = room_with(&places[0], &none, sizeof none);
-  place = 0;
-  inits = 0;
-  is_changed = false;
-  fed_len = 0;
-  forget();
-  is_shared = wants_shared;
-  other_blocks = is_shared ? 0 : blocks_of(TESTED);
-  if (is_shared) take_shared();
+void try_input(input *it) {
+  clear_twin();
   begin_map();
-}
-
-int LLVMFuzzerTestOneInput(const uint8_t *bytes, size_t len) {
-  input it = { bytes, len };
-  begin(len > 0 && bytes[0] == 'W');
-  for (int calls = 0; it.left > 0 && calls < MOST_CALLS; calls++) call(&it);
+  forget();
+  parser = room_with(&place, &none, sizeof none);
+  fed_len = 0;
+  inits = 0;
+  if (it->left > 0 && *it->at == 'W') begin_with_room();
+  for (int calls = 0; it->left > 0 && calls < MOST_CALLS; calls++) call(it);
   end_map();
-  if (is_shared) give_shared();
   free_parser();
   free_parser();
-  HOLDS(is_untouched(&places[place], sizeof *parser));
-  return 0;
+  HOLDS(is_untouched(&place, sizeof *parser));
 }

@@ -12,6 +12,17 @@ void fail(const char *what, const char *file, int line) {
   abort();
 }
 
+static uint64_t inputs;
+
+/* libFuzzer calls it for each input. */
+int LLVMFuzzerTestOneInput(const uint8_t *bytes, size_t len) {
+  input it = { bytes, len };
+  inputs++;
+  refuse_request(0);
+  try_input(&it);
+  return 0;
+}
+
 uint8_t take_byte(input *it) {
   if (it->left == 0) return 0;
   it->left--;
@@ -40,7 +51,7 @@ letter take_letter(input *it) {
 
 /* Rooms. */
 
-enum { PAGE = 4096, MARK = 0xa5, MARGIN = 64 };
+enum { PAGE = 4096, MARK = 0xa5, MARGIN = 64, MOVED = 0xee };
 
 /* Pages for a room: one on each side can't be touched. */
 static uint8_t *make_pages(void) {
@@ -58,7 +69,8 @@ static uint8_t *margin_of(const room *it) {
 void *room_of(room *it, size_t len) {
   HOLDS(len <= ROOM_MAX - MARGIN);
   if (!it->pages) it->pages = make_pages();
-  it->is_at_end = !it->is_at_end;
+  it->is_at_end = it->input_number != inputs || !it->is_at_end;
+  it->input_number = inputs;
   it->at = it->is_at_end ? it->pages + ROOM_MAX - len : it->pages;
   it->len = len;
   memset(it->at, MARK, len);
@@ -72,14 +84,20 @@ void *room_with(room *it, const void *bytes, size_t len) {
   return it->at;
 }
 
+void *move_room(room *it) {
+  uint8_t *left = it->at;
+  HOLDS(it->len <= MARGIN);
+  room_with(it, left, it->len);
+  memset(left, MOVED, it->len);
+  return it->at;
+}
+
 void *pointer_to(const room *it) {
   return it->len == 0 && it->is_at_end ? NULL : it->at;
 }
 
 static bool are_marks(const uint8_t *bytes, size_t len) {
-  static uint8_t marks[ROOM_MAX];
-  if (marks[0] != MARK) memset(marks, MARK, sizeof marks);
-  return memcmp(bytes, marks, len) == 0;
+  return len == 0 || (bytes[0] == MARK && memcmp(bytes, bytes + 1, len - 1) == 0);
 }
 
 bool is_untouched(const room *it, size_t from) {
@@ -101,35 +119,28 @@ typedef struct head {
   uint32_t mark;
 } head;
 
-static enum owner owner;
-static long blocks[OWNERS];
-static unsigned refused_number, asked, refused;
-
-void set_owner(enum owner next) {
-  owner = next;
-}
-
-long blocks_of(enum owner whose) {
-  return blocks[whose];
-}
+enum owner owner;
+long blocks[OWNERS];
+unsigned requests, refusals;
+static unsigned refused_number;
 
 void refuse_request(unsigned number) {
   refused_number = number;
-  asked = refused = 0;
+  requests = refusals = 0;
 }
 
-unsigned requests(void) {
-  return asked;
+void begin_reads(void) {
+  refuse_request(1);
 }
 
-unsigned refusals(void) {
-  return refused;
+void end_reads(void) {
+  HOLDS(requests == 0);
+  refuse_request(0);
 }
 
 static bool refuses(void) {
-  asked++;
-  if (asked != refused_number) return false;
-  refused++;
+  if (++requests != refused_number) return false;
+  refusals++;
   return true;
 }
 
@@ -155,30 +166,25 @@ static head *head_of(void *block) {
   return at;
 }
 
-static void free_block(void *block) {
-  head *at = head_of(block);
-  blocks[owner]--;
-  memset(at, FREED, sizeof *at + at->size);
-  free(at);
-}
-
 void *fuzz_malloc(size_t size) {
   return refuses() ? NULL : make_block(size);
 }
 
 void *fuzz_realloc(void *block, size_t size) {
-  if (refuses()) return NULL;
-  void *made = make_block(size);
-  if (block) {
-    size_t old = head_of(block)->size;
-    memcpy(made, block, old < size ? old : size);
-    free_block(block);
-  }
+  void *made = fuzz_malloc(size);
+  if (!made || !block) return made;
+  size_t old = head_of(block)->size;
+  memcpy(made, block, old < size ? old : size);
+  fuzz_free(block);
   return made;
 }
 
 void fuzz_free(void *block) {
-  if (block) free_block(block);
+  if (!block) return;
+  head *at = head_of(block);
+  blocks[owner]--;
+  memset(at, FREED, sizeof *at + at->size);
+  free(at);
 }
 
 /* What a run has seen. */
@@ -197,38 +203,28 @@ bool same_event(const hed_event *one, const hed_event *other) {
          && one->x == other->x && one->y == other->y && one->detail == other->detail && one->paste_len == other->paste_len;
 }
 
-static void check_key(const hed_event *event) {
-  uint16_t known = HED_TERMWIZ_MOD_SHIFT | HED_TERMWIZ_MOD_ALT | HED_TERMWIZ_MOD_CTRL;
-  HOLDS((event->modifiers & ~known) == 0);
-  HOLDS(event->key >= HED_KEY_CHAR && event->key <= HED_KEY_INTERNAL_PASTE_END && event->key != HED_KEY_INTERNAL_PASTE_START);
-  if (event->key == HED_KEY_CHAR) {
-    HOLDS(event->detail <= 0x10ffff && (event->detail < 0xd800 || event->detail > 0xdfff));
-  } else if (event->key == HED_KEY_FUNCTION) {
-    HOLDS(event->detail >= 1 && event->detail <= 24);
-  } else {
-    HOLDS(event->detail == 0);
-  }
-  HOLDS(event->buttons == 0 && event->x == 0 && event->y == 0 && event->paste_len == 0);
+bool is_scalar(uint32_t code) {
+  return code <= 0x10ffff && (code < 0xd800 || code > 0xdfff);
 }
 
-static void check_mouse(const hed_event *event) {
-  HOLDS((event->modifiers & ~(HED_TERMWIZ_MOD_SHIFT | HED_TERMWIZ_MOD_ALT | HED_TERMWIZ_MOD_CTRL)) == 0);
-  HOLDS((event->buttons & ~(2 * HED_BUTTON_WHEEL_POSITIVE - HED_BUTTON_LEFT)) == 0);
-  HOLDS(event->key == 0 && event->detail == 0 && event->paste_len == 0);
+static void check_key(const hed_event *event) {
+  HOLDS(event->key >= HED_KEY_CHAR && event->key <= HED_KEY_INTERNAL_PASTE_END && event->key != HED_KEY_INTERNAL_PASTE_START);
+  if (event->key == HED_KEY_CHAR) HOLDS(is_scalar(event->detail));
+  else if (event->key == HED_KEY_FUNCTION) HOLDS(event->detail >= 1 && event->detail <= 24);
+  else HOLDS(event->detail == 0);
 }
 
 void check_event(const hed_event *event) {
-  HOLDS(event->kind == HED_KIND_KEY || event->kind == HED_KIND_MOUSE || event->kind == HED_KIND_PASTE);
-  if (event->kind == HED_KIND_KEY) {
-    check_key(event);
-    note(event->key << 8 | (event->detail & 0x7f), event->modifiers);
-  } else if (event->kind == HED_KIND_MOUSE) {
-    check_mouse(event);
-    note(0x10000u | event->buttons, event->modifiers);
-  } else {
-    HOLDS(event->buttons == 0 && event->modifiers == 0 && event->key == 0 && event->detail == 0 && event->x == 0 && event->y == 0);
-    note(0x20000u, event->paste_len < 64 ? (unsigned)event->paste_len : 64);
-  }
+  bool is_key = event->kind == HED_KIND_KEY, is_mouse = event->kind == HED_KIND_MOUSE, is_paste = event->kind == HED_KIND_PASTE;
+  HOLDS(is_key || is_mouse || is_paste);
+  HOLDS((event->modifiers & ~(HED_TERMWIZ_MOD_SHIFT | HED_TERMWIZ_MOD_ALT | HED_TERMWIZ_MOD_CTRL)) == 0);
+  HOLDS((event->buttons & ~(2 * HED_BUTTON_WHEEL_POSITIVE - HED_BUTTON_LEFT)) == 0);
+  if (is_key) check_key(event);
+  else HOLDS(event->key == 0 && event->detail == 0);
+  if (!is_mouse) HOLDS(event->buttons == 0 && event->x == 0 && event->y == 0);
+  HOLDS(is_paste ? event->modifiers == 0 : event->paste_len == 0);
+  note((event->kind - 1u) << 16 | event->key << 8 | event->buttons | (event->detail & 0x7f), event->modifiers);
+  if (is_paste) note(0xd0000u, event->paste_len < 64 ? (unsigned)event->paste_len : 64);
 }
 
 /* What waits. */
@@ -264,4 +260,33 @@ void check_rest(hed_parser *parser, const uint8_t *waiting, size_t len) {
   HOLDS(hed_parser_is_paste_open(parser) == is_open);
   HOLDS(hed_parser_waiting(parser) == kind_of_rest(waiting, len));
   note(0x30000u | kind_of_rest(waiting, len), len < 64 ? (unsigned)len : 64);
+}
+
+/* Keys that are sent. */
+
+void encode(sent *it, encoder *call, const void *key, size_t capacity) {
+  static room out, out_len;
+  size_t *len = room_of(&out_len, sizeof *len);
+  room_of(&out, capacity);
+  it->encoded = call(key, pointer_to(&out), capacity, len);
+  it->len = *len;
+  HOLDS(it->encoded == HED_ENCODED_TEXT || it->len == 0);
+  size_t written = it->len < capacity ? it->len : capacity;
+  HOLDS(is_untouched(&out_len, sizeof *len) && is_untouched(&out, written) && written <= sizeof it->bytes);
+  memcpy(it->bytes, out.at, written);
+}
+
+bool same_sent(const sent *one, const sent *other, size_t capacity) {
+  size_t len = one->len < capacity ? one->len : capacity;
+  return one->encoded == other->encoded && one->len == other->len && memcmp(one->bytes, other->bytes, len) == 0;
+}
+
+uint32_t encode_told(const void *key, uint8_t *out, size_t capacity, size_t *len) {
+  static room report, text;
+  const told_key *told = key;
+  room_with(&report, &told->report, sizeof told->report);
+  room_with(&text, told->text, told->len);
+  uint32_t encoded = hed_encode_kitty((hed_key_report *)report.at, pointer_to(&text), told->len, told->flags, out, capacity, len);
+  HOLDS(is_unchanged(&report, &told->report) && is_unchanged(&text, told->text));
+  return encoded;
 }

@@ -1,5 +1,5 @@
 /* What the harnesses share: checks, the bytes of an input, rooms that end where nothing can be touched, memory that is counted and
- * refused, and what every event and every rest has to be. */
+ * refused, what every event and every rest has to be, the calls that encode a key, and those of a key map. */
 #ifndef FUZZ_H
 #define FUZZ_H
 
@@ -10,14 +10,14 @@
 
 _Noreturn void fail(const char *what, const char *file, int line);
 
-/* libFuzzer calls it for each input. */
-int LLVMFuzzerTestOneInput(const uint8_t *bytes, size_t len);
-
 /* What is left of an input. After its end follow zeros. */
 typedef struct input {
   const uint8_t *at;
   size_t left;
 } input;
+
+/* Each harness has it, for one input. */
+void try_input(input *it);
 
 uint8_t take_byte(input *it);
 
@@ -37,12 +37,13 @@ typedef struct letter {
 letter take_letter(input *it);
 
 /* A room for one argument of a call. On one side of it lies a page that can't be touched, on the other there are marks. The side changes
- * from one use to the next. A call that reads or writes past the page's side faults. */
+ * from one use to the next, and is the same for the first use in each input. A call that reads or writes past the page's side faults. */
 typedef struct room {
   uint8_t *pages;
   uint8_t *at;
   size_t len;
   bool is_at_end;
+  uint64_t input_number;
 } room;
 
 enum { ROOM_MAX = 1 << 16 };
@@ -52,6 +53,9 @@ void *room_of(room *it, size_t len);
 
 /* The same with a copy of these bytes. */
 void *room_with(room *it, const void *bytes, size_t len);
+
+/* Moves what the room has to its other side, and returns where it is. */
+void *move_room(room *it);
 
 /* What a call gets as the pointer to a room: NULL in place of every other one that is empty. */
 void *pointer_to(const room *it);
@@ -69,19 +73,20 @@ void *fuzz_realloc(void *block, size_t size);
 void fuzz_free(void *block);
 
 /* Whose requests come next. */
-enum owner { TESTED, TWIN, MAP, OWNERS };
+extern enum owner { TESTED, TWIN, MAP, OWNERS } owner;
 
-void set_owner(enum owner owner);
-
-/* How many blocks an owner has. */
-long blocks_of(enum owner owner);
+/* How many blocks each owner has. */
+extern long blocks[OWNERS];
 
 /* Refuses the request of that number from now on, none if it is 0, and counts anew. */
 void refuse_request(unsigned number);
 
 /* How many requests were made, and how many of them refused, since then. */
-unsigned requests(void);
-unsigned refusals(void);
+extern unsigned requests, refusals;
+
+/* Between the two calls no request may be made. */
+void begin_reads(void);
+void end_reads(void);
 
 /* Notes something that a run has seen, so that libFuzzer keeps inputs that show something new: the archive itself isn't instrumented. */
 void note(unsigned what, unsigned how);
@@ -96,7 +101,45 @@ bool begins_paste(const uint8_t *waiting, size_t len);
 bool is_open_paste(const uint8_t *waiting, size_t len);
 bool is_escape(const uint8_t *waiting, size_t len);
 
+/* Whether a code point is a character of Unicode. */
+bool is_scalar(uint32_t code);
+
 /* Checks that a parser, which had nothing more to give while more bytes may come, has these bytes waiting, and tells their kind. */
 void check_rest(hed_parser *parser, const uint8_t *waiting, size_t len);
+
+/* What is sent for a key, as much of it as there was room for. */
+typedef struct sent {
+  uint32_t encoded;
+  size_t len;
+  uint8_t bytes[3 << 12];
+} sent;
+
+/* A call that encodes a key, and checks that it leaves the key as it is. */
+typedef uint32_t encoder(const void *key, uint8_t *out, size_t capacity, size_t *len);
+
+/* Makes the call with a room of that size, and checks what it wrote. */
+void encode(sent *it, encoder *call, const void *key, size_t capacity);
+
+/* Whether two rooms, the smaller of that size, got the same. */
+bool same_sent(const sent *one, const sent *other, size_t capacity);
+
+/* What hed_encode_kitty gets: a key report, its text, and the flags. */
+typedef struct told_key {
+  hed_key_report report;
+  const uint8_t *text;
+  size_t len;
+  uint8_t flags;
+} told_key;
+
+uint32_t encode_told(const void *key, uint8_t *out, size_t capacity, size_t *len);
+
+/* A key map beside a plain one, a list of entries: each answer has to be that of the list. An insert that is refused memory changes
+ * nothing, and made again it is granted. What needs no memory asks for none. Before init and after free every call says that there is no
+ * map. A program begins with no map, and when it ends no memory of the map is left. */
+void begin_map(void);
+void end_map(void);
+
+/* Makes the call of a map that a letter stands for: see tools/fuzz/maps.c. Other letters are passed over. */
+void call_map(letter of, input *it);
 
 #endif

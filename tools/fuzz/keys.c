@@ -13,12 +13,8 @@
 #include "fuzz.h"
 #include <string.h>
 
-enum { TEXT_MAX = 128, TYPED_MAX = 12, NAME_MAX = 21, KEYS = HED_KEY_INTERNAL_PASTE_END };
-enum {
-  ALL_MODIFIERS = 2 * HED_TERMWIZ_MOD_RIGHT_SHIFT - HED_TERMWIZ_MOD_SHIFT,
-  ALL_KITTY = 2 * HED_KITTY_FLAG_REPORT_ASSOCIATED_TEXT - 1,
-  FUNCTIONS = 24
-};
+enum { LONGEST = 128, TYPED_MAX = 12, NAME_MAX = 21, KEYS = HED_KEY_INTERNAL_PASTE_END, FUNCTIONS = 24 };
+enum { ALL_MODIFIERS = 2 * HED_TERMWIZ_MOD_RIGHT_SHIFT - HED_TERMWIZ_MOD_SHIFT, ALL_KITTY = 2 * HED_KITTY_FLAG_REPORT_ASSOCIATED_TEXT - 1 };
 
 typedef struct press {
   uint16_t key, modifiers;
@@ -27,26 +23,7 @@ typedef struct press {
   hed_modes modes;
 } press;
 
-/* The answer of one call, with as much of the text as there was room for. */
-typedef struct answer {
-  uint32_t encoded;
-  size_t len;
-  uint8_t text[TEXT_MAX];
-} answer;
-
-/* A key report with its text, and the flags. */
-typedef struct told_key {
-  hed_key_report report;
-  uint8_t flags;
-  size_t len;
-  uint8_t text[TYPED_MAX];
-} told_key;
-
-static room out, out_len, modes, told, typed;
-
-static bool is_scalar(uint32_t code) {
-  return code <= 0x10ffff && (code < 0xd800 || code > 0xdfff);
-}
+static room out;
 
 /* The press with numbers that name something. Those that do stay, but for function keys and levels that are far off. */
 static press named(press is) {
@@ -76,34 +53,45 @@ static press take_press(input *it, bool *stays) {
   return *stays ? is : named(is);
 }
 
-/* Makes the call with a room of `room` bytes, and checks what it wrote. */
-static answer encode(const press *is, size_t room) {
-  answer got = { .len = 0 };
-  room_of(&out, room);
-  room_of(&out_len, sizeof(size_t));
+static uint32_t encode_press(const void *key, uint8_t *to, size_t capacity, size_t *len) {
+  static room modes;
+  const press *is = key;
   room_with(&modes, &is->modes, sizeof is->modes);
-  uint8_t *text = pointer_to(&out);
-  got.encoded = hed_encode(is->key, is->detail, is->modifiers, is->is_down, (hed_modes *)modes.at, text, room, (size_t *)out_len.at);
-  memcpy(&got.len, out_len.at, sizeof got.len);
-  HOLDS(memcmp(modes.at, &is->modes, sizeof is->modes) == 0 && is_untouched(&modes, sizeof is->modes));
-  HOLDS(is_untouched(&out_len, sizeof(size_t)));
-  HOLDS(got.len <= TEXT_MAX && (got.encoded == HED_ENCODED_TEXT || got.len == 0));
-  size_t written = got.len < room ? got.len : room;
-  HOLDS(is_untouched(&out, written));
-  memcpy(got.text, out.at, written);
-  return got;
+  uint32_t encoded = hed_encode(is->key, is->detail, is->modifiers, is->is_down, (hed_modes *)modes.at, to, capacity, len);
+  HOLDS(is_unchanged(&modes, &is->modes));
+  return encoded;
 }
 
-static bool same_answer(const answer *one, const answer *other, size_t room) {
-  size_t len = one->len < room ? one->len : room;
-  return one->encoded == other->encoded && one->len == other->len && memcmp(one->text, other->text, len) == 0;
+/* Makes a call in rooms of every size, with others of the numbers that it doesn't read, and refused memory. Returns what is sent; `asked`
+ * is how many requests the refused call has made. */
+static const sent *check_call(encoder *call, const void *key, const void *others_unread, unsigned refused, unsigned *asked) {
+  static sent whole, got;
+  encode(&whole, call, key, LONGEST);
+  HOLDS(whole.len <= LONGEST);
+  encode(&got, call, others_unread, LONGEST);
+  HOLDS(same_sent(&got, &whole, LONGEST));
+  for (size_t capacity = 0; capacity <= whole.len + 2; capacity++) {
+    encode(&got, call, key, capacity);
+    HOLDS(same_sent(&got, &whole, capacity));
+  }
+  refuse_request(refused);
+  encode(&got, call, key, LONGEST);
+  HOLDS((got.encoded == HED_ENCODED_REFUSED_MEMORY) == (refusals > 0));
+  *asked = requests;
+  refuse_request(0);
+  if (got.encoded == HED_ENCODED_REFUSED_MEMORY) encode(&got, call, key, LONGEST);
+  HOLDS(same_sent(&got, &whole, LONGEST));
+  return &whole;
+}
+
+static bool is_bad_key(uint16_t key, uint32_t detail) {
+  return key > KEYS || (key == HED_KEY_CHAR && !is_scalar(detail)) || (key == HED_KEY_FUNCTION && detail > 255);
 }
 
 static bool is_bad(const press *is) {
-  if (is->key == 0 || is->key > KEYS || is->modifiers & ~ALL_MODIFIERS || is->modes.encoding > HED_ENCODING_KITTY) return true;
-  if (is->key == HED_KEY_CHAR && !is_scalar(is->detail)) return true;
-  if (is->key == HED_KEY_FUNCTION && is->detail > 255) return true;
-  return is->modes.encoding == HED_ENCODING_KITTY && is->modes.kitty_flags & ~ALL_KITTY;
+  bool is_bad_mode =
+      is->modes.encoding > HED_ENCODING_KITTY || (is->modes.encoding == HED_ENCODING_KITTY && is->modes.kitty_flags & ~ALL_KITTY);
+  return is->key == 0 || is_bad_key(is->key, is->detail) || is->modifiers & ~ALL_MODIFIERS || is_bad_mode;
 }
 
 /* What the header promises for these numbers. */
@@ -121,31 +109,19 @@ static press with_others_unread(press is) {
   return is;
 }
 
-static void check_refusal(const press *is, const answer *whole, unsigned number) {
-  refuse_request(number);
-  answer got = encode(is, TEXT_MAX);
-  unsigned asked = requests();
-  bool is_refused = refusals() > 0;
-  refuse_request(0);
-  HOLDS((got.encoded == HED_ENCODED_REFUSED_MEMORY) == is_refused);
-  HOLDS(is->is_down || asked == 0);
-  if (is_refused) got = encode(is, TEXT_MAX);
-  HOLDS(same_answer(&got, whole, TEXT_MAX));
-}
-
 /* A character that is pressed without modifiers is its text, and is read back. */
-static void check_character(const press *is, const answer *whole) {
+static void check_character(const press *is, const sent *whole) {
   static hed_parser parser = HED_PARSER_NONE;
   hed_event event;
-  set_owner(TWIN);
+  owner = TWIN;
   if (!parser.live) HOLDS(hed_parser_init(&parser));
-  HOLDS(hed_parser_feed(&parser, whole->text, whole->len));
+  HOLDS(hed_parser_feed(&parser, whole->bytes, whole->len));
   HOLDS(hed_parser_next(&parser, false, &event) == HED_NEXT_EVENT && hed_parser_waiting_len(&parser) == 0);
   HOLDS(event.kind == HED_KIND_KEY && event.key == HED_KEY_CHAR && event.detail == is->detail && event.modifiers == HED_TERMWIZ_MOD_NONE);
-  set_owner(TESTED);
+  owner = TESTED;
 }
 
-static void note_press(const press *is, const answer *whole) {
+static void note_press(const press *is, const sent *whole) {
   unsigned modes = (is->modes.application_cursor_keys ? 1u : 0) | (is->modes.newline_mode ? 2u : 0);
   if (is->modes.has_modify_other_keys) modes |= 4u << (is->modes.modify_other_keys & 3);
   note(0x60000u | whole->encoded, (unsigned)whole->len);
@@ -155,20 +131,15 @@ static void note_press(const press *is, const answer *whole) {
   if (is->key == HED_KEY_CHAR && is->detail < 0x80) note(0xb0000u | is->detail << 8 | held << 3 | is->modes.encoding, modes);
 }
 
-static void check_encoding(const press *is, unsigned number) {
+static void check_press(const press *is, unsigned number) {
   press other = with_others_unread(*is);
-  answer whole = encode(is, TEXT_MAX), others = encode(&other, TEXT_MAX);
-  HOLDS(whole.encoded == promised(is));
-  HOLDS(is->is_down || whole.len == 0);
-  HOLDS(same_answer(&whole, &others, TEXT_MAX));
-  for (size_t room = 0; room <= whole.len + 2; room++) {
-    answer part = encode(is, room);
-    HOLDS(same_answer(&part, &whole, room));
-  }
-  check_refusal(is, &whole, number);
+  unsigned asked;
+  const sent *whole = check_call(encode_press, is, &other, number, &asked);
+  HOLDS(whole->encoded == promised(is));
+  HOLDS(is->is_down || (whole->len == 0 && asked == 0));
   bool is_plain = is->key == HED_KEY_CHAR && is->modifiers == HED_TERMWIZ_MOD_NONE && is->detail >= ' ' && is->detail != 0x7f;
-  if (whole.encoded == HED_ENCODED_TEXT && is->is_down && is_plain) check_character(is, &whole);
-  note_press(is, &whole);
+  if (whole->encoded == HED_ENCODED_TEXT && is->is_down && is_plain) check_character(is, whole);
+  note_press(is, whole);
 }
 
 static told_key take_report(input *it, const press *is, bool stays) {
@@ -180,8 +151,7 @@ static told_key take_report(input *it, const press *is, bool stays) {
   report->modifiers = take_byte(it);
   report->shifted = (uint32_t)take_number(it, 4);
   report->base = (uint32_t)take_number(it, 4);
-  const uint8_t *text = take_bytes(it, TYPED_MAX, &key.len);
-  if (key.len > 0) memcpy(key.text, text, key.len);
+  key.text = take_bytes(it, TYPED_MAX, &key.len);
   if (stays) return key;
   if (report->kind & 0x80) {
     report->key = 0;
@@ -193,35 +163,17 @@ static told_key take_report(input *it, const press *is, bool stays) {
   return key;
 }
 
-/* Makes the call with a room of `room` bytes, and checks what it wrote. */
-static answer encode_report(const told_key *key, size_t room) {
-  answer got = { .len = 0 };
-  room_of(&out, room);
-  room_of(&out_len, sizeof(size_t));
-  room_with(&told, &key->report, sizeof key->report);
-  room_with(&typed, key->text, key->len);
-  const hed_key_report *report = (const hed_key_report *)told.at;
-  got.encoded = hed_encode_kitty(report, pointer_to(&typed), key->len, key->flags, pointer_to(&out), room, (size_t *)out_len.at);
-  memcpy(&got.len, out_len.at, sizeof got.len);
-  HOLDS(is_unchanged(&told, &key->report) && is_unchanged(&typed, key->text) && is_untouched(&out_len, sizeof(size_t)));
-  HOLDS(got.len <= TEXT_MAX && (got.encoded == HED_ENCODED_TEXT || got.len == 0));
-  size_t written = got.len < room ? got.len : room;
-  HOLDS(is_untouched(&out, written));
-  memcpy(got.text, out.at, written);
-  return got;
-}
-
 /* How many bytes at the front are a character in UTF-8, 0 if they aren't one. */
 static size_t character_len(const uint8_t *text, size_t len) {
-  size_t more = *text < 0x80 ? 0 : *text < 0xc2 ? len : *text < 0xe0 ? 1 : *text < 0xf0 ? 2 : *text < 0xf5 ? 3 : len;
+  static const uint32_t least[] = { 0, 0x80, 0x800, 0x10000 };
+  size_t more = (size_t)(*text >= 0xc0) + (*text >= 0xe0) + (*text >= 0xf0);
   uint32_t code = more == 0 ? *text : *text & (0x3fu >> more);
-  if (more >= len) return 0;
+  if (more >= len || *text >= 0xf8 || (more == 0 && *text >= 0x80)) return 0;
   for (size_t i = 1; i <= more; i++) {
     if ((text[i] & 0xc0) != 0x80) return 0;
     code = code << 6 | (text[i] & 0x3f);
   }
-  bool is_short = (more == 2 && code < 0x800) || (more == 3 && code < 0x10000);
-  return is_scalar(code) && !is_short ? more + 1 : 0;
+  return is_scalar(code) && code >= least[more] ? more + 1 : 0;
 }
 
 static bool is_utf8(const uint8_t *text, size_t len) {
@@ -232,16 +184,14 @@ static bool is_utf8(const uint8_t *text, size_t len) {
 
 static bool is_bad_report(const told_key *key) {
   const hed_key_report *report = &key->report;
-  if (report->kind < HED_KEY_EVENT_KIND_PRESS || report->kind > HED_KEY_EVENT_KIND_RELEASE || report->key > KEYS || key->flags & ~ALL_KITTY)
-    return true;
-  if (report->key == HED_KEY_CHAR && !is_scalar(report->detail)) return true;
-  if (report->key == HED_KEY_FUNCTION && report->detail > 255) return true;
-  if (report->shifted != HED_NO_CODE && !is_scalar(report->shifted)) return true;
-  return report->base != HED_NO_CODE && !is_scalar(report->base);
+  bool has_bad_code =
+      (report->shifted != HED_NO_CODE && !is_scalar(report->shifted)) || (report->base != HED_NO_CODE && !is_scalar(report->base));
+  bool has_bad_kind = report->kind < HED_KEY_EVENT_KIND_PRESS || report->kind > HED_KEY_EVENT_KIND_RELEASE;
+  return has_bad_kind || has_bad_code || key->flags & ~ALL_KITTY || is_bad_key(report->key, report->detail);
 }
 
 /* Checks the answer that the header promises. A key without bytes is refused: that can't be told from the numbers alone. */
-static void check_told(const told_key *key, const answer *whole) {
+static void check_told(const told_key *key, const sent *whole) {
   if (is_bad_report(key)) HOLDS(whole->encoded == HED_ENCODED_BAD_NUMBER);
   else if (!is_utf8(key->text, key->len)) HOLDS(whole->encoded == HED_ENCODED_BAD_TEXT);
   else HOLDS(whole->encoded == HED_ENCODED_TEXT || whole->encoded == HED_ENCODED_REFUSED_KEY);
@@ -253,21 +203,10 @@ static void check_told(const told_key *key, const answer *whole) {
 static void check_report(const told_key *key, unsigned number) {
   told_key other = *key;
   if (key->report.key > HED_KEY_CHAR && key->report.key != HED_KEY_FUNCTION) other.report.detail = ~other.report.detail;
-  answer whole = encode_report(key, TEXT_MAX), others = encode_report(&other, TEXT_MAX);
-  check_told(key, &whole);
-  HOLDS(same_answer(&whole, &others, TEXT_MAX));
-  for (size_t room = 0; room <= whole.len + 2; room++) {
-    answer part = encode_report(key, room);
-    HOLDS(same_answer(&part, &whole, room));
-  }
-  refuse_request(number);
-  answer got = encode_report(key, TEXT_MAX);
-  bool is_refused = refusals() > 0;
-  HOLDS(requests() == 0 || (whole.encoded != HED_ENCODED_BAD_NUMBER && whole.encoded != HED_ENCODED_BAD_TEXT));
-  refuse_request(0);
-  HOLDS((got.encoded == HED_ENCODED_REFUSED_MEMORY) == is_refused);
-  if (is_refused) got = encode_report(key, TEXT_MAX);
-  HOLDS(same_answer(&got, &whole, TEXT_MAX));
+  unsigned asked;
+  const sent *whole = check_call(encode_told, key, &other, number, &asked);
+  check_told(key, whole);
+  HOLDS(asked == 0 || (whole->encoded != HED_ENCODED_BAD_NUMBER && whole->encoded != HED_ENCODED_BAD_TEXT));
 }
 
 /* Asks for the name of a key in a room, and checks that the room has as much of it as fits, and a zero after it if that fits too. For a
@@ -292,17 +231,13 @@ static void check_name(uint16_t key) {
   }
 }
 
-int LLVMFuzzerTestOneInput(const uint8_t *bytes, size_t len) {
-  input it = { bytes, len };
+void try_input(input *it) {
   bool stays;
-  press is = take_press(&it, &stays);
-  refuse_request(0);
-  out.is_at_end = out_len.is_at_end = modes.is_at_end = told.is_at_end = typed.is_at_end = false;
-  unsigned refused = 1 + take_byte(&it) % 8u;
-  check_encoding(&is, refused);
-  told_key key = take_report(&it, &is, stays);
+  press is = take_press(it, &stays);
+  unsigned refused = 1 + take_byte(it) % 8u;
+  check_press(&is, refused);
+  told_key key = take_report(it, &is, stays);
   check_report(&key, refused);
   check_name(is.key);
-  HOLDS(blocks_of(TESTED) == 0);
-  return 0;
+  HOLDS(blocks[TESTED] == 0);
 }

@@ -1,6 +1,14 @@
-/* The calls of a key map, each with its checks. */
-#include "map_calls.h"
+/* The calls of a key map, each with its checks, and the texts of their letters: tools/fuzz/maps.c has the language. */
+#include "fuzz.h"
 #include <string.h>
+
+/* The most keys of a map, the most bytes that they have all together, and the most inserts of a program. Further inserts aren't made. */
+enum { MAP_KEYS_MAX = 300, MAP_BYTES_MAX = 1 << 14, MAP_INSERTS_MAX = 600 };
+enum { TEXT_MAX = 1024, MANY = 16, FEW = 0x40 };
+
+/* The last text, and room for one byte more. */
+static uint8_t last[TEXT_MAX + 1];
+static size_t last_len;
 
 /* The plain map: entries in the order of their inserts. */
 typedef struct entry {
@@ -13,13 +21,10 @@ static entry entries[MAP_KEYS_MAX];
 static uint8_t key_bytes[MAP_BYTES_MAX];
 static size_t count, bytes_len, inserts, next_key;
 
-/* The map under test lies in a room, and moves to another. */
-static room places[2], given_key, given_text, found;
-static unsigned place;
+/* The map under test lies in a room. */
+static room place, given_key, given_text, found;
 static hed_keymap *map;
 static bool is_made;
-
-static const hed_keymap none = HED_KEYMAP_NONE;
 
 /* Programs spend most of their time here. So the function has no checks of addresses, and is no memcmp, of which libFuzzer takes note. */
 __attribute__((no_sanitize("address", "undefined"))) static bool is_prefix(const uint8_t *prefix, size_t prefix_len, const uint8_t *text,
@@ -65,38 +70,27 @@ static void check_lookup(const uint8_t *text, size_t len, bool maybe_more) {
   note(0x70000u | answer << 8 | (len < 64 ? (unsigned)len : 64), has_match && wanted.len < 64 ? (unsigned)wanted.len : 64);
 }
 
-/* Begins calls that ask for no memory. */
-static void begin_reads(void) {
-  set_owner(MAP);
-  refuse_request(1);
-}
-
-static void end_reads(void) {
-  HOLDS(requests() == 0 && is_untouched(&places[place], sizeof *map));
-  refuse_request(0);
-  set_owner(TESTED);
-}
-
-void look_up(const uint8_t *text, size_t len) {
-  begin_reads();
-  check_lookup(text, len, true);
-  check_lookup(text, len, false);
-  HOLDS(hed_keymap_len(map) == count);
+static void end_lookups(void) {
+  HOLDS(hed_keymap_len(map) == count && is_untouched(&place, sizeof *map));
   end_reads();
 }
 
-static void look_so_many_up(size_t want) {
+/* A lookup under both flags. */
+static void look_up(const uint8_t *key, size_t len) {
+  begin_reads();
+  check_lookup(key, len, true);
+  check_lookup(key, len, false);
+  end_lookups();
+}
+
+/* Looks some keys up, from the one on at which the last call ended. */
+static void look_keys_up(size_t want) {
   begin_reads();
   for (size_t i = 0; i < want && i < count; i++) {
     const entry *it = &entries[next_key++ % count];
     check_lookup(it->key, it->len, next_key & 1);
   }
-  HOLDS(hed_keymap_len(map) == count);
-  end_reads();
-}
-
-void look_keys_up(void) {
-  look_so_many_up(16);
+  end_lookups();
 }
 
 static void forget(void) {
@@ -105,27 +99,19 @@ static void forget(void) {
 }
 
 void begin_map(void) {
-  places[0].is_at_end = given_key.is_at_end = given_text.is_at_end = found.is_at_end = false;
-  places[1].is_at_end = true;
-  room_with(&places[1], &none, sizeof none);
-  map = room_with(&places[0], &none, sizeof none);
-  place = 0;
-  inserts = next_key = 0;
+  map = room_with(&place, &(hed_keymap)HED_KEYMAP_NONE, sizeof *map);
+  last_len = inserts = next_key = 0;
   forget();
 }
 
-void init_map(unsigned refused) {
-  set_owner(MAP);
+static void init_map(unsigned refused) {
   refuse_request(refused);
   bool made = hed_keymap_init(map);
-  HOLDS(made == (refusals() == 0));
-  note(0x80000u, requests());
+  HOLDS(made == (refusals == 0));
+  note(0x80000u, requests);
   refuse_request(0);
-  if (!made) {
-    look_keys_up();
-    set_owner(MAP);
-    HOLDS(hed_keymap_init(map));
-  }
+  if (!made) look_keys_up(MANY);
+  HOLDS(made || hed_keymap_init(map));
   forget();
   is_made = true;
   look_up(NULL, 0);
@@ -133,24 +119,22 @@ void init_map(unsigned refused) {
 
 /* Makes the call, and says whether it was granted. */
 static bool insert(const uint8_t *key, size_t len, uint64_t value, unsigned refused) {
-  set_owner(MAP);
   refuse_request(refused);
   bool is_granted = hed_keymap_insert(map, pointer_to(&given_key), len, value);
-  HOLDS(is_granted == (is_made && refusals() == 0));
-  HOLDS(is_made || requests() == 0);
-  note(0x90000u, requests());
+  HOLDS(is_granted == (is_made && refusals == 0));
+  HOLDS(is_made || requests == 0);
+  note(0x90000u, requests);
   refuse_request(0);
-  set_owner(TESTED);
   HOLDS(is_unchanged(&given_key, key));
   return is_granted;
 }
 
-void insert_in_map(const uint8_t *key, size_t len, uint8_t value, unsigned refused) {
+static void insert_in_map(const uint8_t *key, size_t len, uint8_t value, unsigned refused) {
   uint64_t spread = value * 0x9e3779b97f4a7c15u;
   if (count == MAP_KEYS_MAX || len > MAP_BYTES_MAX - bytes_len || inserts++ >= MAP_INSERTS_MAX) return;
   room_with(&given_key, key, len);
   if (!insert(key, len, spread, refused) && is_made) {
-    look_keys_up();
+    look_keys_up(MANY);
     look_up(key, len);
     HOLDS(insert(key, len, spread, 0));
   }
@@ -159,24 +143,70 @@ void insert_in_map(const uint8_t *key, size_t len, uint8_t value, unsigned refus
   note(0xa0000u, (unsigned)(count < 32 ? count : 32 + count / 32));
 }
 
-void move_map(void) {
-  hed_keymap old = *map;
-  memset(map, 0xee, sizeof *map);
-  place = !place;
-  map = (hed_keymap *)places[place].at;
-  *map = old;
-}
-
-void free_map(void) {
-  set_owner(MAP);
+static void free_map(void) {
   hed_keymap_free(map);
-  HOLDS(!map->live && map->state == NULL && blocks_of(MAP) == 0);
+  HOLDS(!map->live && map->state == NULL && blocks[MAP] == 0);
   forget();
   look_up(NULL, 0);
 }
 
 void end_map(void) {
-  look_so_many_up(count);
+  owner = MAP;
+  look_keys_up(count);
   free_map();
   free_map();
+  owner = TESTED;
+}
+
+static void append(const uint8_t *bytes, size_t len, bool is_few) {
+  static const uint8_t few[] = { 0x00, 0x01, 0x61, 0xff };
+  for (size_t i = 0; i < len && last_len < TEXT_MAX; i++) last[last_len++] = is_few ? few[bytes[i] & 3] : bytes[i];
+}
+
+/* Makes the next text. */
+static void take_text(input *it) {
+  enum { NEW, LONGER, SHORTER, MUCH_LONGER, N = 0xf };
+  uint8_t first = take_byte(it), form = first >> 4 & 3, many[MANY * N];
+  size_t n = first & N, len = 0;
+  const uint8_t *bytes = many;
+  if (form == NEW) last_len = 0;
+  if (form == NEW || form == LONGER) bytes = take_bytes(it, n, &len);
+  if (form == SHORTER) last_len -= n < last_len ? n : last_len;
+  if (form == MUCH_LONGER) memset(many, take_byte(it), len = MANY * n);
+  append(bytes, len, first & FEW);
+}
+
+static void insert_one(input *it, unsigned refused) {
+  take_text(it);
+  insert_in_map(last, last_len, take_byte(it), refused);
+}
+
+static void insert_many(input *it, unsigned refused) {
+  take_text(it);
+  uint8_t n = take_byte(it), value = take_byte(it);
+  for (unsigned i = 0; i < n; i++) {
+    last[last_len] = (uint8_t)(i * 37);
+    insert_in_map(last, last_len + 1, (uint8_t)(value + i), refused);
+  }
+}
+
+static void look_text_up(input *it) {
+  take_text(it);
+  look_up(last, last_len);
+}
+
+void call_map(letter of, input *it) {
+  owner = MAP;
+  note(0xc0000u | (unsigned)of.capital, of.refused);
+  switch (of.capital) {
+    case 'J': init_map(of.refused); break;
+    case 'P': insert_one(it, of.refused); break;
+    case 'U': insert_many(it, of.refused); break;
+    case 'Q': look_text_up(it); break;
+    case 'R': free_map(); break;
+    case 'S': map = move_room(&place); break;
+    case 'T': look_keys_up(MANY); break;
+    default: break;
+  }
+  owner = TESTED;
 }

@@ -1,8 +1,7 @@
 /* What tools/growth.sh counts: passes of a parser over texts of two lengths.
  *
- *     growth             makes each pass once, within `counted`, and prints its name and the numbers of its bytes and its events
- *     growth heap        makes each pass once, and prints the same, the length of the longest text that waited, the most bytes of memory in
- *                        use, and the largest request for memory
+ *     growth             makes each pass once, within `counted`, and prints its name, the numbers of its bytes and its events, the length of
+ *                        the longest text that waited, the most bytes of memory in use, and the largest request for memory
  *     growth parsers     makes many parsers that share one table, and prints how many bytes of memory each has in use: once they are made,
  *                        after a read of keys, and some of them after a long paste, once they gave memory back; and what is left of all
  *
@@ -39,9 +38,10 @@ static void note(size_t before, size_t size) {
   if (memory.in_use > memory.most_in_use) memory.most_in_use = memory.in_use;
 }
 
+/* (NULL is a block of no bytes.) */
 static size_t size_of(const char *block) {
-  size_t size;
-  memcpy(&size, block - FRONT, sizeof size);
+  size_t size = 0;
+  if (block) memcpy(&size, block - FRONT, sizeof size);
   return size;
 }
 
@@ -55,41 +55,29 @@ static char *new_room(size_t size) {
   return room;
 }
 
-/* A new block, or NULL. */
-static char *new_block(size_t size) {
+static void leave_block(char *block) {
+  if (block && memory.is_of_libc) __real_free(block - FRONT);
+}
+
+void *__wrap_realloc(void *block, size_t size) {
+  size_t before = size_of(block);
   if (size > memory.largest) memory.largest = size;
   char *room = new_room(size);
   if (!room) return NULL;
   memcpy(room, &size, sizeof size);
+  if (block) memcpy(room + FRONT, block, before < size ? before : size);
+  note(before, size);
+  leave_block(block);
   return room + FRONT;
 }
 
-static void leave_block(char *block) {
-  if (memory.is_of_libc) __real_free(block - FRONT);
-}
-
 void *__wrap_malloc(size_t size) {
-  char *block = new_block(size);
-  if (block) note(0, size);
-  return block;
-}
-
-void *__wrap_realloc(void *block, size_t size) {
-  if (!block) return __wrap_malloc(size);
-  size_t before = size_of(block);
-  char *moved = new_block(size);
-  if (!moved) return NULL;
-  memcpy(moved, block, before < size ? before : size);
-  note(before, size);
-  leave_block(block);
-  return moved;
+  return __wrap_realloc(NULL, size);
 }
 
 void __wrap_free(void *block) {
-  if (block) {
-    note(size_of(block), 0);
-    leave_block(block);
-  }
+  note(size_of(block), 0);
+  leave_block(block);
 }
 
 /* Copies, which the C library makes in other ways for other lengths: here each byte takes the same instructions. */
@@ -114,81 +102,96 @@ void *__wrap_memset(void *to, int byte, size_t length) {
   return to;
 }
 
-/* The texts. */
+static const char replies[] =
+    "\x1b[24;80R\x1b[?1;5R\x1b[I\x1b[?62;22c\x1b[?5u\x1b[97;5:3u\x1b[48;24;80;480;800t"
+    "\x1b]11;rgb:1e1e/1e1e/1e1e\x1b\\\x1b[?2026;2$y\x1b[57358;2u";
+
+/* The texts: what each begins with, and then parts in turn, each as many times as it says. */
+static const struct text {
+  const char *name;
+  bool is_extended; /* whether the extended parser alone gets it */
+  const char *start;
+  const char *parts[6];
+  size_t times[5];
+} texts[] = {
+  { "typed", false, "", { "the quick brown fox\rjumps\tover\x7f \003a lazy dog " }, { 1 } },
+  { "keys", false, "", { "\x1b[A\x1b[1;5C\x1bOP\x1b[15~\x1b[3;5~\x1b[97;5u\x1b[Z\x1bx\x1b[27;6;65~" }, { 1 } },
+  { "csiu", false, "", { "\x1b[97;5u\x1b[27;6;65~\x1b[105;7u\x1b[27;5;13~\x1b[122;3u" }, { 1 } },
+  { "paste", false, "\x1b[200~", { "a pasted line\nand another, with a cut end \x1b[20\n\x1b[201\n" }, { 1 } },
+  { "replies", true, "", { replies }, { 1 } },
+  /* Strings of a thousand bytes, each with its end. */
+  { "strings", true, "", { "\x1b]52;c;", "x", "\a\x1b[24;80R\x1b]0;title\x1b\\" }, { 1, 1015, 1 } },
+  /* Strings that never end, each up to a control character, and control sequences that are a byte too long. */
+  { "begun", true, "", { "\x1bP", "x", "\r\x1b[", "0;", "0" }, { 1, 4092, 1, 126, 1 } },
+};
 static uint8_t text[LONGEST];
 
-/* Fills the text with parts, in turn, from a place on. */
-static void fill(size_t from, const char *const *parts, size_t count) {
-  for (size_t at = from, i = 0; at < LONGEST; i++) {
-    size_t length = strlen(parts[i % count]);
-    if (length > LONGEST - at) length = LONGEST - at;
-    memcpy(text + at, parts[i % count], length);
-    at += length;
-  }
+/* Puts bytes at a place, as many as there is room for. Returns the place after them. */
+static size_t put(size_t at, const char *bytes) {
+  for (; *bytes && at < LONGEST; bytes++) text[at++] = (uint8_t)*bytes;
+  return at;
 }
 
-static void fill_typed(void) {
-  static const char *const words[] = { "the ", "quick ", "brown ", "fox\r", "jumps\t", "over\x7f ", "\x03", "a lazy dog " };
-  fill(0, words, sizeof words / sizeof *words);
+static void fill(const struct text *it) {
+  size_t at = put(0, it->start);
+  for (size_t part = 0; at < LONGEST; part = it->parts[part + 1] ? part + 1 : 0)
+    for (size_t i = 0; i < it->times[part]; i++) at = put(at, it->parts[part]);
 }
 
-static void fill_keys(void) {
-  static const char *const keys[] = { "\x1b[A",     "\x1b[1;5C", "\x1bOP", "\x1b[15~",     "\x1b[3;5~",
-                                      "\x1b[97;5u", "\x1b[Z",    "\x1bx",  "\x1b[27;6;65~" };
-  fill(0, keys, sizeof keys / sizeof *keys);
-}
-
-static void fill_csiu(void) {
-  static const char *const keys[] = { "\x1b[97;5u", "\x1b[27;6;65~", "\x1b[105;7u", "\x1b[27;5;13~", "\x1b[122;3u" };
-  fill(0, keys, sizeof keys / sizeof *keys);
-}
-
-static void fill_replies(void) {
-  static const char *const replies[] = { "\x1b[24;80R",
-                                         "\x1b[?1;5R",
-                                         "\x1b[I",
-                                         "\x1b[?62;22c",
-                                         "\x1b[?5u",
-                                         "\x1b[97;5:3u",
-                                         "\x1b[48;24;80;480;800t",
-                                         "\x1b]11;rgb:1e1e/1e1e/1e1e\x1b\\",
-                                         "\x1b[?2026;2$y",
-                                         "\x1b[57358;2u" };
-  fill(0, replies, sizeof replies / sizeof *replies);
-}
-
-/* Strings of a thousand bytes, each with its end. */
-static void fill_strings(void) {
-  static char string[1024];
-  static const char *const strings[] = { string, "\x1b[24;80R", "\x1b]0;title\x1b\\" };
-  memset(string, 'x', sizeof string - 1);
-  memcpy(string, "\x1b]52;c;", 7);
-  string[sizeof string - 2] = '\a';
-  fill(0, strings, sizeof strings / sizeof *strings);
-}
-
-/* Strings that never end, each up to a control character, and control sequences that are a byte too long. */
-static void fill_begun(void) {
-  static char string[4096], control[256];
-  static const char *const begun[] = { string, control };
-  memset(string, 'x', sizeof string - 1);
-  memcpy(string, "\x1bP", 2);
-  string[sizeof string - 2] = '\r';
-  for (size_t i = 0; i < sizeof control - 1; i++) control[i] = i % 2 ? ';' : '0';
-  memcpy(control, "\x1b[", 2);
-  fill(0, begun, sizeof begun / sizeof *begun);
-}
-
-static void fill_paste(void) {
-  static const char *const lines[] = { "a pasted line\n", "and another, with a cut end \x1b[20\n", "\x1b[201\n" };
-  static const char start[] = "\x1b[200~";
-  memcpy(text, start, sizeof start - 1);
-  fill(sizeof start - 1, lines, sizeof lines / sizeof *lines);
+static void want(bool is_so) {
+  if (is_so) return;
+  fprintf(stderr, "growth: memory was refused, or a read had no event; the largest request was of %zu bytes\n", memory.largest);
+  exit(1);
 }
 
 /* The calls by which events are taken, and what they are called. */
 enum way { NEXT_EVENT, PARSE_AS_VEC, EXTENDED, WAYS };
 static const char *const way_names[WAYS] = { "next_event", "parse_as_vec", "extended" };
+
+/* A parser of one kind or of the other. */
+struct session {
+  bool is_extended;
+  hed_parser plain;
+  hed_extended extended;
+};
+
+/* Makes a parser, which shares the table of `first` if there is one. */
+static void make(struct session *it, enum way way, const hed_parser *first) {
+  *it = (struct session){ .is_extended = way == EXTENDED };
+  if (it->is_extended) {
+    want(first ? hed_extended_init_sharing_parser(&it->extended, HED_PROTOCOL_KITTY, first)
+               : hed_extended_init(&it->extended, HED_PROTOCOL_KITTY));
+  } else {
+    want(first ? hed_parser_init_sharing(&it->plain, first) : hed_parser_init(&it->plain));
+  }
+}
+
+static void feed(struct session *it, const uint8_t *bytes, size_t length) {
+  want(it->is_extended ? hed_extended_feed(&it->extended, bytes, length) : hed_parser_feed(&it->plain, bytes, length));
+}
+
+static size_t waiting_len(const struct session *it) {
+  return it->is_extended ? hed_extended_waiting_len(&it->extended) : hed_parser_waiting_len(&it->plain);
+}
+
+/* Takes the events that are decided, and counts them. */
+static uint64_t take_events(struct session *it, bool more) {
+  hed_event event;
+  hed_extended_event extended_event;
+  uint64_t events = 0;
+  uint32_t answer;
+  do {
+    answer = it->is_extended ? hed_extended_next(&it->extended, more, &extended_event) : hed_parser_next(&it->plain, more, &event);
+    events += answer == HED_NEXT_EVENT;
+  } while (answer == HED_NEXT_EVENT);
+  want(answer == HED_NEXT_NONE);
+  return events;
+}
+
+static void end(struct session *it) {
+  if (it->is_extended) hed_extended_free(&it->extended);
+  else hed_parser_free(&it->plain);
+}
 
 /* A pass: its bytes, the size of its reads, and how it takes events. Then the number of its events, and the longest text that waited. */
 struct pass {
@@ -198,185 +201,109 @@ struct pass {
   size_t longest;
 };
 
-static void stop(const char *why) {
-  fprintf(stderr, "growth: %s; the largest request was of %zu bytes\n", why, memory.largest);
-  exit(1);
-}
-
 static void pass_as_vec(struct pass *pass) {
   size_t waiting;
-  if (!parser_pass(text, pass->length, pass->length ? pass->read : 0, &pass->events, &waiting)) stop("memory was refused");
+  want(parser_pass(text, pass->length, pass->length ? pass->read : 0, &pass->events, &waiting));
   size_t length = pass->length < pass->read ? pass->length : pass->read;
   pass->longest = waiting > length ? waiting : length;
 }
 
-/* Takes the events that are decided, and counts them. */
-static void take_events(struct pass *pass, hed_parser *parser, bool more) {
-  hed_event event;
-  uint32_t answer;
-  while ((answer = hed_parser_next(parser, more, &event)) == HED_NEXT_EVENT) pass->events++;
-  if (answer != HED_NEXT_NONE) stop("memory was refused");
-}
-
 static void pass_by_steps(struct pass *pass) {
-  hed_parser parser = { 0 };
-  if (!hed_parser_init(&parser)) stop("memory was refused");
+  struct session it;
+  make(&it, pass->way, NULL);
   for (size_t at = 0; at < pass->length; at += pass->read) {
-    size_t length = pass->length - at < pass->read ? pass->length - at : pass->read;
-    if (!hed_parser_feed(&parser, text + at, length)) stop("memory was refused");
-    if (hed_parser_waiting_len(&parser) > pass->longest) pass->longest = hed_parser_waiting_len(&parser);
-    take_events(pass, &parser, true);
+    feed(&it, text + at, pass->length - at < pass->read ? pass->length - at : pass->read);
+    if (waiting_len(&it) > pass->longest) pass->longest = waiting_len(&it);
+    pass->events += take_events(&it, true);
   }
-  take_events(pass, &parser, false);
-  hed_parser_free(&parser);
-}
-
-static void take_extended_events(struct pass *pass, hed_extended *parser, bool more) {
-  hed_extended_event event;
-  uint32_t answer;
-  while ((answer = hed_extended_next(parser, more, &event)) == HED_NEXT_EVENT) pass->events++;
-  if (answer != HED_NEXT_NONE) stop("memory was refused");
-}
-
-static void pass_by_extended_steps(struct pass *pass) {
-  hed_extended parser = { 0 };
-  if (!hed_extended_init(&parser, HED_PROTOCOL_KITTY)) stop("memory was refused");
-  for (size_t at = 0; at < pass->length; at += pass->read) {
-    size_t length = pass->length - at < pass->read ? pass->length - at : pass->read;
-    if (!hed_extended_feed(&parser, text + at, length)) stop("memory was refused");
-    if (hed_extended_waiting_len(&parser) > pass->longest) pass->longest = hed_extended_waiting_len(&parser);
-    take_extended_events(pass, &parser, true);
-  }
-  take_extended_events(pass, &parser, false);
-  hed_extended_free(&parser);
+  pass->events += take_events(&it, false);
+  end(&it);
 }
 
 /* What is counted. */
 __attribute__((noinline)) void counted(struct pass *pass) {
   if (pass->way == PARSE_AS_VEC) pass_as_vec(pass);
-  else if (pass->way == EXTENDED) pass_by_extended_steps(pass);
   else pass_by_steps(pass);
 }
 
-static void show(const char *name, enum way way, size_t read, size_t length, bool is_heap) {
+static void show(const char *name, enum way way, size_t read, size_t length) {
   struct pass pass = { length, read, way, 0, 0 };
   memory.end = memory.in_use = memory.most_in_use = memory.largest = 0;
   counted(&pass);
-  printf("%s %s %zu %zu %llu", way_names[way], name, read, length, (unsigned long long)pass.events);
-  if (is_heap) printf(" %zu %zu %zu", pass.longest, memory.most_in_use, memory.largest);
-  printf("\n");
+  printf("%s %s %zu %zu %llu ", way_names[way], name, read, length, (unsigned long long)pass.events);
+  printf("%zu %zu %zu\n", pass.longest, memory.most_in_use, memory.largest);
 }
 
-/* A parser of one kind or of the other that shares the table of `first`, and reads that are passed to it. */
-struct session {
-  bool is_extended;
-  hed_parser plain;
-  hed_extended extended;
-};
-static hed_parser first;
-
-static void make(struct session *it, bool is_extended) {
-  it->is_extended = is_extended;
-  if (!(is_extended ? hed_extended_init_sharing_parser(&it->extended, HED_PROTOCOL_KITTY, &first)
-                    : hed_parser_init_sharing(&it->plain, &first)))
-    stop("memory was refused");
+/* Passes of no bytes, and of each text in reads of some sizes. The lengths are of the shorter texts: each has enough reads for the buffer to
+ * grow as it does in the long run. */
+static void show_passes(enum way way) {
+  static const struct { size_t size, length; } reads[] = { { 1, 8192 }, { 64, 8192 }, { 4096, LONGEST / 4 }, { LONGEST, 8192 } };
+  show("new", way, 1, 0);
+  for (size_t i = 0; i < sizeof texts / sizeof *texts; i++) {
+    if (texts[i].is_extended && way != EXTENDED) continue;
+    fill(&texts[i]);
+    for (size_t j = 0; j < 2 * sizeof reads / sizeof *reads; j++)
+      show(texts[i].name, way, reads[j / 2].size, j % 2 ? 4 * reads[j / 2].length : reads[j / 2].length);
+  }
 }
 
 /* Passes a read, takes its events, and drops the text of a paste. */
 static void read_all(struct session *it, const uint8_t *bytes, size_t length) {
-  struct pass pass = { length, length, it->is_extended ? EXTENDED : NEXT_EVENT, 0, 0 };
-  if (!(it->is_extended ? hed_extended_feed(&it->extended, bytes, length) : hed_parser_feed(&it->plain, bytes, length)))
-    stop("memory was refused");
-  if (it->is_extended) {
-    take_extended_events(&pass, &it->extended, true);
-    hed_extended_drop_text(&it->extended);
-  } else {
-    take_events(&pass, &it->plain, true);
-    hed_parser_drop_paste(&it->plain);
-  }
-  if (pass.events == 0) stop("a read had no event");
+  feed(it, bytes, length);
+  want(take_events(it, true) > 0);
+  if (it->is_extended) hed_extended_drop_text(&it->extended);
+  else hed_parser_drop_paste(&it->plain);
 }
 
-static void shrink(struct session *it) {
+/* Reads a paste, and gives memory back. */
+static void read_paste(struct session *it) {
+  enum { PASTED = 1 << 20, MARK = sizeof "\x1b[200~" - 1 };
+  static uint8_t paste[PASTED];
+  memset(paste, 'x', PASTED);
+  memcpy(paste, "\x1b[200~", MARK);
+  memcpy(paste + PASTED - MARK, "\x1b[201~", MARK);
+  read_all(it, paste, PASTED);
   if (it->is_extended) hed_extended_shrink_to(&it->extended, 0);
   else hed_parser_shrink_to(&it->plain, 0);
 }
 
-static void end(struct session *it) {
-  if (it->is_extended) hed_extended_free(&it->extended);
-  else hed_parser_free(&it->plain);
-}
-
 /* Prints how many bytes each of some sessions has in use, beside those that were in use before. */
-static void tell_each(bool is_extended, const char *when, size_t count, size_t before) {
-  printf("%s %s %zu %zu\n", way_names[is_extended ? EXTENDED : NEXT_EVENT], when, count, (memory.in_use - before) / count);
+static void tell_each(enum way way, const char *when, size_t count, size_t before) {
+  printf("%s %s %zu %zu\n", way_names[way], when, count, (memory.in_use - before) / count);
 }
 
-enum { SESSIONS = 1000, PASTED_SESSIONS = 100, READ = 4096, PASTED = 1 << 20 };
-
-static void show_sessions(bool is_extended, const uint8_t *paste) {
+/* Sessions that share the table of `first` and read keys, and some that read a paste. */
+static void show_sessions(enum way way, const hed_parser *first) {
+  enum { SESSIONS = 1000, PASTED_SESSIONS = 100, READ = 4096 };
   static struct session sessions[SESSIONS];
   size_t before = memory.in_use;
-  for (size_t i = 0; i < SESSIONS; i++) make(&sessions[i], is_extended);
-  tell_each(is_extended, "made", SESSIONS, before);
+  for (size_t i = 0; i < SESSIONS; i++) make(&sessions[i], way, first);
+  tell_each(way, "made", SESSIONS, before);
   for (size_t i = 0; i < SESSIONS; i++) read_all(&sessions[i], text, READ);
-  tell_each(is_extended, "read", SESSIONS, before);
+  tell_each(way, "read", SESSIONS, before);
+  for (size_t i = 0; i < SESSIONS; i++) end(&sessions[i]);
   for (size_t i = 0; i < PASTED_SESSIONS; i++) {
-    end(&sessions[i]);
-    make(&sessions[i], is_extended);
+    make(&sessions[i], way, first);
+    read_paste(&sessions[i]);
   }
-  for (size_t i = PASTED_SESSIONS; i < SESSIONS; i++) end(&sessions[i]);
-  for (size_t i = 0; i < PASTED_SESSIONS; i++) {
-    read_all(&sessions[i], paste, PASTED);
-    shrink(&sessions[i]);
-  }
-  tell_each(is_extended, "shrunk", PASTED_SESSIONS, before);
+  tell_each(way, "shrunk", PASTED_SESSIONS, before);
   for (size_t i = 0; i < PASTED_SESSIONS; i++) end(&sessions[i]);
-  tell_each(is_extended, "freed", 1, before);
+  tell_each(way, "freed", 1, before);
 }
 
-/* Sessions that read keys, and some that read a paste. */
 static void show_parsers(void) {
-  static const char paste_start[] = "\x1b[200~", paste_end[] = "\x1b[201~";
-  static uint8_t paste[PASTED];
-  memset(paste, 'x', PASTED);
-  memcpy(paste, paste_start, sizeof paste_start - 1);
-  memcpy(paste + PASTED - (sizeof paste_end - 1), paste_end, sizeof paste_end - 1);
-  fill_keys();
+  hed_parser first = HED_PARSER_NONE;
+  fill(&texts[1]);
   memory.is_of_libc = true;
-  if (!hed_parser_init(&first)) stop("memory was refused");
-  show_sessions(false, paste);
-  show_sessions(true, paste);
+  want(hed_parser_init(&first));
+  show_sessions(NEXT_EVENT, &first);
+  show_sessions(EXTENDED, &first);
   hed_parser_free(&first);
 }
 
 int main(int argc, char **argv) {
-  static const struct {
-    const char *name;
-    void (*fill)(void);
-    bool is_extended; /* whether the extended parser alone gets it */
-  } texts[] = { { "typed", fill_typed, false }, { "keys", fill_keys, false },      { "csiu", fill_csiu, false },
-                { "paste", fill_paste, false }, { "replies", fill_replies, true }, { "strings", fill_strings, true },
-                { "begun", fill_begun, true } };
-  /* The sizes of reads, and the lengths of the shorter texts: each has enough reads for the buffer to grow as it does in the long run. */
-  static const struct { size_t size, length; } reads[] = { { 1, 8192 }, { 64, 8192 }, { 4096, LONGEST / 4 }, { LONGEST, 8192 } };
-  bool is_heap = argc == 2 && !strcmp(argv[1], "heap");
-  static char line[BUFSIZ];
-  setvbuf(stdout, line, _IOFBF, sizeof line);
-  if (argc == 2 && !strcmp(argv[1], "parsers")) {
-    show_parsers();
-    return 0;
-  }
-  for (enum way way = 0; way < WAYS; way++) {
-    show("new", way, 1, 0, is_heap);
-    for (size_t i = 0; i < sizeof texts / sizeof *texts; i++) {
-      if (texts[i].is_extended && way != EXTENDED) continue;
-      texts[i].fill();
-      for (size_t j = 0; j < sizeof reads / sizeof *reads; j++) {
-        show(texts[i].name, way, reads[j].size, reads[j].length, is_heap);
-        show(texts[i].name, way, reads[j].size, 4 * reads[j].length, is_heap);
-      }
-    }
-  }
+  if (argc == 2 && !strcmp(argv[1], "parsers")) show_parsers();
+  else
+    for (enum way way = 0; way < WAYS; way++) show_passes(way);
   return 0;
 }
