@@ -1,5 +1,4 @@
-"""What the tests share: the library, the programs over it, and the one repeat of a case that was
-late.
+"""What the tests share: the library, the programs over it, and the repeat of a case that was late.
 
 The variables HEDRUGAL_LIBRARY (a file or a folder), KEYSHOW and HEDRUGAL_KEYS name what is tested.
 Without them it is what make wrote to out/. Programs are compiled into a temporary folder, those in
@@ -8,7 +7,6 @@ import contextlib
 import functools
 import os
 import re
-import shutil
 import signal
 import subprocess
 import sys
@@ -25,6 +23,9 @@ REPEATED = []
 LIBRARY = Path(os.environ.get("HEDRUGAL_LIBRARY") or TOP / "out/lib").absolute()
 LIBRARY = LIBRARY.parent if LIBRARY.is_file() else LIBRARY
 
+KEYSHOW = os.environ.get("KEYSHOW") or str(TOP / "out/bin/keyshow")
+HEDRUGAL_KEYS = os.environ.get("HEDRUGAL_KEYS") or str(TOP / "out/bin/hedrugal-keys")
+
 # For the Python package, here and in programs that the tests start.
 sys.path.insert(0, str(TOP / "python"))
 os.environ.update(
@@ -33,24 +34,6 @@ os.environ.update(
     PYTHONDONTWRITEBYTECODE="1",
 )
 pytest.register_assert_rewrite("screen", "terminal")
-
-
-def stop(message):
-    """Ends the tests, since something that they need is missing."""
-    pytest.exit(f"not run: {message}", 1)
-
-
-def find(program, package):
-    """The path of a program of the system."""
-    return shutil.which(program) or stop(f"no {program}: install {package}")
-
-
-def program(variable, default):
-    """The path of the program that a variable names."""
-    path = Path(os.environ.get(variable) or TOP / default).absolute()
-    if not path.is_file():
-        stop(f"there is no {path}: make builds it, or {variable} names another")
-    return str(path)
 
 
 def header_constant(name):
@@ -65,36 +48,23 @@ def entries_after(start):
         return sum(it.bytes.startswith(start) and it.bytes != start for it in parser.entries())
 
 
-def pytest_sessionstart(session):
-    """Looks for the library, which some files import when they are read, and all need but one."""
-    needed = ["libhedrugal.a", "libhedrugal.so", "hedrugal.h"]
-    missing = [it for it in needed if not (LIBRARY / it).exists()]
-    if missing and not all("test_keyshow" in it for it in session.config.args):
-        stop(f"no {missing[0]} in {LIBRARY}: make builds it, or HEDRUGAL_LIBRARY names another")
-
-
-def build(*words, **variables):
-    env = {**os.environ, **variables}
-    done = subprocess.run(words, env=env, capture_output=True, text=True, check=False)
-    if done.returncode:
-        stop(f"{' '.join(map(str, words))}\n{done.stdout}{done.stderr}")
-
-
-@pytest.fixture(scope="session")
-def keyshow():
-    return program("KEYSHOW", "out/bin/keyshow")
-
-
-@pytest.fixture(scope="session")
-def hedrugal_keys():
-    return program("HEDRUGAL_KEYS", "out/bin/hedrugal-keys")
+def run_without_terminal(words, **how):
+    how |= {"stdin": subprocess.DEVNULL, "capture_output": True, "timeout": 60}
+    return subprocess.run(words, **how)
 
 
 @pytest.fixture
-def closing():
-    """Closes at the end of the case what it is given."""
+def on_terminal():
+    """Waits until a program has written its first line and made the terminal raw, and closes the
+    terminal at the end of the case."""
     with contextlib.ExitStack() as stack:
-        yield lambda it: stack.enter_context(contextlib.closing(it))
+
+        def start(terminal):
+            stack.enter_context(terminal).play([f"{terminal.FIRST}\r\n"])
+            assert terminal.is_raw()
+            return terminal
+
+        yield start
 
 
 @pytest.fixture(scope="session")
@@ -105,7 +75,7 @@ def compiled(tmp_path_factory):
         program = tmp_path_factory.mktemp("c") / name
         strict = f"-std={standard} -O1 -Wall -Wextra -pedantic -Werror".split()
         words = [*strict, f"-I{LIBRARY}", *words, LIBRARY / "libhedrugal.a", "-o", program]
-        build(find("cc", "gcc"), *words)
+        subprocess.run(["cc", *words], check=True)
         return str(program)
 
     return compile_c
@@ -121,9 +91,9 @@ def example(compiled, tmp_path_factory):
         if language == "c":
             return [compiled(name, "c99", TOP / f"c/{name}.c")]
         target = os.environ.get("CARGO_TARGET_DIR") or str(tmp_path_factory.mktemp("target"))
-        words = f"build --quiet --locked --offline --example {name} --manifest-path".split()
-        variables = {"HEDRUGAL_LIBRARY": str(LIBRARY), "CARGO_TARGET_DIR": target}
-        build(find("cargo", "cargo"), *words, TOP / "rust/Cargo.toml", **variables)
+        words = f"cargo build --quiet --locked --offline --example {name} --manifest-path".split()
+        env = os.environ | {"HEDRUGAL_LIBRARY": str(LIBRARY), "CARGO_TARGET_DIR": target}
+        subprocess.run([*words, TOP / "rust/Cargo.toml"], env=env, check=True)
         return [f"{target}/debug/examples/{name}"]
 
     return build_example
@@ -134,40 +104,37 @@ def server():
     """The server of the page, in a thread."""
     from hedrugal.page.server import Server
 
-    it = Server()
-    thread = threading.Thread(target=it.serve_forever, args=[0.05])
-    thread.start()
-    yield it
-    it.shutdown()
-    it.server_close()
-    thread.join()
+    with Server() as it:
+        thread = threading.Thread(target=it.serve_forever, args=[0.05])
+        thread.start()
+        yield it
+        it.shutdown()
+        thread.join()
+
+
+def end_case(*_):
+    raise AssertionError(f"not at its end after {CASE_SECONDS} seconds")
 
 
 @pytest.hookimpl(tryfirst=True)
 def pytest_pyfunc_call(pyfuncitem):
-    """Runs a case, with a limit to its time. One that is marked as timed is repeated if it fails,
-    but not twice."""
-
-    def run():
+    """Runs a case, with a limit to its time. One that is marked as timed is repeated once if it
+    fails."""
+    words = {it: pyfuncitem.funcargs[it] for it in pyfuncitem._fixtureinfo.argnames}
+    may_repeat = pyfuncitem.get_closest_marker("timed")
+    signal.signal(signal.SIGALRM, end_case)
+    while True:
         signal.alarm(CASE_SECONDS)
         try:
-            pyfuncitem.obj(**{it: pyfuncitem.funcargs[it] for it in names})
+            pyfuncitem.obj(**words)
+            return True
+        except Exception as fault:
+            if not may_repeat:
+                raise
+            may_repeat = False
+            REPEATED.append(f"{pyfuncitem.nodeid}, after {str(fault).splitlines()[0]}")
         finally:
             signal.alarm(0)
-        return True
-
-    def end(*_):
-        raise AssertionError(f"not at its end after {CASE_SECONDS} seconds")
-
-    names = pyfuncitem._fixtureinfo.argnames
-    signal.signal(signal.SIGALRM, end)
-    try:
-        return run()
-    except Exception as fault:
-        if not pyfuncitem.get_closest_marker("timed"):
-            raise
-        REPEATED.append(f"{pyfuncitem.nodeid}, after {str(fault).splitlines()[0]}")
-    return run()
 
 
 def pytest_terminal_summary(terminalreporter):

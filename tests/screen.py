@@ -11,26 +11,17 @@ STYLES = {b"0": "", b"1": "*", b"2": "~", b"36": "_"}
 
 
 class Screen:
-    """Rows of characters, each with its style: bold is *, dim ~, a colour _. `top` is the first row
-    that has not scrolled away."""
+    """Rows of characters, each with its style: bold is *, dim ~, a colour _."""
 
     def __init__(self, columns=80, height=24):
         self.columns, self.height = columns, height
         self.rows, self.row, self.style = [[]], 0, ""
         self.modes, self.frames = {}, []
 
-    @property
-    def top(self):
-        return max(0, len(self.rows) - self.height)
-
     def take(self, output):
         """Takes what the program wrote, from the first byte on."""
-        at = 0
-        while at < len(output):
-            token = TOKEN.match(output, at)
-            assert token, f"written to the terminal: {output[at:at + 30]!r}"
-            self.obey(token)
-            at = token.end()
+        refused = TOKEN.sub(self.obey, output)
+        assert not refused, f"written to the terminal: {refused[:30]!r}"
         return self
 
     def obey(self, token):
@@ -39,7 +30,7 @@ class Screen:
             self.put(characters.decode("ascii"))
         elif up:
             self.frames.append(self.text())
-            self.row = max(self.top, self.row - int(up))
+            self.row = max(len(self.rows) - self.height, self.row - int(up), 0)
         elif style:
             self.style = STYLES[style]
         elif mode:
@@ -51,17 +42,15 @@ class Screen:
         elif token[0] == b"\033[J":
             self.rows[self.row :] = [[]]
         else:
-            self.end_row()
+            self.row += 1
+            if self.row == len(self.rows):
+                self.rows.append([])
+        return b""
 
     def put(self, characters):
         row = self.rows[self.row]
         row.extend((it, self.style) for it in characters)
         assert len(row) < self.columns, f"a row reaches the last column: {row!r}"
-
-    def end_row(self):
-        self.row += 1
-        if self.row == len(self.rows):
-            self.rows.append([])
 
     def text(self):
         """The rows above the cursor, those that scrolled away too."""
@@ -73,6 +62,3 @@ class Screen:
             re.sub(r"([*~_])\1", "", "".join(f"{style}{it}{style}" for it, style in row))
             for row in self.rows[:-1]
         ]
-
-    def switched_on(self):
-        return {mode: to for mode, to in self.modes.items() if to}

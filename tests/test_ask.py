@@ -2,24 +2,20 @@
 that answers.
 
 Each asks for the position of the cursor, for colours and for the flags of Kitty's keyboard
-protocol, and last what the terminal is. It has to print what came, end with the right status, and
-leave the terminal's settings as they were."""
-import contextlib
-import subprocess
+protocol, and last what the terminal is."""
 import time
 
 import pytest
-from terminal import SECONDS, Terminal
+from conftest import run_without_terminal
+from terminal import Terminal
 
 # The question that every terminal answers, and so the last.
 LAST_QUESTION = b"\033[c"
-POSITION, TEXT, GROUND = (
-    b"\033[?12;40R",
-    b"\033]10;rgb:dada/dada/dada\033\\",
-    b"\033]11;rgb:1e1e/1e1e/1e1e\007",
-)
-FLAGS, ATTRIBUTES = b"\033[?5u", b"\033[?62;22c"
+POSITION, FLAGS, ATTRIBUTES = b"\033[?12;40R", b"\033[?5u", b"\033[?62;22c"
+TEXT, GROUND = b"\033]10;rgb:dada/dada/dada\033\\", b"\033]11;rgb:1e1e/1e1e/1e1e\007"
 REPLIES = POSITION + TEXT + GROUND + FLAGS + ATTRIBUTES
+# Keys that are typed between the replies are no part of them.
+WITH_KEYS = [b"q" + POSITION + b"\033[A" + TEXT + b"x", GROUND + FLAGS + ATTRIBUTES]
 # What has to be printed of the replies. A program may ask for the colour of the background alone.
 ALL = [b"12", b"40", b"rgb:1e1e/1e1e/1e1e", b"5", b"62;22"]
 # The replies, the pause before each, what has to be printed of them, and the status. They have to
@@ -29,13 +25,7 @@ ANSWERED = {
     "all replies, byte by byte": ([bytes([it]) for it in REPLIES], 0.002, ALL, 0),
     # A terminal that knows neither colours nor Kitty's protocol.
     "few replies": ([POSITION, ATTRIBUTES], 0, [b"12", b"40", b"62;22"], 0),
-    # Keys that are typed between the replies are no part of them.
-    "keys between the replies": (
-        [b"q" + POSITION + b"\033[A" + TEXT + b"x", GROUND + FLAGS + ATTRIBUTES],
-        0,
-        ALL,
-        0,
-    ),
+    "keys between the replies": (WITH_KEYS, 0, ALL, 0),
     "half of the last reply": ([POSITION, b"\033[?62;"], 0, [b"12", b"40"], 1),
 }
 
@@ -46,16 +36,13 @@ def program(request, example):
 
 
 def asked(program, replies, status, pause=0):
-    """Answers the questions by these texts, with a pause before each, and returns what was
-    printed."""
-    with contextlib.closing(Terminal(program)) as terminal:
-        terminal.wait_for(lambda: LAST_QUESTION in terminal.output, "last question")
+    """Answers the questions by these texts, and returns what was printed."""
+    with Terminal(program) as terminal:
+        terminal.expect_exact(LAST_QUESTION)
         for text in replies:
-            time.sleep(pause)
-            terminal.send(text)
-        assert terminal.wait_for_end() == status
-        assert terminal.settings() == terminal.before
-        return terminal.read_all().rpartition(LAST_QUESTION)[2]
+            terminal.play([pause, text])
+        terminal.check_end(status)
+        return terminal.before
 
 
 @pytest.mark.timed
@@ -72,5 +59,4 @@ def test_no_reply(program):
 
 
 def test_no_terminal(program):
-    how = {"stdin": subprocess.DEVNULL, "capture_output": True, "timeout": SECONDS, "check": False}
-    assert subprocess.run(program, **how).returncode in (1, 2)
+    assert run_without_terminal(program).returncode in (1, 2)

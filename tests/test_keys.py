@@ -1,29 +1,20 @@
 """hedrugal-keys on a pseudo-terminal, over pipes and on files.
 
-Bytes are typed, some cut by pauses, and the screen has to be the expected one: each kind of bytes
-that are buffered, with its reason, and what becomes of them where they are; reads that share a
-sequence; pastes, broken bytes and control characters; narrow and low terminals. Each mode has to be
-switched on and off again, and the terminal restored, however the program ends. Nothing else may
-reach the terminal than printable ASCII and the control sequences that screen.py lists. The output
-fails, and each request for memory in turn. """
+Each mode has to be switched on and off again, and the terminal restored, however the program ends.
+Nothing else may reach the terminal than printable ASCII and what screen.py lists."""
 import json
 import os
 import random
 import re
 import signal
 import subprocess
-import time
 
 import pytest
-from conftest import TOP, entries_after
+from conftest import HEDRUGAL_KEYS, TOP, entries_after
 from screen import Screen
-from terminal import SECONDS, Terminal
+from terminal import END, ENDING_SIGNALS, LONG_PAUSE, PAUSE, SECONDS, START, Terminal
 
-START, END = b"\033[200~", b"\033[201~"
-# Longer than the 50 ms after which an ESC is Escape, and shorter than the second after which a
-# sequence is flushed.
-PAUSE = 0.2
-LONG_PAUSE = 1.3
+WIDE = (200, 24)
 HELLO = "hedrugal-keys: press keys; ^D twice ends it."
 CTRL_D = "^D -> key U+0064 CTRL"
 MODES = {
@@ -45,93 +36,59 @@ NO_SPACE = "hedrugal-keys: the output can't be written: No space left on device\
 
 class Keys(Terminal):
     """The program on a terminal. Its screen is what it has written so far. `output_to` is a file
-    for its standard output."""
+    for its standard output. A variable None is unset."""
+
+    FIRST = HELLO
 
     def __init__(self, *words, size=(80, 24), output_to=None, is_orphaned=False, **variables):
         if output_to:
             words = ["/bin/sh", "-c", f'exec "$0" "$@" > {output_to}', *words]
-        env = {**os.environ, "TERM": "xterm", "NO_COLOR": "1", **variables}
-        self.size = size
+        env = os.environ | {"TERM": "xterm", "NO_COLOR": "1"} | variables
         env = {name: it for name, it in env.items() if it is not None}
+        self.size = size
         super().__init__(words, size, is_orphaned, env)
 
     def screen(self):
         return Screen(*self.size).take(re.sub(rb"(\033\[?[0-9;?>]*|\r)\Z", b"", self.output))
 
-    def wait_for_text(self, text):
-        self.wait_for(lambda: text.encode() in self.output, f"text {text!r}")
+    def lines(self):
+        return self.screen().text()
 
-    def wait_for_screen(self, *lines):
-        self.wait_for(lambda: self.screen().text() == [HELLO, *lines], f"screen {lines!r}")
+    def modes(self):
+        return {mode: to for mode, to in self.screen().modes.items() if to}
 
-    def type(self, typed, *lines):
-        """Types bytes, and waits until the lines are shown."""
-        self.send(typed)
-        self.wait_for_screen(*lines)
-
-    def play(self, steps):
-        """Types bytes, waits for texts, and pauses."""
-        for step in steps:
-            if isinstance(step, bytes):
-                self.send(step)
-            elif isinstance(step, str):
-                self.wait_for_text(step)
-            else:
-                time.sleep(step)
-
-    def wait_for_end_of_modes(self):
-        self.wait_for(lambda: not self.screen().switched_on(), "end of the modes")
-
-    def end(self):
-        """Ends it by ^D twice."""
+    def end(self, *lines):
+        """Waits for these lines, if there are any, and ends it by ^D twice. They stay."""
+        self.play([[*lines]] if lines else [])
         self.send(b"\x04\x04")
         self.check_end(0)
-
-    def end_with(self, *lines):
-        """Ends it so, and compares all lines but that of the end."""
-        self.end()
-        text = self.screen().text()
-        last = max(at for at, row in enumerate(text) if re.match(r" *\d+  \^D", row))
-        assert text[:last] == [HELLO, *lines]
-
-    def check_end(self, status):
-        """Checks how it ends, and that it restores the terminal."""
-        assert self.wait_for_end() == status
-        assert self.settings() == self.before
-        while self.read():
-            pass
-        self.wait_for_end_of_modes()
-
-    def stop(self):
-        self.kill(signal.SIGTSTP)
-        self.wait_for_stop()
-        assert self.settings() == self.before
-        self.wait_for_end_of_modes()
+        assert self.lines()[: len(lines) + 1] == [HELLO, *lines]
 
 
 @pytest.fixture
-def start(hedrugal_keys, closing):
-    def begin(*words, **how):
-        keys = closing(Keys(hedrugal_keys, *words, **how))
-        keys.wait_for_text(HELLO)
-        assert keys.is_raw()
+def start(on_terminal):
+    return lambda *words, **how: on_terminal(Keys(HEDRUGAL_KEYS, *words, **how))
+
+
+@pytest.fixture
+def show(start):
+    """Plays steps, waits for their lines, and ends the program."""
+
+    def play_and_end(steps, lines, *words, **how):
+        keys = start(*words, **how)
+        keys.play(steps)
+        keys.end(*lines)
         return keys
 
-    return begin
+    return play_and_end
 
 
-@pytest.fixture
-def run(hedrugal_keys):
+def run(*words, typed=b"", program=HEDRUGAL_KEYS, out=subprocess.PIPE, **variables):
     """Runs the program without a terminal, and returns its status, its standard output, and its
     standard error."""
-
-    def run_it(*words, typed=b"", program=hedrugal_keys, out=subprocess.PIPE, **variables):
-        how = {"stdout": out, "stderr": subprocess.PIPE, "timeout": SECONDS, "check": False}
-        env = {**os.environ, **variables}
-        done = subprocess.run([program, *words], input=typed, env=env, **how)
-        return done.returncode, (done.stdout or b"").decode("ascii"), done.stderr.decode()
-
-    return run_it
+    how = {"stdout": out, "stderr": subprocess.PIPE, "timeout": SECONDS}
+    done = subprocess.run([program, *words], input=typed, env=os.environ | variables, **how)
+    return done.returncode, (done.stdout or b"").decode("ascii"), done.stderr.decode()
 
 
 def begins(count, *keys):
@@ -166,81 +123,55 @@ FLUSHED = {
 
 
 @pytest.mark.parametrize("typed, reason, events", FLUSHED.values(), ids=FLUSHED)
-def test_flushed_by_a_pause(start, typed, reason, events):
-    keys = start(size=(200, 24))
-    keys.type(typed, f"   1  {events}")
-    keys.end_with(f"   1  {events}")
+def test_flushed_by_a_pause(show, typed, reason, events):
+    keys = show([typed], [f"   1  {events}"], size=WIDE)
     assert keys.screen().frames == [[HELLO, f"   1  {spelled(typed)} -> {reason}"]]
 
 
 OSC = "the beginning of a command (OSC): waits up to 1 s"
+BEGUN = "   1  ESC -> goes on in read 2"
+THREE_READS = [b"a\033[1", "waits up to 1 s", PAUSE, b";5", "   2  ", PAUSE, b"Ab"]
+THREE_LINES = [
+    "   1  a -> key U+0061 NONE | ESC [ 1 -> goes on in read 2",
+    "   2  (ESC [ 1) ; 5 -> goes on in read 3",
+    "   3  (ESC [ 1 ; 5) A -> key UpArrow CTRL | b -> key U+0062 NONE",
+]
+STRING = [
+    "   1  ESC ] 1 1 ; r -> goes on in read 2",
+    "   2  (ESC ] 1 1 ; r) ^G -> osc 4:31313b72 | ESC [ I -> focus gained",
+]
 # The words, what is typed in time, with texts to wait for and pauses, and the lines. The line of a
 # read says where its bytes went. A second ESC belongs to the group of the first.
 IN_TIME = {
-    "ESC, then [ A": (
-        [],
-        [b"\033", ESCAPE, b"[A", "UpArrow"],
-        ["   1  ESC -> goes on in read 2", "   2  (ESC) [ A -> key UpArrow NONE"],
-    ),
-    "ESC, then ESC": (
-        [],
-        [b"\033", ESCAPE, b"\033", "-> key Escape ALT"],
-        ["   1  ESC -> goes on in read 2", "   2  (ESC) ESC -> key Escape ALT"],
-    ),
-    "a sequence over three reads": (
-        [],
-        [b"a\033[1", "waits up to 1 s", PAUSE, b";5", "   2  ", PAUSE, b"Ab", "U+0062"],
-        [
-            "   1  a -> key U+0061 NONE | ESC [ 1 -> goes on in read 2",
-            "   2  (ESC [ 1) ; 5 -> goes on in read 3",
-            "   3  (ESC [ 1 ; 5) A -> key UpArrow CTRL | b -> key U+0062 NONE",
-        ],
-    ),
-    "a string over two reads": (
-        ["--extended"],
-        [b"\033]11;r", OSC, b"\007\033[I", "focus gained"],
-        [
-            "   1  ESC ] 1 1 ; r -> goes on in read 2",
-            "   2  (ESC ] 1 1 ; r) ^G -> osc 4:31313b72 | ESC [ I -> focus gained",
-        ],
-    ),
+    "ESC, then [ A": ("", [b"\033", ESCAPE, b"[A"], [BEGUN, "   2  (ESC) [ A -> key UpArrow NONE"]),
+    "ESC, then ESC": ("", [b"\033", ESCAPE, b"\033"], [BEGUN, "   2  (ESC) ESC -> key Escape ALT"]),
+    "a sequence over three reads": ("", THREE_READS, THREE_LINES),
+    "a string over two reads": ("--extended", [b"\033]11;r", OSC, b"\007\033[I"], STRING),
 }
 
 
 @pytest.mark.timed
 @pytest.mark.parametrize("words, steps, lines", IN_TIME.values(), ids=IN_TIME)
-def test_in_time(start, words, steps, lines):
-    keys = start(*words, size=(200, 24))
-    keys.play(steps)
-    keys.end_with(*lines)
+def test_in_time(show, words, steps, lines):
+    show(steps, lines, *words.split(), size=WIDE)
 
 
-def test_half_a_character(start):
+def test_half_a_character(show):
     """No pause flushes it."""
-    keys = start()
-    keys.type(b"\xc3", "   1  c3 -> half a character: waits for the rest")
-    time.sleep(LONG_PAUSE)
-    keys.wait_for_screen("   1  c3 -> half a character: waits for the rest")
-    keys.type(b"\xa9", "   1  c3 -> goes on in read 2", "   2  (c3) a9 -> key U+00E9 NONE")
-    keys.end()
+    half = ["   1  c3 -> half a character: waits for the rest"]
+    lines = ["   1  c3 -> goes on in read 2", "   2  (c3) a9 -> key U+00E9 NONE"]
+    show([b"\xc3", half, LONG_PAUSE, half, b"\xa9"], lines)
 
 
-def test_open_paste(start):
+def test_open_paste(show):
     """No pause flushes it, and ^D twice is text of it."""
-    keys = start("--bracketed-paste", size=(200, 24))
-    keys.send(START + b"h\x04\x04")
-    first = "   1  ESC [ 2 0 0 ~ h ^D ^D -> "
-    keys.wait_for_screen(first + "a paste of 3 bytes so far: waits for its end")
-    time.sleep(LONG_PAUSE)
-    keys.wait_for_screen(first + "a paste of 3 bytes so far: waits for its end")
-    keys.send(b"\033[2")
-    first += "goes on in read 2"
-    second = "   2  (ESC [ 2 0 0 ~ h ^D ^D) ESC [ 2 -> "
-    keys.wait_for_screen(first, second + "a paste of 6 bytes so far: waits for its end")
-    keys.send(b"01~q")
+    first, second = "   1  ESC [ 2 0 0 ~ h ^D ^D -> ", "   2  (ESC [ 2 0 0 ~ h ^D ^D) ESC [ 2 -> "
     third = "   3  (ESC [ 2 0 0 ~ h ^D ^D ESC [ 2) 0 1 ~ -> paste 3:680404 | q -> key U+0071 NONE"
-    keys.wait_for_screen(first, second + "goes on in read 3", third)
-    keys.end()
+    begun = [f"{first}a paste of 3 bytes so far: waits for its end"]
+    more = [f"{first}goes on in read 2", f"{second}a paste of 6 bytes so far: waits for its end"]
+    steps = [START + b"h\x04\x04", begun, LONG_PAUSE, begun, b"\033[2", more, b"01~q"]
+    lines = [more[0], f"{second}goes on in read 3", third]
+    show(steps, lines, "--bracketed-paste", size=WIDE)
 
 
 # The words, what is typed in one read, and its lines.
@@ -265,18 +196,16 @@ SHOWN = {
 
 
 @pytest.mark.parametrize("words, typed, lines", SHOWN.values(), ids=SHOWN)
-def test_shown(start, words, typed, lines):
-    keys = start(*words)
-    keys.type(typed, *lines.split("\n"))
-    keys.end()
+def test_shown(show, words, typed, lines):
+    show([typed], lines.split("\n"), *words)
 
 
 def test_long_paste(start):
     """Of many bytes only the first and the last are shown, and of the text the first."""
     keys = start()
     keys.send(START + b"x" * 1000 + END)
-    keys.wait_for(lambda: "paste 1000:" in " ".join(keys.screen().text()), "event of the paste")
-    shown = " ".join(" ".join(keys.screen().text()[1:]).split())
+    keys.wait_for(lambda: "paste 1000:" in " ".join(keys.lines()), "event of the paste")
+    shown = " ".join(" ".join(keys.lines()[1:]).split())
     last = shown[shown.rindex("ESC [ 2 0 0 ~") :]
     text = r"ESC \[ 2 0 0 ~ x x .*\.\. 984 more \.\.\)? .*ESC \[ 2 0 1 ~"
     assert re.fullmatch(text + r" -> paste 1000:(78){16}\.\.", last)
@@ -289,30 +218,26 @@ WAITING = [
     "      ESC -> may begin a key; if nothing",
     "      follows in 50 ms: key Escape NONE",
 ]
+SETTLED = [*HEAD, "      ESC -> key Escape NONE"]
 
 
-def test_narrow_terminal(start):
+@pytest.mark.parametrize(
+    "height, lines, frames",
+    [(24, SETTLED, [[HELLO, *WAITING]]), (3, [*WAITING, *SETTLED], [])],
+    ids=["24 rows", "3 rows"],
+)
+def test_narrow_terminal(show, height, lines, frames):
     """The program breaks the rows itself, and the last column stays empty. A line of several rows
-    is written again in its place."""
-    keys = start(size=(46, 24))
-    keys.type(b"ab\033", *HEAD, "      ESC -> key Escape NONE")
-    assert [it[1:] for it in keys.screen().frames] == [WAITING]
-    keys.end()
-
-
-def test_terminal_of_three_rows(start):
-    """Where the line begins above the screen, it is written again below."""
-    keys = start(size=(46, 3))
-    keys.type(b"ab\033", *WAITING, *HEAD, "      ESC -> key Escape NONE")
-    assert keys.screen().frames == []
-    keys.end()
+    is written again in its place, or below if it begins above the screen."""
+    keys = show([b"ab\033"], lines, size=(46, height))
+    assert keys.screen().frames == frames
 
 
 def test_terminal_of_twelve_columns(start):
     """Words longer than a row are cut. There is no room for an indent."""
     keys = start(size=(46, 24))
     keys.resize(12, 24)
-    time.sleep(PAUSE)
+    keys.play([PAUSE])
     skip = len(keys.output)
     keys.send(START + b"abcdef" + END)
     keys.wait_for(lambda: b"616263" in keys.output.replace(b"\r\n", b""), "event of the paste")
@@ -328,73 +253,59 @@ def test_new_size(start):
     """Terminals differ in how they move what was written to rows of another length, so the line is
     written again below."""
     keys = start()
-    keys.send(b"\033[")
-    keys.wait_for_text("waits up to 1 s")
+    keys.play([b"\033[", "waits up to 1 s"])
     keys.resize(100, 30)
-    keys.wait_for(lambda: "key U+005B ALT" in keys.screen().text()[-1], "event after the resize")
-    assert [len(keys.screen().frames), keys.screen().text()[-1]] == [0, f"   1  {BRACKET}"]
+    keys.wait_for(lambda: "key U+005B ALT" in keys.lines()[-1], "event after the resize")
+    assert [len(keys.screen().frames), keys.lines()[-1]] == [0, f"   1  {BRACKET}"]
     keys.end()
+
+
+A_AND_ESCAPE = "   1  a -> key U+0061 NONE | ESC -> key Escape NONE"
 
 
 # By the convention of that name an empty variable counts as none.
 @pytest.mark.parametrize("value", [None, ""], ids=["no NO_COLOR", "an empty NO_COLOR"])
-def test_colours(start, value):
-    keys = start(NO_COLOR=value)
-    keys.type(b"a\033", "   1  a -> key U+0061 NONE | ESC -> key Escape NONE")
+def test_colours(show, value):
+    keys = show([b"a\033"], [A_AND_ESCAPE], NO_COLOR=value)
     wanted = "   1  _a_ -> *key* *U+0061* *NONE* | _ESC_ -> *key* *Escape* *NONE*"
     assert keys.screen().styled()[1] == wanted
     # What is buffered is dimmed.
     dimmed = b"\033[2mESC\033[0m \033[2m->\033[0m \033[2mmay\033[0m \033[2mbegin"
     assert dimmed in keys.output
-    keys.end()
 
 
-def test_no_colours(start):
-    keys = start(NO_COLOR="1")
-    keys.type(b"a\033", "   1  a -> key U+0061 NONE | ESC -> key Escape NONE")
-    keys.end()
+def test_no_colours(show):
+    keys = show([b"a\033"], [A_AND_ESCAPE], NO_COLOR="1")
     assert not re.search(rb"\033\[[0-9;]*m", keys.output)
 
 
 @pytest.mark.parametrize("term", ["dumb", None], ids=["TERM=dumb", "no TERM"])
-def test_without_moves(start, term):
+def test_without_moves(show, term):
     """Where the cursor can't be moved, the settled line comes below."""
-    keys = start(TERM=term, NO_COLOR=None)
-    keys.type(b"\033", f"   1  ESC -> {ESCAPE}", "   1  ESC -> key Escape NONE")
-    keys.end()
+    lines = [f"   1  ESC -> {ESCAPE}", "   1  ESC -> key Escape NONE"]
+    keys = show([b"\033"], lines, TERM=term, NO_COLOR=None)
     assert b"\033" not in keys.output
 
 
-@pytest.mark.parametrize("word, switched", MODES.items(), ids=MODES)
+@pytest.mark.parametrize("word, switched", {**MODES, "": {}}.items(), ids=[*MODES, "no mode"])
 def test_mode(start, word, switched):
-    keys = start(word)
-    assert keys.screen().switched_on() == switched
+    keys = start(*word.split())
+    assert keys.screen().modes == switched
     keys.end()
+    assert keys.screen().modes == dict.fromkeys(switched, False)
 
 
-def test_no_mode(start):
-    keys = start()
-    assert keys.screen().modes == {}
-    keys.end()
-    assert keys.screen().modes == {}
-
-
-def test_one_ctrl_d_is_no_end(start):
+def test_one_ctrl_d_is_no_end(show):
     """^D, another key and ^D are three keys."""
-    keys = start()
-    keys.send(b"\x04a\x04")
     line = f"   1  {CTRL_D} | a -> key U+0061 NONE | {CTRL_D}"
-    keys.wait_for_screen(line)
-    keys.type(b"b", line, "   2  b -> key U+0062 NONE")
-    keys.end()
+    show([b"\x04a\x04", [line], b"b"], [line, "   2  b -> key U+0062 NONE"])
 
 
 def test_end_over_two_reads(start):
     keys = start()
-    keys.type(b"\x04", f"   1  {CTRL_D}")
-    keys.send(b"\x04")
+    keys.play([b"\x04", [f"   1  {CTRL_D}"], b"\x04"])
     keys.check_end(0)
-    assert keys.screen().text() == [HELLO, f"   1  {CTRL_D}", f"   2  {CTRL_D}"]
+    assert keys.lines() == [HELLO, f"   1  {CTRL_D}", f"   2  {CTRL_D}"]
 
 
 def test_end_by_sequences(start):
@@ -407,21 +318,18 @@ def test_end_by_sequences(start):
 def test_kitty_keyboard(start):
     """With Kitty's protocol ^D is a report, and neither a release nor a modifier key between two
     counts."""
-    keys = start("--kitty-keyboard", size=(200, 24))
-    keys.send(b"\033[97;5:3u\033[A")
+    keys = start("--kitty-keyboard", size=WIDE)
     release = "ESC [ 9 7 ; 5 : 3 u -> report U+0061 CTRL release"
-    keys.wait_for_screen(f"   1  {release} | ESC [ A -> report UpArrow NONE press")
+    keys.play([b"\033[97;5:3u\033[A", [f"   1  {release} | ESC [ A -> report UpArrow NONE press"]])
     keys.send(b"\033[100;5u\033[100;5:3u\033[57442;5u\033[100;69u")
     keys.check_end(0)
 
 
-@pytest.mark.parametrize(
-    "number", [signal.SIGHUP, signal.SIGINT, signal.SIGQUIT, signal.SIGTERM], ids=lambda it: it.name
-)
+@pytest.mark.parametrize("number", ENDING_SIGNALS, ids=lambda it: it.name)
 def test_signal(start, number):
     keys = start(*ALL_MODES)
-    assert keys.screen().switched_on() == ALL_SWITCHED
-    keys.type(b"a", "   1  a -> key U+0061 NONE")
+    assert keys.modes() == ALL_SWITCHED
+    keys.play([b"a", ["   1  a -> key U+0061 NONE"]])
     keys.kill(number)
     keys.check_end(-number)
 
@@ -430,14 +338,13 @@ def test_sigtstp_sigcont_sigterm(start):
     """What was buffered before the stop no longer counts."""
     keys = start(*ALL_MODES)
     first = "   1  ESC [ 2 0 0 ~ a -> a paste of 1 bytes so far: waits for its end"
-    keys.type(START + b"a", first)
+    second = "   1  ESC [ 2 0 0 ~ a -> forgotten, since another program had the terminal"
+    keys.play([START + b"a", [first]])
     keys.stop()
     keys.continue_in_foreground()
-    keys.wait_for(lambda: keys.screen().switched_on() == ALL_SWITCHED, "modes")
+    keys.wait_for(lambda: keys.modes() == ALL_SWITCHED, "modes")
     assert keys.is_raw()
-    keys.send(b"b")
-    second = "   1  ESC [ 2 0 0 ~ a -> forgotten, since another program had the terminal"
-    keys.wait_for_screen(first, second, "   2  b -> key U+0062 NONE")
+    keys.play([b"b", [first, second, "   2  b -> key U+0062 NONE"]])
     keys.stop()
     keys.kill(signal.SIGTERM)
     keys.kill(signal.SIGCONT)
@@ -450,19 +357,18 @@ def test_sigtstp_where_no_shell_could_continue_it(start):
     keys.kill(signal.SIGTSTP)
     keys.wait_for(lambda: keys.output.count(b"\033[?1004h") == 2, "focus mode again")
     assert keys.is_raw()
-    keys.type(b"b", "   1  b -> key U+0062 NONE")
-    keys.end()
+    keys.send(b"b")
+    keys.end("   1  b -> key U+0062 NONE")
 
 
 def test_end_of_the_input(start):
     """What is buffered is flushed."""
     keys = start()
-    keys.send(b"z\033[")
-    keys.wait_for_text("waits up to 1 s")
+    keys.play([b"z\033[", "waits up to 1 s"])
     keys.let_end_input()
     keys.send(b"\x04")
     keys.check_end(0)
-    assert keys.screen().text()[1:] == [f"   1  z -> key U+007A NONE | {BRACKET}"]
+    assert keys.lines()[1:] == [f"   1  z -> key U+007A NONE | {BRACKET}"]
 
 
 def test_terminal_that_is_gone(start):
@@ -475,11 +381,11 @@ def test_json_from_a_terminal(start, tmp_path):
     """The modes go to the terminal, and nothing but JSON to the output."""
     out = tmp_path / "out"
     keys = start("--json", "--mouse", output_to=out)
-    assert keys.screen().switched_on() == MODES["--mouse"]
+    assert keys.modes() == MODES["--mouse"]
     keys.send(b"\033")
     keys.wait_for(lambda: "Escape" in out.read_text(), "event")
     keys.end()
-    assert keys.screen().text() == [HELLO]
+    assert keys.lines() == [HELLO]
     found = [json.loads(line) for line in out.read_text().splitlines()]
     shown = [(it["read"], it["key"], it["modifiers"]) for it in found]
     assert shown == [(1, "Escape", []), (2, "U+0064", ["CTRL"]), (2, "U+0064", ["CTRL"])]
@@ -492,13 +398,8 @@ def test_json_of_what_is_buffered_at_a_signal(start, tmp_path):
     keys.wait_for(lambda: "U+0061" in out.read_text(), "event")
     keys.kill(signal.SIGTERM)
     keys.check_end(-signal.SIGTERM)
-    wanted = {
-        "read": 1,
-        "bytes": "c3",
-        "earlier": 0,
-        "kind": "waiting",
-        "reason": "half a character",
-    }
+    wanted = {"read": 1, "bytes": "c3", "earlier": 0, "kind": "waiting"}
+    wanted["reason"] = "half a character"
     assert json.loads(out.read_text().splitlines()[-1]) == wanted
 
 
@@ -507,7 +408,7 @@ def test_full_disk_on_a_terminal(start):
     keys = start(*ALL_MODES, output_to="/dev/full")
     keys.send(b"a")
     keys.check_end(1)
-    assert keys.errors.read_text() == NO_SPACE
+    assert keys.lines() == [HELLO, NO_SPACE.strip()]
 
 
 def as_json(items):
@@ -578,7 +479,7 @@ PRINTED = {
 
 @pytest.mark.parametrize("source", ["pipe", "file"])
 @pytest.mark.parametrize("words, typed, lines", PRINTED.values(), ids=PRINTED)
-def test_printed(run, tmp_path, source, words, typed, lines):
+def test_printed(tmp_path, source, words, typed, lines):
     if source == "pipe":
         assert run(*words.split(), typed=typed) == (0, lines, "")
     else:
@@ -586,7 +487,7 @@ def test_printed(run, tmp_path, source, words, typed, lines):
         assert run(*words.split(), tmp_path / "typed") == (0, lines, "")
 
 
-def test_reads_of_4096_bytes(run, tmp_path):
+def test_reads_of_4096_bytes(tmp_path):
     """A sequence that the end of a read cuts belongs to the line of the next."""
     (tmp_path / "typed").write_bytes(b"a" * 4094 + b"\033[Ab\033")
     status, out, errors = run(tmp_path / "typed")
@@ -598,18 +499,18 @@ def test_reads_of_4096_bytes(run, tmp_path):
     assert second == wanted
 
 
-def test_file_on_a_terminal(hedrugal_keys, closing, tmp_path):
+def test_file_on_a_terminal(tmp_path):
     """It is shown as on a terminal, and the terminal's settings and modes stay."""
     (tmp_path / "typed").write_bytes(b"abcd\033")
-    keys = closing(Keys(hedrugal_keys, str(tmp_path / "typed")))
-    keys.check_end(0)
+    with Keys(HEDRUGAL_KEYS, tmp_path / "typed") as keys:
+        keys.check_end(0)
     screen = keys.screen()
     assert (screen.modes, screen.frames) == ({}, [])
     first = "   1  a -> key U+0061 NONE | b -> key U+0062 NONE | c -> key U+0063 NONE |"
     assert screen.text() == [first, "      d -> key U+0064 NONE | ESC -> key Escape NONE"]
 
 
-def test_random_bytes(run):
+def test_random_bytes():
     """Each byte belongs to exactly one group, and what is shown is printable ASCII."""
     pieces = [START, END, b"\033", b"\033[", b"\033[A", b"\033[<0;3;4M", b"\033[1;5"]
     pieces += [b"\xc3", b"\xa9", b"\xff", b"\x00", b"\x9b", b"a", b"u", b"~"]
@@ -623,7 +524,7 @@ def test_random_bytes(run):
         assert (status, errors, re.findall(r"[^ -~\n]", out)) == (0, "", [])
 
 
-def test_closed_pipe(run):
+def test_closed_pipe():
     reader, writer = os.pipe()
     os.close(reader)
     with os.fdopen(writer, "wb") as out:
@@ -632,13 +533,13 @@ def test_closed_pipe(run):
 
 
 @pytest.mark.parametrize("words", [[], ["--json"], ["--help"]], ids=["lines", "JSON", "help"])
-def test_full_disk(run, words):
+def test_full_disk(words):
     with open("/dev/full", "wb") as out:
         assert run(*words, typed=b"a", out=out) == (1, "", NO_SPACE)
 
 
 @pytest.mark.parametrize("words", [[], ["--json"]], ids=["lines", "JSON"])
-def test_memory_refused(run, compiled, tmp_path, words):
+def test_memory_refused(compiled, tmp_path, words):
     """Each request is refused in turn. The program says so, or it needed no more than were
     granted."""
     wraps = ["-Wl,--wrap=malloc", "-Wl,--wrap=realloc"]
@@ -654,41 +555,36 @@ def test_memory_refused(run, compiled, tmp_path, words):
     assert found == run(*words)
 
 
+NO_TERMINAL = "--mouse wants a terminal as the input; --help says more"
+
+
+def unknown(word):
+    return word, 2, f"what is '{word}'? --help lists the words"
+
+
 # The words for which nothing is read, the status, and the one line that says why.
 REFUSED = {
-    "an unknown word": (["--foo"], 2, "what is '--foo'? --help lists the words"),
-    "an unknown reading": (
-        ["--extended=vt52"],
-        2,
-        "what is '--extended=vt52'? --help lists the words",
-    ),
-    "an unknown level": (
-        ["--modify-other-keys=3"],
-        2,
-        "what is '--modify-other-keys=3'? --help lists the words",
-    ),
-    "two files": (["a", "b"], 2, "wants one file, and 'b' is another; --help says more"),
-    "a mode without a terminal": (
-        ["--mouse"],
-        2,
-        "--mouse wants a terminal as the input; --help says more",
-    ),
-    "no such file": (["/no/such"], 1, "/no/such: No such file or directory"),
-    "a folder": (["/"], 1, "the input can't be read: Is a directory"),
+    "an unknown word": unknown("--foo"),
+    "an unknown reading": unknown("--extended=vt52"),
+    "an unknown level": unknown("--modify-other-keys=3"),
+    "two files": ("a b", 2, "wants one file, and 'b' is another; --help says more"),
+    "a mode without a terminal": ("--mouse", 2, NO_TERMINAL),
+    "no such file": ("/no/such", 1, "/no/such: No such file or directory"),
+    "a folder": ("/", 1, "the input can't be read: Is a directory"),
 }
 
 
 @pytest.mark.parametrize("words, status, says", REFUSED.values(), ids=REFUSED)
-def test_refused(run, words, status, says):
-    assert run(*words, typed=b"a") == (status, "", f"hedrugal-keys: {says}\n")
+def test_refused(words, status, says):
+    assert run(*words.split(), typed=b"a") == (status, "", f"hedrugal-keys: {says}\n")
 
 
-def test_version(run):
+def test_version():
     number = re.search(r'HED_VERSION "(.*)"', (TOP / "c/hedrugal.h").read_text())[1]
     assert run("--version") == (0, f"hedrugal-keys {number}\n", "")
 
 
-def test_help(run):
+def test_help():
     status, out, errors = run("--help")
     assert (status, errors) == (0, "")
     for word in [*MODES, "--extended", "--hex", "--json", "--version"]:
@@ -708,6 +604,6 @@ def test_screen_of_the_page(start):
     keys = start("--mouse", "--bracketed-paste")
     for read, typed in enumerate(reads, 1):
         keys.play([typed, f"   {read}  ", PAUSE * (read in (2, 3))])
-    assert keys.screen().text() == screen.split("\n")
+    assert keys.lines() == screen.split("\n")
     assert [waiting] in [it[-1:] for it in keys.screen().frames]
     keys.end()

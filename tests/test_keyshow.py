@@ -2,9 +2,7 @@
 and its exit status.
 
 The texts are files, or come through sockets: a byte at a time, with a failure after each number of
-reads, or so that the test sees how much a read asks for, and that the lines of a read are written
-before the next. With right words standard output also refuses the first line, and the bytes are
-counted that are still unread."""
+reads, or so that the test sees how much a read asks for, and what is written before the next."""
 import contextlib
 import os
 import socket
@@ -12,6 +10,7 @@ import subprocess
 import tempfile
 
 import pytest
+from conftest import KEYSHOW
 
 SECONDS = 60
 PIECES = [1, 2, 3, 7, 64, 4096]
@@ -30,11 +29,12 @@ DECIDED = [
     (30, b"key U+0063 CTRL\n"),
 ]
 
+FIVE = b"".join(line for _, line in DECIDED)
 # Texts, and the lines of each.
 PRINTED = [
     (b"", b""),
-    (TYPED, b"".join(line for _, line in DECIDED) + b"key Escape NONE\n"),
-    (TYPED[:-1] + b"\xff", b"".join(line for _, line in DECIDED) + b"key U+FFFD NONE\n"),
+    (TYPED, FIVE + b"key Escape NONE\n"),
+    (TYPED[:-1] + b"\xff", FIVE + b"key U+FFFD NONE\n"),
     (b"\033[200~\xe2\x82a\033[201~", b"paste 4:efbfbd61\n"),
     (b"\033[200~\033[201~", b"paste 0:\n"),
     (b"\033[Aq", b"key UpArrow NONE\nkey U+0071 NONE\n"),
@@ -59,17 +59,12 @@ WRONG += [[" 5"], [""], [b"\xff"], [b"5\xff"], ["5", b"\xff"], [b"\xff", "5"], [
 WRONG += [it.split() for it in ("1 2", "5 foo", "foo 5", "x 2 3", "5 5", "5 5 5")]
 
 
-@pytest.fixture
-def run(keyshow):
+def run(words, source, target=subprocess.PIPE):
     """Runs the program, and returns what it wrote to standard output and to standard error, and its
     status."""
-
-    def run_it(words, source, target=subprocess.PIPE):
-        how = {"stdin": source, "stdout": target, "stderr": subprocess.PIPE, "timeout": SECONDS}
-        ran = subprocess.run([keyshow, *words], check=False, **how)
-        return ran.stdout, ran.stderr, ran.returncode
-
-    return run_it
+    how = {"stdin": source, "stdout": target, "stderr": subprocess.PIPE, "timeout": SECONDS}
+    ran = subprocess.run([KEYSHOW, *words], **how)
+    return ran.stdout, ran.stderr, ran.returncode
 
 
 def file_of(text):
@@ -113,7 +108,7 @@ def failing(text):
 
 
 @pytest.mark.parametrize("piece, words", [(piece, words) for piece, *words in RIGHT], ids=str)
-def test_shows_its_input(run, piece, words):
+def test_shows_its_input(piece, words):
     with file_of(b"\033[Aq\033[200~a") as source:
         assert run(words, source) == (b"key UpArrow NONE\nkey U+0071 NONE\nwaiting 7\n", b"", 0)
     # The first read decides a line, which can't be written. No more is read.
@@ -123,7 +118,7 @@ def test_shows_its_input(run, piece, words):
 
 
 @pytest.mark.parametrize("words", WRONG, ids=str)
-def test_refuses(run, words):
+def test_refuses(words):
     """It prints how it is called, and reads nothing."""
     with file_of(b"abc\n") as source:
         assert run(words, source) == (b"", b"usage: keyshow [PIECE]\n", 2)
@@ -131,7 +126,7 @@ def test_refuses(run, words):
 
 
 @pytest.mark.parametrize("text, lines", PRINTED, ids=[repr(text) for text, _ in PRINTED])
-def test_prints_the_lines(run, text, lines):
+def test_prints_the_lines(text, lines):
     """In pieces of several sizes, from a file and by single bytes."""
     for piece in PIECES:
         for source_of in (file_of, single_bytes):
@@ -139,20 +134,16 @@ def test_prints_the_lines(run, text, lines):
                 assert run([str(piece)], source) == (lines, b"", 0), piece
 
 
-def test_long_texts(run):
+def test_long_texts():
     """A paste of 100 KB, and 70,000 keys."""
-    text = b"\033[200~" + b"0123456789abcdef" * 6400 + b"\033[201~" + b"\033[15;5~" * 70000
-    lines = (
-        b"paste 102400:"
-        + b"30313233343536373839616263646566" * 6400
-        + b"\n"
-        + b"key F5 CTRL\n" * 70000
-    )
+    pasted = b"0123456789abcdef" * 6400
+    text = b"\033[200~" + pasted + b"\033[201~" + b"\033[15;5~" * 70000
+    lines = b"paste 102400:%s\n" % pasted.hex().encode() + b"key F5 CTRL\n" * 70000
     with file_of(text) as source:
         assert run(["4096"], source) == (lines, b"", 0)
 
 
-def test_million_reads(run):
+def test_million_reads():
     """Each of one byte, with a line of 16 bytes for each of them."""
     with file_of(b"q" * 1_000_000) as source:
         printed, *rest = run(["1"], source)
@@ -160,7 +151,7 @@ def test_million_reads(run):
     assert len(printed) == 16_000_000 and printed == LINE_OF_Q * 1_000_000
 
 
-def test_reads_fail(run):
+def test_reads_fail():
     """The read after so many fails. Exactly the lines that the pieces before it decide are
     written."""
     for piece in (1, 2, 3, 7, 64):
@@ -168,21 +159,19 @@ def test_reads_fail(run):
             text = TYPED[: count * piece]
             lines = b"".join(line for needed, line in DECIDED if needed <= len(text))
             with failing(text) as source:
-                assert run([str(piece)], source) == (lines, b"keyshow: read failed\n", 1), (
-                    piece,
-                    count,
-                )
+                found = run([str(piece)], source)
+            assert found == (lines, b"keyshow: read failed\n", 1), (piece, count)
 
 
 @contextlib.contextmanager
-def running(keyshow, piece):
+def running(piece):
     """The program between two connections: each packet that it is sent is a read of it, and each
     write of it is a packet. Nothing more is written when the input ends."""
     ours, source = connection()
     target, theirs = connection()
     with ours, target:
         with source, theirs:
-            process = subprocess.Popen([keyshow, str(piece)], stdin=source, stdout=theirs)
+            process = subprocess.Popen([KEYSHOW, str(piece)], stdin=source, stdout=theirs)
         with process:
             try:
                 yield ours.send, lambda: target.recv(1 << 17)
@@ -194,10 +183,10 @@ def running(keyshow, piece):
 
 
 @pytest.mark.parametrize("most, written", WRITES)
-def test_writes_before_the_next_read(keyshow, most, written):
+def test_writes_before_the_next_read(most, written):
     """The lines of each read are one write, which comes before the next read."""
     text = b"ab\033[Ac"
-    with running(keyshow, 64) as (send, receive):
+    with running(64) as (send, receive):
         for number, lines in enumerate(written):
             send(text[number * most :][:most])
             if lines:
@@ -205,9 +194,9 @@ def test_writes_before_the_next_read(keyshow, most, written):
 
 
 @pytest.mark.parametrize("piece", PIECES)
-def test_asks_for_a_piece(keyshow, piece):
+def test_asks_for_a_piece(piece):
     """Each read asks for a whole piece."""
-    with running(keyshow, piece) as (send, receive):
+    with running(piece) as (send, receive):
         for _ in range(10):
             send(b"q" * 5000)
             assert receive() == LINE_OF_Q * piece

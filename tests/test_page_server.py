@@ -8,15 +8,16 @@ import random
 import re
 import signal
 import socket
+import string
 import subprocess
 import sys
-import threading
 import time
 import unittest.mock
+from concurrent.futures import ThreadPoolExecutor
 
 import hedrugal
 import pytest
-from conftest import TOP, entries_after, header_constant
+from conftest import TOP, entries_after, header_constant, run_without_terminal
 from hedrugal import InputParser, KeyCode, Modifiers, encode
 from hedrugal.page import meanings
 from hedrugal.page.server import AT_ONCE, FILES, MOST, Handler
@@ -26,13 +27,12 @@ STREAM += b"<script>alert(1)</script>"
 RESTS = b"\x1b \x1b\x1b \x1b[ \x1bO \x1b[1; \x1b\x1b[1 \x1b[<0;3 \xe2\x82 \x1b[200~ab \x1b[200~\xc3"
 RESTS = [b"", *RESTS.split()]
 # What the sequence table doesn't know: replies, reports and strings, and their beginnings.
-EXTENDED_STREAM = (
-    b"q\x1b[24;80R\x1b\x1b[I\x1b]11;#fff\a\x1b[1;9A\x1b[97;5:3u\x1bP>|x\x1b\\\x1b]a\rb"
-)
-EXTENDED_STREAM += b"\x1b[M !!\x1b[?62;4c\xc3\xa9"
-BEGINNINGS = (
-    b"\x1b[? \x1b]11; \x1b]11;\x1b \x1bP \x1b_G \x1b[[ \x1b[M! \x1b\x1b]1 \x1b\x1b[?1".split()
-)
+EXTENDED_STREAM = b"q\x1b[24;80R\x1b\x1b[I\x1b]11;#fff\a\x1b[1;9A\x1b[97;5:3u\x1bP>|x\x1b\\"
+EXTENDED_STREAM += b"\x1b]a\rb\x1b[M !!\x1b[?62;4c\xc3\xa9"
+# The beginnings, and what each is called that begins no entry of the table.
+BEGINNINGS = b"\x1b[? \x1b]11; \x1b]11;\x1b \x1bP \x1b_G \x1b[[ \x1b[M! \x1b\x1b]1 \x1b\x1b[?1"
+BEGINNINGS = BEGINNINGS.split()
+BEGUN = ["csi", "osc", "osc", "dcs", "apc", "report", None, "osc", "csi"]
 SECONDS = 60
 # What each answer, also a refusal, tells the browser.
 POLICY = """default-src 'none'; script-src 'self'; style-src 'self'; img-src 'self';
@@ -50,32 +50,25 @@ HEADERS = {
 POSTED = ["/api/read", "/api/reads", "/api/cut"]
 
 
-def has(told, **wanted):
-    assert {name: told[name] for name in wanted} == wanted
-
-
 class Client:
     """Asks the server, and compares its answers with the library's."""
 
     def __init__(self, server):
-        self.port = server.port
-        self.host = f"127.0.0.1:{server.port}"
+        self.port, self.host = server.port, f"127.0.0.1:{server.port}"
 
     def connect(self):
         return socket.create_connection(("127.0.0.1", self.port), SECONDS)
 
     def ask(self, method, path, body=None, **headers):
-        """The status, the headers and the body of an answer. A header None is left out."""
+        """The status, the headers and the body of an answer. A header None is left out, and of a
+        list each is sent."""
         connection = http.client.HTTPConnection(self.host, timeout=SECONDS)
-        sent = {"Host": self.host}
-        if body is not None:
-            sent["Content-Length"] = str(len(body))
-        sent.update({name.replace("_", "-"): value for name, value in headers.items()})
         connection.putrequest(method, path, skip_host=True, skip_accept_encoding=True)
-        for name, value in sent.items():
+        length = None if body is None else str(len(body))
+        for name, value in {"Host": self.host, "Content_Length": length, **headers}.items():
             for each in value if isinstance(value, list) else [value]:
                 if each is not None:
-                    connection.putheader(name, each)
+                    connection.putheader(name.replace("_", "-"), each)
         connection.endheaders(body)
         answer = connection.getresponse()
         data = answer.read()
@@ -87,9 +80,23 @@ class Client:
     def status(self, method, path, body=None, **headers):
         return self.ask(method, path, body, **headers)[0]
 
+    def status_of(self, path, **headers):
+        """The status of a request as the page makes it, with further headers."""
+        asked = ["POST", path, b"q"] if path in POSTED else ["GET", path]
+        return self.status(*asked, **headers)
+
     def told(self, path, data=None):
         status, headers, body = self.ask("GET" if data is None else "POST", path, data)
         assert (status, headers["Content-Type"]) == (200, "application/json")
+        return json.loads(body)
+
+    def told_within(self, seconds, path, data):
+        """A short answer that takes so many seconds of the processor's time, since other programs
+        may run on this machine."""
+        began = time.process_time()
+        status, _, body = self.ask("POST", path, data)
+        assert time.process_time() - began < seconds
+        assert (status, len(body) < 1 << 16) == (200, True)
         return json.loads(body)
 
     def waits(self, data, reading="table"):
@@ -106,10 +113,9 @@ class Client:
     def posted(self, length, body, is_all=True):
         """The status that comes back for a body under a Content-Length, both as bytes, None if
         nothing comes back."""
-        head = (
-            f"POST /api/read HTTP/1.1\r\nHost: {self.host}\r\nConnection: close\r\nContent-Length: "
-        )
-        words = self.raw(head.encode() + length + b"\r\n\r\n" + body, is_all).split(b" ")
+        head = f"POST /api/read HTTP/1.1\r\nHost: {self.host}\r\nConnection: close\r\n".encode()
+        data = head + b"Content-Length: " + length + b"\r\n\r\n" + body
+        words = self.raw(data, is_all).split(b" ")
         return int(words[1]) if len(words) > 1 else None
 
     def all_items(self, data, end, reading):
@@ -117,7 +123,8 @@ class Client:
         items, told = [], None
         while told is None or len(items) < told["events"]:
             told = self.told(f"/api/read?end={end}&reading={reading}&first={len(items)}", data)
-            has(told, bytes=len(data), first=len(items), at=sum(it[0] for it in items))
+            at = sum(it[0] for it in items)
+            assert (told["bytes"], told["first"], told["at"]) == (len(data), len(items), at)
             assert told["items"] or not told["events"]
             assert len(told["items"]) <= meanings.ITEMS
             items += told["items"]
@@ -132,11 +139,8 @@ class Client:
         items, told = self.all_items(data, end, reading)
         assert [it[1] for it in items] == [meanings.line(event) for event in wanted], data
         assert told["flushed"] == (None if end == "more" else flushed)
-        has(
-            told["waits"] or {"length": 0, "kind": "Nothing"},
-            length=waiting,
-            kind=meanings.waiting_name(kind),
-        )
+        waits = told["waits"] or {"length": 0, "kind": "Nothing"}
+        assert (waits["length"], waits["kind"]) == (waiting, meanings.waiting_name(kind))
         assert sum(it[0] for it in items) + waiting == len(data)
         # Each item's bytes, read alone, emit its event, and no other.
         at = 0
@@ -178,46 +182,29 @@ def test_files_have_nothing_that_the_policy_refuses(client):
 
 @pytest.mark.parametrize("path", ["/", "/page.js", "/api/table", "/api/read"])
 def test_hosts(client, path):
-    method, body = ("POST", b"q") if path == "/api/read" else ("GET", None)
     here, port = client.host, client.port
-    for host in (here, f"localhost:{port}"):
-        assert client.status(method, path, body, Host=host) == 200, host
-    others = [
-        f"{here}.evil.example",
-        f"user@{here}",
-        f"{here}@evil.example",
-        f"127.0.0.1:{port + 1}",
-    ]
+    others = f"{here}.evil.example user@{here} {here}@evil.example 127.0.0.1:{port + 1}".split()
     others += [f"{it}:{port}" for it in ("evil.example", "[::1]", "127.0.0.2", "0.0.0.0")]
     others += ["127.0.0.1", "localhost", "", None, [here, "evil.example"], [here, here]]
-    for host in others:
-        assert client.status(method, path, body, Host=host) == 403, host
+    assert [client.status_of(path, Host=it) for it in (here, f"localhost:{port}")] == [200, 200]
+    assert [it for it in others if client.status_of(path, Host=it) != 403] == []
 
 
 @pytest.mark.parametrize("path", ["/", "/api/table", "/api/encode?key=F1", "/api/read"])
 def test_origins(client, path):
-    method, body = ("POST", b"q") if path == "/api/read" else ("GET", None)
     here, evil = f"http://{client.host}", "http://evil.example"
-    assert client.status(method, path, body, Origin=here) == 200
-    others = [
-        "null",
-        evil,
-        f"https://{client.host}",
-        f"{here}1",
-        f"{here}/",
-        "http://127.0.0.1",
-        "",
-    ]
-    for origin in (*others, f"http://localhost:{client.port}", [here, evil]):
-        assert client.status(method, path, body, Origin=origin) == 403, origin
+    others = ["null", evil, f"https://{client.host}", f"{here}1", f"{here}/", "http://127.0.0.1"]
+    others += ["", f"http://localhost:{client.port}", [here, evil]]
+    assert client.status_of(path, Origin=here) == 200
+    assert [it for it in others if client.status_of(path, Origin=it) != 403] == []
 
 
 def test_sites(client):
-    assert client.status("POST", "/api/read", b"q", Sec_Fetch_Site="same-origin") == 200
-    for site in ("cross-site", "same-site", "none"):
-        assert client.status("POST", "/api/read", b"q", Sec_Fetch_Site=site) == 403
+    sites = ["same-origin", "cross-site", "same-site", "none"]
+    statuses = [client.status_of("/api/read", Sec_Fetch_Site=it) for it in sites]
+    assert statuses == [200, 403, 403, 403]
     # A link on another page may lead here.
-    assert client.status("GET", "/", Sec_Fetch_Site="cross-site") == 200
+    assert client.status_of("/", Sec_Fetch_Site="cross-site") == 200
 
 
 def test_no_answer_is_for_other_origins(client):
@@ -230,8 +217,7 @@ def test_paths(client):
     paths = "/none /server.py /__main__.py /page/ /page.css/ /PAGE.CSS /%70age.css /./page.css /api"
     paths += " /../page/page.css /..%2f__init__.py /etc/passwd //etc/passwd /favicon.ico"
     for path in f"{paths} /api/ /api/read/ /api/other".split():
-        assert client.status("GET", path) == 404, path
-        assert client.status("POST", path, b"q") == 404, path
+        assert [client.status("GET", path), client.status("POST", path, b"q")] == [404] * 2, path
     assert client.status("GET", "/?a=b") == 200
 
 
@@ -247,16 +233,15 @@ def test_methods(client):
 
 @pytest.mark.parametrize("path", POSTED)
 def test_sizes(client, path):
-    for count in (0, MOST):
-        assert client.status("POST", path, b"q" * count) == 200
+    assert [client.status("POST", path, b"q" * count) for count in (0, MOST)] == [200, 200]
     for more in (1, MOST):
         status, headers, _ = client.ask("POST", path, b"q" * (MOST + more))
         assert (status, headers["Connection"]) == (413, "close")
-    assert client.status("POST", path, b"q", Content_Length=str(10**12)) == 413
+    assert client.status_of(path, Content_Length=str(10**12)) == 413
     assert client.status("POST", path, b"", Content_Length=None) == 411
     chunks = {"Content_Length": None, "Transfer_Encoding": "chunked"}
     assert client.status("POST", path, b"1\r\nq\r\n0\r\n\r\n", **chunks) == 411
-    assert client.status("POST", path, b"q", Content_Length=["1", "1"]) == 411
+    assert client.status_of(path, Content_Length=["1", "1"]) == 411
 
 
 def test_get_with_a_body(client):
@@ -266,13 +251,10 @@ def test_get_with_a_body(client):
 def test_lengths(client):
     """A Content-Length is a number in ASCII, and the body isn't shorter. Of a longer one the rest
     isn't read."""
-    for length in ("-1", "+1", "x", "", "1.0", "0x1", "1" * 30, "١"):
-        assert client.posted(length.encode(), b"q") == 400, length
-    for length in (b"\xb2", b"1\xb9"):
+    for length in [b"", b"1" * 30, "١".encode(), *b"-1 +1 x 1.0 0x1 \xb2 1\xb9".split()]:
         assert client.posted(length, b"q") == 400, length
-    for count in range(9):
-        assert client.posted(b"8", b"q" * count) == (200 if count == 8 else 400), count
-    assert client.posted(b"8", b"q" * 9) == 200
+    statuses = [client.posted(b"8", b"q" * count) for count in range(10)]
+    assert statuses == [400] * 8 + [200] * 2
 
 
 def test_seconds(client):
@@ -301,10 +283,8 @@ def test_broken_requests(client):
 
 
 def test_queries(client):
-    wrong = (
-        f"end=all end= first=-1 first=x first=1e3 first={'9' * 10} a a=1&b=2&c=3&d=4&e=5 end=%ff"
-    )
-    for query in f"{wrong} first=%D9%A1".split():
+    wrong = "end=all end= first=-1 first=x first=1e3 a a=1&b=2&c=3&d=4&e=5 end=%ff first=%D9%A1"
+    for query in [*wrong.split(), f"first={'9' * 10}"]:
         assert client.status("POST", f"/api/read?{query}", b"q") == 400, query
     readings = ["x", "", "Kitty", "table,kitty", "kitty&reading=x", "%ff"]
     for path, reading in itertools.product(POSTED, readings):
@@ -345,22 +325,16 @@ def test_only_this_machine(client, server):
 def test_at_one_time(client):
     """Requests at one time get their own answers, more of them than are computed at once; a slow
     sender stops none of them."""
-    right = []
 
     def work(letter):
         for length in range(1, 20):
             items = client.told("/api/read", letter.encode() * length)["items"]
-            right.append(items == [[1, f"key U+{ord(letter):04X} NONE", letter]] * length)
+            assert items == [[1, f"key U+{ord(letter):04X} NONE", letter]] * length
 
-    with client.connect() as slow:
+    with client.connect() as slow, ThreadPoolExecutor(2 * AT_ONCE) as threads:
         head = f"POST /api/read HTTP/1.1\r\nHost: {client.host}\r\nContent-Length: 5\r\n\r\nq"
         slow.sendall(head.encode())
-        threads = [threading.Thread(target=work, args=[chr(97 + it)]) for it in range(2 * AT_ONCE)]
-        for it in threads:
-            it.start()
-        for it in threads:
-            it.join()
-    assert right == [True] * (2 * AT_ONCE * 19)
+        assert len([*threads.map(work, string.ascii_letters[: 2 * AT_ONCE])]) == 2 * AT_ONCE
 
 
 @pytest.mark.parametrize("end", meanings.ENDS)
@@ -460,48 +434,39 @@ def test_lines_beyond_the_table(client, reading, data, line, glyphs):
 @pytest.mark.parametrize("reading", ["extended", "kitty"])
 def test_beginnings(client, reading):
     """What begins no entry of the table is named by what it becomes."""
-    begun = ["csi", "osc", "osc", "dcs", "apc", "report", None, "osc", "csi"]
-    for rest, begins in zip(BEGINNINGS, begun):
+    for rest, begins in zip(BEGINNINGS, BEGUN):
         waits = client.waits(rest, reading)
-        has(waits, kind="Sequence", length=len(rest), count=0, named=[], begins=begins)
-        assert waits["emits"] == len(waits["flushed"])
+        wanted = {"kind": "Sequence", "length": len(rest), "count": 0, "named": []}
+        assert waits == waits | wanted | {"begins": begins, "emits": len(waits["flushed"])}
         assert (waits["mouse"] is not None) == (rest == b"\x1b[M!"), rest
 
 
 def test_beginnings_of_the_table_too(client):
-    up = ["1b5b313b3141", "key UpArrow NONE"]
-    kitty = ["1b5b313b3141", "report UpArrow NONE press"]
-    for reading, begins, named in (
-        ("table", None, up),
-        ("extended", "csi", up),
-        ("kitty", "csi", kitty),
-    ):
+    lines = ["key UpArrow NONE", "key UpArrow NONE", "report UpArrow NONE press"]
+    for reading, begins, line in zip(meanings.READINGS, (None, "csi", "csi"), lines):
         waits = client.waits(b"\x1b[1;", reading)
-        has(waits, begins=begins, count=169)
-        assert waits["named"][0] == named
+        found = waits["begins"], waits["count"], waits["named"][0]
+        assert found == (begins, 169, ["1b5b313b3141", line])
     waits = client.waits(b"\x1b[<0;3", "extended")
-    has(waits, count=0, begins="csi")
+    assert (waits["count"], waits["begins"]) == (0, "csi")
     assert waits["mouse"][1] == "mouse 33 4 LEFT NONE"
 
 
-@pytest.mark.parametrize(
-    "begins, rest",
-    [
-        ("osc", b"\x1b]" + b"a" * 65533),
-        ("osc", b"\x1b]" + b"a" * 65532 + b"\x1b"),
-        ("dcs", b"\x1bP" + b"a" * 65532 + b"\x1b"),
-        ("apc", b"\x1b_" + b"a" * 60000),
-    ],
-)
+LONG = {
+    "osc": ("osc", b"\x1b]" + b"a" * 65533),
+    "osc, half of its end": ("osc", b"\x1b]" + b"a" * 65532 + b"\x1b"),
+    "dcs, half of its end": ("dcs", b"\x1bP" + b"a" * 65532 + b"\x1b"),
+    "apc": ("apc", b"\x1b_" + b"a" * 60000),
+}
+
+
+@pytest.mark.parametrize("begins, rest", LONG.values(), ids=LONG)
 def test_long_beginnings(client, begins, rest):
     """65,535 bytes of a string may be buffered. Of the many events that a flush makes of it some
     are listed."""
-    began = time.process_time()
-    status, _, body = client.ask("POST", "/api/read?reading=extended", rest)
-    assert time.process_time() - began < 2
-    assert (status, len(body) < 1 << 16) == (200, True)
-    waits = json.loads(body)["waits"]
-    has(waits, length=len(rest), begins=begins, mouse=None, emits=len(rest) - 1)
+    waits = client.told_within(2, "/api/read?reading=extended", rest)["waits"]
+    wanted = {"length": len(rest), "begins": begins, "mouse": None, "emits": len(rest) - 1}
+    assert waits == waits | wanted
     assert len(waits["flushed"]) == meanings.LINES
 
 
@@ -509,32 +474,33 @@ def test_long_strings(client):
     told = client.told("/api/read?reading=extended", b"\x1b]" + b"a" * 65533 + b"\a")
     assert told["events"] == 1
     assert told["items"][0][:2] == [65536, "osc 65533:" + "61" * 24 + "…"]
-    has(
-        client.told("/api/read?reading=extended", b"\x1b]" + b"a" * 65534), events=65535, waits=None
-    )
+    told = client.told("/api/read?reading=extended", b"\x1b]" + b"a" * 65534)
+    assert (told["events"], told["waits"]) == (65535, None)
 
 
 def test_waits(client):
     """What stays buffered, and what it may become, for each kind."""
     assert client.waits(b"q") is None
     waits = client.waits(b"q\x1b")
-    has(waits, kind="Escape", length=1, flushed=["key Escape NONE"], with_alt=False)
-    has(waits, alt=["1b71", "key U+0071 ALT"], mouse=["1b5b3c303b333b344d", "mouse 3 4 LEFT NONE"])
+    wanted = {"kind": "Escape", "length": 1, "flushed": ["key Escape NONE"], "with_alt": False}
+    wanted |= {"alt": ["1b71", "key U+0071 ALT"], "count": entries_after(b"\x1b")}
+    assert waits == waits | wanted | {"mouse": ["1b5b3c303b333b344d", "mouse 3 4 LEFT NONE"]}
     assert waits["named"][0] == ["1b5b41", "key UpArrow NONE"]
-    assert waits["count"] == entries_after(b"\x1b")
     waits = client.waits(b"\x1b\x1b")
-    has(waits, flushed=["key Escape ALT"], with_alt=True)
+    assert waits == waits | {"flushed": ["key Escape ALT"], "with_alt": True}
     assert waits["named"][0] == ["1b1b5b41", "key UpArrow ALT"]
     waits = client.waits(b"\x1b[24;5")
     named = [["1b5b32343b357e", "key F12 CTRL"], ["1b5b32343b3575", "key U+0018 CTRL"]]
-    has(waits, kind="Sequence", count=2, named=named, mouse=None)
+    assert waits == waits | {"kind": "Sequence", "count": 2, "named": named, "mouse": None}
     assert len(waits["flushed"]) == 5
     waits = client.waits(b"\x1b[<0;3")
-    has(waits, kind="Sequence", count=0, named=[])
+    assert waits == waits | {"kind": "Sequence", "count": 0, "named": []}
     assert waits["mouse"][1].startswith("mouse ")
-    has(client.waits(b"\xe2\x82"), kind="Character", flushed=["key U+FFFD NONE"] * 2)
+    waits = client.waits(b"\xe2\x82")
+    assert waits == waits | {"kind": "Character", "flushed": ["key U+FFFD NONE"] * 2}
     waits = client.waits(b"\x1b[200~abc")
-    has(waits, kind="Paste", length=9, text=3, flushed=["paste 3:616263"], end=b"\x1b[201~".hex())
+    wanted = {"kind": "Paste", "length": 9, "text": 3, "end": b"\x1b[201~".hex()}
+    assert waits == waits | wanted | {"flushed": ["paste 3:616263"]}
 
 
 @pytest.mark.parametrize("reading", meanings.READINGS)
@@ -559,10 +525,10 @@ def test_table(client):
         assert meanings.key_name(meanings.key_of(name)) == name
 
 
-@pytest.mark.parametrize(
-    "words",
-    ["UpArrow NONE", "U+0069 CTRL", "Enter CTRL+ALT", "F5 SHIFT", "U+20AC ALT", "Tab SHIFT"],
-)
+ENCODED = "UpArrow NONE, U+0069 CTRL, Enter CTRL+ALT, F5 SHIFT, U+20AC ALT, Tab SHIFT".split(", ")
+
+
+@pytest.mark.parametrize("words", ENCODED)
 def test_encodings(client, words):
     name, modifiers = words.split()
     query = f"key={name}&modifiers={modifiers}".replace("+", "%2B")
@@ -606,32 +572,25 @@ BEYOND = [b"\x1b[97;5:3u", b"\x1b]11;#fff\a", b"\x1b]" + b"a" * 65536]
     ids=lambda it: repr(it)[:20],
 )
 def test_a_megabyte(client, path, reading, seconds, piece):
-    """It takes two seconds, and four by the extended parser: of the processor's time, since other
-    programs may run on this machine."""
+    """It takes two seconds, and four by the extended parser."""
     data = (piece * (MOST // len(piece) + 1))[:MOST]
-    began = time.process_time()
-    status, _, body = client.ask("POST", f"/api/{path}reading={reading}", data)
-    assert time.process_time() - began < seconds
-    assert (status, len(body) < 1 << 16) == (200, True)
+    client.told_within(seconds, f"/api/{path}reading={reading}", data)
 
 
-def heed_interrupts():
-    """A shell has what it starts in the background ignore them."""
-    signal.signal(signal.SIGINT, signal.SIG_DFL)
+PROGRAM = [sys.executable, "-W", "error", "-m", "hedrugal.page"]
 
 
 def start_program(*words):
-    """Starts `python3 -m hedrugal.page`."""
-    pipe = subprocess.PIPE
-    how = {"stdin": subprocess.DEVNULL, "stdout": pipe, "stderr": pipe, "cwd": "/", "text": True}
-    words = [sys.executable, "-W", "error", "-m", "hedrugal.page", *words]
-    return subprocess.Popen(words, preexec_fn=heed_interrupts, **how)
+    """Starts the program. It heeds interrupts, which a shell has what it starts in the background
+    ignore."""
+    how = {"stdin": subprocess.DEVNULL, "stdout": subprocess.PIPE, "stderr": subprocess.PIPE}
+    how["preexec_fn"] = lambda: signal.signal(signal.SIGINT, signal.SIG_DFL)
+    return subprocess.Popen([*PROGRAM, *words], cwd="/", text=True, **how)
 
 
 def run_program(*words):
-    with start_program(*words) as process:
-        printed, errors = process.communicate(timeout=SECONDS)
-    return process.returncode, printed, errors
+    done = run_without_terminal([*PROGRAM, *words], cwd="/", text=True)
+    return done.returncode, done.stdout, done.stderr
 
 
 def test_program_help():
@@ -640,18 +599,17 @@ def test_program_help():
     assert "python3 -m hedrugal.page [--port N]" in printed
 
 
-@pytest.mark.parametrize("words", ["x", "--prot 1", "--port 8080 x", "--help x", "x --help", ""])
-def test_program_unknown_words(words):
+UNKNOWN = r"hedrugal\.page: what is '.*'\? --help lists the words\n"
+PORT = r"(?s).*--port wants a number from 1 to 65535.*"
+WRONG = {it: UNKNOWN for it in ("x", "--prot 1", "--port 8080 x", "--help x", "x --help", "")}
+WRONG |= {f"--port {it}".strip(): PORT for it in ("", "x", "0", "65536", "-1", "08080000")}
+
+
+@pytest.mark.parametrize("words, says", WRONG.items(), ids=WRONG)
+def test_program_wrong_words(words, says):
     status, printed, errors = run_program(*words.split(" "))
     assert (status, printed) == (2, "")
-    assert re.fullmatch(r"hedrugal\.page: what is '.*'\? --help lists the words\n", errors)
-
-
-@pytest.mark.parametrize("words", [[], ["x"], ["0"], ["65536"], ["-1"], ["08080000"]])
-def test_program_wrong_ports(words):
-    status, printed, errors = run_program("--port", *words)
-    assert (status, printed) == (2, "")
-    assert "--port wants a number from 1 to 65535" in errors
+    assert re.fullmatch(says, errors)
 
 
 def test_program_serves_until_it_is_interrupted():
@@ -666,10 +624,9 @@ def test_program_serves_until_it_is_interrupted():
         connection.request("GET", "/none")
         assert connection.getresponse().status == 404
         process.send_signal(signal.SIGINT)
-        assert process.wait(SECONDS) == 0
         # No request is logged.
-        wanted = "hedrugal.page: open this address in a browser; Ctrl-C ends it\n\n"
-        assert process.stderr.read() == wanted
+        errors = "hedrugal.page: open this address in a browser; Ctrl-C ends it\n\n"
+        assert (process.wait(SECONDS), process.stderr.read()) == (0, errors)
         connection.close()
     with start_program("--port", port) as process:
         assert process.stdout.readline() == f"http://127.0.0.1:{port}/\n"
