@@ -2,14 +2,14 @@
 # Measures the parser in process beside that of another commit, in one run on this machine.
 #
 #     tools/measure.sh --against COMMIT [--extended PROTOCOL] [--reads N] [--runs N] [INPUT..]
-#     tools/measure.sh --parsers N
+#     tools/measure.sh --parsers LIST [--reads N] [--runs N]
 #
 # The first builds the crates of the parser here and of COMMIT in a temporary folder, each with a program that asks the parser for one
 # event after another (tools/measure/next.rt.txt, pass.c). The parser is InputParser or, with --extended, the extended parser under
 # PROTOCOL, legacy or kitty. Each INPUT (all) has a megabyte, and is given in reads of N bytes (64). The two programs run in turn,
 # N times each (9), one pass a process. It prints the least nanoseconds for an event of both, and the first divided by the second.
 #
-# With --parsers many parsers get reads in turn, beside those of other libraries: that is tools/performance.py, which measures all else too.
+# With --parsers so many parsers get reads in turn, such as 1000,10000: that is tools/performance.py, which measures all else too.
 #
 # It needs rt, cc and python3. It says on standard error what it does.
 set -euo pipefail
@@ -26,7 +26,7 @@ while [ $# -gt 0 ]; do
                 --extended) extended=$2 ;;
                 --reads) want_number "$2" "$1"; read=$2 ;;
                 --runs) want_number "$2" "$1"; runs=$2 ;;
-                --parsers) want_number "$2" "$1"; parsers=$2 ;;
+                --parsers) parsers=$2 ;;
             esac
             shift 2 ;;
         -*) refuse_word "$1" ;;

@@ -143,7 +143,8 @@ PARSERS = {
     "prompt_toolkit": lambda it: it.in_python("prompt_toolkit"),
 }
 # The parsers that may be many. Their inputs stay in the processor's cache.
-MANY = ["C", "Legacy", "Kitty", "libtermkey", "crossterm"]
+OWN = "C with a table each"
+MANY = ["C", OWN, "Legacy", "Kitty", "libtermkey", "crossterm"]
 MANY_INPUTS, MANY_BYTES = ["keys", "csiu"], 1 << 15
 
 
@@ -161,6 +162,8 @@ def build(chosen, work):
             programs[name] = PARSERS[name](builder)
         except Missing as reason:
             missing[name] = reason
+    if "C" in programs:
+        programs[OWN] = builder.from_c("-DOWN_TABLES")
     return programs, missing
 
 
@@ -256,13 +259,16 @@ def report(chosen, work):
         (name, it): Cell(program, given, chosen.read)
         for name, given in inputs.items()
         for it, program in programs.items()
+        if it != OWN
     }
     one, more = ([Input(work, name, it) for name in MANY_INPUTS] for it in (size, MANY_BYTES))
     many = {
-        (it, count): [Cell(program, given, chosen.read, count) for given in group]
-        for it, program in programs.items()
-        if it in MANY
-        for count, group in ((1, one), (chosen.parsers, more))
+        (it, count): [
+            Cell(programs[it], given, chosen.read, count) for given in (one if count == 1 else more)
+        ]
+        for it in MANY
+        for count in [1, *chosen.parsers]
+        if it in programs
     }
     for number in range(chosen.runs):
         progress(f"pass {number + 1} of {chosen.runs}")
@@ -296,6 +302,10 @@ def number_of(text):
     return int(text)
 
 
+def numbers_of(text):
+    return [number_of(number) for number in text.split(",")]
+
+
 def options():
     layout = argparse.RawDescriptionHelpFormatter
     parser = argparse.ArgumentParser(description=__doc__, formatter_class=layout)
@@ -306,7 +316,7 @@ def options():
     add("--runs", metavar="N", type=number_of, default=9, help="passes of each program (9)")
     add("--read", metavar="N", type=number_of, default=64, help="bytes of a read (64)")
     add("--kilobytes", metavar="N", type=number_of, default=256, help="of an input (256)")
-    add("--parsers", metavar="N", type=number_of, default=10000, help="that are many (10000)")
+    add("--parsers", metavar="LIST", type=numbers_of, default=[10000], help="how many (10000)")
     add("--write", action="store_true", help="writes it all into docs/PERFORMANCE.md")
     chosen = parser.parse_args()
     chosen.only = chosen.only or [*PARSERS]

@@ -1,5 +1,5 @@
-/* The parsers of this library: InputParser or, if PROTOCOL is defined, the extended parser under that protocol. Text that an event brings
- * is copied to memory of its own. */
+/* The parsers of this library: InputParser or, if PROTOCOL is defined, the extended parser under that protocol. All share the table of the
+ * first one, unless OWN_TABLES is defined. Text that an event brings is copied to memory of its own. */
 #include "hedrugal.h"
 #include "reader.h"
 #include <stdlib.h>
@@ -22,12 +22,13 @@ typedef hed_event event;
 #define TEXT_LEN paste_len
 #endif
 
-/* The first parser makes the table, and all others share it. */
 void *reader_new(void) {
   static parser *first;
   parser *it = calloc(1, sizeof *it);
   if (!it || !(first ? INIT_SHARING(it, first) : INIT(it))) return NULL;
-  if (!first) first = it;
+#ifndef OWN_TABLES
+  first = it;
+#endif
   return it;
 }
 
