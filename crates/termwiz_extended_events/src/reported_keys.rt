@@ -182,6 +182,7 @@ fn is_functional(number: u32) -> bool
 
 // The key of a character in kitty's keyboard protocol.
 #[tactic(auto, unfolding(crate::specs::ReportedKeys::key_of))]
+#[inline(always)]
 pub(crate) fn key_of(c: char) -> ReportedKey
     ensures { result ≡ key_of c }
 {
