@@ -64,8 +64,7 @@ mkdir -p "$work"/{here,other,inputs}
 (cd "$top" && tar c --exclude=out --exclude=must-fail crates.txt crates/termwiz_*) | tar x -C "$work/here"
 git -C "$top" archive "$against" crates.txt crates | tar x -C "$work/other"
 for tree in here other; do
-    # (The other crates aren't there, or aren't needed.)
-    sed -i '/^termwiz_/!d' "$work/$tree/crates.txt"
+    sed -Ei '/^termwiz_(base|keymap|keys|grammar|table|input|extended_events|extended_grammar|input_extended):/!d' "$work/$tree/crates.txt"
     progress "proving and building the parser $([ $tree = here ] && echo here || echo "of $against"), which takes minutes the first time"
     build "$work/$tree"
 done
