@@ -679,16 +679,21 @@ def _is_event(answer: int) -> bool:
 
 def _borrowed(data: Bytes) -> Tuple[Any, int]:
     """Returns what ctypes passes as the pointer to the bytes, and their number. Only a memoryview
-    that is read-only or has gaps is copied, since ctypes can't borrow its bytes."""
-    if isinstance(data, bytes):
+    that is read-only or has gaps is copied, since ctypes can't borrow its bytes, and so is an
+    object of a class over bytes.
+
+    The number is that of the memory itself: such a class may answer anything to len(). The pointer
+    keeps a bytearray from being resized."""
+    if type(data) is bytes:
         return data, len(data)
-    if not isinstance(data, (bytearray, memoryview)):
+    if not isinstance(data, (bytes, bytearray, memoryview)):
         raise TypeError(
             f"bytes, a bytearray or a memoryview is required, not {type(data).__name__}"
         )
     view = memoryview(data)
     if view.readonly or not view.c_contiguous or not view.nbytes:
-        return view.tobytes(), view.nbytes
+        copied = view.tobytes()
+        return copied, len(copied)
     return ctypes.byref(ctypes.c_char.from_buffer(view)), view.nbytes
 
 

@@ -145,7 +145,7 @@ class KeyReport:
             raise TypeError(f"KittyKeyboardFlags are required, not {type(flags).__name__}")
         report, bits = _raw_report(self), flags.value
         # A surrogate is passed on: the library refuses it.
-        text, length = _borrowed(self.text.encode("utf-8", "surrogatepass"))
+        text, length = _borrowed(str.encode(self.text, "utf-8", "surrogatepass"))
 
         def call(out: Any, size: int, sent: ctypes.c_size_t) -> int:
             return int(_library.hed_encode_kitty(report, text, length, bits, out, size, sent))
