@@ -1,4 +1,4 @@
-"""Memory is refused or given back, and threads use parsers."""
+"""Memory is refused or given back, and threads use parsers as they are made and closed."""
 import sys
 from unittest import mock
 
@@ -285,7 +285,7 @@ for it in threads: it.join()
 print("good" if wanted and not wrong else "wrong")
 """
 
-# Threads that use one parser and one map, which no program should do. Any exception may come of it.
+# Threads that use one parser and one map, while one of them closes these and makes others.
 ONE_PARSER = """
 import sys, threading, time
 from hedrugal import InputParser, KeyMap
@@ -307,8 +307,8 @@ def work(remake):
                 parser.close()
                 keys.close()
                 parser, keys = InputParser(), KeyMap()
-        except Exception:
-            pass
+        except ValueError as error:
+            assert str(error) in ("the parser is closed", "the map is closed"), error
 sys.setswitchinterval(1e-6)
 threads = [threading.Thread(target=work, args=[number == 0]) for number in range(3)]
 for it in threads: it.start()
@@ -333,5 +333,5 @@ def test_two_parsers(make):
     not getattr(sys, "_is_gil_enabled", lambda: True)(), reason="this Python has no lock"
 )
 def test_one_parser(make):
-    """It isn't allowed, and harms no memory."""
+    """A call raises nothing but that they are closed."""
     assert_threads(ONE_PARSER, make, STREAM)

@@ -31,6 +31,7 @@ import os
 import platform
 import struct
 import sys
+import threading
 import weakref
 from dataclasses import dataclass
 from typing import (
@@ -707,6 +708,11 @@ class _Closable:
         if not init(raw):
             raise _refused()
         self._what, self._raw, self._free = what, raw, weakref.finalize(self, free, raw)
+        # At the exit a thread may still be in a call, and the system takes the memory anyway.
+        self._free.atexit = False
+        # A call holds the lock while it runs, but for code of the caller: values of arguments are
+        # taken before it, and what a map lets go is let go after it.
+        self._lock: Any = threading.RLock()
 
     def __enter__(self: _Self) -> _Self:
         self._check_open()
@@ -718,9 +724,19 @@ class _Closable:
     def __reduce__(self) -> NoReturn:
         raise TypeError(f"a {self._what} can't be copied or pickled")
 
+    def _alone(self) -> Any:
+        """The lock, for a call that leaves something half done between its calls of the library. A
+        signal's handler or a finalizer may come in there, in the same thread, so it can't wait. One
+        call of the library alone harms nothing there, and takes the lock itself."""
+        if self._lock._is_owned():
+            raise RuntimeError(f"the {self._what} is in the middle of a call of this thread")
+        return self._lock
+
     def close(self) -> None:
-        """Frees what the library holds. It may be called twice."""
-        self._free()
+        """Frees what the library holds, once no other thread is in a call. It may be called
+        twice."""
+        with self._alone():
+            self._free()
 
     @property
     def closed(self) -> bool:
@@ -786,6 +802,26 @@ class _ParserCalls(NamedTuple):
 
 
 _AnyEvent = TypeVar("_AnyEvent")
+_Item = TypeVar("_Item")
+
+
+class _UntilNone(Iterator[_Item]):
+    """What a function returns, one by one, until that is None. Threads may share it, unlike a
+    generator: each item goes to one of them."""
+
+    def __init__(self, call: Callable[[], Optional[_Item]]) -> None:
+        self._call = call
+
+    def __next__(self) -> _Item:
+        item = self._call()
+        if item is None:
+            self._call = _no_more
+            raise StopIteration
+        return item
+
+
+def _no_more() -> None:
+    return None
 
 
 class _EventParser(_Closable, Generic[_AnyEvent]):
@@ -808,7 +844,8 @@ class _EventParser(_Closable, Generic[_AnyEvent]):
         self._kept: List[_AnyEvent] = []
 
     def __repr__(self) -> str:
-        state = "closed" if self.closed else f"{self.waiting_len} bytes are buffered"
+        with self._lock:
+            state = "closed" if self.closed else f"{self.waiting_len} bytes are buffered"
         return f"<{type(self).__name__}, {state}>"
 
     def feed(self, data: Bytes) -> None:
@@ -818,9 +855,8 @@ class _EventParser(_Closable, Generic[_AnyEvent]):
         Raises MemoryError if memory is refused. Then none of the bytes is buffered, and the call
         may be made again."""
         pointer, length = _borrowed(data)
-        if not self._calls.feed(self._raw, pointer, length):
-            self._check_open()
-            raise _refused()
+        with self._lock:
+            self._feed(pointer, length)
 
     def next_event(self, maybe_more: bool = True) -> Optional[_AnyEvent]:
         """Returns the event at the front of the buffer, and consumes its bytes. Returns None if
@@ -833,22 +869,13 @@ class _EventParser(_Closable, Generic[_AnyEvent]):
         False breaks a sequence or a character whose last bytes are still to come.
 
         Raises MemoryError if memory is refused. Nothing changed, and the call may be made again."""
-        self._check_open()
-        if self._kept:
-            return self._kept.pop(0)
-        if not self._find_front(maybe_more):
-            return None
-        event = self._front_event()
-        self._leave_front()
-        return event
+        more = bool(maybe_more)
+        with self._alone():
+            return self._take(more)
 
     def __iter__(self) -> Iterator[_AnyEvent]:
         """Returns the events one by one, as `next_event(True)` does, until there is none."""
-        while True:
-            event = self.next_event()
-            if event is None:
-                return
-            yield event
+        return _UntilNone(self.next_event)
 
     def parse(self, data: Bytes, maybe_more: bool = True) -> List[_AnyEvent]:
         """Appends bytes to the buffer, and returns the events in order. Bytes that are no event yet
@@ -856,20 +883,20 @@ class _EventParser(_Closable, Generic[_AnyEvent]):
 
         Raises ParseError, which is a MemoryError, if memory is refused. It says whether the bytes
         are buffered."""
+        more, taken = bool(maybe_more), False
         try:
-            self.feed(data)
+            pointer, length = _borrowed(data)
             kept: List[_AnyEvent] = []
+            with self._alone():
+                self._feed(pointer, length)
+                events, taken = self._kept, True
+                while self._find_front(more):
+                    events.append(self._front_event())
+                    self._leave_front()
+                self._kept = kept
+                return events
         except MemoryError:
-            raise ParseError(taken=False) from None
-        events = self._kept
-        try:
-            while self._find_front(maybe_more):
-                events.append(self._front_event())
-                self._leave_front()
-        except MemoryError:
-            raise ParseError(taken=True) from None
-        self._kept = kept
-        return events
+            raise ParseError(taken) from None
 
     def flush(self) -> List[_AnyEvent]:
         """Returns the events of all that is buffered but an open paste, as at the end of the input:
@@ -886,14 +913,15 @@ class _EventParser(_Closable, Generic[_AnyEvent]):
         Call it when some 50 ms have passed without a byte. Anything else stays buffered. So a pause
         breaks only what is cut right after its ESC or ESC ESC: a sequence, the start of a paste, or
         a key with Alt."""
-        self._check_open()
-        # What was refused memory comes before what is buffered.
-        if self._kept or self._has_front:
-            return None
-        if not _is_event(self._calls.flush_escape(self._raw, self._front)):
-            return None
-        self._has_front = True
-        return cast(KeyEvent, self.next_event())
+        with self._alone():
+            self._check_open()
+            # What was refused memory comes before what is buffered.
+            if self._kept or self._has_front:
+                return None
+            if not _is_event(self._calls.flush_escape(self._raw, self._front)):
+                return None
+            self._has_front = True
+            return cast(KeyEvent, self._take(True))
 
     @property
     def waiting(self) -> Waiting:
@@ -903,14 +931,16 @@ class _EventParser(_Closable, Generic[_AnyEvent]):
         It says what a pause means. After some 50 ms with Waiting.ESCAPE call `flush_escape`.
         Waiting.SEQUENCE may be half of a sequence on a slow line: call `flush` after a much longer
         pause, say 1000 ms, or never. Never flush the others."""
-        self._check_open()
-        return _waitings.get(self._calls.waiting(self._raw)) or _fault()
+        with self._lock:
+            self._check_open()
+            return _waitings.get(self._calls.waiting(self._raw)) or _fault()
 
     @property
     def waiting_len(self) -> int:
         """The number of bytes that are buffered."""
-        self._check_open()
-        return cast(int, self._calls.waiting_len(self._raw))
+        with self._lock:
+            self._check_open()
+            return cast(int, self._calls.waiting_len(self._raw))
 
     @property
     def is_paste_open(self) -> bool:
@@ -918,8 +948,9 @@ class _EventParser(_Closable, Generic[_AnyEvent]):
 
         Such a paste is buffered without limit until its end arrives. A caller with a limit, say 1
         MB, calls `end_paste` once `waiting_len` is above it."""
-        self._check_open()
-        return cast(bool, self._calls.is_paste_open(self._raw))
+        with self._lock:
+            self._check_open()
+            return cast(bool, self._calls.is_paste_open(self._raw))
 
     def end_paste(self) -> Optional[Paste]:
         """Ends an open paste where it is. Returns its text so far, and consumes all that is
@@ -931,25 +962,27 @@ class _EventParser(_Closable, Generic[_AnyEvent]):
 
         Raises MemoryError if memory is refused. The paste isn't lost, and the call may be made
         again."""
-        self._check_open()
-        if self._kept:
-            return None
-        if not self._has_front:
-            self._has_front = _is_event(self._calls.end_paste(self._raw, self._front))
-        # A paste that was refused memory before is at the front, where another call left it.
-        if not self._has_front or self._front.kind != _KIND_PASTE:
-            return None
-        return cast(Paste, self.next_event())
+        with self._alone():
+            self._check_open()
+            if self._kept:
+                return None
+            if not self._has_front:
+                self._has_front = _is_event(self._calls.end_paste(self._raw, self._front))
+            # A paste that was refused memory before is at the front, where another call left it.
+            if not self._has_front or self._front.kind != _KIND_PASTE:
+                return None
+            return cast(Paste, self._take(True))
 
     def reset(self) -> int:
         """Discards all buffered bytes, those of an open paste too, and returns how many there were.
 
         Call it where earlier bytes no longer count, as after another program had the terminal."""
-        self._check_open()
-        self._kept.clear()
-        self._has_front = False
-        self._calls.drop_text(self._raw)
-        return cast(int, self._calls.reset(self._raw))
+        with self._alone():
+            self._check_open()
+            self._kept.clear()
+            self._has_front = False
+            self._calls.drop_text(self._raw)
+            return cast(int, self._calls.reset(self._raw))
 
     def shrink_to(self, min_capacity: int = 0) -> None:
         """Gives back memory that holds no buffered bytes, but for room for so many. What is
@@ -958,12 +991,30 @@ class _EventParser(_Closable, Generic[_AnyEvent]):
         The buffer grows with what it has to hold, such as a long paste, and keeps that memory for
         what comes next. Call this for the parser of a session that is quiet. Raises ValueError if
         min_capacity is negative."""
-        self._check_open()
         if not isinstance(min_capacity, int):
             raise TypeError(f"an int is required, not {type(min_capacity).__name__}")
         if min_capacity < 0:
             raise ValueError(f"{min_capacity} is negative")
-        self._calls.shrink_to(self._raw, min(min_capacity, sys.maxsize))
+        with self._lock:
+            self._check_open()
+            self._calls.shrink_to(self._raw, min(min_capacity, sys.maxsize))
+
+    # The rest is called while the lock is held.
+
+    def _feed(self, pointer: Any, length: int) -> None:
+        if not self._calls.feed(self._raw, pointer, length):
+            self._check_open()
+            raise _refused()
+
+    def _take(self, more: bool) -> Optional[_AnyEvent]:
+        self._check_open()
+        if self._kept:
+            return self._kept.pop(0)
+        if not self._find_front(more):
+            return None
+        event = self._front_event()
+        self._leave_front()
+        return event
 
     def _find_front(self, maybe_more: bool) -> bool:
         """Whether there is an event at the front. It stays there until `_leave_front`."""
@@ -1009,8 +1060,14 @@ class InputParser(_EventParser[Event]):
     Only a pause tells that it is the Escape key: see `waiting`.
 
     A parser owns memory outside of Python. `close` frees it; so do the end of a `with` block and
-    the end of the parser's life. Every other call raises ValueError once the parser is closed. One
-    thread at a time uses a parser. It can't be copied or pickled.
+    the end of the parser's life. Every other call raises ValueError once the parser is closed. It
+    can't be copied or pickled.
+
+    Threads may share a parser, and an iterator over it. Each call has the parser for itself while
+    others wait, `close` too. `parse` returns the events of its own bytes, after what other threads
+    left in the buffer, and each event goes to one thread. A signal's handler or a finalizer that
+    comes in the middle of a call of its own thread can't wait. There all but `feed`, `shrink_to`
+    and what only reads raises RuntimeError.
 
     All parsers share one sequence table, which the first of them makes and which stays. So a
     program may have thousands of them.
@@ -1046,14 +1103,14 @@ class InputParser(_EventParser[Event]):
             >>> with InputParser() as parser:
             ...     parser.entry(0)
             Entry(bytes=b'\x01', key='a', modifiers=Modifiers.CTRL)"""
-        self._check_open()
         if not isinstance(place, int):
             raise TypeError(f"an int is required, not {type(place).__name__}")
-        if not 0 <= place <= sys.maxsize:
-            return None
         event, room = _RawEvent(), bytearray(_ROOM)
         pointer, size = _borrowed(room)
-        length = _library.hed_parser_entry(self._raw, place, pointer, size, event)
+        place = place if 0 <= place <= sys.maxsize else sys.maxsize
+        with self._lock:
+            self._check_open()
+            length = _library.hed_parser_entry(self._raw, place, pointer, size, event)
         if not length:
             return None
         if length > size or event.kind != _KIND_KEY:
@@ -1063,11 +1120,8 @@ class InputParser(_EventParser[Event]):
 
     def entries(self) -> Iterator[Entry]:
         """Returns the entries of the sequence table one by one, in the order of their bytes."""
-        for place in itertools.count():
-            entry = self.entry(place)
-            if entry is None:
-                return
-            yield entry
+        places = itertools.count()
+        return _UntilNone(lambda: self.entry(next(places)))
 
     def completions(self) -> Completions:
         r"""Returns the entries that would complete what stays buffered: those that begin with it
@@ -1084,10 +1138,11 @@ class InputParser(_EventParser[Event]):
             ...     entries = [parser.entry(place) for place in parser.completions().entries]
             >>> events, entries[0]
             ([], Entry(bytes=b'\x1b[1;5A', key=KeyCode.UP_ARROW, modifiers=Modifiers.CTRL))"""
-        self._check_open()
         found = _RawEntries()
-        if not _library.hed_parser_completions(self._raw, found):
-            _fault()
+        with self._lock:
+            self._check_open()
+            if not _library.hed_parser_completions(self._raw, found):
+                _fault()
         return Completions(range(found.first, found.first + found.count), bool(found.with_alt))
 
     def _skip(self, maybe_more: bool, most: int) -> int:
@@ -1099,11 +1154,12 @@ class InputParser(_EventParser[Event]):
             ctypes.byref(self._front),
             int(maybe_more),
         )
-        while count < most and self._find_front(maybe_more):
-            self._has_front = False
-            count += 1
-            while count < most and _next_untyped(parser, more, front) == _NEXT_EVENT:
+        with self._alone():
+            while count < most and self._find_front(maybe_more):
+                self._has_front = False
                 count += 1
+                while count < most and _next_untyped(parser, more, front) == _NEXT_EVENT:
+                    count += 1
         return count
 
 
@@ -1129,8 +1185,9 @@ class KeyMap(_Closable, Generic[Value]):
     map is closed.
 
     A map owns memory outside of Python. `close` frees it; so do the end of a `with` block and the
-    end of the map's life. Every other call raises ValueError once the map is closed. One thread at
-    a time uses a map. It can't be copied or pickled.
+    end of the map's life. Every other call raises ValueError once the map is closed. It can't be
+    copied or pickled. Threads may share a map, as a parser: in the middle of a call of its own
+    thread `insert` or `close` raises RuntimeError.
 
     Making a map raises MemoryError if memory is refused."""
 
@@ -1141,32 +1198,35 @@ class KeyMap(_Closable, Generic[Value]):
 
     def __len__(self) -> int:
         """The number of keys."""
-        self._check_open()
-        return cast(int, _library.hed_keymap_len(self._raw))
+        with self._lock:
+            self._check_open()
+            return cast(int, _library.hed_keymap_len(self._raw))
 
     def __repr__(self) -> str:
-        return f"<KeyMap, {'closed' if self.closed else f'{len(self)} keys'}>"
+        with self._lock:
+            return f"<KeyMap, {'closed' if self.closed else f'{len(self)} keys'}>"
 
     def insert(self, key: Bytes, value: Value) -> None:
         """Maps a key to a value. A value that the key had before is let go.
 
         Raises MemoryError if memory is refused. Then the map is unchanged, and the call may be made
         again."""
-        self._check_open()
         pointer, length = _borrowed(key)
         match = _RawMatch()
-        if (
-            _lookup(self._raw, pointer, length, False, match) == _FOUND_EXACT
-            and match.len == length
-        ):
-            # The key keeps its place.
-            self._values[match.value] = value
-            return
-        place = len(self._values)
-        self._values.append(value)
-        if not _library.hed_keymap_insert(self._raw, pointer, length, place):
-            self._values.pop()
-            raise _refused()
+        with self._alone():
+            self._check_open()
+            if (
+                _lookup(self._raw, pointer, length, False, match) == _FOUND_EXACT
+                and match.len == length
+            ):
+                # The key keeps its place. The value that it had is let go as the call returns.
+                value, self._values[match.value] = self._values[match.value], value
+                return
+            place = len(self._values)
+            self._values.append(value)
+            if not _library.hed_keymap_insert(self._raw, pointer, length, place):
+                self._values.pop()
+                raise _refused()
 
     def lookup(self, text: Bytes, maybe_more: bool = True) -> Found[Value]:
         """Finds the longest key that is a prefix of the text, and returns an Exact with its length
@@ -1184,12 +1244,13 @@ class KeyMap(_Closable, Generic[Value]):
             ...     [keys.lookup(b"g"), keys.lookup(b"gg"), keys.lookup(b"gg", False)]
             [NeedData(), Ambiguous(len=2, value=1), Exact(len=2, value=1)]"""
         pointer, length = _borrowed(text)
-        match = _RawMatch()
-        answer = _lookup(self._raw, pointer, length, maybe_more, match)
-        if answer == _FOUND_EXACT:
-            return Exact(match.len, self._values[match.value])
-        if answer == _FOUND_AMBIGUOUS:
-            return Ambiguous(match.len, self._values[match.value])
+        match, more = _RawMatch(), bool(maybe_more)
+        with self._lock:
+            answer = _lookup(self._raw, pointer, length, more, match)
+            if answer == _FOUND_EXACT:
+                return Exact(match.len, self._values[match.value])
+            if answer == _FOUND_AMBIGUOUS:
+                return Ambiguous(match.len, self._values[match.value])
         if answer == _FOUND_NEED_DATA:
             return _need_data
         if answer == _FOUND_NONE:
@@ -1199,9 +1260,12 @@ class KeyMap(_Closable, Generic[Value]):
         _fault()
 
     def close(self) -> None:
-        """Frees what the library holds, and lets the values go. It may be called twice."""
-        super().close()
-        self._values.clear()
+        """Frees what the library holds, and lets the values go, once no other thread is in a call.
+        It may be called twice."""
+        with self._alone():
+            self._free()
+            values, self._values = self._values, []
+        values.clear()
 
 
 def _number_and_detail(key: Key) -> Tuple[int, int]:
