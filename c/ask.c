@@ -36,12 +36,12 @@ static void handle_signals(void (*handler)(int)) {
   for (size_t i = 0; i < sizeof numbers / sizeof *numbers; i++) sigaction(numbers[i], &action, NULL);
 }
 
-/* Prints the bytes that an event brought, with a dot for each that isn't printable ASCII. */
+/* Prints the bytes that an event brought, those that aren't printable ASCII as in \x1b. */
 static void print_text(const hed_extended *parser, const char *name, size_t len) {
   uint8_t text[LONGEST_REPLY];
   hed_extended_text(parser, text, sizeof text);
   printf("%s ", name);
-  for (size_t i = 0; i < len && i < sizeof text; i++) putchar(text[i] >= ' ' && text[i] <= '~' ? text[i] : '.');
+  for (size_t i = 0; i < len && i < sizeof text; i++) printf(text[i] < ' ' || text[i] > '~' ? "\\x%02x" : "%c", text[i]);
   putchar('\n');
 }
 

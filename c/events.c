@@ -16,12 +16,28 @@ static void print_key(const hed_event *event) {
          event->modifiers & HED_TERMWIZ_MOD_CTRL ? " ctrl" : "");
 }
 
+/* How many bytes the control character at the front of a text in UTF-8 has, 0 if it begins with another. */
+static size_t control_len(const uint8_t *text, size_t len) {
+  if (*text < ' ' || *text == 0x7f) return 1;
+  return len > 1 && *text == 0xc2 && text[1] < 0xa0 ? 2 : 0;
+}
+
+/* Prints a text that the terminal sent, with each byte of a control character as in \x1b: whoever wrote it would act on the terminal. */
+static void print_text(const uint8_t *text, size_t len) {
+  size_t left = 0; /* of a control character */
+  for (size_t at = 0; at < len; at++) {
+    if (left == 0) left = control_len(text + at, len - at);
+    printf(left > 0 ? "\\x%02x" : "%c", text[at]);
+    if (left > 0) left--;
+  }
+}
+
 static bool print_paste(hed_parser *parser, size_t len) {
   uint8_t *text = (uint8_t *)malloc(len + 1);
   if (!text) return false;
   hed_parser_paste(parser, text, len);
   printf("paste of %zu bytes: ", len);
-  fwrite(text, 1, len, stdout);
+  print_text(text, len);
   putchar('\n');
   free(text);
   return true;

@@ -243,10 +243,16 @@ static void print_words(keys *it) {
   flush_output(it);
 }
 
+static void print_error(const char *words, int error) {
+  fputs("hedrugal-keys: ", stderr);
+  text_print(stderr, words);
+  fprintf(stderr, "%s%s\n", error ? ": " : "", error ? strerror(error) : "");
+}
+
 static int status_of(const keys *it) {
   if (signals_ending()) signals_end(signals_ending());
   if (!it->failure) return 0;
-  fprintf(stderr, "hedrugal-keys: %s%s%s\n", it->failure, it->error ? ": " : "", it->error ? strerror(it->error) : "");
+  print_error(it->failure, it->error);
   return 1;
 }
 
@@ -255,7 +261,7 @@ int main(int count, char **words) {
   bool has_terminal = isatty(0);
   signal(SIGPIPE, SIG_IGN); /* the write fails then */
   if (!options_read(&it.options, count, words, has_terminal)) {
-    fprintf(stderr, "hedrugal-keys: %s\n", it.options.refused.bytes);
+    print_error(it.options.refused.bytes, 0);
     return 2;
   }
   it.is_live = has_terminal && !it.options.file;

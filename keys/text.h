@@ -3,6 +3,7 @@
 #define KEYS_TEXT_H
 
 #include <stddef.h>
+#include <stdio.h>
 
 enum { TEXT_SIZE = 512 };
 
@@ -13,5 +14,9 @@ typedef struct text {
 
 /* Appends as printf prints. What has no room is cut off. */
 void text_add(text *it, const char *format, ...);
+
+/* Prints words that others chose, such as a file's name. Each byte of a control character, or that begins no character in UTF-8, is
+ * printed as in \x1b, since it would act on the terminal. */
+void text_print(FILE *out, const char *words);
 
 #endif

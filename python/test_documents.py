@@ -1,6 +1,7 @@
 """What the documents and the docstrings say is so, and the types hold."""
 import doctest
 import os
+import shlex
 import shutil
 import subprocess
 
@@ -8,7 +9,7 @@ import pytest
 
 import hedrugal
 from hedrugal import ExtendedParser, InputParser, KeyMap, extended
-from helpers import HERE, SECONDS, TOP, assert_prints, listings
+from helpers import HERE, LIBRARY, SECONDS, TOP, assert_prints, listings
 
 
 @pytest.mark.parametrize("module", [hedrugal, extended])
@@ -59,3 +60,21 @@ def test_types(words):
 )
 def test_listings(text, wanted):
     assert_prints(text, wanted)
+
+
+@pytest.mark.skipif(not shutil.which("cc"), reason="no cc")
+def test_example_in_c(tmp_path):
+    """c/events.c prints no control character of a paste, and all else as it is."""
+    events, folder = str(tmp_path / "events"), os.path.dirname(LIBRARY)
+    strict = shlex.split("-std=c99 -Wall -Wextra -pedantic -Werror")
+    words = [f"-I{TOP}/c", f"{TOP}/c/events.c", f"-L{folder}", "-lhedrugal", f"-Wl,-rpath,{folder}"]
+    subprocess.run(["cc", *strict, *words, "-o", events], check=True, timeout=SECONDS)
+    for text, shown in {
+        "\x1b]0;title\x07": r"\x1b]0;title\x07",
+        "é\x9b2J\x7f\r\n": r"é\xc2\x9b2J\x7f\x0d\x0a",
+        "\x80\x9f\xa0\xdf世\0": "\\xc2\\x80\\xc2\\x9f\xa0\xdf世\\x00",
+    }.items():
+        data = text.encode()
+        pasted = b"\x1b[200~" + data + b"\x1b[201~"
+        printed = subprocess.check_output([events], input=pasted, timeout=SECONDS).decode()
+        assert printed == f"paste of {len(data)} bytes: {shown}\n"

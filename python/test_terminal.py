@@ -146,6 +146,12 @@ def test_the_last_answer_alone(ask):
     ask.assert_end(["attributes: 6", "typed: 0"])
 
 
+def test_control_characters(ask):
+    """None of an answer reaches the terminal, as one byte or in UTF-8."""
+    ask.child.send(b"\x1b]11;red\x9b1m\xc2\x9b2m\x07\x1b[?6c")
+    ask.assert_end([r"background: red\x9b1m\xc2\x9b2m", "attributes: 6", "typed: 0"])
+
+
 def test_typed_meanwhile(ask):
     ask.child.send(b"q\x1b[A" + ANSWERS[:9] + b"\x1b[I" + ANSWERS[9:])
     ask.assert_end([*LINES[:4], "typed: 3"])

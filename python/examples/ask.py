@@ -63,7 +63,8 @@ def described(event: ExtendedEvent) -> Optional[str]:
     if isinstance(event, CursorPosition):
         return f"cursor: row {event.row}, column {event.column}"
     if isinstance(event, Osc) and event.data.startswith(b"11;"):
-        return f"background: {event.data[3:].decode(errors='replace')}"
+        # A byte that isn't ASCII is printed as in \x9b, which would begin a control sequence.
+        return f"background: {event.data[3:].decode('ascii', 'backslashreplace')}"
     if isinstance(event, KeyboardFlags):
         return f"keyboard: {event.flags!r}"
     if isinstance(event, Csi) and is_attributes(event):

@@ -45,7 +45,7 @@ fn print(rt: &HostRuntime, event: InputEvent) -> io::Result<()> {
     match event {
         InputEvent::Key(key) => println!(rt; "{:?} {:?}", key.key, key.modifiers),
         InputEvent::Mouse(mouse) => println!(rt; "mouse at {}, {}", mouse.x, mouse.y),
-        InputEvent::Paste(text) => println!(rt; "pasted {}", text.as_str()),
+        InputEvent::Paste(text) => println!(rt; "pasted {:?}", text.as_str()),
         _ => Ok(()),
     }
 }
