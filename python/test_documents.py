@@ -1,9 +1,11 @@
 """What the documents and the docstrings say is so, and the types hold."""
 import doctest
 import os
+import re
 import shlex
 import shutil
 import subprocess
+from pathlib import Path
 
 import pytest
 
@@ -78,3 +80,24 @@ def test_example_in_c(tmp_path):
         pasted = b"\x1b[200~" + data + b"\x1b[201~"
         printed = subprocess.check_output([events], input=pasted, timeout=SECONDS).decode()
         assert printed == f"paste of {len(data)} bytes: {shown}\n"
+
+
+# What tells a reader or make to run commands.
+COMMANDS = (
+    ["*.md", "Makefile", "*.mk", "docs/*.md", "docs/man/*", "crates/*/README.md", "c/*", "keys/*"]
+    + ["tools/*.sh", "tools/*/*.sh", "tools/package/*", "debian/rules"]
+    + ["rust/build.rs", "rust/src/**/*.rs", "rust/examples/**/*.rs"]
+)
+
+
+def test_no_names_that_another_user_may_take():
+    """No command writes or runs a fixed name in a folder that all users share. A listing goes on
+    only if it has a folder of its own, and if its program was built there."""
+    files = {it for pattern in COMMANDS for it in Path(TOP).glob(pattern) if it.is_file()}
+    assert len(files) > 100
+    for file in files:
+        text = file.read_text(encoding="utf-8")
+        assert not re.search(r"(?<![\w.])/(var/)?tmp\b|/dev/shm|\$\{?TMPDIR", text), file
+        for listing in re.findall(r"^```sh\n(.*?)^```", text, flags=re.M | re.S):
+            if "mktemp" in listing:
+                assert all(line.endswith("&&") for line in listing.splitlines()[:-1]), file
