@@ -7,5 +7,6 @@ pub mod ListedExamples
 pub mod Streams
 pub mod Table
 pub mod WaitingKinds
+pub mod PasteParts
 pub mod Pauses
 pub mod RowsInOrder

@@ -5,6 +5,7 @@ ghost use Rattle.std.specs.Prelude.{◌≤◌};
 ghost use Rattle.termwiz_grammar.specs.Laws.{CutIndependent, EmptyIsRest, FewEvents, FewEventsInStream, MostWait, OneByOneMeans, OneMeaning, Resumes, StepsJoin, TableFacts, ThreeBeginnings, Undecided, WaitingShape};
 ghost use Rattle.termwiz_grammar.specs.Listed.{CsiUReadsBack, IsListed, ReadsBack};
 ghost use Rattle.termwiz_grammar.specs.ListedExamples.{ListedExamples};
+ghost use Rattle.termwiz_grammar.specs.PasteParts.{HeldOnce, PartsJoin};
 ghost use Rattle.termwiz_grammar.specs.Pauses.{PausesChangeNothing};
 ghost use Rattle.termwiz_grammar.specs.RowsInOrder.{RowsInOrder};
 ghost use Rattle.termwiz_grammar.specs.WaitingKinds.{FlushOfKinds, WaitingKinds};
@@ -105,6 +106,21 @@ pub fn flush_of_kinds()
 /// `flush_separates_escape` of `termwiz_laws`.
 pub fn pauses_change_nothing()
     ensures { PausesChangeNothing }
+{}
+
+/// The decided text of an open paste may be taken before more comes: all of it but the longest proper beginning of END that ends it, or else
+/// the bytes that end it and properly begin a character. START and those bytes stay.
+///
+/// If END comes, the paste that then ends is the same, but that its text goes on after what was taken: in all a paste has the same
+/// text, whether it is taken in parts or not. The events after it and the rest are the same too, and no byte of a paste becomes a key. If END
+/// doesn't come, the paste stays open.
+pub fn parts_join()
+    ensures { PartsJoin }
+{}
+
+/// What is held back of an open paste is one text, whatever is taken of it, and of at most five bytes.
+pub fn held_once()
+    ensures { HeldOnce }
 {}
 
 /// Twenty undecided bytes can stay buffered, alone and after one Escape: the longest proper beginning of a mouse report.

@@ -1,5 +1,5 @@
 //! A buffer of bytes that came and weren't used yet.
-ghost use Rattle.std.specs.Prelude.{◌≡◌, ◌≤◌, ◌++◌, ◌↔◌, [], length, drop, IsTrue, OnOk, OnErr, IsOk, Some};
+ghost use Rattle.std.specs.Prelude.{◌≡◌, ◌≤◌, ◌++◌, ◌↔◌, [], length, take, drop, IsTrue, OnOk, OnErr, IsOk, Some};
 ghost use Rattle.memchr.specs.Find.{FindsNeedle};
 
 use crate::bytes::find_from;
@@ -72,6 +72,20 @@ impl ReadBuffer {
         ensures { self.new ≡ drop len self.old }
     {
         self.front += len;
+    }
+
+    /// Takes out the bytes from the place `from` up to `to`. It asks for no memory.
+    ///
+    /// The bytes before `from` are moved up to what follows. So the call costs as much as there are bytes before `from`, however many follow.
+    pub fn cut_out(&mut self, from: usize, to: usize)
+        requires in_order { from ≤ to }
+        requires within { to ≤ length self.old }
+        ensures { self.new ≡ take from self.old ++ drop to self.old }
+    {
+        let first = self.front;
+        let count = to - from;
+        self.bytes.copy_within(first..first + from, first + count);
+        self.front = first + count;
     }
 
     // Moves the bytes to the start of the vector, which keeps its memory.

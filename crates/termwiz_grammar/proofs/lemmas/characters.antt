@@ -1,2 +1,3 @@
 pub mod CharacterPrefixes
 pub mod EndsWithinCharacter
+pub mod LossyJoins

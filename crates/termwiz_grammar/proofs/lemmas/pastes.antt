@@ -1,1 +1,3 @@
 pub mod FirstEnd
+pub mod HeldBytes
+pub mod PartsJoin

@@ -8,6 +8,7 @@ use Rattle.std.proofs.lemmas.Bool.Decides.{nat_tests}
 use Rattle.std.proofs.lemmas.Bool.{and_parts, cases_lt}
 use Rattle.std.proofs.lemmas.Str.{length-encode, len_utf8_bounds}
 use Rattle.bstr.specs.Utf8.{Decoded, decoded, decoded_by, good, second, continues, code_of_2, code_of_3, code_of_4}
+use Rattle.bstr.proofs.lemmas.PieceLemmas.{piece-bounds}
 use Rattle.bstr.proofs.lemmas.SoundLemmas.{SpellsChar-decoded}
 use Rattle.termwiz_keymap.specs.Bytes.{Begins}
 use Rattle.termwiz_grammar.specs.Grammar.{IsUnfinishedCharacter}
@@ -221,3 +222,64 @@ valid_nowhere u (suc n) none is =
     absurd
     (not_utf8 u (take (suc n) u) (λ e. omega (arith, ap length e, length-take-le (suc n) u (omega (arith, is.short))))
     (drop (suc n) u, sym (take-append-drop (suc n) u)) is.front none)
+
+-- what decodes with more than two bytes, and with more than three, and has no character without them
+lead_of_three : (n b c d e : ℕ) → 3 ≤ (decoded_by n b c d e).size → 0xE0 ≤ b
+lead_of_three n b c d e long = grind (arith, nat_tests)
+
+lead_of_four : (n b c d e : ℕ) → 4 ≤ (decoded_by n b c d e).size → 0xF0 ≤ b
+lead_of_four n b c d e long = grind (arith, nat_tests)
+
+cut_after_two : (b c : ℕ) → 0xE0 ≤ b → (decoded (b ∷ c ∷ [])).char ≡ None
+cut_after_two b c low = grind (arith, nat_tests)
+
+cut_after_three : (b c d : ℕ) → 0xF0 ≤ b → (decoded (b ∷ c ∷ d ∷ [])).char ≡ None
+cut_after_three b c d low = grind (arith, nat_tests)
+
+-- a text that decodes past its end, with the bytes that follow it, properly begins a character
+pub decodes_past : (u s : List ℕ) → u ≢ [] → length u < (decoded (u ++ s)).size → IsUnfinishedCharacter u
+decodes_past [] s some past = absurd (some refl)
+decodes_past (b ∷ []) s some past = from_one b (right_lead b s (omega arith))
+decodes_past (b ∷ c ∷ []) s some past =
+    let lead = right_lead b (c ∷ s) (omega arith) in
+    from_two b c
+    (cut_after_two b c (lead_of_three (length (b ∷ c ∷ s)) b c (slice_index (b ∷ c ∷ s) 2) (slice_index (b ∷ c ∷ s) 3) (omega arith)))
+    (lead.0, lead.1, right_second b c s (omega arith))
+decodes_past (b ∷ c ∷ d ∷ []) s some past =
+    let lead = right_lead b (c ∷ d ∷ s) (omega arith) in
+    from_three b c d
+    (cut_after_three b c d (lead_of_four (length (b ∷ c ∷ d ∷ s)) b c d (slice_index (b ∷ c ∷ d ∷ s) 3) (omega arith)))
+    (lead.0, lead.1, right_second b c (d ∷ s) (omega arith), right_third b c d s (omega arith))
+decodes_past (b ∷ c ∷ d ∷ e ∷ u) s some past =
+    absurd (omega (arith, (piece-bounds (b ∷ c ∷ d ∷ e ∷ (u ++ s)) (omega arith)).1))
+
+-- the first byte of what properly begins a character
+pub unfinished_lead : (b : ℕ) (u : List ℕ) → IsUnfinishedCharacter (b ∷ u) → 0xC2 ≤ b
+unfinished_lead b u h =
+    (right_lead b (u ++ h.tail) (omega (arith, whole_size (b ∷ u) h, longer_than (b ∷ u) h))).0
+
+-- no later byte of it is the first byte of a character
+second_low : (b c : ℕ) → second b c ≡ true → c < 0xC0
+second_low b c is = grind (arith, nat_tests)
+
+later_low : (c : ℕ) → continues c ≡ true → c < 0xC0
+later_low c is = grind (arith, nat_tests)
+
+pub no_lead_within : (b : ℕ) (t : List ℕ) (c : ℕ) (u : List ℕ) → IsUnfinishedCharacter (b ∷ (t ++ c ∷ u)) → c < 0xC0
+no_lead_within b [] c u h =
+    let long : 2 ≤ (decoded (b ∷ c ∷ (u ++ h.tail))).size = omega (arith, whole_size (b ∷ c ∷ u) h, longer_than (b ∷ c ∷ u) h) in
+    second_low b c (right_second b c (u ++ h.tail) long)
+no_lead_within b (d ∷ []) c u h =
+    let long : 3 ≤ (decoded (b ∷ d ∷ c ∷ (u ++ h.tail))).size =
+    omega (arith, whole_size (b ∷ d ∷ c ∷ u) h, longer_than (b ∷ d ∷ c ∷ u) h) in
+    later_low c (right_third b d c (u ++ h.tail) long)
+no_lead_within b (d ∷ e ∷ t) c u h =
+    absurd
+    (omega (
+      arith,
+      longer_than (b ∷ (d ∷ e ∷ t ++ c ∷ u)) h,
+      length-append t (c ∷ u),
+      ap length h.spells,
+      length-encode h.char,
+      len_utf8_bounds h.char,
+    ))
