@@ -4,3 +4,4 @@ pub mod ExtendedLaws
 pub mod ExtendedStreams
 pub mod ExtraSequences
 pub mod Forms
+pub mod ExtendedParts

@@ -3,6 +3,7 @@
 //! They speak of the definitions alone. That the parser obeys the definitions is said by its own contracts.
 ghost use Rattle.termwiz_extended_grammar.specs.ExtendedLaws.{Conservative, CutIndependent, EmptyIsRest, ExtraIsLongest, FewEvents, FewEventsInStream, FourBeginnings, OneByOneMeans, OneMeaning, Resumes, SequenceStands, StepsJoin, Undecided, WaitingShape};
 ghost use Rattle.termwiz_extended_grammar.specs.ExtendedKinds.{WaitingKinds};
+ghost use Rattle.termwiz_extended_grammar.specs.ExtendedParts.{PartsJoin};
 
 /// Each text means, under each flag, exactly one list of events and one rest.
 pub fn one_meaning()
@@ -92,4 +93,13 @@ pub fn extra_is_longest()
 /// Of the sequences of the port exactly ESC, ESC `[`, ESC `O` and ESC `P` properly begin an extra sequence.
 pub fn four_beginnings()
     ensures { FourBeginnings }
+{}
+
+/// The decided text of an open paste may be taken before more comes: all of it but the longest proper beginning of END that ends it, or else
+/// the bytes that end it and properly begin a character. START and those bytes stay.
+///
+/// If END comes, the paste that then ends is the same, but that its text goes on after what was taken. The events after it and the rest are
+/// the same too, and no byte of a paste becomes a key. If END doesn't come, the paste stays open.
+pub fn parts_join()
+    ensures { PartsJoin }
 {}

@@ -2,6 +2,7 @@ pub mod Matches
 pub mod Fronts
 pub mod Bytes
 pub mod Callbacks
+pub mod HeldLengths
 pub mod MouseReportAnswers
 pub mod PasteSearch
 pub mod Pieces
@@ -15,6 +16,7 @@ pub use Rattle.termwiz_grammar.specs.Sequences as Sequences
 pub use Rattle.termwiz_grammar.specs.Laws as Laws
 pub use Rattle.termwiz_grammar.specs.Listed as Listed
 pub use Rattle.termwiz_grammar.specs.ListedExamples as ListedExamples
+pub use Rattle.termwiz_grammar.specs.PasteParts as PasteParts
 pub use Rattle.termwiz_grammar.specs.Pauses as Pauses
 pub use Rattle.termwiz_grammar.specs.RowsInOrder as RowsInOrder
 pub use Rattle.termwiz_grammar.specs.Streams as Streams

@@ -32,7 +32,7 @@ pub fn character_at(text: &[u8]) -> Option<(char, usize)>
 
 // Whether a text that no character begins properly begins one: the text ends within it. `from_utf8` stops at such a text's
 // first byte, however long the text is.
-fn ends_within_character(text: &[u8]) -> bool
+pub(crate) fn ends_within_character(text: &[u8]) -> bool
     requires some { text.now ≢ [] }
     requires no_character { character_of text.now ≡ None }
     ensures { IsTrue result ↔ IsUnfinishedCharacter text.now }

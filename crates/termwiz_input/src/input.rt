@@ -1,5 +1,5 @@
 //! The parser: bytes of a terminal to events.
-ghost use Rattle.std.specs.Prelude.{◌≡◌, ◌≢◌, ◌++◌, ◌+◌, ◌^◌, ◌<◌, ◌≤◌, ℕ, Bool, List, [], ◌∷◌, length, drop, Contains, Some, true, false, OnErr, IfOk, IfErr, IfSome, IfNone, IsSome, IsTrue, ◌↔◌, ◌==◌, ◌⊎◌, slice_index_or, if◌then◌else◌, OnOk, IsOk, IsErrOf, vec_len, vec_capacity};
+ghost use Rattle.std.specs.Prelude.{◌≡◌, ◌≢◌, ◌++◌, ◌+◌, ◌^◌, ◌<◌, ◌≤◌, max, ℕ, Bool, List, [], ◌∷◌, length, drop, Contains, Some, true, false, OnErr, IfOk, IfErr, IfSome, IfNone, IsSome, IsTrue, ◌↔◌, ◌==◌, ◌⊎◌, slice_index_or, if◌then◌else◌, OnOk, IsOk, IsErrOf, vec_len, vec_capacity};
 ghost use Rattle.std.specs.Arc.{arc_value};
 ghost use Rattle.termwiz_keys.specs.declared.types.KeyEvent.{KeyEvent};
 ghost use Rattle.termwiz_keymap.specs.Bytes.{Begins};
@@ -7,6 +7,8 @@ ghost use Rattle.termwiz_keys.specs.Introducers.{START};
 ghost use Rattle.termwiz_grammar.specs.RowsInOrder.{AreCompletions, IsRowAt};
 ghost use Rattle.termwiz_grammar.specs.Table.{table};
 ghost use Rattle.termwiz_grammar.specs.WaitingKinds.{IsKind, IsOneOrTwoEscapes, IsOpenPaste, IsShortOrOpenPaste};
+ghost use Rattle.termwiz_grammar.specs.PasteParts.{HasPart, IsSkipped, IsTaken};
+ghost use Rattle.termwiz_input.specs.HeldLengths.{IsDecidedTo};
 ghost use Rattle.termwiz_keymap.specs.Lookup.{LookupGives, found_copied};
 ghost use Rattle.termwiz_input.specs.PasteSearch.{IsPasteSoFar};
 ghost use Rattle.termwiz_grammar.specs.Grammar.{GivesNoPaste, HasItem, HasPaste, IsRest, Steps, Means};
@@ -23,10 +25,11 @@ use crate::completions::completions_of;
 pub use crate::front::follows_escape;
 use crate::front::{AtFront, front, is_escape};
 pub use crate::head::character_at;
+use crate::held::held_len;
 pub use crate::key::{alt_key, copied, escape_key, plain_key};
 pub use crate::mouse_report::{FrontReport, mouse_report_at};
 pub use crate::paste::begins_paste;
-use crate::paste::{lacks_end, lossy_text, next_search, paste_so_far};
+use crate::paste::{PASTE_START, lacks_end, lossy_text, next_search, paste_so_far};
 use crate::printable_ascii::append_printable_ascii;
 pub use crate::printable_ascii::is_printable_ascii;
 use crate::waiting::kind_of;
@@ -319,8 +322,9 @@ impl InputParser {
     /// Ends an open paste where it is: its text so far is the event, and nothing stays buffered. `None` if no paste is open; the parser is
     /// then unchanged.
     ///
-    /// A program with a limit for pastes calls it once [`InputParser::waiting_len`] is over the limit. What the terminal still sends of the
-    /// paste arrives as typed keys. If memory for the text is refused, the parser is unchanged.
+    /// Call it at the end of the input, or to give up a paste that stalls. What the terminal still sends of the paste arrives as typed keys. So
+    /// for a paste that is too long call [`InputParser::take_paste`] or [`InputParser::skip_paste`]. If memory for the text is
+    /// refused, the parser is unchanged.
     pub fn end_paste(&mut self) -> Result<Option<InputEvent>, AllocError>
         ensures event { IfOk result (λ found. IfSome found (IsPasteSoFar self.old)) }
         ensures nothing { IfOk result (λ found. IfSome found (λ _. self.new ≡ [])) }
@@ -334,6 +338,80 @@ impl InputParser {
         };
         self.reset();
         Ok(Some(event))
+    }
+
+    // Where the decided bytes of an open paste end. `None` if no paste is open.
+    fn decided_end(&mut self) -> Option<usize>
+        ensures decided { IfSome result (IsDecidedTo self.old) }
+        ensures none { IfNone result (¬ IsOpenPaste self.old) }
+        ensures same { self.new ≡ self.old }
+    {
+        if !self.awaits_paste_end() {
+            return None;
+        }
+        let text = self.waiting_text();
+        Some(text.len() - held_len(&text[PASTE_START.len()..]))
+    }
+
+    // Drops the decided bytes of an open paste, which end there.
+    fn drop_decided(&mut self, end: usize)
+        requires { IsDecidedTo self.old end }
+        ensures { self.new ≡ START ++ drop end self.old }
+    {
+        self.buffer.cut_out(PASTE_START.len(), end);
+        self.searched = 0;
+    }
+
+    /// Takes text of an open paste before its end comes, if more than `limit` bytes of the text are buffered. `None` if fewer are, or no paste is
+    /// open; the parser is then unchanged.
+    ///
+    /// Call it after each read and its events, such as with a limit of 2^20, and handle the text as the next part of what is pasted. So a
+    /// paste of any length needs little memory: afterwards at most 11 bytes of an open paste stay buffered, or `limit` and the 6 of its start.
+    /// The paste stays open. What follows is its further text, up to the end; the [`InputEvent::Paste`] that ends it has the rest of
+    /// the text, maybe none. All parts and that rest are together the text that the event has if no part is taken (the law
+    /// `parts_join`).
+    ///
+    /// At most five bytes are held back: those that may be the beginning of the paste's end (ESC `[201~`, as in xterm's bracketed paste
+    /// mode), or else of a character. If no other bytes came, `None` is returned under any limit. If memory for the text is
+    /// refused, the parser is unchanged.
+    pub fn take_paste(&mut self, limit: usize) -> Result<Option<PastedText>, AllocError>
+        ensures part { IfOk result (λ found. IfSome found (λ text. IsTaken self.old limit text self.new)) }
+        ensures none { IfOk result (λ found. IfNone found (¬ HasPart self.old limit)) }
+        ensures none_same { IfOk result (λ found. IfNone found (self.new ≡ self.old)) }
+        ensures refused { OnErr result (HasPart self.old limit) }
+        ensures refused_same { OnErr result (self.new ≡ self.old) }
+
+        // What an open paste has buffered is bounded.
+        ensures bounded { OnOk result (IsOpenPaste self.new → length self.new ≤ 6 + max limit 5) }
+    {
+        let start = PASTE_START.len();
+        let Some(end) = self.decided_end() else {
+            return Ok(None);
+        };
+        if end == start || self.waiting_len() - start <= limit {
+            return Ok(None);
+        }
+        let text = lossy_text(self.alloc, &self.waiting_text()[start..end])?;
+        self.drop_decided(end);
+        Ok(Some(text))
+    }
+
+    /// Forgets text of an open paste before its end comes: all that [`InputParser::take_paste`] would take with a limit of 0. Returns how many
+    /// bytes these were. `None` if no paste is open; the parser is then unchanged.
+    ///
+    /// To refuse a paste that is too long, call it after each read and its events until the [`InputEvent::Paste`] comes, and ignore that event.
+    /// So no byte of the paste becomes a key. It asks for no memory, and afterwards at most 11 bytes of the paste stay buffered.
+    pub fn skip_paste(&mut self) -> Option<usize>
+        ensures skipped { IfSome result (λ count. IsSkipped self.old count self.new) }
+        ensures none { IfNone result (¬ IsOpenPaste self.old) }
+        ensures none_same { IfNone result (self.new ≡ self.old) }
+
+        // What the paste still has buffered is bounded.
+        ensures bounded { IsOpenPaste self.new → length self.new ≤ 6 + 5 }
+    {
+        let end = self.decided_end()?;
+        self.drop_decided(end);
+        Some(end - PASTE_START.len())
     }
 
     /// Forgets what stays buffered, and returns how many bytes these were. It asks for no memory and frees none.

@@ -8,9 +8,9 @@ use crate::input::{ParseError, ParseVecError, PiecesError};
 use termwiz_base::Modifiers;
 pub use termwiz_grammar::laws::{
     csi_u_read_back, cut_independent, empty_is_rest, few_events, few_events_in_stream,
-    flush_of_kinds, listed_examples, most_wait, one_by_one, one_meaning, pauses_change_nothing,
-    read_back, resumes, rows_in_order, steps_join, table_facts, three_beginnings, undecided,
-    waiting_kinds, waiting_shape,
+    flush_of_kinds, held_once, listed_examples, most_wait, one_by_one, one_meaning, parts_join,
+    pauses_change_nothing, read_back, resumes, rows_in_order, steps_join, table_facts,
+    three_beginnings, undecided, waiting_kinds, waiting_shape,
 };
 pub use termwiz_keymap::laws::{exact_stays, found_values, keys_in_order};
 use termwiz_keys::encode::KeyCodeEncodeModes;

@@ -4,6 +4,7 @@
 mod completions;
 mod front;
 mod head;
+mod held;
 pub mod input;
 mod key;
 pub mod laws;

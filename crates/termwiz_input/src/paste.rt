@@ -17,7 +17,7 @@ use termwiz_keys::types::{InputEvent, PastedText};
 // What comes before a pasted text, and after it.
 pub(crate) const PASTE_START: &[u8] = b"\x1b[200~";
 
-const PASTE_END: &[u8] = b"\x1b[201~";
+pub(crate) const PASTE_END: &[u8] = b"\x1b[201~";
 
 /// Whether a paste begins the text.
 pub fn begins_paste(text: &[u8]) -> bool

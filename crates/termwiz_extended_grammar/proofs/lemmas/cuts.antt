@@ -3,3 +3,4 @@ pub mod ExtendedCuts
 pub mod ExtendedStreams
 pub mod SequencesStand
 pub mod SameAsPort
+pub mod PartsOfPastes

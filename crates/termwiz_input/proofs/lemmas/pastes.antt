@@ -1,2 +1,3 @@
 pub mod EndSearch
 pub mod SearchResumes
+pub mod HeldBack

@@ -19,7 +19,7 @@ use Rattle.termwiz_grammar.proofs.lemmas.waiting.RestShape.{endless_rests, one_m
 use Rattle.termwiz_grammar.proofs.lemmas.pastes.HeldBytes.{ComesAfter, comes_after, no_end_left}
 
 -- a text that START begins isn't open
-start_closed : (s : List ℕ) (f : Bool) → Begins START s → IsOpen s f → ⊥
+pub start_closed : (s : List ℕ) (f : Bool) → Begins START s → IsOpen s f → ⊥
 start_closed s f (rest, e) opens = ⊎_elim
     (λ (h : IsUnfinishedSequence s). append-some rest h.tail h.longer
     (start_ends (rest ++ h.tail) h.meaning (subst (λ x. IsSequence (x ++ h.tail) h.meaning) e h.is_sequence)))

@@ -144,6 +144,11 @@ character_finished u c b h =
     ∙ sym (append-nil (encode_utf8 h.char)) in
     append-some b.0 h.tail h.longer (encode_same c h.char (b.0 ++ h.tail) [] whole).1
 
+-- so where a character is found, the text properly begins none
+pub found_finished : (u : List ℕ) (found : Option (ℕ × ℕ)) → is_some found ≡ true → found ≡ character_of u → ¬ IsUnfinishedCharacter u
+found_finished u None some e h = absurd (cc (some))
+found_finished u (Some c) some e h = character_finished u c.0 (spelled u c.0 c.1 (sym e)).2 h
+
 -- a text isn't open that properly begins neither a sequence nor a character
 closed_by : (u : List ℕ) (more : Bool) → (more ≡ true → ¬ IsUnfinishedSequence u)
     → (more ≡ true → ¬ IsUnfinishedCharacter u) → ¬ IsOpen u more

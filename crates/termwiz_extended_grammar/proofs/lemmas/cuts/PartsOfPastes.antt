@@ -1,0 +1,196 @@
+-- What is decided of an open paste may be taken before more comes, to the extended parser too.
+use Rattle.std.proofs.Common.{◌≡◌, ⊎_elim, ℕ, Bool, List, [], ◌∷◌, ◌++◌, length, refl, sym, ap, ◌∙◌, subst, arith}
+use Rattle.std.specs.Prelude.{codes}
+use Rattle.std.specs.List.{AllByRecursion}
+use Rattle.std.specs.Str.Lossy.{utf8_lossy}
+use Rattle.std.proofs.lemmas.List.{append_cancel_left}
+use Rattle.termwiz_keymap.specs.Bytes.{Begins, Occurs}
+use Rattle.termwiz_keymap.proofs.lemmas.lists.CommonPrefixes.{Overlaps, overlap, append-some}
+use Rattle.termwiz_keymap.proofs.lemmas.lists.CommonPrefixes.Overlaps.{within, past}
+use Rattle.termwiz_keys.specs.Introducers.{ESC, START, END}
+use Rattle.termwiz_keys.specs.declared.types.InputEvent.TheVariants.{Paste}
+use Rattle.termwiz_grammar.specs.Sequences.Meaning.{Row}
+use Rattle.termwiz_grammar.specs.Grammar.{EndsFirst, IsUnfinishedSequence, IsUnfinishedCharacter}
+use Rattle.termwiz_grammar.proofs.lemmas.table.RowShape.{Bytes}
+use Rattle.termwiz_grammar.proofs.lemmas.table.RowShape.Bytes.{one, more}
+use Rattle.termwiz_grammar.proofs.lemmas.table.SequenceFacts.{sequence_bytes, start, start_is_sequence}
+use Rattle.termwiz_grammar.proofs.lemmas.characters.CharacterPrefixes.{IsHigh, unfinished_high}
+use Rattle.termwiz_grammar.proofs.lemmas.items.OneItem.{start_head}
+use Rattle.termwiz_grammar.proofs.lemmas.waiting.RestShape.{endless_rests}
+use Rattle.termwiz_grammar.proofs.lemmas.pastes.HeldBytes.{ComesAfter, comes_after, no_end_left}
+use Rattle.termwiz_grammar.proofs.lemmas.pastes.PartsJoin.{paste_stands, start_closed}
+use Rattle.termwiz_extended_events.specs.declared.types.ExtendedEvent.{ExtendedEvent}
+use Rattle.termwiz_extended_events.specs.declared.types.ExtendedEvent.TheVariants.{Input, Csi}
+use Rattle.termwiz_extended_events.specs.declared.types.Protocol.{Protocol}
+use Rattle.termwiz_extended_events.specs.declared.types.Protocol.TheVariants.{Legacy, Kitty}
+use Rattle.termwiz_extended_events.specs.Meanings.{event_of, IsKeyOrPosition}
+use Rattle.termwiz_extended_events.proofs.Examples.{written_out}
+use Rattle.termwiz_extended_grammar.specs.Forms.{IsForm}
+use Rattle.termwiz_extended_grammar.specs.ExtraSequences.{IsExtra, StartsWithExtra, IsUnfinishedExtra}
+use Rattle.termwiz_extended_grammar.specs.ExtendedGrammar.{IsRest, IsUsual, Means, Stands, Steps}
+use Rattle.termwiz_extended_grammar.specs.ExtendedGrammar.Stands.{extra, lone_escape, usual}
+use Rattle.termwiz_extended_grammar.specs.ExtendedParts.{JoinsAtEnd, PartsJoin, StayOpen}
+use Rattle.termwiz_extended_grammar.proofs.lemmas.forms.ExtraFacts.{start_form}
+use Rattle.termwiz_extended_grammar.proofs.lemmas.forms.FormBytes.{form_shape}
+use Rattle.termwiz_extended_grammar.proofs.lemmas.forms.FormEnds.{form_ends, start_no_form}
+use Rattle.termwiz_extended_grammar.proofs.lemmas.items.ExtendedItems.{stands_once, starts_shape}
+use Rattle.termwiz_extended_grammar.proofs.lemmas.items.ExtendedRests.{one_meaning}
+
+-- the start of a paste reports no key and no position
+start_means : event_of START ≡ Csi (codes "200~")
+unfolding written_out
+start_means = refl
+
+start_not_extra : (protocol : Protocol) (event : ExtendedEvent) → IsExtra protocol START event → ⊥
+start_not_extra Legacy event is = is.is_free (Row start) start_is_sequence
+start_not_extra Kitty event is = subst IsKeyOrPosition start_means (is.is_free (Row start) start_is_sequence).2
+
+-- so no extra sequence begins a text that START begins
+no_extra : (protocol : Protocol) (u : List ℕ) → Begins START u → StartsWithExtra protocol u → ⊥
+no_extra protocol u b h = go (overlap START b.0 h.text h.begins.0 (sym h.begins.1 ∙ b.1))
+  where
+    go : Overlaps START b.0 h.text h.begins.0 → ⊥
+    go (within t e f) =
+        let none : t ≡ [] = start_no_form t (subst (λ x. IsForm x) e h.is_extra.is_form) in
+        let same : h.text ≡ START = e ∙ ap (λ x. START ++ x) none in
+        start_not_extra protocol h.event (subst (λ x. IsExtra protocol x h.event) same h.is_extra)
+    go (past t longer e f) = longer (form_ends h.text t h.is_extra.is_form (subst (λ x. IsForm x) e start_form))
+
+usual_start : (protocol : Protocol) (u : List ℕ) (f : Bool) → Begins START u → IsUsual protocol u f
+usual_start protocol u f b = record {
+  none = no_extra protocol u b;
+  closed = λ h. ⊎_elim
+      (λ port. start_closed u f b (record { more_comes = h.more_comes; some = h.some; beginning = port }))
+      (λ (extra : IsUnfinishedExtra protocol u).
+      append-some b.0 extra.tail extra.longer
+      (start_no_form (b.0 ++ extra.tail) (subst (λ x. IsForm (x ++ extra.tail)) b.1 extra.is_extra.is_form)))
+      h.beginning;
+}
+
+-- nor what follows its ESC
+module _ (protocol : Protocol) (u v : List ℕ) (b : Begins START u) (split : u ≡ ESC ++ v) where
+  bracket : v ≡ 91 ∷ (codes "200~" ++ b.0)
+  bracket = cc (split, b.1)
+
+  no_sequence : IsUnfinishedSequence v → ⊥
+  no_sequence h = go (sequence_bytes (v ++ h.tail) h.meaning h.is_sequence)
+    where
+      all : v ++ h.tail ≡ 91 ∷ (codes "200~" ++ b.0 ++ h.tail)
+      all = ap (λ x. x ++ h.tail) bracket
+
+      go : Bytes (v ++ h.tail) → ⊥
+      go (one x l e) = omega (arith, ap length e, ap length all)
+      go (more s n e p) = let first : ◌≡◌ {A = ℕ} 27 91 = cc (e, all) in omega arith
+
+  no_character : IsUnfinishedCharacter v → ⊥
+  no_character h =
+      let high : IsHigh 91 = (subst (AllByRecursion IsHigh) bracket (unfinished_high v (λ e. cc (e, bracket)) h)).0 in
+      omega (arith, high.0)
+
+  no_form : IsUnfinishedExtra protocol v → ⊥
+  no_form h =
+      let shape = form_shape (v ++ h.tail) h.is_extra.is_form in
+      let first : ◌≡◌ {A = ℕ} 27 91 = cc (shape.2, ap (λ x. x ++ h.tail) bracket) in omega arith
+
+  usual_after : (f : Bool) → IsUsual protocol v f
+  usual_after f = record {
+    none = λ h. let first : ◌≡◌ {A = ℕ} 27 91 = cc ((starts_shape protocol v h).2, bracket) in omega arith;
+    closed = λ h. ⊎_elim (λ port. ⊎_elim no_sequence no_character port) no_form h.beginning;
+  }
+
+-- a paste with its end stands
+stands : (protocol : Protocol) (body rest : List ℕ) (f : Bool) → EndsFirst body
+    → Stands protocol (START ++ (body ++ END ++ rest)) f (START ++ body ++ END) (Input (Paste (utf8_lossy body)))
+stands protocol body rest f first =
+    let u : List ℕ = START ++ (body ++ END ++ rest) in
+    let b : Begins START u = (body ++ END ++ rest, refl) in
+    usual (START ++ body ++ END) (Paste (utf8_lossy body)) (paste_stands body rest f first) (usual_start protocol u f b)
+    (λ v split. usual_after protocol u v b split f)
+
+paste_then : (protocol : Protocol) (body rest W : List ℕ) (E : List ExtendedEvent) (f : Bool) → EndsFirst body → Means protocol rest f E W
+    → Means protocol (START ++ (body ++ END ++ rest)) f (Input (Paste (utf8_lossy body)) ∷ E) W
+paste_then protocol body rest W E f first means = record {
+  steps = (START ++ body ++ END, rest, stands protocol body rest f first, refl, means.steps);
+  rest = means.rest;
+}
+
+-- and is the first event
+paste_first : (protocol : Protocol) (body rest W : List ℕ) (e : ExtendedEvent) (E : List ExtendedEvent) (f : Bool) → EndsFirst body
+    → Means protocol (START ++ (body ++ END ++ rest)) f (e ∷ E) W
+    → (e ≡ Input (Paste (utf8_lossy body))) × Means protocol rest f E W
+paste_first protocol body rest W e E f first means = go means.steps
+  where
+    go : (bytes left : List ℕ) × Stands protocol (START ++ (body ++ END ++ rest)) f bytes e
+        × (START ++ (body ++ END ++ rest) ≡ bytes ++ left) × Steps protocol left f E W
+        → (e ≡ Input (Paste (utf8_lossy body))) × Means protocol rest f E W
+    go (bytes, left, here, splits, steps) =
+        let once = stands_once protocol (START ++ (body ++ END ++ rest)) f bytes (START ++ body ++ END) e (Input (Paste (utf8_lossy body))) here
+        (stands protocol body rest f first) in
+        let same : left ≡ rest = append_cancel_left (START ++ body ++ END) left rest
+        (ap (λ x. x ++ left) (sym once.0) ∙ sym splits) in
+        (once.1, record { steps = subst (λ x. Steps protocol x f E W) same steps; rest = means.rest })
+
+-- nothing stands at an open paste
+open_rests : (protocol : Protocol) (body : List ℕ) (f : Bool) → ¬ Occurs END body → IsRest protocol (START ++ body) f
+open_rests protocol body f free bytes event (extra text e is b) =
+    no_extra protocol (START ++ body) (body, refl) (record { text = text; event = e; is_extra = is; begins = b })
+open_rests protocol body f free bytes event (lone_escape v split after) =
+    (usual_after protocol (START ++ body) v (body, refl) split f).none after
+open_rests protocol body f free bytes event (usual s e here is gap) =
+    endless_rests (START ++ body) f start (start_head (START ++ body) (body, refl)) body refl free s e here
+
+open_means : (protocol : Protocol) (body : List ℕ) (f : Bool) → ¬ Occurs END body → Means protocol (START ++ body) f [] (START ++ body)
+open_means protocol body f free = record { steps = refl; rest = open_rests protocol body f free }
+
+pub parts_join : PartsJoin
+parts_join protocol u decided held c f parted =
+    (λ there. at_end (comes_after decided held c parted.endless parted.is_held there), λ free. none free)
+  where
+    whole : u ++ c ≡ START ++ (decided ++ held ++ c)
+    whole = ap (λ x. x ++ c) parted.splits
+
+    none : ¬ Occurs END (decided ++ held ++ c) → StayOpen protocol (u ++ c) (START ++ held ++ c) f
+    none free = record {
+      whole_waits = subst (λ x. Means protocol x f [] x) (sym whole) (open_means protocol (decided ++ held ++ c) f free);
+      left_waits = open_means protocol (held ++ c) f (no_end_left decided held c free);
+      whole_open = record { body = decided ++ held ++ c; splits = whole; endless = free };
+      left_open = record { body = held ++ c; splits = refl; endless = no_end_left decided held c free };
+    }
+
+    at_end : ComesAfter decided held c → JoinsAtEnd protocol (u ++ c) (START ++ held ++ c) (utf8_lossy decided) f
+    at_end at = (λ s E R. (forth s E R, back s E R), some)
+      where
+        here : u ++ c ≡ START ++ (decided ++ at.inner ++ END ++ at.rest)
+        here = whole ∙ ap (λ x. START ++ x) at.whole_splits
+
+        left : START ++ held ++ c ≡ START ++ (at.inner ++ END ++ at.rest)
+        left = ap (λ x. START ++ x) at.left_splits
+
+        then : (R : List ℕ) (E : List ExtendedEvent) → Means protocol at.rest f E R
+            → Means protocol (START ++ held ++ c) f (Input (Paste (utf8_lossy at.inner)) ∷ E) R
+        then R E means = subst (λ x. Means protocol x f (Input (Paste (utf8_lossy at.inner)) ∷ E) R) (sym left)
+            (paste_then protocol at.inner at.rest R E f at.left_first means)
+
+        forth : (s : List ℕ) (E : List ExtendedEvent) (R : List ℕ) → Means protocol (u ++ c) f (Input (Paste s) ∷ E) R
+            → (later : List ℕ) × (s ≡ utf8_lossy decided ++ later) × Means protocol (START ++ held ++ c) f (Input (Paste later) ∷ E) R
+        forth s E R means =
+            let got = paste_first protocol (decided ++ at.inner) at.rest R (Input (Paste s)) E f at.whole_first
+            (subst (λ x. Means protocol x f (Input (Paste s) ∷ E) R) here means) in
+            let text : s ≡ utf8_lossy (decided ++ at.inner) = cc (got.0) in
+            (utf8_lossy at.inner, text ∙ at.text, then R E got.1)
+
+        back : (s : List ℕ) (E : List ExtendedEvent) (R : List ℕ)
+            → ((later : List ℕ) × (s ≡ utf8_lossy decided ++ later) × Means protocol (START ++ held ++ c) f (Input (Paste later) ∷ E) R)
+            → Means protocol (u ++ c) f (Input (Paste s) ∷ E) R
+        back s E R (later, text, means) =
+            let got = paste_first protocol at.inner at.rest R (Input (Paste later)) E f at.left_first
+            (subst (λ x. Means protocol x f (Input (Paste later) ∷ E) R) left means) in
+            let same : later ≡ utf8_lossy at.inner = cc (got.0) in
+            let all : s ≡ utf8_lossy (decided ++ at.inner) = text ∙ ap (λ x. utf8_lossy decided ++ x) same ∙ sym at.text in
+            subst (λ x. Means protocol x f (Input (Paste s) ∷ E) R) (sym here)
+            (subst (λ x. Means protocol (START ++ (decided ++ at.inner ++ END ++ at.rest)) f (Input (Paste x) ∷ E) R) (sym all)
+            (paste_then protocol (decided ++ at.inner) at.rest R E f at.whole_first got.1))
+
+        some : (later : List ℕ) × (E : List ExtendedEvent) × (R : List ℕ)
+            × Means protocol (START ++ held ++ c) f (Input (Paste later) ∷ E) R
+        some = (let m = one_meaning protocol at.rest f in (utf8_lossy at.inner, m.0, m.1, then m.1 m.0 m.2))
