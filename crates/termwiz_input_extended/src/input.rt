@@ -1,8 +1,9 @@
 //! The extended parser.
-ghost use Rattle.std.specs.Prelude.{◌≡◌, ◌≢◌, ◌++◌, ◌+◌, ◌≤◌, ◌<◌, ℕ, Bool, List, [], ◌∷◌, length, drop, true, false, OnErr, IfOk, IfErr, IfSome, IfNone, IsSome, IsTrue, ◌↔◌, ◌⊎◌, OnOk, IsOk, IsErrOf, vec_len, vec_capacity};
+ghost use Rattle.std.specs.Prelude.{◌≡◌, ◌≢◌, ◌++◌, ◌+◌, ◌≤◌, ◌<◌, max, ℕ, Bool, List, [], ◌∷◌, length, drop, true, false, OnErr, IfOk, IfErr, IfSome, IfNone, IsSome, IsTrue, ◌↔◌, ◌⊎◌, OnOk, IsOk, IsErrOf, vec_len, vec_capacity};
 ghost use Rattle.termwiz_keymap.specs.Bytes.{Begins};
 ghost use Rattle.termwiz_keys.specs.Introducers.{START};
 ghost use Rattle.termwiz_keys.specs.declared.types.InputEvent.TheVariants as Port;
+ghost use Rattle.termwiz_grammar.specs.PasteParts.{HasPart, IsSkipped, IsTaken};
 ghost use Rattle.termwiz_grammar.specs.WaitingKinds.{IsOneOrTwoEscapes, IsOpenPaste};
 ghost use Rattle.termwiz_extended_events.specs.declared.types.ExtendedEvent.{ExtendedEvent as Event};
 ghost use Rattle.termwiz_extended_grammar.specs.ExtendedGrammar.{HasItem, IsRest, Means, Steps};
@@ -19,7 +20,8 @@ use termwiz_extended_events::meanings::meaning_of;
 use termwiz_extended_events::types::{ExtendedEvent, Protocol};
 pub use termwiz_input::input::{ParseError, Waiting};
 use termwiz_input::input::{
-    InputEvent, InputParser, KeyEvent, MouseEvent, alt_key, copied, escape_key, plain_key,
+    InputEvent, InputParser, KeyEvent, MouseEvent, PastedText, alt_key, copied, escape_key,
+    plain_key,
 };
 
 /// A call of [`ExtendedParser::parse_as_vec`] was refused memory. No event is lost: the parser has consumed exactly what `events` came from,
@@ -358,8 +360,9 @@ impl ExtendedParser {
     /// Ends an open paste where it is: its text so far is the event, and nothing stays buffered. `None` if no paste is open; the parser is
     /// then unchanged.
     ///
-    /// A program with a limit for pastes calls it once [`ExtendedParser::waiting_len`] is over the limit. What the terminal still sends of
-    /// the paste arrives as typed keys. If memory for the text is refused, the parser is unchanged.
+    /// Call it at the end of the input, or to give up a paste that stalls. What the terminal still sends of the paste arrives as typed keys. So
+    /// for a paste that is too long call [`ExtendedParser::take_paste`] or [`ExtendedParser::skip_paste`]. If memory for the text is
+    /// refused, the parser is unchanged.
     pub fn end_paste(&mut self) -> Result<Option<ExtendedEvent>, AllocError>
         ensures event { IfOk result (λ found. IfSome found (IsPasteEvent self.old.text)) }
         ensures nothing { IfOk result (λ found. IfSome found (λ _. self.new.text ≡ [])) }
@@ -375,6 +378,56 @@ impl ExtendedParser {
                 Ok(Some(ExtendedEvent::Input(event)))
             }
             None => Ok(None),
+        }
+    }
+
+    /// Takes text of an open paste before its end comes, if more than `limit` bytes of the text are buffered. `None` if fewer are, or no paste is
+    /// open; the parser is then unchanged.
+    ///
+    /// Call it after each read and its events, as [`InputParser::take_paste`], such as with a limit of 2^20: the text is the next part of what
+    /// is pasted. The paste stays open, and the [`InputEvent::Paste`] that ends it has the rest of its text, maybe none. At most five bytes are
+    /// held back, that may be the beginning of the paste's end or of a character. If memory for the text is refused, the parser is
+    /// unchanged.
+    pub fn take_paste(&mut self, limit: usize) -> Result<Option<PastedText>, AllocError>
+        ensures part { IfOk result (λ found. IfSome found (λ text. IsTaken self.old.text limit text self.new.text)) }
+        ensures protocol { self.new.protocol ≡ self.old.protocol }
+        ensures none { IfOk result (λ found. IfNone found (¬ HasPart self.old.text limit)) }
+        ensures none_same { IfOk result (λ found. IfNone found (self.new ≡ self.old)) }
+        ensures refused { OnErr result (HasPart self.old.text limit) }
+        ensures refused_same { OnErr result (self.new ≡ self.old) }
+
+        // What an open paste has buffered is bounded.
+        ensures bounded { OnOk result (IsOpenPaste self.new.text → length self.new.text ≤ 6 + max limit 5) }
+    {
+        match self.parser.take_paste(limit)? {
+            Some(text) => {
+                self.scanned = 0;
+                Ok(Some(text))
+            }
+            None => Ok(None),
+        }
+    }
+
+    /// Forgets text of an open paste before its end comes: all that [`ExtendedParser::take_paste`] would take with a limit of 0. Returns how many
+    /// bytes these were. `None` if no paste is open; the parser is then unchanged.
+    ///
+    /// To refuse a paste that is too long, call it after each read and its events until the [`InputEvent::Paste`] comes, and ignore that event.
+    /// So no byte of the paste becomes a key. It asks for no memory, and afterwards at most 11 bytes of the paste stay buffered.
+    pub fn skip_paste(&mut self) -> Option<usize>
+        ensures skipped { IfSome result (λ count. IsSkipped self.old.text count self.new.text) }
+        ensures protocol { self.new.protocol ≡ self.old.protocol }
+        ensures none { IfNone result (¬ IsOpenPaste self.old.text) }
+        ensures none_same { IfNone result (self.new ≡ self.old) }
+
+        // What the paste still has buffered is bounded.
+        ensures bounded { IsOpenPaste self.new.text → length self.new.text ≤ 6 + 5 }
+    {
+        match self.parser.skip_paste() {
+            Some(count) => {
+                self.scanned = 0;
+                Some(count)
+            }
+            None => None,
         }
     }
 

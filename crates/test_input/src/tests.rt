@@ -3,6 +3,7 @@ mod extended;
 mod keymap;
 mod keys;
 mod long;
+mod parts;
 mod pieces;
 mod pulled;
 mod rows;
