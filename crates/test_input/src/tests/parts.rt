@@ -49,7 +49,13 @@ fn check_skipped(rt: &impl Abort, alloc: Global, parser: &mut InputParser) -> Re
     assert!(rt; parser.skip_paste() == Some(2));
     parser.feed(b"\xe2")?;
     assert!(rt; parser.skip_paste() == Some(4));
-    check_paste(rt, alloc, parser, Calls::Event, (b"\xef\xbf\xbd", b"\x1b[201~"))
+    check_paste(
+        rt,
+        alloc,
+        parser,
+        Calls::Event,
+        (b"\xef\xbf\xbd", b"\x1b[201~"),
+    )
 }
 
 #[test]
