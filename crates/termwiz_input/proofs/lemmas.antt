@@ -3,3 +3,4 @@ pub mod items
 pub mod mouse
 pub mod pastes
 pub mod pieces
+pub mod time

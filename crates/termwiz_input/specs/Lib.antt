@@ -9,6 +9,9 @@ pub mod Pieces
 pub mod PrintableAscii
 pub mod Promise
 pub mod RefusalEquality
+pub mod Time
+pub mod TimeExamples
+pub mod TimeLaws
 pub mod WaitingBytes
 pub use Rattle.termwiz_grammar.specs.MouseReports as MouseReports
 pub use Rattle.termwiz_grammar.specs.Grammar as Grammar

@@ -1,8 +1,10 @@
-//! The laws of the parser's errors, and by `pub use` those of the layers below: of the grammar, of the key map and of the types' values.
+//! The laws of timers and of the parser's errors, and by `pub use` those of the layers below: of the grammar, of the key map and of the types' values.
 ghost use Rattle.termwiz_base.specs.Laws.{AlwaysCloned, ClonesEqual, TellsEqual};
 ghost use Rattle.termwiz_grammar.specs.Listed.{IsListed};
 ghost use Rattle.termwiz_input.specs.Promise.{IsReadFromPieces};
 ghost use Rattle.termwiz_input.specs.RefusalEquality.{TellsEqualRefusals};
+ghost use Rattle.termwiz_input.specs.TimeExamples.{UsualTimes};
+ghost use Rattle.termwiz_input.specs.TimeLaws.{ClockStands, DueWithinLimit, Exact, HeldKey, IdleNotes, NotEarly, StepsOfClock};
 
 use crate::input::{ParseError, ParseVecError, PiecesError};
 use termwiz_base::Modifiers;
@@ -39,4 +41,38 @@ pub fn error_clones()
     ensures parse_succeeds { AlwaysCloned ⟦<ParseError as Clone>⟧.is_infallible }
     ensures pieces { ClonesEqual ⟦<PiecesError as Clone>⟧.is_clone }
     ensures pieces_succeed { AlwaysCloned ⟦<PiecesError as Clone>⟧.is_infallible }
+{}
+
+/// Nothing is due early. Say that the age that is limited began at a note: `Last` if bytes had been fed, `Front` if an event had been taken
+/// or if nothing was buffered before, and both at a timer's first note. Whatever is noted after it, at whatever times: if what is buffered is
+/// due, the steps forward of the clock since that note are no less than the limit. A step back counts nothing.
+pub fn timers_not_early()
+    ensures { NotEarly }
+{}
+
+/// What `Timer::next_timeout` answers is exact. If that is d at a time that isn't before the last note, what is buffered is due d later and at
+/// no time in between (`exact`). That stays so if it is noted in between that nothing happened (`idle`).
+pub fn timers_exact()
+    ensures exact { Exact }
+    ensures idle { IdleNotes }
+{}
+
+/// Bytes that bring no event don't put off what is limited by the age `Front`, as a key that is held down sends them. Of such bytes
+/// alone: what is buffered is due if and only if the clock's steps forward since its first byte are no less than its present limit (`due`).
+/// If the clock never stepped back, these are the time that passed (`in_order`).
+pub fn held_key()
+    ensures due { HeldKey }
+    ensures in_order { StepsOfClock }
+{}
+
+/// The clock may be any clock. What is buffered is due one limit after the last note at the latest, whatever times were noted before it
+/// (`within_limit`). While the clock stands, or has stepped back, nothing is due that wasn't at the last note (`stands`).
+pub fn any_clock()
+    ensures within_limit { DueWithinLimit }
+    ensures stands { ClockStands }
+{}
+
+/// What comes at which times, and when it is due under the usual policy: examples of each kind.
+pub fn usual_times()
+    ensures { UsualTimes }
 {}

@@ -11,6 +11,7 @@ pub mod laws;
 mod mouse_report;
 mod paste;
 mod printable_ascii;
+pub mod time;
 mod waiting;
 
 pub use termwiz_keymap::{keymap, readbuf};

@@ -1,0 +1,214 @@
+//! How long bytes may stay buffered: limits in time, and a timer that is told what time it is.
+//!
+//! A program waits for bytes no longer than [`Timer::next_timeout`] says. If bytes come, it reads them; else it asks [`Timer::is_due`], and flushes
+//! what is buffered if it is due. It calls [`Timer::note`] after each read and its events, after each flush, and before it asks.
+//!
+//! Times are in milliseconds, from a clock of the caller's. Nothing here reads a clock, waits or needs memory.
+ghost use Rattle.std.specs.Prelude.{◌≡◌, ◌↔◌, IsTrue};
+ghost use Rattle.termwiz_input.specs.Time.{IsDue, age_at, limit_of_kind, limit_of_string, new_timer, noted, time_left, usual};
+
+use termwiz_grammar::waiting::Waiting;
+
+/// One of the two ages of what is buffered. Ages grow by the clock's steps forward alone.
+#[derive(Clone, Copy, PartialEq, Eq, Debug)]
+pub enum Age {
+    /// How long ago bytes last came.
+    Last,
+    /// How long ago the first buffered byte came to the front: since it came, or since the event before it.
+    Front,
+}
+
+/// How long what is buffered may wait.
+#[derive(Clone, Copy, PartialEq, Eq, Debug)]
+pub struct Limit {
+    /// So many milliseconds; `None` is forever.
+    pub millis: Option<u64>,
+    /// The age that is limited.
+    pub by: Age,
+}
+
+/// How long each kind of bytes may wait, in milliseconds. `None` is forever.
+#[derive(Clone, Copy, PartialEq, Eq, Debug)]
+pub struct Policy {
+    /// ESC or ESC ESC, since its last byte.
+    pub escape: Option<u32>,
+    /// ESC and one byte that may begin a sequence, since the ESC. Unless more follows, it is the byte's key with ALT.
+    pub alt_key: Option<u32>,
+    /// A longer prefix of a sequence, since its first byte.
+    pub sequence: Option<u32>,
+    /// A string without its end, since its first byte; one millisecond is added for each byte that is buffered.
+    pub string: Option<u32>,
+    /// A prefix of a character, since its first byte.
+    pub character: Option<u32>,
+    /// An open paste, since bytes last came.
+    pub paste: Option<u32>,
+}
+
+// The same number of milliseconds.
+fn in_millis(limit: Option<u32>) -> Option<u64>
+    ensures { result ≡ limit }
+{
+    match limit {
+        Some(millis) => Some(u64::from(millis)),
+        None => None,
+    }
+}
+
+impl Policy {
+    /// The usual limits: 50 ms for an Escape, 100 ms for ESC and one byte, 1000 ms for a longer prefix of a sequence, and 5000 ms for a
+    /// string. A character and a paste wait forever.
+    pub fn usual() -> Policy
+        ensures { result ≡ usual }
+    {
+        Policy {
+            escape: Some(50),
+            alt_key: Some(100),
+            sequence: Some(1000),
+            string: Some(5000),
+            character: None,
+            paste: None,
+        }
+    }
+
+    /// The limit of so many buffered bytes of this kind.
+    ///
+    /// Pass the answers of [`InputParser::waiting`](crate::input::InputParser::waiting) and
+    /// [`InputParser::waiting_len`](crate::input::InputParser::waiting_len).
+    pub fn limit(&self, waiting: Waiting, len: usize) -> Limit
+        ensures { result ≡ limit_of_kind self.now waiting len }
+    {
+        match waiting {
+            Waiting::Nothing => Limit {
+                millis: None,
+                by: Age::Last,
+            },
+            Waiting::Escape => Limit {
+                millis: in_millis(self.escape),
+                by: Age::Last,
+            },
+            Waiting::Sequence => Limit {
+                millis: in_millis(if len == 2 {
+                    self.alt_key
+                } else {
+                    self.sequence
+                }),
+                by: Age::Front,
+            },
+            Waiting::Character => Limit {
+                millis: in_millis(self.character),
+                by: Age::Front,
+            },
+            Waiting::Paste => Limit {
+                millis: in_millis(self.paste),
+                by: Age::Last,
+            },
+        }
+    }
+
+    /// The limit of a string without its end, of which so many bytes are buffered. Only the extended parser has strings.
+    pub fn string_limit(&self, len: usize) -> Limit
+        ensures { result ≡ limit_of_string self.now len }
+    {
+        Limit {
+            millis: match self.string {
+                Some(millis) => Some(u64::from(millis).saturating_add(len as u64)),
+                None => None,
+            },
+            by: Age::Front,
+        }
+    }
+}
+
+/// What a program tells a timer: what is buffered now, and what happened since the last note.
+#[derive(Clone, Copy, PartialEq, Eq, Debug)]
+pub struct Seen {
+    /// The limit of what is buffered now.
+    pub limit: Limit,
+    /// Whether bytes were fed since the last note.
+    pub fed: bool,
+    /// Whether an event was taken since the last note.
+    pub taken: bool,
+    /// Whether nothing is buffered now.
+    pub empty: bool,
+}
+
+/// Knows how old the buffered bytes are, and when they are due to be flushed.
+///
+/// It is a value: it may be copied, and calls depend on what it was told alone. Contracts see its fields.
+#[derive(Clone, Copy, PartialEq, Eq, Debug)]
+pub struct Timer {
+    // The two ages at the last note.
+    last: u64,
+    front: u64,
+    // The time of the last note; none before the first.
+    noted: Option<u64>,
+    // What the last note said of the buffered bytes.
+    limit: Limit,
+    empty: bool,
+}
+
+impl Timer {
+    /// A timer of a parser with nothing buffered. Its clock begins at the first note.
+    pub fn new() -> Timer
+        ensures { result ≡ new_timer }
+    {
+        Timer {
+            last: 0,
+            front: 0,
+            noted: None,
+            limit: Limit {
+                millis: None,
+                by: Age::Last,
+            },
+            empty: true,
+        }
+    }
+
+    // An age at a time.
+    fn age(&self, by: Age, now: u64) -> u64
+        ensures { result ≡ age_at self.now by now }
+    {
+        let age = match by {
+            Age::Last => self.last,
+            Age::Front => self.front,
+        };
+        let step = match self.noted {
+            Some(noted) => now.saturating_sub(noted),
+            None => 0,
+        };
+        age.saturating_add(step)
+    }
+
+    /// Tells the timer the time and what is buffered. Both ages grow by the time since the last note, if the clock went forward. Then the age
+    /// `Last` is 0 if bytes were fed, and `Front` if an event was taken, or if nothing was buffered at the last note.
+    pub fn note(&mut self, now: u64, seen: Seen)
+        ensures { self.new ≡ noted self.old now seen }
+    {
+        let last = self.age(Age::Last, now);
+        let front = self.age(Age::Front, now);
+        *self = Timer {
+            last: if seen.fed { 0 } else { last },
+            front: if seen.taken || self.empty { 0 } else { front },
+            noted: Some(now),
+            limit: seen.limit,
+            empty: seen.empty,
+        };
+    }
+
+    /// How many milliseconds after `now` what is buffered is due, if it is noted no more. 0 if it is due; `None` if it has no limit.
+    pub fn next_timeout(&self, now: u64) -> Option<u64>
+        ensures { result ≡ time_left self.now now }
+    {
+        match self.limit.millis {
+            Some(millis) => Some(millis.saturating_sub(self.age(self.limit.by, now))),
+            None => None,
+        }
+    }
+
+    /// Whether what is buffered is due to be flushed: its age has reached its limit.
+    pub fn is_due(&self, now: u64) -> bool
+        ensures { IsTrue result ↔ IsDue self.now now }
+    {
+        self.next_timeout(now) == Some(0)
+    }
+}
