@@ -1,4 +1,6 @@
 pub mod Matches
+pub mod Expiry
+pub mod ExpiryLaws
 pub mod Fronts
 pub mod Bytes
 pub mod Callbacks

@@ -51,6 +51,10 @@ pub record IsNotedBy (timer : Timer) (now : ℕ) : Type 0 where
 abbrev pub IsInRange : Timer → Type 0
 IsInRange timer = IfSome timer.limit.millis (λ limit. limit ≤ longest)
 
+-- It is due exactly when nothing is left of its limit.
+abbrev pub DueIsNothingLeft : Type 0
+DueIsNothingLeft = (timer : Timer) (now : ℕ) → IsDue timer now ↔ (time_left timer now ≡ Some 0)
+
 -- If so much is left of the limit, what is buffered is due when that has passed, and not before.
 pub record IsDueAfter (timer : Timer) (now left : ℕ) : Type 0 where
   pub due_then : IsDue timer (now + left)

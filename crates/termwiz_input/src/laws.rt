@@ -1,10 +1,11 @@
 //! The laws of timers and of the parser's errors, and by `pub use` those of the layers below: of the grammar, of the key map and of the types' values.
 ghost use Rattle.termwiz_base.specs.Laws.{AlwaysCloned, ClonesEqual, TellsEqual};
 ghost use Rattle.termwiz_grammar.specs.Listed.{IsListed};
+ghost use Rattle.termwiz_input.specs.ExpiryLaws.{FlushEnds, FlushOneByOne, NoPauses};
 ghost use Rattle.termwiz_input.specs.Promise.{IsReadFromPieces};
 ghost use Rattle.termwiz_input.specs.RefusalEquality.{TellsEqualRefusals};
 ghost use Rattle.termwiz_input.specs.TimeExamples.{UsualTimes};
-ghost use Rattle.termwiz_input.specs.TimeLaws.{ClockStands, DueWithinLimit, Exact, HeldKey, IdleNotes, NotEarly, StepsOfClock};
+ghost use Rattle.termwiz_input.specs.TimeLaws.{ClockStands, DueIsNothingLeft, DueWithinLimit, Exact, HeldKey, IdleNotes, NotEarly, StepsOfClock};
 
 use crate::input::{ParseError, ParseVecError, PiecesError};
 use termwiz_base::Modifiers;
@@ -50,9 +51,11 @@ pub fn timers_not_early()
     ensures { NotEarly }
 {}
 
-/// What `Timer::next_timeout` answers is exact. If that is d at a time that isn't before the last note, what is buffered is due d later and at
-/// no time in between (`exact`). That stays so if it is noted in between that nothing happened (`idle`).
+/// What `Timer::next_timeout` answers is exact. If it is 0, what is buffered is due, and only then (`zero`). If it is d at a time that isn't
+/// before the last note, what is buffered is due d later and at no time in between (`exact`). That stays so if it is noted in between that
+/// nothing happened (`idle`).
 pub fn timers_exact()
+    ensures zero { DueIsNothingLeft }
     ensures exact { Exact }
     ensures idle { IdleNotes }
 {}
@@ -75,4 +78,21 @@ pub fn any_clock()
 /// What comes at which times, and when it is due under the usual policy: examples of each kind.
 pub fn usual_times()
     ensures { UsualTimes }
+{}
+
+/// A flush of what was due ends it. If a rest was due and [`expire`](crate::time::expire) flushed it, nothing stays buffered, and nothing is
+/// due at any time, until bytes are fed.
+///
+/// [`next_flushed`](crate::time::next_flushed) called up to `None` has the events of that flush (`one_by_one`).
+pub fn flush_ends()
+    ensures ends { FlushEnds }
+    ensures one_by_one { FlushOneByOne }
+{}
+
+/// Pauses within the limits change nothing. A program reads bytes at some times, and at others lets what is buffered expire. The events are
+/// those of these reads in turn, where what was due is a read of no bytes with no more to come (`in_turn`). The bytes of these reads are all
+/// bytes that came (`all_bytes`). If nothing was due, the events are those of all bytes together (`no_pauses`). This is said of policies
+/// under which a paste waits forever: else a paste that was due ends where it is.
+pub fn no_pauses()
+    ensures { NoPauses }
 {}

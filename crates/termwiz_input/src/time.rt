@@ -4,9 +4,17 @@
 //! what is buffered if it is due. It calls [`Timer::note`] after each read and its events, after each flush, and before it asks.
 //!
 //! Times are in milliseconds, from a clock of the caller's. Nothing here reads a clock, waits or needs memory.
-ghost use Rattle.std.specs.Prelude.{◌≡◌, ◌↔◌, IsTrue};
+ghost use Rattle.std.specs.Prelude.{◌≡◌, ◌↔◌, ◌⊎◌, ◌∷◌, [], List, ℕ, Bool, false, IsTrue, IfNone, IfOk, IfSome, OnOk, OnErr};
+ghost use Rattle.termwiz_grammar.specs.Grammar.{HasPaste, Steps};
+ghost use Rattle.termwiz_grammar.specs.WaitingKinds.{IsOpenPaste};
+ghost use Rattle.termwiz_keys.specs.declared.types.InputEvent.{InputEvent as Event};
+ghost use Rattle.termwiz_input.specs.Callbacks.{MayBeCalledOn, WasCalledOn};
+ghost use Rattle.termwiz_input.specs.Expiry.{Expires, FlushStep, IsLimitOf, IsSeen};
+ghost use Rattle.termwiz_input.specs.PasteSearch.{IsPasteSoFar};
 ghost use Rattle.termwiz_input.specs.Time.{IsDue, age_at, limit_of_kind, limit_of_string, new_timer, noted, time_left, usual};
 
+use crate::input::{InputEvent, InputParser};
+use std::alloc::AllocError;
 use termwiz_grammar::waiting::Waiting;
 
 /// One of the two ages of what is buffered. Ages grow by the clock's steps forward alone.
@@ -44,13 +52,16 @@ pub struct Policy {
     pub paste: Option<u32>,
 }
 
-// The same number of milliseconds.
-fn in_millis(limit: Option<u32>) -> Option<u64>
-    ensures { result ≡ limit }
+// A limit for this age.
+fn limited(millis: Option<u32>, by: Age) -> Limit
+    ensures { result ≡ record { millis = millis; by = by } }
 {
-    match limit {
-        Some(millis) => Some(u64::from(millis)),
-        None => None,
+    match millis {
+        Some(millis) => Limit {
+            millis: Some(u64::from(millis)),
+            by,
+        },
+        None => Limit { millis: None, by },
     }
 }
 
@@ -78,30 +89,12 @@ impl Policy {
         ensures { result ≡ limit_of_kind self.now waiting len }
     {
         match waiting {
-            Waiting::Nothing => Limit {
-                millis: None,
-                by: Age::Last,
-            },
-            Waiting::Escape => Limit {
-                millis: in_millis(self.escape),
-                by: Age::Last,
-            },
-            Waiting::Sequence => Limit {
-                millis: in_millis(if len == 2 {
-                    self.alt_key
-                } else {
-                    self.sequence
-                }),
-                by: Age::Front,
-            },
-            Waiting::Character => Limit {
-                millis: in_millis(self.character),
-                by: Age::Front,
-            },
-            Waiting::Paste => Limit {
-                millis: in_millis(self.paste),
-                by: Age::Last,
-            },
+            Waiting::Nothing => limited(None, Age::Last),
+            Waiting::Escape => limited(self.escape, Age::Last),
+            Waiting::Sequence if len == 2 => limited(self.alt_key, Age::Front),
+            Waiting::Sequence => limited(self.sequence, Age::Front),
+            Waiting::Character => limited(self.character, Age::Front),
+            Waiting::Paste => limited(self.paste, Age::Last),
         }
     }
 
@@ -210,5 +203,74 @@ impl Timer {
         ensures { IsTrue result ↔ IsDue self.now now }
     {
         self.next_timeout(now) == Some(0)
+    }
+}
+
+/// The limit of what a parser has buffered, once it emitted all events.
+pub fn limit_of(parser: &InputParser, policy: &Policy) -> Limit
+    ensures { IsLimitOf policy.now parser.now result }
+{
+    policy.limit(parser.waiting(), parser.waiting_len())
+}
+
+/// What to tell a timer of a parser that emitted all events: whether bytes were fed, and an event was taken, since the last note.
+pub fn seen_of(parser: &InputParser, policy: &Policy, fed: bool, taken: bool) -> Seen
+    ensures { IsSeen policy.now parser.now fed taken result }
+{
+    Seen {
+        limit: limit_of(parser, policy),
+        fed,
+        taken,
+        empty: parser.waiting_len() == 0,
+    }
+}
+
+/// Flushes what a parser has buffered if it is due, and calls `callback` with each event. An open paste is ended where it is.
+///
+/// Call it when `next_timeout` has passed and no bytes have come, once the parser emitted all events. It notes the time, and after a flush
+/// what is left. If memory for the text of a paste is refused, the paste is still buffered: call it again.
+pub fn expire<F: FnMut(InputEvent)>(
+    parser: &mut InputParser,
+    timer: &mut Timer,
+    policy: &Policy,
+    now: u64,
+    callback: &mut F,
+) -> Result<(), AllocError>
+    requires paste { (event : Event) → IsPasteSoFar parser.old event → MayBeCalledOn F.FnMut callback.old (event ∷ []) }
+    requires read { (events : List Event) (rest : List ℕ) → Steps parser.old false events rest
+        → MayBeCalledOn F.FnMut callback.old events }
+    ensures ok { OnOk result ((more : Bool) × (events : List Event) × Expires policy.now parser.old timer.old now more events parser.new timer.new
+        × WasCalledOn F.step callback.old events callback.new) }
+    ensures refused { OnErr result ((events : List Event) × Steps parser.old false events parser.new
+        × WasCalledOn F.step callback.old events callback.new) }
+    ensures refused_paste { OnErr result (IsOpenPaste parser.new ⊎ HasPaste parser.new false) }
+    ensures refused_due { OnErr result (IsDue timer.new now) }
+{
+    timer.note(now, seen_of(parser, policy, false, false));
+    if !timer.is_due(now) {
+        return Ok(());
+    }
+    match parser.end_paste()? {
+        Some(event) => callback(event),
+        None => parser.for_each_event(callback, false)?,
+    }
+    timer.note(now, seen_of(parser, policy, false, true));
+    Ok(())
+}
+
+/// One event of such a flush, for callers that pull events. `None` once nothing is buffered.
+///
+/// Call it up to `None` when [`Timer::is_due`] is true. If memory for the text of a paste is refused, the parser is unchanged: call it again.
+#[tactic(auto, using(crate::proofs::lemmas::time::FlushedRests::closed_is_nothing))]
+pub fn next_flushed(parser: &mut InputParser) -> Result<Option<InputEvent>, AllocError>
+    ensures event { IfOk result (λ found. IfSome found (λ event. FlushStep parser.old event parser.new)) }
+    ensures none { IfOk result (λ found. IfNone found (parser.old ≡ [])) }
+    ensures none_same { IfOk result (λ found. IfNone found (parser.new ≡ parser.old)) }
+    ensures refused { OnErr result (IsOpenPaste parser.old ⊎ HasPaste parser.old false) }
+    ensures refused_same { OnErr result (parser.new ≡ parser.old) }
+{
+    match parser.end_paste()? {
+        Some(event) => Ok(Some(event)),
+        None => parser.next_event(false),
     }
 }

@@ -1,2 +1,5 @@
 pub mod Ages
 pub mod TimerLaws
+pub mod ExpirySteps
+pub mod FlushedRests
+pub mod Runs

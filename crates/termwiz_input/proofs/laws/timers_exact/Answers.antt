@@ -6,3 +6,6 @@ returns-clause-exact c = lemmas.exact
 
 pub returns-clause-idle : goal.returns-clause-idle
 returns-clause-idle c = lemmas.idle_notes
+
+pub returns-clause-zero : goal.returns-clause-zero
+returns-clause-zero c = lemmas.due_is_nothing_left

@@ -6,7 +6,7 @@ use Rattle.termwiz_input.specs.declared.time.Age.TheVariants.{Front}
 use Rattle.termwiz_input.specs.declared.time.Limit.{Limit}
 use Rattle.termwiz_input.specs.declared.time.Timer.{Timer}
 use Rattle.termwiz_input.specs.Time.{IsDue, age_at, longest, noted}
-use Rattle.termwiz_input.specs.TimeLaws.{ClockStands, DueWithinLimit, Exact, HasLimit, HeldKey, IdleNotes, IsDueAfter, IsIdle, IsNotedBy, NotEarly, Note, StepsOfClock, all_noted}
+use Rattle.termwiz_input.specs.TimeLaws.{ClockStands, DueIsNothingLeft, DueWithinLimit, Exact, HasLimit, HeldKey, IdleNotes, IsDueAfter, IsIdle, IsNotedBy, NotEarly, Note, StepsOfClock, all_noted}
 use Rattle.termwiz_input.proofs.lemmas.time.Ages.{age_at_most, age_later, begins_at_0, front_grows, idle_ages, idle_limit, in_order_end, noted_at_most, step_is}
 
 -- what is due has reached the limit that it has
@@ -47,6 +47,21 @@ steps_of_clock time (note ∷ notes) now order =
     let later = steps_of_clock note.0 notes now order.1 in
     let last = in_order_end notes note.0 now order.1 in
     omega (arith, later, last, order.0)
+
+-- a number and a limit of which nothing is left
+nothing_left : (limit : Option ℕ) (age : ℕ) → option_map (λ most. most - age) limit ≡ Some 0 → (most : ℕ) × (limit ≡ Some most) × (most ≤ age)
+nothing_left None age is = cc
+nothing_left (Some most) age is = let none : most - age ≡ 0 = cc in (most, refl, omega arith)
+
+pub due_is_nothing_left : DueIsNothingLeft
+due_is_nothing_left timer now = (
+  λ due.
+      let age = age_at timer timer.limit.by now in
+      let none : due.limit - age ≡ 0 = let reached = due.reached in omega arith in
+      ap (λ (limit : Option ℕ). option_map (λ most. most - age) limit) due.limited ∙ ap Some none,
+  λ is. let (most, limited, reached) = nothing_left timer.limit.millis (age_at timer timer.limit.by now) is in
+      record { limit = most; limited = limited; reached = reached },
+)
 
 exact_by : (timer : Timer) (now left : ℕ) (limit : Option ℕ) → timer.limit.millis ≡ limit → IfSome limit (λ most. most ≤ longest)
     → IsNotedBy timer now → option_map (λ most. most - age_at timer timer.limit.by now) limit ≡ Some left → IsDueAfter timer now left
