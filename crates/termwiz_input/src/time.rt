@@ -1,9 +1,12 @@
 //! How long bytes may stay buffered: limits in time, and a timer that is told what time it is.
 //!
-//! A program waits for bytes no longer than [`Timer::next_timeout`] says. If bytes come, it reads them; else it asks [`Timer::is_due`], and flushes
-//! what is buffered if it is due. It calls [`Timer::note`] after each read and its events, after each flush, and before it asks.
+//! A program on a live terminal keeps a [`Timer`] beside its parser, and loops:
 //!
-//! Times are in milliseconds, from a clock of the caller's. Nothing here reads a clock, waits or needs memory.
+//! 1. It notes the time and [what is buffered](seen_of), and waits for bytes as long as [`Timer::next_timeout`] says.
+//! 2. If bytes are there, it feeds them and takes all events. It does so too if what is buffered is overdue, since they may complete it.
+//! 3. If none came, it calls [`expire`].
+//!
+//! Times are in milliseconds, from a clock of the caller's. Nothing here reads a clock, waits, or keeps memory.
 ghost use Rattle.std.specs.Prelude.{◌≡◌, ◌↔◌, ◌⊎◌, ◌∷◌, [], List, ℕ, Bool, false, IsTrue, IfNone, IfOk, IfSome, OnOk, OnErr};
 ghost use Rattle.termwiz_grammar.specs.Grammar.{HasPaste, Steps};
 ghost use Rattle.termwiz_grammar.specs.WaitingKinds.{IsOpenPaste};
@@ -127,7 +130,8 @@ pub struct Seen {
 
 /// Knows how old the buffered bytes are, and when they are due to be flushed.
 ///
-/// It is a value: it may be copied, and calls depend on what it was told alone. Contracts see its fields.
+/// It is a value that depends on nothing but what it was told, and it may be copied. It knows no kinds of bytes, so it serves the extended
+/// parser too. Contracts see its fields.
 #[derive(Clone, Copy, PartialEq, Eq, Debug)]
 pub struct Timer {
     // The two ages at the last note.
@@ -188,7 +192,9 @@ impl Timer {
         };
     }
 
-    /// How many milliseconds after `now` what is buffered is due, if it is noted no more. 0 if it is due; `None` if it has no limit.
+    /// How many milliseconds what is buffered may still wait: 0 if it is due, `None` if it has no limit.
+    ///
+    /// The law `timers_exact` says that this is exact, of a time that isn't before the last note.
     pub fn next_timeout(&self, now: u64) -> Option<u64>
         ensures { result ≡ time_left self.now now }
     {
@@ -227,8 +233,8 @@ pub fn seen_of(parser: &InputParser, policy: &Policy, fed: bool, taken: bool) ->
 
 /// Flushes what a parser has buffered if it is due, and calls `callback` with each event. An open paste is ended where it is.
 ///
-/// Call it when `next_timeout` has passed and no bytes have come, once the parser emitted all events. It notes the time, and after a flush
-/// what is left. If memory for the text of a paste is refused, the paste is still buffered: call it again.
+/// Call it when no bytes came for as long as `next_timeout` said. The parser must have emitted all events before. It notes the time, and after
+/// a flush what is left. If memory for the text of a paste is refused, the paste is still buffered, and due: call it again.
 pub fn expire<F: FnMut(InputEvent)>(
     parser: &mut InputParser,
     timer: &mut Timer,
@@ -258,9 +264,10 @@ pub fn expire<F: FnMut(InputEvent)>(
     Ok(())
 }
 
-/// One event of such a flush, for callers that pull events. `None` once nothing is buffered.
+/// The next event of the flush that [`expire`] makes, for callers that pull events. `None` once nothing is buffered.
 ///
-/// Call it up to `None` when [`Timer::is_due`] is true. If memory for the text of a paste is refused, the parser is unchanged: call it again.
+/// Call it up to `None` when [`Timer::is_due`] is true, and then note that events were taken. If memory for the text of a paste is refused,
+/// the parser is unchanged, and the same call may be made again.
 #[tactic(auto, using(crate::proofs::lemmas::time::FlushedRests::closed_is_nothing))]
 pub fn next_flushed(parser: &mut InputParser) -> Result<Option<InputEvent>, AllocError>
     ensures event { IfOk result (λ found. IfSome found (λ event. FlushStep parser.old event parser.new)) }
