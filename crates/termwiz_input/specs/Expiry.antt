@@ -10,10 +10,12 @@ use Rattle.termwiz_input.specs.declared.time.Seen.{Seen}
 use Rattle.termwiz_input.specs.declared.time.Timer.{Timer}
 use Rattle.termwiz_input.specs.PasteSearch.{IsPasteSoFar}
 use Rattle.termwiz_input.specs.Time.{IsDue, limit_of_kind, noted}
+use Rattle.termwiz_input.specs.WaitingBytes.{IsToldByBytes}
 
--- The limit of a text, by its length and its kind. That is the kind of the rest, where no item stands at the text.
+-- The limit of a text, by its length and its kind. Its first bytes tell the kind; where no item stands at the text, it is that of the rest.
 pub record IsLimitOf (policy : Policy) (text : List ℕ) (limit : Limit) : Type 0 where
   pub kind : Waiting
+  pub told : IsToldByBytes text kind
   pub is_kind : (more : Bool) → IsRest text more → IsKind text more kind
   pub is_limit : limit ≡ limit_of_kind policy kind (length text)
 

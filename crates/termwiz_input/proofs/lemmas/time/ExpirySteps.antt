@@ -1,5 +1,5 @@
 -- What is noted and flushed step by step is what `Expires` says.
-use Rattle.std.proofs.Common.{◌≡◌, ◌↔◌, ℕ, Bool, true, false, IsTrue, List, [], ◌∷◌, sym, subst, Option, Result, IfOk, IfSome}
+use Rattle.std.proofs.Common.{◌≡◌, ◌↔◌, ℕ, Bool, true, false, IsTrue, List, [], ◌∷◌, sym, subst, Option, Result, Ok, Err, IfOk, IfSome, OnErr}
 use Rattle.std.proofs.lemmas.Option.{IfSome_then}
 use Rattle.std.proofs.lemmas.Result.{IfOk-weaker}
 use Rattle.termwiz_keys.specs.declared.types.InputEvent.{InputEvent}
@@ -12,6 +12,11 @@ use Rattle.termwiz_input.specs.Expiry.{Expires, FlushStep, Flushes, IsSeen}
 use Rattle.termwiz_input.specs.Expiry.Expires.{stays, flushed}
 use Rattle.termwiz_input.specs.Expiry.FlushStep.{item_read}
 use Rattle.termwiz_input.specs.Time.{IsDue, noted}
+
+-- what holds anyway holds after an error
+pub OnErr-of_any : {X F P : Type 0} (result : Result X F) → P → OnErr result P
+OnErr-of_any (Ok value) holds = tt
+OnErr-of_any (Err fault) holds = holds
 
 module _ (policy : Policy) (text : List ℕ) (timer : Timer) (now : ℕ) (seen : Seen) (first : Timer)
     (is_seen : IsSeen policy text false false seen) (first_is : first ≡ noted timer now seen) (due : Bool)

@@ -1,12 +1,12 @@
 use Rattle.std.proofs.Common.{◌≡◌, ◌∷◌, ◌∙◌, [], List, ℕ, true, false, sym, refl, subst}
 use Rattle.termwiz_keys.specs.declared.types.InputEvent.{InputEvent as Event}
-use Rattle.termwiz_grammar.specs.Grammar.{Means}
+use Rattle.termwiz_grammar.specs.Grammar.{Means, Steps}
 use Rattle.termwiz_grammar.specs.WaitingKinds.{IsOpenPaste}
 use Rattle.termwiz_input.specs.Callbacks.{WasCalledOn}
 use Rattle.termwiz_input.specs.Expiry.{Flushes}
 use Rattle.termwiz_input.specs.Expiry.Flushes.{ends_paste, reads_all}
 use Rattle.termwiz_input.specs.PasteSearch.{IsPasteSoFar}
-use Rattle.termwiz_input.proofs.lemmas.time.ExpirySteps.{stays_noted, flushed_noted}
+use Rattle.termwiz_input.proofs.lemmas.time.ExpirySteps.{OnErr-of_any, stays_noted, flushed_noted}
 use Rattle.termwiz_input.proofs.time.expire.Goals as goal
 use Rattle.termwiz_input.proofs.time.expire.Goals.{in-Some, in-None+in_ok-for_each_event-in-None}
 
@@ -48,3 +48,14 @@ returns-clause-ok g c =
             subst (λ last. WasCalledOn (goal.F-step g) c.args.callback.now events last) (sym w.callback-is) calls,
           )
     ]
+
+pub returns-in_err-for_each_event-in-None-clause-refused : goal.returns-in_err-for_each_event-in-None-clause-refused
+returns-in_err-for_each_event-in-None-clause-refused g c =
+    let text : List ℕ = c.args.parser.now in
+    let same : c.end_paste.new.self ≡ text = rw c.in-None.is at c.in_ok-event.ensures.none_same in
+    let (events, steps, calls) = c.in_err-for_each_event-in-None.ensures.refused in
+    let steps_of_text : Steps text false events c.for_each_event.new.self =
+    subst (λ (u : List ℕ). Steps u false events c.for_each_event.new.self) same steps in
+    let given : (given : List Event) × Steps text false given c.for_each_event.new.self
+    × WasCalledOn (goal.F-step g) c.args.callback.now given c.for_each_event.new.callback = (events, steps_of_text, calls) in
+    OnErr-of_any _ given
