@@ -555,7 +555,8 @@ def test_memory_refused(compiled, tmp_path, words):
     assert found == run(*words)
 
 
-NO_TERMINAL = "--mouse wants a terminal as the input; --help says more"
+MORE = "--help says more"
+NO_TERMINAL = f"--mouse wants a terminal as the input; {MORE}"
 
 
 def unknown(word):
@@ -567,16 +568,27 @@ REFUSED = {
     "an unknown word": unknown("--foo"),
     "an unknown reading": unknown("--extended=vt52"),
     "an unknown level": unknown("--modify-other-keys=3"),
-    "two files": ("a b", 2, "wants one file, and 'b' is another; --help says more"),
+    "two files": ("a b", 2, f"wants one file, and 'b' is another; {MORE}"),
     "a mode without a terminal": ("--mouse", 2, NO_TERMINAL),
     "no such file": ("/no/such", 1, "/no/such: No such file or directory"),
     "a folder": ("/", 1, "the input can't be read: Is a directory"),
 }
+# Names that would act on a terminal are printed by the bytes of control characters, and of what isn't UTF-8.
+NAMES = {
+    "\033]0;title\007": r"\x1b]0;title\x07",
+    "a\nb\177\2332J": r"a\x0ab\x7f\xc2\x9b2J",
+    "\udc9b2J\udce0\udc82\udc9b\udce2\udc82": r"\x9b2J\xe0\x82\x9b\xe2\x82",
+    "café\u00a0世😀\\x1b": "café\u00a0世😀\\x1b",
+}
+for name, shown in NAMES.items():
+    REFUSED[f"no file {shown}"] = name, 1, f"{shown}: No such file or directory"
+    REFUSED[f"unknown {shown}"] = unknown(f"--{name}")[:2] + unknown(f"--{shown}")[2:]
+    REFUSED[f"also {shown}"] = f"x {name}", 2, f"wants one file, and '{shown}' is another; {MORE}"
 
 
 @pytest.mark.parametrize("words, status, says", REFUSED.values(), ids=REFUSED)
 def test_refused(words, status, says):
-    assert run(*words.split(), typed=b"a") == (status, "", f"hedrugal-keys: {says}\n")
+    assert run(*words.split(" "), typed=b"a") == (status, "", f"hedrugal-keys: {says}\n")
 
 
 def test_version():
