@@ -15,25 +15,19 @@
 set -euo pipefail
 . "$(dirname "$0")/common.sh"
 top=$(cd "$(dirname "$0")/.." && pwd)
-against='' extended='' read=64 runs=9 parsers=''
-while [ $# -gt 0 ]; do
+against='' extended='' reads=64 runs=9 parsers=''
+while [[ ${1-} == -* ]]; do
     case $1 in
         --help) show_help; exit ;;
-        --against | --extended | --reads | --runs | --parsers)
-            [ $# -gt 1 ] || refuse "$1 wants a word after it"
-            case $1 in
-                --against) against=$2 ;;
-                --extended) extended=$2 ;;
-                --reads) want_number "$2" "$1"; read=$2 ;;
-                --runs) want_number "$2" "$1"; runs=$2 ;;
-                --parsers) parsers=$2 ;;
-            esac
-            shift 2 ;;
-        -*) refuse_word "$1" ;;
-        *) break ;;
+        --against | --extended | --reads | --runs | --parsers) [ $# -gt 1 ] || refuse "$1 wants a word after it" ;;
+        *) refuse_word "$1" ;;
     esac
+    declare "${1#--}=$2"
+    shift 2
 done
-[ -z "$parsers" ] || exec "$top/tools/performance.py" --runs "$runs" --read "$read" --parsers "$parsers" keys csiu
+want_number "$reads" --reads
+want_number "$runs" --runs
+[ -z "$parsers" ] || exec "$top/tools/performance.py" --runs "$runs" --read "$reads" --parsers "$parsers" keys csiu
 git -C "$top" rev-parse --quiet --verify "$against^{commit}" > /dev/null || refuse "--against wants a commit, and not '$against'"
 case $extended in '' | legacy | kitty) ;; *) refuse_word "$extended" ;; esac
 need rt 'the Rattle kit' cc gcc python3 python3
@@ -81,7 +75,7 @@ END
 for run in $(seq "$runs"); do
     progress "run $run of $runs"
     for input in "$work"/inputs/*; do for tree in here other; do
-        echo "$(basename "$input") $tree $("$work/$tree/pass" "$read" < "$input")"
+        echo "$(basename "$input") $tree $("$work/$tree/pass" "$reads" < "$input")"
     done; done
 done | awk '
     !(($1, $2) in least) || $3 < least[$1, $2] { least[$1, $2] = $3 }
