@@ -573,7 +573,7 @@ REFUSED = {
     "no such file": ("/no/such", 1, "/no/such: No such file or directory"),
     "a folder": ("/", 1, "the input can't be read: Is a directory"),
 }
-# Names that would act on a terminal are printed by the bytes of control characters, and of what isn't UTF-8.
+# Names that would act on a terminal: control characters are printed by their bytes.
 NAMES = {
     "\033]0;title\007": r"\x1b]0;title\x07",
     "a\nb\177\2332J": r"a\x0ab\x7f\xc2\x9b2J",
