@@ -362,8 +362,8 @@ impl InputParser {
         self.searched = 0;
     }
 
-    /// Takes text of an open paste before its end comes, if more than `limit` bytes of the text are buffered. `None` if fewer are, or no paste is
-    /// open; the parser is then unchanged.
+    /// Takes text of an open paste before its end comes, if more than `limit` bytes of the text are buffered. `None` if no more are, or no paste
+    /// is open; the parser is then unchanged.
     ///
     /// Call it after each read and its events, such as with a limit of 2^20, and handle the text as the next part of what is pasted. So a
     /// paste of any length needs little memory: afterwards at most 11 bytes of an open paste stay buffered, or `limit` and the 6 of its start.

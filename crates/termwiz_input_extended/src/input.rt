@@ -381,8 +381,8 @@ impl ExtendedParser {
         }
     }
 
-    /// Takes text of an open paste before its end comes, if more than `limit` bytes of the text are buffered. `None` if fewer are, or no paste is
-    /// open; the parser is then unchanged.
+    /// Takes text of an open paste before its end comes, if more than `limit` bytes of the text are buffered. `None` if no more are, or no paste
+    /// is open; the parser is then unchanged.
     ///
     /// Call it after each read and its events, as [`InputParser::take_paste`], such as with a limit of 2^20: the text is the next part of what
     /// is pasted. The paste stays open, and the [`InputEvent::Paste`] that ends it has the rest of its text, maybe none. At most five bytes are

@@ -6,16 +6,16 @@ use std::process::Abort;
 use std::test::Fail;
 use test_calls::calls::Calls;
 
-// The text of an open paste and a limit; what is taken, or nothing; how many bytes are held back; and what the paste's event has, if the end
-// comes then.
+// The text of an open paste and a limit; what is taken, or nothing; how many bytes are then buffered, START among them; and what the paste's
+// event has, if the end comes then.
 const PARTS: &[(&[u8], usize, &[u8], usize, &[u8])] = &[
-    (b"abc", 2, b"abc", 0, b""),
-    (b"abc", 3, b"", 3, b"abc"),
-    (b"\x1b[201", 0, b"", 5, b"\x1b[201"),
-    (b"\x1b[20\x1b[2", 0, b"\x1b[20", 3, b"\x1b[2"),
-    (b"a\xe2\x82", 0, b"a", 2, b"\xef\xbf\xbd"),
-    (b"a\xe2\x82\x1b", 0, b"a\xef\xbf\xbd", 1, b"\x1b"),
-    (b"\xff\x1b[200~\r", 0, b"\xef\xbf\xbd\x1b[200~\r", 0, b""),
+    (b"abc", 2, b"abc", 6, b""),
+    (b"abc", 3, b"", 9, b"abc"),
+    (b"\x1b[201", 0, b"", 11, b"\x1b[201"),
+    (b"\x1b[20\x1b[2", 0, b"\x1b[20", 9, b"\x1b[2"),
+    (b"a\xe2\x82", 0, b"a", 8, b"\xef\xbf\xbd"),
+    (b"a\xe2\x82\x1b", 0, b"a\xef\xbf\xbd", 7, b"\x1b"),
+    (b"\xff\x1b[200~\r", 0, b"\xef\xbf\xbd\x1b[200~\r", 6, b""),
 ];
 
 // Takes the text of an open paste, and then its end comes.
@@ -23,7 +23,7 @@ fn check_taken(
     rt: &impl Abort,
     alloc: Global,
     parser: &mut InputParser,
-    (text, limit, taken, held, rest): (&[u8], usize, &[u8], usize, &[u8]),
+    (text, limit, taken, buffered, rest): (&[u8], usize, &[u8], usize, &[u8]),
 ) -> Result<(), Fail> {
     parser.feed(b"\x1b[200~")?;
     parser.feed(text)?;
@@ -31,7 +31,7 @@ fn check_taken(
         Some(part) => assert!(rt; part.as_str().as_bytes() == taken, "{text:?}"),
         None => assert!(rt; taken.is_empty(), "{text:?}"),
     }
-    assert!(rt; parser.waiting_len() == 6 + held, "{text:?}");
+    assert!(rt; parser.waiting_len() == buffered, "{text:?}");
     check_paste(rt, alloc, parser, Calls::Event, (rest, b"\x1b[201~"))
 }
 
