@@ -36,7 +36,7 @@ dist-tree: dist-source
 	strip --strip-unneeded --remove-section=.comment --remove-section=.note $(tree)/lib/libhedrugal.so.$(VERSION) $(tree)/bin/*
 	mkdir $(tree)/c $(tree)/python
 	cd $(source) && cp c/events.c c/live.c c/ask.c $(tree)/c/ && cp -r python/hedrugal $(tree)/python/ && \
-		cp -r rust LICENSE tools/package/THIRD-PARTY python/hedrugal.spdx.json $(tree)/
+		cp -r rust LICENSE THIRD-PARTY python/hedrugal.spdx.json $(tree)/
 	ln -s ../../lib/libhedrugal.so $(tree)/python/hedrugal/
 	sed 's/@VERSION@/$(VERSION)/' tools/package/README > $(tree)/README
 

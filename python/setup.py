@@ -56,9 +56,9 @@ class Wheel(Distribution().get_command_class("bdist_wheel")):
 
 
 # A wheel has files of this folder alone.
-for notice in ("LICENSE", "tools/package/THIRD-PARTY"):
+for notice in ("LICENSE", "THIRD-PARTY"):
     if (HERE.parent / notice).is_file():
-        shutil.copyfile(HERE.parent / notice, HERE / Path(notice).name)
+        shutil.copyfile(HERE.parent / notice, HERE / notice)
 setup(
     long_description=description(),
     long_description_content_type="text/plain",

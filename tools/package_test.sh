@@ -157,7 +157,7 @@ check_notices() {
 }
 
 check_third_party_in() { # folder
-    cmp tools/package/THIRD-PARTY "$1/THIRD-PARTY" && cmp "$unpacked/$tarball/hedrugal.spdx.json" "$1/hedrugal.spdx.json"
+    cmp THIRD-PARTY "$1/THIRD-PARTY" && cmp "$unpacked/$tarball/hedrugal.spdx.json" "$1/hedrugal.spdx.json"
 }
 
 # Prints the kit's crates that what is packaged stands on. (In crates.txt a crate is below those that it stands on.)
@@ -173,9 +173,9 @@ check_third_party() {
     local crate holders
     kit_crates > "$work/crates" && [ -s "$work/crates" ] || return
     while read -r crate; do
-        grep -w "$crate" tools/package/THIRD-PARTY || { echo "tools/package/THIRD-PARTY lacks $crate"; return 1; }
+        grep -w "$crate" THIRD-PARTY || { echo "THIRD-PARTY lacks $crate"; return 1; }
         holders=$(cat "$kit/rattle/$crate"/LICENSE{,-MIT} 2> /dev/null | grep '^Copyright') || continue
-        grep -F "$holders" tools/package/THIRD-PARTY || { echo "tools/package/THIRD-PARTY lacks: $holders"; return 1; }
+        grep -F "$holders" THIRD-PARTY || { echo "THIRD-PARTY lacks: $holders"; return 1; }
     done < "$work/crates"
 }
 

@@ -2,7 +2,7 @@
 
     sbom.py > hedrugal.spdx.json
 
-It has this library, the crates that tools/package/THIRD-PARTY lists, and the kit's own libraries.
+It has this library, the crates that THIRD-PARTY lists, and the kit's own libraries.
 The date is SOURCE_DATE_EPOCH, or now."""
 import json
 import os
@@ -31,7 +31,7 @@ def package(name, version, declared, concluded, holders, **more):
 
 def kit_crates():
     """Returns the kit's crates of the table in THIRD-PARTY."""
-    notice = (TOP / "tools/package/THIRD-PARTY").read_text()
+    notice = (TOP / "THIRD-PARTY").read_text()
     rows = re.findall(r"^ {4}(\w+) +after (\w+ ([\d.]+)), (.*)\n +(.*)$", notice, re.MULTILINE)
     for name, origin, version, licences, holders in rows:
         declared = licences.replace(" or ", " OR ")
