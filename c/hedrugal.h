@@ -13,6 +13,7 @@
  *       if ((n = read(0, bytes, sizeof bytes)) <= 0) break;
  *       if (!hed_parser_feed(&parser, bytes, n)) ...            // no memory: none of the bytes is buffered
  *       while (hed_parser_next(&parser, true, &event) == HED_NEXT_EVENT) ...
+ *       if (hed_parser_take_paste(&parser, 1 << 20, &event) == HED_NEXT_EVENT) ... // text of a long paste
  *     }
  *     while (hed_parser_next(&parser, false, &event) == HED_NEXT_EVENT) ...
  *     hed_parser_free(&parser);
@@ -76,7 +77,7 @@ typedef struct hed_parser {
 #define HED_PARSER_NONE \
   { false, NULL }
 
-/* The kinds of events: the field kind of a hed_event, which has none but the first four, and of a hed_extended_event. */
+/* The kinds of events: the field kind of a hed_event, which has none but the first four and the last, and of a hed_extended_event. */
 enum hed_kind {
   /* numbers.txt: kind c */
   HED_KIND_OTHER = 0, /* None of these. No event has this kind. */
@@ -92,7 +93,8 @@ enum hed_kind {
   HED_KIND_CSI = 10, /* Any other control sequence. */
   HED_KIND_OSC = 11, /* An operating system command, such as the reply to a question for a colour. */
   HED_KIND_DCS = 12, /* A device control string, such as the reply to a question for the terminal's name and version. */
-  HED_KIND_APC = 13 /* An application program command, such as a reply of Kitty's graphics protocol. */
+  HED_KIND_APC = 13, /* An application program command, such as a reply of Kitty's graphics protocol. */
+  HED_KIND_PASTE_PART = 14 /* Text of a paste whose end is still to come. */
   /* numbers.txt: end */
 };
 
@@ -105,10 +107,10 @@ typedef struct hed_event {
   uint16_t x; /* HED_KIND_MOUSE: the column, as the terminal sent it: the leftmost is 1 */
   uint16_t y; /* HED_KIND_MOUSE: the row, as the terminal sent it: the topmost is 1 */
   uint32_t detail; /* HED_KIND_KEY: the code point with HED_KEY_CHAR, the number with HED_KEY_FUNCTION (1 for F1) */
-  size_t paste_len; /* HED_KIND_PASTE: the number of bytes of the text, which hed_parser_paste copies */
+  size_t paste_len; /* HED_KIND_PASTE, HED_KIND_PASTE_PART: the number of bytes of the text, which hed_parser_paste copies */
 } hed_event;
 
-/* What hed_parser_next, hed_parser_flush_escape and hed_parser_end_paste return. */
+/* What hed_parser_next, hed_parser_flush_escape, hed_parser_take_paste and hed_parser_end_paste return. */
 enum hed_next {
   /* numbers.txt: next c */
   HED_NEXT_NONE = 0, /* There is no such event. Nothing changed. */
@@ -154,18 +156,18 @@ bool hed_parser_feed(hed_parser *parser, const uint8_t *bytes, size_t len);
  * changed. */
 uint32_t hed_parser_next(hed_parser *parser, bool more, hed_event *event);
 
-/* Copies the text of the last HED_KIND_PASTE to out, at most len bytes of it. The text is UTF-8 without a final 0. The rest of out is
- * unchanged.
+/* Copies the text of the last HED_KIND_PASTE or HED_KIND_PASTE_PART to out, at most len bytes of it. The text is UTF-8 without a final 0.
+ * The rest of out is unchanged.
  *
- * Returns the number of bytes of the whole text, as paste_len has it, so a caller whose room was short can call again: the parser keeps
- * the text until the next HED_KIND_PASTE or hed_parser_drop_paste. Returns 0 if there is no such text, or if there is no parser. */
+ * Returns the number of bytes of the whole text, as paste_len has it, so a caller whose room was short can call again: the parser keeps the
+ * text until the next event of these kinds or hed_parser_drop_paste. Returns 0 if there is no such text, or if there is no parser. */
 size_t hed_parser_paste(const hed_parser *parser, uint8_t *out, size_t len);
 
-/* Frees the text of the last HED_KIND_PASTE: hed_parser_paste returns 0 until the next. The caller calls it once it has copied a text that
+/* Frees that text: hed_parser_paste returns 0 until the next. The caller calls it once it has copied a text that
  * is too long to be kept. If there is no text or no parser, it does nothing. */
 void hed_parser_drop_paste(hed_parser *parser);
 
-/* Frees memory that holds nothing, of the buffer and of the text of the last HED_KIND_PASTE. The buffer keeps its room for min_capacity
+/* Frees memory that holds nothing, of the buffer and of the text of the last paste or part. The buffer keeps its room for min_capacity
  * bytes, if it has that. What is buffered, that text and all later events are unchanged. A session that is quiet after a long paste calls
  * hed_parser_drop_paste, and this with 0. If the smaller memory is refused, the larger is kept. If there is no parser, it does nothing. */
 void hed_parser_shrink_to(hed_parser *parser, size_t min_capacity);
@@ -200,20 +202,43 @@ uint32_t hed_parser_waiting(const hed_parser *parser);
  * HED_NEXT_EVENT. */
 uint32_t hed_parser_flush_escape(hed_parser *parser, hed_event *event);
 
-/* Returns whether the buffer begins with the start of a paste. Such a paste is buffered without limit until its end arrives: a caller
- * with a limit, say 1 MB, calls hed_parser_end_paste once hed_parser_waiting_len is above it. Returns false if there is no parser. */
+/* Returns whether the buffer begins with the start of a paste. Such a paste is buffered until its end arrives, whatever its length, unless
+ * the caller calls hed_parser_take_paste or hed_parser_skip_paste. Returns false if there is no parser. */
 bool hed_parser_is_paste_open(const hed_parser *parser);
+
+/* Takes text of an open paste before its end arrives, if more than limit bytes of the text are buffered: writes a HED_KIND_PASTE_PART to
+ * *event. hed_parser_paste copies the text, the next part of what is pasted. The paste stays open. What follows is its further text: none
+ * of it becomes a key. The HED_KIND_PASTE that ends it has the rest of the text, maybe none.
+ *
+ * The caller calls it after each read and its events, with a limit such as 1 << 20. So a paste of any length needs little memory: at most 6
+ * bytes and limit stay buffered of it, or 11 if limit is below 5. At most 5 bytes of the text are held back, which may begin the end of the
+ * paste or a character.
+ *
+ * Returns HED_NEXT_EVENT, HED_NEXT_NONE if no paste is open, no more than limit bytes of its text are buffered, or all of them are held
+ * back, HED_NEXT_NO_MEMORY, or HED_NEXT_NO_PARSER. *event is written only with HED_NEXT_EVENT. With HED_NEXT_NO_MEMORY nothing changed, and
+ * the call may be made again. */
+uint32_t hed_parser_take_paste(hed_parser *parser, size_t limit, hed_event *event);
+
+/* Forgets text of an open paste before its end arrives: what hed_parser_take_paste would take with a limit of 0. Writes the number of these
+ * bytes to *count. The paste stays open. The text of the last paste or part is kept.
+ *
+ * To refuse a paste that is too long, the caller calls it after each read and its events until the HED_KIND_PASTE comes, and ignores that
+ * one. No memory is asked for.
+ *
+ * Returns false if no paste is open or there is no parser: then nothing changed, and *count isn't written. */
+bool hed_parser_skip_paste(hed_parser *parser, size_t *count);
 
 /* Ends an open paste where it is: writes a HED_KIND_PASTE to *event, whose text is what came so far, and consumes the whole buffer.
  * hed_parser_paste copies the text. The rest of the paste then arrives as typed keys, Enter included, and its end as
- * HED_KEY_INTERNAL_PASTE_END; if the text ended inside that, the rest of it is typed keys too.
+ * HED_KEY_INTERNAL_PASTE_END; if the text ended inside that, the rest of it is typed keys too. So it is for the end of the input, and for a
+ * paste that stalls and is given up. For a paste that is too long call hed_parser_take_paste or hed_parser_skip_paste.
  *
  * Returns HED_NEXT_EVENT, HED_NEXT_NONE if no paste is open, HED_NEXT_NO_MEMORY, or HED_NEXT_NO_PARSER. *event is written only with
  * HED_NEXT_EVENT. With HED_NEXT_NO_MEMORY nothing changed, and the call may be made again. */
 uint32_t hed_parser_end_paste(hed_parser *parser, hed_event *event);
 
 /* Forgets all that is buffered, an open paste too: the next byte that is fed comes first. The caller calls it where earlier bytes no
- * longer count, as after another program had the terminal. The text of the last HED_KIND_PASTE is kept, and no memory is freed.
+ * longer count, as after another program had the terminal. The text of the last paste or part is kept, and no memory is freed.
  *
  * Returns the number of bytes that were buffered, 0 if there is no parser. */
 size_t hed_parser_reset(hed_parser *parser);
@@ -561,7 +586,7 @@ typedef struct hed_extended_event {
   uint16_t height; /* HED_KIND_RESIZE: the height in pixels */
   uint16_t width; /* HED_KIND_RESIZE: the width in pixels */
   hed_key_report report; /* HED_KIND_REPORT: the report; HED_KIND_KEY: the same key as a press, so that a program needs one case for both */
-  hed_event input; /* HED_KIND_KEY, HED_KIND_MOUSE, HED_KIND_PASTE: the event as hed_parser_next writes it */
+  hed_event input; /* HED_KIND_KEY, HED_KIND_MOUSE, HED_KIND_PASTE, HED_KIND_PASTE_PART: the event as the calls of a hed_parser write it */
   size_t text_len; /* the number of bytes that the event brought, which hed_extended_text copies: see there */
 } hed_extended_event;
 
@@ -601,9 +626,9 @@ bool hed_extended_feed(hed_extended *parser, const uint8_t *bytes, size_t len);
  * the front. Then nothing changed. */
 uint32_t hed_extended_next(hed_extended *parser, bool more, hed_extended_event *event);
 
-/* Copies the bytes of the last event that brought some to out, at most len of them. A HED_KIND_PASTE brings its text. A HED_KIND_REPORT
- * brings the text that the key types, if the terminal reported it. A HED_KIND_CSI, _OSC, _DCS or _APC brings its bytes after ESC and the
- * byte that introduces it, without the end of a string. The two texts are UTF-8. The rest of out is unchanged.
+/* Copies the bytes of the last event that brought some to out, at most len of them. A HED_KIND_PASTE or HED_KIND_PASTE_PART brings its
+ * text. A HED_KIND_REPORT brings the text that the key types, if the terminal reported it. A HED_KIND_CSI, _OSC, _DCS or _APC brings its
+ * bytes after ESC and the byte that introduces it, without the end of a string. The texts are UTF-8. The rest of out is unchanged.
  *
  * Returns the number of all these bytes, as text_len has it: the parser keeps them until the next event of one of these kinds or
  * hed_extended_drop_text. Returns 0 if there are none, or if there is no parser. */
@@ -631,9 +656,20 @@ uint32_t hed_extended_waiting(const hed_extended *parser);
  * HED_NEXT_EVENT. */
 uint32_t hed_extended_flush_escape(hed_extended *parser, hed_extended_event *event);
 
-/* Returns whether the buffer begins with the start of a paste, which is buffered without limit until its end arrives. Returns false if
- * there is no parser. */
+/* Returns whether the buffer begins with the start of a paste, as hed_parser_is_paste_open does. Returns false if there is no parser. */
 bool hed_extended_is_paste_open(const hed_extended *parser);
+
+/* Takes text of an open paste before its end arrives, as hed_parser_take_paste does: the event is a HED_KIND_PASTE_PART, whose text
+ * hed_extended_text copies. The paste stays open.
+ *
+ * Returns HED_NEXT_EVENT, HED_NEXT_NONE if there is no such text, HED_NEXT_NO_MEMORY, or HED_NEXT_NO_PARSER. *event is written only with
+ * HED_NEXT_EVENT. With HED_NEXT_NO_MEMORY nothing changed, and the call may be made again. */
+uint32_t hed_extended_take_paste(hed_extended *parser, size_t limit, hed_extended_event *event);
+
+/* Forgets text of an open paste before its end arrives, as hed_parser_skip_paste does, and writes the number of these bytes to *count.
+ *
+ * Returns false if no paste is open or there is no parser: then nothing changed, and *count isn't written. */
+bool hed_extended_skip_paste(hed_extended *parser, size_t *count);
 
 /* Ends an open paste where it is, as hed_parser_end_paste does: the event is a HED_KIND_PASTE, whose text is what came so far.
  *

@@ -46,18 +46,20 @@ static void no_rows_answer(const hed_parser *parser) {
 static void none_answers(hed_parser *parser) {
   hed_event event, before;
   uint8_t byte = 'x';
+  size_t count = 7;
   memset(&event, 0x55, sizeof event);
   memset(&before, 0x55, sizeof before);
   EXPECT(!hed_parser_feed(parser, &byte, 1));
   EXPECT(hed_parser_next(parser, true, &event) == HED_NEXT_NO_PARSER);
   EXPECT(hed_parser_flush_escape(parser, &event) == HED_NEXT_NO_PARSER);
   EXPECT(hed_parser_end_paste(parser, &event) == HED_NEXT_NO_PARSER);
+  EXPECT(hed_parser_take_paste(parser, 0, &event) == HED_NEXT_NO_PARSER);
   EXPECT(memcmp(&event, &before, sizeof event) == 0);
   EXPECT(hed_parser_paste(parser, &byte, 1) == 0 && byte == 'x');
   hed_parser_drop_paste(parser);
   hed_parser_shrink_to(parser, 1);
   EXPECT(hed_parser_waiting_len(parser) == 0 && hed_parser_waiting(parser) == HED_WAITING_NOTHING);
-  EXPECT(!hed_parser_is_paste_open(parser));
+  EXPECT(!hed_parser_is_paste_open(parser) && !hed_parser_skip_paste(parser, &count) && count == 7);
   EXPECT(hed_parser_reset(parser) == 0);
   no_rows_answer(parser);
   hed_parser_free(parser);
@@ -354,13 +356,16 @@ static void flushes_escapes_alone(hed_parser *parser) {
   EXPECT(hed_parser_reset(parser) == 2);
 }
 
-/* Whether `taken` is a paste of this text. */
-static bool is_paste(hed_parser *parser, const char *want) {
+/* Whether `taken` is of this kind, a paste or a part of one, with this text. */
+static bool has_text(hed_parser *parser, uint8_t kind, const char *want) {
   uint8_t room[64];
   size_t len = strlen(want);
-  return taken.kind == HED_KIND_PASTE && taken.paste_len == len && taken.buttons == 0 && taken.modifiers == 0 && taken.key == 0
-         && taken.x == 0 && taken.y == 0 && taken.detail == 0 && hed_parser_paste(parser, room, sizeof room) == len
-         && memcmp(room, want, len) == 0;
+  return taken.kind == kind && taken.paste_len == len && taken.buttons == 0 && taken.modifiers == 0 && taken.key == 0 && taken.x == 0
+         && taken.y == 0 && taken.detail == 0 && hed_parser_paste(parser, room, sizeof room) == len && memcmp(room, want, len) == 0;
+}
+
+static bool is_paste(hed_parser *parser, const char *want) {
+  return has_text(parser, HED_KIND_PASTE, want);
 }
 
 /* A paste is ended where it is: what it has so far is its text. */
@@ -393,6 +398,71 @@ static void ends_open_pastes_alone(hed_parser *parser) {
   EXPECT(call(hed_parser_end_paste, parser) == HED_NEXT_NONE && hed_parser_waiting_len(parser) == 21);
   EXPECT(NEXT(parser, "", true) == HED_NEXT_EVENT && is_paste(parser, "ab"));
   EXPECT(call(hed_parser_end_paste, parser) == HED_NEXT_EVENT && is_paste(parser, "c"));
+}
+
+/* Calls hed_parser_take_paste as `call` does its like. */
+static uint32_t take_paste(hed_parser *parser, size_t limit) {
+  hed_event before;
+  memset(&taken, 0xaa, sizeof taken);
+  memset(&before, 0xaa, sizeof before);
+  uint32_t answer = hed_parser_take_paste(parser, limit, &taken);
+  EXPECT(answer == HED_NEXT_EVENT || memcmp(&taken, &before, sizeof taken) == 0);
+  return answer;
+}
+
+/* Texts of open pastes, what is taken of them under a limit, or NULL, and how many bytes are held back. */
+static const struct {
+  const char *text;
+  size_t limit;
+  const char *part;
+  size_t held;
+} open_texts[] = {
+  { "abc", 2, "abc", 0 },
+  { "abc", 3, NULL, 0 },
+  { "", 0, NULL, 0 },
+  { "\033[201", 0, NULL, 5 },
+  { "\033[20\033[2", 0, "\033[20", 3 },
+  { "a\342\202", 0, "a", 2 },
+  { "a\342\202\033", 0, "a\357\277\275", 1 },
+  { "\377\033[200~\r", 0, "\357\277\275\033[200~\r", 0 },
+  { "rm -rf ~\rq\033[201", 0, "rm -rf ~\rq", 5 },
+};
+
+/* Of an open paste its decided text is taken, or forgotten. The paste stays open, and its end brings the rest. */
+static void takes_pastes(hed_parser *parser) {
+  for (size_t i = 0; i < sizeof open_texts / sizeof *open_texts; i++) {
+    const char *text = open_texts[i].text, *part = open_texts[i].part;
+    size_t len = strlen(text), held = open_texts[i].held, count = 77;
+    EXPECT(NEXT(parser, "\033[200~last\033[201~\033[200~", true) == HED_NEXT_EVENT && is_paste(parser, "last"));
+    EXPECT(next_of(parser, text, len, true) == HED_NEXT_NONE);
+    EXPECT(take_paste(parser, open_texts[i].limit) == (part ? HED_NEXT_EVENT : HED_NEXT_NONE));
+    EXPECT(part ? has_text(parser, HED_KIND_PASTE_PART, part) : hed_parser_paste(parser, (uint8_t *)"", 0) == 4);
+    EXPECT(is_rest(parser, 6 + (part ? held : len), HED_WAITING_PASTE) && take_paste(parser, 5) == HED_NEXT_NONE);
+    EXPECT(hed_parser_skip_paste(parser, &count) && count == (part ? 0 : len - held) && is_rest(parser, 6 + held, HED_WAITING_PASTE));
+    EXPECT(call(hed_parser_flush_escape, parser) == HED_NEXT_NONE && take_paste(parser, 0) == HED_NEXT_NONE);
+    hed_parser_reset(parser);
+    EXPECT(NEXT(parser, "\033[200~", true) == HED_NEXT_NONE && next_of(parser, text, len, true) == HED_NEXT_NONE);
+    EXPECT(hed_parser_skip_paste(parser, &count) && count == len - held && is_rest(parser, 6 + held, HED_WAITING_PASTE));
+    EXPECT(NEXT(parser, "\033[201~", true) == HED_NEXT_EVENT && taken.kind == HED_KIND_PASTE && is_rest(parser, 0, HED_WAITING_NOTHING));
+  }
+}
+
+/* Where no paste is open, nothing is taken or forgotten: neither of another rest nor of a paste that has its end. */
+static void takes_open_pastes_alone(hed_parser *parser) {
+  size_t count = 77;
+  for (size_t i = 0; i < RESTS; i++) {
+    if (rests[i].kind == HED_WAITING_PASTE) continue;
+    feed_rest(parser, &rests[i]);
+    EXPECT(take_paste(parser, 0) == HED_NEXT_NONE && !hed_parser_skip_paste(parser, &count));
+    EXPECT(is_rest(parser, strlen(rests[i].text), rests[i].kind));
+    hed_parser_reset(parser);
+  }
+  EXPECT(hed_parser_feed(parser, (const uint8_t *)"\033[200~ab\033[201~\033[200~c", 21));
+  EXPECT(take_paste(parser, 0) == HED_NEXT_NONE && !hed_parser_skip_paste(parser, &count) && hed_parser_waiting_len(parser) == 21);
+  EXPECT(NEXT(parser, "", true) == HED_NEXT_EVENT && is_paste(parser, "ab"));
+  EXPECT(take_paste(parser, SIZE_MAX) == HED_NEXT_NONE && take_paste(parser, 0) == HED_NEXT_EVENT);
+  EXPECT(has_text(parser, HED_KIND_PASTE_PART, "c") && NEXT(parser, "\033[201~q", true) == HED_NEXT_EVENT && is_paste(parser, ""));
+  EXPECT(NEXT(parser, "", true) == HED_NEXT_EVENT && is_key(HED_KEY_CHAR, 'q', HED_TERMWIZ_MOD_NONE) && count == 77);
 }
 
 /* The text of a paste is kept until it is dropped, whatever is buffered. */
@@ -1243,6 +1313,8 @@ int main(int argc, char **argv) {
   flushes_escapes_alone(&parser);
   ends_pastes(&parser);
   ends_open_pastes_alone(&parser);
+  takes_pastes(&parser);
+  takes_open_pastes_alone(&parser);
   drops_pastes(&parser);
   shrinks(&parser);
   ends_a_long_paste(&parser);

@@ -297,7 +297,7 @@ static void has_numbers(void) {
   EXPECT(HED_PROTOCOL_LEGACY == 0 && HED_PROTOCOL_KITTY == 1 && HED_NO_CODE == 0xffffffff);
   EXPECT(HED_KIND_KEY == 1 && HED_KIND_MOUSE == 2 && HED_KIND_PASTE == 3 && HED_KIND_REPORT == 4 && HED_KIND_FOCUS_GAINED == 5);
   EXPECT(HED_KIND_FOCUS_LOST == 6 && HED_KIND_CURSOR_POSITION == 7 && HED_KIND_RESIZE == 8 && HED_KIND_KEYBOARD_FLAGS == 9);
-  EXPECT(HED_KIND_CSI == 10 && HED_KIND_OSC == 11 && HED_KIND_DCS == 12 && HED_KIND_APC == 13);
+  EXPECT(HED_KIND_CSI == 10 && HED_KIND_OSC == 11 && HED_KIND_DCS == 12 && HED_KIND_APC == 13 && HED_KIND_PASTE_PART == 14);
   EXPECT(HED_KEY_EVENT_KIND_PRESS == 1 && HED_KEY_EVENT_KIND_REPEAT == 2 && HED_KEY_EVENT_KIND_RELEASE == 3);
   EXPECT(HED_KITTY_MOD_SHIFT == 1 && HED_KITTY_MOD_ALT == 2 && HED_KITTY_MOD_CTRL == 4 && HED_KITTY_MOD_NUM_LOCK == 128);
   EXPECT(HED_KITTY_FLAG_DISAMBIGUATE_ESCAPE_CODES == 1 && HED_KITTY_FLAG_REPORT_EVENT_TYPES == 2
@@ -309,12 +309,14 @@ static void has_numbers(void) {
 static void none_answers(hed_extended *parser) {
   hed_extended_event event, before;
   uint8_t byte = 'x';
+  size_t count = 7;
   memset(&event, 0x55, sizeof event);
   memset(&before, 0x55, sizeof before);
   EXPECT(!hed_extended_feed(parser, &byte, 1));
   EXPECT(hed_extended_next(parser, true, &event) == HED_NEXT_NO_PARSER);
   EXPECT(hed_extended_flush_escape(parser, &event) == HED_NEXT_NO_PARSER);
   EXPECT(hed_extended_end_paste(parser, &event) == HED_NEXT_NO_PARSER);
+  EXPECT(hed_extended_take_paste(parser, 0, &event) == HED_NEXT_NO_PARSER && !hed_extended_skip_paste(parser, &count) && count == 7);
   EXPECT(memcmp(&event, &before, sizeof event) == 0);
   EXPECT(hed_extended_text(parser, &byte, 1) == 0 && byte == 'x');
   hed_extended_drop_text(parser);
@@ -433,6 +435,31 @@ static void ends_pastes(hed_extended *parser) {
   feed(parser, TEXT("\033[200~ab\033"), true);
   EXPECT(hed_extended_end_paste(parser, &event) == HED_NEXT_EVENT && event.kind == HED_KIND_PASTE && event.text_len == 3);
   EXPECT(hed_extended_text(parser, room, 4) == 3 && memcmp(room, "ab\033.", 4) == 0 && hed_extended_waiting_len(parser) == 0);
+}
+
+/* Of an open paste its text is taken, or forgotten, but for what may begin its end. It stays open, and its end brings the rest. */
+static void takes_pastes(hed_extended *parser) {
+  static const hed_extended_event none;
+  uint8_t room[8] = "........";
+  hed_extended_event event = none, wanted = none;
+  size_t count = 77;
+  EXPECT(hed_extended_take_paste(parser, 0, &event) == HED_NEXT_NONE && !hed_extended_skip_paste(parser, &count) && count == 77);
+  feed(parser, TEXT("\033[200~ab\r\033[20"), true);
+  EXPECT(hed_extended_take_paste(parser, 7, &event) == HED_NEXT_NONE && memcmp(&event, &none, sizeof event) == 0);
+  EXPECT(hed_extended_take_paste(parser, 6, &event) == HED_NEXT_EVENT);
+  wanted.kind = wanted.input.kind = HED_KIND_PASTE_PART;
+  wanted.text_len = wanted.input.paste_len = 3;
+  EXPECT(event.kind == wanted.kind && event.flags == 0 && event.row == 0 && event.column == 0 && event.rows == 0 && event.columns == 0
+         && event.height == 0 && event.width == 0 && event.text_len == wanted.text_len && event.report.kind == 0);
+  EXPECT(event.input.kind == wanted.input.kind && event.input.paste_len == wanted.input.paste_len && event.input.key == 0);
+  EXPECT(hed_extended_text(parser, room, 8) == 3 && memcmp(room, "ab\r.....", 8) == 0 && hed_extended_waiting_len(parser) == 10);
+  EXPECT(hed_extended_take_paste(parser, 0, &event) == HED_NEXT_NONE && hed_extended_skip_paste(parser, &count) && count == 0);
+  feed(parser, TEXT("2"), true);
+  EXPECT(hed_extended_skip_paste(parser, &count) && count == 5 && hed_extended_waiting_len(parser) == 6);
+  EXPECT(hed_extended_text(parser, room, 0) == 3 && FEED(parser, "x\033[201~"));
+  EXPECT(hed_extended_skip_paste(parser, &count) == false && hed_extended_take_paste(parser, 0, &event) == HED_NEXT_NONE);
+  EXPECT(hed_extended_next(parser, true, &event) == HED_NEXT_EVENT && event.kind == HED_KIND_PASTE && event.text_len == 1);
+  EXPECT(hed_extended_text(parser, room, 1) == 1 && room[0] == 'x' && hed_extended_waiting_len(parser) == 0);
 }
 
 /* Before an event is asked for, the Escape key is flushed and an open paste is ended. A parser that was just made has neither. */
@@ -735,6 +762,7 @@ int main(void) {
     keeps_texts(&parser);
     shrinks(&parser);
     ends_pastes(&parser);
+    takes_pastes(&parser);
     reads_a_long_paste(&parser, false);
     reads_a_long_paste(&parser, true);
     reads_a_string_in_pieces(&parser);

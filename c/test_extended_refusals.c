@@ -116,8 +116,13 @@ static void refuse_while_reading(size_t piece) {
   printf("pieces of %zu: %ld refusals\n", piece, number - 1);
 }
 
-/* The end of an open paste, with each request refused in turn. */
-static void refuse_while_ending(void) {
+/* Ends an open paste, or takes a part of it. */
+static uint32_t text_of(hed_extended *parser, bool is_part, hed_extended_event *event) {
+  return is_part ? hed_extended_take_paste(parser, 5, event) : hed_extended_end_paste(parser, event);
+}
+
+/* This with each request refused in turn. */
+static void refuse_while_ending(bool is_part) {
   static const char text[] = "\033]0;last\007\033[200~open \377";
   unsigned met;
   long number = 0;
@@ -127,17 +132,18 @@ static void refuse_while_ending(void) {
     EXPECT(hed_extended_init(&parser, HED_PROTOCOL_LEGACY) && hed_extended_feed(&parser, (const uint8_t *)text, sizeof text - 1));
     EXPECT(hed_extended_next(&parser, true, &event) == HED_NEXT_EVENT && hed_extended_next(&parser, true, &event) == HED_NEXT_NONE);
     refuse(++number);
-    uint32_t answer = hed_extended_end_paste(&parser, &event);
+    uint32_t answer = text_of(&parser, is_part, &event);
     met = refused;
     refuse(0);
     EXPECT(answer == (met ? HED_NEXT_NO_MEMORY : HED_NEXT_EVENT));
     EXPECT(!met || (hed_extended_text(&parser, NULL, 0) == 6 && hed_extended_waiting_len(&parser) == 12));
-    EXPECT(!met || hed_extended_end_paste(&parser, &event) == HED_NEXT_EVENT);
-    EXPECT(event.kind == HED_KIND_PASTE && event.text_len == 8 && hed_extended_waiting_len(&parser) == 0);
+    EXPECT(!met || text_of(&parser, is_part, &event) == HED_NEXT_EVENT);
+    EXPECT(event.kind == (is_part ? HED_KIND_PASTE_PART : HED_KIND_PASTE) && event.text_len == 8);
+    EXPECT(hed_extended_waiting_len(&parser) == (is_part ? 6 : 0));
     hed_extended_free(&parser);
   } while (met);
   EXPECT(number > 1);
-  printf("end of a paste: %ld refusals\n", number - 1);
+  printf("%s of a paste: %ld refusals\n", is_part ? "part" : "end", number - 1);
 }
 
 /* A key report, with each request refused in turn: nothing is written, and the call may be made again. */
@@ -288,7 +294,8 @@ int main(int argc, char **argv) {
   long step = argc > 1 ? atol(argv[1]) : 1;
   if (step < 1) return 2;
   for (size_t piece = 1; piece < 2 * sizeof stream; piece = piece * 3 + 1) refuse_while_reading(piece);
-  refuse_while_ending();
+  refuse_while_ending(false);
+  refuse_while_ending(true);
   refuse_while_encoding();
   need_no_memory();
   refuse_init(step);

@@ -108,30 +108,37 @@ static bool is_pasted(hed_parser *parser, const char *want) {
   return hed_parser_paste(parser, text, sizeof text) == len && memcmp(text, want, len) == 0;
 }
 
-/* Ends the open paste of a parser with one request refused, which leaves everything as it was, and again. Returns whether one was. */
-static bool refuse_end_of(hed_parser *parser, long number, const char *last) {
+/* Ends the open paste of a parser, or takes a part of it, of which two bytes are held back. */
+static uint32_t text_of(hed_parser *parser, bool is_part, hed_event *event) {
+  return is_part ? hed_parser_take_paste(parser, 3, event) : hed_parser_end_paste(parser, event);
+}
+
+/* Does so with one request refused, which leaves everything as it was, and again. Returns whether one was. */
+static bool refuse_text_of(hed_parser *parser, bool is_part, long number, const char *last) {
   hed_event event;
   uint8_t before[sizeof event];
   size_t waiting = hed_parser_waiting_len(parser);
   memset(&event, 0x55, sizeof event);
   memcpy(before, &event, sizeof event);
   refuse(number);
-  uint32_t answer = hed_parser_end_paste(parser, &event);
+  uint32_t answer = text_of(parser, is_part, &event);
   unsigned met = refused;
   refuse(0);
   EXPECT(answer == (met ? HED_NEXT_NO_MEMORY : HED_NEXT_EVENT));
   if (met) {
     EXPECT(memcmp(&event, before, sizeof event) == 0 && is_pasted(parser, last));
     EXPECT(hed_parser_waiting_len(parser) == waiting && hed_parser_waiting(parser) == HED_WAITING_PASTE);
-    EXPECT(hed_parser_end_paste(parser, &event) == HED_NEXT_EVENT);
+    EXPECT(text_of(parser, is_part, &event) == HED_NEXT_EVENT);
   }
-  EXPECT(event.kind == HED_KIND_PASTE && event.paste_len == 16 && is_pasted(parser, "h\303\266lle \357\277\275\357\277\275 \033["));
-  EXPECT(hed_parser_waiting_len(parser) == 0 && hed_parser_waiting(parser) == HED_WAITING_NOTHING);
+  EXPECT(event.kind == (is_part ? HED_KIND_PASTE_PART : HED_KIND_PASTE) && event.paste_len == (is_part ? 14 : 16));
+  EXPECT(is_pasted(parser, is_part ? "h\303\266lle \357\277\275\357\277\275 " : "h\303\266lle \357\277\275\357\277\275 \033["));
+  EXPECT(hed_parser_waiting_len(parser) == (is_part ? 8 : 0));
+  EXPECT(hed_parser_waiting(parser) == (is_part ? HED_WAITING_PASTE : HED_WAITING_NOTHING));
   return met;
 }
 
-/* The end of an open paste, with each request refused in turn. */
-static void refuse_while_ending(void) {
+/* The end of an open paste, or a part of it, with each request refused in turn. */
+static void refuse_while_ending(bool is_part) {
   static const char last[] = "\033[200~last\033[201~", open[] = "\033[200~h\303\266lle \377\377 \033[";
   long number = 0;
   bool met;
@@ -143,11 +150,11 @@ static void refuse_while_ending(void) {
     EXPECT(hed_parser_next(&parser, true, &event) == HED_NEXT_EVENT);
     EXPECT(hed_parser_feed(&parser, (const uint8_t *)open, sizeof open - 1));
     EXPECT(hed_parser_next(&parser, true, &event) == HED_NEXT_NONE);
-    met = refuse_end_of(&parser, ++number, "last");
+    met = refuse_text_of(&parser, is_part, ++number, "last");
     hed_parser_free(&parser);
   } while (met);
   EXPECT(number > 1);
-  printf("end of a paste: %ld refusals\n", number - 1);
+  printf("%s of a paste: %ld refusals\n", is_part ? "part" : "end", number - 1);
 }
 
 /* A refused init leaves what was there: a parser in which two bytes wait, or none. Returns whether it was refused. */
@@ -229,6 +236,7 @@ static void refuse_while_encoding(void) {
 static void need_no_memory(void) {
   hed_parser parser = HED_PARSER_NONE;
   hed_event event;
+  size_t count;
   EXPECT(hed_parser_init(&parser));
   EXPECT(hed_parser_feed(&parser, (const uint8_t *)"\033[A\033", 4));
   refuse(1);
@@ -247,7 +255,9 @@ static void need_no_memory(void) {
   EXPECT(hed_parser_feed(&parser, (const uint8_t *)"\033[200~last\033[201~\033[200~ab", 24));
   EXPECT(hed_parser_next(&parser, true, &event) == HED_NEXT_EVENT);
   refuse(1);
-  EXPECT(hed_parser_reset(&parser) == 8 && is_pasted(&parser, "last"));
+  EXPECT(hed_parser_take_paste(&parser, 2, &event) == HED_NEXT_NONE);
+  EXPECT(hed_parser_skip_paste(&parser, &count) && count == 2 && hed_parser_take_paste(&parser, 0, &event) == HED_NEXT_NONE);
+  EXPECT(hed_parser_reset(&parser) == 6 && is_pasted(&parser, "last"));
   hed_parser_drop_paste(&parser);
   EXPECT(is_pasted(&parser, "") && !refused);
   refuse(0);
@@ -422,7 +432,8 @@ int main(int argc, char **argv) {
   long step = argc > 1 ? atol(argv[1]) : 1;
   if (step < 1) return 2;
   for (size_t piece = 1; piece < 2 * sizeof stream; piece = piece * 3 + 1) refuse_while_reading(piece);
-  refuse_while_ending();
+  refuse_while_ending(false);
+  refuse_while_ending(true);
   refuse_while_encoding();
   need_no_memory();
   refuse_bindings();

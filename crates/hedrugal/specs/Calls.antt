@@ -3,6 +3,7 @@ use Rattle.std.specs.Prelude.{◌≡◌, ℕ, Bool, false, List, [], ◌∷◌, 
 use Rattle.termwiz_input.specs.InputEvent.{InputEvent}
 use Rattle.termwiz_input.specs.InputEvent.TheVariants.{Paste}
 use Rattle.termwiz_input.specs.Grammar.{HasPaste, IsRest, Means, Steps}
+use Rattle.termwiz_input.specs.PasteParts.{HasPart, IsSkipped, IsTaken}
 use Rattle.termwiz_input.specs.PasteSearch.{IsPasteSoFar}
 use Rattle.termwiz_input.specs.Waiting.{Waiting}
 use Rattle.termwiz_input.specs.Waiting.TheVariants.{Nothing, Escape, Sequence, Character, Paste as OpenPaste}
@@ -10,7 +11,7 @@ use Rattle.termwiz_input.specs.WaitingKinds.{IsKind, IsOneOrTwoEscapes, IsOpenPa
 use Rattle.termwiz_input.specs.Bytes.{Begins, START}
 use Rattle.hedrugal.specs.declared.parser_and_paste.ParserAndPaste.{ParserAndPaste}
 use Rattle.hedrugal.specs.declared.events.CEvent.{CEvent}
-use Rattle.hedrugal.specs.Events.{c_event}
+use Rattle.hedrugal.specs.Events.{c_event, c_part}
 
 -- there is a parser, in which nothing is buffered, and which gave no paste
 abbrev pub IsFresh : Option ParserAndPaste → Type 0
@@ -101,6 +102,24 @@ Ended (Some before) shown (Some after) =
     (event : InputEvent) × IsPasteSoFar before.parser event × (after.parser ≡ []) × (shown ≡ c_event event)
     × (string_bytes after.pasted ≡ text_after event (string_bytes before.pasted))
 Ended _ shown _ = ⊥
+
+-- an open paste is buffered, of which a part can be taken under this limit
+abbrev pub HasPartOfPaste : Option ParserAndPaste → ℕ → Type 0
+HasPartOfPaste (Some held) limit = HasPart held.parser limit
+HasPartOfPaste None limit = ⊥
+
+-- that part was taken, this is its event, and its text is kept
+abbrev pub TookPart : Option ParserAndPaste → ℕ → CEvent → Option ParserAndPaste → Type 0
+TookPart (Some before) limit shown (Some after) =
+    (text : List ℕ) × IsTaken before.parser limit text after.parser × (shown ≡ c_part text)
+    × (string_bytes after.pasted ≡ text)
+TookPart _ limit shown _ = ⊥
+
+-- so many bytes of the open paste are forgotten, and the text of the last paste stays
+abbrev pub Skipped : Option ParserAndPaste → ℕ → Option ParserAndPaste → Type 0
+Skipped (Some before) count (Some after) =
+    IsSkipped before.parser count after.parser × (string_bytes after.pasted ≡ string_bytes before.pasted)
+Skipped _ count _ = ⊥
 
 -- what was buffered is forgotten, and the text of the last paste stays
 abbrev pub IsReset : Option ParserAndPaste → Option ParserAndPaste → Type 0

@@ -1,5 +1,5 @@
 -- Events as C has them.
-use Rattle.std.specs.Prelude.{length}
+use Rattle.std.specs.Prelude.{ℕ, List, length}
 use Rattle.termwiz_input.specs.InputEvent.{InputEvent}
 use Rattle.termwiz_input.specs.InputEvent.TheVariants.{Key, Mouse, Paste}
 use Rattle.hedrugal.specs.declared.events.CEvent.{CEvent}
@@ -30,3 +30,7 @@ c_event (Mouse m) = record {
 c_event (Paste text) =
     record { kind = 3; buttons = 0; modifiers = 0; key = 0; x = 0; y = 0; detail = 0; paste_len = length text }
 c_event _ = record { kind = 0; buttons = 0; modifiers = 0; key = 0; x = 0; y = 0; detail = 0; paste_len = 0 }
+
+-- The part of a paste that has this text, in numbers: as the paste would be, but of a kind of its own.
+abbrev pub c_part : List ℕ → CEvent
+c_part text = record (c_event (Paste text)) { kind = 14 }

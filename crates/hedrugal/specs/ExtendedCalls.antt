@@ -1,6 +1,7 @@
 -- What the calls do to an extended parser that C holds: to the parser that its handle leads to, if there is one.
 use Rattle.std.specs.Prelude.{◌≡◌, ℕ, Bool, false, List, [], ◌∷◌, ◌++◌, length, Option, Some, None, unwrap_or}
 use Rattle.termwiz_input.specs.Bytes.{Begins, START}
+use Rattle.termwiz_input.specs.PasteParts.{HasPart, IsSkipped, IsTaken}
 use Rattle.termwiz_input.specs.Waiting.{Waiting}
 use Rattle.termwiz_input.specs.WaitingKinds.{IsOneOrTwoEscapes, IsOpenPaste}
 use Rattle.termwiz_extended_events.specs.declared.types.ExtendedEvent.{ExtendedEvent}
@@ -11,7 +12,7 @@ use Rattle.termwiz_extended_grammar.specs.ExtendedKinds.{IsKind}
 use Rattle.hedrugal.specs.declared.extended_and_text.ExtendedAndText.{ExtendedAndText}
 use Rattle.hedrugal.specs.declared.extended_events.CExtendedEvent.{CExtendedEvent}
 use Rattle.hedrugal.specs.Calls.{waiting_number}
-use Rattle.hedrugal.specs.ExtendedEvents.{c_extended_event, own_bytes, protocol_number}
+use Rattle.hedrugal.specs.ExtendedEvents.{c_extended_event, c_extended_part, own_bytes, protocol_number}
 
 -- there is a parser for the protocol with this number, nothing is buffered in it, and no event brought bytes
 abbrev pub IsFresh : Option ExtendedAndText → ℕ → Type 0
@@ -99,6 +100,25 @@ abbrev pub Ended : Option ExtendedAndText → CExtendedEvent → Option Extended
 Ended (Some before) shown (Some after) =
     (event : ExtendedEvent) × IsPasteEvent before.parser.text event × (after.parser.text ≡ []) × Shows before event shown after
 Ended _ shown _ = ⊥
+
+-- an open paste is buffered, of which a part can be taken under this limit
+abbrev pub HasPartOfPaste : Option ExtendedAndText → ℕ → Type 0
+HasPartOfPaste (Some held) limit = HasPart held.parser.text limit
+HasPartOfPaste None limit = ⊥
+
+-- that part was taken, this is its event, its text is kept, and the protocol is as before
+abbrev pub TookPart : Option ExtendedAndText → ℕ → CExtendedEvent → Option ExtendedAndText → Type 0
+TookPart (Some before) limit shown (Some after) =
+    (text : List ℕ) × IsTaken before.parser.text limit text after.parser.text × (shown ≡ c_extended_part text)
+    × (after.text.items ≡ text) × (after.parser.protocol ≡ before.parser.protocol)
+TookPart _ limit shown _ = ⊥
+
+-- so many bytes of the open paste are forgotten, and nothing else changed
+abbrev pub Skipped : Option ExtendedAndText → ℕ → Option ExtendedAndText → Type 0
+Skipped (Some before) count (Some after) =
+    IsSkipped before.parser.text count after.parser.text × (after.parser.protocol ≡ before.parser.protocol)
+    × (after.text.items ≡ before.text.items)
+Skipped _ count _ = ⊥
 
 -- what was buffered is forgotten, and nothing else changed
 abbrev pub IsReset : Option ExtendedAndText → Option ExtendedAndText → Type 0

@@ -14,7 +14,7 @@ use Rattle.termwiz_extended_events.specs.EventKeys.{key_of_event}
 use Rattle.hedrugal.specs.declared.events.CEvent.{CEvent}
 use Rattle.hedrugal.specs.declared.extended_events.CExtendedEvent.{CExtendedEvent}
 use Rattle.hedrugal.specs.declared.extended_events.CKeyReport.{CKeyReport}
-use Rattle.hedrugal.specs.Events.{c_event}
+use Rattle.hedrugal.specs.Events.{c_event, c_part}
 use Rattle.hedrugal.specs.Keys.{key_number, key_detail}
 
 -- the number of the protocol that the program turned on
@@ -121,3 +121,7 @@ with_own event shown = shown
 -- An event in numbers. What its kind has no use for is 0.
 unfoldable pub c_extended_event : ExtendedEvent → CExtendedEvent
 c_extended_event event = with_own event (common event)
+
+-- The part of a paste that has this text, in numbers: as the paste would be, but of a kind of its own.
+abbrev pub c_extended_part : List ℕ → CExtendedEvent
+c_extended_part text = record (c_extended_event (Input (input.Paste text))) { kind = 14; input = c_part text }

@@ -15,11 +15,14 @@ pub(crate) const KIND_MOUSE: u8 = 2;
 
 pub(crate) const KIND_PASTE: u8 = 3;
 
+// The kind of a part of a paste, which both parsers have too.
+pub(crate) const KIND_PASTE_PART: u8 = 14;
+
 /// `hed_event`: an event in numbers. What its kind has no use for is 0.
 #[repr(C)]
 #[derive(Clone, Copy)]
 pub struct CEvent {
-    /// 1 for a key, 2 for the mouse, 3 for a paste.
+    /// 1 for a key, 2 for the mouse, 3 for a paste, 14 for a part of one.
     pub kind: u8,
     /// The mouse buttons that are down, by the bits of `MouseButtons`.
     pub buttons: u8,
@@ -33,7 +36,7 @@ pub struct CEvent {
     pub y: u16,
     /// The code point of a character, or the number of a function key.
     pub detail: u32,
-    /// The length of a paste's text.
+    /// The length of the text of a paste, or of a part of one.
     pub paste_len: usize,
 }
 

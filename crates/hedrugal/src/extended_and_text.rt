@@ -1,14 +1,17 @@
 // What the handle of an extended parser leads to.
-ghost use Rattle.std.specs.Prelude.{◌≡◌, ◌↔◌, [], ◌∷◌, false, IfOk, IfSome, IfNone, IsSome, OnErr};
+ghost use Rattle.std.specs.Prelude.{◌≡◌, ◌↔◌, ◌+◌, ◌≤◌, ℕ, List, [], ◌∷◌, false, length, max, IfOk, IfSome, IfNone, IsSome, OnErr, OnOk};
+ghost use Rattle.termwiz_input.specs.PasteParts.{HasPart, IsTaken};
 ghost use Rattle.termwiz_input.specs.WaitingKinds.{IsOneOrTwoEscapes, IsOpenPaste};
 ghost use Rattle.termwiz_extended_events.specs.declared.types.ExtendedEvent.{ExtendedEvent as Event};
 ghost use Rattle.termwiz_extended_grammar.specs.ExtendedGrammar.{IsRest, Means, Steps};
 ghost use Rattle.termwiz_input_extended.specs.NextItems.{HasItemThatNeedsMemory, IsPasteEvent};
-ghost use Rattle.hedrugal.specs.ExtendedEvents.{c_extended_event};
+ghost use Rattle.hedrugal.specs.ExtendedEvents.{c_extended_event, c_extended_part};
 ghost use Rattle.hedrugal.specs.ExtendedCalls.{text_after};
 
+use crate::events::{CEvent, KIND_PASTE_PART};
 use crate::extended_events::{CExtendedEvent, c_extended_event, own_bytes};
 use std::alloc::{AllocError, Global};
+use termwiz_input::types::InputEvent;
 use termwiz_input_extended::input::ExtendedParser;
 use termwiz_input_extended::types::ExtendedEvent;
 
@@ -91,6 +94,36 @@ impl ExtendedAndText {
     {
         match self.parser.end_paste()? {
             Some(event) => Ok(Some(self.keep_text(event))),
+            None => Ok(None),
+        }
+    }
+
+    // Text of an open paste of more than `limit` bytes, as C has it. The paste stays open.
+    #[tactic(auto, unfolding(crate::specs::ExtendedEvents::c_extended_event, crate::specs::ExtendedEvents::own_bytes))]
+    pub(crate) fn take_paste(&mut self, limit: usize) -> Result<Option<CExtendedEvent>, AllocError>
+        ensures part { IfOk result (λ found. IfSome found (λ shown. (text : List ℕ)
+            × IsTaken self.old.parser.text limit text self.new.parser.text
+            × (shown ≡ c_extended_part text)
+            × (self.new.text.items ≡ text))) }
+        ensures protocol { self.new.parser.protocol ≡ self.old.parser.protocol }
+        ensures none { IfOk result (λ found. IfNone found (¬ HasPart self.old.parser.text limit)) }
+        ensures none_same { IfOk result (λ found. IfNone found (self.new ≡ self.old)) }
+        ensures bounded { OnOk result (IsOpenPaste self.new.parser.text → length self.new.parser.text ≤ 6 + max limit 5) }
+        ensures refused { OnErr result (HasPart self.old.parser.text limit) }
+        ensures refused_same { OnErr result (self.new ≡ self.old) }
+    {
+        match self.parser.take_paste(limit)? {
+            Some(text) => {
+                let shown = self.keep_text(ExtendedEvent::Input(InputEvent::Paste(text)));
+                Ok(Some(CExtendedEvent {
+                    kind: KIND_PASTE_PART,
+                    input: CEvent {
+                        kind: KIND_PASTE_PART,
+                        ..shown.input
+                    },
+                    ..shown
+                }))
+            }
             None => Ok(None),
         }
     }

@@ -1,7 +1,7 @@
 // The calls of the extended parser.
-ghost use Rattle.std.specs.Prelude.{◌≡◌, ◌≢◌, ◌≤◌, ◌↔◌, [], length, true, false, None, IfSome, IfNone, IsTrue};
+ghost use Rattle.std.specs.Prelude.{◌≡◌, ◌≢◌, ◌≤◌, ◌↔◌, ◌+◌, [], length, max, true, false, None, IfSome, IfNone, IsTrue};
 ghost use Rattle.hedrugal.specs.Calls.{copied};
-ghost use Rattle.hedrugal.specs.ExtendedCalls.{IsNoProtocol, Ended, Flushed, Gave, HasDroppedText, HasEndlessPaste, HasEscape, HasKind, HasOpenPaste, IsFresh, IsReset, IsUnchanged, NeedsMemoryNext, Rests, Took, kept, waiting_len};
+ghost use Rattle.hedrugal.specs.ExtendedCalls.{IsNoProtocol, Ended, Flushed, Gave, HasDroppedText, HasEndlessPaste, HasEscape, HasKind, HasOpenPaste, HasPartOfPaste, IsFresh, IsReset, IsUnchanged, NeedsMemoryNext, Rests, Skipped, Took, TookPart, kept, waiting_len};
 ghost use Rattle.hedrugal.specs.ExtendedEvents.{protocol_number};
 ghost use Rattle.hedrugal.specs.Handles.{extended_of};
 
@@ -253,6 +253,64 @@ pub extern "C" fn hed_extended_end_paste(parser: &mut Handle, event: &mut CExten
         Ok(None) => NEXT_NONE,
         Err(_) => NEXT_NO_MEMORY,
     }
+}
+
+/// Takes text of an open paste of which more than `limit` bytes are buffered. The paste stays open. The answer is 1 if `event` is the part of
+/// the paste that has this text; 0 if there is no such text, or no open paste; 2 if memory for the text is refused; and 3 if there is no
+/// parser.
+#[unsafe(no_mangle)]
+pub extern "C" fn hed_extended_take_paste(
+    parser: &mut Handle,
+    limit: usize,
+    event: &mut CExtendedEvent,
+) -> u32
+    ensures answers { result ≤ 3 }
+    ensures none { result ≡ NEXT_NONE → ¬ HasPartOfPaste (extended_of parser.old) limit }
+    ensures part { result ≡ NEXT_EVENT → TookPart (extended_of parser.old) limit event.new (extended_of parser.new) }
+    ensures bounded { result ≢ NEXT_NO_MEMORY → HasEndlessPaste (extended_of parser.new)
+        → waiting_len (extended_of parser.new) ≤ 6 + max limit 5 }
+    ensures refused { result ≡ NEXT_NO_MEMORY → HasPartOfPaste (extended_of parser.old) limit }
+    ensures no_parser { result ≡ NEXT_NO_PARSER ↔ (extended_of parser.old ≡ None) }
+    ensures same { result ≢ NEXT_EVENT → parser.new.owned.held ≡ parser.old.owned.held }
+    ensures event_same { result ≢ NEXT_EVENT → event.new ≡ event.old }
+{
+    let Some(held) = parser.get_mut() else {
+        return NEXT_NO_PARSER;
+    };
+    let Some(held) = held.extended_mut() else {
+        return NEXT_NO_PARSER;
+    };
+    match held.take_paste(limit) {
+        Ok(Some(part)) => {
+            *event = part;
+            NEXT_EVENT
+        }
+        Ok(None) => NEXT_NONE,
+        Err(_) => NEXT_NO_MEMORY,
+    }
+}
+
+/// Forgets text of an open paste: what `hed_extended_take_paste` would take with a limit of 0. The paste stays open. The answer is true if
+/// `count` is how many bytes these were, and false if no paste is open or there is no parser.
+#[unsafe(no_mangle)]
+pub extern "C" fn hed_extended_skip_paste(parser: &mut Handle, count: &mut usize) -> bool
+    ensures skipped { result ≡ true → Skipped (extended_of parser.old) count.new (extended_of parser.new) }
+    ensures bounded { HasEndlessPaste (extended_of parser.new) → waiting_len (extended_of parser.new) ≤ 6 + 5 }
+    ensures none { result ≡ false → ¬ HasEndlessPaste (extended_of parser.old) }
+    ensures same { result ≡ false → parser.new.owned.held ≡ parser.old.owned.held }
+    ensures count_same { result ≡ false → count.new ≡ count.old }
+{
+    let Some(held) = parser.get_mut() else {
+        return false;
+    };
+    let Some(held) = held.extended_mut() else {
+        return false;
+    };
+    let Some(skipped) = held.parser.skip_paste() else {
+        return false;
+    };
+    *count = skipped;
+    true
 }
 
 /// Forgets what is buffered, and returns how many bytes these were; 0 if there is no parser.

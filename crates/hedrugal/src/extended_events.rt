@@ -62,8 +62,8 @@ pub struct CKeyReport {
 #[derive(Clone, Copy)]
 pub struct CExtendedEvent {
     /// 1 for a key, 2 for the mouse, 3 for a paste, 4 for a key report, 5 and 6 for a focus gained and lost, 7 for the position of
-    /// the cursor, 8 for a new size, 9 for keyboard flags, and 10 to 13 for a control sequence, an operating system command, a device
-    /// control string and an application program command.
+    /// the cursor, 8 for a new size, 9 for keyboard flags, 10 to 13 for a control sequence, an operating system command, a device
+    /// control string and an application program command, and 14 for a part of a paste.
     pub kind: u8,
     /// The flags of Kitty's keyboard protocol.
     pub flags: u8,

@@ -6,10 +6,10 @@
 //! bytes that a terminal sends for it.
 #![tactic(auto)]
 
-ghost use Rattle.std.specs.Prelude.{◌≡◌, ◌≢◌, ◌≤◌, ◌↔◌, ◌+◌, ◌*◌, ◌++◌, [], ◌∷◌, length, true, false, None, IsTrue};
+ghost use Rattle.std.specs.Prelude.{◌≡◌, ◌≢◌, ◌≤◌, ◌↔◌, ◌+◌, ◌*◌, ◌++◌, [], ◌∷◌, length, max, true, false, None, IsTrue};
 ghost use Rattle.event_text.specs.Names.{variant_name};
 ghost use Rattle.termwiz_input.specs.KeyCode.{KeyCode as Key};
-ghost use Rattle.hedrugal.specs.Calls.{Ended, Flushed, Gave, HasDroppedPaste, HasEndlessPaste, HasEscape, HasKind, HasOpenPaste, HasPasteNext, IsFresh, IsReset, IsUnchanged, Rests, Took, copied, pasted, waiting_len, waiting_number};
+ghost use Rattle.hedrugal.specs.Calls.{Ended, Flushed, Gave, HasDroppedPaste, HasEndlessPaste, HasEscape, HasKind, HasOpenPaste, HasPartOfPaste, HasPasteNext, IsFresh, IsReset, IsUnchanged, Rests, Skipped, Took, TookPart, copied, pasted, waiting_len, waiting_number};
 ghost use Rattle.hedrugal.specs.Handles.{parser_of};
 ghost use Rattle.hedrugal.specs.Keys.{IsNoKey, key_number};
 ghost use Rattle.hedrugal.specs.Presses.{HasNoText, IsBad, Wrote};
@@ -52,7 +52,7 @@ const VERSION_MINOR: u32 = 1;
 
 const VERSION_PATCH: u32 = 0;
 
-// The answers of `hed_parser_next`, `hed_parser_flush_escape` and `hed_parser_end_paste`.
+// The answers of `hed_parser_next`, `hed_parser_flush_escape`, `hed_parser_take_paste` and `hed_parser_end_paste`.
 const NEXT_NONE: u32 = 0;
 
 const NEXT_EVENT: u32 = 1;
@@ -278,6 +278,64 @@ pub extern "C" fn hed_parser_end_paste(parser: &mut Handle, event: &mut CEvent) 
         Ok(None) => NEXT_NONE,
         Err(_) => NEXT_NO_MEMORY,
     }
+}
+
+/// Takes text of an open paste of which more than `limit` bytes are buffered. The paste stays open. The answer is 1 if `event` is the part of
+/// the paste that has this text; 0 if there is no such text, or no open paste; 2 if memory for the text is refused; and 3 if there is no
+/// parser.
+#[unsafe(no_mangle)]
+pub extern "C" fn hed_parser_take_paste(
+    parser: &mut Handle,
+    limit: usize,
+    event: &mut CEvent,
+) -> u32
+    ensures answers { result ≤ 3 }
+    ensures none { result ≡ NEXT_NONE → ¬ HasPartOfPaste (parser_of parser.old) limit }
+    ensures part { result ≡ NEXT_EVENT → TookPart (parser_of parser.old) limit event.new (parser_of parser.new) }
+    ensures bounded { result ≢ NEXT_NO_MEMORY → HasEndlessPaste (parser_of parser.new)
+        → waiting_len (parser_of parser.new) ≤ 6 + max limit 5 }
+    ensures refused { result ≡ NEXT_NO_MEMORY → HasPartOfPaste (parser_of parser.old) limit }
+    ensures no_parser { result ≡ NEXT_NO_PARSER ↔ (parser_of parser.old ≡ None) }
+    ensures same { result ≢ NEXT_EVENT → parser.new.owned.held ≡ parser.old.owned.held }
+    ensures event_same { result ≢ NEXT_EVENT → event.new ≡ event.old }
+{
+    let Some(held) = parser.get_mut() else {
+        return NEXT_NO_PARSER;
+    };
+    let Some(held) = held.parser_mut() else {
+        return NEXT_NO_PARSER;
+    };
+    match held.take_paste(limit) {
+        Ok(Some(part)) => {
+            *event = part;
+            NEXT_EVENT
+        }
+        Ok(None) => NEXT_NONE,
+        Err(_) => NEXT_NO_MEMORY,
+    }
+}
+
+/// Forgets text of an open paste: what `hed_parser_take_paste` would take with a limit of 0. The paste stays open. The answer is true if
+/// `count` is how many bytes these were, and false if no paste is open or there is no parser.
+#[unsafe(no_mangle)]
+pub extern "C" fn hed_parser_skip_paste(parser: &mut Handle, count: &mut usize) -> bool
+    ensures skipped { result ≡ true → Skipped (parser_of parser.old) count.new (parser_of parser.new) }
+    ensures bounded { HasEndlessPaste (parser_of parser.new) → waiting_len (parser_of parser.new) ≤ 6 + 5 }
+    ensures none { result ≡ false → ¬ HasEndlessPaste (parser_of parser.old) }
+    ensures same { result ≡ false → parser.new.owned.held ≡ parser.old.owned.held }
+    ensures count_same { result ≡ false → count.new ≡ count.old }
+{
+    let Some(held) = parser.get_mut() else {
+        return false;
+    };
+    let Some(held) = held.parser_mut() else {
+        return false;
+    };
+    let Some(skipped) = held.parser.skip_paste() else {
+        return false;
+    };
+    *count = skipped;
+    true
 }
 
 /// Forgets what is buffered, and returns how many bytes these were; 0 if there is no parser.

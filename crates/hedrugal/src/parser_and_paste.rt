@@ -1,5 +1,5 @@
 // What the handle of a parser leads to.
-ghost use Rattle.std.specs.Prelude.{◌≡◌, ◌↔◌, ◌+◌, ◌≤◌, ℕ, List, [], ◌∷◌, false, length, string_bytes, IfOk, IfSome, IfNone, IsSome, OnErr};
+ghost use Rattle.std.specs.Prelude.{◌≡◌, ◌↔◌, ◌+◌, ◌≤◌, ℕ, List, [], ◌∷◌, false, length, string_bytes, IfOk, IfSome, IfNone, IsSome, OnErr, OnOk, max};
 ghost use Rattle.std.specs.FinMap as map;
 ghost use Rattle.termwiz_input.specs.InputEvent.{InputEvent as Event};
 ghost use Rattle.termwiz_input.specs.InputEvent.TheVariants.{Key};
@@ -7,14 +7,15 @@ ghost use Rattle.termwiz_input.specs.KeyEvent.{KeyEvent};
 ghost use Rattle.termwiz_input.specs.RowsInOrder.{AreCompletions, IsRowAt};
 ghost use Rattle.termwiz_input.specs.Table.{table};
 ghost use Rattle.termwiz_input.specs.Grammar.{HasPaste, IsRest, Means, Steps};
+ghost use Rattle.termwiz_input.specs.PasteParts.{HasPart, IsTaken};
 ghost use Rattle.termwiz_input.specs.PasteSearch.{IsPasteSoFar};
 ghost use Rattle.termwiz_input.specs.WaitingKinds.{IsOneOrTwoEscapes, IsOpenPaste};
 ghost use Rattle.hedrugal.specs.Calls.{copied, text_after};
-ghost use Rattle.hedrugal.specs.Events.{c_event};
+ghost use Rattle.hedrugal.specs.Events.{c_event, c_part};
 
 use crate::copying::copy_prefix;
 use crate::entry_calls::CEntries;
-use crate::events::{CEvent, c_event};
+use crate::events::{CEvent, KIND_PASTE_PART, c_event};
 use std::alloc::{AllocError, Global};
 use termwiz_input::input::{InputEvent, InputParser, KeyEvent};
 
@@ -95,6 +96,27 @@ impl ParserAndPaste {
     {
         match self.parser.end_paste()? {
             Some(event) => Ok(Some(self.keep_text(event))),
+            None => Ok(None),
+        }
+    }
+
+    // Text of an open paste of more than `limit` bytes, as C has it. The paste stays open.
+    pub(crate) fn take_paste(&mut self, limit: usize) -> Result<Option<CEvent>, AllocError>
+        ensures part { IfOk result (λ found. IfSome found (λ shown. (text : List ℕ)
+            × IsTaken self.old.parser limit text self.new.parser
+            × (shown ≡ c_part text)
+            × (string_bytes self.new.pasted ≡ text))) }
+        ensures none { IfOk result (λ found. IfNone found (¬ HasPart self.old.parser limit)) }
+        ensures none_same { IfOk result (λ found. IfNone found (self.new ≡ self.old)) }
+        ensures bounded { OnOk result (IsOpenPaste self.new.parser → length self.new.parser ≤ 6 + max limit 5) }
+        ensures refused { OnErr result (HasPart self.old.parser limit) }
+        ensures refused_same { OnErr result (self.new ≡ self.old) }
+    {
+        match self.parser.take_paste(limit)? {
+            Some(text) => Ok(Some(CEvent {
+                kind: KIND_PASTE_PART,
+                ..self.keep_text(InputEvent::Paste(text))
+            })),
             None => Ok(None),
         }
     }
