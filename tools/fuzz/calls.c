@@ -7,6 +7,7 @@
  *     B      reset                   M          move the parser              A  next until none, more  G n  copy n bytes of the paste
  *     D      drop the paste          V          the version                  H  the same, no more      U n  shrink to 16 n bytes
  *     T n place  a row               X          the completions              Y  init that shares the second parser's table
+ *     Z n    take text of an open paste of more than n bytes; from n = 128 on, skip it
  *
  *     J, P, Q, R, S  the calls of a map, as in tools/fuzz/maps.c
  *
@@ -188,11 +189,13 @@ static void feed(const uint8_t *bytes, size_t len) {
 }
 
 /* The calls that take an event. */
-enum take { NEXT_MORE, NEXT_LAST, FLUSH_ESCAPE, END_PASTE };
+enum take { NEXT_MORE, NEXT_LAST, FLUSH_ESCAPE, END_PASTE, TAKE_PASTE };
+static size_t limit;
 
 static uint32_t ask(enum take what, hed_parser *of, hed_event *event) {
   if (what == FLUSH_ESCAPE) return hed_parser_flush_escape(of, event);
   if (what == END_PASTE) return hed_parser_end_paste(of, event);
+  if (what == TAKE_PASTE) return hed_parser_take_paste(of, limit, event);
   return hed_parser_next(of, what == NEXT_MORE, event);
 }
 
@@ -200,7 +203,7 @@ static uint32_t ask_twin(enum take what, hed_event *event) {
   owner = TWIN;
   refuse_request(0);
   uint32_t answer = ask(what, &twin, event);
-  if (answer == HED_NEXT_EVENT && event->kind == HED_KIND_PASTE) {
+  if (answer == HED_NEXT_EVENT && has_text(event)) {
     text_len = hed_parser_paste(&twin, text, sizeof text);
     HOLDS(text_len == event->paste_len && text_len <= sizeof text);
   }
@@ -218,6 +221,9 @@ static void check_answer(enum take what, bool is_event, const hed_event *event) 
   } else if (what == END_PASTE) {
     HOLDS(is_event == is_open);
     HOLDS(!is_event || event->kind == HED_KIND_PASTE);
+  } else if (what == TAKE_PASTE) {
+    HOLDS(is_event ? is_open && waiting_len > 6 + limit : !is_open || waiting_len <= 6 + limit || waiting_len <= 11);
+    HOLDS(!is_event || event->kind == HED_KIND_PASTE_PART);
   } else if (what == NEXT_LAST) {
     HOLDS(is_event == (waiting_len > 0 && !is_open));
   } else if (!is_event) {
@@ -225,11 +231,12 @@ static void check_answer(enum take what, bool is_event, const hed_event *event) 
   }
 }
 
-/* Some of the waiting bytes are gone: all of them, unless the event was the next of several. */
+/* Some of the waiting bytes are gone: all of them, unless the event was the next of several, or a paste is still open. */
 static void consume(enum take what) {
   size_t left = hed_parser_waiting_len(parser);
   HOLDS(left < waiting_len);
-  HOLDS(left == 0 || what == NEXT_MORE || what == NEXT_LAST);
+  HOLDS(what == TAKE_PASTE ? left >= 6 && left <= 11 : left == 0 || what == NEXT_MORE || what == NEXT_LAST);
+  if (what == TAKE_PASTE) memmove(fed + fed_len - left, waiting(), 6);
   waiting_len = left;
 }
 
@@ -250,12 +257,12 @@ static uint32_t take(enum take what, unsigned number) {
   HOLDS(is_untouched(&taken, answer == HED_NEXT_EVENT ? sizeof *event : 0));
   HOLDS(answer == ask_twin(what, &wanted));
   HOLDS(answer == HED_NEXT_EVENT || answer == HED_NEXT_NONE);
-  HOLDS(asked == 0 || (answer == HED_NEXT_EVENT && event->kind == HED_KIND_PASTE));
+  HOLDS(asked == 0 || (answer == HED_NEXT_EVENT && has_text(event)));
   check_answer(what, answer == HED_NEXT_EVENT, event);
   if (answer != HED_NEXT_EVENT) return answer;
   check_event(event);
   HOLDS(same_event(event, &wanted));
-  if (event->kind == HED_KIND_PASTE) copy_paste(text_len);
+  if (has_text(event)) copy_paste(text_len);
   consume(what);
   return answer;
 }
@@ -263,6 +270,15 @@ static uint32_t take(enum take what, unsigned number) {
 static void take_all(enum take what, unsigned number) {
   while (take(what, number) == HED_NEXT_EVENT) {
   }
+}
+
+static void take_part(input *it, unsigned number) {
+  size_t count = 0, of_twin = 0;
+  limit = take_byte(it);
+  if (limit < 128) take(TAKE_PASTE, number);
+  else HOLDS(hed_parser_skip_paste(parser, &count) == is_open_paste(waiting(), waiting_len) && requests == 0);
+  if (is_made && limit >= 128) HOLDS(hed_parser_skip_paste(&twin, &of_twin) == is_open_paste(waiting(), waiting_len) && of_twin == count);
+  if (count > 0) consume(TAKE_PASTE);
 }
 
 static void reset(void) {
@@ -310,6 +326,7 @@ static void call(input *it) {
     case 'H': take_all(NEXT_LAST, number); break;
     case 'E': take(FLUSH_ESCAPE, number); break;
     case 'C': take(END_PASTE, number); break;
+    case 'Z': take_part(it, number); break;
     case 'G': copy_paste(take_byte(it)); break;
     case 'Y': share(number); break;
     case 'U': hed_parser_shrink_to(parser, MANY * (size_t)take_byte(it)); break;

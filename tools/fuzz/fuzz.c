@@ -214,8 +214,12 @@ static void check_key(const hed_event *event) {
   else HOLDS(event->detail == 0);
 }
 
+bool has_text(const hed_event *event) {
+  return event->kind == HED_KIND_PASTE || event->kind == HED_KIND_PASTE_PART;
+}
+
 void check_event(const hed_event *event) {
-  bool is_key = event->kind == HED_KIND_KEY, is_mouse = event->kind == HED_KIND_MOUSE, is_paste = event->kind == HED_KIND_PASTE;
+  bool is_key = event->kind == HED_KIND_KEY, is_mouse = event->kind == HED_KIND_MOUSE, is_paste = has_text(event);
   HOLDS(is_key || is_mouse || is_paste);
   HOLDS((event->modifiers & ~(HED_TERMWIZ_MOD_SHIFT | HED_TERMWIZ_MOD_ALT | HED_TERMWIZ_MOD_CTRL)) == 0);
   HOLDS((event->buttons & ~(2 * HED_BUTTON_WHEEL_POSITIVE - HED_BUTTON_LEFT)) == 0);

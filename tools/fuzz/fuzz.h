@@ -93,6 +93,8 @@ void note(unsigned what, unsigned how);
 
 bool same_event(const hed_event *one, const hed_event *other);
 
+bool has_text(const hed_event *event);
+
 /* Checks what holds for every event. */
 void check_event(const hed_event *event);
 
