@@ -14,6 +14,8 @@ pub(crate) struct Calls<Raw, RawEvent> {
     pub waiting: unsafe extern "C" fn(*mut Raw) -> u32,
     pub flush_escape: unsafe extern "C" fn(*mut Raw, *mut RawEvent) -> u32,
     pub is_paste_open: unsafe extern "C" fn(*mut Raw) -> bool,
+    pub take_paste: unsafe extern "C" fn(*mut Raw, usize, *mut RawEvent) -> u32,
+    pub skip_paste: unsafe extern "C" fn(*mut Raw, *mut usize) -> bool,
     pub end_paste: unsafe extern "C" fn(*mut Raw, *mut RawEvent) -> u32,
     pub reset: unsafe extern "C" fn(*mut Raw) -> usize,
     pub shrink_to: unsafe extern "C" fn(*mut Raw, usize),
@@ -161,6 +163,43 @@ impl<Raw: RawParser> LibraryParser<Raw> {
         unsafe { (Raw::CALLS.is_paste_open)(&mut *self.locked()) }
     }
 
+    // Text of an open paste, if more than `limit` bytes of the text are buffered. A byte makes three
+    // of text at most. The room for these comes first, so that what is refused stays buffered.
+    pub fn take_paste(&mut self, limit: usize) -> Result<Option<String>, AllocError> {
+        let most = self.waiting_len();
+        // An event that was refused memory comes before what is buffered.
+        if self.has_front || most <= limit || !self.is_paste_open() {
+            return Ok(None);
+        }
+        let mut text = Vec::new();
+        text.try_reserve_exact(most.saturating_mul(3))
+            .map_err(|_| AllocError)?;
+        let mut part = Raw::RawEvent::default();
+        // SAFETY: `raw` is a parser, and `part` another value.
+        if !is_event(unsafe { (Raw::CALLS.take_paste)(self.raw(), limit, &mut part) })? {
+            return Ok(None);
+        }
+        // SAFETY: `raw` is a parser. A vector's pointer isn't null, and nothing is written.
+        let len = unsafe { (Raw::CALLS.text)(self.raw(), text.as_mut_ptr(), 0) };
+        self.copy_text(&mut text, len);
+        // A smaller block will do. If it is refused, the larger is kept.
+        let mut exact = Vec::new();
+        if exact.try_reserve_exact(len).is_ok() {
+            exact.append(&mut text);
+            text = exact;
+        }
+        Ok(Some(String::from_utf8(text).expect(FAULT)))
+    }
+
+    // Forgets what `take_paste` would take with a limit of 0. Returns how many bytes these were.
+    pub fn skip_paste(&mut self) -> Option<usize> {
+        let mut count = 0;
+        // SAFETY: `raw` is a parser, and `count` another value.
+        let is_skipped =
+            !self.has_front && unsafe { (Raw::CALLS.skip_paste)(self.raw(), &mut count) };
+        is_skipped.then_some(count)
+    }
+
     // Ends an open paste where it is.
     pub fn end_paste(&mut self) -> Result<Option<Raw::Event>, AllocError> {
         if !self.has_front {
@@ -238,6 +277,12 @@ impl<Raw: RawParser> LibraryParser<Raw> {
     fn text(&mut self, len: usize) -> Result<Vec<u8>, AllocError> {
         let mut text = Vec::new();
         text.try_reserve_exact(len).map_err(|_| AllocError)?;
+        self.copy_text(&mut text, len);
+        Ok(text)
+    }
+
+    // The same, for which there is room.
+    fn copy_text(&mut self, text: &mut Vec<u8>, len: usize) {
         text.resize(len, 0);
         // SAFETY: `raw` is a parser. A vector's pointer isn't null, and leads to as many bytes,
         // which no other value has.
@@ -245,7 +290,6 @@ impl<Raw: RawParser> LibraryParser<Raw> {
         assert_eq!(whole, len, "{FAULT}");
         // SAFETY: `raw` is a parser.
         unsafe { (Raw::CALLS.drop_text)(self.raw()) };
-        Ok(text)
     }
 }
 

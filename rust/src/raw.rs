@@ -87,6 +87,8 @@ pub const KIND_OSC: u8 = 11;
 pub const KIND_DCS: u8 = 12;
 /// An application program command, such as a reply of Kitty's graphics protocol.
 pub const KIND_APC: u8 = 13;
+/// Text of a paste whose end is still to come.
+pub const KIND_PASTE_PART: u8 = 14;
 // numbers.txt: end
 
 // numbers.txt: protocol const
@@ -294,6 +296,8 @@ extern "C" {
     pub fn hed_parser_waiting(parser: *mut Parser) -> u32;
     pub fn hed_parser_flush_escape(parser: *mut Parser, event: *mut Event) -> u32;
     pub fn hed_parser_is_paste_open(parser: *mut Parser) -> bool;
+    pub fn hed_parser_take_paste(parser: *mut Parser, limit: usize, event: *mut Event) -> u32;
+    pub fn hed_parser_skip_paste(parser: *mut Parser, count: *mut usize) -> bool;
     pub fn hed_parser_end_paste(parser: *mut Parser, event: *mut Event) -> u32;
     pub fn hed_parser_reset(parser: *mut Parser) -> usize;
     pub fn hed_encode(
@@ -346,6 +350,12 @@ extern "C" {
     pub fn hed_extended_waiting(parser: *mut Extended) -> u32;
     pub fn hed_extended_flush_escape(parser: *mut Extended, event: *mut ExtendedEvent) -> u32;
     pub fn hed_extended_is_paste_open(parser: *mut Extended) -> bool;
+    pub fn hed_extended_take_paste(
+        parser: *mut Extended,
+        limit: usize,
+        event: *mut ExtendedEvent,
+    ) -> u32;
+    pub fn hed_extended_skip_paste(parser: *mut Extended, count: *mut usize) -> bool;
     pub fn hed_extended_end_paste(parser: *mut Extended, event: *mut ExtendedEvent) -> u32;
     pub fn hed_extended_reset(parser: *mut Extended) -> usize;
     pub fn hed_encode_kitty(

@@ -204,6 +204,79 @@ fn parses_on_after_a_refused_end() {
     check_end(|parser| parser.parse_as_vec(b"\x1b[201~q", true));
 }
 
+// A part of a paste with each request refused in turn: a refusal that is told leaves all as it was.
+#[test]
+fn takes_a_part_after_a_refusal() {
+    let mut told = 0;
+    for number in 1.. {
+        let mut parser = parser_in_a_paste();
+        let len = parser.waiting_len();
+        let (mut taken, refused) = refusing(number, || parser.take_paste(3));
+        if taken.is_err() {
+            assert_eq!((parser.waiting_len(), refused), (len, 1));
+            taken = parser.take_paste(3);
+            told += 1;
+        }
+        assert_eq!(taken, Ok(Some("hölle \u{fffd}\u{fffd} ".to_string())));
+        assert_eq!(refusing(1, || parser.skip_paste()), (Some(0), 0));
+        assert_eq!(
+            (parser.waiting_len(), parser.waiting()),
+            (8, Waiting::Paste)
+        );
+        let rest = InputEvent::Paste("\x1b[".to_string());
+        assert_eq!(parser.parse_as_vec(b"\x1b[201~", true), [rest]);
+        if refused == 0 {
+            break;
+        }
+    }
+    assert!(told > 1, "{told}");
+}
+
+// Reads a paste of more than 64 MB in pieces of 4096 bytes, after each of which its text is taken
+// or skipped. Neither takes the memory of more than some parts.
+fn read_long_paste(take: impl Fn(&mut InputParser) -> Option<(usize, String)>, limit: usize) {
+    let text = "täxt \x1b[201\r".repeat(4096);
+    let mut parser = InputParser::new();
+    assert_eq!(parser.parse_as_vec(b"\x1b[200~", true), []);
+    let (before, mut most, mut taken) = (in_use(), 0, 0);
+    let repeats = (64 << 20) / text.len() + 1;
+    for _ in 0..repeats {
+        for bytes in text.as_bytes().chunks(4096) {
+            assert_eq!(parser.parse_as_vec(bytes, true), []);
+            if let Some((len, part)) = take(&mut parser) {
+                let from = text.as_bytes().iter().cycle().skip(taken % text.len());
+                assert!(from.take(part.len()).eq(part.as_bytes()));
+                taken += len;
+            }
+            most = most.max(in_use() - before);
+            assert!(parser.waiting_len() <= 6 + limit);
+        }
+    }
+    let events = parser.parse_as_vec(b"\x1b[201~q", true);
+    let InputEvent::Paste(rest) = &events[0] else {
+        panic!("{events:?}");
+    };
+    assert_eq!(
+        (taken + rest.len(), events.len()),
+        (repeats * text.len(), 2)
+    );
+    assert!(most < 8 << 20, "{most} bytes");
+}
+
+#[test]
+fn takes_a_paste_of_64_mb() {
+    let take = |parser: &mut InputParser| parser.take_paste(1 << 20).expect("memory");
+    read_long_paste(
+        |parser| take(parser).map(|part| (part.len(), part)),
+        1 << 20,
+    );
+}
+
+#[test]
+fn skips_a_paste_of_64_mb() {
+    read_long_paste(|parser| Some((parser.skip_paste()?, String::new())), 5);
+}
+
 // Parsers that took these bytes, and were refused memory for an event: one for each request.
 fn refused_parsers(bytes: &[u8]) -> Vec<InputParser> {
     let mut parsers = Vec::new();

@@ -57,6 +57,8 @@ unsafe impl RawParser for raw::Extended {
         waiting: raw::hed_extended_waiting,
         flush_escape: raw::hed_extended_flush_escape,
         is_paste_open: raw::hed_extended_is_paste_open,
+        take_paste: raw::hed_extended_take_paste,
+        skip_paste: raw::hed_extended_skip_paste,
         end_paste: raw::hed_extended_end_paste,
         reset: raw::hed_extended_reset,
         shrink_to: raw::hed_extended_shrink_to,
@@ -362,9 +364,9 @@ impl ExtendedParser {
         self.parser.flush_escape()
     }
 
-    /// Returns whether the buffer begins with the start of a paste. Such a paste is buffered
-    /// without limit until its end arrives: with a limit, say 1 MB, call
-    /// [`ExtendedParser::end_paste`] once [`ExtendedParser::waiting_len`] is above it.
+    /// Returns whether the buffer begins with the start of a paste. Such a paste is buffered until
+    /// its end arrives, whatever its length, unless [`ExtendedParser::take_paste`] or
+    /// [`ExtendedParser::skip_paste`] is called.
     ///
     /// ```
     /// use hedrugal::extended::{ExtendedParser, Protocol};
@@ -378,12 +380,65 @@ impl ExtendedParser {
         self.parser.is_paste_open()
     }
 
+    /// Takes text of an open paste before its end arrives, if more than `limit` bytes of the text
+    /// are buffered. Returns `None` if there aren't so many, or no paste is open; the parser is then
+    /// unchanged.
+    ///
+    /// Call it after each read and its events, with a limit such as `1 << 20`, and handle the text
+    /// as the next part of what is pasted. So a paste of any length needs little memory: at most 6
+    /// bytes and `limit` of it stay buffered, or 11 if `limit` is below 5. The paste stays open, and
+    /// none of it becomes a key. The `Paste` that ends it has the rest of the text, maybe none.
+    ///
+    /// At most 5 bytes of the text are held back, which may begin the end of the paste or a
+    /// character. If no others are buffered, it returns `None`.
+    ///
+    /// ```
+    /// use hedrugal::extended::{ExtendedEvent, ExtendedParser, Protocol};
+    /// use hedrugal::input::InputEvent;
+    ///
+    /// let mut parser = ExtendedParser::new(Protocol::Legacy);
+    /// parser.parse(b"\x1b[200~rm -rf ~\r\x1b[20", |_| {}, true);
+    /// assert_eq!(parser.take_paste(13), Ok(None));
+    /// assert_eq!(parser.take_paste(0), Ok(Some("rm -rf ~\r".to_string())));
+    /// let rest = InputEvent::Paste(String::new());
+    /// assert_eq!(parser.parse_as_vec(b"1~", true), [ExtendedEvent::Input(rest)]);
+    /// ```
+    ///
+    /// # Errors
+    ///
+    /// If memory is refused. The text isn't lost: call again, or parse on.
+    pub fn take_paste(&mut self, limit: usize) -> Result<Option<String>, AllocError> {
+        self.parser.take_paste(limit)
+    }
+
+    /// Forgets text of an open paste before its end arrives: what [`ExtendedParser::take_paste`]
+    /// would take with a limit of 0. Returns how many bytes these were, and `None` if no paste is
+    /// open.
+    ///
+    /// To refuse a paste that is too long, call it after each read and its events until the `Paste`
+    /// comes, and ignore that event. So no byte of the paste becomes a key. It asks for no memory.
+    ///
+    /// ```
+    /// use hedrugal::extended::{ExtendedParser, Protocol};
+    ///
+    /// let mut parser = ExtendedParser::new(Protocol::Legacy);
+    /// parser.parse(b"\x1b[200~text", |_| {}, true);
+    /// assert_eq!(parser.skip_paste(), Some(4));
+    /// assert_eq!(parser.skip_paste(), Some(0));
+    /// ```
+    pub fn skip_paste(&mut self) -> Option<usize> {
+        self.parser.skip_paste()
+    }
+
     /// Ends an open paste where it is: returns a `Paste` of the text that came so far, and consumes
     /// all that is buffered. Returns `None` if no paste is open; the parser is then unchanged.
     ///
     /// The rest of the paste then arrives as if it were typed, and its end as
     /// [`KeyCode::InternalPasteEnd`](crate::input::KeyCode::InternalPasteEnd). If the text ended
     /// inside that, the rest of it is typed keys too.
+    ///
+    /// Call it at the end of the input, or to give up a paste that stalls. For a paste that is too
+    /// long call [`ExtendedParser::take_paste`] or [`ExtendedParser::skip_paste`].
     ///
     /// ```
     /// use hedrugal::extended::{ExtendedEvent, ExtendedParser, Protocol};

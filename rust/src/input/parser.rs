@@ -144,6 +144,8 @@ unsafe impl RawParser for raw::Parser {
         waiting: raw::hed_parser_waiting,
         flush_escape: raw::hed_parser_flush_escape,
         is_paste_open: raw::hed_parser_is_paste_open,
+        take_paste: raw::hed_parser_take_paste,
+        skip_paste: raw::hed_parser_skip_paste,
         end_paste: raw::hed_parser_end_paste,
         reset: raw::hed_parser_reset,
         shrink_to: raw::hed_parser_shrink_to,
@@ -340,9 +342,9 @@ impl InputParser {
         self.parser.flush_escape()
     }
 
-    /// Returns whether the buffer begins with the start of a paste. Such a paste is buffered
-    /// without limit until its end arrives: with a limit, say 1 MB, call [`InputParser::end_paste`]
-    /// once [`InputParser::waiting_len`] is above it.
+    /// Returns whether the buffer begins with the start of a paste. Such a paste is buffered until
+    /// its end arrives, whatever its length, unless [`InputParser::take_paste`] or
+    /// [`InputParser::skip_paste`] is called.
     ///
     /// ```
     /// use hedrugal::input::InputParser;
@@ -356,12 +358,62 @@ impl InputParser {
         self.parser.is_paste_open()
     }
 
+    /// Takes text of an open paste before its end arrives, if more than `limit` bytes of the text
+    /// are buffered. Returns `None` if there aren't so many, or no paste is open; the parser is then
+    /// unchanged.
+    ///
+    /// Call it after each read and its events, with a limit such as `1 << 20`, and handle the text
+    /// as the next part of what is pasted. So a paste of any length needs little memory: at most 6
+    /// bytes and `limit` of it stay buffered, or 11 if `limit` is below 5. The paste stays open, and
+    /// none of it becomes a key. The `Paste` that ends it has the rest of the text, maybe none.
+    ///
+    /// At most 5 bytes of the text are held back, which may begin the end of the paste or a
+    /// character. If no others are buffered, it returns `None`.
+    ///
+    /// ```
+    /// use hedrugal::input::{InputEvent, InputParser};
+    ///
+    /// let mut parser = InputParser::new();
+    /// parser.parse(b"\x1b[200~rm -rf ~\r\x1b[20", |_| {}, true);
+    /// assert_eq!(parser.take_paste(13), Ok(None));
+    /// assert_eq!(parser.take_paste(0), Ok(Some("rm -rf ~\r".to_string())));
+    /// assert_eq!(parser.parse_as_vec(b"1~", true), [InputEvent::Paste(String::new())]);
+    /// ```
+    ///
+    /// # Errors
+    ///
+    /// If memory is refused. The text isn't lost: call again, or parse on.
+    pub fn take_paste(&mut self, limit: usize) -> Result<Option<String>, AllocError> {
+        self.parser.take_paste(limit)
+    }
+
+    /// Forgets text of an open paste before its end arrives: what [`InputParser::take_paste`] would
+    /// take with a limit of 0. Returns how many bytes these were, and `None` if no paste is open.
+    ///
+    /// To refuse a paste that is too long, call it after each read and its events until the `Paste`
+    /// comes, and ignore that event. So no byte of the paste becomes a key. It asks for no memory.
+    ///
+    /// ```
+    /// use hedrugal::input::InputParser;
+    ///
+    /// let mut parser = InputParser::new();
+    /// parser.parse(b"\x1b[200~text", |_| {}, true);
+    /// assert_eq!(parser.skip_paste(), Some(4));
+    /// assert_eq!(parser.skip_paste(), Some(0));
+    /// ```
+    pub fn skip_paste(&mut self) -> Option<usize> {
+        self.parser.skip_paste()
+    }
+
     /// Ends an open paste where it is: returns a `Paste` of the text that came so far, and consumes
     /// all that is buffered. Returns `None` if no paste is open; the parser is then unchanged.
     ///
     /// The rest of the paste then arrives as typed keys, Enter included, and its end as
     /// [`KeyCode::InternalPasteEnd`](super::KeyCode::InternalPasteEnd). If the text ended inside
     /// that, the rest of it is typed keys too.
+    ///
+    /// Call it at the end of the input, or to give up a paste that stalls. For a paste that is too
+    /// long call [`InputParser::take_paste`] or [`InputParser::skip_paste`].
     ///
     /// ```
     /// use hedrugal::input::{InputEvent, InputParser};

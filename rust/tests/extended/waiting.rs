@@ -167,3 +167,27 @@ fn ends_a_long_paste_and_reads_on() {
         );
     }
 }
+
+// Of an open paste its text is taken, or skipped, but for what may begin its end; of nothing else.
+#[test]
+fn takes_and_skips_open_pastes_alone() {
+    for_each_rest(|parser, rest, kind| {
+        let (part, left): (_, &[u8]) = if rest.ends_with(b"[20") {
+            (Some("a\x1b]0;".to_string()), b"\x1b[200~\x1b[20")
+        } else {
+            (None, rest)
+        };
+        assert_eq!(parser.take_paste(9), Ok(None));
+        assert_eq!(parser.take_paste(8), Ok(part));
+        check_rest(parser, left, kind);
+        let skipped = (kind == Waiting::Paste).then_some(0);
+        assert_eq!(parser.skip_paste(), skipped);
+        if kind == Waiting::Paste {
+            assert_eq!(parser.parse_as_vec(b"rm -rf ~\rq", true), []);
+            assert_eq!(parser.skip_paste(), Some(left.len() - 6 + 10));
+            check_rest(parser, b"\x1b[200~", kind);
+            let paste = ExtendedEvent::Input(InputEvent::Paste(String::new()));
+            assert_eq!(parser.parse_as_vec(b"\x1b[201~", true), [paste]);
+        }
+    });
+}

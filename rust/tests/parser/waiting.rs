@@ -212,6 +212,56 @@ fn ends_open_pastes_alone() {
     }
 }
 
+// The text of an open paste, a limit, what is taken under it, and what is held back.
+const OPEN: &[(&[u8], usize, Option<&str>, &[u8])] = &[
+    (b"", 0, None, b""),
+    (b"abc", 2, Some("abc"), b""),
+    (b"abc", 3, None, b""),
+    (b"\x1b[201", 0, None, b"\x1b[201"),
+    (b"\x1b[20\x1b[2", 0, Some("\x1b[20"), b"\x1b[2"),
+    (b"a\xe2\x82", 0, Some("a"), b"\xe2\x82"),
+    (b"a\xe2\x82\x1b", 0, Some("a\u{fffd}"), b"\x1b"),
+    (b"\xff\x1b[200~\r", 0, Some("\u{fffd}\x1b[200~\r"), b""),
+];
+
+// What is taken or skipped is gone, and the paste is still open. Its end brings the rest.
+#[test]
+fn takes_and_skips_pastes() {
+    let mut parser = InputParser::new();
+    for (text, limit, part, held) in OPEN {
+        for is_taken in [true, false] {
+            parse_rest(&mut parser, &[PASTE_START, text].concat(), Waiting::Paste);
+            if is_taken {
+                assert_eq!(parser.take_paste(*limit), Ok(part.map(str::to_string)));
+            } else {
+                assert_eq!(parser.skip_paste(), Some(text.len() - held.len()));
+            }
+            let left = if is_taken && part.is_none() {
+                text
+            } else {
+                held
+            };
+            check_rest(&parser, &[PASTE_START, left].concat(), Waiting::Paste);
+            let rest = InputEvent::Paste(String::from_utf8_lossy(left).into_owned());
+            assert_eq!(parser.parse_as_vec(b"\x1b[201~", true), [rest]);
+        }
+    }
+}
+
+#[test]
+fn takes_and_skips_open_pastes_alone() {
+    let mut parser = InputParser::new();
+    for (rest, kind) in RESTS.iter().filter(|(_, kind)| *kind != Waiting::Paste) {
+        parse_rest(&mut parser, rest, *kind);
+        assert_eq!(
+            (parser.take_paste(0), parser.skip_paste()),
+            (Ok(None), None)
+        );
+        check_rest(&parser, rest, *kind);
+        parser.reset();
+    }
+}
+
 // A paste of 300 KB is ended, and another forgotten.
 #[test]
 fn ends_a_long_paste() {
@@ -311,4 +361,63 @@ fn kinds_in_streams() {
         }
     }
     assert!(ended > 1000, "{ended}");
+}
+
+// The events of a stream in pieces, after each of which text of an open paste is taken or skipped.
+// What is taken is joined to the paste. Returns also how often there was some.
+fn read_parts(
+    parser: &mut InputParser,
+    stream: &[u8],
+    piece: usize,
+    limit: Option<usize>,
+) -> (Vec<InputEvent>, usize) {
+    let (mut events, mut taken, mut count) = (Vec::new(), String::new(), 0);
+    for bytes in stream.chunks(piece) {
+        for event in parser.parse_as_vec(bytes, true) {
+            events.push(match event {
+                InputEvent::Paste(rest) => InputEvent::Paste(std::mem::take(&mut taken) + &rest),
+                other => other,
+            });
+        }
+        let part = match limit {
+            Some(limit) => parser.take_paste(limit).expect("memory"),
+            None => parser.skip_paste().map(|_| String::new()),
+        };
+        count += usize::from(part.is_some());
+        taken += &part.unwrap_or_default();
+        let bound = 6 + limit.unwrap_or(0).max(5);
+        assert!(!parser.is_paste_open() || parser.waiting_len() <= bound);
+    }
+    events.extend(parser.parse_as_vec(b"", false));
+    events.extend(parser.end_paste().map(|event| match event {
+        InputEvent::Paste(rest) => InputEvent::Paste(taken + &rest),
+        other => other,
+    }));
+    (events, count)
+}
+
+// The parts of a paste of random streams and its rest are the text of the paste, and the other
+// events are the same, also if the text is skipped.
+#[test]
+fn parts_in_streams() {
+    let mut parser = InputParser::new();
+    let mut parts = 0;
+    for stream in streams() {
+        for piece in [1, 2, 3, 7] {
+            let mut wanted = read(&mut parser, &stream, piece, None);
+            for limit in [0, 1, 3, 20] {
+                let (events, count) = read_parts(&mut parser, &stream, piece, Some(limit));
+                assert_eq!(events, wanted, "pieces of {piece}: {}", hex(&stream));
+                parts += count;
+            }
+            let (mut events, _) = read_parts(&mut parser, &stream, piece, None);
+            for event in events.iter_mut().chain(&mut wanted) {
+                if let InputEvent::Paste(text) = event {
+                    text.clear();
+                }
+            }
+            assert_eq!(events, wanted, "pieces of {piece}: {}", hex(&stream));
+        }
+    }
+    assert!(parts > 1000, "{parts}");
 }
