@@ -38,11 +38,13 @@ REFUSED_TEXT = (
 body = "x" * (8 * MB)
 data = [b"\\x1b[200~" + body.encode(), b"\\x1b[201~ab"]
 refusals = grants = 0
-for more in range(0, 48, 2):
+for more in range(0, 64, 2):
     parser = InputParser()
     assert parser.parse(data[0]) == []
     if how == "end":
         ask = lambda: [parser.end_paste()]
+    elif how == "take":
+        ask = lambda: [Paste(parser.take_paste())]
     else:
         parser.feed(data[1])
         ask = {"next": lambda: [parser.next_event()], "parse": lambda: parser.parse(b"")}[how]
@@ -62,9 +64,10 @@ for more in range(0, 48, 2):
     else:
         grants += 1
     assert events.pop(0) == Paste(body)
-    if how != "end":
+    if how in ("next", "parse"):
         assert events + parser.parse(b"c") == [KeyEvent("a"), KeyEvent("b"), KeyEvent("c")]
-    assert parser.waiting_len == 0 and parser.end_paste() is None
+    assert parser.end_paste() == (Paste("") if how == "take" else None)
+    assert parser.waiting_len == 0
     parser.close()
 assert refusals > 2 and grants > 2, (refusals, grants)
 print("good")
@@ -81,7 +84,7 @@ def test_feed(make):
     )
 
 
-@pytest.mark.parametrize("how", ["next", "parse", "end"])
+@pytest.mark.parametrize("how", ["next", "parse", "end", "take"])
 def test_text_of_a_paste(make, how):
     text = f"how = {how!r}\n" + REFUSED_TEXT.replace("InputParser", make.__name__)
     assert_prints(text, "good\n", MALLOC_ARENA_MAX="1")
@@ -243,7 +246,25 @@ def test_end_paste_takes_pastes_alone(parser):
         parser.next_event()
     parser._front_event = real
     assert parser.end_paste() is None
+    assert parser.take_paste() is None and parser.skip_paste() is None
     assert [*parser, parser.end_paste()] == [KeyEvent("a"), Paste("b")]
+
+
+def test_a_refused_part_is_not_lost(parser):
+    """It is what `take_paste` would keep, if it was refused memory for the text."""
+    for left, wanted in [("ab", "ab"), (None, None)]:
+        assert parser.parse(b"\x1b[200~c") == []
+        parser._part = b"ab"
+        if left:
+            assert [parser.take_paste(100), parser.take_paste()] == ["ab", "c"]
+            assert parser.parse(b"\x1b[201~q") == [Paste(""), KeyEvent("q")]
+        else:
+            assert parser.parse(b"\x1b[201~q") == [Paste("abc"), KeyEvent("q")]
+    for forget in parser.reset, parser.skip_paste:
+        assert parser.parse(b"\x1b[200~c") == []
+        parser._part = b"ab"
+        assert forget() is not None and parser.take_paste() is None
+        parser.reset()
 
 
 def test_reset_forgets_them(parser):

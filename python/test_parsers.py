@@ -274,6 +274,59 @@ def test_end_paste_ends_open_pastes_alone(parser):
     assert [parser.next_event(), parser.end_paste()] == [Paste("ab"), Paste("c")]
 
 
+# The text of an open paste, a limit, what is taken under it, and what is held back.
+OPEN = [
+    (b"", 0, None, b""),
+    (b"abc", 2, "abc", b""),
+    (b"abc", 3, None, b""),
+    (b"abc", 1 << 80, None, b""),
+    (b"\x1b[201", 0, None, b"\x1b[201"),
+    (b"\x1b[20\x1b[2", 0, "\x1b[20", b"\x1b[2"),
+    (b"a\xe2\x82", 0, "a", b"\xe2\x82"),
+    (b"a\xe2\x82\x1b", 0, "a\ufffd", b"\x1b"),
+    (b"\xff\x1b[200~\r", 0, "\ufffd\x1b[200~\r", b""),
+]
+
+
+@pytest.mark.parametrize("text, limit, part, held", OPEN)
+def test_take_paste_and_skip_paste(parser, text, limit, part, held):
+    assert parser.parse(b"\x1b[200~" + text) == []
+    assert parser.take_paste(limit) == part
+    left = held if part else text
+    assert_rest(parser, 6 + len(left), Waiting.PASTE)
+    assert parser.skip_paste() == len(left) - len(held)
+    assert parser.parse(b"\x1b[201~q") == [Paste(held.decode("utf-8", "replace")), KeyEvent("q")]
+
+
+def test_they_take_open_pastes_alone(parser):
+    for rest, kind in RESTS:
+        if kind is not Waiting.PASTE:
+            feed_rest(parser, rest, kind)
+            assert parser.take_paste() is None and parser.skip_paste() is None
+            assert_rest(parser, len(rest), kind)
+            parser.reset()
+    parser.feed(b"\x1b[200~ab\x1b[201~\x1b[200~c")
+    assert parser.take_paste() is None and parser.skip_paste() is None
+    assert [parser.next_event(), parser.take_paste()] == [Paste("ab"), "c"]
+    with pytest.raises(ValueError, match="^-1 is negative$"):
+        parser.take_paste(-1)
+    with pytest.raises(TypeError):
+        parser.take_paste(1.5)
+
+
+def test_parts_of_a_long_paste(parser):
+    """None of it is a key, and the parts are its text."""
+    body, parts = "é\x1b[201 rm -rf ~\rq" * 50000, []
+    data = b"\x1b[200~" + body.encode()
+    for at in range(0, len(data), 4096):
+        assert parser.parse(data[at : at + 4096]) == []
+        parts.append(parser.take_paste(100000) or "")
+        assert parser.waiting_len <= 100006
+    assert sum(map(bool, parts)) > 5
+    assert parser.parse(b"\x1b[201~x") == [Paste(body[len("".join(parts)) :]), KeyEvent("x")]
+    assert body.startswith("".join(parts))
+
+
 def test_end_of_a_long_paste(parser):
     body = ("0123456789abcdef\x1b[201" * 20000)[:300000]
     parser.feed(b"\x1b[200~")
@@ -300,6 +353,8 @@ USES = [
     lambda parser: next(iter(parser)),
     lambda parser: parser.flush(),
     lambda parser: parser.flush_escape(),
+    lambda parser: parser.take_paste(),
+    lambda parser: parser.skip_paste(),
     lambda parser: parser.end_paste(),
     lambda parser: parser.reset(),
     lambda parser: parser.shrink_to(),

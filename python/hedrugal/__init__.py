@@ -520,6 +520,7 @@ _KIND_CSI = 10
 _KIND_OSC = 11
 _KIND_DCS = 12
 _KIND_APC = 13
+_KIND_PASTE_PART = 14
 # numbers.txt: end
 # numbers.txt: key private
 _KEY_CHAR = 1
@@ -534,6 +535,7 @@ _EVENT = ctypes.POINTER(_RawEvent)
 _MAP = ctypes.POINTER(_RawKeyMap)
 # A uint8_t *, as which ctypes passes a bytes object without a copy.
 _BYTES = ctypes.c_void_p
+_COUNT = ctypes.POINTER(ctypes.c_size_t)
 
 # The calls of hedrugal.h: the type of the result, and those of the arguments.
 _CALLS: Dict[str, Tuple[Any, List[Any]]] = {
@@ -549,6 +551,8 @@ _CALLS: Dict[str, Tuple[Any, List[Any]]] = {
     "hed_parser_waiting": (ctypes.c_uint32, [_PARSER]),
     "hed_parser_flush_escape": (ctypes.c_uint32, [_PARSER, _EVENT]),
     "hed_parser_is_paste_open": (ctypes.c_bool, [_PARSER]),
+    "hed_parser_take_paste": (ctypes.c_uint32, [_PARSER, ctypes.c_size_t, _EVENT]),
+    "hed_parser_skip_paste": (ctypes.c_bool, [_PARSER, _COUNT]),
     "hed_parser_end_paste": (ctypes.c_uint32, [_PARSER, _EVENT]),
     "hed_parser_reset": (ctypes.c_size_t, [_PARSER]),
     "hed_parser_entry": (
@@ -567,7 +571,7 @@ _CALLS: Dict[str, Tuple[Any, List[Any]]] = {
             ctypes.POINTER(_RawModes),
             _BYTES,
             ctypes.c_size_t,
-            ctypes.POINTER(ctypes.c_size_t),
+            _COUNT,
         ],
     ),
     "hed_keymap_init": (ctypes.c_bool, [_MAP]),
@@ -785,6 +789,13 @@ def _parser_with_table() -> _RawParser:
     return _idle
 
 
+def _not_negative(number: int) -> None:
+    if not isinstance(number, int):
+        raise TypeError(f"an int is required, not {type(number).__name__}")
+    if number < 0:
+        raise ValueError(f"{number} is negative")
+
+
 class _ParserCalls(NamedTuple):
     """The library's calls for one of its parsers."""
 
@@ -796,6 +807,8 @@ class _ParserCalls(NamedTuple):
     waiting: Any
     flush_escape: Any
     is_paste_open: Any
+    take_paste: Any
+    skip_paste: Any
     end_paste: Any
     reset: Any
     shrink_to: Any
@@ -837,6 +850,9 @@ class _EventParser(_Closable, Generic[_AnyEvent]):
         self._front, self._has_front = front, False
         # Whether the library may keep a text of that event.
         self._has_text = False
+        # Text that `take_paste` took and was refused memory for. It returns that when it is called
+        # again; otherwise the Paste begins with it.
+        self._part: Bytes = b""
         # The call that is made for each event: to find it once makes a loop a little quicker.
         self._next = self._calls.next
         # Events that `parse` found before it was refused memory. They come before that at the
@@ -946,11 +962,53 @@ class _EventParser(_Closable, Generic[_AnyEvent]):
     def is_paste_open(self) -> bool:
         """Whether the buffer begins with the start of a paste.
 
-        Such a paste is buffered without limit until its end arrives. A caller with a limit, say 1
-        MB, calls `end_paste` once `waiting_len` is above it."""
+        Such a paste is buffered until its end arrives, whatever its length, unless `take_paste` or
+        `skip_paste` is called."""
         with self._lock:
             self._check_open()
             return cast(bool, self._calls.is_paste_open(self._raw))
+
+    def take_paste(self, limit: int = 0) -> Optional[str]:
+        """Takes text of an open paste before its end arrives, if more than so many bytes of the
+        text are buffered. Returns None if there aren't so many, or no paste is open.
+
+        Call it after each read and its events, with a limit such as 1 << 20, and handle the text as
+        the next part of what is pasted. So a paste of any length needs little memory. The paste
+        stays open, and none of it becomes a key. The Paste that ends it has the rest of the text,
+        maybe none.
+
+        At most five bytes of the text are held back, which may begin the end of the paste or a
+        character. If no others are buffered, it returns None. Raises ValueError if limit is
+        negative.
+
+        Raises MemoryError if memory is refused. The text isn't lost: the next call returns it, or
+        the Paste has it."""
+        _not_negative(limit)
+        with self._alone():
+            self._check_open()
+            if self._kept or self._has_front:
+                return None
+            if not self._part and not self._find_part(min(limit, sys.maxsize)):
+                return None
+            text = str(self._part, "utf-8")
+            self._part = b""
+            return text
+
+    def skip_paste(self) -> Optional[int]:
+        """Forgets text of an open paste before its end arrives: what `take_paste` would take.
+        Returns how many bytes these were, and None if no paste is open.
+
+        To refuse a paste that is too long, call it after each read and its events until the Paste
+        comes, and ignore that event. So no byte of the paste becomes a key."""
+        count = ctypes.c_size_t()
+        with self._alone():
+            self._check_open()
+            if self._kept or self._has_front:
+                return None
+            if not self._calls.skip_paste(self._raw, count):
+                return None
+            self._part = b""
+            return count.value
 
     def end_paste(self) -> Optional[Paste]:
         """Ends an open paste where it is. Returns its text so far, and consumes all that is
@@ -958,7 +1016,8 @@ class _EventParser(_Closable, Generic[_AnyEvent]):
 
         The rest of the paste then arrives as typed keys, Enter included, and its end as
         KeyCode.INTERNAL_PASTE_END. If a part of the end was buffered, the rest of the end arrives
-        as typed keys too.
+        as typed keys too. So call it at the end of the input, or to give up a paste that stalls.
+        For a paste that is too long call `take_paste` or `skip_paste`.
 
         Raises MemoryError if memory is refused. The paste isn't lost, and the call may be made
         again."""
@@ -980,7 +1039,7 @@ class _EventParser(_Closable, Generic[_AnyEvent]):
         with self._alone():
             self._check_open()
             self._kept.clear()
-            self._has_front = False
+            self._has_front, self._part = False, b""
             self._calls.drop_text(self._raw)
             return cast(int, self._calls.reset(self._raw))
 
@@ -991,10 +1050,7 @@ class _EventParser(_Closable, Generic[_AnyEvent]):
         The buffer grows with what it has to hold, such as a long paste, and keeps that memory for
         what comes next. Call this for the parser of a session that is quiet. Raises ValueError if
         min_capacity is negative."""
-        if not isinstance(min_capacity, int):
-            raise TypeError(f"an int is required, not {type(min_capacity).__name__}")
-        if min_capacity < 0:
-            raise ValueError(f"{min_capacity} is negative")
+        _not_negative(min_capacity)
         with self._lock:
             self._check_open()
             self._calls.shrink_to(self._raw, min(min_capacity, sys.maxsize))
@@ -1029,8 +1085,24 @@ class _EventParser(_Closable, Generic[_AnyEvent]):
     def _leave_front(self) -> None:
         self._has_front = False
         if self._has_text:
-            self._has_text = False
+            self._has_text, self._part = False, b""
             self._calls.drop_text(self._raw)
+
+    def _find_part(self, limit: int) -> bool:
+        """Whether there is text of an open paste, of more than so many bytes. It is then `_part`.
+        A byte makes three of text at most. The room for these comes first, so that what is refused
+        stays buffered."""
+        waiting = self.waiting_len
+        if waiting <= limit or not self.is_paste_open:
+            return False
+        part = bytearray(3 * waiting)
+        if not _is_event(self._calls.take_paste(self._raw, limit, self._front)):
+            return False
+        pointer, room = _borrowed(part)
+        length = self._calls.text(self._raw, pointer, room)
+        self._part = memoryview(part)[:length]
+        self._calls.drop_text(self._raw)
+        return True
 
     def _input_event(self, offset: int = 0) -> Event:
         """The key, mouse event or paste of which the front has the struct at this place."""
@@ -1040,7 +1112,7 @@ class _EventParser(_Closable, Generic[_AnyEvent]):
         if kind == _KIND_MOUSE:
             return MouseEvent(x, y, _buttons(buttons), _modifiers(modifiers))
         if kind == _KIND_PASTE:
-            return Paste(self._text(paste_len).decode("utf-8"))
+            return Paste(str(self._part, "utf-8") + self._text(paste_len).decode("utf-8"))
         _fault()
 
     def _text(self, length: int) -> bytearray:
@@ -1084,6 +1156,8 @@ class InputParser(_EventParser[Event]):
         waiting=_library.hed_parser_waiting,
         flush_escape=_library.hed_parser_flush_escape,
         is_paste_open=_library.hed_parser_is_paste_open,
+        take_paste=_library.hed_parser_take_paste,
+        skip_paste=_library.hed_parser_skip_paste,
         end_paste=_library.hed_parser_end_paste,
         reset=_library.hed_parser_reset,
         shrink_to=_library.hed_parser_shrink_to,

@@ -20,6 +20,7 @@ from typing import Any, Callable, Dict, List, Optional, Tuple, Union
 
 from . import (
     _BYTES,
+    _COUNT,
     _ENCODED_BAD_NUMBER,
     _ENCODED_BAD_TEXT,
     _ENCODED_REFUSED_KEY,
@@ -312,6 +313,8 @@ _CALLS: Dict[str, Tuple[Any, List[Any]]] = {
     "hed_extended_waiting": (ctypes.c_uint32, [_PARSER]),
     "hed_extended_flush_escape": (ctypes.c_uint32, [_PARSER, _EVENT]),
     "hed_extended_is_paste_open": (ctypes.c_bool, [_PARSER]),
+    "hed_extended_take_paste": (ctypes.c_uint32, [_PARSER, ctypes.c_size_t, _EVENT]),
+    "hed_extended_skip_paste": (ctypes.c_bool, [_PARSER, _COUNT]),
     "hed_extended_end_paste": (ctypes.c_uint32, [_PARSER, _EVENT]),
     "hed_extended_reset": (ctypes.c_size_t, [_PARSER]),
     "hed_encode_kitty": (
@@ -323,7 +326,7 @@ _CALLS: Dict[str, Tuple[Any, List[Any]]] = {
             ctypes.c_uint8,
             _BYTES,
             ctypes.c_size_t,
-            ctypes.POINTER(ctypes.c_size_t),
+            _COUNT,
         ],
     ),
 }
@@ -417,6 +420,8 @@ class ExtendedParser(_EventParser[ExtendedEvent]):
         waiting=_library.hed_extended_waiting,
         flush_escape=_library.hed_extended_flush_escape,
         is_paste_open=_library.hed_extended_is_paste_open,
+        take_paste=_library.hed_extended_take_paste,
+        skip_paste=_library.hed_extended_skip_paste,
         end_paste=_library.hed_extended_end_paste,
         reset=_library.hed_extended_reset,
         shrink_to=_library.hed_extended_shrink_to,
