@@ -20,11 +20,10 @@
 #include <termios.h>
 #include <unistd.h>
 
-enum { ESCAPE_MS = 50, SEQUENCE_MS = 1000, LONGEST_PASTE = 1 << 20 };
+enum { ESCAPE_MS = 50, SEQUENCE_MS = 1000, PASTE_LIMIT = 1 << 20 };
 
 typedef struct live {
   hed_parser parser;
-  bool passes_over; /* whether the rest of a paste that was too long is passed over */
   bool mouse, is_raw;
   struct termios saved, raw;
   const char *failure; /* why the program ends, if nobody asked for it */
@@ -108,16 +107,13 @@ static void print_event(const hed_event *event) {
   if (event->key == HED_KEY_FUNCTION) printf(" %u", (unsigned)event->detail);
   if (event->kind == HED_KIND_MOUSE) printf("mouse at %u, %u, buttons %u", event->x, event->y, event->buttons);
   if (event->kind == HED_KIND_PASTE) printf("paste of %zu bytes", event->paste_len);
+  if (event->kind == HED_KIND_PASTE_PART) printf("part of a paste, %zu bytes", event->paste_len);
   printf("%s%s%s\n", event->modifiers & HED_TERMWIZ_MOD_SHIFT ? " shift" : "", event->modifiers & HED_TERMWIZ_MOD_ALT ? " alt" : "",
          event->modifiers & HED_TERMWIZ_MOD_CTRL ? " ctrl" : "");
 }
 
 static bool handle_event(live *it, const hed_event *event) {
-  if (event->kind == HED_KIND_PASTE) hed_parser_drop_paste(&it->parser); /* hed_parser_paste would copy its text before */
-  if (it->passes_over) {
-    it->passes_over = event->kind != HED_KIND_PASTE && event->key != HED_KEY_INTERNAL_PASTE_END;
-    return true;
-  }
+  if (event->paste_len > 0) hed_parser_drop_paste(&it->parser); /* hed_parser_paste would copy the text before */
   print_event(event);
   return event->key != HED_KEY_CHAR || event->detail != 'q' || event->modifiers != HED_TERMWIZ_MOD_NONE;
 }
@@ -133,29 +129,22 @@ static bool handle_events(live *it, bool more) {
 /* How long to wait for more bytes: without end (-1) for those of a character or a paste. */
 static int pause_ms(live *it) {
   uint32_t waiting = hed_parser_waiting(&it->parser);
-  if (it->passes_over || waiting == HED_WAITING_SEQUENCE) return SEQUENCE_MS;
+  if (waiting == HED_WAITING_SEQUENCE) return SEQUENCE_MS;
   return waiting == HED_WAITING_ESCAPE ? ESCAPE_MS : -1;
 }
 
 static bool handle_pause(live *it) {
   hed_event event;
-  if (it->passes_over) {
-    it->passes_over = false;
-    return true;
-  }
   if (hed_parser_flush_escape(&it->parser, &event) == HED_NEXT_EVENT) return handle_event(it, &event);
   return handle_events(it, false);
 }
 
-/* Ends a paste at the limit. The rest arrives as keys, which weren't typed: they are passed over up to the paste's end, or up to a pause if
- * the limit cut that end. */
-static bool limit_paste(live *it) {
+/* A paste above the limit is handled in parts. It stays open, so no byte of it becomes a key, whatever pauses come. */
+static bool take_paste(live *it) {
   hed_event event;
-  if (hed_parser_waiting_len(&it->parser) <= LONGEST_PASTE) return true;
-  if (hed_parser_end_paste(&it->parser, &event) != HED_NEXT_EVENT) return fail(it, "out of memory");
-  handle_event(it, &event);
-  it->passes_over = true;
-  return true;
+  uint32_t taken = hed_parser_take_paste(&it->parser, PASTE_LIMIT, &event);
+  if (taken == HED_NEXT_EVENT) return handle_event(it, &event);
+  return taken == HED_NEXT_NONE || fail(it, "out of memory");
 }
 
 static bool handle_input(live *it) {
@@ -163,7 +152,7 @@ static bool handle_input(live *it) {
   ssize_t count = read(0, bytes, sizeof bytes);
   if (count < 0) return fail(it, "the terminal can't be read");
   if (!hed_parser_feed(&it->parser, bytes, (size_t)count)) return fail(it, "out of memory");
-  return handle_events(it, count > 0) && limit_paste(it) && count > 0;
+  return handle_events(it, count > 0) && take_paste(it) && count > 0;
 }
 
 /* Stops as a program does that handles no SIGTSTP. Returns once it is continued, or at once if no shell could continue it. */
@@ -179,7 +168,6 @@ static void stop(live *it) {
 /* Another program had the terminal: what was buffered before no longer counts, and the size may be new. */
 static bool resume(live *it) {
   hed_parser_reset(&it->parser);
-  it->passes_over = false;
   resized = 1;
   return enter_terminal(it);
 }

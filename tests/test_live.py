@@ -97,27 +97,18 @@ def test_modes(start, words, modes):
     live.quit()
 
 
-def start_long_paste(start):
-    live = start()
-    live.send(START + b"q" * (LIMIT + LIMIT // 2))
-    live.expect(rb"(paste of (\d+) bytes)\r\n")
-    assert LIMIT - len(START) < int(live.match[2]) < LIMIT + 65536
-    return live, live.match[1].decode()
-
-
 @pytest.mark.timed
-def test_paste_over_the_limit(start):
-    """The paste is an event as soon as it is over the limit, and the rest isn't typed text."""
-    live, line = start_long_paste(start)
-    live.play([b"\033", PAUSE, b"[201~x" + START + b"ab" + END])
-    live.quit(line, "Char U+0078", "paste of 2 bytes")
-
-
-def test_paste_over_the_limit_without_an_end(start):
-    """After a pause the user's keys count again."""
-    live, line = start_long_paste(start)
-    live.play([LONG_PAUSE])
-    live.quit(line)
+@pytest.mark.parametrize("pause", [0.0, PAUSE, LONG_PAUSE])
+def test_paste_over_the_limit(start, pause):
+    """A part of it is handled as soon as it is over the limit, and none of it is a key."""
+    live, text = start(), b"q" * (LIMIT + LIMIT // 2)
+    live.send(START + text)
+    live.expect(rb"(part of a paste, (\d+) bytes)\r\n")
+    line, taken = live.match[1].decode(), int(live.match[2])
+    assert LIMIT < taken < LIMIT + 65536
+    live.play([pause, b"rm -rf ~\rq\033", pause, b"[201~x" + START + b"ab" + END])
+    rest = len(text + b"rm -rf ~\rq") - taken
+    live.quit(line, f"paste of {rest} bytes", "Char U+0078", "paste of 2 bytes")
 
 
 def test_new_size(start):

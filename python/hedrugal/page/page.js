@@ -380,7 +380,7 @@ function whyPaste(waits) {
   return [
     [`A paste was begun, with ${many(waits.text, 'byte')} of text so far. It becomes one event when its end arrives: `,
       el('span', { class: 'sequence' }, sequence(fromHex(waits.end))), '.'],
-    ['No pause and no flush ends a paste. A program that has a limit can end it where it is.'],
+    ['No pause and no flush ends a paste. A program with a limit takes its text in parts.'],
   ];
 }
 

@@ -23,7 +23,7 @@ use unix::signals;
 
 const ESCAPE_MS: i32 = 50;
 const SEQUENCE_MS: i32 = 1000;
-const LONGEST_PASTE: usize = 1 << 20;
+const PASTE_LIMIT: usize = 1 << 20;
 
 fn with_modifiers(mut line: String, modifiers: Modifiers) -> String {
     for (flag, name) in [
@@ -66,65 +66,44 @@ fn line(event: &InputEvent) -> String {
     }
 }
 
-fn ends_paste(event: &InputEvent) -> bool {
-    match event {
-        InputEvent::Key(key) => key.key == KeyCode::InternalPasteEnd,
-        InputEvent::Paste(_) => true,
-        _ => false,
-    }
-}
-
 fn is_q(event: &InputEvent) -> bool {
     matches!(event, InputEvent::Key(it) if it.key == KeyCode::Char('q') && it.modifiers.is_empty())
 }
 
-/// What the events are shown on.
-struct View {
-    terminal: Terminal,
-    /// Whether the rest of a paste that was too long is passed over.
-    passes_over: bool,
-}
-
-impl View {
-    /// Returns whether the program goes on.
-    fn handle(&mut self, event: &InputEvent) -> io::Result<bool> {
-        if self.passes_over {
-            self.passes_over = !ends_paste(event);
-            return Ok(true);
-        }
-        self.terminal.print_line(&line(event))?;
-        Ok(!is_q(event))
-    }
+/// Returns whether the program goes on.
+fn handle(terminal: &Terminal, event: &InputEvent) -> io::Result<bool> {
+    terminal.print_line(&line(event))?;
+    Ok(!is_q(event))
 }
 
 /// The program. Its functions return whether it goes on.
 struct Live {
     parser: InputParser,
-    view: View,
+    terminal: Terminal,
     wake: UnixStream,
 }
 
 impl Live {
     fn new(mouse: bool) -> io::Result<Live> {
         let terminal = Terminal::find(mouse)?;
-        let view = View {
-            terminal,
-            passes_over: false,
-        };
         let wake = signals::note_all()?;
         let parser = InputParser::try_new().map_err(io::Error::other)?;
-        Ok(Live { parser, view, wake })
+        Ok(Live {
+            parser,
+            terminal,
+            wake,
+        })
     }
 
     fn run(&mut self) -> io::Result<()> {
-        self.view.terminal.enter()?;
-        self.view.terminal.print_line("q ends")?;
+        self.terminal.enter()?;
+        self.terminal.print_line("q ends")?;
         while self.step()? {}
         Ok(())
     }
 
     fn step(&mut self) -> io::Result<bool> {
-        let descriptors = [self.view.terminal.input.as_raw_fd(), self.wake.as_raw_fd()];
+        let descriptors = [self.terminal.input.as_raw_fd(), self.wake.as_raw_fd()];
         match unix::poll_all(descriptors, self.pause_ms()) {
             Ok([false, false]) => self.handle_pause(),
             Ok([true, false]) => self.handle_input(),
@@ -137,7 +116,6 @@ impl Live {
     /// How long to wait for more bytes: without end (-1) for those of a character or a paste.
     fn pause_ms(&self) -> i32 {
         match self.parser.waiting() {
-            _ if self.view.passes_over => SEQUENCE_MS,
             Waiting::Escape => ESCAPE_MS,
             Waiting::Sequence => SEQUENCE_MS,
             Waiting::Nothing | Waiting::Character | Waiting::Paste => -1,
@@ -145,46 +123,42 @@ impl Live {
     }
 
     fn handle_pause(&mut self) -> io::Result<bool> {
-        if self.view.passes_over {
-            self.view.passes_over = false;
-            return Ok(true);
-        }
         match self.parser.flush_escape() {
-            Some(escape) => self.view.handle(&escape),
+            Some(escape) => handle(&self.terminal, &escape),
             None => self.parse(b"", false),
         }
     }
 
     fn handle_input(&mut self) -> io::Result<bool> {
         let mut bytes = [0; 4096];
-        let count = self.view.terminal.input.read(&mut bytes)?;
+        let count = self.terminal.input.read(&mut bytes)?;
         let goes_on = self.parse(&bytes[..count], count > 0)?;
-        Ok(goes_on && self.limit_paste()? && count > 0)
+        self.take_paste()?;
+        Ok(goes_on && count > 0)
     }
 
     fn parse(&mut self, bytes: &[u8], more: bool) -> io::Result<bool> {
         let mut goes_on = Ok(true);
-        let handle = |event| {
+        let handle_next = |event| {
             if matches!(goes_on, Ok(true)) {
-                goes_on = self.view.handle(&event);
+                goes_on = handle(&self.terminal, &event);
             }
         };
         self.parser
-            .try_parse(bytes, handle, more)
+            .try_parse(bytes, handle_next, more)
             .map_err(io::Error::other)?;
         goes_on
     }
 
-    /// Ends a paste at the limit. The rest arrives as keys, which weren't typed: they are passed
-    /// over up to the paste's end, or up to a pause if the limit cut that end.
-    fn limit_paste(&mut self) -> io::Result<bool> {
-        if self.parser.waiting_len() > LONGEST_PASTE {
-            if let Some(paste) = self.parser.try_end_paste().map_err(io::Error::other)? {
-                self.view.handle(&paste)?;
-                self.view.passes_over = true;
-            }
+    /// A paste above the limit is handled in parts. It stays open, so no byte of it becomes a key,
+    /// whatever pauses come.
+    fn take_paste(&mut self) -> io::Result<()> {
+        let part = self.parser.take_paste(PASTE_LIMIT);
+        if let Some(text) = part.map_err(io::Error::other)? {
+            let line = format!("part of a paste, {} bytes", text.len());
+            self.terminal.print_line(&line)?;
         }
-        Ok(true)
+        Ok(())
     }
 
     fn handle_wake(&mut self) -> io::Result<bool> {
@@ -193,7 +167,7 @@ impl Live {
             return Ok(false);
         }
         if signals::STOPPING.load(SeqCst) {
-            self.view.terminal.leave();
+            self.terminal.leave();
             signals::stop();
             return Ok(true); // a signal that ends the program comes before raw mode
         }
@@ -201,7 +175,7 @@ impl Live {
             self.resume()?;
         }
         if signals::RESIZED.swap(false, SeqCst) {
-            self.view.terminal.print_size()?;
+            self.terminal.print_size()?;
         }
         Ok(true)
     }
@@ -210,9 +184,8 @@ impl Live {
     /// may be new.
     fn resume(&mut self) -> io::Result<()> {
         self.parser.reset();
-        self.view.passes_over = false;
         signals::RESIZED.store(true, SeqCst);
-        self.view.terminal.enter()
+        self.terminal.enter()
     }
 }
 
