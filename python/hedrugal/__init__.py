@@ -535,7 +535,7 @@ _EVENT = ctypes.POINTER(_RawEvent)
 _MAP = ctypes.POINTER(_RawKeyMap)
 # A uint8_t *, as which ctypes passes a bytes object without a copy.
 _BYTES = ctypes.c_void_p
-_COUNT = ctypes.POINTER(ctypes.c_size_t)
+_COUNT: Any = ctypes.POINTER(ctypes.c_size_t)
 
 # The calls of hedrugal.h: the type of the result, and those of the arguments.
 _CALLS: Dict[str, Tuple[Any, List[Any]]] = {
