@@ -1,6 +1,6 @@
 -- What the laws say of values of this crate's types, beside the words of termwiz_base.
 use Rattle.std.specs.Prelude.{◌≡◌, ◌↔◌, Bool, IsTrue}
-use Rattle.termwiz_input.specs.declared.input.ParseVecError.{ParseVecError}
+use Rattle.termwiz_input.specs.declared.errors.ParseVecError.{ParseVecError}
 
 -- The test answers whether two refused calls gave the same events and whether the bytes of both were taken,
 -- or of neither.

@@ -2,6 +2,7 @@
 #![tactic(auto)]
 
 mod completions;
+mod errors;
 mod front;
 mod head;
 mod held;

@@ -1,8 +1,8 @@
 use Rattle.std.proofs.Common.{List, ℕ, ◌≡◌, ◌++◌, ◌+◌, ◌∙◌, [], Result, Err, inl, inr, refl, sym, arith, Bor}
 use Rattle.std.proofs.lemmas.List.{nil_from_length, get_or-map, length-map}
 use Rattle.std.proofs.lemmas.Bool.Decides.{nat_tests}
-use Rattle.termwiz_input.specs.declared.input.ParseError.{ParseError}
-use Rattle.termwiz_input.specs.declared.input.ParseError.TheVariants.{NotTaken, Taken}
+use Rattle.termwiz_input.specs.declared.errors.ParseError.{ParseError}
+use Rattle.termwiz_input.specs.declared.errors.ParseError.TheVariants.{NotTaken, Taken}
 use Rattle.termwiz_grammar.specs.Grammar.{IsRest, Means}
 use Rattle.termwiz_input.specs.Pieces.{AreNumbered, events_of, join, numbered, pieces_or_one, texts}
 use Rattle.termwiz_input.proofs.lemmas.pieces.CallSequence.{FoldsTo-append, may_go_on}
