@@ -3,7 +3,6 @@ mod extended;
 mod keymap;
 mod keys;
 mod long;
-mod parts;
 mod pieces;
 mod pulled;
 mod rows;
