@@ -213,7 +213,9 @@ fn ends_open_pastes_alone() {
 }
 
 // The text of an open paste, a limit, what is taken under it, and what is held back.
-const OPEN: &[(&[u8], usize, Option<&str>, &[u8])] = &[
+type OpenText = (&'static [u8], usize, Option<&'static str>, &'static [u8]);
+
+const OPEN: &[OpenText] = &[
     (b"", 0, None, b""),
     (b"abc", 2, Some("abc"), b""),
     (b"abc", 3, None, b""),
