@@ -244,20 +244,20 @@ def run_typed(words, texts, **variables):
     child.delaybeforesend = None
     child.logfile_read = seen = io.BytesIO()
     try:
-        wait_for_output(child)
-        for text, following in zip(texts, texts[1:] + [""]):
-            if text == "pause":
-                continue
-            child.send(decoded(text))
-            if following == "pause":
-                time.sleep(0.5)
-            else:
-                wait_for_output(child)
-        raise Failed(f"it did not end after: {seen.getvalue()!r}")
-    except pexpect.TIMEOUT:
-        raise Failed(f"nothing printed after: {seen.getvalue()!r}") from None
-    except pexpect.EOF:
+        with contextlib.suppress(pexpect.EOF):
+            wait_for_output(child)
+            for text, following in zip(texts, texts[1:] + [""]):
+                if text == "pause":
+                    continue
+                child.send(decoded(text))
+                if following == "pause":
+                    time.sleep(0.5)
+                else:
+                    wait_for_output(child)
+            child.expect(pexpect.EOF, timeout=10)
         child.wait()
+    except pexpect.TIMEOUT:
+        raise Failed(f"it neither printed nor ended after: {seen.getvalue()!r}") from None
     finally:
         child.close(force=True)
     if child.status:
