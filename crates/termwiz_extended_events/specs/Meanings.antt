@@ -3,7 +3,9 @@ use Rattle.std.specs.Prelude.{◌≡◌, ◌≢◌, ℕ, ◌==◌, List, [], ◌
 use Rattle.termwiz_keys.specs.declared.types.MouseEvent.{MouseEvent}
 use Rattle.termwiz_keys.specs.declared.types.InputEvent.TheVariants.{Mouse, Paste}
 use Rattle.termwiz_extended_events.specs.declared.types.ExtendedEvent.{ExtendedEvent}
-use Rattle.termwiz_extended_events.specs.declared.types.ExtendedEvent.TheVariants.{Input, Csi, Osc, Dcs, Apc, Key, FocusGained, FocusLost, CursorPosition, Resize, KeyboardFlags}
+use Rattle.termwiz_extended_events.specs.declared.types.ExtendedEvent.TheVariants.{Input, Csi, Osc, Dcs, Apc, Key, FocusGained, FocusLost, CursorPosition, Resize, KeyboardFlags, StringPart, StringCut}
+use Rattle.termwiz_extended_events.specs.declared.types.StringKind.{StringKind}
+use Rattle.termwiz_extended_events.specs.declared.types.StringKind.TheVariants as kinds
 use Rattle.termwiz_extended_events.specs.declared.meanings.Meaning.{Meaning}
 use Rattle.termwiz_extended_events.specs.declared.meanings.Meaning.TheVariants as meaning
 use Rattle.termwiz_extended_events.specs.Numbers.{before_end, first_some}
@@ -50,6 +52,12 @@ unfoldable pub event_of : List ℕ → ExtendedEvent
 event_of (escape ∷ b ∷ t) = if escape == 27 then event_after b t else Csi t
 event_of _ = Csi []
 
+-- the event of a string that has its end: its bytes after its introducer, without the end
+abbrev pub whole_string : StringKind → List ℕ → ExtendedEvent
+whole_string kinds.Osc bytes = Osc bytes
+whole_string kinds.Dcs bytes = Dcs bytes
+whole_string kinds.Apc bytes = Apc bytes
+
 -- a report of a key, or of the cursor's position
 abbrev pub IsKeyOrPosition : ExtendedEvent → Type 0
 IsKeyOrPosition (Key report) = Unit {0}
@@ -64,6 +72,8 @@ NeedsMemory (Csi bytes) = Unit {0}
 NeedsMemory (Osc bytes) = Unit {0}
 NeedsMemory (Dcs bytes) = Unit {0}
 NeedsMemory (Apc bytes) = Unit {0}
+NeedsMemory (StringPart kind bytes) = Unit {0}
+NeedsMemory (StringCut kind bytes) = Unit {0}
 NeedsMemory _ = ⊥
 
 -- the event of a meaning; none if a report in it spells no text
@@ -79,6 +89,8 @@ event_from (meaning.Csi bytes) = Some (Csi bytes.now)
 event_from (meaning.Osc bytes) = Some (Osc bytes.now)
 event_from (meaning.Dcs bytes) = Some (Dcs bytes.now)
 event_from (meaning.Apc bytes) = Some (Apc bytes.now)
+event_from (meaning.StringPart kind bytes) = Some (StringPart kind bytes.now)
+event_from (meaning.StringCut kind bytes) = Some (StringCut kind bytes.now)
 
 -- a meaning is there exactly if the event is, and is its meaning
 abbrev pub IsMeant : Option Meaning → Option ExtendedEvent → Type 0

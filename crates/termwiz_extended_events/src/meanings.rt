@@ -10,7 +10,7 @@ use crate::key_reports;
 pub use crate::key_reports::SpelledReport;
 use crate::key_reports::{console_key, key_report, keypad_key};
 use crate::replies::{focus, mouse_report, reply};
-use crate::types::{ExtendedEvent, PlainReport, SequenceBytes};
+use crate::types::{ExtendedEvent, PlainReport, SequenceBytes, StringKind};
 use std::alloc::{AllocError, Global};
 use termwiz_keys::types::{InputEvent, MouseEvent};
 
@@ -59,6 +59,20 @@ pub enum Meaning<'t> {
     Dcs(&'t [u8]),
     /// An application program command, without its end.
     Apc(&'t [u8]),
+    /// The first bytes of a long string.
+    StringPart {
+        /// The kind of the string.
+        kind: StringKind,
+        /// Its bytes after its introducer.
+        bytes: &'t [u8],
+    },
+    /// A string that was cut off.
+    StringCut {
+        /// The kind of the string.
+        kind: StringKind,
+        /// Its bytes after its introducer.
+        bytes: &'t [u8],
+    },
 }
 
 // The bytes of a sequence.
@@ -110,6 +124,14 @@ impl<'t> Meaning<'t> {
             Meaning::Osc(text) => Ok(ExtendedEvent::Osc(bytes(alloc, text)?)),
             Meaning::Dcs(text) => Ok(ExtendedEvent::Dcs(bytes(alloc, text)?)),
             Meaning::Apc(text) => Ok(ExtendedEvent::Apc(bytes(alloc, text)?)),
+            Meaning::StringPart { kind, bytes: text } => Ok(ExtendedEvent::StringPart {
+                kind,
+                bytes: bytes(alloc, text)?,
+            }),
+            Meaning::StringCut { kind, bytes: text } => Ok(ExtendedEvent::StringCut {
+                kind,
+                bytes: bytes(alloc, text)?,
+            }),
         }
     }
 }

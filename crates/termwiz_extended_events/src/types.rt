@@ -195,6 +195,17 @@ impl PlainReport {
     }
 }
 
+/// The kind of a string.
+#[derive(Clone, Copy, PartialEq, Eq, Debug)]
+pub enum StringKind {
+    /// An operating system command, after ESC `]`.
+    Osc,
+    /// A device control string, after ESC `P`.
+    Dcs,
+    /// An application program command, after ESC `_`.
+    Apc,
+}
+
 /// Something that happened at the terminal, or that it replied.
 #[derive(PartialEq, Eq, Debug, Drop)]
 pub enum ExtendedEvent {
@@ -234,4 +245,18 @@ pub enum ExtendedEvent {
     Dcs(SequenceBytes),
     /// An application program command: its bytes after ESC `_`, without its end.
     Apc(SequenceBytes),
+    /// The first bytes of a string that is too long to be buffered. The next event of the string begins with the same opening.
+    StringPart {
+        /// The kind of the string.
+        kind: StringKind,
+        /// Its bytes after its introducer.
+        bytes: SequenceBytes,
+    },
+    /// A string that was cut off before its end.
+    StringCut {
+        /// The kind of the string.
+        kind: StringKind,
+        /// Its bytes after its introducer.
+        bytes: SequenceBytes,
+    },
 }
