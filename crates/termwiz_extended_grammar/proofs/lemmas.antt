@@ -1,4 +1,4 @@
-pub mod cuts
 pub mod forms
 pub mod items
+pub mod cuts
 pub mod waiting

@@ -1,5 +1,6 @@
 -- The laws of the extended grammar. Each holds for both readings of the rows.
 use Rattle.std.specs.Prelude.{◌≡◌, ◌≢◌, ℕ, ◌+◌, ◌≤◌, ◌⊎◌, ◌↔◌, Bool, true, false, List, [], ◌∷◌, ◌++◌, length, map, codes}
+use Rattle.std.specs.List.{AllByRecursion, concat}
 use Rattle.termwiz_keymap.specs.Bytes.{Begins, Occurs}
 use Rattle.termwiz_keys.specs.Introducers.{ESC, CSI, SS3, START, END}
 use Rattle.termwiz_keys.specs.Keys.{escape}
@@ -11,11 +12,14 @@ use Rattle.termwiz_grammar.specs.Grammar.{IsLongest}
 use Rattle.termwiz_grammar.specs.Laws.{IsHeldEscape}
 use Rattle.termwiz_grammar.specs.Streams.{OneRead, bytes_of_reads}
 use Rattle.termwiz_extended_events.specs.declared.types.ExtendedEvent.{ExtendedEvent}
-use Rattle.termwiz_extended_events.specs.declared.types.ExtendedEvent.TheVariants.{Input}
+use Rattle.termwiz_extended_events.specs.declared.types.ExtendedEvent.TheVariants.{Input, Osc, StringPart, StringCut}
 use Rattle.termwiz_extended_events.specs.declared.types.Protocol.{Protocol}
-use Rattle.termwiz_extended_grammar.specs.Forms.{IsStringIntroducer, most_control, most_string}
-use Rattle.termwiz_extended_grammar.specs.ExtraSequences.{IsExtra, StartsWithExtra}
-use Rattle.termwiz_extended_grammar.specs.ExtendedGrammar.{BeginsKnown, IsOpen, IsRest, Steps, Means}
+use Rattle.termwiz_extended_events.specs.declared.types.StringKind.{StringKind}
+use Rattle.termwiz_extended_events.specs.Meanings.{whole_string}
+use Rattle.termwiz_extended_grammar.specs.Forms.{introducer, IsData, IsStringEnd, IsTitle, most_string}
+use Rattle.termwiz_extended_grammar.specs.ExtraSequences.{IsExtra}
+use Rattle.termwiz_extended_grammar.specs.Strings.{IsHead, StartsWithOpening, IsOpenString}
+use Rattle.termwiz_extended_grammar.specs.ExtendedGrammar.{StartsExtended, BeginsExtended, BeginsKnown, IsOpen, IsRest, Steps, Means}
 use Rattle.termwiz_extended_grammar.specs.ExtendedStreams.{OneByOne, ReadInTurn}
 
 -- How the bytes are cut doesn't matter.
@@ -60,20 +64,17 @@ OneByOneMeans = (protocol : Protocol) (T W : List ℕ) (E : List ExtendedEvent) 
 abbrev pub EmptyIsRest : Type 0
 EmptyIsRest = (protocol : Protocol) (f : Bool) → IsRest protocol [] f
 
--- it begins as a string does: ESC and `]`, P or _
-abbrev pub BeginsString : List ℕ → Type 0
-BeginsString u = (introducer : ℕ) × (rest : List ℕ) × IsStringIntroducer introducer × (u ≡ ESC ++ introducer ∷ rest)
-
--- shorter than the longest control sequence, or a string that is shorter than the longest string
-abbrev pub IsShort : List ℕ → Type 0
-IsShort u = (length u + 1 ≤ most_control) ⊎ ((length u + 1 ≤ most_string) × BeginsString u)
+-- how many bytes can wait as a beginning, one Escape before it not counted
+abbrev pub most_beginning : ℕ
+most_beginning = 255
 
 -- What can wait.
 pub data Waits (protocol : Protocol) (u : List ℕ) (more : Bool) : Type 0 where
   nothing : u ≡ [] → Waits protocol u more
   open_paste : (body : List ℕ) → u ≡ START ++ body → ¬ Occurs END body → Waits protocol u more
   undecided : (held bytes : List ℕ) → IsHeldEscape held → u ≡ held ++ bytes → bytes ≢ [] → BeginsKnown protocol bytes
-      → IsShort bytes → more ≡ true → Waits protocol u more
+      → length bytes ≤ most_beginning → more ≡ true → Waits protocol u more
+  open_string : IsOpenString u → length u ≤ most_string → more ≡ true → Waits protocol u more
 
 -- Every rest waits for one of these.
 abbrev pub WaitingShape : Type 0
@@ -85,15 +86,35 @@ FlushMatters protocol text c =
     (E E1 E2 : List ExtendedEvent) × (W W1 W2 : List ℕ)
     × Means protocol (text ++ c) false E W × Means protocol text false E1 W1 × Means protocol (W1 ++ c) false E2 W2 × (E ≢ E1 ++ E2)
 
--- What properly begins a sequence or a character, after at most one Escape, may go on so that a flush before changes the events.
+-- What properly begins a sequence, a character or an opening, after at most one Escape, may go on so that a flush before changes the events.
+-- So may an open string.
 abbrev pub Undecided : Type 0
-Undecided = (protocol : Protocol) (held p : List ℕ) → IsHeldEscape held → p ≢ [] → BeginsKnown protocol p
-    → (c : List ℕ) × FlushMatters protocol (held ++ p) c
+Undecided = (protocol : Protocol)
+    → ((held p : List ℕ) → IsHeldEscape held → p ≢ [] → BeginsKnown protocol p → (c : List ℕ) × FlushMatters protocol (held ++ p) c)
+    × ((u : List ℕ) → IsOpenString u → (c : List ℕ) × FlushMatters protocol u c)
 
 -- A complete sequence is its event, whatever stands before it, and that is read as a flush reads it.
 abbrev pub SequenceStands : Type 0
 SequenceStands = (protocol : Protocol) (T x S W : List ℕ) (E D : List ExtendedEvent) (e : ExtendedEvent) (f : Bool)
     → Means protocol T false E [] → IsExtra protocol x e → Means protocol S f D W → Means protocol (T ++ (x ++ S)) f (E ++ e ∷ D) W
+
+-- z, before S, ends a string of this kind with this event, and S is left whole. It is an end; or nothing, where S cuts the string; or the ESC
+-- that is taken with it where S begins with ESC; or what a flush takes, where no more follows.
+pub data Closes (kind : StringKind) (z S : List ℕ) (f : Bool) : (List ℕ → ExtendedEvent) → Type 0 where
+  by_end : IsStringEnd kind z → Closes kind z S f (whole_string kind)
+  by_cut : (b : ℕ) (r : List ℕ) → z ≡ [] → S ≡ ESC ++ b ∷ r → b ≢ 0x1b → b ≢ 0x5c → Closes kind z S f (StringCut kind)
+  by_two : (r : List ℕ) → z ≡ ESC → S ≡ ESC ++ r → Closes kind z S f (StringCut kind)
+  by_flush : IsHeldEscape z → S ≡ [] → f ≡ false → Closes kind z S f (StringCut kind)
+
+-- A string is its events, whatever stands before it, and however long it is: some parts or none, and one more event. Each begins with the
+-- head of the opening, and after that they have the data, in turn.
+abbrev pub StringStands : Type 0
+StringStands = (protocol : Protocol) (kind : StringKind) (T head d z S W : List ℕ) (E D : List ExtendedEvent)
+    (event : List ℕ → ExtendedEvent) (f : Bool)
+    → Means protocol T false E [] → IsHead kind head → AllByRecursion (IsData kind) d → Closes kind z S f event → Means protocol S f D W
+    → (parts : List (List ℕ)) × (last : List ℕ) × (concat parts ++ last ≡ d)
+    × Means protocol (T ++ (introducer kind ++ head ++ (d ++ z ++ S))) f
+    (E ++ map (λ part. StringPart kind (head ++ part)) parts ++ event (head ++ last) ∷ D) W
 
 -- The port looks for a head at u while it reads T: at each item's place, at that of the rest, and after an ESC that is the head.
 pub data LooksAt (T : List ℕ) (f : Bool) (u : List ℕ) : Type 0 where
@@ -101,27 +122,35 @@ pub data LooksAt (T : List ℕ) (f : Bool) (u : List ℕ) : Type 0 where
   after_escape : (E : List InputEvent) (before : List ℕ) → port.Steps T f E before → IsLongest before ESC (Row escape)
       → before ≡ ESC ++ u → LooksAt T f u
 
--- no extra sequence begins u, and if u is open, it is open to the port
+-- no extra sequence and no opening begins u, and if u is open, it is open to the port
 pub record HasNoExtra (protocol : Protocol) (u : List ℕ) (f : Bool) : Type 0 where
-  pub none : ¬ StartsWithExtra protocol u
+  pub none : ¬ StartsExtended protocol u
   pub open_to_port : IsOpen protocol u f → port.IsOpen u f
 
--- Where no extra sequence is met, a text means what it means to the port.
+-- Where no extra sequence and no opening is met, a text means what it means to the port.
 abbrev pub Conservative : Type 0
 Conservative = (protocol : Protocol) (T W : List ℕ) (E : List InputEvent) (f : Bool)
     → ((u : List ℕ) → LooksAt T f u → HasNoExtra protocol u f) → port.Means T f E W → Means protocol T f (map (λ e. Input e) E) W
 
--- An extra sequence that begins a text is the only one that does, and no sequence of the port that begins it is longer.
+-- A title is an extra sequence, with the event of a command: of its letter and what follows.
+abbrev pub TitlesAreCommands : Type 0
+TitlesAreCommands = (protocol : Protocol) (text : List ℕ) (t : IsTitle text) → IsExtra protocol text (Osc (t.letter ∷ t.body))
+
+-- An extra sequence that begins a text is the only one that does, no opening begins the text, and no sequence of the port that begins it is
+-- longer.
 abbrev pub ExtraIsLongest : Type 0
 ExtraIsLongest = (protocol : Protocol) (u x : List ℕ) (e : ExtendedEvent) → IsExtra protocol x e → Begins x u
     → ((y : List ℕ) (m : Meaning) → IsSequence y m → Begins y u → length y ≤ length x)
     × ((y : List ℕ) (d : ExtendedEvent) → IsExtra protocol y d → Begins y u → (y ≡ x) × (d ≡ e))
+    × ¬ StartsWithOpening u
 
--- the text properly begins an extra sequence
-abbrev pub BeginsExtra : Protocol → List ℕ → Type 0
-BeginsExtra protocol text = (tail : List ℕ) × (e : ExtendedEvent) × (tail ≢ []) × IsExtra protocol (text ++ tail) e
+-- An opening that begins a text is the only one that does, and no sequence of the port that begins it is longer.
+abbrev pub OpeningIsLongest : Type 0
+OpeningIsLongest = (u head : List ℕ) (kind : StringKind) → IsHead kind head → Begins (introducer kind ++ head) u
+    → ((y : List ℕ) (m : Meaning) → IsSequence y m → Begins y u → length y ≤ length (introducer kind ++ head))
+    × ((k : StringKind) (h : List ℕ) → IsHead k h → Begins (introducer k ++ h) u → (k ≡ kind) × (h ≡ head))
 
--- Of the sequences of the port exactly ESC, ESC [, ESC O and ESC P properly begin an extra sequence.
+-- Of the sequences of the port exactly ESC, ESC [, ESC O and ESC P properly begin an extra sequence or an opening.
 abbrev pub FourBeginnings : Type 0
 FourBeginnings = (protocol : Protocol) (text : List ℕ) (m : Meaning) → IsSequence text m
-    → BeginsExtra protocol text ↔ ((text ≡ ESC) ⊎ ((text ≡ CSI) ⊎ ((text ≡ SS3) ⊎ (text ≡ ESC ++ codes "P"))))
+    → BeginsExtended protocol text ↔ ((text ≡ ESC) ⊎ ((text ≡ CSI) ⊎ ((text ≡ SS3) ⊎ (text ≡ ESC ++ codes "P"))))

@@ -1,10 +1,12 @@
--- The forms of what terminals send beyond the rows of the table and SGR mouse reports.
--- From ECMA-48 (control sequences and strings), xterm's control sequences (X10 mouse reports, BEL as the end of an operating system
--- command, application keypad) and the Linux console (its function keys).
-use Rattle.std.specs.Prelude.{◌≡◌, ◌≢◌, ℕ, ◌≤◌, ◌⊎◌, List, [], ◌∷◌, ◌++◌, length, codes}
+-- The forms of what terminals send beyond the rows of the table and SGR mouse reports, and the openings of strings.
+-- From ECMA-48 (control sequences and strings), xterm's control sequences (X10 mouse reports, titles, BEL as the end of an operating
+-- system command, application keypad) and the Linux console (its function keys).
+use Rattle.std.specs.Prelude.{◌≡◌, ◌≢◌, ℕ, ◌≤◌, ◌<◌, ◌⊎◌, List, [], ◌∷◌, ◌++◌, length, codes}
 use Rattle.std.specs.List.{AllByRecursion}
 use Rattle.termwiz_keymap.specs.Bytes.{Begins}
 use Rattle.termwiz_keys.specs.Introducers.{ESC, CSI, SS3}
+use Rattle.termwiz_extended_events.specs.declared.types.StringKind.{StringKind}
+use Rattle.termwiz_extended_events.specs.declared.types.StringKind.TheVariants.{Osc, Dcs, Apc}
 
 -- what ends a string: the string terminator, ESC \
 abbrev pub ST : List ℕ
@@ -22,10 +24,6 @@ IsInner b = (0x20 ≤ b) × (b ≤ 0x3f)
 abbrev pub IsFinal : ℕ → Type 0
 IsFinal b = (0x40 ≤ b) × (b ≤ 0x7e)
 
--- a byte of a string
-abbrev pub IsData : ℕ → Type 0
-IsData b = ((0x20 ≤ b) × (b ≤ 0x7e)) ⊎ ((0x80 ≤ b) × (b ≤ 0xff))
-
 -- a byte of an X10 mouse report
 abbrev pub IsMouseByte : ℕ → Type 0
 IsMouseByte b = (0x20 ≤ b) × (b ≤ 0xff)
@@ -42,21 +40,39 @@ IsConsoleLetter b = (65 ≤ b) × (b ≤ 69)
 abbrev pub IsKeypadLetter : ℕ → Type 0
 IsKeypadLetter b = (b ≡ 77) ⊎ ((b ≡ 88) ⊎ ((b ≡ 69) ⊎ ((106 ≤ b) × (b ≤ 121))))
 
--- the byte after ESC that begins a string: `]`, P or _
-abbrev pub IsStringIntroducer : ℕ → Type 0
-IsStringIntroducer b = (b ≡ 93) ⊎ ((b ≡ 80) ⊎ (b ≡ 95))
+-- what strings of a kind begin with: ESC and `]`, P or _
+abbrev pub introducer : StringKind → List ℕ
+introducer Osc = ESC ++ codes "]"
+introducer Dcs = ESC ++ codes "P"
+introducer Apc = ESC ++ codes "_"
 
--- what ends a string of this introducer
-abbrev pub IsStringEnd : ℕ → List ℕ → Type 0
-IsStringEnd introducer end = (end ≡ ST) ⊎ ((introducer ≡ 93) × (end ≡ BEL))
+-- a byte that neither ends a string of this kind nor begins its end: none is ESC, and in an operating system command none is BEL
+abbrev pub IsData : StringKind → ℕ → Type 0
+IsData Osc b = (b ≢ 0x1b) × (b ≢ 0x07)
+IsData Dcs b = b ≢ 0x1b
+IsData Apc b = b ≢ 0x1b
+
+-- what ends a string of this kind
+abbrev pub IsStringEnd : StringKind → List ℕ → Type 0
+IsStringEnd Osc end = (end ≡ ST) ⊎ (end ≡ BEL)
+IsStringEnd Dcs end = end ≡ ST
+IsStringEnd Apc end = end ≡ ST
 
 -- how many bytes a control sequence may have
 abbrev pub most_control : ℕ
 most_control = 256
 
--- how many bytes a string may have, from its ESC to its end
+-- how many bytes of a string may be read before its event: its opening and the data after it
 abbrev pub most_string : ℕ
-most_string = 65536
+most_string = 65535
+
+-- the letter of a title's report: l for the window's, L for the icon's
+abbrev pub IsTitleLetter : ℕ → Type 0
+IsTitleLetter b = (b ≡ 108) ⊎ (b ≡ 76)
+
+-- as many bytes after that letter are no typed text
+abbrev pub typed_title : ℕ
+typed_title = 252
 
 -- A control sequence: ESC [, inner bytes, and a final byte. ESC [M begins a mouse report, ESC [[ a console key, and ESC [, a digit and $ a row:
 -- none of these is one.
@@ -93,16 +109,16 @@ pub record IsKeypadKey (text : List ℕ) : Type 0 where
   pub form : text ≡ SS3 ++ letter ∷ []
   pub letter_is : IsKeypadLetter letter
 
--- A string: ESC, its introducer, data bytes, and its end.
-pub record IsString (text : List ℕ) : Type 0 where
-  pub introducer : ℕ
+-- A title: ESC `]`, its letter, few bytes, and the end of a command. Its beginning can be typed.
+pub record IsTitle (text : List ℕ) : Type 0 where
+  pub letter : ℕ
   pub body : List ℕ
   pub end : List ℕ
-  pub form : text ≡ ESC ++ introducer ∷ (body ++ end)
-  pub introducer_is : IsStringIntroducer introducer
-  pub each : AllByRecursion IsData body
-  pub end_is : IsStringEnd introducer end
-  pub short : length text ≤ most_string
+  pub form : text ≡ introducer Osc ++ letter ∷ (body ++ end)
+  pub letter_is : IsTitleLetter letter
+  pub each : AllByRecursion (IsData Osc) body
+  pub short : length body < typed_title
+  pub end_is : IsStringEnd Osc end
 
 -- a text of one of these forms
 pub data IsForm (text : List ℕ) : Type 0 where
@@ -110,7 +126,7 @@ pub data IsForm (text : List ℕ) : Type 0 where
   x10_report : IsX10Report text → IsForm text
   console_key : IsConsoleKey text → IsForm text
   keypad_key : IsKeypadKey text → IsForm text
-  string : IsString text → IsForm text
+  title : IsTitle text → IsForm text
 
 -- some text of a form is longer than u and begins with u
 pub record IsUnfinishedForm (u : List ℕ) : Type 0 where

@@ -5,3 +5,4 @@ pub mod ExtendedStreams
 pub mod ExtraSequences
 pub mod Forms
 pub mod ExtendedParts
+pub mod Strings

@@ -1,7 +1,7 @@
 //! Laws of the extended grammar, each the contract of a function without effect. Each holds for both readings of the rows.
 //!
 //! They speak of the definitions alone. That the parser obeys the definitions is said by its own contracts.
-ghost use Rattle.termwiz_extended_grammar.specs.ExtendedLaws.{Conservative, CutIndependent, EmptyIsRest, ExtraIsLongest, FewEvents, FewEventsInStream, FourBeginnings, OneByOneMeans, OneMeaning, Resumes, SequenceStands, StepsJoin, Undecided, WaitingShape};
+ghost use Rattle.termwiz_extended_grammar.specs.ExtendedLaws.{Conservative, CutIndependent, EmptyIsRest, ExtraIsLongest, FewEvents, FewEventsInStream, FourBeginnings, OneByOneMeans, OneMeaning, OpeningIsLongest, Resumes, SequenceStands, StepsJoin, StringStands, TitlesAreCommands, Undecided, WaitingShape};
 ghost use Rattle.termwiz_extended_grammar.specs.ExtendedKinds.{WaitingKinds};
 ghost use Rattle.termwiz_extended_grammar.specs.ExtendedParts.{PartsJoin};
 
@@ -52,20 +52,20 @@ pub fn empty_is_rest()
     ensures { EmptyIsRest }
 {}
 
-/// What waits is one of three: nothing; an open paste; or, if more may come, bytes that properly begin a sequence or a character, after
-/// at most one Escape. These are at most 255, or 65535 in a string.
+/// What waits is one of four: nothing; an open paste; or, if more may come, at most 255 bytes that properly begin a sequence, a character or
+/// the opening of a string, after at most one Escape; or an open string of at most 65535 bytes.
 pub fn waiting_shape()
     ensures { WaitingShape }
 {}
 
-/// What stays buffered is of exactly one kind: nothing; an Escape; the beginning of a longer sequence; the beginning of a
-/// character; or an open paste.
+/// What stays buffered is of exactly one kind: nothing; an Escape; the beginning of a longer sequence or of an opening; the beginning of a
+/// character; an open paste; or an open string.
 pub fn waiting_kinds()
     ensures { WaitingKinds }
 {}
 
-/// What waits as the proper beginning of a sequence or of a character, alone or after one Escape, isn't decided yet: for some
-/// bytes that may follow it, a flush before them changes the events.
+/// What waits as the proper beginning of a sequence, a character or an opening, alone or after one Escape, isn't decided yet: for some
+/// bytes that may follow it, a flush before them changes the events. Nor is an open string.
 pub fn undecided()
     ensures { Undecided }
 {}
@@ -77,20 +77,38 @@ pub fn sequence_stands()
     ensures { SequenceStands }
 {}
 
-/// A text in which the port meets no extra sequence means what it means to the port, event for event, and the same bytes stay buffered.
-/// The port meets one if it begins at an item, at the rest or after the ESC of an item or the rest, or if it properly begins there and
-/// the port wouldn't go on reading.
+/// A string is some parts or none and one more event, of its kind, whatever stands before it, if a flush leaves nothing of that. The last
+/// event tells whether the string has its end or was cut: by ESC and another byte, by ESC ESC, or by a flush. What comes after it is read by
+/// itself. The bytes of these events, without the opening of all but the first, are those of the string. So no byte of a string becomes a
+/// key, however long it is.
+pub fn string_stands()
+    ensures { StringStands }
+{}
+
+/// A text in which the port meets no extra sequence and no opening means what it means to the port, event for event, and the same bytes stay
+/// buffered. The port meets one if it begins at an item, at the rest or after the ESC of an item or the rest, or if it properly begins
+/// there and the port wouldn't go on reading.
 pub fn conservative()
     ensures { Conservative }
 {}
 
-/// An extra sequence that begins a text is the only one that does, and no sequence of the port that begins it is longer. So it is the
-/// longest known text there, and decides the item.
+/// A title is an extra sequence, with the event of an operating system command.
+pub fn titles_are_commands()
+    ensures { TitlesAreCommands }
+{}
+
+/// An extra sequence that begins a text is the only one that does, no opening begins the text, and no sequence of the port that begins it is
+/// longer. So it is the longest known text there, and decides the item.
 pub fn extra_is_longest()
     ensures { ExtraIsLongest }
 {}
 
-/// Of the sequences of the port exactly ESC, ESC `[`, ESC `O` and ESC `P` properly begin an extra sequence.
+/// An opening that begins a text is the only one that does, and no sequence of the port that begins it is longer.
+pub fn opening_is_longest()
+    ensures { OpeningIsLongest }
+{}
+
+/// Of the sequences of the port exactly ESC, ESC `[`, ESC `O` and ESC `P` properly begin an extra sequence or an opening.
 pub fn four_beginnings()
     ensures { FourBeginnings }
 {}

@@ -2,5 +2,6 @@ pub mod BeforeEscape
 pub mod ExtendedCuts
 pub mod ExtendedStreams
 pub mod SequencesStand
+pub mod StringsStand
 pub mod SameAsPort
 pub mod PartsOfPastes

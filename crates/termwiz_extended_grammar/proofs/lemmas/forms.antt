@@ -1,7 +1,8 @@
-pub mod ExtraFacts
 pub mod FormBytes
-pub mod FormEnds
 pub mod FormKinds
-pub mod FormOrNot
 pub mod PortLayouts
+pub mod FormEnds
+pub mod FormOrNot
 pub mod Unfinished
+pub mod ExtraFacts
+pub mod TitleEvents

@@ -1,3 +1,3 @@
-pub mod FlushesMatter
 pub mod FlushesLeave
+pub mod FlushesMatter
 pub mod KindsOfRests

@@ -1,30 +1,23 @@
 -- However a text is cut, it means the same; and no more events come than bytes.
-use Rattle.std.proofs.Common.{ℕ, Bool, true, List, [], ◌∷◌, ◌++◌, length, sym, ap, ◌∙◌, subst, append_assoc, arith, length-append}
-use Rattle.termwiz_keymap.proofs.lemmas.lists.CommonPrefixes.{length-some}
+use Rattle.std.proofs.Common.{ℕ, Bool, true, List, [], ◌∷◌, ◌++◌, length, sym, ap, subst, arith}
 use Rattle.termwiz_extended_events.specs.declared.types.ExtendedEvent.{ExtendedEvent}
 use Rattle.termwiz_extended_events.specs.declared.types.Protocol.{Protocol}
 use Rattle.termwiz_extended_grammar.specs.ExtendedGrammar.{Steps}
 use Rattle.termwiz_extended_grammar.specs.ExtendedLaws.{CutIndependent, Resumes, StepsJoin, FewEvents}
-use Rattle.termwiz_extended_grammar.proofs.lemmas.items.ExtendedItems.{stands_stays_extended, stands_some}
+use Rattle.termwiz_extended_grammar.proofs.lemmas.items.ExtendedItems.{stands_stays_extended, stands_less}
 
 -- steps of a text with more to come are steps of every longer one
 steps_stay : (protocol : Protocol) (E : List ExtendedEvent) (T S W : List ℕ) (f : Bool) → Steps protocol T true E W
     → Steps protocol (T ++ S) f E (W ++ S)
 steps_stay protocol [] T S W f h = ap (λ x. x ++ S) h
-steps_stay protocol (e ∷ E) T S W f (bytes, rest, stands, splits, steps) = (
-  bytes,
-  rest ++ S,
-  stands_stays_extended protocol T S bytes e f stands,
-  ap (λ x. x ++ S) splits ∙ append_assoc bytes rest S,
-  steps_stay protocol E rest S W f steps,
-)
+steps_stay protocol (e ∷ E) T S W f (left, stands, steps) =
+    (left ++ S, stands_stays_extended protocol T S left e f stands, steps_stay protocol E left S W f steps)
 
 -- steps after steps
 pub join_steps : (protocol : Protocol) (E D : List ExtendedEvent) (T V W : List ℕ) (f : Bool) → Steps protocol T f E V → Steps protocol V f D W
     → Steps protocol T f (E ++ D) W
 join_steps protocol [] D T V W f h k = subst (λ x. Steps protocol x f D W) (sym h) k
-join_steps protocol (e ∷ E) D T V W f (bytes, rest, stands, splits, steps) k =
-    (bytes, rest, stands, splits, join_steps protocol E D rest V W f steps k)
+join_steps protocol (e ∷ E) D T V W f (left, stands, steps) k = (left, stands, join_steps protocol E D left V W f steps k)
 
 pub steps_join : StepsJoin
 steps_join protocol T V W E D f h k = join_steps protocol E D T V W f h k
@@ -43,11 +36,5 @@ cut_independent protocol T S W1 W2 E1 E2 f h k = (resumes protocol T S W1 W2 E1 
 
 pub few_events : FewEvents
 few_events protocol T W [] f h = omega (arith, ap length h)
-few_events protocol T W (e ∷ E) f (bytes, rest, stands, splits, steps) =
-    omega (
-      arith,
-      ap length splits,
-      length-append bytes rest,
-      length-some bytes (stands_some protocol T bytes e f stands),
-      few_events protocol rest W E f steps,
-    )
+few_events protocol T W (e ∷ E) f (left, stands, steps) =
+    omega (arith, stands_less protocol T left e f stands, few_events protocol left W E f steps)

@@ -43,8 +43,7 @@ joined_steps protocol (e ∷ E) T W f (left, step, rest) =
 
 single_steps : (protocol : Protocol) (E : List ExtendedEvent) (T W : List ℕ) (f : Bool) → Steps protocol T f E W → OneByOne protocol T f E W
 single_steps protocol [] T W f h = h
-single_steps protocol (e ∷ E) T W f (bytes, left, stands, splits, steps) =
-    (left, (bytes, left, stands, splits, refl), single_steps protocol E left W f steps)
+single_steps protocol (e ∷ E) T W f (left, stands, steps) = (left, (left, stands, refl), single_steps protocol E left W f steps)
 
 pub one_by_one : OneByOneMeans
 one_by_one protocol T W E f = (

@@ -1,12 +1,10 @@
 -- What is decided of an open paste may be taken before more comes, to the extended parser too.
-use Rattle.std.proofs.Common.{◌≡◌, ⊎_elim, ℕ, Bool, List, [], ◌∷◌, ◌++◌, length, refl, sym, ap, ◌∙◌, subst, arith}
+use Rattle.std.proofs.Common.{◌≡◌, inl, inr, ⊎_elim, ℕ, Bool, List, [], ◌∷◌, ◌++◌, length, refl, sym, ap, ◌∙◌, subst, arith}
 use Rattle.std.specs.Prelude.{codes}
 use Rattle.std.specs.List.{AllByRecursion}
 use Rattle.std.specs.Str.Lossy.{utf8_lossy}
-use Rattle.std.proofs.lemmas.List.{append_cancel_left}
 use Rattle.termwiz_keymap.specs.Bytes.{Begins, Occurs}
-use Rattle.termwiz_keymap.proofs.lemmas.lists.CommonPrefixes.{Overlaps, overlap, append-some}
-use Rattle.termwiz_keymap.proofs.lemmas.lists.CommonPrefixes.Overlaps.{within, past}
+use Rattle.termwiz_keymap.proofs.lemmas.lists.CommonPrefixes.{append-some}
 use Rattle.termwiz_keys.specs.Introducers.{ESC, START, END}
 use Rattle.termwiz_keys.specs.declared.types.InputEvent.TheVariants.{Paste}
 use Rattle.termwiz_grammar.specs.Sequences.Meaning.{Row}
@@ -25,14 +23,16 @@ use Rattle.termwiz_extended_events.specs.declared.types.Protocol.{Protocol}
 use Rattle.termwiz_extended_events.specs.declared.types.Protocol.TheVariants.{Legacy, Kitty}
 use Rattle.termwiz_extended_events.specs.Meanings.{event_of, IsKeyOrPosition}
 use Rattle.termwiz_extended_events.proofs.Examples.{written_out}
-use Rattle.termwiz_extended_grammar.specs.Forms.{IsForm}
-use Rattle.termwiz_extended_grammar.specs.ExtraSequences.{IsExtra, StartsWithExtra, IsUnfinishedExtra}
-use Rattle.termwiz_extended_grammar.specs.ExtendedGrammar.{IsRest, IsUsual, Means, Stands, Steps}
-use Rattle.termwiz_extended_grammar.specs.ExtendedGrammar.Stands.{extra, lone_escape, usual}
+use Rattle.termwiz_extended_grammar.specs.ExtraSequences.{IsExtra}
+use Rattle.termwiz_extended_grammar.specs.Strings.{StartsWithOpening}
+use Rattle.termwiz_extended_grammar.specs.ExtendedGrammar.{StartsExtended, BeginsExtended, IsRest, IsUsual, Means, Stands, Steps}
+use Rattle.termwiz_extended_grammar.specs.ExtendedGrammar.Stands.{extra, lone_escape, string, usual}
 use Rattle.termwiz_extended_grammar.specs.ExtendedParts.{JoinsAtEnd, PartsJoin, StayOpen}
-use Rattle.termwiz_extended_grammar.proofs.lemmas.forms.ExtraFacts.{start_form}
-use Rattle.termwiz_extended_grammar.proofs.lemmas.forms.FormBytes.{form_shape}
-use Rattle.termwiz_extended_grammar.proofs.lemmas.forms.FormEnds.{form_ends, start_no_form}
+use Rattle.termwiz_extended_grammar.proofs.lemmas.forms.FormBytes.{IsMark, mark_shape}
+use Rattle.termwiz_extended_grammar.proofs.lemmas.forms.FormEnds.{mark_ends}
+use Rattle.termwiz_extended_grammar.proofs.lemmas.forms.ExtraFacts.{completed_mark, mark_from_unfinished, start_form}
+use Rattle.termwiz_extended_grammar.proofs.lemmas.items.StringItems.{mark_once, string_opening}
+use Rattle.termwiz_extended_grammar.proofs.lemmas.items.StringFronts.{no_opening_after}
 use Rattle.termwiz_extended_grammar.proofs.lemmas.items.ExtendedItems.{stands_once, starts_shape}
 use Rattle.termwiz_extended_grammar.proofs.lemmas.items.ExtendedRests.{one_meaning}
 
@@ -45,25 +45,22 @@ start_not_extra : (protocol : Protocol) (event : ExtendedEvent) → IsExtra prot
 start_not_extra Legacy event is = is.is_free (Row start) start_is_sequence
 start_not_extra Kitty event is = subst IsKeyOrPosition start_means (is.is_free (Row start) start_is_sequence).2
 
--- so no extra sequence begins a text that START begins
-no_extra : (protocol : Protocol) (u : List ℕ) → Begins START u → StartsWithExtra protocol u → ⊥
-no_extra protocol u b h = go (overlap START b.0 h.text h.begins.0 (sym h.begins.1 ∙ b.1))
-  where
-    go : Overlaps START b.0 h.text h.begins.0 → ⊥
-    go (within t e f) =
-        let none : t ≡ [] = start_no_form t (subst (λ x. IsForm x) e h.is_extra.is_form) in
-        let same : h.text ≡ START = e ∙ ap (λ x. START ++ x) none in
-        start_not_extra protocol h.event (subst (λ x. IsExtra protocol x h.event) same h.is_extra)
-    go (past t longer e f) = longer (form_ends h.text t h.is_extra.is_form (subst (λ x. IsForm x) e start_form))
+-- so no extra sequence and no opening begins a text that START begins
+none_begins : (protocol : Protocol) (u : List ℕ) → Begins START u → StartsExtended protocol u → ⊥
+none_begins protocol u b (inl h) =
+    let same : h.text ≡ START = mark_once u h.text START (inl h.is_extra.is_form) (inl start_form) h.begins b in
+    start_not_extra protocol h.event (subst (λ x. IsExtra protocol x h.event) same h.is_extra)
+none_begins protocol u b (inr o) =
+    no_opening_after 27 91 (codes "200~" ++ b.0) (λ escape is. omega arith) (subst StartsWithOpening b.1 o)
 
 usual_start : (protocol : Protocol) (u : List ℕ) (f : Bool) → Begins START u → IsUsual protocol u f
 usual_start protocol u f b = record {
-  none = no_extra protocol u b;
+  none = none_begins protocol u b;
   closed = λ h. ⊎_elim
       (λ port. start_closed u f b (record { more_comes = h.more_comes; some = h.some; beginning = port }))
-      (λ (extra : IsUnfinishedExtra protocol u).
-      append-some b.0 extra.tail extra.longer
-      (start_no_form (b.0 ++ extra.tail) (subst (λ x. IsForm (x ++ extra.tail)) b.1 extra.is_extra.is_form)))
+      (λ (begun : BeginsExtended protocol u).
+      let c = completed_mark u (mark_from_unfinished protocol u begun) in
+      append-some b.0 c.0 c.1 (mark_ends START (b.0 ++ c.0) (inl start_form) (subst (λ x. IsMark (x ++ c.0)) b.1 c.2)))
       h.beginning;
 }
 
@@ -87,32 +84,31 @@ module _ (protocol : Protocol) (u v : List ℕ) (b : Begins START u) (split : u 
       let high : IsHigh 91 = (subst (AllByRecursion IsHigh) bracket (unfinished_high v (λ e. cc (e, bracket)) h)).0 in
       omega (arith, high.0)
 
-  no_form : IsUnfinishedExtra protocol v → ⊥
-  no_form h =
-      let shape = form_shape (v ++ h.tail) h.is_extra.is_form in
-      let first : ◌≡◌ {A = ℕ} 27 91 = cc (shape.2, ap (λ x. x ++ h.tail) bracket) in omega arith
+  no_mark : BeginsExtended protocol v → ⊥
+  no_mark h =
+      let c = completed_mark v (mark_from_unfinished protocol v h) in
+      let shape = mark_shape (v ++ c.0) c.2 in
+      let first : ◌≡◌ {A = ℕ} 27 91 = cc (shape.2, ap (λ x. x ++ c.0) bracket) in omega arith
 
   usual_after : (f : Bool) → IsUsual protocol v f
   usual_after f = record {
     none = λ h. let first : ◌≡◌ {A = ℕ} 27 91 = cc ((starts_shape protocol v h).2, bracket) in omega arith;
-    closed = λ h. ⊎_elim (λ port. ⊎_elim no_sequence no_character port) no_form h.beginning;
+    closed = λ h. ⊎_elim (λ port. ⊎_elim no_sequence no_character port) no_mark h.beginning;
   }
 
--- a paste with its end stands
+-- a paste with its end stands, and leaves what follows
 stands : (protocol : Protocol) (body rest : List ℕ) (f : Bool) → EndsFirst body
-    → Stands protocol (START ++ (body ++ END ++ rest)) f (START ++ body ++ END) (Input (Paste (utf8_lossy body)))
+    → Stands protocol (START ++ (body ++ END ++ rest)) f rest (Input (Paste (utf8_lossy body)))
 stands protocol body rest f first =
     let u : List ℕ = START ++ (body ++ END ++ rest) in
     let b : Begins START u = (body ++ END ++ rest, refl) in
-    usual (START ++ body ++ END) (Paste (utf8_lossy body)) (paste_stands body rest f first) (usual_start protocol u f b)
+    usual (START ++ body ++ END) rest (Paste (utf8_lossy body)) (paste_stands body rest f first) refl (usual_start protocol u f b)
     (λ v split. usual_after protocol u v b split f)
 
 paste_then : (protocol : Protocol) (body rest W : List ℕ) (E : List ExtendedEvent) (f : Bool) → EndsFirst body → Means protocol rest f E W
     → Means protocol (START ++ (body ++ END ++ rest)) f (Input (Paste (utf8_lossy body)) ∷ E) W
-paste_then protocol body rest W E f first means = record {
-  steps = (START ++ body ++ END, rest, stands protocol body rest f first, refl, means.steps);
-  rest = means.rest;
-}
+paste_then protocol body rest W E f first means =
+    record { steps = (rest, stands protocol body rest f first, means.steps); rest = means.rest }
 
 -- and is the first event
 paste_first : (protocol : Protocol) (body rest W : List ℕ) (e : ExtendedEvent) (E : List ExtendedEvent) (f : Bool) → EndsFirst body
@@ -120,23 +116,22 @@ paste_first : (protocol : Protocol) (body rest W : List ℕ) (e : ExtendedEvent)
     → (e ≡ Input (Paste (utf8_lossy body))) × Means protocol rest f E W
 paste_first protocol body rest W e E f first means = go means.steps
   where
-    go : (bytes left : List ℕ) × Stands protocol (START ++ (body ++ END ++ rest)) f bytes e
-        × (START ++ (body ++ END ++ rest) ≡ bytes ++ left) × Steps protocol left f E W
+    go : (left : List ℕ) × Stands protocol (START ++ (body ++ END ++ rest)) f left e × Steps protocol left f E W
         → (e ≡ Input (Paste (utf8_lossy body))) × Means protocol rest f E W
-    go (bytes, left, here, splits, steps) =
-        let once = stands_once protocol (START ++ (body ++ END ++ rest)) f bytes (START ++ body ++ END) e (Input (Paste (utf8_lossy body))) here
+    go (left, here, steps) =
+        let once = stands_once protocol (START ++ (body ++ END ++ rest)) f left rest e (Input (Paste (utf8_lossy body))) here
         (stands protocol body rest f first) in
-        let same : left ≡ rest = append_cancel_left (START ++ body ++ END) left rest
-        (ap (λ x. x ++ left) (sym once.0) ∙ sym splits) in
-        (once.1, record { steps = subst (λ x. Steps protocol x f E W) same steps; rest = means.rest })
+        (once.1, record { steps = subst (λ x. Steps protocol x f E W) once.0 steps; rest = means.rest })
 
 -- nothing stands at an open paste
 open_rests : (protocol : Protocol) (body : List ℕ) (f : Bool) → ¬ Occurs END body → IsRest protocol (START ++ body) f
-open_rests protocol body f free bytes event (extra text e is b) =
-    no_extra protocol (START ++ body) (body, refl) (record { text = text; event = e; is_extra = is; begins = b })
-open_rests protocol body f free bytes event (lone_escape v split after) =
+open_rests protocol body f free left event (extra text left2 e is split) =
+    none_begins protocol (START ++ body) (body, refl) (inl (record { text = text; event = e; is_extra = is; begins = (left2, split) }))
+open_rests protocol body f free left event (lone_escape v split after) =
     (usual_after protocol (START ++ body) v (body, refl) split f).none after
-open_rests protocol body f free bytes event (usual s e here is gap) =
+open_rests protocol body f free left event (string kind head bytes after left2 e is comes) =
+    none_begins protocol (START ++ body) (body, refl) (inr (string_opening (START ++ body) kind head bytes after is))
+open_rests protocol body f free left event (usual s left2 e here split is gap) =
     endless_rests (START ++ body) f start (start_head (START ++ body) (body, refl)) body refl free s e here
 
 open_means : (protocol : Protocol) (body : List ℕ) (f : Bool) → ¬ Occurs END body → Means protocol (START ++ body) f [] (START ++ body)

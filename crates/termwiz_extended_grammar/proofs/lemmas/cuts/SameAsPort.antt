@@ -1,4 +1,4 @@
--- Where no extra sequence is met, a text means what it means to the port.
+-- Where no extra sequence and no opening is met, a text means what it means to the port.
 use Rattle.std.proofs.Common.{◌≡◌, ◌≢◌, inl, inr, ⊎_elim, ℕ, Bool, List, [], ◌∷◌, ◌++◌, length, map, refl, sym, ap, ◌∙◌, subst, arith, length-append}
 use Rattle.termwiz_keymap.specs.Bytes.{Begins}
 use Rattle.termwiz_keys.specs.Introducers.{ESC, END}
@@ -19,22 +19,22 @@ use Rattle.termwiz_grammar.proofs.lemmas.read_back.WholeTexts.{escape_alone}
 use Rattle.termwiz_grammar.proofs.lemmas.cuts.ChunkInvariance.{steps_push}
 use Rattle.termwiz_extended_events.specs.declared.types.ExtendedEvent.TheVariants.{Input}
 use Rattle.termwiz_extended_events.specs.declared.types.Protocol.{Protocol}
-use Rattle.termwiz_extended_grammar.specs.ExtraSequences.{StartsWithExtra}
 use Rattle.termwiz_extended_grammar.specs.ExtendedGrammar as grammar
-use Rattle.termwiz_extended_grammar.specs.ExtendedGrammar.{IsOpen, IsUsual, BeginsKnown}
-use Rattle.termwiz_extended_grammar.specs.ExtendedGrammar.Stands.{extra, usual}
+use Rattle.termwiz_extended_grammar.specs.ExtendedGrammar.{StartsExtended, IsOpen, IsUsual, BeginsKnown}
+use Rattle.termwiz_extended_grammar.specs.ExtendedGrammar.Stands.{extra, string, usual}
 use Rattle.termwiz_extended_grammar.specs.ExtendedGrammar.Stands.{lone_escape as escape_before_extra}
 use Rattle.termwiz_extended_grammar.specs.ExtendedLaws.{Conservative, HasNoExtra, LooksAt}
 use Rattle.termwiz_extended_grammar.specs.ExtendedLaws.LooksAt.{at_item, after_escape}
-use Rattle.termwiz_extended_grammar.proofs.lemmas.forms.FormBytes.{form_shape}
-use Rattle.termwiz_extended_grammar.proofs.lemmas.forms.ExtraFacts.{none_at_end}
+use Rattle.termwiz_extended_grammar.proofs.lemmas.forms.FormBytes.{mark_shape}
+use Rattle.termwiz_extended_grammar.proofs.lemmas.forms.ExtraFacts.{none_at_end, mark_from_unfinished, completed_mark}
+use Rattle.termwiz_extended_grammar.proofs.lemmas.items.StringItems.{string_opening}
 use Rattle.termwiz_extended_grammar.proofs.lemmas.items.ExtendedItems.{starts_shape}
 
 -- a text that begins with a plain byte is usual: no sequence begins so, and no character of several bytes
 plain_usual : (protocol : Protocol) (c : ℕ) (t : List ℕ) (f : Bool) → IsPlain c → IsUsual protocol (c ∷ t) f
 plain_usual protocol c t f plain = record { none = none; closed = λ h. closed h.beginning }
   where
-    none : StartsWithExtra protocol (c ∷ t) → ⊥
+    none : StartsExtended protocol (c ∷ t) → ⊥
     none h = (let s = starts_shape protocol (c ∷ t) h in let e : c ≡ 27 = cc (s.2) in omega (arith, plain.0))
 
     no_row : (tail : List ℕ) → tail ≢ [] → Bytes (c ∷ t ++ tail) → ⊥
@@ -48,7 +48,8 @@ plain_usual protocol c t f plain = record { none = none; closed = λ h. closed h
         let high : IsHigh c = (parted_high h.char (c ∷ t) h.tail h.scalar (λ e. cc (e)) h.longer h.spells).0 in
         omega (arith, plain.1, high.0)
     closed (inr h) =
-        let s = form_shape (c ∷ t ++ h.tail) h.is_extra.is_form in
+        let m = completed_mark (c ∷ t) (mark_from_unfinished protocol (c ∷ t) h) in
+        let s = mark_shape (c ∷ t ++ m.0) m.2 in
         let e : c ≡ 27 = cc (s.2) in omega (arith, plain.0)
 
 -- after the ESC of a longer sequence comes a plain byte
@@ -100,24 +101,27 @@ usual_after protocol u bytes event f (alt v h k after is is_key) none w split =
     let same : v ≡ w = cc (after.splits, split) in
     subst (λ x. IsUsual protocol x f) same (usual_from protocol v f after.closed (none v after.escape_head after.splits))
 
--- the port's item stands where no extra sequence is met
-pub usual_item : (protocol : Protocol) (u bytes : List ℕ) (event : InputEvent) (f : Bool) → port.Stands u f bytes event
+-- the port's item stands where no extra sequence and no opening is met
+usual_item : (protocol : Protocol) (u bytes left : List ℕ) (event : InputEvent) (f : Bool) → port.Stands u f bytes event → u ≡ bytes ++ left
     → HasNoExtra protocol u f → ((v : List ℕ) → IsLongest u ESC (Row escape) → u ≡ ESC ++ v → HasNoExtra protocol v f)
-    → grammar.Stands protocol u f bytes (Input event)
-usual_item protocol u bytes event f stands none after =
-    usual bytes event stands (usual_from protocol u f stands.closed none) (usual_after protocol u bytes event f stands.item after)
+    → grammar.Stands protocol u f left (Input event)
+usual_item protocol u bytes left event f stands split none after =
+    usual bytes left event stands split (usual_from protocol u f stands.closed none)
+    (usual_after protocol u bytes event f stands.item after)
 
--- no item stands where none of the port's does, and no extra sequence is met
-pub rest_of_port : (protocol : Protocol) (W : List ℕ) (f : Bool) → port.IsRest W f → HasNoExtra protocol W f
+-- no item stands where none of the port's does, and no extra sequence and no opening is met
+rest_of_port : (protocol : Protocol) (W : List ℕ) (f : Bool) → port.IsRest W f → HasNoExtra protocol W f
     → ((v : List ℕ) → IsLongest W ESC (Row escape) → W ≡ ESC ++ v → HasNoExtra protocol v f) → grammar.IsRest protocol W f
-rest_of_port protocol W f rest none after bytes event (extra text e is b) =
-    none.none (record { text = text; event = e; is_extra = is; begins = b })
-rest_of_port protocol W f rest none after bytes event (escape_before_extra v split starts) =
+rest_of_port protocol W f rest none after left event (extra text left2 e is split) =
+    none.none (inl (record { text = text; event = e; is_extra = is; begins = (left2, split) }))
+rest_of_port protocol W f rest none after left event (escape_before_extra v split starts) =
     let s = starts_shape protocol v starts in
     let whole : W ≡ 27 ∷ 27 ∷ (s.0 ∷ s.1) = split ∙ ap (λ x. 27 ∷ x) s.2 in
     (after v (subst (λ x. IsLongest x ESC (Row escape)) (sym whole) (escape_alone 27 (s.0 ∷ s.1) (inl (omega arith)))) split).none
     starts
-rest_of_port protocol W f rest none after bytes event (usual s e stands is gap) = rest s e stands
+rest_of_port protocol W f rest none after left event (string kind head bytes over left2 e is comes) =
+    none.none (inr (string_opening W kind head bytes over is))
+rest_of_port protocol W f rest none after left event (usual s left2 e stands split is gap) = rest s e stands
 
 module _ (protocol : Protocol) (T : List ℕ) (f : Bool) (none : (u : List ℕ) → LooksAt T f u → HasNoExtra protocol u f) where
   -- the steps that are left, after those that were made
@@ -125,10 +129,8 @@ module _ (protocol : Protocol) (T : List ℕ) (f : Bool) (none : (u : List ℕ) 
       → grammar.Steps protocol U f (map (λ e. Input e) E) W
   steps_of_port [] D U W made h = h
   steps_of_port (e ∷ E) D U W made (bytes, rest, stands, splits, steps) = (
-    bytes,
     rest,
-    usual_item protocol U bytes e f stands (none U (at_item D made)) (λ v is split. none v (after_escape D U made is split)),
-    splits,
+    usual_item protocol U bytes rest e f stands splits (none U (at_item D made)) (λ v is split. none v (after_escape D U made is split)),
     steps_of_port E (D ++ e ∷ []) rest W (steps_push D T U rest W f bytes e made stands splits) steps,
   )
 

@@ -1,17 +1,46 @@
--- The bytes of the forms.
-use Rattle.std.proofs.Common.{◌≡◌, ◌≢◌, ◌⊎◌, inl, inr, ℕ, ◌<◌, ◌≤◌, List, [], ◌∷◌, ◌++◌, length, refl, sym, ap, ap₂, ◌∙◌, subst, arith, append-nil}
+-- The bytes of the forms and of the openings. Either is a mark.
+use Rattle.std.proofs.Common.{◌≡◌, ◌≢◌, ◌⊎◌, inl, inr, ℕ, List, [], ◌∷◌, ◌++◌, refl, sym, ap, ap₂, ◌∙◌, subst, arith, append-nil}
 use Rattle.std.specs.List.{AllByRecursion}
 use Rattle.termwiz_keymap.proofs.lemmas.lists.CommonPrefixes.{append-some, true_from}
-use Rattle.termwiz_extended_grammar.specs.Forms.{ST, BEL, most_string, IsInner, IsData, IsKeypadLetter, IsStringIntroducer, IsStringEnd, IsForm}
-use Rattle.termwiz_extended_grammar.specs.Forms.IsForm.{control, x10_report, console_key, keypad_key, string}
+use Rattle.termwiz_grammar.specs.MouseReports.{IsDigit}
+use Rattle.termwiz_extended_events.specs.declared.types.StringKind.{StringKind}
+use Rattle.termwiz_extended_events.specs.declared.types.StringKind.TheVariants.{Osc, Dcs, Apc}
+use Rattle.termwiz_extended_grammar.specs.Forms.{ST, BEL, introducer, IsInner, IsData, IsKeypadLetter, IsStringEnd, IsTitleLetter, IsForm}
+use Rattle.termwiz_extended_grammar.specs.Forms.IsForm.{control, x10_report, console_key, keypad_key, title}
+use Rattle.termwiz_extended_grammar.specs.Strings.{IsHead, StartsWithOpening}
 
--- the byte after the ESC of a form
+-- an opening, as a text
+pub record IsOpening (text : List ℕ) : Type 0 where
+  pub kind : StringKind
+  pub head : List ℕ
+  pub is_head : IsHead kind head
+  pub form : text ≡ introducer kind ++ head
+
+abbrev pub IsMark : List ℕ → Type 0
+IsMark text = IsForm text ⊎ IsOpening text
+
+-- the byte that introduces a string
+abbrev pub IsStringIntroducer : ℕ → Type 0
+IsStringIntroducer b = (b ≡ 93) ⊎ ((b ≡ 80) ⊎ (b ≡ 95))
+
+-- the byte after the ESC of a mark
 abbrev pub IsSecond : ℕ → Type 0
 IsSecond b = (b ≡ 91) ⊎ ((b ≡ 79) ⊎ IsStringIntroducer b)
 
-pub some_end : (introducer : ℕ) (end : List ℕ) → IsStringEnd introducer end → end ≢ []
-some_end introducer end (inl e) = λ h. cc (e, h)
-some_end introducer end (inr e) = λ h. cc (e.1, h)
+pub some_end : (kind : StringKind) (end : List ℕ) → IsStringEnd kind end → end ≢ []
+some_end Osc end (inl e) = λ h. cc (e, h)
+some_end Osc end (inr e) = λ h. cc (e, h)
+some_end Dcs end e = λ h. cc (e, h)
+some_end Apc end e = λ h. cc (e, h)
+
+pub head_some : (kind : StringKind) (head : List ℕ) → IsHead kind head → head ≢ []
+head_some Osc head (inl n) = λ h. append-some n.digits (59 ∷ []) (λ k. cc (k)) (sym n.form ∙ h)
+head_some Osc head (inr l) = λ h. cc (l.form, h)
+head_some Dcs head (inl e) = λ h. cc (e, h)
+head_some Dcs head (inr (inl e)) = λ h. cc (e, h)
+head_some Dcs head (inr (inr (inl e))) = λ h. cc (e, h)
+head_some Dcs head (inr (inr (inr r))) = λ h. append-some r.digits (r.sign ∷ r.last ∷ []) (λ k. cc (k)) (sym r.form ∙ h)
+head_some Apc head g = λ h. cc (g.form, h)
 
 -- every form is ESC, such a byte, and more
 pub form_shape : (text : List ℕ) → IsForm text
@@ -21,49 +50,59 @@ form_shape text (control f) =
 form_shape text (x10_report f) = (91, 77 ∷ f.button ∷ f.x ∷ f.y ∷ [], f.form, (λ h. cc (h)), inl refl)
 form_shape text (console_key f) = (91, 91 ∷ f.letter ∷ [], f.form, (λ h. cc (h)), inl refl)
 form_shape text (keypad_key f) = (79, f.letter ∷ [], f.form, (λ h. cc (h)), inr (inl refl))
-form_shape text (string f) = (
-  f.introducer,
-  f.body ++ f.end,
-  f.form,
-  append-some f.body f.end (some_end f.introducer f.end f.end_is),
-  inr (inr f.introducer_is),
-)
+form_shape text (title f) = (93, f.letter ∷ (f.body ++ f.end), f.form, (λ h. cc (h)), inr (inr (inl refl)))
 
--- a byte of a form that stands neither first nor in the end of a string
+-- and so is every opening
+pub introducer_shape : (kind : StringKind) → (b : ℕ) × (introducer kind ≡ 27 ∷ b ∷ []) × IsStringIntroducer b
+introducer_shape Osc = (93, refl, inl refl)
+introducer_shape Dcs = (80, refl, inr (inl refl))
+introducer_shape Apc = (95, refl, inr (inr refl))
+
+pub mark_shape : (text : List ℕ) → IsMark text
+    → (b : ℕ) × (r : List ℕ) × (text ≡ 27 ∷ b ∷ r) × (r ≢ []) × IsSecond b
+mark_shape text (inl f) = form_shape text f
+mark_shape text (inr o) =
+    let i = introducer_shape o.kind in
+    (i.0, o.head, o.form ∙ ap (λ z. z ++ o.head) i.1, head_some o.kind o.head o.is_head, inr (inr i.2))
+
+-- any byte but ESC
 abbrev pub IsClean : ℕ → Type 0
-IsClean b = (32 ≤ b) × (b < 256)
+IsClean b = b ≢ 27
 
 clean_inner : (b : ℕ) → IsInner b → IsClean b
-clean_inner b h = (omega arith, omega arith)
+clean_inner b h = λ e. omega arith
 
-clean_data : (b : ℕ) → IsData b → IsClean b
-clean_data b h = (omega arith, omega arith)
-
-clean_introducer : (b : ℕ) → IsStringIntroducer b → IsClean b
-clean_introducer b h = (omega arith, omega arith)
+clean_digit : (b : ℕ) → IsDigit b → IsClean b
+clean_digit b h = λ e. omega arith
 
 clean_letter : (b : ℕ) → IsKeypadLetter b → IsClean b
-clean_letter b h = (omega arith, omega arith)
+clean_letter b h = λ e. omega arith
+
+clean_title : (b : ℕ) → IsTitleLetter b → IsClean b
+clean_title b h = λ e. omega arith
+
+clean_command : (b : ℕ) → IsData Osc b → IsClean b
+clean_command b h = h.0
 
 pub all_append : (P : ℕ → Type 0) (s t : List ℕ) → AllByRecursion P s → AllByRecursion P t → AllByRecursion P (s ++ t)
 all_append P [] t a b = b
 all_append P (x ∷ s) t a b = (a.0, all_append P s t a.1 b)
 
--- what a form ends with, if it is a string
+-- what a form ends with, if it is a title
 abbrev pub IsEnd : List ℕ → Type 0
 IsEnd end = (end ≡ []) ⊎ ((end ≡ ST) ⊎ (end ≡ BEL))
 
--- after its ESC a form has clean bytes up to its end
-pub form_bytes : (text : List ℕ) → IsForm text
+-- after its ESC a form has no ESC up to its end
+form_bytes : (text : List ℕ) → IsForm text
     → (clean end : List ℕ) × (text ≡ 27 ∷ (clean ++ end)) × AllByRecursion IsClean clean × IsEnd end
 form_bytes text (control f) = (
   91 ∷ (f.inner ++ f.last ∷ []),
   [],
   f.form ∙ ap (λ t. 27 ∷ 91 ∷ t) (sym (append-nil (f.inner ++ f.last ∷ []))),
   (
-    (omega arith, omega arith),
+    (λ e. omega arith),
     all_append IsClean f.inner (f.last ∷ []) (true_from IsInner IsClean clean_inner f.inner f.each)
-        ((omega (arith, f.last_is), omega (arith, f.last_is)), tt),
+        ((λ e. omega (arith, f.last_is)), tt),
   ),
   inl refl,
 )
@@ -72,13 +111,10 @@ form_bytes text (x10_report f) = (
   [],
   f.form,
   (
-    (omega arith, omega arith),
+    (λ e. omega arith),
     (
-      (omega arith, omega arith),
-      (
-        (omega (arith, f.button_is), omega (arith, f.button_is)),
-        ((omega (arith, f.x_is), omega (arith, f.x_is)), ((omega (arith, f.y_is), omega (arith, f.y_is)), tt)),
-      ),
+      (λ e. omega arith),
+      ((λ e. omega (arith, f.button_is)), ((λ e. omega (arith, f.x_is)), ((λ e. omega (arith, f.y_is)), tt))),
     ),
   ),
   inl refl,
@@ -87,46 +123,59 @@ form_bytes text (console_key f) = (
   91 ∷ 91 ∷ f.letter ∷ [],
   [],
   f.form,
-  (
-    (omega arith, omega arith),
-    ((omega arith, omega arith), ((omega (arith, f.letter_is), omega (arith, f.letter_is)), tt)),
-  ),
+  ((λ e. omega arith), ((λ e. omega arith), ((λ e. omega (arith, f.letter_is)), tt))),
   inl refl,
 )
 form_bytes text (keypad_key f) =
-    (79 ∷ f.letter ∷ [], [], f.form, ((omega arith, omega arith), (clean_letter f.letter f.letter_is, tt)), inl refl)
-form_bytes text (string f) = (
-  f.introducer ∷ f.body,
+    (79 ∷ f.letter ∷ [], [], f.form, ((λ e. omega arith), (clean_letter f.letter f.letter_is, tt)), inl refl)
+form_bytes text (title f) = (
+  93 ∷ f.letter ∷ f.body,
   f.end,
   f.form,
-  (clean_introducer f.introducer f.introducer_is, true_from IsData IsClean clean_data f.body f.each),
-  is_end f.end_is,
+  (
+    (λ e. omega arith),
+    (clean_title f.letter f.letter_is, true_from (IsData Osc) IsClean clean_command f.body f.each),
+  ),
+  inr f.end_is,
 )
-  where
-    is_end : IsStringEnd f.introducer f.end → IsEnd f.end
-    is_end (inl e) = inr (inl e)
-    is_end (inr e) = inr (inr e.1)
 
-small_end : (end : List ℕ) → IsEnd end → AllByRecursion (λ b. b < 256) end
-small_end end (inl e) = subst (AllByRecursion (λ b. b < 256)) (sym e) tt
-small_end end (inr (inl e)) = subst (AllByRecursion (λ b. b < 256)) (sym e) (omega arith, (omega arith, tt))
-small_end end (inr (inr e)) = subst (AllByRecursion (λ b. b < 256)) (sym e) (omega arith, tt)
+-- a head has no ESC
+pub head_clean : (kind : StringKind) (head : List ℕ) → IsHead kind head → AllByRecursion IsClean head
+head_clean Osc head (inl n) = subst (AllByRecursion IsClean) (sym n.form)
+    (all_append IsClean n.digits (59 ∷ []) (true_from IsDigit IsClean clean_digit n.digits n.number.each)
+    ((λ e. omega arith), tt))
+head_clean Osc head (inr l) = subst (AllByRecursion IsClean) (sym l.form)
+    (clean_title l.letter l.letter_is, true_from (IsData Osc) IsClean clean_command l.body l.each)
+head_clean Dcs head (inl e) = subst (AllByRecursion IsClean) (sym e) ((λ e. omega arith), ((λ e. omega arith), tt))
+head_clean Dcs head (inr (inl e)) = subst (AllByRecursion IsClean) (sym e) ((λ e. omega arith), ((λ e. omega arith), tt))
+head_clean Dcs head (inr (inr (inl e))) = subst (AllByRecursion IsClean) (sym e) (
+  (λ e. omega arith),
+  (
+    (λ e. omega arith),
+    (
+      (λ e. omega arith),
+      ((λ e. omega arith), ((λ e. omega arith), ((λ e. omega arith), ((λ e. omega arith), tt)))),
+    ),
+  ),
+)
+head_clean Dcs head (inr (inr (inr r))) = subst (AllByRecursion IsClean) (sym r.form)
+    (all_append IsClean r.digits (r.sign ∷ r.last ∷ [])
+    (true_from IsDigit IsClean clean_digit r.digits r.number.each)
+    ((λ e. omega (arith, r.sign_is)), ((λ e. omega (arith, r.last_is)), tt)))
+head_clean Apc head g = subst (AllByRecursion IsClean) (sym g.form)
+    ((λ e. omega arith), ((λ e. omega (arith, g.letter_is)), ((λ e. omega arith), tt)))
 
-pub form_small : (text : List ℕ) → IsForm text → AllByRecursion (λ b. b < 256) text
-form_small text f =
-    let h = form_bytes text f in
-    subst (AllByRecursion (λ b. b < 256)) (sym h.2) (
-      omega arith,
-      all_append (λ b. b < 256) h.0 h.1 (true_from IsClean (λ b. b < 256) (λ b c. c.1) h.0 h.3) (small_end h.1 h.4),
+mark_bytes : (text : List ℕ) → IsMark text
+    → (clean end : List ℕ) × (text ≡ 27 ∷ (clean ++ end)) × AllByRecursion IsClean clean × IsEnd end
+mark_bytes text (inl f) = form_bytes text f
+mark_bytes text (inr o) =
+    let i = introducer_shape o.kind in (
+      i.0 ∷ o.head,
+      [],
+      o.form ∙ ap (λ z. z ++ o.head) i.1 ∙ ap (λ t. 27 ∷ i.0 ∷ t) (sym (append-nil o.head)),
+      ((λ e. omega (arith, i.2)), head_clean o.kind o.head o.is_head),
+      inl refl,
     )
-
--- no form is longer than a string may be
-pub form_short : (text : List ℕ) → IsForm text → length text ≤ most_string
-form_short text (control f) = omega (arith, f.short)
-form_short text (x10_report f) = omega (arith, ap length f.form)
-form_short text (console_key f) = omega (arith, ap length f.form)
-form_short text (keypad_key f) = omega (arith, ap length f.form)
-form_short text (string f) = f.short
 
 -- where other bytes come for the first time
 pub first_other : (P : ℕ → Type 0) (a b r s : List ℕ) (v w : ℕ) → AllByRecursion P a → AllByRecursion P b
@@ -160,14 +209,16 @@ escape_in p q [] end a (inr (inr f)) e = absurd (nowhere p (e ∙ f))
     nowhere [] h = let same : ◌≡◌ {A = ℕ} 27 7 = cc (h) in omega arith
     nowhere (x ∷ []) h = cc (h)
     nowhere (x ∷ y ∷ p) h = cc (h)
-escape_in [] q (c ∷ clean) end a is e = absurd (
-    let first : IsClean c = a.0 in let same : 27 ≡ c = cc (e) in omega arith
-    )
+escape_in [] q (c ∷ clean) end a is e = absurd (let same : c ≡ 27 = cc (e) in a.0 same)
 escape_in (x ∷ p) q (c ∷ clean) end a is e = escape_in p q clean end a.1 is (cc (e))
 
--- an ESC within a form comes before its last byte, which is a backslash
-pub escape_within : (p q : List ℕ) → p ≢ [] → IsForm (p ++ 27 ∷ q) → q ≡ 92 ∷ []
+-- an ESC within a mark comes before its last byte, which is a backslash
+pub escape_within : (p q : List ℕ) → p ≢ [] → IsMark (p ++ 27 ∷ q) → q ≡ 92 ∷ []
 escape_within [] q n f = absurd (n refl)
 escape_within (x ∷ p) q n f =
-    let h = form_bytes (x ∷ p ++ 27 ∷ q) f in
+    let h = mark_bytes (x ∷ p ++ 27 ∷ q) f in
     escape_in p q h.0 h.1 h.3 h.4 (cc (h.2))
+
+-- what begins with an opening begins with a mark
+pub opening_mark : (u : List ℕ) (o : StartsWithOpening u) → IsOpening (introducer o.kind ++ o.head)
+opening_mark u o = record { kind = o.kind; head = o.head; is_head = o.is_head; form = refl }

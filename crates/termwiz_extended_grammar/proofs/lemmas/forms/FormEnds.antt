@@ -1,15 +1,21 @@
--- No form and no sequence of the port goes on after a form.
-use Rattle.std.proofs.Common.{◌≡◌, ◌≢◌, ◌⊎◌, inl, inr, ℕ, ◌<◌, ◌≤◌, List, [], ◌∷◌, ◌++◌, get_or, refl, sym, ap, ◌∙◌, subst, arith, append_assoc}
+-- No mark and no sequence of the port goes on after a mark.
+use Rattle.std.proofs.Common.{◌≡◌, ◌≢◌, ◌⊎◌, inl, inr, ℕ, ◌<◌, ◌≤◌, List, [], ◌∷◌, ◌++◌, length, refl, sym, ap, ◌∙◌, subst, arith, append_assoc, append-nil, length-append}
 use Rattle.std.specs.List.{AllByRecursion}
-use Rattle.termwiz_keymap.proofs.lemmas.lists.CommonPrefixes.{append-some, append-some_left, true_from}
-use Rattle.termwiz_keys.specs.Introducers.{ESC, CSI, SS3, START}
+use Rattle.termwiz_keymap.proofs.lemmas.lists.CommonPrefixes.{Overlaps, overlap, append-some, append-some_left, true_from, true_at_end}
+use Rattle.termwiz_keymap.proofs.lemmas.lists.CommonPrefixes.Overlaps.{within, past}
+use Rattle.termwiz_keys.specs.Introducers.{ESC, CSI, SS3}
+use Rattle.termwiz_grammar.specs.MouseReports.{IsDigit}
 use Rattle.termwiz_grammar.specs.Sequences.{Meaning, IsSequence}
-use Rattle.termwiz_extended_grammar.specs.Forms.{ST, BEL, IsInner, IsFinal, IsData, IsStringEnd, IsForm, IsControl}
-use Rattle.termwiz_extended_grammar.specs.Forms.IsForm.{control}
-use Rattle.termwiz_extended_grammar.proofs.lemmas.forms.FormBytes.{IsSecond, form_shape, first_other}
-use Rattle.termwiz_extended_grammar.proofs.lemmas.forms.FormKinds.{Kind, Bracketed, form_kind, bracketed_some}
-use Rattle.termwiz_extended_grammar.proofs.lemmas.forms.FormKinds.Kind.{bracketed, keypad, quoted}
+use Rattle.termwiz_extended_events.specs.declared.types.StringKind.{StringKind}
+use Rattle.termwiz_extended_events.specs.declared.types.StringKind.TheVariants.{Osc, Dcs, Apc}
+use Rattle.termwiz_extended_grammar.specs.Forms.{introducer, IsInner, IsFinal, IsData, IsStringEnd, IsTitleLetter, IsForm}
+use Rattle.termwiz_extended_grammar.specs.Forms.IsForm.{control, x10_report, console_key, keypad_key, title}
+use Rattle.termwiz_extended_grammar.specs.Strings.{IsHead, IsShortNumber, IsReplySign, IsNumberedReply}
+use Rattle.termwiz_extended_grammar.proofs.lemmas.forms.FormBytes.{IsSecond, IsStringIntroducer, IsOpening, IsMark, introducer_shape, mark_shape, first_other}
+use Rattle.termwiz_extended_grammar.proofs.lemmas.forms.FormKinds.{Kind, Bracketed, Command, mark_kind, bracketed_some}
+use Rattle.termwiz_extended_grammar.proofs.lemmas.forms.FormKinds.Kind.{bracketed, keypad, command, device, program}
 use Rattle.termwiz_extended_grammar.proofs.lemmas.forms.FormKinds.Bracketed.{inside, mouse, console}
+use Rattle.termwiz_extended_grammar.proofs.lemmas.forms.FormKinds.Command.{titled, numbered, long}
 use Rattle.termwiz_extended_grammar.proofs.lemmas.forms.PortLayouts.{IsMiddle, IsLast, Past, Layout, sequence_layout}
 use Rattle.termwiz_extended_grammar.proofs.lemmas.forms.PortLayouts.Past.{lettered, with_dollar}
 use Rattle.termwiz_extended_grammar.proofs.lemmas.forms.PortLayouts.Layout.{alone, paired, longer}
@@ -65,54 +71,252 @@ bracketed_ends r tail s (console p e) (mouse q u v g) h = absurd (
 bracketed_ends r tail s (console p e) (console q g) h =
     let all : 91 ∷ p ∷ tail ≡ 91 ∷ q ∷ [] = ap (λ z. z ++ tail) (sym e) ∙ h ∙ g in cc (all)
 
--- the end of a string, whatever introduces it
-abbrev IsQuotedEnd : List ℕ → Type 0
-IsQuotedEnd end = (end ≡ ST) ⊎ (end ≡ BEL)
-
-quoted_end : (introducer : ℕ) (end : List ℕ) → IsStringEnd introducer end → IsQuotedEnd end
-quoted_end introducer end (inl e) = inl e
-quoted_end introducer end (inr e) = inr e.1
-
 -- data up to a byte that is none, and the same again
-data_ends : (a b r s tail : List ℕ) (v w : ℕ) → AllByRecursion IsData a → AllByRecursion IsData b
-    → ¬ IsData v → ¬ IsData w → (a ++ v ∷ r) ++ tail ≡ b ++ w ∷ s → (v ≡ w) × (r ++ tail ≡ s)
+data_ends : (a b r s tail : List ℕ) (v w : ℕ) → AllByRecursion (IsData Osc) a → AllByRecursion (IsData Osc) b
+    → ¬ IsData Osc v → ¬ IsData Osc w → (a ++ v ∷ r) ++ tail ≡ b ++ w ∷ s → (v ≡ w) × (r ++ tail ≡ s)
 data_ends a b r s tail v w pa pb nv nw e =
-    let all = first_other IsData a b (r ++ tail) s v w pa pb nv nw (sym (append_assoc a (v ∷ r) tail) ∙ e) in
+    let all = first_other (IsData Osc) a b (r ++ tail) s v w pa pb nv nw (sym (append_assoc a (v ∷ r) tail) ∙ e) in
     (all.1, all.2)
 
-quoted_ends : (a b end last tail : List ℕ) → AllByRecursion IsData a → AllByRecursion IsData b → IsQuotedEnd end
-    → IsQuotedEnd last → (a ++ end) ++ tail ≡ b ++ last → tail ≡ []
+escape_no_data : ¬ IsData Osc 27
+escape_no_data d = d.0 refl
+
+bell_no_data : ¬ IsData Osc 7
+bell_no_data d = d.1 refl
+
+quoted_ends : (a b end last tail : List ℕ) → AllByRecursion (IsData Osc) a → AllByRecursion (IsData Osc) b → IsStringEnd Osc end
+    → IsStringEnd Osc last → (a ++ end) ++ tail ≡ b ++ last → tail ≡ []
 quoted_ends a b end last tail pa pb (inl e) (inl f) h =
-    let all = data_ends a b (92 ∷ []) (92 ∷ []) tail 27 27 pa pb (λ d. omega arith) (λ d. omega arith)
+    let all = data_ends a b (92 ∷ []) (92 ∷ []) tail 27 27 pa pb escape_no_data escape_no_data
     (ap (λ z. (a ++ z) ++ tail) (sym e) ∙ h ∙ ap (λ z. b ++ z) f) in
     cc (all.1)
 quoted_ends a b end last tail pa pb (inl e) (inr f) h =
-    let all = data_ends a b (92 ∷ []) [] tail 27 7 pa pb (λ d. omega arith) (λ d. omega arith)
+    let all = data_ends a b (92 ∷ []) [] tail 27 7 pa pb escape_no_data bell_no_data
     (ap (λ z. (a ++ z) ++ tail) (sym e) ∙ h ∙ ap (λ z. b ++ z) f) in
     absurd (omega (arith, all.0))
 quoted_ends a b end last tail pa pb (inr e) (inl f) h =
-    let all = data_ends a b [] (92 ∷ []) tail 7 27 pa pb (λ d. omega arith) (λ d. omega arith)
+    let all = data_ends a b [] (92 ∷ []) tail 7 27 pa pb bell_no_data escape_no_data
     (ap (λ z. (a ++ z) ++ tail) (sym e) ∙ h ∙ ap (λ z. b ++ z) f) in
     absurd (omega (arith, all.0))
 quoted_ends a b end last tail pa pb (inr e) (inr f) h =
-    (data_ends a b [] [] tail 7 7 pa pb (λ d. omega arith) (λ d. omega arith)
+    (data_ends a b [] [] tail 7 7 pa pb bell_no_data bell_no_data
     (ap (λ z. (a ++ z) ++ tail) (sym e) ∙ h ∙ ap (λ z. b ++ z) f)).1
 
--- no form goes on after a form
-pub form_ends : (text tail : List ℕ) → IsForm text → IsForm (text ++ tail) → tail ≡ []
-form_ends text tail f g = go (form_kind text f) (form_kind (text ++ tail) g)
+-- what ends a title is no data
+end_no_data : (end : List ℕ) → IsStringEnd Osc end → (x : ℕ) × (t : List ℕ) × (end ≡ x ∷ t) × ¬ IsData Osc x
+end_no_data end (inl e) = (27, 92 ∷ [], e, escape_no_data)
+end_no_data end (inr e) = (7, [], e, bell_no_data)
+
+-- so a title's end isn't within data
+no_end_within : (a b end tail : List ℕ) → IsStringEnd Osc end → AllByRecursion (IsData Osc) b → a ++ end ++ tail ≡ b → ⊥
+no_end_within a b end tail is pb e =
+    let x = end_no_data end is in
+    let parts : AllByRecursion (IsData Osc) (a ++ (x.0 ∷ x.1 ++ tail)) =
+    subst (AllByRecursion (IsData Osc)) (sym e ∙ append_assoc a end tail ∙ ap (λ z. a ++ (z ++ tail)) x.2) pb in
+    x.3 (true_at_end (IsData Osc) a (x.0 ∷ x.1 ++ tail) parts).0
+
+-- a short number and a byte that is no digit, and the same again
+number_ends : (a b r s tail : List ℕ) (v w : ℕ) → IsShortNumber a → IsShortNumber b → ¬ IsDigit v → ¬ IsDigit w
+    → (a ++ v ∷ r) ++ tail ≡ b ++ w ∷ s → r ++ tail ≡ s
+number_ends a b r s tail v w na nb nv nw e =
+    (first_other IsDigit a b (r ++ tail) s v w na.each nb.each nv nw (sym (append_assoc a (v ∷ r) tail) ∙ e)).2
+
+-- what begins with a short number begins with a digit
+number_first : (a r : List ℕ) → IsShortNumber a → (d : ℕ) × (t : List ℕ) × (a ++ r ≡ d ∷ t) × IsDigit d
+number_first a r n = go a n.each n.some
   where
+    go : (b : List ℕ) → AllByRecursion IsDigit b → b ≢ [] → (d : ℕ) × (t : List ℕ) × (b ++ r ≡ d ∷ t) × IsDigit d
+    go [] each some = absurd (some refl)
+    go (x ∷ b) each some = (x, b ++ r, refl, each.0)
+
+no_title_number : (letter x : ℕ) (t s : List ℕ) → IsTitleLetter letter → IsDigit x → letter ∷ t ≡ x ∷ s → ⊥
+no_title_number letter x t s is digit e = (let same : letter ≡ x = cc (e) in omega arith)
+
+command_ends : (r tail s : List ℕ) → Command r → Command s → r ++ tail ≡ s → tail ≡ []
+command_ends r tail s (titled l a end e li pa sa ei) (titled m b last f mi pb sb fi) h =
+    quoted_ends a b end last tail pa pb ei fi
+    (let all : l ∷ (a ++ end ++ tail) ≡ m ∷ (b ++ last) = ap (λ z. z ++ tail) (sym e) ∙ h ∙ f in cc (all))
+command_ends r tail s (titled l a end e li pa sa ei) (numbered n) h =
+    let d = number_first n.digits (59 ∷ []) n.number in
+    absurd (no_title_number l d.0 _ d.1 li d.3 (ap (λ z. z ++ tail) (sym e) ∙ h ∙ n.form ∙ d.2))
+command_ends r tail s (titled l a end e li pa sa ei) (long g) h =
+    let all : l ∷ (a ++ end ++ tail) ≡ g.letter ∷ g.body = ap (λ z. z ++ tail) (sym e) ∙ h ∙ g.form in
+    absurd (no_end_within a g.body end tail ei g.each (cc (all)))
+command_ends r tail s (numbered n) (titled m b last f mi pb sb fi) h =
+    let d = number_first n.digits (59 ∷ tail) n.number in
+    absurd (no_title_number m d.0 _ d.1 mi d.3
+    (sym f ∙ sym h ∙ ap (λ z. z ++ tail) n.form ∙ append_assoc n.digits (59 ∷ []) tail ∙ d.2))
+command_ends r tail s (numbered n) (numbered o) h =
+    number_ends n.digits o.digits [] [] tail 59 59 n.number o.number (λ d. omega arith) (λ d. omega arith)
+    (ap (λ z. z ++ tail) (sym n.form) ∙ h ∙ o.form)
+command_ends r tail s (numbered n) (long g) h =
+    let d = number_first n.digits (59 ∷ tail) n.number in
+    absurd (no_title_number g.letter d.0 _ d.1 g.letter_is d.3
+    (sym g.form ∙ sym h ∙ ap (λ z. z ++ tail) n.form ∙ append_assoc n.digits (59 ∷ []) tail ∙ d.2))
+command_ends r tail s (long g) (titled m b last f mi pb sb fi) h =
+    let all : g.letter ∷ (g.body ++ tail) ≡ m ∷ (b ++ last) = ap (λ z. z ++ tail) (sym g.form) ∙ h ∙ f in
+    absurd (go (overlap g.body tail b last (cc (all))))
+  where
+    go : Overlaps g.body tail b last → ⊥
+    go (within t p q) = (let n = length-append g.body t in let c = ap length p in let o : length g.body ≡ 252 = g.long in omega arith)
+    go (past t n p q) = no_end_within b g.body last [] fi g.each
+        (let x = end_no_data last fi in absurd (first_of t n x.0 x.1 (sym q ∙ x.2) p x.3))
+      where
+        first_of : (t : List ℕ) → t ≢ [] → (x : ℕ) (r : List ℕ) → t ++ tail ≡ x ∷ r → g.body ≡ b ++ t → ¬ IsData Osc x → ⊥
+        first_of [] n x r k p never = n refl
+        first_of (y ∷ t) n x r k p never =
+            let same : y ≡ x = cc (k) in
+            let all : AllByRecursion (IsData Osc) (y ∷ t) =
+            true_at_end (IsData Osc) b (y ∷ t) (subst (AllByRecursion (IsData Osc)) p g.each) in
+            never (subst (IsData Osc) same all.0)
+command_ends r tail s (long g) (numbered o) h =
+    let d = number_first o.digits (59 ∷ []) o.number in
+    absurd (no_title_number g.letter d.0 _ d.1 g.letter_is d.3 (ap (λ z. z ++ tail) (sym g.form) ∙ h ∙ o.form ∙ d.2))
+command_ends r tail s (long g) (long k) h =
+    let all : g.letter ∷ (g.body ++ tail) ≡ k.letter ∷ k.body = ap (λ z. z ++ tail) (sym g.form) ∙ h ∙ k.form in
+    let rest : g.body ++ tail ≡ k.body = cc (all) in
+    none tail (omega (arith, ap length rest, length-append g.body tail, g.long, k.long))
+  where
+    none : (t : List ℕ) → length t ≡ 0 → t ≡ []
+    none [] l = refl
+    none (x ∷ t) l = absurd (omega arith)
+
+-- the heads of device control strings by their first byte: two bytes, @kitty-, or a number
+data DeviceHead (r : List ℕ) : Type 0 where
+  marked : (x : ℕ) → r ≡ x ∷ 124 ∷ [] → (x ≡ 62) ⊎ (x ≡ 33) → DeviceHead r
+  named : r ≡ 64 ∷ 107 ∷ 105 ∷ 116 ∷ 116 ∷ 121 ∷ 45 ∷ [] → DeviceHead r
+  replied : IsNumberedReply r → DeviceHead r
+
+device_head : (r : List ℕ) → IsHead Dcs r → DeviceHead r
+device_head r (inl e) = marked 62 e (inl refl)
+device_head r (inr (inl e)) = marked 33 e (inr refl)
+device_head r (inr (inr (inl e))) = named e
+device_head r (inr (inr (inr n))) = replied n
+
+reply_first : (r t : List ℕ) → IsNumberedReply r → (d : ℕ) × (u : List ℕ) × (r ++ t ≡ d ∷ u) × IsDigit d
+reply_first r t n =
+    let d = number_first n.digits (n.sign ∷ n.last ∷ t) n.number in (
+      d.0,
+      d.1,
+      ap (λ z. z ++ t) n.form ∙ append_assoc n.digits (n.sign ∷ n.last ∷ []) t ∙ d.2,
+      d.3,
+    )
+
+sign_no_digit : (b : ℕ) → IsReplySign b → ¬ IsDigit b
+sign_no_digit b is d = omega arith
+
+device_ends : (r tail s : List ℕ) → DeviceHead r → DeviceHead s → r ++ tail ≡ s → tail ≡ []
+device_ends r tail s (marked x e is) (marked y f it) h =
+    let all : x ∷ 124 ∷ tail ≡ y ∷ 124 ∷ [] = ap (λ z. z ++ tail) (sym e) ∙ h ∙ f in cc (all)
+device_ends r tail s (marked x e is) (named f) h =
+    let all : x ∷ 124 ∷ tail ≡ 64 ∷ 107 ∷ 105 ∷ 116 ∷ 116 ∷ 121 ∷ 45 ∷ [] = ap (λ z. z ++ tail) (sym e) ∙ h ∙ f in
+    absurd (let same : x ≡ 64 = cc (all) in omega arith)
+device_ends r tail s (marked x e is) (replied n) h =
+    let d = reply_first s [] n in
+    let all : x ∷ 124 ∷ tail ≡ d.0 ∷ d.1 = ap (λ z. z ++ tail) (sym e) ∙ h ∙ sym (append-nil s) ∙ d.2 in
+    absurd (let same : x ≡ d.0 = cc (all) in omega (arith, d.3))
+device_ends r tail s (named e) (marked y f it) h =
+    let all : 64 ∷ 107 ∷ 105 ∷ 116 ∷ 116 ∷ 121 ∷ 45 ∷ tail ≡ y ∷ 124 ∷ [] = ap (λ z. z ++ tail) (sym e) ∙ h ∙ f in
+    absurd (let same : 64 ≡ y = cc (all) in omega arith)
+device_ends r tail s (named e) (named f) h =
+    let all : 64 ∷ 107 ∷ 105 ∷ 116 ∷ 116 ∷ 121 ∷ 45 ∷ tail ≡ 64 ∷ 107 ∷ 105 ∷ 116 ∷ 116 ∷ 121 ∷ 45 ∷ [] =
+    ap (λ z. z ++ tail) (sym e) ∙ h ∙ f in cc (all)
+device_ends r tail s (named e) (replied n) h =
+    let d = reply_first s [] n in
+    let all : 64 ∷ 107 ∷ 105 ∷ 116 ∷ 116 ∷ 121 ∷ 45 ∷ tail ≡ d.0 ∷ d.1 =
+    ap (λ z. z ++ tail) (sym e) ∙ h ∙ sym (append-nil s) ∙ d.2 in
+    absurd (let same : 64 ≡ d.0 = cc (all) in omega (arith, d.3))
+device_ends r tail s (replied n) (marked y f it) h =
+    let d = reply_first r tail n in
+    let all : y ∷ 124 ∷ [] ≡ d.0 ∷ d.1 = sym f ∙ sym h ∙ d.2 in
+    absurd (let same : y ≡ d.0 = cc (all) in omega (arith, d.3))
+device_ends r tail s (replied n) (named f) h =
+    let d = reply_first r tail n in
+    let all : 64 ∷ 107 ∷ 105 ∷ 116 ∷ 116 ∷ 121 ∷ 45 ∷ [] ≡ d.0 ∷ d.1 = sym f ∙ sym h ∙ d.2 in
+    absurd (let same : 64 ≡ d.0 = cc (all) in omega (arith, d.3))
+device_ends r tail s (replied n) (replied o) h =
+    let all = number_ends n.digits o.digits (n.last ∷ []) (o.last ∷ []) tail n.sign o.sign n.number o.number
+    (sign_no_digit n.sign n.sign_is) (sign_no_digit o.sign o.sign_is)
+    (ap (λ z. z ++ tail) (sym n.form) ∙ h ∙ o.form) in
+    cc (all)
+
+program_ends : (r tail s : List ℕ) → IsHead Apc r → IsHead Apc s → r ++ tail ≡ s → tail ≡ []
+program_ends r tail s g k h =
+    let all : 71 ∷ g.letter ∷ 61 ∷ tail ≡ 71 ∷ k.letter ∷ 61 ∷ [] = ap (λ z. z ++ tail) (sym g.form) ∙ h ∙ k.form in cc (all)
+
+-- what an opening has after its ESC
+second_of_opening : (text : List ℕ) (b : ℕ) (r : List ℕ) → (IsStringIntroducer b → ⊥) → text ≡ 27 ∷ b ∷ r → IsOpening text → ⊥
+second_of_opening text b r never e o =
+    let i = introducer_shape o.kind in
+    let all : text ≡ 27 ∷ i.0 ∷ o.head = o.form ∙ ap (λ z. z ++ o.head) i.1 in
+    let same : i.0 ≡ b = cc (all, e) in
+    never (subst IsStringIntroducer same i.2)
+
+-- no mark goes on after a mark
+pub mark_ends : (text tail : List ℕ) → IsMark text → IsMark (text ++ tail) → tail ≡ []
+mark_ends text tail f g = go (mark_kind text f) (mark_kind (text ++ tail) g)
+  where
+    other : (b d : ℕ) (r s : List ℕ) → (b ≡ d → ⊥) → text ≡ 27 ∷ b ∷ r → text ++ tail ≡ 27 ∷ d ∷ s → tail ≡ []
+    other b d r s never e h = absurd (never (meet text tail r s 27 b 27 d e h).1)
+
     go : Kind text → Kind (text ++ tail) → tail ≡ []
     go (bracketed r e a) (bracketed s h b) = bracketed_ends r tail s a b (meet text tail r s 27 91 27 91 e h).2
-    go (bracketed r e a) (keypad letter h k) = absurd (omega (arith, (meet text tail r _ 27 91 27 79 e h).1))
-    go (bracketed r e a) (quoted i s end h k l m) = absurd (omega (arith, (meet text tail r _ 27 91 27 i e h).1))
-    go (keypad letter e a) (bracketed s h b) = absurd (omega (arith, (meet text tail _ s 27 79 27 91 e h).1))
-    go (keypad letter e a) (keypad other h k) = cc ((meet text tail (letter ∷ []) (other ∷ []) 27 79 27 79 e h).2)
-    go (keypad letter e a) (quoted i s end h k l m) = absurd (omega (arith, (meet text tail _ _ 27 79 27 i e h).1))
-    go (quoted i s end e k l m) (bracketed r h b) = absurd (omega (arith, (meet text tail _ r 27 i 27 91 e h).1))
-    go (quoted i s end e k l m) (keypad letter h b) = absurd (omega (arith, (meet text tail _ _ 27 i 27 79 e h).1))
-    go (quoted i s end e k l m) (quoted j t last h b c d) = quoted_ends s t end last tail l c (quoted_end i end m)
-        (quoted_end j last d) (meet text tail (s ++ end) (t ++ last) 27 i 27 j e h).2
+    go (bracketed r e a) (keypad letter h k) = other 91 79 r _ (λ q. omega arith) e h
+    go (bracketed r e a) (command s h b) = other 91 93 r s (λ q. omega arith) e h
+    go (bracketed r e a) (device s h b) = other 91 80 r s (λ q. omega arith) e h
+    go (bracketed r e a) (program s h b) = other 91 95 r s (λ q. omega arith) e h
+    go (keypad letter e a) (bracketed s h b) = other 79 91 _ s (λ q. omega arith) e h
+    go (keypad letter e a) (keypad l h k) = cc ((meet text tail (letter ∷ []) (l ∷ []) 27 79 27 79 e h).2)
+    go (keypad letter e a) (command s h b) = other 79 93 _ s (λ q. omega arith) e h
+    go (keypad letter e a) (device s h b) = other 79 80 _ s (λ q. omega arith) e h
+    go (keypad letter e a) (program s h b) = other 79 95 _ s (λ q. omega arith) e h
+    go (command r e a) (bracketed s h b) = other 93 91 r s (λ q. omega arith) e h
+    go (command r e a) (keypad letter h k) = other 93 79 r _ (λ q. omega arith) e h
+    go (command r e a) (command s h b) = command_ends r tail s a b (meet text tail r s 27 93 27 93 e h).2
+    go (command r e a) (device s h b) = other 93 80 r s (λ q. omega arith) e h
+    go (command r e a) (program s h b) = other 93 95 r s (λ q. omega arith) e h
+    go (device r e a) (bracketed s h b) = other 80 91 r s (λ q. omega arith) e h
+    go (device r e a) (keypad letter h k) = other 80 79 r _ (λ q. omega arith) e h
+    go (device r e a) (command s h b) = other 80 93 r s (λ q. omega arith) e h
+    go (device r e a) (device s h b) =
+        device_ends r tail s (device_head r a) (device_head s b) (meet text tail r s 27 80 27 80 e h).2
+    go (device r e a) (program s h b) = other 80 95 r s (λ q. omega arith) e h
+    go (program r e a) (bracketed s h b) = other 95 91 r s (λ q. omega arith) e h
+    go (program r e a) (keypad letter h k) = other 95 79 r _ (λ q. omega arith) e h
+    go (program r e a) (command s h b) = other 95 93 r s (λ q. omega arith) e h
+    go (program r e a) (device s h b) = other 95 80 r s (λ q. omega arith) e h
+    go (program r e a) (program s h b) = program_ends r tail s a b (meet text tail r s 27 95 27 95 e h).2
+
+-- no form is an opening
+pub form_no_opening : (text : List ℕ) → IsForm text → IsOpening text → ⊥
+form_no_opening text (control f) o = second_of_opening text 91 _ (λ i. omega arith) f.form o
+form_no_opening text (x10_report f) o = second_of_opening text 91 _ (λ i. omega arith) f.form o
+form_no_opening text (console_key f) o = second_of_opening text 91 _ (λ i. omega arith) f.form o
+form_no_opening text (keypad_key f) o = second_of_opening text 79 _ (λ i. omega arith) f.form o
+form_no_opening text (title f) o = go o.kind o.head o.is_head o.form
+  where
+    go : (kind : StringKind) (head : List ℕ) → IsHead kind head → text ≡ introducer kind ++ head → ⊥
+    go Osc head (inl n) e =
+        let d = number_first n.digits (59 ∷ []) n.number in
+        let all : f.letter ∷ (f.body ++ f.end) ≡ head = cc (f.form, e) in
+        no_title_number f.letter d.0 _ d.1 f.letter_is d.3 (all ∙ n.form ∙ d.2)
+    go Osc head (inr l) e =
+        let all : f.letter ∷ (f.body ++ f.end) ≡ l.letter ∷ l.body = (let h : f.letter ∷ (f.body ++ f.end) ≡ head = cc (f.form, e) in h) ∙ l.form in
+        no_end_within f.body l.body f.end [] f.end_is l.each (append-nil (f.body ++ f.end) ∙ cc (all))
+    go Dcs head is e = (let same : ◌≡◌ {A = ℕ} 93 80 = cc (f.form, e) in omega arith)
+    go Apc head is e = (let same : ◌≡◌ {A = ℕ} 93 95 = cc (f.form, e) in omega arith)
+
+-- an opening has one kind and one head
+pub opening_once : (k j : StringKind) (h g : List ℕ) → introducer k ++ h ≡ introducer j ++ g → (k ≡ j) × (h ≡ g)
+opening_once Osc Osc h g e = (refl, cc (e))
+opening_once Osc Dcs h g e = absurd (let same : ◌≡◌ {A = ℕ} 93 80 = cc (e) in omega arith)
+opening_once Osc Apc h g e = absurd (let same : ◌≡◌ {A = ℕ} 93 95 = cc (e) in omega arith)
+opening_once Dcs Osc h g e = absurd (let same : ◌≡◌ {A = ℕ} 80 93 = cc (e) in omega arith)
+opening_once Dcs Dcs h g e = (refl, cc (e))
+opening_once Dcs Apc h g e = absurd (let same : ◌≡◌ {A = ℕ} 80 95 = cc (e) in omega arith)
+opening_once Apc Osc h g e = absurd (let same : ◌≡◌ {A = ℕ} 95 93 = cc (e) in omega arith)
+opening_once Apc Dcs h g e = absurd (let same : ◌≡◌ {A = ℕ} 95 80 = cc (e) in omega arith)
+opening_once Apc Apc h g e = (refl, cc (e))
 
 middle_inner : (b : ℕ) → IsMiddle b → IsInner b
 middle_inner b m = (omega arith, omega arith)
@@ -153,12 +357,12 @@ past_letter letter tail s l (lettered b w g pb lw j k) h =
     (first_other IsMiddle [] b tail [] letter w tt pb (λ m. omega arith) (λ m. omega arith) (h ∙ g)).2
 past_letter letter tail s l (with_dollar digit g d) h = absurd (let first : letter ≡ digit = cc (h, g) in omega arith)
 
--- no sequence of the port goes on after a form
-pub sequence_after_form : (text tail : List ℕ) (m : Meaning) → IsForm text → IsSequence (text ++ tail) m → tail ≡ []
-sequence_after_form text tail m f s = go (form_kind text f) (sequence_layout (text ++ tail) m s)
+-- no sequence of the port goes on after a mark
+pub sequence_after_mark : (text tail : List ℕ) (m : Meaning) → IsMark text → IsSequence (text ++ tail) m → tail ≡ []
+sequence_after_mark text tail m f s = go (mark_kind text f) (sequence_layout (text ++ tail) m s)
   where
     shape : (b : ℕ) × (r : List ℕ) × (text ≡ 27 ∷ b ∷ r) × (r ≢ []) × IsSecond b
-    shape = form_shape text f
+    shape = mark_shape text f
 
     whole : text ++ tail ≡ 27 ∷ shape.0 ∷ (shape.1 ++ tail)
     whole = ap (λ z. z ++ tail) shape.2
@@ -170,7 +374,9 @@ sequence_after_form text tail m f s = go (form_kind text f) (sequence_layout (te
     go (bracketed r e a) (longer b s h k p) = past_bracketed r tail s a p (meet text tail r s 27 91 27 b e h).2
     go (keypad letter e a) (longer b s h k p) =
         past_letter letter tail s (omega arith) p (meet text tail (letter ∷ []) s 27 79 27 b e h).2
-    go (quoted i s end e k l m) (longer b t h q p) = absurd (omega (arith, (meet text tail _ t 27 i 27 b e h).1))
+    go (command r e a) (longer b t h q p) = absurd (omega (arith, (meet text tail r t 27 93 27 b e h).1))
+    go (device r e a) (longer b t h q p) = absurd (omega (arith, (meet text tail r t 27 80 27 b e h).1))
+    go (program r e a) (longer b t h q p) = absurd (omega (arith, (meet text tail r t 27 95 27 b e h).1))
 
 bracketed_past : (r tail s : List ℕ) → r ≢ [] → Past r → Bracketed s → r ++ tail ≡ s → tail ≡ []
 bracketed_past r tail s some (lettered a v e pa lv m n) (inside b w g pb fw j k l) h =
@@ -191,7 +397,7 @@ bracketed_past r tail s some (with_dollar digit e d) (console p g) h = absurd (
     let first : digit ≡ 91 = cc (all) in omega arith
     )
 
--- what begins a form and is one byte or ESC and a letter
+-- what begins a mark and is one byte or ESC and a letter
 abbrev IsFront : List ℕ → Type 0
 IsFront text = (text ≡ ESC) ⊎ ((text ≡ CSI) ⊎ ((text ≡ SS3) ⊎ (text ≡ 27 ∷ 80 ∷ [])))
 
@@ -206,13 +412,13 @@ past_some : (r : List ℕ) → Past r → r ≢ []
 past_some r (lettered a v e pa lv m n) = λ h. append-some a (v ∷ []) (λ k. cc (k)) (sym e ∙ h)
 past_some r (with_dollar digit e d) = λ h. cc (e, h)
 
--- a sequence of the port that properly begins a form is ESC, ESC [, ESC O or ESC P
-pub form_after_sequence : (text tail : List ℕ) (m : Meaning) → IsSequence text m → tail ≢ [] → IsForm (text ++ tail)
+-- a sequence of the port that properly begins a mark is ESC, ESC [, ESC O or ESC P
+pub mark_after_sequence : (text tail : List ℕ) (m : Meaning) → IsSequence text m → tail ≢ [] → IsMark (text ++ tail)
     → (text ≡ ESC) ⊎ ((text ≡ CSI) ⊎ ((text ≡ SS3) ⊎ (text ≡ 27 ∷ 80 ∷ [])))
-form_after_sequence text tail m s n f = go (sequence_layout text m s) (form_kind (text ++ tail) f)
+mark_after_sequence text tail m s n f = go (sequence_layout text m s) (mark_kind (text ++ tail) f)
   where
     shape : (b : ℕ) × (r : List ℕ) × (text ++ tail ≡ 27 ∷ b ∷ r) × (r ≢ []) × IsSecond b
-    shape = form_shape (text ++ tail) f
+    shape = mark_shape (text ++ tail) f
 
     one_goes_on : (b : ℕ) → text ≡ b ∷ [] → IsFront text
     one_goes_on b e =
@@ -228,21 +434,6 @@ form_after_sequence text tail m s n f = go (sequence_layout text m s) (form_kind
         absurd (n (bracketed_past r tail s (past_some r p) p a (meet text tail r s 27 b 27 91 e h).2))
     go (longer b r e k p) (keypad letter h a) =
         absurd (n (one_byte r tail letter (past_some r p) (meet text tail r _ 27 b 27 79 e h).2))
-    go (longer b r e k p) (quoted i t end h a l m) = absurd (omega (arith, (meet text tail r _ 27 b 27 i e h).1))
-
--- the START of a paste is a form, and goes on to no longer one
-pub start_no_form : (tail : List ℕ) → IsForm (START ++ tail) → tail ≡ []
-start_no_form tail f = form_ends START tail (control start) f
-  where
-    start : IsControl START
-    start = record {
-      inner = 50 ∷ 48 ∷ 48 ∷ [];
-      last = 126;
-      form = refl;
-      each = ((omega arith, omega arith), ((omega arith, omega arith), ((omega arith, omega arith), tt)));
-      last_is = (omega arith, omega arith);
-      short = omega arith;
-      no_mouse = λ h. let e : ◌≡◌ {A = ℕ} 50 77 = ap (λ t. get_or t 2 0) h.1 in omega arith;
-      no_console = λ h. let e : ◌≡◌ {A = ℕ} 50 91 = ap (λ t. get_or t 2 0) h.1 in omega arith;
-      no_row = λ digit d h. let e : ◌≡◌ {A = ℕ} 48 36 = ap (λ t. get_or t 3 0) h.1 in omega arith;
-    }
+    go (longer b r e k p) (command t h a) = absurd (omega (arith, (meet text tail r t 27 b 27 93 e h).1))
+    go (longer b r e k p) (device t h a) = absurd (omega (arith, (meet text tail r t 27 b 27 80 e h).1))
+    go (longer b r e k p) (program t h a) = absurd (omega (arith, (meet text tail r t 27 b 27 95 e h).1))

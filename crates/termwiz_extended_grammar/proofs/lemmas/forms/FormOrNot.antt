@@ -1,12 +1,17 @@
--- It can be told whether a text is of a form, and whether it properly begins one.
-use Rattle.std.proofs.Common.{◌≡◌, ◌≢◌, ◌⊎◌, inl, inr, ℕ, ◌<◌, ◌≤◌, List, [], ◌∷◌, ◌++◌, length, refl, subst, arith, length-append}
+-- It can be told whether a text is a mark, and whether it properly begins one.
+use Rattle.std.proofs.Common.{◌≡◌, ◌≢◌, ◌⊎◌, inl, inr, ⊎_elim, ℕ, ◌<◌, ◌≤◌, List, [], ◌∷◌, ◌++◌, length, refl, sym, ap, ◌∙◌, subst, arith, length-append, append_assoc, append-nil}
 use Rattle.std.specs.List.{AllByRecursion}
 use Rattle.termwiz_keymap.specs.Bytes.{Begins}
-use Rattle.termwiz_keymap.proofs.lemmas.lists.CommonPrefixes.{true_at_end}
+use Rattle.termwiz_keymap.proofs.lemmas.lists.CommonPrefixes.{Overlaps, overlap, append-some, length-some, true_at_end, true_at_front, true_from}
+use Rattle.termwiz_keymap.proofs.lemmas.lists.CommonPrefixes.Overlaps.{within, past}
+use Rattle.termwiz_grammar.specs.MouseReports.{IsDigit}
 use Rattle.termwiz_grammar.proofs.lemmas.lists.Decidable.{Decision, decide_both, decide_either, decide_by, decide_le, decide_eq, decide_all, decide_parts, decide_below, decide_lists, decide_some, same_or_not}
-use Rattle.termwiz_extended_grammar.specs.Forms.{ST, BEL, IsInner, IsFinal, IsData, IsMouseByte, IsConsoleLetter, IsKeypadLetter, IsStringIntroducer, IsStringEnd, most_string, IsControl, IsX10Report, IsConsoleKey, IsKeypadKey, IsString, IsForm, IsUnfinishedForm}
-use Rattle.termwiz_extended_grammar.specs.Forms.IsForm.{control, x10_report, console_key, keypad_key, string}
-use Rattle.termwiz_extended_grammar.proofs.lemmas.forms.FormBytes.{form_small, form_short}
+use Rattle.termwiz_extended_events.specs.declared.types.StringKind.{StringKind}
+use Rattle.termwiz_extended_events.specs.declared.types.StringKind.TheVariants.{Osc, Dcs, Apc}
+use Rattle.termwiz_extended_grammar.specs.Forms.{ST, BEL, introducer, IsInner, IsFinal, IsData, IsMouseByte, IsConsoleLetter, IsKeypadLetter, IsStringEnd, IsTitleLetter, typed_title, IsControl, IsX10Report, IsConsoleKey, IsKeypadKey, IsTitle, IsForm, IsUnfinishedForm}
+use Rattle.termwiz_extended_grammar.specs.Forms.IsForm.{control, x10_report, console_key, keypad_key, title}
+use Rattle.termwiz_extended_grammar.specs.Strings.{IsHead, IsShortNumber, IsNumbered, IsLongTitle, IsReplySign, IsNumberedReply, IsLetter, IsGraphics, StartsWithOpening, IsUnfinishedOpening}
+use Rattle.termwiz_extended_grammar.proofs.lemmas.forms.FormBytes.{all_append}
 
 decide_not : {P : Type 0} → Decision P → Decision (¬ P)
 decide_not (inl p) = inr (λ n. n p)
@@ -151,75 +156,448 @@ keypad_or_not t = decide_by from
     from (a, r, e, (f, (b, s, g, (h, (letter, v, k, (is, n)))))) =
         record { letter = letter; form = cc (e, f, g, h, k, n); letter_is = is }
 
--- an introducer, data, and the end of that string
-abbrev Quoted : List ℕ → Type 0
-Quoted t = First (λ i r. IsStringIntroducer i
-    × ((a b : List ℕ) × (r ≡ a ++ b) × (AllByRecursion IsData a × IsStringEnd i b))) t
+-- a title's letter, few bytes, and the end of a command
+abbrev Titled : List ℕ → Type 0
+Titled t = First (λ i r. IsTitleLetter i
+    × ((a b : List ℕ) × (r ≡ a ++ b) × (AllByRecursion (IsData Osc) a × ((length a < typed_title) × IsStringEnd Osc b)))) t
 
-decide_quoted : (t : List ℕ) → Decision (Quoted t)
-decide_quoted t = decide_first _ (λ i r. decide_both
-    (decide_either (decide_eq i 93) (decide_either (decide_eq i 80) (decide_eq i 95)))
-    (decide_parts (λ a b. AllByRecursion IsData a × IsStringEnd i b)
-    (λ a b. decide_both
-    (decide_all IsData (λ c. decide_either (decide_range 32 126 c) (decide_range 128 255 c)) a)
-    (decide_either (same_or_not b ST) (decide_both (decide_eq i 93) (same_or_not b BEL)))) r)) t
+decide_letter : (b : ℕ) → Decision (IsTitleLetter b)
+decide_letter b = decide_either (decide_eq b 108) (decide_eq b 76)
 
-string_or_not : (t : List ℕ) → Decision (IsString t)
-string_or_not t = decide_by
-    (λ (p : Next 27 Quoted t × (length t ≤ most_string)). from p.0 p.1)
+pub decide_data : (b : ℕ) → Decision (IsData Osc b)
+decide_data b = decide_both (decide_not (decide_eq b 27)) (decide_not (decide_eq b 7))
+
+decide_below_limit : (a b : ℕ) → Decision (a < b)
+decide_below_limit a b = grind arith
+
+decide_titled : (t : List ℕ) → Decision (Titled t)
+decide_titled t = decide_first _ (λ i r. decide_both (decide_letter i)
+    (decide_parts (λ a b. AllByRecursion (IsData Osc) a × ((length a < typed_title) × IsStringEnd Osc b))
+    (λ a b. decide_both (decide_all (IsData Osc) decide_data a)
+    (decide_both (decide_below_limit (length a) typed_title) (decide_either (same_or_not b ST) (same_or_not b BEL)))) r)) t
+
+title_or_not : (t : List ℕ) → Decision (IsTitle t)
+title_or_not t = decide_by from
     (λ f. (
-      (27, _, f.form, (refl, (f.introducer, _, refl, (f.introducer_is, (f.body, f.end, refl, (f.each, f.end_is)))))),
-      f.short,
+      27,
+      _,
+      f.form,
+      (refl, (93, _, refl, (refl, (f.letter, _, refl, (f.letter_is, (f.body, f.end, refl, (f.each, (f.short, f.end_is)))))))),
     ))
-    (decide_both (decide_next 27 Quoted decide_quoted t) (decide_le (length t) most_string))
+    (decide_next 27 _ (decide_next 93 _ decide_titled) t)
   where
-    from : Next 27 Quoted t → length t ≤ most_string → IsString t
-    from (a, r, e, (f, (i, s, g, (is, (body, end, k, (each, end_is)))))) short = record {
-      introducer = i;
+    from : Next 27 (Next 93 Titled) t → IsTitle t
+    from (a, r, e, (f, (b, s, g, (h, (letter, u, k, (is, (body, end, l, (each, (short, end_is))))))))) = record {
+      letter = letter;
       body = body;
       end = end;
-      form = cc (e, f, g, k);
-      introducer_is = is;
+      form = cc (e, f, g, h, k, l);
+      letter_is = is;
       each = each;
-      end_is = end_is;
       short = short;
+      end_is = end_is;
     }
+
+-- the forms but titles
+abbrev IsFixed : List ℕ → Type 0
+IsFixed text = IsControl text ⊎ (IsX10Report text ⊎ (IsConsoleKey text ⊎ IsKeypadKey text))
+
+fixed_or_not : (text : List ℕ) → Decision (IsFixed text)
+fixed_or_not text = decide_either (control_or_not text) (decide_either (x10_or_not text) (decide_either (console_or_not text)
+    (keypad_or_not text)))
+
+form_fixed : (text : List ℕ) → IsFixed text → IsForm text
+form_fixed text (inl f) = control f
+form_fixed text (inr (inl f)) = x10_report f
+form_fixed text (inr (inr (inl f))) = console_key f
+form_fixed text (inr (inr (inr f))) = keypad_key f
+
+fixed_form : (text : List ℕ) → IsForm text → IsFixed text ⊎ IsTitle text
+fixed_form text (control f) = inl (inl f)
+fixed_form text (x10_report f) = inl (inr (inl f))
+fixed_form text (console_key f) = inl (inr (inr (inl f)))
+fixed_form text (keypad_key f) = inl (inr (inr (inr f)))
+fixed_form text (title f) = inr f
 
 -- it can be told whether a text is of a form
 pub form_or_not : (text : List ℕ) → Decision (IsForm text)
-form_or_not text = decide_by any each
-    (decide_either (control_or_not text) (decide_either (x10_or_not text) (decide_either (console_or_not text)
-    (decide_either (keypad_or_not text) (string_or_not text)))))
+form_or_not text = decide_by any (fixed_form text) (decide_either (fixed_or_not text) (title_or_not text))
   where
-    any : IsControl text ⊎ (IsX10Report text ⊎ (IsConsoleKey text ⊎ (IsKeypadKey text ⊎ IsString text))) → IsForm text
-    any (inl f) = control f
-    any (inr (inl f)) = x10_report f
-    any (inr (inr (inl f))) = console_key f
-    any (inr (inr (inr (inl f)))) = keypad_key f
-    any (inr (inr (inr (inr f)))) = string f
+    any : IsFixed text ⊎ IsTitle text → IsForm text
+    any (inl f) = form_fixed text f
+    any (inr f) = title f
 
-    each : IsForm text
-        → IsControl text ⊎ (IsX10Report text ⊎ (IsConsoleKey text ⊎ (IsKeypadKey text ⊎ IsString text)))
-    each (control f) = inl f
-    each (x10_report f) = inr (inl f)
-    each (console_key f) = inr (inr (inl f))
-    each (keypad_key f) = inr (inr (inr (inl f)))
-    each (string f) = inr (inr (inr (inr f)))
+decide_digit : (b : ℕ) → Decision (IsDigit b)
+decide_digit b = decide_range 48 57 b
 
--- the same for what properly begins one, where forms have at most n bytes
-unfinished_up_to : (n : ℕ) → ((text : List ℕ) → IsForm text → length text ≤ n) → (u : List ℕ)
-    → Decision (IsUnfinishedForm u)
-unfinished_up_to n short u = decide_by
-    (λ (a : (t : List ℕ) × (length t ≤ n) × AllByRecursion (λ b. b < 256) t × ((t ≢ []) × IsForm (u ++ t))).
-    record { tail = a.0; longer = a.3.0; is_form = a.3.1 })
-    (λ (f : IsUnfinishedForm u). (
-      f.tail,
-      omega (arith, length-append u f.tail, short (u ++ f.tail) f.is_form),
-      true_at_end (λ b. b < 256) u f.tail (form_small (u ++ f.tail) f.is_form),
-      (f.longer, f.is_form),
+decide_number : (digits : List ℕ) → Decision (IsShortNumber digits)
+decide_number digits = decide_by
+    (λ (p : AllByRecursion IsDigit digits × ((digits ≢ []) × (length digits ≤ 5))).
+    record { each = p.0; some = p.1.0; short = p.1.1 })
+    (λ (n : IsShortNumber digits). (n.each, (n.some, n.short)))
+    (decide_both (decide_all IsDigit decide_digit digits) (decide_both (decide_some digits) (decide_le (length digits) 5)))
+
+-- the heads but that of a long title
+abbrev IsShortHead : StringKind → List ℕ → Type 0
+IsShortHead Osc head = IsNumbered head
+IsShortHead Dcs head = IsHead Dcs head
+IsShortHead Apc head = IsHead Apc head
+
+numbered_or_not : (head : List ℕ) → Decision (IsNumbered head)
+numbered_or_not head = decide_by
+    (λ (p : (a b : List ℕ) × (head ≡ a ++ b) × (IsShortNumber a × (b ≡ 59 ∷ []))).
+    record { digits = p.0; form = p.2 ∙ ap (λ z. p.0 ++ z) p.3.1; number = p.3.0 })
+    (λ (n : IsNumbered head). (n.digits, 59 ∷ [], n.form, (n.number, refl)))
+    (decide_parts (λ a b. IsShortNumber a × (b ≡ 59 ∷ [])) (λ a b. decide_both (decide_number a) (same_or_not b (59 ∷ []))) head)
+
+decide_sign : (b : ℕ) → Decision (IsReplySign b)
+decide_sign b = decide_either (decide_eq b 36) (decide_either (decide_eq b 43) (decide_eq b 33))
+
+-- a sign and a final byte
+abbrev Signed : List ℕ → Type 0
+Signed t = First (λ x r. IsReplySign x × Single IsFinal r) t
+
+reply_or_not : (head : List ℕ) → Decision (IsNumberedReply head)
+reply_or_not head = decide_by from
+    (λ (n : IsNumberedReply head). (
+      n.digits,
+      n.sign ∷ n.last ∷ [],
+      n.form,
+      (n.number, (n.sign, n.last ∷ [], refl, (n.sign_is, (n.last, [], refl, (n.last_is, refl))))),
     ))
-    (decide_lists 256 n (λ t. (t ≢ []) × IsForm (u ++ t)) (λ t. decide_both (decide_some t) (form_or_not (u ++ t))))
+    (decide_parts (λ a b. IsShortNumber a × Signed b) (λ a b. decide_both (decide_number a)
+    (decide_first _ (λ x r. decide_both (decide_sign x) (decide_single IsFinal (decide_range 64 126) r)) b)) head)
+  where
+    from : (a b : List ℕ) × (head ≡ a ++ b) × (IsShortNumber a × Signed b) → IsNumberedReply head
+    from (digits, b, e, (n, (sign, r, g, (sign_is, (last, t, h, (last_is, nil)))))) = record {
+      digits = digits;
+      sign = sign;
+      last = last;
+      form = cc (e, g, h, nil);
+      number = n;
+      sign_is = sign_is;
+      last_is = last_is;
+    }
 
--- it can be told whether a text properly begins a form: few texts can complete it
-pub unfinished_form_or_not : (u : List ℕ) → Decision (IsUnfinishedForm u)
-unfinished_form_or_not u = unfinished_up_to most_string form_short u
+graphics_or_not : (head : List ℕ) → Decision (IsGraphics head)
+graphics_or_not head = decide_by from
+    (λ (g : IsGraphics head). (71, _, g.form, (refl, (g.letter, _, refl, (g.letter_is, (61, [], refl, (refl, refl)))))))
+    (decide_next 71 _ (λ t. decide_first _ (λ x r. decide_both
+    (decide_either (decide_range 65 90 x) (decide_range 97 122 x))
+    (decide_single (λ b. b ≡ 61) (λ b. decide_eq b 61) r)) t) head)
+  where
+    from : Next 71 (First (λ x r. IsLetter x × Single (λ b. b ≡ 61) r)) head → IsGraphics head
+    from (a, r, e, (f, (letter, s, g, (is, (b, t, h, (i, nil)))))) =
+        record { letter = letter; form = cc (e, f, g, h, i, nil); letter_is = is }
+
+short_head_or_not : (kind : StringKind) (head : List ℕ) → Decision (IsShortHead kind head)
+short_head_or_not Osc head = numbered_or_not head
+short_head_or_not Dcs head = decide_either (same_or_not head (62 ∷ 124 ∷ [])) (decide_either (same_or_not head (33 ∷ 124 ∷ []))
+    (decide_either (same_or_not head (64 ∷ 107 ∷ 105 ∷ 116 ∷ 116 ∷ 121 ∷ 45 ∷ [])) (reply_or_not head)))
+short_head_or_not Apc head = graphics_or_not head
+
+long_or_not : (head : List ℕ) → Decision (IsLongTitle head)
+long_or_not head = decide_by from
+    (λ (l : IsLongTitle head). (l.letter, l.body, l.form, (l.letter_is, (l.each, l.long))))
+    (decide_first _ (λ x r. decide_both (decide_letter x) (decide_both (decide_all (IsData Osc) decide_data r)
+    (decide_eq (length r) typed_title))) head)
+  where
+    from : First (λ x r. IsTitleLetter x × (AllByRecursion (IsData Osc) r × (length r ≡ typed_title))) head → IsLongTitle head
+    from (letter, body, form, (is, (each, long))) =
+        record { letter = letter; body = body; form = form; letter_is = is; each = each; long = long }
+
+pub head_or_not : (kind : StringKind) (head : List ℕ) → Decision (IsHead kind head)
+head_or_not Osc head = decide_either (numbered_or_not head) (long_or_not head)
+head_or_not Dcs head = short_head_or_not Dcs head
+head_or_not Apc head = short_head_or_not Apc head
+
+-- ESC, the byte of a kind, and what has P
+abbrev Introduced : (StringKind → List ℕ → Type 0) → List ℕ → Type 0
+Introduced P text = (kind : StringKind) × (head : List ℕ) × (text ≡ introducer kind ++ head) × P kind head
+
+decide_introduced : (P : StringKind → List ℕ → Type 0) → ((kind : StringKind) (head : List ℕ) → Decision (P kind head))
+    → (text : List ℕ) → Decision (Introduced P text)
+decide_introduced P decide text = decide_by from to
+    (decide_either (decide_next 27 _ (decide_next 93 _ (decide Osc)) text)
+    (decide_either (decide_next 27 _ (decide_next 80 _ (decide Dcs)) text) (decide_next 27 _ (decide_next 95 _ (decide Apc)) text)))
+  where
+    Each : Type 0
+    Each = Next 27 (Next 93 (P Osc)) text ⊎ (Next 27 (Next 80 (P Dcs)) text ⊎ Next 27 (Next 95 (P Apc)) text)
+
+    from : Each → Introduced P text
+    from (inl (a, r, e, (f, (b, s, g, (h, p))))) = (Osc, s, cc (e, f, g, h), p)
+    from (inr (inl (a, r, e, (f, (b, s, g, (h, p)))))) = (Dcs, s, cc (e, f, g, h), p)
+    from (inr (inr (a, r, e, (f, (b, s, g, (h, p)))))) = (Apc, s, cc (e, f, g, h), p)
+
+    to : Introduced P text → Each
+    to (Osc, head, e, p) = inl (27, _, e, (refl, (93, _, refl, (refl, p))))
+    to (Dcs, head, e, p) = inr (inl (27, _, e, (refl, (80, _, refl, (refl, p)))))
+    to (Apc, head, e, p) = inr (inr (27, _, e, (refl, (95, _, refl, (refl, p)))))
+
+-- it can be told whether an opening begins a text
+pub opening_starts_or_not : (u : List ℕ) → Decision (StartsWithOpening u)
+opening_starts_or_not u = decide_by from
+    (λ (o : StartsWithOpening u). (introducer o.kind ++ o.head, o.begins.0, o.begins.1, (o.kind, o.head, refl, o.is_head)))
+    (decide_parts (λ a b. Introduced IsHead a) (λ a b. decide_introduced IsHead head_or_not a) u)
+  where
+    from : (a b : List ℕ) × (u ≡ a ++ b) × Introduced IsHead a → StartsWithOpening u
+    from (a, b, e, (kind, head, f, is)) =
+        record { kind = kind; head = head; is_head = is; begins = (b, e ∙ ap (λ z. z ++ b) f) }
+
+-- the marks that are short, and whose bytes are few
+abbrev IsSmall : List ℕ → Type 0
+IsSmall text = IsFixed text ⊎ Introduced IsShortHead text
+
+small_or_not : (text : List ℕ) → Decision (IsSmall text)
+small_or_not text = decide_either (fixed_or_not text) (decide_introduced IsShortHead short_head_or_not text)
+
+abbrev IsByte : ℕ → Type 0
+IsByte b = b < 256
+
+fixed_bytes : (text : List ℕ) → IsFixed text → AllByRecursion IsByte text
+fixed_bytes text (inl f) = subst (AllByRecursion IsByte) (sym f.form) (
+  omega arith,
+  (
+    omega arith,
+    all_append IsByte f.inner (f.last ∷ []) (true_from IsInner IsByte (λ b i. omega arith) f.inner f.each)
+        (omega (arith, f.last_is), tt),
+  ),
+)
+fixed_bytes text (inr (inl f)) = subst (AllByRecursion IsByte) (sym f.form) (
+  omega arith,
+  (omega arith, (omega arith, (omega (arith, f.button_is), (omega (arith, f.x_is), (omega (arith, f.y_is), tt))))),
+)
+fixed_bytes text (inr (inr (inl f))) =
+    subst (AllByRecursion IsByte) (sym f.form) (omega arith, (omega arith, (omega arith, (omega (arith, f.letter_is), tt))))
+fixed_bytes text (inr (inr (inr f))) =
+    subst (AllByRecursion IsByte) (sym f.form) (omega arith, (omega arith, (omega (arith, f.letter_is), tt)))
+
+digit_bytes : (digits : List ℕ) → IsShortNumber digits → AllByRecursion IsByte digits
+digit_bytes digits n = true_from IsDigit IsByte (λ b d. omega arith) digits n.each
+
+head_bytes : (kind : StringKind) (head : List ℕ) → IsShortHead kind head → AllByRecursion IsByte head
+head_bytes Osc head n = subst (AllByRecursion IsByte) (sym n.form)
+    (all_append IsByte n.digits (59 ∷ []) (digit_bytes n.digits n.number) (omega arith, tt))
+head_bytes Dcs head (inl e) = subst (AllByRecursion IsByte) (sym e) (omega arith, (omega arith, tt))
+head_bytes Dcs head (inr (inl e)) = subst (AllByRecursion IsByte) (sym e) (omega arith, (omega arith, tt))
+head_bytes Dcs head (inr (inr (inl e))) = subst (AllByRecursion IsByte) (sym e)
+    (omega arith, (omega arith, (omega arith, (omega arith, (omega arith, (omega arith, (omega arith, tt)))))))
+head_bytes Dcs head (inr (inr (inr r))) = subst (AllByRecursion IsByte) (sym r.form)
+    (all_append IsByte r.digits (r.sign ∷ r.last ∷ []) (digit_bytes r.digits r.number)
+    (omega (arith, r.sign_is), (omega (arith, r.last_is), tt)))
+head_bytes Apc head g = subst (AllByRecursion IsByte) (sym g.form)
+    (omega arith, (omega (arith, g.letter_is), (omega arith, tt)))
+
+small_bytes : (text : List ℕ) → IsSmall text → AllByRecursion IsByte text
+small_bytes text (inl f) = fixed_bytes text f
+small_bytes text (inr (Osc, head, e, is)) =
+    subst (AllByRecursion IsByte) (sym e) (omega arith, (omega arith, head_bytes Osc head is))
+small_bytes text (inr (Dcs, head, e, is)) =
+    subst (AllByRecursion IsByte) (sym e) (omega arith, (omega arith, head_bytes Dcs head is))
+small_bytes text (inr (Apc, head, e, is)) =
+    subst (AllByRecursion IsByte) (sym e) (omega arith, (omega arith, head_bytes Apc head is))
+
+fixed_short : (text : List ℕ) → IsFixed text → length text ≤ 256
+fixed_short text (inl f) = f.short
+fixed_short text (inr (inl f)) = omega (arith, ap length f.form)
+fixed_short text (inr (inr (inl f))) = omega (arith, ap length f.form)
+fixed_short text (inr (inr (inr f))) = omega (arith, ap length f.form)
+
+pub head_short : (kind : StringKind) (head : List ℕ) → IsHead kind head → length head ≤ 253
+head_short Osc head (inl n) = omega (arith, ap length n.form, length-append n.digits (59 ∷ []), n.number.short)
+head_short Osc head (inr l) = omega (arith, ap length l.form, l.long)
+head_short Dcs head (inl e) = omega (arith, ap length e)
+head_short Dcs head (inr (inl e)) = omega (arith, ap length e)
+head_short Dcs head (inr (inr (inl e))) = omega (arith, ap length e)
+head_short Dcs head (inr (inr (inr r))) =
+    omega (arith, ap length r.form, length-append r.digits (r.sign ∷ r.last ∷ []), r.number.short)
+head_short Apc head g = omega (arith, ap length g.form)
+
+pub opening_length : (kind : StringKind) (head : List ℕ) → IsHead kind head → length (introducer kind ++ head) ≤ 255
+opening_length Osc head is = omega (arith, head_short Osc head is)
+opening_length Dcs head is = omega (arith, head_short Dcs head is)
+opening_length Apc head is = omega (arith, head_short Apc head is)
+
+head_of_short : (kind : StringKind) (head : List ℕ) → IsShortHead kind head → IsHead kind head
+head_of_short Osc head is = inl is
+head_of_short Dcs head is = is
+head_of_short Apc head is = is
+
+small_short : (text : List ℕ) → IsSmall text → length text ≤ 256
+small_short text (inl f) = fixed_short text f
+small_short text (inr (kind, head, e, is)) =
+    let short : length (introducer kind ++ head) ≤ 255 = opening_length kind head (head_of_short kind head is) in
+    omega (arith, ap length e)
+
+-- a small mark is longer than u and begins with u
+abbrev BeginsSmall : List ℕ → Type 0
+BeginsSmall u = (t : List ℕ) × (t ≢ []) × IsSmall (u ++ t)
+
+begins_small_or_not : (u : List ℕ) → Decision (BeginsSmall u)
+begins_small_or_not u = decide_by
+    (λ (a : (t : List ℕ) × (length t ≤ 256) × AllByRecursion (λ b. b < 256) t × ((t ≢ []) × IsSmall (u ++ t))).
+    (a.0, a.3.0, a.3.1))
+    (λ (f : BeginsSmall u). (
+      f.0,
+      omega (arith, length-append u f.0, small_short (u ++ f.0) f.2),
+      true_at_end (λ b. b < 256) u f.0 (small_bytes (u ++ f.0) f.2),
+      (f.1, f.2),
+    ))
+    (decide_lists 256 256 (λ t. (t ≢ []) × IsSmall (u ++ t)) (λ t. decide_both (decide_some t) (small_or_not (u ++ t))))
+
+-- few data bytes, and perhaps the ESC of an end
+abbrev UnendedTitle : List ℕ → Type 0
+UnendedTitle t = (a b : List ℕ) × (t ≡ a ++ b)
+    × (AllByRecursion (IsData Osc) a × ((length a < typed_title) × ((b ≡ []) ⊎ (b ≡ 27 ∷ []))))
+
+-- what properly begins a title
+abbrev BeginsTitle : List ℕ → Type 0
+BeginsTitle u = (u ≡ []) ⊎ ((u ≡ 27 ∷ []) ⊎ ((u ≡ 27 ∷ 93 ∷ [])
+    ⊎ Next 27 (Next 93 (First (λ letter r. IsTitleLetter letter × UnendedTitle r))) u))
+
+begins_title_or_not : (u : List ℕ) → Decision (BeginsTitle u)
+begins_title_or_not u = decide_either (same_or_not u []) (decide_either (same_or_not u (27 ∷ []))
+    (decide_either (same_or_not u (27 ∷ 93 ∷ [])) (decide_next 27 _ (decide_next 93 _
+    (λ t. decide_first _ (λ letter r. decide_both (decide_letter letter)
+    (decide_parts (λ a b. AllByRecursion (IsData Osc) a × ((length a < typed_title) × ((b ≡ []) ⊎ (b ≡ 27 ∷ []))))
+    (λ a b. decide_both (decide_all (IsData Osc) decide_data a) (decide_both (decide_below_limit (length a) typed_title)
+    (decide_either (same_or_not b []) (same_or_not b (27 ∷ []))))) r)) t)) u)))
+
+title_of : (letter : ℕ) (body end : List ℕ) → IsTitleLetter letter → AllByRecursion (IsData Osc) body → length body < typed_title
+    → IsStringEnd Osc end → IsForm (27 ∷ 93 ∷ letter ∷ (body ++ end))
+title_of letter body end is each short end_is = title (record {
+  letter = letter;
+  body = body;
+  end = end;
+  form = refl;
+  letter_is = is;
+  each = each;
+  short = short;
+  end_is = end_is;
+})
+
+empty_title : IsForm (27 ∷ 93 ∷ 108 ∷ 7 ∷ [])
+empty_title = title_of 108 [] (7 ∷ []) (inl refl) tt (omega arith) (inr refl)
+
+unfinished_from_title : (u : List ℕ) → BeginsTitle u → IsUnfinishedForm u
+unfinished_from_title u (inl e) = record {
+  tail = 27 ∷ 93 ∷ 108 ∷ 7 ∷ [];
+  longer = λ h. cc (h);
+  is_form = subst (λ z. IsForm (z ++ 27 ∷ 93 ∷ 108 ∷ 7 ∷ [])) (sym e) empty_title;
+}
+unfinished_from_title u (inr (inl e)) = record {
+  tail = 93 ∷ 108 ∷ 7 ∷ [];
+  longer = λ h. cc (h);
+  is_form = subst (λ z. IsForm (z ++ 93 ∷ 108 ∷ 7 ∷ [])) (sym e) empty_title;
+}
+unfinished_from_title u (inr (inr (inl e))) = record {
+  tail = 108 ∷ 7 ∷ [];
+  longer = λ h. cc (h);
+  is_form = subst (λ z. IsForm (z ++ 108 ∷ 7 ∷ [])) (sym e) empty_title;
+}
+unfinished_from_title u (inr (inr (inr (x, r, e, (f, (y, s, g, (h, (letter, t, k, (is, (a, b, l, (each, (short, m)))))))))))) =
+    by_end m
+  where
+    whole : u ≡ 27 ∷ 93 ∷ letter ∷ (a ++ b)
+    whole = cc (e, f, g, h, k, l)
+
+    finish : (tail end : List ℕ) → tail ≢ [] → b ++ tail ≡ end → IsStringEnd Osc end → IsUnfinishedForm u
+    finish tail end longer same end_is = record {
+      tail = tail;
+      longer = longer;
+      is_form = subst (λ z. IsForm z)
+          (sym (ap (λ z. z ++ tail) whole ∙ ap (λ z. 27 ∷ 93 ∷ letter ∷ z) (append_assoc a b tail ∙ ap (λ z. a ++ z) same)))
+          (title_of letter a end is each short end_is);
+    }
+
+    by_end : (b ≡ []) ⊎ (b ≡ 27 ∷ []) → IsUnfinishedForm u
+    by_end (inl none) = finish (7 ∷ []) (7 ∷ []) (λ z. cc (z)) (ap (λ z. z ++ 7 ∷ []) none) (inr refl)
+    by_end (inr one) = finish (92 ∷ []) (27 ∷ 92 ∷ []) (λ z. cc (z)) (ap (λ z. z ++ 92 ∷ []) one) (inl refl)
+
+-- after ESC ], a letter
+titled_from : (letter : ℕ) (w : List ℕ) → IsTitleLetter letter → UnendedTitle w → BeginsTitle (27 ∷ 93 ∷ letter ∷ w)
+titled_from letter w is h =
+    inr (inr (inr (27, _, refl, (refl, (93, _, refl, (refl, (letter, w, refl, (is, h))))))))
+
+-- what properly begins ESC ], a letter and a body properly begins a title
+begins_long : (u tail body : List ℕ) (letter : ℕ) → tail ≢ [] → u ++ tail ≡ 27 ∷ 93 ∷ letter ∷ body → IsTitleLetter letter
+    → ((w : List ℕ) → w ++ tail ≡ body → UnendedTitle w) → BeginsTitle u
+begins_long [] tail body letter longer e is rest = inl refl
+begins_long (x ∷ []) tail body letter longer e is rest =
+    inr (inl (let first : x ≡ 27 = cc (e) in ap (λ z. z ∷ []) first))
+begins_long (x ∷ y ∷ []) tail body letter longer e is rest =
+    inr (inr (inl (let first : x ≡ 27 = cc (e) in let second : y ≡ 93 = cc (e) in cc (first, second))))
+begins_long (x ∷ y ∷ z ∷ w) tail body letter longer e is rest =
+    let first : x ≡ 27 = cc (e) in
+    let second : y ≡ 93 = cc (e) in
+    let third : z ≡ letter = cc (e) in
+    subst BeginsTitle (cc (first, second, third)) (titled_from letter w is (rest w (cc (e))))
+
+begins_from_title : (u tail : List ℕ) → tail ≢ [] → IsTitle (u ++ tail) → BeginsTitle u
+begins_from_title u tail longer f =
+    begins_long u tail (f.body ++ f.end) f.letter longer f.form f.letter_is (λ w e. go w (overlap f.body f.end w tail e))
+  where
+    part_of_end : (t : List ℕ) → IsStringEnd Osc f.end → f.end ≡ t ++ tail → (t ≡ []) ⊎ (t ≡ 27 ∷ [])
+    part_of_end [] is e = inl refl
+    part_of_end (x ∷ []) (inl k) e = inr (let same : x ≡ 27 = cc (e, k) in ap (λ z. z ∷ []) same)
+    part_of_end (x ∷ []) (inr k) e = absurd (longer (let none : tail ≡ [] = cc (e, k) in none))
+    part_of_end (x ∷ y ∷ t) (inl k) e = absurd (append-some t tail longer (let none : t ++ tail ≡ [] = cc (e, k) in none))
+    part_of_end (x ∷ y ∷ t) (inr k) e = absurd (cc (e, k))
+
+    go : (w : List ℕ) → Overlaps f.body f.end w tail → UnendedTitle w
+    go w (within t e g) = (f.body, t, e, (f.each, (f.short, part_of_end t f.end_is g)))
+    go w (past t n e g) = (
+      w,
+      [],
+      sym (append-nil w),
+      (
+        true_at_front (IsData Osc) w t (subst (AllByRecursion (IsData Osc)) e f.each),
+        (omega (arith, f.short, ap length e, length-append w t), inl refl),
+      ),
+    )
+
+begins_from_long : (u tail head : List ℕ) → tail ≢ [] → IsLongTitle head → 27 ∷ 93 ∷ head ≡ u ++ tail → BeginsTitle u
+begins_from_long u tail head longer l e =
+    begins_long u tail l.body l.letter longer (sym e ∙ ap (λ z. 27 ∷ 93 ∷ z) l.form) l.letter_is (λ w k. (
+      w,
+      [],
+      sym (append-nil w),
+      (
+        true_at_front (IsData Osc) w tail (subst (AllByRecursion (IsData Osc)) (sym k) l.each),
+        (omega (arith, l.long, ap length k, length-append w tail, length-some tail longer), inl refl),
+      ),
+    ))
+
+-- u properly begins a form or an opening
+abbrev pub IsUnfinishedMark : List ℕ → Type 0
+IsUnfinishedMark u = IsUnfinishedForm u ⊎ IsUnfinishedOpening u
+
+-- it can be told whether a text properly begins a mark: few texts can complete it, or it begins a title
+pub unfinished_mark_or_not : (u : List ℕ) → Decision (IsUnfinishedMark u)
+unfinished_mark_or_not u = decide_by from to (decide_either (begins_title_or_not u) (begins_small_or_not u))
+  where
+    from : BeginsTitle u ⊎ BeginsSmall u → IsUnfinishedMark u
+    from (inl h) = inl (unfinished_from_title u h)
+    from (inr (t, longer, (inl f))) = inl (record { tail = t; longer = longer; is_form = form_fixed (u ++ t) f })
+    from (inr (t, longer, (inr (kind, head, e, is)))) = inr (record {
+      tail = t;
+      longer = longer;
+      kind = kind;
+      head = head;
+      is_head = head_of_short kind head is;
+      spells = sym e;
+    })
+
+    by_head : (kind : StringKind) (head tail : List ℕ) → tail ≢ [] → IsHead kind head → introducer kind ++ head ≡ u ++ tail
+        → BeginsTitle u ⊎ BeginsSmall u
+    by_head Osc head tail longer (inl n) e = inr (tail, longer, inr (Osc, head, sym e, n))
+    by_head Osc head tail longer (inr l) e = inl (begins_from_long u tail head longer l e)
+    by_head Dcs head tail longer is e = inr (tail, longer, inr (Dcs, head, sym e, is))
+    by_head Apc head tail longer is e = inr (tail, longer, inr (Apc, head, sym e, is))
+
+    to : IsUnfinishedMark u → BeginsTitle u ⊎ BeginsSmall u
+    to (inl h) = ⊎_elim
+        (λ (f : IsFixed (u ++ h.tail)). inr (h.tail, h.longer, inl f))
+        (λ (f : IsTitle (u ++ h.tail)). inl (begins_from_title u h.tail h.longer f))
+        (fixed_form (u ++ h.tail) h.is_form)
+    to (inr h) = by_head h.kind h.head h.tail h.longer h.is_head h.spells

@@ -1,41 +1,47 @@
--- What properly begins a form: it is short or a string, and it can go on to a form that the port doesn't know.
-use Rattle.std.proofs.Common.{◌≡◌, ◌≢◌, ◌⊎◌, inl, inr, ℕ, ◌≤◌, List, [], ◌∷◌, ◌++◌, length, refl, sym, ap, ◌∙◌, subst, arith, append_assoc, length-append}
+-- What properly begins a form: it is short, and it can go on to a form that the port doesn't know.
+use Rattle.std.proofs.Common.{◌≡◌, ◌≢◌, inl, inr, ℕ, ◌≤◌, List, [], ◌∷◌, ◌++◌, length, refl, sym, ap, ◌∙◌, subst, arith, append_assoc, length-append}
 use Rattle.termwiz_keymap.proofs.lemmas.lists.CommonPrefixes.{append-some, length-some}
 use Rattle.termwiz_keys.specs.Introducers.{CSI, SS3}
 use Rattle.termwiz_grammar.specs.Sequences.{Meaning, IsSequence}
-use Rattle.termwiz_extended_grammar.specs.Forms.{IsStringIntroducer, IsControl, IsX10Report, IsConsoleKey, IsString, IsForm, IsUnfinishedForm}
-use Rattle.termwiz_extended_grammar.specs.Forms.IsForm.{control, x10_report, console_key, keypad_key, string}
-use Rattle.termwiz_extended_grammar.proofs.lemmas.forms.FormBytes.{some_end}
+use Rattle.termwiz_extended_events.specs.declared.types.StringKind.TheVariants.{Osc}
+use Rattle.termwiz_extended_grammar.specs.Forms.{introducer, IsStringEnd, IsControl, IsX10Report, IsConsoleKey, IsTitle, IsForm, IsUnfinishedForm}
+use Rattle.termwiz_extended_grammar.specs.Forms.IsForm.{control, x10_report, console_key, keypad_key, title}
+use Rattle.termwiz_extended_grammar.specs.Strings.{IsUnfinishedOpening}
+use Rattle.termwiz_extended_grammar.proofs.lemmas.forms.FormOrNot.{opening_length}
 use Rattle.termwiz_extended_grammar.proofs.lemmas.forms.PortLayouts.{IsPortSecond, Past, Layout, sequence_layout}
 use Rattle.termwiz_extended_grammar.proofs.lemmas.forms.PortLayouts.Past.{lettered, with_dollar}
 use Rattle.termwiz_extended_grammar.proofs.lemmas.forms.PortLayouts.Layout.{alone, paired, longer}
 
-abbrev IsShort : List ℕ → Type 0
-IsShort u = (length u ≤ 255) ⊎ ((length u ≤ 65535)
-    × ((introducer : ℕ) × (r : List ℕ) × IsStringIntroducer introducer × (u ≡ 27 ∷ introducer ∷ r)))
-
-short_string : (u tail : List ℕ) → tail ≢ [] → IsString (u ++ tail) → IsShort u
-short_string [] tail n f = inl (omega arith)
-short_string (x ∷ []) tail n f = inl (omega arith)
-short_string (x ∷ y ∷ u) tail n f = inr (
-  omega (arith, f.short, length-append (x ∷ y ∷ u) tail, length-some tail n),
-  (f.introducer, u, f.introducer_is, cc (f.form)),
-)
-
--- what properly begins a form is short, or a string
-pub unfinished_short : (u : List ℕ) → IsUnfinishedForm u
-    → (length u ≤ 255) ⊎ ((length u ≤ 65535)
-    × ((introducer : ℕ) × (r : List ℕ) × IsStringIntroducer introducer × (u ≡ 27 ∷ introducer ∷ r)))
-unfinished_short u f = go f.is_form
+-- what properly begins a form is short
+pub unfinished_form_short : (u : List ℕ) → IsUnfinishedForm u → length u ≤ 255
+unfinished_form_short u f = go f.is_form
   where
-    go : IsForm (u ++ f.tail) → IsShort u
-    go (control g) = inl (omega (arith, g.short, length-append u f.tail, length-some f.tail f.longer))
-    go (x10_report g) = inl (omega (arith, ap length g.form, length-append u f.tail))
-    go (console_key g) = inl (omega (arith, ap length g.form, length-append u f.tail))
-    go (keypad_key g) = inl (omega (arith, ap length g.form, length-append u f.tail))
-    go (string g) = short_string u f.tail f.longer g
+    go : IsForm (u ++ f.tail) → length u ≤ 255
+    go (control g) = omega (arith, g.short, length-append u f.tail, length-some f.tail f.longer)
+    go (x10_report g) = omega (arith, ap length g.form, length-append u f.tail)
+    go (console_key g) = omega (arith, ap length g.form, length-append u f.tail)
+    go (keypad_key g) = omega (arith, ap length g.form, length-append u f.tail)
+    go (title g) = omega (
+      arith,
+      g.short,
+      ap length g.form,
+      length-append g.body g.end,
+      end_length g.end g.end_is,
+      length-append u f.tail,
+      length-some f.tail f.longer,
+    )
+      where
+        end_length : (end : List ℕ) → IsStringEnd Osc end → length end ≤ 2
+        end_length end (inl e) = omega (arith, ap length e)
+        end_length end (inr e) = omega (arith, ap length e)
 
-last_of : (t : List ℕ) → t ≢ [] → (s : List ℕ) × (z : ℕ) × (t ≡ s ++ z ∷ [])
+-- and so is what properly begins an opening
+pub unfinished_opening_short : (u : List ℕ) → IsUnfinishedOpening u → length u ≤ 255
+unfinished_opening_short u h =
+    let short : length (introducer h.kind ++ h.head) ≤ 255 = opening_length h.kind h.head h.is_head in
+    omega (arith, ap length h.spells, length-append u h.tail)
+
+pub last_of : (t : List ℕ) → t ≢ [] → (s : List ℕ) × (z : ℕ) × (t ≡ s ++ z ∷ [])
 last_of [] n = absurd (n refl)
 last_of (x ∷ []) n = ([], x, refl)
 last_of (x ∷ y ∷ t) n = let h = last_of (y ∷ t) (λ k. cc (k)) in (x ∷ h.0, h.1, ap (λ z. x ∷ z) h.2)
@@ -82,12 +88,8 @@ x10_free text f l = no_past_mouse (f.button ∷ f.x ∷ f.y ∷ []) (past_of tex
 console_free : (text : List ℕ) → IsConsoleKey text → Layout text → ⊥
 console_free text f l = no_past_console (f.letter ∷ []) (past_of text 91 _ f.form (λ h. cc (h)) l).1
 
-string_free : (text : List ℕ) → IsString text → Layout text → ⊥
-string_free text f l =
-    let some = append-some f.body f.end (some_end f.introducer f.end f.end_is) in
-    let second : IsPortSecond f.introducer = (past_of text f.introducer _ f.form some l).0 in
-    let is : IsStringIntroducer f.introducer = f.introducer_is in
-    omega arith
+pub title_free : (text : List ℕ) → IsTitle text → Layout text → ⊥
+title_free text f l = (let second : IsPortSecond 93 = (past_of text 93 _ f.form (λ h. cc (h)) l).0 in omega arith)
 
 -- what stands last isn't what comes first
 first_inner : (inner t : List ℕ) (last b : ℕ) → last ≢ b → inner ++ last ∷ [] ≡ b ∷ t → (s : List ℕ) × (inner ≡ b ∷ s)
@@ -150,4 +152,4 @@ free_completion u f = go f.is_form
     go (keypad_key g) = by_other (27 ∷ 79 ∷ 77 ∷ []) (replaced u f.tail SS3 g.letter 77 f.longer g.form)
         (keypad_key (record { letter = 77; form = refl; letter_is = inl refl }))
         (λ l. no_past_mouse [] (past_of _ 79 _ refl (λ h. cc (h)) l).1)
-    go (string g) = by_tail (string g) (string_free (u ++ f.tail) g)
+    go (title g) = by_tail (title g) (title_free (u ++ f.tail) g)

@@ -1,30 +1,36 @@
 -- What stands at a text that isn't open stands there whatever comes after it, and nothing else stands there.
-use Rattle.std.proofs.Common.{◌≡◌, ◌⊎◌, ◌≢◌, inl, inr, ⊎_elim, ℕ, Bool, true, List, [], ◌∷◌, ◌++◌, refl, sym, ap, ◌∙◌, subst, append_assoc, append-nil, arith}
+use Rattle.std.proofs.Common.{◌≡◌, ◌⊎◌, ◌≢◌, inl, inr, ⊎_elim, ℕ, ◌<◌, Bool, true, List, [], ◌∷◌, ◌++◌, length, refl, sym, ap, ◌∙◌, subst, append_assoc, arith, length-append}
+use Rattle.std.specs.List.{AllByRecursion}
+use Rattle.std.proofs.lemmas.List.{append_cancel_left}
 use Rattle.termwiz_keymap.specs.Bytes.{Begins}
-use Rattle.termwiz_keymap.proofs.lemmas.lists.CommonPrefixes.{Overlaps, overlap, append-some, append-some_left, Begins-append}
+use Rattle.termwiz_keymap.proofs.lemmas.lists.CommonPrefixes.{Overlaps, overlap, append-some, append-some_left, length-some}
 use Rattle.termwiz_keymap.proofs.lemmas.lists.CommonPrefixes.Overlaps.{within, past}
 use Rattle.termwiz_keys.specs.Introducers.{ESC}
+use Rattle.termwiz_keys.specs.declared.types.InputEvent.{InputEvent}
 use Rattle.termwiz_grammar.specs.Grammar as port
-use Rattle.termwiz_grammar.specs.Grammar.{IsBeginning, IsUnfinishedSequence, IsUnfinishedCharacter}
-use Rattle.termwiz_grammar.proofs.lemmas.items.ItemStable.{stands_stays, item_some, item_begins, escape_open}
+use Rattle.termwiz_grammar.proofs.lemmas.items.ItemStable.{stands_stays, item_some, escape_open}
 use Rattle.termwiz_grammar.proofs.lemmas.items.OneItem.{item_once}
+use Rattle.termwiz_grammar.specs.Sequences.{IsSequence}
 use Rattle.termwiz_extended_events.specs.declared.types.ExtendedEvent.{ExtendedEvent}
 use Rattle.termwiz_extended_events.specs.declared.types.ExtendedEvent.TheVariants.{Input}
 use Rattle.termwiz_extended_events.specs.declared.types.Protocol.{Protocol}
-use Rattle.termwiz_grammar.specs.Sequences.{IsSequence}
-use Rattle.termwiz_extended_grammar.specs.Forms.{IsForm, IsStringIntroducer}
+use Rattle.termwiz_extended_events.specs.declared.types.StringKind.{StringKind}
+use Rattle.termwiz_extended_grammar.specs.Forms.{introducer, IsData}
+use Rattle.termwiz_extended_grammar.specs.Strings.{Comes, StartsWithOpening}
 use Rattle.termwiz_extended_grammar.specs.ExtraSequences.{IsExtra, StartsWithExtra}
-use Rattle.termwiz_extended_grammar.specs.ExtendedGrammar.{BeginsKnown, IsOpen, IsUsual, Stands}
-use Rattle.termwiz_extended_grammar.specs.ExtendedGrammar.Stands.{extra, lone_escape, usual}
-use Rattle.termwiz_extended_grammar.proofs.lemmas.forms.FormBytes.{IsSecond, form_shape}
-use Rattle.termwiz_extended_grammar.proofs.lemmas.forms.FormEnds.{form_ends}
-use Rattle.termwiz_extended_grammar.proofs.lemmas.forms.ExtraFacts.{extra_once, extra_some}
+use Rattle.termwiz_extended_grammar.specs.ExtendedGrammar.{StartsExtended, BeginsKnown, IsOpen, IsUsual, Stands}
+use Rattle.termwiz_extended_grammar.specs.ExtendedGrammar.Stands.{extra, lone_escape, string, usual}
+use Rattle.termwiz_extended_grammar.proofs.lemmas.forms.FormBytes.{IsSecond, IsStringIntroducer, mark_shape, opening_mark}
+use Rattle.termwiz_extended_grammar.proofs.lemmas.forms.FormEnds.{form_no_opening}
+use Rattle.termwiz_extended_grammar.proofs.lemmas.forms.ExtraFacts.{extra_once, extra_some, starts_mark}
+use Rattle.termwiz_extended_grammar.proofs.lemmas.items.StringItems.{mark_once, string_opening, string_once, string_append, comes_once, comes_stay, comes_less}
 
--- what begins with an extra sequence begins with ESC and a byte that isn't ESC
-pub starts_shape : (protocol : Protocol) (u : List ℕ) → StartsWithExtra protocol u → (b : ℕ) × (r : List ℕ) × (u ≡ 27 ∷ b ∷ r) × IsSecond b
+-- what begins with an extra sequence or an opening begins with ESC and a byte that isn't ESC
+pub starts_shape : (protocol : Protocol) (u : List ℕ) → StartsExtended protocol u → (b : ℕ) × (r : List ℕ) × (u ≡ 27 ∷ b ∷ r) × IsSecond b
 starts_shape protocol u h =
-    let s = form_shape h.text h.is_extra.is_form in
-    (s.0, s.1 ++ h.begins.0, h.begins.1 ∙ ap (λ x. x ++ h.begins.0) s.2, s.4)
+    let m = starts_mark protocol u h in
+    let s = mark_shape m.0 m.2 in
+    (s.0, s.1 ++ m.1, m.3 ∙ ap (λ x. x ++ m.1) s.2, s.4)
 
 pub second_not_escape : (b : ℕ) → IsSecond b → b ≡ 27 → ⊥
 second_not_escape b is e = ⊎_elim
@@ -41,44 +47,75 @@ second_not_escape b is e = ⊎_elim
 -- an extra sequence that begins a text is the only one that does
 pub starts_once : (protocol : Protocol) (u a b : List ℕ) (d e : ExtendedEvent) → IsExtra protocol a d → IsExtra protocol b e
     → Begins a u → Begins b u → (a ≡ b) × (d ≡ e)
-starts_once protocol u a b d e is_a is_b (r, p) (s, q) = go (overlap a r b s (sym q ∙ p))
-  where
-    same : a ≡ b → (a ≡ b) × (d ≡ e)
-    same h = (h, extra_once protocol b d e (subst (λ x. IsExtra protocol x d) h is_a) is_b)
+starts_once protocol u a b d e is_a is_b p q =
+    let same : a ≡ b = mark_once u a b (inl is_a.is_form) (inl is_b.is_form) p q in
+    (same, extra_once protocol b d e (subst (λ x. IsExtra protocol x d) same is_a) is_b)
 
-    go : Overlaps a r b s → (a ≡ b) × (d ≡ e)
-    go (within t f g) =
-        let none : t ≡ [] = form_ends a t is_a.is_form (subst (λ x. IsForm x) f is_b.is_form) in
-        same (sym (f ∙ ap (λ x. a ++ x) none ∙ append-nil a))
-    go (past t n f g) = absurd (n (form_ends b t is_b.is_form (subst (λ x. IsForm x) f is_a.is_form)))
+-- where one begins a text, no opening does
+pub extra_or_opening : (protocol : Protocol) (u : List ℕ) → StartsWithExtra protocol u → StartsWithOpening u → ⊥
+extra_or_opening protocol u h o =
+    let same : h.text ≡ introducer o.kind ++ o.head =
+    mark_once u h.text (introducer o.kind ++ o.head) (inl h.is_extra.is_form) (inr (opening_mark u o)) h.begins o.begins in
+    form_no_opening h.text h.is_extra.is_form (record { kind = o.kind; head = o.head; is_head = o.is_head; form = same })
 
 -- where one begins, none begins after the ESC
-pub one_starts : (protocol : Protocol) (u v : List ℕ) → StartsWithExtra protocol u → u ≡ ESC ++ v → StartsWithExtra protocol v → ⊥
+pub one_starts : (protocol : Protocol) (u v : List ℕ) → StartsExtended protocol u → u ≡ ESC ++ v → StartsExtended protocol v → ⊥
 one_starts protocol u v here e after =
     let s = starts_shape protocol u here in
     let t = starts_shape protocol v after in
     let same : s.0 ≡ 27 = cc (s.2, e, t.2) in
     second_not_escape s.0 s.3 same
 
--- an extra sequence that begins the longer text begins the shorter one, if that isn't open
-pub starts_shorter : (protocol : Protocol) (u s : List ℕ) → u ≢ [] → ¬ IsOpen protocol u true → StartsWithExtra protocol (u ++ s)
-    → StartsWithExtra protocol u
-starts_shorter protocol u s some closed h = go (overlap h.text h.begins.0 u s h.begins.1)
+-- what begins the longer text begins the shorter one, if that isn't open
+pub starts_shorter : (protocol : Protocol) (u s : List ℕ) → u ≢ [] → ¬ IsOpen protocol u true → StartsExtended protocol (u ++ s)
+    → StartsExtended protocol u
+starts_shorter protocol u s some closed (inl h) = go (overlap h.text h.begins.0 u s h.begins.1)
   where
-    go : Overlaps h.text h.begins.0 u s → StartsWithExtra protocol u
-    go (within t e f) = record { text = h.text; event = h.event; is_extra = h.is_extra; begins = (t, e) }
+    go : Overlaps h.text h.begins.0 u s → StartsExtended protocol u
+    go (within t e f) = inl (record { text = h.text; event = h.event; is_extra = h.is_extra; begins = (t, e) })
     go (past t longer e f) = absurd (closed (record {
       more_comes = refl;
       some = some;
-      beginning = inr (record {
+      beginning = inr (inl (record {
         tail = t;
         longer = longer;
         event = h.event;
         is_extra = subst (λ x. IsExtra protocol x h.event) e h.is_extra;
-      });
+      }));
+    }))
+starts_shorter protocol u s some closed (inr o) = go (overlap (introducer o.kind ++ o.head) o.begins.0 u s o.begins.1)
+  where
+    go : Overlaps (introducer o.kind ++ o.head) o.begins.0 u s → StartsExtended protocol u
+    go (within t e f) = inr (record { kind = o.kind; head = o.head; is_head = o.is_head; begins = (t, e) })
+    go (past t longer e f) = absurd (closed (record {
+      more_comes = refl;
+      some = some;
+      beginning = inr (inr (record {
+        tail = t;
+        longer = longer;
+        kind = o.kind;
+        head = o.head;
+        is_head = o.is_head;
+        spells = e;
+      }));
     }))
 
--- what properly begins a sequence or a character properly begins it from an earlier place on too
+-- what begins with an extra sequence or an opening begins so whatever follows
+pub starts_longer : (protocol : Protocol) (u s : List ℕ) → StartsExtended protocol u → StartsExtended protocol (u ++ s)
+starts_longer protocol u s (inl h) = inl (record {
+  text = h.text;
+  event = h.event;
+  is_extra = h.is_extra;
+  begins = (h.begins.0 ++ s, ap (λ x. x ++ s) h.begins.1 ∙ append_assoc h.text h.begins.0 s);
+})
+starts_longer protocol u s (inr o) = inr (record {
+  kind = o.kind;
+  head = o.head;
+  is_head = o.is_head;
+  begins = (o.begins.0 ++ s, ap (λ x. x ++ s) o.begins.1 ∙ append_assoc (introducer o.kind ++ o.head) o.begins.0 s);
+})
+
+-- what properly begins a sequence, a character or an opening properly begins it from an earlier place on too
 shorter_beginning : (protocol : Protocol) (u s : List ℕ) → BeginsKnown protocol (u ++ s) → BeginsKnown protocol u
 shorter_beginning protocol u s (inl (inl h)) = inl (inl (record {
   tail = s ++ h.tail;
@@ -93,12 +130,20 @@ shorter_beginning protocol u s (inl (inr h)) = inl (inr (record {
   scalar = h.scalar;
   spells = h.spells ∙ append_assoc u s h.tail;
 }))
-shorter_beginning protocol u s (inr h) = inr (record {
+shorter_beginning protocol u s (inr (inl h)) = inr (inl (record {
   tail = s ++ h.tail;
   longer = append-some s h.tail h.longer;
   event = h.event;
   is_extra = subst (λ x. IsExtra protocol x h.event) (append_assoc u s h.tail) h.is_extra;
-})
+}))
+shorter_beginning protocol u s (inr (inr h)) = inr (inr (record {
+  tail = s ++ h.tail;
+  longer = append-some s h.tail h.longer;
+  kind = h.kind;
+  head = h.head;
+  is_head = h.is_head;
+  spells = h.spells ∙ append_assoc u s h.tail;
+}))
 
 -- what is usual stays so
 pub usual_stays : (protocol : Protocol) (u s : List ℕ) (f : Bool) → u ≢ [] → IsUsual protocol u true → IsUsual protocol (u ++ s) f
@@ -118,57 +163,83 @@ longer_after [] s w some more e = absurd (some refl)
 longer_after (x ∷ []) s w some more e = absurd (more (let h : x ≡ 27 = cc (e) in ap (λ z. z ∷ []) h))
 longer_after (x ∷ y ∷ u) s w some more e = (y ∷ u, (let h : x ≡ 27 = cc (e) in ap (λ z. z ∷ y ∷ u) h), cc (e), (λ h. cc (h)))
 
-pub stands_stays_extended : (protocol : Protocol) (u s bytes : List ℕ) (event : ExtendedEvent) (f : Bool)
-    → Stands protocol u true bytes event → Stands protocol (u ++ s) f bytes event
-stands_stays_extended protocol u s bytes event f (extra text e is b) = extra text e is (Begins-append text u s b)
-stands_stays_extended protocol u s bytes event f (lone_escape v split after) =
-    lone_escape (v ++ s) (ap (λ x. x ++ s) split) (record {
-      text = after.text;
-      event = after.event;
-      is_extra = after.is_extra;
-      begins = Begins-append after.text v s after.begins;
-    })
-stands_stays_extended protocol u s bytes event f (usual bytes2 e stands is after) =
-    usual bytes2 e (stands_stays u s bytes2 e f stands) (usual_stays protocol u s f some is) (λ w split.
-    let l = longer_after u s w some not_escape split in
+-- the port's item isn't at the empty text
+pub port_some : (u bytes left : List ℕ) (f : Bool) (event : InputEvent) → port.Stands u f bytes event → u ≡ bytes ++ left → u ≢ []
+port_some u bytes left f event stands e none = append-some_left bytes left (item_some u bytes event f stands.item) (sym e ∙ none)
+
+-- what an item leaves of a text with more to come, it leaves of every longer one, with what is longer
+pub stands_stays_extended : (protocol : Protocol) (u s left : List ℕ) (event : ExtendedEvent) (f : Bool)
+    → Stands protocol u true left event → Stands protocol (u ++ s) f (left ++ s) event
+stands_stays_extended protocol u s left event f (extra text left2 e is split) =
+    extra text (left2 ++ s) e is (ap (λ x. x ++ s) split ∙ append_assoc text left2 s)
+stands_stays_extended protocol u s left event f (lone_escape v split after) =
+    lone_escape (v ++ s) (ap (λ x. x ++ s) split) (starts_longer protocol v s after)
+stands_stays_extended protocol u s left event f (string kind head bytes after left2 e is comes) =
+    string kind head bytes (after ++ s) (left2 ++ s) e (string_append u s kind head bytes after is)
+    (comes_stay kind head bytes after left2 s f e comes)
+stands_stays_extended protocol u s left event f (usual bytes left2 e stands split is after) =
+    usual bytes (left2 ++ s) e (stands_stays u s bytes e f stands) (ap (λ x. x ++ s) split ∙ append_assoc bytes left2 s)
+    (usual_stays protocol u s f some is) (λ w split2.
+    let l = longer_after u s w some not_escape split2 in
     subst (λ x. IsUsual protocol x f) (sym l.2) (usual_stays protocol l.0 s f l.3 (after l.0 l.1)))
   where
     some : u ≢ []
-    some none = append-some_left bytes2 (item_begins u bytes2 e true stands.item).0 (item_some u bytes2 e true stands.item)
-        (sym (item_begins u bytes2 e true stands.item).1 ∙ none)
+    some = port_some u bytes left2 true e stands split
 
     not_escape : u ≡ ESC → ⊥
     not_escape alone = stands.closed (escape_open u alone)
 
--- the text after one ESC
-after_once : (u v w : List ℕ) → u ≡ ESC ++ v → u ≡ ESC ++ w → v ≡ w
-after_once u v w d e = cc (d, e)
-
 -- at most one item stands at a text
-pub stands_once : (protocol : Protocol) (u : List ℕ) (f : Bool) (b c : List ℕ) (d e : ExtendedEvent)
-    → Stands protocol u f b d → Stands protocol u f c e → (b ≡ c) × (d ≡ e)
-stands_once protocol u f b c d e (extra s p is at) (extra t q it there) = starts_once protocol u s t p q is it at there
-stands_once protocol u f b c d e (extra s p is at) (lone_escape v split after) =
-    absurd (one_starts protocol u v (record { text = s; event = p; is_extra = is; begins = at }) split after)
-stands_once protocol u f b c d e (extra s p is at) (usual t q stands it after) =
-    absurd (it.none (record { text = s; event = p; is_extra = is; begins = at }))
-stands_once protocol u f b c d e (lone_escape v split after) (extra t q it there) =
-    absurd (one_starts protocol u v (record { text = t; event = q; is_extra = it; begins = there }) split after)
-stands_once protocol u f b c d e (lone_escape v split after) (lone_escape w split2 after2) = (refl, refl)
-stands_once protocol u f b c d e (lone_escape v split after) (usual t q stands it gap) = absurd ((gap v split).none after)
-stands_once protocol u f b c d e (usual s p stands is gap) (extra t q it there) =
-    absurd (is.none (record { text = t; event = q; is_extra = it; begins = there }))
-stands_once protocol u f b c d e (usual s p stands is gap) (lone_escape w split after) = absurd ((gap w split).none after)
-stands_once protocol u f b c d e (usual s p stands is gap) (usual t q stands2 it gap2) =
-    let one = item_once u f s t p q stands.item stands2.item in (one.0, ap (λ x. Input x) one.1)
+pub stands_once : (protocol : Protocol) (u : List ℕ) (f : Bool) (l m : List ℕ) (d e : ExtendedEvent)
+    → Stands protocol u f l d → Stands protocol u f m e → (l ≡ m) × (d ≡ e)
+stands_once protocol u f l m d e (extra s l2 p is at) (extra t m2 q it there) =
+    let one = starts_once protocol u s t p q is it (l2, at) (m2, there) in
+    (append_cancel_left t l2 m2 (sym (ap (λ z. z ++ l2) one.0) ∙ sym at ∙ there), one.1)
+stands_once protocol u f l m d e (extra s l2 p is at) (lone_escape v split after) =
+    absurd (one_starts protocol u v (inl (record { text = s; event = p; is_extra = is; begins = (l2, at) })) split after)
+stands_once protocol u f l m d e (extra s l2 p is at) (string kind head bytes after m2 q it comes) =
+    absurd (extra_or_opening protocol u (record { text = s; event = p; is_extra = is; begins = (l2, at) })
+    (string_opening u kind head bytes after it))
+stands_once protocol u f l m d e (extra s l2 p is at) (usual t m2 q stands split it after) =
+    absurd (it.none (inl (record { text = s; event = p; is_extra = is; begins = (l2, at) })))
+stands_once protocol u f l m d e (lone_escape v split after) (extra t m2 q it there) =
+    absurd (one_starts protocol u v (inl (record { text = t; event = q; is_extra = it; begins = (m2, there) })) split after)
+stands_once protocol u f l m d e (lone_escape v split after) (lone_escape w split2 after2) = (cc (split, split2), refl)
+stands_once protocol u f l m d e (lone_escape v split after) (string kind head bytes rest m2 q it comes) =
+    absurd (one_starts protocol u v (inr (string_opening u kind head bytes rest it)) split after)
+stands_once protocol u f l m d e (lone_escape v split after) (usual t m2 q stands split2 it gap) = absurd ((gap v split).none after)
+stands_once protocol u f l m d e (string kind head bytes after l2 p is comes) (extra t m2 q it there) =
+    absurd (extra_or_opening protocol u (record { text = t; event = q; is_extra = it; begins = (m2, there) })
+    (string_opening u kind head bytes after is))
+stands_once protocol u f l m d e (string kind head bytes rest l2 p is comes) (lone_escape v split after) =
+    absurd (one_starts protocol u v (inr (string_opening u kind head bytes rest is)) split after)
+stands_once protocol u f l m d e (string k h a r l2 p is comes) (string j g b s m2 q it comes2) =
+    let one = string_once u k j h g a b r s is it in
+    comes_once j g a b r s l2 m2 f p q (subst (λ z. All z a) one.0 is.each) it.each one.2
+    (subst (λ z. Comes z g a r f l2 p) one.0 (subst (λ z. Comes k z a r f l2 p) one.1 comes)) comes2
+  where
+    All : StringKind → List ℕ → Type 0
+    All kind bytes = AllByRecursion (IsData kind) bytes
+stands_once protocol u f l m d e (string kind head bytes after l2 p is comes) (usual t m2 q stands split it gap) =
+    absurd (it.none (inr (string_opening u kind head bytes after is)))
+stands_once protocol u f l m d e (usual s l2 p stands split is gap) (extra t m2 q it there) =
+    absurd (is.none (inl (record { text = t; event = q; is_extra = it; begins = (m2, there) })))
+stands_once protocol u f l m d e (usual s l2 p stands split is gap) (lone_escape w split2 after) = absurd ((gap w split2).none after)
+stands_once protocol u f l m d e (usual s l2 p stands split is gap) (string kind head bytes after m2 q it comes) =
+    absurd (is.none (inr (string_opening u kind head bytes after it)))
+stands_once protocol u f l m d e (usual s l2 p stands split is gap) (usual t m2 q stands2 split2 it gap2) =
+    let one = item_once u f s t p q stands.item stands2.item in
+    (append_cancel_left t l2 m2 (sym (ap (λ z. z ++ l2) one.0) ∙ sym split ∙ split2), ap (λ x. Input x) one.1)
 
--- an item's bytes aren't empty, and begin the text
-pub stands_some : (protocol : Protocol) (u bytes : List ℕ) (event : ExtendedEvent) (f : Bool) → Stands protocol u f bytes event → bytes ≢ []
-stands_some protocol u bytes event f (extra text e is b) = extra_some protocol text e is
-stands_some protocol u bytes event f (lone_escape v split after) = λ h. cc (h)
-stands_some protocol u bytes event f (usual s e stands is gap) = item_some u s e f stands.item
+taken : (u text left : List ℕ) → u ≡ text ++ left → text ≢ [] → length left < length u
+taken u text left e some = omega (arith, ap length e, length-append text left, length-some text some)
 
-pub stands_begins : (protocol : Protocol) (u bytes : List ℕ) (event : ExtendedEvent) (f : Bool) → Stands protocol u f bytes event → Begins bytes u
-stands_begins protocol u bytes event f (extra text e is b) = b
-stands_begins protocol u bytes event f (lone_escape v split after) = (v, split)
-stands_begins protocol u bytes event f (usual s e stands is gap) = item_begins u s e f stands.item
+-- what an item leaves is shorter than the text
+pub stands_less : (protocol : Protocol) (u left : List ℕ) (event : ExtendedEvent) (f : Bool) → Stands protocol u f left event
+    → length left < length u
+stands_less protocol u left event f (extra text left2 e is split) = taken u text left2 split (extra_some protocol text e is)
+stands_less protocol u left event f (lone_escape v split after) = taken u ESC v split (λ h. cc (h))
+stands_less protocol u left event f (string kind head bytes after left2 e is comes) =
+    comes_less u kind head bytes after left2 f e is comes
+stands_less protocol u left event f (usual bytes left2 e stands split is gap) =
+    taken u bytes left2 split (item_some u bytes e f stands.item)

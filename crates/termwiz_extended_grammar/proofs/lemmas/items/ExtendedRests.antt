@@ -1,44 +1,43 @@
 -- At each text an item stands or the text waits, and it can be told which.
 use Rattle.std.proofs.Common.{◌≡◌, ◌⊎◌, inl, inr, ℕ, zero, suc, ◌<◌, ◌≤◌, Bool, true, false, List, [], ◌∷◌, ◌++◌, length, refl, sym, ap, ap₂, ◌∙◌, subst, ⊎_elim, arith, length-append}
-use Rattle.std.proofs.lemmas.List.{append_cancel_left}
-use Rattle.termwiz_keymap.proofs.lemmas.lists.CommonPrefixes.{append-some_left, length-some}
+use Rattle.std.specs.List.{AllByRecursion}
 use Rattle.termwiz_keys.specs.Introducers.{ESC}
 use Rattle.termwiz_keys.specs.Keys.{escape}
 use Rattle.termwiz_keys.specs.declared.types.InputEvent.{InputEvent}
 use Rattle.termwiz_keys.specs.declared.types.InputEvent.TheVariants.{Key}
 use Rattle.termwiz_grammar.specs.Grammar as port
-use Rattle.termwiz_grammar.specs.Grammar.{IsBeginning}
 use Rattle.termwiz_grammar.specs.Laws as portlaws
+use Rattle.termwiz_grammar.specs.Laws.{IsHeldEscape}
 use Rattle.termwiz_grammar.specs.Laws.Waits.{nothing as port_nothing, open_paste as port_paste, undecided as port_undecided}
 use Rattle.termwiz_grammar.proofs.lemmas.lists.Decidable.{Decision, decide_either, decide_eq}
 use Rattle.termwiz_grammar.proofs.lemmas.table.SequenceFacts.{unfinished_or_not}
 use Rattle.termwiz_grammar.proofs.lemmas.characters.CharacterPrefixes.{unfinished_character_or_not, beginning_short}
+use Rattle.termwiz_grammar.proofs.lemmas.items.ItemStable.{item_begins}
 use Rattle.termwiz_grammar.proofs.lemmas.waiting.RestShape.{Settled, settle}
 use Rattle.termwiz_grammar.proofs.lemmas.waiting.RestShape.Settled.{standing, resting}
 use Rattle.termwiz_extended_events.specs.declared.types.ExtendedEvent.{ExtendedEvent}
 use Rattle.termwiz_extended_events.specs.declared.types.ExtendedEvent.TheVariants.{Input}
 use Rattle.termwiz_extended_events.specs.declared.types.Protocol.{Protocol}
-use Rattle.termwiz_extended_grammar.specs.Forms.{IsStringIntroducer}
-use Rattle.termwiz_extended_grammar.specs.ExtraSequences.{StartsWithExtra}
-use Rattle.termwiz_extended_grammar.specs.ExtendedGrammar.{BeginsKnown, IsOpen, IsUsual, Stands, IsRest, Steps, Means}
-use Rattle.termwiz_extended_grammar.specs.ExtendedGrammar.Stands.{extra, lone_escape, usual}
-use Rattle.termwiz_extended_grammar.specs.ExtendedLaws.{EmptyIsRest, IsShort, OneMeaning, WaitingShape, Waits}
-use Rattle.termwiz_extended_grammar.specs.ExtendedLaws.Waits.{nothing, open_paste, undecided}
-use Rattle.termwiz_extended_grammar.proofs.lemmas.forms.Unfinished.{unfinished_short}
-use Rattle.termwiz_extended_grammar.proofs.lemmas.forms.ExtraFacts.{starts_or_not, unfinished_extra_or_not, form_from_unfinished}
-use Rattle.termwiz_extended_grammar.proofs.lemmas.items.ExtendedItems.{stands_begins, stands_once, stands_some}
+use Rattle.termwiz_extended_grammar.specs.Forms.{introducer, IsData, most_string}
+use Rattle.termwiz_extended_grammar.specs.Strings.{string_length, StartsWithOpening, IsOpenString}
+use Rattle.termwiz_extended_grammar.specs.ExtendedGrammar.{StartsExtended, BeginsKnown, IsOpen, IsUsual, Stands, IsRest, Steps, Means}
+use Rattle.termwiz_extended_grammar.specs.ExtendedGrammar.Stands.{extra, lone_escape, string, usual}
+use Rattle.termwiz_extended_grammar.specs.ExtendedLaws.{EmptyIsRest, OneMeaning, WaitingShape, Waits, most_beginning}
+use Rattle.termwiz_extended_grammar.specs.ExtendedLaws.Waits.{nothing, open_paste, undecided, open_string}
+use Rattle.termwiz_extended_grammar.proofs.lemmas.forms.ExtraFacts.{starts_extended_or_not, unfinished_extended_or_not, mark_from_unfinished, unfinished_short}
+use Rattle.termwiz_extended_grammar.proofs.lemmas.items.StringItems.{string_opening, string_once}
+use Rattle.termwiz_extended_grammar.proofs.lemmas.items.StringRests.{SettledString, settle_string, nothing_comes}
+use Rattle.termwiz_extended_grammar.proofs.lemmas.items.StringRests.SettledString.{given, stays_open}
+use Rattle.termwiz_extended_grammar.proofs.lemmas.items.ExtendedItems.{extra_or_opening, one_starts, stands_once, stands_less}
 
--- what properly begins a sequence or a character is short
-pub known_short : (protocol : Protocol) (u : List ℕ) → BeginsKnown protocol u → IsShort u
-known_short protocol u (inl h) = (let short : length u ≤ 20 = beginning_short u h in inl (omega arith))
-known_short protocol u (inr h) = ⊎_elim
-    (λ (l : length u ≤ 255). inl (omega arith))
-    (λ (l : (length u ≤ 65535) × ((introducer : ℕ) × (r : List ℕ) × IsStringIntroducer introducer × (u ≡ 27 ∷ introducer ∷ r))).
-    let bound : length u ≤ 65535 = l.0 in inr (omega arith, (l.1.0, l.1.1, l.1.2, l.1.3)))
-    (unfinished_short u (form_from_unfinished protocol u h))
+-- what properly begins a sequence, a character or an opening is short
+pub known_short : (protocol : Protocol) (u : List ℕ) → BeginsKnown protocol u → length u ≤ most_beginning
+known_short protocol u (inl h) = (let short : length u ≤ 20 = beginning_short u h in omega arith)
+known_short protocol u (inr h) = unfinished_short u (mark_from_unfinished protocol u h)
 
 known_or_not : (protocol : Protocol) (u : List ℕ) → Decision (BeginsKnown protocol u)
-known_or_not protocol u = decide_either (decide_either (unfinished_or_not u) (unfinished_character_or_not u)) (unfinished_extra_or_not protocol u)
+known_or_not protocol u =
+    decide_either (decide_either (unfinished_or_not u) (unfinished_character_or_not u)) (unfinished_extended_or_not protocol u)
 
 pub open_or_not : (protocol : Protocol) (u : List ℕ) (f : Bool) → IsOpen protocol u f ⊎ (IsOpen protocol u f → ⊥)
 open_or_not protocol [] f = inr (λ h. h.some refl)
@@ -50,23 +49,43 @@ open_or_not protocol (x ∷ u) true = ⊎_elim
 
 -- an item stands at the text, or it waits
 pub data SettledExtended (protocol : Protocol) (u : List ℕ) (f : Bool) : Type 0 where
-  stays : (bytes : List ℕ) (event : ExtendedEvent) → Stands protocol u f bytes event → SettledExtended protocol u f
+  stays : (left : List ℕ) (event : ExtendedEvent) → Stands protocol u f left event → SettledExtended protocol u f
   waits : IsRest protocol u f → Waits protocol u f → SettledExtended protocol u f
 
 pub empty_is_rest : EmptyIsRest
-empty_is_rest protocol f bytes event stands =
-    let b = stands_begins protocol [] bytes event f stands in
-    append-some_left bytes b.0 (stands_some protocol [] bytes event f stands) (sym b.1)
+empty_is_rest protocol f left event stands = absurd (omega (arith, stands_less protocol [] left event f stands))
 
--- nothing stands where no extra sequence does and the port's item has no place
-no_item : (protocol : Protocol) (u : List ℕ) (f : Bool) → ¬ StartsWithExtra protocol u → ((v : List ℕ) → u ≡ ESC ++ v → ¬ StartsWithExtra protocol v)
+-- nothing stands where no extra sequence and no opening does, and the port's item has no place
+no_item : (protocol : Protocol) (u : List ℕ) (f : Bool) → ¬ StartsExtended protocol u → ((v : List ℕ) → u ≡ ESC ++ v → ¬ StartsExtended protocol v)
     → ((bytes : List ℕ) (event : InputEvent) → port.Stands u f bytes event → IsUsual protocol u f
     → ((v : List ℕ) → u ≡ ESC ++ v → IsUsual protocol v f) → ⊥)
     → IsRest protocol u f
-no_item protocol u f none none_after never bytes event (extra text e is b) =
-    none (record { text = text; event = e; is_extra = is; begins = b })
-no_item protocol u f none none_after never bytes event (lone_escape v split after) = none_after v split after
-no_item protocol u f none none_after never bytes event (usual s e stands is gap) = never s e stands is gap
+no_item protocol u f none none_after never left event (extra text left2 e is split) =
+    none (inl (record { text = text; event = e; is_extra = is; begins = (left2, split) }))
+no_item protocol u f none none_after never left event (lone_escape v split after) = none_after v split after
+no_item protocol u f none none_after never left event (string kind head bytes after left2 e is comes) =
+    none (inr (string_opening u kind head bytes after is))
+no_item protocol u f none none_after never left event (usual s left2 e stands split is gap) = never s e stands is gap
+
+-- nothing stands at an open string
+pub string_rests : (protocol : Protocol) (u : List ℕ) (f : Bool) → IsOpenString u → f ≡ true → IsRest protocol u f
+string_rests protocol u f o more left event stands = go left event stands
+  where
+    opening : StartsWithOpening u
+    opening = string_opening u o.kind o.head o.bytes o.held o.is_string
+
+    go : (left : List ℕ) (event : ExtendedEvent) → Stands protocol u f left event → ⊥
+    go left event (extra text left2 e is split) =
+        extra_or_opening protocol u (record { text = text; event = e; is_extra = is; begins = (left2, split) }) opening
+    go left event (lone_escape v split after) = one_starts protocol u v (inr opening) split after
+    go left event (string kind head bytes after left2 e is comes) =
+        let one = string_once u o.kind kind o.head head o.bytes bytes o.held after o.is_string is in
+        nothing_comes kind head bytes o.bytes after o.held left2 f e is.each
+        (subst (λ z. AllByRecursion (IsData z) o.bytes) one.0 o.is_string.each) (sym one.2)
+        (subst (λ z. string_length z head o.bytes < most_string) one.0
+        (subst (λ z. string_length o.kind z o.bytes < most_string) one.1 o.short))
+        o.is_held more comes
+    go left event (usual s left2 e stands split is gap) = is.none (inr opening)
 
 -- what the port waits for
 from_port : (protocol : Protocol) (u : List ℕ) (f : Bool) → portlaws.Waits u f → Waits protocol u f
@@ -75,30 +94,48 @@ from_port protocol u f (port_paste body e never) = open_paste body e never
 from_port protocol u f (port_undecided held bytes is e n b short m) =
     undecided held bytes is e n (inl b) (known_short protocol bytes (inl b)) m
 
--- where no extra sequence is, and nothing is open, the port decides
+-- where no extra sequence and no opening is, and nothing is open, the port decides
 by_port : (protocol : Protocol) (u : List ℕ) (f : Bool) → IsUsual protocol u f → ((v : List ℕ) → u ≡ ESC ++ v → IsUsual protocol v f)
     → SettledExtended protocol u f
 by_port protocol u f is after = go (settle u f)
   where
     go : Settled u f → SettledExtended protocol u f
-    go (standing bytes event stands) = stays bytes (Input event) (usual bytes event stands is after)
+    go (standing bytes event stands) =
+        let b = item_begins u bytes event f stands.item in
+        stays b.0 (Input event) (usual bytes b.0 event stands b.1 is after)
     go (resting rest w) = waits
         (no_item protocol u f is.none (λ v e. (after v e).none) (λ bytes event stands. absurd (rest bytes event stands)))
         (from_port protocol u f w)
 
+-- an open string has at most as many bytes as may be read before its event
+pub open_short : (u : List ℕ) → IsOpenString u → length u ≤ most_string
+open_short u o = omega (
+  arith,
+  o.short,
+  ap length o.is_string.splits,
+  length-append (introducer o.kind ++ o.head) (o.bytes ++ o.held),
+  length-append o.bytes o.held,
+  length-append (introducer o.kind ++ o.head) o.bytes,
+  held_length o.held o.is_held,
+)
+  where
+    held_length : (held : List ℕ) → IsHeldEscape held → length held ≤ 1
+    held_length held (inl none) = omega (arith, ap length none)
+    held_length held (inr one) = omega (arith, ap length one)
+
 -- a text after an ESC
 after_one_escape : (protocol : Protocol) (v : List ℕ) (f : Bool) → IsUsual protocol (ESC ++ v) f → SettledExtended protocol (ESC ++ v) f
 after_one_escape protocol v f is = ⊎_elim
-    (λ (h : StartsWithExtra protocol v). stays ESC (Input (Key escape)) (lone_escape v refl h))
-    (λ (none : ¬ StartsWithExtra protocol v). ⊎_elim
+    (λ (h : StartsExtended protocol v). stays v (Input (Key escape)) (lone_escape v refl h))
+    (λ (none : ¬ StartsExtended protocol v). ⊎_elim
     (λ (o : IsOpen protocol v f). waits
-    (no_item protocol (ESC ++ v) f is.none (λ w e. subst (λ x. ¬ StartsWithExtra protocol x) (let h : v ≡ w = cc (e) in h) none)
+    (no_item protocol (ESC ++ v) f is.none (λ w e. subst (λ x. ¬ StartsExtended protocol x) (let h : v ≡ w = cc (e) in h) none)
     (λ bytes event stands it gap. (gap v refl).closed o))
     (undecided ESC v (inr refl) refl o.some o.beginning (known_short protocol v o.beginning) o.more_comes))
     (λ (closed : ¬ IsOpen protocol v f). by_port protocol (ESC ++ v) f is
     (λ w e. subst (λ x. IsUsual protocol x f) (let h : v ≡ w = cc (e) in h) (record { none = none; closed = closed })))
     (open_or_not protocol v f))
-    (starts_or_not protocol v)
+    (starts_extended_or_not protocol v)
 
 at_byte : (protocol : Protocol) (x : ℕ) (u : List ℕ) (f : Bool) → IsUsual protocol (x ∷ u) f → SettledExtended protocol (x ∷ u) f
 at_byte protocol x u f is = ⊎_elim
@@ -107,31 +144,40 @@ at_byte protocol x u f is = ⊎_elim
     (λ (other : x ≡ 27 → ⊥). by_port protocol (x ∷ u) f is (λ w e. absurd (other (cc (e)))))
     (decide_eq x 27)
 
--- a text that is open: nothing stands, but for the Escape before an extra sequence
-at_open : (protocol : Protocol) (x : ℕ) (u : List ℕ) (f : Bool) → ¬ StartsWithExtra protocol (x ∷ u) → IsOpen protocol (x ∷ u) f
+-- a text that is open: nothing stands, but for the Escape before an extra sequence or an opening
+at_open : (protocol : Protocol) (x : ℕ) (u : List ℕ) (f : Bool) → ¬ StartsExtended protocol (x ∷ u) → IsOpen protocol (x ∷ u) f
     → SettledExtended protocol (x ∷ u) f
 at_open protocol x u f none o = ⊎_elim
-    (λ (h : (x ≡ 27) × StartsWithExtra protocol u). stays ESC (Input (Key escape)) (lone_escape u (ap (λ z. z ∷ u) h.0) h.1))
-    (λ (never : ((x ≡ 27) × StartsWithExtra protocol u) → ⊥). waits
-    (no_item protocol (x ∷ u) f none (λ w e h. never (cc (e), subst (λ z. StartsWithExtra protocol z) (let k : w ≡ u = cc (e) in k) h))
+    (λ (h : (x ≡ 27) × StartsExtended protocol u). stays u (Input (Key escape)) (lone_escape u (ap (λ z. z ∷ u) h.0) h.1))
+    (λ (never : ((x ≡ 27) × StartsExtended protocol u) → ⊥). waits
+    (no_item protocol (x ∷ u) f none (λ w e h. never (cc (e), subst (λ z. StartsExtended protocol z) (let k : w ≡ u = cc (e) in k) h))
     (λ bytes event stands it gap. it.closed o))
     (undecided [] (x ∷ u) (inl refl) refl (λ h. cc (h)) o.beginning (known_short protocol (x ∷ u) o.beginning) o.more_comes))
-    (both_or_not (decide_eq x 27) (starts_or_not protocol u))
+    (both_or_not (decide_eq x 27) (starts_extended_or_not protocol u))
   where
-    both_or_not : Decision (x ≡ 27) → Decision (StartsWithExtra protocol u) → Decision ((x ≡ 27) × StartsWithExtra protocol u)
+    both_or_not : Decision (x ≡ 27) → Decision (StartsExtended protocol u) → Decision ((x ≡ 27) × StartsExtended protocol u)
     both_or_not (inl a) (inl b) = inl (a, b)
     both_or_not (inl a) (inr n) = inr (λ h. n h.1)
     both_or_not (inr n) b = inr (λ h. n h.0)
 
+-- a text that an extra sequence or an opening begins
+at_start : (protocol : Protocol) (u : List ℕ) (f : Bool) → StartsExtended protocol u → SettledExtended protocol u f
+at_start protocol u f (inl h) = stays h.begins.0 h.event (extra h.text h.begins.0 h.event h.is_extra h.begins.1)
+at_start protocol u f (inr o) = go (settle_string u f o)
+  where
+    go : SettledString u f → SettledExtended protocol u f
+    go (given kind head bytes after left event is it) = stays left event (string kind head bytes after left event is it)
+    go (stays_open is more) = waits (string_rests protocol u f is more) (open_string is (open_short u is) more)
+
 pub settle_extended : (protocol : Protocol) (u : List ℕ) (f : Bool) → SettledExtended protocol u f
 settle_extended protocol [] f = waits (empty_is_rest protocol f) (nothing refl)
 settle_extended protocol (x ∷ u) f = ⊎_elim
-    (λ (h : StartsWithExtra protocol (x ∷ u)). stays h.text h.event (extra h.text h.event h.is_extra h.begins))
-    (λ (none : ¬ StartsWithExtra protocol (x ∷ u)). ⊎_elim
+    (λ (h : StartsExtended protocol (x ∷ u)). at_start protocol (x ∷ u) f h)
+    (λ (none : ¬ StartsExtended protocol (x ∷ u)). ⊎_elim
     (λ (o : IsOpen protocol (x ∷ u) f). at_open protocol x u f none o)
     (λ (closed : ¬ IsOpen protocol (x ∷ u) f). at_byte protocol x u f (record { none = none; closed = closed }))
     (open_or_not protocol (x ∷ u) f))
-    (starts_or_not protocol (x ∷ u))
+    (starts_extended_or_not protocol (x ∷ u))
 
 pub waiting_shape : WaitingShape
 waiting_shape protocol u f rest = go (settle_extended protocol u f)
@@ -150,15 +196,13 @@ read_of m = (m.steps, m.rest)
 pub steps_once : (protocol : Protocol) (E D : List ExtendedEvent) (T V W : List ℕ) (f : Bool) → Read protocol T f E V → Read protocol T f D W
     → (E ≡ D) × (V ≡ W)
 steps_once protocol [] [] T V W f (s, r) (t, q) = (refl, sym s ∙ t)
-steps_once protocol [] (d ∷ D) T V W f (s, r) ((bytes, rest, stands, splits, steps), q) =
-    absurd (r bytes d (subst (λ x. Stands protocol x f bytes d) s stands))
-steps_once protocol (e ∷ E) [] T V W f ((bytes, rest, stands, splits, steps), r) (t, q) =
-    absurd (q bytes e (subst (λ x. Stands protocol x f bytes e) t stands))
-steps_once protocol (e ∷ E) (d ∷ D) T V W f ((b, rest, stands, splits, steps), r) ((c, rest2, stands2, splits2, steps2), q) =
-    let one = stands_once protocol T f b c e d stands stands2 in
-    let left : rest ≡ rest2 =
-    append_cancel_left c rest rest2 (sym (ap (λ x. x ++ rest) one.0) ∙ sym splits ∙ splits2) in
-    let more = steps_once protocol E D rest2 V W f (subst (λ x. Steps protocol x f E V) left steps, r) (steps2, q) in
+steps_once protocol [] (d ∷ D) T V W f (s, r) ((left, stands, steps), q) =
+    absurd (r left d (subst (λ x. Stands protocol x f left d) s stands))
+steps_once protocol (e ∷ E) [] T V W f ((left, stands, steps), r) (t, q) =
+    absurd (q left e (subst (λ x. Stands protocol x f left e) t stands))
+steps_once protocol (e ∷ E) (d ∷ D) T V W f ((left, stands, steps), r) ((other, stands2, steps2), q) =
+    let one = stands_once protocol T f left other e d stands stands2 in
+    let more = steps_once protocol E D other V W f (subst (λ x. Steps protocol x f E V) one.0 steps, r) (steps2, q) in
     (ap₂ (λ x y. x ∷ y) one.1 more.0, more.1)
 
 meaning_within : (protocol : Protocol) (n : ℕ) (T : List ℕ) (f : Bool) → length T ≤ n
@@ -171,11 +215,9 @@ meaning_within protocol (suc n) T f l = go (settle_extended protocol T f) (λ re
         → ((rest : List ℕ) → length rest ≤ n → (E : List ExtendedEvent) × (W : List ℕ) × Read protocol rest f E W)
         → (E : List ExtendedEvent) × (W : List ℕ) × Read protocol T f E W
     go (waits r w) below = ([], T, (refl, r))
-    go (stays bytes event stands) below =
-        let b = stands_begins protocol T bytes event f stands in
-        let some : 0 < length bytes = length-some bytes (stands_some protocol T bytes event f stands) in
-        let m = below b.0 (omega (arith, length-append bytes b.0, ap length b.1)) in
-        (event ∷ m.0, m.1, ((bytes, b.0, stands, b.1, m.2.0), m.2.1))
+    go (stays left event stands) below =
+        let m = below left (omega (arith, stands_less protocol T left event f stands)) in
+        (event ∷ m.0, m.1, ((left, stands, m.2.0), m.2.1))
 
 pub one_meaning : OneMeaning
 one_meaning protocol T f =

@@ -1,33 +1,33 @@
 -- What a flush leaves, and which events it gives.
 use Rattle.std.proofs.Common.{◌≡◌, ◌≢◌, ◌⊎◌, inl, inr, ⊎_elim, ℕ, ◌≤◌, Bool, false, List, [], ◌∷◌, ◌++◌, length, refl, sym, ap, ◌∙◌, subst, append_assoc, append-nil, arith, length-append}
-use Rattle.std.proofs.lemmas.List.{append_cancel_left}
 use Rattle.termwiz_keymap.specs.Bytes.{Begins}
-use Rattle.termwiz_keymap.proofs.lemmas.lists.CommonPrefixes.{append-some_left}
-use Rattle.termwiz_keys.specs.Introducers.{START}
+use Rattle.termwiz_keymap.proofs.lemmas.lists.CommonPrefixes.{Overlaps, overlap}
+use Rattle.termwiz_keymap.proofs.lemmas.lists.CommonPrefixes.Overlaps.{within, past}
+use Rattle.termwiz_keys.specs.Introducers.{ESC, START}
 use Rattle.termwiz_extended_events.specs.declared.types.ExtendedEvent.{ExtendedEvent}
 use Rattle.termwiz_extended_events.specs.declared.types.Protocol.{Protocol}
-use Rattle.termwiz_extended_grammar.specs.ExtendedGrammar.{Steps, IsRest}
+use Rattle.termwiz_extended_events.specs.declared.types.StringKind.{StringKind}
+use Rattle.termwiz_extended_grammar.specs.Forms.{introducer}
+use Rattle.termwiz_extended_grammar.specs.Strings.{IsHead, IsString, Ends, Comes}
+use Rattle.termwiz_extended_grammar.specs.Strings.Ends.{ended, cut, cut_by_two, flushed}
+use Rattle.termwiz_extended_grammar.specs.Strings.Comes.{part, last}
+use Rattle.termwiz_extended_grammar.specs.ExtendedGrammar.{Stands, Steps, IsRest}
+use Rattle.termwiz_extended_grammar.specs.ExtendedGrammar.Stands.{extra, lone_escape, string, usual}
 use Rattle.termwiz_extended_grammar.specs.ExtendedLaws.{Waits}
-use Rattle.termwiz_extended_grammar.specs.ExtendedLaws.Waits.{nothing, open_paste, undecided}
-use Rattle.termwiz_extended_grammar.proofs.lemmas.items.ExtendedItems.{stands_some}
+use Rattle.termwiz_extended_grammar.specs.ExtendedLaws.Waits.{nothing, open_paste, undecided, open_string}
+use Rattle.termwiz_extended_grammar.proofs.lemmas.forms.FormBytes.{IsMark, introducer_shape, escape_within}
+use Rattle.termwiz_extended_grammar.proofs.lemmas.items.ExtendedItems.{stands_less}
 use Rattle.termwiz_extended_grammar.proofs.lemmas.items.ExtendedRests.{Read, waiting_shape}
 
 -- nothing waits under a flush but an open paste
 pub rest_flushed : (protocol : Protocol) (W : List ℕ) (more : Bool) → IsRest protocol W more → more ≡ false → (W ≡ []) ⊎ Begins START W
-rest_flushed protocol W more rest last = go (waiting_shape protocol W more rest)
+rest_flushed protocol W more rest ends = go (waiting_shape protocol W more rest)
   where
     go : Waits protocol W more → (W ≡ []) ⊎ Begins START W
     go (nothing e) = inl e
     go (open_paste body e never) = inr (body, e)
-    go (undecided held bytes is e n b short m) = absurd (cc (m, last))
-
--- what is left after steps ends the text
-pub left_ends : (protocol : Protocol) (E : List ExtendedEvent) (T W : List ℕ) (f : Bool) → Steps protocol T f E W
-    → (front : List ℕ) × (T ≡ front ++ W)
-left_ends protocol [] T W f h = ([], h)
-left_ends protocol (e ∷ E) T W f (bytes, rest, stands, splits, steps) =
-    let p = left_ends protocol E rest W f steps in
-    (bytes ++ p.0, splits ∙ ap (λ x. bytes ++ x) p.1 ∙ sym (append_assoc bytes p.0 W))
+    go (undecided held bytes is e n b short m) = absurd (cc (m, ends))
+    go (open_string is short m) = absurd (cc (m, ends))
 
 -- START begins at no place in the text
 abbrev pub HasNoStart : List ℕ → Type 0
@@ -37,13 +37,79 @@ pub no_start_cons : (x : ℕ) (T : List ℕ) → (Begins START (x ∷ T) → ⊥
 no_start_cons x T here after [] W e b = here (b.0, e ∙ b.1)
 no_start_cons x T here after (y ∷ front) W e b = after front W (cc (e)) b
 
+-- nor at a place in its end
+no_start_after : (T front W : List ℕ) → T ≡ front ++ W → HasNoStart T → HasNoStart W
+no_start_after T front W e none before V f b =
+    none (front ++ before) V (e ∙ ap (λ z. front ++ z) f ∙ sym (append_assoc front before V)) b
+
+-- START doesn't begin within an opening
+no_start_opening : (kind : StringKind) (head after : List ℕ) → IsHead kind head → HasNoStart after → HasNoStart (introducer kind ++ head ++ after)
+no_start_opening kind head after is none front W e b = go front e (overlap (introducer kind ++ head) after front W (sym e))
+  where
+    i : (x : ℕ) × (introducer kind ≡ 27 ∷ x ∷ []) × ((x ≡ 93) ⊎ ((x ≡ 80) ⊎ (x ≡ 95)))
+    i = introducer_shape kind
+
+    mark : IsMark (introducer kind ++ head)
+    mark = inr (record { kind = kind; head = head; is_head = is; form = refl })
+
+    -- START at the front isn't an opening
+    not_first : introducer kind ++ head ++ after ≡ W → ⊥
+    not_first same =
+        let all : 27 ∷ i.0 ∷ (head ++ after) ≡ START ++ b.0 = ap (λ z. z ++ head ++ after) (sym i.1) ∙ same ∙ b.1 in
+        let second : i.0 ≡ 91 = cc (all) in omega (arith, i.2)
+
+    go : (front : List ℕ) → introducer kind ++ head ++ after ≡ front ++ W → Overlaps (introducer kind ++ head) after front W → ⊥
+    go front same (within t f g) = none t W g b
+    go [] same (past t n f g) = not_first same
+    go (y ∷ front) same (past [] n f g) = n refl
+    go (y ∷ front) same (past (x ∷ t) n f g) =
+        let first : x ≡ 27 = cc (g, b.1) in
+        let last : t ≡ 92 ∷ [] = escape_within (y ∷ front) t (λ h. cc (h))
+        (subst (λ z. IsMark (y ∷ front ++ z ∷ t)) first (subst IsMark f mark)) in
+        let second : ◌≡◌ {A = ℕ} 92 91 = cc (g, b.1, last) in omega arith
+
+ends_after : (kind : StringKind) (bytes after left : List ℕ) (f : Bool) (event : ExtendedEvent) → Ends kind bytes after f left event
+    → HasNoStart after → HasNoStart left
+ends_after kind bytes after left f event (ended end left2 is e) none = no_start_after after end left2 e none
+ends_after kind bytes after left f event (cut b rest e n m) none = no_start_after after [] (27 ∷ b ∷ rest) e none
+ends_after kind bytes after left f event (cut_by_two rest e) none = no_start_after after ESC (27 ∷ rest) e none
+ends_after kind bytes after left f event (flushed held m) none =
+    no_start_after after after [] (⊎_elim (λ (e : after ≡ []). at_end e) (λ (e : after ≡ ESC). at_end e) held) none
+  where
+    at_end : {t : List ℕ} → after ≡ t → after ≡ after ++ []
+    at_end e = sym (append-nil after)
+
+-- nor in what follows the data of a string
+after_data : (u : List ℕ) (kind : StringKind) (head bytes after : List ℕ) → IsString u kind head bytes after → HasNoStart u → HasNoStart after
+after_data u kind head bytes after is none = no_start_after u (introducer kind ++ head ++ bytes) after
+    (is.splits ∙ sym (append_assoc (introducer kind ++ head) bytes after)) none
+
+comes_after : (u : List ℕ) (kind : StringKind) (head bytes after left : List ℕ) (f : Bool) (event : ExtendedEvent)
+    → IsString u kind head bytes after → Comes kind head bytes after f left event → HasNoStart u → HasNoStart left
+comes_after u kind head bytes after left f event is (part p) none =
+    no_start_opening kind head after is.is_head (after_data u kind head bytes after is none)
+comes_after u kind head bytes after left f event is (last left2 e p it) none =
+    ends_after kind (head ++ bytes) after left2 f e it (after_data u kind head bytes after is none)
+
+-- so at no place in what an item leaves
+left_no_start : (protocol : Protocol) (u left : List ℕ) (f : Bool) (event : ExtendedEvent) → Stands protocol u f left event → HasNoStart u
+    → HasNoStart left
+left_no_start protocol u left f event (extra text left2 e is split) none = no_start_after u text left2 split none
+left_no_start protocol u left f event (lone_escape v split after) none = no_start_after u ESC v split none
+left_no_start protocol u left f event (string kind head bytes after left2 e is comes) none =
+    comes_after u kind head bytes after left2 f e is comes none
+left_no_start protocol u left f event (usual bytes left2 e stands split is gap) none = no_start_after u bytes left2 split none
+
+steps_no_start : (protocol : Protocol) (E : List ExtendedEvent) (T W : List ℕ) (f : Bool) → Steps protocol T f E W → HasNoStart T → HasNoStart W
+steps_no_start protocol [] T W f h none = subst HasNoStart h none
+steps_no_start protocol (e ∷ E) T W f (left, stands, steps) none =
+    steps_no_start protocol E left W f steps (left_no_start protocol T left f e stands none)
+
 -- a flush leaves nothing of such a text, so it gives an event
 pub flush_leaves : (protocol : Protocol) (T W : List ℕ) (E : List ExtendedEvent) → HasNoStart T → Read protocol T false E W → W ≡ []
-flush_leaves protocol T W E none (steps, rest) =
-    let end = left_ends protocol E T W false steps in
-    ⊎_elim
+flush_leaves protocol T W E none (steps, rest) = ⊎_elim
     (λ (e : W ≡ []). e)
-    (λ (b : Begins START W). absurd (none end.0 W end.1 b))
+    (λ (b : Begins START W). absurd (steps_no_start protocol E T W false steps none [] W refl b))
     (rest_flushed protocol W false rest refl)
 
 pub flush_gives : (protocol : Protocol) (T W : List ℕ) (E : List ExtendedEvent) → T ≢ [] → HasNoStart T → Read protocol T false E W → E ≢ []
@@ -52,16 +118,11 @@ flush_gives protocol T W (x ∷ E) some none m e = cc (e)
 
 pub nothing_steps : (protocol : Protocol) (E : List ExtendedEvent) (W : List ℕ) (f : Bool) → Steps protocol [] f E W → E ≡ []
 nothing_steps protocol [] W f h = refl
-nothing_steps protocol (e ∷ E) W f (bytes, rest, stands, splits, steps) =
-    absurd (append-some_left bytes rest (stands_some protocol [] bytes e f stands) (sym splits))
+nothing_steps protocol (e ∷ E) W f (left, stands, steps) = absurd (omega (arith, stands_less protocol [] left e f stands))
 
--- an item that takes a whole text is its last
-pub nothing_after : (protocol : Protocol) (q bytes rest W : List ℕ) (E : List ExtendedEvent) → bytes ≡ q → q ≡ bytes ++ rest
-    → Steps protocol rest false E W → E ≡ []
-nothing_after protocol q bytes rest W E all splits steps =
-    let none : rest ≡ [] =
-    append_cancel_left q rest [] (sym (ap (λ x. x ++ rest) all) ∙ sym splits ∙ sym (append-nil q)) in
-    nothing_steps protocol E W false (subst (λ x. Steps protocol x false E W) none steps)
+-- an item that leaves nothing is the last
+pub nothing_after : (protocol : Protocol) (left W : List ℕ) (E : List ExtendedEvent) → left ≡ [] → Steps protocol left false E W → E ≡ []
+nothing_after protocol left W E none steps = nothing_steps protocol E W false (subst (λ x. Steps protocol x false E W) none steps)
 
 pub two_long : (E D : List ExtendedEvent) → E ≢ [] → D ≢ [] → 2 ≤ length (E ++ D)
 two_long [] D a b = absurd (a refl)

@@ -1,10 +1,12 @@
--- What waits as the beginning of a sequence or of a character may go on so that a flush before changes the events.
+-- What waits as the beginning of a sequence, of a character or of an opening may go on so that a flush before changes the events, and so may an
+-- open string.
 use Rattle.std.proofs.Common.{◌≡◌, ◌≢◌, ◌⊎◌, inl, inr, ⊎_elim, ℕ, ◌≤◌, false, List, [], ◌∷◌, ◌++◌, length, refl, sym, ap, ◌∙◌, subst, append_assoc, append-nil, arith, length-append, bit_or, encode_utf8}
 use Rattle.std.specs.List.{AllByRecursion}
 use Rattle.std.specs.Char.{IsScalar}
 use Rattle.std.proofs.lemmas.Nat.{le_or_r}
+use Rattle.std.proofs.lemmas.List.{append_cancel_left}
 use Rattle.termwiz_keymap.specs.Bytes.{Begins}
-use Rattle.termwiz_keymap.proofs.lemmas.lists.CommonPrefixes.{Overlaps, overlap, append-some, length-some, Begins-append, true_at_end, true_at_front}
+use Rattle.termwiz_keymap.proofs.lemmas.lists.CommonPrefixes.{Overlaps, overlap, append-some, length-some, true_at_end, true_at_front}
 use Rattle.termwiz_keymap.proofs.lemmas.lists.CommonPrefixes.Overlaps.{within, past}
 use Rattle.termwiz_keys.specs.Introducers.{ESC, CSI, SS3, START}
 use Rattle.termwiz_keys.specs.Keys.{escape, with_alt, plain}
@@ -30,21 +32,28 @@ use Rattle.termwiz_grammar.proofs.lemmas.table.RowShape.{Bytes}
 use Rattle.termwiz_grammar.proofs.lemmas.table.RowShape.Bytes.{one, more}
 use Rattle.termwiz_grammar.proofs.lemmas.table.SequenceFacts.{sequence_bytes, start, start_is_sequence, start_ends, report_ends}
 use Rattle.termwiz_extended_events.specs.declared.types.ExtendedEvent.{ExtendedEvent}
-use Rattle.termwiz_extended_events.specs.declared.types.ExtendedEvent.TheVariants.{Input}
+use Rattle.termwiz_extended_events.specs.declared.types.ExtendedEvent.TheVariants.{Input, StringCut}
 use Rattle.termwiz_extended_events.specs.declared.types.Protocol.{Protocol}
-use Rattle.termwiz_extended_events.specs.Meanings.{event_of}
-use Rattle.termwiz_extended_grammar.specs.Forms.{IsForm, IsStringIntroducer, IsUnfinishedForm}
-use Rattle.termwiz_extended_grammar.specs.ExtraSequences.{IsExtra, StartsWithExtra}
-use Rattle.termwiz_extended_grammar.specs.ExtendedGrammar.{BeginsKnown, Stands, Steps, Means}
-use Rattle.termwiz_extended_grammar.specs.ExtendedGrammar.Stands.{extra, lone_escape, usual}
-use Rattle.termwiz_extended_grammar.specs.ExtendedLaws.{Undecided}
-use Rattle.termwiz_extended_grammar.proofs.lemmas.forms.FormBytes.{IsSecond, form_shape, escape_within}
-use Rattle.termwiz_extended_grammar.proofs.lemmas.forms.FormEnds.{form_ends, sequence_after_form, form_after_sequence}
-use Rattle.termwiz_extended_grammar.proofs.lemmas.forms.FormOrNot.{unfinished_form_or_not}
+use Rattle.termwiz_extended_events.specs.declared.types.StringKind.{StringKind}
+use Rattle.termwiz_extended_events.specs.declared.types.StringKind.TheVariants.{Osc, Dcs, Apc}
+use Rattle.termwiz_extended_events.specs.Meanings.{event_of, whole_string}
+use Rattle.termwiz_extended_grammar.specs.Forms.{ST, introducer, IsForm}
+use Rattle.termwiz_extended_grammar.specs.Strings.{IsUnfinishedOpening, IsOpenString}
+use Rattle.termwiz_extended_grammar.specs.Strings.Ends.{ended, flushed}
+use Rattle.termwiz_extended_grammar.specs.Strings.Comes.{last}
+use Rattle.termwiz_extended_grammar.specs.ExtraSequences.{IsExtra}
+use Rattle.termwiz_extended_grammar.specs.ExtendedGrammar.{StartsExtended, BeginsKnown, Stands, Steps, Means}
+use Rattle.termwiz_extended_grammar.specs.ExtendedGrammar.Stands.{extra, lone_escape, string, usual}
+use Rattle.termwiz_extended_grammar.specs.ExtendedLaws.{FlushMatters, Undecided}
+use Rattle.termwiz_extended_grammar.proofs.lemmas.forms.FormBytes.{IsSecond, IsStringIntroducer, IsMark, mark_shape, escape_within}
+use Rattle.termwiz_extended_grammar.proofs.lemmas.forms.FormEnds.{mark_ends, sequence_after_mark, mark_after_sequence}
+use Rattle.termwiz_extended_grammar.proofs.lemmas.forms.FormOrNot.{IsUnfinishedMark, unfinished_mark_or_not, opening_length}
 use Rattle.termwiz_extended_grammar.proofs.lemmas.forms.Unfinished.{free_completion}
-use Rattle.termwiz_extended_grammar.proofs.lemmas.forms.ExtraFacts.{start_form, free_from_none, form_from_unfinished}
-use Rattle.termwiz_extended_grammar.proofs.lemmas.items.ExtendedItems.{starts_shape, second_not_escape, stands_once}
-use Rattle.termwiz_extended_grammar.proofs.lemmas.items.ExtendedRests.{Read, read_of, one_meaning}
+use Rattle.termwiz_extended_grammar.proofs.lemmas.forms.ExtraFacts.{start_form, free_from_none, mark_from_unfinished, mark_unfinished, starts_mark}
+use Rattle.termwiz_extended_grammar.proofs.lemmas.items.StringItems.{string_opening, string_append}
+use Rattle.termwiz_extended_grammar.proofs.lemmas.items.StringRests.{st_ends}
+use Rattle.termwiz_extended_grammar.proofs.lemmas.items.ExtendedItems.{starts_shape, starts_longer, second_not_escape, stands_once}
+use Rattle.termwiz_extended_grammar.proofs.lemmas.items.ExtendedRests.{Read, read_of, one_meaning, empty_is_rest}
 use Rattle.termwiz_extended_grammar.proofs.lemmas.cuts.BeforeEscape.{escape_comes_first}
 use Rattle.termwiz_extended_grammar.proofs.lemmas.waiting.FlushesLeave.{HasNoStart, no_start_cons, flush_leaves, flush_gives, nothing_after, two_long}
 
@@ -66,8 +75,12 @@ record GoesOn (protocol : Protocol) (x : ℕ) (p c : List ℕ) : Type 0 where
   no_start_after : HasNoStart c
   alone : (x ≤ 64) ⊎ (92 ≤ x)
   second : IsSecond x → ⊥
-  no_extra : StartsWithExtra protocol (x ∷ p) → ⊥
+  no_extra : StartsExtended protocol (x ∷ p) → ⊥
   no_report : (text : List ℕ) (r : MouseEvent) → IsSequence text (Report r) → Begins text (x ∷ p) → ⊥
+
+-- an item of the port that takes a whole text leaves nothing
+nothing_left : (u bytes left : List ℕ) → bytes ≡ u → u ≡ bytes ++ left → left ≡ []
+nothing_left u bytes left all split = append_cancel_left u left [] (ap (λ z. z ++ left) (sym all) ∙ sym split ∙ sym (append-nil u))
 
 -- before such a byte the head is ESC
 escape_gives : (x : ℕ) (t bytes : List ℕ) (e : InputEvent) → (x ≤ 64) ⊎ (92 ≤ x) → Item (27 ∷ x ∷ t) false bytes e
@@ -78,8 +91,8 @@ escape_gives x t bytes e alone item =
     head_once (27 ∷ x ∷ t) g.0 (Sequence ESC (Row escape)) g.1 (escape_alone x t alone) in
     subst (λ h. Gives (27 ∷ x ∷ t) false h bytes e) same g.2
 
--- no extra sequence begins an ESC and such a byte
-no_extra_with_escape : (protocol : Protocol) (x : ℕ) (t : List ℕ) → (IsSecond x → ⊥) → StartsWithExtra protocol (27 ∷ x ∷ t) → ⊥
+-- no extra sequence and no opening begins an ESC and such a byte
+no_extra_with_escape : (protocol : Protocol) (x : ℕ) (t : List ℕ) → (IsSecond x → ⊥) → StartsExtended protocol (27 ∷ x ∷ t) → ⊥
 no_extra_with_escape protocol x t never h =
     let s = starts_shape protocol (27 ∷ x ∷ t) h in
     let same : s.0 ≡ x = cc (s.2) in never (subst IsSecond same s.3)
@@ -100,13 +113,15 @@ module _ (protocol : Protocol) (x : ℕ) (p c : List ℕ) (on : GoesOn protocol 
       near (Broken d) is far = far
   flush_row bytes e (joined at v h j split some closed is near d f) = (j, f)
 
-  flush_stands : (bytes : List ℕ) (e : ExtendedEvent) → Stands protocol (27 ∷ x ∷ p) false bytes e
+  flush_stands : (left : List ℕ) (e : ExtendedEvent) → Stands protocol (27 ∷ x ∷ p) false left e
       → (j : KeyEvent) × (e ≡ Input (Key (with_alt j)))
-  flush_stands bytes e (extra text d is b) =
-      absurd (no_extra_with_escape protocol x p on.second (record { text = text; event = d; is_extra = is; begins = b }))
-  flush_stands bytes e (lone_escape v split after) =
-      let same : v ≡ x ∷ p = cc (split) in absurd (on.no_extra (subst (λ z. StartsWithExtra protocol z) same after))
-  flush_stands bytes e (usual s d stands is gap) =
+  flush_stands left e (extra text left2 d is split) = absurd (no_extra_with_escape protocol x p on.second
+      (inl (record { text = text; event = d; is_extra = is; begins = (left2, split) })))
+  flush_stands left e (lone_escape v split after) =
+      let same : v ≡ x ∷ p = cc (split) in absurd (on.no_extra (subst (λ z. StartsExtended protocol z) same after))
+  flush_stands left e (string kind head bytes after left2 d is comes) =
+      absurd (no_extra_with_escape protocol x p on.second (inr (string_opening (27 ∷ x ∷ p) kind head bytes after is)))
+  flush_stands left e (usual s left2 d stands split is gap) =
       let j = flush_row s d (escape_gives x p s d on.alone stands.item) in (j.0, ap (λ z. Input z) j.1)
 
   apart_events : (E D : List ExtendedEvent) (V W : List ℕ) (F : List ExtendedEvent) → Read protocol (27 ∷ x ∷ p ++ c) false E W
@@ -116,7 +131,7 @@ module _ (protocol : Protocol) (x : ℕ) (p c : List ℕ) (on : GoesOn protocol 
   apart_events (y ∷ E) [] V W F mw md nd nf e = nd refl
   apart_events (y ∷ E) (z ∷ D) V W F mw (md, rest) nd nf e =
       let first : y ≡ z = cc (e) in
-      let j = flush_stands md.0 z md.2 in
+      let j = flush_stands md.0 z md.1 in
       ⊎_elim
       (λ (h : y ≡ Input (Key escape)). alt_not_escape j.0 (sym h ∙ first ∙ j.1))
       (λ (h : E ≡ []). let two = two_long (z ∷ D) F nd nf in omega (arith, ap length e, ap length h))
@@ -148,57 +163,45 @@ module _ (protocol : Protocol) (x : ℕ) (p c : List ℕ) (on : GoesOn protocol 
       (subst (λ z. Read protocol (z ++ x ∷ p) false E1 W1) h (read_of m1)) some last e)
       is
 
--- a text that goes on to an extra sequence
-module _ (protocol : Protocol) (x : ℕ) (p c : List ℕ) (longer : c ≢ []) (form : IsForm (x ∷ p ++ c))
-    (free : (m : Meaning) → ¬ IsSequence (x ∷ p ++ c) m) where
-  whole : IsExtra protocol (x ∷ p ++ c) (event_of (x ∷ p ++ c))
-  whole = record { is_form = form; is_free = free_from_none protocol (x ∷ p ++ c) free; means = refl }
-
-  starts : StartsWithExtra protocol (x ∷ p ++ c)
-  starts = record {
-    text = x ∷ p ++ c;
-    event = event_of (x ∷ p ++ c);
-    is_extra = whole;
-    begins = ([], sym (append-nil (x ∷ p ++ c)));
-  }
-
+-- a text that goes on to a mark, of which a flush makes one event
+module _ (protocol : Protocol) (x : ℕ) (p c : List ℕ) (longer : c ≢ []) (mark : IsMark (x ∷ p ++ c))
+    (starts : StartsExtended protocol (x ∷ p ++ c)) (event : ExtendedEvent) (whole : Stands protocol (x ∷ p ++ c) false [] event) where
   first_is_escape : x ≡ 27
-  first_is_escape = (let s = form_shape (x ∷ p ++ c) form in cc (s.2))
+  first_is_escape = (let s = mark_shape (x ∷ p ++ c) mark in cc (s.2))
 
-  extra_whole_short : (E : List ExtendedEvent) (W : List ℕ) → Read protocol (x ∷ p ++ c) false E W → length E ≤ 1
-  extra_whole_short [] W m = omega arith
-  extra_whole_short (e ∷ E) W ((bytes, rest, stands, splits, steps), r) =
-      let same = stands_once protocol (x ∷ p ++ c) false bytes (x ∷ p ++ c) e (event_of (x ∷ p ++ c)) stands
-      (extra (x ∷ p ++ c) (event_of (x ∷ p ++ c)) whole ([], sym (append-nil (x ∷ p ++ c)))) in
-      omega (arith, ap length (nothing_after protocol (x ∷ p ++ c) bytes rest W E same.0 splits steps))
+  mark_whole_short : (E : List ExtendedEvent) (W : List ℕ) → Read protocol (x ∷ p ++ c) false E W → length E ≤ 1
+  mark_whole_short [] W m = omega arith
+  mark_whole_short (e ∷ E) W ((left, stands, steps), r) =
+      let same = stands_once protocol (x ∷ p ++ c) false left [] e event stands whole in
+      omega (arith, ap length (nothing_after protocol left W E same.0 steps))
 
-  extra_whole_held : (e : ExtendedEvent) (E : List ExtendedEvent) (W : List ℕ) → Read protocol (27 ∷ x ∷ p ++ c) false (e ∷ E) W
+  mark_whole_held : (e : ExtendedEvent) (E : List ExtendedEvent) (W : List ℕ) → Read protocol (27 ∷ x ∷ p ++ c) false (e ∷ E) W
       → (e ≡ Input (Key escape)) ⊎ (E ≡ [])
-  extra_whole_held e E W ((bytes, rest, stands, splits, steps), r) =
-      inl (stands_once protocol (27 ∷ x ∷ p ++ c) false bytes ESC e (Input (Key escape)) stands
+  mark_whole_held e E W ((left, stands, steps), r) =
+      inl (stands_once protocol (27 ∷ x ∷ p ++ c) false left (x ∷ p ++ c) e (Input (Key escape)) stands
       (lone_escape (x ∷ p ++ c) refl starts)).1
 
-  -- no form has a START
+  -- no mark has a START
   no_start_in : (front W : List ℕ) → x ∷ p ++ c ≡ front ++ W → Begins START W → front ≢ [] → ⊥
   no_start_in front W e b some =
       let last : 91 ∷ 50 ∷ 48 ∷ 48 ∷ 126 ∷ b.0 ≡ 92 ∷ [] =
       escape_within front (91 ∷ 50 ∷ 48 ∷ 48 ∷ 126 ∷ b.0) some
-      (subst (λ z. IsForm z) (e ∙ ap (λ z. front ++ z) b.1) form) in
+      (subst (λ z. IsMark z) (e ∙ ap (λ z. front ++ z) b.1) mark) in
       omega (arith, ap length last)
 
-  extra_no_start : HasNoStart (x ∷ p)
-  extra_no_start [] W e b = append-some b.0 c longer
-      (form_ends START (b.0 ++ c) start_form (subst (λ z. IsForm z) (ap (λ z. z ++ c) (e ∙ b.1)) form))
-  extra_no_start (y ∷ front) W e b = no_start_in (y ∷ front) (W ++ c)
+  mark_no_start : HasNoStart (x ∷ p)
+  mark_no_start [] W e b = append-some b.0 c longer
+      (mark_ends START (b.0 ++ c) (inl start_form) (subst (λ z. IsMark z) (ap (λ z. z ++ c) (e ∙ b.1)) mark))
+  mark_no_start (y ∷ front) W e b = no_start_in (y ∷ front) (W ++ c)
       (ap (λ z. z ++ c) e ∙ append_assoc (y ∷ front) W c) (b.0 ++ c, ap (λ z. z ++ c) b.1) (λ h. cc (h))
 
-  extra_no_start_after : HasNoStart c
-  extra_no_start_after front W e b = no_start_in (x ∷ p ++ front) W
+  mark_no_start_after : HasNoStart c
+  mark_no_start_after front W e b = no_start_in (x ∷ p ++ front) W
       (ap (λ z. x ∷ p ++ z) e ∙ sym (append_assoc (x ∷ p) front W)) b (λ h. cc (h))
 
-  extra_no_report : (text : List ℕ) (r : MouseEvent) → IsSequence text (Report r) → Begins text (x ∷ p) → ⊥
+  mark_no_report : (text : List ℕ) (r : MouseEvent) → IsSequence text (Report r) → Begins text (x ∷ p) → ⊥
   unfolding IsSequence
-  extra_no_report text r is b =
+  mark_no_report text r is b =
       let e : x ∷ p ++ c ≡ text ++ (b.0 ++ c) = ap (λ z. z ++ c) b.1 ∙ append_assoc text b.0 c in
       let f = report_plain text r is in
       ⊎_elim
@@ -207,23 +210,46 @@ module _ (protocol : Protocol) (x : ℕ) (p c : List ℕ) (longer : c ≢ []) (f
       (λ (k : text ≡ CSI). cc (k, f.1))
       (λ (k : (text ≡ SS3) ⊎ (text ≡ 27 ∷ 80 ∷ [])). ⊎_elim (λ (l : text ≡ SS3). cc (l, f.1)) (λ (l : text ≡ 27 ∷ 80 ∷ []). cc (l, f.1)) k)
       h)
-      (form_after_sequence text (b.0 ++ c) (Report r) is (append-some b.0 c longer) (subst (λ z. IsForm z) e form))
+      (mark_after_sequence text (b.0 ++ c) (Report r) is (append-some b.0 c longer) (subst (λ z. IsMark z) e mark))
 
-  extra_goes_on : GoesOn protocol x p c
-  extra_goes_on = record {
+  mark_goes_on : GoesOn protocol x p c
+  mark_goes_on = record {
     longer = longer;
-    whole_short = extra_whole_short;
-    whole_held = extra_whole_held;
-    no_start = extra_no_start;
-    no_start_after = extra_no_start_after;
+    whole_short = mark_whole_short;
+    whole_held = mark_whole_held;
+    no_start = mark_no_start;
+    no_start_after = mark_no_start_after;
     alone = inl (let e : x ≡ 27 = first_is_escape in omega arith);
     second = λ is. second_not_escape x is first_is_escape;
-    no_extra = λ h. append-some h.begins.0 c longer (form_ends h.text (h.begins.0 ++ c) h.is_extra.is_form
-        (subst (λ z. IsForm z) (ap (λ z. z ++ c) h.begins.1 ∙ append_assoc h.text h.begins.0 c) form));
-    no_report = extra_no_report;
+    no_extra = λ h. (let m = starts_mark protocol (x ∷ p) h in append-some m.1 c longer (mark_ends m.0 (m.1 ++ c) m.2
+        (subst (λ z. IsMark z) (ap (λ z. z ++ c) m.3 ∙ append_assoc m.0 m.1 c) mark)));
+    no_report = mark_no_report;
   }
 
--- what the port reads at once, and no extra sequence begins
+-- a text that goes on to an extra sequence
+extra_goes_on : (protocol : Protocol) (x : ℕ) (p c : List ℕ) → c ≢ [] → IsForm (x ∷ p ++ c) → ((m : Meaning) → ¬ IsSequence (x ∷ p ++ c) m)
+    → GoesOn protocol x p c
+extra_goes_on protocol x p c longer form free =
+    let is : IsExtra protocol (x ∷ p ++ c) (event_of (x ∷ p ++ c)) =
+    record { is_form = form; is_free = free_from_none protocol (x ∷ p ++ c) free; means = refl } in
+    let whole : x ∷ p ++ c ≡ (x ∷ p ++ c) ++ [] = sym (append-nil (x ∷ p ++ c)) in
+    mark_goes_on protocol x p c longer (inl form)
+    (inl (record { text = x ∷ p ++ c; event = event_of (x ∷ p ++ c); is_extra = is; begins = ([], whole) }))
+    (event_of (x ∷ p ++ c)) (extra (x ∷ p ++ c) [] (event_of (x ∷ p ++ c)) is whole)
+
+-- a text that goes on to an opening
+opening_goes_on : (protocol : Protocol) (x : ℕ) (p : List ℕ) (o : IsUnfinishedOpening (x ∷ p)) → GoesOn protocol x p o.tail
+opening_goes_on protocol x p o =
+    let form : x ∷ p ++ o.tail ≡ introducer o.kind ++ o.head = sym o.spells in
+    let short : length (introducer o.kind ++ o.head) ≤ 255 = opening_length o.kind o.head o.is_head in
+    let whole : x ∷ p ++ o.tail ≡ introducer o.kind ++ o.head ++ [] = form ∙ sym (append-nil (introducer o.kind ++ o.head)) in
+    mark_goes_on protocol x p o.tail o.longer (inr (record { kind = o.kind; head = o.head; is_head = o.is_head; form = form }))
+    (inr (record { kind = o.kind; head = o.head; is_head = o.is_head; begins = ([], whole) }))
+    (StringCut o.kind (o.head ++ []))
+    (string o.kind o.head [] [] [] (StringCut o.kind (o.head ++ [])) (record { is_head = o.is_head; each = tt; splits = whole })
+    (last [] (StringCut o.kind (o.head ++ [])) (omega (arith, length-append (introducer o.kind ++ o.head) [])) (flushed (inl refl) refl)))
+
+-- what the port reads at once, and no extra sequence and no opening begins
 record IsPortsOwn (protocol : Protocol) (x : ℕ) (p c : List ℕ) : Type 0 where
   longer : c ≢ []
   head : Head
@@ -235,24 +261,25 @@ record IsPortsOwn (protocol : Protocol) (x : ℕ) (p c : List ℕ) : Type 0 wher
   no_start_after : HasNoStart c
   alone : (x ≤ 64) ⊎ (92 ≤ x)
   second : IsSecond x → ⊥
-  no_extra : StartsWithExtra protocol (x ∷ p ++ c) → ⊥
-  no_extra_after : (v : List ℕ) → x ∷ p ++ c ≡ ESC ++ v → StartsWithExtra protocol v → ⊥
+  no_extra : StartsExtended protocol (x ∷ p ++ c) → ⊥
+  no_extra_after : (v : List ℕ) → x ∷ p ++ c ≡ ESC ++ v → StartsExtended protocol v → ⊥
   no_report : (text : List ℕ) (r : MouseEvent) → IsSequence text (Report r) → Begins text (x ∷ p) → ⊥
 
 module _ (protocol : Protocol) (x : ℕ) (p c : List ℕ) (own : IsPortsOwn protocol x p c) where
-  own_stands : (bytes rest W : List ℕ) (e : ExtendedEvent) (E : List ExtendedEvent) → Stands protocol (x ∷ p ++ c) false bytes e
-      → x ∷ p ++ c ≡ bytes ++ rest → Steps protocol rest false E W → E ≡ []
-  own_stands bytes rest W e E (extra text d is b) splits steps =
-      absurd (own.no_extra (record { text = text; event = d; is_extra = is; begins = b }))
-  own_stands bytes rest W e E (lone_escape v split after) splits steps = absurd (own.no_extra_after v split after)
-  own_stands bytes rest W e E (usual s d stands is gap) splits steps =
+  own_stands : (left W : List ℕ) (e : ExtendedEvent) (E : List ExtendedEvent) → Stands protocol (x ∷ p ++ c) false left e
+      → Steps protocol left false E W → E ≡ []
+  own_stands left W e E (extra text left2 d is split) steps =
+      absurd (own.no_extra (inl (record { text = text; event = d; is_extra = is; begins = (left2, split) })))
+  own_stands left W e E (lone_escape v split after) steps = absurd (own.no_extra_after v split after)
+  own_stands left W e E (string kind head bytes after left2 d is comes) steps =
+      absurd (own.no_extra (inr (string_opening (x ∷ p ++ c) kind head bytes after is)))
+  own_stands left W e E (usual s left2 d stands split is gap) steps =
       let same = item_once (x ∷ p ++ c) false s (x ∷ p ++ c) d own.event stands.item own.item in
-      nothing_after protocol (x ∷ p ++ c) s rest W E same.0 splits steps
+      nothing_after protocol left2 W E (nothing_left (x ∷ p ++ c) s left2 same.0 split) steps
 
   own_whole_short : (E : List ExtendedEvent) (W : List ℕ) → Read protocol (x ∷ p ++ c) false E W → length E ≤ 1
   own_whole_short [] W m = omega arith
-  own_whole_short (e ∷ E) W ((bytes, rest, stands, splits, steps), r) =
-      omega (arith, ap length (own_stands bytes rest W e E stands splits steps))
+  own_whole_short (e ∷ E) W ((left, stands, steps), r) = omega (arith, ap length (own_stands left W e E stands steps))
 
   own_held_row : (bytes rest W : List ℕ) (e : InputEvent) (E : List ExtendedEvent)
       → RowGives (27 ∷ x ∷ p ++ c) false ESC escape bytes e
@@ -264,21 +291,23 @@ module _ (protocol : Protocol) (x : ℕ) (p c : List ℕ) (own : IsPortsOwn prot
       let after : v ≡ x ∷ p ++ c = cc (split) in
       let same : h ≡ own.head = head_once (x ∷ p ++ c) h own.head (subst (λ z. IsHead z h) after is) own.whole in
       let all : bytes ≡ 27 ∷ x ∷ p ++ c = d ∙ ap (λ k. ESC ++ bytes_of k) same ∙ ap (λ z. 27 ∷ z) own.spells in
-      inr (nothing_after protocol (27 ∷ x ∷ p ++ c) bytes rest W E all splits steps)
+      inr (nothing_after protocol rest W E (nothing_left (27 ∷ x ∷ p ++ c) bytes rest all splits) steps)
 
-  own_held_stands : (bytes rest W : List ℕ) (e : ExtendedEvent) (E : List ExtendedEvent) → Stands protocol (27 ∷ x ∷ p ++ c) false bytes e
-      → 27 ∷ x ∷ p ++ c ≡ bytes ++ rest → Steps protocol rest false E W → (e ≡ Input (Key escape)) ⊎ (E ≡ [])
-  own_held_stands bytes rest W e E (extra text d is b) splits steps =
-      absurd (no_extra_with_escape protocol x (p ++ c) own.second (record { text = text; event = d; is_extra = is; begins = b }))
-  own_held_stands bytes rest W e E (lone_escape v split after) splits steps = inl refl
-  own_held_stands bytes rest W e E (usual s d stands is gap) splits steps = ⊎_elim
+  own_held_stands : (left W : List ℕ) (e : ExtendedEvent) (E : List ExtendedEvent) → Stands protocol (27 ∷ x ∷ p ++ c) false left e
+      → Steps protocol left false E W → (e ≡ Input (Key escape)) ⊎ (E ≡ [])
+  own_held_stands left W e E (extra text left2 d is split) steps = absurd (no_extra_with_escape protocol x (p ++ c) own.second
+      (inl (record { text = text; event = d; is_extra = is; begins = (left2, split) })))
+  own_held_stands left W e E (lone_escape v split after) steps = inl refl
+  own_held_stands left W e E (string kind head bytes after left2 d is comes) steps = absurd (no_extra_with_escape protocol x (p ++ c)
+      own.second (inr (string_opening (27 ∷ x ∷ p ++ c) kind head bytes after is)))
+  own_held_stands left W e E (usual s left2 d stands split is gap) steps = ⊎_elim
       (λ (h : d ≡ Key escape). inl (ap (λ z. Input z) h))
       (λ (h : E ≡ []). inr h)
-      (own_held_row s rest W d E (escape_gives x (p ++ c) s d own.alone stands.item) splits steps)
+      (own_held_row s left2 W d E (escape_gives x (p ++ c) s d own.alone stands.item) split steps)
 
   own_whole_held : (e : ExtendedEvent) (E : List ExtendedEvent) (W : List ℕ) → Read protocol (27 ∷ x ∷ p ++ c) false (e ∷ E) W
       → (e ≡ Input (Key escape)) ⊎ (E ≡ [])
-  own_whole_held e E W ((bytes, rest, stands, splits, steps), r) = own_held_stands bytes rest W e E stands splits steps
+  own_whole_held e E W ((left, stands, steps), r) = own_held_stands left W e E stands steps
 
   own_goes_on : GoesOn protocol x p c
   own_goes_on = record {
@@ -289,18 +318,13 @@ module _ (protocol : Protocol) (x : ℕ) (p c : List ℕ) (own : IsPortsOwn prot
     no_start_after = own.no_start_after;
     alone = own.alone;
     second = own.second;
-    no_extra = λ h. own.no_extra (record {
-      text = h.text;
-      event = h.event;
-      is_extra = h.is_extra;
-      begins = Begins-append h.text (x ∷ p) c h.begins;
-    });
+    no_extra = λ h. own.no_extra (starts_longer protocol (x ∷ p) c h);
     no_report = own.no_report;
   }
 
--- a text that goes on to a sequence of the port, and to no form
+-- a text that goes on to a sequence of the port, and to no mark
 module _ (protocol : Protocol) (x : ℕ) (p c : List ℕ) (longer : c ≢ []) (m : Meaning) (is : IsSequence (x ∷ p ++ c) m)
-    (no_form : IsUnfinishedForm (x ∷ p) → ⊥) where
+    (no_mark : IsUnfinishedMark (x ∷ p) → ⊥) where
   sequence_first : x ≡ 27
   sequence_first = go (sequence_bytes (x ∷ p ++ c) m is)
     where
@@ -323,15 +347,18 @@ module _ (protocol : Protocol) (x : ℕ) (p c : List ℕ) (longer : c ≢ []) (m
       ap (λ z. x ∷ p ++ z) (e ∙ ap (λ z. front ++ z) b.1) ∙ sym (append_assoc (x ∷ p) front (START ++ b.0)) in
       escape_comes_first (x ∷ p ++ front) (91 ∷ 50 ∷ 48 ∷ 48 ∷ 126 ∷ b.0) m (λ h. cc (h)) (subst (λ z. IsSequence z m) whole is)
 
-  sequence_no_extra : StartsWithExtra protocol (x ∷ p ++ c) → ⊥
-  sequence_no_extra h = go (overlap h.text h.begins.0 (x ∷ p) c h.begins.1)
+  sequence_no_extra : StartsExtended protocol (x ∷ p ++ c) → ⊥
+  sequence_no_extra h = go (starts_mark protocol (x ∷ p ++ c) h)
     where
-      go : Overlaps h.text h.begins.0 (x ∷ p) c → ⊥
-      go (within t e f) = append-some t c longer (sequence_after_form h.text (t ++ c) m h.is_extra.is_form
-          (subst (λ z. IsSequence z m) (ap (λ z. z ++ c) e ∙ append_assoc h.text t c) is))
-      go (past t n e f) = no_form (record { tail = t; longer = n; is_form = subst (λ z. IsForm z) e h.is_extra.is_form })
+      go : (text rest : List ℕ) × IsMark text × (x ∷ p ++ c ≡ text ++ rest) → ⊥
+      go (text, rest, mark, e) = by_place (overlap text rest (x ∷ p) c e)
+        where
+          by_place : Overlaps text rest (x ∷ p) c → ⊥
+          by_place (within t f g) = append-some t c longer (sequence_after_mark text (t ++ c) m mark
+              (subst (λ z. IsSequence z m) (ap (λ z. z ++ c) f ∙ append_assoc text t c) is))
+          by_place (past t n f g) = no_mark (mark_unfinished (x ∷ p) t n (subst (λ z. IsMark z) f mark))
 
-  sequence_no_extra_after : (v : List ℕ) → x ∷ p ++ c ≡ ESC ++ v → StartsWithExtra protocol v → ⊥
+  sequence_no_extra_after : (v : List ℕ) → x ∷ p ++ c ≡ ESC ++ v → StartsExtended protocol v → ⊥
   sequence_no_extra_after v split h =
       let s = starts_shape protocol v h in
       escape_comes_first ESC (s.0 ∷ s.1) m (λ e. cc (e))
@@ -341,7 +368,7 @@ module _ (protocol : Protocol) (x : ℕ) (p c : List ℕ) (longer : c ≢ []) (m
   sequence_item (Row k) it = (
     Key k,
     key (x ∷ p ++ c) k (longest_whole (x ∷ p ++ c) (Row k) it)
-        (λ e. no_form (record { tail = c; longer = longer; is_form = subst (λ z. IsForm z) (sym e) start_form })) (λ e. e),
+        (λ e. no_mark (inl (record { tail = c; longer = longer; is_form = subst (λ z. IsForm z) (sym e) start_form }))) (λ e. e),
   )
   sequence_item (Report r) it = (Mouse r, mouse (x ∷ p ++ c) r (longest_whole (x ∷ p ++ c) (Report r) it))
 
@@ -425,20 +452,22 @@ module _ (protocol : Protocol) (x : ℕ) (p c : List ℕ) (longer : c ≢ []) (d
     no_report = λ text r is b. sequence_low text (x ∷ p) (Report r) is (true_at_front IsHigh (x ∷ p) c high) b;
   }
 
-goes_on : (protocol : Protocol) (x : ℕ) (p : List ℕ) → BeginsKnown protocol (x ∷ p) → Decision (IsUnfinishedForm (x ∷ p))
+goes_on : (protocol : Protocol) (x : ℕ) (p : List ℕ) → BeginsKnown protocol (x ∷ p) → Decision (IsUnfinishedMark (x ∷ p))
     → (c : List ℕ) × GoesOn protocol x p c
-goes_on protocol x p beginning (inl form) =
+goes_on protocol x p beginning (inl (inl form)) =
     let c = free_completion (x ∷ p) form in (c.0, extra_goes_on protocol x p c.0 c.1 c.2 c.3)
+goes_on protocol x p beginning (inl (inr o)) = (o.tail, opening_goes_on protocol x p o)
 goes_on protocol x p (inl (inl h)) (inr never) =
     (h.tail, own_goes_on protocol x p h.tail (sequence_own protocol x p h.tail h.longer h.meaning h.is_sequence never))
 goes_on protocol x p (inl (inr h)) (inr never) =
     (h.tail, own_goes_on protocol x p h.tail (character_own protocol x p h.tail h.longer h.char h.scalar h.spells))
-goes_on protocol x p (inr h) (inr never) = absurd (never (form_from_unfinished protocol (x ∷ p) h))
+goes_on protocol x p (inr h) (inr never) = absurd (never (mark_from_unfinished protocol (x ∷ p) h))
 
-pub undecided : Undecided
-undecided protocol held [] is some beginning = absurd (some refl)
-undecided protocol held (x ∷ p) is some beginning =
-    let on = goes_on protocol x p beginning (unfinished_form_or_not (x ∷ p)) in
+beginning_undecided : (protocol : Protocol) (held p : List ℕ) → IsHeldEscape held → p ≢ [] → BeginsKnown protocol p
+    → (c : List ℕ) × FlushMatters protocol (held ++ p) c
+beginning_undecided protocol held [] is some beginning = absurd (some refl)
+beginning_undecided protocol held (x ∷ p) is some beginning =
+    let on = goes_on protocol x p beginning (unfinished_mark_or_not (x ∷ p)) in
     let w = one_meaning protocol (held ++ x ∷ p ++ on.0) false in
     let a = one_meaning protocol (held ++ x ∷ p) false in
     let b = one_meaning protocol (a.1 ++ on.0) false in (
@@ -456,3 +485,46 @@ undecided protocol held (x ∷ p) is some beginning =
         differ protocol x p on.0 on.1 held is w.0 a.0 b.0 w.1 a.1 b.1 w.2 a.2 b.2,
       ),
     )
+
+-- a string with its end isn't one that was cut
+whole_not_cut : (kind : StringKind) (bytes : List ℕ) → whole_string kind bytes ≡ StringCut kind bytes → ⊥
+whole_not_cut Osc bytes e = cc (e)
+whole_not_cut Dcs bytes e = cc (e)
+whole_not_cut Apc bytes e = cc (e)
+
+-- what completes ST after nothing or ESC
+end_of_held : (held : List ℕ) → IsHeldEscape held → (c : List ℕ) × (held ++ c ≡ ST)
+end_of_held held (inl none) = (ST, ap (λ z. z ++ ST) none)
+end_of_held held (inr single) = (92 ∷ [], ap (λ z. z ++ 92 ∷ []) single)
+
+-- an item that leaves nothing, as a meaning
+one_item : (protocol : Protocol) (u : List ℕ) (event : ExtendedEvent) → Stands protocol u false [] event
+    → Means protocol u false (event ∷ []) []
+one_item protocol u event stands = record { steps = ([], stands, refl); rest = empty_is_rest protocol false }
+
+string_undecided : (protocol : Protocol) (u : List ℕ) → IsOpenString u → (c : List ℕ) × FlushMatters protocol u c
+string_undecided protocol u o =
+    let c = end_of_held o.held o.is_held in
+    let bytes = o.head ++ o.bytes in
+    let b = one_meaning protocol ([] ++ c.0) false in (
+      c.0,
+      (
+        whole_string o.kind bytes ∷ [],
+        StringCut o.kind bytes ∷ [],
+        b.0,
+        [],
+        [],
+        b.1,
+        one_item protocol (u ++ c.0) (whole_string o.kind bytes)
+            (string o.kind o.head o.bytes (o.held ++ c.0) [] (whole_string o.kind bytes)
+            (string_append u c.0 o.kind o.head o.bytes o.held o.is_string)
+            (last [] (whole_string o.kind bytes) o.short (ended ST [] (st_ends o.kind) c.1))),
+        one_item protocol u (StringCut o.kind bytes) (string o.kind o.head o.bytes o.held [] (StringCut o.kind bytes) o.is_string
+            (last [] (StringCut o.kind bytes) o.short (flushed o.is_held refl))),
+        b.2,
+        λ e. whole_not_cut o.kind bytes (cc (e)),
+      ),
+    )
+
+pub undecided : Undecided
+undecided protocol = (beginning_undecided protocol, string_undecided protocol)

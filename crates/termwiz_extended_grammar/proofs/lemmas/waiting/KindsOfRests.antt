@@ -1,11 +1,9 @@
 -- Each rest is of exactly one kind.
-use Rattle.std.proofs.Common.{◌≡◌, ◌≢◌, ◌⊎◌, inl, inr, ⊎_elim, ℕ, ◌<◌, ◌≤◌, Bool, true, List, [], ◌∷◌, ◌++◌, length, refl, sym, ap, ◌∙◌, subst, arith, length-append}
+use Rattle.std.proofs.Common.{◌≡◌, ◌≢◌, ◌⊎◌, inl, inr, ⊎_elim, ℕ, ◌<◌, ◌≤◌, Bool, true, List, [], ◌∷◌, ◌++◌, length, refl, sym, ap, ◌∙◌, subst, append_assoc, arith, length-append}
 use Rattle.std.specs.List.{AllByRecursion}
 use Rattle.termwiz_keymap.specs.Bytes.{Begins}
-use Rattle.termwiz_keymap.proofs.lemmas.lists.CommonPrefixes.{append-some, length-some}
+use Rattle.termwiz_keymap.proofs.lemmas.lists.CommonPrefixes.{append-some, append-some_left, length-some}
 use Rattle.termwiz_keys.specs.Introducers.{ESC, START}
-use Rattle.termwiz_grammar.specs.declared.waiting.Waiting.{Waiting}
-use Rattle.termwiz_grammar.specs.declared.waiting.Waiting.TheVariants.{Nothing, Escape, Sequence, Character, Paste}
 use Rattle.termwiz_grammar.specs.Grammar.{IsUnfinishedCharacter}
 use Rattle.termwiz_grammar.specs.Laws.{IsHeldEscape}
 use Rattle.termwiz_grammar.specs.Sequences.{IsSequence}
@@ -18,14 +16,17 @@ use Rattle.termwiz_grammar.proofs.lemmas.table.RowShape.Bytes.{one, more}
 use Rattle.termwiz_grammar.proofs.lemmas.table.SequenceFacts.{sequence_bytes, start_ends}
 use Rattle.termwiz_grammar.proofs.lemmas.waiting.RestKinds.{CharacterBytes}
 use Rattle.termwiz_extended_events.specs.declared.types.Protocol.{Protocol}
+use Rattle.termwiz_extended_grammar.specs.declared.waiting.ExtendedWaiting.{ExtendedWaiting}
+use Rattle.termwiz_extended_grammar.specs.declared.waiting.ExtendedWaiting.TheVariants.{Nothing, Escape, Sequence, Character, Paste, String}
 use Rattle.termwiz_extended_grammar.specs.ExtendedGrammar.{IsRest}
 use Rattle.termwiz_extended_grammar.specs.ExtendedKinds.{IsUnfinished, IsKind, WaitingKinds}
 use Rattle.termwiz_extended_grammar.specs.ExtendedLaws.{Waits}
-use Rattle.termwiz_extended_grammar.specs.ExtendedLaws.Waits.{nothing, open_paste, undecided}
-use Rattle.termwiz_extended_grammar.specs.Forms.{IsForm}
-use Rattle.termwiz_extended_grammar.proofs.lemmas.forms.FormBytes.{form_shape}
-use Rattle.termwiz_extended_grammar.proofs.lemmas.forms.FormEnds.{form_ends}
-use Rattle.termwiz_extended_grammar.proofs.lemmas.forms.ExtraFacts.{start_form}
+use Rattle.termwiz_extended_grammar.specs.ExtendedLaws.Waits.{nothing, open_paste, undecided, open_string}
+use Rattle.termwiz_extended_grammar.specs.Forms.{introducer}
+use Rattle.termwiz_extended_grammar.specs.Strings.{IsOpenString}
+use Rattle.termwiz_extended_grammar.proofs.lemmas.forms.FormBytes.{IsMark, IsStringIntroducer, introducer_shape, head_some, mark_shape}
+use Rattle.termwiz_extended_grammar.proofs.lemmas.forms.FormEnds.{mark_ends, sequence_after_mark}
+use Rattle.termwiz_extended_grammar.proofs.lemmas.forms.ExtraFacts.{start_form, mark_from_unfinished, completed_mark}
 use Rattle.termwiz_extended_grammar.proofs.lemmas.items.ExtendedRests.{waiting_shape}
 use Rattle.termwiz_extended_grammar.proofs.lemmas.waiting.FlushesMatter.{second_low}
 
@@ -34,6 +35,9 @@ pub record IsLow (u : List ℕ) : Type 0 where
   pub after : List ℕ
   pub splits : u ≡ 27 ∷ after
   pub low : (y : ℕ) (s : List ℕ) → after ≡ y ∷ s → y < 128
+
+second_of : (x : ℕ) (t tail : List ℕ) (b : ℕ) (r : List ℕ) → x ∷ t ++ tail ≡ 27 ∷ b ∷ r → (y : ℕ) (s : List ℕ) → t ≡ y ∷ s → y ≡ b
+second_of x t tail b r e y s k = (let all : x ∷ y ∷ (s ++ tail) ≡ 27 ∷ b ∷ r = ap (λ z. x ∷ z ++ tail) (sym k) ∙ e in cc (all))
 
 -- what properly begins a sequence begins so
 pub unfinished_low : (protocol : Protocol) (u : List ℕ) → u ≢ [] → IsUnfinished protocol u → IsLow u
@@ -54,12 +58,13 @@ unfinished_low protocol (x ∷ t) some (inl h) = go (sequence_bytes (x ∷ t ++ 
       low = λ y s k. plain_first y s n p (let rest : n ≡ t ++ h.tail = cc (e) in rest) k;
     }
 unfinished_low protocol (x ∷ t) some (inr h) =
-    let s = form_shape (x ∷ t ++ h.tail) h.is_extra.is_form in
+    let m = completed_mark (x ∷ t) (mark_from_unfinished protocol (x ∷ t) h) in
+    let s = mark_shape (x ∷ t ++ m.0) m.2 in
     record {
       after = t;
       splits = (let first : x ≡ 27 = cc (s.2) in ap (λ z. z ∷ t) first);
       low = λ y r k.
-          let next : y ≡ s.0 = cc (s.2, k) in
+          let next : y ≡ s.0 = second_of x t m.0 s.0 s.1 s.2 y r k in
           let bound : s.0 ≤ 95 = second_low s.0 s.4 in omega arith;
     }
 
@@ -113,8 +118,9 @@ character_bytes u held bytes is e some h =
 start_begins_none : (protocol : Protocol) (u : List ℕ) → Begins START u → IsUnfinished protocol u → ⊥
 start_begins_none protocol u b (inl h) = append-some b.0 h.tail h.longer (start_ends (b.0 ++ h.tail) h.meaning
     (subst (λ z. IsSequence z h.meaning) (ap (λ z. z ++ h.tail) b.1) h.is_sequence))
-start_begins_none protocol u b (inr h) = append-some b.0 h.tail h.longer (form_ends START (b.0 ++ h.tail) start_form
-    (subst (λ z. IsForm z) (ap (λ z. z ++ h.tail) b.1) h.is_extra.is_form))
+start_begins_none protocol u b (inr h) =
+    let m = completed_mark u (mark_from_unfinished protocol u h) in
+    append-some b.0 m.0 m.1 (mark_ends START (b.0 ++ m.0) (inl start_form) (subst (λ z. IsMark z) (ap (λ z. z ++ m.0) b.1) m.2))
 
 pub start_not_held : (protocol : Protocol) (u held bytes : List ℕ) → Begins START u → IsHeldEscape held → u ≡ held ++ bytes → bytes ≢ []
     → IsUnfinished protocol bytes → ⊥
@@ -131,12 +137,13 @@ start_no_character u b c = ⊎_elim
     (λ (k : u ≡ 27 ∷ c.first ∷ c.after). let first : c.first ≡ 91 = cc (k, b.1) in omega (arith, c.high))
     c.spells
 
--- what waits is nothing, an open paste, or the beginning of a sequence or of a character
+-- what waits is nothing, an open paste, an open string, or the beginning of a sequence or of a character
 pub data Kinds (protocol : Protocol) (u : List ℕ) (f : Bool) : Type 0 where
   none : u ≡ [] → Kinds protocol u f
   pasted : (body : List ℕ) → u ≡ START ++ body → IsKind protocol u f Paste → Kinds protocol u f
   sequence : (held bytes : List ℕ) → IsHeldEscape held → u ≡ held ++ bytes → bytes ≢ [] → IsUnfinished protocol bytes
       → f ≡ true → Kinds protocol u f
+  open_now : IsOpenString u → f ≡ true → Kinds protocol u f
   character : CharacterBytes u → IsHeldThen IsUnfinishedCharacter u → f ≡ true → Kinds protocol u f
 
 pub kinds : (protocol : Protocol) (u : List ℕ) (f : Bool) → IsRest protocol u f → Kinds protocol u f
@@ -149,6 +156,7 @@ kinds protocol u f rest = go (waiting_shape protocol u f rest)
     go (undecided held bytes is e n (inl (inr h)) short m) = character (character_bytes u held bytes is e n h)
         (record { held = held; bytes = bytes; is_held = is; splits = e; some = n; unfinished = h }) m
     go (undecided held bytes is e n (inr h) short m) = sequence held bytes is e n (inr h) m
+    go (open_string is short m) = open_now is m
 
 pub escapes_some : (u : List ℕ) → IsOneOrTwoEscapes u → u ≡ [] → ⊥
 escapes_some u is e = ⊎_elim (λ (a : u ≡ ESC). cc (a, e)) (λ (b : u ≡ ESC ++ ESC). cc (b, e)) is
@@ -183,33 +191,110 @@ sequence_no_paste : (protocol : Protocol) (u body : List ℕ) → IsHeldThen (Is
 sequence_no_paste protocol u body is e =
     start_not_held protocol u is.held is.bytes (body, e) is.is_held is.splits is.some is.unfinished
 
+-- an open string is ESC, its introducer, and more
+string_shape : (u : List ℕ) → IsOpenString u → (b : ℕ) × (r : List ℕ) × (u ≡ 27 ∷ b ∷ r) × (r ≢ []) × IsStringIntroducer b
+string_shape u o =
+    let i = introducer_shape o.kind in (
+      i.0,
+      o.head ++ (o.bytes ++ o.held),
+      o.is_string.splits ∙ ap (λ z. z ++ o.head ++ (o.bytes ++ o.held)) i.1,
+      append-some_left o.head (o.bytes ++ o.held) (head_some o.kind o.head o.is_string.is_head),
+      i.2,
+    )
+
+string_some : (u : List ℕ) → IsOpenString u → u ≡ [] → ⊥
+string_some u o e = (let s = string_shape u o in cc (s.2, e))
+
+introducer_not_escape : (b : ℕ) → IsStringIntroducer b → b ≡ 27 → ⊥
+introducer_not_escape b is e = omega arith
+
+escapes_no_string : (u : List ℕ) → IsOpenString u → IsOneOrTwoEscapes u → ⊥
+escapes_no_string u o is = (let s = string_shape u o in ⊎_elim
+    (λ (a : u ≡ ESC). cc (s.2, a))
+    (λ (b : u ≡ ESC ++ ESC). introducer_not_escape s.0 s.4 (cc (s.2, b)))
+    is)
+
+-- the opening of a string begins no longer sequence
+string_begins_none : (protocol : Protocol) (u : List ℕ) → IsOpenString u → IsUnfinished protocol u → ⊥
+string_begins_none protocol u o h = go h
+  where
+    opening : List ℕ
+    opening = introducer o.kind ++ o.head
+
+    rest : List ℕ
+    rest = o.bytes ++ o.held
+
+    mark : IsMark opening
+    mark = inr (record { kind = o.kind; head = o.head; is_head = o.is_string.is_head; form = refl })
+
+    longer : (tail : List ℕ) → u ++ tail ≡ opening ++ (rest ++ tail)
+    longer tail = ap (λ z. z ++ tail) o.is_string.splits ∙ append_assoc opening rest tail
+
+    go : IsUnfinished protocol u → ⊥
+    go (inl k) = append-some rest k.tail k.longer
+        (sequence_after_mark opening (rest ++ k.tail) k.meaning mark (subst (λ z. IsSequence z k.meaning) (longer k.tail) k.is_sequence))
+    go (inr k) =
+        let m = completed_mark u (mark_from_unfinished protocol u k) in
+        append-some rest m.0 m.1 (mark_ends opening (rest ++ m.0) mark (subst (λ z. IsMark z) (longer m.0) m.2))
+
+sequence_no_string : (protocol : Protocol) (u : List ℕ) → IsHeldThen (IsUnfinished protocol) u → IsOpenString u → ⊥
+sequence_no_string protocol u is o = ⊎_elim
+    (λ (none : is.held ≡ []). string_begins_none protocol u o
+    (subst (IsUnfinished protocol) (sym (is.splits ∙ ap (λ z. z ++ is.bytes) none)) is.unfinished))
+    (λ (single : is.held ≡ ESC).
+    let s = string_shape u o in
+    let low = unfinished_low protocol is.bytes is.some is.unfinished in
+    let whole : u ≡ 27 ∷ 27 ∷ low.after = is.splits ∙ ap (λ z. z ++ is.bytes) single ∙ ap (λ z. 27 ∷ z) low.splits in
+    introducer_not_escape s.0 s.4 (cc (s.2, whole)))
+    is.is_held
+
+character_no_string : (u : List ℕ) → CharacterBytes u → IsOpenString u → ⊥
+character_no_string u c o = (let s = string_shape u o in ⊎_elim
+    (λ (k : u ≡ c.first ∷ c.after). let first : c.first ≡ 27 = cc (k, s.2) in omega (arith, c.high))
+    (λ (k : u ≡ 27 ∷ c.first ∷ c.after). let second : c.first ≡ s.0 = cc (k, s.2) in omega (arith, c.high, s.4))
+    c.spells)
+
+paste_no_string : (u body : List ℕ) → u ≡ START ++ body → IsOpenString u → ⊥
+paste_no_string u body e o = (let s = string_shape u o in let second : s.0 ≡ 91 = cc (e, s.2) in omega (arith, s.4))
+
 -- what is of two kinds is of one
-one_kind : (protocol : Protocol) (u : List ℕ) (f : Bool) (a b : Waiting) → IsKind protocol u f a → IsKind protocol u f b → b ≡ a
+one_kind : (protocol : Protocol) (u : List ℕ) (f : Bool) (a b : ExtendedWaiting) → IsKind protocol u f a → IsKind protocol u f b → b ≡ a
 one_kind protocol u f Nothing Nothing p q = refl
 one_kind protocol u f Nothing Escape p q = absurd (escapes_some u q.0 p)
 one_kind protocol u f Nothing Sequence p q = absurd (held_some u q.0 p)
 one_kind protocol u f Nothing Character p q = absurd (held_some u q.0 p)
 one_kind protocol u f Nothing Paste p q = absurd (cc (p, q.splits))
+one_kind protocol u f Nothing String p q = absurd (string_some u q.0 p)
 one_kind protocol u f Escape Nothing p q = absurd (escapes_some u p.0 q)
 one_kind protocol u f Escape Escape p q = refl
 one_kind protocol u f Escape Sequence p q = absurd (q.1 p.0)
 one_kind protocol u f Escape Character p q = absurd (escapes_no_character u p.0 (bytes_of_character u q.0))
 one_kind protocol u f Escape Paste p q = absurd (escapes_no_paste u q.body p.0 q.splits)
+one_kind protocol u f Escape String p q = absurd (escapes_no_string u q.0 p.0)
 one_kind protocol u f Sequence Nothing p q = absurd (held_some u p.0 q)
 one_kind protocol u f Sequence Escape p q = absurd (p.1 q.0)
 one_kind protocol u f Sequence Sequence p q = refl
 one_kind protocol u f Sequence Character p q = absurd (sequence_no_character protocol u p.0 (bytes_of_character u q.0))
 one_kind protocol u f Sequence Paste p q = absurd (sequence_no_paste protocol u q.body p.0 q.splits)
+one_kind protocol u f Sequence String p q = absurd (sequence_no_string protocol u p.0 q.0)
 one_kind protocol u f Character Nothing p q = absurd (held_some u p.0 q)
 one_kind protocol u f Character Escape p q = absurd (escapes_no_character u q.0 (bytes_of_character u p.0))
 one_kind protocol u f Character Sequence p q = absurd (sequence_no_character protocol u q.0 (bytes_of_character u p.0))
 one_kind protocol u f Character Character p q = refl
 one_kind protocol u f Character Paste p q = absurd (start_no_character u (q.body, q.splits) (bytes_of_character u p.0))
+one_kind protocol u f Character String p q = absurd (character_no_string u (bytes_of_character u p.0) q.0)
 one_kind protocol u f Paste Nothing p q = absurd (cc (q, p.splits))
 one_kind protocol u f Paste Escape p q = absurd (escapes_no_paste u p.body q.0 p.splits)
 one_kind protocol u f Paste Sequence p q = absurd (sequence_no_paste protocol u p.body q.0 p.splits)
 one_kind protocol u f Paste Character p q = absurd (start_no_character u (p.body, p.splits) (bytes_of_character u q.0))
 one_kind protocol u f Paste Paste p q = refl
+one_kind protocol u f Paste String p q = absurd (paste_no_string u p.body p.splits q.0)
+one_kind protocol u f String Nothing p q = absurd (string_some u p.0 q)
+one_kind protocol u f String Escape p q = absurd (escapes_no_string u p.0 q.0)
+one_kind protocol u f String Sequence p q = absurd (sequence_no_string protocol u q.0 p.0)
+one_kind protocol u f String Character p q = absurd (character_no_string u (bytes_of_character u q.0) p.0)
+one_kind protocol u f String Paste p q = absurd (paste_no_string u q.body q.splits p.0)
+one_kind protocol u f String String p q = refl
 
 one_or_two_or_not : (u : List ℕ) → IsOneOrTwoEscapes u ⊎ (IsOneOrTwoEscapes u → ⊥)
 one_or_two_or_not u = ⊎_elim
@@ -220,7 +305,7 @@ one_or_two_or_not u = ⊎_elim
     (same_or_not u (ESC ++ ESC)))
     (same_or_not u ESC)
 
-some_kind : (protocol : Protocol) (u : List ℕ) (f : Bool) → Kinds protocol u f → (kind : Waiting) × IsKind protocol u f kind
+some_kind : (protocol : Protocol) (u : List ℕ) (f : Bool) → Kinds protocol u f → (kind : ExtendedWaiting) × IsKind protocol u f kind
 some_kind protocol u f (none e) = (Nothing, e)
 some_kind protocol u f (pasted body e is) = (Paste, is)
 some_kind protocol u f (sequence held bytes is e n h m) = ⊎_elim
@@ -230,6 +315,7 @@ some_kind protocol u f (sequence held bytes is e n h m) = ⊎_elim
       (record { held = held; bytes = bytes; is_held = is; splits = e; some = n; unfinished = h }, other, m),
     ))
     (one_or_two_or_not u)
+some_kind protocol u f (open_now is m) = (String, (is, m))
 some_kind protocol u f (character c is m) = (Character, (is, m))
 
 pub waiting_kinds : WaitingKinds

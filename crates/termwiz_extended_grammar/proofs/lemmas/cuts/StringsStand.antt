@@ -1,0 +1,123 @@
+-- A string is its events, whatever stands before it and however long it is.
+use Rattle.std.proofs.Common.{◌≡◌, inr, ⊎_elim, ℕ, zero, suc, ◌-◌, ◌<◌, ◌≤◌, Bool, List, [], ◌∷◌, ◌++◌, length, map, refl, sym, ap, ◌∙◌, subst, append_assoc, append-nil, arith, length-append}
+use Rattle.std.specs.List.{AllByRecursion, concat}
+use Rattle.std.proofs.lemmas.Bool.{cases_lt}
+use Rattle.termwiz_keymap.proofs.lemmas.lists.CommonPrefixes.{true_at_front, true_at_end}
+use Rattle.termwiz_keys.specs.Introducers.{ESC}
+use Rattle.termwiz_grammar.specs.Laws.{IsHeldEscape}
+use Rattle.termwiz_extended_events.specs.declared.types.ExtendedEvent.{ExtendedEvent}
+use Rattle.termwiz_extended_events.specs.declared.types.ExtendedEvent.TheVariants.{StringPart, StringCut}
+use Rattle.termwiz_extended_events.specs.declared.types.Protocol.{Protocol}
+use Rattle.termwiz_extended_events.specs.declared.types.StringKind.{StringKind}
+use Rattle.termwiz_extended_grammar.specs.Forms.{introducer, IsData, most_string}
+use Rattle.termwiz_extended_grammar.specs.Strings.{IsHead, IsString, string_length, Ends}
+use Rattle.termwiz_extended_grammar.specs.Strings.Ends.{ended, cut, cut_by_two, flushed}
+use Rattle.termwiz_extended_grammar.specs.Strings.Comes.{part, last}
+use Rattle.termwiz_extended_grammar.specs.ExtendedGrammar.{Steps}
+use Rattle.termwiz_extended_grammar.specs.ExtendedGrammar.Stands.{string}
+use Rattle.termwiz_extended_grammar.specs.ExtendedLaws.{StringStands, Closes}
+use Rattle.termwiz_extended_grammar.specs.ExtendedLaws.Closes.{by_end, by_cut, by_two, by_flush}
+use Rattle.termwiz_extended_grammar.proofs.lemmas.forms.FormOrNot.{opening_length}
+use Rattle.termwiz_extended_grammar.proofs.lemmas.items.StringRests.{parted}
+use Rattle.termwiz_extended_grammar.proofs.lemmas.cuts.ExtendedCuts.{join_steps}
+use Rattle.termwiz_extended_grammar.proofs.lemmas.cuts.SequencesStand.{flushed_before}
+
+-- data that are parted, before what closes them
+parted_text : (d a b z S : List ℕ) → d ≡ a ++ b → d ++ z ++ S ≡ a ++ (b ++ z ++ S)
+parted_text d a b z S e = ap (λ y. y ++ z ++ S) e ∙ ap (λ y. y ++ S) (append_assoc a b z) ∙ append_assoc a (b ++ z) S
+
+one_more_part : (d a b parts end : List ℕ) → parts ++ end ≡ b → d ≡ a ++ b → a ++ parts ++ end ≡ d
+one_more_part d a b parts end e f = append_assoc a parts end ∙ ap (λ y. a ++ y) e ∙ sym f
+
+-- what closes a string ends it
+closes_ends : (kind : StringKind) (bytes z S : List ℕ) (event : List ℕ → ExtendedEvent) (f : Bool) → Closes kind z S f event
+    → Ends kind bytes (z ++ S) f S (event bytes)
+closes_ends kind bytes z S event f (by_end is) = ended z S is refl
+closes_ends kind bytes z S event f (by_cut b r none e n m) =
+    subst (λ y. Ends kind bytes (z ++ S) f y (StringCut kind bytes)) (sym e) (cut b r (ap (λ y. y ++ S) none ∙ e) n m)
+closes_ends kind bytes z S event f (by_two r single e) =
+    subst (λ y. Ends kind bytes (z ++ S) f y (StringCut kind bytes)) (sym e)
+    (cut_by_two r (ap (λ y. y ++ S) single ∙ ap (λ y. ESC ++ y) e))
+closes_ends kind bytes z S event f (by_flush held none no_more) =
+    subst (λ y. Ends kind bytes (z ++ S) f y (StringCut kind bytes)) (sym none)
+    (flushed (subst IsHeldEscape (sym (ap (λ y. z ++ y) none ∙ append-nil z)) held) no_more)
+
+-- the events of a string, of which the data have at most n bytes
+abbrev Strung : Protocol → StringKind → List ℕ → List ℕ → List ℕ → List ℕ → List ℕ → List ExtendedEvent → (List ℕ → ExtendedEvent) → Bool → Type 0
+Strung protocol kind head d z S W D event f = (parts : List (List ℕ)) × (last : List ℕ) × (concat parts ++ last ≡ d)
+    × Steps protocol (introducer kind ++ head ++ (d ++ z ++ S)) f
+    (map (λ part. StringPart kind (head ++ part)) parts ++ event (head ++ last) ∷ D) W
+
+module _ (protocol : Protocol) (kind : StringKind) (head z S W : List ℕ) (D : List ExtendedEvent) (event : List ℕ → ExtendedEvent) (f : Bool)
+    (is : IsHead kind head) (closes : Closes kind z S f event) (after : Steps protocol S f D W) where
+  -- data that are short
+  short_string : (d : List ℕ) → AllByRecursion (IsData kind) d → string_length kind head d < most_string
+      → Strung protocol kind head d z S W D event f
+  short_string d each short =
+      let it : IsString (introducer kind ++ head ++ (d ++ z ++ S)) kind head d (z ++ S) = record {
+        is_head = is;
+        each = each;
+        splits = ap (λ y. introducer kind ++ head ++ y) (append_assoc d z S);
+      } in (
+        [],
+        d,
+        refl,
+        (
+          S,
+          string kind head d (z ++ S) S (event (head ++ d)) it
+              (last S (event (head ++ d)) short (closes_ends kind (head ++ d) z S event f closes)),
+          after,
+        ),
+      )
+
+  strung : (n : ℕ) (d : List ℕ) → length d ≤ n → AllByRecursion (IsData kind) d → Strung protocol kind head d z S W D event f
+  strung zero [] l each = short_string [] each (
+      let o : length (introducer kind ++ head) ≤ 255 = opening_length kind head is in
+      omega (arith, length-append (introducer kind ++ head) [])
+      )
+  strung zero (x ∷ d) l each = absurd (omega arith)
+  strung (suc n) d l each = ⊎_elim
+      (λ (short : string_length kind head d < most_string). short_string d each short)
+      (λ (full : most_string ≤ string_length kind head d). long full (λ t m all. strung n t m all))
+      (cases_lt (string_length kind head d) most_string)
+    where
+      long : most_string ≤ string_length kind head d
+          → ((t : List ℕ) → length t ≤ n → AllByRecursion (IsData kind) t → Strung protocol kind head t z S W D event f)
+          → Strung protocol kind head d z S W D event f
+      long full below =
+          let o : length (introducer kind ++ head) ≤ 255 = opening_length kind head is in
+          let p = parted (most_string - length (introducer kind ++ head)) d (omega (arith, length-append (introducer kind ++ head) d)) in
+          let both = subst (AllByRecursion (IsData kind)) p.2 each in
+          let rest = below p.1 (omega (arith, p.3, ap length p.2, length-append p.0 p.1)) (true_at_end (IsData kind) p.0 p.1 both) in
+          let it : IsString (introducer kind ++ head ++ (d ++ z ++ S)) kind head p.0 (p.1 ++ z ++ S) = record {
+            is_head = is;
+            each = true_at_front (IsData kind) p.0 p.1 both;
+            splits = ap (λ y. introducer kind ++ head ++ y) (parted_text d p.0 p.1 z S p.2);
+          } in (
+            p.0 ∷ rest.0,
+            rest.1,
+            one_more_part d p.0 p.1 (concat rest.0) rest.1 rest.2 p.2,
+            (
+              introducer kind ++ head ++ (p.1 ++ z ++ S),
+              string kind head p.0 (p.1 ++ z ++ S) (introducer kind ++ head ++ (p.1 ++ z ++ S)) (StringPart kind (head ++ p.0)) it
+                  (part (omega (arith, p.3, length-append (introducer kind ++ head) p.0))),
+              rest.3,
+            ),
+          )
+
+pub string_stands : StringStands
+string_stands protocol kind T head d z S W E D event f before is each closes after =
+    let text = introducer kind ++ head ++ (d ++ z ++ S) in
+    let s = strung protocol kind head z S W D event f is closes after.steps (length d) d (omega arith) each in
+    let parts = map (λ part. StringPart kind (head ++ part)) s.0 in
+    let first = flushed_before protocol T text E f
+    (inr (record { kind = kind; head = head; is_head = is; begins = (d ++ z ++ S, refl) })) before.steps in (
+      s.0,
+      s.1,
+      s.2,
+      record {
+        steps = subst (λ y. Steps protocol (T ++ text) f y W) (sym (append_assoc E parts (event (head ++ s.1) ∷ D)))
+            (join_steps protocol E (parts ++ event (head ++ s.1) ∷ D) (T ++ text) text W f first s.3);
+        rest = after.rest;
+      },
+    )
