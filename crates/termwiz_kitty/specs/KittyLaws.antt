@@ -94,7 +94,7 @@ press_of key bits = report_of (Named key) (record { modifiers = bits; kind = Pre
 abbrev pub IsReadAs : List ℕ → Bool → KeyReport → Type 0
 IsReadAs text more report = (event : ExtendedEvent) × Means Kitty text more (event ∷ []) [] × (key_of_event event ≡ Some report)
 
--- The keys whose texts begin sequences, with kitty's bits of their modifiers: Escape, Escape with Alt, and [ O P ] and _ with Alt.
+-- The keys whose texts begin sequences or strings, with kitty's bits of their modifiers: Escape, Escape with Alt, and [ O P ] and _ with Alt.
 abbrev pub keys_that_wait : List (KeyCode × ℕ)
 keys_that_wait =
     (Escape, NONE) ∷ (Escape, ALT) ∷ (Char 91, ALT) ∷ (Char 79, ALT) ∷ (Char 80, ALT) ∷ (Char 93, ALT) ∷ (Char 95, ALT) ∷ []
@@ -113,7 +113,7 @@ pub data IsReadBack : KeyCode → ℕ → Type 0 where
       → IsReadBack (Char c) held
 
 -- Such a key that is sent as before the protocol: its text is its press, with all modifiers of its report. With more to come that is so of the
--- keys whose texts begin no sequence.
+-- keys whose texts begin no sequence and no string.
 abbrev pub LegacyReadBack : Type 0
 LegacyReadBack = (r : KeyReport) (key : KeyCode) (flags : ℕ) (sent : LegacyText) (text : List ℕ) (more : Bool) → IsReport r
     → told_key r flags ≡ Named key → telling r flags ≡ Legacy sent → kitty_text r flags ≡ Some text

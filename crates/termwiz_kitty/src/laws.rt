@@ -23,7 +23,7 @@ pub fn typed_read_back()
 /// holds of F1 to F4; Escape alone or with Alt; Enter, Backspace and Tab with Alt; Tab with Shift, or with Shift and Alt; and letters but
 /// h, i, j and m with Ctrl, or with Ctrl and Alt. A text key with Alt, or with Shift and Alt, is read back as the character that it
 /// shows, with Alt (`characters`). With more to come the law says nothing of Escape, Escape with Alt, and `[`, `O`, `P`, `]` and `_`
-/// with Alt: their texts begin sequences.
+/// with Alt: their texts begin sequences or strings.
 pub fn legacy_read_back()
     ensures keys { LegacyReadBack }
     ensures characters { AltReadBack }

@@ -18,7 +18,7 @@ xterm_modes = record {
   modify_other_keys = None;
 }
 
--- The keys whose texts begin sequences, with the port's bits of their modifiers: those of the port, and P, ] and _ with ALT.
+-- The keys whose texts begin sequences or strings, with the port's bits of their modifiers: those of the port, and P, ] and _ with ALT.
 abbrev pub held_that_wait : List (KeyCode × ℕ)
 held_that_wait = keys_that_need_a_flush ++ (Char 80, ALT) ∷ (Char 93, ALT) ∷ (Char 95, ALT) ∷ []
 

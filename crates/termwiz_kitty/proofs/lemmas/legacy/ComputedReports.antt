@@ -9,7 +9,7 @@ use Rattle.termwiz_grammar.proofs.lemmas.lists.ListMembers.{same_on}
 use Rattle.termwiz_laws.proofs.lemmas.further_keys.ComputedReadings.{Held}
 use Rattle.termwiz_extended_events.specs.declared.types.KeyReport.{KeyReport}
 use Rattle.termwiz_extended_events.specs.declared.types.ExtendedEvent.{ExtendedEvent}
-use Rattle.termwiz_extended_events.specs.declared.types.ExtendedEvent.TheVariants.{Input, Key, FocusGained, FocusLost, CursorPosition, Resize, KeyboardFlags, Csi, Osc, Dcs, Apc}
+use Rattle.termwiz_extended_events.specs.declared.types.ExtendedEvent.TheVariants.{Input, Key, FocusGained, FocusLost, CursorPosition, Resize, KeyboardFlags, Csi, Osc, Dcs, Apc, StringPart, StringCut}
 use Rattle.termwiz_extended_events.specs.EventKeys.{pressed_key, key_of_event}
 use Rattle.termwiz_extended_events.specs.Meanings.{event_of, IsKeyOrPosition}
 use Rattle.termwiz_kitty.specs.KittyLaws.{IsReadAs}
@@ -44,6 +44,8 @@ reports_tested (Csi bytes) h = absurd h
 reports_tested (Osc bytes) h = absurd h
 reports_tested (Dcs bytes) h = absurd h
 reports_tested (Apc bytes) h = absurd h
+reports_tested (StringPart kind bytes) h = absurd h
+reports_tested (StringCut kind bytes) h = absurd h
 
 key_is : (e : ExtendedEvent) (r : KeyReport) → IsKeyOrPosition e → report_or e r ≡ Some r → key_of_event e ≡ Some r
 key_is (Input event) r h k = absurd h
@@ -57,6 +59,8 @@ key_is (Csi bytes) r h k = absurd h
 key_is (Osc bytes) r h k = absurd h
 key_is (Dcs bytes) r h k = absurd h
 key_is (Apc bytes) r h k = absurd h
+key_is (StringPart kind bytes) r h k = absurd h
+key_is (StringCut kind bytes) r h k = absurd h
 
 some_if : (b : Bool) (o : Option KeyReport) (r : KeyReport) → (if b then None else o) ≡ Some r → (b ≡ false) × (o ≡ Some r)
 some_if true o r e = cc (e)

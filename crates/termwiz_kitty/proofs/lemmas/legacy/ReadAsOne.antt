@@ -21,11 +21,15 @@ use Rattle.termwiz_laws.proofs.lemmas.further_keys.SingleKey.Single.{plainly, af
 use Rattle.termwiz_extended_events.specs.declared.types.ExtendedEvent.TheVariants.{Input}
 use Rattle.termwiz_extended_events.specs.declared.types.Protocol.TheVariants.{Kitty}
 use Rattle.termwiz_extended_events.specs.Meanings.{event_of, IsKeyOrPosition}
-use Rattle.termwiz_extended_grammar.specs.ExtraSequences.{IsExtra, StartsWithExtra}
-use Rattle.termwiz_extended_grammar.specs.ExtendedGrammar.{IsOpen, IsUsual, Steps, Means}
+use Rattle.termwiz_extended_grammar.specs.Forms.{introducer}
+use Rattle.termwiz_extended_grammar.specs.ExtraSequences.{IsExtra}
+use Rattle.termwiz_extended_grammar.specs.Strings.{StartsWithOpening}
+use Rattle.termwiz_extended_grammar.specs.ExtendedGrammar.{StartsExtended, IsOpen, IsUsual, Steps, Means}
 use Rattle.termwiz_extended_grammar.specs.ExtendedGrammar.Stands.{usual}
-use Rattle.termwiz_extended_grammar.proofs.lemmas.forms.FormBytes.{IsSecond, form_shape}
-use Rattle.termwiz_extended_grammar.proofs.lemmas.forms.ExtraFacts.{starts_or_not}
+use Rattle.termwiz_extended_grammar.proofs.lemmas.forms.FormBytes.{IsSecond, IsStringIntroducer, head_some, introducer_shape, mark_shape}
+use Rattle.termwiz_extended_grammar.proofs.lemmas.forms.ExtraFacts.{starts_extended_or_not, starts_mark}
+use Rattle.termwiz_extended_grammar.proofs.lemmas.forms.PortLayouts.{Layout, sequence_layout}
+use Rattle.termwiz_extended_grammar.proofs.lemmas.forms.PortLayouts.Layout.{alone, paired, longer}
 use Rattle.termwiz_extended_grammar.proofs.lemmas.items.ExtendedItems.{starts_shape}
 use Rattle.termwiz_extended_grammar.proofs.lemmas.items.ExtendedRests.{empty_is_rest}
 use Rattle.termwiz_extended_grammar.proofs.lemmas.items.ExtraHeads.{extra_is_longest}
@@ -52,9 +56,24 @@ no_escape_before c b r scalar e = ⊎_elim
     (λ (several : IsSeveral (encode_utf8 c)). (let s = subst IsSeveral e several in omega (arith, s.0)))
     (encode_forms c scalar)
 
--- an extra sequence that begins what is read as one key is all of it
-whole : (v : List ℕ) (j : KeyEvent) → Plainly v j → StartsWithExtra Kitty v → IsReportText v
-whole v j (by_row c) s =
+-- a row begins with no opening
+row_no_opening : (v : List ℕ) (j : KeyEvent) → IsSequence v (Row j) → StartsWithOpening v → ⊥
+row_no_opening v j is o = go (sequence_layout v (Row j) is)
+  where
+    i : (b : ℕ) × (introducer o.kind ≡ 27 ∷ b ∷ []) × IsStringIntroducer b
+    i = introducer_shape o.kind
+
+    all : v ≡ 27 ∷ i.0 ∷ (o.head ++ o.begins.0)
+    all = o.begins.1 ∙ ap (λ z. z ++ o.head ++ o.begins.0) i.1
+
+    go : Layout v → ⊥
+    go (alone b e) = cc (all, e)
+    go (paired b e l) = append-some_left o.head o.begins.0 (head_some o.kind o.head o.is_head) (cc (all, e))
+    go (longer b r e k p) = let same : b ≡ i.0 = cc (all, e) in omega (arith, i.2)
+
+-- an extra sequence that begins what is read as one key is all of it, and no opening begins that
+whole : (v : List ℕ) (j : KeyEvent) → Plainly v j → StartsExtended Kitty v → IsReportText v
+whole v j (by_row c) (inl s) =
     let is = row_is v j c in
     let longest = (extra_is_longest Kitty v s.text s.event s.is_extra s.begins).0 v (Row j) is ([], sym (append-nil v)) in
     let same : v ≡ s.text = same_length s.text s.begins.0 v s.begins.1 longest in
@@ -63,6 +82,7 @@ whole v j (by_row c) s =
       is_extra = record { is_form = extra.is_form; is_free = extra.is_free; means = refl };
       reports = (extra.is_free (Row j) is).2;
     }
+whole v j (by_row c) (inr o) = absurd (row_no_opening v j (row_is v j c) o)
 whole v j (by_character c scalar e k) s =
     let shape = starts_shape Kitty v s in absurd (no_escape_before c shape.0 shape.1 scalar (sym e ∙ shape.2))
 whole v j (by_broken_byte b e k) s = (let shape = starts_shape Kitty v s in absurd (cc (e, shape.2)))
@@ -85,15 +105,16 @@ second_byte b r t j second some e (by_character c scalar spells k) =
     (encode_forms c scalar)
 second_byte b r t j second some e (by_broken_byte x is k) = some (cc (is, e))
 
-not_behind : (t : List ℕ) (j : KeyEvent) → Plainly t j → StartsWithExtra Kitty (27 ∷ t) → ⊥
+not_behind : (t : List ℕ) (j : KeyEvent) → Plainly t j → StartsExtended Kitty (27 ∷ t) → ⊥
 not_behind t j p s =
-    let shape = form_shape s.text s.is_extra.is_form in
-    let text : 27 ∷ t ≡ 27 ∷ shape.0 ∷ (shape.1 ++ s.begins.0) = s.begins.1 ∙ ap (λ x. x ++ s.begins.0) shape.2 in
-    second_byte shape.0 (shape.1 ++ s.begins.0) t j shape.4 (append-some_left shape.1 s.begins.0 shape.3) (cc (text)) p
+    let mark = starts_mark Kitty (27 ∷ t) s in
+    let shape = mark_shape mark.0 mark.2 in
+    let text : 27 ∷ t ≡ 27 ∷ shape.0 ∷ (shape.1 ++ mark.1) = mark.3 ∙ ap (λ x. x ++ mark.1) shape.2 in
+    second_byte shape.0 (shape.1 ++ mark.1) t j shape.4 (append-some_left shape.1 mark.1 shape.3) (cc (text)) p
 
-starts_whole : (text : List ℕ) (k : KeyEvent) → Single text k → StartsWithExtra Kitty text → IsReportText text
+starts_whole : (text : List ℕ) (k : KeyEvent) → Single text k → StartsExtended Kitty text → IsReportText text
 starts_whole text k (plainly p) s = whole text k p s
-starts_whole text k (after_escape t j e p g) s = absurd (not_behind t j p (subst (StartsWithExtra Kitty) e s))
+starts_whole text k (after_escape t j e p g) s = absurd (not_behind t j p (subst (StartsExtended Kitty) e s))
 
 -- an extra sequence after the first byte: that is ESC, and the sequence is the rest
 record AfterEscape (c : ℕ) (v : List ℕ) : Type 0 where
@@ -108,7 +129,7 @@ no_second_escape c b r (more (x ∷ t) n e p) = (let same : x ≡ 27 = cc (e) in
 several_on : (c b : ℕ) (r : List ℕ) → IsSeveral (c ∷ 27 ∷ b ∷ r) → ⊥
 several_on c b r h = omega (arith, h.3.0.0)
 
-after_first : (c : ℕ) (v text : List ℕ) (k : KeyEvent) → text ≡ c ∷ v → Single text k → StartsWithExtra Kitty v → AfterEscape c v
+after_first : (c : ℕ) (v text : List ℕ) (k : KeyEvent) → text ≡ c ∷ v → Single text k → StartsExtended Kitty v → AfterEscape c v
 after_first c v text k e (after_escape t j split p g) s =
     let same : t ≡ v = cc (split, e) in
     record { escape = cc (split, e); report = whole v j (subst (λ x. Plainly x j) same p) s }
@@ -128,14 +149,13 @@ after_first c v text k e (plainly p) s = absurd (go p)
         (encode_forms d scalar)
     go (by_broken_byte b is g) = cc (is, all)
 
--- where no extra sequence begins the text, nor what follows its ESC, and neither is open, the port's key is the event
+-- where no extra sequence and no opening begins the text, nor what follows its ESC, and neither is open, the port's key is the event
 as_in_port : (text : List ℕ) (k : KeyEvent) (f : Bool) → port.Means text f (input.Key k ∷ []) [] → IsUsual Kitty text f
     → ((v : List ℕ) → text ≡ ESC ++ v → IsUsual Kitty v f) → Means Kitty text f (Input (input.Key k) ∷ []) []
 as_in_port text k f means whole' after = record { steps = from means.steps; rest = empty_is_rest Kitty f }
   where
     from : port.Steps text f (input.Key k ∷ []) [] → Steps Kitty text f (Input (input.Key k) ∷ []) []
-    from (bytes, rest, stands, splits, nothing) =
-        (bytes, rest, usual bytes (input.Key k) stands whole' after, splits, nothing)
+    from (bytes, rest, stands, splits, nothing) = (rest, usual bytes rest (input.Key k) stands splits whole' after, nothing)
 
 -- what a text that the port reads as one key is read as
 pub data ReadAs (text : List ℕ) (k : KeyEvent) (f : Bool) : Type 0 where
@@ -151,27 +171,27 @@ pub record IsRead (text : List ℕ) (k : KeyEvent) (f : Bool) : Type 0 where
   pub closed_after : (v : List ℕ) → text ≡ ESC ++ v → ¬ IsOpen Kitty v f
 
 pub read_as : (text : List ℕ) (k : KeyEvent) (f : Bool) → IsRead text k f → ReadAs text k f
-read_as text k f is = go (starts_or_not Kitty text)
+read_as text k f is = go (starts_extended_or_not Kitty text)
   where
     is_single : Single text k
     is_single = single text k is.flushed
 
-    key_where : ¬ StartsWithExtra Kitty text → ((v : List ℕ) → text ≡ ESC ++ v → ¬ StartsWithExtra Kitty v) → ReadAs text k f
+    key_where : ¬ StartsExtended Kitty text → ((v : List ℕ) → text ≡ ESC ++ v → ¬ StartsExtended Kitty v) → ReadAs text k f
     key_where none after = as_key (as_in_port text k f is.means (record { none = none; closed = is.closed })
         (λ v split. record { none = after v split; closed = is.closed_after v split }))
 
-    behind : ¬ StartsWithExtra Kitty text → (u : List ℕ) → text ≡ u → ReadAs text k f
+    behind : ¬ StartsExtended Kitty text → (u : List ℕ) → text ≡ u → ReadAs text k f
     behind none [] e = key_where none (λ v split. absurd (cc (e, split)))
-    behind none (c ∷ v) e = at (starts_or_not Kitty v)
+    behind none (c ∷ v) e = at (starts_extended_or_not Kitty v)
       where
-        at : Decision (StartsWithExtra Kitty v) → ReadAs text k f
+        at : Decision (StartsExtended Kitty v) → ReadAs text k f
         at (inl s) =
             let it = after_first c v text k e is_single s in
             apart v (e ∙ ap (λ x. x ∷ v) it.escape) it.report
         at (inr never) = key_where none
-            (λ w split s. never (subst (StartsWithExtra Kitty) (let same : w ≡ v = cc (split, e) in same) s))
+            (λ w split s. never (subst (StartsExtended Kitty) (let same : w ≡ v = cc (split, e) in same) s))
 
-    go : Decision (StartsWithExtra Kitty text) → ReadAs text k f
+    go : Decision (StartsExtended Kitty text) → ReadAs text k f
     go (inl s) =
         let report = starts_whole text k is_single s in as_report report (means_alone text f (event_of text) report.is_extra)
     go (inr none) = behind none text refl

@@ -1,4 +1,4 @@
--- The keys whose texts, alone or after an ESC, properly begin a sequence.
+-- The keys whose texts, alone or after an ESC, properly begin a sequence or an opening.
 use Rattle.std.proofs.Common.{◌≡◌, ◌≢◌, ◌⊎◌, inl, inr, ⊎_elim, ℕ, zero, false, List, [], ◌∷◌, ◌++◌, refl, sym, ap, ◌∙◌, subst, arith, Some, Contains, lit<, codes}
 use Rattle.std.specs.Char.{IsScalar, encode_utf8}
 use Rattle.termwiz_keys.specs.Encoding.{enc}
@@ -25,9 +25,9 @@ use Rattle.termwiz_laws.proofs.lemmas.further_keys.SingleKey.Plainly.{by_row, by
 use Rattle.termwiz_laws.proofs.lemmas.further_keys.SingleKey.Single.{plainly, after_escape}
 use Rattle.termwiz_laws.proofs.lemmas.shared_texts.TwinKeys.{read_once, sent_means}
 use Rattle.termwiz_extended_events.specs.declared.types.Protocol.TheVariants.{Kitty}
-use Rattle.termwiz_extended_grammar.specs.ExtraSequences.{IsUnfinishedExtra}
-use Rattle.termwiz_extended_grammar.specs.ExtendedGrammar.{BeginsKnown}
-use Rattle.termwiz_extended_grammar.proofs.lemmas.forms.FormBytes.{IsSecond, form_shape}
+use Rattle.termwiz_extended_grammar.specs.ExtendedGrammar.{BeginsExtended, BeginsKnown}
+use Rattle.termwiz_extended_grammar.proofs.lemmas.forms.FormBytes.{IsSecond, mark_shape}
+use Rattle.termwiz_extended_grammar.proofs.lemmas.forms.ExtraFacts.{completed_mark, mark_from_unfinished}
 use Rattle.termwiz_extended_grammar.proofs.lemmas.items.ExtraHeads.{four_beginnings}
 use Rattle.termwiz_kitty.proofs.lemmas.PortKeys.{xterm_modes, held_that_wait}
 use Rattle.termwiz_kitty.proofs.lemmas.legacy.ReadAsOne.{row_is, second_byte, no_escape_before}
@@ -54,7 +54,7 @@ unfolding enc_written_out
 escapes_sent =
     sent_as Escape ALT (27 ∷ 27 ∷ []) (none_or_alt Escape ALT xterm_modes (zero, lit< tt, refl) (1, lit< tt, refl)) refl
 
--- the second byte of a form, after ESC, is that character with ALT
+-- the second byte of a mark, after ESC, is that character with ALT
 second_sent : (b : ℕ) → IsSecond b → IsKeyOf (27 ∷ b ∷ []) (key_with (Char b) ALT)
 unfolding enc_written_out
 second_sent b (inl e) = subst (λ c. IsKeyOf (27 ∷ c ∷ []) (key_with (Char c) ALT)) (sym e)
@@ -75,7 +75,7 @@ second_waits b (inr (inr (inl e))) = subst (λ c. Waits (key_with (Char c) ALT))
 second_waits b (inr (inr (inr (inl e)))) = subst (λ c. Waits (key_with (Char c) ALT)) (sym e) (4, lit< tt, refl)
 second_waits b (inr (inr (inr (inr e)))) = subst (λ c. Waits (key_with (Char c) ALT)) (sym e) (6, lit< tt, refl)
 
--- ESC, or ESC and the second byte of a form
+-- ESC, or ESC and the second byte of a mark
 data IsFront (text : List ℕ) : Type 0 where
   escape_alone : text ≡ ESC → IsFront text
   with_second : (b : ℕ) → IsSecond b → text ≡ 27 ∷ b ∷ [] → IsFront text
@@ -92,8 +92,8 @@ escapes_wait text k means e =
     subst Waits (read_once (27 ∷ 27 ∷ []) (key_with Escape ALT) k escapes_sent (subst (λ t. IsKeyOf t k) e means))
     (1, lit< tt, refl)
 
--- a row that properly begins an extra sequence
-row_front : (text : List ℕ) (k : KeyEvent) → IsSequence text (Row k) → IsUnfinishedExtra Kitty text → IsFront text
+-- a row that properly begins an extra sequence or an opening
+row_front : (text : List ℕ) (k : KeyEvent) → IsSequence text (Row k) → BeginsExtended Kitty text → IsFront text
 row_front text k is x = ⊎_elim
     (λ (e : text ≡ ESC). escape_alone e)
     (λ (rest : (text ≡ CSI) ⊎ ((text ≡ SS3) ⊎ (text ≡ ESC ++ codes "P"))). ⊎_elim
@@ -103,15 +103,15 @@ row_front text k is x = ⊎_elim
     (λ (e : text ≡ ESC ++ codes "P"). with_second 80 (inr (inr (inr (inl refl)))) e)
     last)
     rest)
-    ((four_beginnings Kitty text (Row k) is).0 (x.tail, x.event, x.longer, x.is_extra))
+    ((four_beginnings Kitty text (Row k) is).0 x)
 
 -- a first byte of a character that is ESC is all of it
 escape_character : (c : ℕ) (r : List ℕ) → IsScalar c → encode_utf8 c ≡ 27 ∷ r → r ≡ []
 escape_character c [] scalar e = refl
 escape_character c (b ∷ r) scalar e = absurd (no_escape_before c b r scalar e)
 
--- what begins an extra sequence begins with ESC
-record BeginsForm (x : ℕ) (u : List ℕ) : Type 0 where
+-- what properly begins one of them begins with ESC
+record BeginsMark (x : ℕ) (u : List ℕ) : Type 0 where
   second : ℕ
   rest : List ℕ
   tail : List ℕ
@@ -119,39 +119,40 @@ record BeginsForm (x : ℕ) (u : List ℕ) : Type 0 where
   first : x ≡ 27
   after : u ++ tail ≡ second ∷ rest
 
-begins_form : (x : ℕ) (u : List ℕ) → IsUnfinishedExtra Kitty (x ∷ u) → BeginsForm x u
-begins_form x u h =
-    let shape = form_shape (x ∷ u ++ h.tail) h.is_extra.is_form in
+begins_mark : (x : ℕ) (u : List ℕ) → BeginsExtended Kitty (x ∷ u) → BeginsMark x u
+begins_mark x u h =
+    let mark = completed_mark (x ∷ u) (mark_from_unfinished Kitty (x ∷ u) h) in
+    let shape = mark_shape (x ∷ u ++ mark.0) mark.2 in
     record {
       second = shape.0;
       rest = shape.1;
-      tail = h.tail;
+      tail = mark.0;
       is_second = shape.4;
       first = cc (shape.2);
       after = cc (shape.2);
     }
 
--- a text of one key that properly begins an extra sequence
-text_front : (text : List ℕ) (k : KeyEvent) → text ≢ [] → Single text k → IsUnfinishedExtra Kitty text → IsFront text
+-- a text of one key that properly begins one of them
+text_front : (text : List ℕ) (k : KeyEvent) → text ≢ [] → Single text k → BeginsExtended Kitty text → IsFront text
 text_front [] k some is x = absurd (some refl)
 text_front (y ∷ u) k some (plainly (by_row r)) x = row_front (y ∷ u) k (row_is (y ∷ u) k r) x
 text_front (y ∷ u) k some (plainly (by_character c scalar e g)) x =
-    let form = begins_form y u x in
-    let none : u ≡ [] = escape_character c u scalar (sym e ∙ ap (λ b. b ∷ u) form.first) in
-    escape_alone (cc (form.first, none))
+    let mark = begins_mark y u x in
+    let none : u ≡ [] = escape_character c u scalar (sym e ∙ ap (λ b. b ∷ u) mark.first) in
+    escape_alone (cc (mark.first, none))
 text_front (y ∷ u) k some (plainly (by_broken_byte b e g)) x =
-    let form = begins_form y u x in escape_alone (cc (form.first, e))
-text_front (y ∷ []) k some (after_escape t j e p g) x = let form = begins_form y [] x in escape_alone (cc (form.first))
+    let mark = begins_mark y u x in escape_alone (cc (mark.first, e))
+text_front (y ∷ []) k some (after_escape t j e p g) x = let mark = begins_mark y [] x in escape_alone (cc (mark.first))
 text_front (y ∷ z ∷ []) k some (after_escape t j e p g) x =
-    let form = begins_form y (z ∷ []) x in
-    let same : form.second ≡ z = cc (form.after) in
-    with_second z (subst IsSecond same form.is_second) (cc (form.first))
+    let mark = begins_mark y (z ∷ []) x in
+    let same : mark.second ≡ z = cc (mark.after) in
+    with_second z (subst IsSecond same mark.is_second) (cc (mark.first))
 text_front (y ∷ z ∷ w ∷ u) k some (after_escape t j e p g) x =
-    let form = begins_form y (z ∷ w ∷ u) x in
-    let same : form.second ≡ z = cc (form.after) in
-    absurd (second_byte z (w ∷ u) t j (subst IsSecond same form.is_second) (λ n. cc (n)) (cc (e)) p)
+    let mark = begins_mark y (z ∷ w ∷ u) x in
+    let same : mark.second ≡ z = cc (mark.after) in
+    absurd (second_byte z (w ∷ u) t j (subst IsSecond same mark.is_second) (λ n. cc (n)) (cc (e)) p)
 
--- A text of one key that begins a sequence of the port, a character or an extra sequence is that of a key that waits.
+-- A text of one key that properly begins a sequence, a character or an opening is that of a key that waits.
 pub text_waits : (text : List ℕ) (k : KeyEvent) → IsKeyOf text k → text ≢ [] → BeginsKnown Kitty text → ¬ MayGoOn text
     → Waits k
 text_waits text k means some (inl beginning) never =
@@ -163,12 +164,12 @@ no_second_escape r (one y l e) = cc (e)
 no_second_escape r (more [] n e p) = n refl
 no_second_escape r (more (x ∷ t) n e p) = (let same : x ≡ 27 = cc (e) in omega (arith, p.0.0))
 
--- what is read after an ESC, and properly begins an extra sequence
+-- what is read after an ESC, and properly begins an extra sequence or an opening
 data IsFrontKey (v : List ℕ) (j : KeyEvent) : Type 0 where
   escape_only : v ≡ ESC → IsFrontKey v j
   second_key : (b : ℕ) → IsSecond b → j ≡ key_with (Char b) ALT → IsFrontKey v j
 
-front_key : (v : List ℕ) (j : KeyEvent) → v ≢ [] → Plainly v j → IsUnfinishedExtra Kitty v → IsFrontKey v j
+front_key : (v : List ℕ) (j : KeyEvent) → v ≢ [] → Plainly v j → BeginsExtended Kitty v → IsFrontKey v j
 front_key v j some (by_row r) x = go (row_front v j (row_is v j r) x)
   where
     go : IsFront v → IsFrontKey v j
@@ -178,11 +179,11 @@ front_key v j some (by_row r) x = go (row_front v j (row_is v j r) x)
         (subst (λ t. IsKeyOf t j) e (row_means v j r (λ start. cc (e, start)))) (second_sent b second))
 front_key [] j some (by_character c scalar e g) x = absurd (some refl)
 front_key (y ∷ u) j some (by_character c scalar e g) x =
-    let form = begins_form y u x in
-    let none : u ≡ [] = escape_character c u scalar (sym e ∙ ap (λ b. b ∷ u) form.first) in
-    escape_only (cc (form.first, none))
+    let mark = begins_mark y u x in
+    let none : u ≡ [] = escape_character c u scalar (sym e ∙ ap (λ b. b ∷ u) mark.first) in
+    escape_only (cc (mark.first, none))
 front_key [] j some (by_broken_byte b e g) x = absurd (some refl)
-front_key (y ∷ u) j some (by_broken_byte b e g) x = let form = begins_form y u x in escape_only (cc (form.first, e))
+front_key (y ∷ u) j some (by_broken_byte b e g) x = let mark = begins_mark y u x in escape_only (cc (mark.first, e))
 
 -- The same of what follows its ESC.
 pub rest_waits : (text v : List ℕ) (k : KeyEvent) → IsKeyOf text k → text ≡ ESC ++ v → v ≢ [] → BeginsKnown Kitty v
@@ -192,11 +193,11 @@ rest_waits text v k means split some (inl beginning) never =
 rest_waits text [] k means split some (inr x) never = absurd (some refl)
 rest_waits text (y ∷ u) k means split some (inr x) never = go (single text k means)
   where
-    form : BeginsForm y u
-    form = begins_form y u x
+    mark : BeginsMark y u
+    mark = begins_mark y u x
 
     all : text ≡ 27 ∷ 27 ∷ u
-    all = split ∙ ap (λ b. 27 ∷ b ∷ u) form.first
+    all = split ∙ ap (λ b. 27 ∷ b ∷ u) mark.first
 
     after : (j : KeyEvent) → k ≡ with_alt j → IsFrontKey (y ∷ u) j → Waits k
     after j g (escape_only e) = escapes_wait text k means (split ∙ ap (λ t. 27 ∷ t) e)

@@ -10,8 +10,8 @@ use Rattle.termwiz_extended_events.specs.declared.types.Protocol.{Protocol}
 use Rattle.termwiz_extended_grammar.specs.ExtendedGrammar.{BeginsKnown, Means}
 use Rattle.termwiz_extended_grammar.specs.ExtendedLaws.{HasNoExtra, LooksAt}
 use Rattle.termwiz_extended_grammar.specs.ExtendedLaws.LooksAt.{at_item, after_escape}
-use Rattle.termwiz_extended_grammar.proofs.lemmas.forms.FormBytes.{form_shape}
-use Rattle.termwiz_extended_grammar.proofs.lemmas.forms.ExtraFacts.{none_at_end}
+use Rattle.termwiz_extended_grammar.proofs.lemmas.forms.FormBytes.{mark_shape}
+use Rattle.termwiz_extended_grammar.proofs.lemmas.forms.ExtraFacts.{completed_mark, mark_from_unfinished, none_at_end}
 use Rattle.termwiz_extended_grammar.proofs.lemmas.items.ExtendedItems.{starts_shape}
 use Rattle.termwiz_extended_grammar.proofs.lemmas.cuts.SameAsPort.{conservative}
 
@@ -34,7 +34,7 @@ looked_at T u f a (at_item E steps) = left_over E T u f steps a
 looked_at T u f a (after_escape E before steps is splits) =
     after_front ESC u (subst HasNoEscape splits (left_over E T before f steps a))
 
--- no extra sequence begins without ESC
+-- no extra sequence and no opening begins without ESC
 has_no_extra : (protocol : Protocol) (u : List ℕ) (f : Bool) → HasNoEscape u → HasNoExtra protocol u f
 has_no_extra protocol [] f a = record { none = none_at_end protocol; open_to_port = λ h. absurd (h.some refl) }
 has_no_extra protocol (c ∷ t) f a = record {
@@ -44,7 +44,10 @@ has_no_extra protocol (c ∷ t) f a = record {
   where
     to_port : BeginsKnown protocol (c ∷ t) → IsBeginning (c ∷ t)
     to_port (inl b) = b
-    to_port (inr x) = (let s = form_shape (c ∷ t ++ x.tail) x.is_extra.is_form in absurd (a.0 (cc (s.2))))
+    to_port (inr x) =
+        let m = completed_mark (c ∷ t) (mark_from_unfinished protocol (c ∷ t) x) in
+        let s = mark_shape (c ∷ t ++ m.0) m.2 in
+        absurd (a.0 (cc (s.2)))
 
 pub same_without_escape : (protocol : Protocol) (T W : List ℕ) (E : List InputEvent) (f : Bool) → HasNoEscape T → port.Means T f E W
     → Means protocol T f (map (λ e. Input e) E) W
