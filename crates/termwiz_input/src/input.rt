@@ -1,5 +1,5 @@
 //! The parser: bytes of a terminal to events.
-ghost use Rattle.std.specs.Prelude.{◌≡◌, ◌≢◌, ◌++◌, ◌+◌, ◌^◌, ◌<◌, ◌≤◌, max, ℕ, Bool, List, [], ◌∷◌, length, drop, Contains, Some, true, false, OnErr, IfOk, IfErr, IfSome, IfNone, IsSome, IsTrue, ◌↔◌, ◌==◌, ◌⊎◌, slice_index_or, if◌then◌else◌, OnOk, IsOk, IsErrOf, vec_len, vec_capacity};
+ghost use Rattle.std.specs.Prelude.{◌≡◌, ◌≢◌, ◌++◌, ◌+◌, ◌^◌, ◌<◌, ◌≤◌, max, ℕ, Bool, List, [], ◌∷◌, length, take, drop, Contains, Some, true, false, OnErr, IfOk, IfErr, IfSome, IfNone, IsSome, IsTrue, ◌↔◌, ◌==◌, ◌⊎◌, slice_index_or, if◌then◌else◌, OnOk, IsOk, IsErrOf, vec_len, vec_capacity};
 ghost use Rattle.std.specs.Arc.{arc_value};
 ghost use Rattle.termwiz_keys.specs.declared.types.KeyEvent.{KeyEvent};
 ghost use Rattle.termwiz_keymap.specs.Bytes.{Begins};
@@ -312,8 +312,7 @@ impl InputParser {
         requires { IsDecidedTo self.old end }
         ensures { self.new ≡ START ++ drop end self.old }
     {
-        self.buffer.cut_out(PASTE_START.len(), end);
-        self.searched = 0;
+        self.cut_out(PASTE_START.len(), end);
     }
 
     /// Takes text of an open paste before its end comes, if more than `limit` bytes of the text are buffered. `None` if no more are, or no paste
@@ -397,6 +396,18 @@ impl InputParser {
         ensures { self.new ≡ drop len self.old }
     {
         self.buffer.advance(len);
+        self.searched = 0;
+    }
+
+    /// Takes buffered bytes out, from the place `from` up to `to`, as if they had never come. It asks for no memory.
+    ///
+    /// It is for such a parser too, where a sequence of its own leaves its beginning.
+    pub fn cut_out(&mut self, from: usize, to: usize)
+        requires in_order { from ≤ to }
+        requires within { to ≤ length self.old }
+        ensures { self.new ≡ take from self.old ++ drop to self.old }
+    {
+        self.buffer.cut_out(from, to);
         self.searched = 0;
     }
 

@@ -1,3 +1,4 @@
 pub mod calls
 pub mod forms
 pub mod fronts
+pub mod strings

@@ -2,3 +2,4 @@ pub mod Buffered
 pub mod EventCallbacks
 pub mod NextItems
 pub mod FormAnswers
+pub mod StringAnswers

@@ -1,4 +1,4 @@
--- What is at the front of a text, as far as extra sequences go.
+-- What is at the front of a text, as far as extra sequences and strings go.
 use Rattle.std.specs.Prelude.{◌≡◌, ◌⊎◌, ◌++◌, ℕ, ◌<◌, ◌≤◌, ◌-◌, Bool, true, false, List, [], ◌∷◌, length, take, Contains, Option, Result, IfOk, IfSome, IfNone, OnErr}
 use Rattle.termwiz_keymap.specs.Bytes.{Begins}
 use Rattle.termwiz_keys.specs.Introducers.{ESC, START}
@@ -18,17 +18,19 @@ use Rattle.termwiz_extended_events.specs.Meanings.{event_of, IsKeyOrPosition, Ne
 use Rattle.termwiz_grammar.specs.Grammar.{IsOpen, IsUnfinishedSequence}
 use Rattle.termwiz_grammar.specs.Table.{rows as table_rows}
 use Rattle.termwiz_extended_grammar.specs.Forms.{IsForm, IsUnfinishedForm}
-use Rattle.termwiz_extended_grammar.specs.ExtraSequences.{IsExtra, StartsWithExtra}
-use Rattle.termwiz_extended_grammar.specs.ExtendedGrammar.{HasItem, IsRest, Stands, Steps}
+use Rattle.termwiz_extended_grammar.specs.ExtraSequences.{IsExtra}
+use Rattle.termwiz_extended_grammar.specs.Strings.{StartsWithOpening, IsUnfinishedOpening}
+use Rattle.termwiz_extended_grammar.specs.ExtendedGrammar.{HasItem, IsRest, Stands, StartsExtended, Steps}
 use Rattle.termwiz_extended_grammar.specs.ExtendedLaws.{HasNoExtra}
 use Rattle.termwiz_input_extended.specs.declared.next_item.FormMatch.{FormMatch}
 use Rattle.termwiz_input_extended.specs.declared.next_item.FormMatch.TheVariants as front
 use Rattle.termwiz_input_extended.specs.declared.next_item.NextItem.{NextItem}
-use Rattle.termwiz_input_extended.specs.declared.next_item.NextItem.TheVariants.{Control, Key, Form, MouseReport, Escape, AltEscape, Paste, Usual, Incomplete}
+use Rattle.termwiz_input_extended.specs.declared.next_item.NextItem.TheVariants.{Control, Key, Form, String, MouseReport, Escape, AltEscape, Paste, Usual, Incomplete}
 use Rattle.termwiz_input_extended.specs.declared.next_item.RowMatch.{RowMatch}
 use Rattle.termwiz_input_extended.specs.declared.next_item.RowMatch.TheVariants.{Long, Short, Begun, Absent}
 use Rattle.termwiz_input_extended.specs.Buffered.{Buffered}
 use Rattle.termwiz_input_extended.specs.FormAnswers.{IsScanned, NoFormBegins}
+use Rattle.termwiz_input_extended.specs.StringAnswers.{IsStringItem}
 
 -- the text is read as a report of a key or of the cursor's position, even if it is a row
 abbrev pub IsReported : Protocol → List ℕ → Type 0
@@ -44,14 +46,24 @@ pub record IsPlainForm (u : List ℕ) (len : ℕ) : Type 0 where
   pub form : IsForm (take len u)
   pub no_mouse : (event : MouseEvent) → ¬ IsMouseReport (take len u) event
 
--- what form is at the front of a text
+-- no form and no opening begins a text
+pub record BeginsWithNone (u : List ℕ) : Type 0 where
+  pub no_form : NoFormBegins u
+  pub no_opening : ¬ StartsWithOpening u
+
+-- a text properly begins a form or an opening
+abbrev pub IsUnfinishedFront : List ℕ → Type 0
+IsUnfinishedFront u = IsUnfinishedForm u ⊎ IsUnfinishedOpening u
+
+-- What form or opening is at the front of a text. Of an unfinished one the search goes on from a place.
 abbrev pub IsFormMatch : List ℕ → FormMatch → Type 0
 IsFormMatch u (front.Form len) = IsPlainForm u len
+IsFormMatch u front.Opening = StartsWithOpening u
 IsFormMatch u front.MouseReport = (event : MouseEvent) × (len : ℕ) × (len ≤ length u) × IsMouseReport (take len u) event
-IsFormMatch u front.Unfinished = NoFormBegins u × IsUnfinishedForm u
-IsFormMatch u front.Absent = NoFormBegins u × (¬ IsUnfinishedForm u)
+IsFormMatch u (front.Unfinished place) = BeginsWithNone u × IsUnfinishedFront u × IsScanned u place × (place ≤ length u)
+IsFormMatch u front.Absent = BeginsWithNone u × (¬ IsUnfinishedFront u)
 
--- neither the text nor what follows its ESC begins with an extra sequence, or is open but to the port
+-- neither the text nor what follows its ESC begins with an extra sequence or an opening, or is open but to the port
 pub record IsPortsOwn (protocol : Protocol) (u : List ℕ) (more : Bool) : Type 0 where
   pub here : HasNoExtra protocol u more
   pub after : (v : List ℕ) → u ≡ ESC ++ v → HasNoExtra protocol v more
@@ -107,8 +119,9 @@ abbrev pub IsNextItem : Protocol → List ℕ → Bool → NextItem → Type 0
 IsNextItem protocol u more (Control byte) = (rest : List ℕ) × (u ≡ byte ∷ rest) × IsControlKey byte
 IsNextItem protocol u more (Key key len) = IsPortsOwn protocol u more × IsItemAt u more (PortsKey key.now) len
 IsNextItem protocol u more (Form len) = IsFormAt protocol u len
+IsNextItem protocol u more (String item) = IsStringItem u more item
 IsNextItem protocol u more (MouseReport event len) = (len ≤ length u) × IsMouseReport (take len u) event
-IsNextItem protocol u more Escape = (v : List ℕ) × (u ≡ ESC ++ v) × StartsWithExtra protocol v
+IsNextItem protocol u more Escape = (v : List ℕ) × (u ≡ ESC ++ v) × StartsExtended protocol v
 IsNextItem protocol u more AltEscape = IsPortsOwn protocol u more × IsItemAt u more (PortsKey (with_alt escape)) 2
 IsNextItem protocol u more Paste = Begins START u
 IsNextItem protocol u more Usual = IsPortsOwn protocol u more
@@ -116,9 +129,9 @@ IsNextItem protocol u more (Incomplete place) = IsRest protocol u more × IsScan
 
 -- an item stands at u whose event has a text or bytes of its own
 pub record HasItemThatNeedsMemory (protocol : Protocol) (u : List ℕ) (more : Bool) : Type 0 where
-  pub bytes : List ℕ
+  pub left : List ℕ
   pub event : ExtendedEvent
-  pub stands : Stands protocol u more bytes event
+  pub stands : Stands protocol u more left event
   pub needs : NeedsMemory event
 
 -- the events that a text gives, as far as they are read, need no memory

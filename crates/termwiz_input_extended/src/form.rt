@@ -1,20 +1,21 @@
 // Forms of extra sequences, recognised at the front of a text: control sequences, X10 mouse reports, console and keypad keys, and
-// strings.
-//
-// A string may come in many reads, so what was looked at of it before is not looked at again.
+// titles.
 ghost use Rattle.std.specs.Prelude.{◌≡◌, ◌≢◌, ◌+◌, ◌<◌, ◌≤◌, ◌↔◌, List, [], ◌∷◌, ◌++◌, length, take, slice_index, IsTrue};
 ghost use Rattle.std.specs.List.{AllByRecursion};
 ghost use Rattle.termwiz_keys.specs.Introducers.{ESC, CSI, SS3};
 ghost use Rattle.termwiz_extended_grammar.specs.Forms.{
+  introducer,
   IsInner,
   IsFinal,
-  IsData,
   IsConsoleLetter,
   IsKeypadLetter,
-  IsStringIntroducer,
+  IsTitleLetter,
   IsUnfinishedForm,
 };
 ghost use Rattle.termwiz_input_extended.specs.FormAnswers.{HasForm, IsScanned, IsRow};
+
+use crate::string::{EndAt, TYPED_TITLE, data_end, end_at};
+use termwiz_extended_events::types::StringKind;
 
 // What is at the front of a text, as far as the forms of extra sequences go.
 #[derive(Clone, Copy)]
@@ -29,21 +30,11 @@ pub(crate) enum FormAt {
 
 pub(crate) const ESCAPE: u8 = 0x1b;
 
-const BELL: u8 = 0x07;
-
-// What introduces an operating system command, after ESC.
-const OSC: u8 = b']';
-
-// How many bytes a control sequence may have, and a string.
+// How many bytes a control sequence may have.
 const MOST_CONTROL: usize = 256;
 
-const MOST_STRING: usize = 65536;
-
 // How many bytes ESC and the byte after it are.
-const INTRODUCED: usize = 2;
-
-// How many bytes a text has at most that begins a form of a fixed length.
-const MOST_FIXED: usize = 5;
+pub(crate) const INTRODUCED: usize = 2;
 
 // Whether a byte may stand in a control sequence before its last one.
 fn is_inner(byte: u8) -> bool
@@ -53,17 +44,10 @@ fn is_inner(byte: u8) -> bool
 }
 
 // Whether a byte ends a control sequence.
-fn is_final(byte: u8) -> bool
+pub(crate) fn is_final(byte: u8) -> bool
     ensures { IsTrue result ↔ IsFinal byte }
 {
     matches!(byte, 0x40..=0x7e)
-}
-
-// Whether a byte may stand in a string.
-fn is_data(byte: u8) -> bool
-    ensures { IsTrue result ↔ IsData byte }
-{
-    byte >= 0x20 && byte != 0x7f
 }
 
 // Whether a byte is the letter of a function key of the Linux console.
@@ -78,6 +62,13 @@ fn is_keypad_letter(byte: u8) -> bool
     ensures { IsTrue result ↔ IsKeypadLetter byte }
 {
     matches!(byte, b'M' | b'X' | b'E' | b'j'..=b'y')
+}
+
+// Whether a byte is the letter of a title.
+pub(crate) fn is_title_letter(byte: u8) -> bool
+    ensures { IsTrue result ↔ IsTitleLetter byte }
+{
+    matches!(byte, b'l' | b'L')
 }
 
 // Whether what follows ESC [ begins like a row with `$`: a digit from 1 to 8, and `$`.
@@ -175,50 +166,32 @@ fn bracketed_at(rest: &[u8], scanned: usize) -> FormAt
     }
 }
 
-// The string at the front of ESC, its introducer and the rest, which has data up to the byte at `len`.
-fn string_end_at(introducer: u8, rest: &[u8], len: usize) -> FormAt
-    requires introducer { IsStringIntroducer introducer }
-    requires inside { len < length rest.now }
-    requires short { INTRODUCED + len < MOST_STRING }
-    requires data { AllByRecursion IsData (take len rest.now) }
-    requires end { ¬ IsData (slice_index rest.now len) }
-    ensures { HasForm (ESC ++ introducer ∷ rest.now) result }
+// The title at the front of ESC ] and the rest, which begins with the letter of a title.
+fn lettered_title_at(rest: &[u8]) -> FormAt
+    requires some { rest.now ≢ [] }
+    requires letter { IsTitleLetter (slice_index rest.now 0) }
+    ensures { HasForm (introducer StringKind.Osc ++ rest.now) result }
 {
-    let byte = rest[len];
-    if byte == BELL && introducer == OSC {
-        return FormAt::Whole(INTRODUCED + len + 1);
-    }
-    if byte != ESCAPE || INTRODUCED + len + 2 > MOST_STRING {
+    let body = &rest[1..];
+    let len = data_end(StringKind::Osc, &body[..body.len().min(TYPED_TITLE)]);
+    if len == TYPED_TITLE {
         return FormAt::Absent;
     }
-    match rest.get(len + 1) {
-        Some(second) => {
-            if *second == b'\\' {
-                FormAt::Whole(INTRODUCED + len + 2)
-            } else {
-                FormAt::Absent
-            }
-        }
-        None => FormAt::Unfinished,
+    match end_at(StringKind::Osc, &body[len..]) {
+        EndAt::End(end) => FormAt::Whole(INTRODUCED + 1 + len + end),
+        EndAt::Held => FormAt::Unfinished,
+        EndAt::Escape | EndAt::Escapes => FormAt::Absent,
     }
 }
 
-// The form at the front of ESC, a string's introducer and the rest, of which the first bytes were looked at before.
-fn string_at(introducer: u8, rest: &[u8], scanned: usize) -> FormAt
-    requires introducer { IsStringIntroducer introducer }
-    requires scanned { AllByRecursion IsData (take scanned rest.now) }
-    ensures { HasForm (ESC ++ introducer ∷ rest.now) result }
+// The form at the front of ESC ] and the rest. It is a title.
+fn title_at(rest: &[u8]) -> FormAt
+    ensures { HasForm (introducer StringKind.Osc ++ rest.now) result }
 {
-    for len in scanned..rest.len().min(MOST_STRING - INTRODUCED) {
-        if !is_data(rest[len]) {
-            return string_end_at(introducer, rest, len);
-        }
-    }
-    let shortest_end = if introducer == OSC { 1 } else { 2 };
-    if rest.len() <= MOST_STRING - INTRODUCED - shortest_end {
-        FormAt::Unfinished
-    } else {
-        FormAt::Absent
+    match rest.first() {
+        Some(letter) if is_title_letter(*letter) => lettered_title_at(rest),
+        Some(_) => FormAt::Absent,
+        None => FormAt::Unfinished,
     }
 }
 
@@ -239,21 +212,20 @@ pub(crate) fn form_at(text: &[u8], scanned: usize) -> FormAt
     match text[1] {
         b'[' => bracketed_at(rest, scanned),
         b'O' => keypad_key_at(rest),
-        introducer @ (b']' | b'P' | b'_') => string_at(introducer, rest, scanned),
+        b']' => title_at(rest),
         _ => FormAt::Absent,
     }
 }
 
-// Where the next search starts once more bytes come. It starts at the last byte, which may begin the end of a string. A short text is
-// searched from the start, since its form may have a fixed length.
+// Where the next search starts once more bytes come: in a control sequence at its last byte, else at the start.
 pub(crate) fn next_scan(text: &[u8]) -> usize
     requires { IsUnfinishedForm text.now }
     ensures place { IsScanned text.now result }
     ensures within { result ≤ length text.now }
 {
-    if text.len() <= MOST_FIXED {
-        0
-    } else {
+    if text.len() > INTRODUCED && text[1] == b'[' && is_inner(text[INTRODUCED]) {
         text.len() - 1
+    } else {
+        0
     }
 }

@@ -1,5 +1,5 @@
 //! The extended parser.
-ghost use Rattle.std.specs.Prelude.{◌≡◌, ◌≢◌, ◌++◌, ◌+◌, ◌≤◌, ◌<◌, max, ℕ, Bool, List, [], ◌∷◌, length, drop, true, false, OnErr, IfOk, IfErr, IfSome, IfNone, IsSome, IsTrue, ◌↔◌, ◌⊎◌, OnOk, IsOk, IsErrOf, vec_len, vec_capacity};
+ghost use Rattle.std.specs.Prelude.{◌≡◌, ◌≢◌, ◌++◌, ◌+◌, ◌≤◌, ◌<◌, max, ℕ, Bool, List, [], ◌∷◌, length, take, drop, true, false, OnErr, IfOk, IfErr, IfSome, IfNone, IsSome, IsTrue, ◌↔◌, ◌⊎◌, OnOk, IsOk, IsErrOf, vec_len, vec_capacity};
 ghost use Rattle.termwiz_keymap.specs.Bytes.{Begins};
 ghost use Rattle.termwiz_keys.specs.Introducers.{START};
 ghost use Rattle.termwiz_keys.specs.declared.types.InputEvent.TheVariants as Port;
@@ -8,20 +8,24 @@ ghost use Rattle.termwiz_grammar.specs.WaitingKinds.{IsOneOrTwoEscapes, IsOpenPa
 ghost use Rattle.termwiz_extended_events.specs.declared.types.ExtendedEvent.{ExtendedEvent as Event};
 ghost use Rattle.termwiz_extended_grammar.specs.ExtendedGrammar.{HasItem, IsRest, Means, Steps};
 ghost use Rattle.termwiz_extended_grammar.specs.ExtendedKinds.{IsKind};
+ghost use Rattle.termwiz_extended_grammar.specs.ExtendedLaws.{Waits};
 ghost use Rattle.termwiz_input_extended.specs.EventCallbacks.{MayBeCalledOn, WasCalledOn};
 ghost use Rattle.termwiz_input_extended.specs.NextItems.{Emits, GivesNoneThatNeedsMemory, HasItemThatNeedsMemory, IsNextItem, IsFormAt, IsPasteEvent, IsPortsOwn, Stores};
-ghost use Rattle.termwiz_input_extended.specs.Buffered.{IsBoundedOrOpenPaste};
+ghost use Rattle.termwiz_input_extended.specs.StringAnswers.{IsStringItem};
 
 use crate::characters::{control_key, match_character};
-use crate::next_item::{NextItem, is_extra_at, next_item, plain_report_at};
+use crate::form::INTRODUCED;
+use crate::next_item::{NextItem, is_extra_at, next_item, plain_report_at, string_meaning};
+use crate::string::{OpeningAt, StringItem, opening_at};
 use std::alloc::{AllocError, Global};
 use std::marker::Model;
 use termwiz_extended_events::meanings::meaning_of;
 use termwiz_extended_events::types::{ExtendedEvent, Protocol};
-pub use termwiz_input::input::{ParseError, Waiting};
+pub use termwiz_extended_grammar::waiting::ExtendedWaiting;
+pub use termwiz_input::input::ParseError;
 use termwiz_input::input::{
-    InputEvent, InputParser, KeyEvent, MouseEvent, PastedText, alt_key, copied, escape_key,
-    plain_key,
+    InputEvent, InputParser, KeyEvent, MouseEvent, PastedText, Waiting, alt_key, copied,
+    escape_key, plain_key,
 };
 
 /// A call of [`ExtendedParser::parse_as_vec`] was refused memory. No event is lost: the parser has consumed exactly what `events` came from,
@@ -196,6 +200,16 @@ impl ExtendedParser {
         self.scanned = 0;
     }
 
+    // Takes buffered bytes out, from one place to another. What is left wasn't looked at.
+    fn cut_out(&mut self, from: usize, to: usize)
+        requires in_order { from ≤ to }
+        requires within { to ≤ length self.old.text }
+        ensures { self.new ≡ record self.old { text = take from self.old.text ++ drop to self.old.text } }
+    {
+        self.parser.cut_out(from, to);
+        self.scanned = 0;
+    }
+
     /// Buffers bytes. If memory is refused, the parser is unchanged; no bytes need no memory.
     ///
     /// Then call [`ExtendedParser::next_event`] until it returns `None`.
@@ -205,6 +219,18 @@ impl ExtendedParser {
         ensures no_bytes { OnErr result (bytes.now ≢ []) }
     {
         self.parser.feed(bytes)
+    }
+
+    // Consumes the item of a string at the front of the buffer, and returns its event. The opening of a part stays.
+    #[inline(never)]
+    fn next_string(&mut self, item: StringItem) -> Result<Option<ExtendedEvent>, AllocError>
+        requires { (more : Bool) × IsStringItem self.old.text more item }
+        ensures { (more : Bool) → IsStringItem self.old.text more item → Emits self.old more self.new result }
+    {
+        let bytes = &self.waiting_text()[INTRODUCED..item.end];
+        let event = string_meaning(item, bytes).event(self.alloc)?;
+        self.cut_out(item.kept, item.taken);
+        Ok(Some(event))
     }
 
     // Consumes what the port finds at the front of the buffer.
@@ -277,6 +303,7 @@ impl ExtendedParser {
                 }
                 self.next_form(len, maybe_more)
             }
+            NextItem::String(item) => self.next_string(item),
             NextItem::MouseReport(event, len) => {
                 self.consume(len);
                 Ok(Some(mouse_event(event)))
@@ -302,9 +329,9 @@ impl ExtendedParser {
     /// rest, and the parser is unchanged.
     ///
     /// Pass `maybe_more` as for [`ExtendedParser::parse`]. Memory is needed for the text of a paste or of a key, and for the bytes of `Csi`,
-    /// `Osc`, `Dcs` and `Apc`. If it is refused, the parser is unchanged and the item still at its front, and the same call may be made again.
+    /// `Osc`, `Dcs`, `Apc`, `StringPart` and `StringCut`. If it is refused, the parser is unchanged and the item still at its front, and the same call may be made again.
     /// Any other event needs none.
-    #[tactic(auto, using(crate::proofs::lemmas::fronts::LeftBounded::left_flushed, crate::proofs::lemmas::fronts::LeftBounded::left_bounded))]
+    #[tactic(auto, using(crate::proofs::lemmas::fronts::LeftBounded::left_flushed, crate::proofs::lemmas::fronts::LeftBounded::left_waits))]
     pub fn next_event(&mut self, maybe_more: bool) -> Result<Option<ExtendedEvent>, AllocError>
         ensures event { IfOk result (λ found. IfSome found (λ event. Steps self.old.protocol self.old.text maybe_more (event ∷ []) self.new.text)) }
         ensures protocol { self.new.protocol ≡ self.old.protocol }
@@ -317,8 +344,8 @@ impl ExtendedParser {
         // Without more to come only an open paste stays buffered.
         ensures flushed { maybe_more ≡ false → IfOk result (λ found. IfNone found ((self.new.text ≡ []) ⊎ Begins START self.new.text)) }
 
-        // At most 65536 bytes stay buffered, or an open paste.
-        ensures waits { IfOk result (λ found. IfNone found (IsBoundedOrOpenPaste self.new.text)) }
+        // At most 256 bytes stay buffered, an open string of at most 65535, or an open paste.
+        ensures waits { IfOk result (λ found. IfNone found (Waits self.new.protocol self.new.text maybe_more)) }
     {
         match match_character(self.waiting_text()) {
             Some((character, len)) => {
@@ -332,11 +359,22 @@ impl ExtendedParser {
     /// What kind of bytes stays buffered, once [`ExtendedParser::next_event`] returned `None`, or `parse` succeeded.
     ///
     /// After a pause with `Escape` call [`ExtendedParser::flush_escape`]. Flush a `Sequence` only after a much longer pause, since the line
-    /// may be slow. Never flush a `Character` or a `Paste`.
-    pub fn waiting(&self) -> Waiting
+    /// may be slow, and a `String` after a longer one still, since what comes after the flush is typed text. Never flush a `Character` or
+    /// a `Paste`.
+    pub fn waiting(&self) -> ExtendedWaiting
         ensures { (more : Bool) → IsRest self.now.protocol self.now.text more → IsKind self.now.protocol self.now.text more result }
     {
-        self.parser.waiting()
+        match self.parser.waiting() {
+            Waiting::Nothing => ExtendedWaiting::Nothing,
+            Waiting::Escape => ExtendedWaiting::Escape,
+            Waiting::Character => ExtendedWaiting::Character,
+            Waiting::Paste => ExtendedWaiting::Paste,
+            Waiting::Sequence => match opening_at(self.waiting_text()) {
+                OpeningAt::Opening(..) => ExtendedWaiting::String,
+                OpeningAt::Unfinished => ExtendedWaiting::Sequence,
+                OpeningAt::Absent => ExtendedWaiting::Sequence,
+            },
+        }
     }
 
     /// Emits the Escape key, with ALT if ESC ESC stays buffered. `None` if anything else stays buffered; the parser is then unchanged.
@@ -450,8 +488,8 @@ impl ExtendedParser {
         // Without more to come only an open paste stays buffered.
         ensures flushed { maybe_more ≡ false → OnOk result ((self.new.text ≡ []) ⊎ Begins START self.new.text) }
 
-        // At most 65536 bytes stay buffered, or an open paste.
-        ensures waits { OnOk result (IsBoundedOrOpenPaste self.new.text) }
+        // At most 256 bytes stay buffered, an open string of at most 65535, or an open paste.
+        ensures waits { OnOk result (Waits self.new.protocol self.new.text maybe_more) }
 
         // Exactly the emitted events were consumed, and an item whose event needs memory is at the front.
         ensures refused { OnErr result ((events : List Event) × Steps self.old.protocol self.old.text maybe_more events self.new.text
@@ -487,8 +525,8 @@ impl ExtendedParser {
         // Without more to come only an open paste stays buffered.
         ensures flushed { maybe_more ≡ false → OnOk result ((self.new.text ≡ []) ⊎ Begins START self.new.text) }
 
-        // At most 65536 bytes stay buffered, or an open paste.
-        ensures waits { OnOk result (IsBoundedOrOpenPaste self.new.text) }
+        // At most 256 bytes stay buffered, an open string of at most 65535, or an open paste.
+        ensures waits { OnOk result (Waits self.new.protocol self.new.text maybe_more) }
 
         // If the bytes weren't taken, nothing happened.
         ensures not_taken_same { IsErrOf result ParseError.NotTaken → self.new ≡ self.old }
@@ -589,7 +627,7 @@ impl ExtendedParser {
     /// Pass `maybe_more` as true while more bytes may come: then a text that may yet become a longer sequence or a character
     /// stays buffered. After a pause call [`ExtendedParser::flush_escape`]. Pass false at the end of the input: then only an open
     /// paste stays buffered. No bytes and false are a flush.
-    #[tactic(auto, using(termwiz_extended_grammar::proofs::lemmas::waiting::FlushesLeave::rest_flushed, crate::proofs::lemmas::fronts::LeftBounded::rest_bounded))]
+    #[tactic(auto, using(termwiz_extended_grammar::proofs::lemmas::waiting::FlushesLeave::rest_flushed, termwiz_extended_grammar::proofs::lemmas::items::ExtendedRests::waiting_shape))]
     pub fn parse_as_vec(
         &mut self,
         bytes: &[u8],
@@ -602,8 +640,8 @@ impl ExtendedParser {
         // Without more to come only an open paste stays buffered.
         ensures flushed { maybe_more ≡ false → OnOk result ((self.new.text ≡ []) ⊎ Begins START self.new.text) }
 
-        // At most 65536 bytes stay buffered, or an open paste.
-        ensures waits { OnOk result (IsBoundedOrOpenPaste self.new.text) }
+        // At most 256 bytes stay buffered, an open string of at most 65535, or an open paste.
+        ensures waits { OnOk result (Waits self.new.protocol self.new.text maybe_more) }
 
         // If the bytes weren't taken, nothing happened.
         ensures not_taken_none { IfErr result (λ e. e.taken ≡ false → e.events.items ≡ []) }

@@ -5,6 +5,7 @@ mod characters;
 mod form;
 pub mod input;
 mod next_item;
+mod string;
 
 pub use termwiz_extended_events::types;
 pub use termwiz_extended_grammar::laws;

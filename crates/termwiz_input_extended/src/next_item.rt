@@ -1,4 +1,4 @@
-// What is at the front of a text: an extra sequence, the Escape key before one, or what the port finds there.
+// What is at the front of a text: an extra sequence, a string, the Escape key before one, or what the port finds there.
 ghost use Rattle.std.specs.Prelude.{◌≡◌, ◌≢◌, ◌↔◌, ◌++◌, ℕ, Bool, false, List, [], take, IfSome, IsTrue, Some, Contains};
 ghost use Rattle.termwiz_keymap.specs.Bytes.{Begins};
 ghost use Rattle.termwiz_keys.specs.Introducers.{ESC, START};
@@ -15,27 +15,31 @@ ghost use Rattle.termwiz_extended_events.specs.KeyReports.{plain_report};
 ghost use Rattle.termwiz_extended_events.specs.Meanings.{event_from, event_of};
 ghost use Rattle.termwiz_extended_grammar.specs.Forms.{IsForm};
 ghost use Rattle.termwiz_input_extended.specs.FormAnswers.{IsScanned};
+ghost use Rattle.termwiz_input_extended.specs.StringAnswers.{HasOpening, IsOpeningOf, string_event};
 ghost use Rattle.termwiz_input_extended.specs.NextItems.{IsFormMatch, HasNoLongRow, IsNextItem, IsExtraAt, IsFormAt, IsRowMatch, IsPortsOwn, IsReported, IsScannedTo, IsSomeExtra};
 
 use crate::characters::is_control_key;
 use crate::form::{ESCAPE, FormAt, form_at, next_scan};
+use crate::string::{OpeningAt, StringAt, StringItem, StringManner, opening_at, string_at};
 use termwiz_extended_events::meanings::{Meaning, meaning_of, plain_report};
-use termwiz_extended_events::types::{PlainReport, Protocol};
+use termwiz_extended_events::types::{PlainReport, Protocol, StringKind};
 use termwiz_input::input::{
     FrontReport, InputParser, begins_paste, follows_escape, mouse_report_at,
 };
 use termwiz_input::keymap::Found;
 use termwiz_keys::types::{KeyEvent, MouseEvent};
 
-// What form is at the front of a text. A `usize` is the number of its bytes.
+// What form, or opening of a string, is at the front of a text.
 #[derive(Drop)]
 pub(crate) enum FormMatch {
-    // A form that is no mouse report: an extra sequence, or a row of the sequence table.
+    // A form that is no mouse report, by the number of its bytes: an extra sequence, or a row of the sequence table.
     Form(usize),
+    // The opening of a string.
+    Opening,
     // A mouse report, which has the form of a control sequence.
     MouseReport,
-    // The whole text properly begins a form.
-    Unfinished,
+    // The whole text properly begins a form or an opening. The search goes on from this place.
+    Unfinished(usize),
     // None begins the text, and the text begins none.
     Absent,
 }
@@ -62,9 +66,11 @@ pub(crate) enum NextItem<'k> {
     Key(&'k KeyEvent, usize),
     // A form that is no mouse report: an extra sequence or, under `Protocol::Kitty`, a row of the sequence table.
     Form(usize),
+    // What comes of a string.
+    String(StringItem),
     // A mouse report, which the port finds there too.
     MouseReport(MouseEvent, usize),
-    // The Escape key before an extra sequence.
+    // The Escape key before an extra sequence or a string.
     Escape,
     // The Escape key with ALT: two ESC before a third one.
     AltEscape,
@@ -72,7 +78,7 @@ pub(crate) enum NextItem<'k> {
     Paste,
     // What the port finds there, whatever it is.
     Usual,
-    // No item: more bytes may complete a sequence. The search for the end of an extra one goes on from this place.
+    // No item: more bytes may complete a sequence or a string. The search for the end of an extra one goes on from this place.
     Incomplete(usize),
 }
 
@@ -155,21 +161,84 @@ pub(crate) fn plain_report_at(protocol: Protocol, text: &[u8], len: usize) -> Op
     }
 }
 
-// What form is at the front of a text. The bytes before `scanned` were looked at before.
+// What opening is at the front of a text that begins with ESC. It is quick where the next byte introduces no string.
+#[inline(always)]
+fn match_opening(text: &[u8]) -> OpeningAt
+    requires { Begins ESC text.now }
+    ensures { HasOpening text.now result }
+{
+    match text {
+        [_, b']' | b'P' | b'_', ..] => opening_at(text),
+        [_, _, ..] => OpeningAt::Absent,
+        _ => OpeningAt::Unfinished,
+    }
+}
+
+// What form is at the front of a text where no opening is. The bytes before `scanned` were looked at before.
 #[inline(always)]
 fn match_form(text: &[u8], scanned: usize) -> FormMatch
     requires some { text.now ≢ [] }
+    requires no_opening { HasOpening text.now OpeningAt.Absent }
     requires scanned { IsScanned text.now scanned }
     ensures { IsFormMatch text.now result }
 {
     match mouse_report_at(text) {
         FrontReport::Whole(..) => FormMatch::MouseReport,
-        FrontReport::Begun => FormMatch::Unfinished,
+        FrontReport::Begun => FormMatch::Unfinished(next_scan(text)),
         FrontReport::Absent => match form_at(text, scanned) {
             FormAt::Whole(len) => FormMatch::Form(len),
-            FormAt::Unfinished => FormMatch::Unfinished,
+            FormAt::Unfinished => FormMatch::Unfinished(next_scan(text)),
             FormAt::Absent => FormMatch::Absent,
         },
+    }
+}
+
+// What form or opening is at the front of a text that begins with ESC. The bytes before `scanned` were looked at before.
+#[inline(always)]
+fn match_front(text: &[u8], scanned: usize) -> FormMatch
+    requires escape { Begins ESC text.now }
+    requires scanned { IsScanned text.now scanned }
+    ensures { IsFormMatch text.now result }
+{
+    match match_opening(text) {
+        OpeningAt::Opening(..) => FormMatch::Opening,
+        OpeningAt::Unfinished => FormMatch::Unfinished(0),
+        OpeningAt::Absent => match_form(text, scanned),
+    }
+}
+
+// What is at the front of a text that begins with an opening of so many bytes, of a string of this kind.
+fn item_of_string<'k>(
+    kind: StringKind,
+    opening: usize,
+    text: &[u8],
+    scanned: usize,
+    maybe_more: bool,
+) -> NextItem<'k>
+    requires one { ¬ Begins (ESC ++ ESC) text.now }
+    requires opening { IsOpeningOf text.now kind opening }
+    requires scanned { IsScanned text.now scanned }
+    ensures { (protocol : Protocol) → IsNextItem protocol text.now maybe_more result }
+{
+    match string_at(kind, opening, text, scanned, maybe_more) {
+        StringAt::Item(item) => NextItem::String(item),
+        StringAt::Open(place) => NextItem::Incomplete(place),
+    }
+}
+
+// The meaning of what comes of a string, by its bytes.
+pub(crate) fn string_meaning(item: StringItem, bytes: &[u8]) -> Meaning<'_>
+    ensures { event_from result ≡ Some (string_event item.manner item.kind bytes.now) }
+{
+    let kind = item.kind;
+    match item.manner {
+        StringManner::Whole => match kind {
+            StringKind::Osc => Meaning::Osc(bytes),
+            StringKind::Dcs => Meaning::Dcs(bytes),
+            StringKind::Apc => Meaning::Apc(bytes),
+        },
+        StringManner::Part => Meaning::StringPart { kind, bytes },
+        StringManner::Cut => Meaning::StringCut { kind, bytes },
     }
 }
 
@@ -189,12 +258,13 @@ fn item_of_two_escapes<'k>(
     if let [_, ESCAPE, ..] = after {
         return NextItem::AltEscape;
     }
-    match match_form(after, scanned) {
+    match match_front(after, scanned) {
         FormMatch::Form(len) if is_extra_form(parser, protocol, &after[..len]) => NextItem::Escape,
         FormMatch::Form(_) => NextItem::Usual,
+        FormMatch::Opening => NextItem::Escape,
         FormMatch::MouseReport => NextItem::Usual,
-        FormMatch::Unfinished if maybe_more => NextItem::Incomplete(1 + next_scan(after)),
-        FormMatch::Unfinished => NextItem::Usual,
+        FormMatch::Unfinished(place) if maybe_more => NextItem::Incomplete(1 + place),
+        FormMatch::Unfinished(_) => NextItem::Usual,
         FormMatch::Absent => NextItem::Usual,
     }
 }
@@ -205,6 +275,7 @@ fn item_of_form<'k>(text: &[u8], scanned: usize, maybe_more: bool) -> NextItem<'
     requires escape { Begins ESC text.now }
     requires one { ¬ Begins (ESC ++ ESC) text.now }
     requires no_mouse { HasNoPartInMouseReports text.now }
+    requires no_opening { HasOpening text.now OpeningAt.Absent }
     requires scanned { IsScanned text.now scanned }
     ensures { (protocol : Protocol) → (protocol ≡ Legacy → HasNoLongRow text.now) → IsNextItem protocol text.now maybe_more result }
 {
@@ -227,6 +298,7 @@ fn item_of_short_row<'k>(
     requires escape { Begins ESC text.now }
     requires one { ¬ Begins (ESC ++ ESC) text.now }
     requires no_mouse { HasNoPartInMouseReports text.now }
+    requires no_opening { HasOpening text.now OpeningAt.Absent }
     requires scanned { IsScanned text.now scanned }
     requires row { IsItemAt text.now maybe_more (PortsKey key.now) 2 }
     requires no_row { HasNoLongRow text.now }
@@ -262,9 +334,9 @@ fn match_row<'k>(
     }
 }
 
-// What is at the front of a text that begins with one ESC alone. A mouse report is looked for first.
+// What is at the front of a text that begins with one ESC alone, where no opening is. A mouse report is looked for first.
 #[inline(always)]
-fn item_of_one_escape<'k>(
+fn item_of_sequence<'k>(
     parser: &'k InputParser,
     protocol: Protocol,
     text: &[u8],
@@ -273,6 +345,7 @@ fn item_of_one_escape<'k>(
 ) -> NextItem<'k>
     requires escape { Begins ESC text.now }
     requires one { ¬ Begins (ESC ++ ESC) text.now }
+    requires no_opening { HasOpening text.now OpeningAt.Absent }
     requires scanned { IsScanned text.now scanned }
     ensures { IsNextItem protocol text.now maybe_more result }
 {
@@ -287,6 +360,28 @@ fn item_of_one_escape<'k>(
             RowMatch::Begun => NextItem::Incomplete(0),
             RowMatch::Absent => item_of_form(text, scanned, maybe_more),
         },
+    }
+}
+
+// What is at the front of a text that begins with one ESC alone. A string is looked for first, by its opening.
+#[inline(always)]
+fn item_of_one_escape<'k>(
+    parser: &'k InputParser,
+    protocol: Protocol,
+    text: &[u8],
+    scanned: usize,
+    maybe_more: bool,
+) -> NextItem<'k>
+    requires escape { Begins ESC text.now }
+    requires one { ¬ Begins (ESC ++ ESC) text.now }
+    requires scanned { IsScanned text.now scanned }
+    ensures { IsNextItem protocol text.now maybe_more result }
+{
+    match match_opening(text) {
+        OpeningAt::Opening(kind, len) => item_of_string(kind, len, text, scanned, maybe_more),
+        OpeningAt::Unfinished if maybe_more => NextItem::Incomplete(0),
+        OpeningAt::Unfinished => NextItem::Usual,
+        OpeningAt::Absent => item_of_sequence(parser, protocol, text, scanned, maybe_more),
     }
 }
 

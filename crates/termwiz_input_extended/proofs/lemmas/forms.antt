@@ -1,5 +1,6 @@
 pub mod ControlFronts
 pub mod FixedFronts
 pub mod FrontAnswers
+pub mod LetteredTitles
 pub mod Scanned
-pub mod StringFronts
+pub mod TitleFronts

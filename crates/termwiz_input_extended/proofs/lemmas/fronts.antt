@@ -8,6 +8,8 @@ pub mod KindsByBytes
 pub mod KnownFronts
 pub mod LeftBounded
 pub mod MouseForms
+pub mod OpeningFronts
 pub mod ScannedPlaces
 pub mod StoredItems
+pub mod StringSteps
 pub mod WholeRows

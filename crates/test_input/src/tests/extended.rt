@@ -14,8 +14,8 @@ const MORE: bool = true;
 // A text by its parts, each so many times.
 type Parts = &'static [(&'static [u8], usize)];
 
-// The longest string, of 65536 bytes.
-const LONG_STRING: Parts = &[(b"\x1b]", 1), (b"x", 65532), (b"\x1b\\", 1)];
+// The longest string that has one event, of 65536 bytes.
+const LONG_STRING: Parts = &[(b"\x1b]52;", 1), (b"x", 65529), (b"\x1b\\", 1)];
 
 // A key report with as long a text as fits in 256 bytes.
 const LONG_REPORT: Parts = &[(b"\x1b[97;;", 1), (b"65:", 82), (b"229u", 1)];

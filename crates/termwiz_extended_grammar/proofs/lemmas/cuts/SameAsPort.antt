@@ -102,7 +102,7 @@ usual_after protocol u bytes event f (alt v h k after is is_key) none w split =
     subst (λ x. IsUsual protocol x f) same (usual_from protocol v f after.closed (none v after.escape_head after.splits))
 
 -- the port's item stands where no extra sequence and no opening is met
-usual_item : (protocol : Protocol) (u bytes left : List ℕ) (event : InputEvent) (f : Bool) → port.Stands u f bytes event → u ≡ bytes ++ left
+pub usual_item : (protocol : Protocol) (u bytes left : List ℕ) (event : InputEvent) (f : Bool) → port.Stands u f bytes event → u ≡ bytes ++ left
     → HasNoExtra protocol u f → ((v : List ℕ) → IsLongest u ESC (Row escape) → u ≡ ESC ++ v → HasNoExtra protocol v f)
     → grammar.Stands protocol u f left (Input event)
 usual_item protocol u bytes left event f stands split none after =
@@ -110,7 +110,7 @@ usual_item protocol u bytes left event f stands split none after =
     (usual_after protocol u bytes event f stands.item after)
 
 -- no item stands where none of the port's does, and no extra sequence and no opening is met
-rest_of_port : (protocol : Protocol) (W : List ℕ) (f : Bool) → port.IsRest W f → HasNoExtra protocol W f
+pub rest_of_port : (protocol : Protocol) (W : List ℕ) (f : Bool) → port.IsRest W f → HasNoExtra protocol W f
     → ((v : List ℕ) → IsLongest W ESC (Row escape) → W ≡ ESC ++ v → HasNoExtra protocol v f) → grammar.IsRest protocol W f
 rest_of_port protocol W f rest none after left event (extra text left2 e is split) =
     none.none (inl (record { text = text; event = e; is_extra = is; begins = (left2, split) }))

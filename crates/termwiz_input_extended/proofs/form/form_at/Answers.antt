@@ -2,7 +2,7 @@ use Rattle.std.proofs.Common.{◌≢◌, ℕ, ◌<◌, List, [], ◌∷◌, leng
 use Rattle.termwiz_input_extended.specs.FormAnswers.{HasForm}
 use Rattle.termwiz_input_extended.proofs.lemmas.forms.FixedFronts.{no_escape_at, alone_at, no_second_at}
 use Rattle.termwiz_input_extended.proofs.lemmas.forms.FrontAnswers.{two_first}
-use Rattle.termwiz_input_extended.proofs.lemmas.forms.Scanned.{scanned_control_at, scanned_string_at}
+use Rattle.termwiz_input_extended.proofs.lemmas.forms.Scanned.{scanned_control_at}
 use Rattle.termwiz_input_extended.proofs.form.form_at.Goals as goal
 
 long_text : (u : List ℕ) → u ≢ [] → length u ≢ 1 → 1 < length u
@@ -31,15 +31,10 @@ returns-in-79 c = subst (λ z. HasForm z c.keypad_key_at.result)
     (two_first c.args.text.now 27 79 (long_text c.args.text.now c.requires.some c.if-text-eq1.false)
     c.if-text-ne-ESCAPE.false c.in-79.is) c.keypad_key_at.ensures
 
-pub string_at-requires-clause-scanned : goal.string_at-requires-clause-scanned
-string_at-requires-clause-scanned c = scanned_string_at c.args.text.now c.args.scanned c.saturating_sub-scanned.result
-    (long_text c.args.text.now c.requires.some c.if-text-eq1.false) c.if-text-ne-ESCAPE.false (grind arith)
-    c.saturating_sub-scanned.ensures c.requires.scanned
-
 pub returns-in-93 : goal.returns-in-93
-returns-in-93 c = subst (λ z. HasForm z c.string_at.result)
-    (two_first c.args.text.now 27 (get_or c.args.text.now 1 0)
-    (long_text c.args.text.now c.requires.some c.if-text-eq1.false) c.if-text-ne-ESCAPE.false refl) c.string_at.ensures
+returns-in-93 c = subst (λ z. HasForm z c.title_at.result)
+    (two_first c.args.text.now 27 93 (long_text c.args.text.now c.requires.some c.if-text-eq1.false)
+    c.if-text-ne-ESCAPE.false c.in-93.is) c.title_at.ensures
 
 pub returns-in_default : goal.returns-in_default
 returns-in_default c = no_second_at c.args.text.now (get_or c.args.text.now 1 0)

@@ -3,8 +3,8 @@ use Rattle.std.proofs.Common.{◌≡◌, ◌≢◌, ℕ, suc, ◌+◌, ◌<◌, 
 use Rattle.std.specs.List.{AllByRecursion}
 use Rattle.termwiz_keymap.specs.Bytes.{Begins}
 use Rattle.termwiz_keymap.proofs.lemmas.lists.CommonPrefixes.{Begins-append}
-use Rattle.termwiz_extended_grammar.specs.Forms.{IsInner, IsFinal, IsRowDigit, IsStringIntroducer, IsControl, IsForm}
-use Rattle.termwiz_extended_grammar.specs.Forms.IsForm.{control, x10_report, console_key, keypad_key, string}
+use Rattle.termwiz_extended_grammar.specs.Forms.{IsInner, IsFinal, IsRowDigit, IsControl, IsForm}
+use Rattle.termwiz_extended_grammar.specs.Forms.IsForm.{control, x10_report, console_key, keypad_key, title}
 use Rattle.termwiz_extended_grammar.proofs.lemmas.forms.FormBytes.{first_other}
 use Rattle.termwiz_input_extended.specs.declared.form.FormAt.TheVariants.{Whole, Unfinished, Absent}
 use Rattle.termwiz_input_extended.specs.FormAnswers.{HasForm, IsRow}
@@ -28,11 +28,9 @@ control_of text x t no_mouse no_console (keypad_key f) e = absurd (
     let all : 27 ∷ 79 ∷ f.letter ∷ x ≡ 27 ∷ 91 ∷ t = ap (λ t. t ++ x) (sym f.form) ∙ e in
     let same : ◌≡◌ {A = ℕ} 79 91 = cc (all) in omega arith
     )
-control_of text x t no_mouse no_console (string f) e = absurd (
-    let all : 27 ∷ f.introducer ∷ ((f.body ++ f.end) ++ x) ≡ 27 ∷ 91 ∷ t = ap (λ t. t ++ x) (sym f.form) ∙ e in
-    let same : f.introducer ≡ 91 = cc (all) in
-    let is : IsStringIntroducer f.introducer = f.introducer_is in
-    omega arith
+control_of text x t no_mouse no_console (title f) e = absurd (
+    let all : 27 ∷ 93 ∷ f.letter ∷ ((f.body ++ f.end) ++ x) ≡ 27 ∷ 91 ∷ t = ap (λ t. t ++ x) (sym f.form) ∙ e in
+    let same : ◌≡◌ {A = ℕ} 93 91 = cc (all) in omega arith
     )
 
 final_not_inner : (b : ℕ) → IsFinal b → ¬ IsInner b

@@ -1,10 +1,10 @@
 -- Forms of a fixed length at the front of a text, and texts that no form begins like.
-use Rattle.std.proofs.Common.{◌≡◌, ◌≢◌, inl, ℕ, zero, suc, ◌-◌, ◌<◌, ◌≤◌, List, [], ◌∷◌, ◌++◌, length, take, drop, refl, sym, ap, ◌∙◌, subst, arith, get_or, Some, None}
+use Rattle.std.proofs.Common.{◌≡◌, ◌≢◌, ◌⊎◌, inl, inr, ℕ, zero, suc, ◌-◌, ◌<◌, ◌≤◌, List, [], ◌∷◌, ◌++◌, length, take, drop, refl, sym, ap, ◌∙◌, subst, arith, get_or, Some, None}
 use Rattle.std.specs.List.{slice_get}
 use Rattle.std.specs.List.{AllByRecursion}
-use Rattle.termwiz_extended_grammar.specs.Forms.{IsMouseByte, IsConsoleLetter, IsKeypadLetter, IsStringIntroducer, IsForm}
-use Rattle.termwiz_extended_grammar.specs.Forms.IsForm.{control, x10_report, console_key, keypad_key, string}
-use Rattle.termwiz_extended_grammar.proofs.lemmas.forms.FormBytes.{IsSecond, form_shape}
+use Rattle.termwiz_extended_grammar.specs.Forms.{IsMouseByte, IsConsoleLetter, IsKeypadLetter, IsForm}
+use Rattle.termwiz_extended_grammar.specs.Forms.IsForm.{control, x10_report, console_key, keypad_key, title}
+use Rattle.termwiz_extended_grammar.proofs.lemmas.forms.FormBytes.{form_shape}
 use Rattle.termwiz_input_extended.specs.declared.form.FormAt.TheVariants.{Whole, Unfinished, Absent}
 use Rattle.termwiz_input_extended.specs.FormAnswers.{HasForm}
 use Rattle.termwiz_input_extended.proofs.lemmas.forms.FrontAnswers.{whole_front, unfinished_front, absent_front, first_got, none_got, two_first}
@@ -19,15 +19,26 @@ no_escape b r n = absent_front (b ∷ r) none
         let same : 27 ≡ b = cc (all) in
         n (sym same)
 
-no_second : (b : ℕ) (r : List ℕ) → ¬ IsSecond b → HasForm (27 ∷ b ∷ r) Absent
+-- the byte after the ESC of a form
+abbrev pub IsFormSecond : ℕ → Type 0
+IsFormSecond b = (b ≡ 91) ⊎ ((b ≡ 79) ⊎ (b ≡ 93))
+
+form_second : (text : List ℕ) → IsForm text → (b : ℕ) × (r : List ℕ) × (text ≡ 27 ∷ b ∷ r) × IsFormSecond b
+form_second text (control f) = (91, f.inner ++ f.last ∷ [], f.form, inl refl)
+form_second text (x10_report f) = (91, 77 ∷ f.button ∷ f.x ∷ f.y ∷ [], f.form, inl refl)
+form_second text (console_key f) = (91, 91 ∷ f.letter ∷ [], f.form, inl refl)
+form_second text (keypad_key f) = (79, f.letter ∷ [], f.form, inr (inl refl))
+form_second text (title f) = (93, f.letter ∷ (f.body ++ f.end), f.form, inr (inr refl))
+
+no_second : (b : ℕ) (r : List ℕ) → ¬ IsFormSecond b → HasForm (27 ∷ b ∷ r) Absent
 no_second b r n = absent_front (27 ∷ b ∷ r) none
   where
     none : (text x y : List ℕ) → IsForm text → text ++ x ≡ 27 ∷ b ∷ r ++ y → ⊥
     none text x y f e =
-        let s = form_shape text f in
+        let s = form_second text f in
         let all : 27 ∷ s.0 ∷ (s.1 ++ x) ≡ 27 ∷ b ∷ (r ++ y) = ap (λ t. t ++ x) (sym s.2) ∙ e in
         let same : s.0 ≡ b = cc (all) in
-        n (subst IsSecond same s.4)
+        n (subst IsFormSecond same s.3)
 
 keypad_form : (letter : ℕ) → IsKeypadLetter letter → IsForm (27 ∷ 79 ∷ letter ∷ [])
 keypad_form letter is = keypad_key (record { letter = letter; form = refl; letter_is = is })
@@ -58,11 +69,9 @@ keypad_absent b r n = absent_front (27 ∷ 79 ∷ b ∷ r) none
         let all : 27 ∷ 79 ∷ f.letter ∷ x ≡ 27 ∷ 79 ∷ b ∷ (r ++ y) = ap (λ t. t ++ x) (sym f.form) ∙ e in
         let same : f.letter ≡ b = cc (all) in
         n (subst IsKeypadLetter same f.letter_is)
-    none text x y (string f) e =
-        let all : 27 ∷ f.introducer ∷ ((f.body ++ f.end) ++ x) ≡ 27 ∷ 79 ∷ b ∷ (r ++ y) = ap (λ t. t ++ x) (sym f.form) ∙ e in
-        let same : f.introducer ≡ 79 = cc (all) in
-        let is : IsStringIntroducer f.introducer = f.introducer_is in
-        omega arith
+    none text x y (title f) e =
+        let all : 27 ∷ 93 ∷ f.letter ∷ ((f.body ++ f.end) ++ x) ≡ 27 ∷ 79 ∷ b ∷ (r ++ y) = ap (λ t. t ++ x) (sym f.form) ∙ e in
+        let same : ◌≡◌ {A = ℕ} 93 79 = cc (all) in omega arith
 
 console_form : (letter : ℕ) → IsConsoleLetter letter → IsForm (27 ∷ 91 ∷ 91 ∷ letter ∷ [])
 console_form letter is = console_key (record { letter = letter; form = refl; letter_is = is })
@@ -95,12 +104,9 @@ console_absent b r n = absent_front (27 ∷ 91 ∷ 91 ∷ b ∷ r) none
     none text x y (keypad_key f) e =
         let all : 27 ∷ 79 ∷ f.letter ∷ x ≡ 27 ∷ 91 ∷ 91 ∷ b ∷ (r ++ y) = ap (λ t. t ++ x) (sym f.form) ∙ e in
         let same : ◌≡◌ {A = ℕ} 79 91 = cc (all) in omega arith
-    none text x y (string f) e =
-        let all : 27 ∷ f.introducer ∷ ((f.body ++ f.end) ++ x) ≡ 27 ∷ 91 ∷ 91 ∷ b ∷ (r ++ y) =
-        ap (λ t. t ++ x) (sym f.form) ∙ e in
-        let same : f.introducer ≡ 91 = cc (all) in
-        let is : IsStringIntroducer f.introducer = f.introducer_is in
-        omega arith
+    none text x y (title f) e =
+        let all : 27 ∷ 93 ∷ f.letter ∷ ((f.body ++ f.end) ++ x) ≡ 27 ∷ 91 ∷ 91 ∷ b ∷ (r ++ y) = ap (λ t. t ++ x) (sym f.form) ∙ e in
+        let same : ◌≡◌ {A = ℕ} 93 91 = cc (all) in omega arith
 
 x10_form : (a b c : ℕ) → IsMouseByte a → IsMouseByte b → IsMouseByte c → IsForm (27 ∷ 91 ∷ 77 ∷ a ∷ b ∷ c ∷ [])
 x10_form a b c p q r =
@@ -129,11 +135,9 @@ x10_bytes text x t (keypad_key f) e = absurd (
     let all : 27 ∷ 79 ∷ f.letter ∷ x ≡ 27 ∷ 91 ∷ 77 ∷ t = ap (λ t. t ++ x) (sym f.form) ∙ e in
     let same : ◌≡◌ {A = ℕ} 79 91 = cc (all) in omega arith
     )
-x10_bytes text x t (string f) e = absurd (
-    let all : 27 ∷ f.introducer ∷ ((f.body ++ f.end) ++ x) ≡ 27 ∷ 91 ∷ 77 ∷ t = ap (λ t. t ++ x) (sym f.form) ∙ e in
-    let same : f.introducer ≡ 91 = cc (all) in
-    let is : IsStringIntroducer f.introducer = f.introducer_is in
-    omega arith
+x10_bytes text x t (title f) e = absurd (
+    let all : 27 ∷ 93 ∷ f.letter ∷ ((f.body ++ f.end) ++ x) ≡ 27 ∷ 91 ∷ 77 ∷ t = ap (λ t. t ++ x) (sym f.form) ∙ e in
+    let same : ◌≡◌ {A = ℕ} 93 91 = cc (all) in omega arith
     )
 
 -- a byte below SPACE among the three
@@ -180,7 +184,7 @@ alone_at [] l e = absurd (omega arith)
 alone_at (x ∷ []) l e = subst (λ z. HasForm (z ∷ []) Unfinished) (sym e) escape_alone
 alone_at (x ∷ y ∷ u) l e = absurd (omega arith)
 
-pub no_second_at : (u : List ℕ) (b : ℕ) → 1 < length u → get_or u 0 0 ≡ 27 → get_or u 1 0 ≡ b → ¬ IsSecond b → HasForm u Absent
+pub no_second_at : (u : List ℕ) (b : ℕ) → 1 < length u → get_or u 0 0 ≡ 27 → get_or u 1 0 ≡ b → ¬ IsFormSecond b → HasForm u Absent
 no_second_at u b l e f n =
     subst (λ z. HasForm z Absent) (two_first u 27 b l e f) (no_second b (take (length u - 2) (drop 2 u)) n)
 

@@ -1,12 +1,12 @@
 -- What is at the front of a text, from a form, from a completion, or from the want of both.
-use Rattle.std.proofs.Common.{◌≡◌, ◌≢◌, ℕ, suc, ◌-◌, ◌<◌, ◌≤◌, List, [], ◌∷◌, ◌++◌, length, take, drop, get_or, refl, sym, ap, ◌∙◌, subst, arith, append_assoc, append-nil, length-append, take-append-drop, Some, None, take-take}
+use Rattle.std.proofs.Common.{◌≡◌, ◌≢◌, inl, ℕ, suc, ◌-◌, ◌<◌, ◌≤◌, List, [], ◌∷◌, ◌++◌, length, take, drop, get_or, refl, sym, ap, ◌∙◌, subst, arith, append_assoc, append-nil, length-append, take-append-drop, Some, None, take-take}
 use Rattle.std.specs.List.{slice_get}
 use Rattle.std.proofs.lemmas.List.{take_all, take_rest}
 use Rattle.std.specs.List.{AllByRecursion}
 use Rattle.std.proofs.Math.Seq.{take-append_seam, drop-cons}
 use Rattle.termwiz_keymap.proofs.lemmas.lists.CommonPrefixes.{append-some, true_at_front}
 use Rattle.termwiz_extended_grammar.specs.Forms.{IsForm}
-use Rattle.termwiz_extended_grammar.proofs.lemmas.forms.FormEnds.{form_ends}
+use Rattle.termwiz_extended_grammar.proofs.lemmas.forms.FormEnds.{mark_ends}
 use Rattle.termwiz_input_extended.specs.declared.form.FormAt.TheVariants.{Whole, Unfinished, Absent}
 use Rattle.termwiz_input_extended.specs.FormAnswers.{HasForm}
 
@@ -20,7 +20,7 @@ whole_front text rest len e f = (
 pub unfinished_front : (u c : List ℕ) → c ≢ [] → IsForm (u ++ c) → HasForm u Unfinished
 unfinished_front u c n f = (
   λ text is b.
-      let none = form_ends text (b.0 ++ c) is (subst IsForm (ap (λ z. z ++ c) b.1 ∙ append_assoc text b.0 c) f) in
+      let none = mark_ends text (b.0 ++ c) (inl is) (inl (subst IsForm (ap (λ z. z ++ c) b.1 ∙ append_assoc text b.0 c) f)) in
       append-some b.0 c n none,
   record { tail = c; longer = n; is_form = f },
 )

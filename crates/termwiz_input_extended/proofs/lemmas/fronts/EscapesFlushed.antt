@@ -8,8 +8,7 @@ use Rattle.termwiz_grammar.specs.Grammar as port
 use Rattle.termwiz_grammar.specs.WaitingKinds.{IsOneOrTwoEscapes}
 use Rattle.termwiz_extended_events.specs.declared.types.ExtendedEvent.TheVariants.{Input}
 use Rattle.termwiz_extended_events.specs.declared.types.Protocol.{Protocol}
-use Rattle.termwiz_extended_grammar.specs.ExtraSequences.{StartsWithExtra}
-use Rattle.termwiz_extended_grammar.specs.ExtendedGrammar.{Means}
+use Rattle.termwiz_extended_grammar.specs.ExtendedGrammar.{Means, StartsExtended}
 use Rattle.termwiz_extended_grammar.specs.ExtendedLaws.{HasNoExtra, LooksAt}
 use Rattle.termwiz_extended_grammar.specs.ExtendedLaws.LooksAt.{at_item, after_escape}
 use Rattle.termwiz_extended_grammar.proofs.lemmas.cuts.SameAsPort.{conservative}
@@ -18,8 +17,8 @@ use Rattle.termwiz_extended_grammar.proofs.lemmas.items.ExtendedItems.{starts_sh
 abbrev AreEscapes : List ℕ → Type 0
 AreEscapes u = AllByRecursion (λ b. b ≡ 27) u
 
--- no extra sequence begins among ESCs
-no_extra : (protocol : Protocol) (u : List ℕ) → AreEscapes u → StartsWithExtra protocol u → ⊥
+-- no extra sequence and no opening begins among ESCs
+no_extra : (protocol : Protocol) (u : List ℕ) → AreEscapes u → StartsExtended protocol u → ⊥
 no_extra protocol u all h =
     let s = starts_shape protocol u h in
     let here : AreEscapes (27 ∷ s.0 ∷ s.1) = subst AreEscapes s.2 all in

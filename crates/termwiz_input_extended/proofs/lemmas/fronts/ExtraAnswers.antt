@@ -1,8 +1,7 @@
--- Whether a form is an extra sequence, and what extra sequence begins a text by the form that does.
-use Rattle.std.proofs.Common.{◌≡◌, ℕ, ◌<◌, List, [], ◌++◌, length, take, drop, refl, sym, ap, ◌∙◌, subst, arith, append_assoc, append-nil, length-append, take-append-drop, Contains}
+-- Whether a form is an extra sequence, and what extra sequence or opening begins a text by the form that does.
+use Rattle.std.proofs.Common.{◌≡◌, inl, inr, ℕ, ◌<◌, List, ◌++◌, length, take, drop, refl, sym, ap, ◌∙◌, subst, arith, append_assoc, take-append-drop, Contains}
 use Rattle.termwiz_keymap.specs.Bytes.{Begins}
-use Rattle.termwiz_keymap.proofs.lemmas.lists.CommonPrefixes.{Overlaps, overlap, append-some, length-some}
-use Rattle.termwiz_keymap.proofs.lemmas.lists.CommonPrefixes.Overlaps.{within, past}
+use Rattle.termwiz_keymap.proofs.lemmas.lists.CommonPrefixes.{append-some, length-some}
 use Rattle.termwiz_keys.specs.declared.types.KeyEvent.{KeyEvent}
 use Rattle.termwiz_keys.specs.declared.types.MouseEvent.{MouseEvent}
 use Rattle.termwiz_grammar.specs.Table.{rows as table_rows}
@@ -14,14 +13,15 @@ use Rattle.termwiz_extended_events.specs.declared.types.ExtendedEvent.{ExtendedE
 use Rattle.termwiz_extended_events.specs.declared.types.Protocol.{Protocol}
 use Rattle.termwiz_extended_events.specs.declared.types.Protocol.TheVariants.{Legacy, Kitty}
 use Rattle.termwiz_extended_events.specs.Meanings.{event_of, IsKeyOrPosition}
-use Rattle.termwiz_extended_grammar.specs.Forms.{IsForm}
-use Rattle.termwiz_extended_grammar.specs.ExtraSequences.{IsFree, IsExtra, StartsWithExtra, IsUnfinishedExtra}
-use Rattle.termwiz_input_extended.specs.NextItems.{IsReported, IsSomeExtra}
-use Rattle.termwiz_extended_grammar.proofs.lemmas.forms.FormBytes.{some_end}
-use Rattle.termwiz_extended_grammar.proofs.lemmas.forms.FormKinds.{Kind, form_kind, bracketed_some}
-use Rattle.termwiz_extended_grammar.proofs.lemmas.forms.FormKinds.Kind.{bracketed, keypad, quoted}
-use Rattle.termwiz_extended_grammar.proofs.lemmas.forms.FormEnds.{form_ends, sequence_after_form}
-use Rattle.termwiz_extended_grammar.proofs.lemmas.forms.ExtraFacts.{free_from_none}
+use Rattle.termwiz_extended_grammar.specs.Forms.{introducer, IsForm}
+use Rattle.termwiz_extended_grammar.specs.ExtraSequences.{IsFree, IsExtra}
+use Rattle.termwiz_extended_grammar.specs.Strings.{IsUnfinishedOpening, StartsWithOpening}
+use Rattle.termwiz_extended_grammar.specs.ExtendedGrammar.{BeginsExtended, StartsExtended}
+use Rattle.termwiz_input_extended.specs.NextItems.{IsReported, IsSomeExtra, IsUnfinishedFront}
+use Rattle.termwiz_extended_grammar.proofs.lemmas.forms.FormBytes.{IsMark, form_shape, opening_mark}
+use Rattle.termwiz_extended_grammar.proofs.lemmas.forms.FormEnds.{form_no_opening, mark_ends, sequence_after_mark}
+use Rattle.termwiz_extended_grammar.proofs.lemmas.forms.ExtraFacts.{completed_mark, free_from_none, mark_from_unfinished, unfinished_from_form}
+use Rattle.termwiz_extended_grammar.proofs.lemmas.items.StringItems.{mark_once}
 
 -- a mouse report is no extra sequence
 pub report_not_extra : (protocol : Protocol) (text : List ℕ) (r : MouseEvent) (event : ExtendedEvent) → IsMouseReport text r
@@ -91,42 +91,52 @@ event_is protocol text is = record { is_form = is.1.is_form; is_free = is.1.is_f
 
 -- a form has three bytes or more
 pub form_long : (text : List ℕ) → IsForm text → 2 < length text
-form_long text form = go (form_kind text form)
-  where
-    go : Kind text → 2 < length text
-    go (bracketed r e b) = omega (arith, ap length e, length-some r (bracketed_some r b))
-    go (keypad letter e is) = omega (arith, ap length e)
-    go (quoted introducer body end e is each end_is) =
-        omega (arith, ap length e, length-append body end, length-some end (some_end introducer end end_is))
+form_long text form = (let s = form_shape text form in omega (arith, ap length s.2, length-some s.1 s.3))
 
 module _ (protocol : Protocol) (u : List ℕ) (len : ℕ) (form : IsForm (take len u)) where
-  -- a form that begins the text is the only one
-  form_same : (text : List ℕ) → IsForm text → Begins text u → text ≡ take len u
-  form_same text is b = go (overlap text b.0 (take len u) (drop len u) (take-append-drop len u ∙ b.1))
-    where
-      go : Overlaps text b.0 (take len u) (drop len u) → text ≡ take len u
-      go (within t e f) =
-          let none : t ≡ [] = form_ends text t is (subst (λ x. IsForm x) e form) in
-          sym (e ∙ ap (λ x. text ++ x) none ∙ append-nil text)
-      go (past t n e f) = absurd (n (form_ends (take len u) t form (subst (λ x. IsForm x) e is)))
+  begins : Begins (take len u) u
+  begins = (drop len u, sym (take-append-drop len u))
 
-  -- where the form isn't extra, no extra sequence begins the text, and the text begins none
-  pub no_extra_starts : (((event : ExtendedEvent) × IsExtra protocol (take len u) event) → ⊥) → StartsWithExtra protocol u → ⊥
-  no_extra_starts never h =
-      never (h.event, subst (λ x. IsExtra protocol x h.event) (form_same h.text h.is_extra.is_form h.begins) h.is_extra)
+  -- where the form isn't extra, no extra sequence and no opening begins the text, and the text begins none
+  pub no_extra_starts : (((event : ExtendedEvent) × IsExtra protocol (take len u) event) → ⊥) → StartsExtended protocol u → ⊥
+  no_extra_starts never (inl h) = never (
+    h.event,
+    subst (λ x. IsExtra protocol x h.event) (mark_once u h.text (take len u) (inl h.is_extra.is_form) (inl form) h.begins begins)
+        h.is_extra,
+  )
+  no_extra_starts never (inr o) = form_no_opening (take len u) form (record {
+    kind = o.kind;
+    head = o.head;
+    is_head = o.is_head;
+    form = sym (mark_once u (introducer o.kind ++ o.head) (take len u) (inr (opening_mark u o)) (inl form) o.begins begins);
+  })
 
-  pub no_extra_unfinished : IsUnfinishedExtra protocol u → ⊥
-  no_extra_unfinished h = append-some (drop len u) h.tail h.longer (form_ends (take len u) (drop len u ++ h.tail) form
-      (subst (λ x. IsForm x) (ap (λ x. x ++ h.tail) (sym (take-append-drop len u)) ∙ append_assoc (take len u) (drop len u) h.tail)
-      h.is_extra.is_form))
+  pub no_extra_unfinished : BeginsExtended protocol u → ⊥
+  no_extra_unfinished h =
+      let m = completed_mark u (mark_from_unfinished protocol u h) in
+      append-some (drop len u) m.0 m.1 (mark_ends (take len u) (drop len u ++ m.0) (inl form)
+      (subst IsMark (ap (λ x. x ++ m.0) (sym (take-append-drop len u)) ∙ append_assoc (take len u) (drop len u) m.0) m.2))
 
 -- no extra sequence begins where no form does
 pub no_extra_without_form : (protocol : Protocol) (u : List ℕ) → ((text : List ℕ) → IsForm text → Begins text u → ⊥)
-    → StartsWithExtra protocol u → ⊥
-no_extra_without_form protocol u never h = never h.text h.is_extra.is_form h.begins
+    → (StartsWithOpening u → ⊥) → StartsExtended protocol u → ⊥
+no_extra_without_form protocol u never none (inl h) = never h.text h.is_extra.is_form h.begins
+no_extra_without_form protocol u never none (inr o) = none o
 
 -- no form begins a text that properly begins a sequence of the port
 pub no_form_within : (u : List ℕ) → IsUnfinishedSequence u → (text : List ℕ) → IsForm text → Begins text u → ⊥
 no_form_within u h text form b =
-    append-some b.0 h.tail h.longer (sequence_after_form text (b.0 ++ h.tail) h.meaning form
+    append-some b.0 h.tail h.longer (sequence_after_mark text (b.0 ++ h.tail) h.meaning (inl form)
     (subst (λ t. IsSequence t h.meaning) (ap (λ t. t ++ h.tail) b.1 ∙ append_assoc text b.0 h.tail) h.is_sequence))
+
+-- nor one that properly begins an opening
+pub no_form_before : (u : List ℕ) → IsUnfinishedOpening u → (text : List ℕ) → IsForm text → Begins text u → ⊥
+no_form_before u h text form b =
+    let m = completed_mark u (inr h) in
+    append-some b.0 m.0 m.1 (mark_ends text (b.0 ++ m.0) (inl form)
+    (subst IsMark (ap (λ t. t ++ m.0) b.1 ∙ append_assoc text b.0 m.0) m.2))
+
+-- what properly begins a form or an opening properly begins an extra sequence or an opening
+pub unfinished_from_front : (protocol : Protocol) (u : List ℕ) → IsUnfinishedFront u → BeginsExtended protocol u
+unfinished_from_front protocol u (inl h) = inl (unfinished_from_form protocol u h)
+unfinished_from_front protocol u (inr o) = inr o

@@ -1,5 +1,5 @@
 -- Where a sequence of the port is at the front of a text, or a character, the text is the port's own.
-use Rattle.std.proofs.Common.{◌≡◌, ◌≢◌, ◌⊎◌, ⊎_elim, ℕ, ◌<◌, ◌≤◌, Bool, List, [], ◌∷◌, ◌++◌, length, take, drop, refl, sym, ap, ◌∙◌, subst, arith, append_assoc, append-nil, take-append-drop, length-take-le, get_or}
+use Rattle.std.proofs.Common.{◌≡◌, ◌≢◌, ◌⊎◌, inl, inr, ⊎_elim, ℕ, ◌<◌, ◌≤◌, Bool, List, [], ◌∷◌, ◌++◌, length, take, drop, refl, sym, ap, ◌∙◌, subst, arith, append_assoc, append-nil, take-append-drop, length-take-le, get_or}
 use Rattle.std.specs.Prelude.{codes, slice_index_or, Option, Some, None, IfSome}
 use Rattle.termwiz_keymap.specs.Bytes.{Begins}
 use Rattle.termwiz_keymap.proofs.lemmas.lists.CommonPrefixes.{Overlaps, overlap, append-some}
@@ -27,16 +27,20 @@ use Rattle.termwiz_extended_events.specs.declared.types.Protocol.TheVariants.{Le
 use Rattle.termwiz_extended_events.specs.Meanings.{event_of, IsKeyOrPosition}
 use Rattle.termwiz_extended_events.proofs.Examples.{written_out}
 use Rattle.termwiz_extended_grammar.specs.Forms.{IsForm}
-use Rattle.termwiz_extended_grammar.specs.ExtraSequences.{IsExtra, StartsWithExtra, IsUnfinishedExtra}
-use Rattle.termwiz_extended_grammar.specs.ExtendedGrammar.{Steps}
-use Rattle.termwiz_extended_grammar.proofs.lemmas.forms.FormEnds.{sequence_after_form, form_after_sequence}
+use Rattle.termwiz_extended_grammar.specs.ExtraSequences.{IsExtra}
+use Rattle.termwiz_extended_grammar.specs.Strings.{StartsWithOpening}
+use Rattle.termwiz_extended_grammar.specs.ExtendedGrammar.{BeginsExtended, StartsExtended, Steps}
+use Rattle.termwiz_extended_grammar.proofs.lemmas.forms.ExtraFacts.{completed_mark, mark_from_unfinished}
+use Rattle.termwiz_extended_grammar.proofs.lemmas.forms.FormBytes.{IsMark}
+use Rattle.termwiz_extended_grammar.proofs.lemmas.forms.FormEnds.{sequence_after_mark, mark_after_sequence}
+use Rattle.termwiz_extended_grammar.proofs.lemmas.items.StringFronts.{no_opening_after}
 use Rattle.termwiz_input_extended.specs.NextItems.{IsLongRowAt, IsPortsOwn, IsShortRowAt}
 use Rattle.termwiz_input_extended.proofs.lemmas.fronts.FrontItems.{not_two_escapes, own_after_escape, own_after_two_escapes, own_item, own_without_escape, two_escapes_finished}
 use Rattle.termwiz_input_extended.proofs.lemmas.fronts.MouseForms.{report_escape, report_item, report_no_extra, report_not_unfinished, report_one}
 
--- a sequence of more than two bytes properly begins no form
-long_ends : (y tail : List ℕ) (m : Meaning) → 2 < length y → IsSequence y m → tail ≢ [] → IsForm (y ++ tail) → ⊥
-long_ends y tail m long is some form = ⊎_elim
+-- a sequence of more than two bytes properly begins no form and no opening
+long_ends : (y tail : List ℕ) (m : Meaning) → 2 < length y → IsSequence y m → tail ≢ [] → IsMark (y ++ tail) → ⊥
+long_ends y tail m long is some mark = ⊎_elim
     (λ (e : y ≡ ESC). omega (arith, ap length e))
     (λ (more : (y ≡ 27 ∷ 91 ∷ []) ⊎ ((y ≡ 27 ∷ 79 ∷ []) ⊎ (y ≡ 27 ∷ 80 ∷ []))). ⊎_elim
     (λ (e : y ≡ 27 ∷ 91 ∷ []). omega (arith, ap length e))
@@ -45,7 +49,7 @@ long_ends y tail m long is some form = ⊎_elim
     (λ (e : y ≡ 27 ∷ 80 ∷ []). omega (arith, ap length e))
     last)
     more)
-    (form_after_sequence y tail m is some form)
+    (mark_after_sequence y tail m is some mark)
 
 module _ (protocol : Protocol) (u y : List ℕ) (m : Meaning) (long : 2 < length y) (is : IsSequence y m) (b : Begins y u) where
   -- the form at the front of a text that begins with such a sequence is the sequence
@@ -55,21 +59,28 @@ module _ (protocol : Protocol) (u y : List ℕ) (m : Meaning) (long : 2 < length
       go : Overlaps y b.0 text c.0 → text ≡ y
       go (within [] e f) = e ∙ append-nil y
       go (within (x ∷ t) e f) =
-          absurd (long_ends y (x ∷ t) m long is (λ h. cc (h)) (subst (λ z. IsForm z) e form))
-      go (past t n e f) = absurd (n (sequence_after_form text t m form (subst (λ z. IsSequence z m) e is)))
+          absurd (long_ends y (x ∷ t) m long is (λ h. cc (h)) (inl (subst (λ z. IsForm z) e form)))
+      go (past t n e f) = absurd (n (sequence_after_mark text t m (inl form) (subst (λ z. IsSequence z m) e is)))
 
-  -- so the text is the port's own, unless the sequence is extra
-  pub own_by_sequence : (f : Bool) → Begins ESC u → (Begins (ESC ++ ESC) u → ⊥)
+  -- so the text is the port's own, unless the sequence is extra or an opening begins it
+  pub own_by_sequence : (f : Bool) → Begins ESC u → (Begins (ESC ++ ESC) u → ⊥) → (StartsWithOpening u → ⊥)
       → (((event : ExtendedEvent) × IsExtra protocol y event) → ⊥) → IsPortsOwn protocol u f
-  own_by_sequence f escape one never = own_after_escape protocol u f escape one none (λ comes. finished)
+  own_by_sequence f escape one no_opening never = own_after_escape protocol u f escape one none (λ comes. finished)
     where
-      none : StartsWithExtra protocol u → ⊥
-      none h = never
+      none : StartsExtended protocol u → ⊥
+      none (inl h) = never
           (h.event, subst (λ z. IsExtra protocol z h.event) (form_is h.text h.is_extra.is_form h.begins) h.is_extra)
+      none (inr o) = no_opening o
 
-      finished : IsUnfinishedExtra protocol u → ⊥
-      finished h = long_ends y (b.0 ++ h.tail) m long is (append-some b.0 h.tail h.longer)
-          (subst (λ z. IsForm z) (ap (λ z. z ++ h.tail) b.1 ∙ append_assoc y b.0 h.tail) h.is_extra.is_form)
+      finished : BeginsExtended protocol u → ⊥
+      finished h =
+          let c = completed_mark u (mark_from_unfinished protocol u h) in
+          long_ends y (b.0 ++ c.0) m long is (append-some b.0 c.0 c.1)
+          (subst IsMark (ap (λ z. z ++ c.0) b.1 ∙ append_assoc y b.0 c.0) c.2)
+
+-- no opening begins with ESC [
+no_opening_bracket : (u t : List ℕ) → u ≡ 27 ∷ 91 ∷ t → StartsWithOpening u → ⊥
+no_opening_bracket u t e o = no_opening_after 27 91 t (λ first second. omega arith) (subst StartsWithOpening e o)
 
 -- the start of a paste reports no key and no position
 start_means : event_of START ≡ Csi (codes "200~")
@@ -83,7 +94,7 @@ start_not_extra Kitty h = subst IsKeyOrPosition start_means (h.1.is_free (Row st
 pub own_start : (protocol : Protocol) (u : List ℕ) (f : Bool) → Begins START u → IsPortsOwn protocol u f
 own_start protocol u f b = own_by_sequence protocol u START (Row start) (omega arith) start_is_sequence b f
     (codes "[200~" ++ b.0, b.1) (λ two. let second : ◌≡◌ {A = ℕ} 91 27 = cc (b.1, two.1) in omega arith)
-    (start_not_extra protocol)
+    (no_opening_bracket u (codes "200~" ++ b.0) b.1) (start_not_extra protocol)
 
 -- a character from SPACE to ~ at the front
 pub printable_item : (u : List ℕ) (f : Bool) → 0 < length u → IsPrintableAscii (get_or u 0 0)
@@ -121,13 +132,8 @@ high_character u some high = go (character_of u) refl
 -- an item of the port's is one step
 pub item_step : (protocol : Protocol) (u : List ℕ) (event : InputEvent) (len : ℕ) (f : Bool) → IsPortsOwn protocol u f → IsItemAt u f event len
     → Steps protocol u f (Input event ∷ []) (drop len u)
-item_step protocol u event len f own is = (
-  take len u,
-  drop len u,
-  own_item protocol u (take len u) event f own is.1,
-  sym (take-append-drop len u),
-  refl,
-)
+item_step protocol u event len f own is =
+    (drop len u, own_item protocol u (take len u) (drop len u) event f own is.1 (sym (take-append-drop len u)), refl)
 
 -- a row of three or more bytes is the port's own under `Protocol::Legacy`, and an item
 module _ (protocol : Protocol) (u : List ℕ) (f : Bool) (key : KeyEvent) (len : ℕ) (is : IsLongRowAt protocol u f key len) where
@@ -139,9 +145,9 @@ module _ (protocol : Protocol) (u : List ℕ) (f : Bool) (key : KeyEvent) (len :
   row_is_never_extra Legacy e h = h.1.is_free (Row key) is.row.1.is_sequence
   row_is_never_extra Kitty e h = cc (e)
 
-  pub long_row_own : Begins ESC u → (Begins (ESC ++ ESC) u → ⊥) → IsPortsOwn protocol u f
-  long_row_own escape one = own_by_sequence protocol u (take len u) (Row key) longer_than_two is.row.1.is_sequence is.row.1.begins f
-      escape one (row_is_never_extra protocol is.port)
+  pub long_row_own : Begins ESC u → (Begins (ESC ++ ESC) u → ⊥) → (StartsWithOpening u → ⊥) → IsPortsOwn protocol u f
+  long_row_own escape one no_opening = own_by_sequence protocol u (take len u) (Row key) longer_than_two is.row.1.is_sequence
+      is.row.1.begins f escape one no_opening (row_is_never_extra protocol is.port)
 
   pub long_row_item : (Begins START u → ⊥) → IsItemAt u f (Key key) len
   long_row_item no_paste = row_stands u f key len is.closed is.row no_paste

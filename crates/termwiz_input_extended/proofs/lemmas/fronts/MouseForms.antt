@@ -1,4 +1,4 @@
--- A mouse report has the form of a control sequence. Where one begins a text, no extra sequence does.
+-- A mouse report has the form of a control sequence. Where one begins a text, no extra sequence and no opening does.
 use Rattle.std.proofs.Common.{◌≡◌, ℕ, ◌≤◌, Bool, List, [], ◌∷◌, ◌++◌, length, take, drop, take-append-drop, sym, ap, ◌∙◌, subst, arith, append_assoc, length-append}
 use Rattle.std.specs.List.{AllByRecursion}
 use Rattle.termwiz_keymap.specs.Bytes.{Begins}
@@ -18,7 +18,7 @@ use Rattle.termwiz_input.proofs.lemmas.items.ItemByHead.{report_stands}
 use Rattle.termwiz_extended_events.specs.declared.types.Protocol.{Protocol}
 use Rattle.termwiz_extended_grammar.specs.Forms.{IsInner, IsFinal, IsForm, IsUnfinishedForm}
 use Rattle.termwiz_extended_grammar.specs.Forms.IsForm.{control}
-use Rattle.termwiz_extended_grammar.specs.ExtraSequences.{StartsWithExtra, IsUnfinishedExtra}
+use Rattle.termwiz_extended_grammar.specs.ExtendedGrammar.{BeginsExtended, StartsExtended}
 use Rattle.termwiz_extended_grammar.proofs.lemmas.forms.FormBytes.{all_append}
 use Rattle.termwiz_input_extended.proofs.lemmas.fronts.ExtraAnswers.{no_extra_starts, no_extra_unfinished, no_form_within, report_not_extra}
 
@@ -75,9 +75,9 @@ report_known : (text : List ℕ) (r : MouseEvent) → IsMouseReport text r → I
 unfolding IsSequence
 report_known text r f = f
 
--- where a mouse report begins the text, no extra sequence does, and the text begins none
+-- where a mouse report begins the text, no extra sequence and no opening does, and the text begins none
 module _ (protocol : Protocol) (u : List ℕ) (len : ℕ) (r : MouseEvent) (is : IsMouseReport (take len u) r) where
-  pub report_no_extra : StartsWithExtra protocol u → ⊥
+  pub report_no_extra : StartsExtended protocol u → ⊥
   report_no_extra = no_extra_starts protocol u len (report_is_form (take len u) r is)
       (λ h. report_not_extra protocol (take len u) r h.0 is h.1)
 
@@ -92,7 +92,7 @@ module _ (protocol : Protocol) (u : List ℕ) (len : ℕ) (r : MouseEvent) (is :
   pub report_one : Begins (ESC ++ ESC) u → ⊥
   report_one two = let second : ◌≡◌ {A = ℕ} 91 27 = cc (introduced, two.1) in omega arith
 
-  pub report_not_unfinished : IsUnfinishedExtra protocol u → ⊥
+  pub report_not_unfinished : BeginsExtended protocol u → ⊥
   report_not_unfinished = no_extra_unfinished protocol u len (report_is_form (take len u) r is)
 
   -- it is the port's item

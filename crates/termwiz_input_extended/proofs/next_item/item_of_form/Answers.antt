@@ -1,4 +1,6 @@
-use Rattle.std.proofs.Common.{take, drop, sym, take-append-drop}
+use Rattle.std.proofs.Common.{inl, ⊎_elim, take, drop, sym, take-append-drop}
+use Rattle.termwiz_extended_grammar.specs.Forms.{IsUnfinishedForm}
+use Rattle.termwiz_extended_grammar.specs.Strings.{IsUnfinishedOpening}
 use Rattle.termwiz_extended_grammar.proofs.lemmas.forms.ExtraFacts.{unfinished_from_form}
 use Rattle.termwiz_input_extended.proofs.lemmas.fronts.ExtraAnswers.{no_extra_without_form}
 use Rattle.termwiz_input_extended.proofs.lemmas.fronts.FrontItems.{own_without_form, waits_for_extra}
@@ -21,17 +23,20 @@ returns-in-Whole c = λ protocol no_row. record {
 pub returns-in-Unfinished : goal.returns-in-Unfinished
 returns-in-Unfinished c = λ protocol no_row. (
   waits_for_extra protocol c.args.text.now c.args.maybe_more c.requires.escape c.requires.one
-      (no_extra_without_form protocol c.args.text.now c.in-Unfinished.ensures.0) c.if-maybe_more.true
-      (unfinished_from_form protocol c.args.text.now c.in-Unfinished.ensures.1),
+      (no_extra_without_form protocol c.args.text.now c.in-Unfinished.ensures.0 c.requires.no_opening.0) c.if-maybe_more.true
+      (inl (unfinished_from_form protocol c.args.text.now c.in-Unfinished.ensures.1)),
   scanned_once c.args.text.now c.next_scan.result c.requires.one c.next_scan.ensures.within c.next_scan.ensures.place,
 )
 
 pub returns-in-Unfinished-2 : goal.returns-in-Unfinished-2
 returns-in-Unfinished-2 c = λ protocol no_row.
     own_without_form protocol c.args.text.now c.args.maybe_more c.requires.escape c.requires.one c.in-Unfinished-2.ensures.0
-    (λ m. absurd (cc (m, c.if-maybe_more.false)))
+    c.requires.no_opening.0 (λ m. absurd (cc (m, c.if-maybe_more.false)))
 
 pub returns-in-Absent : goal.returns-in-Absent
 returns-in-Absent c = λ protocol no_row.
     own_without_form protocol c.args.text.now c.args.maybe_more c.requires.escape c.requires.one c.in-Absent.ensures.0
-    (λ m. c.in-Absent.ensures.1)
+    c.requires.no_opening.0 (λ m h. ⊎_elim
+    (λ (f : IsUnfinishedForm c.args.text.now). c.in-Absent.ensures.1 f)
+    (λ (o : IsUnfinishedOpening c.args.text.now). c.requires.no_opening.1 o)
+    h)

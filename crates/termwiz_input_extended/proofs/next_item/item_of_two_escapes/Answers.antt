@@ -1,7 +1,7 @@
-use Rattle.std.proofs.Common.{take, drop, refl, sym, take-append-drop, arith}
+use Rattle.std.proofs.Common.{inl, inr, take, drop, refl, sym, take-append-drop, arith}
 use Rattle.termwiz_keymap.proofs.lemmas.lists.PrefixTest.{denied}
-use Rattle.termwiz_extended_grammar.proofs.lemmas.forms.ExtraFacts.{form_from_unfinished, unfinished_from_form}
-use Rattle.termwiz_input_extended.proofs.lemmas.fronts.ExtraAnswers.{no_extra_starts, no_extra_unfinished, no_extra_without_form}
+use Rattle.termwiz_extended_grammar.proofs.lemmas.forms.ExtraFacts.{mark_from_unfinished}
+use Rattle.termwiz_input_extended.proofs.lemmas.fronts.ExtraAnswers.{no_extra_starts, no_extra_unfinished, no_extra_without_form, unfinished_from_front}
 use Rattle.termwiz_input_extended.proofs.lemmas.fronts.FrontItems.{own_after_two_escapes, waits_after_escape}
 use Rattle.termwiz_input_extended.proofs.lemmas.fronts.KnownFronts.{escapes_front}
 use Rattle.termwiz_input_extended.proofs.lemmas.fronts.MouseForms.{report_no_extra, report_not_unfinished}
@@ -17,13 +17,16 @@ returns-in-Form c =
     let extra = c.is_extra_form.ensures.0 c.if-is_extra_form.true in (
       c.args.after.now,
       refl,
-      record {
+      inl (record {
         text = take c.in-Form.len c.args.after.now;
         event = extra.0;
         is_extra = extra.1;
         begins = (drop c.in-Form.len c.args.after.now, sym (take-append-drop c.in-Form.len c.args.after.now));
-      },
+      }),
     )
+
+pub returns-in-Opening : goal.returns-in-Opening
+returns-in-Opening c = (c.args.after.now, refl, inr c.in-Opening.ensures)
 
 pub returns-in-Form-2 : goal.returns-in-Form-2
 returns-in-Form-2 c =
@@ -40,21 +43,24 @@ returns-in-MouseReport c =
     c.in-MouseReport.ensures.3)
 
 pub returns-in-Unfinished : goal.returns-in-Unfinished
-returns-in-Unfinished c = (
-  waits_after_escape c.args.protocol c.args.after.now c.args.maybe_more c.requires.escape
-      (no_extra_without_form c.args.protocol c.args.after.now c.in-Unfinished.ensures.0) c.if-maybe_more.true
-      (unfinished_from_form c.args.protocol c.args.after.now c.in-Unfinished.ensures.1),
-  scanned_twice c.args.after.now c.next_scan.result c.requires.escape c.next_scan.ensures.within c.next_scan.ensures.place,
-)
+returns-in-Unfinished c =
+    let found = c.in-Unfinished.ensures in (
+      waits_after_escape c.args.protocol c.args.after.now c.args.maybe_more c.requires.escape
+          (no_extra_without_form c.args.protocol c.args.after.now found.0.no_form found.0.no_opening) c.if-maybe_more.true
+          (unfinished_from_front c.args.protocol c.args.after.now found.1),
+      scanned_twice c.args.after.now c.in-Unfinished.place c.requires.escape found.3 found.2,
+    )
 
 pub returns-in-Unfinished-2 : goal.returns-in-Unfinished-2
 returns-in-Unfinished-2 c =
+    let found = c.in-Unfinished-2.ensures in
     own_after_two_escapes c.args.protocol c.args.after.now c.args.maybe_more c.requires.escape
-    (no_extra_without_form c.args.protocol c.args.after.now c.in-Unfinished-2.ensures.0)
+    (no_extra_without_form c.args.protocol c.args.after.now found.0.no_form found.0.no_opening)
     (λ m. absurd (cc (m, c.if-maybe_more.false)))
 
 pub returns-in-Absent : goal.returns-in-Absent
 returns-in-Absent c =
+    let found = c.in-Absent.ensures in
     own_after_two_escapes c.args.protocol c.args.after.now c.args.maybe_more c.requires.escape
-    (no_extra_without_form c.args.protocol c.args.after.now c.in-Absent.ensures.0)
-    (λ m h. c.in-Absent.ensures.1 (form_from_unfinished c.args.protocol c.args.after.now h))
+    (no_extra_without_form c.args.protocol c.args.after.now found.0.no_form found.0.no_opening)
+    (λ m h. found.1 (mark_from_unfinished c.args.protocol c.args.after.now h))

@@ -12,8 +12,10 @@ const TEXTS: &[(Parts, usize)] = &[
     ),
     (&[(b"\x1b[200~", 1), (b"x", 100000), (b"\x1b[201~", 1)], 1),
     (LONG_STRING, 1),
+    (&[(b"\x1b]52;", 1), (b"x", 131070), (b"\x07", 1)], 3),
+    (&[(b"\x1b_Gi=1;OK\x1b[I", 1)], 2),
     (LONG_REPORT, 1),
-    (&[(b"\x1b[I\x1b]a\x07", 35000)], 70000),
+    (&[(b"\x1b[I\x1b]4;a\x07", 35000)], 70000),
 ];
 
 // The parser reads the text by each call.

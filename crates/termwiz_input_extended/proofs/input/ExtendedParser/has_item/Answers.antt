@@ -6,17 +6,18 @@ use Rattle.termwiz_extended_events.specs.declared.types.Protocol.{Protocol}
 use Rattle.termwiz_extended_events.specs.Meanings.{event_of}
 use Rattle.termwiz_extended_grammar.specs.ExtendedGrammar.{HasItem, IsRest, Steps}
 use Rattle.termwiz_input_extended.specs.declared.next_item.NextItem.{NextItem}
-use Rattle.termwiz_input_extended.specs.declared.next_item.NextItem.TheVariants.{Control, Key, Form, MouseReport, Escape, AltEscape, Paste, Usual, Incomplete}
+use Rattle.termwiz_input_extended.specs.declared.next_item.NextItem.TheVariants.{Control, Key, Form, String, MouseReport, Escape, AltEscape, Paste, Usual, Incomplete}
 use Rattle.termwiz_input_extended.specs.Buffered.{Buffered}
 use Rattle.termwiz_input_extended.specs.NextItems.{IsNextItem, IsExtraAt, IsPortsOwn}
 use Rattle.termwiz_input_extended.proofs.lemmas.fronts.FrontItems.{escape_step, extra_step, own_has_item, own_rest}
 use Rattle.termwiz_input_extended.proofs.lemmas.fronts.KnownFronts.{item_step, mouse_report_step, own_start}
 use Rattle.termwiz_input_extended.proofs.lemmas.fronts.ControlFirst.{control_own}
+use Rattle.termwiz_input_extended.proofs.lemmas.fronts.StringSteps.{string_step}
 use Rattle.termwiz_input_extended.proofs.input.ExtendedParser.has_item.Goals as goal
 
 -- what one step consumes is an item
 stepped : (protocol : Protocol) (u left : List ℕ) (more : Bool) (event : ExtendedEvent) → Steps protocol u more (event ∷ []) left → HasItem protocol u more
-stepped protocol u left more event (bytes, rest, stands, splits, same) = (bytes, event, stands)
+stepped protocol u left more event (rest, stands, same) = (rest, event, stands)
 
 found_item : (protocol : Protocol) (u : List ℕ) (more : Bool) (found : NextItem) → IsNextItem protocol u more found
     → (found ≡ Paste → ⊥) → (found ≡ Usual → ⊥) → ((len : ℕ) → found ≡ Form len → ⊥) → ((byte : ℕ) → found ≡ Control byte → ⊥)
@@ -24,6 +25,7 @@ found_item : (protocol : Protocol) (u : List ℕ) (more : Bool) (found : NextIte
 found_item protocol u more (Control byte) is p o f b n = absurd (b byte refl)
 found_item protocol u more (Key key len) is p o f b n = stepped protocol u _ more _ (item_step protocol u (PortsKey key.now) len more is.0 is.1)
 found_item protocol u more (Form len) is p o f b n = absurd (f len refl)
+found_item protocol u more (String item) is p o f b n = stepped protocol u _ more _ (string_step protocol u more item is _ refl)
 found_item protocol u more (MouseReport event len) is p o f b n = stepped protocol u _ more _ (mouse_report_step protocol u event len more is.0 is.1)
 found_item protocol u more Escape is p o f b n = stepped protocol u _ more _ (escape_step protocol u is.0 more is.1 is.2)
 found_item protocol u more AltEscape is p o f b n = stepped protocol u _ more _ (item_step protocol u _ 2 more is.0 is.1)
@@ -83,6 +85,11 @@ pub returns-in-Usual-clause-some : goal.returns-in-Usual-clause-some
 returns-in-Usual-clause-some c = λ t.
     found_by_port c.args.self.now.protocol c.args.self.now.text _ c.args.maybe_more (ap (λ (b : Buffered). b.text) c.self.view_is)
     c.in-Usual.ensures (c.has_item-in-Usual.ensures.some t)
+
+pub returns-in-Usual-clause-none : goal.returns-in-Usual-clause-none
+returns-in-Usual-clause-none c = λ e.
+    rest_by_port c.args.self.now.protocol c.args.self.now.text _ c.args.maybe_more (ap (λ (b : Buffered). b.text) c.self.view_is)
+    c.in-Usual.ensures (c.has_item-in-Usual.ensures.none e)
 
 pub returns-in-Control-clause-some : goal.returns-in-Control-clause-some
 returns-in-Control-clause-some c = λ t.

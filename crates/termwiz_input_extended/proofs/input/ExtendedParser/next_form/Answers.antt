@@ -1,7 +1,5 @@
-use Rattle.std.proofs.Common.{◌≡◌, ◌∷◌, [], take, refl, sym, ap, ◌∙◌, subst, Some}
+use Rattle.std.proofs.Common.{◌≡◌, ◌∷◌, [], take, refl, sym, ap, subst, Some}
 use Rattle.std.specs.Prelude.{IfSome}
-use Rattle.termwiz_extended_events.specs.declared.types.ExtendedEvent.TheVariants.{Key}
-use Rattle.termwiz_extended_events.specs.KeyReports.{plain_report}
 use Rattle.termwiz_extended_events.specs.Meanings.{NeedsMemory, event_from, event_of}
 use Rattle.termwiz_extended_grammar.specs.ExtendedGrammar.{Steps}
 use Rattle.termwiz_input_extended.specs.Buffered.{Buffered}

@@ -1,0 +1,39 @@
+-- What comes of a string is one step.
+use Rattle.std.proofs.Common.{◌≡◌, ℕ, ◌+◌, ◌-◌, ◌≤◌, Bool, List, ◌∷◌, [], ◌++◌, take, drop, refl, sym, ap, ◌∙◌, subst, arith}
+use Rattle.std.proofs.lemmas.List.{drop-take}
+use Rattle.termwiz_extended_events.specs.declared.types.ExtendedEvent.{ExtendedEvent}
+use Rattle.termwiz_extended_events.specs.declared.types.Protocol.{Protocol}
+use Rattle.termwiz_extended_events.specs.Meanings.{NeedsMemory}
+use Rattle.termwiz_extended_grammar.specs.ExtendedGrammar.{Steps}
+use Rattle.termwiz_extended_grammar.specs.ExtendedGrammar.Stands.{string}
+use Rattle.termwiz_input_extended.specs.declared.string.StringItem.{StringItem}
+use Rattle.termwiz_input_extended.specs.NextItems.{HasItemThatNeedsMemory}
+use Rattle.termwiz_input_extended.specs.StringAnswers.{IsStringItem, string_event}
+
+-- the bytes between two places
+between : (u : List ℕ) (end : ℕ) → 2 ≤ end → take (end - 2) (drop 2 u) ≡ drop 2 (take end u)
+between u end l =
+    let whole : 2 + (end - 2) ≡ end = omega (arith, l) in
+    sym (subst (λ n. drop 2 (take n u) ≡ take (end - 2) (drop 2 u)) whole (drop-take 2 (end - 2) u))
+
+pub bytes_within : (t u : List ℕ) (more : Bool) (item : StringItem) → t ≡ u → (is : IsStringItem u more item)
+    → take (item.end - 2) (drop 2 t) ≡ is.head ++ is.bytes
+bytes_within t u more item same is =
+    ap (λ x. take (item.end - 2) (drop 2 x)) same ∙ between u item.end is.introduced ∙ is.bytes_are
+
+module _ (protocol : Protocol) (u : List ℕ) (more : Bool) (item : StringItem) (is : IsStringItem u more item) where
+  abbrev pub left_of : List ℕ
+  left_of = take item.kept u ++ drop item.taken u
+
+  pub string_step : (event : ExtendedEvent) → event ≡ string_event item.manner item.kind (is.head ++ is.bytes)
+      → Steps protocol u more (event ∷ []) left_of
+  string_step event made = (left_of, rw made (string item.kind is.head is.bytes is.after left_of _ is.is_string is.comes), refl)
+
+  -- it needs memory
+  pub string_refused : NeedsMemory (string_event item.manner item.kind (is.head ++ is.bytes)) → HasItemThatNeedsMemory protocol u more
+  string_refused needs = record {
+    left = left_of;
+    event = string_event item.manner item.kind (is.head ++ is.bytes);
+    stands = string item.kind is.head is.bytes is.after left_of _ is.is_string is.comes;
+    needs = needs;
+  }

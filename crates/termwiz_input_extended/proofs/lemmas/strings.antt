@@ -1,0 +1,4 @@
+pub mod Commands
+pub mod DeviceControls
+pub mod Openings
+pub mod StringPlaces
