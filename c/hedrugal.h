@@ -77,7 +77,8 @@ typedef struct hed_parser {
 #define HED_PARSER_NONE \
   { false, NULL }
 
-/* The kinds of events: the field kind of a hed_event, which has none but the first four and the last, and of a hed_extended_event. */
+/* The kinds of events: the field kind of a hed_event, which has none but the first four and HED_KIND_PASTE_PART, and of a
+ * hed_extended_event. */
 enum hed_kind {
   /* numbers.txt: kind c */
   HED_KIND_OTHER = 0, /* None of these. No event has this kind. */
@@ -94,7 +95,9 @@ enum hed_kind {
   HED_KIND_OSC = 11, /* An operating system command, such as the reply to a question for a colour. */
   HED_KIND_DCS = 12, /* A device control string, such as the reply to a question for the terminal's name and version. */
   HED_KIND_APC = 13, /* An application program command, such as a reply of Kitty's graphics protocol. */
-  HED_KIND_PASTE_PART = 14 /* Text of a paste whose end is still to come. */
+  HED_KIND_PASTE_PART = 14, /* Text of a paste whose end is still to come. */
+  HED_KIND_STRING_PART = 15, /* The first bytes of a long string whose end is still to come. */
+  HED_KIND_STRING_CUT = 16 /* A string that was cut off before its end. */
   /* numbers.txt: end */
 };
 
@@ -175,14 +178,15 @@ void hed_parser_shrink_to(hed_parser *parser, size_t min_capacity);
 /* Returns the number of bytes that are buffered, 0 if there is no parser. */
 size_t hed_parser_waiting_len(const hed_parser *parser);
 
-/* What stays buffered, as hed_parser_waiting returns it. */
+/* What stays buffered, as hed_parser_waiting and hed_extended_waiting return it. Only the latter returns HED_WAITING_STRING. */
 enum hed_waiting {
   /* numbers.txt: waiting c */
   HED_WAITING_NOTHING = 0, /* Nothing is buffered. */
   HED_WAITING_ESCAPE = 1, /* ESC, or ESC ESC: the Escape key, alone or with Alt, unless more bytes follow. */
   HED_WAITING_SEQUENCE = 2, /* A longer prefix of a sequence, after an ESC or not. */
   HED_WAITING_CHARACTER = 3, /* A prefix of a character in UTF-8, after an ESC or not. */
-  HED_WAITING_PASTE = 4 /* An open paste: its start, and its text so far. */
+  HED_WAITING_PASTE = 4, /* An open paste: its start, and its text so far. */
+  HED_WAITING_STRING = 5 /* An open string: its opening, and its bytes so far. */
   /* numbers.txt: end */
 };
 
@@ -578,7 +582,7 @@ typedef struct hed_key_report {
 /* An event of the extended parser. What its kind has no use for is 0. */
 typedef struct hed_extended_event {
   uint8_t kind; /* an enum hed_kind */
-  uint8_t flags; /* HED_KIND_KEYBOARD_FLAGS: a set of HED_KITTY_FLAG_.. */
+  uint8_t flags; /* HED_KIND_KEYBOARD_FLAGS: a set of HED_KITTY_FLAG_..; HED_KIND_STRING_PART, _CUT: HED_KIND_OSC, _DCS or _APC */
   uint16_t row; /* HED_KIND_CURSOR_POSITION: the row, as the terminal sent it: the topmost is 1 */
   uint16_t column; /* HED_KIND_CURSOR_POSITION: the column, as the terminal sent it: the leftmost is 1 */
   uint16_t rows; /* HED_KIND_RESIZE: the number of rows */
@@ -622,13 +626,19 @@ bool hed_extended_feed(hed_extended *parser, const uint8_t *bytes, size_t len);
 /* Consumes the item at the front of the buffer, and writes its event to *event. The caller calls this until it returns HED_NEXT_NONE, and
  * passes more as to hed_parser_next.
  *
- * Returns an enum hed_next. *event is written only with HED_NEXT_EVENT. HED_NEXT_NO_MEMORY comes only if a paste or an extra sequence is at
- * the front. Then nothing changed. */
+ * A string is one event if it has its end and less than 65535 bytes before that. Of a longer one come some HED_KIND_STRING_PART first, and
+ * then an event with the rest. The bytes of each begin with those of the string's opening, such as 52; after ESC ]: a program that joins
+ * them leaves these out of all but the first. If a flush cuts a string off, or ESC without a \ after it, then its last event is a
+ * HED_KIND_STRING_CUT. No byte of a string becomes a key.
+ *
+ * Returns an enum hed_next. *event is written only with HED_NEXT_EVENT. HED_NEXT_NO_MEMORY comes only if a paste, an extra sequence or a
+ * string is at the front. Then nothing changed. */
 uint32_t hed_extended_next(hed_extended *parser, bool more, hed_extended_event *event);
 
 /* Copies the bytes of the last event that brought some to out, at most len of them. A HED_KIND_PASTE or HED_KIND_PASTE_PART brings its
  * text. A HED_KIND_REPORT brings the text that the key types, if the terminal reported it. A HED_KIND_CSI, _OSC, _DCS or _APC brings its
- * bytes after ESC and the byte that introduces it, without the end of a string. The texts are UTF-8. The rest of out is unchanged.
+ * bytes after ESC and the byte that introduces it, without the end of a string. So does a HED_KIND_STRING_PART or _STRING_CUT. The texts
+ * are UTF-8. The rest of out is unchanged.
  *
  * Returns the number of all these bytes, as text_len has it: the parser keeps them until the next event of one of these kinds or
  * hed_extended_drop_text. Returns 0 if there are none, or if there is no parser. */
@@ -642,11 +652,13 @@ void hed_extended_drop_text(hed_extended *parser);
 void hed_extended_shrink_to(hed_extended *parser, size_t min_capacity);
 
 /* Returns the number of bytes that are buffered, 0 if there is no parser. Once hed_extended_next returned HED_NEXT_NONE, it is at most
- * 65536, or the buffer begins with the start of a paste. */
+ * 65535, or the buffer begins with the start of a paste. */
 size_t hed_extended_waiting_len(const hed_extended *parser);
 
-/* Returns what stays buffered, an enum hed_waiting, as hed_parser_waiting does. The beginning of a control sequence or of a string is a
- * HED_WAITING_SEQUENCE. */
+/* Returns what stays buffered, an enum hed_waiting, as hed_parser_waiting does. The beginning of a control sequence, of a title or of the
+ * opening of a string is a HED_WAITING_SEQUENCE. With HED_WAITING_STRING the opening is whole, and the string's end is still to come. What
+ * follows a flush is typed text, so flush a string only after a longer pause than a sequence: some 5000 ms, and one more for each byte that
+ * is buffered. */
 uint32_t hed_extended_waiting(const hed_extended *parser);
 
 /* Writes the Escape key to *event if ESC alone is buffered, with HED_TERMWIZ_MOD_ALT if ESC ESC is, and consumes it, as

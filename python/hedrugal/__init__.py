@@ -197,6 +197,7 @@ class Waiting(_Named):
     SEQUENCE = 2  # A longer prefix of a sequence, after an ESC or not.
     CHARACTER = 3  # A prefix of a character in UTF-8, after an ESC or not.
     PASTE = 4  # An open paste: its start, and its text so far.
+    STRING = 5  # An open string: its opening, and its bytes so far.
     # numbers.txt: end
 
 
@@ -521,6 +522,8 @@ _KIND_OSC = 11
 _KIND_DCS = 12
 _KIND_APC = 13
 _KIND_PASTE_PART = 14
+_KIND_STRING_PART = 15
+_KIND_STRING_CUT = 16
 # numbers.txt: end
 # numbers.txt: key private
 _KEY_CHAR = 1

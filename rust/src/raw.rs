@@ -28,6 +28,8 @@ pub const WAITING_SEQUENCE: u32 = 2;
 pub const WAITING_CHARACTER: u32 = 3;
 /// An open paste: its start, and its text so far.
 pub const WAITING_PASTE: u32 = 4;
+/// An open string: its opening, and its bytes so far.
+pub const WAITING_STRING: u32 = 5;
 // numbers.txt: end
 
 // numbers.txt: encoded const
@@ -89,6 +91,10 @@ pub const KIND_DCS: u8 = 12;
 pub const KIND_APC: u8 = 13;
 /// Text of a paste whose end is still to come.
 pub const KIND_PASTE_PART: u8 = 14;
+/// The first bytes of a long string whose end is still to come.
+pub const KIND_STRING_PART: u8 = 15;
+/// A string that was cut off before its end.
+pub const KIND_STRING_CUT: u8 = 16;
 // numbers.txt: end
 
 // numbers.txt: protocol const

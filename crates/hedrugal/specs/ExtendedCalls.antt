@@ -2,17 +2,16 @@
 use Rattle.std.specs.Prelude.{◌≡◌, ℕ, Bool, false, List, [], ◌∷◌, ◌++◌, length, Option, Some, None, unwrap_or}
 use Rattle.termwiz_input.specs.Bytes.{Begins, START}
 use Rattle.termwiz_input.specs.PasteParts.{HasPart, IsSkipped, IsTaken}
-use Rattle.termwiz_input.specs.Waiting.{Waiting}
 use Rattle.termwiz_input.specs.WaitingKinds.{IsOneOrTwoEscapes, IsOpenPaste}
 use Rattle.termwiz_extended_events.specs.declared.types.ExtendedEvent.{ExtendedEvent}
 use Rattle.termwiz_extended_events.specs.declared.types.Protocol.{Protocol}
 use Rattle.termwiz_extended_grammar.specs.ExtendedGrammar.{IsRest, Means, Steps}
 use Rattle.termwiz_input_extended.specs.NextItems.{HasItemThatNeedsMemory, IsPasteEvent}
 use Rattle.termwiz_extended_grammar.specs.ExtendedKinds.{IsKind}
+use Rattle.termwiz_extended_grammar.specs.declared.waiting.ExtendedWaiting.{ExtendedWaiting}
 use Rattle.hedrugal.specs.declared.extended_and_text.ExtendedAndText.{ExtendedAndText}
 use Rattle.hedrugal.specs.declared.extended_events.CExtendedEvent.{CExtendedEvent}
-use Rattle.hedrugal.specs.Calls.{waiting_number}
-use Rattle.hedrugal.specs.ExtendedEvents.{c_extended_event, c_extended_part, own_bytes, protocol_number}
+use Rattle.hedrugal.specs.ExtendedEvents.{c_extended_event, c_extended_part, extended_waiting_number, own_bytes, protocol_number}
 
 -- there is a parser for the protocol with this number, nothing is buffered in it, and no event brought bytes
 abbrev pub IsFresh : Option ExtendedAndText → ℕ → Type 0
@@ -74,7 +73,7 @@ NeedsMemoryNext None more = ⊥
 
 -- a rest that is buffered is of the kind with this number; 0 without a parser
 abbrev pub HasKind : Option ExtendedAndText → ℕ → Type 0
-HasKind (Some held) number = (kind : Waiting) × (number ≡ waiting_number kind) × ((more : Bool)
+HasKind (Some held) number = (kind : ExtendedWaiting) × (number ≡ extended_waiting_number kind) × ((more : Bool)
     → IsRest held.parser.protocol held.parser.text more → IsKind held.parser.protocol held.parser.text more kind)
 HasKind None number = number ≡ 0
 

@@ -1,8 +1,8 @@
--- Events of the extended parser as C has them.
+-- Events of the extended parser, and the kinds of what stays buffered, as C has them.
 use Rattle.std.specs.Prelude.{ℕ, List, [], length, Option, Some, None, unwrap_or}
 use Rattle.termwiz_input.specs.InputEvent.TheVariants as input
 use Rattle.termwiz_extended_events.specs.declared.types.ExtendedEvent.{ExtendedEvent}
-use Rattle.termwiz_extended_events.specs.declared.types.ExtendedEvent.TheVariants.{Input, Key, FocusGained, FocusLost, CursorPosition, Resize, KeyboardFlags, Csi, Osc, Dcs, Apc}
+use Rattle.termwiz_extended_events.specs.declared.types.ExtendedEvent.TheVariants.{Input, Key, FocusGained, FocusLost, CursorPosition, Resize, KeyboardFlags, Csi, Osc, Dcs, Apc, StringPart, StringCut}
 use Rattle.termwiz_extended_events.specs.declared.types.KeyEventKind.{KeyEventKind}
 use Rattle.termwiz_extended_events.specs.declared.types.KeyEventKind.TheVariants.{Press, Repeat, Release}
 use Rattle.termwiz_extended_events.specs.declared.types.KeyReport.{KeyReport}
@@ -10,7 +10,11 @@ use Rattle.termwiz_extended_events.specs.declared.types.ReportedKey.{ReportedKey
 use Rattle.termwiz_extended_events.specs.declared.types.ReportedKey.TheVariants.{Named, Functional}
 use Rattle.termwiz_extended_events.specs.declared.types.Protocol.{Protocol}
 use Rattle.termwiz_extended_events.specs.declared.types.Protocol.TheVariants.{Legacy, Kitty}
+use Rattle.termwiz_extended_events.specs.declared.types.StringKind.{StringKind}
+use Rattle.termwiz_extended_events.specs.declared.types.StringKind.TheVariants as kinds
 use Rattle.termwiz_extended_events.specs.EventKeys.{key_of_event}
+use Rattle.termwiz_extended_grammar.specs.declared.waiting.ExtendedWaiting.{ExtendedWaiting}
+use Rattle.termwiz_extended_grammar.specs.declared.waiting.ExtendedWaiting.TheVariants.{Nothing, Escape, Sequence, Character, Paste, String}
 use Rattle.hedrugal.specs.declared.events.CEvent.{CEvent}
 use Rattle.hedrugal.specs.declared.extended_events.CExtendedEvent.{CExtendedEvent}
 use Rattle.hedrugal.specs.declared.extended_events.CKeyReport.{CKeyReport}
@@ -58,7 +62,7 @@ abbrev pub c_report_if : Option KeyReport → CKeyReport
 c_report_if (Some report) = c_report report
 c_report_if None = record { kind = 0; modifiers = 0; key = 0; detail = 0; shifted = 0; base = 0 }
 
--- the bytes that an event brings, if its kind has bytes: the text of a paste or of a key report, and the bytes of a sequence
+-- the bytes that an event brings, if its kind has bytes: the text of a paste or of a key report, and the bytes of a sequence or a string
 unfoldable pub own_bytes : ExtendedEvent → Option (List ℕ)
 own_bytes (Input (input.Paste text)) = Some text
 own_bytes (Key report) = Some report.text
@@ -66,6 +70,8 @@ own_bytes (Csi bytes) = Some bytes
 own_bytes (Osc bytes) = Some bytes
 own_bytes (Dcs bytes) = Some bytes
 own_bytes (Apc bytes) = Some bytes
+own_bytes (StringPart kind bytes) = Some bytes
+own_bytes (StringCut kind bytes) = Some bytes
 own_bytes event = None
 
 -- the same, or no bytes
@@ -88,6 +94,14 @@ kind_number (Csi bytes) = 10
 kind_number (Osc bytes) = 11
 kind_number (Dcs bytes) = 12
 kind_number (Apc bytes) = 13
+kind_number (StringPart kind bytes) = 15
+kind_number (StringCut kind bytes) = 16
+
+-- the number of a string's kind: that of the event of a whole one
+unfoldable pub string_kind_number : StringKind → ℕ
+string_kind_number kinds.Osc = 11
+string_kind_number kinds.Dcs = 12
+string_kind_number kinds.Apc = 13
 
 -- the event of the port that C has of an event of another kind: all of it is 0
 abbrev pub no_input : CEvent
@@ -116,6 +130,8 @@ with_own (CursorPosition row column) shown = record shown { row = row; column = 
 with_own (Resize rows columns height width) shown =
     record shown { rows = rows; columns = columns; height = height; width = width }
 with_own (KeyboardFlags flags) shown = record shown { flags = flags }
+with_own (StringPart kind bytes) shown = record shown { flags = string_kind_number kind }
+with_own (StringCut kind bytes) shown = record shown { flags = string_kind_number kind }
 with_own event shown = shown
 
 -- An event in numbers. What its kind has no use for is 0.
@@ -125,3 +141,12 @@ c_extended_event event = with_own event (common event)
 -- The part of a paste that has this text, in numbers: as the paste would be, but of a kind of its own.
 abbrev pub c_extended_part : List ℕ → CExtendedEvent
 c_extended_part text = record (c_extended_event (Input (input.Paste text))) { kind = 14; input = c_part text }
+
+-- the number of a kind of what stays buffered
+unfoldable pub extended_waiting_number : ExtendedWaiting → ℕ
+extended_waiting_number Nothing = 0
+extended_waiting_number Escape = 1
+extended_waiting_number Sequence = 2
+extended_waiting_number Character = 3
+extended_waiting_number Paste = 4
+extended_waiting_number String = 5

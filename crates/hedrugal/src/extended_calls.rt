@@ -7,12 +7,10 @@ ghost use Rattle.hedrugal.specs.Handles.{extended_of};
 
 use crate::copying::copy_prefix;
 use crate::extended_and_text::ExtendedAndText;
-use crate::extended_events::CExtendedEvent;
+use crate::extended_events::{CExtendedEvent, extended_waiting_number};
 use crate::handle::Handle;
 use crate::held::Held;
-use crate::{
-    NEXT_EVENT, NEXT_NO_MEMORY, NEXT_NO_PARSER, NEXT_NONE, WAITING_NOTHING, waiting_number,
-};
+use crate::{NEXT_EVENT, NEXT_NO_MEMORY, NEXT_NO_PARSER, NEXT_NONE, WAITING_NOTHING};
 use std::alloc::Global;
 use termwiz_input_extended::input::ExtendedParser;
 use termwiz_input_extended::types::Protocol;
@@ -170,7 +168,7 @@ pub extern "C" fn hed_extended_waiting_len(parser: &mut Handle) -> usize
 }
 
 /// The kind of what stays buffered, once `hed_extended_next` answered 0: 1 for ESC or ESC ESC, 2 for a longer beginning of a sequence, 3
-/// for one of a character, 4 for an open paste, and 0 for nothing or if there is no parser.
+/// for one of a character, 4 for an open paste, 5 for an open string, and 0 for nothing or if there is no parser.
 #[unsafe(no_mangle)]
 pub extern "C" fn hed_extended_waiting(parser: &mut Handle) -> u32
     ensures same { parser.new.owned ≡ parser.old.owned }
@@ -182,7 +180,7 @@ pub extern "C" fn hed_extended_waiting(parser: &mut Handle) -> u32
     let Some(held) = held.extended_mut() else {
         return WAITING_NOTHING;
     };
-    waiting_number(held.parser.waiting())
+    extended_waiting_number(held.parser.waiting())
 }
 
 /// Takes ESC or ESC ESC, if no more than that is buffered. The answer is 1 if `event` is its event, the Escape key; 0 if something else

@@ -1,12 +1,19 @@
-// Events of the extended parser as C has them.
+// Events of the extended parser, and the kinds of what stays buffered, as C has them.
 ghost use Rattle.std.specs.Prelude.{◌≡◌, option_map};
 ghost use Rattle.termwiz_extended_events.specs.EventKeys.{key_of_event, pressed_key};
-ghost use Rattle.hedrugal.specs.ExtendedEvents.{key_event_kind_number, bytes_of, c_extended_event, c_report, c_report_if, kind_number, own_bytes, reported_detail, reported_number};
+ghost use Rattle.hedrugal.specs.ExtendedEvents.{key_event_kind_number, bytes_of, c_extended_event, c_report, c_report_if, extended_waiting_number, kind_number, own_bytes, reported_detail, reported_number, string_kind_number};
 
 use crate::events::{CEvent, KIND_KEY, KIND_MOUSE, KIND_OTHER, KIND_PASTE, NO_EVENT, c_event};
 use crate::keys::{key_detail, key_number};
+use crate::{
+    WAITING_CHARACTER, WAITING_ESCAPE, WAITING_NOTHING, WAITING_PASTE, WAITING_SEQUENCE,
+    WAITING_STRING,
+};
 use termwiz_input::types::{InputEvent, KeyEvent};
-use termwiz_input_extended::types::{ExtendedEvent, KeyEventKind, KeyReport, ReportedKey};
+use termwiz_input_extended::input::ExtendedWaiting;
+use termwiz_input_extended::types::{
+    ExtendedEvent, KeyEventKind, KeyReport, ReportedKey, StringKind,
+};
 
 // The kinds of events that only this parser has.
 const KIND_REPORT: u8 = 4;
@@ -28,6 +35,10 @@ const KIND_OSC: u8 = 11;
 const KIND_DCS: u8 = 12;
 
 const KIND_APC: u8 = 13;
+
+const KIND_STRING_PART: u8 = 15;
+
+const KIND_STRING_CUT: u8 = 16;
 
 // What happened to a key.
 pub(crate) const KEY_EVENT_KIND_PRESS: u8 = 1;
@@ -63,9 +74,10 @@ pub struct CKeyReport {
 pub struct CExtendedEvent {
     /// 1 for a key, 2 for the mouse, 3 for a paste, 4 for a key report, 5 and 6 for a focus gained and lost, 7 for the position of
     /// the cursor, 8 for a new size, 9 for keyboard flags, 10 to 13 for a control sequence, an operating system command, a device
-    /// control string and an application program command, and 14 for a part of a paste.
+    /// control string and an application program command, 14 for a part of a paste, 15 for a part of a string, and 16 for a string that
+    /// was cut off.
     pub kind: u8,
-    /// The flags of Kitty's keyboard protocol.
+    /// The flags of Kitty's keyboard protocol. With 15 and 16 the kind of the string: 11, 12 or 13.
     pub flags: u8,
     /// The cursor's row.
     pub row: u16,
@@ -197,7 +209,9 @@ fn bytes_of(event: &ExtendedEvent) -> &[u8]
         ExtendedEvent::Csi(bytes)
         | ExtendedEvent::Osc(bytes)
         | ExtendedEvent::Dcs(bytes)
-        | ExtendedEvent::Apc(bytes) => bytes.as_slice(),
+        | ExtendedEvent::Apc(bytes)
+        | ExtendedEvent::StringPart { bytes, .. }
+        | ExtendedEvent::StringCut { bytes, .. } => bytes.as_slice(),
         _ => &[],
     }
 }
@@ -213,7 +227,9 @@ pub(crate) fn own_bytes(event: ExtendedEvent) -> Option<Vec<u8>>
         ExtendedEvent::Csi(bytes)
         | ExtendedEvent::Osc(bytes)
         | ExtendedEvent::Dcs(bytes)
-        | ExtendedEvent::Apc(bytes) => Some(bytes.into_vec()),
+        | ExtendedEvent::Apc(bytes)
+        | ExtendedEvent::StringPart { bytes, .. }
+        | ExtendedEvent::StringCut { bytes, .. } => Some(bytes.into_vec()),
         _ => None,
     }
 }
@@ -238,6 +254,20 @@ fn kind_number(event: &ExtendedEvent) -> u8
         ExtendedEvent::Osc(_) => KIND_OSC,
         ExtendedEvent::Dcs(_) => KIND_DCS,
         ExtendedEvent::Apc(_) => KIND_APC,
+        ExtendedEvent::StringPart { .. } => KIND_STRING_PART,
+        ExtendedEvent::StringCut { .. } => KIND_STRING_CUT,
+    }
+}
+
+// The number of a string's kind: that of the event of a whole one.
+#[tactic(auto, unfolding(crate::specs::ExtendedEvents::string_kind_number))]
+fn string_kind_number(kind: StringKind) -> u8
+    ensures { result ≡ string_kind_number kind }
+{
+    match kind {
+        StringKind::Osc => KIND_OSC,
+        StringKind::Dcs => KIND_DCS,
+        StringKind::Apc => KIND_APC,
     }
 }
 
@@ -278,6 +308,27 @@ pub(crate) fn c_extended_event(event: &ExtendedEvent) -> CExtendedEvent
             flags: *flags,
             ..shown
         },
+        ExtendedEvent::StringPart { kind, .. } | ExtendedEvent::StringCut { kind, .. } => {
+            CExtendedEvent {
+                flags: string_kind_number(*kind),
+                ..shown
+            }
+        }
         _ => shown,
+    }
+}
+
+// The number of a kind of what stays buffered: those that the port has, and that of an open string.
+#[tactic(auto, unfolding(crate::specs::ExtendedEvents::extended_waiting_number))]
+pub(crate) fn extended_waiting_number(kind: ExtendedWaiting) -> u32
+    ensures { result ≡ extended_waiting_number kind }
+{
+    match kind {
+        ExtendedWaiting::Nothing => WAITING_NOTHING,
+        ExtendedWaiting::Escape => WAITING_ESCAPE,
+        ExtendedWaiting::Sequence => WAITING_SEQUENCE,
+        ExtendedWaiting::Character => WAITING_CHARACTER,
+        ExtendedWaiting::Paste => WAITING_PASTE,
+        ExtendedWaiting::String => WAITING_STRING,
     }
 }

@@ -61,7 +61,7 @@ const NEXT_NO_MEMORY: u32 = 2;
 
 const NEXT_NO_PARSER: u32 = 3;
 
-// The answers of `hed_parser_waiting`.
+// The answers of `hed_parser_waiting` and `hed_extended_waiting`. Only the latter has the last.
 const WAITING_NOTHING: u32 = 0;
 
 const WAITING_ESCAPE: u32 = 1;
@@ -71,6 +71,8 @@ const WAITING_SEQUENCE: u32 = 2;
 const WAITING_CHARACTER: u32 = 3;
 
 const WAITING_PASTE: u32 = 4;
+
+const WAITING_STRING: u32 = 5;
 
 // The answers of `hed_encode` and `hed_encode_kitty`.
 const ENCODED_TEXT: u32 = 0;
