@@ -11,10 +11,6 @@ use Rattle.termwiz_input_extended.specs.FormAnswers.{IsScanned}
 use Rattle.termwiz_input_extended.specs.FormAnswers.IsScanned.{at_start, in_control, in_string}
 use Rattle.termwiz_input_extended.proofs.lemmas.forms.FrontAnswers.{true_of_first, two_first}
 
--- at the start nothing was looked at
-pub scanned_at_start : (u : List ℕ) (scanned : ℕ) → scanned ≤ 2 → IsScanned u scanned
-scanned_at_start u scanned l = at_start l
-
 -- what was looked at stays so when the text grows
 pub scanned_grows : (u s : List ℕ) (scanned : ℕ) → IsScanned u scanned → IsScanned (u ++ s) scanned
 scanned_grows u s scanned (at_start l) = at_start l

@@ -40,16 +40,6 @@ end_first : (end x : List ℕ) → IsStringEnd Osc end → (v : ℕ) × (s : Lis
 end_first end x (inl e) = (27, 92 ∷ x, ap (λ z. z ++ x) e, λ d. d.0 refl)
 end_first end x (inr e) = (7, x, ap (λ z. z ++ x) e, λ d. d.1 refl)
 
--- no letter
-pub no_letter : (b : ℕ) (r : List ℕ) → ¬ IsTitleLetter b → HasForm (27 ∷ 93 ∷ b ∷ r) Absent
-no_letter b r never = absent_front (27 ∷ 93 ∷ b ∷ r) none
-  where
-    none : (text x y : List ℕ) → IsForm text → text ++ x ≡ 27 ∷ 93 ∷ b ∷ r ++ y → ⊥
-    none text x y f e =
-        let g = title_of text x (b ∷ (r ++ y)) f e in
-        let same : g.0.letter ≡ b = cc (g.1) in
-        never (subst IsTitleLetter same g.0.letter_is)
-
 -- so many bytes that no title has them
 title_long : (letter : ℕ) (bytes more : List ℕ) → AllByRecursion (IsData Osc) bytes → 252 ≤ length bytes
     → HasForm (27 ∷ 93 ∷ letter ∷ (bytes ++ more)) Absent
@@ -162,7 +152,3 @@ title_cut_at r left m len b some each inside e other =
     let same : after_of r len ≡ l.after = take_rest (body_of r) len ∙ sym l.after_is in
     subst (λ z. HasForm (27 ∷ 93 ∷ z) Absent) (ap (λ z. get_or r 0 0 ∷ (l.bytes ++ z)) (sym e ∙ same) ∙ sym l.whole)
     (title_cut (get_or r 0 0) b l.bytes left l.each other)
-
-pub no_letter_at : (r : List ℕ) → 0 < length r → ¬ IsTitleLetter (get_or r 0 0) → HasForm (27 ∷ 93 ∷ r) Absent
-no_letter_at [] some never = absurd (omega arith)
-no_letter_at (b ∷ r) some never = no_letter b r never

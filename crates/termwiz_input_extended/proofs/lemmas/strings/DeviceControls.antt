@@ -149,29 +149,3 @@ tail_first r d = tail_at r d 0 d (omega arith)
 
 pub tail_second : (r : List ℕ) (d : ℕ) → get_or (tail_of r d) 1 0 ≡ get_or r (d + 1) 0
 tail_second r d = tail_at r d 1 (d + 1) (omega arith)
-
--- of each of the three texts its first byte is enough
-no_number : (digits t : List ℕ) (b : ℕ) → IsShortNumber digits → IsLiteralStart b → get_or (digits ++ t) 0 0 ≡ b → ⊥
-no_number [] t b n is e = n.some refl
-no_number (c ∷ digits) t b n is e = omega (arith, n.each.0)
-
-pub bar_only : IsOnlyHead 62 (62 ∷ 124 ∷ [])
-bar_only other (inl f) e = f
-bar_only other (inr (inl f)) e = absurd (omega (arith, ap (λ z. get_or z 0 0) f))
-bar_only other (inr (inr (inl f))) e = absurd (omega (arith, ap (λ z. get_or z 0 0) f))
-bar_only other (inr (inr (inr f))) e =
-    absurd (no_number f.digits (f.sign ∷ f.last ∷ []) 62 f.number (inl refl) (ap (λ z. get_or z 0 0) (sym f.form) ∙ e))
-
-pub bang_only : IsOnlyHead 33 (33 ∷ 124 ∷ [])
-bang_only other (inl f) e = absurd (omega (arith, ap (λ z. get_or z 0 0) f))
-bang_only other (inr (inl f)) e = f
-bang_only other (inr (inr (inl f))) e = absurd (omega (arith, ap (λ z. get_or z 0 0) f))
-bang_only other (inr (inr (inr f))) e =
-    absurd (no_number f.digits (f.sign ∷ f.last ∷ []) 33 f.number (inr (inl refl)) (ap (λ z. get_or z 0 0) (sym f.form) ∙ e))
-
-pub kitty_only : IsOnlyHead 64 (64 ∷ 107 ∷ 105 ∷ 116 ∷ 116 ∷ 121 ∷ 45 ∷ [])
-kitty_only other (inl f) e = absurd (omega (arith, ap (λ z. get_or z 0 0) f))
-kitty_only other (inr (inl f)) e = absurd (omega (arith, ap (λ z. get_or z 0 0) f))
-kitty_only other (inr (inr (inl f))) e = f
-kitty_only other (inr (inr (inr f))) e =
-    absurd (no_number f.digits (f.sign ∷ f.last ∷ []) 64 f.number (inr (inr refl)) (ap (λ z. get_or z 0 0) (sym f.form) ∙ e))

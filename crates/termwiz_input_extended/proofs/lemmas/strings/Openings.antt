@@ -9,9 +9,9 @@ use Rattle.termwiz_extended_events.specs.declared.types.StringKind.{StringKind}
 use Rattle.termwiz_extended_events.specs.declared.types.StringKind.TheVariants.{Osc, Dcs, Apc}
 use Rattle.termwiz_extended_grammar.specs.Forms.{introducer}
 use Rattle.termwiz_extended_grammar.specs.Strings.{IsHead, IsShortNumber, IsLetter}
-use Rattle.termwiz_extended_grammar.proofs.lemmas.forms.FormBytes.{IsOpening, IsStringIntroducer, introducer_shape, first_other}
+use Rattle.termwiz_extended_grammar.proofs.lemmas.forms.FormBytes.{IsOpening, introducer_shape, first_other}
 use Rattle.termwiz_extended_grammar.proofs.lemmas.forms.FormEnds.{mark_ends}
-use Rattle.termwiz_extended_grammar.proofs.lemmas.items.StringFronts.{head_inside, unfinished_inside, unfinished_outside, no_opening_after, no_beginning_after}
+use Rattle.termwiz_extended_grammar.proofs.lemmas.items.StringFronts.{head_inside, unfinished_inside, unfinished_outside}
 use Rattle.termwiz_extended_grammar.proofs.lemmas.items.StringItems.{parted_once}
 use Rattle.termwiz_input_extended.specs.declared.string.OpeningAt.TheVariants.{Opening, Unfinished, Absent}
 use Rattle.termwiz_input_extended.specs.StringAnswers.{HasOpening}
@@ -55,25 +55,7 @@ opening_none kind r none = (
   λ o. let h = unfinished_inside kind r o in none (r ++ h.0) [] h.0 h.2 (append-nil (r ++ h.0)),
 )
 
--- a text that no introducer of strings begins
-pub no_introducer : (x y : ℕ) (t : List ℕ) → (x ≡ 27 → IsStringIntroducer y → ⊥) → HasOpening (x ∷ y ∷ t) Absent
-no_introducer x y t never = (no_opening_after x y t never, no_beginning_after x y t never)
-
-no_escape_alone : (x : ℕ) → x ≢ 27 → HasOpening (x ∷ []) Absent
-no_escape_alone x never = (
-  λ o. (
-      let i = introducer_shape o.kind in
-      let all : x ∷ [] ≡ 27 ∷ i.0 ∷ (o.head ++ o.begins.0) = o.begins.1 ∙ ap (λ z. z ++ o.head ++ o.begins.0) i.1 in
-      never (cc (all))
-      ),
-  λ h. (
-      let i = introducer_shape h.kind in
-      let all : 27 ∷ i.0 ∷ h.head ≡ x ∷ h.tail = ap (λ z. z ++ h.head) (sym i.1) ∙ h.spells in
-      never (cc (all))
-      ),
-)
-
--- what begins every opening
+-- an opening, of which nothing and ESC alone are beginnings
 graphics_is : IsHead Apc (71 ∷ 97 ∷ 61 ∷ [])
 graphics_is = record { letter = 97; form = refl; letter_is = inr (omega arith, omega arith) }
 
@@ -119,12 +101,6 @@ pub escape_at : (u : List ℕ) → length u ≡ 1 → get_or u 0 0 ≡ 27 → Ha
 escape_at [] l e = absurd (omega arith)
 escape_at (x ∷ []) l e = subst (λ z. HasOpening (z ∷ []) Unfinished) (sym e) escape_alone
 escape_at (x ∷ y ∷ u) l e = absurd (omega arith)
-
-pub absent_at : (u : List ℕ) → u ≢ [] → (get_or u 0 0 ≡ 27 → (1 < length u) × ¬ IsStringIntroducer (get_or u 1 0))
-    → HasOpening u Absent
-absent_at [] some never = absurd (some refl)
-absent_at (x ∷ []) some never = no_escape_alone x (λ e. omega (arith, (never e).0))
-absent_at (x ∷ y ∷ t) some never = no_introducer x y t (λ e. (never e).1)
 
 -- digits at the front
 pub record Digits (r : List ℕ) (d : ℕ) : Type 0 where
