@@ -2,6 +2,7 @@
 //! give is what the bytes mean.
 
 ghost use Rattle.std.specs.Prelude.{◌≡◌, ◌++◌, ◌∷◌, [], List, false, length, IfNone, IfOk, IfSome, OnErr, OnOk};
+ghost use Rattle.termwiz_input.specs.PasteParts.{IsTaken};
 ghost use Rattle.termwiz_input.specs.WaitingKinds.{IsOpenPaste};
 ghost use Rattle.termwiz_extended_events.specs.declared.types.ExtendedEvent.{ExtendedEvent as Event};
 ghost use Rattle.termwiz_extended_grammar.specs.ExtendedGrammar.{IsRest, Means, Steps};
@@ -11,6 +12,7 @@ ghost use Rattle.test_calls.specs.GoingOn.{Describes, GoesOn};
 
 use crate::parses::{Left, Stop};
 use std::alloc::{AllocError, Global};
+use termwiz_input::input::PastedText;
 use termwiz_input_extended::input::{ExtendedParser, ExtendedVecError, ParseError};
 use termwiz_input_extended::laws::resumes;
 use termwiz_input_extended::types::{ExtendedEvent, Protocol};
@@ -82,6 +84,22 @@ pub fn end_paste(
         Err(_) => {
             let len = parser.waiting_len();
             Ok((parser.end_paste()?, Some(len)))
+        }
+    }
+}
+
+/// Takes a part of the open paste of a parser, if there is one. Returns its text, and how many bytes stayed buffered after a refusal.
+pub fn take_paste(
+    parser: &mut ExtendedParser,
+) -> Result<(Option<PastedText>, Option<usize>), AllocError>
+    ensures part { IfOk result (λ taken. IfSome taken.0 (λ text. IsTaken parser.old.text 0 text parser.new.text)) }
+    ensures unchanged { IfOk result (λ taken. IfSome taken.1 (λ len. len ≡ length parser.old.text)) }
+{
+    match parser.take_paste(0) {
+        Ok(text) => Ok((text, None)),
+        Err(_) => {
+            let len = parser.waiting_len();
+            Ok((parser.take_paste(0)?, Some(len)))
         }
     }
 }

@@ -6,12 +6,13 @@ ghost use Rattle.std.specs.FinMap as map;
 ghost use Rattle.termwiz_input.specs.Encoding.{enc, unhandled};
 ghost use Rattle.termwiz_input.specs.Lookup.{LookupGives};
 ghost use Rattle.termwiz_input.specs.EncodeError.TheVariants as error;
+ghost use Rattle.termwiz_input.specs.PasteParts.{IsTaken};
 ghost use Rattle.termwiz_input.specs.PasteSearch.{IsPasteSoFar};
 ghost use Rattle.termwiz_input.specs.WaitingKinds.{IsOpenPaste};
 
 use std::alloc::{AllocError, Global};
 use termwiz_input::input::{
-    EncodeError, InputEvent, InputParser, KeyCode, KeyCodeEncodeModes, Modifiers,
+    EncodeError, InputEvent, InputParser, KeyCode, KeyCodeEncodeModes, Modifiers, PastedText,
 };
 use termwiz_input::keymap::{Found, KeyMap};
 use termwiz_input::readbuf::ReadBuffer;
@@ -39,6 +40,22 @@ pub fn end_paste(
         Err(_) => {
             let len = parser.waiting_len();
             Ok((parser.end_paste()?, Some(len)))
+        }
+    }
+}
+
+/// Takes a part of the open paste of a parser, if there is one. Returns its text, and how many bytes stayed buffered after a refusal.
+pub fn take_paste(
+    parser: &mut InputParser,
+) -> Result<(Option<PastedText>, Option<usize>), AllocError>
+    ensures part { IfOk result (λ taken. IfSome taken.0 (λ text. IsTaken parser.old 0 text parser.new)) }
+    ensures unchanged { IfOk result (λ taken. IfSome taken.1 (λ len. len ≡ length parser.old)) }
+{
+    match parser.take_paste(0) {
+        Ok(text) => Ok((text, None)),
+        Err(_) => {
+            let len = parser.waiting_len();
+            Ok((parser.take_paste(0)?, Some(len)))
         }
     }
 }

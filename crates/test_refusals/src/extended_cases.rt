@@ -1,6 +1,9 @@
 // The cases of the extended parser.
 
-use super::{Failure, print_event, print_new, print_stop, print_waited, print_waiting};
+use super::{
+    Failure, OPEN_PASTE, print_event, print_new, print_part, print_stop, print_waited,
+    print_waiting,
+};
 use std::io;
 use termwiz_input_extended::input::ExtendedParser;
 use termwiz_input_extended::types::{ExtendedEvent, Protocol};
@@ -26,6 +29,7 @@ fn show_lent(rt: &HostRuntime, parser: &mut ExtendedParser, case: &str) -> Resul
         "extended-parse" => show_parse(rt, parser),
         "extended-parse_as_vec" => show_parse_as_vec(rt, parser),
         "extended-end_paste" => show_end_paste(rt, parser),
+        "extended-take_paste" => show_take_paste(rt, parser),
         _ => Err(Failure::NoSuchCase),
     }
 }
@@ -161,4 +165,12 @@ fn print_ended(
         print_extended(rt, event)?;
     }
     Ok(print_waiting(rt, waiting)?)
+}
+
+fn show_take_paste(rt: &HostRuntime, parser: &mut ExtendedParser) -> Result<(), Failure> {
+    parser.feed(OPEN_PASTE)?;
+    let Ok((text, refused)) = extended::take_paste(parser) else {
+        return Err(Failure::Failed);
+    };
+    print_part(rt, refused, text.as_ref(), parser.waiting_len())
 }

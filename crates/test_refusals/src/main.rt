@@ -104,6 +104,7 @@ fn show_lent(rt: &HostRuntime, parser: &mut InputParser, case: &str) -> Result<(
         "parse_as_vec-long" => show_parse_as_vec(rt, parser, MANY_KEYS),
         "parse_pieces" => show_parse_pieces(rt, parser),
         "end_paste" => show_end_paste(rt, parser),
+        "take_paste" => show_take_paste(rt, parser),
         _ => Err(Failure::NoSuchCase),
     }
 }
@@ -340,6 +341,31 @@ fn show_end_paste(rt: &HostRuntime, parser: &mut InputParser) -> Result<(), Fail
         return Err(Failure::Failed);
     };
     print_ended(rt, refused, event.as_ref(), parser.waiting_len())
+}
+
+fn show_take_paste(rt: &HostRuntime, parser: &mut InputParser) -> Result<(), Failure> {
+    parser.feed(OPEN_PASTE)?;
+    let Ok((text, refused)) = parts::take_paste(parser) else {
+        return Err(Failure::Failed);
+    };
+    print_part(rt, refused, text.as_ref(), parser.waiting_len())
+}
+
+// A paste of two letters, and half a character, which is held back.
+const OPEN_PASTE: &[u8] = b"\x1b[200~ab\xc3";
+
+// Prints what was buffered after a refusal, if there was one, the text of a part, and what is buffered in the end.
+fn print_part(
+    rt: &HostRuntime,
+    refused: Option<usize>,
+    text: Option<&PastedText>,
+    waiting: usize,
+) -> Result<(), Failure> {
+    print_waited(rt, refused)?;
+    if let Some(text) = text {
+        print!(rt; " / part {:?}", text.as_str())?;
+    }
+    Ok(print_waiting(rt, waiting)?)
 }
 
 // Prints what was buffered after a refusal, if there was one, the event of a paste, and what is buffered in the end.
