@@ -28,12 +28,15 @@ void terminal_write(const terminal *it, const char *text) {
   }
 }
 
-static void switch_on(const terminal *it) {
+static void switch_on(terminal *it) {
   for (size_t i = 0; i < MODE_COUNT; i++)
-    if (it->modes[i]) terminal_write(it, all_modes[i].on);
+    if (it->modes[i] && !(all_modes[i].nests && it->is_switched)) terminal_write(it, all_modes[i].on);
+  it->is_switched = true;
 }
 
-static void switch_off(const terminal *it) {
+static void switch_off(terminal *it) {
+  if (!it->is_switched) return;
+  it->is_switched = false;
   for (size_t i = MODE_COUNT; i > 0; i--)
     if (it->modes[i - 1]) terminal_write(it, all_modes[i - 1].off);
 }
@@ -47,10 +50,10 @@ bool terminal_enter(terminal *it) {
 
 void terminal_leave(terminal *it) {
   if (!it->is_raw) return;
-  it->is_raw = false;
   fflush(stdout);
   switch_off(it);
   tcsetattr(0, TCSAFLUSH, &it->saved);
+  it->is_raw = false;
 }
 
 void terminal_size(size_t *columns, size_t *rows) {

@@ -8,14 +8,15 @@
 typedef struct terminal {
   const bool *modes; /* which of all_modes are switched on */
   int output; /* where the terminal is written, whatever the standard output is */
-  bool is_raw;
+  bool is_raw, is_switched; /* whether raw mode is set, and whether the modes are on */
   struct termios saved, raw;
 } terminal;
 
 /* Finds the terminal of the standard input. Returns false if it can't be written. */
 bool terminal_find(terminal *it, const bool *modes);
 
-/* Sets raw mode and the modes. What was typed ahead is kept. Returns false if raw mode can't be set. */
+/* Sets raw mode and the modes. What was typed ahead is kept. Of the modes that are on those that nest aren't switched on once more. Returns
+ * false if raw mode can't be set. */
 bool terminal_enter(terminal *it);
 
 /* Restores the terminal, unless another program has it, and discards what it sent meanwhile, so that no mouse report reaches the shell. */

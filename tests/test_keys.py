@@ -325,6 +325,19 @@ def test_kitty_keyboard(start):
     keys.check_end(0)
 
 
+def test_flags_of_kitty_nest(start):
+    """They are pushed again only after they were popped, and not by a SIGCONT without a stop."""
+    keys = start("--kitty-keyboard", "--focus")
+    keys.kill(signal.SIGCONT)
+    keys.wait_for(lambda: keys.output.count(b"\033[?1004h") == 2, "focus mode again")
+    keys.stop()
+    keys.continue_in_foreground()
+    keys.wait_for(keys.modes, "modes")
+    keys.kill(signal.SIGTERM)
+    keys.check_end(-signal.SIGTERM)
+    assert re.findall(rb"\033\[(>31|<)u", keys.output) == [b">31", b"<"] * 2
+
+
 @pytest.mark.parametrize("number", ENDING_SIGNALS, ids=lambda it: it.name)
 def test_signal(start, number):
     keys = start(*ALL_MODES)
