@@ -4,7 +4,8 @@
  *
  * The last question is what the terminal is (DA1), which nearly every terminal answers. Replies come in the order of the questions, so a reply
  * that hasn't come before that one won't come. Without any the program gives up after a second. Keys that are typed meanwhile are read as
- * keys, and no byte of a reply is taken for one. The terminal's settings are restored, also by a signal that ends the program. */
+ * keys, and no byte of a reply is taken for one. The terminal's settings are restored, also by a signal that ends the program: if nobody
+ * reads its output, a second after it. */
 #define _POSIX_C_SOURCE 200809L
 #include "hedrugal.h"
 #include <errno.h>
@@ -23,17 +24,37 @@ enum { TIMEOUT_MS = 1000, LONGEST_REPLY = 256 };
 static const char questions[] = "\033[?6n\033]10;?\033\\\033]11;?\033\\\033[?u\033[c";
 
 static volatile sig_atomic_t ending;
+static struct termios saved;
 
 static void note_signal(int number) {
+  if (ending) return;
   ending = number;
+  alarm(1);
 }
 
-static void handle_signals(void (*handler)(int)) {
-  static const int numbers[] = { SIGHUP, SIGINT, SIGQUIT, SIGTERM };
+static void handle_signal(int number, void (*handler)(int)) {
   struct sigaction action;
   memset(&action, 0, sizeof action);
   action.sa_handler = handler;
-  for (size_t i = 0; i < sizeof numbers / sizeof *numbers; i++) sigaction(numbers[i], &action, NULL);
+  sigaction(number, &action, NULL);
+}
+
+static void end_by_signal(void) {
+  handle_signal(ending, SIG_DFL);
+  raise(ending);
+}
+
+/* The program still runs a second after such a signal: a write blocks. */
+static void end_at_once(int number) {
+  (void)number;
+  tcsetattr(0, TCSANOW, &saved);
+  end_by_signal();
+}
+
+static void note_signals(void) {
+  static const int numbers[] = { SIGHUP, SIGINT, SIGQUIT, SIGTERM };
+  for (size_t i = 0; i < sizeof numbers / sizeof *numbers; i++) handle_signal(numbers[i], note_signal);
+  handle_signal(SIGALRM, end_at_once);
 }
 
 /* Prints the bytes that an event brought, those that aren't printable ASCII as in \x1b. */
@@ -104,7 +125,7 @@ static bool ask(hed_extended *parser) {
 
 int main(void) {
   hed_extended parser = HED_EXTENDED_NONE;
-  struct termios saved, raw;
+  struct termios raw;
   if (!isatty(1) || tcgetattr(0, &saved) != 0) {
     fputs("ask: standard input and output have to be a terminal\n", stderr);
     return 2;
@@ -118,14 +139,11 @@ int main(void) {
   raw.c_lflag &= ~(tcflag_t)(ECHO | ICANON | IEXTEN | ISIG); /* no byte of a reply is a signal or another byte */
   raw.c_cc[VMIN] = 1;
   raw.c_cc[VTIME] = 0;
-  handle_signals(note_signal);
+  note_signals();
   tcsetattr(0, TCSADRAIN, &raw); /* what was typed ahead is kept */
   bool is_answered = ask(&parser);
   tcsetattr(0, is_answered ? TCSADRAIN : TCSAFLUSH, &saved); /* a late reply isn't left for the shell */
   hed_extended_free(&parser);
-  if (ending) {
-    handle_signals(SIG_DFL);
-    raise(ending);
-  }
+  if (ending) end_by_signal();
   return is_answered ? 0 : 1;
 }

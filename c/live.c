@@ -7,7 +7,7 @@
  *
  * q ends the program, and so do the end of the input, SIGHUP, SIGINT, SIGQUIT and SIGTERM. ^C, ^Z and ^\ are keys like any other (ISIG is
  * off), as in an editor; SIGTSTP from another process stops it until SIGCONT. The terminal is restored whenever it ends or stops in one of
- * these ways. */
+ * these ways; if its output can't be written since nobody reads it, its settings alone, a second after the signal. */
 #define _POSIX_C_SOURCE 200809L
 #include "hedrugal.h"
 #include <errno.h>
@@ -24,7 +24,7 @@ enum { ESCAPE_MS = 50, SEQUENCE_MS = 1000, PASTE_LIMIT = 1 << 20 };
 
 typedef struct live {
   hed_parser parser;
-  bool mouse, is_raw;
+  bool mouse;
   struct termios saved, raw;
   const char *failure; /* why the program ends, if nobody asked for it */
 } live;
@@ -38,13 +38,17 @@ static bool fail(live *it, const char *failure) {
 /* The signals that arrived. The handler also writes to a pipe, which is polled: so no signal is missed between a look at these and poll. */
 static volatile sig_atomic_t ending, stopping, continued, resized;
 static int wake[2];
+static const live *volatile entered; /* whose terminal is in raw mode */
 
 static void note_signal(int number) {
   int saved = errno;
   if (number == SIGTSTP) stopping = 1;
   else if (number == SIGCONT) continued = 1;
   else if (number == SIGWINCH) resized = 1;
-  else ending = number;
+  else if (!ending) {
+    ending = number;
+    alarm(1);
+  }
   ssize_t written = write(wake[1], "", 1);
   (void)written; /* a full pipe ends the poll as well */
   errno = saved;
@@ -58,13 +62,21 @@ static bool handle_signal(int number, void (*handler)(int)) {
   return sigaction(number, &action, NULL) == 0;
 }
 
+/* The program still runs a second after a signal that ends it: a write blocks, and goes on after signals. */
+static void end_at_once(int number) {
+  (void)number;
+  if (entered) tcsetattr(0, TCSANOW, &entered->saved);
+  handle_signal(ending, SIG_DFL);
+  raise(ending);
+}
+
 static bool note_signals(live *it) {
   static const int numbers[] = { SIGHUP, SIGINT, SIGQUIT, SIGTERM, SIGTSTP, SIGCONT, SIGWINCH };
   if (pipe(wake) != 0 || fcntl(wake[0], F_SETFL, O_NONBLOCK) != 0 || fcntl(wake[1], F_SETFL, O_NONBLOCK) != 0)
     return fail(it, "a pipe can't be opened");
   for (size_t i = 0; i < sizeof numbers / sizeof *numbers; i++)
     if (!handle_signal(numbers[i], note_signal)) return fail(it, "a signal can't be handled");
-  return true;
+  return handle_signal(SIGALRM, end_at_once) || fail(it, "a signal can't be handled");
 }
 
 static bool find_terminal(live *it) {
@@ -80,18 +92,18 @@ static bool find_terminal(live *it) {
 /* What was typed ahead is kept. */
 static bool enter_terminal(live *it) {
   if (tcsetattr(0, TCSADRAIN, &it->raw) != 0) return fail(it, "raw mode can't be set");
-  it->is_raw = true;
+  entered = it;
   fputs(it->mouse ? "\033[?2004h\033[?1003h\033[?1006h" : "\033[?2004h", stdout);
   return true;
 }
 
 /* Restores the terminal, unless another program has it, and discards what it sent meanwhile, so that no mouse report reaches the shell. */
 static void leave_terminal(live *it) {
-  if (!it->is_raw) return;
-  it->is_raw = false;
+  if (!entered) return;
   fputs(it->mouse ? "\033[?1006l\033[?1003l\033[?2004l" : "\033[?2004l", stdout);
   fflush(stdout);
   tcsetattr(0, TCSAFLUSH, &it->saved);
+  entered = NULL;
 }
 
 static void print_size(void) {

@@ -211,7 +211,7 @@ static void finish(keys *it) {
 
 static bool start_live(keys *it) {
   if (!terminal_find(&it->terminal, it->options.modes)) return fail(it, "the terminal can't be written", errno);
-  it->wake = signals_note();
+  it->wake = signals_note(terminal_leave_at_once);
   if (it->wake < 0) return fail(it, "signals can't be handled", errno);
   if (!enter_terminal(it)) return false;
   terminal_write(&it->terminal, "hedrugal-keys: press keys; ^D twice ends it.\n");

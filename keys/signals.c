@@ -8,13 +8,17 @@
 
 static volatile sig_atomic_t ending, stopping, continued, resized;
 static int wake[2];
+static void (*leave_at_once)(void);
 
 static void note(int number) {
   int saved = errno;
   if (number == SIGTSTP) stopping = 1;
   else if (number == SIGCONT) continued = 1;
   else if (number == SIGWINCH) resized = 1;
-  else ending = number;
+  else if (!ending) {
+    ending = number;
+    alarm(1);
+  }
   ssize_t written = write(wake[1], "", 1);
   (void)written; /* a full pipe wakes poll as well */
   errno = saved;
@@ -28,12 +32,19 @@ static bool handle(int number, void (*handler)(int)) {
   return sigaction(number, &action, NULL) == 0;
 }
 
-int signals_note(void) {
+static void end_at_once(int number) {
+  (void)number;
+  leave_at_once();
+  signals_end(ending);
+}
+
+int signals_note(void (*leave)(void)) {
   static const int numbers[] = { SIGHUP, SIGINT, SIGQUIT, SIGTERM, SIGTSTP, SIGCONT, SIGWINCH };
   if (pipe(wake) != 0 || fcntl(wake[0], F_SETFL, O_NONBLOCK) != 0 || fcntl(wake[1], F_SETFL, O_NONBLOCK) != 0) return -1;
   for (size_t i = 0; i < sizeof numbers / sizeof *numbers; i++)
     if (!handle(numbers[i], note)) return -1;
-  return wake[0];
+  leave_at_once = leave;
+  return handle(SIGALRM, end_at_once) ? wake[0] : -1;
 }
 
 void signals_heed(void) {

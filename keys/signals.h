@@ -5,8 +5,9 @@
 #include <stdbool.h>
 
 /* Notes the signals from now on. Each also makes a descriptor readable, so none is missed between a look at these and poll. Returns that
- * descriptor, or -1 if signals can't be handled. */
-int signals_note(void);
+ * descriptor, or -1 if signals can't be handled. If the program goes on for a second after a signal that ends it, as in a write that
+ * blocks, the handler calls `leave` and ends it. */
+int signals_note(void (*leave)(void));
 
 /* Empties the descriptor. */
 void signals_heed(void);

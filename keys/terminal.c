@@ -41,9 +41,12 @@ static void switch_off(terminal *it) {
     if (it->modes[i - 1]) terminal_write(it, all_modes[i - 1].off);
 }
 
+static terminal *volatile entered;
+
 bool terminal_enter(terminal *it) {
   if (tcsetattr(0, TCSADRAIN, &it->raw) != 0) return false;
   it->is_raw = true;
+  entered = it;
   switch_on(it);
   return true;
 }
@@ -54,6 +57,17 @@ void terminal_leave(terminal *it) {
   switch_off(it);
   tcsetattr(0, TCSAFLUSH, &it->saved);
   it->is_raw = false;
+}
+
+void terminal_leave_at_once(void) {
+  terminal *it = entered;
+  if (!it || !it->is_raw) return;
+  int flags = fcntl(it->output, F_GETFL);
+  fcntl(it->output, F_SETFL, flags | O_NONBLOCK);
+  switch_off(it);
+  fcntl(it->output, F_SETFL, flags);
+  tcflush(0, TCIFLUSH);
+  tcsetattr(0, TCSANOW, &it->saved);
 }
 
 void terminal_size(size_t *columns, size_t *rows) {

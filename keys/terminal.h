@@ -3,12 +3,13 @@
 #define KEYS_TERMINAL_H
 
 #include "modes.h"
+#include <signal.h>
 #include <termios.h>
 
 typedef struct terminal {
   const bool *modes; /* which of all_modes are switched on */
   int output; /* where the terminal is written, whatever the standard output is */
-  bool is_raw, is_switched; /* whether raw mode is set, and whether the modes are on */
+  volatile sig_atomic_t is_raw, is_switched; /* whether raw mode is set, and whether the modes are on */
   struct termios saved, raw;
 } terminal;
 
@@ -21,6 +22,9 @@ bool terminal_enter(terminal *it);
 
 /* Restores the terminal, unless another program has it, and discards what it sent meanwhile, so that no mouse report reaches the shell. */
 void terminal_leave(terminal *it);
+
+/* The same for the terminal that was entered, by a handler of signals: what can't be written at once is left out. */
+void terminal_leave_at_once(void);
 
 /* Writes a text to it. */
 void terminal_write(const terminal *it, const char *text);

@@ -167,4 +167,4 @@ def test_interrupt(ask):
 @pytest.mark.parametrize("number", [signal.SIGTERM, signal.SIGHUP])
 def test_signals(ask, number):
     ask.child.kill(number)
-    ask.assert_end([], 128 + number)
+    ask.assert_end([], -number)

@@ -8,6 +8,7 @@ import signal
 import subprocess
 import termios
 import time
+import tty
 
 from pexpect import EOF, TIMEOUT
 from pexpect.fdpexpect import fdspawn
@@ -27,6 +28,18 @@ def change_settings(terminal, characters, on=0, off=0):
     settings[LFLAG] = settings[LFLAG] & ~off | on
     for place, character in characters.items():
         settings[CC][place] = character
+    termios.tcsetattr(terminal, termios.TCSANOW, settings)
+
+
+def fill(terminal):
+    """Writes until there is no room, as a raw terminal has a little more of it."""
+    settings = termios.tcgetattr(terminal)
+    tty.setraw(terminal)
+    os.set_blocking(terminal, False)
+    with contextlib.suppress(BlockingIOError):
+        while True:
+            os.write(terminal, b"x")
+    os.set_blocking(terminal, True)
     termios.tcsetattr(terminal, termios.TCSANOW, settings)
 
 
@@ -63,9 +76,9 @@ def run_shell(words, env, group, told):
 class Terminal(fdspawn):
     """A pseudo-terminal on which a program runs. An orphaned program stays in the group of the
     shell, as below a shell without job control. The system then never stops it by SIGTSTP, since no
-    shell could continue it."""
+    shell could continue it. A full terminal has no room for what the program writes."""
 
-    def __init__(self, words, size=(80, 24), is_orphaned=False, env=None):
+    def __init__(self, words, size=(80, 24), is_orphaned=False, env=None, is_full=False):
         ours, terminal = os.openpty()
         super().__init__(ours, timeout=SECONDS)
         self.logfile_read = io.BytesIO()
@@ -74,6 +87,8 @@ class Terminal(fdspawn):
         unusual = {termios.VERASE: b"\x08", termios.VINTR: b"\x07"}
         change_settings(terminal, unusual, off=termios.ECHOE)
         self.settings_before = self.settings()
+        if is_full:
+            fill(terminal)
         self.told, told = multiprocessing.Pipe(duplex=False)
         self.shell = os.fork()
         if not self.shell:

@@ -416,6 +416,16 @@ def test_json_of_what_is_buffered_at_a_signal(start, tmp_path):
     assert json.loads(out.read_text().splitlines()[-1]) == wanted
 
 
+def test_signal_while_nobody_reads_json(start, tmp_path):
+    """The terminal can be written, and its modes are switched off."""
+    os.mkfifo(tmp_path / "out")
+    with open(os.open(tmp_path / "out", os.O_RDONLY | os.O_NONBLOCK)):
+        keys = start("--json", "--mouse", output_to=tmp_path / "out")
+        keys.play([b"a" * 4096, PAUSE])
+        keys.kill(signal.SIGTERM)
+        keys.check_end(-signal.SIGTERM)
+
+
 def test_full_disk_on_a_terminal(start):
     """The terminal is restored."""
     keys = start(*ALL_MODES, output_to="/dev/full")

@@ -20,6 +20,14 @@ from hedrugal import Csi, CursorPosition, ExtendedEvent, ExtendedParser, Keyboar
 CURSOR, BACKGROUND, KEYBOARD, ATTRIBUTES = b"\x1b[?6n", b"\x1b]11;?\x1b\\", b"\x1b[?u", b"\x1b[c"
 
 
+class Ended(BaseException):
+    """A signal ends the program, once the terminal is restored."""
+
+
+def end_by(number: int, _: object) -> None:
+    raise Ended(number)
+
+
 def is_attributes(event: ExtendedEvent) -> bool:
     """Whether an event is the answer to the last question."""
     return isinstance(event, Csi) and event.data.startswith(b"?") and event.data.endswith(b"c")
@@ -55,7 +63,9 @@ def ask_in_raw_mode(terminal: int, seconds: float) -> List[ExtendedEvent]:
         tty.setraw(terminal)
         return ask(terminal, seconds)
     finally:
-        termios.tcsetattr(terminal, termios.TCSAFLUSH, saved)
+        # No wait for what is still to be written: it may be that nobody reads it.
+        termios.tcflush(terminal, termios.TCIFLUSH)
+        termios.tcsetattr(terminal, termios.TCSANOW, saved)
 
 
 def described(event: ExtendedEvent) -> Optional[str]:
@@ -76,7 +86,7 @@ def main() -> int:
     seconds = float(sys.argv[1]) if len(sys.argv) > 1 else 1
     # These would end the program at once, and leave the terminal in raw mode.
     for number in (signal.SIGHUP, signal.SIGTERM):
-        signal.signal(number, lambda number, _: sys.exit(128 + number))
+        signal.signal(number, end_by)
     try:
         terminal = os.open("/dev/tty", os.O_RDWR | os.O_NOCTTY)
     except OSError as error:
@@ -97,4 +107,9 @@ def main() -> int:
 
 
 if __name__ == "__main__":
-    sys.exit(main())
+    try:
+        sys.exit(main())
+    except Ended as ended:
+        # By the signal itself, since sys.exit would first write what was printed.
+        signal.signal(ended.args[0], signal.SIG_DFL)
+        os.kill(os.getpid(), ended.args[0])

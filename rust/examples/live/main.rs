@@ -8,7 +8,8 @@
 //!
 //! q ends the program, and so do the end of the input, SIGHUP, SIGINT, SIGQUIT and SIGTERM. ^C, ^Z
 //! and ^\ are keys like any other, as in an editor; SIGTSTP from another process stops it until
-//! SIGCONT. The terminal is restored whenever it ends or stops in one of these ways.
+//! SIGCONT. The terminal is restored whenever it ends or stops in one of these ways; if its output
+//! can't be written since nobody reads it, its settings alone, a second after the signal.
 mod terminal;
 mod unix;
 

@@ -1,8 +1,9 @@
 //! The terminal of the program: raw mode, its modes, and lines on it.
-use crate::unix::{self, Settings};
+use crate::unix::{self, signals, Settings};
 use std::fs::File;
 use std::io::{self, IsTerminal, Write};
 use std::os::fd::{AsFd, AsRawFd};
+use std::sync::atomic::Ordering::SeqCst;
 
 const PASTE_ON: &str = "\x1b[?2004h";
 const PASTE_OFF: &str = "\x1b[?2004l";
@@ -14,7 +15,6 @@ pub struct Terminal {
     pub input: File,
     mouse: bool,
     saved: Settings,
-    is_raw: bool,
 }
 
 impl Terminal {
@@ -27,18 +27,18 @@ impl Terminal {
         // io::stdin has a buffer, into which poll can't look.
         let input = File::from(io::stdin().as_fd().try_clone_to_owned()?);
         let saved = Settings::of(input.as_raw_fd())?;
+        let saved = *signals::SAVED.get_or_init(|| saved);
         Ok(Terminal {
             input,
             mouse,
             saved,
-            is_raw: false,
         })
     }
 
     /// Sets raw mode. What was typed ahead is kept.
     pub fn enter(&mut self) -> io::Result<()> {
         self.saved.to_raw().apply(self.input.as_raw_fd())?;
-        self.is_raw = true;
+        signals::IS_RAW.store(true, SeqCst);
         print(if self.mouse { ALL_ON } else { PASTE_ON })
     }
 
@@ -46,12 +46,12 @@ impl Terminal {
     /// so that no mouse report reaches the shell. A terminal that is gone can't be restored, so
     /// errors count for nothing.
     pub fn leave(&mut self) {
-        if !self.is_raw {
+        if !signals::IS_RAW.load(SeqCst) {
             return;
         }
-        self.is_raw = false;
         let _ = print(if self.mouse { ALL_OFF } else { PASTE_OFF });
         let _ = self.saved.apply_and_discard(self.input.as_raw_fd());
+        signals::IS_RAW.store(false, SeqCst);
     }
 
     /// Prints a line. In raw mode the terminal doesn't return the cursor by itself.

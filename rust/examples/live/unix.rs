@@ -9,6 +9,7 @@ use std::os::fd::RawFd;
 compile_error!("the numbers of this file are those of x86-64 Linux");
 
 const POLLIN: c_short = 1;
+const TCSANOW: c_int = 0;
 const TCSADRAIN: c_int = 1;
 const TCSAFLUSH: c_int = 2;
 const TIOCGWINSZ: c_ulong = 0x5413;
@@ -105,15 +106,18 @@ pub fn poll_all<const N: usize>(descriptors: [RawFd; N], ms: i32) -> io::Result<
 /// Signals are noted by their handler, and handled in the loop. The handler also writes to a
 /// socket, which is polled: so no signal is missed between a look at these and the poll.
 pub mod signals {
-    use std::ffi::{c_int, c_void};
+    use super::{Settings, TCSANOW};
+    use std::ffi::{c_int, c_uint, c_void};
     use std::io;
     use std::os::fd::IntoRawFd;
     use std::os::unix::net::UnixStream;
     use std::sync::atomic::{AtomicBool, AtomicI32, Ordering::SeqCst};
+    use std::sync::OnceLock;
 
     const SIGHUP: c_int = 1;
     const SIGINT: c_int = 2;
     const SIGQUIT: c_int = 3;
+    const SIGALRM: c_int = 14;
     const SIGTERM: c_int = 15;
     const SIGCONT: c_int = 18;
     const SIGTSTP: c_int = 20;
@@ -124,6 +128,7 @@ pub mod signals {
     extern "C" {
         fn signal(number: c_int, handler: usize) -> usize;
         fn raise(number: c_int) -> c_int;
+        fn alarm(seconds: c_uint) -> c_uint;
         fn write(descriptor: c_int, bytes: *const c_void, len: usize) -> isize;
         fn __errno_location() -> *mut c_int;
     }
@@ -134,12 +139,16 @@ pub mod signals {
     static ENDING: AtomicI32 = AtomicI32::new(0);
     static WAKE: AtomicI32 = AtomicI32::new(-1);
 
+    /// Whether the terminal of the standard input is in raw mode, and its settings before that.
+    pub static IS_RAW: AtomicBool = AtomicBool::new(false);
+    pub static SAVED: OnceLock<Settings> = OnceLock::new();
+
     extern "C" fn note(number: c_int) {
         match number {
             SIGTSTP => STOPPING.store(true, SeqCst),
             SIGCONT => CONTINUED.store(true, SeqCst),
             SIGWINCH => RESIZED.store(true, SeqCst),
-            _ => ENDING.store(number, SeqCst),
+            _ => note_end(number),
         }
         // SAFETY: a handler may call `write`, and there is a byte. errno is that of the code that
         // was interrupted. A full socket ends the poll as well.
@@ -150,8 +159,24 @@ pub mod signals {
         }
     }
 
+    fn note_end(number: c_int) {
+        if ENDING.swap(number, SeqCst) == 0 {
+            // SAFETY: a handler may call `alarm`.
+            unsafe { alarm(1) };
+        }
+    }
+
+    /// The program still runs a second after a signal that ends it: a write blocks, and goes on
+    /// after signals.
+    extern "C" fn end_at_once(_: c_int) {
+        if let Some(saved) = SAVED.get().filter(|_| IS_RAW.load(SeqCst)) {
+            let _ = saved.set(0, TCSANOW);
+        }
+        end_by_signal();
+    }
+
     fn handle(number: c_int, handler: usize) -> io::Result<()> {
-        // SAFETY: the handler is `note`, which does only what a handler may, or the default.
+        // SAFETY: the handlers of this module do only what a handler may.
         if unsafe { signal(number, handler) } == SIG_ERR {
             return Err(io::Error::last_os_error());
         }
@@ -173,6 +198,7 @@ pub mod signals {
         ours.set_nonblocking(true)?;
         handlers.set_nonblocking(true)?;
         WAKE.store(handlers.into_raw_fd(), SeqCst);
+        handle(SIGALRM, end_at_once as *const () as usize)?;
         [SIGHUP, SIGINT, SIGQUIT, SIGTERM, SIGTSTP, SIGCONT, SIGWINCH]
             .into_iter()
             .try_for_each(noted)?;
