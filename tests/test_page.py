@@ -25,7 +25,6 @@ HELPERS = """const $ = (id) => document.getElementById(id);
 const $$ = (selector) => [...document.querySelectorAll(selector)];"""
 READING, READINGS = "$$('input[name=reading]:checked')[0].value", ("table", "extended", "kitty")
 BUSY, FOCUS = "document.body.ariaBusy", "document.activeElement.id"
-LINKS = "[location.hash, $('link').hash]"
 # The lines of the events, without what is said beside them.
 LINES = "$$('#items > li .event').map((it) => it.firstChild.textContent)"
 TWO_READS, SINGLE_BYTES = "#two .event", "#steps .event:not(.quiet)"
@@ -133,6 +132,7 @@ class Page:
         self.driver.get(self.url + fragment)
         self.settle()
         self.wait("$$('#rows tbody tr').length > 0 && $$('#sent tbody').length > 0")
+        self.address = self.run("location.href")
 
     def settle(self):
         self.wait(BUSY, "false")
@@ -230,12 +230,20 @@ class Page:
         self.settle()
         assert self.count(".verdict.good") == 2
 
-    def report(self):
+    def copied(self, name, what):
+        """What a button copies."""
         permissions = ["clipboardReadWrite", "clipboardSanitizedWrite"]
         self.call("Browser.grantPermissions", permissions=permissions)
-        self.click("#copy-report")
-        self.wait_for_text("copied", "The report was copied.")
+        self.click(f"#{name}")
+        self.wait_for_text("copied", f"The {what} was copied.")
         return self.run("navigator.clipboard.readText()")
+
+    def report(self):
+        return self.copied("copy-report", "report")
+
+    def link(self):
+        """The fragment of the link, which is made when it is copied."""
+        return self.copied("copy", "link").removeprefix(self.url)
 
     def picture(self, name, last="body"):
         """Keeps a picture of the page, down to the element `last`."""
@@ -264,14 +272,14 @@ def driver():
 @pytest.fixture
 def page(driver, server):
     """The page, in which nothing may go wrong: no exception, nothing that the policy refuses, no
-    dialog."""
+    dialog. Nothing that is typed or clicked changes its address."""
     it = Page(driver, server)
     it.faults()
     it.size(*WIDE)
     it.scheme("light")
     it.open()
     yield it
-    assert it.run("document.scripts.length") == 1
+    assert it.run("[document.scripts.length, location.href]") == [1, it.address]
     assert it.faults() == []
 
 
@@ -465,8 +473,7 @@ def test_cuts(page):
         first = (at >= 6) + (at >= 8) + (at >= 22)
         counts = "$$('#two .read').map((it) => it.querySelectorAll('.event').length)"
         assert page.run(counts) == [first, 3 - first]
-        if at == 10:
-            page.wait("location.hash.includes('cut=10')")
+    assert page.link().endswith("&cut=23")
     assert page.count("#steps > li") == 23
     assert [it for it in page.texts("#steps > li .event") if " wait" not in it] == lines
     assert page.text("one-same") == "✓ 23 reads of one byte: the same events."
@@ -484,21 +491,19 @@ READ = {
 
 @pytest.mark.parametrize("text, hexes, wanted", READ.values(), ids=READ)
 def test_readings(page, text, hexes, wanted):
-    """The switch changes what bytes mean, wherever they are cut. The address has it, and so have
-    links."""
+    """The switch changes what bytes mean, wherever they are cut. Links have it."""
     page.enter(text)
     for reading, lines in zip(READINGS, wanted):
         page.read_as(reading)
         page.check(lines)
         assert (page.texts(TWO_READS), page.texts(SINGLE_BYTES)) == (lines, lines)
-        link = f"#bytes={hexes}" + ("" if reading == "table" else f"&reading={reading}")
-        assert page.run(LINKS) == [link, link]
-        assert len([*page.cuts(len(hexes) // 2, lines)]) == len(hexes) // 2 + 1
-        page.wait("location.hash.includes('cut=')")
-        link = page.run("location.hash")
-        page.open(link)
+        named = "" if reading == "table" else f"&reading={reading}"
+        assert page.link() == f"#bytes={hexes}{named}"
+        size = len(hexes) // 2
+        assert len([*page.cuts(size, lines)]) == size + 1
+        page.open(page.link())
         page.check(lines)
-        assert page.run(f"[{READING}, location.hash]") == [reading, link]
+        assert (page.run(READING), page.text("cut-at")) == (reading, f"{size} of {size}")
         page.enter(text)
 
 
@@ -524,6 +529,7 @@ def test_readings_of_links(page):
     page.run("location.hash = '#bytes=1b5b41'")
     page.check(["key UpArrow NONE"])
     assert page.run(READING) == "table"
+    page.address = page.run("location.href")
 
 
 def test_switching_by_keys(page):
@@ -592,11 +598,10 @@ def test_link(page):
     page.enter("\\xff\\e[200~a\\e[201~é\\e")
     page.focus("flush")
     page.press(Keys.ENTER)
-    page.wait("location.hash.endsWith('end=flush')")
     lines = ["key U+FFFD NONE", "paste 1:61", "key U+00E9 NONE", "key Escape NONE"]
     page.check(lines)
     link = "#bytes=ff1b5b3230307e611b5b3230317ec3a91b&end=flush"
-    assert page.run(LINKS) == [link, link]
+    assert (page.link(), page.address) == (link, page.url)
     page.open(link)
     page.check(lines)
     assert page.value("text") == "\\xff\\e[200~a\\e[201~é\\e"
@@ -608,7 +613,7 @@ def test_links_of_texts(page):
         page.enter("")
         page.click("input[name=notation][value=text]")
         page.enter(text)
-        link, shown = page.run("location.hash"), page.bytes()
+        link, shown = page.link(), page.bytes()
         page.open(link)
         assert page.bytes() == shown, text
 
@@ -701,7 +706,7 @@ def test_a_megabyte(page, text):
     assert page.count("#items > li") in (1, 300)
     assert "16,384" in page.text("compared")
     assert page.count(".verdict.good") == 2
-    assert page.run("location.hash") == ""
+    assert not page.is_shown("copy")
 
 
 def test_more_than_a_megabyte(page):

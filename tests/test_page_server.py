@@ -1,6 +1,7 @@
 """The server of the page, python/hedrugal/page, over sockets: what it refuses, and that its answers
 are the library's. It is asked under other names and origins, by other methods and paths, and with
 bodies of any size."""
+import contextlib
 import http.client
 import itertools
 import json
@@ -20,7 +21,7 @@ import pytest
 from conftest import TOP, entries_after, header_constant, run_without_terminal
 from hedrugal import InputParser, KeyCode, Modifiers, encode
 from hedrugal.page import meanings
-from hedrugal.page.server import AT_ONCE, FILES, MOST, Handler
+from hedrugal.page.server import AT_ONCE, FILES, MOST, Handler, Server
 
 STREAM = b"hello\x1b[A\x1b\x1b[200~ab\xc3\xa9cd\x1b[201~q\x1b[<0;3;4M\xff\x1b[27;5;13~\xc3\xa9"
 STREAM += b"<script>alert(1)</script>"
@@ -258,16 +259,31 @@ def test_lengths(client):
 
 
 def test_seconds(client):
-    """A request that doesn't come in time ends the connection. The server serves on."""
+    """A request that isn't whole in time ends the connection, also if its bytes come one by one.
+    The server serves on."""
     assert Handler.timeout == 30
     with unittest.mock.patch.object(Handler, "timeout", 0.2):
-        assert client.raw(b"GET / HTTP/1.1\r\n", is_all=False) == b""
+        assert [client.raw(it, is_all=False) for it in (b"", b"GET / HTTP/1.1\r\n")] == [b""] * 2
         assert client.posted(b"8", b"q", is_all=False) is None
+        with client.connect() as slow, pytest.raises(OSError):
+            for _ in range(100):
+                slow.sendall(b"a")
+                time.sleep(0.05)
     assert client.posted(b"1", b"q") == 200
 
 
-def test_broken_requests(client):
+def random_lines(chance):
+    for _ in range(300):
+        path = bytes(chance.randrange(256) for _ in range(chance.randrange(1, 9)))
+        yield chance.choice([b"%s", b"GET http://[%s HTTP/1.1", b"GET %s HTTP/1.1"]) % path
+
+
+def test_broken_requests(client, capfd):
+    """Each is refused, and nothing is printed of it."""
+    lines = random_lines(random.Random(5))
     for case in (
+        *(b"%s\r\nHost: %s\r\n\r\n" % (line, client.host.encode()) for line in lines),
+        b"GET http://[::1 HTTP/1.1\r\nHost: %s\r\n\r\n" % client.host.encode(),
         b"\r\n\r\n",
         b"\x16\x03\x01\0\xff",
         b"GET\r\n\r\n",
@@ -279,7 +295,14 @@ def test_broken_requests(client):
         assert b"<" not in answer, case[:40]
         if answer.startswith(b"HTTP"):
             assert int(answer.split(b" ")[1]) >= 400, case[:40]
-    assert client.status("GET", "/") == 200
+    assert (client.status("GET", "/"), capfd.readouterr().err) == (200, "")
+
+
+def test_backlog():
+    """So many connections may wait to be accepted, as if the server had no time for them."""
+    with Server() as server, contextlib.ExitStack() as stack:
+        for _ in range(100):
+            stack.enter_context(socket.create_connection(server.server_address, 5))
 
 
 def test_queries(client):

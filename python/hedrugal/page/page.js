@@ -273,7 +273,7 @@ async function show() {
   asking.abort();
   asking = new AbortController();
   const { signal } = asking, { bytes, end } = state, reading = chosen('reading');
-  writeLink();
+  showLink();
   if (bytes.length > MOST) {
     set('fault', `At most ${MOST.toLocaleString('en')} bytes can be read, and these are ${bytes.length.toLocaleString('en')}.`);
     return;
@@ -486,19 +486,17 @@ function showReads(reads) {
 
 // ---- The link
 
-const fragment = () => fragmentOf(hexOf(state.bytes).join(''), state.cut, state.end);
+// A link is made when it is copied. The page's own address never gets what is typed, since a browser keeps addresses.
+const link = () => location.origin + location.pathname + fragmentOf(hexOf(state.bytes).join(''), state.cut, state.end);
 
-function writeLink() {
+function showLink() {
   const fits = state.bytes.length <= LINKED;
-  const made = fits && state.bytes.length ? fragment() : '#';
-  $('link').hidden = $('copy').hidden = made === '#';
-  $('link').href = made;
-  history.replaceState(null, '', made === '#' ? location.pathname : made);
+  $('copy').hidden = !fits || !state.bytes.length;
   set('copied', fits ? '' : `A link holds at most ${LINKED.toLocaleString('en')} bytes.`);
 }
 
-function loadLink() {
-  const words = new URLSearchParams(location.hash.slice(1)), hex = words.get('bytes') ?? '';
+function loadLink(hash) {
+  const words = new URLSearchParams(hash.slice(1)), hex = words.get('bytes') ?? '';
   if (!/^([0-9a-f]{2})*$/i.test(hex)) {
     set('fault', 'The link’s bytes are no pairs of hexadecimal digits.');
     return false;
@@ -511,6 +509,10 @@ function loadLink() {
   fill(fromHex(hex));
   setBytes(fromHex(hex), ['flush', 'paste'].includes(end) ? end : 'more');
   return true;
+}
+
+function follow(hash) {
+  if (loadLink(hash)) $('text').focus();
 }
 
 function report() {
@@ -725,7 +727,6 @@ const showTyped = delayed(60, () => {
   state.cut = null;
   setBytes(readField());
 });
-const writeLater = delayed(200, writeLink);
 
 $('text').addEventListener('input', showTyped);
 $('text').addEventListener('paste', paste);
@@ -756,18 +757,24 @@ for (const button of document.querySelectorAll('[data-try]')) {
 $('cut').addEventListener('input', () => {
   state.cut = Number($('cut').value);
   showCut(asking.signal).catch(failed);
-  writeLater();
+  showLink();
 });
-$('copy').addEventListener('click', () => copy(location.origin + location.pathname + fragment(), 'The link'));
+$('copy').addEventListener('click', () => copy(link(), 'The link'));
 $('copy-report').addEventListener('click', () => copy(report(), 'The report'));
 for (const id of MODES) $(id).addEventListener('change', () => { if (state.sent) showSent(state.sent); });
 $('key').addEventListener('input', showKey);
 $('modifiers').addEventListener('change', showKey);
 $('find').addEventListener('input', delayed(40, showFound));
-window.addEventListener('hashchange', () => { if (loadLink()) $('text').focus(); });
+window.addEventListener('hashchange', () => follow(location.hash));
+document.addEventListener('click', (event) => {
+  const clicked = event.target.closest('a[data-hex]');
+  if (!clicked || event.ctrlKey || event.metaKey || event.shiftKey || event.altKey) return;
+  event.preventDefault();
+  follow(clicked.hash);
+});
 
 showReading();
-if (!loadLink()) {
+if (!loadLink(location.hash)) {
   $('text').value = '\\e[1;5Aq\\e';
   setBytes(readField());
 }

@@ -6,6 +6,7 @@ to the address. Its Origin, if there is one, has to be the page's. No file is na
 the four files are read once."""
 from __future__ import annotations
 
+import io
 import json
 import os
 import socket
@@ -15,7 +16,7 @@ import threading
 import time
 from http.server import BaseHTTPRequestHandler, ThreadingHTTPServer
 from typing import Any, Dict, Iterable, List, Optional, Tuple
-from urllib.parse import parse_qs, urlsplit
+from urllib.parse import SplitResult, parse_qs, urlsplit
 
 from .meanings import ENDS, READINGS, Meanings, Wrong, texts
 
@@ -25,7 +26,10 @@ ADDRESS = "127.0.0.1"
 MOST, MOST_IGNORED, IGNORING = 1 << 20, 1 << 26, 2
 # The requests that are computed at one time.
 AT_ONCE = 4
+# The seconds for which a connection may be idle, a request be read, and an answer be written.
 SECONDS = 30
+# The connections that may wait until they are accepted.
+BACKLOG = 128
 
 FILES = {
     "/": ("index.html", "text/html; charset=utf-8"),
@@ -78,6 +82,7 @@ class Server(ThreadingHTTPServer):
     """The server, on a port of 127.0.0.1. Port 0 is a free one."""
 
     daemon_threads = True
+    request_queue_size = BACKLOG
 
     def __init__(self, port: int = 0) -> None:
         self.meanings = Meanings()
@@ -118,10 +123,46 @@ def as_json(value: Any) -> bytes:
     return json.dumps(value, ensure_ascii=False, separators=(",", ":")).encode()
 
 
+class Source(io.RawIOBase):
+    """What a connection sends. A request has to begin within so many seconds, and then to be whole
+    within as many."""
+
+    def __init__(self, connection: socket.socket, seconds: float) -> None:
+        self.connection, self.seconds = connection, seconds
+
+    def await_request(self) -> None:
+        self.end, self.has_begun = time.monotonic() + self.seconds, False
+
+    def readable(self) -> bool:
+        return True
+
+    def readinto(self, room: Any) -> int:
+        left = self.end - time.monotonic()
+        if left <= 0:
+            raise socket.timeout("the request takes too long")
+        self.connection.settimeout(left)
+        count = self.connection.recv_into(room)
+        if not self.has_begun:
+            self.end, self.has_begun = time.monotonic() + self.seconds, True
+        return count
+
+
 class Handler(BaseHTTPRequestHandler):
+    """Answers the requests of a connection. The timeout is also that of writing an answer."""
+
     server: Server
     protocol_version = "HTTP/1.1"
     timeout = SECONDS
+
+    def setup(self) -> None:
+        super().setup()
+        self.rfile.close()
+        self.source = Source(self.connection, self.timeout)
+        self.rfile = io.BufferedReader(self.source)
+
+    def handle_one_request(self) -> None:
+        self.source.await_request()
+        super().handle_one_request()
 
     def version_string(self) -> str:
         return "hedrugal"
@@ -132,7 +173,7 @@ class Handler(BaseHTTPRequestHandler):
     def do_GET(self) -> None:
         try:
             self.check_sender()
-            url = urlsplit(self.path)
+            url = self.url()
             if url.path in self.server.files and self.command in ("GET", "HEAD"):
                 self.skip_body()
                 self.reply(200, *self.server.files[url.path])
@@ -146,6 +187,12 @@ class Handler(BaseHTTPRequestHandler):
             self.refuse(refused)
 
     do_HEAD = do_POST = do_PUT = do_PATCH = do_DELETE = do_OPTIONS = do_TRACE = do_CONNECT = do_GET
+
+    def url(self) -> SplitResult:
+        try:
+            return urlsplit(self.path)
+        except ValueError:
+            raise Refused(400, "the path can't be read") from None
 
     def check_sender(self) -> None:
         """Refuses what comes under another name, or from a page of another origin."""
@@ -249,6 +296,7 @@ class Handler(BaseHTTPRequestHandler):
     def reply(
         self, status: int, data: bytes, kind: str, headers: Optional[Dict[str, str]] = None
     ) -> None:
+        self.connection.settimeout(self.timeout)
         self.send_response(status)
         sizes = {"Content-Type": kind, "Content-Length": str(len(data))}
         for name, value in {**HEADERS, **sizes, **(headers or {})}.items():
