@@ -1,13 +1,12 @@
-/* What tools/growth.sh counts: passes of a parser over texts of two lengths.
+/* What tools/growth.sh counts: passes of a parser over texts of two lengths. A pass makes a parser, gives it a text in reads of one size,
+ * takes the events, and ends the parser. It goes through parse_as_vec (parser_pass of tools/growth/feed.rt.txt), through feed, next_event and
+ * take_paste (the calls of c/hedrugal.h), or through the same calls of the extended parser. A pass of no bytes makes and ends a parser.
  *
- *     growth             makes each pass once, within `counted`, and prints its name, the numbers of its bytes and its events, the length of
- *                        the longest text that waited, the most bytes of memory in use, and the largest request for memory
+ *     growth             makes each pass within `counted`, and prints its name, the numbers of its bytes and its events, the length of the
+ *                        longest text that waited, the most bytes of memory in use, and the largest request for memory
+ *     growth long        does the same over long texts
  *     growth parsers     makes many parsers that share one table, and prints how many bytes of memory each has in use: once they are made,
- *                        after a read of keys, and some of them after a long paste, once they gave memory back; and what is left of all
- *
- * A pass makes a parser, gives it a text in reads of one size, takes the events, and ends the parser. It goes through parse_as_vec
- * (parser_pass of tools/growth/feed.rt.txt), through feed and next_event (the calls of c/hedrugal.h), or through the same calls of the
- * extended parser. A pass of no bytes shows what making a parser takes. */
+ *                        after a read of keys, and some of them after a long paste, once they gave memory back; and what is left of all */
 #include "hedrugal.h"
 #include <stdbool.h>
 #include <stdint.h>
@@ -17,17 +16,12 @@
 
 bool parser_pass(const uint8_t *bytes, size_t length, size_t read, uint64_t *events, size_t *waiting);
 
-enum { LONGEST = 1 << 18 };
+/* The longest text, a read, and the bytes of an open paste above which its text is taken in parts. */
+enum { LONGEST = 1 << 18, READ = 4096, LIMIT = 1 << 20, PARTED = LIMIT + 16 * READ };
 
-/* Memory: blocks of an arena, one after another, so that a request takes the same instructions whatever came before. Each pass begins with
- * an empty arena. Many parsers have the C library's blocks instead, since an arena has no room for what each of them asks for and frees.
- * In front of each block stands its size. */
-enum { FRONT = 16, ARENA = 1 << 27 };
-static struct {
-  _Alignas(FRONT) char bytes[ARENA];
-  size_t end, in_use, most_in_use, largest;
-  bool is_of_libc;
-} memory;
+/* Memory: the C library's blocks. In front of each stands its size. */
+enum { FRONT = 16 };
+static struct { size_t in_use, most_in_use, largest; } memory;
 
 void *__real_malloc(size_t size);
 void __real_free(void *block);
@@ -45,29 +39,15 @@ static size_t size_of(const char *block) {
   return size;
 }
 
-/* Room for a block and its size, or NULL if there is none. */
-static char *new_room(size_t size) {
-  if (memory.is_of_libc) return __real_malloc(FRONT + size);
-  size_t left = ARENA - memory.end;
-  if (size > left || left - size < 2 * FRONT) return NULL;
-  char *room = memory.bytes + memory.end;
-  memory.end += FRONT + (size + FRONT - 1) / FRONT * FRONT;
-  return room;
-}
-
-static void leave_block(char *block) {
-  if (block && memory.is_of_libc) __real_free(block - FRONT);
-}
-
 void *__wrap_realloc(void *block, size_t size) {
   size_t before = size_of(block);
   if (size > memory.largest) memory.largest = size;
-  char *room = new_room(size);
+  char *room = __real_malloc(FRONT + size);
   if (!room) return NULL;
   memcpy(room, &size, sizeof size);
   if (block) memcpy(room + FRONT, block, before < size ? before : size);
   note(before, size);
-  leave_block(block);
+  if (block) __real_free((char *)block - FRONT);
   return room + FRONT;
 }
 
@@ -77,7 +57,7 @@ void *__wrap_malloc(size_t size) {
 
 void __wrap_free(void *block) {
   note(size_of(block), 0);
-  leave_block(block);
+  if (block) __real_free((char *)block - FRONT);
 }
 
 /* Copies, which the C library makes in other ways for other lengths: here each byte takes the same instructions. */
@@ -117,13 +97,18 @@ static const struct text {
   { "typed", false, "", { "the quick brown fox\rjumps\tover\x7f \003a lazy dog " }, { 1 } },
   { "keys", false, "", { "\x1b[A\x1b[1;5C\x1bOP\x1b[15~\x1b[3;5~\x1b[97;5u\x1b[Z\x1bx\x1b[27;6;65~" }, { 1 } },
   { "csiu", false, "", { "\x1b[97;5u\x1b[27;6;65~\x1b[105;7u\x1b[27;5;13~\x1b[122;3u" }, { 1 } },
-  { "paste", false, "\x1b[200~", { "a pasted line\nand another, with a cut end \x1b[20\n\x1b[201\n" }, { 1 } },
   { "replies", true, "", { replies }, { 1 } },
   /* Strings of a thousand bytes, each with its end. */
   { "strings", true, "", { "\x1b]52;c;", "x", "\a\x1b[24;80R\x1b]0;title\x1b\\" }, { 1, 1015, 1 } },
   /* Strings that never end, each up to a control character, and control sequences that are a byte too long. */
   { "begun", true, "", { "\x1bP", "x", "\r\x1b[", "0;", "0" }, { 1, 4092, 1, 126, 1 } },
+  /* The long texts. Those after the paste come in reads of 4096 bytes alone. */
+  { "paste", false, "\x1b[200~", { "a pasted line\nand another, with a cut end \x1b[20\n\x1b[201\n" }, { 1 } },
+  { "escapes", false, "", { "\x1b" }, { 1 } },
+  { "openings", false, "", { "\x1b]\x1bP\x1b_" }, { 1 } },
+  { "string", true, "\x1b]52;c;", { "QUJD" }, { 1 } },
 };
+enum { TEXTS = sizeof texts / sizeof *texts, PASTE = 6 };
 static uint8_t text[LONGEST];
 
 /* Puts bytes at a place, as many as there is room for. Returns the place after them. */
@@ -155,15 +140,13 @@ struct session {
   hed_extended extended;
 };
 
-/* Makes a parser, which shares the table of `first` if there is one. */
-static void make(struct session *it, enum way way, const hed_parser *first) {
+/* The parser whose table the others share. */
+static hed_parser first = HED_PARSER_NONE;
+
+static void make(struct session *it, enum way way) {
   *it = (struct session){ .is_extended = way == EXTENDED };
-  if (it->is_extended) {
-    want(first ? hed_extended_init_sharing_parser(&it->extended, HED_PROTOCOL_KITTY, first)
-               : hed_extended_init(&it->extended, HED_PROTOCOL_KITTY));
-  } else {
-    want(first ? hed_parser_init_sharing(&it->plain, first) : hed_parser_init(&it->plain));
-  }
+  want(it->is_extended ? hed_extended_init_sharing_parser(&it->extended, HED_PROTOCOL_KITTY, &first)
+                       : hed_parser_init_sharing(&it->plain, &first));
 }
 
 static void feed(struct session *it, const uint8_t *bytes, size_t length) {
@@ -174,7 +157,7 @@ static size_t waiting_len(const struct session *it) {
   return it->is_extended ? hed_extended_waiting_len(&it->extended) : hed_parser_waiting_len(&it->plain);
 }
 
-/* Takes the events that are decided, and counts them. */
+/* Takes the events that are decided, and then a part of an open paste. Returns how many these were. */
 static uint64_t take_events(struct session *it, bool more) {
   hed_event event;
   hed_extended_event extended_event;
@@ -182,6 +165,8 @@ static uint64_t take_events(struct session *it, bool more) {
   uint32_t answer;
   do {
     answer = it->is_extended ? hed_extended_next(&it->extended, more, &extended_event) : hed_parser_next(&it->plain, more, &event);
+    if (answer == HED_NEXT_NONE && it->is_extended) answer = hed_extended_take_paste(&it->extended, LIMIT, &extended_event);
+    else if (answer == HED_NEXT_NONE) answer = hed_parser_take_paste(&it->plain, LIMIT, &event);
     events += answer == HED_NEXT_EVENT;
   } while (answer == HED_NEXT_EVENT);
   want(answer == HED_NEXT_NONE);
@@ -210,9 +195,11 @@ static void pass_as_vec(struct pass *pass) {
 
 static void pass_by_steps(struct pass *pass) {
   struct session it;
-  make(&it, pass->way, NULL);
+  make(&it, pass->way);
   for (size_t at = 0; at < pass->length; at += pass->read) {
-    feed(&it, text + at, pass->length - at < pass->read ? pass->length - at : pass->read);
+    /* A text that is longer goes on with what comes after its first read. */
+    size_t from = at < LONGEST ? at : READ + (at - READ) % (LONGEST - READ);
+    feed(&it, text + from, pass->length - at < pass->read ? pass->length - at : pass->read);
     if (waiting_len(&it) > pass->longest) pass->longest = waiting_len(&it);
     pass->events += take_events(&it, true);
   }
@@ -228,22 +215,38 @@ __attribute__((noinline)) void counted(struct pass *pass) {
 
 static void show(const char *name, enum way way, size_t read, size_t length) {
   struct pass pass = { length, read, way, 0, 0 };
-  memory.end = memory.in_use = memory.most_in_use = memory.largest = 0;
+  memory.in_use = memory.most_in_use = memory.largest = 0;
   counted(&pass);
   printf("%s %s %zu %zu %llu ", way_names[way], name, read, length, (unsigned long long)pass.events);
   printf("%zu %zu %zu\n", pass.longest, memory.most_in_use, memory.largest);
 }
 
 /* Passes of no bytes, and of each text in reads of some sizes. The lengths are of the shorter texts: each has enough reads for the buffer to
- * grow as it does in the long run. */
+ * grow as it does in the long run. The last are of a paste that is taken in parts, the first of them until the buffer is as large as it gets. */
 static void show_passes(enum way way) {
-  static const struct { size_t size, length; } reads[] = { { 1, 8192 }, { 64, 8192 }, { 4096, LONGEST / 4 }, { LONGEST, 8192 } };
+  static const struct { size_t size, length; } reads[] = { { 1, 8192 }, { 64, 8192 }, { READ, LONGEST / 8 }, { LONGEST, 8192 } };
   show("new", way, 1, 0);
-  for (size_t i = 0; i < sizeof texts / sizeof *texts; i++) {
+  for (size_t i = 0; i < TEXTS; i++) {
     if (texts[i].is_extended && way != EXTENDED) continue;
     fill(&texts[i]);
     for (size_t j = 0; j < 2 * sizeof reads / sizeof *reads; j++)
-      show(texts[i].name, way, reads[j / 2].size, j % 2 ? 4 * reads[j / 2].length : reads[j / 2].length);
+      if (i <= PASTE || reads[j / 2].size == READ)
+        show(texts[i].name, way, reads[j / 2].size, j % 2 ? 4 * reads[j / 2].length : reads[j / 2].length);
+  }
+  if (way == PARSE_AS_VEC) return;
+  fill(&texts[PASTE]);
+  show("grown", way, READ, PARTED);
+  show("parts", way, READ, 3 * PARTED);
+  show("parts", way, READ, 9 * PARTED);
+}
+
+/* Passes of each long text, of 3 and of 64 MB. */
+static void show_long(enum way way) {
+  for (size_t i = PASTE; i < TEXTS; i++) {
+    if (texts[i].is_extended && way != EXTENDED) continue;
+    fill(&texts[i]);
+    show(texts[i].name, way, READ, 3 * PARTED);
+    show(texts[i].name, way, READ, 1 << 26);
   }
 }
 
@@ -273,17 +276,17 @@ static void tell_each(enum way way, const char *when, size_t count, size_t befor
 }
 
 /* Sessions that share the table of `first` and read keys, and some that read a paste. */
-static void show_sessions(enum way way, const hed_parser *first) {
-  enum { SESSIONS = 1000, PASTED_SESSIONS = 100, READ = 4096 };
+static void show_sessions(enum way way) {
+  enum { SESSIONS = 1000, PASTED_SESSIONS = 100 };
   static struct session sessions[SESSIONS];
   size_t before = memory.in_use;
-  for (size_t i = 0; i < SESSIONS; i++) make(&sessions[i], way, first);
+  for (size_t i = 0; i < SESSIONS; i++) make(&sessions[i], way);
   tell_each(way, "made", SESSIONS, before);
   for (size_t i = 0; i < SESSIONS; i++) read_all(&sessions[i], text, READ);
   tell_each(way, "read", SESSIONS, before);
   for (size_t i = 0; i < SESSIONS; i++) end(&sessions[i]);
   for (size_t i = 0; i < PASTED_SESSIONS; i++) {
-    make(&sessions[i], way, first);
+    make(&sessions[i], way);
     read_paste(&sessions[i]);
   }
   tell_each(way, "shrunk", PASTED_SESSIONS, before);
@@ -291,19 +294,15 @@ static void show_sessions(enum way way, const hed_parser *first) {
   tell_each(way, "freed", 1, before);
 }
 
-static void show_parsers(void) {
-  hed_parser first = HED_PARSER_NONE;
-  fill(&texts[1]);
-  memory.is_of_libc = true;
-  want(hed_parser_init(&first));
-  show_sessions(NEXT_EVENT, &first);
-  show_sessions(EXTENDED, &first);
-  hed_parser_free(&first);
-}
-
 int main(int argc, char **argv) {
-  if (argc == 2 && !strcmp(argv[1], "parsers")) show_parsers();
-  else
-    for (enum way way = 0; way < WAYS; way++) show_passes(way);
+  const char *word = argc == 2 ? argv[1] : "";
+  want(hed_parser_init(&first));
+  fill(&texts[1]);
+  for (enum way way = 0; way < WAYS; way++) {
+    if (!*word) show_passes(way);
+    else if (way == PARSE_AS_VEC) continue;
+    else if (!strcmp(word, "long")) show_long(way);
+    else show_sessions(way);
+  }
   return 0;
 }
