@@ -31,18 +31,6 @@ def change_settings(terminal, characters, on=0, off=0):
     termios.tcsetattr(terminal, termios.TCSANOW, settings)
 
 
-def fill(terminal):
-    """Writes until there is no room, as a raw terminal has a little more of it."""
-    settings = termios.tcgetattr(terminal)
-    tty.setraw(terminal)
-    os.set_blocking(terminal, False)
-    with contextlib.suppress(BlockingIOError):
-        while True:
-            os.write(terminal, b"x")
-    os.set_blocking(terminal, True)
-    termios.tcsetattr(terminal, termios.TCSANOW, settings)
-
-
 def set_signals(handler):
     for number in (signal.SIGHUP, signal.SIGTTOU):
         signal.signal(number, handler)
@@ -88,7 +76,14 @@ class Terminal(fdspawn):
         change_settings(terminal, unusual, off=termios.ECHOE)
         self.settings_before = self.settings()
         if is_full:
-            fill(terminal)
+            # A raw terminal has a little more room.
+            tty.setraw(terminal)
+            os.set_blocking(terminal, False)
+            with contextlib.suppress(BlockingIOError):
+                while os.write(terminal, b"x"):
+                    pass
+            os.set_blocking(terminal, True)
+            termios.tcsetattr(terminal, termios.TCSANOW, self.settings_before)
         self.told, told = multiprocessing.Pipe(duplex=False)
         self.shell = os.fork()
         if not self.shell:

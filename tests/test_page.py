@@ -33,18 +33,15 @@ SAME = "✓ Two reads: the same events."
 EVIL = "<script>alert(1)</script><img src=x onerror=alert(2)>"
 
 # What has the focus, how that is shown, and its place in the page.
-FOCUSED = """(() => {
-  const it = document.activeElement, { outlineStyle, outlineWidth } = getComputedStyle(it);
-  const name = it.id || it.outerHTML.slice(0, 60);
-  return [name, outlineStyle, parseFloat(outlineWidth), $$('*').indexOf(it)];
-})()"""
+FOCUSED = """((it, { outlineStyle, outlineWidth } = getComputedStyle(it)) =>
+  [it.id || it.outerHTML.slice(0, 60), outlineStyle, parseFloat(outlineWidth), $$('*').indexOf(it)]
+)(document.activeElement)"""
 
 # Each text of the page with its contrast, where that is below 4.5. The hatched ones are seen on
 # both colours of the hatching.
 CONTRAST = r"""(() => {
-  const numbers = (text) => text.match(/[\d.]+/g).map(Number);
+  const numbers = (text) => text.match(/[\d.]+/g).map(Number), shares = [0.2126, 0.7152, 0.0722];
   const linear = (it) => it <= 0.03928 ? it / 12.92 : ((it + 0.055) / 1.055) ** 2.4;
-  const shares = [0.2126, 0.7152, 0.0722];
   const light = (color) => shares.reduce((sum, it, at) => sum + it * linear(color[at] / 255), 0);
   const blend = (front, back, alpha) => back.map((it, at) => front[at] * alpha + it * (1 - alpha));
   const backs = (it) => {
@@ -58,8 +55,8 @@ CONTRAST = r"""(() => {
   };
   const wrong = [];
   for (const it of $$('body *')) {
-    const nodes = [...it.childNodes].filter((node) => node.nodeType === 3);
-    const text = nodes.map((node) => node.data).join('').trim();
+    const own = [...it.childNodes].map((node) => node.nodeType === 3 ? node.data : '');
+    const text = own.join('').trim();
     if (!text && !(it.matches('textarea, #key, #find') && it.value)) continue;
     if (!it.checkVisibility() || it.disabled) continue;
     const style = getComputedStyle(it);
@@ -109,23 +106,21 @@ class Page:
     def faults(self):
         """What went wrong in the page since the last call: exceptions, and errors of the console. A
         dialog fails the next call."""
-        entries = self.driver.get_log("browser")
-        return [it["message"] for it in entries if it["level"] == "SEVERE"]
+        log = self.driver.get_log("browser")
+        return [it["message"] for it in log if it["level"] == "SEVERE"]
 
     def press(self, keys, held=""):
         """Presses and releases keys, while another may be held."""
-        if held:
-            ActionChains(self.driver).key_down(held).send_keys(keys).key_up(held).perform()
-        else:
-            ActionChains(self.driver).send_keys(keys).perform()
+        it = ActionChains(self.driver)
+        (it.key_down(held).send_keys(keys).key_up(held) if held else it.send_keys(keys)).perform()
 
     def size(self, width, height):
         how = {"width": width, "height": height, "deviceScaleFactor": 1, "mobile": False}
         self.call("Emulation.setDeviceMetricsOverride", **how)
 
     def scheme(self, name):
-        features = [{"name": "prefers-color-scheme", "value": name}]
-        self.call("Emulation.setEmulatedMedia", features=features)
+        how = [{"name": "prefers-color-scheme", "value": name}]
+        self.call("Emulation.setEmulatedMedia", features=how)
 
     def open(self, fragment=""):
         self.driver.get("about:blank")
@@ -174,10 +169,7 @@ class Page:
         if name == "text":
             self.run(f"{BUSY} = 'true'")
         self.run(f"$('{name}').focus(), $('{name}').select()")
-        if text:
-            self.call("Input.insertText", text=text)
-        else:
-            self.press(Keys.BACKSPACE)
+        self.call("Input.insertText", text=text) if text else self.press(Keys.BACKSPACE)
         if name == "text" and is_answered:
             self.settle()
 
@@ -251,9 +243,9 @@ class Page:
         bottom = f"$$('{last}')[0].getBoundingClientRect().bottom + scrollY + 16"
         width, height = self.run(f"[innerWidth, {bottom}]")
         clip = {"x": 0, "y": 0, "width": width, "height": height, "scale": 1}
-        how = {"format": "png", "captureBeyondViewport": True, "clip": clip}
-        data = base64.b64decode(self.call("Page.captureScreenshot", **how)["data"])
+        taken = self.call("Page.captureScreenshot", captureBeyondViewport=True, clip=clip)
         if os.environ.get("SCREENSHOTS"):
+            data = base64.b64decode(taken["data"])
             Path(os.environ["SCREENSHOTS"], f"{name}.png").write_bytes(data)
 
 
@@ -674,28 +666,23 @@ def slowness():
     return max(1.0, (time.perf_counter() - began) / (time.process_time() - used))
 
 
-MEGABYTES = {
-    "letters": "'a'.repeat(1 << 20)",
-    "characters": "'é'.repeat(1 << 19)",
-    "escapes": "'\\\\e[A'.repeat(1 << 18) + 'q'.repeat(1 << 18)",
-    "control characters": "'\\x1b[A\\x1b'.repeat(1 << 18)",
-}
+MEGABYTES = ["'a'.repeat(1 << 20)", "'é'.repeat(1 << 19)", "'\\x1b[A\\x1b'.repeat(1 << 18)"]
+MEGABYTES += ["'\\\\e[A'.repeat(1 << 18) + 'q'.repeat(1 << 18)"]
 
 
 @pytest.mark.timed
-@pytest.mark.parametrize("text", MEGABYTES.values(), ids=MEGABYTES)
+@pytest.mark.parametrize("text", MEGABYTES)
 def test_a_megabyte(page, text):
     """It is shown in two seconds, longer by as much as this machine's other programs make a loop
     take. The comparison of cuts, which comes after it, has no limit."""
     script = f"""(async () => {{
-      const field = $('text'), count = $('count');
-      const began = performance.now(), text = {text};
+      const field = $('text'), text = {text}, began = performance.now();
       if ({PASTE % 'text'}) {{
         field.value = text;
         field.dispatchEvent(new Event('input', {{bubbles: true}}));
       }}
-      const pause = () => new Promise((done) => setTimeout(done, 5));
-      while (!count.innerText.startsWith('1,048,576 bytes')) await pause();
+      while (!$('count').innerText.startsWith('1,048,576 bytes'))
+        await new Promise((done) => setTimeout(done, 5));
       return performance.now() - began;
     }})()"""
     page.enter("")
@@ -783,15 +770,10 @@ def test_keyboard_alone(page):
 
 
 ROLES = {*"textbox radio button slider searchbox checkbox combobox link application".split()}
-NAMED = {
-    ("textbox", "Bytes"),
-    ("radio", "the sequence table alone"),
-    ("radio", "with replies and reports"),
-    ("radio", "for Kitty’s keyboard protocol"),
-    ("application", "Keys Press keys here"),
-    ("slider", "Cut after byte"),
-    ("searchbox", "Search by words or bytes"),
-}
+NAMED = """textbox Bytes/radio the sequence table alone/radio with replies and reports/slider Cut
+after byte/radio for Kitty’s keyboard protocol/application Keys Press keys here/searchbox Search
+by words or bytes"""
+NAMED = {tuple(it.split(" ", 1)) for it in NAMED.replace("\n", " ").split("/")}
 
 
 def test_accessibility_tree(page):

@@ -39,15 +39,11 @@ SECONDS = 60
 POLICY = """default-src 'none'; script-src 'self'; style-src 'self'; img-src 'self';
 connect-src 'self'; base-uri 'none'; form-action 'none'; frame-ancestors 'none';
 require-trusted-types-for 'script'; trusted-types 'none'"""
-HEADERS = {
-    "Cache-Control": "no-store",
-    "Content-Security-Policy": POLICY.replace("\n", " "),
-    "Cross-Origin-Opener-Policy": "same-origin",
-    "Cross-Origin-Resource-Policy": "same-origin",
-    "Referrer-Policy": "no-referrer",
-    "X-Content-Type-Options": "nosniff",
-    "X-Frame-Options": "DENY",
-}
+HEADERS = """Cache-Control:no-store Referrer-Policy:no-referrer X-Content-Type-Options:nosniff
+X-Frame-Options:DENY Cross-Origin-Opener-Policy:same-origin
+Cross-Origin-Resource-Policy:same-origin"""
+HEADERS = dict(it.split(":") for it in HEADERS.split())
+HEADERS["Content-Security-Policy"] = POLICY.replace("\n", " ")
 POSTED = ["/api/read", "/api/reads", "/api/cut"]
 
 
@@ -272,24 +268,19 @@ def test_seconds(client):
     assert client.posted(b"1", b"q") == 200
 
 
-def random_lines(chance):
-    for _ in range(300):
-        path = bytes(chance.randrange(256) for _ in range(chance.randrange(1, 9)))
-        yield chance.choice([b"%s", b"GET http://[%s HTTP/1.1", b"GET %s HTTP/1.1"]) % path
-
-
 def test_broken_requests(client, capfd):
     """Each is refused, and nothing is printed of it."""
-    lines = random_lines(random.Random(5))
+    chance, host = random.Random(5), b"\r\nHost: %s\r\n\r\n" % client.host.encode()
+    some = [b"::1", *(chance.randbytes(chance.randrange(9)) for _ in range(100))]
+    lines = [b"%s", b"GET %s HTTP/1.1", b"GET http://[%s HTTP/1.1"]
     for case in (
-        *(b"%s\r\nHost: %s\r\n\r\n" % (line, client.host.encode()) for line in lines),
-        b"GET http://[::1 HTTP/1.1\r\nHost: %s\r\n\r\n" % client.host.encode(),
+        *(line % it + host for line, it in itertools.product(lines, some)),
         b"\r\n\r\n",
         b"\x16\x03\x01\0\xff",
         b"GET\r\n\r\n",
         b"GET / HTTP/9.9\r\n\r\n",
         b"GET / HTTP/1.1\r\n" + b"A: b\r\n" * 200 + b"\r\n",
-        b"GET /%s HTTP/1.1\r\nHost: %s\r\n\r\n" % (b"a" * 70000, client.host.encode()),
+        b"GET /%s HTTP/1.1" % (b"a" * 70000) + host,
     ):
         answer = client.raw(case)
         assert b"<" not in answer, case[:40]
@@ -419,8 +410,7 @@ def test_readings(client, data, table, extended, kitty):
 
 
 ALL_HELD = "SHIFT+ALT+CTRL+SUPER+HYPER+META+CAPS_LOCK+NUM_LOCK"
-# Bytes that the table doesn't know, their line as hedrugal-keys has it, and what is shown of their
-# text.
+# Bytes that the table doesn't know, their line in hedrugal-keys, and what is shown of their text.
 REPORTS = [
     (b"\x1b[97;5:3u", "report U+0061 CTRL release", "a"),
     (b"\x1b[97;1:2u", "report U+0061 NONE repeat", "a"),
@@ -604,8 +594,7 @@ PROGRAM = [sys.executable, "-W", "error", "-m", "hedrugal.page"]
 
 
 def start_program(*words):
-    """Starts the program. It heeds interrupts, which a shell has what it starts in the background
-    ignore."""
+    """Starts the program. It heeds interrupts, also if a shell runs the tests in the background."""
     how = {"stdin": subprocess.DEVNULL, "stdout": subprocess.PIPE, "stderr": subprocess.PIPE}
     how["preexec_fn"] = lambda: signal.signal(signal.SIGINT, signal.SIG_DFL)
     return subprocess.Popen([*PROGRAM, *words], cwd="/", text=True, **how)
