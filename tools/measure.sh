@@ -2,24 +2,21 @@
 # Measures the parser in process beside that of another commit, in one run on this machine.
 #
 #     tools/measure.sh --against COMMIT [--extended PROTOCOL] [--reads N] [--runs N] [INPUT..]
-#     tools/measure.sh --parsers LIST [--reads N] [--runs N]
 #
-# The first builds the crates of the parser here and of COMMIT in a temporary folder, each with a program that asks the parser for one
+# It builds the crates of the parser here and of COMMIT in a temporary folder, each with a program that asks the parser for one
 # event after another (tools/measure/next.rt.txt, pass.c). The parser is InputParser or, with --extended, the extended parser under
 # PROTOCOL, legacy or kitty. Each INPUT (all) has a megabyte, and is given in reads of N bytes (64). The two programs run in turn,
 # N times each (9), one pass a process. It prints the least nanoseconds for an event of both, and the first divided by the second.
 #
-# With --parsers so many parsers get reads in turn, such as 1000,10000: that is tools/performance.py, which measures all else too.
-#
-# It needs rt, cc and python3. It says on standard error what it does.
+# tools/performance.py measures all else. This needs rt, cc and python3. It says on standard error what it does.
 set -euo pipefail
 . "$(dirname "$0")/common.sh"
 top=$(cd "$(dirname "$0")/.." && pwd)
-against='' extended='' reads=64 runs=9 parsers=''
+against='' extended='' reads=64 runs=9
 while [[ ${1-} == -* ]]; do
     case $1 in
         --help) show_help; exit ;;
-        --against | --extended | --reads | --runs | --parsers) [ $# -gt 1 ] || refuse "$1 wants a word after it" ;;
+        --against | --extended | --reads | --runs) [ $# -gt 1 ] || refuse "$1 wants a word after it" ;;
         *) refuse_word "$1" ;;
     esac
     declare "${1#--}=$2"
@@ -27,7 +24,6 @@ while [[ ${1-} == -* ]]; do
 done
 want_number "$reads" --reads
 want_number "$runs" --runs
-[ -z "$parsers" ] || exec "$top/tools/performance.py" --runs "$runs" --read "$reads" --parsers "$parsers" keys csiu
 git -C "$top" rev-parse --quiet --verify "$against^{commit}" > /dev/null || refuse "--against wants a commit, and not '$against'"
 case $extended in '' | legacy | kitty) ;; *) refuse_word "$extended" ;; esac
 need rt 'the Rattle kit' cc gcc python3 python3

@@ -15,6 +15,7 @@ installs them. To compare two commits there is tools/measure.sh."""
 import argparse
 import datetime
 import glob
+import itertools
 import os
 import re
 import shutil
@@ -22,6 +23,7 @@ import subprocess
 import sys
 import tempfile
 import textwrap
+from pathlib import Path
 
 TOP = os.path.dirname(os.path.dirname(os.path.abspath(__file__)))
 TOOLS = f"{TOP}/tools/measure"
@@ -32,21 +34,12 @@ PAGE = f"{TOP}/docs/PERFORMANCE.md"
 BEGIN, END = "<!-- tools/performance.py writes this -->\n", "<!-- up to here -->\n"
 PYTHON, CRATES = "/usr/bin/python3", "/usr/share/cargo/registry"
 # The packages of other parsers.
-PEERS = {
-    "libtermkey": "libtermkey-dev",
-    "crossterm": "librust-crossterm-dev",
-    "prompt_toolkit": "python3-prompt-toolkit",
-}
+PEERS = {"libtermkey": "libtermkey-dev", "crossterm": "librust-crossterm-dev"}
+PEERS["prompt_toolkit"] = "python3-prompt-toolkit"
 # A package that makes a library for C of crossterm.
-PEER = """[package]
-name = "peer"
-version = "0.0.0"
-edition = "2021"
-[lib]
-path = "peer.rs"
-crate-type = ["staticlib"]
-[dependencies]
-crossterm = { path = "crossterm" }
+PEER = """package = { name = "peer", version = "0.0.0", edition = "2021" }
+lib = { path = "peer.rs", crate-type = ["staticlib"] }
+dependencies.crossterm.path = "crossterm"
 """
 
 
@@ -58,8 +51,7 @@ def run(*words, **env):
     """Runs a program at the top of the repository, and returns what it prints."""
     if not shutil.which(words[0]):
         raise Missing(f"no {words[0]}")
-    env = {**os.environ, **env}
-    done = subprocess.run(words, cwd=TOP, env=env, capture_output=True, text=True, check=False)
+    done = subprocess.run(words, cwd=TOP, env=os.environ | env, capture_output=True, text=True)
     if done.returncode:
         sys.exit(f"performance: {' '.join(words)}: {done.stderr or done.returncode}")
     return done.stdout.strip()
@@ -75,16 +67,6 @@ def version(package):
 
 def progress(text):
     print(f"performance: {text}", file=sys.stderr)
-
-
-def contents(path):
-    with open(path, encoding="utf-8") as opened:
-        return opened.read()
-
-
-def write(path, text):
-    with open(path, "w", encoding="utf-8") as opened:
-        opened.write(text)
 
 
 class Builder:
@@ -118,10 +100,10 @@ class Builder:
         """Its parser is private. So a copy of the crate gets functions that call it."""
         (crate,), copy = glob.glob(f"{CRATES}/crossterm-[0-9]*"), f"{self.work}/crossterm"
         shutil.copytree(crate, copy)
-        unix = f"{copy}/src/event/source/unix.rs"
-        write(unix, contents(unix) + "\n" + contents(f"{TOOLS}/crossterm.rs"))
-        write(f"{self.work}/peer.rs", "extern crate crossterm;")
-        write(f"{self.work}/Cargo.toml", PEER)
+        with open(f"{copy}/src/event/source/unix.rs", "a", encoding="utf-8") as unix:
+            unix.write("\n" + Path(TOOLS, "crossterm.rs").read_text())
+        Path(self.work, "peer.rs").write_text("extern crate crossterm;")
+        Path(self.work, "Cargo.toml").write_text(PEER)
         system = ["crates-io.replace-with='system'", f"system.directory='{CRATES}'"]
         words = [f"--config=source.{each}" for each in system]
         built = self.cargo(f"{self.work}/Cargo.toml", *words)
@@ -173,8 +155,7 @@ class Input:
     def __init__(self, folder, name, size):
         text, self.items = corpus(name, size)
         self.size, self.file = len(text), f"{folder}/{name}-{size}"
-        with open(self.file, "wb") as out:
-            out.write(text)
+        Path(self.file).write_bytes(text)
 
 
 class Cell:
@@ -205,7 +186,7 @@ def where(chosen, programs):
     commit = run("git", "rev-parse", "--short", "HEAD")
     if run("git", "status", "--porcelain", "--untracked-files=no", "--", ".", ":!docs"):
         commit += " with changes"
-    processor = re.search(r"model name\s*: (.*)", contents("/proc/cpuinfo"))[1]
+    processor = re.search(r"model name\s*: (.*)", Path("/proc/cpuinfo").read_text())[1]
     tools = [it for it in ("cc", "rustc", PYTHON) if shutil.which(it)]
     names = [run(it, "--version").split("\n")[0] for it in tools]
     names += [f"{it} {version(package)}" for it, package in PEERS.items() if it in programs]
@@ -255,21 +236,14 @@ def report(chosen, work):
     programs, missing = build(chosen, work)
     size = chosen.kilobytes << 10
     inputs = {name: Input(work, name, size) for name in chosen.inputs or TITLES}
-    cells = {
-        (name, it): Cell(program, given, chosen.read)
-        for name, given in inputs.items()
-        for it, program in programs.items()
-        if it != OWN
-    }
-    one, more = ([Input(work, name, it) for name in MANY_INPUTS] for it in (size, MANY_BYTES))
-    many = {
-        (it, count): [
-            Cell(programs[it], given, chosen.read, count) for given in (one if count == 1 else more)
-        ]
-        for it in MANY
-        for count in [1, *chosen.parsers]
-        if it in programs
-    }
+    cells = {}
+    for (name, given), (it, program) in itertools.product(inputs.items(), programs.items()):
+        if it != OWN:
+            cells[name, it] = Cell(program, given, chosen.read)
+    many = {}
+    for it, count in itertools.product([it for it in MANY if it in programs], [1, *chosen.parsers]):
+        given = [Input(work, name, size if count == 1 else MANY_BYTES) for name in MANY_INPUTS]
+        many[it, count] = [Cell(programs[it], each, chosen.read, count) for each in given]
     for number in range(chosen.runs):
         progress(f"pass {number + 1} of {chosen.runs}")
         for cell in [*cells.values(), *sum(many.values(), [])]:
@@ -277,13 +251,7 @@ def report(chosen, work):
 
     columns = chosen.only
     heads = [f"{it} ({missing[it]})" if it in missing else it for it in columns]
-    costs_of = [
-        "µs to make one",
-        "bytes of heap",
-        "after its reads",
-        "ns for a key",
-        "ns for CSI u",
-    ]
+    costs_of = "µs to make one, bytes of heap, after its reads, ns for a key, ns for CSI u"
     counts = [*events(inputs, columns, cells)]
     parts = [
         where(chosen, programs),
@@ -291,7 +259,7 @@ def report(chosen, work):
         table(["Input", "bytes each", *heads], times(inputs, columns, cells)),
         *(["## Events of an input", table(["Input", "items", *heads], counts)] if counts else []),
         "## Many parsers",
-        table(["Parser", "how many", *costs_of], costs(many)),
+        table(["Parser", "how many", *costs_of.split(", ")], costs(many)),
     ]
     return "\n\n".join(parts)
 
@@ -337,8 +305,8 @@ def main():
             sys.exit(f"performance: {reason}")
     print(text)
     if chosen.write:
-        before, _, after = contents(PAGE).partition(BEGIN)
-        write(PAGE, f"{before}{BEGIN}\n{text}\n\n{END}{after.partition(END)[2]}")
+        before, _, after = Path(PAGE).read_text().partition(BEGIN)
+        Path(PAGE).write_text(f"{before}{BEGIN}\n{text}\n\n{END}{after.partition(END)[2]}")
 
 
 main()

@@ -300,9 +300,7 @@ int main(int argc, char **argv) {
   fill(&texts[1]);
   for (enum way way = 0; way < WAYS; way++) {
     if (!*word) show_passes(way);
-    else if (way == PARSE_AS_VEC) continue;
-    else if (!strcmp(word, "long")) show_long(way);
-    else show_sessions(way);
+    else if (way != PARSE_AS_VEC) (strcmp(word, "long") ? show_sessions : show_long)(way);
   }
   return 0;
 }

@@ -33,9 +33,7 @@ FILENAME != ARGV[1] && NF == 8 {
     allowed = 8 * BUFFERED[$2] + 2 * $3 + empty[$1]
     judge($1 " " $2, $7 <= allowed, $7 " bytes of memory are in use, and " allowed " are the most")
     if ($1 " " $2 == before) judge(before, $7 == in_use, $7 " bytes of memory are in use, and of a shorter text " in_use)
-    before = $1 " " $2
-    in_use = $7
-    next
+    before = $1 " " $2; in_use = $7; next
 }
 
 FILENAME != ARGV[1] {

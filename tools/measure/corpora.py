@@ -1,6 +1,7 @@
 """The inputs of tools/performance.py, the same bytes on every run. Each is a generator of items: a
 key, a mouse report or a reply. What it yields without an ESC counts as many items as it has
 characters."""
+import itertools
 import random
 
 ESC = b"\x1b"
@@ -40,11 +41,8 @@ def keys(pick):
 def csiu(pick):
     while True:
         code, modifiers = pick.randint(32, 126), pick.choice(MODIFIERS)
-        yield ESC + (
-            b"[%d;%du" % (code, modifiers)
-            if pick.random() < 0.5
-            else b"[27;%d;%d~" % (modifiers, code)
-        )
+        one, other = b"[%d;%du" % (code, modifiers), b"[27;%d;%d~" % (modifiers, code)
+        yield ESC + (one if pick.random() < 0.5 else other)
 
 
 def utf8(pick):
@@ -68,14 +66,11 @@ def mixed(pick):
             yield paste(pick, pick.randint(30, 300))
 
 
-def escapes(pick):
-    while True:
-        yield ESC
+def escapes(_):
+    return itertools.repeat(ESC)
 
 
-CUT = [
-    ESC + front for front in (b"", b"[", b"O", b"[1;", b"[27;5;12", b"O1;", b"[20", b"[11", b"[1;1")
-]
+CUT = [ESC + front for front in b"|[|O|[1;|[27;5;12|O1;|[20|[11|[1;1".split(b"|")]
 
 
 def cut(pick):
