@@ -49,7 +49,7 @@ $2 == "new" || $2 == "grown" { making = $9; next }
     name = $1 " " $2 " " $3 " (" $4 " bytes)"
     held = $7 - empty[$1]
     allowed = most(asked, 2 * $6 * ($1 in SHARES ? 1 : EVENT_ROOM))
-    if ($1 in SHARES && $2 != "parts")
+    if ($1 in SHARES && $2 != "parts" && $2 != "string")
         judge(name, held < SHARES[$1] * $6 || held <= LEAST_BUFFER, $7 " bytes of memory are in use for a text of " $6 ", and an empty parser has " empty[$1])
     judge(name, $8 <= allowed, "a request for memory of " $8 " bytes, and " allowed " are the most")
     if (!is_long) share = 0
