@@ -168,6 +168,22 @@ def test_a_named_folder(tmp_path):
         assert import_it({"HEDRUGAL_LIBRARY": named}, cwd=tmp_path) == f"{folder}/libhedrugal.so\n"
 
 
+def test_a_folder_of_others(tmp_path):
+    """Another user may have put a library there, so it isn't loaded."""
+    file = tmp_path / "libhedrugal.so"
+    shutil.copy(LIBRARY, file)
+    os.chown(tmp_path, os.geteuid() or 1, -1)
+    of_another = f"import os\nos.geteuid = lambda: {os.stat(tmp_path).st_uid + 1}\n"
+    named = {"HEDRUGAL_LIBRARY": str(file)}
+    assert_message(import_it(named, before=of_another), f"may write to {tmp_path}\n")
+    os.chown(tmp_path, os.geteuid(), -1)
+    for path in (tmp_path, file):
+        path.chmod(0o777)
+        assert_message(import_it(named), f"may write to {path}\n")
+        path.chmod(0o755)
+    assert import_it(named) == f"{file}\n"
+
+
 def test_it_keeps_pythons_lock():
     """So no two threads are in a call at once."""
     assert isinstance(hedrugal._library, ctypes.PyDLL)

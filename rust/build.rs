@@ -1,6 +1,7 @@
 // Finds libhedrugal: the file that HEDRUGAL_LIBRARY names, or the one in the folder that it names,
 // or else by pkg-config.
 use std::env;
+use std::os::unix::fs::MetadataExt;
 use std::path::{Path, PathBuf};
 use std::process::{self, Command};
 
@@ -85,6 +86,18 @@ struct Library {
     kind: &'static str,
 }
 
+impl Library {
+    // Whether another user than root and the caller may change the file, or put another in its place.
+    fn is_open_to_others(&self) -> bool {
+        let status = |path: &Path| path.metadata().ok();
+        let caller = status(Path::new("/proc/self")).map_or(0, |own| own.uid());
+        [status(&self.folder), status(&self.folder.join(self.file))]
+            .into_iter()
+            .flatten()
+            .any(|it| ![0, caller].contains(&it.uid()) || it.mode() & 0o002 != 0)
+    }
+}
+
 // The library in a folder: the archive, or the shared library if there is no archive.
 fn library_in(folder: &Path) -> Option<Library> {
     let (file, kind) = FORMS
@@ -108,19 +121,20 @@ fn library_at(path: &Path) -> Option<Library> {
 
 fn library() -> Library {
     if let Some(path) = named_path() {
-        return library_at(&path).unwrap_or_else(|| {
-            let shown = path.display();
-            let fault = if path.is_file() {
-                format!("{shown} isn't a libhedrugal.a or a libhedrugal.so")
-            } else {
-                format!("there is no libhedrugal.a in {shown}")
-            };
-            stop(
-                &fault,
-                "Set HEDRUGAL_LIBRARY to the library's file or folder, absolute or from where \
-                 cargo runs.",
-            )
-        });
+        let shown = path.display();
+        let fault = match library_at(&path) {
+            Some(library) if library.is_open_to_others() => {
+                format!("another user may write to {shown}")
+            }
+            Some(library) => return library,
+            None if path.is_file() => format!("{shown} isn't a libhedrugal.a or a libhedrugal.so"),
+            None => format!("there is no libhedrugal.a in {shown}"),
+        };
+        stop(
+            &fault,
+            "Set HEDRUGAL_LIBRARY to the library's file or folder, absolute or from where cargo \
+             runs.",
+        )
     }
     let Some(folders) = by_pkg_config() else {
         stop(

@@ -84,5 +84,6 @@ check 'pkg-config of the system' rust_finds PKG_CONFIG_PATH="$library" PKG_CONFI
 check 'no library' rust_stops 'pkg-config finds no hedrugal' PKG_CONFIG=false
 check 'folder without a library' rust_stops "there is no libhedrugal.a in $work/no" HEDRUGAL_LIBRARY="$work/no"
 check 'file that is no library' rust_stops "$work/keys isn't a libhedrugal.a" HEDRUGAL_LIBRARY="$work/keys"
+chmod o+w "$work/shared" && check 'folder of others' rust_stops 'another user may write to' HEDRUGAL_LIBRARY="$work/shared"
 check 'other target' rust_stops 'the library is for Linux on x86-64' CARGO_BUILD_TARGET=i686-unknown-linux-gnu
 print_counts

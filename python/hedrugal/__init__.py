@@ -14,9 +14,10 @@ events are the same however the bytes are cut into calls. A KeyMap maps byte str
 the program, such as its commands.
 
 The module calls the shared library libhedrugal.so by ctypes. The environment variable
-HEDRUGAL_LIBRARY names the library's file, or the folder that has it. If the variable isn't set, the
-library is looked for in this package's folder, and then where the system has its libraries. The
-import raises ImportError if no library is found, or if its version isn't that of the module.
+HEDRUGAL_LIBRARY names the library's file, or the folder that has it. Both must belong to you or to
+root, and others may not write to them. If the variable isn't set, the library is looked for in this
+package's folder, and then where the system has its libraries. The import raises ImportError if no
+library is found, or if its version isn't that of the module.
 
 Names such as Modifiers and KeyCode are those of the Rust crate termwiz. Their numbers are those of
 hedrugal.h."""
@@ -594,7 +595,11 @@ def _library_file() -> str:
     named = os.environ.get("HEDRUGAL_LIBRARY")
     if named:
         named = os.path.abspath(named)
-        return os.path.join(named, "libhedrugal.so") if os.path.isdir(named) else named
+        file = os.path.join(named, "libhedrugal.so") if os.path.isdir(named) else named
+        for path in (os.path.dirname(file), file):
+            if _is_open_to_others(path):
+                raise _not_loaded(f"another user may write to {path}")
+        return file
     folder = os.path.dirname(os.path.abspath(__file__))
     beside = os.path.join(folder, "libhedrugal.so")
     if os.path.exists(beside):
@@ -606,6 +611,15 @@ def _library_file() -> str:
         f"hedrugal: no libhedrugal.so in {folder} nor in the system's folders\n"
         "HEDRUGAL_LIBRARY can name its file or its folder."
     )
+
+
+def _is_open_to_others(path: str) -> bool:
+    """Whether a file or folder is there that a user who is neither root nor this one may change."""
+    try:
+        status = os.stat(path)
+    except OSError:
+        return False
+    return status.st_uid not in (0, os.geteuid()) or bool(status.st_mode & 0o002)
 
 
 def _load() -> ctypes.PyDLL:
