@@ -35,6 +35,14 @@ static void tell_text(const hed_extended *parser, const char *name, size_t len) 
   tell(")");
 }
 
+/* The part of a string, or a string that was cut off, by the kind of the string. */
+static void tell_string(const hed_extended *parser, const hed_extended_event *event) {
+  static const char *const names[] = { "Osc", "Dcs", "Apc" };
+  EXPECT(event->flags >= HED_KIND_OSC && event->flags <= HED_KIND_APC);
+  tell(event->kind == HED_KIND_STRING_PART ? "Part of " : "Cut ");
+  tell_text(parser, names[event->flags - HED_KIND_OSC], event->text_len);
+}
+
 static void tell_key_name(uint16_t key, uint32_t detail) {
   char name[22];
   if (hed_key_name(key, (uint8_t *)name, sizeof name) == 0) tell("functional %u", (unsigned)detail);
@@ -94,6 +102,8 @@ static void tell_event(const hed_extended *parser, const hed_extended_event *eve
     case HED_KIND_OSC: tell_text(parser, "Osc", event->text_len); break;
     case HED_KIND_DCS: tell_text(parser, "Dcs", event->text_len); break;
     case HED_KIND_APC: tell_text(parser, "Apc", event->text_len); break;
+    case HED_KIND_STRING_PART:
+    case HED_KIND_STRING_CUT: tell_string(parser, event); break;
     default: EXPECT(!"an event has a kind");
   }
   tell("; ");
@@ -137,10 +147,43 @@ static const struct example examples[] = {
   { BOTH, TEXT("\033]11;rgb:1e1e/1e1e/1e1e\033\\"), MORE, "Osc(11;rgb:1e1e/1e1e/1e1e); ", 0 },
   { BOTH, TEXT("\033]10;#fff\007q"), LAST, "Osc(10;#fff); q; ", 0 },
   { BOTH, TEXT("\033]0;\303\251\033\\"), MORE, "Osc(0;\\xc3\\xa9); ", 0 },
-  { BOTH, TEXT("\033]ab"), MORE, "", 4 },
+  { BOTH, TEXT("\033]ab"), MORE, "] ALT; a; b; ", 0 },
   { BOTH, TEXT("\033]a\033[I"), MORE, "] ALT; a; FocusGained; ", 0 },
   { BOTH, TEXT("\033P>|kitty\033\\"), LAST, "Dcs(>|kitty); ", 0 },
   { BOTH, TEXT("\033_Gi=31;OK\033\\"), MORE, "Apc(Gi=31;OK); ", 0 },
+  /* openings, and what is typed and begins as they do */
+  { BOTH, TEXT("\033]j\033]1j\033]123456"), MORE, "] ALT; j; ] ALT; 1; j; ] ALT; 1; 2; 3; 4; 5; 6; ", 0 },
+  { BOTH, TEXT("\033]12345;\007\033];\007"), MORE, "Osc(12345;); ] ALT; ;; g CTRL; ", 0 },
+  { BOTH, TEXT("\033]12345"), MORE, "", 7 },
+  { BOTH, TEXT("\033]12345"), LAST, "] ALT; 1; 2; 3; 4; 5; ", 0 },
+  { BOTH, TEXT("\033P>|foot\033\\\033P!|00\033\\"), MORE, "Dcs(>|foot); Dcs(!|00); ", 0 },
+  { BOTH, TEXT("\033P1$r0m\033\\\033P0+r\033\\\033P1!~0000\033\\"), MORE, "Dcs(1$r0m); Dcs(0+r); Dcs(1!~0000); ", 0 },
+  { BOTH, TEXT("\033P>|a\007b\033\\\033P@kitty-cmd{}\033\\"), MORE, "Dcs(>|a\\x07b); Dcs(@kitty-cmd{}); ", 0 },
+  { BOTH, TEXT("\033P>j\033Pq\033P1;"), MORE, "P ALT; >; j; P ALT; q; P ALT; 1; ;; ", 0 },
+  { BOTH, TEXT("\033_j\033_Gii"), MORE, "_ ALT; j; _ ALT; G; i; i; ", 0 },
+  { BOTH, TEXT("\033\033]11;"), MORE, "Escape; ", 5 },
+  { BOTH, TEXT("\033\033]11"), MORE, "", 5 },
+  { BOTH, TEXT("\033\033]11"), LAST, "Escape ALT; ]; 1; 1; ", 0 },
+  /* titles, which are typed text if no end comes */
+  { BOTH, TEXT("\033]lrm\r\033\\\033]L\007"), MORE, "Osc(lrm\\x0d); Osc(L); ", 0 },
+  { BOTH, TEXT("\033]ljj"), MORE, "", 5 },
+  { BOTH, TEXT("\033]ljj"), LAST, "] ALT; l; j; j; ", 0 },
+  { BOTH, TEXT("\033]lj\033[I"), MORE, "] ALT; l; j; FocusGained; ", 0 },
+  /* control characters are bytes of a string too, so none of them is a key */
+  { BOTH, TEXT("\033]50;a\rls\007q"), MORE, "Osc(50;a\\x0dls); q; ", 0 },
+  { BOTH, TEXT("\033P1$r\rls\r\033\\q"), MORE, "Dcs(1$r\\x0dls\\x0d); q; ", 0 },
+  { BOTH, TEXT("\033_Gi=1;\003\r\033\\"), MORE, "Apc(Gi=1;\\x03\\x0d); ", 0 },
+  /* strings that are cut off: by the end of the input, by an ESC that begins something else, by that of urxvt's replies */
+  { BOTH, TEXT("\033]11;rgb"), MORE, "", 8 },
+  { BOTH, TEXT("\033]11;rgb"), LAST, "Cut Osc(11;rgb); ", 0 },
+  { BOTH, TEXT("\033P>|a\033"), LAST, "Cut Dcs(>|a); ", 0 },
+  { BOTH, TEXT("\033_Gi=1\007"), LAST, "Cut Apc(Gi=1\\x07); ", 0 },
+  { BOTH, TEXT("\033]11;a\033[I\033]12;b\033]4;c\007"), MORE, "Cut Osc(11;a); FocusGained; Cut Osc(12;b); Osc(4;c); ", 0 },
+  { BOTH, TEXT("\033P>|a\033xq"), MORE, "Cut Dcs(>|a); x ALT; q; ", 0 },
+  { HED_PROTOCOL_LEGACY, TEXT("\033]4;1;a\033\033[A"), MORE, "Cut Osc(4;1;a); UpArrow; ", 0 },
+  { HED_PROTOCOL_KITTY, TEXT("\033]4;1;a\033\033[A"), MORE, "Cut Osc(4;1;a); Key(UpArrow); ", 0 },
+  { BOTH, TEXT("\033]4;1;a\033\033]4;2;b\033"), MORE, "Cut Osc(4;1;a); ", 8 },
+  { BOTH, TEXT("\033]4;1;a\033\033]4;2;b\033"), LAST, "Cut Osc(4;1;a); Cut Osc(4;2;b); ", 0 },
   { BOTH, TEXT("\033[?62;22c\033[>1;10;0c"), MORE, "Csi(?62;22c); Csi(>1;10;0c); ", 0 },
   { BOTH, TEXT("\033[?2026;2$y\033[?997;1n\033[?5u"), MORE, "Csi(?2026;2$y); Csi(?997;1n); KeyboardFlags(5); ", 0 },
   { BOTH, TEXT("\033[48;24;80;480;800t"), MORE, "Resize(24, 80, 480, 800); ", 0 },
@@ -151,6 +194,7 @@ static const struct example examples[] = {
   { BOTH, TEXT("\033[M\200!!\033[128;1;1M"), MORE, "Csi(M\\x80!!); Csi(128;1;1M); ", 0 },
   { BOTH, TEXT("\033[<0;20;10M\033[<0;20;10m"), MORE, "Mouse(20, 10, 2, 0); Mouse(20, 10, 0, 0); ", 0 },
   { BOTH, TEXT("\033[200~\033[I\033]0;a\007\033[201~"), MORE, "Paste(\\x1b[I\\x1b]0;a\\x07); ", 0 },
+  { BOTH, TEXT("\033[200~\033]0;a\r\033[201~"), MORE, "Paste(\\x1b]0;a\\x0d); ", 0 },
   { BOTH, TEXT("\033[[A\033OM\033Oq"), MORE, "Key(F1); Key(functional 57414); Key(Numpad1); ", 0 },
   { HED_PROTOCOL_LEGACY, TEXT("\033[97;5u\033[27u\033[1;9A"), MORE, "a CTRL; U+001B; UpArrow ALT; ", 0 },
   { HED_PROTOCOL_KITTY, TEXT("\033[13u\033[27u\033[1;9A"), MORE, "Key(Enter); Key(Escape); Key(UpArrow SUPER); ", 0 },
@@ -255,6 +299,9 @@ static const struct reading readings[] = {
   { HED_PROTOCOL_LEGACY, TEXT("\033]11;rgb:0/0/0\007"), { .kind = HED_KIND_OSC }, "11;rgb:0/0/0" },
   { HED_PROTOCOL_LEGACY, TEXT("\033P>|kitty\033\\"), { .kind = HED_KIND_DCS }, ">|kitty" },
   { HED_PROTOCOL_LEGACY, TEXT("\033_Gi=31;OK\033\\"), { .kind = HED_KIND_APC }, "Gi=31;OK" },
+  { HED_PROTOCOL_LEGACY, TEXT("\033]11;rgb:0"), { .kind = HED_KIND_STRING_CUT, .flags = HED_KIND_OSC }, "11;rgb:0" },
+  { HED_PROTOCOL_LEGACY, TEXT("\033P>|kitt\033"), { .kind = HED_KIND_STRING_CUT, .flags = HED_KIND_DCS }, ">|kitt" },
+  { HED_PROTOCOL_LEGACY, TEXT("\033_Gi=31;"), { .kind = HED_KIND_STRING_CUT, .flags = HED_KIND_APC }, "Gi=31;" },
   { HED_PROTOCOL_KITTY,
     TEXT("\033[97:65:98;2:2;65:8364u"),
     { .kind = HED_KIND_REPORT, .report = { HED_KEY_EVENT_KIND_REPEAT, HED_KITTY_MOD_SHIFT, HED_KEY_CHAR, 'a', 'A', 'b' } },
@@ -298,6 +345,7 @@ static void has_numbers(void) {
   EXPECT(HED_KIND_KEY == 1 && HED_KIND_MOUSE == 2 && HED_KIND_PASTE == 3 && HED_KIND_REPORT == 4 && HED_KIND_FOCUS_GAINED == 5);
   EXPECT(HED_KIND_FOCUS_LOST == 6 && HED_KIND_CURSOR_POSITION == 7 && HED_KIND_RESIZE == 8 && HED_KIND_KEYBOARD_FLAGS == 9);
   EXPECT(HED_KIND_CSI == 10 && HED_KIND_OSC == 11 && HED_KIND_DCS == 12 && HED_KIND_APC == 13 && HED_KIND_PASTE_PART == 14);
+  EXPECT(HED_KIND_STRING_PART == 15 && HED_KIND_STRING_CUT == 16 && HED_WAITING_STRING == 5);
   EXPECT(HED_KEY_EVENT_KIND_PRESS == 1 && HED_KEY_EVENT_KIND_REPEAT == 2 && HED_KEY_EVENT_KIND_RELEASE == 3);
   EXPECT(HED_KITTY_MOD_SHIFT == 1 && HED_KITTY_MOD_ALT == 2 && HED_KITTY_MOD_CTRL == 4 && HED_KITTY_MOD_NUM_LOCK == 128);
   EXPECT(HED_KITTY_FLAG_DISAMBIGUATE_ESCAPE_CODES == 1 && HED_KITTY_FLAG_REPORT_EVENT_TYPES == 2
@@ -354,9 +402,17 @@ static void tells_kinds(hed_extended *parser) {
     { TEXT("\033\033"), HED_WAITING_ESCAPE },
     { TEXT("\033[1;"), HED_WAITING_SEQUENCE },
     { TEXT("\033[97;2"), HED_WAITING_SEQUENCE },
-    { TEXT("\033]0;a"), HED_WAITING_SEQUENCE },
-    { TEXT("\033]11;rgb"), HED_WAITING_SEQUENCE },
+    { TEXT("\033]"), HED_WAITING_SEQUENCE },
+    { TEXT("\033]11"), HED_WAITING_SEQUENCE },
+    { TEXT("\033]lrm"), HED_WAITING_SEQUENCE },
+    { TEXT("\033]lrm\033"), HED_WAITING_SEQUENCE },
+    { TEXT("\033P1$"), HED_WAITING_SEQUENCE },
+    { TEXT("\033_Gi"), HED_WAITING_SEQUENCE },
     { TEXT("\033\033P"), HED_WAITING_SEQUENCE },
+    { TEXT("\033]0;"), HED_WAITING_STRING },
+    { TEXT("\033]11;rgb\033"), HED_WAITING_STRING },
+    { TEXT("\033P1$r"), HED_WAITING_STRING },
+    { TEXT("\033_Gi=\r"), HED_WAITING_STRING },
     { TEXT("\303"), HED_WAITING_CHARACTER },
     { TEXT("\033\342\202"), HED_WAITING_CHARACTER },
     { TEXT("\033[200~a"), HED_WAITING_PASTE },
@@ -498,30 +554,169 @@ static void reads_a_string_in_pieces(hed_extended *parser) {
   uint8_t text[300], room[4];
   hed_extended_event event;
   memset(text, 'a', sizeof text);
-  EXPECT(FEED(parser, "\033]") && hed_extended_feed(parser, text, sizeof text) && hed_extended_next(parser, true, &event) == HED_NEXT_NONE);
+  EXPECT(FEED(parser, "\033]7;") && hed_extended_feed(parser, text, sizeof text));
+  EXPECT(hed_extended_next(parser, true, &event) == HED_NEXT_NONE && hed_extended_waiting_len(parser) == sizeof text + 4);
   EXPECT(FEED(parser, "\033\\") && hed_extended_next(parser, true, &event) == HED_NEXT_EVENT);
-  EXPECT(event.kind == HED_KIND_OSC && event.text_len == sizeof text);
-  EXPECT(hed_extended_text(parser, room, sizeof room) == sizeof text && memcmp(room, "aaaa", 4) == 0);
+  EXPECT(event.kind == HED_KIND_OSC && event.flags == 0 && event.text_len == sizeof text + 2);
+  EXPECT(hed_extended_text(parser, room, sizeof room) == sizeof text + 2 && memcmp(room, "7;aa", 4) == 0);
 }
 
-/* A long string comes whole, and a string past its limit is typed text. */
-static void reads_long_strings(hed_extended *parser) {
-  enum { LONG = 100000, STRING = 60000 };
-  uint8_t *text = malloc(LONG), *copy = malloc(LONG);
+/* Feeds that many of one byte. */
+static void feed_many(hed_extended *parser, char byte, size_t count) {
+  static uint8_t bytes[1 << 16];
+  memset(bytes, byte, sizeof bytes);
+  EXPECT(count <= sizeof bytes && hed_extended_feed(parser, bytes, count));
+}
+
+static void expect_waiting(hed_extended *parser, uint32_t kind, size_t len) {
   hed_extended_event event;
-  if (!text || !copy) abort();
-  memset(text, 'x', LONG);
-  EXPECT(hed_extended_feed(parser, (const uint8_t *)"\033]", 2) && hed_extended_feed(parser, text, STRING));
-  EXPECT(hed_extended_next(parser, true, &event) == HED_NEXT_NONE && hed_extended_waiting_len(parser) == STRING + 2);
-  EXPECT(hed_extended_feed(parser, (const uint8_t *)"\033\\", 2));
-  EXPECT(hed_extended_next(parser, true, &event) == HED_NEXT_EVENT && event.kind == HED_KIND_OSC && event.text_len == STRING);
-  EXPECT(hed_extended_text(parser, copy, LONG) == STRING && memcmp(copy, text, STRING) == 0);
-  EXPECT(hed_extended_feed(parser, (const uint8_t *)"\033]", 2) && hed_extended_feed(parser, text, 65534));
-  EXPECT(hed_extended_next(parser, true, &event) == HED_NEXT_EVENT && event.input.detail == ']'
-         && event.input.modifiers == HED_TERMWIZ_MOD_ALT);
-  EXPECT(hed_extended_reset(parser) == 65534);
-  free(text);
-  free(copy);
+  EXPECT(hed_extended_next(parser, true, &event) == HED_NEXT_NONE);
+  EXPECT(hed_extended_waiting(parser) == kind && hed_extended_waiting_len(parser) == len);
+}
+
+/* The next event is of a string, and there are so many bytes of it, with the last one known. */
+static void expect_string(hed_extended *parser, bool more, uint8_t kind, uint8_t flags, size_t len, char last) {
+  static uint8_t text[1 << 16];
+  hed_extended_event event, wanted;
+  memset(&wanted, 0, sizeof wanted);
+  wanted.kind = kind;
+  wanted.flags = flags;
+  EXPECT(hed_extended_next(parser, more, &event) == HED_NEXT_EVENT && same_event(&event, &wanted) && event.text_len == len);
+  EXPECT(hed_extended_text(parser, text, sizeof text) == len && text[len - 1] == (uint8_t)last);
+}
+
+/* A title that nobody would type is a string, whatever follows. A shorter one without an end is keys. */
+static void reads_long_titles(hed_extended *parser) {
+  hed_extended_event event;
+  unsigned keys = 0;
+  EXPECT(FEED(parser, "\033]l"));
+  feed_many(parser, 't', 251);
+  expect_waiting(parser, HED_WAITING_SEQUENCE, 254);
+  EXPECT(FEED(parser, "\033"));
+  expect_waiting(parser, HED_WAITING_SEQUENCE, 255);
+  EXPECT(FEED(parser, "\\"));
+  expect_string(parser, true, HED_KIND_OSC, 0, 252, 't');
+  EXPECT(FEED(parser, "\033]L"));
+  feed_many(parser, 't', 251);
+  for (; hed_extended_next(parser, false, &event) == HED_NEXT_EVENT; keys++) EXPECT(event.kind == HED_KIND_KEY);
+  EXPECT(keys == 253 && FEED(parser, "\033]l"));
+  feed_many(parser, 't', 252);
+  expect_waiting(parser, HED_WAITING_STRING, 255);
+  EXPECT(FEED(parser, "\r"));
+  expect_waiting(parser, HED_WAITING_STRING, 256);
+  expect_string(parser, false, HED_KIND_STRING_CUT, HED_KIND_OSC, 254, '\r');
+  expect_waiting(parser, HED_WAITING_NOTHING, 0);
+}
+
+enum { PART = 65535 };
+
+/* At most PART bytes of a string wait. With so many comes a part, and its opening is put back before what follows. */
+static void reads_strings_at_the_limit(hed_extended *parser) {
+  EXPECT(FEED(parser, "\033]52;"));
+  feed_many(parser, 'A', PART - 6);
+  expect_waiting(parser, HED_WAITING_STRING, PART - 1);
+  EXPECT(FEED(parser, "\033"));
+  expect_waiting(parser, HED_WAITING_STRING, PART);
+  EXPECT(FEED(parser, "\\"));
+  expect_string(parser, true, HED_KIND_OSC, 0, PART - 3, 'A');
+  EXPECT(FEED(parser, "\033]52;"));
+  feed_many(parser, 'A', PART - 6);
+  EXPECT(FEED(parser, "B"));
+  expect_string(parser, true, HED_KIND_STRING_PART, HED_KIND_OSC, PART - 2, 'B');
+  expect_waiting(parser, HED_WAITING_STRING, 5);
+  hed_extended_shrink_to(parser, 0);
+  EXPECT(hed_extended_text(parser, NULL, 0) == PART - 2 && FEED(parser, "C\007"));
+  expect_string(parser, true, HED_KIND_OSC, 0, 4, 'C');
+  EXPECT(FEED(parser, "\033P0+r"));
+  feed_many(parser, 'A', PART - 5);
+  EXPECT(FEED(parser, "\033[I"));
+  expect_string(parser, false, HED_KIND_STRING_PART, HED_KIND_DCS, PART - 2, 'A');
+  expect_string(parser, false, HED_KIND_STRING_CUT, HED_KIND_DCS, 3, 'r');
+  told[0] = '\0';
+  tell_events(parser, false);
+  EXPECT(strcmp(told, "FocusGained; ") == 0);
+}
+
+/* How a long string ends, and what comes then. */
+struct ending {
+  const char *text;
+  size_t len;
+  bool more;
+  uint8_t kind;
+  const char *events;
+};
+
+static const struct ending endings[] = {
+  { TEXT("\007q"), MORE, HED_KIND_OSC, "q; " },
+  { TEXT("\033\\\033[I"), MORE, HED_KIND_OSC, "FocusGained; " },
+  { TEXT(""), LAST, HED_KIND_STRING_CUT, "" },
+  { TEXT("\033"), LAST, HED_KIND_STRING_CUT, "" },
+  { TEXT("\033[I"), MORE, HED_KIND_STRING_CUT, "FocusGained; " },
+  { TEXT("\033\033[O"), MORE, HED_KIND_STRING_CUT, "FocusLost; " },
+};
+
+enum { OPENING = 3, LONG = 100000 };
+
+/* What a long string brought: its bytes, and what else came. */
+static uint8_t joined[LONG + OPENING];
+static size_t joined_len;
+static unsigned strings;
+
+/* Joins the bytes of the parts and of the last event, which all begin with those of the opening. */
+static void join_string(const hed_extended *parser, const hed_extended_event *event) {
+  static uint8_t text[PART];
+  size_t from = strings++ > 0 ? OPENING : 0;
+  EXPECT(event->text_len < sizeof text && hed_extended_text(parser, text, sizeof text) == event->text_len);
+  EXPECT(event->text_len >= OPENING && memcmp(text, "52;", OPENING) == 0 && joined_len + event->text_len - from <= sizeof joined);
+  memcpy(joined + joined_len, text + from, event->text_len - from);
+  joined_len += event->text_len - from;
+}
+
+static bool is_of_string(const hed_extended_event *event) {
+  return event->kind == HED_KIND_OSC || event->kind == HED_KIND_STRING_CUT || event->kind == HED_KIND_STRING_PART;
+}
+
+/* Takes all events. Those of the string are the first. */
+static void take_string(hed_extended *parser, const struct ending *it, bool more) {
+  hed_extended_event event;
+  uint32_t next;
+  while ((next = hed_extended_next(parser, more, &event)) == HED_NEXT_EVENT) {
+    if (!is_of_string(&event)) {
+      tell_event(parser, &event);
+      continue;
+    }
+    EXPECT(told[0] == '\0' && event.kind == (strings == 0 ? HED_KIND_STRING_PART : it->kind));
+    EXPECT(event.flags == (event.kind == HED_KIND_OSC ? 0 : HED_KIND_OSC));
+    join_string(parser, &event);
+  }
+  EXPECT(next == HED_NEXT_NONE && hed_extended_waiting_len(parser) <= PART);
+}
+
+/* A string of 100 KB in reads of some size is a part and what ends it, whose bytes are those of the string: no key is among them. */
+static void reads_a_long_string(hed_extended *parser, const struct ending *it, size_t size) {
+  static uint8_t text[2 + OPENING + LONG + 8];
+  size_t len = 2 + OPENING + LONG + it->len;
+  memcpy(text, "\033]52;", 2 + OPENING);
+  for (size_t at = 0; at < LONG; at++) text[2 + OPENING + at] = (uint8_t) "QUJD\r\0\377"[at % 7];
+  memcpy(text + len - it->len, it->text, it->len);
+  told[0] = '\0';
+  joined_len = strings = 0;
+  for (size_t at = 0; at < len; at += size) {
+    size_t count = len - at < size ? len - at : size;
+    EXPECT(hed_extended_feed(parser, text + at, count));
+    take_string(parser, it, at + count < len || it->more);
+  }
+  EXPECT(strings == 2 && joined_len == OPENING + LONG && memcmp(joined, text + 2, joined_len) == 0);
+  EXPECT(strcmp(told, it->events) == 0 && hed_extended_waiting_len(parser) == 0);
+}
+
+static void reads_long_strings(void) {
+  static const size_t sizes[] = { 1, 7, 4096, sizeof joined + 16 };
+  hed_extended parser = HED_EXTENDED_NONE;
+  EXPECT(hed_extended_init(&parser, HED_PROTOCOL_LEGACY));
+  for (size_t i = 0; i < sizeof endings / sizeof *endings; i++)
+    for (size_t j = 0; j < sizeof sizes / sizeof *sizes; j++) reads_a_long_string(&parser, &endings[i], sizes[j]);
+  hed_extended_free(&parser);
 }
 
 /* The calls with a const pointer write nothing to the struct. */
@@ -532,10 +727,10 @@ static void reads_from_a_page_that_is_read_only(void) {
   hed_parser input = HED_PARSER_NONE;
   if (parser == MAP_FAILED) abort();
   EXPECT(hed_extended_init(parser, HED_PROTOCOL_KITTY));
-  feed(parser, TEXT("\033]ab\007\033[200~c"), true);
+  feed(parser, TEXT("\033]4;\007\033[200~c"), true);
   EXPECT(mprotect(parser, 4096, PROT_READ) == 0);
   EXPECT(hed_extended_waiting_len(parser) == 7 && hed_extended_waiting(parser) == HED_WAITING_PASTE && hed_extended_is_paste_open(parser));
-  EXPECT(hed_extended_text(parser, text, sizeof text) == 2 && memcmp(text, "ab..", 4) == 0);
+  EXPECT(hed_extended_text(parser, text, sizeof text) == 2 && memcmp(text, "4;..", 4) == 0);
   EXPECT(hed_extended_init_sharing(&sharing, HED_PROTOCOL_LEGACY, parser) && hed_parser_init_sharing_extended(&input, parser));
   hed_extended_free(&sharing);
   hed_parser_free(&input);
@@ -766,12 +961,14 @@ int main(void) {
     reads_a_long_paste(&parser, false);
     reads_a_long_paste(&parser, true);
     reads_a_string_in_pieces(&parser);
-    reads_long_strings(&parser);
+    reads_long_titles(&parser);
+    reads_strings_at_the_limit(&parser);
     ends_what_was_fed(protocol);
   }
   hed_extended_free(&parser);
   hed_extended_free(&parser);
   keeps_texts_past_other_events();
+  reads_long_strings();
   reads_from_a_page_that_is_read_only();
   encodes_examples();
   refuses_numbers_under_all_flags();

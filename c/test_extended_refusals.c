@@ -79,7 +79,8 @@ static void take(hed_extended *parser, bool more) {
 
 static const char stream[] =
     "q\033[A\033[<0;12;3M\303\251\033[24;80R\033[200~hello w\303\266rld, and some more text that needs memory\033[201~\033[?62;22c"
-    "\033[97:65:99;2:1;65u\033]11;rgb:1e1e/1e1e/1e1e\033\\x\033P>|kitty\033\\\033_Gi=31;OK\033\\\033[I\033[200~\033[201~\033";
+    "\033[97:65:99;2:1;65u\033]11;rgb:1e1e/1e1e/1e1e\033\\x\033P>|kitty\033\\\033_Gi=31;OK\033\\\033[I\033[200~\033[201~"
+    "\033]4;1;rgb:\033\033P>|foo\033[O\033";
 
 /* Reads the stream in pieces, with one request after init refused. */
 static void read_stream(size_t piece, long number) {
@@ -144,6 +145,48 @@ static void refuse_while_ending(bool is_part) {
   } while (met);
   EXPECT(number > 1);
   printf("%s of a paste: %ld refusals\n", is_part ? "part" : "end", number - 1);
+}
+
+/* Takes the event of a string, again if it is refused. What was buffered stays then, and so do the bytes of the event before. Returns whether
+ * it was refused. */
+static bool take_refused(hed_extended *parser, hed_extended_event *event) {
+  size_t waiting = hed_extended_waiting_len(parser), len = hed_extended_text(parser, NULL, 0);
+  uint32_t next = hed_extended_next(parser, false, event);
+  if (next == HED_NEXT_EVENT) return false;
+  EXPECT(next == HED_NEXT_NO_MEMORY && refused == 1);
+  EXPECT(hed_extended_waiting_len(parser) == waiting && hed_extended_text(parser, NULL, 0) == len);
+  EXPECT(hed_extended_next(parser, false, event) == HED_NEXT_EVENT);
+  return true;
+}
+
+/* The part of a long string, and the rest of it that is cut off, with each request refused in turn. */
+static void refuse_parts(void) {
+  enum { PART = 65535, LEN = PART + 10, OPENING = 5 };
+  static uint8_t text[LEN], copy[LEN];
+  unsigned met;
+  long number = 0;
+  memset(text, 'x', sizeof text);
+  memcpy(text, "\033]52;", OPENING);
+  memcpy(text + PART - 1, "abcdefghijk", LEN - PART + 1);
+  do {
+    hed_extended parser = HED_EXTENDED_NONE;
+    hed_extended_event event;
+    EXPECT(hed_extended_init(&parser, HED_PROTOCOL_LEGACY));
+    EXPECT(hed_extended_feed(&parser, text, sizeof text));
+    refuse(++number);
+    met = take_refused(&parser, &event);
+    EXPECT(event.kind == HED_KIND_STRING_PART && event.flags == HED_KIND_OSC && event.text_len == PART - 2);
+    EXPECT(hed_extended_text(&parser, copy, sizeof copy) == PART - 2 && memcmp(copy, text + 2, PART - 2) == 0);
+    EXPECT(hed_extended_waiting_len(&parser) == OPENING + LEN - PART);
+    met += take_refused(&parser, &event);
+    refuse(0);
+    EXPECT(event.kind == HED_KIND_STRING_CUT && event.flags == HED_KIND_OSC && event.text_len == 3 + LEN - PART);
+    EXPECT(hed_extended_text(&parser, copy, sizeof copy) == event.text_len && memcmp(copy, "52;bcdefghijk", event.text_len) == 0);
+    EXPECT(hed_extended_waiting_len(&parser) == 0);
+    hed_extended_free(&parser);
+  } while (met);
+  EXPECT(number > 2);
+  printf("part and rest of a string: %ld refusals\n", number - 1);
 }
 
 /* A key report, with each request refused in turn: nothing is written, and the call may be made again. */
@@ -237,9 +280,9 @@ static void frees_memory(void) {
   memset(text, 'x', sizeof text);
   EXPECT(in_use == 0);
   EXPECT(hed_extended_init(&parser, HED_PROTOCOL_LEGACY) && in_use > 0);
-  EXPECT(hed_extended_feed(&parser, (const uint8_t *)"\033]", 2) && hed_extended_feed(&parser, text, LONG));
+  EXPECT(hed_extended_feed(&parser, (const uint8_t *)"\033]0;", 4) && hed_extended_feed(&parser, text, LONG));
   EXPECT(hed_extended_feed(&parser, (const uint8_t *)"\a", 1) && hed_extended_next(&parser, true, &event) == HED_NEXT_EVENT);
-  EXPECT(hed_extended_text(&parser, text, 0) == LONG);
+  EXPECT(hed_extended_text(&parser, text, 0) == LONG + 2);
   size_t before = in_use;
   hed_extended_drop_text(&parser);
   EXPECT(in_use + LONG <= before);
@@ -296,6 +339,7 @@ int main(int argc, char **argv) {
   for (size_t piece = 1; piece < 2 * sizeof stream; piece = piece * 3 + 1) refuse_while_reading(piece);
   refuse_while_ending(false);
   refuse_while_ending(true);
+  refuse_parts();
   refuse_while_encoding();
   need_no_memory();
   refuse_init(step);
