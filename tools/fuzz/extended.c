@@ -1,6 +1,7 @@
 /* The events of the extended parser don't depend on how a stream is cut, and its keys can be encoded and read back.
  *
- * reading.h says how streams are read. The bit 0x40 of an input's first byte asks for Kitty's reading of the rows.
+ * reading.h says how streams are read. The bit 0x40 of an input's first byte asks for Kitty's reading of the rows. If the byte is 0x80 + n,
+ * n up to 7, a string too long for one event repeats the bytes after it, in reads of 4 to the power of n. Its parts bring all of them.
  *
  * The first keys of the stream are encoded. Under all flags of Kitty's protocol what is sent is read as one key report, and that is then
  * read back whole. Under other flags, one set for each key, a room that is too short gets the front of what is sent. */
@@ -10,7 +11,7 @@
 typedef hed_extended tested;
 typedef hed_extended_event event;
 
-enum { KITTY = 0x40, LONGEST_REST = 65536 };
+enum { KITTY = 0x40, LONG = 0x80, READS = 7, NO_END = 0xfd, OPENING = 5, PART = 65535, CONTROL_REST = 256, STRING_MAX = 1 << 17 };
 enum { ALL_FLAGS = 2 * HED_KITTY_FLAG_REPORT_ASSOCIATED_TEXT - 1, SEQUENCE_MAX = 256, ENCODED_KEYS = 40 };
 
 static bool is_key(const event *it) {
@@ -22,20 +23,19 @@ static void check_report(const hed_key_report *report) {
   uint8_t name[22];
   HOLDS(report->kind >= HED_KEY_EVENT_KIND_PRESS && report->kind <= HED_KEY_EVENT_KIND_RELEASE);
   HOLDS(report->key == 0 ? report->detail >= 57344 && report->detail <= 63743 : hed_key_name(report->key, name, sizeof name) > 0);
-  HOLDS(report->shifted <= 0x10ffff || report->shifted == HED_NO_CODE);
-  HOLDS(report->base <= 0x10ffff || report->base == HED_NO_CODE);
+  HOLDS((report->shifted <= 0x10ffff || report->shifted == HED_NO_CODE) && (report->base <= 0x10ffff || report->base == HED_NO_CODE));
 }
 
 /* What holds for every event. */
 static void check_extended_event(const event *it) {
   static const hed_key_report none;
-  HOLDS(it->kind >= HED_KIND_KEY && it->kind <= HED_KIND_APC);
+  HOLDS(it->kind >= HED_KIND_KEY && it->kind <= HED_KIND_STRING_CUT && it->kind != HED_KIND_PASTE_PART);
   if (is_key(it)) check_report(&it->report);
   else HOLDS(memcmp(&it->report, &none, sizeof none) == 0);
-  HOLDS((it->input.kind == HED_KIND_OTHER) == (it->kind > HED_KIND_PASTE));
-  HOLDS(it->kind > HED_KIND_PASTE || it->input.kind == it->kind);
-  if (it->kind == HED_KIND_PASTE) HOLDS(it->text_len == it->input.paste_len);
-  note(0x60000u | it->kind, it->report.kind);
+  HOLDS(it->input.kind == (it->kind > HED_KIND_PASTE ? HED_KIND_OTHER : it->kind));
+  HOLDS(it->kind != HED_KIND_PASTE || it->text_len == it->input.paste_len);
+  HOLDS(it->kind < HED_KIND_STRING_PART || (it->flags >= HED_KIND_OSC && it->flags <= HED_KIND_APC));
+  note(0x60000u | it->kind, is_key(it) ? it->report.kind : it->flags);
 }
 
 /* (A report has no bytes between its numbers.) */
@@ -53,7 +53,7 @@ static void check_extended_rest(const tested *parser, const uint8_t *waiting, si
   HOLDS((kind == HED_WAITING_PASTE) == is_open_paste(waiting, len));
   HOLDS((kind == HED_WAITING_ESCAPE) == is_escape(waiting, len));
   HOLDS(hed_extended_is_paste_open(parser) == begins_paste(waiting, len));
-  HOLDS(len <= LONGEST_REST || kind == HED_WAITING_PASTE);
+  HOLDS(kind == HED_WAITING_PASTE || len <= (kind == HED_WAITING_STRING ? PART : CONTROL_REST));
 }
 
 static uint32_t protocol;
@@ -77,68 +77,78 @@ static void encode_event(sent *it, const event *key, const uint8_t *of_key, uint
   HOLDS(it->len <= SEQUENCE_MAX || it->len == told.len);
 }
 
+/* Reads what was sent. It shares the table of a parser of the other kind. */
+static tested back = HED_EXTENDED_NONE;
+
 /* Encodes a key under all flags, and reads what is sent as one key report. Returns false if nothing is sent. */
-static bool send_and_read(tested *back, const event *key, const uint8_t *of_key, event *read, uint8_t *of_read) {
+static bool send_and_read(const event *key, const uint8_t *of_key, event *read, uint8_t *of_read) {
   static sent it;
   event more;
   encode_event(&it, key, of_key, ALL_FLAGS, SEQUENCE_MAX);
   note(0x70000u | it.encoded, key->report.key);
   HOLDS(it.encoded != HED_ENCODED_REFUSED_KEY || key->kind == HED_KIND_KEY);
   if (it.encoded != HED_ENCODED_TEXT) return false;
-  HOLDS(it.len > 0 && it.len <= SEQUENCE_MAX && hed_extended_feed(back, it.bytes, it.len));
-  HOLDS(hed_extended_next(back, true, read) == HED_NEXT_EVENT && read->kind == HED_KIND_REPORT);
+  HOLDS(it.len > 0 && it.len <= SEQUENCE_MAX && hed_extended_feed(&back, it.bytes, it.len));
+  HOLDS(hed_extended_next(&back, true, read) == HED_NEXT_EVENT && read->kind == HED_KIND_REPORT);
   HOLDS(read->report.kind == key->report.kind && read->report.modifiers == key->report.modifiers);
-  HOLDS(hed_extended_text(back, of_read, SEQUENCE_MAX) == read->text_len && (read->text_len == key->text_len || read->text_len == 0));
+  HOLDS(hed_extended_text(&back, of_read, SEQUENCE_MAX) == read->text_len && (read->text_len == key->text_len || read->text_len == 0));
   HOLDS(memcmp(of_read, of_key, read->text_len) == 0);
-  HOLDS(hed_extended_next(back, true, &more) == HED_NEXT_NONE && hed_extended_waiting_len(back) == 0);
+  HOLDS(hed_extended_next(&back, true, &more) == HED_NEXT_NONE && hed_extended_waiting_len(&back) == 0);
   return true;
-}
-
-/* The parser for what is read back, which shares the table of one of the other kind. */
-static tested *parser_back(void) {
-  static tested back = HED_EXTENDED_NONE;
-  hed_parser between = HED_PARSER_NONE;
-  if (back.live) return &back;
-  HOLDS(hed_parser_init_sharing_extended(&between, parser) && hed_extended_init_sharing_parser(&back, HED_PROTOCOL_KITTY, &between));
-  hed_parser_free(&between);
-  return &back;
 }
 
 /* What was read has the names that the numbers of keys have, and nothing that isn't sent. So it is read back whole. */
 static void read_back(const event *key, const uint8_t *of_key) {
   static uint8_t of_first[SEQUENCE_MAX], of_second[SEQUENCE_MAX];
-  tested *back = parser_back();
   event first, second;
-  if (!send_and_read(back, key, of_key, &first, of_first)) return;
-  HOLDS(send_and_read(back, &first, of_first, &second, of_second));
+  if (!send_and_read(key, of_key, &first, of_first)) return;
+  HOLDS(send_and_read(&first, of_first, &second, of_second));
   HOLDS(same_extended_event(&first, &second));
 }
 
-/* A key under some flags, into a room that has enough and into one that may not. */
-static void encode_cut(const event *key, const uint8_t *of_key, uint8_t flags) {
+/* The first keys are read back, and each is encoded under some flags, into a room that has enough and into one that may not. */
+static void encode_keys(void) {
   static sent all, front;
-  encode_event(&all, key, of_key, flags, sizeof all.bytes);
-  encode_event(&front, key, of_key, flags, flags / 2);
-  HOLDS(same_sent(&all, &front, flags / 2));
-  note(0x80000u | all.encoded, flags);
+  const uint8_t *of_key = whole.texts;
+  uint8_t flags = 0;
+  for (const event *key = whole.events; key < whole.events + whole.count && flags < ENCODED_KEYS; of_key += key++->text_len) {
+    if (!is_key(key)) continue;
+    read_back(key, of_key);
+    encode_event(&all, key, of_key, flags & ALL_FLAGS, sizeof all.bytes);
+    encode_event(&front, key, of_key, flags & ALL_FLAGS, flags / 2);
+    HOLDS(same_sent(&all, &front, flags / 2));
+    note(0x80000u | all.encoded, flags++ & ALL_FLAGS);
+  }
 }
 
-static void encode_keys(void) {
-  const uint8_t *of_event = whole.texts;
-  uint8_t count = 0;
-  for (size_t i = 0; i < whole.count && count < ENCODED_KEYS; of_event += whole.events[i++].text_len) {
-    if (!is_key(&whole.events[i])) continue;
-    read_back(&whole.events[i], of_event);
-    encode_cut(&whole.events[i], of_event, count++ & ALL_FLAGS);
+/* A string of STRING_MAX bytes, which has no end. Each event brings the opening and the next bytes, and none is a key. */
+static void read_long_string(const uint8_t *bytes, size_t len, size_t size) {
+  static uint8_t string[STRING_MAX] = "\033]52;", got[STRING_MAX];
+  size_t told = OPENING;
+  event next;
+  for (size_t at = OPENING; at < STRING_MAX; at++) string[at] = bytes[at % len] & NO_END;
+  for (size_t at = 0; at < STRING_MAX; at += size) {
+    HOLDS(hed_extended_feed(parser, string + at, size));
+    for (; hed_extended_next(parser, at + size < STRING_MAX, &next) == HED_NEXT_EVENT; told += next.text_len + 2 - OPENING) {
+      HOLDS(next.kind == (STRING_MAX - told < PART - OPENING ? HED_KIND_STRING_CUT : HED_KIND_STRING_PART) && next.flags == HED_KIND_OSC);
+      HOLDS(hed_extended_text(parser, got, sizeof got) == next.text_len && memcmp(got, string + 2, OPENING - 2) == 0);
+      HOLDS(memcmp(got + OPENING - 2, string + told, next.text_len + 2 - OPENING) == 0);
+    }
   }
+  HOLDS(told == STRING_MAX && hed_extended_waiting_len(parser) == 0);
 }
 
 void try_input(input *it) {
   static tested parsers[] = { HED_EXTENDED_NONE, HED_EXTENDED_NONE };
+  hed_parser between = HED_PARSER_NONE;
   uint8_t first = take_byte(it);
   protocol = first & KITTY ? HED_PROTOCOL_KITTY : HED_PROTOCOL_LEGACY;
   parser = &parsers[protocol];
   if (!parser->live) HOLDS(hed_extended_init(parser, protocol));
+  if (!back.live)
+    HOLDS(hed_parser_init_sharing_extended(&between, parser) && hed_extended_init_sharing_parser(&back, HED_PROTOCOL_KITTY, &between));
+  hed_parser_free(&between);
+  if ((first & ~READS) == LONG && it->left > 0) read_long_string(it->at, it->left, (size_t)1 << 2 * (first & READS));
   read_both(it, first);
   encode_keys();
 }
