@@ -7,7 +7,6 @@ The date is SOURCE_DATE_EPOCH, or now."""
 import json
 import os
 import re
-import sys
 import time
 import uuid
 from pathlib import Path
@@ -51,6 +50,7 @@ def relation(element, kind, other):
 def document():
     version = found('^#define HED_VERSION "(.*)"$', "c/hedrugal.h")
     name = f"hedrugal-{version}"
+    holders = found("^(Copyright .*)$", "LICENSE")
     origin = "a port of the key input of termwiz 0.23.3, MIT, by Wez Furlong"
     kit = "its libraries core, std, std_alloc and those below them"
     holders = found("^(Copyright .*)$", "LICENSE")
@@ -81,5 +81,4 @@ def document():
     }
 
 
-json.dump(document(), sys.stdout, indent=2)
-print()
+print(json.dumps(document(), indent=2))
