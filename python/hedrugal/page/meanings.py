@@ -34,6 +34,8 @@ from hedrugal import (
     Protocol,
     ReportedKey,
     Resize,
+    StringCut,
+    StringPart,
     Waiting,
     __version__,
     encode,
@@ -133,6 +135,8 @@ EXTENDED_LINES: Dict[type, Callable[[Any], str]] = {
     Osc: lambda it: text_line("osc", it.data),
     Dcs: lambda it: text_line("dcs", it.data),
     Apc: lambda it: text_line("apc", it.data),
+    StringPart: lambda it: text_line(f"{it.kind.name.lower()} part", it.data),
+    StringCut: lambda it: text_line(f"{it.kind.name.lower()} cut", it.data),
 }
 
 
@@ -159,7 +163,7 @@ def glyphs(event: ExtendedEvent) -> str:
         return printed(event.text)
     return (
         printed(event.data.decode(errors="replace"))
-        if isinstance(event, (Csi, Osc, Dcs, Apc))
+        if isinstance(event, (Csi, Osc, Dcs, Apc, StringPart, StringCut))
         else ""
     )
 
