@@ -399,15 +399,15 @@ WAITING = {
     },
     "extended": {
         "\\e[?": ([f"{CONTROL}, {TO_COME}"], "key U+005B ALT"),
-        "\\e]11;": ([f"{STRING}, {TO_COME}"], "key U+005D ALT"),
-        "\\eP>|": (["the beginning of a device control string (DCS)"], "key U+0050 ALT"),
+        "\\e]11;": ([f"{STRING}, {TO_COME}", "typed text"], "osc cut 3:31313b"),
+        "\\eP>|": (["the beginning of a device control string (DCS)"], "dcs cut 2:3e7c"),
         "\\e_G": (["the beginning of an application command (APC)"], "key U+005F ALT"),
         "\\e[[": (["the beginning of a key report"], "key U+005B ALT"),
         "\\e[M!": ([f"They begin a mouse report, {TO_COME}"], "key U+005B ALT"),
         "\\e[<0;3": (["They may become a mouse report, too"], "key U+005B ALT"),
         "\\e[1;": ([OR_CONTROL], "key U+005B ALT"),
         "\\e": (["A reply or a report may begin with it, too."], "key Escape NONE"),
-        "\\e]" + "a" * 1000: ([STRING], "key U+005D ALT"),
+        "\\e]l" + "a" * 200: ([STRING], "key U+005D ALT"),
     },
 }
 
@@ -718,7 +718,7 @@ def test_narrow(page):
     assert page.run(f"{wide}.filter((it) => {inner}).map((it) => it.outerHTML.slice(0, 80))") == []
     page.open_details(False)
     page.read_as("kitty")
-    string = "\\e]" + "x" * 300
+    string = "\\e]0;" + "x" * 300
     for text in (f"{string}\\a", string, "\\e[97:65:99;256:3;65:66:67:68u\\e[1;"):
         page.enter(text)
         assert page.run(WIDTH) == 360, text

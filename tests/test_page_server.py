@@ -31,9 +31,9 @@ RESTS = [b"", *RESTS.split()]
 EXTENDED_STREAM = b"q\x1b[24;80R\x1b\x1b[I\x1b]11;#fff\a\x1b[1;9A\x1b[97;5:3u\x1bP>|x\x1b\\"
 EXTENDED_STREAM += b"\x1b]a\rb\x1b[M !!\x1b[?62;4c\xc3\xa9"
 # The beginnings, and what each is called that begins no entry of the table.
-BEGINNINGS = b"\x1b[? \x1b]11; \x1b]11;\x1b \x1bP \x1b_G \x1b[[ \x1b[M! \x1b\x1b]1 \x1b\x1b[?1"
+BEGINNINGS = b"\x1b[? \x1b]11 \x1b]l\x1b \x1bP@ \x1bP1$ \x1b_ \x1b[[ \x1b[M! \x1b\x1b]1 \x1b\x1b[?1"
 BEGINNINGS = BEGINNINGS.split()
-BEGUN = ["csi", "osc", "osc", "dcs", "apc", "report", None, "osc", "csi"]
+BEGUN = ["csi", "osc", "osc", "dcs", "dcs", "apc", "report", None, "osc", "csi"]
 SECONDS = 60
 # What each answer, also a refusal, tells the browser.
 POLICY = """default-src 'none'; script-src 'self'; style-src 'self'; img-src 'self';
@@ -375,7 +375,7 @@ def test_random_bytes(client, reading):
     print(f"the seed is {seed}")
     chance = random.Random(seed)
     pieces = b"\x1b [ O 1;5A <0;3;4 M 200~ \x1b[201~ \xe2 \x82\xac q \xff \0".split(b" ")
-    others = b"\x1b] \x1bP \x1b_ \x1b\\ \a \x1b[1;9 A R u :3 ? $ \x1b[[".split(b" ")
+    others = b"\x1b] 4; \x1bP >| \x1b_Ga= \x1b\\ \a \x1b[1;9 A R u :3 ? $ \x1b[[".split(b" ")
     for _ in range(60):
         count = chance.randrange(30)
         chosen = [chance.choice(pieces if chance.random() < 0.6 else others) for _ in range(count)]
@@ -429,11 +429,11 @@ REPORTS = [
     (b"\x1b[M !!", "mouse 1 1 LEFT NONE", ""),
     (b"\x1b[?62;4c", "csi 6:3f36323b3463", "?62;4c"),
     (b"\x1b]11;#fff\a", "osc 7:31313b23666666", "11;#fff"),
-    (b"\x1b]\xff<b>\x1b\\", "osc 4:ff3c623e", "\ufffd<b>"),
-    (b"\x1b]\a", "osc 0:", ""),
+    (b"\x1b]4;\xff<b>\x1b\\", "osc 6:343bff3c623e", "4;\ufffd<b>"),
+    (b"\x1b]l\a", "osc 1:6c", "l"),
     (b"\x1bP>|x\x1b\\", "dcs 3:3e7c78", ">|x"),
     (b"\x1b_Gi=1;OK\x1b\\", "apc 7:47693d313b4f4b", "Gi=1;OK"),
-    (b"\x1b]" + b"x" * 30 + b"\a", "osc 30:" + "78" * 24 + "…", "x" * 24 + "…"),
+    (b"\x1b]0;" + b"x" * 28 + b"\a", "osc 30:303b" + "78" * 22 + "…", "0;" + "x" * 22 + "…"),
 ]
 
 
@@ -465,30 +465,30 @@ def test_beginnings_of_the_table_too(client):
     assert waits["mouse"][1] == "mouse 33 4 LEFT NONE"
 
 
-LONG = {
-    "osc": ("osc", b"\x1b]" + b"a" * 65533),
-    "osc, half of its end": ("osc", b"\x1b]" + b"a" * 65532 + b"\x1b"),
-    "dcs, half of its end": ("dcs", b"\x1bP" + b"a" * 65532 + b"\x1b"),
-    "apc": ("apc", b"\x1b_" + b"a" * 60000),
+OPEN = {
+    b"\x1b]0;\xff\r" + b"a" * 65528 + b"\x1b": f"osc cut 65532:303bff0d{'61' * 20}…",
+    b"\x1bP>|x\x1b": "dcs cut 3:3e7c78",
+    b"\x1b_Ga=\a": "apc cut 4:47613d07",
 }
 
 
-@pytest.mark.parametrize("begins, rest", LONG.values(), ids=LONG)
-def test_long_beginnings(client, begins, rest):
-    """65,535 bytes of a string may be buffered. Of the many events that a flush makes of it some
-    are listed."""
-    waits = client.told_within(2, "/api/read?reading=extended", rest)["waits"]
-    wanted = {"length": len(rest), "begins": begins, "mouse": None, "emits": len(rest) - 1}
-    assert waits == waits | wanted
-    assert len(waits["flushed"]) == meanings.LINES
+@pytest.mark.parametrize("rest, line", OPEN.items(), ids=["osc", "dcs", "apc"])
+def test_open_strings(client, rest, line):
+    """A string without its end stays buffered. A flush or another sequence cuts it off."""
+    wanted = {"kind": "String", "length": len(rest), "begins": line[:3], "emits": 1}
+    assert client.waits(rest, "extended") == wanted | {"flushed": [line]}
+    assert client.all_items(rest.rstrip(b"\x1b") + b"\x1b[I", "more", "kitty")[0][0][1] == line
 
 
 def test_long_strings(client):
-    told = client.told("/api/read?reading=extended", b"\x1b]" + b"a" * 65533 + b"\a")
-    assert told["events"] == 1
-    assert told["items"][0][:2] == [65536, "osc 65533:" + "61" * 24 + "…"]
-    told = client.told("/api/read?reading=extended", b"\x1b]" + b"a" * 65534)
-    assert (told["events"], told["waits"]) == (65535, None)
+    """Each byte belongs to one part, or to the event that ends the string."""
+    data, part = b"\x1b]0;" + b"a" * 131064 + b"bc\aq\x1b]4;", f"osc part 65533:303b{'61' * 22}…"
+    wanted = [[65535, part], [65531, part], [5, "osc 6:303b61616263"], [1, "key U+0071 NONE"]]
+    for first, at in enumerate([0, 65535, 131066, 131071]):
+        told = client.told(f"/api/read?reading=extended&first={first}", data)
+        assert [it[:2] for it in told["items"]] == wanted[first:]
+        assert (told["at"], told["waits"]["length"]) == (at, 4)
+    assert client.waits(data[:65535], "extended")["length"] == 0
 
 
 def test_waits(client):
@@ -575,7 +575,7 @@ def test_names_are_those_of_keyshow():
 
 PIECES = [b"a", b"\x1b[A", b"\x1b", b"\xff", b"\x1b[200~a\x1b[201~"]
 OTHERS = [b"\xe2\x82\xac", b"\x1b[<0;3;4M"]
-BEYOND = [b"\x1b[97;5:3u", b"\x1b]11;#fff\a", b"\x1b]" + b"a" * 65536]
+BEYOND = [b"\x1b[97;5:3u", b"\x1b]11;#fff\a", b"\x1b]0;" + b"a" * 65536]
 
 
 @pytest.mark.parametrize("path", ["read?end=more&first=0&", "reads?", "cut?at=5000&"])

@@ -35,9 +35,11 @@ from hedrugal import (
     ReportedKey,
     Resize,
     StringCut,
+    StringKind,
     StringPart,
     Waiting,
     __version__,
+    _KIND_STRING_PART,
     encode,
 )
 
@@ -69,9 +71,13 @@ READINGS: Dict[str, Callable[[], AnyParser]] = {
 }
 
 # What bytes may begin that begin no entry of the sequence table, by the event that they become; and
-# what may end them.
+# what may end them. The end of a string may come after the rest of its opening.
 BEGUN = {Csi: "csi", Osc: "osc", Dcs: "dcs", Apc: "apc", KeyReport: "report"}
-ENDINGS = (b"\\", b"\x1b\\", b"\a", b"A")
+STRINGS = (b"]0;\a", b"P>|\x1b\\", b"P@kitty-\x1b\\", b"P0$r\x1b\\", b"_Ga=\x1b\\")
+ENDINGS = [b"\\", b"\x1b\\", b"\a", b"A"] + [it[at:] for it in STRINGS for at in range(len(it) - 1)]
+
+# What introduces a string. An event has the bytes after it.
+INTRODUCERS = {StringKind.OSC: b"\x1b]", StringKind.DCS: b"\x1bP", StringKind.APC: b"\x1b_"}
 
 Json = Dict[str, Any]
 
@@ -173,27 +179,52 @@ def printed(text: str) -> str:
     return shown + ("…" if len(text) > SHOWN else "")
 
 
-def items(parser: AnyParser, more: bool) -> Iterator[Tuple[int, ExtendedEvent]]:
-    """The events that are next, each with the number of bytes that it consumed."""
-    before = parser.waiting_len
-    while True:
-        event = parser.next_event(more)
-        if event is None:
-            return
-        after = parser.waiting_len
-        yield before - after, event
-        before = after
+def opening(part: StringPart) -> int:
+    """How many bytes opened the string of a part: they are buffered once more before the rest."""
+    string = iter(INTRODUCERS[part.kind] + part.data)
+    with ExtendedParser() as parser:
+        while parser.waiting is not Waiting.STRING:
+            parser.parse(bytes([next(string)]))
+        return parser.waiting_len
 
 
-def skip(parser: AnyParser, more: bool, most: int) -> int:
-    """Consumes at most so many events, without making them, and returns how many there were."""
-    if isinstance(parser, InputParser):
-        return parser._skip(more, most)
-    count = 0
-    while count < most and parser._find_front(more):
-        parser._leave_front()
-        count += 1
-    return count
+class Reader:
+    """A parser that takes events one by one, and knows how many bytes each of them consumed."""
+
+    def __init__(self, reading: str) -> None:
+        self.parser = READINGS[reading]()
+        # The last event, if it was the part of a string. It leaves the opening in the buffer.
+        self.part: Optional[StringPart] = None
+
+    def left(self) -> int:
+        """How many of the buffered bytes belong to no event."""
+        return self.parser.waiting_len - (opening(self.part) if self.part else 0)
+
+    def items(self, more: bool) -> Iterator[Tuple[int, ExtendedEvent]]:
+        """The events that are next, each with the number of bytes that it consumed."""
+        before = self.left()
+        while True:
+            event = self.parser.next_event(more)
+            if event is None:
+                return
+            self.part = event if isinstance(event, StringPart) else None
+            after = self.left()
+            yield before - after, event
+            before = after
+
+    def skip(self, more: bool, most: int) -> int:
+        """Consumes at most so many events, without making them, and returns how many there were."""
+        parser = self.parser
+        if isinstance(parser, InputParser):
+            return parser._skip(more, most)
+        count = 0
+        while count < most and parser._find_front(more):
+            is_part = parser._front.kind == _KIND_STRING_PART
+            event = parser._front_event() if is_part else None
+            self.part = event if isinstance(event, StringPart) else None
+            parser._leave_front()
+            count += 1
+        return count
 
 
 def finish(parser: AnyParser, end: str) -> List[ExtendedEvent]:
@@ -217,10 +248,11 @@ def became(
     """The rest and one of these ends, if the library reads an event of this kind from the rest on,
     and the event. None if it does so with none of the ends. Before the event there may be an Escape
     key, and nothing else."""
-    with READINGS[reading]() as parser:
+    reader = Reader(reading)
+    with reader.parser as parser:
         for end in ends:
             parser.feed(rest + end)
-            for length, event in itertools.islice(items(parser, True), 2):
+            for length, event in itertools.islice(reader.items(True), 2):
                 if isinstance(event, kind) and length > len(end) and not parser.waiting_len:
                     return rest + end, event
             parser.reset()
@@ -349,7 +381,8 @@ class Meanings:
     def read(self, data: bytes, reading: str, end: str, first: int) -> Json:
         """The items of the bytes from the first one on, how many there are, and what stays
         buffered."""
-        with READINGS[reading]() as parser:
+        reader = Reader(reading)
+        with reader.parser as parser:
             parser.feed(data)
             count = at = 0
             listed: List[Any] = []
@@ -357,19 +390,19 @@ class Meanings:
             for more in (True,) if end == "more" else (True, False):
                 if not more:
                     flushed = count
-                count += skip(parser, more, max(0, first - count))
+                count += reader.skip(more, max(0, first - count))
                 if not listed:
-                    at = len(data) - parser.waiting_len
-                for length, event in itertools.islice(items(parser, more), ITEMS - len(listed)):
+                    at = len(data) - reader.left()
+                for length, event in itertools.islice(reader.items(more), ITEMS - len(listed)):
                     listed.append([length, line(event), glyphs(event)])
                     count += 1
-                count += skip(parser, more, len(data))
+                count += reader.skip(more, len(data))
             if end == "paste" and parser.is_paste_open:
                 length, paste = parser.waiting_len, parser.end_paste()
                 if paste and count >= first and len(listed) < ITEMS:
                     listed.append([length, line(paste), glyphs(paste)])
                 count += 1
-            waits = self.waits(parser, data, reading)
+            waits = self.waits(reader, data, reading)
         return {
             "bytes": len(data),
             "events": count,
@@ -380,10 +413,10 @@ class Meanings:
             "waits": waits,
         }
 
-    def waits(self, parser: AnyParser, data: bytes, reading: str) -> Optional[Json]:
+    def waits(self, reader: Reader, data: bytes, reading: str) -> Optional[Json]:
         """What stays buffered, what it may become, and what a flush makes of it. The flush is made
         here."""
-        kind, length = parser.waiting, parser.waiting_len
+        parser, kind, length = reader.parser, reader.parser.waiting, reader.left()
         if kind is Waiting.NOTHING:
             return None
         told: Json = {"kind": waiting_name(kind), "length": length}
@@ -399,12 +432,15 @@ class Meanings:
             )
             return told
         rest = data[len(data) - length :]
-        if kind is not Waiting.CHARACTER:
+        if kind in (Waiting.ESCAPE, Waiting.SEQUENCE):
             told.update(self.may_become(rest, reading))
         if kind is Waiting.ESCAPE:
             told["alt"] = [(rest + b"q").hex(), *lines(rest + b"q", reading)]
-        flushed = [line(event) for _, event in itertools.islice(items(parser, False), LINES)]
-        told.update(flushed=flushed, emits=len(flushed) + skip(parser, False, length))
+        events = [event for _, event in itertools.islice(reader.items(False), LINES)]
+        if isinstance(events[0], StringCut):
+            told["begins"] = events[0].kind.name.lower()
+        flushed = [line(event) for event in events]
+        told.update(flushed=flushed, emits=len(flushed) + reader.skip(False, length))
         return told
 
     def may_become(self, rest: bytes, reading: str) -> Json:

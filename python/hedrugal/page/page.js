@@ -368,6 +368,13 @@ function whySequence(waits) {
   ];
 }
 
+function whyString(waits) {
+  return [
+    [`They are the beginning of ${BEGUN[waits.begins]}, whose end is still to come. Until then no byte is a key, and neither is a control character.`],
+    ['The rest may come over a slow line, and after a flush it would be typed text. So a program flushes them only after some seconds.'],
+  ];
+}
+
 function whyCharacter(_, rest) {
   const came = rest.length === 1 ? 'the first one has' : 'some have';
   return [
@@ -384,7 +391,7 @@ function whyPaste(waits) {
   ];
 }
 
-const WHY = { Escape: whyEscape, Sequence: whySequence, Character: whyCharacter, Paste: whyPaste };
+const WHY = { Escape: whyEscape, Sequence: whySequence, String: whyString, Character: whyCharacter, Paste: whyPaste };
 
 function paragraph(part) {
   if (!Array.isArray(part[0])) return el('p', {}, ...part);
