@@ -22,11 +22,15 @@ use Rattle.termwiz_keymap.specs.contracts.keymap.remembered.Remembered as Rememb
 use Rattle.termwiz_keymap.specs.contracts.keymap.row.Row as Row
 use Rattle.termwiz_keymap.specs.contracts.readbuf.ReadBuffer as ReadBuffer
 use Rattle.termwiz_input.specs.contracts.input.InputParser as InputParser
+use Rattle.termwiz_input.specs.contracts.time.Age as Age
+use Rattle.termwiz_input.specs.contracts.time.Limit as Limit
+use Rattle.termwiz_input.specs.contracts.time.Policy as Policy
+use Rattle.termwiz_input.specs.contracts.time.Timer as Timer
 use Rattle.termwiz_input_extended.specs.contracts.input.ExtendedParser as ExtendedParser
 use Rattle.hedrugal.specs.contracts.bindings.Bindings as Bindings
 use Rattle.hedrugal.specs.contracts.extended_and_text.ExtendedAndText as ExtendedAndText
-use Rattle.hedrugal.specs.contracts.held.Held as Held
 use Rattle.hedrugal.specs.contracts.parser_and_paste.ParserAndPaste as ParserAndPaste
+use Rattle.hedrugal.specs.contracts.timing.Timing as Timing
 use Rattle.hedrugal.specs.Owned.{heap, owned}
 
 -- a fact of the fields of each variant that has some
@@ -95,22 +99,31 @@ parser_send = search (sendable, crosses, event_send, event_sync, map_send, map_s
 extended_send : IsSend ExtendedParser.the_row
 extended_send = search (sendable, crosses, parser_send) depth 12
 
+-- the limits in time, and the ages
+age_send : IsSend (Enum (shape Age.the_type))
+age_send = enum_send (shape Age.the_type) (each_send (shape Age.the_type).variants tt)
+
+limit_send : IsSend Limit.the_row
+limit_send = search (sendable, crosses, age_send) depth 10
+
+policy_send : IsSend Policy.the_row
+policy_send = search (sendable, crosses) depth 20
+
+timer_send : IsSend Timer.the_row
+timer_send = search (sendable, crosses, limit_send) depth 20
+
 -- what a handle leads to
-parser_and_paste_send : IsSend (ParserAndPaste.the_field).row
+pub parser_and_paste_send : IsSend ParserAndPaste.the_row
 parser_and_paste_send = search (sendable, crosses, maps, parser_send) depth 12
 
-extended_and_text_send : IsSend (ExtendedAndText.the_field).row
+pub extended_and_text_send : IsSend ExtendedAndText.the_row
 extended_and_text_send = search (sendable, crosses, extended_send) depth 12
 
-bindings_send : IsSend (Bindings.the_field).row
+pub bindings_send : IsSend Bindings.the_row
 bindings_send = search (sendable, crosses, map_send) depth 12
 
-kinds_send : IsSend (Enum (shape Held.the_type))
-kinds_send = enum_send (shape Held.the_type)
-    ((parser_and_paste_send, tt), ((extended_and_text_send, tt), ((bindings_send, tt), tt)))
-
-pub held_send : IsSend Held.the_row
-held_send = search (sendable, kinds_send) depth 10
+pub timing_send : IsSend Timing.the_row
+timing_send = search (sendable, crosses, policy_send, timer_send) depth 12
 
 -- and the pointer to that: what it owns says the same to every thread
 pub pointer_send : IsSend RawPtr

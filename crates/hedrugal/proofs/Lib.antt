@@ -1,5 +1,6 @@
 pub mod Crossing
 pub mod KeyNumbers
+pub mod Lending
 pub mod RawBoxValues
 pub mod Pressed
 pub mod OwnedPointerValues

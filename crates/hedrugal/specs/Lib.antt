@@ -3,7 +3,6 @@ pub mod EntryCalls
 pub mod Events
 pub mod ExtendedCalls
 pub mod ExtendedEvents
-pub mod Handles
 pub mod KeymapCalls
 pub mod Keys
 pub mod KittyCalls
@@ -11,3 +10,4 @@ pub mod Lent
 pub mod LentIf
 pub mod Owned
 pub mod Presses
+pub mod Views

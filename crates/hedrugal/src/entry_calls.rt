@@ -6,10 +6,9 @@ ghost use Rattle.termwiz_input.specs.RowsInOrder.{IsRowAt};
 ghost use Rattle.hedrugal.specs.Calls.{copied};
 ghost use Rattle.hedrugal.specs.Events.{c_event};
 ghost use Rattle.hedrugal.specs.EntryCalls.{AreToComplete, IsNoRow};
-ghost use Rattle.hedrugal.specs.Handles.{parser_of};
 
 use crate::events::CEvent;
-use crate::handle::Handle;
+use crate::handles::ParserHandle;
 
 /// `hed_entries`: some rows of the sequence table, one after another.
 #[repr(C)]
@@ -27,25 +26,22 @@ pub struct CEntries {
 /// returns how many bytes the row has. From the number of rows on, or if there is no parser, the answer is 0 and nothing changes.
 #[unsafe(no_mangle)]
 pub extern "C" fn hed_parser_entry(
-    parser: &mut Handle,
+    parser: &mut ParserHandle,
     place: usize,
     bytes: &mut [u8],
     event: &mut CEvent,
 ) -> usize
-    ensures same { parser.new.owned ≡ parser.old.owned }
-    ensures len { (row : List ℕ) (key : KeyEvent) → parser_of parser.old ≢ None → IsRowAt place row key → result ≡ length row }
-    ensures bytes { (row : List ℕ) (key : KeyEvent) → parser_of parser.old ≢ None → IsRowAt place row key
+    ensures same { parser.new.state ≡ parser.old.state }
+    ensures len { (row : List ℕ) (key : KeyEvent) → parser.old.state.held ≢ None → IsRowAt place row key → result ≡ length row }
+    ensures bytes { (row : List ℕ) (key : KeyEvent) → parser.old.state.held ≢ None → IsRowAt place row key
         → bytes.new ≡ copied row bytes.old }
-    ensures event { (row : List ℕ) (key : KeyEvent) → parser_of parser.old ≢ None → IsRowAt place row key
+    ensures event { (row : List ℕ) (key : KeyEvent) → parser.old.state.held ≢ None → IsRowAt place row key
         → event.new ≡ c_event (Key key) }
-    ensures none { IsNoRow (parser_of parser.old) place → result ≡ 0 }
-    ensures bytes_same { IsNoRow (parser_of parser.old) place → bytes.new ≡ bytes.old }
-    ensures event_same { IsNoRow (parser_of parser.old) place → event.new ≡ event.old }
+    ensures none { IsNoRow parser.old.state.held place → result ≡ 0 }
+    ensures bytes_same { IsNoRow parser.old.state.held place → bytes.new ≡ bytes.old }
+    ensures event_same { IsNoRow parser.old.state.held place → event.new ≡ event.old }
 {
     let Some(held) = parser.get_mut() else {
-        return 0;
-    };
-    let Some(held) = held.parser_mut() else {
         return 0;
     };
     held.copy_row(place, bytes, event)
@@ -55,16 +51,13 @@ pub extern "C" fn hed_parser_entry(
 /// what follows its ESC, and their keys get ALT. Only the start of a paste gets none: it opens a paste, and the ESC before it is the Escape
 /// key. If there is no parser, the answer is false and `rows` is unchanged.
 #[unsafe(no_mangle)]
-pub extern "C" fn hed_parser_completions(parser: &mut Handle, rows: &mut CEntries) -> bool
-    ensures same { parser.new.owned ≡ parser.old.owned }
-    ensures some { result ≡ true → AreToComplete (parser_of parser.old) rows.new }
-    ensures no_parser { result ≡ false ↔ (parser_of parser.old ≡ None) }
+pub extern "C" fn hed_parser_completions(parser: &mut ParserHandle, rows: &mut CEntries) -> bool
+    ensures same { parser.new.state ≡ parser.old.state }
+    ensures some { result ≡ true → AreToComplete parser.old.state.held rows.new }
+    ensures no_parser { result ≡ false ↔ (parser.old.state.held ≡ None) }
     ensures rows_same { result ≡ false → rows.new ≡ rows.old }
 {
     let Some(held) = parser.get_mut() else {
-        return false;
-    };
-    let Some(held) = held.parser_mut() else {
         return false;
     };
     *rows = held.completions();

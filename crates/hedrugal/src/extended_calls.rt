@@ -3,13 +3,11 @@ ghost use Rattle.std.specs.Prelude.{◌≡◌, ◌≢◌, ◌≤◌, ◌↔◌, 
 ghost use Rattle.hedrugal.specs.Calls.{copied};
 ghost use Rattle.hedrugal.specs.ExtendedCalls.{IsNoProtocol, Ended, Flushed, Gave, HasDroppedText, HasEndlessPaste, HasEscape, HasKind, HasOpenPaste, HasPartOfPaste, IsFresh, IsReset, IsUnchanged, NeedsMemoryNext, Rests, Skipped, Took, TookPart, kept, waiting_len};
 ghost use Rattle.hedrugal.specs.ExtendedEvents.{protocol_number};
-ghost use Rattle.hedrugal.specs.Handles.{extended_of};
 
 use crate::copying::copy_prefix;
 use crate::extended_and_text::ExtendedAndText;
 use crate::extended_events::{CExtendedEvent, extended_waiting_number};
-use crate::handle::Handle;
-use crate::held::Held;
+use crate::handles::ExtendedHandle;
 use crate::{NEXT_EVENT, NEXT_NO_MEMORY, NEXT_NO_PARSER, NEXT_NONE, WAITING_NOTHING};
 use std::alloc::Global;
 use termwiz_input_extended::input::ExtendedParser;
@@ -36,9 +34,9 @@ pub(crate) fn protocol_at(number: u32) -> Option<Protocol>
 /// Makes an extended parser for the protocol with this number, and frees the one that was there. If memory is refused, or no protocol has
 /// the number, the answer is false and nothing changes.
 #[unsafe(no_mangle)]
-pub extern "C" fn hed_extended_init(alloc: Global, parser: &mut Handle, protocol: u32) -> bool
-    ensures made { result ≡ true → IsFresh (extended_of parser.new) protocol }
-    ensures refused { result ≡ false → parser.new.owned.held ≡ parser.old.owned.held }
+pub extern "C" fn hed_extended_init(alloc: Global, parser: &mut ExtendedHandle, protocol: u32) -> bool
+    ensures made { result ≡ true → IsFresh parser.new.state.held protocol }
+    ensures refused { result ≡ false → parser.new.state.held ≡ parser.old.state.held }
     ensures no_protocol { IsNoProtocol protocol → result ≡ false }
 {
     let Some(protocol) = protocol_at(protocol) else {
@@ -47,28 +45,25 @@ pub extern "C" fn hed_extended_init(alloc: Global, parser: &mut Handle, protocol
     let Ok(made) = ExtendedParser::new(alloc, protocol) else {
         return false;
     };
-    parser.replace(alloc, Held::Extended(ExtendedAndText::of(alloc, made)))
+    parser.view().replace(alloc, ExtendedAndText::of(alloc, made))
 }
 
 /// Frees the parser, if there is one, and leaves none.
 #[unsafe(no_mangle)]
-pub extern "C" fn hed_extended_free(alloc: Global, parser: &mut Handle)
-    ensures { parser.new.owned.held ≡ None }
+pub extern "C" fn hed_extended_free(alloc: Global, parser: &mut ExtendedHandle)
+    ensures { parser.new.state.held ≡ None }
 {
-    parser.free(alloc);
+    parser.view().free(alloc);
 }
 
 /// Buffers bytes. If memory is refused, or there is no parser, the answer is false and nothing changes. No bytes need no memory.
 #[unsafe(no_mangle)]
-pub extern "C" fn hed_extended_feed(parser: &mut Handle, bytes: &[u8]) -> bool
-    ensures took { result ≡ true → Took (extended_of parser.old) bytes.now (extended_of parser.new) }
-    ensures refused { result ≡ false → parser.new.owned.held ≡ parser.old.owned.held }
-    ensures no_bytes { bytes.now ≡ [] → extended_of parser.old ≢ None → result ≡ true }
+pub extern "C" fn hed_extended_feed(parser: &mut ExtendedHandle, bytes: &[u8]) -> bool
+    ensures took { result ≡ true → Took parser.old.state.held bytes.now parser.new.state.held }
+    ensures refused { result ≡ false → parser.new.state.held ≡ parser.old.state.held }
+    ensures no_bytes { bytes.now ≡ [] → parser.old.state.held ≢ None → result ≡ true }
 {
     let Some(held) = parser.get_mut() else {
-        return false;
-    };
-    let Some(held) = held.extended_mut() else {
         return false;
     };
     held.parser.feed(bytes).is_ok()
@@ -78,22 +73,19 @@ pub extern "C" fn hed_extended_feed(parser: &mut Handle, bytes: &[u8]) -> bool
 /// memory for the bytes of its event is refused, and it still stands there; and 3 if there is no parser.
 #[unsafe(no_mangle)]
 pub extern "C" fn hed_extended_next(
-    parser: &mut Handle,
+    parser: &mut ExtendedHandle,
     more: bool,
     event: &mut CExtendedEvent,
 ) -> u32
     ensures answers { result ≤ 3 }
-    ensures none { result ≡ NEXT_NONE → Rests (extended_of parser.old) more }
-    ensures event { result ≡ NEXT_EVENT → Gave (extended_of parser.old) more event.new (extended_of parser.new) }
-    ensures refused { result ≡ NEXT_NO_MEMORY → NeedsMemoryNext (extended_of parser.old) more }
-    ensures no_parser { result ≡ NEXT_NO_PARSER ↔ (extended_of parser.old ≡ None) }
-    ensures same { result ≢ NEXT_EVENT → parser.new.owned.held ≡ parser.old.owned.held }
+    ensures none { result ≡ NEXT_NONE → Rests parser.old.state.held more }
+    ensures event { result ≡ NEXT_EVENT → Gave parser.old.state.held more event.new parser.new.state.held }
+    ensures refused { result ≡ NEXT_NO_MEMORY → NeedsMemoryNext parser.old.state.held more }
+    ensures no_parser { result ≡ NEXT_NO_PARSER ↔ (parser.old.state.held ≡ None) }
+    ensures same { result ≢ NEXT_EVENT → parser.new.state.held ≡ parser.old.state.held }
     ensures event_same { result ≢ NEXT_EVENT → event.new ≡ event.old }
 {
     let Some(held) = parser.get_mut() else {
-        return NEXT_NO_PARSER;
-    };
-    let Some(held) = held.extended_mut() else {
         return NEXT_NO_PARSER;
     };
     match held.next(more) {
@@ -108,15 +100,12 @@ pub extern "C" fn hed_extended_next(
 
 /// Copies the bytes of the last event that brought bytes, as many of them as `out` has room for, and returns how many they are.
 #[unsafe(no_mangle)]
-pub extern "C" fn hed_extended_text(parser: &mut Handle, out: &mut [u8]) -> usize
-    ensures same { parser.new.owned ≡ parser.old.owned }
-    ensures len { result ≡ length (kept (extended_of parser.old)) }
-    ensures bytes { out.new ≡ copied (kept (extended_of parser.old)) out.old }
+pub extern "C" fn hed_extended_text(parser: &mut ExtendedHandle, out: &mut [u8]) -> usize
+    ensures same { parser.new.state ≡ parser.old.state }
+    ensures len { result ≡ length (kept parser.old.state.held) }
+    ensures bytes { out.new ≡ copied (kept parser.old.state.held) out.old }
 {
     let Some(held) = parser.get_mut() else {
-        return 0;
-    };
-    let Some(held) = held.extended_mut() else {
         return 0;
     };
     copy_prefix(held.text.as_slice(), out)
@@ -124,13 +113,10 @@ pub extern "C" fn hed_extended_text(parser: &mut Handle, out: &mut [u8]) -> usiz
 
 /// Frees the bytes of the last event that brought bytes. There are then none.
 #[unsafe(no_mangle)]
-pub extern "C" fn hed_extended_drop_text(alloc: Global, parser: &mut Handle)
-    ensures { HasDroppedText (extended_of parser.old) (extended_of parser.new) }
+pub extern "C" fn hed_extended_drop_text(alloc: Global, parser: &mut ExtendedHandle)
+    ensures { HasDroppedText parser.old.state.held parser.new.state.held }
 {
     let Some(held) = parser.get_mut() else {
-        return;
-    };
-    let Some(held) = held.extended_mut() else {
         return;
     };
     held.text = Vec::new(alloc);
@@ -139,13 +125,10 @@ pub extern "C" fn hed_extended_drop_text(alloc: Global, parser: &mut Handle)
 /// Frees memory that holds nothing: of the buffer, in which `min_capacity` bytes keep their room, and of the bytes of the last event. What
 /// is buffered, these bytes and all later answers are unchanged.
 #[unsafe(no_mangle)]
-pub extern "C" fn hed_extended_shrink_to(parser: &mut Handle, min_capacity: usize)
-    ensures same { IsUnchanged (extended_of parser.old) (extended_of parser.new) }
+pub extern "C" fn hed_extended_shrink_to(parser: &mut ExtendedHandle, min_capacity: usize)
+    ensures same { IsUnchanged parser.old.state.held parser.new.state.held }
 {
     let Some(held) = parser.get_mut() else {
-        return;
-    };
-    let Some(held) = held.extended_mut() else {
         return;
     };
     held.parser.shrink_to(min_capacity);
@@ -154,14 +137,11 @@ pub extern "C" fn hed_extended_shrink_to(parser: &mut Handle, min_capacity: usiz
 
 /// How many bytes are buffered; 0 if there is no parser.
 #[unsafe(no_mangle)]
-pub extern "C" fn hed_extended_waiting_len(parser: &mut Handle) -> usize
-    ensures same { parser.new.owned ≡ parser.old.owned }
-    ensures len { result ≡ waiting_len (extended_of parser.old) }
+pub extern "C" fn hed_extended_waiting_len(parser: &mut ExtendedHandle) -> usize
+    ensures same { parser.new.state ≡ parser.old.state }
+    ensures len { result ≡ waiting_len parser.old.state.held }
 {
     let Some(held) = parser.get_mut() else {
-        return 0;
-    };
-    let Some(held) = held.extended_mut() else {
         return 0;
     };
     held.parser.waiting_len()
@@ -170,14 +150,11 @@ pub extern "C" fn hed_extended_waiting_len(parser: &mut Handle) -> usize
 /// The kind of what stays buffered, once `hed_extended_next` answered 0: 1 for ESC or ESC ESC, 2 for a longer beginning of a sequence, 3
 /// for one of a character, 4 for an open paste, 5 for an open string, and 0 for nothing or if there is no parser.
 #[unsafe(no_mangle)]
-pub extern "C" fn hed_extended_waiting(parser: &mut Handle) -> u32
-    ensures same { parser.new.owned ≡ parser.old.owned }
-    ensures kind { HasKind (extended_of parser.old) result }
+pub extern "C" fn hed_extended_waiting(parser: &mut ExtendedHandle) -> u32
+    ensures same { parser.new.state ≡ parser.old.state }
+    ensures kind { HasKind parser.old.state.held result }
 {
     let Some(held) = parser.get_mut() else {
-        return WAITING_NOTHING;
-    };
-    let Some(held) = held.extended_mut() else {
         return WAITING_NOTHING;
     };
     extended_waiting_number(held.parser.waiting())
@@ -186,19 +163,16 @@ pub extern "C" fn hed_extended_waiting(parser: &mut Handle) -> u32
 /// Takes ESC or ESC ESC, if no more than that is buffered. The answer is 1 if `event` is its event, the Escape key; 0 if something else
 /// is buffered; and 3 if there is no parser.
 #[unsafe(no_mangle)]
-pub extern "C" fn hed_extended_flush_escape(parser: &mut Handle, event: &mut CExtendedEvent) -> u32
+pub extern "C" fn hed_extended_flush_escape(parser: &mut ExtendedHandle, event: &mut CExtendedEvent) -> u32
     ensures answers { result ≤ 3 }
     ensures granted { result ≢ NEXT_NO_MEMORY }
-    ensures when { result ≡ NEXT_EVENT ↔ HasEscape (extended_of parser.old) }
-    ensures event { result ≡ NEXT_EVENT → Flushed (extended_of parser.old) event.new (extended_of parser.new) }
-    ensures no_parser { result ≡ NEXT_NO_PARSER ↔ (extended_of parser.old ≡ None) }
-    ensures same { result ≢ NEXT_EVENT → parser.new.owned.held ≡ parser.old.owned.held }
+    ensures when { result ≡ NEXT_EVENT ↔ HasEscape parser.old.state.held }
+    ensures event { result ≡ NEXT_EVENT → Flushed parser.old.state.held event.new parser.new.state.held }
+    ensures no_parser { result ≡ NEXT_NO_PARSER ↔ (parser.old.state.held ≡ None) }
+    ensures same { result ≢ NEXT_EVENT → parser.new.state.held ≡ parser.old.state.held }
     ensures event_same { result ≢ NEXT_EVENT → event.new ≡ event.old }
 {
     let Some(held) = parser.get_mut() else {
-        return NEXT_NO_PARSER;
-    };
-    let Some(held) = held.extended_mut() else {
         return NEXT_NO_PARSER;
     };
     match held.flush_escape() {
@@ -212,14 +186,11 @@ pub extern "C" fn hed_extended_flush_escape(parser: &mut Handle, event: &mut CEx
 
 /// Whether what is buffered begins with the start of a paste; false if there is no parser.
 #[unsafe(no_mangle)]
-pub extern "C" fn hed_extended_is_paste_open(parser: &mut Handle) -> bool
-    ensures same { parser.new.owned ≡ parser.old.owned }
-    ensures open { IsTrue result ↔ HasOpenPaste (extended_of parser.old) }
+pub extern "C" fn hed_extended_is_paste_open(parser: &mut ExtendedHandle) -> bool
+    ensures same { parser.new.state ≡ parser.old.state }
+    ensures open { IsTrue result ↔ HasOpenPaste parser.old.state.held }
 {
     let Some(held) = parser.get_mut() else {
-        return false;
-    };
-    let Some(held) = held.extended_mut() else {
         return false;
     };
     held.parser.is_paste_open()
@@ -228,19 +199,16 @@ pub extern "C" fn hed_extended_is_paste_open(parser: &mut Handle) -> bool
 /// Ends an open paste where it is. The answer is 1 if `event` is its event, whose text is what came so far; 0 if no paste is open;
 /// 2 if memory for the text is refused; and 3 if there is no parser.
 #[unsafe(no_mangle)]
-pub extern "C" fn hed_extended_end_paste(parser: &mut Handle, event: &mut CExtendedEvent) -> u32
+pub extern "C" fn hed_extended_end_paste(parser: &mut ExtendedHandle, event: &mut CExtendedEvent) -> u32
     ensures answers { result ≤ 3 }
-    ensures none { result ≡ NEXT_NONE → ¬ HasEndlessPaste (extended_of parser.old) }
-    ensures event { result ≡ NEXT_EVENT → Ended (extended_of parser.old) event.new (extended_of parser.new) }
-    ensures refused { result ≡ NEXT_NO_MEMORY → HasEndlessPaste (extended_of parser.old) }
-    ensures no_parser { result ≡ NEXT_NO_PARSER ↔ (extended_of parser.old ≡ None) }
-    ensures same { result ≢ NEXT_EVENT → parser.new.owned.held ≡ parser.old.owned.held }
+    ensures none { result ≡ NEXT_NONE → ¬ HasEndlessPaste parser.old.state.held }
+    ensures event { result ≡ NEXT_EVENT → Ended parser.old.state.held event.new parser.new.state.held }
+    ensures refused { result ≡ NEXT_NO_MEMORY → HasEndlessPaste parser.old.state.held }
+    ensures no_parser { result ≡ NEXT_NO_PARSER ↔ (parser.old.state.held ≡ None) }
+    ensures same { result ≢ NEXT_EVENT → parser.new.state.held ≡ parser.old.state.held }
     ensures event_same { result ≢ NEXT_EVENT → event.new ≡ event.old }
 {
     let Some(held) = parser.get_mut() else {
-        return NEXT_NO_PARSER;
-    };
-    let Some(held) = held.extended_mut() else {
         return NEXT_NO_PARSER;
     };
     match held.end_paste() {
@@ -258,24 +226,21 @@ pub extern "C" fn hed_extended_end_paste(parser: &mut Handle, event: &mut CExten
 /// parser.
 #[unsafe(no_mangle)]
 pub extern "C" fn hed_extended_take_paste(
-    parser: &mut Handle,
+    parser: &mut ExtendedHandle,
     limit: usize,
     event: &mut CExtendedEvent,
 ) -> u32
     ensures answers { result ≤ 3 }
-    ensures none { result ≡ NEXT_NONE → ¬ HasPartOfPaste (extended_of parser.old) limit }
-    ensures part { result ≡ NEXT_EVENT → TookPart (extended_of parser.old) limit event.new (extended_of parser.new) }
-    ensures bounded { result ≢ NEXT_NO_MEMORY → HasEndlessPaste (extended_of parser.new)
-        → waiting_len (extended_of parser.new) ≤ 6 + max limit 5 }
-    ensures refused { result ≡ NEXT_NO_MEMORY → HasPartOfPaste (extended_of parser.old) limit }
-    ensures no_parser { result ≡ NEXT_NO_PARSER ↔ (extended_of parser.old ≡ None) }
-    ensures same { result ≢ NEXT_EVENT → parser.new.owned.held ≡ parser.old.owned.held }
+    ensures none { result ≡ NEXT_NONE → ¬ HasPartOfPaste parser.old.state.held limit }
+    ensures part { result ≡ NEXT_EVENT → TookPart parser.old.state.held limit event.new parser.new.state.held }
+    ensures bounded { result ≢ NEXT_NO_MEMORY → HasEndlessPaste parser.new.state.held
+        → waiting_len parser.new.state.held ≤ 6 + max limit 5 }
+    ensures refused { result ≡ NEXT_NO_MEMORY → HasPartOfPaste parser.old.state.held limit }
+    ensures no_parser { result ≡ NEXT_NO_PARSER ↔ (parser.old.state.held ≡ None) }
+    ensures same { result ≢ NEXT_EVENT → parser.new.state.held ≡ parser.old.state.held }
     ensures event_same { result ≢ NEXT_EVENT → event.new ≡ event.old }
 {
     let Some(held) = parser.get_mut() else {
-        return NEXT_NO_PARSER;
-    };
-    let Some(held) = held.extended_mut() else {
         return NEXT_NO_PARSER;
     };
     match held.take_paste(limit) {
@@ -291,17 +256,14 @@ pub extern "C" fn hed_extended_take_paste(
 /// Forgets text of an open paste: what `hed_extended_take_paste` would take with a limit of 0. The paste stays open. The answer is true if
 /// `count` is how many bytes these were, and false if no paste is open or there is no parser.
 #[unsafe(no_mangle)]
-pub extern "C" fn hed_extended_skip_paste(parser: &mut Handle, count: &mut usize) -> bool
-    ensures skipped { result ≡ true → Skipped (extended_of parser.old) count.new (extended_of parser.new) }
-    ensures bounded { HasEndlessPaste (extended_of parser.new) → waiting_len (extended_of parser.new) ≤ 6 + 5 }
-    ensures none { result ≡ false → ¬ HasEndlessPaste (extended_of parser.old) }
-    ensures same { result ≡ false → parser.new.owned.held ≡ parser.old.owned.held }
+pub extern "C" fn hed_extended_skip_paste(parser: &mut ExtendedHandle, count: &mut usize) -> bool
+    ensures skipped { result ≡ true → Skipped parser.old.state.held count.new parser.new.state.held }
+    ensures bounded { HasEndlessPaste parser.new.state.held → waiting_len parser.new.state.held ≤ 6 + 5 }
+    ensures none { result ≡ false → ¬ HasEndlessPaste parser.old.state.held }
+    ensures same { result ≡ false → parser.new.state.held ≡ parser.old.state.held }
     ensures count_same { result ≡ false → count.new ≡ count.old }
 {
     let Some(held) = parser.get_mut() else {
-        return false;
-    };
-    let Some(held) = held.extended_mut() else {
         return false;
     };
     let Some(skipped) = held.parser.skip_paste() else {
@@ -313,14 +275,11 @@ pub extern "C" fn hed_extended_skip_paste(parser: &mut Handle, count: &mut usize
 
 /// Forgets what is buffered, and returns how many bytes these were; 0 if there is no parser.
 #[unsafe(no_mangle)]
-pub extern "C" fn hed_extended_reset(parser: &mut Handle) -> usize
-    ensures len { result ≡ waiting_len (extended_of parser.old) }
-    ensures reset { IsReset (extended_of parser.old) (extended_of parser.new) }
+pub extern "C" fn hed_extended_reset(parser: &mut ExtendedHandle) -> usize
+    ensures len { result ≡ waiting_len parser.old.state.held }
+    ensures reset { IsReset parser.old.state.held parser.new.state.held }
 {
     let Some(held) = parser.get_mut() else {
-        return 0;
-    };
-    let Some(held) = held.extended_mut() else {
         return 0;
     };
     held.parser.reset()

@@ -1,71 +1,82 @@
-// A parser, an extended parser or a key map as C holds it.
-ghost use Rattle.std.specs.Prelude.{◌≡◌, Some, None, IfSome, IfNone, is_some, true, false};
+// A parser of either kind, with its limits in time, behind pointers.
+ghost use Rattle.std.specs.Prelude.{◌≡◌, None, Some, is_some, true, false};
 
-use crate::held::Held;
-use crate::owned::Owned;
-use crate::raw_box::RawBox;
+use crate::slot::Slot;
+use crate::timing::{Since, Timing};
 use std::alloc::Global;
 
 mod lends;
 
-/// `hed_parser`, `hed_extended` and `hed_keymap`: one of these, or none, which is all zero. It may be moved; then only its new place
-/// counts. To the calls of one kind, a handle that leads to another kind has none.
+/// A parser, or none; and its limits in time, once they were asked for.
 #[repr(C)]
-pub struct Handle {
+pub struct Handle<T> {
     live: bool,
-    pub owned: Owned,
-    ghost agrees: { live ≡ is_some owned.held },
+    timed: bool,
+    pub since: Since,
+    pub state: Slot<T>,
+    pub timing: Slot<Timing>,
+    ghost live_agrees: { live ≡ is_some state.held },
+    ghost timed_agrees: { timed ≡ is_some timing.held },
 }
 
-impl Handle {
-    fn empty() -> Handle
-        ensures { result.owned.held ≡ None }
+impl<T: Drop> Handle<T> {
+    fn empty() -> Handle<T>
+        ensures state { result.state.held ≡ None }
+        ensures timing { result.timing.held ≡ None }
     {
         Handle {
             live: false,
-            owned: Owned::empty(),
+            timed: false,
+            since: Since::new(),
+            state: Slot::empty(),
+            timing: Slot::empty(),
         }
     }
 
-    fn of(held: Box<Held, Global>) -> Handle
-        ensures { result.owned.held ≡ Some held.value }
+    fn of(held: Box<T, Global>) -> Handle<T>
+        ensures state { result.state.held ≡ Some held.value }
+        ensures timing { result.timing.held ≡ None }
     {
         Handle {
             live: true,
-            owned: Owned::of_raw_box(RawBox::of_box(held)),
+            timed: false,
+            since: Since::new(),
+            state: Slot::of(held),
+            timing: Slot::empty(),
         }
     }
 
-    // The block, if there is one.
-    fn into_box(self, alloc: Global) -> Option<Box<Held, Global>>
-        ensures some { IfSome result (λ held. self.owned.held ≡ Some held.value) }
-        ensures none { IfNone result (self.owned.held ≡ None) }
-    {
-        let Handle { live, owned } = self;
-        if live {
-            Some(owned.into_raw_box(alloc).into_box())
-        } else {
-            owned.close();
-            None
-        }
+    // Frees all that the handle leads to.
+    fn close(self, alloc: Global) {
+        let Handle {
+            live,
+            timed,
+            since: _,
+            state,
+            timing,
+        } = self;
+        state.free(live, alloc);
+        timing.free(timed, alloc);
     }
 
     // Frees what the handle leads to, and leaves nothing.
     pub(crate) fn free(&mut self, alloc: Global)
-        ensures { self.new.owned.held ≡ None }
+        ensures state { self.new.state.held ≡ None }
+        ensures timing { self.new.timing.held ≡ None }
     {
-        drop(std::mem::replace(self, Handle::empty()).into_box(alloc));
+        std::mem::replace(self, Handle::empty()).close(alloc);
     }
 
     // Puts `held` into the handle, and frees what was there. If memory is refused, the answer is false and nothing changes.
-    pub(crate) fn replace(&mut self, alloc: Global, held: Held) -> bool
-        ensures made { result ≡ true → self.new.owned.held ≡ Some held }
-        ensures refused { result ≡ false → self.new.owned.held ≡ self.old.owned.held }
+    pub(crate) fn replace(&mut self, alloc: Global, held: T) -> bool
+        ensures made { result ≡ true → self.new.state.held ≡ Some held }
+        ensures untimed { result ≡ true → self.new.timing.held ≡ None }
+        ensures refused { result ≡ false → self.new ≡ self.old }
     {
         let Ok(block) = Box::new(alloc, held) else {
             return false;
         };
-        drop(std::mem::replace(self, Handle::of(block)).into_box(alloc));
+        std::mem::replace(self, Handle::of(block)).close(alloc);
         true
     }
 }

@@ -1,11 +1,9 @@
 // The calls of a key map.
 ghost use Rattle.std.specs.Prelude.{◌≡◌, ◌≢◌, ◌≤◌, ◌↔◌, true, false, None};
-ghost use Rattle.hedrugal.specs.Handles.{map_of};
 ghost use Rattle.hedrugal.specs.KeymapCalls.{Finds, Inserted, IsEmpty, keymap_len};
 
 use crate::bindings::Bindings;
-use crate::handle::Handle;
-use crate::held::Held;
+use crate::handles::MapHandle;
 use std::alloc::Global;
 use termwiz_input::keymap::{Found, KeyMap};
 
@@ -32,37 +30,34 @@ pub struct CMatch {
 
 /// Makes an empty key map, and frees the one that was there. If memory is refused, the answer is false and nothing changes.
 #[unsafe(no_mangle)]
-pub extern "C" fn hed_keymap_init(alloc: Global, map: &mut Handle) -> bool
-    ensures made { result ≡ true → IsEmpty (map_of map.new) }
-    ensures refused { result ≡ false → map.new.owned.held ≡ map.old.owned.held }
+pub extern "C" fn hed_keymap_init(alloc: Global, map: &mut MapHandle) -> bool
+    ensures made { result ≡ true → IsEmpty map.new.state.held }
+    ensures refused { result ≡ false → map.new.state.held ≡ map.old.state.held }
 {
-    map.replace(
+    map.view().replace(
         alloc,
-        Held::Keymap(Bindings {
+        Bindings {
             map: KeyMap::new(alloc),
-        }),
+        },
     )
 }
 
 /// Frees the key map, if there is one, and leaves none.
 #[unsafe(no_mangle)]
-pub extern "C" fn hed_keymap_free(alloc: Global, map: &mut Handle)
-    ensures { map.new.owned.held ≡ None }
+pub extern "C" fn hed_keymap_free(alloc: Global, map: &mut MapHandle)
+    ensures { map.new.state.held ≡ None }
 {
-    map.free(alloc);
+    map.view().free(alloc);
 }
 
 /// Sets the value of a key, in place of the one that it has, if any. If memory is refused, or there is no map, the answer is false and
 /// nothing changes.
 #[unsafe(no_mangle)]
-pub extern "C" fn hed_keymap_insert(map: &mut Handle, key: &[u8], value: u64) -> bool
-    ensures inserted { result ≡ true → Inserted (map_of map.old) key.now value (map_of map.new) }
-    ensures refused { result ≡ false → map.new.owned.held ≡ map.old.owned.held }
+pub extern "C" fn hed_keymap_insert(map: &mut MapHandle, key: &[u8], value: u64) -> bool
+    ensures inserted { result ≡ true → Inserted map.old.state.held key.now value map.new.state.held }
+    ensures refused { result ≡ false → map.new.state.held ≡ map.old.state.held }
 {
     let Some(held) = map.get_mut() else {
-        return false;
-    };
-    let Some(held) = held.map_mut() else {
         return false;
     };
     held.map.insert(key, value).is_ok()
@@ -73,24 +68,21 @@ pub extern "C" fn hed_keymap_insert(map: &mut Handle, key: &[u8], value: u64) ->
 /// is so; and 4 if there is no map.
 #[unsafe(no_mangle)]
 pub extern "C" fn hed_keymap_lookup(
-    map: &mut Handle,
+    map: &mut MapHandle,
     text: &[u8],
     maybe_more: bool,
     found: &mut CMatch,
 ) -> u32
     ensures answers { result ≤ 4 }
-    ensures none { result ≡ FOUND_NONE → Finds (map_of map.old) text.now maybe_more Found.None }
-    ensures exact { result ≡ FOUND_EXACT → Finds (map_of map.old) text.now maybe_more (Found.Exact found.new.len found.new.value) }
-    ensures ambiguous { result ≡ FOUND_AMBIGUOUS → Finds (map_of map.old) text.now maybe_more (Found.Ambiguous found.new.len found.new.value) }
-    ensures need_data { result ≡ FOUND_NEED_DATA → Finds (map_of map.old) text.now maybe_more Found.NeedData }
-    ensures no_map { result ≡ FOUND_NO_MAP ↔ (map_of map.old ≡ None) }
-    ensures same { map.new.owned ≡ map.old.owned }
+    ensures none { result ≡ FOUND_NONE → Finds map.old.state.held text.now maybe_more Found.None }
+    ensures exact { result ≡ FOUND_EXACT → Finds map.old.state.held text.now maybe_more (Found.Exact found.new.len found.new.value) }
+    ensures ambiguous { result ≡ FOUND_AMBIGUOUS → Finds map.old.state.held text.now maybe_more (Found.Ambiguous found.new.len found.new.value) }
+    ensures need_data { result ≡ FOUND_NEED_DATA → Finds map.old.state.held text.now maybe_more Found.NeedData }
+    ensures no_map { result ≡ FOUND_NO_MAP ↔ (map.old.state.held ≡ None) }
+    ensures same { map.new.state ≡ map.old.state }
     ensures match_same { result ≢ FOUND_EXACT → result ≢ FOUND_AMBIGUOUS → found.new ≡ found.old }
 {
     let Some(held) = map.get_mut() else {
-        return FOUND_NO_MAP;
-    };
-    let Some(held) = held.map_mut() else {
         return FOUND_NO_MAP;
     };
     match held.lookup(text, maybe_more) {
@@ -109,14 +101,11 @@ pub extern "C" fn hed_keymap_lookup(
 
 /// The number of keys; 0 if there is no map.
 #[unsafe(no_mangle)]
-pub extern "C" fn hed_keymap_len(map: &mut Handle) -> usize
-    ensures same { map.new.owned ≡ map.old.owned }
-    ensures len { result ≡ keymap_len (map_of map.old) }
+pub extern "C" fn hed_keymap_len(map: &mut MapHandle) -> usize
+    ensures same { map.new.state ≡ map.old.state }
+    ensures len { result ≡ keymap_len map.old.state.held }
 {
     let Some(held) = map.get_mut() else {
-        return 0;
-    };
-    let Some(held) = held.map_mut() else {
         return 0;
     };
     held.map.len()

@@ -10,7 +10,6 @@ ghost use Rattle.std.specs.Prelude.{◌≡◌, ◌≢◌, ◌≤◌, ◌↔◌, 
 ghost use Rattle.event_text.specs.Names.{variant_name};
 ghost use Rattle.termwiz_input.specs.KeyCode.{KeyCode as Key};
 ghost use Rattle.hedrugal.specs.Calls.{Ended, Flushed, Gave, HasDroppedPaste, HasEndlessPaste, HasEscape, HasKind, HasOpenPaste, HasPartOfPaste, HasPasteNext, IsFresh, IsReset, IsUnchanged, Rests, Skipped, Took, TookPart, copied, pasted, waiting_len, waiting_number};
-ghost use Rattle.hedrugal.specs.Handles.{parser_of};
 ghost use Rattle.hedrugal.specs.Keys.{IsNoKey, key_number};
 ghost use Rattle.hedrugal.specs.Presses.{HasNoText, IsBad, Wrote};
 
@@ -22,22 +21,24 @@ mod extended_and_text;
 mod extended_calls;
 mod extended_events;
 mod handle;
-mod held;
+mod handles;
+mod holder;
 mod key_reports;
 mod keymap_calls;
 mod keys;
 mod kitty_calls;
 mod modes;
-mod owned;
 mod parser_and_paste;
 mod raw_box;
 mod sending;
 mod sharing_calls;
+mod slot;
+mod timing;
+mod words;
 
 use crate::copying::{copy_prefix, copy_with_zero};
 use crate::events::CEvent;
-use crate::handle::Handle;
-use crate::held::Held;
+use crate::handles::ParserHandle;
 use crate::keys::key_at;
 use crate::modes::{CModes, press_of};
 use crate::parser_and_paste::ParserAndPaste;
@@ -89,35 +90,32 @@ const ENCODED_BAD_TEXT: u32 = 5;
 
 /// Makes a parser, and frees the one that was there. If memory is refused, the answer is false and nothing changes.
 #[unsafe(no_mangle)]
-pub extern "C" fn hed_parser_init(alloc: Global, parser: &mut Handle) -> bool
-    ensures made { result ≡ true → IsFresh (parser_of parser.new) }
-    ensures refused { result ≡ false → parser.new.owned.held ≡ parser.old.owned.held }
+pub extern "C" fn hed_parser_init(alloc: Global, parser: &mut ParserHandle) -> bool
+    ensures made { result ≡ true → IsFresh parser.new.state.held }
+    ensures refused { result ≡ false → parser.new.state.held ≡ parser.old.state.held }
 {
     let Ok(made) = InputParser::new(alloc) else {
         return false;
     };
-    parser.replace(alloc, Held::Parser(ParserAndPaste::of(alloc, made)))
+    parser.view().replace(alloc, ParserAndPaste::of(alloc, made))
 }
 
 /// Frees the parser, if there is one, and leaves none.
 #[unsafe(no_mangle)]
-pub extern "C" fn hed_parser_free(alloc: Global, parser: &mut Handle)
-    ensures { parser.new.owned.held ≡ None }
+pub extern "C" fn hed_parser_free(alloc: Global, parser: &mut ParserHandle)
+    ensures { parser.new.state.held ≡ None }
 {
-    parser.free(alloc);
+    parser.view().free(alloc);
 }
 
 /// Buffers bytes. If memory is refused, or there is no parser, the answer is false and nothing changes. No bytes need no memory.
 #[unsafe(no_mangle)]
-pub extern "C" fn hed_parser_feed(parser: &mut Handle, bytes: &[u8]) -> bool
-    ensures took { result ≡ true → Took (parser_of parser.old) bytes.now (parser_of parser.new) }
-    ensures refused { result ≡ false → parser.new.owned.held ≡ parser.old.owned.held }
-    ensures no_bytes { bytes.now ≡ [] → parser_of parser.old ≢ None → result ≡ true }
+pub extern "C" fn hed_parser_feed(parser: &mut ParserHandle, bytes: &[u8]) -> bool
+    ensures took { result ≡ true → Took parser.old.state.held bytes.now parser.new.state.held }
+    ensures refused { result ≡ false → parser.new.state.held ≡ parser.old.state.held }
+    ensures no_bytes { bytes.now ≡ [] → parser.old.state.held ≢ None → result ≡ true }
 {
     let Some(held) = parser.get_mut() else {
-        return false;
-    };
-    let Some(held) = held.parser_mut() else {
         return false;
     };
     held.parser.feed(bytes).is_ok()
@@ -126,19 +124,16 @@ pub extern "C" fn hed_parser_feed(parser: &mut Handle, bytes: &[u8]) -> bool
 /// Takes the item at the front of what is buffered. The answer is 1 if `event` is its event; 0 if no item stands there; 2 if
 /// memory for the text of a paste is refused, and the paste still stands there; and 3 if there is no parser.
 #[unsafe(no_mangle)]
-pub extern "C" fn hed_parser_next(parser: &mut Handle, more: bool, event: &mut CEvent) -> u32
+pub extern "C" fn hed_parser_next(parser: &mut ParserHandle, more: bool, event: &mut CEvent) -> u32
     ensures answers { result ≤ 3 }
-    ensures none { result ≡ NEXT_NONE → Rests (parser_of parser.old) more }
-    ensures event { result ≡ NEXT_EVENT → Gave (parser_of parser.old) more event.new (parser_of parser.new) }
-    ensures refused { result ≡ NEXT_NO_MEMORY → HasPasteNext (parser_of parser.old) more }
-    ensures no_parser { result ≡ NEXT_NO_PARSER ↔ (parser_of parser.old ≡ None) }
-    ensures same { result ≢ NEXT_EVENT → parser.new.owned.held ≡ parser.old.owned.held }
+    ensures none { result ≡ NEXT_NONE → Rests parser.old.state.held more }
+    ensures event { result ≡ NEXT_EVENT → Gave parser.old.state.held more event.new parser.new.state.held }
+    ensures refused { result ≡ NEXT_NO_MEMORY → HasPasteNext parser.old.state.held more }
+    ensures no_parser { result ≡ NEXT_NO_PARSER ↔ (parser.old.state.held ≡ None) }
+    ensures same { result ≢ NEXT_EVENT → parser.new.state.held ≡ parser.old.state.held }
     ensures event_same { result ≢ NEXT_EVENT → event.new ≡ event.old }
 {
     let Some(held) = parser.get_mut() else {
-        return NEXT_NO_PARSER;
-    };
-    let Some(held) = held.parser_mut() else {
         return NEXT_NO_PARSER;
     };
     match held.next(more) {
@@ -153,15 +148,12 @@ pub extern "C" fn hed_parser_next(parser: &mut Handle, more: bool, event: &mut C
 
 /// Copies the text of the last paste that was taken, as much of it as `out` has room for, and returns its whole length.
 #[unsafe(no_mangle)]
-pub extern "C" fn hed_parser_paste(parser: &mut Handle, out: &mut [u8]) -> usize
-    ensures same { parser.new.owned ≡ parser.old.owned }
-    ensures len { result ≡ length (pasted (parser_of parser.old)) }
-    ensures bytes { out.new ≡ copied (pasted (parser_of parser.old)) out.old }
+pub extern "C" fn hed_parser_paste(parser: &mut ParserHandle, out: &mut [u8]) -> usize
+    ensures same { parser.new.state ≡ parser.old.state }
+    ensures len { result ≡ length (pasted parser.old.state.held) }
+    ensures bytes { out.new ≡ copied (pasted parser.old.state.held) out.old }
 {
     let Some(held) = parser.get_mut() else {
-        return 0;
-    };
-    let Some(held) = held.parser_mut() else {
         return 0;
     };
     copy_prefix(held.pasted.as_bytes(), out)
@@ -169,14 +161,11 @@ pub extern "C" fn hed_parser_paste(parser: &mut Handle, out: &mut [u8]) -> usize
 
 /// How many bytes are buffered; 0 if there is no parser.
 #[unsafe(no_mangle)]
-pub extern "C" fn hed_parser_waiting_len(parser: &mut Handle) -> usize
-    ensures same { parser.new.owned ≡ parser.old.owned }
-    ensures len { result ≡ waiting_len (parser_of parser.old) }
+pub extern "C" fn hed_parser_waiting_len(parser: &mut ParserHandle) -> usize
+    ensures same { parser.new.state ≡ parser.old.state }
+    ensures len { result ≡ waiting_len parser.old.state.held }
 {
     let Some(held) = parser.get_mut() else {
-        return 0;
-    };
-    let Some(held) = held.parser_mut() else {
         return 0;
     };
     held.parser.waiting_len()
@@ -184,14 +173,11 @@ pub extern "C" fn hed_parser_waiting_len(parser: &mut Handle) -> usize
 
 /// Whether what is buffered begins with the start of a paste; false if there is no parser.
 #[unsafe(no_mangle)]
-pub extern "C" fn hed_parser_is_paste_open(parser: &mut Handle) -> bool
-    ensures same { parser.new.owned ≡ parser.old.owned }
-    ensures open { IsTrue result ↔ HasOpenPaste (parser_of parser.old) }
+pub extern "C" fn hed_parser_is_paste_open(parser: &mut ParserHandle) -> bool
+    ensures same { parser.new.state ≡ parser.old.state }
+    ensures open { IsTrue result ↔ HasOpenPaste parser.old.state.held }
 {
     let Some(held) = parser.get_mut() else {
-        return false;
-    };
-    let Some(held) = held.parser_mut() else {
         return false;
     };
     held.parser.is_paste_open()
@@ -214,14 +200,11 @@ fn waiting_number(kind: Waiting) -> u32
 /// The kind of what stays buffered, once `hed_parser_next` answered 0: 1 for ESC or ESC ESC, 2 for a longer beginning of a sequence, 3 for
 /// one of a character, 4 for an open paste, and 0 for nothing or if there is no parser.
 #[unsafe(no_mangle)]
-pub extern "C" fn hed_parser_waiting(parser: &mut Handle) -> u32
-    ensures same { parser.new.owned ≡ parser.old.owned }
-    ensures kind { HasKind (parser_of parser.old) result }
+pub extern "C" fn hed_parser_waiting(parser: &mut ParserHandle) -> u32
+    ensures same { parser.new.state ≡ parser.old.state }
+    ensures kind { HasKind parser.old.state.held result }
 {
     let Some(held) = parser.get_mut() else {
-        return WAITING_NOTHING;
-    };
-    let Some(held) = held.parser_mut() else {
         return WAITING_NOTHING;
     };
     waiting_number(held.parser.waiting())
@@ -230,19 +213,16 @@ pub extern "C" fn hed_parser_waiting(parser: &mut Handle) -> u32
 /// Takes ESC or ESC ESC, if no more than that is buffered. The answer is 1 if `event` is its event, the Escape key; 0 if something else
 /// is buffered; and 3 if there is no parser.
 #[unsafe(no_mangle)]
-pub extern "C" fn hed_parser_flush_escape(parser: &mut Handle, event: &mut CEvent) -> u32
+pub extern "C" fn hed_parser_flush_escape(parser: &mut ParserHandle, event: &mut CEvent) -> u32
     ensures answers { result ≤ 3 }
     ensures granted { result ≢ NEXT_NO_MEMORY }
-    ensures when { result ≡ NEXT_EVENT ↔ HasEscape (parser_of parser.old) }
-    ensures event { result ≡ NEXT_EVENT → Flushed (parser_of parser.old) event.new (parser_of parser.new) }
-    ensures no_parser { result ≡ NEXT_NO_PARSER ↔ (parser_of parser.old ≡ None) }
-    ensures same { result ≢ NEXT_EVENT → parser.new.owned.held ≡ parser.old.owned.held }
+    ensures when { result ≡ NEXT_EVENT ↔ HasEscape parser.old.state.held }
+    ensures event { result ≡ NEXT_EVENT → Flushed parser.old.state.held event.new parser.new.state.held }
+    ensures no_parser { result ≡ NEXT_NO_PARSER ↔ (parser.old.state.held ≡ None) }
+    ensures same { result ≢ NEXT_EVENT → parser.new.state.held ≡ parser.old.state.held }
     ensures event_same { result ≢ NEXT_EVENT → event.new ≡ event.old }
 {
     let Some(held) = parser.get_mut() else {
-        return NEXT_NO_PARSER;
-    };
-    let Some(held) = held.parser_mut() else {
         return NEXT_NO_PARSER;
     };
     match held.flush_escape() {
@@ -257,19 +237,16 @@ pub extern "C" fn hed_parser_flush_escape(parser: &mut Handle, event: &mut CEven
 /// Ends an open paste where it is. The answer is 1 if `event` is its event, whose text is what came so far; 0 if no paste is open;
 /// 2 if memory for the text is refused; and 3 if there is no parser.
 #[unsafe(no_mangle)]
-pub extern "C" fn hed_parser_end_paste(parser: &mut Handle, event: &mut CEvent) -> u32
+pub extern "C" fn hed_parser_end_paste(parser: &mut ParserHandle, event: &mut CEvent) -> u32
     ensures answers { result ≤ 3 }
-    ensures none { result ≡ NEXT_NONE → ¬ HasEndlessPaste (parser_of parser.old) }
-    ensures event { result ≡ NEXT_EVENT → Ended (parser_of parser.old) event.new (parser_of parser.new) }
-    ensures refused { result ≡ NEXT_NO_MEMORY → HasEndlessPaste (parser_of parser.old) }
-    ensures no_parser { result ≡ NEXT_NO_PARSER ↔ (parser_of parser.old ≡ None) }
-    ensures same { result ≢ NEXT_EVENT → parser.new.owned.held ≡ parser.old.owned.held }
+    ensures none { result ≡ NEXT_NONE → ¬ HasEndlessPaste parser.old.state.held }
+    ensures event { result ≡ NEXT_EVENT → Ended parser.old.state.held event.new parser.new.state.held }
+    ensures refused { result ≡ NEXT_NO_MEMORY → HasEndlessPaste parser.old.state.held }
+    ensures no_parser { result ≡ NEXT_NO_PARSER ↔ (parser.old.state.held ≡ None) }
+    ensures same { result ≢ NEXT_EVENT → parser.new.state.held ≡ parser.old.state.held }
     ensures event_same { result ≢ NEXT_EVENT → event.new ≡ event.old }
 {
     let Some(held) = parser.get_mut() else {
-        return NEXT_NO_PARSER;
-    };
-    let Some(held) = held.parser_mut() else {
         return NEXT_NO_PARSER;
     };
     match held.end_paste() {
@@ -287,24 +264,21 @@ pub extern "C" fn hed_parser_end_paste(parser: &mut Handle, event: &mut CEvent) 
 /// parser.
 #[unsafe(no_mangle)]
 pub extern "C" fn hed_parser_take_paste(
-    parser: &mut Handle,
+    parser: &mut ParserHandle,
     limit: usize,
     event: &mut CEvent,
 ) -> u32
     ensures answers { result ≤ 3 }
-    ensures none { result ≡ NEXT_NONE → ¬ HasPartOfPaste (parser_of parser.old) limit }
-    ensures part { result ≡ NEXT_EVENT → TookPart (parser_of parser.old) limit event.new (parser_of parser.new) }
-    ensures bounded { result ≢ NEXT_NO_MEMORY → HasEndlessPaste (parser_of parser.new)
-        → waiting_len (parser_of parser.new) ≤ 6 + max limit 5 }
-    ensures refused { result ≡ NEXT_NO_MEMORY → HasPartOfPaste (parser_of parser.old) limit }
-    ensures no_parser { result ≡ NEXT_NO_PARSER ↔ (parser_of parser.old ≡ None) }
-    ensures same { result ≢ NEXT_EVENT → parser.new.owned.held ≡ parser.old.owned.held }
+    ensures none { result ≡ NEXT_NONE → ¬ HasPartOfPaste parser.old.state.held limit }
+    ensures part { result ≡ NEXT_EVENT → TookPart parser.old.state.held limit event.new parser.new.state.held }
+    ensures bounded { result ≢ NEXT_NO_MEMORY → HasEndlessPaste parser.new.state.held
+        → waiting_len parser.new.state.held ≤ 6 + max limit 5 }
+    ensures refused { result ≡ NEXT_NO_MEMORY → HasPartOfPaste parser.old.state.held limit }
+    ensures no_parser { result ≡ NEXT_NO_PARSER ↔ (parser.old.state.held ≡ None) }
+    ensures same { result ≢ NEXT_EVENT → parser.new.state.held ≡ parser.old.state.held }
     ensures event_same { result ≢ NEXT_EVENT → event.new ≡ event.old }
 {
     let Some(held) = parser.get_mut() else {
-        return NEXT_NO_PARSER;
-    };
-    let Some(held) = held.parser_mut() else {
         return NEXT_NO_PARSER;
     };
     match held.take_paste(limit) {
@@ -320,17 +294,14 @@ pub extern "C" fn hed_parser_take_paste(
 /// Forgets text of an open paste: what `hed_parser_take_paste` would take with a limit of 0. The paste stays open. The answer is true if
 /// `count` is how many bytes these were, and false if no paste is open or there is no parser.
 #[unsafe(no_mangle)]
-pub extern "C" fn hed_parser_skip_paste(parser: &mut Handle, count: &mut usize) -> bool
-    ensures skipped { result ≡ true → Skipped (parser_of parser.old) count.new (parser_of parser.new) }
-    ensures bounded { HasEndlessPaste (parser_of parser.new) → waiting_len (parser_of parser.new) ≤ 6 + 5 }
-    ensures none { result ≡ false → ¬ HasEndlessPaste (parser_of parser.old) }
-    ensures same { result ≡ false → parser.new.owned.held ≡ parser.old.owned.held }
+pub extern "C" fn hed_parser_skip_paste(parser: &mut ParserHandle, count: &mut usize) -> bool
+    ensures skipped { result ≡ true → Skipped parser.old.state.held count.new parser.new.state.held }
+    ensures bounded { HasEndlessPaste parser.new.state.held → waiting_len parser.new.state.held ≤ 6 + 5 }
+    ensures none { result ≡ false → ¬ HasEndlessPaste parser.old.state.held }
+    ensures same { result ≡ false → parser.new.state.held ≡ parser.old.state.held }
     ensures count_same { result ≡ false → count.new ≡ count.old }
 {
     let Some(held) = parser.get_mut() else {
-        return false;
-    };
-    let Some(held) = held.parser_mut() else {
         return false;
     };
     let Some(skipped) = held.parser.skip_paste() else {
@@ -342,14 +313,11 @@ pub extern "C" fn hed_parser_skip_paste(parser: &mut Handle, count: &mut usize) 
 
 /// Forgets what is buffered, and returns how many bytes these were; 0 if there is no parser.
 #[unsafe(no_mangle)]
-pub extern "C" fn hed_parser_reset(parser: &mut Handle) -> usize
-    ensures len { result ≡ waiting_len (parser_of parser.old) }
-    ensures reset { IsReset (parser_of parser.old) (parser_of parser.new) }
+pub extern "C" fn hed_parser_reset(parser: &mut ParserHandle) -> usize
+    ensures len { result ≡ waiting_len parser.old.state.held }
+    ensures reset { IsReset parser.old.state.held parser.new.state.held }
 {
     let Some(held) = parser.get_mut() else {
-        return 0;
-    };
-    let Some(held) = held.parser_mut() else {
         return 0;
     };
     held.parser.reset()
@@ -357,13 +325,10 @@ pub extern "C" fn hed_parser_reset(parser: &mut Handle) -> usize
 
 /// Frees the text of the last paste that was taken, which is then empty.
 #[unsafe(no_mangle)]
-pub extern "C" fn hed_parser_drop_paste(alloc: Global, parser: &mut Handle)
-    ensures { HasDroppedPaste (parser_of parser.old) (parser_of parser.new) }
+pub extern "C" fn hed_parser_drop_paste(alloc: Global, parser: &mut ParserHandle)
+    ensures { HasDroppedPaste parser.old.state.held parser.new.state.held }
 {
     let Some(held) = parser.get_mut() else {
-        return;
-    };
-    let Some(held) = held.parser_mut() else {
         return;
     };
     held.pasted = String::new(alloc);
@@ -372,13 +337,10 @@ pub extern "C" fn hed_parser_drop_paste(alloc: Global, parser: &mut Handle)
 /// Frees memory that holds nothing: of the buffer, in which `min_capacity` bytes keep their room, and of the text of the last paste. What
 /// is buffered, that text and all later answers are unchanged.
 #[unsafe(no_mangle)]
-pub extern "C" fn hed_parser_shrink_to(parser: &mut Handle, min_capacity: usize)
-    ensures same { IsUnchanged (parser_of parser.old) (parser_of parser.new) }
+pub extern "C" fn hed_parser_shrink_to(parser: &mut ParserHandle, min_capacity: usize)
+    ensures same { IsUnchanged parser.old.state.held parser.new.state.held }
 {
     let Some(held) = parser.get_mut() else {
-        return;
-    };
-    let Some(held) = held.parser_mut() else {
         return;
     };
     held.parser.shrink_to(min_capacity);

@@ -2,12 +2,10 @@
 ghost use Rattle.std.specs.Prelude.{◌≡◌, true, false, None};
 ghost use Rattle.hedrugal.specs.Calls.{IsFresh};
 ghost use Rattle.hedrugal.specs.ExtendedCalls.{IsNoProtocol, IsFresh as IsFreshExtended};
-ghost use Rattle.hedrugal.specs.Handles.{extended_of, parser_of};
 
 use crate::extended_and_text::ExtendedAndText;
 use crate::extended_calls::protocol_at;
-use crate::handle::Handle;
-use crate::held::Held;
+use crate::handles::{ExtendedHandle, ParserHandle};
 use crate::parser_and_paste::ParserAndPaste;
 use std::alloc::Global;
 use termwiz_input_extended::input::ExtendedParser;
@@ -17,48 +15,42 @@ use termwiz_input_extended::input::ExtendedParser;
 #[unsafe(no_mangle)]
 pub extern "C" fn hed_parser_init_sharing(
     alloc: Global,
-    parser: &mut Handle,
-    other: &mut Handle,
+    parser: &mut ParserHandle,
+    other: &mut ParserHandle,
 ) -> bool
-    ensures made { result ≡ true → IsFresh (parser_of parser.new) }
-    ensures refused { result ≡ false → parser.new.owned.held ≡ parser.old.owned.held }
-    ensures no_other { parser_of other.old ≡ None → result ≡ false }
-    ensures same { other.new.owned ≡ other.old.owned }
+    ensures made { result ≡ true → IsFresh parser.new.state.held }
+    ensures refused { result ≡ false → parser.new.state.held ≡ parser.old.state.held }
+    ensures no_other { other.old.state.held ≡ None → result ≡ false }
+    ensures same { other.new.state ≡ other.old.state }
 {
     let Some(held) = other.get_mut() else {
-        return false;
-    };
-    let Some(held) = held.parser_mut() else {
         return false;
     };
     let Ok(made) = held.parser.sharing() else {
         return false;
     };
-    parser.replace(alloc, Held::Parser(ParserAndPaste::of(alloc, made)))
+    parser.view().replace(alloc, ParserAndPaste::of(alloc, made))
 }
 
 /// Makes a parser with the sequence table of an extended parser, as [`hed_parser_init_sharing`] does.
 #[unsafe(no_mangle)]
 pub extern "C" fn hed_parser_init_sharing_extended(
     alloc: Global,
-    parser: &mut Handle,
-    other: &mut Handle,
+    parser: &mut ParserHandle,
+    other: &mut ExtendedHandle,
 ) -> bool
-    ensures made { result ≡ true → IsFresh (parser_of parser.new) }
-    ensures refused { result ≡ false → parser.new.owned.held ≡ parser.old.owned.held }
-    ensures no_other { extended_of other.old ≡ None → result ≡ false }
-    ensures same { other.new.owned ≡ other.old.owned }
+    ensures made { result ≡ true → IsFresh parser.new.state.held }
+    ensures refused { result ≡ false → parser.new.state.held ≡ parser.old.state.held }
+    ensures no_other { other.old.state.held ≡ None → result ≡ false }
+    ensures same { other.new.state ≡ other.old.state }
 {
     let Some(held) = other.get_mut() else {
-        return false;
-    };
-    let Some(held) = held.extended_mut() else {
         return false;
     };
     let Ok(made) = held.parser.input_sharing() else {
         return false;
     };
-    parser.replace(alloc, Held::Parser(ParserAndPaste::of(alloc, made)))
+    parser.view().replace(alloc, ParserAndPaste::of(alloc, made))
 }
 
 /// Makes an extended parser for the protocol with this number, with the sequence table of another, and frees the one that was there. If
@@ -66,15 +58,15 @@ pub extern "C" fn hed_parser_init_sharing_extended(
 #[unsafe(no_mangle)]
 pub extern "C" fn hed_extended_init_sharing(
     alloc: Global,
-    parser: &mut Handle,
+    parser: &mut ExtendedHandle,
     protocol: u32,
-    other: &mut Handle,
+    other: &mut ExtendedHandle,
 ) -> bool
-    ensures made { result ≡ true → IsFreshExtended (extended_of parser.new) protocol }
-    ensures refused { result ≡ false → parser.new.owned.held ≡ parser.old.owned.held }
+    ensures made { result ≡ true → IsFreshExtended parser.new.state.held protocol }
+    ensures refused { result ≡ false → parser.new.state.held ≡ parser.old.state.held }
     ensures no_protocol { IsNoProtocol protocol → result ≡ false }
-    ensures no_other { extended_of other.old ≡ None → result ≡ false }
-    ensures same { other.new.owned ≡ other.old.owned }
+    ensures no_other { other.old.state.held ≡ None → result ≡ false }
+    ensures same { other.new.state ≡ other.old.state }
 {
     let Some(protocol) = protocol_at(protocol) else {
         return false;
@@ -82,28 +74,25 @@ pub extern "C" fn hed_extended_init_sharing(
     let Some(held) = other.get_mut() else {
         return false;
     };
-    let Some(held) = held.extended_mut() else {
-        return false;
-    };
     let Ok(made) = held.parser.sharing(protocol) else {
         return false;
     };
-    parser.replace(alloc, Held::Extended(ExtendedAndText::of(alloc, made)))
+    parser.view().replace(alloc, ExtendedAndText::of(alloc, made))
 }
 
 /// Makes an extended parser with the sequence table of a parser that isn't, as [`hed_extended_init_sharing`] does.
 #[unsafe(no_mangle)]
 pub extern "C" fn hed_extended_init_sharing_parser(
     alloc: Global,
-    parser: &mut Handle,
+    parser: &mut ExtendedHandle,
     protocol: u32,
-    other: &mut Handle,
+    other: &mut ParserHandle,
 ) -> bool
-    ensures made { result ≡ true → IsFreshExtended (extended_of parser.new) protocol }
-    ensures refused { result ≡ false → parser.new.owned.held ≡ parser.old.owned.held }
+    ensures made { result ≡ true → IsFreshExtended parser.new.state.held protocol }
+    ensures refused { result ≡ false → parser.new.state.held ≡ parser.old.state.held }
     ensures no_protocol { IsNoProtocol protocol → result ≡ false }
-    ensures no_other { parser_of other.old ≡ None → result ≡ false }
-    ensures same { other.new.owned ≡ other.old.owned }
+    ensures no_other { other.old.state.held ≡ None → result ≡ false }
+    ensures same { other.new.state ≡ other.old.state }
 {
     let Some(protocol) = protocol_at(protocol) else {
         return false;
@@ -111,11 +100,8 @@ pub extern "C" fn hed_extended_init_sharing_parser(
     let Some(held) = other.get_mut() else {
         return false;
     };
-    let Some(held) = held.parser_mut() else {
-        return false;
-    };
     let Ok(made) = ExtendedParser::sharing_table_of(alloc, &held.parser, protocol) else {
         return false;
     };
-    parser.replace(alloc, Held::Extended(ExtendedAndText::of(alloc, made)))
+    parser.view().replace(alloc, ExtendedAndText::of(alloc, made))
 }

@@ -1,0 +1,38 @@
+// What C holds, as the generic types that own the same blocks.
+ghost use Rattle.std.specs.Prelude.{◌≡◌};
+ghost use Rattle.std.specs.Borrow.{sem};
+ghost use Rattle.hedrugal.specs.Views.{lends_extended, lends_map, lends_parser, viewed_extended, viewed_map, viewed_parser};
+
+use super::{ExtendedHandle, MapHandle, ParserHandle};
+use crate::bindings::Bindings;
+use crate::extended_and_text::ExtendedAndText;
+use crate::handle::Handle;
+use crate::holder::Holder;
+use crate::parser_and_paste::ParserAndPaste;
+
+impl ParserHandle {
+    pub(crate) fn view(&mut self) -> &mut Handle<ParserAndPaste>
+        ensures* writes_back { sem 𝓛 (lends_parser self.entry result) }
+        ensures same { result.now ≡ viewed_parser self.old }
+    {
+        unsafe { &mut *(self as *mut ParserHandle as *mut Handle<ParserAndPaste>) }
+    }
+}
+
+impl ExtendedHandle {
+    pub(crate) fn view(&mut self) -> &mut Handle<ExtendedAndText>
+        ensures* writes_back { sem 𝓛 (lends_extended self.entry result) }
+        ensures same { result.now ≡ viewed_extended self.old }
+    {
+        unsafe { &mut *(self as *mut ExtendedHandle as *mut Handle<ExtendedAndText>) }
+    }
+}
+
+impl MapHandle {
+    pub(crate) fn view(&mut self) -> &mut Holder<Bindings>
+        ensures* writes_back { sem 𝓛 (lends_map self.entry result) }
+        ensures same { result.now ≡ viewed_map self.old }
+    {
+        unsafe { &mut *(self as *mut MapHandle as *mut Holder<Bindings>) }
+    }
+}

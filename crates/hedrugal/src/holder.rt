@@ -1,0 +1,59 @@
+// A key map behind a pointer.
+ghost use Rattle.std.specs.Prelude.{◌≡◌, None, Some, is_some, true, false};
+
+use crate::slot::Slot;
+use std::alloc::Global;
+
+mod lends;
+
+/// One thing, or none.
+#[repr(C)]
+pub struct Holder<T> {
+    live: bool,
+    pub slot: Slot<T>,
+    ghost agrees: { live ≡ is_some slot.held },
+}
+
+impl<T: Drop> Holder<T> {
+    fn empty() -> Holder<T>
+        ensures { result.slot.held ≡ None }
+    {
+        Holder {
+            live: false,
+            slot: Slot::empty(),
+        }
+    }
+
+    fn of(held: Box<T, Global>) -> Holder<T>
+        ensures { result.slot.held ≡ Some held.value }
+    {
+        Holder {
+            live: true,
+            slot: Slot::of(held),
+        }
+    }
+
+    fn close(self, alloc: Global) {
+        let Holder { live, slot } = self;
+        slot.free(live, alloc);
+    }
+
+    // Frees what the holder leads to, and leaves nothing.
+    pub(crate) fn free(&mut self, alloc: Global)
+        ensures { self.new.slot.held ≡ None }
+    {
+        std::mem::replace(self, Holder::empty()).close(alloc);
+    }
+
+    // Puts `held` into the holder, and frees what was there. If memory is refused, the answer is false and nothing changes.
+    pub(crate) fn replace(&mut self, alloc: Global, held: T) -> bool
+        ensures made { result ≡ true → self.new.slot.held ≡ Some held }
+        ensures refused { result ≡ false → self.new ≡ self.old }
+    {
+        let Ok(block) = Box::new(alloc, held) else {
+            return false;
+        };
+        std::mem::replace(self, Holder::of(block)).close(alloc);
+        true
+    }
+}
