@@ -1,7 +1,6 @@
 //! What stays buffered, by kind.
 
-/// What stays buffered. After a pause a program flushes an `Escape`, a `Sequence` only after a much longer one, and never a `Character`
-/// or a `Paste`.
+/// What stays buffered. Each kind has a limit in time of its own, or none: those of `termwiz_input::time::Policy`.
 #[derive(Clone, Copy, PartialEq, Eq, Debug)]
 pub enum Waiting {
     /// No bytes.

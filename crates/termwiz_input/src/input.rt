@@ -194,8 +194,7 @@ impl InputParser {
 
     /// What kind of bytes stays buffered, once [`InputParser::next_event`] returned `None`, or `parse` succeeded.
     ///
-    /// After a pause with `Escape` call [`InputParser::flush_escape`]. Flush a `Sequence` only after a much longer pause, since the line
-    /// may be slow. Never flush a `Character` or a `Paste`.
+    /// How long each kind may stay buffered is in [`Policy`](crate::time::Policy), and [`expire`](crate::time::expire) flushes it then.
     pub fn waiting(&self) -> Waiting
         ensures kind { (more : Bool) → IsRest self.now more → IsKind self.now more result }
 
@@ -255,7 +254,8 @@ impl InputParser {
 
     /// Emits the Escape key, with ALT if ESC ESC stays buffered. `None` if anything else stays buffered; the parser is then unchanged.
     ///
-    /// Call it after a pause of some 50 ms. Unlike a flush, it breaks only what is cut right after its ESC or ESC ESC.
+    /// It is for a program with limits in time of its own; [`expire`](crate::time::expire) flushes by those of a policy. Unlike a flush, it
+    /// breaks only what is cut right after its ESC or ESC ESC.
     pub fn flush_escape(&mut self) -> Option<InputEvent>
         ensures event { IfSome result (λ event. Means self.old false (event ∷ []) self.new) }
         ensures when { IsSome result ↔ IsOneOrTwoEscapes self.old }
@@ -528,7 +528,7 @@ impl InputParser {
     /// Buffers `bytes`, and calls `callback` with each of its events in order. What is no event yet stays buffered.
     ///
     /// Pass `maybe_more` as true while more bytes may come: then a text that may yet become a longer sequence or a character
-    /// stays buffered. After a pause call [`InputParser::flush_escape`]. Pass false at the end of the input: then only an open
+    /// stays buffered. After a pause call [`expire`](crate::time::expire). Pass false at the end of the input: then only an open
     /// paste stays buffered. No bytes and false are a flush.
     #[tactic(auto, using(termwiz_grammar::proofs::lemmas::waiting::RestShape::rest_flushed, termwiz_grammar::proofs::lemmas::waiting::RestShape::rest_short))]
     pub fn parse<F: FnMut(InputEvent)>(
@@ -744,7 +744,7 @@ impl InputParser {
     /// Buffers `bytes`, and returns its events in order. What is no event yet stays buffered.
     ///
     /// Pass `maybe_more` as true while more bytes may come: then a text that may yet become a longer sequence or a character
-    /// stays buffered. After a pause call [`InputParser::flush_escape`]. Pass false at the end of the input: then only an open
+    /// stays buffered. After a pause call [`expire`](crate::time::expire). Pass false at the end of the input: then only an open
     /// paste stays buffered. No bytes and false are a flush.
     #[tactic(auto, using(termwiz_grammar::proofs::lemmas::waiting::RestShape::rest_flushed))]
     pub fn parse_as_vec(
