@@ -1,10 +1,12 @@
-/* Prints the events of the standard input, one on a line.
+/* Prints the events of the standard input, one on a line. In a file or a pipe no pause counts; c/live.c is for terminals.
  *
  *     cc events.c $(pkg-config --cflags --libs hedrugal) -o events && printf '\033[1;5Aq' | ./events */
 #include "hedrugal.h"
 #include <stdio.h>
 #include <stdlib.h>
 #include <unistd.h>
+
+enum { PASTE_LIMIT = 1 << 20 };
 
 static void print_key(const hed_event *event) {
   char name[22];
@@ -32,11 +34,11 @@ static void print_text(const uint8_t *text, size_t len) {
   }
 }
 
-static bool print_paste(hed_parser *parser, size_t len) {
+static bool print_paste(hed_parser *parser, const char *name, size_t len) {
   uint8_t *text = (uint8_t *)malloc(len + 1);
   if (!text) return false;
   hed_parser_paste(parser, text, len);
-  printf("paste of %zu bytes: ", len);
+  printf("%s %zu bytes: ", name, len);
   print_text(text, len);
   putchar('\n');
   free(text);
@@ -46,7 +48,8 @@ static bool print_paste(hed_parser *parser, size_t len) {
 static bool print_event(hed_parser *parser, const hed_event *event) {
   if (event->kind == HED_KIND_KEY) print_key(event);
   if (event->kind == HED_KIND_MOUSE) printf("mouse at %u, %u, buttons %u\n", event->x, event->y, event->buttons);
-  return event->kind != HED_KIND_PASTE || print_paste(parser, event->paste_len);
+  if (event->kind == HED_KIND_PASTE_PART) return print_paste(parser, "part of a paste,", event->paste_len);
+  return event->kind != HED_KIND_PASTE || print_paste(parser, "paste of", event->paste_len);
 }
 
 static bool print_events(hed_parser *parser, bool more) {
@@ -57,11 +60,18 @@ static bool print_events(hed_parser *parser, bool more) {
   return next == HED_NEXT_NONE;
 }
 
+/* Prints a paste above the limit in parts, so that none needs much memory. */
+static bool print_part(hed_parser *parser) {
+  hed_event event;
+  uint32_t taken = hed_parser_take_paste(parser, PASTE_LIMIT, &event);
+  return taken == HED_NEXT_NONE || (taken == HED_NEXT_EVENT && print_event(parser, &event));
+}
+
 static bool print_input(hed_parser *parser) {
   uint8_t bytes[4096];
   ssize_t count;
   while ((count = read(0, bytes, sizeof bytes)) > 0)
-    if (!hed_parser_feed(parser, bytes, (size_t)count) || !print_events(parser, true)) return false;
+    if (!hed_parser_feed(parser, bytes, (size_t)count) || !print_events(parser, true) || !print_part(parser)) return false;
   return count == 0 && print_events(parser, false);
 }
 
