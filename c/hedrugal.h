@@ -5,9 +5,8 @@
  *     hed_event event;
  *     if (!hed_parser_init(&parser)) ...                        // no memory
  *     for (;;) {
- *       int ms = hed_parser_waiting(&parser) == HED_WAITING_ESCAPE ? 50 : -1;
- *       if (poll(&keyboard, 1, ms) == 0) {                     // nothing followed the ESC
- *         if (hed_parser_flush_escape(&parser, &event) == HED_NEXT_EVENT) ...
+ *       if (poll(&keyboard, 1, hed_parser_timeout(&parser, now_ms())) == 0) { // what is buffered waited long enough
+ *         while (hed_parser_expire(&parser, now_ms(), &event) == HED_NEXT_EVENT) ...
  *         continue;
  *       }
  *       if ((n = read(0, bytes, sizeof bytes)) <= 0) break;
@@ -19,7 +18,9 @@
  *     hed_parser_free(&parser);
  *
  * hed_parser_feed buffers bytes, and hed_parser_next emits events, one at a time. However the bytes are cut into calls, the events are
- * the same. An ESC stays buffered, since it may begin a sequence: only a pause tells that it is the Escape key.
+ * the same. An ESC stays buffered, since it may begin a sequence: only time tells that it is the Escape key. hed_parser_timeout says how
+ * long the program may wait for more bytes, and hed_parser_expire emits the events of what waited so long. now_ms() stands for
+ * CLOCK_MONOTONIC in milliseconds: the library reads no clock. A program without poll waits as it can, and has the same loop.
  *
  * The bodies of the calls are proved. The duties of a caller are not checked:
  *
@@ -152,7 +153,7 @@ bool hed_parser_feed(hed_parser *parser, const uint8_t *bytes, size_t len);
 /* Consumes the item at the front of the buffer, and writes its event to *event. The caller calls this until it returns HED_NEXT_NONE.
  *
  * Pass more as true while more bytes may come: then bytes that may still become a longer sequence or a character, such as a lone ESC,
- * stay buffered. After a pause call hed_parser_flush_escape instead. Pass more as false at the end of the input: then only an open paste
+ * stay buffered. After a pause call hed_parser_expire instead. Pass more as false at the end of the input: then only an open paste
  * stays. Before the end this breaks a sequence or a character of which the rest is still to come.
  *
  * Returns an enum hed_next. *event is written only with HED_NEXT_EVENT. With HED_NEXT_NO_MEMORY, which only a paste can meet, nothing
@@ -192,15 +193,14 @@ enum hed_waiting {
 
 /* Returns what stays buffered, an enum hed_waiting. The caller calls it after HED_NEXT_NONE: before that, events may still be next.
  *
- * It says what a pause means. After some 50 ms with HED_WAITING_ESCAPE call hed_parser_flush_escape. HED_WAITING_SEQUENCE may be half of a
- * sequence on a slow line: flush it after a much longer pause, say 1000 ms, or never. Never flush the other two.
+ * It tells a program what to show, or to log, of bytes that wait. How long they may wait is what hed_parser_timeout answers.
  *
  * Returns HED_WAITING_NOTHING if there is no parser. */
 uint32_t hed_parser_waiting(const hed_parser *parser);
 
 /* Writes the Escape key to *event if ESC alone is buffered, with HED_TERMWIZ_MOD_ALT if ESC ESC is, and consumes it. The caller calls it
- * when some 50 ms have passed without a byte. Whatever else is buffered stays, so a pause breaks only what is cut right after its ESC or
- * ESC ESC: a sequence, the start of a paste, or a key with Alt.
+ * if it has limits in time of its own: hed_parser_expire does it when the usual limit has passed. Whatever else is buffered stays, so it
+ * breaks only what is cut right after its ESC or ESC ESC: a sequence, the start of a paste, or a key with Alt.
  *
  * Returns HED_NEXT_EVENT, HED_NEXT_NONE if anything else or nothing is buffered, or HED_NEXT_NO_PARSER. *event is written only with
  * HED_NEXT_EVENT. */

@@ -18,9 +18,10 @@
 #include <string.h>
 #include <sys/ioctl.h>
 #include <termios.h>
+#include <time.h>
 #include <unistd.h>
 
-enum { ESCAPE_MS = 50, SEQUENCE_MS = 1000, PASTE_LIMIT = 1 << 20 };
+enum { PASTE_LIMIT = 1 << 20 };
 
 typedef struct live {
   hed_parser parser;
@@ -138,17 +139,20 @@ static bool handle_events(live *it, bool more) {
   return next == HED_NEXT_NONE || fail(it, "out of memory");
 }
 
-/* How long to wait for more bytes: without end (-1) for those of a character or a paste. */
-static int pause_ms(live *it) {
-  uint32_t waiting = hed_parser_waiting(&it->parser);
-  if (waiting == HED_WAITING_SEQUENCE) return SEQUENCE_MS;
-  return waiting == HED_WAITING_ESCAPE ? ESCAPE_MS : -1;
+/* The time in milliseconds, by a clock that nobody sets. */
+static uint64_t now_ms(void) {
+  struct timespec now;
+  clock_gettime(CLOCK_MONOTONIC, &now);
+  return (uint64_t)now.tv_sec * 1000 + (uint64_t)now.tv_nsec / 1000000;
 }
 
+/* Handles what was buffered for as long as it may be, by the usual limits: a lone ESC is the Escape key. Does nothing before that. */
 static bool handle_pause(live *it) {
   hed_event event;
-  if (hed_parser_flush_escape(&it->parser, &event) == HED_NEXT_EVENT) return handle_event(it, &event);
-  return handle_events(it, false);
+  uint32_t next;
+  while ((next = hed_parser_expire(&it->parser, now_ms(), &event)) == HED_NEXT_EVENT)
+    if (!handle_event(it, &event)) return false;
+  return next == HED_NEXT_NONE || fail(it, "out of memory");
 }
 
 /* A paste above the limit is handled in parts. It stays open, so no byte of it becomes a key, whatever pauses come. */
@@ -209,7 +213,7 @@ static void run(live *it) {
   bool goes_on = enter_terminal(it);
   puts("q ends");
   while (goes_on && fflush(stdout) == 0) {
-    int count = poll(ready, 2, pause_ms(it));
+    int count = poll(ready, 2, hed_parser_timeout(&it->parser, now_ms()));
     if (count == 0) goes_on = handle_pause(it);
     else if (count < 0) goes_on = errno == EINTR || fail(it, "the terminal can't be polled");
     else if (ready[1].revents) goes_on = handle_wake(it);

@@ -185,7 +185,7 @@ def check_quote(text, marker):
     phrase, number, name, source = parts.groups()
     if phrase not in text:
         raise Failed(f'"{phrase}" isn\'t beside its marker')
-    wanted = re.search(rf"\b{name}\b(?:[^=\n]*=)? *(\d+)", read(source))
+    wanted = re.search(rf"\b{name}\b(?:[^=\n]*=)? *(?:Some )?(\d+)", read(source))
     if not wanted or wanted[1] != number:
         raise Failed(f'"{phrase}" isn\'t what {name} is in {source}')
 
@@ -395,8 +395,7 @@ def main():
             checks += checks_of(file)
     if "links" in chosen.only and read("README.md").count("\n") > 150:
         faults.append("README.md: more than 150 lines")
-    missing = missing_tool(listings, chosen.library)
-    if missing:
+    if missing := missing_tool(listings, chosen.library):
         sys.exit(f"docs: {missing}")
     for fault in faults:
         print(fault)
