@@ -28,11 +28,8 @@ HEDRUGAL_KEYS = os.environ.get("HEDRUGAL_KEYS") or str(TOP / "out/bin/hedrugal-k
 
 # For the Python package, here and in programs that the tests start.
 sys.path.insert(0, str(TOP / "python"))
-os.environ.update(
-    HEDRUGAL_LIBRARY=str(LIBRARY / "libhedrugal.so"),
-    PYTHONPATH=str(TOP / "python"),
-    PYTHONDONTWRITEBYTECODE="1",
-)
+os.environ.update(PYTHONPATH=str(TOP / "python"), PYTHONDONTWRITEBYTECODE="1")
+os.environ["HEDRUGAL_LIBRARY"] = str(LIBRARY / "libhedrugal.so")
 pytest.register_assert_rewrite("screen", "terminal")
 
 

@@ -15,8 +15,8 @@ from pexpect.fdpexpect import fdspawn
 
 # No wait ends earlier, so that a machine with much to do fails no case.
 SECONDS = 60
-# Longer than the 50 ms after which an ESC is Escape, and shorter than the second after which
-# another prefix is flushed; and longer than both.
+# Longer than the 100 ms after which ESC and a byte are a key with Alt, and shorter than the second
+# after which a longer prefix is flushed; and longer than both.
 PAUSE, LONG_PAUSE = 0.2, 1.3
 START, END = b"\033[200~", b"\033[201~"
 ENDING_SIGNALS = [signal.SIGHUP, signal.SIGINT, signal.SIGQUIT, signal.SIGTERM]

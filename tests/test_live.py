@@ -18,6 +18,7 @@ SIZE = "size 80 x 24"
 FOUR_KEYS = ["UpArrow", "Enter", "Function 5", "UpArrow ctrl"]
 TWO_REPORTS = ["mouse at 3, 4, buttons 2", "mouse at 3, 4, buttons 0"]
 ALT_BRACKET = "Char U+005B alt"
+HELD_KEY = [b"\033]", "Char U+005D alt\r\n", *[b"j", "Char U+006A\r\n", 0.03] * 20]
 PASTE_OF_5 = [START + b"q\033", PAUSE, b"b\r", LONG_PAUSE, b"q" + END]
 # What is typed, as bytes, pauses in seconds, and texts to wait for; then the lines that it prints.
 TYPED = {
@@ -27,9 +28,10 @@ TYPED = {
     "Escape alone": ([b"\033", "Escape\r\n", b"x"], ["Escape", "Char U+0078"]),
     "Alt-Escape": ([b"\033\033", "Escape alt\r\n"], ["Escape alt"]),
     "Alt-x": ([b"\033x"], ["Char U+0078 alt"]),
-    "Alt-[, after a second": ([b"\033[", ALT_BRACKET, b"A"], [ALT_BRACKET, "Char U+0041"]),
+    "Alt-[, and A two seconds later": ([b"\033[", 2.0, b"A"], [ALT_BRACKET, "Char U+0041"]),
+    "Alt-], and a held key": (HELD_KEY, ["Char U+005D alt", *["Char U+006A"] * 20]),
     "an arrow, cut after ESC": ([b"\033", 0.005, b"[A"], ["UpArrow"]),
-    "an arrow, cut after ESC [ by a pause": ([b"\033[", PAUSE, b"A"], ["UpArrow"]),
+    "a key, cut by a pause": ([b"\033[1;", PAUSE, b"5A"], ["UpArrow ctrl"]),
     "a mouse report, cut by a pause": ([b"\033[<0;3", PAUSE, b";4M\033[<0;3;4m"], TWO_REPORTS),
     "a character, cut by a pause": ([b"\xc3", LONG_PAUSE, b"\xa9"], ["Char U+00E9"]),
     "a paste, cut by pauses": (PASTE_OF_5, ["paste of 5 bytes"]),
@@ -71,18 +73,13 @@ def start(program, on_terminal):
     return lambda *words, **how: on_terminal(Live([*program, *words], **how))
 
 
-def is_timed(steps):
+def case(name, steps, lines):
     """What follows a pause may have to come in time."""
-    return any(isinstance(it, float) for it in steps)
+    is_timed = any(isinstance(it, float) for it in steps)
+    return pytest.param(steps, lines, id=name, marks=[pytest.mark.timed] * is_timed)
 
 
-@pytest.mark.parametrize(
-    "steps, lines",
-    [
-        pytest.param(*it, id=name, marks=[pytest.mark.timed] * is_timed(it[0]))
-        for name, it in TYPED.items()
-    ],
-)
+@pytest.mark.parametrize("steps, lines", [case(name, *it) for name, it in TYPED.items()])
 def test_typed(start, steps, lines):
     live = start()
     live.play(steps)
@@ -113,29 +110,24 @@ def test_paste_over_the_limit(start, pause):
     live.quit(line, f"paste of {rest} bytes", "Char U+0078", "paste of 2 bytes")
 
 
-def test_new_size(start):
+@pytest.mark.parametrize("around, lines", [(["", ""], []), ([START, END], ["paste of 0 bytes"])])
+def test_new_size(start, around, lines):
+    """Also within a paste."""
     live = start()
+    live.send(around[0])
     live.resize(100, 40)
     live.wait_for_line("size 100 x 40")
-    live.quit("size 100 x 40")
+    live.send(around[1])
+    live.quit("size 100 x 40", *lines)
 
 
-def test_new_size_within_a_paste(start):
+@pytest.mark.parametrize("last, line", [(b"\033", "Escape"), (b"\033[", ALT_BRACKET)])
+def test_end_of_the_input(start, last, line):
+    """What is buffered is flushed. The first ^D ends a read, and the second the input."""
     live = start()
-    live.send(START + b"a")
-    live.resize(90, 30)
-    live.wait_for_line("size 90 x 30")
-    live.send(END)
-    live.quit("size 90 x 30", "paste of 1 bytes")
-
-
-def test_end_of_the_input(start):
-    """The program has buffered a prefix, which it has to flush."""
-    live = start()
-    live.play([b"z\033[", "Char U+007A"])
     live.let_end_input()
-    live.send(b"\x04")
-    live.check_end(0, "Char U+007A", "Char U+005B alt")
+    live.send(b"z" + last + b"\x04\x04")
+    live.check_end(0, "Char U+007A", line)
 
 
 def test_terminal_that_is_gone(start):

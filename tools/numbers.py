@@ -182,10 +182,8 @@ def write(numbers: Numbers) -> None:
 def compare_places(numbers: Numbers) -> Iterator[str]:
     """What differs first in each file that has places."""
     for file in PLACES:
-        lines = zip(
-            (read(file) + "\n").splitlines(), (with_numbers(file, numbers) + "\n").splitlines()
-        )
-        for at, (one, other) in enumerate(lines, 1):
+        both = ((it + "\n").splitlines() for it in (read(file), with_numbers(file, numbers)))
+        for at, (one, other) in enumerate(zip(*both), 1):
             if one != other:
                 yield f"{file}:{at}: has '{one}', and {LIST} gives '{other}'"
                 break
