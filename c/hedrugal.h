@@ -234,8 +234,8 @@ bool hed_parser_skip_paste(hed_parser *parser, size_t *count);
 
 /* Ends an open paste where it is: writes a HED_KIND_PASTE to *event, whose text is what came so far, and consumes the whole buffer.
  * hed_parser_paste copies the text. The rest of the paste then arrives as typed keys, Enter included, and its end as
- * HED_KEY_INTERNAL_PASTE_END; if the text ended inside that, the rest of it is typed keys too. So it is for the end of the input, and for a
- * paste that stalls and is given up. For a paste that is too long call hed_parser_take_paste or hed_parser_skip_paste.
+ * HED_KEY_INTERNAL_PASTE_END; if the text ended inside that, the rest of it is typed keys too. So it is for the end of the input. A paste
+ * that stalls is given up by a limit in time. For one that is too long call hed_parser_take_paste or hed_parser_skip_paste.
  *
  * Returns HED_NEXT_EVENT, HED_NEXT_NONE if no paste is open, HED_NEXT_NO_MEMORY, or HED_NEXT_NO_PARSER. *event is written only with
  * HED_NEXT_EVENT. With HED_NEXT_NO_MEMORY nothing changed, and the call may be made again. */
