@@ -56,7 +56,8 @@ static void put_text(const uint8_t *characters, size_t length) {
 /* The bytes that the event brought: a text, or those of a sequence in hexadecimal. */
 static bool put_brought(const group *its, const reader *reader) {
   size_t length = its->event.text_len;
-  bool is_text = its->event.kind == HED_KIND_PASTE || its->event.kind == HED_KIND_REPORT;
+  uint8_t kind = its->event.kind;
+  bool is_text = kind == HED_KIND_PASTE || kind == HED_KIND_PASTE_PART || kind == HED_KIND_REPORT;
   uint8_t *brought = malloc(length + 1);
   if (!brought) return false;
   reader_text(reader, brought, length);
@@ -98,6 +99,8 @@ static void put_size(const hed_extended_event *event) {
 
 /* The fields of an event, but for the bytes that it brought. */
 static void put_fields(const hed_extended_event *event) {
+  const char *whole = whole_name(event);
+  if (whole) printf(",\"of\":\"%s\"", whole);
   switch (event->kind) {
     case HED_KIND_KEY: put_key(event->input.key, event->input.detail, modifier_flags, event->input.modifiers); break;
     case HED_KIND_MOUSE: put_mouse(&event->input); break;

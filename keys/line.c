@@ -37,12 +37,20 @@ bool line_begin(line *it, const uint8_t *bytes, size_t length) {
   return true;
 }
 
-group *line_settle(line *it, const hed_extended_event *event, size_t waiting) {
+/* How many of the bytes that are buffered after an event belong to a group. ESC and the byte after it aren't among those that the part of a
+ * string brings. */
+static size_t kept_of(const line *it, const hed_extended_event *event, size_t waiting, size_t paste_start) {
+  if (event->kind == HED_KIND_PASTE_PART) return paste_start;
+  return event->kind == HED_KIND_STRING_PART ? event->text_len + 2 + waiting - it->kept - line_waiting(it) : 0;
+}
+
+group *line_settle(line *it, const hed_extended_event *event, size_t waiting, size_t paste_start) {
   if (!reserve_groups(it, it->group_count + 1)) return NULL;
   group *added = &it->groups[it->group_count++];
   memset(added, 0, sizeof *added);
+  it->kept = kept_of(it, event, waiting, paste_start);
   added->start = it->settled;
-  added->length = line_waiting(it) - waiting;
+  added->length = line_waiting(it) + it->kept - waiting;
   added->event = *event;
   it->settled += added->length;
   return added;
@@ -59,6 +67,7 @@ size_t line_earlier(const line *it, size_t start, size_t length) {
 
 void line_forget(line *it) {
   it->length = it->settled;
+  it->kept = 0;
 }
 
 void line_free(line *it) {

@@ -18,6 +18,7 @@ typedef struct line {
   size_t length, room;
   size_t earlier; /* how many of the bytes came with earlier reads */
   size_t settled; /* how many of the bytes belong to a group */
+  size_t kept; /* how many bytes of groups are buffered still: the part of a paste or of a string leaves its start there */
   group *groups;
   size_t group_count, group_room;
 } line;
@@ -26,10 +27,11 @@ typedef struct line {
  * unchanged. */
 bool line_begin(line *it, const uint8_t *bytes, size_t length);
 
-/* Adds the group of an event, which consumed all bytes but those that are still buffered. Returns NULL if memory is refused. */
-group *line_settle(line *it, const hed_extended_event *event, size_t waiting);
+/* Adds the group of an event, which consumed all bytes but those that are still buffered. A paste starts with paste_start bytes. Returns
+ * NULL if memory is refused. */
+group *line_settle(line *it, const hed_extended_event *event, size_t waiting, size_t paste_start);
 
-/* The number of buffered bytes. */
+/* The number of buffered bytes that belong to no group. */
 size_t line_waiting(const line *it);
 
 /* How many bytes of those from a place on came with earlier reads, at most length. */

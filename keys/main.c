@@ -16,9 +16,10 @@
 #include <signal.h>
 #include <stdio.h>
 #include <string.h>
+#include <time.h>
 #include <unistd.h>
 
-enum { READ_SIZE = 4096 };
+enum { READ_SIZE = 4096, PASTE_LIMIT = 1 << 20 };
 
 typedef struct keys {
   options options;
@@ -41,6 +42,13 @@ static bool fail(keys *it, const char *failure, int error) {
   it->failure = failure;
   it->error = error;
   return false;
+}
+
+/* The time in milliseconds, by a clock that nobody sets. */
+static uint64_t now_ms(void) {
+  struct timespec now;
+  clock_gettime(CLOCK_MONOTONIC, &now);
+  return (uint64_t)now.tv_sec * 1000 + (uint64_t)now.tv_nsec / 1000000;
 }
 
 static bool flush_output(keys *it) {
@@ -70,7 +78,7 @@ static void note_end(keys *it, const hed_extended_event *event) {
 
 /* Adds the event's group to the line. */
 static bool handle_event(keys *it, const hed_extended_event *event) {
-  group *added = line_settle(&it->line, event, reader_waiting(&it->reader));
+  group *added = line_settle(&it->line, event, reader_waiting(&it->reader), it->reader.paste_start);
   if (!added) return fail(it, no_memory, 0);
   if (event->text_len > 0) reader_text(&it->reader, added->text, sizeof added->text);
   if (it->options.is_json && !json_event(&it->line, added, &it->reader)) return fail(it, no_memory, 0);
@@ -87,6 +95,14 @@ static bool handle_events(keys *it, bool more) {
   return next == HED_NEXT_NONE || fail(it, no_memory, 0);
 }
 
+/* The part of a long paste is an event too, so that no paste needs much memory. */
+static bool take_paste(keys *it) {
+  hed_extended_event event;
+  uint32_t taken = reader_take_paste(&it->reader, PASTE_LIMIT, &event);
+  if (taken == HED_NEXT_EVENT) return handle_event(it, &event);
+  return taken == HED_NEXT_NONE || fail(it, no_memory, 0);
+}
+
 static void draw(keys *it, const text *reason) {
   if (!it->options.is_json) screen_draw(&it->screen, &it->line, reason->bytes);
 }
@@ -94,9 +110,9 @@ static void draw(keys *it, const text *reason) {
 /* Shows the line with what is buffered. Without pauses the next read settles that, so the line is shown then. */
 static void show(keys *it) {
   text reason = { .length = 0 };
-  if (!it->is_live && line_waiting(&it->line) > 0) return;
+  if (!it->is_live && reader_waiting(&it->reader) > 0) return;
   add_waiting(&reason, &it->reader, &it->line);
-  add_waiting_for(&reason, &it->reader);
+  if (it->is_live) add_waiting_for(&reason, &it->reader, now_ms());
   draw(it, &reason);
 }
 
@@ -104,14 +120,14 @@ static void show(keys *it) {
 static void leave_line(keys *it) {
   text reason = { .length = 0 };
   text_add(&reason, "goes on in read %zu", it->line.read + 1);
-  if (line_waiting(&it->line) > 0 && (!it->screen.is_drawn || screen_can_replace(&it->screen))) draw(it, &reason);
+  if (reader_waiting(&it->reader) > 0 && (!it->screen.is_drawn || screen_can_replace(&it->screen))) draw(it, &reason);
   screen_next(&it->screen);
 }
 
 static bool handle_bytes(keys *it, const uint8_t *bytes, size_t length) {
   leave_line(it);
   if (!line_begin(&it->line, bytes, length) || !reader_feed(&it->reader, bytes, length)) return fail(it, no_memory, 0);
-  bool goes_on = handle_events(it, true);
+  bool goes_on = handle_events(it, true) && take_paste(it);
   show(it);
   return goes_on && !it->is_over;
 }
@@ -124,17 +140,20 @@ static bool handle_input(keys *it) {
   return count > 0 && handle_bytes(it, bytes, (size_t)count);
 }
 
+/* Does nothing before what is buffered has waited as long as it may. */
 static bool handle_pause(keys *it) {
   hed_extended_event event;
-  bool goes_on = reader_flush_escape(&it->reader, &event) == HED_NEXT_EVENT ? handle_event(it, &event) : handle_events(it, false);
+  uint32_t next;
+  while ((next = reader_expire(&it->reader, now_ms(), &event)) == HED_NEXT_EVENT)
+    if (!handle_event(it, &event)) return false;
   show(it);
-  return goes_on;
+  return next == HED_NEXT_NONE || fail(it, no_memory, 0);
 }
 
 /* Flushes what is buffered once nothing more can come. An open paste stays. */
 static bool handle_end(keys *it) {
   text reason = { .length = 0 };
-  if (line_waiting(&it->line) == 0) return true;
+  if (reader_waiting(&it->reader) == 0) return true;
   if (!handle_events(it, false)) return false;
   add_waiting(&reason, &it->reader, &it->line);
   text_add(&reason, ": its end never came");
@@ -183,7 +202,7 @@ static bool handle_wake(keys *it) {
 
 static bool wait_and_handle(keys *it) {
   struct pollfd ready[2] = { { .fd = it->input, .events = POLLIN }, { .fd = it->wake, .events = POLLIN } };
-  int count = poll(ready, 2, waiting_ms(&it->reader));
+  int count = poll(ready, 2, reader_timeout(&it->reader, now_ms()));
   if (count == 0) return handle_pause(it);
   if (count < 0) return errno == EINTR || fail(it, "the terminal can't be polled", errno);
   return ready[1].revents ? handle_wake(it) : handle_input(it);

@@ -58,8 +58,17 @@ const char *kind_name(uint8_t kind) {
     [HED_KIND_OSC] = "osc",
     [HED_KIND_DCS] = "dcs",
     [HED_KIND_APC] = "apc",
+    [HED_KIND_PASTE_PART] = "part",
+    [HED_KIND_STRING_PART] = "part",
+    [HED_KIND_STRING_CUT] = "cut",
   };
   return names[kind];
+}
+
+const char *whole_name(const hed_extended_event *event) {
+  if (event->kind == HED_KIND_PASTE_PART) return kind_name(HED_KIND_PASTE);
+  bool is_string = event->kind == HED_KIND_STRING_PART || event->kind == HED_KIND_STRING_CUT;
+  return is_string ? kind_name(event->flags) : NULL;
 }
 
 const char *key_event_kind_name(uint8_t kind) {

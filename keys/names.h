@@ -14,8 +14,11 @@ typedef struct flag {
 /* All modifiers, all buttons and all modifiers of a key report. The last has no name. */
 extern const flag modifier_flags[], button_flags[], kitty_modifier_flags[];
 
-/* The kind of an event in one word: key, mouse, paste, report, focus, cursor, resize, flags, csi, osc, dcs or apc. */
+/* The kind of an event in one word: key, mouse, paste, report, focus, cursor, resize, flags, csi, osc, dcs, apc, part or cut. */
 const char *kind_name(uint8_t kind);
+
+/* What a part or a cut is of: paste, osc, dcs or apc. NULL for an event of any other kind. */
+const char *whole_name(const hed_extended_event *event);
 
 /* What happened to a key: press, repeat or release. */
 const char *key_event_kind_name(uint8_t kind);

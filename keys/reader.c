@@ -1,9 +1,18 @@
 #include "reader.h"
 #include <string.h>
 
+/* The length of the sequence that starts a paste, which the sequence table has. */
+static size_t paste_start_length(const hed_parser *parser) {
+  hed_event event;
+  for (size_t place = 0, length; (length = hed_parser_entry(parser, place, NULL, 0, &event)) > 0; place++)
+    if (event.key == HED_KEY_INTERNAL_PASTE_START) return length;
+  return 0;
+}
+
 bool reader_init(reader *it, reading how) {
   it->is_extended = how != READ_USUALLY;
   if (!hed_parser_init(&it->usual)) return false;
+  it->paste_start = paste_start_length(&it->usual);
   return !it->is_extended || hed_extended_init(&it->extended, how == READ_EXTENDED_KITTY ? HED_PROTOCOL_KITTY : HED_PROTOCOL_LEGACY);
 }
 
@@ -35,20 +44,32 @@ static void extend(hed_extended_event *event, const hed_event *input) {
                                     .base = HED_NO_CODE };
 }
 
-uint32_t reader_next(reader *it, bool more, hed_extended_event *event) {
-  if (it->is_extended) return hed_extended_next(&it->extended, more, event);
-  hed_event input;
-  uint32_t next = hed_parser_next(&it->usual, more, &input);
-  if (next == HED_NEXT_EVENT) extend(event, &input);
-  return next;
+/* Passes on what a call of the usual parser returned, with its event. */
+static uint32_t pass_on(uint32_t returned, const hed_event *input, hed_extended_event *event) {
+  if (returned == HED_NEXT_EVENT) extend(event, input);
+  return returned;
 }
 
-uint32_t reader_flush_escape(reader *it, hed_extended_event *event) {
-  if (it->is_extended) return hed_extended_flush_escape(&it->extended, event);
+uint32_t reader_next(reader *it, bool more, hed_extended_event *event) {
   hed_event input;
-  uint32_t flushed = hed_parser_flush_escape(&it->usual, &input);
-  if (flushed == HED_NEXT_EVENT) extend(event, &input);
-  return flushed;
+  if (it->is_extended) return hed_extended_next(&it->extended, more, event);
+  return pass_on(hed_parser_next(&it->usual, more, &input), &input, event);
+}
+
+uint32_t reader_take_paste(reader *it, size_t limit, hed_extended_event *event) {
+  hed_event input;
+  if (it->is_extended) return hed_extended_take_paste(&it->extended, limit, event);
+  return pass_on(hed_parser_take_paste(&it->usual, limit, &input), &input, event);
+}
+
+int32_t reader_timeout(reader *it, uint64_t now) {
+  return it->is_extended ? hed_extended_timeout(&it->extended, now) : hed_parser_timeout(&it->usual, now);
+}
+
+uint32_t reader_expire(reader *it, uint64_t now, hed_extended_event *event) {
+  hed_event input;
+  if (it->is_extended) return hed_extended_expire(&it->extended, now, event);
+  return pass_on(hed_parser_expire(&it->usual, now, &input), &input, event);
 }
 
 size_t reader_text(const reader *it, uint8_t *out, size_t length) {

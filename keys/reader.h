@@ -14,6 +14,7 @@ typedef struct reader {
   bool is_extended;
   hed_extended extended;
   hed_parser usual; /* reads the input, or tells the extended one the entries of the sequence table */
+  size_t paste_start; /* the length of the sequence that starts a paste */
 } reader;
 
 /* Returns false if memory is refused. Either way the caller owes a reader_free. */
@@ -24,7 +25,13 @@ bool reader_feed(reader *it, const uint8_t *bytes, size_t length);
 /* As hed_extended_next. The usual parser's events are written as those of the extended one. */
 uint32_t reader_next(reader *it, bool more, hed_extended_event *event);
 
-uint32_t reader_flush_escape(reader *it, hed_extended_event *event);
+/* As hed_extended_take_paste. */
+uint32_t reader_take_paste(reader *it, size_t limit, hed_extended_event *event);
+
+/* How long the buffered bytes may still wait, and the events of those that waited so long: as hed_extended_timeout and
+ * hed_extended_expire, by the usual limits. */
+int32_t reader_timeout(reader *it, uint64_t now);
+uint32_t reader_expire(reader *it, uint64_t now, hed_extended_event *event);
 
 /* Copies the bytes that the last event brought, as hed_extended_text, and frees them. */
 size_t reader_text(const reader *it, uint8_t *out, size_t length);

@@ -190,6 +190,8 @@ static void add_input(text *out, const hed_event *event) {
 
 static void add_event(text *out, const group *of) {
   const hed_extended_event *event = &of->event;
+  const char *whole = whole_name(event);
+  if (whole) text_add(out, "%s ", whole);
   switch (event->kind) {
     case HED_KIND_REPORT: add_report(out, of); break;
     case HED_KIND_FOCUS_GAINED: text_add(out, "focus gained"); break;

@@ -3,20 +3,6 @@
 
 enum { NAMED = 3 };
 
-int waiting_ms(const reader *reader) {
-  uint32_t kind = reader_waiting_kind(reader);
-  if (kind == HED_WAITING_ESCAPE) return ESCAPE_MS;
-  return kind == HED_WAITING_SEQUENCE ? SEQUENCE_MS : -1;
-}
-
-/* The length of the sequence that starts a paste, which the sequence table has. */
-static size_t paste_start_length(const hed_parser *parser) {
-  hed_event event;
-  for (size_t place = 0, length; (length = hed_parser_entry(parser, place, NULL, 0, &event)) > 0; place++)
-    if (event.key == HED_KEY_INTERNAL_PASTE_START) return length;
-  return 0;
-}
-
 typedef struct entry {
   hed_event event;
   size_t length;
@@ -119,21 +105,26 @@ void add_waiting(text *out, reader *reader, const line *shown) {
     case HED_WAITING_ESCAPE: text_add(out, length == 1 ? "may begin a key" : "may begin a key with Alt"); break;
     case HED_WAITING_SEQUENCE: add_sequence(out, reader, shown->bytes + shown->settled, length); break;
     case HED_WAITING_CHARACTER: text_add(out, "half a character"); break;
-    case HED_WAITING_PASTE: text_add(out, "a paste of %zu bytes so far", length - paste_start_length(&reader->usual)); break;
+    case HED_WAITING_PASTE: text_add(out, "a paste of %zu bytes so far", length - reader->paste_start); break;
+    case HED_WAITING_STRING: text_add(out, "a string of %zu bytes so far", length); break;
     default: break;
   }
 }
 
-void add_waiting_for(text *out, const reader *reader) {
-  switch (reader_waiting_kind(reader)) {
-    case HED_WAITING_ESCAPE: {
-      const char *modifiers = reader_waiting(reader) == 1 ? "NONE" : "ALT";
-      text_add(out, "; if nothing follows in %d ms: key Escape %s", ESCAPE_MS, modifiers);
-      break;
-    }
-    case HED_WAITING_SEQUENCE: text_add(out, ": waits up to %d s", SEQUENCE_MS / 1000); break;
-    case HED_WAITING_CHARACTER: text_add(out, ": waits for the rest"); break;
-    case HED_WAITING_PASTE: text_add(out, ": waits for its end"); break;
-    default: break;
+/* Appends a time, from a second on in seconds, rounded up. */
+static void add_time(text *out, int32_t ms) {
+  if (ms < 1000) text_add(out, "%d ms", (int)ms);
+  else text_add(out, "%d s", (int)(ms / 1000 + (ms % 1000 > 0)));
+}
+
+void add_waiting_for(text *out, reader *reader, uint64_t now) {
+  int32_t left = reader_timeout(reader, now);
+  uint32_t kind = reader_waiting_kind(reader);
+  if (left < 0) {
+    text_add(out, kind == HED_WAITING_CHARACTER ? ": waits for the rest" : ": waits for its end");
+    return;
   }
+  text_add(out, kind == HED_WAITING_ESCAPE ? "; if nothing follows in " : ": waits up to ");
+  add_time(out, left);
+  if (kind == HED_WAITING_ESCAPE) text_add(out, ": key Escape %s", reader_waiting(reader) == 1 ? "NONE" : "ALT");
 }

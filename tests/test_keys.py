@@ -30,7 +30,8 @@ ALL_MODES = ["--application-cursor-keys", "--modify-other-keys=2", *list(MODES)[
 ALL_SWITCHED = {"?1": True, ">4": 2, "?1003": True, "?1006": True, "?2004": True, "?1004": True}
 ESCAPE = "may begin a key; if nothing follows in 50 ms: key Escape NONE"
 ALT_ESCAPE = "may begin a key with Alt; if nothing follows in 50 ms: key Escape ALT"
-MOUSE = "the beginning of a mouse report: waits up to 1 s"
+UP_TO = "waits up to 1 s"
+MOUSE = f"the beginning of a mouse report: {UP_TO}"
 NO_SPACE = "hedrugal-keys: the output can't be written: No space left on device\n"
 
 
@@ -91,10 +92,10 @@ def run(*words, typed=b"", program=HEDRUGAL_KEYS, out=subprocess.PIPE, **variabl
     return done.returncode, (done.stdout or b"").decode("ascii"), done.stderr.decode()
 
 
-def begins(count, *keys):
+def begins(count, *keys, up_to=UP_TO):
     """The reason of a sequence that may become so many, with the keys that are named."""
     text = f"the beginning of {count} sequence{'s' * (count > 1)}: {', '.join(keys)}"
-    return f"{text}{f', .. ({count - 3} more)' * (count > 3)}: waits up to 1 s"
+    return f"{text}{f', .. ({count - 3} more)' * (count > 3)}: {up_to}"
 
 
 def spelled(typed):
@@ -113,7 +114,7 @@ BRACKET = "ESC [ -> key U+005B ALT"
 FLUSHED = {
     "Escape": (b"\033", ESCAPE, "ESC -> key Escape NONE"),
     "Alt-Escape": (b"\033\033", ALT_ESCAPE, "ESC ESC -> key Escape ALT"),
-    "a sequence": (b"\033[", begins(MANY, *ARROWS), BRACKET),
+    "two bytes": (b"\033[", begins(MANY, *ARROWS, up_to="waits up to 100 ms"), BRACKET),
     "after ESC": (b"\033\033[", begins(MANY, *(f"Alt-{it}" for it in ARROWS)), f"ESC {BRACKET}"),
     "longer": (b"\033[15", begins(26, "F5", "Shift-F5", "Alt-F5"), BRACKET + characters("15")),
     "two": (b"\033[15;5", begins(2, "Ctrl-F5", "Ctrl-U+000F"), BRACKET + characters("15;5")),
@@ -128,9 +129,9 @@ def test_flushed_by_a_pause(show, typed, reason, events):
     assert keys.screen().frames == [[HELLO, f"   1  {spelled(typed)} -> {reason}"]]
 
 
-OSC = "the beginning of a command (OSC): waits up to 1 s"
+OSC = "a string of 6 bytes so far: waits up to 6 s"
 BEGUN = "   1  ESC -> goes on in read 2"
-THREE_READS = [b"a\033[1", "waits up to 1 s", PAUSE, b";5", "   2  ", PAUSE, b"Ab"]
+THREE_READS = [b"a\033[1", UP_TO, PAUSE, b";5", "   2  ", PAUSE, b"Ab"]
 THREE_LINES = [
     "   1  a -> key U+0061 NONE | ESC [ 1 -> goes on in read 2",
     "   2  (ESC [ 1) ; 5 -> goes on in read 3",
@@ -154,6 +155,15 @@ IN_TIME = {
 @pytest.mark.parametrize("words, steps, lines", IN_TIME.values(), ids=IN_TIME)
 def test_in_time(show, words, steps, lines):
     show(steps, lines, *words.split(), size=WIDE)
+
+
+@pytest.mark.timed
+def test_held_key(start):
+    """Its bytes don't put off the end of what they follow."""
+    keys = start("--extended", size=WIDE)
+    keys.play([b"\033]l", f"the beginning of a command (OSC): {UP_TO}", *[b"j", 0.03] * 50])
+    keys.expect_exact("(ESC ]) -> key U+005D ALT | (l) -> key U+006C NONE", timeout=0.3)
+    keys.end()
 
 
 def test_half_a_character(show):
@@ -213,12 +223,8 @@ def test_long_paste(start):
 
 
 HEAD = ["   1  a -> key U+0061 NONE |", "      b -> key U+0062 NONE |"]
-WAITING = [
-    *HEAD,
-    "      ESC -> may begin a key; if nothing",
-    "      follows in 50 ms: key Escape NONE",
-]
-SETTLED = [*HEAD, "      ESC -> key Escape NONE"]
+REASON = ["      ESC -> may begin a key; if nothing", "      follows in 50 ms: key Escape NONE"]
+WAITING, SETTLED = HEAD + REASON, [*HEAD, "      ESC -> key Escape NONE"]
 
 
 @pytest.mark.parametrize(
@@ -253,10 +259,10 @@ def test_new_size(start):
     """Terminals differ in how they move what was written to rows of another length, so the line is
     written again below."""
     keys = start()
-    keys.play([b"\033[", "waits up to 1 s"])
+    keys.play([b"\033[1", UP_TO])
     keys.resize(100, 30)
     keys.wait_for(lambda: "key U+005B ALT" in keys.lines()[-1], "event after the resize")
-    assert [len(keys.screen().frames), keys.lines()[-1]] == [0, f"   1  {BRACKET}"]
+    assert [len(keys.screen().frames), keys.lines()[-1]] == [0, f"   1  {BRACKET}{characters('1')}"]
     keys.end()
 
 
@@ -375,11 +381,10 @@ def test_sigtstp_where_no_shell_could_continue_it(start):
 
 
 def test_end_of_the_input(start):
-    """What is buffered is flushed."""
+    """What is buffered is flushed. The first ^D ends a read, and the second the input."""
     keys = start()
-    keys.play([b"z\033[", "waits up to 1 s"])
     keys.let_end_input()
-    keys.send(b"\x04")
+    keys.send(b"z\033[\x04\x04")
     keys.check_end(0)
     assert keys.lines()[1:] == [f"   1  z -> key U+007A NONE | {BRACKET}"]
 
@@ -411,9 +416,8 @@ def test_json_of_what_is_buffered_at_a_signal(start, tmp_path):
     keys.wait_for(lambda: "U+0061" in out.read_text(), "event")
     keys.kill(signal.SIGTERM)
     keys.check_end(-signal.SIGTERM)
-    wanted = {"read": 1, "bytes": "c3", "earlier": 0, "kind": "waiting"}
-    wanted["reason"] = "half a character"
-    assert json.loads(out.read_text().splitlines()[-1]) == wanted
+    half = b"\xc3", {"kind": "waiting", "reason": "half a character"}
+    assert out.read_text().endswith(as_json([half]))
 
 
 def test_signal_while_nobody_reads_json(start, tmp_path):
@@ -475,8 +479,9 @@ REPORTS = [
     (b"\033[O", "focus lost", {"kind": "focus", "gained": False}),
     (b"\033[?62c", "csi 4:3f363263", {"kind": "csi", "length": 4, "data": "3f363263"}),
     (b"\033]0;a\007", "osc 3:303b61", {"kind": "osc", "length": 3, "data": "303b61"}),
-    (b"\033Px\033\\", "dcs 1:78", {"kind": "dcs", "length": 1, "data": "78"}),
-    (b"\033_y\033\\", "apc 1:79", {"kind": "apc", "length": 1, "data": "79"}),
+    (b"\033P>|\033\\", "dcs 2:3e7c", {"kind": "dcs", "length": 2, "data": "3e7c"}),
+    (b"\033_Gi=\033\\", "apc 3:47693d", {"kind": "apc", "length": 3, "data": "47693d"}),
+    (b"\033]4;", "osc cut 2:343b", {"kind": "cut", "of": "osc", "length": 2, "data": "343b"}),
     (b"\033[57428u", "report functional 57428 NONE press", VOLUME),
 ]
 REPORTS_AS_LINE = " | ".join(f"{spelled(typed)} -> {line}" for typed, line, _ in REPORTS)
@@ -520,6 +525,19 @@ def test_reads_of_4096_bytes(tmp_path):
     assert first.endswith(" | ESC [ -> goes on in read 2")
     wanted = "   2  (ESC [) A -> key UpArrow NONE | b -> key U+0062 NONE | ESC -> key Escape NONE"
     assert second == wanted
+
+
+PASTE, COMMAND = ("paste", START, END), ("osc", b"\033]52;", b"\007")
+
+
+@pytest.mark.parametrize("word, it", [("", PASTE), ("--extended", PASTE), ("--extended", COMMAND)])
+def test_parts(word, it):
+    """Each byte of a long text belongs to one part, or to its end."""
+    kind, begin, end = it
+    typed = begin + b"x" * (3 << 19) + end
+    *parts, last = map(json.loads, run("--json", *word.split(), typed=typed)[1].splitlines())
+    assert "".join(it["bytes"] for it in [*parts, last]) == typed.hex()
+    assert {(it["kind"], it["of"]) for it in parts} == {("part", kind)} and last["kind"] == kind
 
 
 def test_file_on_a_terminal(tmp_path):
@@ -635,7 +653,7 @@ def test_screen_of_the_page(start):
     before, screen, waiting = re.findall(listing, page, re.S)
     assert before == "hedrugal-keys"
     pasted = START + b"hi\r" + END
-    reads = [b"a", b"\033", b"\033[", b"A", b"\033[<0;3;4M", b"\xc3", b"\xa9", pasted, b"\033[1"]
+    reads = [b"a", b"\033", b"\033[1", b";5A", b"\033[<0;3;4M", b"\xc3", b"\xa9", pasted, b"\033[1"]
     keys = start("--mouse", "--bracketed-paste")
     for read, typed in enumerate(reads, 1):
         keys.play([typed, f"   {read}  ", PAUSE * (read in (2, 3))])
