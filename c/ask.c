@@ -79,6 +79,7 @@ static bool print_event(const hed_extended *parser, const hed_extended_event *ev
     case HED_KIND_OSC: print_text(parser, "colour", event->text_len); break;
     case HED_KIND_KEYBOARD_FLAGS: printf("flags of Kitty's keyboard protocol %u\n", event->flags); break;
     case HED_KIND_CSI: print_text(parser, "control sequence", event->text_len); break;
+    case HED_KIND_STRING_CUT: print_text(parser, "cut off", event->text_len); break;
     case HED_KIND_KEY: puts("a key was typed"); break;
     default: break;
   }
@@ -93,32 +94,56 @@ static bool print_events(hed_extended *parser, bool more) {
   return is_over;
 }
 
-static long now_ms(void) {
+/* The time in milliseconds, by a clock that nobody sets. */
+static uint64_t now_ms(void) {
   struct timespec now;
   clock_gettime(CLOCK_MONOTONIC, &now);
-  return now.tv_sec * 1000L + now.tv_nsec / 1000000L;
+  return (uint64_t)now.tv_sec * 1000 + (uint64_t)now.tv_nsec / 1000000;
+}
+
+/* How long to wait for bytes: until the program gives up, or until what is buffered has waited as long as it may. */
+static int wait_ms(hed_extended *parser, uint64_t now, uint64_t end) {
+  int32_t left = hed_extended_timeout(parser, now);
+  return left >= 0 && (uint64_t)left < end - now ? left : (int)(end - now);
+}
+
+/* Prints what was buffered for so long, such as the Escape key. Returns false if memory is refused. */
+static bool print_expired(hed_extended *parser) {
+  hed_extended_event event;
+  uint32_t next;
+  while ((next = hed_extended_expire(parser, now_ms(), &event)) == HED_NEXT_EVENT) print_event(parser, &event);
+  return next == HED_NEXT_NONE;
+}
+
+/* Reads what is there. No text that is pasted meanwhile is kept. Returns false at the end of the input, or if memory is refused. */
+static bool read_bytes(hed_extended *parser, bool *is_over) {
+  uint8_t bytes[4096];
+  size_t skipped;
+  ssize_t len = read(0, bytes, sizeof bytes);
+  if (len <= 0 || !hed_extended_feed(parser, bytes, (size_t)len)) return false;
+  *is_over = print_events(parser, true);
+  hed_extended_skip_paste(parser, &skipped);
+  return true;
 }
 
 /* Reads replies up to the last one. Returns false after the timeout, at the end of the input, or if a signal or want of memory ends it. */
 static bool read_replies(hed_extended *parser) {
   struct pollfd input = { .fd = 0, .events = POLLIN };
-  uint8_t bytes[4096];
-  for (long end = now_ms() + TIMEOUT_MS, left; !ending && (left = end - now_ms()) > 0;) {
-    int count = poll(&input, 1, (int)left);
+  bool is_over = false;
+  for (uint64_t now = now_ms(), end = now + TIMEOUT_MS; !is_over && !ending && now < end; now = now_ms()) {
+    int count = poll(&input, 1, wait_ms(parser, now, end));
     if (count < 0 && errno != EINTR) return false;
-    if (count <= 0) continue;
-    ssize_t len = read(0, bytes, sizeof bytes);
-    if (len <= 0 || !hed_extended_feed(parser, bytes, (size_t)len)) return false;
-    if (print_events(parser, true)) return true;
+    if (count == 0 && !print_expired(parser)) return false;
+    if (count > 0 && !read_bytes(parser, &is_over)) return false;
   }
-  return false;
+  return is_over;
 }
 
 static bool ask(hed_extended *parser) {
   fputs(questions, stdout);
   if (fflush(stdout) != 0) return false;
   if (read_replies(parser)) return true;
-  print_events(parser, false); /* an Escape key, or a reply that was cut off, as keys */
+  print_events(parser, false); /* an Escape key, or a reply that was cut off */
   puts("no reply to the last question");
   return false;
 }

@@ -3,6 +3,7 @@ that answers.
 
 Each asks for the position of the cursor, for colours and for the flags of Kitty's keyboard
 protocol, and last what the terminal is."""
+import re
 import time
 
 import pytest
@@ -50,6 +51,14 @@ def asked(program, replies, status, pause=0):
 def test_replies(program, replies, pause, texts, status):
     printed = asked(program, replies, status, pause)
     assert [it for it in texts if it not in printed] == [], printed
+
+
+@pytest.mark.timed
+def test_reply_cut_by_pauses(program):
+    """Below the limits in time none of its bytes becomes a key."""
+    text = POSITION + GROUND + FLAGS + ATTRIBUTES
+    printed = asked(program, [text[:3], text[3:20], text[20:36], text[36:]], 0, pause=0.15)
+    assert not re.search(rb"a key|typed meanwhile: [1-9]", printed), printed
 
 
 def test_no_reply(program):
