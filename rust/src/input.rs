@@ -14,6 +14,7 @@ mod events;
 pub(crate) mod flags;
 mod keys;
 mod parser;
+mod policy;
 
 pub use encode::{EncodeError, KeyCodeEncodeModes, KeyboardEncoding, CSI, SS3};
 pub use entries::{Completions, EntryBytes};
@@ -23,6 +24,7 @@ pub use flags::{
 };
 pub use keys::KeyCode;
 pub use parser::{AllocError, InputParser, ParseError, ParseVecError, Waiting};
+pub use policy::Policy;
 
 // What is said if the library answers otherwise than its header says.
 pub(crate) const FAULT: &str = "the library answers as c/hedrugal.h says";

@@ -38,8 +38,8 @@
 //! # If memory is refused
 //!
 //! `new`, `feed`, `next_event`, `parse`, `parse_as_vec`, `end_paste`, `encode` and `insert` panic,
-//! and `take_paste` and the forms whose names begin with `try_` return an error, after which every
-//! value may be used again. No event is lost: each error says how to go on.
+//! and `take_paste`, `set_policy`, `expire` and the forms whose names begin with `try_` return an
+//! error, after which every value may be used again. No event is lost: each error says how to go on.
 //!
 //! # Many parsers
 //!

@@ -1,7 +1,8 @@
 // What the parsers of this crate have in common: a parser of the library, and its last event.
-use crate::input::{AllocError, ParseError, ParseVecError, Waiting, FAULT};
+use crate::input::{AllocError, ParseError, ParseVecError, Policy, Waiting, FAULT};
 use crate::raw;
 use std::sync::{Mutex, MutexGuard, PoisonError};
+use std::time::{Duration, Instant};
 
 // The library's calls on a parser.
 pub(crate) struct Calls<Raw, RawEvent> {
@@ -17,6 +18,9 @@ pub(crate) struct Calls<Raw, RawEvent> {
     pub take_paste: unsafe extern "C" fn(*mut Raw, usize, *mut RawEvent) -> u32,
     pub skip_paste: unsafe extern "C" fn(*mut Raw, *mut usize) -> bool,
     pub end_paste: unsafe extern "C" fn(*mut Raw, *mut RawEvent) -> u32,
+    pub set_policy: unsafe extern "C" fn(*mut Raw, *const raw::Policy) -> bool,
+    pub timeout: unsafe extern "C" fn(*mut Raw, u64) -> i32,
+    pub expire: unsafe extern "C" fn(*mut Raw, u64, *mut RawEvent) -> u32,
     pub reset: unsafe extern "C" fn(*mut Raw) -> usize,
     pub shrink_to: unsafe extern "C" fn(*mut Raw, usize),
 }
@@ -54,6 +58,8 @@ pub(crate) struct LibraryParser<Raw: RawParser> {
     // for it is granted.
     front: Raw::RawEvent,
     has_front: bool,
+    // The first time that the parser was told. The library counts milliseconds from it.
+    first_time: Option<Instant>,
 }
 
 impl<Raw: RawParser> LibraryParser<Raw> {
@@ -63,6 +69,7 @@ impl<Raw: RawParser> LibraryParser<Raw> {
             raw: Mutex::new(raw),
             front: Raw::RawEvent::default(),
             has_front: false,
+            first_time: None,
         }
     }
 
@@ -213,6 +220,56 @@ impl<Raw: RawParser> LibraryParser<Raw> {
         } else {
             Ok(None)
         }
+    }
+
+    // Sets how long bytes may stay buffered.
+    pub fn set_policy(&mut self, policy: &Policy) -> Result<(), AllocError> {
+        let policy = policy.raw();
+        // SAFETY: `raw` is a parser, and `policy` another value.
+        let is_set = unsafe { (Raw::CALLS.set_policy)(self.raw(), &policy) };
+        is_set.then_some(()).ok_or(AllocError)
+    }
+
+    // How long what is buffered may still wait.
+    pub fn timeout(&mut self, now: Instant) -> Option<Duration> {
+        // An event that was refused memory waits no longer.
+        if self.has_front {
+            return Some(Duration::ZERO);
+        }
+        let now = self.millis(now);
+        // SAFETY: `raw` is a parser.
+        let millis = unsafe { (Raw::CALLS.timeout)(self.raw(), now) };
+        u64::try_from(millis).ok().map(Duration::from_millis)
+    }
+
+    // Flushes what has waited too long, and emits the events.
+    pub fn expire(
+        &mut self,
+        now: Instant,
+        mut callback: impl FnMut(Raw::Event),
+    ) -> Result<(), AllocError> {
+        // An event that was refused memory comes first, and what is decided behind it.
+        while self.has_front {
+            callback(self.take_front()?);
+            self.find_front(true)?;
+        }
+        let now = self.millis(now);
+        loop {
+            // SAFETY: `raw` is a parser, and `front` another value.
+            self.has_front =
+                is_event(unsafe { (Raw::CALLS.expire)(self.raw(), now, &mut self.front) })?;
+            if !self.has_front {
+                return Ok(());
+            }
+            callback(self.take_front()?);
+        }
+    }
+
+    // A time in the library's milliseconds. One before the first is 0.
+    fn millis(&mut self, now: Instant) -> u64 {
+        let first = *self.first_time.get_or_insert(now);
+        let passed = now.saturating_duration_since(first);
+        u64::try_from(passed.as_millis()).unwrap_or(u64::MAX)
     }
 
     // Forgets all that is buffered, and an event that was refused memory. Returns how many bytes

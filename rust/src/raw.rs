@@ -128,14 +128,18 @@ pub const ENCODING_KITTY: u8 = 3;
 #[repr(C)]
 pub struct Parser {
     live: bool,
+    timed: bool,
     state: *mut c_void,
+    timing: *mut c_void,
 }
 
 impl Parser {
     /// No parser.
     pub const NONE: Parser = Parser {
         live: false,
+        timed: false,
         state: std::ptr::null_mut(),
+        timing: std::ptr::null_mut(),
     };
 }
 
@@ -156,6 +160,17 @@ pub struct Event {
     pub y: u16,
     pub detail: u32,
     pub paste_len: usize,
+}
+
+/// How long each kind of bytes may stay buffered, in milliseconds. Negative: forever.
+#[repr(C)]
+pub struct Policy {
+    pub escape: i32,
+    pub alt_key: i32,
+    pub sequence: i32,
+    pub string: i32,
+    pub character: i32,
+    pub paste: i32,
 }
 
 /// The modes of a terminal that change the text of a key.
@@ -211,14 +226,18 @@ pub struct Match {
 #[repr(C)]
 pub struct Extended {
     live: bool,
+    timed: bool,
     state: *mut c_void,
+    timing: *mut c_void,
 }
 
 impl Extended {
     /// No parser.
     pub const NONE: Extended = Extended {
         live: false,
+        timed: false,
         state: std::ptr::null_mut(),
+        timing: std::ptr::null_mut(),
     };
 }
 
@@ -259,7 +278,9 @@ pub struct ExtendedEvent {
 
 // The layouts that the library was proved with.
 const _: () = {
-    assert!(size_of::<Parser>() == 16 && offset_of!(Parser, state) == 8);
+    assert!(size_of::<Parser>() == 24 && offset_of!(Parser, timed) == 1);
+    assert!(offset_of!(Parser, state) == 8 && offset_of!(Parser, timing) == 16);
+    assert!(size_of::<Policy>() == 24 && offset_of!(Policy, paste) == 20);
     assert!(
         size_of::<Event>() == 24 && offset_of!(Event, modifiers) == 2 && offset_of!(Event, y) == 8
     );
@@ -273,7 +294,8 @@ const _: () = {
             && offset_of!(Entries, with_alt) == 16
     );
     assert!(size_of::<Match>() == 16 && offset_of!(Match, value) == 8);
-    assert!(size_of::<Extended>() == 16 && offset_of!(Extended, state) == 8);
+    assert!(size_of::<Extended>() == 24 && offset_of!(Extended, timed) == 1);
+    assert!(offset_of!(Extended, state) == 8 && offset_of!(Extended, timing) == 16);
     assert!(
         size_of::<KeyReport>() == 16
             && offset_of!(KeyReport, key) == 2
@@ -305,6 +327,9 @@ extern "C" {
     pub fn hed_parser_take_paste(parser: *mut Parser, limit: usize, event: *mut Event) -> u32;
     pub fn hed_parser_skip_paste(parser: *mut Parser, count: *mut usize) -> bool;
     pub fn hed_parser_end_paste(parser: *mut Parser, event: *mut Event) -> u32;
+    pub fn hed_parser_set_policy(parser: *mut Parser, policy: *const Policy) -> bool;
+    pub fn hed_parser_timeout(parser: *mut Parser, now: u64) -> i32;
+    pub fn hed_parser_expire(parser: *mut Parser, now: u64, event: *mut Event) -> u32;
     pub fn hed_parser_reset(parser: *mut Parser) -> usize;
     pub fn hed_encode(
         key: u16,
@@ -363,6 +388,9 @@ extern "C" {
     ) -> u32;
     pub fn hed_extended_skip_paste(parser: *mut Extended, count: *mut usize) -> bool;
     pub fn hed_extended_end_paste(parser: *mut Extended, event: *mut ExtendedEvent) -> u32;
+    pub fn hed_extended_set_policy(parser: *mut Extended, policy: *const Policy) -> bool;
+    pub fn hed_extended_timeout(parser: *mut Extended, now: u64) -> i32;
+    pub fn hed_extended_expire(parser: *mut Extended, now: u64, event: *mut ExtendedEvent) -> u32;
     pub fn hed_extended_reset(parser: *mut Extended) -> usize;
     pub fn hed_encode_kitty(
         report: *const KeyReport,

@@ -1,9 +1,10 @@
 // The extended parser: bytes of a terminal to events.
 use super::ExtendedEvent;
-use crate::input::{AllocError, ParseError, ParseVecError, Waiting};
+use crate::input::{AllocError, ParseError, ParseVecError, Policy, Waiting};
 use crate::library_parser::{Calls, LibraryParser, RawParser};
 use crate::{raw, table};
 use std::fmt;
+use std::time::{Duration, Instant};
 
 /// The keyboard protocol that the program turned on. It tells which entries of the sequence table
 /// keep the key that [`InputParser`](crate::input::InputParser) reads from them.
@@ -60,6 +61,9 @@ unsafe impl RawParser for raw::Extended {
         take_paste: raw::hed_extended_take_paste,
         skip_paste: raw::hed_extended_skip_paste,
         end_paste: raw::hed_extended_end_paste,
+        set_policy: raw::hed_extended_set_policy,
+        timeout: raw::hed_extended_timeout,
+        expire: raw::hed_extended_expire,
         reset: raw::hed_extended_reset,
         shrink_to: raw::hed_extended_shrink_to,
     };
@@ -224,8 +228,8 @@ impl ExtendedParser {
     /// no event yet stay buffered.
     ///
     /// Pass `maybe_more` as true while more bytes may come: then bytes that may still become a
-    /// longer sequence, a string or a character stay buffered. After a pause call
-    /// [`ExtendedParser::flush_escape`]. Pass false at the end of the input: then only an open
+    /// longer sequence, a string or a character stay buffered, for as long as
+    /// [`ExtendedParser::timeout`] says. Pass false at the end of the input: then only an open
     /// paste stays. Call with no bytes and false to flush. Before the end this breaks a sequence, a
     /// string or a character of which the rest is still to come.
     ///
@@ -343,8 +347,9 @@ impl ExtendedParser {
     /// Returns the Escape key if ESC alone is buffered, with ALT if ESC ESC is, and consumes it.
     /// Returns `None` otherwise; the parser is then unchanged.
     ///
-    /// Call it when some 50 ms have passed without a byte. Whatever else is buffered stays, so a
-    /// pause breaks only what is cut right after its ESC or ESC ESC.
+    /// It is for a program without a clock, in place of [`ExtendedParser::expire`]: call it when
+    /// some 50 ms have passed without a byte. Whatever else is buffered stays, so a pause breaks
+    /// only what is cut right after its ESC or ESC ESC.
     ///
     /// ```
     /// use hedrugal::extended::{ExtendedEvent, ExtendedParser, Protocol};
@@ -472,6 +477,85 @@ impl ExtendedParser {
     /// If memory is refused. The paste isn't lost: call again, or parse on.
     pub fn try_end_paste(&mut self) -> Result<Option<ExtendedEvent>, AllocError> {
         self.parser.end_paste()
+    }
+
+    /// Sets how long each kind of bytes may stay buffered. Before that, the limits are those of
+    /// [`Policy::usual`].
+    ///
+    /// ```
+    /// use hedrugal::extended::{ExtendedParser, Protocol};
+    /// use hedrugal::input::Policy;
+    /// use std::time::Duration;
+    ///
+    /// // A paste that stalls for ten seconds is ended where it is.
+    /// let policy = Policy {
+    ///     paste: Some(Duration::from_secs(10)),
+    ///     ..Policy::usual()
+    /// };
+    /// assert_eq!(ExtendedParser::new(Protocol::Legacy).set_policy(policy), Ok(()));
+    /// ```
+    ///
+    /// # Errors
+    ///
+    /// If memory is refused. The limits are those from before: call again.
+    pub fn set_policy(&mut self, policy: Policy) -> Result<(), AllocError> {
+        self.parser.set_policy(&policy)
+    }
+
+    /// Returns how long to wait for more bytes: at least zero, and `None` for ever. If none come,
+    /// call [`ExtendedParser::expire`].
+    ///
+    /// Call it before each wait, once all events are emitted, with the time of that moment. It notes
+    /// the time, and what was buffered since the last note. If memory is refused, here or before for
+    /// an event, it returns zero, and [`ExtendedParser::expire`] says so or goes on. The loop is that
+    /// of [`InputParser::timeout`](crate::input::InputParser::timeout).
+    ///
+    /// ```
+    /// use hedrugal::extended::{ExtendedParser, Protocol};
+    /// use std::time::{Duration, Instant};
+    ///
+    /// let mut parser = ExtendedParser::new(Protocol::Legacy);
+    /// assert_eq!(parser.timeout(Instant::now()), None);
+    /// parser.parse(b"\x1b[24;8", |_| {}, true);
+    /// assert_eq!(parser.timeout(Instant::now()), Some(Duration::from_secs(1)));
+    /// ```
+    #[must_use]
+    pub fn timeout(&mut self, now: Instant) -> Option<Duration> {
+        self.parser.timeout(now)
+    }
+
+    /// Flushes what has waited for as long as [`ExtendedParser::timeout`] said, and calls `callback`
+    /// with each event: ESC is the Escape key then, the beginning of a sequence is keys, and an
+    /// open paste is ended where it is. Before that time it calls nothing.
+    ///
+    /// Call it when no bytes came within that time. If bytes are there, parse them first, since they
+    /// may complete what is overdue.
+    ///
+    /// ```
+    /// use hedrugal::extended::{ExtendedParser, Protocol};
+    /// use std::time::{Duration, Instant};
+    ///
+    /// let mut parser = ExtendedParser::new(Protocol::Legacy);
+    /// parser.parse(b"\x1b[", |_| {}, true);
+    /// let start = Instant::now();
+    /// assert_eq!(parser.timeout(start), Some(Duration::from_millis(100)));
+    /// let mut count = 0;
+    /// for (millis, wanted) in [(99, 0), (100, 1), (200, 1)] {
+    ///     let now = start + Duration::from_millis(millis);
+    ///     assert_eq!(parser.expire(now, |_| count += 1), Ok(()));
+    ///     assert_eq!(count, wanted);
+    /// }
+    /// ```
+    ///
+    /// # Errors
+    ///
+    /// If memory is refused. No event is lost: call again, or parse on.
+    pub fn expire<F: FnMut(ExtendedEvent)>(
+        &mut self,
+        now: Instant,
+        callback: F,
+    ) -> Result<(), AllocError> {
+        self.parser.expire(now, callback)
     }
 
     /// Forgets all that is buffered, an open paste too, and an event that was refused memory.

@@ -1,7 +1,8 @@
 // The parser: bytes of a terminal to events.
-use super::{Completions, EntryBytes, InputEvent, KeyEvent, FAULT};
+use super::{Completions, EntryBytes, InputEvent, KeyEvent, Policy, FAULT};
 use crate::library_parser::{Calls, LibraryParser, RawParser};
 use crate::{raw, table};
+use std::time::{Duration, Instant};
 use std::{error, fmt};
 
 /// Memory was refused.
@@ -89,8 +90,8 @@ impl<Event> fmt::Display for ParseVecError<Event> {
 impl<Event: fmt::Debug> error::Error for ParseVecError<Event> {}
 
 /// What stays buffered, as [`InputParser::waiting`] and
-/// [`ExtendedParser::waiting`](crate::extended::ExtendedParser::waiting) return it. It says what a
-/// pause means.
+/// [`ExtendedParser::waiting`](crate::extended::ExtendedParser::waiting) return it. A [`Policy`]
+/// says how long each may.
 ///
 /// ```
 /// use hedrugal::input::{InputParser, Waiting};
@@ -103,16 +104,13 @@ impl<Event: fmt::Debug> error::Error for ParseVecError<Event> {}
 pub enum Waiting {
     /// Nothing is buffered.
     Nothing,
-    /// ESC, or ESC ESC: the Escape key, alone or with Alt, unless more bytes follow. After a pause
-    /// of some 50 ms call [`InputParser::flush_escape`].
+    /// ESC, or ESC ESC: the Escape key, alone or with Alt, unless more bytes follow.
     Escape,
-    /// A longer prefix of a sequence, after an ESC or not. On a slow line the rest may come late:
-    /// flush it after a much longer pause, say 1000 ms, or never.
+    /// A longer prefix of a sequence, after an ESC or not.
     Sequence,
-    /// A prefix of a character in UTF-8, after an ESC or not. Never flush it.
+    /// A prefix of a character in UTF-8, after an ESC or not.
     Character,
-    /// An open paste: its start, and its text so far. There is nothing to flush;
-    /// [`InputParser::end_paste`] ends it.
+    /// An open paste: its start, and its text so far.
     Paste,
 }
 
@@ -147,6 +145,9 @@ unsafe impl RawParser for raw::Parser {
         take_paste: raw::hed_parser_take_paste,
         skip_paste: raw::hed_parser_skip_paste,
         end_paste: raw::hed_parser_end_paste,
+        set_policy: raw::hed_parser_set_policy,
+        timeout: raw::hed_parser_timeout,
+        expire: raw::hed_parser_expire,
         reset: raw::hed_parser_reset,
         shrink_to: raw::hed_parser_shrink_to,
     };
@@ -205,10 +206,10 @@ impl InputParser {
     /// no event yet stay buffered.
     ///
     /// Pass `maybe_more` as true while more bytes may come: then bytes that may still become a
-    /// longer sequence or a character stay buffered. After a pause call
-    /// [`InputParser::flush_escape`]. Pass false at the end of the input: then only an open paste
-    /// stays. Call with no bytes and false to flush. Before the end this breaks a sequence or a
-    /// character of which the rest is still to come.
+    /// longer sequence or a character stay buffered, for as long as [`InputParser::timeout`] says.
+    /// Pass false at the end of the input: then only an open paste stays. Call with no bytes and
+    /// false to flush. Before the end this breaks a sequence or a character of which the rest is
+    /// still to come.
     ///
     /// ```
     /// use hedrugal::input::InputParser;
@@ -321,9 +322,9 @@ impl InputParser {
     /// Returns the Escape key if ESC alone is buffered, with ALT if ESC ESC is, and consumes it.
     /// Returns `None` otherwise; the parser is then unchanged.
     ///
-    /// Call it when some 50 ms have passed without a byte. Whatever else is buffered stays, so a
-    /// pause breaks only what is cut right after its ESC or ESC ESC: a sequence, the start of a
-    /// paste, or a key with Alt.
+    /// It is for a program without a clock, in place of [`InputParser::expire`]: call it when some
+    /// 50 ms have passed without a byte. Whatever else is buffered stays, so a pause breaks only what
+    /// is cut right after its ESC or ESC ESC: a sequence, the start of a paste, or a key with Alt.
     ///
     /// ```
     /// use hedrugal::input::{InputEvent, InputParser, KeyCode, KeyEvent, Modifiers};
@@ -446,6 +447,103 @@ impl InputParser {
     /// If memory is refused. The paste isn't lost: call again, or parse on.
     pub fn try_end_paste(&mut self) -> Result<Option<InputEvent>, AllocError> {
         self.parser.end_paste()
+    }
+
+    /// Sets how long each kind of bytes may stay buffered. Before that, the limits are those of
+    /// [`Policy::usual`].
+    ///
+    /// ```
+    /// use hedrugal::input::{InputParser, Policy};
+    /// use std::time::Duration;
+    ///
+    /// // A paste that stalls for ten seconds is ended where it is.
+    /// let policy = Policy {
+    ///     paste: Some(Duration::from_secs(10)),
+    ///     ..Policy::usual()
+    /// };
+    /// assert_eq!(InputParser::new().set_policy(policy), Ok(()));
+    /// ```
+    ///
+    /// # Errors
+    ///
+    /// If memory is refused. The limits are those from before: call again.
+    pub fn set_policy(&mut self, policy: Policy) -> Result<(), AllocError> {
+        self.parser.set_policy(&policy)
+    }
+
+    /// Returns how long to wait for more bytes: at least zero, and `None` for ever. If none come,
+    /// call [`InputParser::expire`].
+    ///
+    /// Call it before each wait, once all events are emitted, with the time of that moment. It notes
+    /// the time, and what was buffered since the last note. A time before the first one counts as
+    /// that. If memory is refused, here or before for an event, it returns zero, and
+    /// [`InputParser::expire`] says so or goes on. A program whose reads come from a thread:
+    ///
+    /// ```
+    /// use hedrugal::input::InputParser;
+    /// use std::error::Error;
+    /// use std::sync::mpsc::{self, Receiver, RecvTimeoutError};
+    /// use std::time::{Duration, Instant};
+    ///
+    /// fn run(reads: Receiver<Vec<u8>>) -> Result<(), Box<dyn Error + Send + Sync>> {
+    ///     let mut parser = InputParser::try_new()?;
+    ///     let handle = |event| println!("{event:?}");
+    ///     loop {
+    ///         let wait = parser.timeout(Instant::now()).unwrap_or(Duration::MAX);
+    ///         match reads.recv_timeout(wait) {
+    ///             Ok(bytes) => parser.try_parse(&bytes, handle, true)?,
+    ///             Err(RecvTimeoutError::Timeout) => parser.expire(Instant::now(), handle)?,
+    ///             Err(RecvTimeoutError::Disconnected) => break,
+    ///         }
+    ///         if let Some(part) = parser.take_paste(1 << 20)? {
+    ///             println!("pasted {part:?}");
+    ///         }
+    ///     }
+    ///     Ok(parser.try_parse(b"", handle, false)?)
+    /// }
+    ///
+    /// let (sender, reads) = mpsc::channel();
+    /// sender.send(b"q\x1b[A".to_vec()).unwrap();
+    /// drop(sender);
+    /// run(reads).unwrap();
+    /// ```
+    #[must_use]
+    pub fn timeout(&mut self, now: Instant) -> Option<Duration> {
+        self.parser.timeout(now)
+    }
+
+    /// Flushes what has waited for as long as [`InputParser::timeout`] said, and calls `callback`
+    /// with each event: ESC is the Escape key then, the beginning of a sequence is keys, and an
+    /// open paste is ended where it is. Before that time it calls nothing.
+    ///
+    /// Call it when no bytes came within that time. If bytes are there, parse them first, since they
+    /// may complete what is overdue.
+    ///
+    /// ```
+    /// use hedrugal::input::InputParser;
+    /// use std::time::{Duration, Instant};
+    ///
+    /// let mut parser = InputParser::new();
+    /// parser.parse(b"\x1b[", |_| {}, true);
+    /// let start = Instant::now();
+    /// assert_eq!(parser.timeout(start), Some(Duration::from_millis(100)));
+    /// let mut count = 0;
+    /// for (millis, wanted) in [(99, 0), (100, 1), (200, 1)] {
+    ///     let now = start + Duration::from_millis(millis);
+    ///     assert_eq!(parser.expire(now, |_| count += 1), Ok(()));
+    ///     assert_eq!(count, wanted);
+    /// }
+    /// ```
+    ///
+    /// # Errors
+    ///
+    /// If memory is refused. No event is lost: call again, or parse on.
+    pub fn expire<F: FnMut(InputEvent)>(
+        &mut self,
+        now: Instant,
+        callback: F,
+    ) -> Result<(), AllocError> {
+        self.parser.expire(now, callback)
     }
 
     /// Forgets all that is buffered, an open paste too, and an event that was refused memory.

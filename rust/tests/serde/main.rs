@@ -2,11 +2,12 @@
 use hedrugal::extended::{ExtendedEvent, KeyEventKind, KeyReport, KittyModifiers, ReportedKey};
 use hedrugal::input::{
     InputEvent, KeyCode, KeyEvent, KittyKeyboardFlags, Modifiers, MouseButtons, MouseEvent,
-    PixelMouseEvent,
+    PixelMouseEvent, Policy,
 };
 use serde::de::DeserializeOwned;
 use serde::Serialize;
 use std::fmt::Debug;
+use std::time::Duration;
 
 // A value and its JSON, in both directions.
 fn check<T: Serialize + DeserializeOwned + PartialEq + Debug>(value: T, json: &str) {
@@ -75,6 +76,19 @@ fn writes_and_reads_events() {
     );
     check(InputEvent::Paste("text".to_string()), r#"{"Paste":"text"}"#);
     check(InputEvent::Wake, "\"Wake\"");
+}
+
+#[test]
+fn writes_and_reads_policies() {
+    let policy = Policy {
+        paste: Some(Duration::from_secs(10)),
+        sequence: None,
+        ..Policy::usual()
+    };
+    check(
+        policy,
+        r#"{"escape":{"secs":0,"nanos":50000000},"alt_key":{"secs":0,"nanos":100000000},"sequence":null,"string":{"secs":5,"nanos":0},"character":null,"paste":{"secs":10,"nanos":0}}"#,
+    );
 }
 
 #[test]

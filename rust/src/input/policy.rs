@@ -1,0 +1,90 @@
+// How long bytes may stay buffered.
+use crate::raw;
+use std::time::Duration;
+
+/// How long each kind of bytes may stay buffered, as [`InputParser::timeout`] and
+/// [`ExtendedParser::timeout`] count it. `None` is forever.
+///
+/// Of a limit whole milliseconds count, and at most `i32::MAX` of them.
+///
+/// [`InputParser::timeout`]: super::InputParser::timeout
+/// [`ExtendedParser::timeout`]: crate::extended::ExtendedParser::timeout
+///
+/// ```
+/// use hedrugal::input::{InputParser, Policy};
+/// use std::time::Duration;
+///
+/// // On a slow line the parts of a sequence come late.
+/// let slow = Policy {
+///     sequence: Some(Duration::from_secs(5)),
+///     ..Policy::usual()
+/// };
+/// assert_eq!(InputParser::new().set_policy(slow), Ok(()));
+/// ```
+#[derive(Debug, Clone, Copy, PartialEq, Eq, Hash)]
+#[cfg_attr(feature = "use_serde", derive(serde::Serialize, serde::Deserialize))]
+pub struct Policy {
+    /// ESC or ESC ESC, since bytes last came. Then it is the Escape key.
+    pub escape: Option<Duration>,
+    /// ESC and one byte that may begin a sequence, such as ESC `[`, since the ESC came. Then it is a
+    /// key with ALT.
+    pub alt_key: Option<Duration>,
+    /// A longer beginning of a sequence, since its first byte came. Then its bytes are keys.
+    pub sequence: Option<Duration>,
+    /// A string without its end, since its first byte came, and a millisecond more for each byte
+    /// that is buffered. Only the extended parser reads strings.
+    pub string: Option<Duration>,
+    /// The beginning of a character, since its first byte came.
+    pub character: Option<Duration>,
+    /// An open paste, since bytes last came. Then it is ended where it is.
+    pub paste: Option<Duration>,
+}
+
+impl Policy {
+    /// Returns the limits that hold where none were set: 50 ms for an Escape, 100 ms for a key with
+    /// ALT, a second for a sequence and 5 seconds for a string. A character and a paste wait forever.
+    ///
+    /// ```
+    /// use hedrugal::input::Policy;
+    /// use std::time::Duration;
+    ///
+    /// assert_eq!(Policy::usual().escape, Some(Duration::from_millis(50)));
+    /// assert_eq!(Policy::usual().paste, None);
+    /// ```
+    #[must_use]
+    pub const fn usual() -> Policy {
+        Policy {
+            escape: Some(Duration::from_millis(50)),
+            alt_key: Some(Duration::from_millis(100)),
+            sequence: Some(Duration::from_millis(1000)),
+            string: Some(Duration::from_millis(5000)),
+            character: None,
+            paste: None,
+        }
+    }
+
+    // The policy, as the library has it.
+    pub(crate) fn raw(&self) -> raw::Policy {
+        raw::Policy {
+            escape: millis(self.escape),
+            alt_key: millis(self.alt_key),
+            sequence: millis(self.sequence),
+            string: millis(self.string),
+            character: millis(self.character),
+            paste: millis(self.paste),
+        }
+    }
+}
+
+impl Default for Policy {
+    fn default() -> Policy {
+        Policy::usual()
+    }
+}
+
+// A limit in milliseconds, below 0 if there is none.
+fn millis(limit: Option<Duration>) -> i32 {
+    limit.map_or(-1, |limit| {
+        i32::try_from(limit.as_millis()).unwrap_or(i32::MAX)
+    })
+}
