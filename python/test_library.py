@@ -82,14 +82,13 @@ def test_key_names():
 
 def test_layouts():
     parser, event, modes = hedrugal._RawParser, hedrugal._RawEvent, hedrugal._RawModes
-    assert [ctypes.sizeof(it) for it in (parser, event, modes)] == [16, 24, 16]
+    assert [ctypes.sizeof(it) for it in (parser, event, modes)] == [24, 24, 16]
     offsets = [event.modifiers.offset, event.y.offset, event.detail.offset, event.paste_len.offset]
     assert offsets == [2, 8, 12, 16]
-    assert [parser.state.offset, modes.encoding.offset, modes.has_modify_other_keys.offset] == [
-        8,
-        8,
-        12,
-    ]
+    assert [parser.timed.offset, parser.state.offset, parser.timing.offset] == [1, 8, 16]
+    assert [modes.encoding.offset, modes.has_modify_other_keys.offset] == [8, 12]
+    policy = hedrugal._RawPolicy
+    assert [ctypes.sizeof(policy), policy.alt_key.offset, policy.paste.offset] == [24, 4, 20]
     entries = hedrugal._RawEntries
     assert [ctypes.sizeof(entries), entries.count.offset, entries.with_alt.offset] == [24, 8, 16]
     keys, match = hedrugal._RawKeyMap, hedrugal._RawMatch
@@ -118,8 +117,9 @@ def test_version():
 
 def test_layouts_of_the_extended_parser():
     parser, report, event = extended._RawExtended, extended._RawReport, extended._RawExtendedEvent
-    assert [ctypes.sizeof(it) for it in (parser, report, event)] == [16, 16, 64]
-    assert [parser.state.offset, report.key.offset, report.base.offset] == [8, 2, 12]
+    assert [ctypes.sizeof(it) for it in (parser, report, event)] == [24, 16, 64]
+    assert [parser.timed.offset, parser.state.offset, parser.timing.offset] == [1, 8, 16]
+    assert [report.key.offset, report.base.offset] == [2, 12]
     offsets = [
         event.row.offset,
         event.width.offset,

@@ -33,6 +33,7 @@ import platform
 import struct
 import sys
 import threading
+import time
 import weakref
 from dataclasses import dataclass
 from typing import (
@@ -91,6 +92,7 @@ __all__ = [
     "Osc",
     "ParseError",
     "Paste",
+    "Policy",
     "Protocol",
     "ReportedKey",
     "Resize",
@@ -190,7 +192,7 @@ class KeyboardEncoding(_Named):
 
 
 class Waiting(_Named):
-    """What stays buffered, and so what a pause means: see `InputParser.waiting`."""
+    """What stays buffered: see `InputParser.waiting`."""
 
     # numbers.txt: waiting member
     NOTHING = 0  # Nothing is buffered.
@@ -365,6 +367,28 @@ class Completions:
     with_alt: bool = False
 
 
+class Policy(NamedTuple):
+    """How long each kind of bytes may stay buffered, in seconds; None is forever. The defaults are
+    the usual limits. See `InputParser.policy`.
+
+    escape: ESC or ESC ESC, since bytes last came. Then it is the Escape key.
+    alt_key: ESC and one byte that may begin a sequence, such as ESC [, since the ESC came. Then it
+        is a key with ALT.
+    sequence: a longer beginning of a sequence, since its first byte came. Then its bytes are keys.
+    string: a string without its end, since its first byte came, and a millisecond more for each
+        byte that is buffered. Only an ExtendedParser reads strings.
+    character: the beginning of a character, since its first byte came.
+    paste: an open paste, since bytes last came. Then it is ended where it is.
+    """
+
+    escape: Optional[float] = 0.05
+    alt_key: Optional[float] = 0.1
+    sequence: Optional[float] = 1.0
+    string: Optional[float] = 5.0
+    character: Optional[float] = None
+    paste: Optional[float] = None
+
+
 Bytes = Union[bytes, bytearray, memoryview]
 
 
@@ -442,7 +466,12 @@ class ParseError(MemoryError):
 
 
 class _RawParser(ctypes.Structure):
-    _fields_ = [("live", ctypes.c_bool), ("state", ctypes.c_void_p)]
+    _fields_ = [
+        ("live", ctypes.c_bool),
+        ("timed", ctypes.c_bool),
+        ("state", ctypes.c_void_p),
+        ("timing", ctypes.c_void_p),
+    ]
 
 
 class _RawEvent(ctypes.Structure):
@@ -460,6 +489,10 @@ class _RawEvent(ctypes.Structure):
 
 # The fields of a _RawEvent, all at once: in native layout it has the same gaps.
 _fields_of = struct.Struct("@BBHHHHIN").unpack_from
+
+
+class _RawPolicy(ctypes.Structure):
+    _fields_ = [(name, ctypes.c_int32) for name in Policy._fields]
 
 
 class _RawModes(ctypes.Structure):
@@ -537,6 +570,7 @@ _ROOM = 64
 _PARSER: Any = ctypes.POINTER(_RawParser)
 _EVENT = ctypes.POINTER(_RawEvent)
 _MAP = ctypes.POINTER(_RawKeyMap)
+_POLICY: Any = ctypes.POINTER(_RawPolicy)
 # A uint8_t *, as which ctypes passes a bytes object without a copy.
 _BYTES = ctypes.c_void_p
 _COUNT: Any = ctypes.POINTER(ctypes.c_size_t)
@@ -558,6 +592,9 @@ _CALLS: Dict[str, Tuple[Any, List[Any]]] = {
     "hed_parser_take_paste": (ctypes.c_uint32, [_PARSER, ctypes.c_size_t, _EVENT]),
     "hed_parser_skip_paste": (ctypes.c_bool, [_PARSER, _COUNT]),
     "hed_parser_end_paste": (ctypes.c_uint32, [_PARSER, _EVENT]),
+    "hed_parser_set_policy": (ctypes.c_bool, [_PARSER, _POLICY]),
+    "hed_parser_timeout": (ctypes.c_int32, [_PARSER, ctypes.c_uint64]),
+    "hed_parser_expire": (ctypes.c_uint32, [_PARSER, ctypes.c_uint64, _EVENT]),
     "hed_parser_reset": (ctypes.c_size_t, [_PARSER]),
     "hed_parser_entry": (
         ctypes.c_size_t,
@@ -813,6 +850,30 @@ def _not_negative(number: int) -> None:
         raise ValueError(f"{number} is negative")
 
 
+def _millis(seconds: float, most: int) -> int:
+    """A time in whole milliseconds, at most so many. Before that it is rounded to microseconds,
+    since a float may lack a little: 1.001 s are 1001 ms."""
+    if not isinstance(seconds, (int, float)):
+        raise TypeError(f"a number of seconds is required, not {type(seconds).__name__}")
+    if not seconds >= 0:
+        raise ValueError(f"{seconds} isn't a number of seconds from 0 on")
+    return min(round(min(seconds, most) * 1_000_000) // 1000, most)
+
+
+def _raw_policy(policy: Policy) -> _RawPolicy:
+    if not isinstance(policy, Policy):
+        raise TypeError(f"a Policy is required, not {type(policy).__name__}")
+    return _RawPolicy(*(-1 if it is None else _millis(it, 2**31 - 1) for it in policy))
+
+
+def _millis_of_now(now: Optional[float]) -> Callable[[], int]:
+    """The time that a caller told. If there is none, it is read once the parser is locked."""
+    if now is None:
+        return lambda: time.monotonic_ns() // 1_000_000
+    told = _millis(now, 2**64 - 1)
+    return lambda: told
+
+
 class _ParserCalls(NamedTuple):
     """The library's calls for one of its parsers."""
 
@@ -827,6 +888,9 @@ class _ParserCalls(NamedTuple):
     take_paste: Any
     skip_paste: Any
     end_paste: Any
+    set_policy: Any
+    timeout: Any
+    expire: Any
     reset: Any
     shrink_to: Any
 
@@ -872,9 +936,10 @@ class _EventParser(_Closable, Generic[_AnyEvent]):
         self._part: Bytes = b""
         # The call that is made for each event: to find it once makes a loop a little quicker.
         self._next = self._calls.next
-        # Events that `parse` found before it was refused memory. They come before that at the
-        # front.
+        # Events that `parse` or `expire` found before it was refused memory. They come before that
+        # at the front.
         self._kept: List[_AnyEvent] = []
+        self._policy = Policy()
 
     def __repr__(self) -> str:
         with self._lock:
@@ -896,7 +961,7 @@ class _EventParser(_Closable, Generic[_AnyEvent]):
         there is no event.
 
         While more bytes may come, pass maybe_more as True. Bytes that may still become a longer
-        sequence or a character then stay buffered. After a pause call `flush_escape`.
+        sequence or a character then stay buffered, for as long as `timeout` says.
 
         At the end of the input pass False. Then only an open paste stays buffered. Before the end,
         False breaks a sequence or a character whose last bytes are still to come.
@@ -923,9 +988,7 @@ class _EventParser(_Closable, Generic[_AnyEvent]):
             with self._alone():
                 self._feed(pointer, length)
                 events, taken = self._kept, True
-                while self._find_front(more):
-                    events.append(self._front_event())
-                    self._leave_front()
+                self._move_events(events, more)
                 self._kept = kept
                 return events
         except MemoryError:
@@ -935,7 +998,7 @@ class _EventParser(_Closable, Generic[_AnyEvent]):
         """Returns the events of all that is buffered but an open paste, as at the end of the input:
         `parse(b"", False)`.
 
-        After a pause call `flush_escape` instead, since half a sequence or a character may be
+        After a pause call `expire` instead, since half a sequence or a character may be
         buffered."""
         return self.parse(b"", False)
 
@@ -943,9 +1006,9 @@ class _EventParser(_Closable, Generic[_AnyEvent]):
         """Returns the Escape key if ESC alone is buffered, with ALT if ESC ESC is, and consumes
         these bytes. Returns None otherwise.
 
-        Call it when some 50 ms have passed without a byte. Anything else stays buffered. So a pause
-        breaks only what is cut right after its ESC or ESC ESC: a sequence, the start of a paste, or
-        a key with Alt."""
+        It is for a program without a clock, in place of `expire`: call it when some 50 ms have
+        passed without a byte. Anything else stays buffered. So a pause breaks only what is cut
+        right after its ESC or ESC ESC: a sequence, the start of a paste, or a key with Alt."""
         with self._alone():
             self._check_open()
             # What was refused memory comes before what is buffered.
@@ -959,11 +1022,7 @@ class _EventParser(_Closable, Generic[_AnyEvent]):
     @property
     def waiting(self) -> Waiting:
         """What stays buffered. Read it once `parse` has returned, or `next_event` has returned
-        None: before that, events may be next.
-
-        It says what a pause means. After some 50 ms with Waiting.ESCAPE call `flush_escape`.
-        Waiting.SEQUENCE may be half of a sequence on a slow line: call `flush` after a much longer
-        pause, say 1000 ms, or never. Never flush the others."""
+        None: before that, events may be next. `policy` says how long each may."""
         with self._lock:
             self._check_open()
             return _waitings.get(self._calls.waiting(self._raw)) or _fault()
@@ -1049,6 +1108,102 @@ class _EventParser(_Closable, Generic[_AnyEvent]):
                 return None
             return cast(Paste, self._take(True))
 
+    @property
+    def policy(self) -> Policy:
+        """How long each kind of bytes may stay buffered, a Policy. Assign another to change it; of
+        a limit whole milliseconds count.
+
+            >>> with InputParser() as parser:
+            ...     parser.policy = Policy(paste=10)
+            ...     parser.policy
+            Policy(escape=0.05, alt_key=0.1, sequence=1.0, string=5.0, character=None, paste=10)
+
+        To assign raises ValueError for what is no number of seconds from 0 on, and MemoryError if
+        memory is refused. The limits are those from before then."""
+        with self._lock:
+            self._check_open()
+            return self._policy
+
+    @policy.setter
+    def policy(self, policy: Policy) -> None:
+        raw = _raw_policy(policy)
+        with self._alone():
+            self._check_open()
+            if not self._calls.set_policy(self._raw, raw):
+                raise _refused()
+            self._policy = policy
+
+    def timeout(self, now: Optional[float] = None) -> Optional[float]:
+        r"""Returns how many seconds to wait for more bytes, and None for ever. If none come, call
+        `expire`.
+
+        Call it before each wait, once all events are taken. It notes the time, and what was
+        buffered since it was called last. `now` is the time of time.monotonic(), which is read if
+        it is None. The loop of a program:
+
+            >>> import os, select
+            >>> def run(terminal, handle):
+            ...     with InputParser() as parser:
+            ...         while True:
+            ...             if select.select([terminal], [], [], parser.timeout())[0]:
+            ...                 data = os.read(terminal, 4096)
+            ...                 events = parser.parse(data, bool(data))
+            ...             else:
+            ...                 data, events = None, parser.expire()
+            ...             for event in events:
+            ...                 handle(event)
+            ...             if part := parser.take_paste(1 << 20):
+            ...                 handle(Paste(part))
+            ...             if data == b"":
+            ...                 return
+            >>> terminal, keyboard = os.pipe()
+            >>> os.write(keyboard, b"q\x1b[A\x1b"), os.close(keyboard)
+            (5, None)
+            >>> run(terminal, lambda event: print(event.key))
+            q
+            KeyCode.UP_ARROW
+            KeyCode.ESCAPE
+
+        Raises ValueError if now is negative."""
+        millis = _millis_of_now(now)
+        with self._alone():
+            self._check_open()
+            # What was refused memory waits no longer.
+            if self._kept or self._has_front:
+                return 0.0
+            left = self._calls.timeout(self._raw, millis())
+            return None if left < 0 else left / 1000
+
+    def expire(self, now: Optional[float] = None) -> List[_AnyEvent]:
+        r"""Flushes what has waited for as long as `timeout` said, and returns the events. ESC is
+        the Escape key then, the beginning of a sequence is keys, and an open paste is ended where
+        it is. Before that time there are none.
+
+        Call it when no bytes came within that time. If bytes are there, parse them first, since
+        they may complete what is overdue.
+
+            >>> with InputParser() as parser:
+            ...     parser.feed(b"\x1b")
+            ...     [*parser, parser.timeout(7.0), *parser.expire(7.049), *parser.expire(7.05)]
+            [0.05, KeyEvent(key=KeyCode.ESCAPE, modifiers=Modifiers.NONE)]
+
+        Raises ValueError if now is negative, and MemoryError if memory is refused. No event is then
+        lost, and the call may be made again."""
+        millis = _millis_of_now(now)
+        kept: List[_AnyEvent] = []
+        with self._alone():
+            self._check_open()
+            events = self._kept
+            # What was refused memory comes first, and what is decided behind it.
+            if events or self._has_front:
+                self._move_events(events, True)
+            due = millis()
+            while self._find_due(due):
+                events.append(self._front_event())
+                self._leave_front()
+            self._kept = kept
+            return events
+
     def reset(self) -> int:
         """Discards all buffered bytes, those of an open paste too, and returns how many there were.
 
@@ -1094,6 +1249,18 @@ class _EventParser(_Closable, Generic[_AnyEvent]):
         if not self._has_front:
             self._has_front = _is_event(self._next(self._raw, maybe_more, self._front))
         return self._has_front
+
+    def _find_due(self, now: int) -> bool:
+        """Whether there is an event at the front, or one of what has waited too long by then."""
+        if not self._has_front:
+            self._has_front = _is_event(self._calls.expire(self._raw, now, self._front))
+        return self._has_front
+
+    def _move_events(self, events: List[_AnyEvent], more: bool) -> None:
+        """Moves the events of the buffered bytes to a list."""
+        while self._find_front(more):
+            events.append(self._front_event())
+            self._leave_front()
 
     def _front_event(self) -> _AnyEvent:
         """The event at the front."""
@@ -1146,7 +1313,7 @@ class InputParser(_EventParser[Event]):
     """Reads events from the bytes that a terminal sends, however they are cut into calls.
 
     Bytes that are no event yet stay buffered. So does a lone ESC, since it may begin a sequence.
-    Only a pause tells that it is the Escape key: see `waiting`.
+    Only a pause tells that it is the Escape key: see `timeout`.
 
     A parser owns memory outside of Python. `close` frees it; so do the end of a `with` block and
     the end of the parser's life. Every other call raises ValueError once the parser is closed. It
@@ -1176,6 +1343,9 @@ class InputParser(_EventParser[Event]):
         take_paste=_library.hed_parser_take_paste,
         skip_paste=_library.hed_parser_skip_paste,
         end_paste=_library.hed_parser_end_paste,
+        set_policy=_library.hed_parser_set_policy,
+        timeout=_library.hed_parser_timeout,
+        expire=_library.hed_parser_expire,
         reset=_library.hed_parser_reset,
         shrink_to=_library.hed_parser_shrink_to,
     )

@@ -58,6 +58,7 @@ from . import (
     _PARSER as _INPUT_PARSER,
     _parser_with_table,
     _ParserCalls,
+    _POLICY,
     _RawEvent,
     _refused,
     _sent,
@@ -256,7 +257,12 @@ ExtendedEvent = Union[
 
 
 class _RawExtended(ctypes.Structure):
-    _fields_ = [("live", ctypes.c_bool), ("state", ctypes.c_void_p)]
+    _fields_ = [
+        ("live", ctypes.c_bool),
+        ("timed", ctypes.c_bool),
+        ("state", ctypes.c_void_p),
+        ("timing", ctypes.c_void_p),
+    ]
 
 
 class _RawReport(ctypes.Structure):
@@ -316,6 +322,9 @@ _CALLS: Dict[str, Tuple[Any, List[Any]]] = {
     "hed_extended_take_paste": (ctypes.c_uint32, [_PARSER, ctypes.c_size_t, _EVENT]),
     "hed_extended_skip_paste": (ctypes.c_bool, [_PARSER, _COUNT]),
     "hed_extended_end_paste": (ctypes.c_uint32, [_PARSER, _EVENT]),
+    "hed_extended_set_policy": (ctypes.c_bool, [_PARSER, _POLICY]),
+    "hed_extended_timeout": (ctypes.c_int32, [_PARSER, ctypes.c_uint64]),
+    "hed_extended_expire": (ctypes.c_uint32, [_PARSER, ctypes.c_uint64, _EVENT]),
     "hed_extended_reset": (ctypes.c_size_t, [_PARSER]),
     "hed_encode_kitty": (
         ctypes.c_uint32,
@@ -423,6 +432,9 @@ class ExtendedParser(_EventParser[ExtendedEvent]):
         take_paste=_library.hed_extended_take_paste,
         skip_paste=_library.hed_extended_skip_paste,
         end_paste=_library.hed_extended_end_paste,
+        set_policy=_library.hed_extended_set_policy,
+        timeout=_library.hed_extended_timeout,
+        expire=_library.hed_extended_expire,
         reset=_library.hed_extended_reset,
         shrink_to=_library.hed_extended_shrink_to,
     )
