@@ -51,6 +51,26 @@ def assert_rest(parser, length, kind):
     )
 
 
+def events_in_time(parser, reads, step=None):
+    """The events of reads, and their times in milliseconds, in the loop of a program. It waits as
+    long as the parser says, or wakes once in each step. Bytes that come at the last moment come
+    first."""
+    now, reads = 0, list(reads)
+    while True:
+        timeout = parser.timeout(now / 1000)
+        due = None if timeout is None else now + round(1000 * (step or timeout))
+        if reads and (due is None or reads[0][0] <= due):
+            now, data = reads.pop(0)
+            events = parser.parse(data)
+        elif due is not None:
+            now = due
+            events = parser.expire(now / 1000)
+        else:
+            return
+        if events:
+            yield now, events
+
+
 def run_python(text, env=None, cwd=None):
     """Runs a program in another Python, and returns its status and what it printed."""
     env = {

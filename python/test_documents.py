@@ -38,13 +38,28 @@ with KeyMap[str]() as keys:
 """
 
 
+LIMITS_IN_TIME = """
+from typing import List, Optional
+from hedrugal import *
+with ExtendedParser() as parser:
+    parser.policy = parser.policy._replace(paste=10, sequence=None)
+    left: Optional[float] = parser.timeout()
+    events: List[ExtendedEvent] = parser.expire(1.5)
+"""
+
+
 @pytest.mark.skipif(not shutil.which("mypy"), reason="no mypy")
 @pytest.mark.parametrize(
-    "words", [["python/hedrugal"], ["python/examples/ask.py"], ["-c", ANSWERS_TOLD_APART]]
+    "words",
+    [
+        ["python/hedrugal"],
+        ["python/examples/ask.py"],
+        ["-c", ANSWERS_TOLD_APART],
+        ["-c", LIMITS_IN_TIME],
+    ],
 )
 def test_types(words):
-    """The package passes mypy --strict, and so do the example and a program that tells answers
-    apart."""
+    """The package passes mypy --strict, and so do the example and programs that use it."""
     words = ["mypy", "--strict", "--cache-dir=/dev/null", *words]
     done = subprocess.run(
         words,

@@ -5,7 +5,7 @@ from unittest import mock
 import pytest
 
 import hedrugal
-from hedrugal import InputParser, KeyCode, KeyEvent, ParseError, Paste, Waiting
+from hedrugal import InputParser, KeyCode, KeyEvent, Modifiers, ParseError, Paste, Policy, Waiting
 from helpers import EVENTS, LIMITS, STREAM, assert_prints, assert_rest
 
 REFUSED_FEED = (
@@ -43,6 +43,10 @@ for more in range(0, 64, 2):
     assert parser.parse(data[0]) == []
     if how == "end":
         ask = lambda: [parser.end_paste()]
+    elif how == "expire":
+        parser.policy = Policy(paste=10)
+        parser.timeout(0)
+        ask = lambda: parser.expire(10)
     elif how == "take":
         ask = lambda: [Paste(parser.take_paste())]
     else:
@@ -84,7 +88,7 @@ def test_feed(make):
     )
 
 
-@pytest.mark.parametrize("how", ["next", "parse", "end", "take"])
+@pytest.mark.parametrize("how", ["next", "parse", "end", "expire", "take"])
 def test_text_of_a_paste(make, how):
     text = f"how = {how!r}\n" + REFUSED_TEXT.replace("InputParser", make.__name__)
     # Memory that is freed goes back to the system at once, so a later round can be refused too.
@@ -285,6 +289,57 @@ def test_escape_stays(parser):
         parser.flush_escape()
     parser._front_event = real
     assert parser.parse(b"q") == [KeyEvent(KeyCode.ESCAPE), KeyEvent("q")]
+
+
+def test_what_is_due_goes_on(parser):
+    """What was found before a refusal comes first, whatever the time is then. Bytes that come
+    before it are read behind it."""
+    wanted = [KeyEvent("[", Modifiers.ALT), *map(KeyEvent, "1;5")]
+    for count in range(len(wanted)):
+        for after, more in [
+            (lambda: parser.expire(0), []),
+            (lambda: parser.parse(b"q"), [KeyEvent("q")]),
+        ]:
+            assert [parser.timeout(0), *parser.parse(b"\x1b[1;5")] == [None]
+            assert parser.timeout(5) == 1
+            real = refuse_after(parser, count)
+            with pytest.raises(MemoryError) as caught:
+                parser.expire(6)
+            assert not isinstance(caught.value, ParseError)
+            parser._front_event = real
+            assert parser.flush_escape() is None and parser.timeout(6) == 0
+            assert after() == wanted + more
+            assert parser.timeout(7) is None
+            assert_rest(parser, 0, Waiting.NOTHING)
+
+
+def test_what_was_refused_is_due(parser):
+    """So are the events behind it."""
+    real = refuse_after(parser, 1)
+    with pytest.raises(ParseError):
+        parser.parse(b"ab\x1b[200~c\x1b[201~d\x1b")
+    parser._front_event = real
+    assert parser.timeout(0) == 0
+    assert parser.expire(0) == [KeyEvent("a"), KeyEvent("b"), Paste("c"), KeyEvent("d")]
+    assert (parser.timeout(0), parser.expire(1)) == (0.05, [KeyEvent(KeyCode.ESCAPE)])
+
+
+def test_time_without_memory(parser):
+    """A refused policy is not set. A timer that is refused is due, and nothing is lost."""
+    assert parser.parse(b"\x1b") == []
+    calls = parser._calls
+    parser._calls = calls._replace(
+        set_policy=lambda *_: False,
+        timeout=lambda *_: 0,
+        expire=lambda *_: hedrugal._NEXT_NO_MEMORY,
+    )
+    with pytest.raises(MemoryError):
+        parser.policy = Policy(escape=1)
+    with pytest.raises(MemoryError):
+        parser.expire(0)
+    assert (parser.timeout(0), parser.policy) == (0, Policy())
+    parser._calls = calls
+    assert (parser.timeout(0), parser.expire(0.05)) == (0.05, [KeyEvent(KeyCode.ESCAPE)])
 
 
 TWO_PARSERS = """

@@ -2,7 +2,9 @@
 import copy
 import ctypes
 import gc
+import math
 import pickle
+import time
 import weakref
 
 import pytest
@@ -18,9 +20,10 @@ from hedrugal import (
     MouseButtons,
     MouseEvent,
     Paste,
+    Policy,
     Waiting,
 )
-from helpers import EVENTS, STREAM, assert_rest
+from helpers import EVENTS, STREAM, assert_rest, events_in_time
 
 # What stays buffered, and its kind.
 RESTS = [
@@ -337,6 +340,121 @@ def test_end_of_a_long_paste(parser):
     assert_rest(parser, 0, Waiting.NOTHING)
 
 
+# How long it may stay buffered.
+
+# Different limits, one for each kind of bytes, and no limits.
+LIMITS = Policy(0.01, 0.02, 0.03, 0.04, 0.05, 0.06)
+NEVER = Policy(*[None] * 6)
+
+
+def limit_of(policy, rest, kind):
+    if kind is Waiting.SEQUENCE and len(rest) == 2:
+        return policy.alt_key
+    return getattr(policy, kind.name.lower(), None)
+
+
+@pytest.mark.parametrize("policy", [None, LIMITS, NEVER])
+def test_limits(parser, policy):
+    """A rest is flushed, or an open paste ended, when its limit has passed, and not before."""
+    assert parser.policy == Policy()
+    parser.policy = policy or parser.policy
+    for rest, kind in RESTS:
+        wanted = [*parser.parse(rest, False), *filter(None, [parser.end_paste()])]
+        feed_rest(parser, rest, kind)
+        limit = limit_of(parser.policy, rest, kind)
+        assert parser.timeout(7) == limit, rest
+        if limit is None:
+            assert parser.expire(1e9) == []
+            assert_rest(parser, len(rest), kind)
+            parser.reset()
+            continue
+        assert parser.expire(6.999 + limit) == []
+        assert parser.timeout(6.999 + limit) == 0.001
+        assert parser.expire(7 + limit) == wanted
+        assert parser.timeout(7 + limit) is None
+        assert_rest(parser, 0, Waiting.NOTHING)
+
+
+def test_time_is_read(parser):
+    """Without an argument it is that of time.monotonic()."""
+    assert parser.timeout() is None
+    before = time.monotonic()
+    assert parser.parse(b"\x1b") == []
+    assert parser.timeout() == 0.05
+    while not (events := parser.expire()):
+        assert 0 <= parser.timeout() <= 0.05
+        time.sleep(0.001)
+    assert events == [KeyEvent(KeyCode.ESCAPE)] and time.monotonic() - before >= 0.049
+
+
+def test_a_clock_that_steps_back(parser):
+    """The time that has passed counts, and no other."""
+    assert [parser.timeout(1.0), *parser.parse(b"\x1b[1")] == [None]
+    for now, left in [(6, 1), (6.4, 0.6), (2, 0.6), (2.1, 0.5), (0, 0.5), (0.499, 0.001)]:
+        assert parser.timeout(now) == left
+        assert parser.expire(now) == []
+    assert parser.expire(0.5) == [KeyEvent("[", Modifiers.ALT), KeyEvent("1")]
+
+
+def test_held_keys(parser):
+    """Bytes that bring no event leave a sequence its time."""
+    reads = [(0, b"\x1b[<"), *((300 * count, b"0") for count in range(1, 6))]
+    flushed = [KeyEvent("[", Modifiers.ALT), *map(KeyEvent, "<000")]
+    zero = [KeyEvent("0")]
+    assert [*events_in_time(parser, reads)] == [(1000, flushed), (1200, zero), (1500, zero)]
+
+
+def test_a_start_with_pauses(parser):
+    start = b"\x1b[200~"
+    for place, pause in enumerate([50, 100, 1000, 1000, 1000], 1):
+        reads = [(0, start[:place]), (pause, start[place:]), (90000, b"q\x1b[201~")]
+        assert [*events_in_time(parser, reads)] == [(90000, [Paste("q")])]
+
+
+def test_a_long_paste_that_stalls(parser):
+    """It is ended with its text. Pauses that are shorter than its limit count for nothing."""
+    body = "é\x1b[201 rm -rf ~\rq" * 70000
+    data = b"\x1b[200~" + body.encode()
+    assert len(data) > 1 << 20
+    parser.policy = Policy(paste=10)
+    reads = [(at, data[at : at + 65536]) for at in range(0, len(data), 65536)]
+    reads = [(9999 * number, bytes) for number, (_, bytes) in enumerate(reads)]
+    assert [*events_in_time(parser, reads)] == [(reads[-1][0] + 10000, [Paste(body)])]
+    assert parser.parse(b"q") == [KeyEvent("q")]
+
+
+def test_times_are_rounded(parser):
+    """Whole milliseconds count, also those that a float just misses."""
+    assert parser.parse(b"\x1b") == []
+    for limit, left in [
+        (0, 0.0),
+        (0.0019, 0.001),
+        (1.001, 1.001),
+        (3, 3.0),
+        (1e99, 2147483.647),
+        (math.inf, 2147483.647),
+    ]:
+        parser.policy = Policy(escape=limit)
+        assert parser.policy.escape == limit and parser.timeout(9) == left
+    parser.policy = Policy(escape=2)
+    for now, left in [(8.001, 2), (8.0019, 2), (9.001, 1), (9.999, 0.002), (1e99, 0), (0, 0)]:
+        assert parser.timeout(now) == left
+    assert len(parser.expire(math.inf)) == 1
+
+
+def test_what_is_no_time(parser):
+    for wrong, error in [(-1, ValueError), (math.nan, ValueError), ("1", TypeError)]:
+        with pytest.raises(error):
+            parser.timeout(wrong)
+        with pytest.raises(error):
+            parser.expire(wrong)
+        with pytest.raises(error):
+            parser.policy = Policy(paste=wrong)
+    with pytest.raises(TypeError, match="^a Policy is required, not tuple$"):
+        parser.policy = (1, 1, 1, 1, 1, 1)
+    assert parser.policy == Policy()
+
+
 # Each call of a parser, but close. The calls on entries are those of an InputParser alone.
 ENTRY_USES = [
     lambda parser: parser.entry(0),
@@ -356,6 +474,10 @@ USES = [
     lambda parser: parser.take_paste(),
     lambda parser: parser.skip_paste(),
     lambda parser: parser.end_paste(),
+    lambda parser: parser.timeout(),
+    lambda parser: parser.expire(),
+    lambda parser: parser.policy,
+    lambda parser: setattr(parser, "policy", Policy()),
     lambda parser: parser.reset(),
     lambda parser: parser.shrink_to(),
     lambda parser: parser.waiting,

@@ -18,7 +18,7 @@ from hedrugal import (
     Paste,
     encode,
 )
-from helpers import read
+from helpers import events_in_time, read
 
 # The keys by the names that they have there: UpArrow is KeyCode.UP_ARROW.
 KEYS = {key.name.title().replace("_", ""): key for key in KeyCode}
@@ -59,14 +59,14 @@ def answer_of(text):
     return [event_of(line) for line in lines], bytes.fromhex(rest)
 
 
-def check_file(file, check_line):
+def check_file(file, check_line, least=300):
     """Checks each line by a call that returns how many comparisons it made. A second count tells
     that no line was left out."""
     text = read(f"rust/tests/recorded/{file}")
     lines = [line for line in text.split("\n") if line and not line.startswith("#")]
     for line in lines:
         assert check_line(line) > 0, line
-    assert len(lines) == len(re.findall("^[^#\n]", text, flags=re.M)) > 300
+    assert len(lines) == len(re.findall("^[^#\n]", text, flags=re.M)) > least
 
 
 class Feeder:
@@ -124,13 +124,34 @@ class Feeder:
                     count += self.check([beginning], True, ([], beginning))
         return count
 
+    def check_times(self, asked, answers):
+        """`MS:BYTES MS:BYTES.. = MS:EVENTS | MS:EVENTS..`, in a loop that waits as long as the
+        parser says, and in one that wakes each millisecond."""
+        reads, wanted = (
+            [(int(time), read(it)) for time, it in (word.split(":", 1) for word in words)]
+            for words, read in (
+                (asked.split(" "), bytes.fromhex),
+                (answers.split(" | "), lambda events: answer_of(events)[0]),
+            )
+        )
+        for step in (None, 0.001):
+            self.parser.reset()
+            assert list(events_in_time(self.parser, reads, step)) == wanted, (asked, step)
+        return 2
+
     def check_line(self, line):
         asked, answers = line.split(" = ", 1)
         if asked.startswith("*"):
             return self.check_text(bytes.fromhex(asked[1:]), answer_of(answers))
         if asked.startswith(("+", "-")):
             return self.check_steps(asked.split(" "), answers.split(" | "))
+        if ":" in asked:
+            return self.check_times(asked, answers)
         return self.check_rows(line)
+
+
+def test_times(parser):
+    check_file("times.txt", Feeder(parser).check_line, least=10)
 
 
 @pytest.mark.parametrize("file", ["parse-rows.txt", "parse-cases.txt", "rules.txt"])

@@ -166,6 +166,9 @@ def test_signals(parser):
         lambda: next(iter(parser)),
         lambda: parser.flush_escape(),
         lambda: parser.end_paste(),
+        lambda: parser.timeout(),
+        lambda: parser.expire(),
+        lambda: setattr(parser, "policy", parser.policy),
         lambda: parser.reset(),
         lambda: parser.close(),
     ]

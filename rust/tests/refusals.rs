@@ -11,9 +11,10 @@ use hedrugal::extended::{
 use hedrugal::input::{
     AllocError, EncodeError, InputEvent, InputParser, KeyCode, KeyCodeEncodeModes, KeyboardEncoding,
 };
-use hedrugal::input::{KittyKeyboardFlags, Modifiers, ParseError, Waiting};
+use hedrugal::input::{KittyKeyboardFlags, Modifiers, ParseError, Policy, Waiting};
 use hedrugal::keymap::{Found, InsertError, KeyMap};
 use malloc::{in_use, refusing};
+use std::time::{Duration, Instant};
 
 const STREAM: &[u8] =
     b"q\x1b[A\x1b[<0;12;3M\xc3\xa9\x1b[200~hello w\xc3\xb6rld, and some more text that needs memory\x1b[201~\x1b[1;5Dx\x1b[200~again\xff\x1b[201~\x1b";
@@ -330,6 +331,131 @@ fn forgets_a_refused_event() {
             (Vec::new(), 0)
         );
     }
+}
+
+const TEN_SECONDS: Duration = Duration::from_secs(10);
+
+// Limits for each kind of bytes, a paste too.
+const PASTE_IN_TIME: Policy = Policy {
+    paste: Some(TEN_SECONDS),
+    ..Policy::usual()
+};
+
+// The first call of the three that is made takes memory, each time. Refused, it changes nothing.
+#[test]
+fn tells_time_after_a_refusal() {
+    let (start, mut told) = (Instant::now(), 0);
+    let escape = || {
+        let mut parser = InputParser::new();
+        assert_eq!(parser.parse_as_vec(b"\x1b", true), []);
+        parser
+    };
+    for number in 1.. {
+        let mut parser = escape();
+        let policy = Policy {
+            escape: Some(TEN_SECONDS),
+            ..PASTE_IN_TIME
+        };
+        let (set, refused) = refusing(number, || parser.set_policy(policy));
+        assert_eq!(set.is_err(), refused > 0);
+        let limit = if refused > 0 { Policy::usual() } else { policy }.escape;
+        assert_eq!(parser.timeout(start), limit, "request {number}");
+        let mut parser = escape();
+        let (left, refused) = refusing(number, || parser.timeout(start));
+        if refused > 0 {
+            assert_eq!(left, Some(Duration::ZERO));
+            let refuse = || parser.expire(start, |event| panic!("{event:?}"));
+            assert_eq!(refusing(1, refuse), (Err(AllocError), 1));
+        }
+        assert_eq!(parser.timeout(start), Policy::usual().escape);
+        let refuse = || parser.expire(start + TEN_SECONDS, drop);
+        assert_eq!(refusing(1, refuse), (Ok(()), 0));
+        assert_eq!(refusing(1, || parser.set_policy(policy)).0, Ok(()));
+        assert_eq!(parser.waiting(), Waiting::Nothing);
+        told += refused;
+        if refused == 0 {
+            break;
+        }
+    }
+    assert!(told > 0);
+}
+
+// A paste that stalls is ended with each request refused in turn: it is still due, and not lost.
+#[test]
+fn ends_a_paste_in_time_after_a_refusal() {
+    let start = Instant::now();
+    for number in 1.. {
+        let mut parser = parser_in_a_paste();
+        assert_eq!(parser.set_policy(PASTE_IN_TIME), Ok(()));
+        assert_eq!(parser.timeout(start), Some(TEN_SECONDS));
+        let (mut events, due) = (room(), start + TEN_SECONDS);
+        let (expired, refused) =
+            refusing(number, || parser.expire(due, |event| events.push(event)));
+        if refused > 0 {
+            assert_eq!((expired, events.len()), (Err(AllocError), 0));
+            assert_eq!(parser.timeout(due), Some(Duration::ZERO));
+            assert_eq!(parser.expire(due, |event| events.push(event)), Ok(()));
+        }
+        assert_eq!(events, [InputEvent::Paste(OPEN_TEXT.to_string())]);
+        assert_eq!(
+            (parser.timeout(due), parser.waiting()),
+            (None, Waiting::Nothing)
+        );
+        if refused == 0 {
+            assert!(number > 2);
+            break;
+        }
+    }
+}
+
+// The same for bytes that come before the second call: they are read behind the paste.
+#[test]
+fn reads_on_after_a_paste_was_refused_in_time() {
+    let (start, mut told) = (Instant::now(), 0);
+    for number in 1.. {
+        let mut parser = parser_in_a_paste();
+        assert_eq!(parser.set_policy(PASTE_IN_TIME), Ok(()));
+        assert_eq!(parser.timeout(start), Some(TEN_SECONDS));
+        let due = start + TEN_SECONDS;
+        let (expired, refused) = refusing(number, || parser.expire(due, drop));
+        if refused == 0 {
+            assert_eq!(expired, Ok(()));
+            break;
+        }
+        told += refused;
+        // The library had ended the paste, and this crate was refused its text, or neither.
+        let is_ended = parser.waiting_len() == 0;
+        let events = parser.parse_as_vec(b"q", true);
+        if is_ended {
+            let [paste, key] = &events[..] else {
+                panic!("{events:?}");
+            };
+            assert_eq!(paste, &InputEvent::Paste(OPEN_TEXT.to_string()));
+            assert!(matches!(key, InputEvent::Key(_)));
+        } else {
+            assert_eq!((events, parser.waiting()), (Vec::new(), Waiting::Paste));
+            assert_eq!(parser.timeout(due), Some(TEN_SECONDS));
+        }
+    }
+    assert!(told > 1, "{told}");
+}
+
+// An event that was refused memory is due at once, and what is decided behind it.
+#[test]
+fn emits_a_refused_event_in_time() {
+    let start = Instant::now();
+    let mut seen = 0;
+    for mut parser in refused_parsers(b"\x1b[200~text\x1b[201~\x1b[A\x1b") {
+        if parser.timeout(start) == Some(Duration::ZERO) {
+            let mut events = room();
+            assert_eq!(parser.expire(start, |event| events.push(event)), Ok(()));
+            assert_eq!(events[0], InputEvent::Paste("text".to_string()));
+            assert_eq!((events.len(), parser.waiting()), (2, Waiting::Escape));
+            assert_eq!(parser.timeout(start), Policy::usual().escape);
+            seen += 1;
+        }
+    }
+    assert!(seen > 0);
 }
 
 // Makes parsers once the table is there: tests/table.rs has the first one.

@@ -3,11 +3,50 @@
 use crate::compared::Comparison;
 use crate::lines;
 use crate::port::draws::Draws;
-use crate::port::feeder::{answer, feed_file, told, Feeder, Reader};
+use crate::port::feeder::{answer, at, feed_file, told, Feeder, Reader};
 use crate::port::lines::{hex, line};
 use crate::port::plain::PlainReader as PortReader;
 use hedrugal::extended::{ExtendedEvent, ExtendedParser, Protocol};
 use hedrugal::input::InputParser;
+
+impl Reader for ExtendedParser {
+    fn reset(&mut self) {
+        ExtendedParser::reset(self);
+    }
+
+    fn call(&mut self, bytes: &[u8], more: bool) -> Vec<String> {
+        let events = self.parse_as_vec(bytes, more);
+        events.iter().map(answer_line).collect()
+    }
+
+    fn waiting_len(&self) -> usize {
+        ExtendedParser::waiting_len(self)
+    }
+
+    fn timeout(&mut self, now: u64) -> Option<u64> {
+        let left = ExtendedParser::timeout(self, at(now))?;
+        Some(left.as_millis() as u64)
+    }
+
+    fn expire(&mut self, now: u64) -> Vec<String> {
+        let mut events = Vec::new();
+        let note = |event| events.push(answer_line(&event));
+        ExtendedParser::expire(self, at(now), note).expect("memory");
+        events
+    }
+
+    fn check_other(&mut self, came: &str, _: &[u8], wanted: &str) {
+        panic!("{came}, and not {wanted}");
+    }
+}
+
+// The line of an event: that of the port, if it has one.
+fn answer_line(event: &ExtendedEvent) -> String {
+    match event {
+        ExtendedEvent::Input(event) => line(event),
+        event => lines::line(event),
+    }
+}
 
 // The parser, its calls since the last reset, and whether one had another answer than the port's.
 struct LegacyReader {
@@ -40,16 +79,19 @@ impl Reader for LegacyReader {
 
     fn call(&mut self, bytes: &[u8], more: bool) -> Vec<String> {
         self.calls.push((bytes.to_vec(), more));
-        let events = self.parser.parse_as_vec(bytes, more);
-        let answers = events.iter().map(|event| match event {
-            ExtendedEvent::Input(event) => line(event),
-            event => lines::line(event),
-        });
-        answers.collect()
+        self.parser.call(bytes, more)
     }
 
     fn waiting_len(&self) -> usize {
         self.parser.waiting_len()
+    }
+
+    fn timeout(&mut self, now: u64) -> Option<u64> {
+        Reader::timeout(&mut self.parser, now)
+    }
+
+    fn expire(&mut self, now: u64) -> Vec<String> {
+        Reader::expire(&mut self.parser, now)
     }
 
     // The plain reader answers the calls as the parser does. In the first other answer there is an
@@ -100,6 +142,11 @@ fn rules() {
 #[test]
 fn examples() {
     check("examples.txt");
+}
+
+#[test]
+fn times() {
+    check("times.txt");
 }
 
 // 5000 texts that the port's generated tests draw, each whole, cut in two at each place and byte by

@@ -1,8 +1,10 @@
-// What stays buffered, and what a pause, a limit for pastes and a reset do with it.
+// What stays buffered, and what a pause, a limit for pastes, time and a reset do with it.
 use crate::examples::BOTH;
 use crate::lines::lines;
+use crate::port::feeder::{at, events_in_time, Timed};
 use hedrugal::extended::{ExtendedEvent, ExtendedParser};
-use hedrugal::input::{InputEvent, Waiting};
+use hedrugal::input::{InputEvent, Policy, Waiting};
+use std::time::{Duration, Instant};
 
 // What stays buffered of a text, and its kind.
 const RESTS: &[(&[u8], Waiting)] = &[
@@ -190,4 +192,99 @@ fn takes_and_skips_open_pastes_alone() {
             assert_eq!(parser.parse_as_vec(b"\x1b[201~", true), [paste]);
         }
     });
+}
+
+// Different limits, one for each kind of bytes.
+const LIMITS: Policy = Policy {
+    escape: Some(Duration::from_millis(10)),
+    alt_key: Some(Duration::from_millis(20)),
+    sequence: Some(Duration::from_millis(30)),
+    string: Some(Duration::from_millis(40)),
+    character: Some(Duration::from_millis(50)),
+    paste: Some(Duration::from_millis(60)),
+};
+
+// The limit of a rest of this kind.
+fn limit_of(policy: &Policy, rest: &[u8], kind: Waiting) -> Option<Duration> {
+    match kind {
+        Waiting::Nothing => None,
+        Waiting::Escape => policy.escape,
+        Waiting::Sequence if rest.len() == 2 => policy.alt_key,
+        Waiting::Sequence => policy.sequence,
+        Waiting::Character => policy.character,
+        Waiting::Paste => policy.paste,
+    }
+}
+
+// The events of what has waited too long.
+fn expired(parser: &mut ExtendedParser, now: Instant) -> Vec<ExtendedEvent> {
+    let mut events = Vec::new();
+    assert_eq!(parser.expire(now, |event| events.push(event)), Ok(()));
+    events
+}
+
+// A rest is flushed, or an open paste ended, when its limit has passed, and not before.
+#[test]
+fn expires_by_each_limit() {
+    for policy in [Policy::usual(), LIMITS] {
+        for_each_rest(|parser, rest, kind| {
+            let mut other = ExtendedParser::new(parser.protocol());
+            let mut wanted = other.parse_as_vec(rest, false);
+            wanted.extend(other.end_paste());
+            assert_eq!(parser.set_policy(policy), Ok(()));
+            let limit = limit_of(&policy, rest, kind);
+            assert_eq!(parser.timeout(at(7)), limit, "{}", rest.escape_ascii());
+            let Some(limit) = limit else {
+                assert_eq!(expired(parser, at(1 << 40)), []);
+                return check_rest(parser, rest, kind);
+            };
+            assert_eq!(expired(parser, at(6) + limit), []);
+            assert_eq!(
+                parser.timeout(at(6) + limit),
+                Some(Duration::from_millis(1))
+            );
+            assert_eq!(expired(parser, at(7) + limit), wanted);
+            assert_eq!(parser.timeout(at(7) + limit), None);
+            check_rest(parser, b"", Waiting::Nothing);
+        });
+    }
+}
+
+// Keys that are held after Alt-] are typed a second after it, or at once.
+#[test]
+fn flushes_under_a_held_key() {
+    for protocol in BOTH {
+        let mut parser = ExtendedParser::new(*protocol);
+        let held = (1..=60).map(|count| (count * 30, b"l".to_vec()));
+        let reads: Vec<Timed<Vec<u8>>> = [(0, b"\x1b]".to_vec())].into_iter().chain(held).collect();
+        let events = events_in_time(&mut parser, &reads, None);
+        let (time, flushed) = &events[0];
+        assert_eq!((*time, flushed.len()), (1000, 34));
+        assert_eq!(
+            flushed[..2],
+            ["key U+005D ALT", "key U+006C NONE"].map(str::to_string)
+        );
+        let times = events[1..].iter().map(|(time, keys)| (*time, keys.len()));
+        assert!(times.eq((34..=60).map(|count| (count * 30, 1))));
+    }
+}
+
+// The start of a paste may be cut anywhere.
+#[test]
+fn reads_a_start_with_pauses() {
+    for protocol in BOTH {
+        let start = b"\x1b[200~";
+        for place in 1..start.len() {
+            let (first, second) = start.split_at(place);
+            let pause = [49, 99, 999][place.min(3) - 1];
+            let reads = [
+                (0, first.to_vec()),
+                (pause, second.to_vec()),
+                (90_000, b"q\x1b[201~".to_vec()),
+            ];
+            let mut parser = ExtendedParser::new(*protocol);
+            let events = events_in_time(&mut parser, &reads, None);
+            assert_eq!(events, [(90_000, vec!["paste 1:71".to_string()])]);
+        }
+    }
 }

@@ -1,5 +1,5 @@
 // The answers in tests/recorded, of the parser and of the encoder.
-use crate::feeder::{data, feed_file, told, Counts, Reader};
+use crate::feeder::{at, data, feed_file, told, Counts, Reader};
 use crate::lines::{bytes, key_named, line, modifiers_named};
 use hedrugal::input::{
     EncodeError, InputParser, KeyCode, KeyCodeEncodeModes, KeyboardEncoding, Modifiers,
@@ -16,6 +16,17 @@ impl Reader for InputParser {
 
     fn waiting_len(&self) -> usize {
         InputParser::waiting_len(self)
+    }
+
+    fn timeout(&mut self, now: u64) -> Option<u64> {
+        let left = InputParser::timeout(self, at(now))?;
+        Some(left.as_millis() as u64)
+    }
+
+    fn expire(&mut self, now: u64) -> Vec<String> {
+        let mut events = Vec::new();
+        InputParser::expire(self, at(now), |event| events.push(line(&event))).expect("memory");
+        events
     }
 
     fn check_other(&mut self, came: &str, _: &[u8], wanted: &str) {
@@ -51,6 +62,11 @@ fn rules() {
 #[test]
 fn examples() {
     check("examples.txt");
+}
+
+#[test]
+fn times() {
+    check("times.txt");
 }
 
 // The modes of a number, as tests/recorded/README.md lists its bits.

@@ -1,8 +1,10 @@
-// What stays buffered, and what a pause, a limit for pastes and a reset do with it.
+// What stays buffered, and what a pause, a limit for pastes, time and a reset do with it.
 use crate::draws::Draws;
-use crate::lines::{hex, lines};
+use crate::feeder::{at, events_in_time, Timed};
+use crate::lines::{hex, line, lines};
 use crate::plain::PlainReader;
-use hedrugal::input::{InputEvent, InputParser, Waiting};
+use hedrugal::input::{InputEvent, InputParser, Policy, Waiting};
+use std::time::{Duration, Instant};
 
 const PASTE_START: &[u8] = b"\x1b[200~";
 
@@ -422,4 +424,251 @@ fn parts_in_streams() {
         }
     }
     assert!(parts > 1000, "{parts}");
+}
+
+fn ms(millis: u64) -> Option<Duration> {
+    Some(Duration::from_millis(millis))
+}
+
+// Different limits, one for each kind of bytes.
+const LIMITS: Policy = Policy {
+    escape: Some(Duration::from_millis(10)),
+    alt_key: Some(Duration::from_millis(20)),
+    sequence: Some(Duration::from_millis(30)),
+    string: Some(Duration::from_millis(40)),
+    character: Some(Duration::from_millis(50)),
+    paste: Some(Duration::from_millis(60)),
+};
+
+// The limit of a rest.
+fn limit_of(policy: &Policy, rest: &[u8]) -> Option<Duration> {
+    match kind_of(rest) {
+        Waiting::Nothing => None,
+        Waiting::Escape => policy.escape,
+        Waiting::Sequence if rest.len() == 2 => policy.alt_key,
+        Waiting::Sequence => policy.sequence,
+        Waiting::Character => policy.character,
+        Waiting::Paste => policy.paste,
+    }
+}
+
+// The events of what has waited too long.
+fn expired(parser: &mut InputParser, now: Instant) -> Vec<InputEvent> {
+    let mut events = Vec::new();
+    assert_eq!(parser.expire(now, |event| events.push(event)), Ok(()));
+    events
+}
+
+// A rest is flushed, or an open paste ended, when its limit has passed, and not before.
+#[test]
+fn expires_by_each_limit() {
+    let never = Policy {
+        escape: None,
+        alt_key: None,
+        sequence: None,
+        string: None,
+        ..Policy::usual()
+    };
+    assert_eq!(Policy::default(), Policy::usual());
+    for (rest, _) in RESTS {
+        for policy in [Policy::usual(), LIMITS, never] {
+            let mut parser = InputParser::new();
+            let mut wanted = parser.parse_as_vec(rest, false);
+            wanted.extend(parser.end_paste());
+            if policy != Policy::usual() {
+                assert_eq!(parser.set_policy(policy), Ok(()));
+            }
+            assert_eq!(parser.parse_as_vec(rest, true), []);
+            let limit = limit_of(&policy, rest);
+            assert_eq!(parser.timeout(at(7)), limit, "{}", hex(rest));
+            let Some(limit) = limit else {
+                assert_eq!(expired(&mut parser, at(1 << 40)), []);
+                check_rest(&parser, rest, kind_of(rest));
+                continue;
+            };
+            assert_eq!(expired(&mut parser, at(6) + limit), []);
+            assert_eq!(parser.timeout(at(6) + limit), ms(1));
+            assert_eq!(expired(&mut parser, at(7) + limit), wanted);
+            assert_eq!(parser.timeout(at(7) + limit), None);
+            check_rest(&parser, b"", Waiting::Nothing);
+        }
+    }
+}
+
+// Of a limit whole milliseconds count, and at most `i32::MAX` of them.
+#[test]
+fn rounds_limits() {
+    let mut parser = InputParser::new();
+    assert_eq!(parser.parse_as_vec(b"\x1b", true), []);
+    for (limit, wanted) in [
+        (Duration::ZERO, 0),
+        (Duration::from_micros(999), 0),
+        (Duration::from_micros(1999), 1),
+        (Duration::from_millis(i32::MAX as u64), i32::MAX as u64),
+        (Duration::MAX, i32::MAX as u64),
+    ] {
+        let policy = Policy {
+            escape: Some(limit),
+            ..Policy::usual()
+        };
+        assert_eq!(parser.set_policy(policy), Ok(()));
+        assert_eq!(parser.timeout(at(0)), ms(wanted));
+    }
+    assert_eq!(parser.parse_as_vec(b"[A", true).len(), 1);
+    assert_eq!(parser.parse_as_vec(b"\x1b", true), []);
+    assert_eq!(parser.set_policy(LIMITS), Ok(()));
+    let start = at(0) + Duration::from_micros(900);
+    assert_eq!(parser.timeout(start), ms(10));
+    assert_eq!(parser.timeout(start + Duration::from_micros(1000)), ms(9));
+}
+
+// Ages grow by the clock's steps forward alone, and a time before the first counts as that.
+#[test]
+fn goes_on_when_the_clock_steps_back() {
+    let mut parser = InputParser::new();
+    assert_eq!(parser.timeout(at(1000)), None);
+    assert_eq!(parser.parse_as_vec(b"\x1b[1", true), []);
+    for (now, left) in [
+        (6000, 1000),
+        (6400, 600),
+        (2000, 600),
+        (2100, 500),
+        (0, 500),
+        (900, 500),
+        (1000, 500),
+        (1499, 1),
+    ] {
+        assert_eq!(parser.timeout(at(now)), ms(left), "{now}");
+        assert_eq!(expired(&mut parser, at(now)), []);
+    }
+    assert_eq!(expired(&mut parser, at(1500)).len(), 2);
+}
+
+// A rest, and a call that takes it.
+type Taken = (&'static [u8], fn(&mut InputParser));
+
+// What is buffered is new where that before it was taken, ended or forgotten.
+#[test]
+fn counts_from_the_new_first_byte() {
+    let takes: [Taken; 4] = [
+        (b"\x1b", |parser| assert!(parser.flush_escape().is_some())),
+        (b"\x1b[200~a", |parser| {
+            assert!(parser.end_paste().is_some())
+        }),
+        (b"\x1b[1", |parser| assert_eq!(parser.reset(), 3)),
+        (b"\xe2\x82", |parser| {
+            assert_ne!(parser.parse_as_vec(b"", false), [])
+        }),
+    ];
+    for (rest, take) in takes {
+        let mut parser = InputParser::new();
+        parse_rest(&mut parser, rest, kind_of(rest));
+        parser.timeout(at(0)).unwrap_or_default();
+        take(&mut parser);
+        assert_eq!(parser.parse_as_vec(b"\x1b[1", true), []);
+        assert_eq!(parser.timeout(at(40)), ms(1000), "{}", hex(rest));
+    }
+}
+
+// Bytes that bring no event leave a sequence its time: a held key doesn't keep it buffered.
+#[test]
+fn flushes_under_a_held_key() {
+    let mut parser = InputParser::new();
+    let held = (1..=6).map(|count| (count * 300, b"0".to_vec()));
+    let reads: Vec<Timed<Vec<u8>>> = [(0, b"\x1b[<".to_vec())].into_iter().chain(held).collect();
+    let events = events_in_time(&mut parser, &reads, None);
+    let (time, flushed) = &events[0];
+    assert_eq!((*time, flushed.len()), (1000, 5));
+    let times = events[1..].iter().map(|(time, keys)| (*time, keys.len()));
+    assert!(times.eq((4..=6).map(|count| (count * 300, 1))));
+}
+
+// A start that is cut anywhere, by a pause that its limit allows, is the start of a paste.
+#[test]
+fn reads_a_start_with_pauses() {
+    let paste = |parser: &mut InputParser, reads: &[Timed<Vec<u8>>]| {
+        let events = events_in_time(parser, reads, None);
+        assert_eq!(events.len(), 1, "{reads:?}");
+        assert_eq!(events[0].1, ["paste 1:71"], "{reads:?}");
+    };
+    let (mut parser, end) = (InputParser::new(), b"q\x1b[201~");
+    for place in 1..PASTE_START.len() {
+        let (first, second) = PASTE_START.split_at(place);
+        let pause = limit_of(&Policy::usual(), first).expect("a limit");
+        for time in [pause.as_millis() as u64, 1] {
+            let rest = [second, end].concat();
+            paste(&mut parser, &[(0, first.to_vec()), (time, rest.clone())]);
+            let single = second.iter().map(|byte| (time, vec![*byte]));
+            let mut reads: Vec<Timed<Vec<u8>>> = vec![(0, first.to_vec())];
+            reads.extend(single);
+            reads.push((time + 90_000, end.to_vec()));
+            paste(&mut parser, &reads);
+        }
+    }
+}
+
+// A paste of 1 MB that stalls for its limit, after pauses that it allows, is ended with its text.
+#[test]
+fn ends_a_long_paste_that_stalls() {
+    let mut parser = InputParser::new();
+    let policy = Policy {
+        paste: ms(10_000),
+        ..Policy::usual()
+    };
+    assert_eq!(parser.set_policy(policy), Ok(()));
+    let text = "täxt \x1b[201\r".repeat(90_000);
+    let mut reads = vec![(0, PASTE_START.to_vec())];
+    for (number, bytes) in text.as_bytes().chunks(65536).enumerate() {
+        reads.push((number as u64 * 9_999, bytes.to_vec()));
+    }
+    let last = reads.last().expect("reads").0;
+    let events = events_in_time(&mut parser, &reads, None);
+    let wanted = line(&InputEvent::Paste(text.clone()));
+    assert!(text.len() > 1 << 20 && events == [(last + 10_000, vec![wanted])]);
+    assert_eq!(lines(&parser.parse_as_vec(b"q", true)), "key U+0071 NONE");
+}
+
+// A callback that panics loses no later event. What was due goes on, whatever the time is, and comes
+// before bytes that are parsed.
+#[test]
+fn goes_on_after_a_panic() {
+    for parsed in [&b""[..], b"q"] {
+        let mut parser = InputParser::new();
+        parse_rest(&mut parser, b"\x1b[1;5", Waiting::Sequence);
+        assert_eq!(parser.timeout(at(0)), ms(1000));
+        let caught = std::panic::catch_unwind(std::panic::AssertUnwindSafe(|| {
+            parser.expire(at(1000), |_| std::panic::resume_unwind(Box::new(())))
+        }));
+        assert!(caught.is_err());
+        let events = if parsed.is_empty() {
+            expired(&mut parser, at(0))
+        } else {
+            parser.parse_as_vec(parsed, true)
+        };
+        assert_eq!(events.len(), 3 + parsed.len());
+        assert_eq!(parser.timeout(at(0)), None);
+    }
+}
+
+// Random streams in pieces, with pauses below the limits, have the events of no pauses.
+#[test]
+fn short_pauses_in_streams() {
+    let mut parser = InputParser::new();
+    let policy = Policy {
+        character: ms(1000),
+        paste: ms(1000),
+        ..Policy::usual()
+    };
+    assert_eq!(parser.set_policy(policy), Ok(()));
+    for stream in streams() {
+        for (piece, pause) in [(1, 20), (2, 49), (7, 0)] {
+            let wanted = read(&mut parser, &stream, piece, None);
+            let times = (0..).map(|number| number * pause);
+            let reads = stream.chunks(piece).map(<[u8]>::to_vec);
+            let reads: Vec<Timed<Vec<u8>>> = times.zip(reads).collect();
+            let events = events_in_time(&mut parser, &reads, None);
+            let events: Vec<String> = events.into_iter().flat_map(|(_, lines)| lines).collect();
+            assert_eq!(events.join(","), lines(&wanted), "{}", hex(&stream));
+        }
+    }
 }
