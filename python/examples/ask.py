@@ -5,7 +5,8 @@ keyboard protocol are set, and prints what it replies:
 
 The last question is the one for the terminal's attributes (DA1). Every terminal answers it, and
 answers in order, so what wasn't answered before won't be. The program ends with that answer, or
-after so many seconds, one if none are named. What is typed meanwhile is counted."""
+after so many seconds, one if none are named. What is typed meanwhile is counted, and what is pasted
+forgotten."""
 import os
 import select
 import signal
@@ -33,13 +34,6 @@ def is_attributes(event: ExtendedEvent) -> bool:
     return isinstance(event, Csi) and event.data.startswith(b"?") and event.data.endswith(b"c")
 
 
-def read_within(terminal: int, seconds: float) -> bytes:
-    """Reads what the terminal sends. Returns no bytes if it sends none within the time."""
-    if not select.select([terminal], [], [], max(seconds, 0))[0]:
-        return b""
-    return os.read(terminal, 4096)
-
-
 def ask(terminal: int, seconds: float) -> List[ExtendedEvent]:
     """Asks all questions at once. Returns the events until the last answer, or until the time is
     over."""
@@ -48,10 +42,17 @@ def ask(terminal: int, seconds: float) -> List[ExtendedEvent]:
     end = time.monotonic() + seconds
     with ExtendedParser() as parser:
         while not any(is_attributes(event) for event in events):
-            data = read_within(terminal, end - time.monotonic())
+            left, wait = end - time.monotonic(), parser.timeout()
+            if left <= 0:
+                break
+            if not select.select([terminal], [], [], left if wait is None else min(left, wait))[0]:
+                events += parser.expire()
+                continue
+            data = os.read(terminal, 4096)
             if not data:
                 break
             events += parser.parse(data)
+            parser.skip_paste()
         return events + parser.flush()
 
 

@@ -7,8 +7,8 @@
 //! its attributes (DA1), which nearly every terminal answers: once that reply came, no other will.
 //! The program waits for a second at most.
 //!
-//! What is typed meanwhile comes as events like any other. This program counts them; an editor
-//! would handle them. The terminal is restored whenever the program ends, also by SIGHUP, SIGINT,
+//! What is typed meanwhile comes as events like any other. This program counts them, and forgets
+//! what is pasted; an editor would handle both. The terminal is restored whenever the program ends, also by SIGHUP, SIGINT,
 //! SIGQUIT and SIGTERM. A SIGTSTP stops it once the terminal is restored.
 #[allow(dead_code)]
 #[path = "../live/terminal.rs"]
@@ -74,24 +74,37 @@ impl Replies {
     }
 }
 
-/// Waits for input. Returns false once there is no reason to: the time is up, or a signal ends the
-/// program.
-fn has_input(input: &File, wake: &mut UnixStream, end: Instant) -> io::Result<bool> {
-    loop {
-        let left = end.saturating_duration_since(Instant::now());
-        let ms = left.as_micros().div_ceil(1000) as i32;
-        match unix::poll_all([input.as_raw_fd(), wake.as_raw_fd()], ms) {
-            Ok([ready, false]) => return Ok(ready),
-            Ok([_, true]) => {
-                let _ = wake.read(&mut [0; 64])?;
-                if signals::ending().is_some() {
-                    return Ok(false);
-                }
-            }
-            Err(error) if error.kind() == io::ErrorKind::Interrupted => {}
-            Err(error) => return Err(error),
-        }
+/// What ends a wait.
+enum Woken {
+    Input,
+    Pause,
+    Signal,
+}
+
+/// Waits for input, at most for so long.
+fn wait(input: &File, wake: &mut UnixStream, time: Duration) -> io::Result<Woken> {
+    match unix::poll_all([input.as_raw_fd(), wake.as_raw_fd()], Some(time)) {
+        Ok([true, false]) => Ok(Woken::Input),
+        Ok([false, false]) => Ok(Woken::Pause),
+        Ok([_, true]) => wake.read(&mut [0; 64]).map(|_| Woken::Signal),
+        Err(error) if error.kind() == io::ErrorKind::Interrupted => Ok(Woken::Signal),
+        Err(error) => Err(error),
     }
+}
+
+/// Reads what is there, and forgets what is pasted. Returns false at the end of the input.
+fn read(
+    input: &mut File,
+    parser: &mut ExtendedParser,
+    note: impl FnMut(ExtendedEvent),
+) -> io::Result<bool> {
+    let mut bytes = [0; 4096];
+    let count = input.read(&mut bytes)?;
+    parser
+        .try_parse(&bytes[..count], note, true)
+        .map_err(io::Error::other)?;
+    parser.skip_paste();
+    Ok(count > 0)
 }
 
 /// Reads until the last reply came, the time is up, the input ended, or a signal ends the program.
@@ -101,17 +114,23 @@ fn read_replies(
     parser: &mut ExtendedParser,
 ) -> io::Result<Replies> {
     let end = Instant::now() + LONGEST_WAIT;
-    let mut replies = Replies::default();
-    while !replies.is_whole && has_input(input, wake, end)? {
-        let mut bytes = [0; 4096];
-        let count = input.read(&mut bytes)?;
-        if count == 0 {
-            break;
-        }
+    let (mut replies, mut now) = (Replies::default(), Instant::now());
+    while !replies.is_whole && now < end && signals::ending().is_none() {
+        let left = end - now;
+        let time = parser.timeout(now).map_or(left, |time| time.min(left));
         let note = |event| replies.note(event);
-        parser
-            .try_parse(&bytes[..count], note, true)
-            .map_err(io::Error::other)?;
+        match wait(input, wake, time)? {
+            Woken::Input => {
+                if !read(input, parser, note)? {
+                    break;
+                }
+            }
+            Woken::Pause => parser
+                .expire(Instant::now(), note)
+                .map_err(io::Error::other)?,
+            Woken::Signal => {}
+        }
+        now = Instant::now();
     }
     // A beginning that nothing continued was typed.
     parser

@@ -13,17 +13,16 @@
 mod terminal;
 mod unix;
 
-use hedrugal::input::{InputEvent, InputParser, KeyCode, KeyEvent, Modifiers, MouseEvent, Waiting};
+use hedrugal::input::{InputEvent, InputParser, KeyCode, KeyEvent, Modifiers, MouseEvent};
 use std::io::{self, Read};
 use std::os::fd::AsRawFd;
 use std::os::unix::net::UnixStream;
 use std::process::ExitCode;
 use std::sync::atomic::Ordering::SeqCst;
+use std::time::Instant;
 use terminal::Terminal;
 use unix::signals;
 
-const ESCAPE_MS: i32 = 50;
-const SEQUENCE_MS: i32 = 1000;
 const PASTE_LIMIT: usize = 1 << 20;
 
 fn with_modifiers(mut line: String, modifiers: Modifiers) -> String {
@@ -77,6 +76,13 @@ fn handle(terminal: &Terminal, event: &InputEvent) -> io::Result<bool> {
     Ok(!is_q(event))
 }
 
+/// Handles an event while the program goes on.
+fn handle_while(goes_on: &mut io::Result<bool>, terminal: &Terminal, event: &InputEvent) {
+    if matches!(goes_on, Ok(true)) {
+        *goes_on = handle(terminal, event);
+    }
+}
+
 /// The program. Its functions return whether it goes on.
 struct Live {
     parser: InputParser,
@@ -105,7 +111,7 @@ impl Live {
 
     fn step(&mut self) -> io::Result<bool> {
         let descriptors = [self.terminal.input.as_raw_fd(), self.wake.as_raw_fd()];
-        match unix::poll_all(descriptors, self.pause_ms()) {
+        match unix::poll_all(descriptors, self.parser.timeout(Instant::now())) {
             Ok([false, false]) => self.handle_pause(),
             Ok([true, false]) => self.handle_input(),
             Ok([_, true]) => self.handle_wake(),
@@ -114,20 +120,14 @@ impl Live {
         }
     }
 
-    /// How long to wait for more bytes: without end (-1) for those of a character or a paste.
-    fn pause_ms(&self) -> i32 {
-        match self.parser.waiting() {
-            Waiting::Escape => ESCAPE_MS,
-            Waiting::Sequence => SEQUENCE_MS,
-            Waiting::Nothing | Waiting::Character | Waiting::Paste => -1,
-        }
-    }
-
+    /// Nothing came in time, so an ESC is the Escape key, and what began a sequence is keys.
     fn handle_pause(&mut self) -> io::Result<bool> {
-        match self.parser.flush_escape() {
-            Some(escape) => handle(&self.terminal, &escape),
-            None => self.parse(b"", false),
-        }
+        let mut goes_on = Ok(true);
+        let handle_next = |event| handle_while(&mut goes_on, &self.terminal, &event);
+        self.parser
+            .expire(Instant::now(), handle_next)
+            .map_err(io::Error::other)?;
+        goes_on
     }
 
     fn handle_input(&mut self) -> io::Result<bool> {
@@ -140,11 +140,7 @@ impl Live {
 
     fn parse(&mut self, bytes: &[u8], more: bool) -> io::Result<bool> {
         let mut goes_on = Ok(true);
-        let handle_next = |event| {
-            if matches!(goes_on, Ok(true)) {
-                goes_on = handle(&self.terminal, &event);
-            }
-        };
+        let handle_next = |event| handle_while(&mut goes_on, &self.terminal, &event);
         self.parser
             .try_parse(bytes, handle_next, more)
             .map_err(io::Error::other)?;

@@ -4,6 +4,7 @@
 use std::ffi::{c_int, c_short, c_ulong};
 use std::io;
 use std::os::fd::RawFd;
+use std::time::Duration;
 
 #[cfg(not(all(target_os = "linux", target_arch = "x86_64")))]
 compile_error!("the numbers of this file are those of x86-64 Linux");
@@ -90,9 +91,14 @@ pub fn size(terminal: RawFd) -> io::Result<(u16, u16)> {
     Ok((size.columns, size.rows))
 }
 
-/// Waits until a descriptor can be read or is at its end, for ever if the time is below zero.
-/// Returns which of them are ready.
-pub fn poll_all<const N: usize>(descriptors: [RawFd; N], ms: i32) -> io::Result<[bool; N]> {
+/// Waits until a descriptor can be read or is at its end, or until the time is over. Returns which
+/// of them are ready.
+pub fn poll_all<const N: usize>(
+    descriptors: [RawFd; N],
+    time: Option<Duration>,
+) -> io::Result<[bool; N]> {
+    // A part of a millisecond counts as a whole one, or the loop would turn until it is over.
+    let ms = time.map_or(-1, |time| time.as_micros().div_ceil(1000) as c_int);
     let mut polled = descriptors.map(|descriptor| PollFd {
         descriptor,
         events: POLLIN,
