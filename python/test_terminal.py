@@ -29,16 +29,15 @@ def test_the_first_listing():
     child.sendline()
     child.expect_exact("\r\n")
     printed = b""
-    for line, typed in zip(
-        wanted.splitlines(), (b"\x1b", b"\x1b[", b"\x1bx", "é".encode(), b"\x1b[15;2~", b"q")
-    ):
+    typed = [b"\x1b", b"\x1b[", b"\x1b[1;", b"\x1bx", "é".encode(), b"\x1b[15;2~", b"q"]
+    for line, data in zip(wanted.splitlines(), typed):
         child.expect_exact("\r\n")
         printed += child.before + b"\n"
         assert printed.decode().endswith(f"{line}\n")
-        child.send(typed)
-        if typed == b"\x1b[":
+        child.send(data)
+        if data == b"\x1b[1;":
             time.sleep(0.5)
-            child.send(b"A")
+            child.send(b"2A")
     child.expect(pexpect.EOF)
     child.wait()
     child.close()
