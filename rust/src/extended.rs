@@ -24,5 +24,5 @@ mod parser;
 
 pub use crate::input::flags::KittyModifiers;
 pub use encode::KittyEncodeError;
-pub use events::{ExtendedEvent, KeyEventKind, KeyReport, ReportedKey};
-pub use parser::{ExtendedParser, Protocol};
+pub use events::{ExtendedEvent, KeyEventKind, KeyReport, ReportedKey, StringKind};
+pub use parser::{ExtendedParser, ExtendedWaiting, Protocol};

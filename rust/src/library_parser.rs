@@ -1,5 +1,5 @@
 // What the parsers of this crate have in common: a parser of the library, and its last event.
-use crate::input::{AllocError, ParseError, ParseVecError, Policy, Waiting, FAULT};
+use crate::input::{AllocError, ParseError, ParseVecError, Policy, FAULT};
 use crate::raw;
 use std::sync::{Mutex, MutexGuard, PoisonError};
 use std::time::{Duration, Instant};
@@ -139,17 +139,10 @@ impl<Raw: RawParser> LibraryParser<Raw> {
         unsafe { (Raw::CALLS.waiting_len)(&mut *self.locked()) }
     }
 
-    // What stays buffered.
-    pub fn waiting(&self) -> Waiting {
+    // What stays buffered, by the library's number.
+    pub fn waiting(&self) -> u32 {
         // SAFETY: `raw` is a parser, which this thread alone has.
-        match unsafe { (Raw::CALLS.waiting)(&mut *self.locked()) } {
-            raw::WAITING_NOTHING => Waiting::Nothing,
-            raw::WAITING_ESCAPE => Waiting::Escape,
-            raw::WAITING_SEQUENCE => Waiting::Sequence,
-            raw::WAITING_CHARACTER => Waiting::Character,
-            raw::WAITING_PASTE => Waiting::Paste,
-            _ => unreachable!("{FAULT}"),
-        }
+        unsafe { (Raw::CALLS.waiting)(&mut *self.locked()) }
     }
 
     // The Escape key, if ESC or ESC ESC is all that is buffered.

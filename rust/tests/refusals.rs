@@ -6,7 +6,7 @@ mod malloc;
 
 use hedrugal::extended::{
     ExtendedEvent, ExtendedParser, KeyEventKind, KeyReport, KittyEncodeError, KittyModifiers,
-    Protocol, ReportedKey,
+    Protocol, ReportedKey, StringKind,
 };
 use hedrugal::input::{
     AllocError, EncodeError, InputEvent, InputParser, KeyCode, KeyCodeEncodeModes, KeyboardEncoding,
@@ -115,7 +115,7 @@ fn goes_on_with_try_parse_as_vec() {
 
 // Reports, replies and strings, of which most bring bytes of their own.
 const REPLIES: &[u8] =
-    b"q\x1b[97;5:3u\x1b[97;2;65u\x1b[24;80R\x1b[?62;22c\x1b]11;rgb:1e1e/1e1e/1e1e\x1b\\\x1bP>|kitty\x1b\\\x1b[200~text\x1b[201~";
+    b"q\x1b[97;5:3u\x1b[97;2;65u\x1b[24;80R\x1b[?62;22c\x1b]11;rgb:1e1e/1e1e/1e1e\x1b\\\x1bP>|kitty\x1b\x1b[200~text\x1b[201~\x1b]l\x07";
 
 // Reads these in pieces by the extended parser with one request refused. Returns the events, and
 // how many refusals were told.
@@ -142,7 +142,7 @@ fn read_replies(piece: usize, number: usize) -> (Vec<ExtendedEvent>, usize) {
 fn goes_on_with_the_extended_parser() {
     for piece in [1, 7, REPLIES.len()] {
         let (whole, none) = read_replies(piece, 0);
-        assert_eq!((whole.len(), none), (8, 0));
+        assert_eq!((whole.len(), none), (9, 0));
         let mut number = 1;
         while read_replies(piece, number).1 > 0 {
             assert_eq!(
@@ -438,6 +438,35 @@ fn reads_on_after_a_paste_was_refused_in_time() {
         }
     }
     assert!(told > 1, "{told}");
+}
+
+// A string whose line is dead is cut off with each request refused in turn.
+#[test]
+fn cuts_a_string_in_time_after_a_refusal() {
+    let start = Instant::now();
+    let due = start + Duration::from_millis(5008);
+    for number in 1.. {
+        let mut parser = ExtendedParser::new(Protocol::Legacy);
+        assert_eq!(parser.parse_as_vec(b"\x1b]11;rgb", true), []);
+        assert_eq!(parser.timeout(start), Some(due - start));
+        let mut events = Vec::with_capacity(1);
+        let (expired, refused) =
+            refusing(number, || parser.expire(due, |event| events.push(event)));
+        if refused > 0 {
+            assert_eq!((expired, events.len()), (Err(AllocError), 0));
+            assert_eq!(parser.timeout(due), Some(Duration::ZERO));
+            assert_eq!(parser.expire(due, |event| events.push(event)), Ok(()));
+        }
+        let cut = ExtendedEvent::StringCut {
+            kind: StringKind::Osc,
+            bytes: b"11;rgb".to_vec(),
+        };
+        assert_eq!((events, parser.timeout(due)), (vec![cut], None));
+        if refused == 0 {
+            assert!(number > 2);
+            break;
+        }
+    }
 }
 
 // An event that was refused memory is due at once, and what is decided behind it.

@@ -55,6 +55,8 @@ impl Replies {
                 self.is_whole = true;
                 format!("attributes {}", bytes.escape_ascii())
             }
+            // A reply that was cut off is nothing that was typed.
+            ExtendedEvent::StringPart { .. } | ExtendedEvent::StringCut { .. } => return,
             _ => {
                 self.typed += 1;
                 return;

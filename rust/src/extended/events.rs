@@ -77,6 +77,30 @@ pub struct KeyReport {
     pub text: String,
 }
 
+/// The kind of a string, by what introduces it.
+///
+/// ```
+/// use hedrugal::extended::{ExtendedEvent, ExtendedParser, Protocol, StringKind};
+///
+/// let mut parser = ExtendedParser::new(Protocol::Legacy);
+/// parser.parse(b"\x1bP>|xterm", |_| {}, true);
+/// let cut = ExtendedEvent::StringCut {
+///     kind: StringKind::Dcs,
+///     bytes: b">|xterm".to_vec(),
+/// };
+/// assert_eq!(parser.parse_as_vec(b"", false), [cut]);
+/// ```
+#[derive(Debug, Clone, Copy, PartialEq, Eq, Hash)]
+#[cfg_attr(feature = "use_serde", derive(serde::Serialize, serde::Deserialize))]
+pub enum StringKind {
+    /// An operating system command, after ESC `]`.
+    Osc,
+    /// A device control string, after ESC `P`.
+    Dcs,
+    /// An application program command, after ESC `_`.
+    Apc,
+}
+
 /// Something that happened at the terminal, or that it replied.
 ///
 /// ```
@@ -126,6 +150,22 @@ pub enum ExtendedEvent {
     Dcs(Vec<u8>),
     /// An application program command: its bytes after ESC `_`, without its end.
     Apc(Vec<u8>),
+    /// The first bytes of a long string whose end is still to come. The next such event, or the
+    /// string's own, goes on with it. Its bytes begin with those that opened the string once more,
+    /// such as `52;`.
+    StringPart {
+        /// The kind of the string.
+        kind: StringKind,
+        /// The bytes after its introducer, 65533 of them.
+        bytes: Vec<u8>,
+    },
+    /// A string that was cut off: another sequence followed it, or nothing for too long.
+    StringCut {
+        /// The kind of the string.
+        kind: StringKind,
+        /// Its bytes after its introducer.
+        bytes: Vec<u8>,
+    },
 }
 
 impl ExtendedEvent {
@@ -183,8 +223,28 @@ impl ExtendedEvent {
             raw::KIND_OSC => ExtendedEvent::Osc(text(event.text_len)?),
             raw::KIND_DCS => ExtendedEvent::Dcs(text(event.text_len)?),
             raw::KIND_APC => ExtendedEvent::Apc(text(event.text_len)?),
+            raw::KIND_STRING_PART => ExtendedEvent::StringPart {
+                kind: StringKind::of(event.flags),
+                bytes: text(event.text_len)?,
+            },
+            raw::KIND_STRING_CUT => ExtendedEvent::StringCut {
+                kind: StringKind::of(event.flags),
+                bytes: text(event.text_len)?,
+            },
             _ => unreachable!("{FAULT}"),
         })
+    }
+}
+
+impl StringKind {
+    // The kind of a string of the library, by that of its event.
+    fn of(kind: u8) -> StringKind {
+        match kind {
+            raw::KIND_OSC => StringKind::Osc,
+            raw::KIND_DCS => StringKind::Dcs,
+            raw::KIND_APC => StringKind::Apc,
+            _ => unreachable!("{FAULT}"),
+        }
     }
 }
 

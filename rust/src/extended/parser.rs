@@ -1,6 +1,6 @@
 // The extended parser: bytes of a terminal to events.
 use super::ExtendedEvent;
-use crate::input::{AllocError, ParseError, ParseVecError, Policy, Waiting};
+use crate::input::{AllocError, ParseError, ParseVecError, Policy, FAULT};
 use crate::library_parser::{Calls, LibraryParser, RawParser};
 use crate::{raw, table};
 use std::fmt;
@@ -39,6 +39,52 @@ impl Protocol {
         match self {
             Protocol::Legacy => raw::PROTOCOL_LEGACY,
             Protocol::Kitty => raw::PROTOCOL_KITTY,
+        }
+    }
+}
+
+/// What stays buffered, as [`ExtendedParser::waiting`] returns it. A [`Policy`] says how long each
+/// may.
+///
+/// ```
+/// use hedrugal::extended::{ExtendedParser, ExtendedWaiting, Protocol};
+///
+/// let mut parser = ExtendedParser::new(Protocol::Legacy);
+/// for (bytes, waiting) in [
+///     (&b"\x1b]1"[..], ExtendedWaiting::Sequence),
+///     (b"1;rgb:", ExtendedWaiting::String),
+/// ] {
+///     parser.parse(bytes, |_| {}, true);
+///     assert_eq!(parser.waiting(), waiting);
+/// }
+/// ```
+#[derive(Clone, Copy, Debug, PartialEq, Eq, Hash)]
+pub enum ExtendedWaiting {
+    /// Nothing is buffered.
+    Nothing,
+    /// ESC, or ESC ESC: the Escape key, alone or with Alt, unless more bytes follow.
+    Escape,
+    /// A longer prefix of a sequence, or of what opens a string, after an ESC or not.
+    Sequence,
+    /// A prefix of a character in UTF-8, after an ESC or not.
+    Character,
+    /// An open paste: its start, and its text so far.
+    Paste,
+    /// An open string: its opening, and its bytes so far.
+    String,
+}
+
+impl ExtendedWaiting {
+    // What the library's number stands for.
+    fn of(number: u32) -> ExtendedWaiting {
+        match number {
+            raw::WAITING_NOTHING => ExtendedWaiting::Nothing,
+            raw::WAITING_ESCAPE => ExtendedWaiting::Escape,
+            raw::WAITING_SEQUENCE => ExtendedWaiting::Sequence,
+            raw::WAITING_CHARACTER => ExtendedWaiting::Character,
+            raw::WAITING_PASTE => ExtendedWaiting::Paste,
+            raw::WAITING_STRING => ExtendedWaiting::String,
+            _ => unreachable!("{FAULT}"),
         }
     }
 }
@@ -313,7 +359,7 @@ impl ExtendedParser {
     }
 
     /// Returns the number of bytes that are buffered. Those of an event that was refused memory may
-    /// no longer be among them. Between calls that parse it is at most 65536, unless a paste is
+    /// no longer be among them. Between calls that parse it is at most 65535, unless a paste is
     /// open.
     ///
     /// ```
@@ -328,20 +374,18 @@ impl ExtendedParser {
         self.parser.waiting_len()
     }
 
-    /// Returns what stays buffered, once a call that parses has succeeded. The beginning of a
-    /// control sequence or of a string is a [`Waiting::Sequence`].
+    /// Returns what stays buffered, once a call that parses has succeeded.
     ///
     /// ```
-    /// use hedrugal::extended::{ExtendedParser, Protocol};
-    /// use hedrugal::input::Waiting;
+    /// use hedrugal::extended::{ExtendedParser, ExtendedWaiting, Protocol};
     ///
     /// let mut parser = ExtendedParser::new(Protocol::Legacy);
     /// parser.parse(b"\x1b]0;title", |_| {}, true);
-    /// assert_eq!(parser.waiting(), Waiting::Sequence);
+    /// assert_eq!(parser.waiting(), ExtendedWaiting::String);
     /// ```
     #[must_use]
-    pub fn waiting(&self) -> Waiting {
-        self.parser.waiting()
+    pub fn waiting(&self) -> ExtendedWaiting {
+        ExtendedWaiting::of(self.parser.waiting())
     }
 
     /// Returns the Escape key if ESC alone is buffered, with ALT if ESC ESC is, and consumes it.
@@ -525,8 +569,8 @@ impl ExtendedParser {
     }
 
     /// Flushes what has waited for as long as [`ExtendedParser::timeout`] said, and calls `callback`
-    /// with each event: ESC is the Escape key then, the beginning of a sequence is keys, and an
-    /// open paste is ended where it is. Before that time it calls nothing.
+    /// with each event: ESC is the Escape key then, the beginning of a sequence is keys, a
+    /// string is cut off, and an open paste is ended where it is. Before that time it calls nothing.
     ///
     /// Call it when no bytes came within that time. If bytes are there, parse them first, since they
     /// may complete what is overdue.

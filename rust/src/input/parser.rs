@@ -89,9 +89,7 @@ impl<Event> fmt::Display for ParseVecError<Event> {
 
 impl<Event: fmt::Debug> error::Error for ParseVecError<Event> {}
 
-/// What stays buffered, as [`InputParser::waiting`] and
-/// [`ExtendedParser::waiting`](crate::extended::ExtendedParser::waiting) return it. A [`Policy`]
-/// says how long each may.
+/// What stays buffered, as [`InputParser::waiting`] returns it. A [`Policy`] says how long each may.
 ///
 /// ```
 /// use hedrugal::input::{InputParser, Waiting};
@@ -112,6 +110,20 @@ pub enum Waiting {
     Character,
     /// An open paste: its start, and its text so far.
     Paste,
+}
+
+impl Waiting {
+    // What the library's number stands for.
+    fn of(number: u32) -> Waiting {
+        match number {
+            raw::WAITING_NOTHING => Waiting::Nothing,
+            raw::WAITING_ESCAPE => Waiting::Escape,
+            raw::WAITING_SEQUENCE => Waiting::Sequence,
+            raw::WAITING_CHARACTER => Waiting::Character,
+            raw::WAITING_PASTE => Waiting::Paste,
+            _ => unreachable!("{FAULT}"),
+        }
+    }
 }
 
 /// Reads events from the bytes that a terminal sends, however they are cut into calls.
@@ -316,7 +328,7 @@ impl InputParser {
     /// ```
     #[must_use]
     pub fn waiting(&self) -> Waiting {
-        self.parser.waiting()
+        Waiting::of(self.parser.waiting())
     }
 
     /// Returns the Escape key if ESC alone is buffered, with ALT if ESC ESC is, and consumes it.

@@ -43,13 +43,9 @@ impl Comparison {
         has_extra
     }
 
-    // Whether what is buffered begins an extra sequence, after at most one ESC.
+    // Whether what is buffered is a string or begins an extra sequence, after at most one ESC.
     pub fn begins_extra(&self) -> bool {
-        let after_escape = self.waiting.strip_prefix(b"\x1b");
-        [Some(&self.waiting[..]), after_escape]
-            .into_iter()
-            .flatten()
-            .any(|text| self.reader.begins_extra(text))
+        self.reader.begins_extra(&self.waiting)
     }
 
     // A call has the events of the plain reader, and as many bytes are buffered after it.
@@ -64,7 +60,7 @@ impl Comparison {
             "{}, {more}",
             text.escape_ascii()
         );
-        self.waiting = rest.to_vec();
+        self.waiting = rest;
     }
 
     // What is buffered after a flush is an open paste: its end tells the text of it.

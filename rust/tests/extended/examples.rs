@@ -120,7 +120,14 @@ pub const STRINGS: &[Example] = &[
             (b"\\", MORE, r"osc 0;\xc3\xa9"),
         ],
     ),
-    (BOTH, &[(b"\x1b]\x07\x1b]\x1b\\", LAST, "osc , osc ")]),
+    (
+        BOTH,
+        &[(
+            b"\x1b]\x07\x1b]\x1b\\",
+            MORE,
+            "key Char(']') ALT, key Char('g') CTRL, key Char(']') ALT, key Char('\\\\') ALT",
+        )],
+    ),
     (BOTH, &[(b"\x1b]0;a\x07", MORE, "osc 0;a")]),
     (BOTH, &[(b"\x1bP>", MORE, "; 3")]),
     (BOTH, &[(b"\x1bP>|kitty\x1b\\", LAST, "dcs >|kitty")]),
@@ -151,24 +158,107 @@ pub const STRINGS: &[Example] = &[
     ),
     (
         BOTH,
+        &[(
+            b"\x1b]ab",
+            MORE,
+            "key Char(']') ALT, key Char('a') NONE, key Char('b') NONE",
+        )],
+    ),
+    (
+        BOTH,
+        &[(
+            b"\x1b]abc",
+            MORE,
+            "key Char(']') ALT, key Char('a') NONE, key Char('b') NONE, key Char('c') NONE",
+        )],
+    ),
+    // What begins an opening or a title is undecided.
+    (
+        BOTH,
         &[
-            (b"\x1b]ab", MORE, "; 4"),
+            (b"\x1b]12345", MORE, "; 7"),
             (
-                b"",
-                LAST,
-                "key Char(']') ALT, key Char('a') NONE, key Char('b') NONE",
+                b"6",
+                MORE,
+                "key Char(']') ALT, key Char('1') NONE, key Char('2') NONE, key Char('3') NONE\
+                 , key Char('4') NONE, key Char('5') NONE, key Char('6') NONE",
             ),
         ],
     ),
     (
         BOTH,
         &[
-            (b"\x1b]abc", MORE, "; 5"),
+            (b"\x1b\x1bP@kitt", MORE, "; 8"),
+            (b"y-cmd", MORE, "key Escape NONE; 12"),
+            (b"", LAST, "dcs cut @kitty-cmd"),
+        ],
+    ),
+    (
+        BOTH,
+        &[
+            (b"\x1bP1+", MORE, "; 4"),
+            (
+                b"\x1b",
+                MORE,
+                "key Char('P') ALT, key Char('1') NONE, key Char('+') NONE; 1",
+            ),
+        ],
+    ),
+    (
+        BOTH,
+        &[
+            (b"\x1b_GZ", MORE, "; 4"),
+            (b"=", MORE, "; 5"),
+            (b"\x1b\\", MORE, "apc GZ="),
+        ],
+    ),
+    (
+        BOTH,
+        &[
+            (b"\x1b]Lx\x1b", MORE, "; 5"),
             (
                 b"",
                 LAST,
-                "key Char(']') ALT, key Char('a') NONE, key Char('b') NONE, key Char('c') NONE",
+                "key Char(']') ALT, key Char('L') NONE, key Char('x') NONE, key Escape NONE",
             ),
+        ],
+    ),
+    // A string ends at its end, or is cut off. urxvt ends its replies with a lone ESC.
+    (
+        BOTH,
+        &[
+            (b"\x1b]11;rgb:0/0/0\x1b", MORE, "; 15"),
+            (
+                b"\x1bOA\r",
+                MORE,
+                "osc cut 11;rgb:0/0/0, key ApplicationUpArrow NONE, key Enter NONE",
+            ),
+        ],
+    ),
+    (
+        BOTH,
+        &[
+            (b"\x1b]10;a\x1b", MORE, "; 7"),
+            (b"\x1b]11;b\x1b", MORE, "osc cut 10;a; 7"),
+            (b"", LAST, "osc cut 11;b"),
+        ],
+    ),
+    (
+        BOTH,
+        &[
+            (b"\x1b]10;a", MORE, "; 6"),
+            (
+                b"\x1b[Iq",
+                MORE,
+                "osc cut 10;a, focus gained, key Char('q') NONE",
+            ),
+        ],
+    ),
+    (
+        BOTH,
+        &[
+            (b"\x1bP>|a\r\x07\x03", MORE, "; 8"),
+            (b"\x1bq", MORE, r"dcs cut >|a\r\x07\x03, key Char('q') ALT"),
         ],
     ),
     (
@@ -459,7 +549,7 @@ pub const PASTES: &[Example] = &[
         &[(
             b"\x1b]0;a\x1b[200~b\x1b[201~",
             MORE,
-            "key Char(']') ALT, key Char('0') NONE, key Char(';') NONE, key Char('a') NONE, paste \"b\"",
+            "osc cut 0;a, paste \"b\"",
         )],
     ),
 ];

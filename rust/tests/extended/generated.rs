@@ -42,21 +42,25 @@ const SYMBOLS: &[&[u8]] = &[
     b"\r",
     b"\x1b[",
     b"\x1b]",
+    b"\x1b]4;",
+    b"\x1b]l",
+    b"\x1bP>|",
+    b"\x1bP1$r",
+    b"\x1b_Gi=",
     b"\x1b\\",
     b"\x1b[97;5",
     b"\x1b[200~",
     b"\x1b[201~",
 ];
 
-// Of these no text has an extra sequence: neither ST nor BEL ends a string, and no byte that ends a
-// control sequence comes after the beginning of one.
+// Of these no text has an extra sequence or an opening: none of the latter is whole, and no byte that
+// ends a control sequence comes after the beginning of one.
 const USUAL_SYMBOLS: &[&[u8]] = &[
     b"\x1b",
     b"\x1b",
     b"]",
     b"P",
     b"_",
-    b";",
     b"1",
     b"2",
     b"5",

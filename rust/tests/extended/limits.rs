@@ -12,68 +12,98 @@ pub type LongExample = (Parts<&'static [u8]>, Parts<&'static str>);
 // The longest string of each kind, also after an ESC, and the longest text that stays buffered.
 const STRINGS: &[LongExample] = &[
     (
-        &[(b"\x1b]", 1), (b"x", 65533), (b"\x07", 1)],
-        &[("osc ", 1), ("x", 65533)],
+        &[(b"\x1b]1;", 1), (b"x", 65530), (b"\x07", 1)],
+        &[("osc 1;", 1), ("x", 65530)],
     ),
     (
-        &[(b"\x1b]", 1), (b"x", 65532), (b"\x1b\\", 1)],
-        &[("osc ", 1), ("x", 65532)],
+        &[(b"\x1b]1;", 1), (b"x", 65530), (b"\x1b\\", 1)],
+        &[("osc 1;", 1), ("x", 65530)],
     ),
     (
-        &[(b"\x1bP", 1), (b"x", 65532), (b"\x1b\\", 1)],
-        &[("dcs ", 1), ("x", 65532)],
+        &[(b"\x1bP>|", 1), (b"x", 65530), (b"\x1b\\", 1)],
+        &[("dcs >|", 1), ("x", 65530)],
     ),
     (
-        &[(b"\x1b_", 1), (b"x", 65532), (b"\x1b\\", 1)],
-        &[("apc ", 1), ("x", 65532)],
+        &[(b"\x1b_Gi=", 1), (b"x", 65529), (b"\x1b\\", 1)],
+        &[("apc Gi=", 1), ("x", 65529)],
     ),
     (
-        &[(b"\x1b\x1b]", 1), (b"x", 65533), (b"\x07", 1)],
-        &[("key Escape NONE, osc ", 1), ("x", 65533)],
+        &[(b"\x1b\x1b]1;", 1), (b"x", 65530), (b"\x07", 1)],
+        &[("key Escape NONE, osc 1;", 1), ("x", 65530)],
     ),
-    (&[(b"\x1b\x1b]", 1), (b"x", 65533)], &[("; 65536", 1)]),
+    (
+        &[(b"\x1b]1;", 1), (b"x", 65530), (b"\x1b", 1)],
+        &[("; 65535", 1)],
+    ),
 ];
 
-// Strings that are a byte longer, ended or not: they are typed text.
-const TYPED_STRINGS: &[LongExample] = &[
+// Strings that are a byte longer, ended or not: a part comes first, and the opening is put back.
+const PARTS: &[LongExample] = &[
     (
-        &[(b"\x1b]", 1), (b"x", 65534), (b"\x07", 1)],
+        &[(b"\x1b]1;", 1), (b"x", 65531), (b"\x07", 1)],
+        &[("osc part 1;", 1), ("x", 65531), (", osc 1;", 1)],
+    ),
+    (
+        &[(b"\x1b]1;", 1), (b"x", 131062), (b"yz\x1b\\q", 1)],
         &[
-            ("key Char(']') ALT", 1),
-            (", key Char('x') NONE", 65534),
-            (", key Char('g') CTRL", 1),
+            ("osc part 1;", 1),
+            ("x", 65531),
+            (", osc part 1;", 1),
+            ("x", 65531),
+            (", osc 1;yz, key Char('q') NONE", 1),
         ],
     ),
     (
-        &[(b"\x1b]", 1), (b"x", 65533), (b"\x1b\\", 1)],
+        &[(b"\x1bP>|", 1), (b"x", 65531), (b"\x1b\x1b", 1)],
+        &[("dcs part >|", 1), ("x", 65531), (", dcs cut >|; 1", 1)],
+    ),
+    (
+        &[(b"\x1b\x1b_Gi=", 1), (b"x", 65530)],
         &[
-            ("key Char(']') ALT", 1),
-            (", key Char('x') NONE", 65533),
-            (r", key Char('\\') ALT", 1),
+            ("key Escape NONE, apc part Gi=", 1),
+            ("x", 65530),
+            ("; 5", 1),
         ],
     ),
     (
-        &[(b"\x1b_", 1), (b"x", 65533), (b"\x1b\\", 1)],
+        &[(b"\x1b]52;", 1), (b"A", 65530), (b"B\x07", 1)],
+        &[("osc part 52;", 1), ("A", 65530), (", osc 52;B", 1)],
+    ),
+    (
+        &[(b"\x1b]52;", 1), (b"A", 65530), (b"\x1bOA", 1)],
         &[
-            ("key Char('_') ALT", 1),
-            (", key Char('x') NONE", 65533),
-            (r", key Char('\\') ALT", 1),
+            ("osc part 52;", 1),
+            ("A", 65530),
+            (", osc cut 52;, key ApplicationUpArrow NONE", 1),
+        ],
+    ),
+];
+
+// The longest title that can be typed, and the shortest that can't.
+const TITLES: &[LongExample] = &[
+    (
+        &[(b"\x1b]l", 1), (b"t", 251), (b"\x1b", 1)],
+        &[("; 255", 1)],
+    ),
+    (
+        &[(b"\x1b]l", 1), (b"t", 251), (b"\x1b\\", 1)],
+        &[("osc l", 1), ("t", 251)],
+    ),
+    (
+        &[(b"\x1b]L", 1), (b"t", 251), (b"\x1b[I", 1)],
+        &[
+            ("key Char(']') ALT, key Char('L') NONE", 1),
+            (", key Char('t') NONE", 251),
+            (", focus gained", 1),
         ],
     ),
     (
-        &[(b"\x1b\x1b]", 1), (b"x", 65534)],
-        &[
-            ("key Escape ALT, key Char(']') NONE", 1),
-            (", key Char('x') NONE", 65534),
-        ],
+        &[(b"\x1b]l", 1), (b"t", 252), (b"\r\x1b[I", 1)],
+        &[("osc cut l", 1), ("t", 252), ("\\r, focus gained", 1)],
     ),
     (
-        &[(b"\x1bP", 1), (b"x", 65533), (b"\x1b", 1)],
-        &[
-            ("key Char('P') ALT", 1),
-            (", key Char('x') NONE", 65533),
-            ("; 1", 1),
-        ],
+        &[(b"\x1b]l", 1), (b"t", 252), (b"\x07", 1)],
+        &[("osc l", 1), ("t", 252)],
     ),
 ];
 
@@ -140,8 +170,13 @@ fn reads_strings_up_to_their_limit() {
 }
 
 #[test]
-fn reads_longer_strings_as_typed_text() {
-    check_all(BOTH, TYPED_STRINGS);
+fn reads_longer_strings_in_parts() {
+    check_all(BOTH, PARTS);
+}
+
+#[test]
+fn reads_titles_up_to_their_limit() {
+    check_all(BOTH, TITLES);
 }
 
 #[test]

@@ -1,5 +1,5 @@
 // Events as lines of text.
-use hedrugal::extended::{ExtendedEvent, KeyEventKind, KeyReport, ReportedKey};
+use hedrugal::extended::{ExtendedEvent, KeyEventKind, KeyReport, ReportedKey, StringKind};
 use hedrugal::input::InputEvent;
 
 fn input(event: &InputEvent) -> String {
@@ -34,6 +34,15 @@ fn report(report: &KeyReport) -> String {
     line
 }
 
+// The name of a kind of strings.
+pub fn name_of(kind: StringKind) -> &'static str {
+    match kind {
+        StringKind::Osc => "osc",
+        StringKind::Dcs => "dcs",
+        StringKind::Apc => "apc",
+    }
+}
+
 fn bytes(name: &str, bytes: &[u8]) -> String {
     format!("{name} {}", bytes.escape_ascii())
 }
@@ -57,6 +66,12 @@ pub fn line(event: &ExtendedEvent) -> String {
         ExtendedEvent::Osc(text) => bytes("osc", text),
         ExtendedEvent::Dcs(text) => bytes("dcs", text),
         ExtendedEvent::Apc(text) => bytes("apc", text),
+        ExtendedEvent::StringPart { kind, bytes: part } => {
+            bytes(&format!("{} part", name_of(*kind)), part)
+        }
+        ExtendedEvent::StringCut { kind, bytes: cut } => {
+            bytes(&format!("{} cut", name_of(*kind)), cut)
+        }
     }
 }
 

@@ -3,7 +3,7 @@ use crate::examples::{BOTH, LAST};
 use crate::limits::{check_all, joined, LongExample};
 use crate::lines::lines;
 use crate::parser::{parsed, CALLS};
-use hedrugal::extended::{ExtendedEvent, ExtendedParser, Protocol};
+use hedrugal::extended::{ExtendedEvent, ExtendedParser, ExtendedWaiting, Protocol};
 use hedrugal::input::InputEvent;
 
 // A text of one event, by each call as a whole, and in reads of 4096 bytes.
@@ -47,22 +47,60 @@ fn a_command_of_60000_bytes() {
     }
 }
 
-// The longest string has 65536 bytes, with its start and its end. A longer one is typed text.
+// What a program gets of a long string: parts, and what ends it. Each begins with the opening, here
+// of so many bytes after the introducer. Returns the kinds of these, and all other bytes.
+fn joined_string(events: &[ExtendedEvent], opening: usize) -> (String, Vec<u8>) {
+    let (mut names, mut data) = (String::new(), Vec::new());
+    for event in events {
+        let (name, bytes) = match event {
+            ExtendedEvent::StringPart { bytes, .. } => ('p', bytes),
+            ExtendedEvent::StringCut { bytes, .. } => ('c', bytes),
+            ExtendedEvent::Osc(bytes) | ExtendedEvent::Dcs(bytes) | ExtendedEvent::Apc(bytes) => {
+                ('e', bytes)
+            }
+            event => panic!("{event:?}"),
+        };
+        names.push(name);
+        data.extend_from_slice(&bytes[opening..]);
+    }
+    (names, data)
+}
+
+// 100 KB of a clipboard with line ends in it, ended or not, in reads of any length: nothing of it is
+// typed, and what follows is read by itself.
 #[test]
-fn strings_at_the_limit() {
-    let text = vec![b'x'; 65532];
-    let string = |start: &[u8], text: &[u8]| [start, text, b"\x1b\\"].concat();
-    check(&string(b"\x1b]", &text), &ExtendedEvent::Osc(text.clone()));
-    check(&string(b"\x1bP", &text), &ExtendedEvent::Dcs(text.clone()));
-    check(&string(b"\x1b_", &text), &ExtendedEvent::Apc(text.clone()));
-    let longer = vec![b'x'; 65533];
+fn a_clipboard_of_100_kb() {
+    let text = b"rm -rf ~\r\x03\x00\x7f\n".repeat(8000);
+    assert!(text.len() > 100_000);
     for protocol in BOTH {
-        let mut parser = ExtendedParser::new(*protocol);
-        let events = parser.parse_as_vec(&string(b"\x1b_", &longer), true);
-        assert_eq!(events.len(), longer.len() + 2);
-        assert!(events
-            .iter()
-            .all(|event| matches!(event, ExtendedEvent::Input(InputEvent::Key(_)))));
+        for (opening, end, wanted) in [
+            (&b"\x1b]52;"[..], &b"\x07"[..], "pe"),
+            (b"\x1b]52;", b"\x1b\\", "pe"),
+            (b"\x1b]52;", b"", "pc"),
+            (b"\x1b]52;", b"\x1b", "pc"),
+            (b"\x1bP>|", b"\x1b\\", "pe"),
+            (b"\x1b_Gi=", b"", "pc"),
+        ] {
+            for size in [1, 4096, 200_000] {
+                let mut parser = ExtendedParser::new(*protocol);
+                let mut events = Vec::new();
+                for bytes in [opening, &text, end].concat().chunks(size) {
+                    events.extend(parser.parse_as_vec(bytes, true));
+                    assert!(parser.waiting_len() <= 65535);
+                }
+                if wanted == "pc" {
+                    assert_eq!(parser.waiting(), ExtendedWaiting::String);
+                    events.extend(parser.parse_as_vec(b"", LAST));
+                }
+                let (kinds, data) = joined_string(&events, opening.len() - 2);
+                assert_eq!(kinds, wanted);
+                assert!(data == text, "{protocol:?}, pieces of {size}");
+                assert_eq!(
+                    lines(&parser.parse_as_vec(b"q", true)),
+                    "key Char('q') NONE"
+                );
+            }
+        }
     }
 }
 
@@ -72,10 +110,10 @@ fn events_70000_at_once() {
     for protocol in BOTH {
         let mut parser = ExtendedParser::new(*protocol);
         for call in 0..CALLS {
-            let events = parsed(call, &mut parser, &b"\x1b[I\x1b]a\x07".repeat(35000), true);
+            let events = parsed(call, &mut parser, &b"\x1b[I\x1b]4;\x07".repeat(35000), true);
             let wanted = [
                 ExtendedEvent::FocusGained,
-                ExtendedEvent::Osc(b"a".to_vec()),
+                ExtendedEvent::Osc(b"4;".to_vec()),
             ];
             assert_eq!(events.len(), 70000);
             assert!(

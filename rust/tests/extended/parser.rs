@@ -7,9 +7,10 @@ use crate::examples::{
 };
 use crate::lines::lines;
 use hedrugal::extended::{
-    ExtendedEvent, ExtendedParser, KeyEventKind, KeyReport, KittyModifiers, Protocol, ReportedKey,
+    ExtendedEvent, ExtendedParser, ExtendedWaiting, KeyEventKind, KeyReport, KittyModifiers,
+    Protocol, ReportedKey,
 };
-use hedrugal::input::{InputEvent, InputParser, KeyCode, KittyKeyboardFlags, Waiting};
+use hedrugal::input::{InputEvent, InputParser, KeyCode, KittyKeyboardFlags};
 
 // What a call gave, and how many bytes are buffered after it.
 pub fn given(events: &[ExtendedEvent], parser: &ExtendedParser) -> String {
@@ -176,7 +177,7 @@ fn pressed(key: KeyCode, modifiers: KittyModifiers) -> KeyReport {
 fn finds_keys_of_events() {
     let mut parser = ExtendedParser::new(Protocol::Legacy);
     let events = parser.parse_as_vec(
-        b"a\x1b[1;8A\x1b[I\x1b[97;5:3u\x1b[200~p\x1b[201~\x1b[<0;1;1M\x1b[?1u\x1b]a\x07",
+        b"a\x1b[1;8A\x1b[I\x1b[97;5:3u\x1b[200~p\x1b[201~\x1b[<0;1;1M\x1b[?1u\x1b]4;\x07",
         true,
     );
     let keys: Vec<Option<KeyReport>> = events.iter().map(ExtendedEvent::key).collect();
@@ -251,7 +252,7 @@ fn goes_on_after_a_panic() {
     let mut parser = ExtendedParser::new(Protocol::Legacy);
     let caught = std::panic::catch_unwind(std::panic::AssertUnwindSafe(|| {
         parser.parse(
-            b"\x1b[I\x1b]a\x07",
+            b"\x1b[I\x1b]4;\x07",
             |_| std::panic::resume_unwind(Box::new(())),
             true,
         );
@@ -259,7 +260,7 @@ fn goes_on_after_a_panic() {
     assert!(caught.is_err());
     assert_eq!(
         parser.parse_as_vec(b"", true),
-        [ExtendedEvent::Osc(b"a".to_vec())]
+        [ExtendedEvent::Osc(b"4;".to_vec())]
     );
 }
 
@@ -274,7 +275,7 @@ fn shares_a_parser_between_threads() {
                 for _ in 0..1000 {
                     assert_eq!(
                         (parser.waiting(), parser.waiting_len()),
-                        (Waiting::Sequence, 9)
+                        (ExtendedWaiting::String, 9)
                     );
                     assert!(!parser.is_paste_open());
                 }

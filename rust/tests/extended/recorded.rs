@@ -1,10 +1,12 @@
 // The answers in tests/recorded, and the port's on generated texts. Under `Protocol::Legacy` the
 // extended parser gives the same, but where an extra sequence occurs or has begun.
 use crate::compared::Comparison;
-use crate::lines;
+use crate::cuts::read_cut;
+use crate::examples::BOTH;
+use crate::lines::{self, name_of};
 use crate::port::draws::Draws;
-use crate::port::feeder::{answer, at, feed_file, told, Feeder, Reader};
-use crate::port::lines::{hex, line};
+use crate::port::feeder::{answer, at, data, feed_file, told, Feeder, Reader};
+use crate::port::lines::{bytes, hex, line};
 use crate::port::plain::PlainReader as PortReader;
 use hedrugal::extended::{ExtendedEvent, ExtendedParser, Protocol};
 use hedrugal::input::InputParser;
@@ -40,10 +42,17 @@ impl Reader for ExtendedParser {
     }
 }
 
-// The line of an event: that of the port, if it has one.
-fn answer_line(event: &ExtendedEvent) -> String {
+// The line of an event: that of the port, if it has one. Of a string the number of its bytes and the
+// bytes.
+pub fn answer_line(event: &ExtendedEvent) -> String {
+    let of = |name: &str, bytes: &[u8]| format!("{name} {}:{}", bytes.len(), hex(bytes));
     match event {
         ExtendedEvent::Input(event) => line(event),
+        ExtendedEvent::Osc(bytes) => of("osc", bytes),
+        ExtendedEvent::Dcs(bytes) => of("dcs", bytes),
+        ExtendedEvent::Apc(bytes) => of("apc", bytes),
+        ExtendedEvent::StringPart { kind, bytes } => of(&format!("{} part", name_of(*kind)), bytes),
+        ExtendedEvent::StringCut { kind, bytes } => of(&format!("{} cut", name_of(*kind)), bytes),
         event => lines::line(event),
     }
 }
@@ -147,6 +156,57 @@ fn examples() {
 #[test]
 fn times() {
     check("times.txt");
+}
+
+// The calls of a line, each cut in this way, have the answers of the line.
+fn check_cut(
+    parser: &mut ExtendedParser,
+    calls: &[(Vec<u8>, bool)],
+    answers: &str,
+    place: usize,
+    size: usize,
+) {
+    parser.reset();
+    let mut fed = Vec::new();
+    let came: Vec<String> = calls
+        .iter()
+        .map(|(bytes, more)| {
+            let events = read_cut(parser, bytes, *more, place, size);
+            fed.extend_from_slice(bytes);
+            let lines: Vec<String> = events.iter().map(answer_line).collect();
+            answer(&lines, &fed[fed.len() - parser.waiting_len()..])
+        })
+        .collect();
+    assert_eq!(came.join(" | "), answers, "to {place} in pieces of {size}");
+}
+
+// The worked strings, under both protocols: as they stand, with each call cut at each place, and as
+// the plain reader reads them.
+#[test]
+fn strings() {
+    for protocol in BOTH {
+        let mut parser = ExtendedParser::new(*protocol);
+        assert_eq!(feed_file(&mut parser, "strings.txt"), told("strings.txt"));
+        let mut comparison = Comparison::new(*protocol);
+        for line in data("strings.txt").lines() {
+            let Some((given, answers)) = line.split_once(" = ") else {
+                continue;
+            };
+            if given.contains(':') {
+                continue;
+            }
+            let calls: Vec<(Vec<u8>, bool)> = given
+                .split(' ')
+                .map(|call| (bytes(&call[1..]), call.starts_with('+')))
+                .collect();
+            let longest = calls.iter().map(|(bytes, _)| bytes.len()).max();
+            for place in 0..=longest.unwrap_or(0) {
+                check_cut(&mut parser, &calls, answers, place, 1);
+                check_cut(&mut parser, &calls, answers, place, place.max(1));
+            }
+            comparison.check_calls(&calls);
+        }
+    }
 }
 
 // 5000 texts that the port's generated tests draw, each whole, cut in two at each place and byte by

@@ -1,7 +1,13 @@
-// Random streams of sequences and their beginnings: how they are cut changes no event.
+// Random streams of sequences and their beginnings: how they are cut changes no event, and what a
+// pause flushes is flushed in time.
 use crate::draws::Draws;
 use crate::examples::BOTH;
-use hedrugal::extended::{ExtendedEvent, ExtendedParser};
+use crate::plain::PlainReader;
+use crate::port::feeder::{events_in_time, Timed};
+use crate::recorded::answer_line;
+use crate::waiting::{limit_of, LIMITS};
+use hedrugal::extended::{ExtendedEvent, ExtendedParser, ExtendedWaiting};
+use hedrugal::input::InputEvent;
 
 const SYMBOLS: &[&[u8]] = &[
     b"\x1b",
@@ -35,6 +41,9 @@ const SYMBOLS: &[&[u8]] = &[
     b"\x1b[1;2:3A",
     b"\x1b[97;5u",
     b"\x1b]0;t\x07",
+    b"\x1b]4;",
+    b"\x1bP>|",
+    b"\x1b_Gi=",
     b"\x1b[<0;3;4M",
     b"\x1b[200~",
     b"\x1b[201~",
@@ -78,5 +87,105 @@ fn cuts_change_nothing() {
                 .count();
         }
         assert!(extra > 5000, "{extra}");
+    }
+}
+
+// What a rest is.
+fn kind_of(reader: &PlainReader, rest: &[u8]) -> ExtendedWaiting {
+    match rest {
+        [] => ExtendedWaiting::Nothing,
+        [0x1b] | [0x1b, 0x1b] => ExtendedWaiting::Escape,
+        _ if rest.starts_with(b"\x1b[200~") => ExtendedWaiting::Paste,
+        _ if reader.is_string(rest) => ExtendedWaiting::String,
+        [byte, ..] | [0x1b, byte, ..] if !byte.is_ascii() => ExtendedWaiting::Character,
+        _ => ExtendedWaiting::Sequence,
+    }
+}
+
+// What is buffered, when its first byte came to the front, and when bytes last came.
+#[derive(Default)]
+struct Rest {
+    bytes: Vec<u8>,
+    first: u64,
+    last: u64,
+}
+
+impl Rest {
+    // When it is due.
+    fn due(&self, reader: &PlainReader) -> Option<u64> {
+        let kind = kind_of(reader, &self.bytes);
+        let limit = limit_of(&LIMITS, &self.bytes, kind)?.as_millis() as u64;
+        Some(match kind {
+            ExtendedWaiting::Escape | ExtendedWaiting::Paste => self.last + limit,
+            _ => self.first + limit,
+        })
+    }
+
+    // The events of a flush, or of the end of a paste.
+    fn flush(&mut self, reader: &PlainReader) -> Vec<ExtendedEvent> {
+        let bytes = std::mem::take(&mut self.bytes);
+        if let Some(text) = bytes.strip_prefix(b"\x1b[200~") {
+            let text = String::from_utf8_lossy(text).into_owned();
+            return vec![ExtendedEvent::Input(InputEvent::Paste(text))];
+        }
+        let (events, left) = reader.read(&bytes, false);
+        assert_eq!(left, b"");
+        events
+    }
+
+    // The events of a read.
+    fn read(&mut self, reader: &PlainReader, time: u64, bytes: &[u8]) -> Vec<ExtendedEvent> {
+        let (events, left) = reader.read(&[&self.bytes, bytes].concat(), true);
+        if self.bytes.is_empty() || !events.is_empty() {
+            self.first = time;
+        }
+        self.last = time;
+        self.bytes = left;
+        events
+    }
+}
+
+// The events of the plain reader, each rest of which is flushed when its limit has passed.
+fn plain_events(reader: &PlainReader, reads: &[Timed<Vec<u8>>]) -> Vec<Timed<Vec<String>>> {
+    let (mut rest, mut events) = (Rest::default(), Vec::new());
+    let mut note = |time: u64, came: Vec<ExtendedEvent>| {
+        if !came.is_empty() {
+            events.push((time, came.iter().map(answer_line).collect()));
+        }
+    };
+    for (time, bytes) in reads {
+        if let Some(due) = rest.due(reader).filter(|due| due < time) {
+            note(due, rest.flush(reader));
+        }
+        note(*time, rest.read(reader, *time, bytes));
+    }
+    if let Some(due) = rest.due(reader) {
+        note(due, rest.flush(reader));
+    }
+    events
+}
+
+#[test]
+fn pauses_flush_in_time() {
+    for protocol in BOTH {
+        let (mut draws, mut parser) = (Draws::new(32), ExtendedParser::new(*protocol));
+        let reader = PlainReader::new(*protocol);
+        assert_eq!(parser.set_policy(LIMITS), Ok(()));
+        let mut flushed = 0;
+        for _ in 0..2000 {
+            let (mut time, mut reads) = (0, Vec::new());
+            for _ in 0..=draws.below(12) {
+                let count = 1 + draws.below(3);
+                reads.push((time, draws.text(count, SYMBOLS)));
+                time += [0, 5, 9, 10, 11, 19, 20, 21, 30, 45, 51, 70][draws.below(12)];
+            }
+            let events = events_in_time(&mut parser, &reads, None);
+            assert_eq!(events, plain_events(&reader, &reads), "{reads:?}");
+            flushed += events
+                .iter()
+                .filter(|(time, _)| reads.iter().all(|(read, _)| read != time))
+                .count();
+        }
+        assert!(flushed > 1000, "{flushed}");
     }
 }

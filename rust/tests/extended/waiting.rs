@@ -2,8 +2,9 @@
 use crate::examples::BOTH;
 use crate::lines::lines;
 use crate::port::feeder::{at, events_in_time, Timed};
-use hedrugal::extended::{ExtendedEvent, ExtendedParser};
-use hedrugal::input::{InputEvent, Policy, Waiting};
+use crate::recorded::answer_line;
+use hedrugal::extended::{ExtendedEvent, ExtendedParser, ExtendedWaiting as Waiting, StringKind};
+use hedrugal::input::{InputEvent, Policy};
 use std::time::{Duration, Instant};
 
 // What stays buffered of a text, and its kind.
@@ -19,10 +20,18 @@ const RESTS: &[(&[u8], Waiting)] = &[
     (b"\x1b[M0\xc3", Waiting::Sequence),
     (b"\x1b[[", Waiting::Sequence),
     (b"\x1b]", Waiting::Sequence),
-    (b"\x1b]0;\xc3", Waiting::Sequence),
-    (b"\x1b]0;a\x1b", Waiting::Sequence),
-    (b"\x1b\x1bP>|", Waiting::Sequence),
-    (b"\x1b_Gi=31", Waiting::Sequence),
+    (b"\x1b]12345", Waiting::Sequence),
+    (b"\x1b\x1b]l", Waiting::Sequence),
+    (b"\x1b]Ltitle\r\x1b", Waiting::Sequence),
+    (b"\x1bP0+", Waiting::Sequence),
+    (b"\x1b\x1bP@kitty", Waiting::Sequence),
+    (b"\x1b_Gi", Waiting::Sequence),
+    (b"\x1b]0;\xc3", Waiting::String),
+    (b"\x1b]0;a\x1b", Waiting::String),
+    (b"\x1b]11;\r\n", Waiting::String),
+    (b"\x1bP>|", Waiting::String),
+    (b"\x1bP0+r\x07", Waiting::String),
+    (b"\x1b_Gi=31", Waiting::String),
     (b"\xe2\x82", Waiting::Character),
     (b"\x1b\xe2\x82", Waiting::Character),
     (b"\x1b[200~", Waiting::Paste),
@@ -195,7 +204,7 @@ fn takes_and_skips_open_pastes_alone() {
 }
 
 // Different limits, one for each kind of bytes.
-const LIMITS: Policy = Policy {
+pub const LIMITS: Policy = Policy {
     escape: Some(Duration::from_millis(10)),
     alt_key: Some(Duration::from_millis(20)),
     sequence: Some(Duration::from_millis(30)),
@@ -205,7 +214,7 @@ const LIMITS: Policy = Policy {
 };
 
 // The limit of a rest of this kind.
-fn limit_of(policy: &Policy, rest: &[u8], kind: Waiting) -> Option<Duration> {
+pub fn limit_of(policy: &Policy, rest: &[u8], kind: Waiting) -> Option<Duration> {
     match kind {
         Waiting::Nothing => None,
         Waiting::Escape => policy.escape,
@@ -213,6 +222,10 @@ fn limit_of(policy: &Policy, rest: &[u8], kind: Waiting) -> Option<Duration> {
         Waiting::Sequence => policy.sequence,
         Waiting::Character => policy.character,
         Waiting::Paste => policy.paste,
+        Waiting::String => {
+            let more = Duration::from_millis(rest.len() as u64);
+            policy.string.map(|limit| limit + more)
+        }
     }
 }
 
@@ -266,6 +279,50 @@ fn flushes_under_a_held_key() {
         );
         let times = events[1..].iter().map(|(time, keys)| (*time, keys.len()));
         assert!(times.eq((34..=60).map(|count| (count * 30, 1))));
+    }
+}
+
+// A reply of 60,000 bytes comes at 2 KB in a second. No limit passes, and nothing is typed.
+#[test]
+fn reads_a_string_on_a_slow_line() {
+    for protocol in BOTH {
+        let mut parser = ExtendedParser::new(*protocol);
+        let text = [b"\x1b]52;", &b"c\r;0"[..].repeat(15_000)[..]].concat();
+        let slow = (0..).zip(text.chunks(2));
+        let mut reads: Vec<Timed<Vec<u8>>> =
+            slow.map(|(time, bytes)| (time, bytes.to_vec())).collect();
+        reads.push((33_000, b"\x07".to_vec()));
+        let events = events_in_time(&mut parser, &reads, None);
+        let wanted = answer_line(&ExtendedEvent::Osc(text[2..].to_vec()));
+        assert!(events == [(33_000, vec![wanted])]);
+    }
+}
+
+// A string whose line is dead is cut off. Keys that are held meanwhile are its data, and end it in
+// some six seconds.
+#[test]
+fn cuts_a_string_under_a_held_key() {
+    for protocol in BOTH {
+        let mut parser = ExtendedParser::new(*protocol);
+        let held = (1..=200).map(|count| (count * 30, b"\r".to_vec()));
+        let reads: Vec<Timed<Vec<u8>>> = [(0, b"\x1b]11;rgb".to_vec())]
+            .into_iter()
+            .chain(held)
+            .collect();
+        let events = events_in_time(&mut parser, &reads, None);
+        let (time, cut) = &events[0];
+        // 5000 ms and one for each of 8 + 172 bytes.
+        assert_eq!(*time, 5180);
+        let bytes = [b"11;rgb", &b"\r".repeat(172)[..]].concat();
+        let kind = StringKind::Osc;
+        assert_eq!(
+            *cut,
+            [answer_line(&ExtendedEvent::StringCut { kind, bytes })]
+        );
+        assert!(events[1..]
+            .iter()
+            .all(|(_, keys)| keys == &["key Enter NONE"]));
+        assert_eq!(events.len(), 1 + 28);
     }
 }
 

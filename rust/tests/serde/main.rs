@@ -1,5 +1,7 @@
 // The derives behind the feature `use_serde`, which rust/serde builds.
-use hedrugal::extended::{ExtendedEvent, KeyEventKind, KeyReport, KittyModifiers, ReportedKey};
+use hedrugal::extended::{
+    ExtendedEvent, KeyEventKind, KeyReport, KittyModifiers, ReportedKey, StringKind,
+};
 use hedrugal::input::{
     InputEvent, KeyCode, KeyEvent, KittyKeyboardFlags, Modifiers, MouseButtons, MouseEvent,
     PixelMouseEvent, Policy,
@@ -117,4 +119,16 @@ fn writes_and_reads_extended_events() {
         r#"{"CursorPosition":{"row":24,"column":80}}"#,
     );
     check(ExtendedEvent::Osc(b"1;".to_vec()), r#"{"Osc":[49,59]}"#);
+    let (kind, bytes) = (StringKind::Dcs, b">|".to_vec());
+    check(
+        ExtendedEvent::StringPart {
+            kind,
+            bytes: bytes.clone(),
+        },
+        r#"{"StringPart":{"kind":"Dcs","bytes":[62,124]}}"#,
+    );
+    check(
+        ExtendedEvent::StringCut { kind, bytes },
+        r#"{"StringCut":{"kind":"Dcs","bytes":[62,124]}}"#,
+    );
 }

@@ -1,19 +1,11 @@
 // 1 and 2: the forms.
+use super::strings::is_title;
 
 const CSI: &[u8] = b"\x1b[";
-
-const ST: &[u8] = b"\x1b\\";
-
-const BEL: &[u8] = b"\x07";
 
 // A byte from 0x20 to 0x3f.
 fn is_inner(byte: u8) -> bool {
     matches!(byte, 0x20..=0x3f)
-}
-
-// A data byte.
-fn is_data(byte: u8) -> bool {
-    byte >= 0x20 && byte != 0x7f
 }
 
 // 2: whether what follows ESC `[` begins a mouse report, a console key or a row.
@@ -46,25 +38,11 @@ fn is_keypad_key(text: &[u8]) -> bool {
     matches!(text, [0x1b, b'O', b'M' | b'X' | b'E' | b'j'..=b'y'])
 }
 
-// What introduces a string, and its data bytes.
-pub fn string_of(text: &[u8]) -> Option<(u8, &[u8])> {
-    let [0x1b, introducer, after @ ..] = text else {
-        return None;
-    };
-    let data = match introducer {
-        b']' => after.strip_suffix(BEL).or_else(|| after.strip_suffix(ST))?,
-        b'P' | b'_' => after.strip_suffix(ST)?,
-        _ => return None,
-    };
-    let is_string = text.len() <= 65536 && data.iter().all(|byte| is_data(*byte));
-    is_string.then_some((*introducer, data))
-}
-
 // Whether the text is of a form.
 pub fn is_form(text: &[u8]) -> bool {
     is_control_sequence(text)
         || is_x10_report(text)
         || is_console_key(text)
         || is_keypad_key(text)
-        || string_of(text).is_some()
+        || is_title(text)
 }

@@ -1,8 +1,8 @@
 // "Events": the event of a text of a form. `t` is what follows ESC `[`.
-use super::forms::string_of;
 use super::keys::{
     console_key_of, key_of, key_of_letter, key_of_number, keypad_key_of, other_key_of,
 };
+use super::strings::event_of_string;
 use crate::port::plain::buttons_of;
 use hedrugal::extended::{ExtendedEvent, KeyEventKind, KeyReport, KittyModifiers, ReportedKey};
 use hedrugal::input::{InputEvent, Modifiers, MouseEvent};
@@ -304,19 +304,11 @@ fn event_of_control(t: &[u8]) -> ExtendedEvent {
         .unwrap_or_else(|| ExtendedEvent::Csi(t.to_vec()))
 }
 
-// A string.
-fn event_of_string(introducer: u8, data: &[u8]) -> ExtendedEvent {
-    match introducer {
-        b']' => ExtendedEvent::Osc(data.to_vec()),
-        b'P' => ExtendedEvent::Dcs(data.to_vec()),
-        _ => ExtendedEvent::Apc(data.to_vec()),
-    }
-}
-
 // The event of a text of a form.
 pub fn event_of(text: &[u8]) -> Option<ExtendedEvent> {
-    if let Some((introducer, data)) = string_of(text) {
-        return Some(event_of_string(introducer, data));
+    if text.starts_with(b"\x1b]") {
+        let end = if text.ends_with(b"\x07") { 1 } else { 2 };
+        return Some(event_of_string(&text[..text.len() - end]));
     }
     if let Some(t) = text.strip_prefix(b"\x1b[") {
         return Some(event_of_control(t));
