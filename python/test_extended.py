@@ -33,11 +33,14 @@ from hedrugal import (
     Paste,
     Protocol,
     Resize,
+    StringCut,
+    StringKind,
+    StringPart,
     Waiting,
     extended,
     key_report,
 )
-from helpers import assert_rest, constants
+from helpers import assert_rest, constants, events_in_time
 
 CTRL, SHIFT = KittyModifiers.CTRL, KittyModifiers.SHIFT
 RELEASE, REPEAT = KeyEventKind.RELEASE, KeyEventKind.REPEAT
@@ -48,6 +51,7 @@ UP, DOWN, RIGHT, LEFT = (
     KeyCode.LEFT_ARROW,
 )
 ALT_BRACKET = KeyEvent("[", Modifiers.ALT)
+ALT_LINE = [KeyEvent("_", Modifiers.ALT), KeyEvent("j")]
 
 
 def typed(text):
@@ -112,7 +116,19 @@ CASES = {
     "strings": [
         (b"\x1b]11;rgb:1e1e/1e1e/2e2e\x1b\\", [Osc(b"11;rgb:1e1e/1e1e/2e2e")]),
         (b"\x1b]11;rgb:1e1e/1e1e/2e2e\x07", [Osc(b"11;rgb:1e1e/1e1e/2e2e")]),
-        (b"\x1b]\x07\x1bP\x1b\\\x1b_\x1b\\", [Osc(b""), Dcs(b""), Apc(b"")]),
+        (b"\x1b]4;\x07\x1bP>|\x1b\\\x1b_Gi=\x1b\\", [Osc(b"4;"), Dcs(b">|"), Apc(b"Gi=")]),
+        (b"\x1b]ltitle\r\x1b\\\x1b]L\x07", [Osc(b"ltitle\r"), Osc(b"L")]),
+        (b"\x1bP1$r\r\x07ls\r\x1b\\", [Dcs(b"1$r\r\x07ls\r")]),
+        (b"\x1b]10;a\x1b[I", [StringCut(StringKind.OSC, b"10;a"), FocusGained()]),
+        (b"\x1bP!|a\x1b\x1b[O", [StringCut(StringKind.DCS, b"!|a"), FocusLost()]),
+        (
+            b"\x1b\x1b_Gi=1\x1bq",
+            [
+                KeyEvent(KeyCode.ESCAPE),
+                StringCut(StringKind.APC, b"Gi=1"),
+                KeyEvent("q", Modifiers.ALT),
+            ],
+        ),
         (b"\x1b]0;\xc3\xa9\xff\x07q", [Osc(b"0;\xc3\xa9\xff"), KeyEvent("q")]),
         (b"\x1bP>|XTerm(388)\x1b\\", [Dcs(b">|XTerm(388)")]),
         (b"\x1b_Gi=31;OK\x1b\\", [Apc(b"Gi=31;OK")]),
@@ -203,6 +219,8 @@ CASES = {
     "typed text": [
         (b"\x1b[24\r", [ALT_BRACKET, *typed("24"), KeyEvent(KeyCode.ENTER)]),
         (b"\x1b]a\x1b[I", [KeyEvent("]", Modifiers.ALT), KeyEvent("a"), FocusGained()]),
+        (b"\x1b]123456", [KeyEvent("]", Modifiers.ALT), *typed("123456")]),
+        (b"\x1bP>a\x1b_j", [KeyEvent("P", Modifiers.ALT), *typed(">a"), *ALT_LINE]),
         (
             b"\x1bPa\x07",
             [KeyEvent("P", Modifiers.ALT), KeyEvent("a"), KeyEvent("g", Modifiers.CTRL)],
@@ -245,11 +263,21 @@ RESTS = [
     (b"\x1b[M0", "[M0"),
     (b"\x1b[[", "[["),
     (b"\x1b]", "]"),
-    (b"\x1b]11;rgb:1e", "]11;rgb:1e"),
-    (b"\x1b]0;\xc3\xa9", "]0;é"),
+    (b"\x1b]12345", "]12345"),
+    (b"\x1b]l\xc3\xa9", "]lé"),
     (b"\x1bP", "P"),
-    (b"\x1bP>|XTerm", "P>|XTerm"),
-    (b"\x1b_Gi=31;OK", "_Gi=31;OK"),
+    (b"\x1bP1$", "P1$"),
+    (b"\x1bP@kitty", "P@kitty"),
+    (b"\x1b_Gi", "_Gi"),
+]
+
+# Strings that stay buffered, and what they are at a flush.
+OPEN_STRINGS = [
+    (b"\x1b]11;rgb:1e", StringCut(StringKind.OSC, b"11;rgb:1e")),
+    (b"\x1b]0;\xc3\r\x1b", StringCut(StringKind.OSC, b"0;\xc3\r")),
+    (b"\x1b]L" + b"t" * 252, StringCut(StringKind.OSC, b"L" + b"t" * 252)),
+    (b"\x1bP>|XTerm\x07", StringCut(StringKind.DCS, b">|XTerm\x07")),
+    (b"\x1b_Gi=", StringCut(StringKind.APC, b"Gi=")),
 ]
 
 
@@ -356,7 +384,7 @@ def test_events_are_values():
         for event in events
     }
     assert len({*seen.values()}) == len(seen)
-    assert len({type(event) for event in seen.values()}) == 13
+    assert len({type(event) for event in seen.values()}) == 14
     for event in seen.values():
         again = pickle.loads(pickle.dumps(event))
         assert (again, hash(again)) == (event, hash(event))
@@ -412,6 +440,8 @@ def test_unknown_numbers(legacy):
     for fields in (
         {"kind": 0},
         {"kind": 14},
+        {"kind": 15, "flags": 3},
+        {"kind": 17},
         {"kind": 4, "report": report},
         {"kind": 10, "text_len": 5},
     ):
@@ -431,21 +461,48 @@ def check_long(parser, data, events):
 
 
 def test_strings(parser):
-    body = (b"0123456789abcde\xff" * 4000)[:60000]
-    check_long(parser, b"\x1b]" + body + b"\x1b\\q", [Osc(body), KeyEvent("q")])
-    check_long(parser, b"\x1b]" + body + b"\x07q", [Osc(body), KeyEvent("q")])
-    check_long(parser, b"\x1bP" + body + b"\x1b\\q", [Dcs(body), KeyEvent("q")])
-    check_long(parser, b"\x1b_" + body + b"\x1b\\q", [Apc(body), KeyEvent("q")])
+    body = (b"0123456789abcd\r\xff" * 4000)[:60000]
+    check_long(parser, b"\x1b]52;" + body + b"\x1b\\q", [Osc(b"52;" + body), KeyEvent("q")])
+    check_long(parser, b"\x1b]52;" + body + b"\x07q", [Osc(b"52;" + body), KeyEvent("q")])
+    check_long(parser, b"\x1bP>|" + body + b"\x1b\\q", [Dcs(b">|" + body), KeyEvent("q")])
+    check_long(parser, b"\x1b_Gi=" + body + b"\x1b\\q", [Apc(b"Gi=" + body), KeyEvent("q")])
+
+
+def string_parts(opening, body):
+    """The bytes of the parts of a string, and those before its end."""
+    most = 65533 - len(opening)
+    return [opening + body[at : at + most] for at in range(0, len(body) + 1, most)]
+
+
+@pytest.mark.parametrize("end", [b"\x07", b"\x1b\\", b"", b"\x1b"])
+def test_a_clipboard_of_100_kb(parser, end):
+    """It comes in parts, and none of it is typed."""
+    body = (b"rm -rf ~\r\x03\0\x7f\n" * 10000)[:102400]
+    *parts, last = string_parts(b"52;", body)
+    assert len(parts) == 1
+    ended = Osc(last) if end.strip(b"\x1b") else StringCut(StringKind.OSC, last)
+    wanted = [*(StringPart(StringKind.OSC, part) for part in parts), ended]
+    check_long(parser, b"\x1b]52;" + body + end, wanted)
+    assert parser.parse(b"q") == [KeyEvent("q")]
 
 
 def test_limits(parser):
-    """A string has at most 65536 bytes, a control sequence 256. What is longer is typed text."""
-    check_long(parser, b"\x1b]" + b"x" * 65533 + b"\x07", [Osc(b"x" * 65533)])
-    check_long(
-        parser,
-        b"\x1b]" + b"x" * 65534 + b"\x07",
-        [KeyEvent("]", Modifiers.ALT), *typed("x" * 65534), KeyEvent("g", Modifiers.CTRL)],
-    )
+    """A string has at most 65534 bytes and an end, and a longer one comes in parts. A control
+    sequence has at most 256, and what is longer is typed text."""
+    for count in (65530, 65531, 131061, 131062):
+        for begin, kind, end, of in [
+            (b"\x1b]1;", StringKind.OSC, b"\x07", Osc),
+            (b"\x1bP>|", StringKind.DCS, b"\x1b\\", Dcs),
+        ]:
+            *parts, last = string_parts(begin[2:], b"x" * count)
+            wanted = [*(StringPart(kind, part) for part in parts), of(last)]
+            assert len(parts) == count // 65531
+            check_long(parser, begin + b"x" * count + end, wanted)
+            check_long(parser, begin + b"x" * count, [*wanted[:-1], StringCut(kind, last)])
+    title = [KeyEvent("]", Modifiers.ALT), *typed("l" + "t" * 251)]
+    check_long(parser, b"\x1b]l" + b"t" * 251 + b"\x07", [Osc(b"l" + b"t" * 251)])
+    check_long(parser, b"\x1b]l" + b"t" * 251 + b"\x1b[I", [*title, FocusGained()])
+    check_long(parser, b"\x1b]l" + b"t" * 252 + b"\r\x07", [Osc(b"l" + b"t" * 252 + b"\r")])
     check_long(parser, b"\x1b[" + b"1" * 253 + b"x", [Csi(b"1" * 253 + b"x")])
     check_long(parser, b"\x1b[" + b"1" * 254 + b"x", [ALT_BRACKET, *typed("1" * 254 + "x")])
     check_long(parser, b"\x1b[97;;" + b"65:" * 82 + b"229u", [KeyReport("a", text="A" * 82 + "å")])
@@ -515,6 +572,43 @@ def test_other_calls(parser):
         assert parser.end_paste() is None
         assert_rest(parser, len(rest), Waiting.SEQUENCE)
         parser.reset()
+
+
+def test_open_strings(parser):
+    for rest, cut in OPEN_STRINGS:
+        assert parser.parse(rest) == []
+        assert_rest(parser, len(rest), Waiting.STRING)
+        assert parser.flush_escape() is None and parser.end_paste() is None
+        assert (parser.timeout(7), parser.flush()) == (5 + len(rest) / 1000, [cut])
+        escape = [KeyEvent(KeyCode.ESCAPE)]
+        assert parser.parse(b"\x1b" + rest) == escape
+        assert parser.timeout(8) == 5 + len(rest) / 1000
+        assert parser.expire(12.999 + len(rest) / 1000) == []
+        assert parser.expire(13 + len(rest) / 1000) == [cut]
+        assert_rest(parser, 0, Waiting.NOTHING)
+
+
+def test_a_slow_line(parser):
+    """60,000 bytes at 2 KB in a second: no limit passes, and nothing is typed."""
+    body = b"52;" + b"c\r;0" * 15000
+    data = b"\x1b]" + body
+    reads = [(at, data[2 * at : 2 * at + 2]) for at in range(len(data) // 2 + 1)]
+    assert [*events_in_time(parser, [*reads, (33000, b"\x07")])] == [(33000, [Osc(body)])]
+
+
+def test_a_dead_line(parser):
+    """Keys that are held are data of the string, and end it in some six seconds."""
+    reads = [(0, b"\x1b]11;rgb"), *((30 * count, b"\r") for count in range(1, 201))]
+    (time, events), *typed = events_in_time(parser, reads)
+    assert (time, events) == (5180, [StringCut(StringKind.OSC, b"11;rgb" + b"\r" * 172)])
+    assert [events for _, events in typed] == [[KeyEvent(KeyCode.ENTER)]] * 28
+
+
+def test_held_after_alt_bracket(parser):
+    reads = [(0, b"\x1b]"), *((30 * count, b"l") for count in range(1, 61))]
+    first, *others = events_in_time(parser, reads)
+    assert first == (1000, [KeyEvent("]", Modifiers.ALT), *typed("l" * 33)])
+    assert others == [(30 * count, typed("l")) for count in range(34, 61)]
 
 
 def test_escape(parser):
@@ -751,8 +845,9 @@ def test_refused_memory():
 def test_each_kind(parser):
     for data, event in [
         (b"\x1b]0;t\x07", Osc(b"0;t")),
-        (b"\x1bPt\x1b\\", Dcs(b"t")),
-        (b"\x1b_t\x1b\\", Apc(b"t")),
+        (b"\x1bP>|t\x1b\\", Dcs(b">|t")),
+        (b"\x1b_Gi=\x1b\\", Apc(b"Gi=")),
+        (b"\x1b]0;t\x1b", StringCut(StringKind.OSC, b"0;t")),
         (b"\x1b[?1c", Csi(b"?1c")),
         (b"\x1b[97;;65u", KeyReport("a", text="A")),
         (b"\x1b[200~t\x1b[201~", Paste("t")),

@@ -5,7 +5,10 @@ import re
 import pytest
 
 from hedrugal import (
+    Apc,
+    Dcs,
     EncodeError,
+    ExtendedParser,
     Function,
     InputParser,
     KeyboardEncoding,
@@ -15,7 +18,12 @@ from hedrugal import (
     Modifiers,
     MouseButtons,
     MouseEvent,
+    Osc,
     Paste,
+    Protocol,
+    StringCut,
+    StringKind,
+    StringPart,
     encode,
 )
 from helpers import events_in_time, read
@@ -46,10 +54,15 @@ def event_of(line):
         return MouseEvent(
             int(x), int(y), set_named(MouseButtons, buttons), set_named(Modifiers, modifiers)
         )
-    length, _, digits = words[0].partition(":")
+    length, _, digits = words[-1].partition(":")
     text = bytes.fromhex(digits)
-    assert kind == "paste" and len(text) == int(length), line
-    return Paste(text.decode())
+    assert len(text) == int(length), line
+    if kind == "paste":
+        return Paste(text.decode())
+    if len(words) > 1:
+        of = {"part": StringPart, "cut": StringCut}[words[0]]
+        return of(StringKind[kind.upper()], text)
+    return {"osc": Osc, "dcs": Dcs, "apc": Apc}[kind](text)
 
 
 def answer_of(text):
@@ -97,17 +110,30 @@ class Feeder:
             [*(text[at : at + 1] for at in range(len(text))), b""], False, wanted
         )
 
-    def check_steps(self, steps, answers):
-        """Feeds texts one after another, each with a flag, and compares what each gives."""
+    def check_steps(self, steps, answers, place=0):
+        """Feeds texts one after another, each with a flag and cut at a place, and compares what
+        each gives."""
         assert len(steps) == len(answers)
         self.parser.reset()
         fed = b""
         for step, answer in zip(steps, answers):
             data = bytes.fromhex(step[1:])
             fed += data
-            events = self.parser.parse(data, step[0] == "+")
+            events = self.parser.parse(data[:place])
+            events += self.parser.parse(data[place:], step[0] == "+")
             assert (events, fed[len(fed) - self.parser.waiting_len :]) == answer_of(answer), fed
         return len(steps)
+
+    def check_cuts(self, line):
+        """Feeds texts as `check_steps` does, cut at each place."""
+        asked, answers = line.split(" = ", 1)
+        if ":" in asked:
+            return self.check_times(asked, answers)
+        steps = asked.split(" ")
+        longest = max(len(step) // 2 for step in steps)
+        return sum(
+            self.check_steps(steps, answers.split(" | "), place) for place in range(longest + 1)
+        )
 
     def check_rows(self, line):
         """`ROW,ROW,.. = NEXT = ALONE = AFTER ESC = BEFORE NEXT`."""
@@ -152,6 +178,12 @@ class Feeder:
 
 def test_times(parser):
     check_file("times.txt", Feeder(parser).check_line, least=10)
+
+
+@pytest.mark.parametrize("protocol", Protocol)
+def test_strings(protocol):
+    with ExtendedParser(protocol) as parser:
+        check_file("strings.txt", Feeder(parser).check_cuts, least=20)
 
 
 @pytest.mark.parametrize("file", ["parse-rows.txt", "parse-cases.txt", "rules.txt"])

@@ -145,6 +145,12 @@ def test_the_last_answer_alone(ask):
     ask.assert_end(["attributes: 6", "typed: 0"])
 
 
+def test_a_cut_string(ask):
+    """No byte of an answer is taken for a key."""
+    ask.child.send(b"\x1b]11;rgb:1e\r" + b"q" * 70000 + b"\x1b[?6c")
+    ask.assert_end(["attributes: 6", "typed: 0"])
+
+
 def test_control_characters(ask):
     """None of an answer reaches the terminal, as one byte or in UTF-8."""
     ask.child.send(b"\x1b]11;red\x9b1m\xc2\x9b2m\x07\x1b[?6c")

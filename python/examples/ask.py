@@ -16,7 +16,16 @@ import time
 import tty
 from typing import List, Optional
 
-from hedrugal import Csi, CursorPosition, ExtendedEvent, ExtendedParser, KeyboardFlags, Osc
+from hedrugal import (
+    Csi,
+    CursorPosition,
+    ExtendedEvent,
+    ExtendedParser,
+    KeyboardFlags,
+    Osc,
+    StringCut,
+    StringPart,
+)
 
 CURSOR, BACKGROUND, KEYBOARD, ATTRIBUTES = b"\x1b[?6n", b"\x1b]11;?\x1b\\", b"\x1b[?u", b"\x1b[c"
 
@@ -96,7 +105,9 @@ def main() -> int:
         events = ask_in_raw_mode(terminal, seconds)
     finally:
         os.close(terminal)
-    lines = [described(event) for event in events]
+    # An answer that was cut off isn't typed.
+    whole = [event for event in events if not isinstance(event, (StringPart, StringCut))]
+    lines = [described(event) for event in whole]
     for line in lines:
         if line is not None:
             print(line)

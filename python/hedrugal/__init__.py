@@ -96,6 +96,9 @@ __all__ = [
     "Protocol",
     "ReportedKey",
     "Resize",
+    "StringCut",
+    "StringKind",
+    "StringPart",
     "Waiting",
     "encode",
     "key_report",
@@ -1176,8 +1179,8 @@ class _EventParser(_Closable, Generic[_AnyEvent]):
 
     def expire(self, now: Optional[float] = None) -> List[_AnyEvent]:
         r"""Flushes what has waited for as long as `timeout` said, and returns the events. ESC is
-        the Escape key then, the beginning of a sequence is keys, and an open paste is ended where
-        it is. Before that time there are none.
+        the Escape key then, the beginning of a sequence is keys, a string is cut off, and an open
+        paste is ended where it is. Before that time there are none.
 
         Call it when no bytes came within that time. If bytes are there, parse them first, since
         they may complete what is overdue.
@@ -1635,5 +1638,8 @@ from .extended import (  # noqa: E402
     Protocol,
     ReportedKey,
     Resize,
+    StringCut,
+    StringKind,
+    StringPart,
     key_report,
 )

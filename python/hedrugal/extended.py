@@ -40,6 +40,8 @@ from . import (
     _KIND_PASTE,
     _KIND_REPORT,
     _KIND_RESIZE,
+    _KIND_STRING_CUT,
+    _KIND_STRING_PART,
     EncodeError,
     Event,
     Key,
@@ -238,6 +240,33 @@ class Apc:
     data: bytes
 
 
+class StringKind(_Named):
+    """The kind of a string, by what introduces it."""
+
+    OSC = _KIND_OSC  # An operating system command, after ESC ].
+    DCS = _KIND_DCS  # A device control string, after ESC P.
+    APC = _KIND_APC  # An application program command, after ESC _.
+
+
+@dataclass(frozen=True)
+class StringPart:
+    """The first bytes of a long string whose end is still to come: 65533 bytes after its
+    introducer. The next such event, or the string's own, goes on with it. Its data begin with the
+    bytes that opened the string once more, such as 52;."""
+
+    kind: StringKind
+    data: bytes
+
+
+@dataclass(frozen=True)
+class StringCut:
+    """A string that was cut off: another sequence followed it, or nothing for too long. The data
+    are its bytes after its introducer."""
+
+    kind: StringKind
+    data: bytes
+
+
 ExtendedEvent = Union[
     Event,
     KeyReport,
@@ -250,6 +279,8 @@ ExtendedEvent = Union[
     Osc,
     Dcs,
     Apc,
+    StringPart,
+    StringCut,
 ]
 
 
@@ -348,7 +379,12 @@ _of_data: Dict[int, Callable[[bytes], ExtendedEvent]] = {
     _KIND_DCS: Dcs,
     _KIND_APC: Apc,
 }
+_of_string: Dict[int, Callable[[StringKind, bytes], ExtendedEvent]] = {
+    _KIND_STRING_PART: StringPart,
+    _KIND_STRING_CUT: StringCut,
+}
 _kinds = {kind.value: kind for kind in KeyEventKind}
+_string_kinds = {kind.value: kind for kind in StringKind}
 # The bits of all flags that have names.
 _NAMED_FLAGS = (~KittyKeyboardFlags.NONE).value
 
@@ -414,9 +450,9 @@ class ExtendedParser(_EventParser[ExtendedEvent]):
 
     A key is a KeyEvent or a KeyReport: `key_report` makes one of both.
 
-    The bytes of an event are the same however they are cut into calls. The beginning of a control
-    sequence or of a string stays buffered as Waiting.SEQUENCE. Without an open paste at most 65536
-    bytes are buffered.
+    The bytes of an event are the same however they are cut into calls. A string without its end
+    stays buffered as Waiting.STRING. Without an open paste at most 65535 bytes are buffered: a
+    longer string comes in parts, as a StringPart.
 
     What an InputParser says of its memory, of threads and of errors holds here too."""
 
@@ -466,6 +502,9 @@ class ExtendedParser(_EventParser[ExtendedEvent]):
             return _key_report(*_report_fields_of(front, _REPORT_AT), text)
         if kind in _of_data:
             return _of_data[kind](bytes(self._text(front.text_len)))
+        if kind in _of_string:
+            of = _string_kinds.get(front.flags) or _fault()
+            return _of_string[kind](of, bytes(self._text(front.text_len)))
         if kind == _KIND_CURSOR_POSITION:
             return CursorPosition(front.row, front.column)
         if kind == _KIND_RESIZE:
