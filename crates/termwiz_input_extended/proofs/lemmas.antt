@@ -2,3 +2,4 @@ pub mod calls
 pub mod forms
 pub mod fronts
 pub mod strings
+pub mod time

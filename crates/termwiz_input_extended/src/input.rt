@@ -9,6 +9,7 @@ ghost use Rattle.termwiz_extended_events.specs.declared.types.ExtendedEvent.{Ext
 ghost use Rattle.termwiz_extended_grammar.specs.ExtendedGrammar.{HasItem, IsRest, Means, Steps};
 ghost use Rattle.termwiz_extended_grammar.specs.ExtendedKinds.{IsKind};
 ghost use Rattle.termwiz_extended_grammar.specs.ExtendedLaws.{Waits};
+ghost use Rattle.termwiz_input_extended.specs.Buffered.{IsToldByBytes};
 ghost use Rattle.termwiz_input_extended.specs.EventCallbacks.{MayBeCalledOn, WasCalledOn};
 ghost use Rattle.termwiz_input_extended.specs.NextItems.{Emits, GivesNoneThatNeedsMemory, HasItemThatNeedsMemory, IsNextItem, IsFormAt, IsPasteEvent, IsPortsOwn, Stores};
 ghost use Rattle.termwiz_input_extended.specs.StringAnswers.{IsStringItem};
@@ -362,7 +363,10 @@ impl ExtendedParser {
     /// may be slow, and a `String` after a longer one still, since what comes after the flush is typed text. Never flush a `Character` or
     /// a `Paste`.
     pub fn waiting(&self) -> ExtendedWaiting
-        ensures { (more : Bool) → IsRest self.now.protocol self.now.text more → IsKind self.now.protocol self.now.text more result }
+        ensures kind { (more : Bool) → IsRest self.now.protocol self.now.text more → IsKind self.now.protocol self.now.text more result }
+
+        // The first bytes alone tell the kind, also where an item is matched.
+        ensures bytes { IsToldByBytes self.now.text result }
     {
         match self.parser.waiting() {
             Waiting::Nothing => ExtendedWaiting::Nothing,

@@ -4,8 +4,9 @@
 mod characters;
 mod form;
 pub mod input;
+pub mod laws;
 mod next_item;
 mod string;
+pub mod time;
 
 pub use termwiz_extended_events::types;
-pub use termwiz_extended_grammar::laws;

@@ -43,7 +43,7 @@ no_start_after T front W e none before V f b =
     none (front ++ before) V (e ∙ ap (λ z. front ++ z) f ∙ sym (append_assoc front before V)) b
 
 -- START doesn't begin within an opening
-no_start_opening : (kind : StringKind) (head after : List ℕ) → IsHead kind head → HasNoStart after → HasNoStart (introducer kind ++ head ++ after)
+pub no_start_opening : (kind : StringKind) (head after : List ℕ) → IsHead kind head → HasNoStart after → HasNoStart (introducer kind ++ head ++ after)
 no_start_opening kind head after is none front W e b = go front e (overlap (introducer kind ++ head) after front W (sym e))
   where
     i : (x : ℕ) × (introducer kind ≡ 27 ∷ x ∷ []) × ((x ≡ 93) ⊎ ((x ≡ 80) ⊎ (x ≡ 95)))
@@ -100,7 +100,7 @@ left_no_start protocol u left f event (string kind head bytes after left2 e is c
     comes_after u kind head bytes after left2 f e is comes none
 left_no_start protocol u left f event (usual bytes left2 e stands split is gap) none = no_start_after u bytes left2 split none
 
-steps_no_start : (protocol : Protocol) (E : List ExtendedEvent) (T W : List ℕ) (f : Bool) → Steps protocol T f E W → HasNoStart T → HasNoStart W
+pub steps_no_start : (protocol : Protocol) (E : List ExtendedEvent) (T W : List ℕ) (f : Bool) → Steps protocol T f E W → HasNoStart T → HasNoStart W
 steps_no_start protocol [] T W f h none = subst HasNoStart h none
 steps_no_start protocol (e ∷ E) T W f (left, stands, steps) none =
     steps_no_start protocol E left W f steps (left_no_start protocol T left f e stands none)

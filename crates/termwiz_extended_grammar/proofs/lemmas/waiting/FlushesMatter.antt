@@ -528,3 +528,9 @@ string_undecided protocol u o =
 
 pub undecided : Undecided
 undecided protocol = (beginning_undecided protocol, string_undecided protocol)
+
+-- START begins at no place in what waits as a beginning
+pub beginning_no_start : (protocol : Protocol) (held p : List ℕ) → IsHeldEscape held → p ≢ [] → BeginsKnown protocol p → HasNoStart (held ++ p)
+beginning_no_start protocol held [] is some beginning = absurd (some refl)
+beginning_no_start protocol held (x ∷ p) is some beginning =
+    let on = goes_on protocol x p beginning (unfinished_mark_or_not (x ∷ p)) in no_start_held protocol x p on.0 on.1 held is

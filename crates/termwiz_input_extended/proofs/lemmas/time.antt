@@ -1,0 +1,3 @@
+pub mod ExpirySteps
+pub mod FlushedRests
+pub mod Runs

@@ -1,0 +1,157 @@
+-- Runs of a program that lets what is buffered expire are reads in turn.
+use Rattle.std.proofs.Common.{◌≡◌, ℕ, Bool, true, false, None, List, [], ◌∷◌, ◌++◌, All, refl, sym, ap, ◌∙◌, subst, append_assoc, append-nil, length}
+use Rattle.std.proofs.lemmas.List.Elements.{All-head, All-tail}
+use Rattle.termwiz_grammar.specs.Streams.{OneRead, bytes_of_reads}
+use Rattle.termwiz_grammar.specs.WaitingKinds.{IsOpenPaste}
+use Rattle.termwiz_input.specs.declared.time.Limit.{Limit}
+use Rattle.termwiz_input.specs.declared.time.Policy.{Policy}
+use Rattle.termwiz_input.specs.declared.time.Seen.{Seen}
+use Rattle.termwiz_input.specs.declared.time.Timer.{Timer}
+use Rattle.termwiz_input.specs.ExpiryLaws.{Turn, bytes_of_turn, bytes_of_turns}
+use Rattle.termwiz_input.specs.ExpiryLaws.Turn.{Expire}
+use Rattle.termwiz_input.specs.Time.{IsDue, noted}
+use Rattle.termwiz_extended_events.specs.declared.types.ExtendedEvent.{ExtendedEvent}
+use Rattle.termwiz_extended_events.specs.declared.types.Protocol.{Protocol}
+use Rattle.termwiz_extended_grammar.specs.declared.waiting.ExtendedWaiting.{ExtendedWaiting}
+use Rattle.termwiz_extended_grammar.specs.declared.waiting.ExtendedWaiting.TheVariants.{Nothing, Paste}
+use Rattle.termwiz_extended_grammar.specs.ExtendedGrammar.{IsRest, Means}
+use Rattle.termwiz_extended_grammar.specs.ExtendedKinds.{IsKind}
+use Rattle.termwiz_extended_grammar.specs.ExtendedStreams.{ReadInTurn}
+use Rattle.termwiz_extended_grammar.proofs.lemmas.cuts.ExtendedCuts.{cut_independent}
+use Rattle.termwiz_extended_grammar.proofs.lemmas.items.ExtendedRests.{empty_is_rest}
+use Rattle.termwiz_extended_grammar.proofs.lemmas.waiting.KindsOfRests.{waiting_kinds}
+use Rattle.termwiz_input_extended.specs.ExtendedExpiry.{Expires, Flushes, IsSeen, limit_of_waiting}
+use Rattle.termwiz_input_extended.specs.ExtendedExpiry.Expires.{stays, flushed}
+use Rattle.termwiz_input_extended.specs.ExtendedExpiry.Flushes.{ends_paste, reads_all}
+use Rattle.termwiz_input_extended.specs.ExtendedExpiryLaws.{FlushEnds, NoPauses, TakesTurn, TakesTurns}
+use Rattle.termwiz_input_extended.specs.ExtendedExpiryLaws.TakesTurn.{by_question, by_read, by_expiry}
+use Rattle.termwiz_input_extended.proofs.lemmas.time.FlushedRests.{flush_leaves_nothing}
+
+-- the limit of a rest is that of its kind
+limit_is : (policy : Policy) (protocol : Protocol) (text : List ℕ) (fed taken : Bool) (seen : Seen) (kind : ExtendedWaiting)
+    → IsSeen policy protocol text fed taken seen → IsRest protocol text true → IsKind protocol text true kind
+    → seen.limit ≡ limit_of_waiting policy kind (length text)
+limit_is policy protocol text fed taken seen kind is rest of_kind =
+    let one = waiting_kinds protocol text true rest in
+    let told = one.2 is.limit.kind (is.limit.is_kind true rest) in
+    let same : is.limit.kind ≡ kind = told ∙ sym (one.2 kind of_kind) in
+    is.limit.is_limit ∙ ap (λ k. limit_of_waiting policy k (length text)) same
+
+-- what has no limit isn't due
+not_due : (timer : Timer) (now : ℕ) → timer.limit.millis ≡ None → ¬ IsDue timer now
+not_due timer now none due = let limited = due.limited in cc
+
+-- a flush of a rest leaves nothing
+nothing_left : (protocol : Protocol) (text left : List ℕ) (events : List ExtendedEvent) → IsRest protocol text true
+    → Flushes protocol text events left → left ≡ []
+nothing_left protocol text left events rest (ends_paste event is) = refl
+nothing_left protocol text left events rest (reads_all given last closed means) =
+    flush_leaves_nothing protocol text left events rest closed means
+
+-- and then nothing is due
+nothing_due : (policy : Policy) (protocol : Protocol) (left : List ℕ) (timer : Timer) (now time : ℕ) (seen : Seen) → left ≡ []
+    → IsSeen policy protocol left false true seen → ¬ IsDue (noted timer now seen) time
+nothing_due policy protocol left timer now time seen none is =
+    let rest : IsRest protocol left true = subst (λ u. IsRest protocol u true) (sym none) (empty_is_rest protocol true) in
+    let limit = limit_is policy protocol left false true seen Nothing is rest none in
+    not_due (noted timer now seen) time (ap (λ (l : Limit). l.millis) limit)
+
+flushed_ends : (policy : Policy) (protocol : Protocol) (text : List ℕ) (timer : Timer) (now : ℕ) (more : Bool)
+    (events : List ExtendedEvent) (left : List ℕ) (after : Timer) → more ≡ false → IsRest protocol text true
+    → Expires policy protocol text timer now more events left after → (left ≡ []) × ((time : ℕ) → ¬ IsDue after time)
+flushed_ends policy protocol text timer now more events left after last rest (stays seen is waits) = absurd (cc (last))
+flushed_ends policy protocol text timer now more events left after last rest (flushed seen then_seen given end is due flush is_then) =
+    let none = nothing_left protocol text end given rest flush in
+    (none, λ time. nothing_due policy protocol end (noted timer now seen) now time then_seen none is_then)
+
+pub flush_ends : FlushEnds
+flush_ends policy protocol text timer now events left after rest expired =
+    flushed_ends policy protocol text timer now false events left after refl rest expired
+
+-- a turn that is a read: it has that read's events and bytes, and leaves a rest
+record IsRead (protocol : Protocol) (text : List ℕ) (turn : Turn) (read : OneRead) (events : List ExtendedEvent) (left : List ℕ) : Type 0 where
+  means : Means protocol (text ++ read.0) read.1 events left
+  rests : IsRest protocol left true
+  bytes : read.0 ≡ bytes_of_turn turn
+
+-- no events, of no bytes
+no_events : (protocol : Protocol) (text : List ℕ) (turn : Turn) → [] ≡ bytes_of_turn turn → IsRest protocol text true
+    → IsRead protocol text turn ([], true) [] text
+no_events protocol text turn none rest =
+    record { means = record { steps = append-nil text; rest = rest }; rests = rest; bytes = none }
+
+module _ (policy : Policy) (protocol : Protocol) (forever : policy.paste ≡ None) where
+  -- an open paste isn't due, if pastes wait forever
+  flush_means : (text : List ℕ) (timer : Timer) (now : ℕ) (seen : Seen) (events : List ExtendedEvent) (left : List ℕ)
+      → IsRest protocol text true → IsSeen policy protocol text false false seen → IsDue (noted timer now seen) now
+      → Flushes protocol text events left → Means protocol text false events left
+  flush_means text timer now seen events left rest is due (ends_paste event (paste, so_far, same)) =
+      let is_open : IsOpenPaste text = record { body = so_far.body; splits = so_far.splits; endless = so_far.endless } in
+      let limit = limit_is policy protocol text false false seen Paste is rest is_open in
+      absurd (not_due (noted timer now seen) now (ap (λ (l : Limit). l.millis) limit ∙ forever) due)
+  flush_means text timer now seen events left rest is due (reads_all given last closed means) = means
+
+  expiry_is_read : (text : List ℕ) (timer : Timer) (now : ℕ) (more : Bool) (events : List ExtendedEvent) (left : List ℕ) (after : Timer)
+      → IsRest protocol text true → Expires policy protocol text timer now more events left after
+      → IsRead protocol text (Expire now) ([], more) events left
+  expiry_is_read text timer now more events left after rest (stays seen is waits) = no_events protocol text (Expire now) refl rest
+  expiry_is_read text timer now more events left after rest (flushed seen then_seen given end is due flush is_then) =
+      let means = flush_means text timer now seen given end rest is due flush in
+      record {
+        means = subst (λ u. Means protocol u false given end) (sym (append-nil text)) means;
+        rests = subst (λ u. IsRest protocol u true) (sym (nothing_left protocol text end given rest flush)) (empty_is_rest protocol true);
+        bytes = refl;
+      }
+
+  turn_is_read : (text : List ℕ) (timer : Timer) (turn : Turn) (read : OneRead) (events : List ExtendedEvent) (left : List ℕ) (after : Timer)
+      → IsRest protocol text true → TakesTurn policy protocol text timer turn read events left after
+      → IsRead protocol text turn read events left
+  turn_is_read text timer turn read events left after rest (by_question now seen is) = no_events protocol text turn refl rest
+  turn_is_read text timer turn read events left after rest (by_read now bytes given end taken seen means is) =
+      record { means = means; rests = means.rest; bytes = refl }
+  turn_is_read text timer turn read events left after rest (by_expiry now more given end last expired) =
+      expiry_is_read text timer now more given end last rest expired
+
+  turns_are_reads : (turns : List Turn) (text : List ℕ) (timer : Timer) (reads : List OneRead) (events : List ExtendedEvent)
+      (left : List ℕ) → IsRest protocol text true → TakesTurns policy protocol text timer turns reads events left
+      → ReadInTurn (Means protocol) text reads events left × (bytes_of_reads reads ≡ bytes_of_turns turns)
+  turns_are_reads [] text timer reads events left rest (no_reads, none, same) = (
+    subst (λ all. ReadInTurn (Means protocol) text all events left) (sym no_reads) (none, same),
+    ap bytes_of_reads no_reads,
+  )
+  turns_are_reads (turn ∷ turns) text timer reads events left rest
+      (read, others, first, later, between, after, reads_are, events_are, takes, run) =
+      let this = turn_is_read text timer turn read first between after rest takes in
+      let next = turns_are_reads turns between after others later left this.rests run in (
+        subst (λ all. ReadInTurn (Means protocol) text all events left) (sym reads_are)
+            (first, later, between, events_are, this.means, next.0),
+        ap bytes_of_reads reads_are ∙ ap (λ (bytes : List ℕ). bytes ++ bytes_of_reads others) this.bytes
+            ∙ ap (λ (bytes : List ℕ). bytes_of_turn turn ++ bytes) next.1,
+      )
+
+-- reads that all have more to come are one text
+reads_are_one : (protocol : Protocol) (reads : List OneRead) (text left : List ℕ) (events : List ExtendedEvent) → IsRest protocol text true
+    → ReadInTurn (Means protocol) text reads events left → All (λ read. read.1 ≡ true) reads
+    → Means protocol (text ++ bytes_of_reads reads) true events left
+reads_are_one protocol [] text left events rest (none, same) open_reads =
+    subst (λ given. Means protocol (text ++ []) true given left) (sym none)
+    (record { steps = append-nil text ∙ same; rest = subst (λ u. IsRest protocol u true) same rest })
+reads_are_one protocol (read ∷ reads) text left events rest (first, later, between, events_are, means, next) open_reads =
+    let more : read.1 ≡ true = All-head (λ (r : OneRead). r.1 ≡ true) read reads open_reads in
+    let this : Means protocol (text ++ read.0) true first between =
+    subst (λ flag. Means protocol (text ++ read.0) flag first between) more means in
+    let others = reads_are_one protocol reads between left later this.rest next
+    (All-tail (λ (r : OneRead). r.1 ≡ true) read reads open_reads) in
+    let whole = cut_independent protocol (text ++ read.0) (bytes_of_reads reads) between left first later true this others in
+    subst (λ u. Means protocol u true events left) (append_assoc text read.0 (bytes_of_reads reads))
+    (subst (λ given. Means protocol ((text ++ read.0) ++ bytes_of_reads reads) true given left) (sym events_are) whole)
+
+pub no_pauses : NoPauses
+no_pauses policy protocol text timer turns reads events left forever rest run =
+    let (in_turn, bytes) = turns_are_reads policy protocol forever turns text timer reads events left rest run in
+    record {
+      in_turn = in_turn;
+      all_bytes = bytes;
+      no_pauses = λ open_reads. subst (λ all. Means protocol (text ++ all) true events left) bytes
+          (reads_are_one protocol reads text left events rest in_turn open_reads);
+    }

@@ -1,0 +1,27 @@
+//! The laws of limits in time, and by `pub use` those of the extended grammar and of timers.
+ghost use Rattle.termwiz_input_extended.specs.ExtendedExpiryLaws.{FlushEnds, FlushOneByOne, NoPauses};
+
+pub use termwiz_extended_grammar::laws::{
+    conservative, cut_independent, empty_is_rest, extra_is_longest, few_events,
+    few_events_in_stream, four_beginnings, one_by_one, one_meaning, opening_is_longest, parts_join,
+    resumes, sequence_stands, steps_join, string_stands, titles_are_commands, undecided,
+    waiting_kinds, waiting_shape,
+};
+pub use termwiz_input::laws::{any_clock, held_key, timers_exact, timers_not_early, usual_times};
+
+/// A flush of what was due ends it. If a rest was due and [`expire`](crate::time::expire) flushed it, nothing stays buffered, and nothing is
+/// due at any time, until bytes are fed.
+///
+/// [`next_flushed`](crate::time::next_flushed) called up to `None` has the events of that flush (`one_by_one`).
+pub fn flush_ends()
+    ensures ends { FlushEnds }
+    ensures one_by_one { FlushOneByOne }
+{}
+
+/// Pauses within the limits change nothing. A program reads bytes at some times, and at others lets what is buffered expire. The events are
+/// those of these reads in turn, where what was due is a read of no bytes with no more to come (`in_turn`). The bytes of these reads are all
+/// bytes that came (`all_bytes`). If nothing was due, the events are those of all bytes together (`no_pauses`). This is said of policies
+/// under which a paste waits forever: else a paste that was due ends where it is.
+pub fn no_pauses()
+    ensures { NoPauses }
+{}
