@@ -1,3 +1,4 @@
+pub mod FlushedBytes
 pub mod GoneOn
 pub mod ListedLines
 mod PlainLookups

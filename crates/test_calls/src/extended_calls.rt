@@ -75,8 +75,8 @@ fn parsed(
     Ok(events)
 }
 
-// The events of `for_each_event`, after the bytes were fed.
-fn looped(
+/// The events of `for_each_event`, after the bytes were fed.
+pub fn looped(
     alloc: Global,
     parser: &mut ExtendedParser,
     bytes: &[u8],

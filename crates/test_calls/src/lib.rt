@@ -14,11 +14,13 @@ pub mod draws;
 pub mod events;
 pub mod extended;
 pub mod extended_calls;
+pub mod extended_timed;
 pub mod listed;
 pub mod maps;
 pub mod parses;
 pub mod parts;
 pub mod plain;
+pub mod timed;
 
 use std::alloc::{AllocError, Global};
 use termwiz_input::input::{

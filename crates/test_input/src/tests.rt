@@ -6,6 +6,7 @@ mod long;
 mod pieces;
 mod pulled;
 mod rows;
+mod timed;
 
 use event_text::push_event;
 use std::alloc::Global;

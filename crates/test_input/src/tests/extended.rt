@@ -2,6 +2,7 @@
 // in their contracts.
 mod parser;
 mod sequences;
+mod timed;
 
 use std::alloc::{AllocError, Global};
 use std::process::Abort;
