@@ -30,7 +30,7 @@ use Rattle.termwiz_input_extended.specs.declared.next_item.RowMatch.{RowMatch}
 use Rattle.termwiz_input_extended.specs.declared.next_item.RowMatch.TheVariants.{Long, Short, Begun, Absent}
 use Rattle.termwiz_input_extended.specs.Buffered.{Buffered}
 use Rattle.termwiz_input_extended.specs.FormAnswers.{IsScanned, NoFormBegins}
-use Rattle.termwiz_input_extended.specs.StringAnswers.{IsStringItem}
+use Rattle.termwiz_input_extended.specs.StringAnswers.{IsOpeningOf}
 
 -- the text is read as a report of a key or of the cursor's position, even if it is a row
 abbrev pub IsReported : Protocol → List ℕ → Type 0
@@ -119,7 +119,7 @@ abbrev pub IsNextItem : Protocol → List ℕ → Bool → NextItem → Type 0
 IsNextItem protocol u more (Control byte) = (rest : List ℕ) × (u ≡ byte ∷ rest) × IsControlKey byte
 IsNextItem protocol u more (Key key len) = IsPortsOwn protocol u more × IsItemAt u more (PortsKey key.now) len
 IsNextItem protocol u more (Form len) = IsFormAt protocol u len
-IsNextItem protocol u more (String item) = IsStringItem u more item
+IsNextItem protocol u more (String kind len) = IsOpeningOf u kind len
 IsNextItem protocol u more (MouseReport event len) = (len ≤ length u) × IsMouseReport (take len u) event
 IsNextItem protocol u more Escape = (v : List ℕ) × (u ≡ ESC ++ v) × StartsExtended protocol v
 IsNextItem protocol u more AltEscape = IsPortsOwn protocol u more × IsItemAt u more (PortsKey (with_alt escape)) 2

@@ -12,16 +12,16 @@ ghost use Rattle.termwiz_extended_grammar.specs.ExtendedLaws.{Waits};
 ghost use Rattle.termwiz_input_extended.specs.Buffered.{IsToldByBytes};
 ghost use Rattle.termwiz_input_extended.specs.EventCallbacks.{MayBeCalledOn, WasCalledOn};
 ghost use Rattle.termwiz_input_extended.specs.NextItems.{Emits, GivesNoneThatNeedsMemory, HasItemThatNeedsMemory, IsNextItem, IsFormAt, IsPasteEvent, IsPortsOwn, Stores};
-ghost use Rattle.termwiz_input_extended.specs.StringAnswers.{IsStringItem};
+ghost use Rattle.termwiz_input_extended.specs.StringAnswers.{IsOpeningOf};
 
 use crate::characters::{control_key, match_character};
 use crate::form::INTRODUCED;
 use crate::next_item::{NextItem, is_extra_at, next_item, plain_report_at, string_meaning};
-use crate::string::{OpeningAt, StringItem, opening_at};
+use crate::string::{OpeningAt, StringAt, opening_at, string_at};
 use std::alloc::{AllocError, Global};
 use std::marker::Model;
 use termwiz_extended_events::meanings::meaning_of;
-use termwiz_extended_events::types::{ExtendedEvent, Protocol};
+use termwiz_extended_events::types::{ExtendedEvent, Protocol, StringKind};
 pub use termwiz_extended_grammar::waiting::ExtendedWaiting;
 pub use termwiz_input::input::ParseError;
 use termwiz_input::input::{
@@ -222,16 +222,31 @@ impl ExtendedParser {
         self.parser.feed(bytes)
     }
 
-    // Consumes the item of a string at the front of the buffer, and returns its event. The opening of a part stays.
+    // Consumes what comes of the string at the front of the buffer, whose opening has so many bytes, and returns its event. The opening of a
+    // part stays. `None` if the string goes on and more comes.
     #[inline(never)]
-    fn next_string(&mut self, item: StringItem) -> Result<Option<ExtendedEvent>, AllocError>
-        requires { (more : Bool) × IsStringItem self.old.text more item }
-        ensures { (more : Bool) → IsStringItem self.old.text more item → Emits self.old more self.new result }
+    fn next_string(
+        &mut self,
+        kind: StringKind,
+        opening: usize,
+        maybe_more: bool,
+    ) -> Result<Option<ExtendedEvent>, AllocError>
+        requires { IsOpeningOf self.old.text kind opening }
+        ensures { Emits self.old maybe_more self.new result }
     {
-        let bytes = &self.waiting_text()[INTRODUCED..item.end];
-        let event = string_meaning(item, bytes).event(self.alloc)?;
-        self.cut_out(item.kept, item.taken);
-        Ok(Some(event))
+        let text = self.waiting_text();
+        match string_at(kind, opening, text, self.scanned, maybe_more) {
+            StringAt::Item(item) => {
+                let bytes = &text[INTRODUCED..item.end];
+                let event = string_meaning(item, bytes).event(self.alloc)?;
+                self.cut_out(item.kept, item.taken);
+                Ok(Some(event))
+            }
+            StringAt::Open(place) => {
+                self.scanned = place;
+                Ok(None)
+            }
+        }
     }
 
     // Consumes what the port finds at the front of the buffer.
@@ -304,7 +319,7 @@ impl ExtendedParser {
                 }
                 self.next_form(len, maybe_more)
             }
-            NextItem::String(item) => self.next_string(item),
+            NextItem::String(kind, opening) => self.next_string(kind, opening, maybe_more),
             NextItem::MouseReport(event, len) => {
                 self.consume(len);
                 Ok(Some(mouse_event(event)))
@@ -571,6 +586,12 @@ impl ExtendedParser {
             NextItem::Usual => self.parser.has_item(maybe_more),
             NextItem::Control(_) => self.parser.has_item(maybe_more),
             NextItem::Incomplete(_) => false,
+            NextItem::String(kind, opening) => {
+                match string_at(kind, opening, text, self.scanned, maybe_more) {
+                    StringAt::Item(_) => true,
+                    StringAt::Open(_) => false,
+                }
+            }
             _ => true,
         }
     }

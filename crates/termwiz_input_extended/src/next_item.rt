@@ -15,12 +15,12 @@ ghost use Rattle.termwiz_extended_events.specs.KeyReports.{plain_report};
 ghost use Rattle.termwiz_extended_events.specs.Meanings.{event_from, event_of};
 ghost use Rattle.termwiz_extended_grammar.specs.Forms.{IsForm};
 ghost use Rattle.termwiz_input_extended.specs.FormAnswers.{IsScanned};
-ghost use Rattle.termwiz_input_extended.specs.StringAnswers.{HasOpening, IsOpeningOf, string_event};
+ghost use Rattle.termwiz_input_extended.specs.StringAnswers.{HasOpening, string_event};
 ghost use Rattle.termwiz_input_extended.specs.NextItems.{IsFormMatch, HasNoLongRow, IsNextItem, IsExtraAt, IsFormAt, IsRowMatch, IsPortsOwn, IsReported, IsScannedTo, IsSomeExtra};
 
 use crate::characters::is_control_key;
 use crate::form::{ESCAPE, FormAt, form_at, next_scan};
-use crate::string::{OpeningAt, StringAt, StringItem, StringManner, opening_at, string_at};
+use crate::string::{OpeningAt, StringItem, StringManner, opening_at};
 use termwiz_extended_events::meanings::{Meaning, meaning_of, plain_report};
 use termwiz_extended_events::types::{PlainReport, Protocol, StringKind};
 use termwiz_input::input::{
@@ -66,8 +66,8 @@ pub(crate) enum NextItem<'k> {
     Key(&'k KeyEvent, usize),
     // A form that is no mouse report: an extra sequence or, under `Protocol::Kitty`, a row of the sequence table.
     Form(usize),
-    // What comes of a string.
-    String(StringItem),
+    // The opening of a string.
+    String(StringKind, usize),
     // A mouse report, which the port finds there too.
     MouseReport(MouseEvent, usize),
     // The Escape key before an extra sequence or a string.
@@ -204,25 +204,6 @@ fn match_front(text: &[u8], scanned: usize) -> FormMatch
         OpeningAt::Opening(..) => FormMatch::Opening,
         OpeningAt::Unfinished => FormMatch::Unfinished(0),
         OpeningAt::Absent => match_form(text, scanned),
-    }
-}
-
-// What is at the front of a text that begins with an opening of so many bytes, of a string of this kind.
-fn item_of_string<'k>(
-    kind: StringKind,
-    opening: usize,
-    text: &[u8],
-    scanned: usize,
-    maybe_more: bool,
-) -> NextItem<'k>
-    requires one { ¬ Begins (ESC ++ ESC) text.now }
-    requires opening { IsOpeningOf text.now kind opening }
-    requires scanned { IsScanned text.now scanned }
-    ensures { (protocol : Protocol) → IsNextItem protocol text.now maybe_more result }
-{
-    match string_at(kind, opening, text, scanned, maybe_more) {
-        StringAt::Item(item) => NextItem::String(item),
-        StringAt::Open(place) => NextItem::Incomplete(place),
     }
 }
 
@@ -363,7 +344,30 @@ fn item_of_sequence<'k>(
     }
 }
 
-// What is at the front of a text that begins with one ESC alone. A string is looked for first, by its opening.
+// What is at the front of a text that begins with one ESC alone. An opening is looked for first. It has a frame of its own, which keys don't
+// pay for.
+#[inline(never)]
+fn item_of_introduced<'k>(
+    parser: &'k InputParser,
+    protocol: Protocol,
+    text: &[u8],
+    scanned: usize,
+    maybe_more: bool,
+) -> NextItem<'k>
+    requires escape { Begins ESC text.now }
+    requires one { ¬ Begins (ESC ++ ESC) text.now }
+    requires scanned { IsScanned text.now scanned }
+    ensures { IsNextItem protocol text.now maybe_more result }
+{
+    match opening_at(text) {
+        OpeningAt::Opening(kind, len) => NextItem::String(kind, len),
+        OpeningAt::Unfinished if maybe_more => NextItem::Incomplete(0),
+        OpeningAt::Unfinished => NextItem::Usual,
+        OpeningAt::Absent => item_of_sequence(parser, protocol, text, scanned, maybe_more),
+    }
+}
+
+// The same, quicker where the byte after the ESC introduces no string.
 #[inline(always)]
 fn item_of_one_escape<'k>(
     parser: &'k InputParser,
@@ -377,11 +381,13 @@ fn item_of_one_escape<'k>(
     requires scanned { IsScanned text.now scanned }
     ensures { IsNextItem protocol text.now maybe_more result }
 {
-    match match_opening(text) {
-        OpeningAt::Opening(kind, len) => item_of_string(kind, len, text, scanned, maybe_more),
-        OpeningAt::Unfinished if maybe_more => NextItem::Incomplete(0),
-        OpeningAt::Unfinished => NextItem::Usual,
-        OpeningAt::Absent => item_of_sequence(parser, protocol, text, scanned, maybe_more),
+    match text {
+        [_, b']' | b'P' | b'_', ..] => {
+            item_of_introduced(parser, protocol, text, scanned, maybe_more)
+        }
+        [_, _, ..] => item_of_sequence(parser, protocol, text, scanned, maybe_more),
+        _ if maybe_more => NextItem::Incomplete(0),
+        _ => NextItem::Usual,
     }
 }
 

@@ -1,14 +1,20 @@
 -- What comes of a string is one step.
-use Rattle.std.proofs.Common.{◌≡◌, ℕ, ◌+◌, ◌-◌, ◌≤◌, Bool, List, ◌∷◌, [], ◌++◌, take, drop, refl, sym, ap, ◌∙◌, subst, arith}
+use Rattle.std.proofs.Common.{◌≡◌, ℕ, ◌+◌, ◌-◌, ◌≤◌, Bool, List, ◌∷◌, [], ◌++◌, length, take, drop, refl, sym, ap, ◌∙◌, subst, arith}
 use Rattle.std.proofs.lemmas.List.{drop-take}
+use Rattle.termwiz_keymap.specs.Bytes.{Begins}
+use Rattle.termwiz_keys.specs.Introducers.{ESC}
 use Rattle.termwiz_extended_events.specs.declared.types.ExtendedEvent.{ExtendedEvent}
 use Rattle.termwiz_extended_events.specs.declared.types.Protocol.{Protocol}
+use Rattle.termwiz_extended_events.specs.declared.types.StringKind.{StringKind}
 use Rattle.termwiz_extended_events.specs.Meanings.{NeedsMemory}
 use Rattle.termwiz_extended_grammar.specs.ExtendedGrammar.{Steps}
 use Rattle.termwiz_extended_grammar.specs.ExtendedGrammar.Stands.{string}
+use Rattle.termwiz_extended_grammar.proofs.lemmas.forms.FormBytes.{introducer_shape}
 use Rattle.termwiz_input_extended.specs.declared.string.StringItem.{StringItem}
-use Rattle.termwiz_input_extended.specs.NextItems.{HasItemThatNeedsMemory}
-use Rattle.termwiz_input_extended.specs.StringAnswers.{IsStringItem, string_event}
+use Rattle.termwiz_input_extended.specs.FormAnswers.{IsScanned}
+use Rattle.termwiz_input_extended.specs.NextItems.{HasItemThatNeedsMemory, IsScannedTo}
+use Rattle.termwiz_input_extended.specs.StringAnswers.{IsOpeningOf, IsStringItem, string_event}
+use Rattle.termwiz_input_extended.proofs.lemmas.fronts.ScannedPlaces.{scanned_once}
 
 -- the bytes between two places
 between : (u : List ℕ) (end : ℕ) → 2 ≤ end → take (end - 2) (drop 2 u) ≡ drop 2 (take end u)
@@ -37,3 +43,20 @@ module _ (protocol : Protocol) (u : List ℕ) (more : Bool) (item : StringItem) 
     stands = string item.kind is.head is.bytes is.after left_of _ is.is_string is.comes;
     needs = needs;
   }
+
+-- an opening begins with one ESC alone, so what was looked at is of the text itself
+opening_one : (u : List ℕ) (kind : StringKind) (len : ℕ) → IsOpeningOf u kind len → Begins (ESC ++ ESC) u → ⊥
+opening_one u kind len o b =
+    let i = introducer_shape kind in
+    let all : u ≡ 27 ∷ i.0 ∷ (o.head ++ o.begins.0) = o.begins.1 ∙ ap (λ z. z ++ o.head ++ o.begins.0) i.1 in
+    let second : i.0 ≡ 27 = cc (all, b.1) in omega (arith, i.2)
+
+pub opening_scanned : (t u p : List ℕ) (kind : StringKind) (len place : ℕ) → t ≡ u → p ≡ u → IsOpeningOf u kind len → IsScannedTo p place
+    → IsScanned t place
+opening_scanned t u p kind len place t_is p_is o is = subst (λ x. IsScanned x place) (sym t_is)
+    ((subst (λ x. IsScannedTo x place) p_is is).here (opening_one u kind len o))
+
+pub scanned_open : (t u p : List ℕ) (kind : StringKind) (len place : ℕ) → t ≡ u → p ≡ u → IsOpeningOf u kind len → IsScanned t place
+    → place ≤ length t → IsScannedTo p place
+scanned_open t u p kind len place t_is p_is o is within = subst (λ x. IsScannedTo x place) (sym p_is)
+    (scanned_once u place (opening_one u kind len o) (subst (λ x. place ≤ length x) t_is within) (subst (λ x. IsScanned x place) t_is is))

@@ -79,9 +79,3 @@ returns-in-Some c =
     (extra_step c.args.self.now.protocol u c.in-Form.len _ c.args.maybe_more is.1 (Reported c.whole.result)
     (ap (λ report. Reported report) c.whole.ensures ∙ sym found.1)))
     (ap (λ (b : Buffered). b.protocol) c.consume-in-Some.ensures)
-
-pub next_string-requires : goal.next_string-requires
-next_string-requires c = (c.args.maybe_more, c.in-String.ensures)
-
-pub returns-in-String : goal.returns-in-String
-returns-in-String c = c.next_string.ensures c.args.maybe_more c.in-String.ensures

@@ -3,16 +3,20 @@ use Rattle.termwiz_keys.specs.declared.types.InputEvent.TheVariants.{Key as Port
 use Rattle.termwiz_grammar.specs.Grammar as port
 use Rattle.termwiz_extended_events.specs.declared.types.ExtendedEvent.{ExtendedEvent}
 use Rattle.termwiz_extended_events.specs.declared.types.Protocol.{Protocol}
+use Rattle.termwiz_extended_events.specs.declared.types.StringKind.{StringKind}
 use Rattle.termwiz_extended_events.specs.Meanings.{event_of}
 use Rattle.termwiz_extended_grammar.specs.ExtendedGrammar.{HasItem, IsRest, Steps}
 use Rattle.termwiz_input_extended.specs.declared.next_item.NextItem.{NextItem}
 use Rattle.termwiz_input_extended.specs.declared.next_item.NextItem.TheVariants.{Control, Key, Form, String, MouseReport, Escape, AltEscape, Paste, Usual, Incomplete}
+use Rattle.termwiz_extended_grammar.specs.Strings.{IsOpenString}
+use Rattle.termwiz_extended_grammar.proofs.lemmas.items.ExtendedRests.{string_rests}
 use Rattle.termwiz_input_extended.specs.Buffered.{Buffered}
 use Rattle.termwiz_input_extended.specs.NextItems.{IsNextItem, IsExtraAt, IsPortsOwn}
+use Rattle.termwiz_input_extended.specs.StringAnswers.{IsStringItem}
 use Rattle.termwiz_input_extended.proofs.lemmas.fronts.FrontItems.{escape_step, extra_step, own_has_item, own_rest}
 use Rattle.termwiz_input_extended.proofs.lemmas.fronts.KnownFronts.{item_step, mouse_report_step, own_start}
 use Rattle.termwiz_input_extended.proofs.lemmas.fronts.ControlFirst.{control_own}
-use Rattle.termwiz_input_extended.proofs.lemmas.fronts.StringSteps.{string_step}
+use Rattle.termwiz_input_extended.proofs.lemmas.fronts.StringSteps.{opening_scanned, string_step}
 use Rattle.termwiz_input_extended.proofs.input.ExtendedParser.has_item.Goals as goal
 
 -- what one step consumes is an item
@@ -21,17 +25,18 @@ stepped protocol u left more event (rest, stands, same) = (rest, event, stands)
 
 found_item : (protocol : Protocol) (u : List ℕ) (more : Bool) (found : NextItem) → IsNextItem protocol u more found
     → (found ≡ Paste → ⊥) → (found ≡ Usual → ⊥) → ((len : ℕ) → found ≡ Form len → ⊥) → ((byte : ℕ) → found ≡ Control byte → ⊥)
-    → ((place : ℕ) → found ≡ Incomplete place → ⊥) → HasItem protocol u more
-found_item protocol u more (Control byte) is p o f b n = absurd (b byte refl)
-found_item protocol u more (Key key len) is p o f b n = stepped protocol u _ more _ (item_step protocol u (PortsKey key.now) len more is.0 is.1)
-found_item protocol u more (Form len) is p o f b n = absurd (f len refl)
-found_item protocol u more (String item) is p o f b n = stepped protocol u _ more _ (string_step protocol u more item is _ refl)
-found_item protocol u more (MouseReport event len) is p o f b n = stepped protocol u _ more _ (mouse_report_step protocol u event len more is.0 is.1)
-found_item protocol u more Escape is p o f b n = stepped protocol u _ more _ (escape_step protocol u is.0 more is.1 is.2)
-found_item protocol u more AltEscape is p o f b n = stepped protocol u _ more _ (item_step protocol u _ 2 more is.0 is.1)
-found_item protocol u more Paste is p o f b n = absurd (p refl)
-found_item protocol u more Usual is p o f b n = absurd (o refl)
-found_item protocol u more (Incomplete place) is p o f b n = absurd (n place refl)
+    → ((place : ℕ) → found ≡ Incomplete place → ⊥) → ((kind : StringKind) (len : ℕ) → found ≡ String kind len → ⊥)
+    → HasItem protocol u more
+found_item protocol u more (Control byte) is p o f b n s = absurd (b byte refl)
+found_item protocol u more (Key key len) is p o f b n s = stepped protocol u _ more _ (item_step protocol u (PortsKey key.now) len more is.0 is.1)
+found_item protocol u more (Form len) is p o f b n s = absurd (f len refl)
+found_item protocol u more (String kind len) is p o f b n s = absurd (s kind len refl)
+found_item protocol u more (MouseReport event len) is p o f b n s = stepped protocol u _ more _ (mouse_report_step protocol u event len more is.0 is.1)
+found_item protocol u more Escape is p o f b n s = stepped protocol u _ more _ (escape_step protocol u is.0 more is.1 is.2)
+found_item protocol u more AltEscape is p o f b n s = stepped protocol u _ more _ (item_step protocol u _ 2 more is.0 is.1)
+found_item protocol u more Paste is p o f b n s = absurd (p refl)
+found_item protocol u more Usual is p o f b n s = absurd (o refl)
+found_item protocol u more (Incomplete place) is p o f b n s = absurd (n place refl)
 
 -- an item of the port is one where the text is the port's own, and its rest a rest
 module _ (protocol : Protocol) (u v : List ℕ) (more : Bool) (text : v ≡ u) (own : IsPortsOwn protocol u more) where
@@ -44,7 +49,8 @@ module _ (protocol : Protocol) (u v : List ℕ) (more : Bool) (text : v ≡ u) (
 pub returns-in_default : goal.returns-in_default
 returns-in_default c = record {
   some = λ t. found_item c.args.self.now.protocol c.args.self.now.text c.args.maybe_more c.next_item.result c.next_item.ensures c.in_default.not-Paste
-      c.in_default.not-Usual c.in_default.not-Form c.in_default.not-Control c.in_default.not-Incomplete;
+      c.in_default.not-Usual c.in_default.not-Form c.in_default.not-Control c.in_default.not-Incomplete
+      c.in_default.not-String;
   none = λ e. absurd (cc (e));
 }
 
@@ -102,3 +108,21 @@ returns-in-Control-clause-none c = λ e.
     rest_by_port c.args.self.now.protocol c.args.self.now.text _ c.args.maybe_more (ap (λ (b : Buffered). b.text) c.self.view_is)
     (control_own c.args.self.now.protocol c.args.self.now.text c.args.maybe_more c.in-Control.field-0 c.in-Control.ensures.0 c.in-Control.ensures.1
     c.in-Control.ensures.2) (c.has_item-in-Control.ensures.none e)
+
+pub string_at-requires-clause-scanned : goal.string_at-requires-clause-scanned
+string_at-requires-clause-scanned c =
+    opening_scanned _ c.args.self.now.text c.self.inside.parser c.in-String.kind c.in-String.opening _ c.waiting_text-text.ensures
+    (ap (λ (b : Buffered). b.text) c.self.view_is) c.in-String.ensures c.self.invariant
+
+pub returns-in-Item-clause-some : goal.returns-in-Item-clause-some
+returns-in-Item-clause-some c = λ t.
+    let u = c.args.self.now.text in
+    let more = c.args.maybe_more in
+    stepped c.args.self.now.protocol u _ more _ (string_step c.args.self.now.protocol u more c.in-Item.field-0
+    (subst (λ x. IsStringItem x more c.in-Item.field-0) c.waiting_text-text.ensures c.in-Item.ensures) _ refl)
+
+pub returns-in-Open-clause-none : goal.returns-in-Open-clause-none
+returns-in-Open-clause-none c = λ e.
+    let found = c.in-Open.ensures in
+    string_rests c.args.self.now.protocol c.args.self.now.text c.args.maybe_more
+    (subst IsOpenString c.waiting_text-text.ensures found.0) found.1

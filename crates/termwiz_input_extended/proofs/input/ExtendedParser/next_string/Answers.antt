@@ -1,32 +1,58 @@
 use Rattle.std.proofs.Common.{◌≡◌, ◌∷◌, [], ◌++◌, refl, sym, ap, subst, Some}
 use Rattle.std.specs.Prelude.{IfSome}
 use Rattle.termwiz_extended_events.specs.Meanings.{NeedsMemory, event_from}
+use Rattle.termwiz_extended_grammar.specs.Strings.{IsOpenString}
 use Rattle.termwiz_extended_grammar.specs.ExtendedGrammar.{Steps}
+use Rattle.termwiz_extended_grammar.proofs.lemmas.items.ExtendedRests.{string_rests}
 use Rattle.termwiz_input_extended.specs.Buffered.{Buffered}
-use Rattle.termwiz_input_extended.specs.StringAnswers.{string_event}
-use Rattle.termwiz_input_extended.proofs.lemmas.fronts.EmittedItems.{emits_event, emits_refused}
-use Rattle.termwiz_input_extended.proofs.lemmas.fronts.StringSteps.{bytes_within, string_refused, string_step}
+use Rattle.termwiz_input_extended.specs.StringAnswers.{IsStringItem, string_event}
+use Rattle.termwiz_input_extended.proofs.lemmas.fronts.EmittedItems.{emits_event, emits_none, emits_refused}
+use Rattle.termwiz_input_extended.proofs.lemmas.fronts.StringSteps.{bytes_within, opening_scanned, scanned_open, string_refused, string_step}
 use Rattle.termwiz_input_extended.proofs.input.ExtendedParser.next_string.Goals as goal
 
-pub returns : goal.returns
-returns c = λ more is.
+pub string_at-requires-clause-scanned : goal.string_at-requires-clause-scanned
+string_at-requires-clause-scanned c =
+    opening_scanned _ c.args.self.now.text c.self.inside.parser c.args.kind c.args.opening _ c.waiting_text-text.ensures
+    (ap (λ (b : Buffered). b.text) c.self.view_is) c.requires c.self.invariant
+
+pub invariant_of-self : goal.invariant_of-self
+invariant_of-self c =
+    let found = c.in-Open.ensures in
+    scanned_open _ c.args.self.now.text c.self.inside.parser c.args.kind c.args.opening c.in-Open.place c.waiting_text-text.ensures
+    (ap (λ (b : Buffered). b.text) c.self.view_is) c.requires found.2 found.3
+
+pub returns-in-Open : goal.returns-in-Open
+returns-in-Open c =
+    let found = c.in-Open.ensures in
+    emits_none c.args.self.now _ c.args.maybe_more
+    (string_rests c.args.self.now.protocol c.args.self.now.text c.args.maybe_more
+    (subst IsOpenString c.waiting_text-text.ensures found.0) found.1) c.self.view_is
+
+pub returns-in_ok-event-in-Item : goal.returns-in_ok-event-in-Item
+returns-in_ok-event-in-Item c =
     let u = c.args.self.now.text in
-    let event = c.in_ok-event.event in
-    let bytes = bytes_within c.waiting_text.result.now u more c.args.item c.waiting_text.ensures is in
-    let made : event ≡ string_event c.args.item.manner c.args.item.kind (is.head ++ is.bytes) =
-    cc (c.string_meaning.ensures, c.in_ok-event.ensures.ok, bytes) in
+    let more = c.args.maybe_more in
+    let item = c.in-Item.item in
+    let is = subst (λ t. IsStringItem t more item) c.waiting_text-text.ensures c.in-Item.ensures in
+    let event = c.in_ok-event-in-Item.event in
+    let bytes = bytes_within c.waiting_text-text.result.now u more item c.waiting_text-text.ensures is in
+    let made : event ≡ string_event item.manner item.kind (is.head ++ is.bytes) =
+    cc (c.string_meaning.ensures, c.in_ok-event-in-Item.ensures.ok, bytes) in
     emits_event c.args.self.now _ more event
     (subst (λ t. Steps c.args.self.now.protocol u more (event ∷ []) t) (sym (ap (λ (b : Buffered). b.text) c.cut_out.ensures))
-    (string_step c.args.self.now.protocol u more c.args.item is event made))
+    (string_step c.args.self.now.protocol u more item is event made))
     (ap (λ (b : Buffered). b.protocol) c.cut_out.ensures)
 
-pub returns-in_err-event : goal.returns-in_err-event
-returns-in_err-event c = λ more is.
+pub returns-in_err-event-in-Item : goal.returns-in_err-event-in-Item
+returns-in_err-event-in-Item c =
     let u = c.args.self.now.text in
-    let bytes = bytes_within c.waiting_text.result.now u more c.args.item c.waiting_text.ensures is in
-    let made : event_from c.string_meaning.result ≡ Some (string_event c.args.item.manner c.args.item.kind (is.head ++ is.bytes)) =
+    let more = c.args.maybe_more in
+    let item = c.in-Item.item in
+    let is = subst (λ t. IsStringItem t more item) c.waiting_text-text.ensures c.in-Item.ensures in
+    let bytes = bytes_within c.waiting_text-text.result.now u more item c.waiting_text-text.ensures is in
+    let made : event_from c.string_meaning.result ≡ Some (string_event item.manner item.kind (is.head ++ is.bytes)) =
     cc (c.string_meaning.ensures, bytes) in
     emits_refused c.args.self.now _ more _ c.from_residual.ensures.0
-    (string_refused c.args.self.now.protocol u more c.args.item is
-    (subst (λ found. IfSome found NeedsMemory) made c.in_err-event.ensures.refused))
+    (string_refused c.args.self.now.protocol u more item is
+    (subst (λ found. IfSome found NeedsMemory) made c.in_err-event-in-Item.ensures.refused))
     refl
