@@ -71,12 +71,17 @@ extern "C" {
  * copies only one may ever be used, and only one freed. */
 typedef struct hed_parser {
   bool live;
+  bool timed;
+  bool fed;
+  bool taken;
+  bool expiring;
   void *state;
+  void *timing;
 } hed_parser;
 
 /* The value of a hed_parser that is none. */
 #define HED_PARSER_NONE \
-  { false, NULL }
+  { false, false, false, false, false, NULL, NULL }
 
 /* The kinds of events: the field kind of a hed_event, which has none but the first four and HED_KIND_PASTE_PART, and of a
  * hed_extended_event. */
@@ -114,7 +119,7 @@ typedef struct hed_event {
   size_t paste_len; /* HED_KIND_PASTE, HED_KIND_PASTE_PART: the number of bytes of the text, which hed_parser_paste copies */
 } hed_event;
 
-/* What hed_parser_next, hed_parser_flush_escape, hed_parser_take_paste and hed_parser_end_paste return. */
+/* What hed_parser_next, hed_parser_flush_escape, hed_parser_take_paste, hed_parser_end_paste and hed_parser_expire return. */
 enum hed_next {
   /* numbers.txt: next c */
   HED_NEXT_NONE = 0, /* There is no such event. Nothing changed. */
@@ -246,6 +251,44 @@ uint32_t hed_parser_end_paste(hed_parser *parser, hed_event *event);
  *
  * Returns the number of bytes that were buffered, 0 if there is no parser. */
 size_t hed_parser_reset(hed_parser *parser);
+
+/* How long each kind of bytes may stay buffered, in milliseconds: then they are due to be flushed. Negative: forever. */
+typedef struct hed_policy {
+  int32_t escape; /* ESC or ESC ESC, since its last byte */
+  int32_t alt_key; /* ESC and one byte that may begin a sequence, since the ESC: unless more follows, the byte's key with Alt */
+  int32_t sequence; /* a longer prefix of a sequence, since its first byte */
+  int32_t string; /* a string without its end, since its first byte; each byte that is buffered adds a millisecond */
+  int32_t character; /* a prefix of a character, since its first byte */
+  int32_t paste; /* an open paste, since bytes last came */
+} hed_policy;
+
+/* The limits of a parser for which none were set. */
+#define HED_POLICY_USUAL \
+  { 50, 100, 1000, 5000, -1, -1 }
+
+/* Sets the limits of a parser. They hold from the next hed_parser_timeout or hed_parser_expire on.
+ *
+ * Returns false if memory is refused or there is no parser: then nothing changed. The first call of this, hed_parser_timeout or
+ * hed_parser_expire on a parser asks for some hundred bytes, and no other does. */
+bool hed_parser_set_policy(hed_parser *parser, const hed_policy *policy);
+
+/* Tells the parser what time it is, and returns how many milliseconds what is buffered may still wait, as poll takes it: 0 if it is due, -1
+ * if it may wait forever or nothing is buffered. The caller calls it once hed_parser_next returned HED_NEXT_NONE, before it waits.
+ *
+ * now is in milliseconds, of a clock that nobody sets, such as CLOCK_MONOTONIC. If it is before the time that was told last, no time
+ * has passed. Bytes count as come when the next call tells the time.
+ *
+ * Returns 0 if memory is refused, and -1 if there is no parser. Then nothing changed. */
+int32_t hed_parser_timeout(hed_parser *parser, uint64_t now);
+
+/* Tells the parser what time it is. If what is buffered is due, writes the next event of a flush to *event, and consumes its bytes: of an
+ * open paste what hed_parser_end_paste writes, of anything else what hed_parser_next writes with more as false. The caller calls it until it
+ * returns HED_NEXT_NONE, if no bytes came for as long as hed_parser_timeout said. Once an event was taken the rest of the flush is due,
+ * whatever the time is, unless bytes are fed.
+ *
+ * Returns HED_NEXT_EVENT, HED_NEXT_NONE if nothing is due or left, HED_NEXT_NO_MEMORY, or HED_NEXT_NO_PARSER. *event is written only with
+ * HED_NEXT_EVENT. With HED_NEXT_NO_MEMORY nothing changed, and the call may be made again. */
+uint32_t hed_parser_expire(hed_parser *parser, uint64_t now, hed_event *event);
 
 /* The modifiers by termwiz's bits, as a set: the field modifiers of a hed_event, and what hed_encode is given. A hed_key_report has others,
  * those of enum hed_kitty_mod. */
@@ -525,12 +568,17 @@ size_t hed_keymap_len(const hed_keymap *map);
  * to it. A program makes it in place of a hed_parser and calls it in the same way. It may be moved as a hed_parser may. */
 typedef struct hed_extended {
   bool live;
+  bool timed;
+  bool fed;
+  bool taken;
+  bool expiring;
   void *state;
+  void *timing;
 } hed_extended;
 
 /* The value of a hed_extended that is none. */
 #define HED_EXTENDED_NONE \
-  { false, NULL }
+  { false, false, false, false, false, NULL, NULL }
 
 /* The keyboard protocol that the program turned on, which says how the entries of the sequence table are read: what hed_extended_init is
  * given. */
@@ -721,13 +769,14 @@ uint32_t hed_version(void);
 
 /* The layouts that the library was proved with. A line that doesn't compile says that this machine has others. */
 #define HED_IS(name, holds) typedef char hed_is_##name[(holds) ? 1 : -1]
-HED_IS(parser, sizeof(hed_parser) == 16 && offsetof(hed_parser, state) == 8);
+HED_IS(parser, sizeof(hed_parser) == 24 && offsetof(hed_parser, state) == 8 && offsetof(hed_parser, timing) == 16);
 HED_IS(event, sizeof(hed_event) == 24 && offsetof(hed_event, modifiers) == 2 && offsetof(hed_event, y) == 8);
 HED_IS(event_end, offsetof(hed_event, detail) == 12 && offsetof(hed_event, paste_len) == 16);
 HED_IS(keymap, sizeof(hed_keymap) == 16 && offsetof(hed_keymap, state) == 8);
 HED_IS(entries, sizeof(hed_entries) == 24 && offsetof(hed_entries, count) == 8 && offsetof(hed_entries, with_alt) == 16);
 HED_IS(match, sizeof(hed_match) == 16 && offsetof(hed_match, value) == 8);
-HED_IS(extended, sizeof(hed_extended) == 16 && offsetof(hed_extended, state) == 8);
+HED_IS(extended, sizeof(hed_extended) == 24 && offsetof(hed_extended, state) == 8 && offsetof(hed_extended, timing) == 16);
+HED_IS(policy, sizeof(hed_policy) == 24 && offsetof(hed_policy, string) == 12 && offsetof(hed_policy, paste) == 20);
 HED_IS(report, sizeof(hed_key_report) == 16 && offsetof(hed_key_report, key) == 2 && offsetof(hed_key_report, base) == 12);
 HED_IS(extended_event, sizeof(hed_extended_event) == 64 && offsetof(hed_extended_event, row) == 2);
 HED_IS(extended_width, offsetof(hed_extended_event, width) == 12);

@@ -30,6 +30,8 @@ static bool is_key(uint16_t key, uint32_t detail, uint16_t modifiers) {
          && taken.x == 0 && taken.y == 0 && taken.paste_len == 0;
 }
 
+static const hed_policy usual_policy = HED_POLICY_USUAL;
+
 /* Without a parser there are no entries, and nothing is written. */
 static void no_rows_answer(const hed_parser *parser) {
   hed_event event, before;
@@ -55,6 +57,8 @@ static void none_answers(hed_parser *parser) {
   EXPECT(hed_parser_end_paste(parser, &event) == HED_NEXT_NO_PARSER);
   EXPECT(hed_parser_take_paste(parser, 0, &event) == HED_NEXT_NO_PARSER);
   EXPECT(memcmp(&event, &before, sizeof event) == 0);
+  EXPECT(hed_parser_expire(parser, 7, &event) == HED_NEXT_NO_PARSER && memcmp(&event, &before, sizeof event) == 0);
+  EXPECT(!hed_parser_set_policy(parser, &usual_policy) && hed_parser_timeout(parser, 7) == -1);
   EXPECT(hed_parser_paste(parser, &byte, 1) == 0 && byte == 'x');
   hed_parser_drop_paste(parser);
   hed_parser_shrink_to(parser, 1);
@@ -1227,6 +1231,126 @@ static void keeps_short_keys(void) {
   hed_keymap_free(&map);
 }
 
+/* What a program's loop takes from a parser, when bytes come at these times: the time, the name of the key, its detail and its modifiers, or
+ * the length of a paste. */
+struct arrival {
+  uint64_t at;
+  const char *bytes;
+};
+
+struct run {
+  struct arrival arrivals[8];
+  const char *events;
+};
+
+static char told[1024];
+static size_t told_len;
+
+static void tell(uint64_t now) {
+  char name[22] = "Paste";
+  bool is_key = taken.kind == HED_KIND_KEY;
+  if (is_key) EXPECT(hed_key_name(taken.key, (uint8_t *)name, sizeof name) > 0);
+  told_len += (size_t)snprintf(told + told_len, sizeof told - told_len, "%u %s %u %u;", (unsigned)now, name,
+                               is_key ? (unsigned)taken.detail : (unsigned)taken.paste_len, (unsigned)taken.modifiers);
+  EXPECT(told_len < sizeof told);
+}
+
+static void expire_all(hed_parser *parser, uint64_t now) {
+  uint32_t answer;
+  while ((answer = hed_parser_expire(parser, now, &taken)) == HED_NEXT_EVENT) tell(now);
+  EXPECT(answer == HED_NEXT_NONE);
+}
+
+/* What is there is read, even if what is buffered is overdue; else what is due expires. It ends once nothing becomes due. */
+static void run(hed_parser *parser, const struct arrival *next) {
+  uint64_t now = 0;
+  int32_t timeout;
+  told_len = 0, told[0] = 0;
+  while ((timeout = hed_parser_timeout(parser, now)) >= 0 || next->bytes) {
+    if (next->bytes && (timeout < 0 || next->at <= now + (uint64_t)timeout)) {
+      now = next->at;
+      EXPECT(hed_parser_feed(parser, (const uint8_t *)next->bytes, strlen(next->bytes)));
+      while (take(parser, true) == HED_NEXT_EVENT) tell(now);
+      next++;
+    } else {
+      expire_all(parser, now += (uint64_t)timeout);
+    }
+  }
+}
+
+/* Under the usual limits. In the last but one a key is held down, whose bytes bring no event: they don't put a sequence off. */
+static const struct run runs[] = {
+  { { { 0, "\033" }, { 40, "\033" } }, "90 Escape 0 4;" },
+  { { { 0, "\033" }, { 50, "[A" }, { 99, "\033" }, { 150, "[A" } }, "50 UpArrow 0 0;149 Escape 0 0;150 Char 91 0;150 Char 65 0;" },
+  { { { 0, "\033[" }, { 900, "1" }, { 1300, "A" } }, "100 Char 91 4;900 Char 49 0;1300 Char 65 0;" },
+  { { { 0, "\033" }, { 40, "[" }, { 90, "1;5A" } }, "90 UpArrow 0 8;" },
+  { { { 0, "\033[1" }, { 900, ";5" }, { 1300, "A" } }, "1000 Char 91 4;1000 Char 49 0;1000 Char 59 0;1000 Char 53 0;1300 Char 65 0;" },
+  { { { 0, "\342" }, { 9000, "\202\254" } }, "9000 Char 8364 0;" },
+  { { { 7, "\033[<0;" }, { 900, "1" }, { 950, "1" }, { 1000, "1" } },
+    "1007 Char 91 4;1007 Char 60 0;1007 Char 48 0;1007 Char 59 0;1007 Char 49 0;1007 Char 49 0;1007 Char 49 0;" },
+  { { { 0, "\033[200~a" }, { 90000, "\033[201~\033" } }, "90000 Paste 1 0;90050 Escape 0 0;" },
+};
+
+static void expires(hed_parser *parser, const hed_parser *other) {
+  for (size_t i = 0; i < sizeof runs / sizeof *runs; i++) {
+    EXPECT(hed_parser_init_sharing(parser, other));
+    run(parser, runs[i].arrivals);
+    EXPECT(strcmp(told, runs[i].events) == 0);
+  }
+}
+
+/* 60000 bytes of a paste, two each millisecond, under a limit of 5: it is ended by a pause alone, where it is. */
+static void expires_after_a_pause_alone(hed_parser *parser, const hed_parser *other) {
+  static const hed_policy policy = { 50, 100, 1000, 5000, -1, 5 };
+  uint64_t now = 7000;
+  EXPECT(hed_parser_init_sharing(parser, other) && hed_parser_set_policy(parser, &policy));
+  EXPECT(FEED(parser, "\033[200~"));
+  for (int i = 0; i < 30000; i++, now++) {
+    EXPECT(hed_parser_expire(parser, now, &taken) == HED_NEXT_NONE);
+    EXPECT(FEED(parser, "ab") && take(parser, true) == HED_NEXT_NONE && hed_parser_timeout(parser, now) == 5);
+  }
+  EXPECT(hed_parser_expire(parser, now + 3, &taken) == HED_NEXT_NONE && hed_parser_timeout(parser, now + 3) == 1);
+  EXPECT(hed_parser_expire(parser, now + 4, &taken) == HED_NEXT_EVENT && taken.kind == HED_KIND_PASTE && taken.paste_len == 60000);
+  EXPECT(hed_parser_expire(parser, now + 4, &taken) == HED_NEXT_NONE && is_rest(parser, 0, HED_WAITING_NOTHING));
+}
+
+/* The limits that are set hold, from 0 to for ever, and a limit of before holds no longer. A parser that is made anew has the usual ones. */
+static void keeps_its_limits(hed_parser *parser, const hed_parser *other) {
+  static const hed_policy never = { -1, -1, -1, -1, -1, -1 }, at_once = { 0, 0, 0, 0, 0, 0 };
+  EXPECT(hed_parser_init_sharing(parser, other) && NEXT(parser, "\033", true) == HED_NEXT_NONE);
+  EXPECT(hed_parser_timeout(parser, 10) == 50 && hed_parser_timeout(parser, 30) == 30);
+  EXPECT(hed_parser_set_policy(parser, &never) && hed_parser_timeout(parser, UINT64_MAX) == -1);
+  EXPECT(hed_parser_expire(parser, UINT64_MAX, &taken) == HED_NEXT_NONE && is_rest(parser, 1, HED_WAITING_ESCAPE));
+  EXPECT(hed_parser_set_policy(parser, &at_once) && hed_parser_timeout(parser, 0) == 0);
+  EXPECT(hed_parser_expire(parser, 0, &taken) == HED_NEXT_EVENT && is_key(HED_KEY_ESCAPE, 0, HED_TERMWIZ_MOD_NONE));
+  EXPECT(hed_parser_timeout(parser, 0) == -1 && NEXT(parser, "\342", true) == HED_NEXT_NONE && hed_parser_timeout(parser, 0) == 0);
+  EXPECT(hed_parser_set_policy(parser, &usual_policy) && hed_parser_timeout(parser, 0) == -1);
+  EXPECT(hed_parser_init_sharing(parser, other) && NEXT(parser, "\033[", true) == HED_NEXT_NONE && hed_parser_timeout(parser, 0) == 100);
+}
+
+/* While the clock goes back or stands, nothing comes nearer. An event that is taken and a reset begin the time of a sequence again, and
+ * bytes that of an Escape. */
+static void counts_from_what_it_says(hed_parser *parser, const hed_parser *other) {
+  EXPECT(hed_parser_init_sharing(parser, other) && NEXT(parser, "\033[1", true) == HED_NEXT_NONE);
+  EXPECT(hed_parser_timeout(parser, 5000) == 1000 && hed_parser_timeout(parser, 5400) == 600 && hed_parser_timeout(parser, 100) == 600);
+  EXPECT(hed_parser_timeout(parser, 100) == 600 && hed_parser_timeout(parser, 600) == 100);
+  EXPECT(NEXT(parser, "A", true) == HED_NEXT_EVENT && NEXT(parser, "\033[1", true) == HED_NEXT_NONE);
+  EXPECT(hed_parser_timeout(parser, 690) == 1000 && hed_parser_timeout(parser, 890) == 800);
+  EXPECT(hed_parser_reset(parser) == 3 && NEXT(parser, "\033[1", true) == HED_NEXT_NONE && hed_parser_timeout(parser, 900) == 1000);
+  EXPECT(hed_parser_reset(parser) == 3 && NEXT(parser, "\033", true) == HED_NEXT_NONE && hed_parser_timeout(parser, 900) == 50);
+  EXPECT(hed_parser_timeout(parser, 940) == 10 && NEXT(parser, "\033", true) == HED_NEXT_NONE && hed_parser_timeout(parser, 945) == 50);
+}
+
+/* Once begun, a flush goes on whatever the time is, unless bytes are fed. */
+static void goes_on_flushing(hed_parser *parser, const hed_parser *other) {
+  EXPECT(hed_parser_init_sharing(parser, other) && NEXT(parser, "\033[1;", true) == HED_NEXT_NONE && hed_parser_timeout(parser, 0) == 1000);
+  EXPECT(hed_parser_expire(parser, 1000, &taken) == HED_NEXT_EVENT && is_key(HED_KEY_CHAR, '[', HED_TERMWIZ_MOD_ALT));
+  EXPECT(hed_parser_expire(parser, 0, &taken) == HED_NEXT_EVENT && is_key(HED_KEY_CHAR, '1', HED_TERMWIZ_MOD_NONE));
+  EXPECT(FEED(parser, "\033") && hed_parser_expire(parser, 1000, &taken) == HED_NEXT_NONE && hed_parser_waiting_len(parser) == 2);
+  EXPECT(take(parser, true) == HED_NEXT_EVENT && is_key(HED_KEY_CHAR, ';', HED_TERMWIZ_MOD_NONE));
+  EXPECT(take(parser, true) == HED_NEXT_NONE && hed_parser_timeout(parser, 1000) == 50);
+}
+
 /* A pointer of length 0 may be NULL. */
 static void takes_null_for_no_bytes(void) {
   hed_parser parser = HED_PARSER_NONE;
@@ -1291,7 +1415,7 @@ static void tells_the_version(void) {
 }
 
 int main(int argc, char **argv) {
-  hed_parser parser = HED_PARSER_NONE;
+  hed_parser parser = HED_PARSER_NONE, timed = HED_PARSER_NONE;
   if (argc != 2) return 2;
   answers_before_init_and_after_free();
   makes_anew();
@@ -1322,6 +1446,13 @@ int main(int argc, char **argv) {
   has_no_other_entries(&parser);
   tells_completions(&parser);
   completes_every_rest(&parser);
+  EXPECT(hed_parser_init(&timed));
+  expires(&timed, &parser);
+  expires_after_a_pause_alone(&timed, &parser);
+  keeps_its_limits(&timed, &parser);
+  counts_from_what_it_says(&timed, &parser);
+  goes_on_flushing(&timed, &parser);
+  hed_parser_free(&timed);
   hed_parser_free(&parser);
   flushes_what_was_fed();
   ends_a_paste_that_was_fed();

@@ -157,6 +157,62 @@ static void refuse_while_ending(bool is_part) {
   printf("%s of a paste: %ld refusals\n", is_part ? "part" : "end", number - 1);
 }
 
+/* Makes one of the calls that tell the time of a parser in which an ESC waits. Returns whether it was granted. */
+static bool ask_time(hed_parser *parser, int call, hed_event *event) {
+  static const hed_policy policy = { 7, 7, 7, 7, 7, 0 };
+  if (call == 0) return hed_parser_set_policy(parser, &policy);
+  if (call == 1) return hed_parser_timeout(parser, 1000) == 50;
+  return hed_parser_expire(parser, 1000, event) == HED_NEXT_NONE;
+}
+
+/* The first of these calls on a parser asks for memory, once, and the others don't. If it is refused, nothing changes. */
+static void refuse_time(void) {
+  for (int call = 0; call < 3; call++) {
+    hed_parser parser = HED_PARSER_NONE, before;
+    hed_event event;
+    EXPECT(hed_parser_init(&parser) && hed_parser_feed(&parser, (const uint8_t *)"\033", 1));
+    EXPECT(hed_parser_next(&parser, true, &event) == HED_NEXT_NONE);
+    memcpy(&before, &parser, sizeof before);
+    refuse(1);
+    EXPECT(!ask_time(&parser, call, &event) && refused == 1 && memcmp(&before, &parser, sizeof before) == 0);
+    refuse(1);
+    EXPECT(hed_parser_timeout(&parser, 1000) == 0 && refused == 1);
+    refuse(1);
+    EXPECT(hed_parser_expire(&parser, 1000, &event) == HED_NEXT_NO_MEMORY && refused == 1);
+    EXPECT(hed_parser_waiting(&parser) == HED_WAITING_ESCAPE);
+    refuse(0);
+    EXPECT(ask_time(&parser, call, &event));
+    refuse(1);
+    EXPECT(hed_parser_timeout(&parser, 1000) == (call == 0 ? 7 : 50) && hed_parser_timeout(&parser, 1000) == (call == 0 ? 7 : 50));
+    EXPECT(hed_parser_expire(&parser, 1050, &event) == HED_NEXT_EVENT && event.key == HED_KEY_ESCAPE && refused == 0);
+    EXPECT(hed_parser_expire(&parser, 1050, &event) == HED_NEXT_NONE && hed_parser_timeout(&parser, 1050) == -1 && refused == 0);
+    refuse(0);
+    hed_parser_free(&parser);
+    EXPECT(in_use == 0);
+  }
+}
+
+/* An open paste that is due, with the memory for the time or for its text refused. */
+static void refuse_while_expiring(void) {
+  static const char open[] = "\033[200~text";
+  static const hed_policy policy = { 50, 100, 1000, 5000, -1, 0 };
+  hed_parser parser = HED_PARSER_NONE;
+  hed_event event;
+  EXPECT(hed_parser_init(&parser) && hed_parser_set_policy(&parser, &policy));
+  EXPECT(hed_parser_feed(&parser, (const uint8_t *)open, sizeof open - 1) && hed_parser_next(&parser, true, &event) == HED_NEXT_NONE);
+  for (int again = 0; again < 2; again++) {
+    refuse(1);
+    EXPECT(hed_parser_expire(&parser, 5, &event) == HED_NEXT_NO_MEMORY && refused == 1);
+    EXPECT(hed_parser_waiting_len(&parser) == sizeof open - 1 && hed_parser_is_paste_open(&parser));
+  }
+  refuse(0);
+  EXPECT(hed_parser_expire(&parser, 5, &event) == HED_NEXT_EVENT && event.paste_len == 4 && is_pasted(&parser, "text"));
+  EXPECT(hed_parser_expire(&parser, 5, &event) == HED_NEXT_NONE);
+  EXPECT(hed_parser_init(&parser) && hed_parser_timeout(&parser, 5) == -1);
+  hed_parser_free(&parser);
+  EXPECT(in_use == 0);
+}
+
 /* A refused init leaves what was there: a parser in which two bytes wait, or none. Returns whether it was refused. */
 static bool refuse_init_of(hed_parser *parser, long number, size_t waiting) {
   refuse(number);
@@ -434,6 +490,8 @@ int main(int argc, char **argv) {
   for (size_t piece = 1; piece < 2 * sizeof stream; piece = piece * 3 + 1) refuse_while_reading(piece);
   refuse_while_ending(false);
   refuse_while_ending(true);
+  refuse_time();
+  refuse_while_expiring();
   refuse_while_encoding();
   need_no_memory();
   refuse_bindings();

@@ -22,8 +22,6 @@ use Rattle.termwiz_keymap.specs.contracts.keymap.remembered.Remembered as Rememb
 use Rattle.termwiz_keymap.specs.contracts.keymap.row.Row as Row
 use Rattle.termwiz_keymap.specs.contracts.readbuf.ReadBuffer as ReadBuffer
 use Rattle.termwiz_input.specs.contracts.input.InputParser as InputParser
-use Rattle.termwiz_input.specs.contracts.time.Age as Age
-use Rattle.termwiz_input.specs.contracts.time.Limit as Limit
 use Rattle.termwiz_input.specs.contracts.time.Policy as Policy
 use Rattle.termwiz_input.specs.contracts.time.Timer as Timer
 use Rattle.termwiz_input_extended.specs.contracts.input.ExtendedParser as ExtendedParser
@@ -100,17 +98,11 @@ extended_send : IsSend ExtendedParser.the_row
 extended_send = search (sendable, crosses, parser_send) depth 12
 
 -- the limits in time, and the ages
-age_send : IsSend (Enum (shape Age.the_type))
-age_send = enum_send (shape Age.the_type) (each_send (shape Age.the_type).variants tt)
-
-limit_send : IsSend Limit.the_row
-limit_send = search (sendable, crosses, age_send) depth 10
-
-policy_send : IsSend Policy.the_row
+policy_send : IsSend (Policy.the_field).row
 policy_send = search (sendable, crosses) depth 20
 
-timer_send : IsSend Timer.the_row
-timer_send = search (sendable, crosses, limit_send) depth 20
+timer_send : IsSend (Timer.the_field).row
+timer_send = search (sendable, crosses) depth 20
 
 -- what a handle leads to
 pub parser_and_paste_send : IsSend ParserAndPaste.the_row
@@ -123,7 +115,7 @@ pub bindings_send : IsSend Bindings.the_row
 bindings_send = search (sendable, crosses, map_send) depth 12
 
 pub timing_send : IsSend Timing.the_row
-timing_send = search (sendable, crosses, policy_send, timer_send) depth 12
+timing_send = search (sendable, policy_send, timer_send) depth 20
 
 -- and the pointer to that: what it owns says the same to every thread
 pub pointer_send : IsSend RawPtr

@@ -8,6 +8,8 @@ pub mod Keys
 pub mod KittyCalls
 pub mod Lent
 pub mod LentIf
+pub mod Limits
 pub mod Owned
 pub mod Presses
+pub mod Timings
 pub mod Views

@@ -6,6 +6,7 @@ ghost use Rattle.termwiz_input.specs.RowsInOrder.{IsRowAt};
 ghost use Rattle.hedrugal.specs.Calls.{copied};
 ghost use Rattle.hedrugal.specs.Events.{c_event};
 ghost use Rattle.hedrugal.specs.EntryCalls.{AreToComplete, IsNoRow};
+ghost use Rattle.hedrugal.specs.Timings.{KeepsTime};
 
 use crate::events::CEvent;
 use crate::handles::ParserHandle;
@@ -40,6 +41,7 @@ pub extern "C" fn hed_parser_entry(
     ensures none { IsNoRow parser.old.state.held place → result ≡ 0 }
     ensures bytes_same { IsNoRow parser.old.state.held place → bytes.new ≡ bytes.old }
     ensures event_same { IsNoRow parser.old.state.held place → event.new ≡ event.old }
+    ensures time { KeepsTime parser.old parser.new }
 {
     let Some(held) = parser.get_mut() else {
         return 0;
@@ -56,6 +58,7 @@ pub extern "C" fn hed_parser_completions(parser: &mut ParserHandle, rows: &mut C
     ensures some { result ≡ true → AreToComplete parser.old.state.held rows.new }
     ensures no_parser { result ≡ false ↔ (parser.old.state.held ≡ None) }
     ensures rows_same { result ≡ false → rows.new ≡ rows.old }
+    ensures time { KeepsTime parser.old parser.new }
 {
     let Some(held) = parser.get_mut() else {
         return false;

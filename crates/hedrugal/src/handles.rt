@@ -6,6 +6,7 @@ use crate::timing::Since;
 use crate::words::{ExtendedWord, MapWord, ParserWord, TimingWord};
 
 mod lends;
+mod times;
 mod views;
 
 /// `hed_parser`: a parser, or none; and its limits in time, once they were asked for.

@@ -11,6 +11,7 @@ ghost use Rattle.event_text.specs.Names.{variant_name};
 ghost use Rattle.termwiz_input.specs.KeyCode.{KeyCode as Key};
 ghost use Rattle.hedrugal.specs.Calls.{Ended, Flushed, Gave, HasDroppedPaste, HasEndlessPaste, HasEscape, HasKind, HasOpenPaste, HasPartOfPaste, HasPasteNext, IsFresh, IsReset, IsUnchanged, Rests, Skipped, Took, TookPart, copied, pasted, waiting_len, waiting_number};
 ghost use Rattle.hedrugal.specs.Keys.{IsNoKey, key_number};
+ghost use Rattle.hedrugal.specs.Timings.{BeginsTime, KeepsTime, TakesBytes, TakesEvent};
 ghost use Rattle.hedrugal.specs.Presses.{HasNoText, IsBad, Wrote};
 
 mod bindings;
@@ -34,6 +35,7 @@ mod sending;
 mod sharing_calls;
 mod slot;
 mod timing;
+mod timing_calls;
 mod words;
 
 use crate::copying::{copy_prefix, copy_with_zero};
@@ -93,6 +95,8 @@ const ENCODED_BAD_TEXT: u32 = 5;
 pub extern "C" fn hed_parser_init(alloc: Global, parser: &mut ParserHandle) -> bool
     ensures made { result ≡ true → IsFresh parser.new.state.held }
     ensures refused { result ≡ false → parser.new.state.held ≡ parser.old.state.held }
+    ensures begins { result ≡ true → BeginsTime parser.new }
+    ensures refused_time { result ≡ false → KeepsTime parser.old parser.new }
 {
     let Ok(made) = InputParser::new(alloc) else {
         return false;
@@ -103,7 +107,8 @@ pub extern "C" fn hed_parser_init(alloc: Global, parser: &mut ParserHandle) -> b
 /// Frees the parser, if there is one, and leaves none.
 #[unsafe(no_mangle)]
 pub extern "C" fn hed_parser_free(alloc: Global, parser: &mut ParserHandle)
-    ensures { parser.new.state.held ≡ None }
+    ensures freed { parser.new.state.held ≡ None }
+    ensures begins { BeginsTime parser.new }
 {
     parser.view().free(alloc);
 }
@@ -114,11 +119,17 @@ pub extern "C" fn hed_parser_feed(parser: &mut ParserHandle, bytes: &[u8]) -> bo
     ensures took { result ≡ true → Took parser.old.state.held bytes.now parser.new.state.held }
     ensures refused { result ≡ false → parser.new.state.held ≡ parser.old.state.held }
     ensures no_bytes { bytes.now ≡ [] → parser.old.state.held ≢ None → result ≡ true }
+    ensures took_time { result ≡ true → TakesBytes parser.old bytes.now parser.new }
+    ensures refused_time { result ≡ false → KeepsTime parser.old parser.new }
 {
     let Some(held) = parser.get_mut() else {
         return false;
     };
-    held.parser.feed(bytes).is_ok()
+    if held.parser.feed(bytes).is_err() {
+        return false;
+    }
+    parser.since = parser.since.after_bytes(bytes);
+    true
 }
 
 /// Takes the item at the front of what is buffered. The answer is 1 if `event` is its event; 0 if no item stands there; 2 if
@@ -132,6 +143,8 @@ pub extern "C" fn hed_parser_next(parser: &mut ParserHandle, more: bool, event: 
     ensures no_parser { result ≡ NEXT_NO_PARSER ↔ (parser.old.state.held ≡ None) }
     ensures same { result ≢ NEXT_EVENT → parser.new.state.held ≡ parser.old.state.held }
     ensures event_same { result ≢ NEXT_EVENT → event.new ≡ event.old }
+    ensures event_time { result ≡ NEXT_EVENT → TakesEvent parser.old parser.new }
+    ensures same_time { result ≢ NEXT_EVENT → KeepsTime parser.old parser.new }
 {
     let Some(held) = parser.get_mut() else {
         return NEXT_NO_PARSER;
@@ -139,6 +152,7 @@ pub extern "C" fn hed_parser_next(parser: &mut ParserHandle, more: bool, event: 
     match held.next(more) {
         Ok(Some(next)) => {
             *event = next;
+            parser.since = parser.since.after_event();
             NEXT_EVENT
         }
         Ok(None) => NEXT_NONE,
@@ -152,6 +166,7 @@ pub extern "C" fn hed_parser_paste(parser: &mut ParserHandle, out: &mut [u8]) ->
     ensures same { parser.new.state ≡ parser.old.state }
     ensures len { result ≡ length (pasted parser.old.state.held) }
     ensures bytes { out.new ≡ copied (pasted parser.old.state.held) out.old }
+    ensures time { KeepsTime parser.old parser.new }
 {
     let Some(held) = parser.get_mut() else {
         return 0;
@@ -164,6 +179,7 @@ pub extern "C" fn hed_parser_paste(parser: &mut ParserHandle, out: &mut [u8]) ->
 pub extern "C" fn hed_parser_waiting_len(parser: &mut ParserHandle) -> usize
     ensures same { parser.new.state ≡ parser.old.state }
     ensures len { result ≡ waiting_len parser.old.state.held }
+    ensures time { KeepsTime parser.old parser.new }
 {
     let Some(held) = parser.get_mut() else {
         return 0;
@@ -176,6 +192,7 @@ pub extern "C" fn hed_parser_waiting_len(parser: &mut ParserHandle) -> usize
 pub extern "C" fn hed_parser_is_paste_open(parser: &mut ParserHandle) -> bool
     ensures same { parser.new.state ≡ parser.old.state }
     ensures open { IsTrue result ↔ HasOpenPaste parser.old.state.held }
+    ensures time { KeepsTime parser.old parser.new }
 {
     let Some(held) = parser.get_mut() else {
         return false;
@@ -203,6 +220,7 @@ fn waiting_number(kind: Waiting) -> u32
 pub extern "C" fn hed_parser_waiting(parser: &mut ParserHandle) -> u32
     ensures same { parser.new.state ≡ parser.old.state }
     ensures kind { HasKind parser.old.state.held result }
+    ensures time { KeepsTime parser.old parser.new }
 {
     let Some(held) = parser.get_mut() else {
         return WAITING_NOTHING;
@@ -221,6 +239,8 @@ pub extern "C" fn hed_parser_flush_escape(parser: &mut ParserHandle, event: &mut
     ensures no_parser { result ≡ NEXT_NO_PARSER ↔ (parser.old.state.held ≡ None) }
     ensures same { result ≢ NEXT_EVENT → parser.new.state.held ≡ parser.old.state.held }
     ensures event_same { result ≢ NEXT_EVENT → event.new ≡ event.old }
+    ensures event_time { result ≡ NEXT_EVENT → TakesEvent parser.old parser.new }
+    ensures same_time { result ≢ NEXT_EVENT → KeepsTime parser.old parser.new }
 {
     let Some(held) = parser.get_mut() else {
         return NEXT_NO_PARSER;
@@ -228,6 +248,7 @@ pub extern "C" fn hed_parser_flush_escape(parser: &mut ParserHandle, event: &mut
     match held.flush_escape() {
         Some(escape) => {
             *event = escape;
+            parser.since = parser.since.after_event();
             NEXT_EVENT
         }
         None => NEXT_NONE,
@@ -245,6 +266,8 @@ pub extern "C" fn hed_parser_end_paste(parser: &mut ParserHandle, event: &mut CE
     ensures no_parser { result ≡ NEXT_NO_PARSER ↔ (parser.old.state.held ≡ None) }
     ensures same { result ≢ NEXT_EVENT → parser.new.state.held ≡ parser.old.state.held }
     ensures event_same { result ≢ NEXT_EVENT → event.new ≡ event.old }
+    ensures event_time { result ≡ NEXT_EVENT → TakesEvent parser.old parser.new }
+    ensures same_time { result ≢ NEXT_EVENT → KeepsTime parser.old parser.new }
 {
     let Some(held) = parser.get_mut() else {
         return NEXT_NO_PARSER;
@@ -252,6 +275,7 @@ pub extern "C" fn hed_parser_end_paste(parser: &mut ParserHandle, event: &mut CE
     match held.end_paste() {
         Ok(Some(paste)) => {
             *event = paste;
+            parser.since = parser.since.after_event();
             NEXT_EVENT
         }
         Ok(None) => NEXT_NONE,
@@ -277,6 +301,7 @@ pub extern "C" fn hed_parser_take_paste(
     ensures no_parser { result ≡ NEXT_NO_PARSER ↔ (parser.old.state.held ≡ None) }
     ensures same { result ≢ NEXT_EVENT → parser.new.state.held ≡ parser.old.state.held }
     ensures event_same { result ≢ NEXT_EVENT → event.new ≡ event.old }
+    ensures time { KeepsTime parser.old parser.new }
 {
     let Some(held) = parser.get_mut() else {
         return NEXT_NO_PARSER;
@@ -300,6 +325,7 @@ pub extern "C" fn hed_parser_skip_paste(parser: &mut ParserHandle, count: &mut u
     ensures none { result ≡ false → ¬ HasEndlessPaste parser.old.state.held }
     ensures same { result ≡ false → parser.new.state.held ≡ parser.old.state.held }
     ensures count_same { result ≡ false → count.new ≡ count.old }
+    ensures time { KeepsTime parser.old parser.new }
 {
     let Some(held) = parser.get_mut() else {
         return false;
@@ -316,17 +342,22 @@ pub extern "C" fn hed_parser_skip_paste(parser: &mut ParserHandle, count: &mut u
 pub extern "C" fn hed_parser_reset(parser: &mut ParserHandle) -> usize
     ensures len { result ≡ waiting_len parser.old.state.held }
     ensures reset { IsReset parser.old.state.held parser.new.state.held }
+    ensures time { parser.old.state.held ≢ None → TakesEvent parser.old parser.new }
+    ensures no_parser { parser.old.state.held ≡ None → KeepsTime parser.old parser.new }
 {
     let Some(held) = parser.get_mut() else {
         return 0;
     };
-    held.parser.reset()
+    let len = held.parser.reset();
+    parser.since = parser.since.after_event();
+    len
 }
 
 /// Frees the text of the last paste that was taken, which is then empty.
 #[unsafe(no_mangle)]
 pub extern "C" fn hed_parser_drop_paste(alloc: Global, parser: &mut ParserHandle)
-    ensures { HasDroppedPaste parser.old.state.held parser.new.state.held }
+    ensures dropped { HasDroppedPaste parser.old.state.held parser.new.state.held }
+    ensures time { KeepsTime parser.old parser.new }
 {
     let Some(held) = parser.get_mut() else {
         return;
@@ -339,6 +370,7 @@ pub extern "C" fn hed_parser_drop_paste(alloc: Global, parser: &mut ParserHandle
 #[unsafe(no_mangle)]
 pub extern "C" fn hed_parser_shrink_to(parser: &mut ParserHandle, min_capacity: usize)
     ensures same { IsUnchanged parser.old.state.held parser.new.state.held }
+    ensures time { KeepsTime parser.old parser.new }
 {
     let Some(held) = parser.get_mut() else {
         return;

@@ -9,6 +9,7 @@ ghost use Rattle.termwiz_input.specs.Table.{table};
 ghost use Rattle.termwiz_input.specs.Grammar.{HasPaste, IsRest, Means, Steps};
 ghost use Rattle.termwiz_input.specs.PasteParts.{HasPart, IsTaken};
 ghost use Rattle.termwiz_input.specs.PasteSearch.{IsPasteSoFar};
+ghost use Rattle.termwiz_input.specs.Expiry.{FlushStep, IsSeen};
 ghost use Rattle.termwiz_input.specs.WaitingKinds.{IsOneOrTwoEscapes, IsOpenPaste};
 ghost use Rattle.hedrugal.specs.Calls.{copied, text_after};
 ghost use Rattle.hedrugal.specs.Events.{c_event, c_part};
@@ -16,8 +17,10 @@ ghost use Rattle.hedrugal.specs.Events.{c_event, c_part};
 use crate::copying::copy_prefix;
 use crate::entry_calls::CEntries;
 use crate::events::{CEvent, KIND_PASTE_PART, c_event};
+use crate::timing::Since;
 use std::alloc::{AllocError, Global};
 use termwiz_input::input::{InputEvent, InputParser, KeyEvent};
+use termwiz_input::time::{self, Policy, Seen};
 
 /// A parser, and the text of the last paste that it gave.
 #[derive(Drop)]
@@ -98,6 +101,29 @@ impl ParserAndPaste {
             Some(event) => Ok(Some(self.keep_text(event))),
             None => Ok(None),
         }
+    }
+
+    // The next event of a flush, as C has it: that of an open paste where it is ended, or of an item with no more to come.
+    pub(crate) fn next_flushed(&mut self) -> Result<Option<CEvent>, AllocError>
+        ensures event { IfOk result (λ found. IfSome found (λ shown. (event : Event)
+            × FlushStep self.old.parser event self.new.parser
+            × (shown ≡ c_event event)
+            × (string_bytes self.new.pasted ≡ text_after event (string_bytes self.old.pasted)))) }
+        ensures none { IfOk result (λ found. IfNone found (self.old.parser ≡ [])) }
+        ensures none_same { IfOk result (λ found. IfNone found (self.new ≡ self.old)) }
+        ensures refused_same { OnErr result (self.new ≡ self.old) }
+    {
+        match time::next_flushed(&mut self.parser)? {
+            Some(event) => Ok(Some(self.keep_text(event))),
+            None => Ok(None),
+        }
+    }
+
+    // What the timer is told of what is buffered.
+    pub(crate) fn seen(&self, policy: &Policy, since: Since) -> Seen
+        ensures { IsSeen policy.now self.now.parser since.fed since.taken result }
+    {
+        time::seen_of(&self.parser, policy, since.fed, since.taken)
     }
 
     // Text of an open paste of more than `limit` bytes, as C has it. The paste stays open.

@@ -2,6 +2,7 @@
 ghost use Rattle.std.specs.Prelude.{◌≡◌, true, false, None};
 ghost use Rattle.hedrugal.specs.Calls.{IsFresh};
 ghost use Rattle.hedrugal.specs.ExtendedCalls.{IsNoProtocol, IsFresh as IsFreshExtended};
+ghost use Rattle.hedrugal.specs.Timings.{BeginsTime, KeepsTime};
 
 use crate::extended_and_text::ExtendedAndText;
 use crate::extended_calls::protocol_at;
@@ -22,6 +23,9 @@ pub extern "C" fn hed_parser_init_sharing(
     ensures refused { result ≡ false → parser.new.state.held ≡ parser.old.state.held }
     ensures no_other { other.old.state.held ≡ None → result ≡ false }
     ensures same { other.new.state ≡ other.old.state }
+    ensures begins { result ≡ true → BeginsTime parser.new }
+    ensures refused_time { result ≡ false → KeepsTime parser.old parser.new }
+    ensures same_time { KeepsTime other.old other.new }
 {
     let Some(held) = other.get_mut() else {
         return false;
@@ -43,6 +47,8 @@ pub extern "C" fn hed_parser_init_sharing_extended(
     ensures refused { result ≡ false → parser.new.state.held ≡ parser.old.state.held }
     ensures no_other { other.old.state.held ≡ None → result ≡ false }
     ensures same { other.new.state ≡ other.old.state }
+    ensures begins { result ≡ true → BeginsTime parser.new }
+    ensures refused_time { result ≡ false → KeepsTime parser.old parser.new }
 {
     let Some(held) = other.get_mut() else {
         return false;
@@ -93,6 +99,7 @@ pub extern "C" fn hed_extended_init_sharing_parser(
     ensures no_protocol { IsNoProtocol protocol → result ≡ false }
     ensures no_other { other.old.state.held ≡ None → result ≡ false }
     ensures same { other.new.state ≡ other.old.state }
+    ensures same_time { KeepsTime other.old other.new }
 {
     let Some(protocol) = protocol_at(protocol) else {
         return false;

@@ -1,13 +1,40 @@
 // How long a parser's bytes may stay buffered, and how old they are.
-ghost use Rattle.std.specs.Prelude.{◌≡◌, false};
+ghost use Rattle.std.specs.Prelude.{◌≡◌, true, false};
+ghost use Rattle.termwiz_input.specs.Time.{noted};
+ghost use Rattle.hedrugal.specs.Limits.{c_millis, fresh, limit_in, limits_in};
+ghost use Rattle.hedrugal.specs.Timings.{after_bytes, after_event};
 
-use termwiz_input::time::{Policy, Timer};
+use termwiz_input::time::{Policy, Seen, Timer};
 
 /// The limits of a parser, and the ages of what it has buffered.
-#[derive(Drop)]
+#[derive(Clone, Copy)]
 pub struct Timing {
-    pub(crate) policy: Policy,
-    pub(crate) timer: Timer,
+    pub policy: Policy,
+    pub timer: Timer,
+}
+
+impl Timing {
+    // Of a parser that is new: the usual limits.
+    pub(crate) fn new() -> Timing
+        ensures { result ≡ fresh }
+    {
+        Timing {
+            policy: Policy::usual(),
+            timer: Timer::new(),
+        }
+    }
+
+    // What it is after a note.
+    pub(crate) fn noted(&self, now: u64, seen: Seen) -> Timing
+        ensures { result ≡ record { policy = self.now.policy; timer = noted self.now.timer now seen } }
+    {
+        let mut timer = self.timer;
+        timer.note(now, seen);
+        Timing {
+            policy: self.policy,
+            timer,
+        }
+    }
 }
 
 /// What happened since the timer was last told.
@@ -23,7 +50,7 @@ pub struct Since {
 }
 
 impl Since {
-    // What is told of a parser that is new.
+    // Nothing happened.
     pub(crate) fn new() -> Since
         ensures { result ≡ record { fed = false; taken = false; expiring = false } }
     {
@@ -32,5 +59,90 @@ impl Since {
             taken: false,
             expiring: false,
         }
+    }
+
+    // Bytes were buffered.
+    pub(crate) fn after_bytes(self, bytes: &[u8]) -> Since
+        ensures { result ≡ after_bytes bytes.now self }
+    {
+        if bytes.is_empty() {
+            return self;
+        }
+        Since {
+            fed: true,
+            taken: self.taken,
+            expiring: false,
+        }
+    }
+
+    // An event was taken.
+    pub(crate) fn after_event(self) -> Since
+        ensures { result ≡ after_event self }
+    {
+        Since {
+            fed: self.fed,
+            taken: true,
+            expiring: self.expiring,
+        }
+    }
+
+    // An event of a flush was taken, and the flush goes on.
+    pub(crate) fn flushing() -> Since
+        ensures { result ≡ record { fed = false; taken = true; expiring = true } }
+    {
+        Since {
+            fed: false,
+            taken: true,
+            expiring: true,
+        }
+    }
+}
+
+/// `hed_policy`: how long each kind of bytes may stay buffered, in milliseconds. Negative: forever.
+#[repr(C)]
+#[derive(Clone, Copy)]
+pub struct CPolicy {
+    pub escape: i32,
+    pub alt_key: i32,
+    pub sequence: i32,
+    pub string: i32,
+    pub character: i32,
+    pub paste: i32,
+}
+
+// A limit; none if it is negative.
+fn limit_in(millis: i32) -> Option<u32>
+    ensures { result ≡ limit_in millis }
+{
+    if millis.is_negative() {
+        None
+    } else {
+        Some(millis.unsigned_abs())
+    }
+}
+
+impl CPolicy {
+    // The limits that these numbers stand for.
+    pub(crate) fn limits(&self) -> Policy
+        ensures { result ≡ limits_in self.now }
+    {
+        Policy {
+            escape: limit_in(self.escape),
+            alt_key: limit_in(self.alt_key),
+            sequence: limit_in(self.sequence),
+            string: limit_in(self.string),
+            character: limit_in(self.character),
+            paste: limit_in(self.paste),
+        }
+    }
+}
+
+// Milliseconds for poll: at most those of an `i32`, and -1 for ever.
+pub(crate) fn c_millis(left: Option<u64>) -> i32
+    ensures { result ≡ c_millis left }
+{
+    match left {
+        Some(millis) => millis.min(0x7fff_ffff) as i32,
+        None => -1,
     }
 }

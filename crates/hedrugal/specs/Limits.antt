@@ -1,0 +1,35 @@
+-- Limits in time as C has them.
+use Rattle.std.specs.Prelude.{ℕ, ℤ, pos, negsuc, min, int_lt, unsigned_abs, false, Option, Some, None, if◌then◌else◌}
+use Rattle.termwiz_input.specs.declared.time.Policy.{Policy}
+use Rattle.termwiz_input.specs.Time.{new_timer, usual}
+use Rattle.hedrugal.specs.declared.timing.CPolicy.{CPolicy}
+use Rattle.hedrugal.specs.declared.timing.Since.{Since}
+use Rattle.hedrugal.specs.declared.timing.Timing.{Timing}
+
+-- the usual limits, and a timer that was told nothing
+abbrev pub fresh : Timing
+fresh = record { policy = usual; timer = new_timer }
+
+-- nothing happened since the last note
+abbrev pub nothing_since : Since
+nothing_since = record { fed = false; taken = false; expiring = false }
+
+-- a limit in milliseconds; none for a negative number
+abbrev pub limit_in : ℤ → Option ℕ
+limit_in millis = if int_lt millis (pos 0) then None else Some (unsigned_abs millis)
+
+-- the limits that numbers of C stand for
+abbrev pub limits_in : CPolicy → Policy
+limits_in numbers = record {
+  escape = limit_in numbers.escape;
+  alt_key = limit_in numbers.alt_key;
+  sequence = limit_in numbers.sequence;
+  string = limit_in numbers.string;
+  character = limit_in numbers.character;
+  paste = limit_in numbers.paste;
+}
+
+-- milliseconds for poll: at most those of 31 bits, and -1 for ever
+abbrev pub c_millis : Option ℕ → ℤ
+c_millis (Some millis) = pos (min millis 0x7FFF_FFFF)
+c_millis None = negsuc 0
