@@ -742,6 +742,16 @@ uint32_t hed_extended_end_paste(hed_extended *parser, hed_extended_event *event)
  * Returns the number of bytes that were buffered, 0 if there is no parser. */
 size_t hed_extended_reset(hed_extended *parser);
 
+/* Sets the limits of an extended parser, as hed_parser_set_policy does. */
+bool hed_extended_set_policy(hed_extended *parser, const hed_policy *policy);
+
+/* Tells an extended parser what time it is, and returns how long what is buffered may still wait, as hed_parser_timeout does. */
+int32_t hed_extended_timeout(hed_extended *parser, uint64_t now);
+
+/* Tells an extended parser what time it is, and writes the next event of what is due to *event, as hed_parser_expire does. With
+ * HED_NEXT_NO_MEMORY nothing changed. */
+uint32_t hed_extended_expire(hed_extended *parser, uint64_t now, hed_extended_event *event);
+
 /* Writes what a terminal sends for a key to out, and the number of these bytes to *sent_len, if the program asked for these flags of
  * Kitty's keyboard protocol: the other way from a HED_KIND_REPORT. A terminal or a multiplexer calls it. The bytes are UTF-8 without a
  * final 0. There are none for a key that isn't sent, such as a release without HED_KITTY_FLAG_REPORT_EVENT_TYPES. The rules are those of

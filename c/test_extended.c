@@ -355,6 +355,7 @@ static void has_numbers(void) {
 
 /* Nothing is there before init and after free, and each call says so. */
 static void none_answers(hed_extended *parser) {
+  static const hed_policy usual = HED_POLICY_USUAL;
   hed_extended_event event, before;
   uint8_t byte = 'x';
   size_t count = 7;
@@ -364,6 +365,8 @@ static void none_answers(hed_extended *parser) {
   EXPECT(hed_extended_next(parser, true, &event) == HED_NEXT_NO_PARSER);
   EXPECT(hed_extended_flush_escape(parser, &event) == HED_NEXT_NO_PARSER);
   EXPECT(hed_extended_end_paste(parser, &event) == HED_NEXT_NO_PARSER);
+  EXPECT(hed_extended_expire(parser, 7, &event) == HED_NEXT_NO_PARSER);
+  EXPECT(!hed_extended_set_policy(parser, &usual) && hed_extended_timeout(parser, 7) == -1);
   EXPECT(hed_extended_take_paste(parser, 0, &event) == HED_NEXT_NO_PARSER && !hed_extended_skip_paste(parser, &count) && count == 7);
   EXPECT(memcmp(&event, &before, sizeof event) == 0);
   EXPECT(hed_extended_text(parser, &byte, 1) == 0 && byte == 'x');
@@ -944,6 +947,80 @@ static void reads_keys_back(hed_extended *parser) {
   EXPECT(reads_back(parser, &whole, "A") && reads_back(parser, &whole, "\303\251\364\217\277\277") && reads_back(parser, &with_base, ""));
 }
 
+/* What a program's loop takes from a parser, when bytes come at these times: each event after its time. */
+struct arrival {
+  uint64_t at;
+  const char *bytes;
+};
+
+static const struct {
+  struct arrival arrivals[8];
+  const char *events;
+} runs[] = {
+  { { { 0, "\033" }, { 40, "\033" } }, "90 Escape ALT; " },
+  { { { 0, "\033" }, { 50, "[A" }, { 99, "\033" }, { 150, "[A" } }, "50 UpArrow; 149 Escape; 150 [; 150 A; " },
+  { { { 0, "\033[" }, { 900, "1" }, { 1300, "A" } }, "100 [ ALT; 900 1; 1300 A; " },
+  { { { 0, "\033]" }, { 150, "x" } }, "100 ] ALT; 150 x; " },
+  { { { 0, "\033" }, { 40, "[" }, { 90, "1;5A" } }, "90 UpArrow CTRL; " },
+  { { { 0, "\033[1" }, { 900, ";5" }, { 1300, "A" } }, "1000 [ ALT; 1000 1; 1000 ;; 1000 5; 1300 A; " },
+  { { { 0, "\342" }, { 9000, "\202\254" } }, "9000 U+20AC; " },
+  { { { 7, "\033[" }, { 50, "1" }, { 700, "1" }, { 1000, "1" } }, "1007 [ ALT; 1007 1; 1007 1; 1007 1; " },
+  { { { 0, "\033[200~a" }, { 90000, "\033[201~\033" } }, "90000 Paste(a); 90050 Escape; " },
+};
+
+/* What is there is read, even if what is buffered is overdue; else what is due expires. It ends once nothing becomes due. */
+static void run(hed_extended *parser, const struct arrival *next) {
+  hed_extended_event event;
+  uint64_t now = 0;
+  int32_t timeout;
+  while ((timeout = hed_extended_timeout(parser, now)) >= 0 || next->bytes) {
+    bool is_there = next->bytes && (timeout < 0 || next->at <= now + (uint64_t)timeout);
+    now = is_there ? next->at : now + (uint64_t)timeout;
+    if (is_there) EXPECT(hed_extended_feed(parser, (const uint8_t *)next->bytes, strlen(next->bytes)));
+    while ((is_there ? hed_extended_next(parser, true, &event) : hed_extended_expire(parser, now, &event)) == HED_NEXT_EVENT) {
+      tell("%u ", (unsigned)now);
+      tell_event(parser, &event);
+    }
+    if (is_there) next++;
+  }
+}
+
+static void expires(const hed_extended *other) {
+  hed_extended parser = HED_EXTENDED_NONE;
+  for (size_t i = 0; i < sizeof runs / sizeof *runs; i++) {
+    EXPECT(hed_extended_init_sharing(&parser, HED_PROTOCOL_LEGACY, other));
+    told[0] = '\0';
+    run(&parser, runs[i].arrivals);
+    EXPECT(strcmp(told, runs[i].events) == 0);
+  }
+  hed_extended_free(&parser);
+}
+
+/* The limits that are set hold. A flush goes on whatever the time is, unless bytes are fed. */
+static void expires_by_its_limits(const hed_extended *other) {
+  static const hed_policy never = { -1, -1, -1, -1, -1, -1 }, at_once = { 0, 0, 0, 0, 0, 0 };
+  hed_extended parser = HED_EXTENDED_NONE;
+  hed_extended_event event;
+  EXPECT(hed_extended_init_sharing(&parser, HED_PROTOCOL_KITTY, other) && hed_extended_set_policy(&parser, &never));
+  told[0] = '\0';
+  feed(&parser, TEXT("\033]0;ab"), true);
+  EXPECT(hed_extended_timeout(&parser, 1 << 20) == -1 && hed_extended_expire(&parser, 1 << 20, &event) == HED_NEXT_NONE);
+  EXPECT(hed_extended_reset(&parser) == 6 && hed_extended_set_policy(&parser, &at_once));
+  feed(&parser, TEXT("\033[200~ab"), true);
+  EXPECT(hed_extended_expire(&parser, 1 << 20, &event) == HED_NEXT_EVENT);
+  tell_event(&parser, &event);
+  EXPECT(hed_extended_expire(&parser, 1 << 20, &event) == HED_NEXT_NONE && hed_extended_waiting_len(&parser) == 0);
+  feed(&parser, TEXT("\033[1;"), true);
+  EXPECT(hed_extended_timeout(&parser, 1 << 20) == 0 && hed_extended_set_policy(&parser, &never));
+  EXPECT(hed_extended_expire(&parser, 1 << 20, &event) == HED_NEXT_NONE && hed_extended_set_policy(&parser, &at_once));
+  EXPECT(hed_extended_expire(&parser, 1 << 20, &event) == HED_NEXT_EVENT && hed_extended_expire(&parser, 0, &event) == HED_NEXT_EVENT);
+  tell_event(&parser, &event);
+  EXPECT(FEED(&parser, "q") && hed_extended_expire(&parser, 0, &event) == HED_NEXT_NONE);
+  tell_events(&parser, true);
+  EXPECT(strcmp(told, "Paste(ab); 1; ;; q; ") == 0);
+  hed_extended_free(&parser);
+}
+
 int main(void) {
   hed_extended parser = HED_EXTENDED_NONE;
   answers_before_init_and_after_free();
@@ -965,6 +1042,8 @@ int main(void) {
     reads_strings_at_the_limit(&parser);
     ends_what_was_fed(protocol);
   }
+  expires(&parser);
+  expires_by_its_limits(&parser);
   hed_extended_free(&parser);
   hed_extended_free(&parser);
   keeps_texts_past_other_events();

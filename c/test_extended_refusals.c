@@ -189,6 +189,35 @@ static void refuse_parts(void) {
   printf("part and rest of a string: %ld refusals\n", number - 1);
 }
 
+/* The first call that tells a parser the time asks for memory, once. If it is refused, nothing changes; no more does if the text of an
+ * open paste that is due is refused. */
+static void refuse_time(void) {
+  static const char text[] = "\033[200~open";
+  static const hed_policy policy = { 50, 100, 1000, 5000, -1, 0 };
+  hed_extended parser = HED_EXTENDED_NONE, before;
+  hed_extended_event event;
+  EXPECT(hed_extended_init(&parser, HED_PROTOCOL_LEGACY) && hed_extended_feed(&parser, (const uint8_t *)text, sizeof text - 1));
+  memcpy(&before, &parser, sizeof before);
+  refuse(1);
+  EXPECT(!hed_extended_set_policy(&parser, &policy) && refused == 1);
+  refuse(1);
+  EXPECT(hed_extended_timeout(&parser, 5) == 0 && refused == 1);
+  refuse(1);
+  EXPECT(hed_extended_expire(&parser, 5, &event) == HED_NEXT_NO_MEMORY && refused == 1 && memcmp(&before, &parser, sizeof before) == 0);
+  refuse(0);
+  EXPECT(hed_extended_set_policy(&parser, &policy));
+  refuse(1);
+  EXPECT(hed_extended_timeout(&parser, 5) == 0 && refused == 0);
+  EXPECT(hed_extended_expire(&parser, 5, &event) == HED_NEXT_NO_MEMORY && refused == 1);
+  refuse(0);
+  EXPECT(hed_extended_waiting_len(&parser) == sizeof text - 1);
+  EXPECT(hed_extended_expire(&parser, 5, &event) == HED_NEXT_EVENT && event.kind == HED_KIND_PASTE && event.text_len == 4);
+  EXPECT(hed_extended_expire(&parser, 5, &event) == HED_NEXT_NONE && hed_extended_timeout(&parser, 5) == -1);
+  EXPECT(hed_extended_init(&parser, HED_PROTOCOL_LEGACY) && hed_extended_timeout(&parser, 5) == -1);
+  hed_extended_free(&parser);
+  EXPECT(in_use == 0);
+}
+
 /* A key report, with each request refused in turn: nothing is written, and the call may be made again. */
 static void refuse_while_encoding(void) {
   static const hed_key_report report = { HED_KEY_EVENT_KIND_PRESS, HED_KITTY_MOD_SHIFT, HED_KEY_CHAR, 'a', 'A', HED_NO_CODE };
@@ -340,6 +369,7 @@ int main(int argc, char **argv) {
   refuse_while_ending(false);
   refuse_while_ending(true);
   refuse_parts();
+  refuse_time();
   refuse_while_encoding();
   need_no_memory();
   refuse_init(step);

@@ -8,6 +8,7 @@
  *     D      drop the paste          V          the version                  H  the same, no more      U n  shrink to 16 n bytes
  *     T n place  a row               X          the completions              Y  init that shares the second parser's table
  *     Z n    take text of an open paste of more than n bytes; from n = 128 on, skip it
+ *     [ n    set limits of 16 n ms   ] n  16 n ms pass, and the time is told     ^  take all that is due
  *
  *     J, P, Q, R, S  the calls of a map, as in tools/fuzz/maps.c
  *
@@ -121,10 +122,9 @@ static void forget(void) {
 }
 
 static void clear_twin(void) {
+  static hed_parser first = HED_PARSER_NONE;
   owner = TWIN;
-  if (!twin.live) HOLDS(hed_parser_init(&twin));
-  hed_parser_reset(&twin);
-  hed_parser_drop_paste(&twin);
+  HOLDS((first.live || hed_parser_init(&first)) && hed_parser_init_sharing(&twin, &first));
   owner = TESTED;
 }
 
@@ -189,13 +189,15 @@ static void feed(const uint8_t *bytes, size_t len) {
 }
 
 /* The calls that take an event. */
-enum take { NEXT_MORE, NEXT_LAST, FLUSH_ESCAPE, END_PASTE, TAKE_PASTE };
+enum take { NEXT_MORE, NEXT_LAST, FLUSH_ESCAPE, END_PASTE, TAKE_PASTE, EXPIRE };
 static size_t limit;
+static uint64_t now;
 
 static uint32_t ask(enum take what, hed_parser *of, hed_event *event) {
   if (what == FLUSH_ESCAPE) return hed_parser_flush_escape(of, event);
   if (what == END_PASTE) return hed_parser_end_paste(of, event);
   if (what == TAKE_PASTE) return hed_parser_take_paste(of, limit, event);
+  if (what == EXPIRE) return hed_parser_expire(of, now, event);
   return hed_parser_next(of, what == NEXT_MORE, event);
 }
 
@@ -226,6 +228,8 @@ static void check_answer(enum take what, bool is_event, const hed_event *event) 
     HOLDS(!is_event || event->kind == HED_KIND_PASTE_PART);
   } else if (what == NEXT_LAST) {
     HOLDS(is_event == (waiting_len > 0 && !is_open));
+  } else if (what == EXPIRE) {
+    HOLDS(!is_event || (event->kind == HED_KIND_PASTE || !is_open));
   } else if (!is_event) {
     check_rest(parser, waiting(), waiting_len);
   }
@@ -235,7 +239,7 @@ static void check_answer(enum take what, bool is_event, const hed_event *event) 
 static void consume(enum take what) {
   size_t left = hed_parser_waiting_len(parser);
   HOLDS(left < waiting_len);
-  HOLDS(what == TAKE_PASTE ? left >= 6 && left <= 11 : left == 0 || what == NEXT_MORE || what == NEXT_LAST);
+  HOLDS(what == TAKE_PASTE ? left >= 6 && left <= 11 : left == 0 || what == NEXT_MORE || what == NEXT_LAST || what == EXPIRE);
   if (what == TAKE_PASTE) memmove(fed + fed_len - left, waiting(), 6);
   waiting_len = left;
 }
@@ -257,7 +261,7 @@ static uint32_t take(enum take what, unsigned number) {
   HOLDS(is_untouched(&taken, answer == HED_NEXT_EVENT ? sizeof *event : 0));
   HOLDS(answer == ask_twin(what, &wanted));
   HOLDS(answer == HED_NEXT_EVENT || answer == HED_NEXT_NONE);
-  HOLDS(asked == 0 || (answer == HED_NEXT_EVENT && has_text(event)));
+  HOLDS(asked == 0 || what == EXPIRE || (answer == HED_NEXT_EVENT && has_text(event)));
   check_answer(what, answer == HED_NEXT_EVENT, event);
   if (answer != HED_NEXT_EVENT) return answer;
   check_event(event);
@@ -279,6 +283,30 @@ static void take_part(input *it, unsigned number) {
   else HOLDS(hed_parser_skip_paste(parser, &count) == is_open_paste(waiting(), waiting_len) && requests == 0);
   if (is_made && limit >= 128) HOLDS(hed_parser_skip_paste(&twin, &of_twin) == is_open_paste(waiting(), waiting_len) && of_twin == count);
   if (count > 0) consume(TAKE_PASTE);
+}
+
+/* The first request of a parser for its time may be refused. */
+static void set_limits(input *it) {
+  int32_t most = MANY * take_byte(it);
+  hed_policy policy = { most, most, most, most, most, most };
+  bool is_set = hed_parser_set_policy(parser, &policy);
+  HOLDS(is_set == (is_made && refusals == 0) && requests <= 1);
+  refuse_request(0);
+  HOLDS((is_set || hed_parser_set_policy(parser, &policy)) == is_made);
+  owner = TWIN;
+  if (is_made) HOLDS(hed_parser_set_policy(&twin, &policy));
+  owner = TESTED;
+}
+
+static void pass_time(input *it) {
+  now += MANY * (uint64_t)take_byte(it);
+  int32_t left = hed_parser_timeout(parser, now);
+  HOLDS((refusals == 0 || left == 0) && (is_made || left == -1) && requests <= 1);
+  refuse_request(0);
+  left = hed_parser_timeout(parser, now);
+  owner = TWIN;
+  if (is_made) HOLDS(hed_parser_timeout(&twin, now) == left);
+  owner = TESTED;
 }
 
 static void reset(void) {
@@ -333,6 +361,9 @@ static void call(input *it) {
     case 'V': HOLDS(hed_version() == HED_VERSION_NUMBER && requests == 0); break;
     case 'T': check_row(it); break;
     case 'X': check_completions(); break;
+    case '[': set_limits(it); break;
+    case ']': pass_time(it); break;
+    case '^': take_all(EXPIRE, number); break;
     default: call_map(of, it);
   }
   check_state();
@@ -351,7 +382,7 @@ void try_input(input *it) {
   forget();
   parser = room_with(&place, &none, sizeof none);
   fed_len = 0;
-  inits = 0;
+  inits = 0, now = 0;
   if (it->left > 0 && *it->at == 'W') begin_with_room();
   for (int calls = 0; it->left > 0 && calls < MOST_CALLS; calls++) call(it);
   end_map();

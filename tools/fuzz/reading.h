@@ -6,8 +6,8 @@
  * gets what waits once more. With 0x40 a flush of the Escape key is asked for, unless that waits. With 0x80 the parser is shrunk. What the
  * pieces leave comes in one piece, or byte by byte if the first byte has the bit 0x20.
  *
- * The stream is read in these pieces, and whole by another parser, which shares the table of the first. Then nothing more comes, and an
- * open paste is ended. Events, the bytes they bring and rests have to be the same each time. A flush leaves nothing outside a paste. */
+ * The stream is read in these pieces. Then nothing more comes, and an open paste is ended. Another parser, which shares the table of the
+ * first, reads the stream whole, and then all that waits expires. Events, the bytes they bring and rests have to be the same each time. A flush leaves nothing outside a paste. */
 #include "fuzz.h"
 #include <string.h>
 
@@ -108,13 +108,24 @@ static void begin(reading *it) {
   DROP_TEXT(parser);
 }
 
+/* The same by limits of 0. */
+static void expire(reading *it, const uint8_t *stream, size_t len) {
+  static const hed_policy at_once = { 0, 0, 0, 0, 0, 0 };
+  HOLDS(CALL(set_policy)(parser, &at_once) && CALL(timeout)(parser, 0) == (it->rest > 0 ? 0 : -1));
+  it->flushed_rest = is_open_paste(stream + len - it->rest, it->rest) ? it->rest : 0;
+  while (keep_answer(it, CALL(expire)(parser, 0, room_of(&taken, sizeof(event))))) {
+  }
+  HOLDS(it->count <= len && CALL(waiting_len)(parser) == 0);
+}
+
 static void read_whole(const uint8_t *stream, size_t len) {
-  tested *first = parser, sharing = { false, NULL };
+  static const tested none;
+  tested *first = parser, sharing = none;
   HOLDS(SHARE(&sharing, parser));
   parser = &sharing;
   begin(&whole);
   read_up_to(&whole, stream, 0, len);
-  read_end(&whole, stream, len);
+  expire(&whole, stream, len);
   CALL(free)(&sharing);
   parser = first;
 }

@@ -3,6 +3,7 @@ pub mod EntryCalls
 pub mod Events
 pub mod ExtendedCalls
 pub mod ExtendedEvents
+pub mod ExtendedTimings
 pub mod KeymapCalls
 pub mod Keys
 pub mod KittyCalls

@@ -4,15 +4,18 @@ ghost use Rattle.termwiz_input.specs.PasteParts.{HasPart, IsTaken};
 ghost use Rattle.termwiz_input.specs.WaitingKinds.{IsOneOrTwoEscapes, IsOpenPaste};
 ghost use Rattle.termwiz_extended_events.specs.declared.types.ExtendedEvent.{ExtendedEvent as Event};
 ghost use Rattle.termwiz_extended_grammar.specs.ExtendedGrammar.{IsRest, Means, Steps};
+ghost use Rattle.termwiz_input_extended.specs.ExtendedExpiry.{FlushStep, IsSeen};
 ghost use Rattle.termwiz_input_extended.specs.NextItems.{HasItemThatNeedsMemory, IsPasteEvent};
 ghost use Rattle.hedrugal.specs.ExtendedEvents.{c_extended_event, c_extended_part};
 ghost use Rattle.hedrugal.specs.ExtendedCalls.{text_after};
 
 use crate::events::{CEvent, KIND_PASTE_PART};
 use crate::extended_events::{CExtendedEvent, c_extended_event, own_bytes};
+use crate::timing::Since;
 use std::alloc::{AllocError, Global};
 use termwiz_input::types::InputEvent;
 use termwiz_input_extended::input::ExtendedParser;
+use termwiz_input_extended::time::{self, Policy, Seen};
 use termwiz_input_extended::types::ExtendedEvent;
 
 /// An extended parser, and the bytes of the last event that brought bytes.
@@ -96,6 +99,30 @@ impl ExtendedAndText {
             Some(event) => Ok(Some(self.keep_text(event))),
             None => Ok(None),
         }
+    }
+
+    // The next event of a flush, as C has it: that of an open paste where it is ended, or of an item with no more to come.
+    pub(crate) fn next_flushed(&mut self) -> Result<Option<CExtendedEvent>, AllocError>
+        ensures event { IfOk result (λ found. IfSome found (λ shown. (event : Event)
+            × FlushStep self.old.parser.protocol self.old.parser.text event self.new.parser.text
+            × (shown ≡ c_extended_event event)
+            × (self.new.text.items ≡ text_after event self.old.text.items))) }
+        ensures protocol { self.new.parser.protocol ≡ self.old.parser.protocol }
+        ensures none { IfOk result (λ found. IfNone found (self.old.parser.text ≡ [])) }
+        ensures none_same { IfOk result (λ found. IfNone found (self.new ≡ self.old)) }
+        ensures refused_same { OnErr result (self.new ≡ self.old) }
+    {
+        match time::next_flushed(&mut self.parser)? {
+            Some(event) => Ok(Some(self.keep_text(event))),
+            None => Ok(None),
+        }
+    }
+
+    // What the timer is told of what is buffered.
+    pub(crate) fn seen(&self, policy: &Policy, since: Since) -> Seen
+        ensures { IsSeen policy.now self.now.parser.protocol self.now.parser.text since.fed since.taken result }
+    {
+        time::seen_of(&self.parser, policy, since.fed, since.taken)
     }
 
     // Text of an open paste of more than `limit` bytes, as C has it. The paste stays open.

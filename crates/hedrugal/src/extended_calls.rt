@@ -3,6 +3,7 @@ ghost use Rattle.std.specs.Prelude.{◌≡◌, ◌≢◌, ◌≤◌, ◌↔◌, 
 ghost use Rattle.hedrugal.specs.Calls.{copied};
 ghost use Rattle.hedrugal.specs.ExtendedCalls.{IsNoProtocol, Ended, Flushed, Gave, HasDroppedText, HasEndlessPaste, HasEscape, HasKind, HasOpenPaste, HasPartOfPaste, IsFresh, IsReset, IsUnchanged, NeedsMemoryNext, Rests, Skipped, Took, TookPart, kept, waiting_len};
 ghost use Rattle.hedrugal.specs.ExtendedEvents.{protocol_number};
+ghost use Rattle.hedrugal.specs.ExtendedTimings.{BeginsTime, KeepsTime, TakesBytes, TakesEvent};
 
 use crate::copying::copy_prefix;
 use crate::extended_and_text::ExtendedAndText;
@@ -38,6 +39,8 @@ pub extern "C" fn hed_extended_init(alloc: Global, parser: &mut ExtendedHandle, 
     ensures made { result ≡ true → IsFresh parser.new.state.held protocol }
     ensures refused { result ≡ false → parser.new.state.held ≡ parser.old.state.held }
     ensures no_protocol { IsNoProtocol protocol → result ≡ false }
+    ensures begins { result ≡ true → BeginsTime parser.new }
+    ensures refused_time { result ≡ false → KeepsTime parser.old parser.new }
 {
     let Some(protocol) = protocol_at(protocol) else {
         return false;
@@ -51,7 +54,8 @@ pub extern "C" fn hed_extended_init(alloc: Global, parser: &mut ExtendedHandle, 
 /// Frees the parser, if there is one, and leaves none.
 #[unsafe(no_mangle)]
 pub extern "C" fn hed_extended_free(alloc: Global, parser: &mut ExtendedHandle)
-    ensures { parser.new.state.held ≡ None }
+    ensures freed { parser.new.state.held ≡ None }
+    ensures begins { BeginsTime parser.new }
 {
     parser.view().free(alloc);
 }
@@ -62,11 +66,17 @@ pub extern "C" fn hed_extended_feed(parser: &mut ExtendedHandle, bytes: &[u8]) -
     ensures took { result ≡ true → Took parser.old.state.held bytes.now parser.new.state.held }
     ensures refused { result ≡ false → parser.new.state.held ≡ parser.old.state.held }
     ensures no_bytes { bytes.now ≡ [] → parser.old.state.held ≢ None → result ≡ true }
+    ensures took_time { result ≡ true → TakesBytes parser.old bytes.now parser.new }
+    ensures refused_time { result ≡ false → KeepsTime parser.old parser.new }
 {
     let Some(held) = parser.get_mut() else {
         return false;
     };
-    held.parser.feed(bytes).is_ok()
+    if held.parser.feed(bytes).is_err() {
+        return false;
+    }
+    parser.since = parser.since.after_bytes(bytes);
+    true
 }
 
 /// Takes the item at the front of what is buffered. The answer is 1 if `event` is its event; 0 if no item stands there; 2 if
@@ -84,6 +94,8 @@ pub extern "C" fn hed_extended_next(
     ensures no_parser { result ≡ NEXT_NO_PARSER ↔ (parser.old.state.held ≡ None) }
     ensures same { result ≢ NEXT_EVENT → parser.new.state.held ≡ parser.old.state.held }
     ensures event_same { result ≢ NEXT_EVENT → event.new ≡ event.old }
+    ensures event_time { result ≡ NEXT_EVENT → TakesEvent parser.old parser.new }
+    ensures same_time { result ≢ NEXT_EVENT → KeepsTime parser.old parser.new }
 {
     let Some(held) = parser.get_mut() else {
         return NEXT_NO_PARSER;
@@ -91,6 +103,7 @@ pub extern "C" fn hed_extended_next(
     match held.next(more) {
         Ok(Some(next)) => {
             *event = next;
+            parser.since = parser.since.after_event();
             NEXT_EVENT
         }
         Ok(None) => NEXT_NONE,
@@ -104,6 +117,7 @@ pub extern "C" fn hed_extended_text(parser: &mut ExtendedHandle, out: &mut [u8])
     ensures same { parser.new.state ≡ parser.old.state }
     ensures len { result ≡ length (kept parser.old.state.held) }
     ensures bytes { out.new ≡ copied (kept parser.old.state.held) out.old }
+    ensures time { KeepsTime parser.old parser.new }
 {
     let Some(held) = parser.get_mut() else {
         return 0;
@@ -114,7 +128,8 @@ pub extern "C" fn hed_extended_text(parser: &mut ExtendedHandle, out: &mut [u8])
 /// Frees the bytes of the last event that brought bytes. There are then none.
 #[unsafe(no_mangle)]
 pub extern "C" fn hed_extended_drop_text(alloc: Global, parser: &mut ExtendedHandle)
-    ensures { HasDroppedText parser.old.state.held parser.new.state.held }
+    ensures dropped { HasDroppedText parser.old.state.held parser.new.state.held }
+    ensures time { KeepsTime parser.old parser.new }
 {
     let Some(held) = parser.get_mut() else {
         return;
@@ -127,6 +142,7 @@ pub extern "C" fn hed_extended_drop_text(alloc: Global, parser: &mut ExtendedHan
 #[unsafe(no_mangle)]
 pub extern "C" fn hed_extended_shrink_to(parser: &mut ExtendedHandle, min_capacity: usize)
     ensures same { IsUnchanged parser.old.state.held parser.new.state.held }
+    ensures time { KeepsTime parser.old parser.new }
 {
     let Some(held) = parser.get_mut() else {
         return;
@@ -140,6 +156,7 @@ pub extern "C" fn hed_extended_shrink_to(parser: &mut ExtendedHandle, min_capaci
 pub extern "C" fn hed_extended_waiting_len(parser: &mut ExtendedHandle) -> usize
     ensures same { parser.new.state ≡ parser.old.state }
     ensures len { result ≡ waiting_len parser.old.state.held }
+    ensures time { KeepsTime parser.old parser.new }
 {
     let Some(held) = parser.get_mut() else {
         return 0;
@@ -153,6 +170,7 @@ pub extern "C" fn hed_extended_waiting_len(parser: &mut ExtendedHandle) -> usize
 pub extern "C" fn hed_extended_waiting(parser: &mut ExtendedHandle) -> u32
     ensures same { parser.new.state ≡ parser.old.state }
     ensures kind { HasKind parser.old.state.held result }
+    ensures time { KeepsTime parser.old parser.new }
 {
     let Some(held) = parser.get_mut() else {
         return WAITING_NOTHING;
@@ -171,6 +189,8 @@ pub extern "C" fn hed_extended_flush_escape(parser: &mut ExtendedHandle, event: 
     ensures no_parser { result ≡ NEXT_NO_PARSER ↔ (parser.old.state.held ≡ None) }
     ensures same { result ≢ NEXT_EVENT → parser.new.state.held ≡ parser.old.state.held }
     ensures event_same { result ≢ NEXT_EVENT → event.new ≡ event.old }
+    ensures event_time { result ≡ NEXT_EVENT → TakesEvent parser.old parser.new }
+    ensures same_time { result ≢ NEXT_EVENT → KeepsTime parser.old parser.new }
 {
     let Some(held) = parser.get_mut() else {
         return NEXT_NO_PARSER;
@@ -178,6 +198,7 @@ pub extern "C" fn hed_extended_flush_escape(parser: &mut ExtendedHandle, event: 
     match held.flush_escape() {
         Some(escape) => {
             *event = escape;
+            parser.since = parser.since.after_event();
             NEXT_EVENT
         }
         None => NEXT_NONE,
@@ -189,6 +210,7 @@ pub extern "C" fn hed_extended_flush_escape(parser: &mut ExtendedHandle, event: 
 pub extern "C" fn hed_extended_is_paste_open(parser: &mut ExtendedHandle) -> bool
     ensures same { parser.new.state ≡ parser.old.state }
     ensures open { IsTrue result ↔ HasOpenPaste parser.old.state.held }
+    ensures time { KeepsTime parser.old parser.new }
 {
     let Some(held) = parser.get_mut() else {
         return false;
@@ -207,6 +229,8 @@ pub extern "C" fn hed_extended_end_paste(parser: &mut ExtendedHandle, event: &mu
     ensures no_parser { result ≡ NEXT_NO_PARSER ↔ (parser.old.state.held ≡ None) }
     ensures same { result ≢ NEXT_EVENT → parser.new.state.held ≡ parser.old.state.held }
     ensures event_same { result ≢ NEXT_EVENT → event.new ≡ event.old }
+    ensures event_time { result ≡ NEXT_EVENT → TakesEvent parser.old parser.new }
+    ensures same_time { result ≢ NEXT_EVENT → KeepsTime parser.old parser.new }
 {
     let Some(held) = parser.get_mut() else {
         return NEXT_NO_PARSER;
@@ -214,6 +238,7 @@ pub extern "C" fn hed_extended_end_paste(parser: &mut ExtendedHandle, event: &mu
     match held.end_paste() {
         Ok(Some(paste)) => {
             *event = paste;
+            parser.since = parser.since.after_event();
             NEXT_EVENT
         }
         Ok(None) => NEXT_NONE,
@@ -239,6 +264,7 @@ pub extern "C" fn hed_extended_take_paste(
     ensures no_parser { result ≡ NEXT_NO_PARSER ↔ (parser.old.state.held ≡ None) }
     ensures same { result ≢ NEXT_EVENT → parser.new.state.held ≡ parser.old.state.held }
     ensures event_same { result ≢ NEXT_EVENT → event.new ≡ event.old }
+    ensures time { KeepsTime parser.old parser.new }
 {
     let Some(held) = parser.get_mut() else {
         return NEXT_NO_PARSER;
@@ -262,6 +288,7 @@ pub extern "C" fn hed_extended_skip_paste(parser: &mut ExtendedHandle, count: &m
     ensures none { result ≡ false → ¬ HasEndlessPaste parser.old.state.held }
     ensures same { result ≡ false → parser.new.state.held ≡ parser.old.state.held }
     ensures count_same { result ≡ false → count.new ≡ count.old }
+    ensures time { KeepsTime parser.old parser.new }
 {
     let Some(held) = parser.get_mut() else {
         return false;
@@ -278,9 +305,13 @@ pub extern "C" fn hed_extended_skip_paste(parser: &mut ExtendedHandle, count: &m
 pub extern "C" fn hed_extended_reset(parser: &mut ExtendedHandle) -> usize
     ensures len { result ≡ waiting_len parser.old.state.held }
     ensures reset { IsReset parser.old.state.held parser.new.state.held }
+    ensures time { parser.old.state.held ≢ None → TakesEvent parser.old parser.new }
+    ensures no_parser { parser.old.state.held ≡ None → KeepsTime parser.old parser.new }
 {
     let Some(held) = parser.get_mut() else {
         return 0;
     };
-    held.parser.reset()
+    let len = held.parser.reset();
+    parser.since = parser.since.after_event();
+    len
 }

@@ -21,6 +21,7 @@ mod events;
 mod extended_and_text;
 mod extended_calls;
 mod extended_events;
+mod extended_timing_calls;
 mod handle;
 mod handles;
 mod holder;

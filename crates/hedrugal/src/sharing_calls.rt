@@ -2,6 +2,7 @@
 ghost use Rattle.std.specs.Prelude.{◌≡◌, true, false, None};
 ghost use Rattle.hedrugal.specs.Calls.{IsFresh};
 ghost use Rattle.hedrugal.specs.ExtendedCalls.{IsNoProtocol, IsFresh as IsFreshExtended};
+ghost use Rattle.hedrugal.specs.ExtendedTimings.{BeginsTime as BeginsExtendedTime, KeepsTime as KeepsExtendedTime};
 ghost use Rattle.hedrugal.specs.Timings.{BeginsTime, KeepsTime};
 
 use crate::extended_and_text::ExtendedAndText;
@@ -49,6 +50,7 @@ pub extern "C" fn hed_parser_init_sharing_extended(
     ensures same { other.new.state ≡ other.old.state }
     ensures begins { result ≡ true → BeginsTime parser.new }
     ensures refused_time { result ≡ false → KeepsTime parser.old parser.new }
+    ensures same_time { KeepsExtendedTime other.old other.new }
 {
     let Some(held) = other.get_mut() else {
         return false;
@@ -73,6 +75,9 @@ pub extern "C" fn hed_extended_init_sharing(
     ensures no_protocol { IsNoProtocol protocol → result ≡ false }
     ensures no_other { other.old.state.held ≡ None → result ≡ false }
     ensures same { other.new.state ≡ other.old.state }
+    ensures begins { result ≡ true → BeginsExtendedTime parser.new }
+    ensures refused_time { result ≡ false → KeepsExtendedTime parser.old parser.new }
+    ensures same_time { KeepsExtendedTime other.old other.new }
 {
     let Some(protocol) = protocol_at(protocol) else {
         return false;
@@ -100,6 +105,8 @@ pub extern "C" fn hed_extended_init_sharing_parser(
     ensures no_other { other.old.state.held ≡ None → result ≡ false }
     ensures same { other.new.state ≡ other.old.state }
     ensures same_time { KeepsTime other.old other.new }
+    ensures begins { result ≡ true → BeginsExtendedTime parser.new }
+    ensures refused_time { result ≡ false → KeepsExtendedTime parser.old parser.new }
 {
     let Some(protocol) = protocol_at(protocol) else {
         return false;
