@@ -1015,7 +1015,7 @@ static void expires_by_its_limits(const hed_extended *other) {
   EXPECT(hed_extended_expire(&parser, 1 << 20, &event) == HED_NEXT_NONE && hed_extended_set_policy(&parser, &at_once));
   EXPECT(hed_extended_expire(&parser, 1 << 20, &event) == HED_NEXT_EVENT && hed_extended_expire(&parser, 0, &event) == HED_NEXT_EVENT);
   tell_event(&parser, &event);
-  EXPECT(FEED(&parser, "q") && hed_extended_expire(&parser, 0, &event) == HED_NEXT_NONE);
+  EXPECT(FEED(&parser, "q") && hed_extended_set_policy(&parser, &never) && hed_extended_expire(&parser, 0, &event) == HED_NEXT_NONE);
   tell_events(&parser, true);
   EXPECT(strcmp(told, "Paste(ab); 1; ;; q; ") == 0);
   hed_extended_free(&parser);
