@@ -285,27 +285,20 @@ static void take_part(input *it, unsigned number) {
   if (count > 0) consume(TAKE_PASTE);
 }
 
-/* The first request of a parser for its time may be refused. */
-static void set_limits(input *it) {
-  int32_t most = MANY * take_byte(it);
-  hed_policy policy = { most, most, most, most, most, most };
-  bool is_set = hed_parser_set_policy(parser, &policy);
-  HOLDS(is_set == (is_made && refusals == 0) && requests <= 1);
-  refuse_request(0);
-  HOLDS((is_set || hed_parser_set_policy(parser, &policy)) == is_made);
-  owner = TWIN;
-  if (is_made) HOLDS(hed_parser_set_policy(&twin, &policy));
-  owner = TESTED;
+/* Tells limits of n ms, or the time. */
+static int32_t tell(hed_parser *of, bool is_limit, int32_t n) {
+  hed_policy policy = { n, n, n, n, n, n };
+  return is_limit ? hed_parser_set_policy(of, &policy) : hed_parser_timeout(of, now);
 }
 
-static void pass_time(input *it) {
-  now += MANY * (uint64_t)take_byte(it);
-  int32_t left = hed_parser_timeout(parser, now);
-  HOLDS((refusals == 0 || left == 0) && (is_made || left == -1) && requests <= 1);
+static void tell_both(bool is_limit, int32_t n) {
+  int32_t answer = tell(parser, is_limit, n);
+  HOLDS((answer == 0 || refusals == 0) && requests <= is_made);
   refuse_request(0);
-  left = hed_parser_timeout(parser, now);
+  answer = tell(parser, is_limit, n);
+  HOLDS(is_made || answer == (is_limit ? 0 : -1));
   owner = TWIN;
-  if (is_made) HOLDS(hed_parser_timeout(&twin, now) == left);
+  HOLDS(!is_made || answer == tell(&twin, is_limit, n));
   owner = TESTED;
 }
 
@@ -361,8 +354,8 @@ static void call(input *it) {
     case 'V': HOLDS(hed_version() == HED_VERSION_NUMBER && requests == 0); break;
     case 'T': check_row(it); break;
     case 'X': check_completions(); break;
-    case '[': set_limits(it); break;
-    case ']': pass_time(it); break;
+    case '[': tell_both(true, MANY * take_byte(it)); break;
+    case ']': now += MANY * (uint64_t)take_byte(it), tell_both(false, 0); break;
     case '^': take_all(EXPIRE, number); break;
     default: call_map(of, it);
   }

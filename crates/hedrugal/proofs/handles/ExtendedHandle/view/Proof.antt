@@ -1,29 +1,6 @@
 -- `view` lends the same words under another type, which owns the same blocks.
-use Rattle.std.proofs.Common.{◌≡◌, ℕ, List, [], ◌∷◌, refl}
-use mir.Syntax.{named}
-use mir.Val.{Val, vptr}
-use base.Fraction.{full_share}
-use base.Logic.{SProp, emp, ent, sep, id⊢}
-use base.Fml.{Fml, GName, ftrue, fsep, flft}
-use seplogic.Ra.Ura.{Ura}
-use types.Logic.{Logic, sem}
-use types.Kit.{‵, raw, ◌⊛◌, some, later, at_ret, ◌$◌, ◌∵◌, !, qed, done, move, keep, drop, split, split3, join, fsplit, fsplit3, fjoin, fpack, pick, use0, use1, await, rewrite, suffices, frame, group}
-use types.Run.{stop, fld, load, addr, of_opd, first, blocks, exec, returns, enter}
-use types.ByLocal.{alloc_all, pass_all, free_all, look_at, get, through, sets, sets_last, env}
-use types.Part.{whole, sub, look_in}
-use contract.Monad.{fact, fact_i}
-use contract.Running.{tables}
-use denote.Exit.{no}
-use denote.Follow.{follows, Part, lends_Part}
-use denote.Memory.{part_of, part_at, cell_at, lone, mem}
-use denote.RattleType.{RattleType, owns}
-use denote.RawPtr.{Ptr, block_ptr}
-use denote.Ref.{MutRef, mut_vals, mut_Tells}
-use denote.Signature.{plain, mut_ref_to}
-use denote.Steps.{nothing, heard, opens}
-use denote.Triple.Walked.{says, Stays, stay_dropped, walk_of, ends_at, Goes-spent_ref}
-use Rattle.core.proofs.atomic.Steps.{tail}
-use Rattle.std.proofs.raw_atomic.Walks.{proved}
+use Rattle.hedrugal.proofs.Walks.{fst∗, ◌≡◌, ℕ, List, [], ◌∷◌, refl, named, Val, vptr, full_share, SProp, emp, ent, sep, id⊢, GName, ftrue, fsep, flft, Ura, Logic, sem, ‵, raw, ◌⊛◌, some, later, at_ret, ◌$◌, ◌∵◌, !, qed, done, move, keep, drop, split, split3, join, fsplit, fsplit3, fjoin, fpack, pick, use0, use1, await, suffices, frame, group, stop, addr, of_opd, first, blocks, exec, returns, enter, alloc_all, pass_all, free_all, look_at, get, through, sets, sets_last, env, fact, fact_i, tables, no, follows, Part, lends_Part, cell_at, mem, RattleType, owns, MutRef, mut_vals, mut_Tells, plain, mut_ref_to, nothing, opens, Stays, stay_dropped, walk_of, ends_at, Goes-spent_ref, tail, proved}
+use denote.Memory.{part_of}
 use Rattle.hedrugal.specs.Views.{extended_of, viewed_extended}
 use Rattle.hedrugal.specs.contracts.extended_and_text.ExtendedAndText.{the_row as HeldType}
 use Rattle.hedrugal.specs.contracts.handles.ExtendedHandle.{the_row as CType}
@@ -38,14 +15,6 @@ ViewType = generic.the_row HeldType
 abbrev stays : Stays it.ended.signature.params it.ended.kept
 stays = (stay_dropped (mut_ref_to (0 ∷ []) tt (plain (λ _. CType))) no, tt)
 
-whole_again : {M : Type 1} {𝓤 : Ura M} (𝓛 : Logic 𝓤) (b o : ℕ) (x : ViewType.Denot)
-    → ent 𝓤 (sep 𝓤 (sem 𝓛 ((mem ViewType).own_at x b o)) (sem 𝓛 ftrue))
-    (sem 𝓛 ((mem CType).own_at (extended_of x) b o))
-unfolding part_of
-whole_again {𝓤 = 𝓤} 𝓛 b o x =
-    qed 𝓛 (‵ ((mem ViewType).own_at x b o) ∷ ‵ ftrue ∷ []) ∵ keep ! (0 ∷ []) $
-    use1 𝓛 (‵ ((mem CType).own_at (extended_of x) b o)) (id⊢ 𝓤 _) $ done !
-
 pub view_spec : {M : Type 1} → statement M
 unfolding part_of
 view_spec 𝓤 𝓛 𝓜 𝓡 wired =
@@ -58,6 +27,7 @@ view_spec 𝓤 𝓛 𝓜 𝓡 wired =
     let y : (walk_of 𝓛 it.ended stays clauses).Ghost = ((κs, qs, bounds, a, (vs, tt)), ghost) in
     let post : Val → SProp 𝓤 = (walk_of 𝓛 it.ended stays clauses).post y in
     let x : ViewType.Denot = viewed_extended self in
+    let back = λ (w : ViewType.Denot). fst∗ 𝓤 (sem 𝓛 ((mem ViewType).own_at w b o)) (sem 𝓛 ftrue) in
     qed 𝓛 (((‵ (flft κs.0 qs.0) ⊛ ‵ ftrue) ⊛ ‵ (owns (MutRef (named 0) κs.0 CType ∷ []) a (vs, tt)))
     ∷ raw ((clauses κs a).requires ghost) ∷ []) ∵
     keep ! (0 ∷ []) $
@@ -75,9 +45,9 @@ view_spec 𝓤 𝓛 𝓜 𝓡 wired =
     fjoin ! $ fpack ! (List Val) (λ us. fsep (cell_at full_share ViewType.mir us b o) (ViewType.own_val x us)) us $
     nothing ! $ move ! (2 ∷ 3 ∷ 4 ∷ 1 ∷ 0 ∷ []) $ group ! 5 $
     use1 𝓛 (later (some (λ (γ : GName). raw (Part 𝓛 CType ViewType extended_of (named 0) κs.0 qs.0
-    b o b o a.0.ghost_name (sem 𝓛 ftrue) (whole_again 𝓛 b o) x γ))))
+    b o b o a.0.ghost_name (sem 𝓛 ftrue) back x γ))))
     (lends_Part 𝓛 CType ViewType extended_of (named 0) κs.0 qs.0 b o b o a.0.ghost_name
-    (sem 𝓛 ftrue) (whole_again 𝓛 b o) (CType.coded.code self) (CType.coded.code self) x) $
+    (sem 𝓛 ftrue) back (CType.coded.code self) (CType.coded.code self) x) $
     await ! tt $ pick ! (λ γ.
     returns ! (look_at ! 0 refl) $ free_all ! refl $ keep ! (0 ∷ []) $
     let lent : (MutRef (named 0) κs.0 ViewType).Denot = record { ref_ptr = (b, o); ghost_name = γ; now = x } in

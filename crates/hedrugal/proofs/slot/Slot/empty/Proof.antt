@@ -1,10 +1,5 @@
 -- `empty` makes a struct of the null pointer, which owns nothing.
-use Rattle.hedrugal.proofs.Walks.{◌≡◌, [], ◌∷◌, refl, None, Val, SProp, emp, ftrue, ‵, raw, ◌⊛◌, ◌$◌, ◌∵◌, !, qed, by, drop, keep, split, move, use0, lit, no_more, and_then, returns, enter, alloc_all, pass_all, free_all, look_at, sets, agg, fact, fact_i, tables, owns, types_at, null_ptr, nothing, Stays, walk_of, Ptr-Good, proved_at, leaves, one_word, close_owned}
-use mir.Syntax.{a_type, dcons, dnil}
-use mir.MapTy.{inst_fn}
-use base.Fml.{flft}
-use denote.RattleType.{RattleType}
-use denote.Param.{param, bounded}
+use Rattle.hedrugal.proofs.Walks.{◌≡◌, [], ◌∷◌, refl, None, Val, SProp, emp, ftrue, ‵, raw, ◌⊛◌, ◌$◌, ◌∵◌, !, qed, by, keep, split, move, use0, lit, no_more, and_then, returns, enter, alloc_all, pass_all, free_all, look_at, sets, agg, fact, fact_i, tables, owns, types_at, null_ptr, nothing, Stays, walk_of, Ptr-Good, proved_at, leaves, one_word, close_owned, a_type, dcons, dnil, inst_fn, flft, RattleType, param, bounded}
 use Rattle.hedrugal.specs.contracts.slot.Slot.empty as it
 use Rattle.hedrugal.proofs.slot.Slot.empty.Statement.{statement}
 use Rattle.hedrugal.proofs.slot.Slot.empty.Code as code

@@ -1,39 +1,8 @@
 -- `get_mut` lends the value in its block. The rest of the box stays with the pointer until the loan ends.
-use Rattle.std.proofs.Common.{◌≡◌, ℕ, List, [], ◌∷◌, refl, sym}
-use Rattle.std.specs.Prelude.{Some, is_some, true}
-use mir.Raw.{raw as bare}
-use mir.Syntax.{a_type, dcons, dnil, named}
-use mir.MapTy.{inst_fn}
-use mir.Val.{Val, vptr}
-use base.Fraction.{full_share}
-use base.Logic.{SProp, emp, ent, sep, id⊢}
-use base.Fml.{Fml, GName, ftrue, fsep, flft}
-use seplogic.Ra.Ura.{Ura}
-use types.Logic.{Logic, sem}
-use types.Kit.{‵, raw, ◌⊛◌, some, later, at_ret, ◌$◌, ◌∵◌, !, qed, done, move, keep, drop, split, split3, join, fsplit, fsplit3, fjoin, fpack, pick, use0, use1, await, rewrite, suffices, frame, group}
-use types.Run.{stop, fld, load, addr, of_opd, first, blocks, exec, returns, enter}
-use types.ByLocal.{alloc_all, pass_all, free_all, look_at, get, through, sets, sets_last, env}
-use types.Part.{whole, sub, look_in}
-use contract.Monad.{fact, fact_i}
-use contract.Running.{tables}
-use denote.Exit.{no}
-use denote.Follow.{follows, Part, lends_Part}
-use denote.Memory.{part_of, part_at, cell_at, lone, mem}
-use denote.RattleType.{RattleType, owns}
-use denote.RawPtr.{Ptr, block_ptr}
-use denote.Ref.{MutRef, mut_vals, mut_Tells}
-use denote.Signature.{plain, mut_ref_to}
-use denote.Steps.{nothing, heard, opens}
-use denote.Triple.Walked.{says, Stays, stay_dropped, walk_of, ends_at, Goes-spent_ref}
-use Rattle.core.proofs.alloc.Shapes.{after}
-use Rattle.std.proofs.raw_atomic.Walks.{proved}
-use Rattle.std.specs.contracts.impls.GlobalAllocator.TheImpl.{ghosts}
-use Rattle.hedrugal.specs.Owned.{heap, owned}
-use contract.BorrowLft.{◌⊑◌}
-use denote.Param.{param, bounded}
+use Rattle.hedrugal.proofs.Walks.{◌≡◌, ℕ, List, [], ◌∷◌, refl, sym, Some, is_some, true, bare, a_type, dcons, dnil, named, inst_fn, Val, vptr, full_share, SProp, emp, ent, sep, id⊢, Fml, GName, ftrue, fsep, flft, Ura, Logic, sem, ‵, raw, ◌⊛◌, some, later, at_ret, ◌$◌, ◌∵◌, !, qed, done, move, keep, drop, split, split3, join, fsplit, fsplit3, fjoin, fpack, pick, use0, use1, await, rewrite, suffices, frame, group, stop, fld, load, addr, of_opd, first, blocks, exec, returns, enter, alloc_all, pass_all, free_all, look_at, get, through, sets, sets_last, env, whole, sub, look_in, fact, fact_i, tables, no, follows, Part, lends_Part, part_at, cell_at, lone, mem, RattleType, owns, Ptr, block_ptr, MutRef, mut_vals, mut_Tells, plain, mut_ref_to, nothing, heard, opens, says, Stays, stay_dropped, walk_of, ends_at, Goes-spent_ref, after, proved, ghosts, heap, owned, ◌⊑◌, param, bounded, one_word, open_held, close_owned}
+use denote.Memory.{part_of}
 use Rattle.hedrugal.specs.Lent.{with_held}
 use Rattle.hedrugal.specs.contracts.slot.Slot as slot
-use Rattle.hedrugal.proofs.OwnedPointerValues.{one_word, open_held, close_owned}
 use Rattle.hedrugal.specs.contracts.slot.Slot.get_mut as it
 use Rattle.hedrugal.proofs.slot.Slot.get_mut.Statement.{statement}
 use Rattle.hedrugal.proofs.slot.Slot.get_mut.Code as code

@@ -1,12 +1,5 @@
 -- `into_raw_box` puts the pointer beside the allocator.
-use Rattle.hedrugal.proofs.Walks.{◌≡◌, List, [], ◌∷◌, ◌++◌, refl, sym, subst, Some, is_some, true, Val, vptr, SProp, ent, emp, id⊢, ftrue, WpFn, ‵, raw, ◌⊛◌, ◌$◌, ◌∵◌, !, qed, by, move, keep, split, fsplit, fjoin, suffices, use0, use1, drop, stop, fld, of_opd, no_more, and_then, returns, enter, alloc_all, pass_all, free_all, look_at, get, get_in, sets, agg, sub, whole, fact, fact_i, tables, yes, RattleType, owns, types_at, plain, block_ptr, nothing, heard, Stays, stay_dropped, walk_of, Goes-dropped, handle_tells, Heap, heap_laws, ghosts, proved_at, leaves, allocator, two_words, parts_fit, close_parts, one_word, open_held}
-use mir.Syntax.{a_type, dcons, dnil}
-use mir.MapTy.{inst_fn}
-use base.Fml.{flft}
-use contract.BorrowLft.{◌⊑◌}
-use denote.Exit.{no}
-use denote.Param.{param, bounded}
-use Rattle.core.proofs.alloc.Calls.{Goes-blank}
+use Rattle.hedrugal.proofs.Walks.{◌≡◌, List, [], ◌∷◌, ◌++◌, refl, sym, subst, Some, is_some, true, Val, vptr, SProp, ent, emp, id⊢, ftrue, WpFn, ‵, raw, ◌⊛◌, ◌$◌, ◌∵◌, !, qed, by, move, keep, split, fsplit, fjoin, suffices, use0, use1, drop, stop, fld, of_opd, no_more, and_then, returns, enter, alloc_all, pass_all, free_all, look_at, get, get_in, sets, agg, sub, whole, fact, fact_i, tables, yes, RattleType, owns, types_at, plain, block_ptr, nothing, heard, Stays, stay_dropped, walk_of, Goes-dropped, handle_tells, Heap, heap_laws, ghosts, proved_at, leaves, allocator, two_words, parts_fit, close_parts, one_word, open_held, a_type, dcons, dnil, inst_fn, flft, ◌⊑◌, no, param, bounded, Goes-blank}
 use Rattle.hedrugal.specs.contracts.slot.Slot as slot
 use Rattle.hedrugal.specs.contracts.slot.Slot.into_raw_box as it
 use Rattle.hedrugal.proofs.slot.Slot.into_raw_box.Statement.{statement}

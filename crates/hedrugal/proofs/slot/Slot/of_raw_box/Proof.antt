@@ -1,11 +1,5 @@
 -- `of_raw_box` keeps the pointer, and lets go of the allocator, which takes no bytes.
-use Rattle.hedrugal.proofs.Walks.{◌≡◌, List, [], ◌∷◌, ◌++◌, refl, sym, subst, Some, Val, vptr, SProp, ent, emp, id⊢, ftrue, WpFn, ‵, raw, ◌⊛◌, ◌$◌, ◌∵◌, !, qed, by, move, keep, split, fsplit, fjoin, suffices, use0, use1, stop, fld, of_opd, no_more, and_then, returns, enter, alloc_all, pass_all, free_all, look_at, get, get_in, sets, agg, sub, whole, fact, fact_i, tables, yes, RattleType, owns, types_at, plain, block_ptr, nothing, Stays, stay_dropped, walk_of, Goes-dropped, Heap, heap_laws, ghosts, proved_at, leaves, owned, PartsType, two_words, parts_fit, open_parts, one_word, close_owned}
-use mir.Syntax.{a_type, dcons, dnil}
-use mir.MapTy.{inst_fn}
-use base.Fml.{flft}
-use denote.Exit.{no}
-use denote.Param.{param, bounded}
-use Rattle.core.proofs.alloc.Calls.{Goes-blank}
+use Rattle.hedrugal.proofs.Walks.{◌≡◌, List, [], ◌∷◌, ◌++◌, refl, sym, subst, Some, Val, vptr, SProp, ent, emp, id⊢, ftrue, WpFn, ‵, raw, ◌⊛◌, ◌$◌, ◌∵◌, !, qed, by, move, keep, split, fsplit, fjoin, suffices, use0, use1, stop, fld, of_opd, no_more, and_then, returns, enter, alloc_all, pass_all, free_all, look_at, get, get_in, sets, agg, sub, whole, fact, fact_i, tables, RattleType, owns, types_at, plain, block_ptr, nothing, Stays, stay_dropped, walk_of, Heap, heap_laws, ghosts, proved_at, leaves, owned, PartsType, two_words, parts_fit, open_parts, one_word, close_owned, a_type, dcons, dnil, inst_fn, flft, no, param, bounded, Goes-blank}
 use Rattle.hedrugal.specs.contracts.slot.Slot.of_raw_box as it
 use Rattle.hedrugal.proofs.slot.Slot.of_raw_box.Statement.{statement}
 use Rattle.hedrugal.proofs.slot.Slot.of_raw_box.Code as code
