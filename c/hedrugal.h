@@ -268,8 +268,8 @@ typedef struct hed_policy {
 
 /* Sets the limits of a parser. They hold from the next hed_parser_timeout or hed_parser_expire on.
  *
- * Returns false if memory is refused or there is no parser: then nothing changed. The first call of this, hed_parser_timeout or
- * hed_parser_expire on a parser asks for some hundred bytes, and no other does. */
+ * Returns false if memory is refused or there is no parser: then nothing changed. For limits and timer a parser takes some hundred bytes,
+ * once, at the first call of this, of hed_parser_timeout or of hed_parser_expire. */
 bool hed_parser_set_policy(hed_parser *parser, const hed_policy *policy);
 
 /* Tells the parser what time it is, and returns how many milliseconds what is buffered may still wait, as poll takes it: 0 if it is due, -1
@@ -282,8 +282,8 @@ bool hed_parser_set_policy(hed_parser *parser, const hed_policy *policy);
 int32_t hed_parser_timeout(hed_parser *parser, uint64_t now);
 
 /* Tells the parser what time it is. If what is buffered is due, writes the next event of a flush to *event, and consumes its bytes: of an
- * open paste what hed_parser_end_paste writes, of anything else what hed_parser_next writes with more as false. The caller calls it until it
- * returns HED_NEXT_NONE, if no bytes came for as long as hed_parser_timeout said. Once an event was taken the rest of the flush is due,
+ * open paste what hed_parser_end_paste writes, of anything else what hed_parser_next writes with more as false. The caller calls it until
+ * it returns HED_NEXT_NONE, if no bytes came for as long as hed_parser_timeout said. Once an event was taken the rest of the flush is due,
  * whatever the time is, unless bytes are fed.
  *
  * Returns HED_NEXT_EVENT, HED_NEXT_NONE if nothing is due or left, HED_NEXT_NO_MEMORY, or HED_NEXT_NO_PARSER. *event is written only with

@@ -17,8 +17,7 @@ enum { STREAM_MAX = 4096, SIZE = 0x1f, LAST_BY_BYTE = 0x20, AGAIN = 0x20, FLUSHE
 typedef struct reading {
   event events[STREAM_MAX];
   uint8_t texts[3 * STREAM_MAX];
-  size_t count, texts_len;
-  size_t rest, flushed_rest;
+  size_t count, texts_len, rest;
 } reading;
 
 static reading whole, cut;
@@ -96,9 +95,9 @@ static void shrink(const reading *it, size_t room_left) {
 /* What follows when nothing more comes. */
 static void read_end(reading *it, const uint8_t *stream, size_t len) {
   take_all(it, false);
-  it->flushed_rest = check_rest_of(stream, len);
-  HOLDS(it->flushed_rest == 0 || is_open_paste(stream + len - it->flushed_rest, it->flushed_rest));
-  HOLDS(keep_answer(it, CALL(end_paste)(parser, room_of(&taken, sizeof(event)))) == (it->flushed_rest > 0));
+  size_t rest = check_rest_of(stream, len);
+  HOLDS(rest == 0 || is_open_paste(stream + len - rest, rest));
+  HOLDS(keep_answer(it, CALL(end_paste)(parser, room_of(&taken, sizeof(event)))) == (rest > 0));
   HOLDS(it->count <= len && CALL(waiting_len)(parser) == 0);
 }
 
@@ -109,10 +108,9 @@ static void begin(reading *it) {
 }
 
 /* The same by limits of 0. */
-static void expire(reading *it, const uint8_t *stream, size_t len) {
+static void expire(reading *it, size_t len) {
   static const hed_policy at_once = { 0, 0, 0, 0, 0, 0 };
   HOLDS(CALL(set_policy)(parser, &at_once) && CALL(timeout)(parser, 0) == (it->rest > 0 ? 0 : -1));
-  it->flushed_rest = is_open_paste(stream + len - it->rest, it->rest) ? it->rest : 0;
   while (keep_answer(it, CALL(expire)(parser, 0, room_of(&taken, sizeof(event))))) {
   }
   HOLDS(it->count <= len && CALL(waiting_len)(parser) == 0);
@@ -125,7 +123,7 @@ static void read_whole(const uint8_t *stream, size_t len) {
   parser = &sharing;
   begin(&whole);
   read_up_to(&whole, stream, 0, len);
-  expire(&whole, stream, len);
+  expire(&whole, len);
   CALL(free)(&sharing);
   parser = first;
 }
@@ -155,5 +153,5 @@ static void read_both(input *it, uint8_t first) {
   HOLDS(whole.count == cut.count);
   for (size_t i = 0; i < whole.count; i++) HOLDS(SAME(&whole.events[i], &cut.events[i]));
   HOLDS(whole.texts_len == cut.texts_len && memcmp(whole.texts, cut.texts, whole.texts_len) == 0);
-  HOLDS(whole.rest == cut.rest && whole.flushed_rest == cut.flushed_rest);
+  HOLDS(whole.rest == cut.rest);
 }
