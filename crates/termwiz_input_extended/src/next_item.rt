@@ -344,30 +344,7 @@ fn item_of_sequence<'k>(
     }
 }
 
-// What is at the front of a text that begins with one ESC alone. An opening is looked for first. It has a frame of its own, which keys don't
-// pay for.
-#[inline(never)]
-fn item_of_introduced<'k>(
-    parser: &'k InputParser,
-    protocol: Protocol,
-    text: &[u8],
-    scanned: usize,
-    maybe_more: bool,
-) -> NextItem<'k>
-    requires escape { Begins ESC text.now }
-    requires one { ¬ Begins (ESC ++ ESC) text.now }
-    requires scanned { IsScanned text.now scanned }
-    ensures { IsNextItem protocol text.now maybe_more result }
-{
-    match opening_at(text) {
-        OpeningAt::Opening(kind, len) => NextItem::String(kind, len),
-        OpeningAt::Unfinished if maybe_more => NextItem::Incomplete(0),
-        OpeningAt::Unfinished => NextItem::Usual,
-        OpeningAt::Absent => item_of_sequence(parser, protocol, text, scanned, maybe_more),
-    }
-}
-
-// The same, quicker where the byte after the ESC introduces no string.
+// What is at the front of a text that begins with one ESC alone. An opening is looked for first.
 #[inline(always)]
 fn item_of_one_escape<'k>(
     parser: &'k InputParser,
@@ -381,13 +358,11 @@ fn item_of_one_escape<'k>(
     requires scanned { IsScanned text.now scanned }
     ensures { IsNextItem protocol text.now maybe_more result }
 {
-    match text {
-        [_, b']' | b'P' | b'_', ..] => {
-            item_of_introduced(parser, protocol, text, scanned, maybe_more)
-        }
-        [_, _, ..] => item_of_sequence(parser, protocol, text, scanned, maybe_more),
-        _ if maybe_more => NextItem::Incomplete(0),
-        _ => NextItem::Usual,
+    match match_opening(text) {
+        OpeningAt::Opening(kind, len) => NextItem::String(kind, len),
+        OpeningAt::Unfinished if maybe_more => NextItem::Incomplete(0),
+        OpeningAt::Unfinished => NextItem::Usual,
+        OpeningAt::Absent => item_of_sequence(parser, protocol, text, scanned, maybe_more),
     }
 }
 

@@ -1,22 +1,21 @@
 use Rattle.std.proofs.Common.{inr}
 use Rattle.termwiz_input_extended.proofs.lemmas.fronts.ExtraAnswers.{no_extra_without_form, no_form_before}
 use Rattle.termwiz_input_extended.proofs.lemmas.fronts.FrontItems.{own_after_escape, waits_for_extra}
-use Rattle.termwiz_input_extended.proofs.lemmas.fronts.OpeningFronts.{opening_alone}
 use Rattle.termwiz_input_extended.proofs.lemmas.fronts.ScannedPlaces.{scanned_none}
 use Rattle.termwiz_input_extended.proofs.next_item.item_of_one_escape.Goals as goal
 
-pub returns-in_default : goal.returns-in_default
-returns-in_default c =
-    let found = opening_alone c.args.text.now c.requires.escape c.in_default.len_below in (
+pub returns-in-Unfinished : goal.returns-in-Unfinished
+returns-in-Unfinished c =
+    let found = c.in-Unfinished.ensures in (
       waits_for_extra c.args.protocol c.args.text.now c.args.maybe_more c.requires.escape c.requires.one
           (no_extra_without_form c.args.protocol c.args.text.now (no_form_before c.args.text.now found.1) found.0) c.if-maybe_more.true
           (inr found.1),
       scanned_none c.args.text.now,
     )
 
-pub returns-in_default-2 : goal.returns-in_default-2
-returns-in_default-2 c =
-    let found = opening_alone c.args.text.now c.requires.escape c.in_default.len_below in
+pub returns-in-Unfinished-2 : goal.returns-in-Unfinished-2
+returns-in-Unfinished-2 c =
+    let found = c.in-Unfinished-2.ensures in
     own_after_escape c.args.protocol c.args.text.now c.args.maybe_more c.requires.escape c.requires.one
     (no_extra_without_form c.args.protocol c.args.text.now (no_form_before c.args.text.now found.1) found.0)
     (λ m. absurd (cc (m, c.if-maybe_more.false)))
