@@ -472,6 +472,9 @@ class _RawParser(ctypes.Structure):
     _fields_ = [
         ("live", ctypes.c_bool),
         ("timed", ctypes.c_bool),
+        ("fed", ctypes.c_bool),
+        ("taken", ctypes.c_bool),
+        ("expiring", ctypes.c_bool),
         ("state", ctypes.c_void_p),
         ("timing", ctypes.c_void_p),
     ]

@@ -129,6 +129,9 @@ pub const ENCODING_KITTY: u8 = 3;
 pub struct Parser {
     live: bool,
     timed: bool,
+    fed: bool,
+    taken: bool,
+    expiring: bool,
     state: *mut c_void,
     timing: *mut c_void,
 }
@@ -138,6 +141,9 @@ impl Parser {
     pub const NONE: Parser = Parser {
         live: false,
         timed: false,
+        fed: false,
+        taken: false,
+        expiring: false,
         state: std::ptr::null_mut(),
         timing: std::ptr::null_mut(),
     };
@@ -227,6 +233,9 @@ pub struct Match {
 pub struct Extended {
     live: bool,
     timed: bool,
+    fed: bool,
+    taken: bool,
+    expiring: bool,
     state: *mut c_void,
     timing: *mut c_void,
 }
@@ -236,6 +245,9 @@ impl Extended {
     pub const NONE: Extended = Extended {
         live: false,
         timed: false,
+        fed: false,
+        taken: false,
+        expiring: false,
         state: std::ptr::null_mut(),
         timing: std::ptr::null_mut(),
     };
@@ -278,7 +290,7 @@ pub struct ExtendedEvent {
 
 // The layouts that the library was proved with.
 const _: () = {
-    assert!(size_of::<Parser>() == 24 && offset_of!(Parser, timed) == 1);
+    assert!(size_of::<Parser>() == 24 && offset_of!(Parser, expiring) == 4);
     assert!(offset_of!(Parser, state) == 8 && offset_of!(Parser, timing) == 16);
     assert!(size_of::<Policy>() == 24 && offset_of!(Policy, paste) == 20);
     assert!(
@@ -294,7 +306,7 @@ const _: () = {
             && offset_of!(Entries, with_alt) == 16
     );
     assert!(size_of::<Match>() == 16 && offset_of!(Match, value) == 8);
-    assert!(size_of::<Extended>() == 24 && offset_of!(Extended, timed) == 1);
+    assert!(size_of::<Extended>() == 24 && offset_of!(Extended, expiring) == 4);
     assert!(offset_of!(Extended, state) == 8 && offset_of!(Extended, timing) == 16);
     assert!(
         size_of::<KeyReport>() == 16
