@@ -35,7 +35,11 @@ pub(crate) fn protocol_at(number: u32) -> Option<Protocol>
 /// Makes an extended parser for the protocol with this number, and frees the one that was there. If memory is refused, or no protocol has
 /// the number, the answer is false and nothing changes.
 #[unsafe(no_mangle)]
-pub extern "C" fn hed_extended_init(alloc: Global, parser: &mut ExtendedHandle, protocol: u32) -> bool
+pub extern "C" fn hed_extended_init(
+    alloc: Global,
+    parser: &mut ExtendedHandle,
+    protocol: u32,
+) -> bool
     ensures made { result ≡ true → IsFresh parser.new.state.held protocol }
     ensures refused { result ≡ false → parser.new.state.held ≡ parser.old.state.held }
     ensures no_protocol { IsNoProtocol protocol → result ≡ false }
@@ -48,7 +52,9 @@ pub extern "C" fn hed_extended_init(alloc: Global, parser: &mut ExtendedHandle, 
     let Ok(made) = ExtendedParser::new(alloc, protocol) else {
         return false;
     };
-    parser.view().replace(alloc, ExtendedAndText::of(alloc, made))
+    parser
+        .view()
+        .replace(alloc, ExtendedAndText::of(alloc, made))
 }
 
 /// Frees the parser, if there is one, and leaves none.
@@ -181,7 +187,10 @@ pub extern "C" fn hed_extended_waiting(parser: &mut ExtendedHandle) -> u32
 /// Takes ESC or ESC ESC, if no more than that is buffered. The answer is 1 if `event` is its event, the Escape key; 0 if something else
 /// is buffered; and 3 if there is no parser.
 #[unsafe(no_mangle)]
-pub extern "C" fn hed_extended_flush_escape(parser: &mut ExtendedHandle, event: &mut CExtendedEvent) -> u32
+pub extern "C" fn hed_extended_flush_escape(
+    parser: &mut ExtendedHandle,
+    event: &mut CExtendedEvent,
+) -> u32
     ensures answers { result ≤ 3 }
     ensures granted { result ≢ NEXT_NO_MEMORY }
     ensures when { result ≡ NEXT_EVENT ↔ HasEscape parser.old.state.held }
@@ -221,7 +230,10 @@ pub extern "C" fn hed_extended_is_paste_open(parser: &mut ExtendedHandle) -> boo
 /// Ends an open paste where it is. The answer is 1 if `event` is its event, whose text is what came so far; 0 if no paste is open;
 /// 2 if memory for the text is refused; and 3 if there is no parser.
 #[unsafe(no_mangle)]
-pub extern "C" fn hed_extended_end_paste(parser: &mut ExtendedHandle, event: &mut CExtendedEvent) -> u32
+pub extern "C" fn hed_extended_end_paste(
+    parser: &mut ExtendedHandle,
+    event: &mut CExtendedEvent,
+) -> u32
     ensures answers { result ≤ 3 }
     ensures none { result ≡ NEXT_NONE → ¬ HasEndlessPaste parser.old.state.held }
     ensures event { result ≡ NEXT_EVENT → Ended parser.old.state.held event.new parser.new.state.held }

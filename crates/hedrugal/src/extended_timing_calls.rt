@@ -61,7 +61,12 @@ pub extern "C" fn hed_extended_timeout(alloc: Global, parser: &mut ExtendedHandl
 }
 
 // The next event of a flush. `told` is kept with it.
-fn next_flushed(alloc: Global, parser: &mut ExtendedHandle, told: Timing, event: &mut CExtendedEvent) -> u32
+fn next_flushed(
+    alloc: Global,
+    parser: &mut ExtendedHandle,
+    told: Timing,
+    event: &mut CExtendedEvent,
+) -> u32
     ensures answers { result ≤ 3 }
     ensures none { result ≡ NEXT_NONE → IsNothing parser.old.state.held }
     ensures event { result ≡ NEXT_EVENT → TookFlushed parser.old.state.held event.new parser.new.state.held }

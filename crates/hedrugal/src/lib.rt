@@ -102,7 +102,9 @@ pub extern "C" fn hed_parser_init(alloc: Global, parser: &mut ParserHandle) -> b
     let Ok(made) = InputParser::new(alloc) else {
         return false;
     };
-    parser.view().replace(alloc, ParserAndPaste::of(alloc, made))
+    parser
+        .view()
+        .replace(alloc, ParserAndPaste::of(alloc, made))
 }
 
 /// Frees the parser, if there is one, and leaves none.

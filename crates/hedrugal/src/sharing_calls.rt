@@ -34,7 +34,9 @@ pub extern "C" fn hed_parser_init_sharing(
     let Ok(made) = held.parser.sharing() else {
         return false;
     };
-    parser.view().replace(alloc, ParserAndPaste::of(alloc, made))
+    parser
+        .view()
+        .replace(alloc, ParserAndPaste::of(alloc, made))
 }
 
 /// Makes a parser with the sequence table of an extended parser, as [`hed_parser_init_sharing`] does.
@@ -58,7 +60,9 @@ pub extern "C" fn hed_parser_init_sharing_extended(
     let Ok(made) = held.parser.input_sharing() else {
         return false;
     };
-    parser.view().replace(alloc, ParserAndPaste::of(alloc, made))
+    parser
+        .view()
+        .replace(alloc, ParserAndPaste::of(alloc, made))
 }
 
 /// Makes an extended parser for the protocol with this number, with the sequence table of another, and frees the one that was there. If
@@ -88,7 +92,9 @@ pub extern "C" fn hed_extended_init_sharing(
     let Ok(made) = held.parser.sharing(protocol) else {
         return false;
     };
-    parser.view().replace(alloc, ExtendedAndText::of(alloc, made))
+    parser
+        .view()
+        .replace(alloc, ExtendedAndText::of(alloc, made))
 }
 
 /// Makes an extended parser with the sequence table of a parser that isn't, as [`hed_extended_init_sharing`] does.
@@ -117,5 +123,7 @@ pub extern "C" fn hed_extended_init_sharing_parser(
     let Ok(made) = ExtendedParser::sharing_table_of(alloc, &held.parser, protocol) else {
         return false;
     };
-    parser.view().replace(alloc, ExtendedAndText::of(alloc, made))
+    parser
+        .view()
+        .replace(alloc, ExtendedAndText::of(alloc, made))
 }

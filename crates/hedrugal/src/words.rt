@@ -70,6 +70,9 @@ impl Model for TimingWord {
 
 // SAFETY: the value in each block may be sent, and any thread may free the block, as proofs/Crossing.antt shows.
 unsafe impl Send for ParserWord {}
+
 unsafe impl Send for ExtendedWord {}
+
 unsafe impl Send for MapWord {}
+
 unsafe impl Send for TimingWord {}

@@ -1,7 +1,7 @@
 use Rattle.std.proofs.Common.{◌≡◌, Some, None, IfSome, IfNone, sym, ap, subst}
 use borrow.Follows.Closed.{read_of}
 use Rattle.core.specs.Option.{ghost_name_of}
-use Rattle.hedrugal.specs.LentIf.{leading_to, with_extended}
+use Rattle.hedrugal.specs.LentIf.{leading_to}
 use Rattle.hedrugal.specs.Views.{extended_of}
 use Rattle.hedrugal.proofs.Lending.{each}
 use Rattle.hedrugal.proofs.handles.ExtendedHandle.get_mut.Goals as goal

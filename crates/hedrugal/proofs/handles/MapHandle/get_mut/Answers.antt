@@ -1,7 +1,7 @@
 use Rattle.std.proofs.Common.{◌≡◌, Some, None, IfSome, IfNone, sym, ap, subst}
 use borrow.Follows.Closed.{read_of}
 use Rattle.core.specs.Option.{ghost_name_of}
-use Rattle.hedrugal.specs.LentIf.{holding, with_map}
+use Rattle.hedrugal.specs.LentIf.{holding}
 use Rattle.hedrugal.specs.Views.{map_of}
 use Rattle.hedrugal.proofs.Lending.{each}
 use Rattle.hedrugal.proofs.handles.MapHandle.get_mut.Goals as goal

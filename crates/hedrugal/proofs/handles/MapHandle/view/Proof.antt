@@ -1,5 +1,5 @@
 -- `view` lends the same words under another type, which owns the same blocks.
-use Rattle.hedrugal.proofs.Walks.{fst∗, ◌≡◌, ℕ, List, [], ◌∷◌, refl, named, Val, vptr, full_share, SProp, emp, ent, sep, id⊢, GName, ftrue, fsep, flft, Ura, Logic, sem, ‵, raw, ◌⊛◌, some, later, at_ret, ◌$◌, ◌∵◌, !, qed, done, move, keep, drop, split, split3, join, fsplit, fsplit3, fjoin, fpack, pick, use0, use1, await, suffices, frame, group, stop, addr, of_opd, first, blocks, exec, returns, enter, alloc_all, pass_all, free_all, look_at, get, through, sets, sets_last, env, fact, fact_i, tables, no, follows, Part, lends_Part, cell_at, mem, RattleType, owns, MutRef, mut_vals, mut_Tells, plain, mut_ref_to, nothing, opens, Stays, stay_dropped, walk_of, ends_at, Goes-spent_ref, tail, proved}
+use Rattle.hedrugal.proofs.Walks.{fst∗, ◌≡◌, List, [], ◌∷◌, refl, named, Val, vptr, full_share, SProp, emp, id⊢, GName, ftrue, fsep, flft, sem, ‵, raw, ◌⊛◌, some, later, at_ret, ◌$◌, ◌∵◌, !, qed, done, move, keep, drop, split, split3, join, fsplit, fsplit3, fjoin, fpack, pick, use0, use1, await, suffices, frame, group, stop, addr, of_opd, first, blocks, exec, returns, enter, alloc_all, pass_all, free_all, look_at, get, through, sets, sets_last, env, fact, fact_i, tables, no, follows, Part, lends_Part, cell_at, mem, RattleType, owns, MutRef, mut_vals, mut_Tells, plain, mut_ref_to, nothing, opens, Stays, stay_dropped, walk_of, ends_at, Goes-spent_ref, tail, proved}
 use denote.Memory.{part_of}
 use Rattle.hedrugal.specs.Views.{map_of, viewed_map}
 use Rattle.hedrugal.specs.contracts.bindings.Bindings.{the_row as HeldType}
