@@ -272,8 +272,7 @@ static uint32_t take(enum take what, unsigned number) {
 }
 
 static void take_all(enum take what, unsigned number) {
-  while (take(what, number) == HED_NEXT_EVENT) {
-  }
+  while (take(what, number) == HED_NEXT_EVENT) continue;
 }
 
 static void take_part(input *it, unsigned number) {

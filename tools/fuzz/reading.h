@@ -49,8 +49,7 @@ static bool keep_answer(reading *it, uint32_t answer) {
 
 /* Takes all events that there are. */
 static void take_all(reading *it, bool more) {
-  while (keep_answer(it, CALL(next)(parser, more, room_of(&taken, sizeof(event))))) {
-  }
+  while (keep_answer(it, CALL(next)(parser, more, room_of(&taken, sizeof(event))))) continue;
 }
 
 /* What waits, of the bytes up to `to`. */
@@ -111,14 +110,12 @@ static void begin(reading *it) {
 static void expire(reading *it, size_t len) {
   static const hed_policy at_once = { 0, 0, 0, 0, 0, 0 };
   HOLDS(CALL(set_policy)(parser, &at_once) && CALL(timeout)(parser, 0) == (it->rest > 0 ? 0 : -1));
-  while (keep_answer(it, CALL(expire)(parser, 0, room_of(&taken, sizeof(event))))) {
-  }
+  while (keep_answer(it, CALL(expire)(parser, 0, room_of(&taken, sizeof(event))))) continue;
   HOLDS(it->count <= len && CALL(waiting_len)(parser) == 0);
 }
 
 static void read_whole(const uint8_t *stream, size_t len) {
-  static const tested none;
-  tested *first = parser, sharing = none;
+  tested *first = parser, sharing = { 0 };
   HOLDS(SHARE(&sharing, parser));
   parser = &sharing;
   begin(&whole);
