@@ -704,9 +704,7 @@ void hed_extended_shrink_to(hed_extended *parser, size_t min_capacity);
 size_t hed_extended_waiting_len(const hed_extended *parser);
 
 /* Returns what stays buffered, an enum hed_waiting, as hed_parser_waiting does. The beginning of a control sequence, of a title or of the
- * opening of a string is a HED_WAITING_SEQUENCE. With HED_WAITING_STRING the opening is whole, and the string's end is still to come. What
- * follows a flush is typed text, so flush a string only after a longer pause than a sequence: some 5000 ms, and one more for each byte that
- * is buffered. */
+ * opening of a string is a HED_WAITING_SEQUENCE. With HED_WAITING_STRING the opening is whole, and the string's end is still to come. */
 uint32_t hed_extended_waiting(const hed_extended *parser);
 
 /* Writes the Escape key to *event if ESC alone is buffered, with HED_TERMWIZ_MOD_ALT if ESC ESC is, and consumes it, as
