@@ -1,6 +1,6 @@
 //! What stays buffered, by kind.
 
-/// What stays buffered. A string is flushed after a longer pause than a sequence, since what comes after the flush is typed text.
+/// What stays buffered. Each kind has a limit in time of its own, or none: those of `termwiz_input::time::Policy`.
 #[derive(Clone, Copy, PartialEq, Eq, Debug)]
 pub enum ExtendedWaiting {
     /// No bytes.

@@ -374,9 +374,7 @@ impl ExtendedParser {
 
     /// What kind of bytes stays buffered, once [`ExtendedParser::next_event`] returned `None`, or `parse` succeeded.
     ///
-    /// After a pause with `Escape` call [`ExtendedParser::flush_escape`]. Flush a `Sequence` only after a much longer pause, since the line
-    /// may be slow, and a `String` after a longer one still, since what comes after the flush is typed text. Never flush a `Character` or
-    /// a `Paste`.
+    /// How long each kind may stay buffered is in [`Policy`](crate::time::Policy), and [`expire`](crate::time::expire) flushes it then.
     pub fn waiting(&self) -> ExtendedWaiting
         ensures kind { (more : Bool) → IsRest self.now.protocol self.now.text more → IsKind self.now.protocol self.now.text more result }
 
@@ -398,7 +396,8 @@ impl ExtendedParser {
 
     /// Emits the Escape key, with ALT if ESC ESC stays buffered. `None` if anything else stays buffered; the parser is then unchanged.
     ///
-    /// Call it after a pause of some 50 ms. Unlike a flush, it breaks only what is cut right after its ESC or ESC ESC.
+    /// It is for a program with limits in time of its own; [`expire`](crate::time::expire) flushes by those of a policy. Unlike a flush, it
+    /// breaks only what is cut right after its ESC or ESC ESC.
     pub fn flush_escape(&mut self) -> Option<ExtendedEvent>
         ensures event { IfSome result (λ event. Means self.old.protocol self.old.text false (event ∷ []) self.new.text) }
         ensures protocol { self.new.protocol ≡ self.old.protocol }
@@ -526,7 +525,7 @@ impl ExtendedParser {
     /// Buffers `bytes`, and calls `callback` with each of its events in order. What is no event yet stays buffered.
     ///
     /// Pass `maybe_more` as true while more bytes may come: then a text that may yet become a longer sequence or a character
-    /// stays buffered. After a pause call [`ExtendedParser::flush_escape`]. Pass false at the end of the input: then only an open
+    /// stays buffered. After a pause call [`expire`](crate::time::expire). Pass false at the end of the input: then only an open
     /// paste stays buffered. No bytes and false are a flush.
     pub fn parse<F: FnMut(ExtendedEvent)>(
         &mut self,
@@ -650,7 +649,7 @@ impl ExtendedParser {
     /// Buffers `bytes`, and returns its events in order. What is no event yet stays buffered.
     ///
     /// Pass `maybe_more` as true while more bytes may come: then a text that may yet become a longer sequence or a character
-    /// stays buffered. After a pause call [`ExtendedParser::flush_escape`]. Pass false at the end of the input: then only an open
+    /// stays buffered. After a pause call [`expire`](crate::time::expire). Pass false at the end of the input: then only an open
     /// paste stays buffered. No bytes and false are a flush.
     #[tactic(auto, using(termwiz_extended_grammar::proofs::lemmas::waiting::FlushesLeave::rest_flushed, termwiz_extended_grammar::proofs::lemmas::items::ExtendedRests::waiting_shape))]
     pub fn parse_as_vec(
