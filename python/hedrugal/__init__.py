@@ -1098,8 +1098,8 @@ class _EventParser(_Closable, Generic[_AnyEvent]):
 
         The rest of the paste then arrives as typed keys, Enter included, and its end as
         KeyCode.INTERNAL_PASTE_END. If a part of the end was buffered, the rest of the end arrives
-        as typed keys too. So call it at the end of the input, or to give up a paste that stalls.
-        For a paste that is too long call `take_paste` or `skip_paste`.
+        as typed keys too. So call it at the end of the input. A paste that stalls is given up by
+        `policy.paste`, a limit in time. For one that is too long call `take_paste` or `skip_paste`.
 
         Raises MemoryError if memory is refused. The paste isn't lost, and the call may be made
         again."""

@@ -106,11 +106,12 @@ static void begin(reading *it) {
   DROP_TEXT(parser);
 }
 
-/* The same by limits of 0. */
+/* The same by limits of 0, to which a string adds a millisecond for each byte. */
 static void expire(reading *it, size_t len) {
   static const hed_policy at_once = { 0, 0, 0, 0, 0, 0 };
-  HOLDS(CALL(set_policy)(parser, &at_once) && CALL(timeout)(parser, 0) == (it->rest > 0 ? 0 : -1));
-  while (keep_answer(it, CALL(expire)(parser, 0, room_of(&taken, sizeof(event))))) continue;
+  int32_t due = it->rest == 0 ? -1 : CALL(waiting)(parser) == HED_WAITING_STRING ? (int32_t)it->rest : 0;
+  HOLDS(CALL(set_policy)(parser, &at_once) && CALL(timeout)(parser, 0) == due);
+  while (keep_answer(it, CALL(expire)(parser, it->rest, room_of(&taken, sizeof(event))))) continue;
   HOLDS(it->count <= len && CALL(waiting_len)(parser) == 0);
 }
 

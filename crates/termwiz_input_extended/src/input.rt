@@ -416,9 +416,9 @@ impl ExtendedParser {
     /// Ends an open paste where it is: its text so far is the event, and nothing stays buffered. `None` if no paste is open; the parser is
     /// then unchanged.
     ///
-    /// Call it at the end of the input, or to give up a paste that stalls. What the terminal still sends of the paste arrives as typed keys. So
-    /// for a paste that is too long call [`ExtendedParser::take_paste`] or [`ExtendedParser::skip_paste`]. If memory for the text is
-    /// refused, the parser is unchanged.
+    /// Call it at the end of the input. What the terminal still sends of the paste arrives as typed keys. A paste that stalls is given up by a
+    /// limit in time: see [`expire`](crate::time::expire). For a paste that is too long call [`ExtendedParser::take_paste`] or
+    /// [`ExtendedParser::skip_paste`]. If memory for the text is refused, the parser is unchanged.
     pub fn end_paste(&mut self) -> Result<Option<ExtendedEvent>, AllocError>
         ensures event { IfOk result (λ found. IfSome found (IsPasteEvent self.old.text)) }
         ensures nothing { IfOk result (λ found. IfSome found (λ _. self.new.text ≡ [])) }

@@ -486,8 +486,9 @@ impl ExtendedParser {
     /// [`KeyCode::InternalPasteEnd`](crate::input::KeyCode::InternalPasteEnd). If the text ended
     /// inside that, the rest of it is typed keys too.
     ///
-    /// Call it at the end of the input, or to give up a paste that stalls. For a paste that is too
-    /// long call [`ExtendedParser::take_paste`] or [`ExtendedParser::skip_paste`].
+    /// Call it at the end of the input. A paste that stalls is given up by a limit in time, which
+    /// is `paste` of its policy. For one that is too long call [`ExtendedParser::take_paste`] or
+    /// [`ExtendedParser::skip_paste`].
     ///
     /// ```
     /// use hedrugal::extended::{ExtendedEvent, ExtendedParser, Protocol};
