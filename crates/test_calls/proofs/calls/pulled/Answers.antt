@@ -1,4 +1,4 @@
-use Rattle.std.proofs.Common.{[], ◌∷◌, arith, length}
+use Rattle.std.proofs.Common.{[], ◌∷◌, arith}
 use Rattle.test_calls.proofs.calls.pulled.Goals as goal
 
 pub loop-events-smaller : goal.loop-events-smaller
