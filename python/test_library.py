@@ -85,7 +85,7 @@ def test_layouts():
     assert [ctypes.sizeof(it) for it in (parser, event, modes)] == [24, 24, 16]
     offsets = [event.modifiers.offset, event.y.offset, event.detail.offset, event.paste_len.offset]
     assert offsets == [2, 8, 12, 16]
-    assert [parser.timed.offset, parser.state.offset, parser.timing.offset] == [1, 8, 16]
+    assert [parser.expiring.offset, parser.state.offset, parser.timing.offset] == [4, 8, 16]
     assert [modes.encoding.offset, modes.has_modify_other_keys.offset] == [8, 12]
     policy = hedrugal._RawPolicy
     assert [ctypes.sizeof(policy), policy.alt_key.offset, policy.paste.offset] == [24, 4, 20]
@@ -118,7 +118,7 @@ def test_version():
 def test_layouts_of_the_extended_parser():
     parser, report, event = extended._RawExtended, extended._RawReport, extended._RawExtendedEvent
     assert [ctypes.sizeof(it) for it in (parser, report, event)] == [24, 16, 64]
-    assert [parser.timed.offset, parser.state.offset, parser.timing.offset] == [1, 8, 16]
+    assert [parser.expiring.offset, parser.state.offset, parser.timing.offset] == [4, 8, 16]
     assert [report.key.offset, report.base.offset] == [2, 12]
     offsets = [
         event.row.offset,
