@@ -15,8 +15,7 @@
  * A place has two bytes, the lower first, and n bytes of its row are asked for.
  *
  * For init, which makes some hundreds of requests, 4 n is added to the number of the refused one. It takes a millisecond, so a program has
- * two of them at most. A program whose first letter is W begins with a parser that shares the second parser's table, and has room for all
- * that a program feeds.
+ * two of them at most. A program with W first begins with a parser that shares the second parser's table, and has room for all.
  *
  * A second parser gets the same calls and is never refused, and the waiting bytes are kept beside them. Each answer has to be the second
  * parser's, and what the waiting bytes say. The rows that would complete these begin with them, and the rows before and after don't. A call
@@ -41,6 +40,9 @@ static hed_parser twin = HED_PARSER_NONE;
 static uint8_t text[TEXT_MAX], fed[FED_MAX];
 static size_t text_len, fed_len, waiting_len;
 
+/* Makes calls whose requests for memory are the second parser's. */
+#define BY_TWIN(calls) (owner = TWIN, (calls), owner = TESTED)
+
 static const uint8_t *waiting(void) {
   return fed + fed_len - waiting_len;
 }
@@ -64,8 +66,7 @@ static void check_state(void) {
   end_reads();
 }
 
-/* A row of the sequence table, as many of its bytes as there is room for. It is the second parser's, and its key an event's, but for the
- * start of a paste. */
+/* A row of the sequence table, as far as there is room. It is the second parser's, and its key an event's, but for a paste's start. */
 static void check_row(input *it) {
   uint8_t bytes[HED_ENTRY_MOST];
   size_t len = take_byte(it) & ONE_FEED, at = (size_t)take_number(it, 2);
@@ -123,9 +124,7 @@ static void forget(void) {
 
 static void clear_twin(void) {
   static hed_parser first = HED_PARSER_NONE;
-  owner = TWIN;
-  HOLDS((first.live || hed_parser_init(&first)) && hed_parser_init_sharing(&twin, &first));
-  owner = TESTED;
+  BY_TWIN(HOLDS((first.live || hed_parser_init(&first)) && hed_parser_init_sharing(&twin, &first)));
 }
 
 static bool make(bool is_sharing) {
@@ -165,9 +164,7 @@ static void free_parser(void) {
 }
 
 static void feed_twin(const uint8_t *bytes, size_t len) {
-  owner = TWIN;
-  HOLDS(hed_parser_feed(&twin, bytes, len));
-  owner = TESTED;
+  BY_TWIN(HOLDS(hed_parser_feed(&twin, bytes, len)));
   memcpy(fed + fed_len, bytes, len);
   fed_len += len;
   waiting_len += len;
@@ -296,9 +293,7 @@ static void tell_both(bool is_limit, int32_t n) {
   refuse_request(0);
   answer = tell(parser, is_limit, n);
   HOLDS(is_made || answer == (is_limit ? 0 : -1));
-  owner = TWIN;
-  HOLDS(!is_made || answer == tell(&twin, is_limit, n));
-  owner = TESTED;
+  BY_TWIN(HOLDS(!is_made || answer == tell(&twin, is_limit, n)));
 }
 
 static void reset(void) {
@@ -309,9 +304,7 @@ static void reset(void) {
 
 static void drop_paste(void) {
   hed_parser_drop_paste(parser);
-  owner = TWIN;
-  hed_parser_drop_paste(&twin);
-  owner = TESTED;
+  BY_TWIN(hed_parser_drop_paste(&twin));
   text_len = 0;
 }
 

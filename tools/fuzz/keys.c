@@ -8,8 +8,7 @@
  *
  * The answer has to be the one that the header promises for these numbers. A room that is too short gets as much of the text as it has
  * room for, and the rest of a longer one stays as it was. What isn't read makes no difference. A refused call writes nothing, and made
- * again it is granted; no memory is left. A character without modifiers is read back. The name of the same key goes into rooms of every
- * size too. */
+ * again it is granted; no memory is left. A character without modifiers is read back. The key's name goes into rooms of every size too. */
 #include "fuzz.h"
 #include <string.h>
 

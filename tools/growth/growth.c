@@ -140,6 +140,10 @@ struct session {
   hed_extended extended;
 };
 
+/* A call that both kinds have, by its name after hed_extended_ or hed_parser_. */
+#define CALL(it, name, ...) \
+  ((it)->is_extended ? hed_extended_##name(&(it)->extended, ##__VA_ARGS__) : hed_parser_##name(&(it)->plain, ##__VA_ARGS__))
+
 /* The parser whose table the others share. */
 static hed_parser first = HED_PARSER_NONE;
 
@@ -147,14 +151,6 @@ static void make(struct session *it, enum way way) {
   *it = (struct session){ .is_extended = way == EXTENDED };
   want(it->is_extended ? hed_extended_init_sharing_parser(&it->extended, HED_PROTOCOL_KITTY, &first)
                        : hed_parser_init_sharing(&it->plain, &first));
-}
-
-static void feed(struct session *it, const uint8_t *bytes, size_t length) {
-  want(it->is_extended ? hed_extended_feed(&it->extended, bytes, length) : hed_parser_feed(&it->plain, bytes, length));
-}
-
-static size_t waiting_len(const struct session *it) {
-  return it->is_extended ? hed_extended_waiting_len(&it->extended) : hed_parser_waiting_len(&it->plain);
 }
 
 /* Takes the events that are decided, and then a part of an open paste. Returns how many these were. */
@@ -171,11 +167,6 @@ static uint64_t take_events(struct session *it, bool more) {
   } while (answer == HED_NEXT_EVENT);
   want(answer == HED_NEXT_NONE);
   return events;
-}
-
-static void end(struct session *it) {
-  if (it->is_extended) hed_extended_free(&it->extended);
-  else hed_parser_free(&it->plain);
 }
 
 /* A pass: its bytes, the size of its reads, and how it takes events. Then the number of its events, and the longest text that waited. */
@@ -199,12 +190,13 @@ static void pass_by_steps(struct pass *pass) {
   for (size_t at = 0; at < pass->length; at += pass->read) {
     /* A text that is longer goes on with what comes after its first read. */
     size_t from = at < LONGEST ? at : READ + (at - READ) % (LONGEST - READ);
-    feed(&it, text + from, pass->length - at < pass->read ? pass->length - at : pass->read);
-    if (waiting_len(&it) > pass->longest) pass->longest = waiting_len(&it);
+    want(CALL(&it, feed, text + from, pass->length - at < pass->read ? pass->length - at : pass->read));
+    size_t waiting = CALL(&it, waiting_len);
+    if (waiting > pass->longest) pass->longest = waiting;
     pass->events += take_events(&it, true);
   }
   pass->events += take_events(&it, false);
-  end(&it);
+  CALL(&it, free);
 }
 
 /* What is counted. */
@@ -252,7 +244,7 @@ static void show_long(enum way way) {
 
 /* Passes a read, takes its events, and drops the text of a paste. */
 static void read_all(struct session *it, const uint8_t *bytes, size_t length) {
-  feed(it, bytes, length);
+  want(CALL(it, feed, bytes, length));
   want(take_events(it, true) > 0);
   if (it->is_extended) hed_extended_drop_text(&it->extended);
   else hed_parser_drop_paste(&it->plain);
@@ -266,8 +258,7 @@ static void read_paste(struct session *it) {
   memcpy(paste, "\x1b[200~", MARK);
   memcpy(paste + PASTED - MARK, "\x1b[201~", MARK);
   read_all(it, paste, PASTED);
-  if (it->is_extended) hed_extended_shrink_to(&it->extended, 0);
-  else hed_parser_shrink_to(&it->plain, 0);
+  CALL(it, shrink_to, 0);
 }
 
 /* Prints how many bytes each of some sessions has in use, beside those that were in use before. */
@@ -284,13 +275,13 @@ static void show_sessions(enum way way) {
   tell_each(way, "made", SESSIONS, before);
   for (size_t i = 0; i < SESSIONS; i++) read_all(&sessions[i], text, READ);
   tell_each(way, "read", SESSIONS, before);
-  for (size_t i = 0; i < SESSIONS; i++) end(&sessions[i]);
+  for (size_t i = 0; i < SESSIONS; i++) CALL(&sessions[i], free);
   for (size_t i = 0; i < PASTED_SESSIONS; i++) {
     make(&sessions[i], way);
     read_paste(&sessions[i]);
   }
   tell_each(way, "shrunk", PASTED_SESSIONS, before);
-  for (size_t i = 0; i < PASTED_SESSIONS; i++) end(&sessions[i]);
+  for (size_t i = 0; i < PASTED_SESSIONS; i++) CALL(&sessions[i], free);
   tell_each(way, "freed", 1, before);
 }
 
