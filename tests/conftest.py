@@ -115,8 +115,7 @@ def end_case(*_):
 
 @pytest.hookimpl(tryfirst=True)
 def pytest_pyfunc_call(pyfuncitem):
-    """Runs a case, with a limit to its time. One that is marked as timed is repeated once if it
-    fails."""
+    """Runs a case, which has a limit in time. A timed one is repeated once if it fails."""
     words = {it: pyfuncitem.funcargs[it] for it in pyfuncitem._fixtureinfo.argnames}
     may_repeat = pyfuncitem.get_closest_marker("timed")
     signal.signal(signal.SIGALRM, end_case)

@@ -1,6 +1,5 @@
-"""A screen for exactly the control sequences that hedrugal-keys writes. It refuses all others, so a
-byte of the input that reaches the terminal as it came fails a case, where a whole terminal emulator
-would obey it."""
+"""A screen for exactly the control sequences that hedrugal-keys writes. It refuses others. So input
+that reaches the terminal as it came fails a case, where a terminal emulator would obey it."""
 import re
 
 TOKEN = re.compile(

@@ -8,7 +8,6 @@ import signal
 import subprocess
 import termios
 import time
-import tty
 
 from pexpect import EOF, TIMEOUT
 from pexpect.fdpexpect import fdspawn
@@ -64,9 +63,9 @@ def run_shell(words, env, group, told):
 class Terminal(fdspawn):
     """A pseudo-terminal on which a program runs. An orphaned program stays in the group of the
     shell, as below a shell without job control. The system then never stops it by SIGTSTP, since no
-    shell could continue it. A full terminal has no room for what the program writes."""
+    shell could continue it. A stopped terminal takes nothing of what the program writes."""
 
-    def __init__(self, words, size=(80, 24), is_orphaned=False, env=None, is_full=False):
+    def __init__(self, words, size=(80, 24), is_orphaned=False, env=None, is_stopped=False):
         ours, terminal = os.openpty()
         super().__init__(ours, timeout=SECONDS)
         self.logfile_read = io.BytesIO()
@@ -75,15 +74,8 @@ class Terminal(fdspawn):
         unusual = {termios.VERASE: b"\x08", termios.VINTR: b"\x07"}
         change_settings(terminal, unusual, off=termios.ECHOE)
         self.settings_before = self.settings()
-        if is_full:
-            # A raw terminal has a little more room.
-            tty.setraw(terminal)
-            os.set_blocking(terminal, False)
-            with contextlib.suppress(BlockingIOError):
-                while os.write(terminal, b"x"):
-                    pass
-            os.set_blocking(terminal, True)
-            termios.tcsetattr(terminal, termios.TCSANOW, self.settings_before)
+        if is_stopped:
+            termios.tcflow(terminal, termios.TCOOFF)
         self.told, told = multiprocessing.Pipe(duplex=False)
         self.shell = os.fork()
         if not self.shell:
@@ -157,6 +149,12 @@ class Terminal(fdspawn):
 
     def kill(self, number):
         os.kill(self.job, number)
+
+    def end_by(self, *numbers):
+        """It ends by the first of these signals."""
+        for number in numbers:
+            self.kill(number)
+        self.check_end(-numbers[0])
 
     def continue_in_foreground(self):
         os.kill(self.shell, signal.SIGUSR1)

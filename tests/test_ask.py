@@ -1,5 +1,4 @@
-"""Programs that ask their terminal, c/ask.c and that in rust/examples/ask, on a pseudo-terminal
-that answers.
+"""Programs that ask, c/ask.c and that in rust/examples/ask, on a pseudo-terminal that answers.
 
 Each asks for the position of the cursor, for colours and for the flags of Kitty's keyboard
 protocol, and last what the terminal is."""
@@ -19,8 +18,7 @@ REPLIES = POSITION + TEXT + GROUND + FLAGS + ATTRIBUTES
 WITH_KEYS = [b"q" + POSITION + b"\033[A" + TEXT + b"x", GROUND + FLAGS + ATTRIBUTES]
 # What has to be printed of the replies. A program may ask for the colour of the background alone.
 ALL = [b"12", b"40", b"rgb:1e1e/1e1e/1e1e", b"5", b"62;22"]
-# The replies, the pause before each, what has to be printed of them, and the status. They have to
-# come within a second.
+# Replies within a second, the pause before each, what has to be printed of them, and the status.
 ANSWERED = {
     "all replies": ([REPLIES], 0, ALL, 0),
     "all replies, byte by byte": ([bytes([it]) for it in REPLIES], 0.002, ALL, 0),

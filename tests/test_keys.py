@@ -85,8 +85,7 @@ def show(start):
 
 
 def run(*words, typed=b"", program=HEDRUGAL_KEYS, out=subprocess.PIPE, **variables):
-    """Runs the program without a terminal, and returns its status, its standard output, and its
-    standard error."""
+    """Runs the program without a terminal. Returns its status, its output and its errors."""
     how = {"stdout": out, "stderr": subprocess.PIPE, "timeout": SECONDS}
     done = subprocess.run([program, *words], input=typed, env=os.environ | variables, **how)
     return done.returncode, (done.stdout or b"").decode("ascii"), done.stderr.decode()
@@ -109,8 +108,7 @@ def characters(text):
 MANY = entries_after(b"\033[")
 ARROWS = ["UpArrow", "DownArrow", "RightArrow"]
 BRACKET = "ESC [ -> key U+005B ALT"
-# What is typed, for which reason it stays buffered, and what it becomes where it is when the pause
-# comes.
+# What is typed, for which reason it stays buffered, and what a pause makes of it in its place.
 FLUSHED = {
     "Escape": (b"\033", ESCAPE, "ESC -> key Escape NONE"),
     "Alt-Escape": (b"\033\033", ALT_ESCAPE, "ESC ESC -> key Escape ALT"),
@@ -191,8 +189,7 @@ BROKEN = """   1  ff -> key U+FFFD NONE | c3 -> key U+FFFD NONE | a -> key U+006
       9b -> key U+FFFD NONE"""
 PASTED_CONTROL = """   1  ESC [ 2 0 0 ~ ESC ] 0 ; x ^G 9b ^M ^J ESC [ 2 0 1 ~ -> paste
       11:1b5d303b7807efbfbd0d0a"""
-# What a terminal's driver obeys unless it is set otherwise: the keys of signals, and those that
-# stop and start the output.
+# What a terminal's driver may obey: the keys of signals, and those that stop and start output.
 DRIVER = """   1  ^C -> key U+0063 CTRL | ^Z -> key U+007A CTRL | ^\\ -> key U+001C NONE |
       ^S -> key U+0073 CTRL | ^Q -> key U+0071 CTRL"""
 HEX = "   1  61 -> key U+0061 NONE | 1b 5b 41 -> key UpArrow NONE"
@@ -256,8 +253,7 @@ def test_terminal_of_twelve_columns(start):
 
 @pytest.mark.timed
 def test_new_size(start):
-    """Terminals differ in how they move what was written to rows of another length, so the line is
-    written again below."""
+    """Terminals differ in how they move rows of another length: the line is written again below."""
     keys = start()
     keys.play([b"\033[1", UP_TO])
     keys.resize(100, 30)
@@ -322,8 +318,7 @@ def test_end_by_sequences(start):
 
 
 def test_kitty_keyboard(start):
-    """With Kitty's protocol ^D is a report, and neither a release nor a modifier key between two
-    counts."""
+    """In Kitty's protocol ^D is a report. Releases and modifier keys between two don't count."""
     keys = start("--kitty-keyboard", size=WIDE)
     release = "ESC [ 9 7 ; 5 : 3 u -> report U+0061 CTRL release"
     keys.play([b"\033[97;5:3u\033[A", [f"   1  {release} | ESC [ A -> report UpArrow NONE press"]])
@@ -339,8 +334,7 @@ def test_flags_of_kitty_nest(start):
     keys.stop()
     keys.continue_in_foreground()
     keys.wait_for(keys.modes, "modes")
-    keys.kill(signal.SIGTERM)
-    keys.check_end(-signal.SIGTERM)
+    keys.end_by(signal.SIGTERM)
     assert re.findall(rb"\033\[(>31|<)u", keys.output) == [b">31", b"<"] * 2
 
 
@@ -349,8 +343,7 @@ def test_signal(start, number):
     keys = start(*ALL_MODES)
     assert keys.modes() == ALL_SWITCHED
     keys.play([b"a", ["   1  a -> key U+0061 NONE"]])
-    keys.kill(number)
-    keys.check_end(-number)
+    keys.end_by(number)
 
 
 def test_sigtstp_sigcont_sigterm(start):
@@ -365,9 +358,7 @@ def test_sigtstp_sigcont_sigterm(start):
     assert keys.is_raw()
     keys.play([b"b", [first, second, "   2  b -> key U+0062 NONE"]])
     keys.stop()
-    keys.kill(signal.SIGTERM)
-    keys.kill(signal.SIGCONT)
-    keys.check_end(-signal.SIGTERM)
+    keys.end_by(signal.SIGTERM, signal.SIGCONT)
 
 
 def test_sigtstp_where_no_shell_could_continue_it(start):
@@ -414,8 +405,7 @@ def test_json_of_what_is_buffered_at_a_signal(start, tmp_path):
     keys = start("--json", output_to=out)
     keys.send(b"a\xc3")
     keys.wait_for(lambda: "U+0061" in out.read_text(), "event")
-    keys.kill(signal.SIGTERM)
-    keys.check_end(-signal.SIGTERM)
+    keys.end_by(signal.SIGTERM)
     half = b"\xc3", {"kind": "waiting", "reason": "half a character"}
     assert out.read_text().endswith(as_json([half]))
 
@@ -426,8 +416,7 @@ def test_signal_while_nobody_reads_json(start, tmp_path):
     with open(os.open(tmp_path / "out", os.O_RDONLY | os.O_NONBLOCK)):
         keys = start("--json", "--mouse", output_to=tmp_path / "out")
         keys.play([b"a" * 4096, PAUSE])
-        keys.kill(signal.SIGTERM)
-        keys.check_end(-signal.SIGTERM)
+        keys.end_by(signal.SIGTERM)
 
 
 def test_full_disk_on_a_terminal(start):
@@ -581,8 +570,7 @@ def test_full_disk(words):
 
 @pytest.mark.parametrize("words", [[], ["--json"]], ids=["lines", "JSON"])
 def test_memory_refused(compiled, tmp_path, words):
-    """Each request is refused in turn. The program says so, or it needed no more than were
-    granted."""
+    """Each request is refused in turn. The program says so, or needed no more than granted."""
     wraps = ["-Wl,--wrap=malloc", "-Wl,--wrap=realloc"]
     program = compiled("refusing", "c11", *wraps, *TOP.glob("keys/*.c"), TOP / "tests/refuse.c")
     (tmp_path / "typed").write_bytes(b"abc" * 50 + START + b"x" * 5000 + END)

@@ -1,5 +1,4 @@
-"""keyshow with each kind of words and on texts in pieces: its standard output, its standard error
-and its exit status.
+"""keyshow with each kind of words and on texts in pieces: its output, its errors and its status.
 
 The texts are files, or come through sockets: a byte at a time, with a failure after each number of
 reads, or so that the test sees how much a read asks for, and what is written before the next."""
@@ -16,8 +15,7 @@ SECONDS = 60
 PIECES = [1, 2, 3, 7, 64, 4096]
 LINE_OF_Q = b"key U+0071 NONE\n"
 
-# A key after a held Escape, a paste that isn't UTF-8, a mouse report, characters, and an Escape
-# that only the end decides.
+# A key after a held Escape, a paste that isn't UTF-8, a mouse report, characters and an Escape.
 TYPED = b"\033\033[A\033[200~a\xff\033[201~\033[<0;1;2M\xc3\xa9\x03\033"
 
 # The lines of TYPED but the last, each with the number of bytes that decide it while more may come.
@@ -47,8 +45,7 @@ PRINTED = [
     (b"\033[24;8~", b"key F12 SHIFT+ALT+CTRL\n"),
 ]
 
-# How many bytes of `ab`, the up arrow and `c` each read gives, and what is written after it, before
-# the next.
+# How many bytes of `ab`, the up arrow and `c` each read gives, and what is written after each.
 A, B, C, UP = (b"key %s NONE\n" % it for it in (b"U+0061", b"U+0062", b"U+0063", b"UpArrow"))
 WRITES = [(1, [A, B, b"", b"", UP, C]), (2, [A + B, b"", UP + C]), (4096, [A + B + UP + C])]
 
@@ -60,8 +57,7 @@ WRONG += [it.split() for it in ("1 2", "5 foo", "foo 5", "x 2 3", "5 5", "5 5 5"
 
 
 def run(words, source, target=subprocess.PIPE):
-    """Runs the program, and returns what it wrote to standard output and to standard error, and its
-    status."""
+    """Runs the program. Returns its standard output, its standard error and its status."""
     how = {"stdin": source, "stdout": target, "stderr": subprocess.PIPE, "timeout": SECONDS}
     ran = subprocess.run([KEYSHOW, *words], **how)
     return ran.stdout, ran.stderr, ran.returncode
@@ -81,8 +77,7 @@ def unread(source):
 
 
 def connection(kind=socket.SOCK_SEQPACKET):
-    """Our end and the program's. Each write is a packet; each read takes one, and loses what it
-    doesn't ask for."""
+    """Our end and the program's. A write is a packet; a read takes one, and loses its rest."""
     ours, theirs = socket.socketpair(socket.AF_UNIX, kind)
     ours.settimeout(SECONDS)
     return ours, theirs
@@ -98,8 +93,7 @@ def single_bytes(text):
 
 
 def failing(text):
-    """A socket of which a read fails after the text: its other end was closed over a byte that it
-    hadn't read."""
+    """A socket that fails after the text, since its other end was closed over an unread byte."""
     ours, theirs = connection(socket.SOCK_STREAM)
     with ours:
         theirs.send(b"x")
@@ -152,8 +146,7 @@ def test_million_reads():
 
 
 def test_reads_fail():
-    """The read after so many fails. Exactly the lines that the pieces before it decide are
-    written."""
+    """The read after so many fails. What the pieces before it decide is written, and no more."""
     for piece in (1, 2, 3, 7, 64):
         for count in range(-(-len(TYPED) // piece) + 1):
             text = TYPED[: count * piece]

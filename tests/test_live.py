@@ -86,13 +86,11 @@ def test_typed(start, steps, lines):
     live.quit(*lines)
 
 
-@pytest.mark.parametrize(
-    "words, modes", [([], {2004}), (["--mouse"], MODES)], ids=["no words", "--mouse"]
-)
-def test_modes(start, words, modes):
+@pytest.mark.parametrize("word", ["", "--mouse"])
+def test_modes(start, word):
     """Bracketed paste is always on."""
-    live = start(*words)
-    assert live.modes() == modes
+    live = start(*word.split())
+    assert live.modes() == (MODES if word else {2004})
     live.quit()
 
 
@@ -174,9 +172,7 @@ def test_sigterm_while_it_is_stopped(start):
     """A shell has the terminal: a program that set it now would be stopped once more."""
     live = start()
     live.stop()
-    live.kill(signal.SIGTERM)
-    live.kill(signal.SIGCONT)
-    live.check_end(-signal.SIGTERM)
+    live.end_by(signal.SIGTERM, signal.SIGCONT)
 
 
 def test_sigstop_and_sigcont(start):
@@ -205,7 +201,7 @@ OTHERS = {"python": [sys.executable, TOP / "python/examples/ask.py"], "keys": [H
 @pytest.mark.parametrize("number", [signal.SIGHUP, signal.SIGTERM], ids=lambda it: it.name)
 def test_signal_while_nobody_reads(example, name, number):
     """Each program on a terminal ends soon, although its output blocks."""
-    with Terminal(OTHERS.get(name) or example(*name.split()), is_full=True) as terminal:
+    with Terminal(OTHERS.get(name) or example(*name.split()), is_stopped=True) as terminal:
         while not terminal.is_raw():
             time.sleep(0.02)
         time.sleep(PAUSE)

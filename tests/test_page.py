@@ -509,8 +509,7 @@ def test_readings_of_the_links_in_the_table(page):
 
 
 def test_readings_of_links(page):
-    """A link that names no reading, or none that there is, means the table. One that is followed
-    sets the switch."""
+    """A link that is followed sets the switch, to the table unless it names another reading."""
     for name in ("kitty", "x", "extended", "constructor", "", "%00", "kitty", "table"):
         page.run(f"location.hash = '#bytes=1b5b313b3941&end=flush&reading={name}'")
         known = name if name in READINGS else "table"

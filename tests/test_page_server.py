@@ -1,6 +1,5 @@
 """The server of the page, python/hedrugal/page, over sockets: what it refuses, and that its answers
-are the library's. It is asked under other names and origins, by other methods and paths, and with
-bodies of any size."""
+are the library's. Names, origins, methods, paths and bodies of any size are tried."""
 import contextlib
 import http.client
 import itertools
@@ -57,8 +56,7 @@ class Client:
         return socket.create_connection(("127.0.0.1", self.port), SECONDS)
 
     def ask(self, method, path, body=None, **headers):
-        """The status, the headers and the body of an answer. A header None is left out, and of a
-        list each is sent."""
+        """The status, headers and body. A header None is left out, and of a list each is sent."""
         connection = http.client.HTTPConnection(self.host, timeout=SECONDS)
         connection.putrequest(method, path, skip_host=True, skip_accept_encoding=True)
         length = None if body is None else str(len(body))
@@ -88,16 +86,18 @@ class Client:
         return json.loads(body)
 
     def told_within(self, seconds, path, data):
-        """A short answer that takes so many seconds of the processor's time, since other programs
-        may run on this machine."""
+        """A short answer within so many seconds of the processor's time, whatever else runs."""
         began = time.process_time()
         status, _, body = self.ask("POST", path, data)
         assert time.process_time() - began < seconds
         assert (status, len(body) < 1 << 16) == (200, True)
         return json.loads(body)
 
-    def waits(self, data, reading="table"):
-        return self.told(f"/api/read?reading={reading}", data)["waits"]
+    def waits(self, data, reading="table", **wanted):
+        """What waits, with these words about it."""
+        waits = self.told(f"/api/read?reading={reading}", data)["waits"]
+        assert not wanted or waits == waits | wanted
+        return waits
 
     def raw(self, data, is_all=True):
         """What comes back for these bytes, after which more are to come unless they are all."""
@@ -108,8 +108,7 @@ class Client:
             return b"".join(iter(lambda: it.recv(1 << 16), b""))
 
     def posted(self, length, body, is_all=True):
-        """The status that comes back for a body under a Content-Length, both as bytes, None if
-        nothing comes back."""
+        """The status for a body under a Content-Length, both as bytes. None without an answer."""
         head = f"POST /api/read HTTP/1.1\r\nHost: {self.host}\r\nConnection: close\r\n".encode()
         data = head + b"Content-Length: " + length + b"\r\n\r\n" + body
         words = self.raw(data, is_all).split(b" ")
@@ -246,8 +245,7 @@ def test_get_with_a_body(client):
 
 
 def test_lengths(client):
-    """A Content-Length is a number in ASCII, and the body isn't shorter. Of a longer one the rest
-    isn't read."""
+    """A length is a number in ASCII. No body is shorter, and the rest of a longer isn't read."""
     for length in [b"", b"1" * 30, "١".encode(), *b"-1 +1 x 1.0 0x1 \xb2 1\xb9".split()]:
         assert client.posted(length, b"q") == 400, length
     statuses = [client.posted(b"8", b"q" * count) for count in range(10)]
@@ -255,8 +253,7 @@ def test_lengths(client):
 
 
 def test_seconds(client):
-    """A request that isn't whole in time ends the connection, also if its bytes come one by one.
-    The server serves on."""
+    """A request that isn't whole in time, also byte by byte, ends its connection alone."""
     assert Handler.timeout == 30
     with unittest.mock.patch.object(Handler, "timeout", 0.2):
         assert [client.raw(it, is_all=False) for it in (b"", b"GET / HTTP/1.1\r\n")] == [b""] * 2
@@ -448,9 +445,9 @@ def test_lines_beyond_the_table(client, reading, data, line, glyphs):
 def test_beginnings(client, reading):
     """What begins no entry of the table is named by what it becomes."""
     for rest, begins in zip(BEGINNINGS, BEGUN):
-        waits = client.waits(rest, reading)
         wanted = {"kind": "Sequence", "length": len(rest), "count": 0, "named": []}
-        assert waits == waits | wanted | {"begins": begins, "emits": len(waits["flushed"])}
+        waits = client.waits(rest, reading, begins=begins, **wanted)
+        assert waits["emits"] == len(waits["flushed"])
         assert (waits["mouse"] is not None) == (rest == b"\x1b[M!"), rest
 
 
@@ -494,26 +491,20 @@ def test_long_strings(client):
 def test_waits(client):
     """What stays buffered, and what it may become, for each kind."""
     assert client.waits(b"q") is None
-    waits = client.waits(b"q\x1b")
     wanted = {"kind": "Escape", "length": 1, "flushed": ["key Escape NONE"], "with_alt": False}
     wanted |= {"alt": ["1b71", "key U+0071 ALT"], "count": entries_after(b"\x1b")}
-    assert waits == waits | wanted | {"mouse": ["1b5b3c303b333b344d", "mouse 3 4 LEFT NONE"]}
+    waits = client.waits(b"q\x1b", mouse=["1b5b3c303b333b344d", "mouse 3 4 LEFT NONE"], **wanted)
     assert waits["named"][0] == ["1b5b41", "key UpArrow NONE"]
-    waits = client.waits(b"\x1b\x1b")
-    assert waits == waits | {"flushed": ["key Escape ALT"], "with_alt": True}
+    waits = client.waits(b"\x1b\x1b", flushed=["key Escape ALT"], with_alt=True)
     assert waits["named"][0] == ["1b1b5b41", "key UpArrow ALT"]
-    waits = client.waits(b"\x1b[24;5")
     named = [["1b5b32343b357e", "key F12 CTRL"], ["1b5b32343b3575", "key U+0018 CTRL"]]
-    assert waits == waits | {"kind": "Sequence", "count": 2, "named": named, "mouse": None}
+    waits = client.waits(b"\x1b[24;5", kind="Sequence", count=2, named=named, mouse=None)
     assert len(waits["flushed"]) == 5
-    waits = client.waits(b"\x1b[<0;3")
-    assert waits == waits | {"kind": "Sequence", "count": 0, "named": []}
+    waits = client.waits(b"\x1b[<0;3", kind="Sequence", count=0, named=[])
     assert waits["mouse"][1].startswith("mouse ")
-    waits = client.waits(b"\xe2\x82")
-    assert waits == waits | {"kind": "Character", "flushed": ["key U+FFFD NONE"] * 2}
-    waits = client.waits(b"\x1b[200~abc")
+    client.waits(b"\xe2\x82", kind="Character", flushed=["key U+FFFD NONE"] * 2)
     wanted = {"kind": "Paste", "length": 9, "text": 3, "end": b"\x1b[201~".hex()}
-    assert waits == waits | wanted | {"flushed": ["paste 3:616263"]}
+    client.waits(b"\x1b[200~abc", flushed=["paste 3:616263"], **wanted)
 
 
 @pytest.mark.parametrize("reading", meanings.READINGS)
