@@ -205,8 +205,7 @@ KEY_NAME = r'^ *KeyCode::(?P<name>\w+)(?:\(_\))? => "(?P<text>\w+)"'
 KEY_NAME_DEFINED = r'^variant_name \(?(?P<name>\w+).* = codes "(?P<text>\w+)"'
 FLAG_NAME = r'name: "(?P<text>\w+)",\n *value: \w+::(?P<name>\w+),$'
 
-# What has the numbers of a group or the names that are printed of it: files, and a pattern that
-# finds all of them.
+# What has a group's numbers or the names that are printed of it: files, and a pattern for all.
 PROVED = [
     ("key", "hedrugal/src/keys.rt", r"^ *KeyCode::(?P<name>\w+)(?:\(_\))? => (?P<number>\d+),?$"),
     ("kind", "hedrugal/src/events.rt hedrugal/src/extended_events.rt", constants("KIND")),

@@ -177,8 +177,7 @@ def check_path(code, bases):
 
 
 def check_quote(text, marker):
-    """Checks that a phrase stands in the text around its marker, and its number beside the name in
-    the file."""
+    """Checks that a phrase stands around its marker, and its number beside the name in the file."""
     parts = re.fullmatch(r'<!-- "(\D*(\d+).*)": (\w+) in (\S+) -->', marker)
     if not parts:
         raise Failed(f"what is {marker}? tools/docs.sh --help lists the markers")
@@ -238,8 +237,7 @@ def wait_for_output(child):
 
 
 def run_typed(words, texts, **variables):
-    """Runs a program on a pseudo-terminal. Each text is typed once something was printed for the
-    one before."""
+    """Runs a program on a pseudo-terminal, and types each text once the one before had output."""
     child = pexpect.spawn(words[0], words[1:], env=os.environ | variables)
     child.delaybeforesend = None
     child.logfile_read = seen = io.BytesIO()
@@ -339,8 +337,7 @@ class Runner:
 
 
 def without_contracts(text):
-    """The lines of a program, without contracts, what they cite, comments on items, and attributes
-    of the file."""
+    """A program's lines but contracts, what they cite, comments on items, and file attributes."""
     depth = 0
     for line in text.splitlines():
         if depth or re.match(r"^\s*(requires|ensures)\b", line):

@@ -1,6 +1,5 @@
 """The inputs of tools/performance.py, the same bytes on every run. Each is a generator of items: a
-key, a mouse report or a reply. What it yields without an ESC counts as many items as it has
-characters."""
+key, a mouse report or a reply. What it yields without an ESC has an item for each character."""
 import itertools
 import random
 

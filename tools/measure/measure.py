@@ -1,6 +1,5 @@
-"""measure.py READER FILE READ: gives the file to a parser in reads of READ bytes, as measure.c
-does. It prints the nanoseconds that this took, and the number of events. READER is hedrugal or
-prompt_toolkit."""
+"""measure.py READER FILE READ: gives the file to READER, hedrugal or prompt_toolkit, in reads
+of READ bytes, as measure.c does. It prints the nanoseconds of that, and the number of events."""
 import codecs
 import sys
 import time

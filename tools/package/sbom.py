@@ -53,7 +53,6 @@ def document():
     holders = found("^(Copyright .*)$", "LICENSE")
     origin = "a port of the key input of termwiz 0.23.3, MIT, by Wez Furlong"
     kit = "its libraries core, std, std_alloc and those below them"
-    holders = found("^(Copyright .*)$", "LICENSE")
     packages = [
         package("hedrugal", version, "MIT", "MIT", holders, comment=origin),
         package("rattle-kit", None, "NONE", "NOASSERTION", "NONE", comment=kit),
