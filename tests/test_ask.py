@@ -27,6 +27,18 @@ ANSWERED = {
     "keys between the replies": (WITH_KEYS, 0, ALL, 0),
     "half of the last reply": ([POSITION, b"\033[?62;"], 0, [b"12", b"40"], 1),
 }
+# Who owns a clipboard or a title chooses its text, which is no typed command.
+COMMAND = b"\rrm -rf ~\r"
+CLIPBOARD = b"\033]52;c;" + COMMAND * 10000
+INJECTED = {
+    "a reply, cut by pauses": ([POSITION[:3], POSITION[3:] + GROUND[:3], GROUND[3:] + FLAGS], 0.15),
+    "100 KB of a clipboard and BEL": ([CLIPBOARD + b"\007"], 0),
+    "100 KB of a clipboard and ST": ([CLIPBOARD + b"\033\\"], 0),
+    "100 KB of a clipboard without an end": ([CLIPBOARD], 0),
+    "a title": ([b"\033]l" + COMMAND + b"\033\\"], 0),
+    "a device control string": ([b"\033P1$r" + COMMAND + b"\033\\"], 0),
+    "urxvt's replies": ([b"\033]10;rgb:0/0/0\033" + GROUND[:-1] + b"\033"], 0),
+}
 
 
 @pytest.fixture(scope="session", params=["c", "rust"])
@@ -52,10 +64,9 @@ def test_replies(program, replies, pause, texts, status):
 
 
 @pytest.mark.timed
-def test_reply_cut_by_pauses(program):
-    """Below the limits in time none of its bytes becomes a key."""
-    text = POSITION + GROUND + FLAGS + ATTRIBUTES
-    printed = asked(program, [text[:3], text[3:20], text[20:36], text[36:]], 0, pause=0.15)
+@pytest.mark.parametrize("replies, pause", INJECTED.values(), ids=INJECTED)
+def test_nothing_is_typed(program, replies, pause):
+    printed = asked(program, [*replies, ATTRIBUTES], 0, pause)
     assert not re.search(rb"a key|typed meanwhile: [1-9]", printed), printed
 
 

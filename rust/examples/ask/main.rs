@@ -55,12 +55,12 @@ impl Replies {
                 self.is_whole = true;
                 format!("attributes {}", bytes.escape_ascii())
             }
-            // A reply that was cut off is nothing that was typed.
-            ExtendedEvent::StringPart { .. } | ExtendedEvent::StringCut { .. } => return,
-            _ => {
+            ExtendedEvent::Input(_) | ExtendedEvent::Key(_) => {
                 self.typed += 1;
                 return;
             }
+            // Another reply, or one that was cut off, is nothing that was typed.
+            _ => return,
         };
         self.lines.push(line);
     }
