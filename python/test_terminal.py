@@ -159,7 +159,7 @@ def test_control_characters(ask):
 
 def test_typed_meanwhile(ask):
     ask.child.send(b"q\x1b[A" + ANSWERS[:9] + b"\x1b[I" + ANSWERS[9:])
-    ask.assert_end([*LINES[:4], "typed: 3"])
+    ask.assert_end([*LINES[:4], "typed: 2"])
 
 
 def test_interrupt(ask):

@@ -22,9 +22,11 @@ from hedrugal import (
     ExtendedEvent,
     ExtendedParser,
     KeyboardFlags,
+    KeyEvent,
+    KeyReport,
+    MouseEvent,
     Osc,
-    StringCut,
-    StringPart,
+    Paste,
 )
 
 CURSOR, BACKGROUND, KEYBOARD, ATTRIBUTES = b"\x1b[?6n", b"\x1b]11;?\x1b\\", b"\x1b[?u", b"\x1b[c"
@@ -105,13 +107,10 @@ def main() -> int:
         events = ask_in_raw_mode(terminal, seconds)
     finally:
         os.close(terminal)
-    # An answer that was cut off isn't typed.
-    whole = [event for event in events if not isinstance(event, (StringPart, StringCut))]
-    lines = [described(event) for event in whole]
-    for line in lines:
-        if line is not None:
-            print(line)
-    print(f"typed: {lines.count(None)}")
+    for line in filter(None, map(described, events)):
+        print(line)
+    typed = [it for it in events if isinstance(it, (KeyEvent, KeyReport, MouseEvent, Paste))]
+    print(f"typed: {len(typed)}")
     if not any(is_attributes(event) for event in events):
         print(f"no answer to the last question in {seconds:g} s")
         return 1
