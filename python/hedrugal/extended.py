@@ -62,6 +62,7 @@ from . import (
     _ParserCalls,
     _POLICY,
     _RawEvent,
+    _RawParser,
     _refused,
     _sent,
     _whole,
@@ -288,15 +289,7 @@ ExtendedEvent = Union[
 
 
 class _RawExtended(ctypes.Structure):
-    _fields_ = [
-        ("live", ctypes.c_bool),
-        ("timed", ctypes.c_bool),
-        ("fed", ctypes.c_bool),
-        ("taken", ctypes.c_bool),
-        ("expiring", ctypes.c_bool),
-        ("state", ctypes.c_void_p),
-        ("timing", ctypes.c_void_p),
-    ]
+    _fields_ = _RawParser._fields_
 
 
 class _RawReport(ctypes.Structure):
