@@ -273,7 +273,8 @@ typedef struct hed_policy {
 bool hed_parser_set_policy(hed_parser *parser, const hed_policy *policy);
 
 /* Tells the parser what time it is, and returns how many milliseconds what is buffered may still wait, as poll takes it: 0 if it is due, -1
- * if it may wait forever or nothing is buffered. The caller calls it once hed_parser_next returned HED_NEXT_NONE, before it waits.
+ * if it may wait forever or nothing is buffered. The caller calls it before it waits, once hed_parser_next has returned HED_NEXT_NONE, and
+ * hed_parser_expire if that was called: it doesn't know that a flush was begun.
  *
  * now is in milliseconds, of a clock that nobody sets, such as CLOCK_MONOTONIC. If it is before the time that was told last, no time
  * has passed. Bytes count as come when the next call tells the time.

@@ -1012,9 +1012,9 @@ class _EventParser(_Closable, Generic[_AnyEvent]):
         """Returns the Escape key if ESC alone is buffered, with ALT if ESC ESC is, and consumes
         these bytes. Returns None otherwise.
 
-        It is for a program without a clock, in place of `expire`: call it when some 50 ms have
-        passed without a byte. Anything else stays buffered. So a pause breaks only what is cut
-        right after its ESC or ESC ESC: a sequence, the start of a paste, or a key with Alt."""
+        It is for a program with limits in time of its own: `expire` does it when the usual limit
+        has passed. Anything else stays buffered. So it breaks only what is cut right after its ESC
+        or ESC ESC: a sequence, the start of a paste, or a key with Alt."""
         with self._alone():
             self._check_open()
             # What was refused memory comes before what is buffered.
@@ -1170,7 +1170,8 @@ class _EventParser(_Closable, Generic[_AnyEvent]):
             KeyCode.UP_ARROW
             KeyCode.ESCAPE
 
-        Raises ValueError if now is negative."""
+        If memory is refused, it returns 0.0, and `expire` then raises. Raises ValueError if now is
+        negative or NaN, and TypeError if it is no number."""
         millis = _millis_of_now(now)
         with self._alone():
             self._check_open()
@@ -1193,8 +1194,8 @@ class _EventParser(_Closable, Generic[_AnyEvent]):
             ...     [*parser, parser.timeout(7.0), *parser.expire(7.049), *parser.expire(7.05)]
             [0.05, KeyEvent(key=KeyCode.ESCAPE, modifiers=Modifiers.NONE)]
 
-        Raises ValueError if now is negative, and MemoryError if memory is refused. No event is then
-        lost, and the call may be made again."""
+        Raises what `timeout` raises, and MemoryError if memory is refused. No event is then lost,
+        and the call may be made again."""
         millis = _millis_of_now(now)
         kept: List[_AnyEvent] = []
         with self._alone():

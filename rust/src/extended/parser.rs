@@ -391,9 +391,9 @@ impl ExtendedParser {
     /// Returns the Escape key if ESC alone is buffered, with ALT if ESC ESC is, and consumes it.
     /// Returns `None` otherwise; the parser is then unchanged.
     ///
-    /// It is for a program without a clock, in place of [`ExtendedParser::expire`]: call it when
-    /// some 50 ms have passed without a byte. Whatever else is buffered stays, so a pause breaks
-    /// only what is cut right after its ESC or ESC ESC.
+    /// It is for a program with limits in time of its own: [`ExtendedParser::expire`] does it when
+    /// the usual limit has passed. Whatever else is buffered stays, so it breaks only what is cut
+    /// right after its ESC or ESC ESC.
     ///
     /// ```
     /// use hedrugal::extended::{ExtendedEvent, ExtendedParser, Protocol};

@@ -334,9 +334,9 @@ impl InputParser {
     /// Returns the Escape key if ESC alone is buffered, with ALT if ESC ESC is, and consumes it.
     /// Returns `None` otherwise; the parser is then unchanged.
     ///
-    /// It is for a program without a clock, in place of [`InputParser::expire`]: call it when some
-    /// 50 ms have passed without a byte. Whatever else is buffered stays, so a pause breaks only what
-    /// is cut right after its ESC or ESC ESC: a sequence, the start of a paste, or a key with Alt.
+    /// It is for a program with limits in time of its own: [`InputParser::expire`] does it when the
+    /// usual limit has passed. Whatever else is buffered stays, so it breaks only what is cut right
+    /// after its ESC or ESC ESC: a sequence, the start of a paste, or a key with Alt.
     ///
     /// ```
     /// use hedrugal::input::{InputEvent, InputParser, KeyCode, KeyEvent, Modifiers};
