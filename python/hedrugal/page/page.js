@@ -364,7 +364,7 @@ function whySequence(waits) {
     waits.count && [`More bytes may make ${keys} of them:`], waits.count && waits.named,
     begun && [other],
     waits.mouse && [mouse, ...example(waits.mouse), '.'],
-    [`They may be half of ${half} on a slow line. A flush breaks them, so a program flushes them after a long pause, or never.`],
+    [`They may be half of ${half} on a slow line, which a flush breaks. So a program waits a second from their first byte on, and 100 ms if they are ESC and one byte.`],
   ];
 }
 
@@ -387,7 +387,7 @@ function whyPaste(waits) {
   return [
     [`A paste was begun, with ${many(waits.text, 'byte')} of text so far. It becomes one event when its end arrives: `,
       el('span', { class: 'sequence' }, sequence(fromHex(waits.end))), '.'],
-    ['No pause and no flush ends a paste. A program with a limit takes its text in parts.'],
+    ['No flush ends a paste, and a pause only if the program has set a limit in time for it. A long paste can be taken in parts.'],
   ];
 }
 
