@@ -153,8 +153,9 @@ def test_a_cut_string(ask):
 
 def test_control_characters(ask):
     """None of an answer reaches the terminal, as one byte or in UTF-8."""
-    ask.child.send(b"\x1b]11;red\x9b1m\xc2\x9b2m\x07\x1b[?6c")
-    ask.assert_end([r"background: red\x9b1m\xc2\x9b2m", "attributes: 6", "typed: 0"])
+    ask.child.send(b"\x1b]11;r\red\x08\x0e\x7f\x9b1m\xc2\x9b2m\x07\x1b[?6c")
+    wanted = r"background: r\x0ded\x08\x0e\x7f\x9b1m\xc2\x9b2m"
+    ask.assert_end([wanted, "attributes: 6", "typed: 0"])
 
 
 def test_typed_meanwhile(ask):

@@ -85,8 +85,9 @@ def described(event: ExtendedEvent) -> Optional[str]:
     if isinstance(event, CursorPosition):
         return f"cursor: row {event.row}, column {event.column}"
     if isinstance(event, Osc) and event.data.startswith(b"11;"):
-        # A byte that isn't ASCII is printed as in \x9b, which would begin a control sequence.
-        return f"background: {event.data[3:].decode('ascii', 'backslashreplace')}"
+        # What isn't printable ASCII is printed as in \x9b, which would begin a control sequence.
+        shown = (chr(byte) if 0x20 <= byte < 0x7F else f"\\x{byte:02x}" for byte in event.data[3:])
+        return f"background: {''.join(shown)}"
     if isinstance(event, KeyboardFlags):
         return f"keyboard: {event.flags!r}"
     if isinstance(event, Csi) and is_attributes(event):
