@@ -1124,8 +1124,8 @@ class _EventParser(_Closable, Generic[_AnyEvent]):
             ...     parser.policy
             Policy(escape=0.05, alt_key=0.1, sequence=1.0, string=5.0, character=None, paste=10)
 
-        To assign raises ValueError for what is no number of seconds from 0 on, and MemoryError if
-        memory is refused. The limits are those from before then."""
+        To assign raises TypeError or ValueError for what is no number of seconds from 0 on, and
+        MemoryError if memory is refused. The limits are those from before then."""
         with self._lock:
             self._check_open()
             return self._policy
