@@ -1231,8 +1231,8 @@ static void keeps_short_keys(void) {
   hed_keymap_free(&map);
 }
 
-/* What a program's loop takes from a parser, when bytes come at these times: the time, the name of the key, its detail and its modifiers, or
- * the length of a paste. */
+/* What a program's loop takes from a parser, when bytes come at these times: the time and the name of the key, its detail and its modifiers.
+ * For a paste the length stands in place of the detail. */
 struct arrival {
   uint64_t at;
   const char *bytes;

@@ -15,7 +15,7 @@ the program, such as its commands.
 
 The module calls the shared library libhedrugal.so by ctypes. The environment variable
 HEDRUGAL_LIBRARY names the library's file, or the folder that has it. Both must belong to you or to
-root, and others may not write to them. If the variable isn't set, the library is looked for in this
+root, and not be writable by all users. If the variable isn't set, the library is looked for in this
 package's folder, and then where the system has its libraries. The import raises ImportError if no
 library is found, or if its version isn't that of the module.
 
