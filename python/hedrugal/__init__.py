@@ -468,16 +468,20 @@ class ParseError(MemoryError):
 # The structs of hedrugal.h.
 
 
+# The fields of a parser of either kind.
+_PARSER_FIELDS: List[Tuple[str, Any]] = [
+    ("live", ctypes.c_bool),
+    ("timed", ctypes.c_bool),
+    ("fed", ctypes.c_bool),
+    ("taken", ctypes.c_bool),
+    ("expiring", ctypes.c_bool),
+    ("state", ctypes.c_void_p),
+    ("timing", ctypes.c_void_p),
+]
+
+
 class _RawParser(ctypes.Structure):
-    _fields_ = [
-        ("live", ctypes.c_bool),
-        ("timed", ctypes.c_bool),
-        ("fed", ctypes.c_bool),
-        ("taken", ctypes.c_bool),
-        ("expiring", ctypes.c_bool),
-        ("state", ctypes.c_void_p),
-        ("timing", ctypes.c_void_p),
-    ]
+    _fields_ = _PARSER_FIELDS
 
 
 class _RawEvent(ctypes.Structure):

@@ -58,11 +58,11 @@ from . import (
     _Named,
     _number_and_detail,
     _PARSER as _INPUT_PARSER,
+    _PARSER_FIELDS,
     _parser_with_table,
     _ParserCalls,
     _POLICY,
     _RawEvent,
-    _RawParser,
     _refused,
     _sent,
     _whole,
@@ -289,7 +289,7 @@ ExtendedEvent = Union[
 
 
 class _RawExtended(ctypes.Structure):
-    _fields_ = _RawParser._fields_
+    _fields_ = _PARSER_FIELDS
 
 
 class _RawReport(ctypes.Structure):

@@ -8,8 +8,8 @@
 //! The program waits for a second at most.
 //!
 //! What is typed meanwhile comes as events like any other. This program counts them, and forgets
-//! what is pasted; an editor would handle both. The terminal is restored whenever the program ends, also by SIGHUP, SIGINT,
-//! SIGQUIT and SIGTERM. A SIGTSTP stops it once the terminal is restored.
+//! what is pasted; an editor would handle both. The terminal is restored whenever the program ends,
+//! also by SIGHUP, SIGINT, SIGQUIT and SIGTERM. A SIGTSTP stops it once the terminal is restored.
 #[allow(dead_code)]
 #[path = "../live/terminal.rs"]
 mod terminal;
