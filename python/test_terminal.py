@@ -174,3 +174,11 @@ def test_interrupt(ask):
 def test_signals(ask, number):
     ask.child.kill(number)
     ask.assert_end([], -number)
+
+
+def test_two_signals(ask):
+    """The second comes while the terminal is restored for the first."""
+    ask.child.kill(signal.SIGSTOP)
+    for number in (signal.SIGTERM, signal.SIGHUP, signal.SIGCONT):
+        ask.child.kill(number)
+    ask.assert_end([], -signal.SIGHUP)

@@ -36,8 +36,14 @@ class Ended(BaseException):
     """A signal ends the program, once the terminal is restored."""
 
 
+# The signal that ends the program. Another one may come while the terminal is restored.
+ending: List[int] = []
+
+
 def end_by(number: int, _: object) -> None:
-    raise Ended(number)
+    if not ending:
+        ending.append(number)
+        raise Ended
 
 
 def is_attributes(event: ExtendedEvent) -> bool:
@@ -121,7 +127,7 @@ def main() -> int:
 if __name__ == "__main__":
     try:
         sys.exit(main())
-    except Ended as ended:
+    except Ended:
         # By the signal itself, since sys.exit would first write what was printed.
-        signal.signal(ended.args[0], signal.SIG_DFL)
-        os.kill(os.getpid(), ended.args[0])
+        signal.signal(ending[0], signal.SIG_DFL)
+        os.kill(os.getpid(), ending[0])
