@@ -166,7 +166,8 @@ pub mod signals {
     }
 
     fn note_end(number: c_int) {
-        if ENDING.swap(number, SeqCst) == 0 {
+        let is_first = ENDING.compare_exchange(0, number, SeqCst, SeqCst).is_ok();
+        if is_first {
             // SAFETY: a handler may call `alarm`.
             unsafe { alarm(1) };
         }
