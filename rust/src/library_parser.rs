@@ -258,11 +258,14 @@ impl<Raw: RawParser> LibraryParser<Raw> {
         }
     }
 
-    // A time in the library's milliseconds. One before the first is 0.
+    // A time in the library's milliseconds. The first one is in the middle, since others may be
+    // before it.
     fn millis(&mut self, now: Instant) -> u64 {
+        const FIRST: u64 = 1 << 63;
         let first = *self.first_time.get_or_insert(now);
-        let passed = now.saturating_duration_since(first);
-        u64::try_from(passed.as_millis()).unwrap_or(u64::MAX)
+        let millis = |time: Duration| u64::try_from(time.as_millis()).unwrap_or(FIRST);
+        let before = first.saturating_duration_since(now);
+        FIRST.saturating_add(millis(now.saturating_duration_since(first))) - millis(before)
     }
 
     // Forgets all that is buffered, and an event that was refused memory. Returns how many bytes

@@ -488,9 +488,9 @@ impl InputParser {
     /// call [`InputParser::expire`].
     ///
     /// Call it before each wait, once all events are emitted, with the time of that moment. It notes
-    /// the time, and what was buffered since the last note. A time before the first one counts as
-    /// that. If memory is refused, here or before for an event, it returns zero, and
-    /// [`InputParser::expire`] says so or goes on. A program whose reads come from a thread:
+    /// the time, and what was buffered since the last note. If memory is refused, here or before for
+    /// an event, it returns zero, and [`InputParser::expire`] says so or goes on. A program whose
+    /// reads come from a thread:
     ///
     /// ```
     /// use hedrugal::input::InputParser;

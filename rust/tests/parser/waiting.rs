@@ -522,7 +522,7 @@ fn rounds_limits() {
     assert_eq!(parser.timeout(start + Duration::from_micros(1000)), ms(9));
 }
 
-// Ages grow by the clock's steps forward alone, and a time before the first counts as that.
+// Ages grow by the clock's steps forward alone, also from before the first time.
 #[test]
 fn goes_on_when_the_clock_steps_back() {
     let mut parser = InputParser::new();
@@ -534,14 +534,13 @@ fn goes_on_when_the_clock_steps_back() {
         (2000, 600),
         (2100, 500),
         (0, 500),
-        (900, 500),
-        (1000, 500),
-        (1499, 1),
+        (200, 300),
+        (499, 1),
     ] {
         assert_eq!(parser.timeout(at(now)), ms(left), "{now}");
         assert_eq!(expired(&mut parser, at(now)), []);
     }
-    assert_eq!(expired(&mut parser, at(1500)).len(), 2);
+    assert_eq!(expired(&mut parser, at(500)).len(), 2);
 }
 
 // A rest, and a call that takes it.
