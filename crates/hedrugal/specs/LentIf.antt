@@ -20,10 +20,11 @@ use Rattle.hedrugal.specs.contracts.handles.MapHandle.{the_row as MapHandleType}
 use Rattle.hedrugal.specs.contracts.handles.ParserHandle.{the_row as ParserHandleType}
 use Rattle.hedrugal.specs.Lent.{with_held}
 
--- the handle leads to the lent parser as it is at the end of the loan; without a loan it is as it was
+-- the handle, which leads to this value
 abbrev pub leading_to : {T : Type 0} → Handle T → T → Handle T
 leading_to whole held = record whole { live = true; state = with_held whole.state held; live_agrees = refl }
 
+-- the handle leads to the lent parser as it is at the end of the loan; without a loan it is as it was
 abbrev pub lends_state : (R : RattleType) → MutBor (Handle R.Denot) → Option (MutBor R.Denot) → Fml
 lends_state R whole lent = LendsIf (handle.the_row R) R whole lent (leading_to whole.now) whole.now
 

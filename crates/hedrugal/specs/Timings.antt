@@ -51,7 +51,7 @@ abbrev pub Notes : ParserAndPaste → Since → Timing → ℕ → Timing → Ty
 Notes held since before now after = (seen : Seen) × IsSeen before.policy held.parser since.fed since.taken seen
     × (after ≡ record { policy = before.policy; timer = noted before.timer now seen })
 
--- how long what is buffered may still wait: what the timer says once it was told, or 0 if memory is refused for it; ever without a parser
+-- how long what is buffered may still wait: what the timer says once it was told, or 0 if memory is refused for it; for ever without a parser
 abbrev pub TimesOut : Option ParserAndPaste → Since → Timing → ℕ → ℤ → Since → Timing → Type 0
 TimesOut (Some held) since before now answer since' after =
     (Notes held since before now after × (since' ≡ record { fed = false; taken = false; expiring = since.expiring })

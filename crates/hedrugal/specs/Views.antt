@@ -1,4 +1,4 @@
--- What C holds, as the generic types that own the same blocks: the same fields under other names.
+-- What C holds, as the generic types that own the same blocks. The fields are the same; only the pointer of a map has another name.
 use Rattle.std.specs.Borrow.{Fml, Lends, MutBor}
 use Rattle.hedrugal.specs.declared.bindings.Bindings.{Bindings}
 use Rattle.hedrugal.specs.declared.extended_and_text.ExtendedAndText.{ExtendedAndText}
@@ -17,6 +17,7 @@ use Rattle.hedrugal.specs.contracts.handles.ExtendedHandle.{the_row as ExtendedH
 use Rattle.hedrugal.specs.contracts.handles.MapHandle.{the_row as MapHandleType}
 use Rattle.hedrugal.specs.contracts.handles.ParserHandle.{the_row as ParserHandleType}
 
+-- the parser's view, and what C holds of a view; so of the other two kinds
 abbrev pub viewed_parser : ParserHandle → Handle ParserAndPaste
 viewed_parser c = record {
   live = c.live;
