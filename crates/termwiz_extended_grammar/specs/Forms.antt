@@ -1,6 +1,6 @@
--- The forms of what terminals send beyond the rows of the table and SGR mouse reports, and the openings of strings.
--- From ECMA-48 (control sequences and strings), xterm's control sequences (X10 mouse reports, titles, BEL as the end of an operating
--- system command, application keypad) and the Linux console (its function keys).
+-- The forms of what terminals send beyond the rows of the table and SGR mouse reports, and what strings begin with, have and end with.
+-- Control sequences and strings are from ECMA-48. From xterm's control sequences are X10 mouse reports, titles, BEL as the end of an operating
+-- system command, and the application keypad; function keys are from the Linux console.
 use Rattle.std.specs.Prelude.{◌≡◌, ◌≢◌, ℕ, ◌≤◌, ◌<◌, ◌⊎◌, List, [], ◌∷◌, ◌++◌, length, codes}
 use Rattle.std.specs.List.{AllByRecursion}
 use Rattle.termwiz_keymap.specs.Bytes.{Begins}
