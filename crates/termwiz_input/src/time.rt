@@ -250,6 +250,7 @@ pub fn expire<F: FnMut(InputEvent)>(
     ensures refused { OnErr result ((events : List Event) × Steps parser.old false events parser.new
         × WasCalledOn F.step callback.old events callback.new) }
     ensures refused_paste { OnErr result (IsOpenPaste parser.new ⊎ HasPaste parser.new false) }
+    ensures refused_timer { OnErr result ((seen : Seen) × IsSeen policy.now parser.old false false seen × (timer.new ≡ noted timer.old now seen)) }
     ensures refused_due { OnErr result (IsDue timer.new now) }
 {
     timer.note(now, seen_of(parser, policy, false, false));

@@ -3,7 +3,7 @@
 //! The loop of a program, the policy and the timer are those of [`termwiz_input::time`].
 ghost use Rattle.std.specs.Prelude.{◌≡◌, ◌⊎◌, ◌∷◌, [], List, ℕ, Bool, false, IfNone, IfOk, IfSome, OnOk, OnErr};
 ghost use Rattle.termwiz_grammar.specs.WaitingKinds.{IsOpenPaste};
-ghost use Rattle.termwiz_input.specs.Time.{IsDue};
+ghost use Rattle.termwiz_input.specs.Time.{IsDue, noted};
 ghost use Rattle.termwiz_extended_events.specs.declared.types.ExtendedEvent.{ExtendedEvent as Event};
 ghost use Rattle.termwiz_extended_grammar.specs.ExtendedGrammar.{Steps};
 ghost use Rattle.termwiz_input_extended.specs.EventCallbacks.{MayBeCalledOn, WasCalledOn};
@@ -70,6 +70,8 @@ pub fn expire<F: FnMut(ExtendedEvent)>(
     ensures refused { OnErr result ((events : List Event) × Steps parser.old.protocol parser.old.text false events parser.new.text
         × WasCalledOn F.step callback.old events callback.new) }
     ensures refused_item { OnErr result (IsOpenPaste parser.new.text ⊎ HasItemThatNeedsMemory parser.new.protocol parser.new.text false) }
+    ensures refused_timer { OnErr result ((seen : Seen) × IsSeen policy.now parser.old.protocol parser.old.text false false seen
+        × (timer.new ≡ noted timer.old now seen)) }
     ensures refused_due { OnErr result (IsDue timer.new now) }
 {
     timer.note(now, seen_of(parser, policy, false, false));

@@ -38,6 +38,13 @@ module _ (policy : Policy) (text : List ℕ) (timer : Timer) (now : ℕ) (seen :
       subst P (sym last_is)
       (subst R (sym first_is) (flushed seen after events left is_seen (subst Q first_is (tells.0 is_due)) flush is_after))
 
+-- what was noted before a refusal is the last note
+pub refused_noted : {X F : Type 0} (result : Result X F) (policy : Policy) (text : List ℕ) (timer : Timer) (now : ℕ) (seen : Seen)
+    (first : Timer) → IsSeen policy text false false seen → first ≡ noted timer now seen
+    → OnErr result ((told : Seen) × IsSeen policy text false false told × (first ≡ noted timer now told))
+refused_noted (Ok value) policy text timer now seen first is_seen first_is = tt
+refused_noted (Err fault) policy text timer now seen first is_seen first_is = (seen, is_seen, first_is)
+
 -- an item that is read where no paste is open is one event of a flush
 pub items_flushed : {F : Type 0} (text before left : List ℕ) (result : Result (Option InputEvent) F) → before ≡ text → ¬ IsOpenPaste text
     → IfOk result (λ found. IfSome found (λ event. Steps before false (event ∷ []) left))

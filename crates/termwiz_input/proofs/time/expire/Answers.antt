@@ -6,7 +6,7 @@ use Rattle.termwiz_input.specs.Callbacks.{WasCalledOn}
 use Rattle.termwiz_input.specs.Expiry.{Flushes}
 use Rattle.termwiz_input.specs.Expiry.Flushes.{ends_paste, reads_all}
 use Rattle.termwiz_input.specs.PasteSearch.{IsPasteSoFar}
-use Rattle.termwiz_input.proofs.lemmas.time.ExpirySteps.{OnErr-of_any, stays_noted, flushed_noted}
+use Rattle.termwiz_input.proofs.lemmas.time.ExpirySteps.{OnErr-of_any, stays_noted, flushed_noted, refused_noted}
 use Rattle.termwiz_input.proofs.time.expire.Goals as goal
 use Rattle.termwiz_input.proofs.time.expire.Goals.{in-Some, in-None+in_ok-for_each_event-in-None}
 
@@ -59,3 +59,13 @@ returns-in_err-for_each_event-in-None-clause-refused g c =
     let given : (given : List Event) × Steps text false given c.for_each_event.new.self
     × WasCalledOn (goal.F-step g) c.args.callback.now given c.for_each_event.new.callback = (events, steps_of_text, calls) in
     OnErr-of_any _ given
+
+pub returns-in_err-event-clause-refused_timer : goal.returns-in_err-event-clause-refused_timer
+returns-in_err-event-clause-refused_timer g c =
+    refused_noted _ c.args.policy.now c.args.parser.now c.args.timer.now c.args.now c.seen_of.result c.note.new.self c.seen_of.ensures
+    c.note.ensures
+
+pub returns-in_err-for_each_event-in-None-clause-refused_timer : goal.returns-in_err-for_each_event-in-None-clause-refused_timer
+returns-in_err-for_each_event-in-None-clause-refused_timer g c =
+    refused_noted _ c.args.policy.now c.args.parser.now c.args.timer.now c.args.now c.seen_of.result c.note.new.self c.seen_of.ensures
+    c.note.ensures

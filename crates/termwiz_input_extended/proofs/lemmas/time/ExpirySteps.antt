@@ -1,5 +1,5 @@
 -- What is noted and flushed step by step is what `Expires` says.
-use Rattle.std.proofs.Common.{◌≡◌, ◌↔◌, ℕ, Bool, true, false, IsTrue, List, [], ◌∷◌, sym, subst, Option, Some, None, Result, Ok, Err, IfOk, IfSome, IfNone}
+use Rattle.std.proofs.Common.{◌≡◌, ◌↔◌, ℕ, Bool, true, false, IsTrue, List, [], ◌∷◌, sym, subst, Option, Some, None, Result, Ok, Err, IfOk, IfSome, IfNone, OnErr}
 use Rattle.termwiz_grammar.specs.WaitingKinds.{IsOpenPaste}
 use Rattle.termwiz_input.specs.declared.time.Policy.{Policy}
 use Rattle.termwiz_input.specs.declared.time.Seen.{Seen}
@@ -33,6 +33,13 @@ module _ (policy : Policy) (protocol : Protocol) (text : List ℕ) (timer : Time
       let R : Timer → Type 0 = λ t. P (noted t now after) in
       subst P (sym last_is)
       (subst R (sym first_is) (flushed seen after events left is_seen (subst Q first_is (tells.0 is_due)) flush is_after))
+
+-- what was noted before a refusal is the last note
+pub refused_noted : {X F : Type 0} (result : Result X F) (policy : Policy) (protocol : Protocol) (text : List ℕ) (timer : Timer) (now : ℕ)
+    (seen : Seen) (first : Timer) → IsSeen policy protocol text false false seen → first ≡ noted timer now seen
+    → OnErr result ((told : Seen) × IsSeen policy protocol text false false told × (first ≡ noted timer now told))
+refused_noted (Ok value) policy protocol text timer now seen first is_seen first_is = tt
+refused_noted (Err fault) policy protocol text timer now seen first is_seen first_is = (seen, is_seen, first_is)
 
 -- what is read with no more to come, where no paste is open, is one event of a flush, or nothing is buffered
 module _ {F : Type 0} (old before : Buffered) (same : before ≡ old) (closed : ¬ IsOpenPaste old.text) where

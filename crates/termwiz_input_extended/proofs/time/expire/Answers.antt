@@ -7,7 +7,7 @@ use Rattle.termwiz_input_extended.specs.EventCallbacks.{WasCalledOn}
 use Rattle.termwiz_input_extended.specs.ExtendedExpiry.{Flushes, IsSeen}
 use Rattle.termwiz_input_extended.specs.ExtendedExpiry.Flushes.{ends_paste, reads_all}
 use Rattle.termwiz_input_extended.specs.NextItems.{IsPasteEvent}
-use Rattle.termwiz_input_extended.proofs.lemmas.time.ExpirySteps.{stays_noted, flushed_noted}
+use Rattle.termwiz_input_extended.proofs.lemmas.time.ExpirySteps.{stays_noted, flushed_noted, refused_noted}
 use Rattle.termwiz_input_extended.proofs.time.expire.Goals as goal
 use Rattle.termwiz_input_extended.proofs.time.expire.Goals.{in-Some, in-None+in_ok-for_each_event-in-None}
 
@@ -53,3 +53,13 @@ returns-clause-ok g c =
             subst (λ last. WasCalledOn (goal.F-step g) c.args.callback.now events last) (sym w.callback-is) calls,
           )
     ]
+
+pub returns-in_err-event-clause-refused_timer : goal.returns-in_err-event-clause-refused_timer
+returns-in_err-event-clause-refused_timer g c =
+    refused_noted _ c.args.policy.now c.args.parser.now.protocol c.args.parser.now.text c.args.timer.now c.args.now c.seen_of.result
+    c.note.new.self c.seen_of.ensures c.note.ensures
+
+pub returns-in_err-for_each_event-in-None-clause-refused_timer : goal.returns-in_err-for_each_event-in-None-clause-refused_timer
+returns-in_err-for_each_event-in-None-clause-refused_timer g c =
+    refused_noted _ c.args.policy.now c.args.parser.now.protocol c.args.parser.now.text c.args.timer.now c.args.now c.seen_of.result
+    c.note.new.self c.seen_of.ensures c.note.ensures
