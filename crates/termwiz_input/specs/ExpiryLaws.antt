@@ -45,17 +45,19 @@ TakesTurns policy text timer (turn ∷ turns) reads events left =
     × (reads ≡ read ∷ others) × (events ≡ first ++ later) × TakesTurn policy text timer turn read first between after
     × TakesTurns policy between after turns others later left
 
--- What such a run means: the events are those of its reads in turn, and no byte is lost. If nothing was due, they are those of all bytes.
-pub record IsReadInTurn (text : List ℕ) (turns : List Turn) (reads : List OneRead) (events : List InputEvent) (left : List ℕ) : Type 0 where
-  pub in_turn : ReadInTurn Means text reads events left
+-- What such a run means. If pastes wait forever, the events are those of its reads in turn. No byte is lost. If nothing was due, the events are
+-- those of all bytes.
+pub record IsReadInTurn (policy : Policy) (text : List ℕ) (turns : List Turn) (reads : List OneRead) (events : List InputEvent)
+    (left : List ℕ) : Type 0 where
+  pub in_turn : policy.paste ≡ None → ReadInTurn Means text reads events left
   pub all_bytes : bytes_of_reads reads ≡ bytes_of_turns turns
   pub no_pauses : All (λ read. read.1 ≡ true) reads → Means (text ++ bytes_of_turns turns) true events left
 
--- It is so from each rest, if pastes wait forever.
+-- It is so from each rest, under every policy.
 abbrev pub NoPauses : Type 0
 NoPauses = (policy : Policy) (text : List ℕ) (timer : Timer) (turns : List Turn) (reads : List OneRead)
-    (events : List InputEvent) (left : List ℕ) → policy.paste ≡ None → IsRest text true
-    → TakesTurns policy text timer turns reads events left → IsReadInTurn text turns reads events left
+    (events : List InputEvent) (left : List ℕ) → IsRest text true
+    → TakesTurns policy text timer turns reads events left → IsReadInTurn policy text turns reads events left
 
 -- When a rest was due and is flushed, nothing is left, and nothing is due.
 abbrev pub FlushEnds : Type 0

@@ -89,10 +89,12 @@ pub fn flush_ends()
     ensures one_by_one { FlushOneByOne }
 {}
 
-/// Pauses within the limits change nothing. A program reads bytes at some times, and at others lets what is buffered expire. The events are
-/// those of these reads in turn, where what was due is a read of no bytes with no more to come (`in_turn`). The bytes of these reads are all
-/// bytes that came (`all_bytes`). If nothing was due, the events are those of all bytes together (`no_pauses`). This is said of policies
-/// under which a paste waits forever: else a paste that was due ends where it is.
+/// Pauses within the limits change nothing, under every policy. A program reads bytes at some times, and at others lets what is buffered
+/// expire, which is a read of no bytes. The bytes of these reads are all bytes that came (`all_bytes`). If nothing was due, the events are
+/// those of all bytes together (`no_pauses`).
+///
+/// If pastes wait forever, the events are those of these reads in turn, where what was due is read with no more to come (`in_turn`). Else a
+/// paste that was due ends where it is.
 pub fn no_pauses()
     ensures { NoPauses }
 {}

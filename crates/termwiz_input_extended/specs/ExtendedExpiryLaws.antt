@@ -35,18 +35,19 @@ TakesTurns policy protocol text timer (turn ∷ turns) reads events left =
     × (reads ≡ read ∷ others) × (events ≡ first ++ later) × TakesTurn policy protocol text timer turn read first between after
     × TakesTurns policy protocol between after turns others later left
 
--- What such a run means: the events are those of its reads in turn, and no byte is lost. If nothing was due, they are those of all bytes.
-pub record IsReadInTurn (protocol : Protocol) (text : List ℕ) (turns : List Turn) (reads : List OneRead) (events : List ExtendedEvent)
-    (left : List ℕ) : Type 0 where
-  pub in_turn : ReadInTurn (Means protocol) text reads events left
+-- What such a run means. If pastes wait forever, the events are those of its reads in turn. No byte is lost. If nothing was due, the events are
+-- those of all bytes.
+pub record IsReadInTurn (policy : Policy) (protocol : Protocol) (text : List ℕ) (turns : List Turn) (reads : List OneRead)
+    (events : List ExtendedEvent) (left : List ℕ) : Type 0 where
+  pub in_turn : policy.paste ≡ None → ReadInTurn (Means protocol) text reads events left
   pub all_bytes : bytes_of_reads reads ≡ bytes_of_turns turns
   pub no_pauses : All (λ read. read.1 ≡ true) reads → Means protocol (text ++ bytes_of_turns turns) true events left
 
--- It is so from each rest, if pastes wait forever.
+-- It is so from each rest, under every policy.
 abbrev pub NoPauses : Type 0
 NoPauses = (policy : Policy) (protocol : Protocol) (text : List ℕ) (timer : Timer) (turns : List Turn) (reads : List OneRead)
-    (events : List ExtendedEvent) (left : List ℕ) → policy.paste ≡ None → IsRest protocol text true
-    → TakesTurns policy protocol text timer turns reads events left → IsReadInTurn protocol text turns reads events left
+    (events : List ExtendedEvent) (left : List ℕ) → IsRest protocol text true
+    → TakesTurns policy protocol text timer turns reads events left → IsReadInTurn policy protocol text turns reads events left
 
 -- When a rest was due and is flushed, nothing is left, and nothing is due.
 abbrev pub FlushEnds : Type 0

@@ -1,5 +1,5 @@
--- Runs of a program that lets what is buffered expire are reads in turn.
-use Rattle.std.proofs.Common.{◌≡◌, ℕ, Bool, true, false, None, List, [], ◌∷◌, ◌++◌, All, refl, sym, ap, ◌∙◌, subst, append_assoc, append-nil, length}
+-- Runs of a program that lets what is buffered expire are reads in turn, as long as no paste is due.
+use Rattle.std.proofs.Common.{◌≡◌, ◌⊎◌, inl, inr, ℕ, Bool, true, false, None, List, [], ◌∷◌, ◌++◌, All, refl, sym, ap, ◌∙◌, subst, append_assoc, append-nil, length}
 use Rattle.std.proofs.lemmas.List.Elements.{All-head, All-tail}
 use Rattle.termwiz_keys.specs.declared.types.InputEvent.{InputEvent}
 use Rattle.termwiz_grammar.specs.declared.waiting.Waiting.{Waiting}
@@ -67,9 +67,25 @@ flushed_ends policy text timer now more events left after last rest (flushed see
 pub flush_ends : FlushEnds
 flush_ends policy text timer now events left after rest expired = flushed_ends policy text timer now false events left after refl rest expired
 
--- a turn that is a read: it has that read's events and bytes, and leaves a rest
-record IsRead (text : List ℕ) (turn : Turn) (read : OneRead) (events : List InputEvent) (left : List ℕ) : Type 0 where
-  means : Means (text ++ read.0) read.1 events left
+-- No paste is due in a read: pastes wait forever, or more may come.
+abbrev NoPasteDue : Policy → OneRead → Type 0
+NoPasteDue policy read = (policy.paste ≡ None) ⊎ (read.1 ≡ true)
+
+-- nor in any read
+abbrev NoPastesDue : Policy → List OneRead → Type 0
+NoPastesDue policy reads = (policy.paste ≡ None) ⊎ All (λ read. read.1 ≡ true) reads
+
+first_not_due : (policy : Policy) (read : OneRead) (others : List OneRead) → NoPastesDue policy (read ∷ others) → NoPasteDue policy read
+first_not_due policy read others (inl forever) = inl forever
+first_not_due policy read others (inr open_reads) = inr (All-head (λ (r : OneRead). r.1 ≡ true) read others open_reads)
+
+others_not_due : (policy : Policy) (read : OneRead) (others : List OneRead) → NoPastesDue policy (read ∷ others) → NoPastesDue policy others
+others_not_due policy read others (inl forever) = inl forever
+others_not_due policy read others (inr open_reads) = inr (All-tail (λ (r : OneRead). r.1 ≡ true) read others open_reads)
+
+-- A turn that is a read: it has that read's bytes, and leaves a rest. It has that read's events, if no paste is due.
+record IsRead (policy : Policy) (text : List ℕ) (turn : Turn) (read : OneRead) (events : List InputEvent) (left : List ℕ) : Type 0 where
+  means : NoPasteDue policy read → Means (text ++ read.0) read.1 events left
   rests : IsRest left true
   bytes : read.0 ≡ bytes_of_turn turn
 
@@ -81,41 +97,59 @@ flush_means policy text timer now seen events left forever rest is due (ends_pas
     absurd (paste_not_due policy text timer now seen forever rest is_open is due)
 flush_means policy text timer now seen events left forever rest is due (reads_all given last closed means) = means
 
+due_means : (policy : Policy) (text : List ℕ) (timer : Timer) (now : ℕ) (seen : Seen) (events : List InputEvent) (left : List ℕ)
+    → IsRest text true → IsSeen policy text false false seen → IsDue (noted timer now seen) now → Flushes text events left
+    → NoPasteDue policy ([], false) → Means (text ++ []) false events left
+due_means policy text timer now seen events left rest is due flush (inl forever) =
+    subst (λ u. Means u false events left) (sym (append-nil text))
+    (flush_means policy text timer now seen events left forever rest is due flush)
+due_means policy text timer now seen events left rest is due flush (inr more) = absurd (cc (more))
+
+no_events : (policy : Policy) (text : List ℕ) (turn : Turn) → [] ≡ bytes_of_turn turn → IsRest text true
+    → IsRead policy text turn ([], true) [] text
+no_events policy text turn none rest =
+    record { means = λ none_due. record { steps = append-nil text; rest = rest }; rests = rest; bytes = none }
+
 expiry_is_read : (policy : Policy) (text : List ℕ) (timer : Timer) (now : ℕ) (more : Bool) (events : List InputEvent) (left : List ℕ)
-    (after : Timer) → policy.paste ≡ None → IsRest text true → Expires policy text timer now more events left after
-    → IsRead text (Expire now) ([], more) events left
-expiry_is_read policy text timer now more events left after forever rest (stays seen is waits) =
-    record { means = record { steps = append-nil text; rest = rest }; rests = rest; bytes = refl }
-expiry_is_read policy text timer now more events left after forever rest (flushed seen then_seen given end is due flush is_then) =
-    let means = flush_means policy text timer now seen given end forever rest is due flush in
-    record {
-      means = subst (λ u. Means u false given end) (sym (append-nil text)) means;
-      rests = subst (λ u. IsRest u true) (sym (nothing_left text end given rest flush)) (empty_is_rest true);
-      bytes = refl;
-    }
+    (after : Timer) → IsRest text true → Expires policy text timer now more events left after
+    → IsRead policy text (Expire now) ([], more) events left
+expiry_is_read policy text timer now more events left after rest (stays seen is waits) = no_events policy text (Expire now) refl rest
+expiry_is_read policy text timer now more events left after rest (flushed seen then_seen given end is due flush is_then) = record {
+  means = due_means policy text timer now seen given end rest is due flush;
+  rests = subst (λ u. IsRest u true) (sym (nothing_left text end given rest flush)) (empty_is_rest true);
+  bytes = refl;
+}
 
 turn_is_read : (policy : Policy) (text : List ℕ) (timer : Timer) (turn : Turn) (read : OneRead) (events : List InputEvent) (left : List ℕ)
-    (after : Timer) → policy.paste ≡ None → IsRest text true → TakesTurn policy text timer turn read events left after
-    → IsRead text turn read events left
-turn_is_read policy text timer turn read events left after forever rest (by_question now seen is) =
-    record { means = record { steps = append-nil text; rest = rest }; rests = rest; bytes = refl }
-turn_is_read policy text timer turn read events left after forever rest (by_read now bytes given end taken seen means is) =
-    record { means = means; rests = means.rest; bytes = refl }
-turn_is_read policy text timer turn read events left after forever rest (by_expiry now more given end last expired) =
-    expiry_is_read policy text timer now more given end last forever rest expired
+    (after : Timer) → IsRest text true → TakesTurn policy text timer turn read events left after
+    → IsRead policy text turn read events left
+turn_is_read policy text timer turn read events left after rest (by_question now seen is) = no_events policy text turn refl rest
+turn_is_read policy text timer turn read events left after rest (by_read now bytes given end taken seen means is) =
+    record { means = λ none_due. means; rests = means.rest; bytes = refl }
+turn_is_read policy text timer turn read events left after rest (by_expiry now more given end last expired) =
+    expiry_is_read policy text timer now more given end last rest expired
 
 turns_are_reads : (turns : List Turn) (policy : Policy) (text : List ℕ) (timer : Timer) (reads : List OneRead) (events : List InputEvent)
-    (left : List ℕ) → policy.paste ≡ None → IsRest text true → TakesTurns policy text timer turns reads events left
-    → ReadInTurn Means text reads events left × (bytes_of_reads reads ≡ bytes_of_turns turns)
-turns_are_reads [] policy text timer reads events left forever rest (no_reads, none, same) = (
-  subst (λ all. ReadInTurn Means text all events left) (sym no_reads) (none, same),
+    (left : List ℕ) → IsRest text true → TakesTurns policy text timer turns reads events left
+    → (NoPastesDue policy reads → ReadInTurn Means text reads events left) × (bytes_of_reads reads ≡ bytes_of_turns turns)
+turns_are_reads [] policy text timer reads events left rest (no_reads, none, same) = (
+  λ none_due. subst (λ all. ReadInTurn Means text all events left) (sym no_reads) (none, same),
   ap bytes_of_reads no_reads,
 )
-turns_are_reads (turn ∷ turns) policy text timer reads events left forever rest
+turns_are_reads (turn ∷ turns) policy text timer reads events left rest
     (read, others, first, later, between, after, reads_are, events_are, takes, run) =
-    let this = turn_is_read policy text timer turn read first between after forever rest takes in
-    let next = turns_are_reads turns policy between after others later left forever this.rests run in (
-      subst (λ all. ReadInTurn Means text all events left) (sym reads_are) (first, later, between, events_are, this.means, next.0),
+    let this = turn_is_read policy text timer turn read first between after rest takes in
+    let next = turns_are_reads turns policy between after others later left this.rests run in
+    let in_turn : NoPastesDue policy (read ∷ others) → ReadInTurn Means text (read ∷ others) events left =
+    λ none_due. (
+      first,
+      later,
+      between,
+      events_are,
+      this.means (first_not_due policy read others none_due),
+      next.0 (others_not_due policy read others none_due),
+    ) in (
+      subst (λ all. NoPastesDue policy all → ReadInTurn Means text all events left) (sym reads_are) in_turn,
       ap bytes_of_reads reads_are ∙ ap (λ (bytes : List ℕ). bytes ++ bytes_of_reads others) this.bytes
           ∙ ap (λ (bytes : List ℕ). bytes_of_turn turn ++ bytes) next.1,
     )
@@ -136,11 +170,11 @@ reads_are_one (read ∷ reads) text left events rest (first, later, between, eve
     (subst (λ given. Means ((text ++ read.0) ++ bytes_of_reads reads) true given left) (sym events_are) whole)
 
 pub no_pauses : NoPauses
-no_pauses policy text timer turns reads events left forever rest run =
-    let (in_turn, bytes) = turns_are_reads turns policy text timer reads events left forever rest run in
+no_pauses policy text timer turns reads events left rest run =
+    let (in_turn, bytes) = turns_are_reads turns policy text timer reads events left rest run in
     record {
-      in_turn = in_turn;
+      in_turn = λ forever. in_turn (inl forever);
       all_bytes = bytes;
       no_pauses = λ open_reads. subst (λ all. Means (text ++ all) true events left) bytes
-          (reads_are_one reads text left events rest in_turn open_reads);
+          (reads_are_one reads text left events rest (in_turn (inr open_reads)) open_reads);
     }

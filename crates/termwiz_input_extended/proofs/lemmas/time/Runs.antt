@@ -1,5 +1,5 @@
--- Runs of a program that lets what is buffered expire are reads in turn.
-use Rattle.std.proofs.Common.{◌≡◌, ℕ, Bool, true, false, None, List, [], ◌∷◌, ◌++◌, All, refl, sym, ap, ◌∙◌, subst, append_assoc, append-nil, length}
+-- Runs of a program that lets what is buffered expire are reads in turn, as long as no paste is due.
+use Rattle.std.proofs.Common.{◌≡◌, ◌⊎◌, inl, inr, ℕ, Bool, true, false, None, List, [], ◌∷◌, ◌++◌, All, refl, sym, ap, ◌∙◌, subst, append_assoc, append-nil, length}
 use Rattle.std.proofs.lemmas.List.Elements.{All-head, All-tail}
 use Rattle.termwiz_grammar.specs.Streams.{OneRead, bytes_of_reads}
 use Rattle.termwiz_grammar.specs.WaitingKinds.{IsOpenPaste}
@@ -68,63 +68,94 @@ pub flush_ends : FlushEnds
 flush_ends policy protocol text timer now events left after rest expired =
     flushed_ends policy protocol text timer now false events left after refl rest expired
 
--- a turn that is a read: it has that read's events and bytes, and leaves a rest
-record IsRead (protocol : Protocol) (text : List ℕ) (turn : Turn) (read : OneRead) (events : List ExtendedEvent) (left : List ℕ) : Type 0 where
-  means : Means protocol (text ++ read.0) read.1 events left
+-- No paste is due in a read: pastes wait forever, or more may come.
+abbrev NoPasteDue : Policy → OneRead → Type 0
+NoPasteDue policy read = (policy.paste ≡ None) ⊎ (read.1 ≡ true)
+
+-- nor in any read
+abbrev NoPastesDue : Policy → List OneRead → Type 0
+NoPastesDue policy reads = (policy.paste ≡ None) ⊎ All (λ read. read.1 ≡ true) reads
+
+first_not_due : (policy : Policy) (read : OneRead) (others : List OneRead) → NoPastesDue policy (read ∷ others) → NoPasteDue policy read
+first_not_due policy read others (inl forever) = inl forever
+first_not_due policy read others (inr open_reads) = inr (All-head (λ (r : OneRead). r.1 ≡ true) read others open_reads)
+
+others_not_due : (policy : Policy) (read : OneRead) (others : List OneRead) → NoPastesDue policy (read ∷ others) → NoPastesDue policy others
+others_not_due policy read others (inl forever) = inl forever
+others_not_due policy read others (inr open_reads) = inr (All-tail (λ (r : OneRead). r.1 ≡ true) read others open_reads)
+
+-- A turn that is a read: it has that read's bytes, and leaves a rest. It has that read's events, if no paste is due.
+record IsRead (policy : Policy) (protocol : Protocol) (text : List ℕ) (turn : Turn) (read : OneRead) (events : List ExtendedEvent)
+    (left : List ℕ) : Type 0 where
+  means : NoPasteDue policy read → Means protocol (text ++ read.0) read.1 events left
   rests : IsRest protocol left true
   bytes : read.0 ≡ bytes_of_turn turn
 
--- no events, of no bytes
-no_events : (protocol : Protocol) (text : List ℕ) (turn : Turn) → [] ≡ bytes_of_turn turn → IsRest protocol text true
-    → IsRead protocol text turn ([], true) [] text
-no_events protocol text turn none rest =
-    record { means = record { steps = append-nil text; rest = rest }; rests = rest; bytes = none }
+module _ (policy : Policy) (protocol : Protocol) where
+  -- no events, of no bytes
+  no_events : (text : List ℕ) (turn : Turn) → [] ≡ bytes_of_turn turn → IsRest protocol text true
+      → IsRead policy protocol text turn ([], true) [] text
+  no_events text turn none rest =
+      record { means = λ none_due. record { steps = append-nil text; rest = rest }; rests = rest; bytes = none }
 
-module _ (policy : Policy) (protocol : Protocol) (forever : policy.paste ≡ None) where
   -- an open paste isn't due, if pastes wait forever
   flush_means : (text : List ℕ) (timer : Timer) (now : ℕ) (seen : Seen) (events : List ExtendedEvent) (left : List ℕ)
-      → IsRest protocol text true → IsSeen policy protocol text false false seen → IsDue (noted timer now seen) now
+      → policy.paste ≡ None → IsRest protocol text true → IsSeen policy protocol text false false seen → IsDue (noted timer now seen) now
       → Flushes protocol text events left → Means protocol text false events left
-  flush_means text timer now seen events left rest is due (ends_paste event (paste, so_far, same)) =
+  flush_means text timer now seen events left forever rest is due (ends_paste event (paste, so_far, same)) =
       let is_open : IsOpenPaste text = record { body = so_far.body; splits = so_far.splits; endless = so_far.endless } in
       let limit = limit_is policy protocol text false false seen Paste is rest is_open in
       absurd (not_due (noted timer now seen) now (ap (λ (l : Limit). l.millis) limit ∙ forever) due)
-  flush_means text timer now seen events left rest is due (reads_all given last closed means) = means
+  flush_means text timer now seen events left forever rest is due (reads_all given last closed means) = means
+
+  due_means : (text : List ℕ) (timer : Timer) (now : ℕ) (seen : Seen) (events : List ExtendedEvent) (left : List ℕ)
+      → IsRest protocol text true → IsSeen policy protocol text false false seen → IsDue (noted timer now seen) now
+      → Flushes protocol text events left → NoPasteDue policy ([], false) → Means protocol (text ++ []) false events left
+  due_means text timer now seen events left rest is due flush (inl forever) =
+      subst (λ u. Means protocol u false events left) (sym (append-nil text))
+      (flush_means text timer now seen events left forever rest is due flush)
+  due_means text timer now seen events left rest is due flush (inr more) = absurd (cc (more))
 
   expiry_is_read : (text : List ℕ) (timer : Timer) (now : ℕ) (more : Bool) (events : List ExtendedEvent) (left : List ℕ) (after : Timer)
       → IsRest protocol text true → Expires policy protocol text timer now more events left after
-      → IsRead protocol text (Expire now) ([], more) events left
-  expiry_is_read text timer now more events left after rest (stays seen is waits) = no_events protocol text (Expire now) refl rest
-  expiry_is_read text timer now more events left after rest (flushed seen then_seen given end is due flush is_then) =
-      let means = flush_means text timer now seen given end rest is due flush in
-      record {
-        means = subst (λ u. Means protocol u false given end) (sym (append-nil text)) means;
-        rests = subst (λ u. IsRest protocol u true) (sym (nothing_left protocol text end given rest flush)) (empty_is_rest protocol true);
-        bytes = refl;
-      }
+      → IsRead policy protocol text (Expire now) ([], more) events left
+  expiry_is_read text timer now more events left after rest (stays seen is waits) = no_events text (Expire now) refl rest
+  expiry_is_read text timer now more events left after rest (flushed seen then_seen given end is due flush is_then) = record {
+    means = due_means text timer now seen given end rest is due flush;
+    rests = subst (λ u. IsRest protocol u true) (sym (nothing_left protocol text end given rest flush)) (empty_is_rest protocol true);
+    bytes = refl;
+  }
 
   turn_is_read : (text : List ℕ) (timer : Timer) (turn : Turn) (read : OneRead) (events : List ExtendedEvent) (left : List ℕ) (after : Timer)
       → IsRest protocol text true → TakesTurn policy protocol text timer turn read events left after
-      → IsRead protocol text turn read events left
-  turn_is_read text timer turn read events left after rest (by_question now seen is) = no_events protocol text turn refl rest
+      → IsRead policy protocol text turn read events left
+  turn_is_read text timer turn read events left after rest (by_question now seen is) = no_events text turn refl rest
   turn_is_read text timer turn read events left after rest (by_read now bytes given end taken seen means is) =
-      record { means = means; rests = means.rest; bytes = refl }
+      record { means = λ none_due. means; rests = means.rest; bytes = refl }
   turn_is_read text timer turn read events left after rest (by_expiry now more given end last expired) =
       expiry_is_read text timer now more given end last rest expired
 
   turns_are_reads : (turns : List Turn) (text : List ℕ) (timer : Timer) (reads : List OneRead) (events : List ExtendedEvent)
       (left : List ℕ) → IsRest protocol text true → TakesTurns policy protocol text timer turns reads events left
-      → ReadInTurn (Means protocol) text reads events left × (bytes_of_reads reads ≡ bytes_of_turns turns)
+      → (NoPastesDue policy reads → ReadInTurn (Means protocol) text reads events left) × (bytes_of_reads reads ≡ bytes_of_turns turns)
   turns_are_reads [] text timer reads events left rest (no_reads, none, same) = (
-    subst (λ all. ReadInTurn (Means protocol) text all events left) (sym no_reads) (none, same),
+    λ none_due. subst (λ all. ReadInTurn (Means protocol) text all events left) (sym no_reads) (none, same),
     ap bytes_of_reads no_reads,
   )
   turns_are_reads (turn ∷ turns) text timer reads events left rest
       (read, others, first, later, between, after, reads_are, events_are, takes, run) =
       let this = turn_is_read text timer turn read first between after rest takes in
-      let next = turns_are_reads turns between after others later left this.rests run in (
-        subst (λ all. ReadInTurn (Means protocol) text all events left) (sym reads_are)
-            (first, later, between, events_are, this.means, next.0),
+      let next = turns_are_reads turns between after others later left this.rests run in
+      let in_turn : NoPastesDue policy (read ∷ others) → ReadInTurn (Means protocol) text (read ∷ others) events left =
+      λ none_due. (
+        first,
+        later,
+        between,
+        events_are,
+        this.means (first_not_due policy read others none_due),
+        next.0 (others_not_due policy read others none_due),
+      ) in (
+        subst (λ all. NoPastesDue policy all → ReadInTurn (Means protocol) text all events left) (sym reads_are) in_turn,
         ap bytes_of_reads reads_are ∙ ap (λ (bytes : List ℕ). bytes ++ bytes_of_reads others) this.bytes
             ∙ ap (λ (bytes : List ℕ). bytes_of_turn turn ++ bytes) next.1,
       )
@@ -147,11 +178,11 @@ reads_are_one protocol (read ∷ reads) text left events rest (first, later, bet
     (subst (λ given. Means protocol ((text ++ read.0) ++ bytes_of_reads reads) true given left) (sym events_are) whole)
 
 pub no_pauses : NoPauses
-no_pauses policy protocol text timer turns reads events left forever rest run =
-    let (in_turn, bytes) = turns_are_reads policy protocol forever turns text timer reads events left rest run in
+no_pauses policy protocol text timer turns reads events left rest run =
+    let (in_turn, bytes) = turns_are_reads policy protocol turns text timer reads events left rest run in
     record {
-      in_turn = in_turn;
+      in_turn = λ forever. in_turn (inl forever);
       all_bytes = bytes;
       no_pauses = λ open_reads. subst (λ all. Means protocol (text ++ all) true events left) bytes
-          (reads_are_one protocol reads text left events rest in_turn open_reads);
+          (reads_are_one protocol reads text left events rest (in_turn (inr open_reads)) open_reads);
     }
