@@ -2,16 +2,18 @@
 use Rattle.std.specs.Prelude.{◌≡◌, ◌⊎◌, ℕ, ℤ, pos, negsuc, true, false, List, [], Option, Some, None}
 use Rattle.termwiz_input.specs.declared.time.Seen.{Seen}
 use Rattle.termwiz_input.specs.Time.{IsDue, noted, time_left}
+use Rattle.termwiz_input.specs.WaitingKinds.{IsOpenPaste}
 use Rattle.termwiz_extended_events.specs.declared.types.ExtendedEvent.{ExtendedEvent}
 use Rattle.termwiz_input_extended.specs.ExtendedExpiry.{FlushStep, IsSeen}
+use Rattle.termwiz_input_extended.specs.NextItems.{HasItemThatNeedsMemory}
 use Rattle.hedrugal.specs.declared.extended_and_text.ExtendedAndText.{ExtendedAndText}
 use Rattle.hedrugal.specs.declared.extended_events.CExtendedEvent.{CExtendedEvent}
 use Rattle.hedrugal.specs.declared.handles.ExtendedHandle.{ExtendedHandle}
 use Rattle.hedrugal.specs.declared.timing.Since.{Since}
 use Rattle.hedrugal.specs.declared.timing.Timing.{Timing}
 use Rattle.hedrugal.specs.ExtendedCalls.{Shows}
-use Rattle.hedrugal.specs.Limits.{c_millis, nothing_since}
-use Rattle.hedrugal.specs.Timings.{after_bytes, after_event}
+use Rattle.hedrugal.specs.Limits.{millis_left, nothing_since}
+use Rattle.hedrugal.specs.Timings.{after_bytes, after_event, times}
 
 -- limits and timer are as they were, and nothing happened
 abbrev pub KeepsTime : ExtendedHandle → ExtendedHandle → Type 0
@@ -34,12 +36,13 @@ abbrev pub Notes : ExtendedAndText → Since → Timing → ℕ → Timing → T
 Notes held since before now after = (seen : Seen) × IsSeen before.policy held.parser.protocol held.parser.text since.fed since.taken seen
     × (after ≡ record { policy = before.policy; timer = noted before.timer now seen })
 
--- how long what is buffered may still wait: what the timer says once it was told, or 0 if memory is refused for it; for ever without a parser
-abbrev pub TimesOut : Option ExtendedAndText → Since → Timing → ℕ → ℤ → Since → Timing → Type 0
+-- The timer is told, and the answer is how long what is buffered may still wait. Memory is refused only where no timer is held: then the answer
+-- is 0. Without a parser it is for ever.
+abbrev pub TimesOut : Option ExtendedAndText → Since → Option Timing → ℕ → ℤ → Since → Option Timing → Type 0
 TimesOut (Some held) since before now answer since' after =
-    (Notes held since before now after × (since' ≡ record { fed = false; taken = false; expiring = since.expiring })
-    × (answer ≡ c_millis (time_left after.timer now)))
-    ⊎ ((answer ≡ pos 0) × (since' ≡ since) × (after ≡ before))
+    (Notes held since (times before) now (times after) × (since' ≡ record { fed = false; taken = false; expiring = since.expiring })
+    × (answer ≡ millis_left since.expiring (times after).timer.empty (time_left (times after).timer now)))
+    ⊎ ((before ≡ None) × (answer ≡ pos 0) × (since' ≡ since) × (after ≡ before))
 TimesOut None since before now answer since' after = (answer ≡ negsuc 0) × (since' ≡ since) × (after ≡ before)
 
 -- nothing is buffered
@@ -59,6 +62,15 @@ IsFlushed (Some held) since before now after =
     ((since.expiring ≡ true) × (after ≡ before))
     ⊎ ((since.expiring ≡ false) × Notes held since before now after × IsDue after.timer now)
 IsFlushed None since before now after = ⊥
+
+-- the next event of a flush may hold memory
+abbrev pub FlushNeedsMemory : Option ExtendedAndText → Type 0
+FlushNeedsMemory (Some held) = IsOpenPaste held.parser.text ⊎ HasItemThatNeedsMemory held.parser.protocol held.parser.text false
+FlushNeedsMemory None = ⊥
+
+-- what is buffered may be flushed at this time
+abbrev pub MayBeFlushed : Option ExtendedAndText → Since → Timing → ℕ → Type 0
+MayBeFlushed held since before now = (after : Timing) × IsFlushed held since before now after
 
 -- the timer was told, and nothing is left to flush: nothing is buffered, or no flush goes on and what is buffered isn't due
 abbrev pub Settles : Option ExtendedAndText → Since → Timing → ℕ → Since → Timing → Type 0

@@ -1,5 +1,5 @@
 -- Limits in time as C has them.
-use Rattle.std.specs.Prelude.{ℕ, ℤ, pos, negsuc, min, int_lt, unsigned_abs, false, Option, Some, None, if◌then◌else◌}
+use Rattle.std.specs.Prelude.{ℕ, ℤ, pos, negsuc, min, int_lt, unsigned_abs, not, ◌&&◌, Bool, false, Option, Some, None, if◌then◌else◌}
 use Rattle.termwiz_input.specs.declared.time.Policy.{Policy}
 use Rattle.termwiz_input.specs.Time.{new_timer, usual}
 use Rattle.hedrugal.specs.declared.timing.CPolicy.{CPolicy}
@@ -33,3 +33,7 @@ limits_in numbers = record {
 abbrev pub c_millis : Option ℕ → ℤ
 c_millis (Some millis) = pos (min millis 0x7FFF_FFFF)
 c_millis None = negsuc 0
+
+-- milliseconds that what is buffered may still wait: none while a flush goes on and something is buffered, else what is left of its limit
+abbrev pub millis_left : (expiring empty : Bool) → Option ℕ → ℤ
+millis_left expiring empty left = if expiring && not empty then pos 0 else c_millis left

@@ -3,7 +3,9 @@ use Rattle.std.specs.Prelude.{◌≡◌, ◌⊎◌, ℕ, ℤ, pos, negsuc, true,
 use Rattle.termwiz_input.specs.declared.time.Seen.{Seen}
 use Rattle.termwiz_input.specs.InputEvent.{InputEvent}
 use Rattle.termwiz_input.specs.Expiry.{FlushStep, IsSeen}
+use Rattle.termwiz_input.specs.Grammar.{HasPaste}
 use Rattle.termwiz_input.specs.Time.{IsDue, noted, time_left}
+use Rattle.termwiz_input.specs.WaitingKinds.{IsOpenPaste}
 use Rattle.hedrugal.specs.declared.events.CEvent.{CEvent}
 use Rattle.hedrugal.specs.declared.handles.ParserHandle.{ParserHandle}
 use Rattle.hedrugal.specs.declared.parser_and_paste.ParserAndPaste.{ParserAndPaste}
@@ -11,7 +13,7 @@ use Rattle.hedrugal.specs.declared.timing.Since.{Since}
 use Rattle.hedrugal.specs.declared.timing.Timing.{Timing}
 use Rattle.hedrugal.specs.Calls.{text_after}
 use Rattle.hedrugal.specs.Events.{c_event}
-use Rattle.hedrugal.specs.Limits.{c_millis, fresh, nothing_since}
+use Rattle.hedrugal.specs.Limits.{fresh, millis_left, nothing_since}
 
 -- the limits and the timer of a handle: before memory was taken for them, those of a parser that is new
 abbrev pub times : Option Timing → Timing
@@ -51,12 +53,13 @@ abbrev pub Notes : ParserAndPaste → Since → Timing → ℕ → Timing → Ty
 Notes held since before now after = (seen : Seen) × IsSeen before.policy held.parser since.fed since.taken seen
     × (after ≡ record { policy = before.policy; timer = noted before.timer now seen })
 
--- how long what is buffered may still wait: what the timer says once it was told, or 0 if memory is refused for it; for ever without a parser
-abbrev pub TimesOut : Option ParserAndPaste → Since → Timing → ℕ → ℤ → Since → Timing → Type 0
+-- The timer is told, and the answer is how long what is buffered may still wait. Memory is refused only where no timer is held: then the answer
+-- is 0. Without a parser it is for ever.
+abbrev pub TimesOut : Option ParserAndPaste → Since → Option Timing → ℕ → ℤ → Since → Option Timing → Type 0
 TimesOut (Some held) since before now answer since' after =
-    (Notes held since before now after × (since' ≡ record { fed = false; taken = false; expiring = since.expiring })
-    × (answer ≡ c_millis (time_left after.timer now)))
-    ⊎ ((answer ≡ pos 0) × (since' ≡ since) × (after ≡ before))
+    (Notes held since (times before) now (times after) × (since' ≡ record { fed = false; taken = false; expiring = since.expiring })
+    × (answer ≡ millis_left since.expiring (times after).timer.empty (time_left (times after).timer now)))
+    ⊎ ((before ≡ None) × (answer ≡ pos 0) × (since' ≡ since) × (after ≡ before))
 TimesOut None since before now answer since' after = (answer ≡ negsuc 0) × (since' ≡ since) × (after ≡ before)
 
 -- nothing is buffered
@@ -76,6 +79,15 @@ IsFlushed (Some held) since before now after =
     ((since.expiring ≡ true) × (after ≡ before))
     ⊎ ((since.expiring ≡ false) × Notes held since before now after × IsDue after.timer now)
 IsFlushed None since before now after = ⊥
+
+-- the next event of a flush may hold memory
+abbrev pub FlushNeedsMemory : Option ParserAndPaste → Type 0
+FlushNeedsMemory (Some held) = IsOpenPaste held.parser ⊎ HasPaste held.parser false
+FlushNeedsMemory None = ⊥
+
+-- what is buffered may be flushed at this time
+abbrev pub MayBeFlushed : Option ParserAndPaste → Since → Timing → ℕ → Type 0
+MayBeFlushed held since before now = (after : Timing) × IsFlushed held since before now after
 
 -- the timer was told, and nothing is left to flush: nothing is buffered, or no flush goes on and what is buffered isn't due
 abbrev pub Settles : Option ParserAndPaste → Since → Timing → ℕ → Since → Timing → Type 0

@@ -1,5 +1,5 @@
 // What the handle of an extended parser leads to.
-ghost use Rattle.std.specs.Prelude.{◌≡◌, ◌↔◌, ◌+◌, ◌≤◌, ℕ, List, [], ◌∷◌, false, length, max, IfOk, IfSome, IfNone, IsSome, OnErr, OnOk};
+ghost use Rattle.std.specs.Prelude.{◌≡◌, ◌↔◌, ◌⊎◌, ◌+◌, ◌≤◌, ℕ, List, [], ◌∷◌, false, length, max, IfOk, IfSome, IfNone, IsSome, OnErr, OnOk};
 ghost use Rattle.termwiz_input.specs.PasteParts.{HasPart, IsTaken};
 ghost use Rattle.termwiz_input.specs.WaitingKinds.{IsOneOrTwoEscapes, IsOpenPaste};
 ghost use Rattle.termwiz_extended_events.specs.declared.types.ExtendedEvent.{ExtendedEvent as Event};
@@ -110,6 +110,8 @@ impl ExtendedAndText {
         ensures protocol { self.new.parser.protocol ≡ self.old.parser.protocol }
         ensures none { IfOk result (λ found. IfNone found (self.old.parser.text ≡ [])) }
         ensures none_same { IfOk result (λ found. IfNone found (self.new ≡ self.old)) }
+        ensures refused { OnErr result (IsOpenPaste self.old.parser.text
+            ⊎ HasItemThatNeedsMemory self.old.parser.protocol self.old.parser.text false) }
         ensures refused_same { OnErr result (self.new ≡ self.old) }
     {
         match time::next_flushed(&mut self.parser)? {

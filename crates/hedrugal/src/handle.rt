@@ -1,5 +1,5 @@
 // A parser of either kind, with its limits in time, behind pointers.
-ghost use Rattle.std.specs.Prelude.{◌≡◌, ◌≢◌, None, Some, is_some, true, false, unwrap_or};
+ghost use Rattle.std.specs.Prelude.{◌≡◌, None, Some, is_some, true, false, unwrap_or};
 ghost use Rattle.hedrugal.specs.Limits.{fresh, nothing_since};
 
 use crate::slot::Slot;
@@ -105,7 +105,7 @@ impl<T: Drop> Handle<T> {
         ensures state { self.new.state.held ≡ self.old.state.held }
         ensures refused { result ≡ false → self.new.timing.held ≡ self.old.timing.held }
         ensures refused_since { result ≡ false → self.new.since ≡ self.old.since }
-        ensures granted { self.old.timing.held ≢ None → result ≡ true }
+        ensures granted { result ≡ false → self.old.timing.held ≡ None }
     {
         if self.timed {
             *self.timing.get_mut() = timing;

@@ -1,5 +1,5 @@
 // What the handle of a parser leads to.
-ghost use Rattle.std.specs.Prelude.{◌≡◌, ◌↔◌, ◌+◌, ◌≤◌, ℕ, List, [], ◌∷◌, false, length, string_bytes, IfOk, IfSome, IfNone, IsSome, OnErr, OnOk, max};
+ghost use Rattle.std.specs.Prelude.{◌≡◌, ◌↔◌, ◌⊎◌, ◌+◌, ◌≤◌, ℕ, List, [], ◌∷◌, false, length, string_bytes, IfOk, IfSome, IfNone, IsSome, OnErr, OnOk, max};
 ghost use Rattle.std.specs.FinMap as map;
 ghost use Rattle.termwiz_input.specs.InputEvent.{InputEvent as Event};
 ghost use Rattle.termwiz_input.specs.InputEvent.TheVariants.{Key};
@@ -111,6 +111,7 @@ impl ParserAndPaste {
             × (string_bytes self.new.pasted ≡ text_after event (string_bytes self.old.pasted)))) }
         ensures none { IfOk result (λ found. IfNone found (self.old.parser ≡ [])) }
         ensures none_same { IfOk result (λ found. IfNone found (self.new ≡ self.old)) }
+        ensures refused { OnErr result (IsOpenPaste self.old.parser ⊎ HasPaste self.old.parser false) }
         ensures refused_same { OnErr result (self.new ≡ self.old) }
     {
         match time::next_flushed(&mut self.parser)? {

@@ -1,7 +1,7 @@
 // How long a parser's bytes may stay buffered, and how old they are.
 ghost use Rattle.std.specs.Prelude.{◌≡◌, true, false};
 ghost use Rattle.termwiz_input.specs.Time.{noted};
-ghost use Rattle.hedrugal.specs.Limits.{c_millis, fresh, limit_in, limits_in};
+ghost use Rattle.hedrugal.specs.Limits.{c_millis, fresh, limit_in, limits_in, millis_left};
 ghost use Rattle.hedrugal.specs.Timings.{after_bytes, after_event};
 
 use termwiz_input::time::{Policy, Seen, Timer};
@@ -138,11 +138,21 @@ impl CPolicy {
 }
 
 // Milliseconds for poll: at most those of an `i32`, and -1 for ever.
-pub(crate) fn c_millis(left: Option<u64>) -> i32
+fn c_millis(left: Option<u64>) -> i32
     ensures { result ≡ c_millis left }
 {
     match left {
         Some(millis) => millis.min(0x7fff_ffff) as i32,
         None => -1,
     }
+}
+
+// How long what is buffered may still wait: not at all while a flush goes on and something is buffered.
+pub(crate) fn millis_left(expiring: bool, empty: bool, left: Option<u64>) -> i32
+    ensures { result ≡ millis_left expiring empty left }
+{
+    if expiring && !empty {
+        return 0;
+    }
+    c_millis(left)
 }

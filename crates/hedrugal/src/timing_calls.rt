@@ -1,11 +1,11 @@
 // The calls that tell a parser the time.
-ghost use Rattle.std.specs.Prelude.{◌≡◌, ◌≢◌, ◌≤◌, ◌↔◌, true, false, None};
-ghost use Rattle.hedrugal.specs.Limits.{limits_in};
-ghost use Rattle.hedrugal.specs.Timings.{IsFlushed, IsNothing, Settles, TimesOut, TookFlushed, flushing, times};
+ghost use Rattle.std.specs.Prelude.{◌≡◌, ◌≢◌, ◌≤◌, ◌↔◌, ◌⊎◌, true, false, None};
+ghost use Rattle.hedrugal.specs.Limits.{limits_in, nothing_since};
+ghost use Rattle.hedrugal.specs.Timings.{FlushNeedsMemory, IsFlushed, IsNothing, KeepsTime, MayBeFlushed, Settles, TimesOut, TookFlushed, flushing, times};
 
 use crate::events::CEvent;
 use crate::handles::ParserHandle;
-use crate::timing::{CPolicy, Since, Timing, c_millis};
+use crate::timing::{CPolicy, Since, Timing, millis_left};
 use crate::{NEXT_EVENT, NEXT_NO_MEMORY, NEXT_NO_PARSER, NEXT_NONE};
 use std::alloc::Global;
 
@@ -19,6 +19,7 @@ pub extern "C" fn hed_parser_set_policy(
     ensures set { result ≡ true → times parser.new.timing.held
         ≡ record { policy = limits_in policy.now; timer = (times parser.old.timing.held).timer } }
     ensures refused { result ≡ false → parser.new.timing.held ≡ parser.old.timing.held }
+    ensures refused_timer { result ≡ false → (parser.old.state.held ≡ None) ⊎ (parser.old.timing.held ≡ None) }
     ensures no_parser { parser.old.state.held ≡ None → result ≡ false }
     ensures since { parser.new.since ≡ parser.old.since }
     ensures same { parser.new.state.held ≡ parser.old.state.held }
@@ -38,8 +39,8 @@ pub extern "C" fn hed_parser_set_policy(
 /// refused, and -1 for ever, or if there is no parser.
 #[unsafe(no_mangle)]
 pub extern "C" fn hed_parser_timeout(alloc: Global, parser: &mut ParserHandle, now: u64) -> i32
-    ensures answer { TimesOut parser.old.state.held parser.old.since (times parser.old.timing.held) now result
-        parser.new.since (times parser.new.timing.held) }
+    ensures answer { TimesOut parser.old.state.held parser.old.since parser.old.timing.held now result
+        parser.new.since parser.new.timing.held }
     ensures same { parser.new.state.held ≡ parser.old.state.held }
 {
     let since = parser.since;
@@ -47,7 +48,9 @@ pub extern "C" fn hed_parser_timeout(alloc: Global, parser: &mut ParserHandle, n
     let Some(held) = parser.get_mut() else {
         return -1;
     };
-    let noted = timing.noted(now, held.seen(&timing.policy, since));
+    let seen = held.seen(&timing.policy, since);
+    let noted = timing.noted(now, seen);
+    let left = noted.timer.next_timeout(now);
     let told = Since {
         fed: false,
         taken: false,
@@ -56,20 +59,29 @@ pub extern "C" fn hed_parser_timeout(alloc: Global, parser: &mut ParserHandle, n
     if !parser.tell(alloc, noted, told) {
         return 0;
     }
-    c_millis(noted.timer.next_timeout(now))
+    millis_left(since.expiring, seen.empty, left)
 }
 
-// The next event of a flush. `told` is kept with it.
-fn next_flushed(alloc: Global, parser: &mut ParserHandle, told: Timing, event: &mut CEvent) -> u32
+// The next event of a flush. `told` is kept with it, and `noted` if nothing is left.
+fn next_flushed(
+    alloc: Global,
+    parser: &mut ParserHandle,
+    told: Timing,
+    noted: Timing,
+    event: &mut CEvent,
+) -> u32
     ensures answers { result ≤ 3 }
     ensures none { result ≡ NEXT_NONE → IsNothing parser.old.state.held }
+    ensures none_noted { result ≡ NEXT_NONE → times parser.new.timing.held ≡ noted }
+    ensures none_since { result ≡ NEXT_NONE → parser.new.since ≡ nothing_since }
     ensures event { result ≡ NEXT_EVENT → TookFlushed parser.old.state.held event.new parser.new.state.held }
     ensures told { result ≡ NEXT_EVENT → times parser.new.timing.held ≡ told }
     ensures since { result ≡ NEXT_EVENT → parser.new.since ≡ flushing }
+    ensures refused { result ≡ NEXT_NO_MEMORY → (parser.old.timing.held ≡ None) ⊎ FlushNeedsMemory parser.old.state.held }
     ensures no_parser { result ≡ NEXT_NO_PARSER → parser.old.state.held ≡ None }
     ensures same { result ≢ NEXT_EVENT → parser.new.state.held ≡ parser.old.state.held }
-    ensures times_same { result ≢ NEXT_EVENT → times parser.new.timing.held ≡ times parser.old.timing.held }
-    ensures since_same { result ≢ NEXT_EVENT → parser.new.since ≡ parser.old.since }
+    ensures refused_times { result ≡ NEXT_NO_MEMORY → times parser.new.timing.held ≡ times parser.old.timing.held }
+    ensures refused_since { result ≡ NEXT_NO_MEMORY → parser.new.since ≡ parser.old.since }
     ensures event_same { result ≢ NEXT_EVENT → event.new ≡ event.old }
 {
     // Memory for what is told, before an event is taken.
@@ -87,7 +99,10 @@ fn next_flushed(alloc: Global, parser: &mut ParserHandle, told: Timing, event: &
             parser.tell(alloc, told, Since::flushing());
             NEXT_EVENT
         }
-        Ok(None) => NEXT_NONE,
+        Ok(None) => {
+            parser.tell(alloc, noted, Since::new());
+            NEXT_NONE
+        }
         Err(_) => NEXT_NO_MEMORY,
     }
 }
@@ -110,6 +125,10 @@ pub extern "C" fn hed_parser_expire(
         (times parser.new.timing.held) }
     ensures since { result ≡ NEXT_EVENT → parser.new.since ≡ flushing }
     ensures no_parser { result ≡ NEXT_NO_PARSER ↔ (parser.old.state.held ≡ None) }
+    ensures no_parser_time { result ≡ NEXT_NO_PARSER → KeepsTime parser.old parser.new }
+    ensures refused_needs { result ≡ NEXT_NO_MEMORY → (parser.old.timing.held ≡ None) ⊎ FlushNeedsMemory parser.old.state.held }
+    ensures refused_due { result ≡ NEXT_NO_MEMORY → (parser.old.timing.held ≡ None)
+        ⊎ MayBeFlushed parser.old.state.held parser.old.since (times parser.old.timing.held) now }
     ensures refused { result ≡ NEXT_NO_MEMORY → times parser.new.timing.held ≡ times parser.old.timing.held }
     ensures refused_since { result ≡ NEXT_NO_MEMORY → parser.new.since ≡ parser.old.since }
     ensures same { result ≢ NEXT_EVENT → parser.new.state.held ≡ parser.old.state.held }
@@ -121,12 +140,11 @@ pub extern "C" fn hed_parser_expire(
         return NEXT_NO_PARSER;
     };
     let noted = timing.noted(now, held.seen(&timing.policy, since));
-    if since.expiring || noted.timer.is_due(now) {
-        let told = if since.expiring { timing } else { noted };
-        let answer = next_flushed(alloc, parser, told, event);
-        if answer != NEXT_NONE {
-            return answer;
-        }
+    if since.expiring {
+        return next_flushed(alloc, parser, timing, noted, event);
+    }
+    if noted.timer.is_due(now) {
+        return next_flushed(alloc, parser, noted, noted, event);
     }
     if parser.tell(alloc, noted, Since::new()) {
         NEXT_NONE

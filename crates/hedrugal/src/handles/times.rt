@@ -1,5 +1,5 @@
 // The limits in time of what C holds.
-ghost use Rattle.std.specs.Prelude.{◌≡◌, ◌≢◌, None, Some, true, false};
+ghost use Rattle.std.specs.Prelude.{◌≡◌, None, Some, true, false};
 ghost use Rattle.hedrugal.specs.Timings.{times};
 
 use super::{ExtendedHandle, ParserHandle};
@@ -24,7 +24,7 @@ impl ParserHandle {
         ensures state { self.new.state.held ≡ self.old.state.held }
         ensures refused { result ≡ false → self.new.timing.held ≡ self.old.timing.held }
         ensures refused_since { result ≡ false → self.new.since ≡ self.old.since }
-        ensures granted { self.old.timing.held ≢ None → result ≡ true }
+        ensures granted { result ≡ false → self.old.timing.held ≡ None }
     {
         self.view().tell(alloc, timing, since)
     }
@@ -48,7 +48,7 @@ impl ExtendedHandle {
         ensures state { self.new.state.held ≡ self.old.state.held }
         ensures refused { result ≡ false → self.new.timing.held ≡ self.old.timing.held }
         ensures refused_since { result ≡ false → self.new.since ≡ self.old.since }
-        ensures granted { self.old.timing.held ≢ None → result ≡ true }
+        ensures granted { result ≡ false → self.old.timing.held ≡ None }
     {
         self.view().tell(alloc, timing, since)
     }
