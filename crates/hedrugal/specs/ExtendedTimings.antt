@@ -68,7 +68,7 @@ abbrev pub FlushNeedsMemory : Option ExtendedAndText → Type 0
 FlushNeedsMemory (Some held) = IsOpenPaste held.parser.text ⊎ HasItemThatNeedsMemory held.parser.protocol held.parser.text false
 FlushNeedsMemory None = ⊥
 
--- what is buffered may be flushed at this time
+-- a flush goes on, or what is buffered is due at this time
 abbrev pub MayBeFlushed : Option ExtendedAndText → Since → Timing → ℕ → Type 0
 MayBeFlushed held since before now = (after : Timing) × IsFlushed held since before now after
 

@@ -85,7 +85,7 @@ abbrev pub FlushNeedsMemory : Option ParserAndPaste → Type 0
 FlushNeedsMemory (Some held) = IsOpenPaste held.parser ⊎ HasPaste held.parser false
 FlushNeedsMemory None = ⊥
 
--- what is buffered may be flushed at this time
+-- a flush goes on, or what is buffered is due at this time
 abbrev pub MayBeFlushed : Option ParserAndPaste → Since → Timing → ℕ → Type 0
 MayBeFlushed held since before now = (after : Timing) × IsFlushed held since before now after
 
