@@ -1341,11 +1341,13 @@ static void counts_from_what_it_says(hed_parser *parser, const hed_parser *other
   EXPECT(hed_parser_timeout(parser, 940) == 10 && NEXT(parser, "\033", true) == HED_NEXT_NONE && hed_parser_timeout(parser, 945) == 50);
 }
 
-/* Once begun, a flush goes on whatever the time is, unless bytes are fed. */
+/* Once begun, a flush goes on whatever the time is, unless bytes are fed. What it hasn't emitted yet may not wait. */
 static void goes_on_flushing(hed_parser *parser, const hed_parser *other) {
   EXPECT(hed_parser_init_sharing(parser, other) && NEXT(parser, "\033[1;", true) == HED_NEXT_NONE && hed_parser_timeout(parser, 0) == 1000);
   EXPECT(hed_parser_expire(parser, 1000, &taken) == HED_NEXT_EVENT && is_key(HED_KEY_CHAR, '[', HED_TERMWIZ_MOD_ALT));
+  EXPECT(hed_parser_timeout(parser, 0) == 0);
   EXPECT(hed_parser_expire(parser, 0, &taken) == HED_NEXT_EVENT && is_key(HED_KEY_CHAR, '1', HED_TERMWIZ_MOD_NONE));
+  EXPECT(hed_parser_set_policy(parser, &usual_policy) && hed_parser_timeout(parser, 1000) == 0);
   EXPECT(FEED(parser, "\033") && hed_parser_expire(parser, 1000, &taken) == HED_NEXT_NONE && hed_parser_waiting_len(parser) == 2);
   EXPECT(take(parser, true) == HED_NEXT_EVENT && is_key(HED_KEY_CHAR, ';', HED_TERMWIZ_MOD_NONE));
   EXPECT(take(parser, true) == HED_NEXT_NONE && hed_parser_timeout(parser, 1000) == 50);

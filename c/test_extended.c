@@ -996,7 +996,7 @@ static void expires(const hed_extended *other) {
   hed_extended_free(&parser);
 }
 
-/* The limits that are set hold. A flush goes on whatever the time is, unless bytes are fed. */
+/* The limits that are set hold. A flush goes on whatever the time is, unless bytes are fed. What it hasn't emitted yet may not wait. */
 static void expires_by_its_limits(const hed_extended *other) {
   static const hed_policy never = { -1, -1, -1, -1, -1, -1 }, at_once = { 0, 0, 0, 0, 0, 0 };
   hed_extended parser = HED_EXTENDED_NONE;
@@ -1015,7 +1015,8 @@ static void expires_by_its_limits(const hed_extended *other) {
   EXPECT(hed_extended_expire(&parser, 1 << 20, &event) == HED_NEXT_NONE && hed_extended_set_policy(&parser, &at_once));
   EXPECT(hed_extended_expire(&parser, 1 << 20, &event) == HED_NEXT_EVENT && hed_extended_expire(&parser, 0, &event) == HED_NEXT_EVENT);
   tell_event(&parser, &event);
-  EXPECT(FEED(&parser, "q") && hed_extended_set_policy(&parser, &never) && hed_extended_expire(&parser, 0, &event) == HED_NEXT_NONE);
+  EXPECT(hed_extended_set_policy(&parser, &never) && hed_extended_timeout(&parser, 0) == 0);
+  EXPECT(FEED(&parser, "q") && hed_extended_timeout(&parser, 0) == -1 && hed_extended_expire(&parser, 0, &event) == HED_NEXT_NONE);
   tell_events(&parser, true);
   EXPECT(strcmp(told, "Paste(ab); 1; ;; q; ") == 0);
   hed_extended_free(&parser);
