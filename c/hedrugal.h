@@ -204,7 +204,7 @@ enum hed_waiting {
 uint32_t hed_parser_waiting(const hed_parser *parser);
 
 /* Writes the Escape key to *event if ESC alone is buffered, with HED_TERMWIZ_MOD_ALT if ESC ESC is, and consumes it. The caller calls it
- * if it has limits in time of its own: hed_parser_expire does it when the usual limit has passed. Whatever else is buffered stays, so it
+ * if it has limits in time of its own: hed_parser_expire does it when the usual limit has passed. Whatever else is buffered stays. So it
  * breaks only what is cut right after its ESC or ESC ESC: a sequence, the start of a paste, or a key with Alt.
  *
  * Returns HED_NEXT_EVENT, HED_NEXT_NONE if anything else or nothing is buffered, or HED_NEXT_NO_PARSER. *event is written only with
@@ -272,9 +272,9 @@ typedef struct hed_policy {
  * once, at the first call of this, of hed_parser_timeout or of hed_parser_expire. */
 bool hed_parser_set_policy(hed_parser *parser, const hed_policy *policy);
 
-/* Tells the parser what time it is, and returns how many milliseconds what is buffered may still wait, as poll takes it: 0 if it is due, -1
- * if it may wait forever or nothing is buffered. The caller calls it before it waits, once hed_parser_next has returned HED_NEXT_NONE, and
- * hed_parser_expire if that was called: it doesn't know that a flush was begun.
+/* Tells the parser what time it is. Returns how many milliseconds what is buffered may still wait, as poll takes it. That is 0 if it is due
+ * or a flush of it was begun, and -1 if it may wait forever or nothing is buffered. The caller calls it before it waits, once
+ * hed_parser_next has returned HED_NEXT_NONE.
  *
  * now is in milliseconds, of a clock that nobody sets, such as CLOCK_MONOTONIC. If it is before the time that was told last, no time
  * has passed. Bytes count as come when the next call tells the time.
@@ -282,10 +282,10 @@ bool hed_parser_set_policy(hed_parser *parser, const hed_policy *policy);
  * Returns 0 if memory is refused, and -1 if there is no parser. Then nothing changed. */
 int32_t hed_parser_timeout(hed_parser *parser, uint64_t now);
 
-/* Tells the parser what time it is. If what is buffered is due, writes the next event of a flush to *event, and consumes its bytes: of an
- * open paste what hed_parser_end_paste writes, of anything else what hed_parser_next writes with more as false. The caller calls it until
- * it returns HED_NEXT_NONE, if no bytes came for as long as hed_parser_timeout said. Once an event was taken the rest of the flush is due,
- * whatever the time is, unless bytes are fed.
+/* Tells the parser what time it is. If what is buffered is due, writes the next event of a flush to *event, and consumes its bytes. Of an
+ * open paste that is what hed_parser_end_paste writes, of anything else what hed_parser_next writes with more as false. If no bytes came for
+ * as long as hed_parser_timeout said, the caller calls it until it returns HED_NEXT_NONE. Once an event was taken the rest of the flush is
+ * due, whatever the time is, unless bytes are fed.
  *
  * Returns HED_NEXT_EVENT, HED_NEXT_NONE if nothing is due or left, HED_NEXT_NO_MEMORY, or HED_NEXT_NO_PARSER. *event is written only with
  * HED_NEXT_EVENT. With HED_NEXT_NO_MEMORY nothing changed, and the call may be made again. */
