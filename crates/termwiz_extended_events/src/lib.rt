@@ -9,5 +9,5 @@ mod key_reports;
 pub mod meanings;
 mod numbers;
 mod replies;
-mod reported_keys;
+pub mod reported_keys;
 pub mod types;

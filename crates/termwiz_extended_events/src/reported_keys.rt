@@ -1,4 +1,4 @@
-// The keys of control sequences, by their letters and their numbers.
+//! The keys of control sequences, by their letters and their numbers.
 ghost use Rattle.std.specs.Prelude.{◌≡◌, option_map};
 ghost use Rattle.termwiz_extended_events.specs.ReportedKeys.{entry_at, lettered_keys, keypad_keys, console_keys, functional_key, is_functional, key_of, tilde_key};
 ghost use Rattle.termwiz_keys.specs.declared.types.KeyCode.TheVariants.{Function};
@@ -159,9 +159,10 @@ pub(crate) fn keypad_key(letter: u8) -> Option<ReportedKey>
     entry_of(KEYPAD_KEYS, letter)
 }
 
-// The functional key of a number.
+/// Returns the key of a number in Kitty's table of functional keys: by its name where [`KeyCode`] has one, and else
+/// `Functional` of the number ("Functional key definitions" of Kitty's page).
 #[tactic(auto, unfolding(crate::specs::ReportedKeys::functional_key))]
-fn functional_key(number: u32) -> ReportedKey
+pub fn functional_key(number: u32) -> ReportedKey
     ensures { result ≡ functional_key number }
 {
     if 57376 <= number && number <= 57398 {

@@ -1,0 +1,2 @@
+pub mod HeldBits
+pub mod MainKeyFacts

@@ -1,0 +1,3 @@
+pub mod MainKeys
+pub mod Presses
+pub mod PressLaws

@@ -1,0 +1,59 @@
+-- The laws of presses.
+use Rattle.std.specs.Prelude.{◌≡◌, ◌↔◌, ◌⊎◌, ◌≤◌, ℕ, ◌+◌, Bool, true, false, [], Option, Some, None, IsSome, bit_and}
+use Rattle.std.specs.Char.{is_control}
+use Rattle.termwiz_base.specs.declared.modifiers.Modifiers.{Modifiers}
+use Rattle.termwiz_keys.specs.declared.types.KeyCode.TheVariants.{Char}
+use Rattle.termwiz_keys.specs.declared.types.KeyEvent.{KeyEvent}
+use Rattle.termwiz_extended_events.specs.declared.types.KeyReport.{KeyReport}
+use Rattle.termwiz_extended_events.specs.declared.types.KeyEventKind.TheVariants.{Press, Release}
+use Rattle.termwiz_extended_events.specs.declared.types.ReportedKey.TheVariants.{Named}
+use Rattle.termwiz_extended_events.specs.KeyReports.{report_of}
+use Rattle.termwiz_bindings.specs.declared.press.KeyPress.{KeyPress}
+use Rattle.termwiz_bindings.specs.Presses.{canonical, second, typed_text, all_but_locks, is_shortcut, event_report, main_press, shown_press, control_press, capital_press, unshifted_press, lowered_press}
+
+-- a press as the report of a press that says no more
+abbrev pub report_of_press : KeyPress → KeyReport
+report_of_press p = report_of p.key (record { modifiers = p.held; kind = Press })
+
+-- Each press that a report has is its own press.
+abbrev pub PressesSettle : Type 0
+PressesSettle = (r : KeyReport) (p : KeyPress) → canonical r ≡ Some p → canonical (report_of_press p) ≡ Some p
+
+-- a rule that changes nothing where it was applied before
+abbrev pub IsSettled : (KeyPress → KeyPress) → Type 0
+IsSettled rule = (p : KeyPress) → rule (rule p) ≡ rule p
+
+-- A release has no press.
+abbrev pub NoPressOfRelease : Type 0
+NoPressOfRelease = (r : KeyReport) → r.kind ≡ Release → canonical r ≡ None
+
+-- Two reports that differ in the locks alone have the same press.
+abbrev pub LocksChangeNothing : Type 0
+LocksChangeNothing = (r : KeyReport) (modifiers : ℕ)
+    → bit_and modifiers all_but_locks ≡ bit_and r.modifiers all_but_locks
+    → canonical (record r { modifiers = modifiers }) ≡ canonical r
+
+-- the port's bits of SHIFT, ALT, CTRL and SUPER: all but LEADER and those that tell which of two keys is held
+abbrev pub told_of_event : ℕ
+told_of_event = 2 + 4 + 8 + 16
+
+-- Two events of a key that differ in no other modifiers have the same press.
+abbrev pub SidesChangeNothing : Type 0
+SidesChangeNothing = (k : KeyEvent) (held : Modifiers)
+    → bit_and held.0 told_of_event ≡ bit_and k.modifiers.0 told_of_event
+    → canonical (event_report (record k { modifiers = held })) ≡ canonical (event_report k)
+
+-- A report has a press or a text to insert, and never both.
+abbrev pub NeverBoth : Type 0
+NeverBoth = (r : KeyReport) → (canonical r ≡ None) ⊎ (typed_text r ≡ [])
+
+-- the report has a press with a modifier beside SHIFT, its key a character that isn't of ASCII, and a base character
+pub record IsTriedTwice (r : KeyReport) : Type 0 where
+  pub press : IsSome (canonical r)
+  pub shortcut : is_shortcut r.modifiers ≡ true
+  pub beyond_ascii : (c : ℕ) × (r.key ≡ Named (Char c)) × (128 ≤ c)
+  pub base : (b : ℕ) × (r.base ≡ Some b) × (is_control b ≡ false)
+
+-- Exactly such a report has a second press.
+abbrev pub SecondOnlyOf : Type 0
+SecondOnlyOf = (r : KeyReport) → IsSome (second r) ↔ IsTriedTwice r
