@@ -1,7 +1,39 @@
 //! Laws of presses, each the contract of a function without effect.
-ghost use Rattle.termwiz_bindings.specs.PressLaws.{PressesSettle};
+ghost use Rattle.std.specs.Prelude.{ℕ, Option};
+ghost use Rattle.termwiz_bindings.specs.Presses.{main_press, shown_press, control_press, capital_press, unshifted_press, lowered_press};
+ghost use Rattle.termwiz_bindings.specs.PressLaws.{IsSettled, LocksChangeNothing, NeverBoth, NoPressOfRelease, PressesSettle, SecondOnlyOf, SidesChangeNothing};
 
-/// A press, taken as a report of a press that says no more, is its own press. So a program may read its presses again.
+/// A press, taken as a report that says no more, is its own press. So a program may keep presses, and read them as reports again.
 pub fn presses_settle()
     ensures { PressesSettle }
+{}
+
+/// Each rule changes nothing where it was applied before: that of main keys, what a key types with Shift, control characters, capital
+/// letters, where SHIFT is dropped, and where a letter is told in lower case.
+pub fn rules_settle()
+    ensures main_key { IsSettled main_press }
+    ensures shown { (shifted : Option ℕ) → IsSettled (shown_press shifted) }
+    ensures control { IsSettled control_press }
+    ensures capital { IsSettled capital_press }
+    ensures unshifted { IsSettled unshifted_press }
+    ensures lowered { IsSettled lowered_press }
+{}
+
+/// Caps Lock and Num Lock, as modifiers of a report, change no press (`locks`). Neither do those modifiers of an event that tell which of
+/// two keys is held, nor LEADER (`sides`).
+pub fn nothing_from_locks_and_sides()
+    ensures locks { LocksChangeNothing }
+    ensures sides { SidesChangeNothing }
+{}
+
+/// A release has no press (`release`), and no report has both a press and a text to insert (`text`).
+pub fn no_press()
+    ensures release { NoPressOfRelease }
+    ensures text { NeverBoth }
+{}
+
+/// A report has a second press exactly if it has a press with a modifier beside SHIFT, its key is a character that isn't of ASCII,
+/// and the terminal told what the same place types on a PC-101 keyboard.
+pub fn second_presses()
+    ensures { SecondOnlyOf }
 {}

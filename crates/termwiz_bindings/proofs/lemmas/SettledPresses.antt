@@ -1,0 +1,138 @@
+-- Each press is its own press.
+use Rattle.std.proofs.Common.{◌≡◌, ◌≢◌, ◌∙◌, ◌⊎◌, inl, inr, ⊎_elim, ℕ, Bool, true, false, not, ◌==◌, ◌&&◌, ◌||◌, bit_and, List, [], ◌∷◌, refl, sym, ap, subst, arith, Option, Some, None}
+use Rattle.std.specs.Prelude.{if◌then◌else◌, is_some}
+use Rattle.std.specs.List.{list_any}
+use Rattle.std.specs.Char.{is_control, is_ascii_control, is_ascii_uppercase, to_ascii_uppercase}
+use Rattle.std.specs.Str.{chars}
+use Rattle.std.proofs.lemmas.Bool.{and_parts}
+use Rattle.std.proofs.lemmas.Bool.Decides.{nat_tests}
+use Rattle.termwiz_keys.specs.declared.types.KeyCode.TheVariants.{Char}
+use Rattle.termwiz_extended_events.specs.declared.types.KeyReport.{KeyReport}
+use Rattle.termwiz_extended_events.specs.declared.types.KeyEventKind.{KeyEventKind}
+use Rattle.termwiz_extended_events.specs.declared.types.KeyEventKind.TheVariants.{Press, Repeat, Release}
+use Rattle.termwiz_extended_events.specs.declared.types.ReportedKey.{ReportedKey}
+use Rattle.termwiz_extended_events.specs.declared.types.ReportedKey.TheVariants.{Named}
+use Rattle.termwiz_bindings.specs.declared.press.KeyPress.{KeyPress}
+use Rattle.termwiz_bindings.specs.MainKeys.{makes_no_press, main_key}
+use Rattle.termwiz_bindings.specs.Presses.{canonical, typed_text, settled, settled_report, is_release, is_typed, is_counted_text, has_control, typed_press, typed_character, character, character_press, has_shift, counted, main_press, shown_press, control_press, cased_press, capital_press, unshifted_press, lowered_press}
+use Rattle.termwiz_bindings.specs.PressLaws.{report_of_press, PressesSettle}
+use Rattle.termwiz_bindings.proofs.lemmas.HeldBits.{IsHeld, some_held, none_held}
+use Rattle.termwiz_bindings.proofs.lemmas.MainKeyFacts.{main_key_makes}
+use Rattle.termwiz_bindings.proofs.lemmas.CharacterRules.{IsMainPress, main_is_main, main_stays, character_is_main, rules_keep, IsPlain, plain_character, plain_stays, control_plain, cased_plain, cased_settles, shown_settles, other_stays}
+
+-- a press that no rule changes
+pub record IsPress (p : KeyPress) : Type 0 where
+  pub main : IsMainPress p
+  pub plain : IsPlain p.key
+  pub cased : cased_press p ≡ p
+
+none_shown : (key : ReportedKey) (held : ℕ)
+    → shown_press None (record { key = key; held = held }) ≡ record { key = key; held = held }
+unfolding shown_press
+none_shown (Named (Char c)) held = refl
+none_shown key held = refl
+
+-- it is its own press
+own_press : (p : KeyPress) → IsPress p → canonical (report_of_press p) ≡ Some p
+unfolding canonical settled
+own_press p is =
+    rw (is.main.makes, main_stays p is.main, none_shown p.key p.held, plain_stays p is.plain, is.cased) refl
+
+-- what the rules make is a press
+settled_is_press : (shifted : Option ℕ) (p : KeyPress) → makes_no_press p.key ≡ false → IsPress (settled shifted p)
+unfolding settled
+settled_is_press shifted p makes =
+    let shown : KeyPress = shown_press (counted shifted) (main_press p) in
+    record {
+      main = rules_keep (counted shifted) (main_press p) (main_is_main p makes);
+      plain = cased_plain (control_press shown) (control_plain shown);
+      cased = cased_settles (control_press shown);
+    }
+
+-- a typed character is a press
+typed_cased : (c held : ℕ) (b : Bool) → (c == 32) ≡ b → cased_press (typed_character c held) ≡ typed_character c held
+unfolding cased_press capital_press unshifted_press lowered_press
+typed_cased c held true is =
+    let space : c ≡ 32 = grind (arith, nat_tests) in
+    subst (λ d. cased_press (typed_character d held) ≡ typed_character d held) (sym space)
+    (space_cased (bit_and held 1) (has_shift (bit_and held 1)) refl)
+  where
+    space_cased : (bits : ℕ) (s : Bool) → has_shift bits ≡ s
+        → cased_press (character_press 32 bits) ≡ character_press 32 bits
+    space_cased bits true told = rw told refl
+    space_cased bits false told = rw told refl
+typed_cased c held false is = rw (is, is, no_capital (is_ascii_uppercase c)) refl
+  where
+    no_capital : (b : Bool) → (b && false) ≡ false
+    no_capital true = refl
+    no_capital false = refl
+
+typed_is_press : (c held : ℕ) → is_control c ≡ false → IsPress (typed_character c held)
+typed_is_press c held counted_one = record {
+  main = character_is_main c _ (typed_held (c == 32));
+  plain = plain_character c (grind (arith, nat_tests));
+  cased = typed_cased c held (c == 32) refl;
+}
+  where
+    typed_held : (b : Bool) → IsHeld (if b then bit_and held 1 else 0)
+    typed_held true = some_held held 1 refl
+    typed_held false = refl
+
+-- a text that counts has no control characters
+counted_text : (text : List ℕ) → is_counted_text text ≡ true → has_control text ≡ false
+counted_text [] is = cc
+counted_text (b ∷ bs) is = go (has_control (b ∷ bs)) is
+  where
+    go : (control : Bool) → not control ≡ true → control ≡ false
+    go false none = refl
+    go true none = cc
+
+typed_text_counts : (r : KeyReport) → is_typed r ≡ true → has_control r.text ≡ false
+typed_text_counts r is = counted_text r.text (and_parts (is_counted_text r.text) _ is).0
+
+only_one : (cs : List ℕ) (held : ℕ) (p : KeyPress) → typed_press cs held ≡ Some p
+    → (c : ℕ) × (cs ≡ c ∷ []) × (typed_character c held ≡ p)
+unfolding typed_press
+only_one (c ∷ []) held p is = (c, refl, cc)
+only_one [] held p is = cc
+only_one (c ∷ d ∷ cs) held p is = cc
+
+only_counts : (c : ℕ) → list_any is_control (c ∷ []) ≡ false → is_control c ≡ false
+only_counts c none = go (is_control c) none
+  where
+    go : (b : Bool) → (b || false) ≡ false → b ≡ false
+    go false is = refl
+    go true is = cc
+
+typed_own : (r : KeyReport) (p : KeyPress) → is_typed r ≡ true → typed_press (chars r.text) r.modifiers ≡ Some p → IsPress p
+typed_own r p typed is =
+    let one = only_one (chars r.text) r.modifiers p is in
+    let none : list_any is_control (one.0 ∷ []) ≡ false =
+    subst (λ cs. list_any is_control cs ≡ false) one.1 (typed_text_counts r typed) in
+    subst IsPress one.2 (typed_is_press one.0 r.modifiers (only_counts one.0 none))
+
+-- what a report has is a press
+pub canonical_is_press : (r : KeyReport) (p : KeyPress) → canonical r ≡ Some p → IsPress p
+unfolding canonical
+canonical_is_press r p is = released (is_release r.kind) is
+  where
+    typed : makes_no_press r.key ≡ false → (b : Bool) → is_typed r ≡ b
+        → (if b then typed_press (chars r.text) r.modifiers else Some (settled_report r)) ≡ Some p → IsPress p
+    typed makes true told some = typed_own r p told some
+    typed makes false told some =
+        let same : settled_report r ≡ p = cc in
+        subst IsPress same (settled_is_press r.shifted (record { key = r.key; held = r.modifiers }) makes)
+    pressed : (b : Bool) → makes_no_press r.key ≡ b
+        → (if b then None else (if is_typed r then typed_press (chars r.text) r.modifiers else Some (settled_report r))) ≡ Some p
+        → IsPress p
+    pressed true makes some = cc
+    pressed false makes some = typed makes (is_typed r) refl some
+    released : (b : Bool)
+        → (if b then None else (if makes_no_press r.key then None
+        else (if is_typed r then typed_press (chars r.text) r.modifiers else Some (settled_report r)))) ≡ Some p
+        → IsPress p
+    released true some = cc
+    released false some = pressed (makes_no_press r.key) refl some
+
+pub presses_settle : PressesSettle
+presses_settle r p is = own_press p (canonical_is_press r p is)
