@@ -1,5 +1,5 @@
 -- The laws of presses.
-use Rattle.std.specs.Prelude.{◌≡◌, ◌↔◌, ◌⊎◌, ◌≤◌, ℕ, ◌+◌, Bool, true, false, [], Option, Some, None, IsSome, bit_and}
+use Rattle.std.specs.Prelude.{◌≡◌, ◌↔◌, ◌⊎◌, ◌<◌, ◌≤◌, ℕ, ◌+◌, true, false, [], Some, None, IsSome, bit_and}
 use Rattle.std.specs.Char.{is_control}
 use Rattle.termwiz_base.specs.declared.modifiers.Modifiers.{Modifiers}
 use Rattle.termwiz_keys.specs.declared.types.KeyCode.TheVariants.{Char}
@@ -9,7 +9,7 @@ use Rattle.termwiz_extended_events.specs.declared.types.KeyEventKind.TheVariants
 use Rattle.termwiz_extended_events.specs.declared.types.ReportedKey.TheVariants.{Named}
 use Rattle.termwiz_extended_events.specs.KeyReports.{report_of}
 use Rattle.termwiz_bindings.specs.declared.press.KeyPress.{KeyPress}
-use Rattle.termwiz_bindings.specs.Presses.{canonical, second, typed_text, all_but_locks, is_shortcut, event_report, main_press, shown_press, control_press, capital_press, unshifted_press, lowered_press}
+use Rattle.termwiz_bindings.specs.Presses.{canonical, second, typed_text, all_but_locks, is_shortcut, event_report}
 
 -- a press as the report of a press that says no more
 abbrev pub report_of_press : KeyPress → KeyReport
@@ -18,6 +18,10 @@ report_of_press p = report_of p.key (record { modifiers = p.held; kind = Press }
 -- Each press that a report has is its own press.
 abbrev pub PressesSettle : Type 0
 PressesSettle = (r : KeyReport) (p : KeyPress) → canonical r ≡ Some p → canonical (report_of_press p) ≡ Some p
+
+-- Its modifiers are the six of kitty's bits that aren't locks.
+abbrev pub PressesHaveNoLocks : Type 0
+PressesHaveNoLocks = (r : KeyReport) (p : KeyPress) → canonical r ≡ Some p → p.held < 64
 
 -- a rule that changes nothing where it was applied before
 abbrev pub IsSettled : (KeyPress → KeyPress) → Type 0

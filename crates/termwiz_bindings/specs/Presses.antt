@@ -1,5 +1,5 @@
 -- The press of a key report. Rules 1 to 4 decide at once, the first that fits. Rules 5 to 10 are applied in turn to any other report.
-use Rattle.std.specs.Prelude.{ℕ, ◌+◌, Bool, true, false, not, ◌==◌, ◌&&◌, ◌||◌, List, [], ◌∷◌, nat_le, bit_and, bit_or, Option, Some, None, option_map, option_and_then, is_some, if◌then◌else◌}
+use Rattle.std.specs.Prelude.{ℕ, ◌+◌, Bool, true, false, not, ◌==◌, ◌&&◌, ◌||◌, List, [], ◌∷◌, nat_le, bit_and, bit_or, Option, Some, None, option_and_then, is_some, if◌then◌else◌}
 use Rattle.std.specs.Char.{is_control, is_ascii_control, is_ascii_uppercase, to_ascii_uppercase, to_ascii_lowercase}
 use Rattle.std.specs.List.{list_any}
 use Rattle.std.specs.Str.{chars}
@@ -12,7 +12,7 @@ use Rattle.termwiz_extended_events.specs.declared.types.KeyReport.{KeyReport}
 use Rattle.termwiz_extended_events.specs.declared.types.KeyEventKind.{KeyEventKind}
 use Rattle.termwiz_extended_events.specs.declared.types.KeyEventKind.TheVariants.{Press, Release}
 use Rattle.termwiz_extended_events.specs.declared.types.ReportedKey.{ReportedKey}
-use Rattle.termwiz_extended_events.specs.declared.types.ReportedKey.TheVariants.{Named, Functional}
+use Rattle.termwiz_extended_events.specs.declared.types.ReportedKey.TheVariants.{Named}
 use Rattle.termwiz_extended_events.specs.ReportedKeys.{entry_at}
 use Rattle.termwiz_extended_events.specs.KeyReports.{report_of}
 use Rattle.termwiz_bindings.specs.declared.press.KeyPress.{KeyPress}
@@ -139,7 +139,7 @@ control_character c held None = character_press (uncontrolled c) (bit_or held CT
 unfoldable pub control_press : KeyPress → KeyPress
 control_press p =
     by_character (λ c held. if is_ascii_control c then control_character c held (entry_at control_keys c)
-        else character_press c held) p (character p.key)
+    else character_press c held) p (character p.key)
 
 -- 8: a to z with SHIFT are A to Z
 unfoldable pub capital_press : KeyPress → KeyPress
@@ -155,8 +155,8 @@ unshifted_press p =
 unfoldable pub lowered_press : KeyPress → KeyPress
 lowered_press p =
     by_character (λ c held. if is_ascii_uppercase c && has_any held all_but_shift_and_alt
-        then character_press (to_ascii_lowercase c) (with_shift held)
-        else character_press c held) p (character p.key)
+    then character_press (to_ascii_lowercase c) (with_shift held)
+    else character_press c held) p (character p.key)
 
 -- 8 to 10: whether SHIFT or a capital letter tells that SHIFT is held
 unfoldable pub cased_press : KeyPress → KeyPress

@@ -1,11 +1,13 @@
 //! Laws of presses, each the contract of a function without effect.
 ghost use Rattle.std.specs.Prelude.{ℕ, Option};
 ghost use Rattle.termwiz_bindings.specs.Presses.{main_press, shown_press, control_press, capital_press, unshifted_press, lowered_press};
-ghost use Rattle.termwiz_bindings.specs.PressLaws.{IsSettled, LocksChangeNothing, NeverBoth, NoPressOfRelease, PressesSettle, SecondOnlyOf, SidesChangeNothing};
+ghost use Rattle.termwiz_bindings.specs.PressLaws.{IsSettled, LocksChangeNothing, NeverBoth, NoPressOfRelease, PressesHaveNoLocks, PressesSettle, SecondOnlyOf, SidesChangeNothing};
 
-/// A press, taken as a report that says no more, is its own press. So a program may keep presses, and read them as reports again.
+/// A press, taken as a report that says no more, is its own press (`settled`). So a program may keep presses, and read them as reports
+/// again. Of Kitty's bits it has only the six that are no locks (`held`).
 pub fn presses_settle()
-    ensures { PressesSettle }
+    ensures settled { PressesSettle }
+    ensures held { PressesHaveNoLocks }
 {}
 
 /// Each rule changes nothing where it was applied before: that of main keys, what a key types with Shift, control characters, capital

@@ -1,6 +1,6 @@
 -- Each of the rules 5 to 10 changes nothing where it was applied before, and neither do the rules 8 to 10 together.
-use Rattle.std.proofs.Common.{◌≡◌, ◌∙◌, ◌⊎◌, ⊎_elim, ℕ, ◌+◌, ◌-◌, ◌<◌, ◌≤◌, Bool, true, false, not, ◌==◌, ◌&&◌, ◌||◌, nat_le, nat_lt, bit_and, bit_or, List, [], ◌∷◌, refl, sym, ap, subst, arith, lit<, Option, Some, None}
-use Rattle.std.specs.Prelude.{if◌then◌else◌, option_map}
+use Rattle.std.proofs.Common.{◌≡◌, ◌∙◌, ⊎_elim, ℕ, ◌+◌, ◌<◌, ◌≤◌, Bool, true, false, ◌==◌, ◌&&◌, nat_le, nat_lt, bit_and, bit_or, refl, sym, ap, subst, arith, lit<, Option, Some, None}
+use Rattle.std.specs.Prelude.{if◌then◌else◌}
 use Rattle.std.specs.List.{AllByRecursion}
 use Rattle.std.specs.Char.{is_ascii_control, is_ascii_uppercase, is_ascii_lowercase, to_ascii_uppercase, to_ascii_lowercase}
 use Rattle.std.proofs.lemmas.Bool.{and_parts}
@@ -9,13 +9,13 @@ use Rattle.std.proofs.lemmas.Str.Ascii.{uppercase-uppercase, uppercase_is, lower
 use Rattle.termwiz_keys.specs.declared.types.KeyCode.{KeyCode}
 use Rattle.termwiz_keys.specs.declared.types.KeyCode.TheVariants.{Char}
 use Rattle.termwiz_extended_events.specs.declared.types.ReportedKey.{ReportedKey}
-use Rattle.termwiz_extended_events.specs.declared.types.ReportedKey.TheVariants.{Named, Functional}
+use Rattle.termwiz_extended_events.specs.declared.types.ReportedKey.TheVariants.{Named}
 use Rattle.termwiz_extended_events.specs.ReportedKeys.{entry_at}
 use Rattle.termwiz_bindings.specs.declared.press.KeyPress.{KeyPress}
 use Rattle.termwiz_bindings.specs.Presses.{character, character_press, by_character, has_any, has_shift, with_shift, without_shift, all_but_shift_and_alt, shown_character, shown_press, control_keys, uncontrolled, control_character, control_press, capital_press, unshifted_press, lowered_press, cased_press, main_press}
 use Rattle.termwiz_bindings.specs.MainKeys.{main_key, main_of_named, main_code, makes_no_press}
 use Rattle.termwiz_bindings.specs.PressLaws.{IsSettled}
-use Rattle.termwiz_bindings.proofs.lemmas.HeldBits.{no_shift, dropped_once, others_stay, is_shifted, others_with_shift, dropped_again, locks_held, IsHeld, more_held, some_held}
+use Rattle.termwiz_bindings.proofs.lemmas.HeldBits.{no_shift, dropped_once, is_shifted, dropped_again, locks_held, IsHeld, more_held, some_held}
 use Rattle.termwiz_bindings.proofs.lemmas.MainKeyFacts.{entry_is, main_key_once, main_key_makes}
 
 -- what holds of the presses of characters, and of all others, holds of each press
@@ -71,6 +71,7 @@ low_uncontrolled c low = zero (c == 0) refl
         → is_ascii_control (if b then 96 + c else 64 + c) ≡ false
     letter true is other = grind (arith, nat_tests)
     letter false is other = grind (arith, nat_tests)
+
     zero : (b : Bool) → (c == 0) ≡ b → is_ascii_control (uncontrolled c) ≡ false
     zero true is = rw is refl
     zero false is = rw is (letter (nat_le c 26) refl is)
@@ -213,7 +214,7 @@ told_once c held = go (c == 32) refl
     go true is =
         let space : c ≡ 32 = grind (arith, nat_tests) in
         subst (λ d. cased_press (lowered_press (unshifted_press (character_press d held)))
-            ≡ lowered_press (unshifted_press (character_press d held))) (sym space)
+        ≡ lowered_press (unshifted_press (character_press d held))) (sym space)
         (space_once held (has_shift held) refl)
     go false is = sign_once c held is (is_lowered c (without_shift held)) refl
 
@@ -276,6 +277,7 @@ control_keeps = by_key (λ p. IsMainPress p → IsMainPress (control_press p))
         → IsMainPress (control_character c held entry)
     named c held is None main = character_is_main (uncontrolled c) (bit_or held 4) (more_held held 4 (lit< tt) is)
     named c held is (Some key) main = record { key = main.0; held = is; makes = main.1 }
+
     characters : (c held : ℕ) → IsHeld held → (b : Bool)
         → IsMainPress (if b then control_character c held (entry_at control_keys c) else character_press c held)
     characters c held is true = named c held is (entry_at control_keys c) (control_main c)

@@ -1,8 +1,8 @@
 -- The bits of the modifiers that are held.
-use Rattle.std.proofs.Common.{◌≡◌, ◌∙◌, ℕ, ◌+◌, ◌-◌, ◌<◌, ◌≤◌, ◌%◌, ◌^◌, Bool, true, false, not, ◌==◌, bit_and, bit_or, refl, sym, ap, subst, arith}
+use Rattle.std.proofs.Common.{◌≡◌, ◌∙◌, ℕ, ◌<◌, ◌≤◌, ◌%◌, true, false, not, ◌==◌, bit_and, bit_or, refl, ap, subst, arith}
 use Rattle.std.proofs.lemmas.Nat.{and_assoc, and_le_r, and_mask, and_or_self, and_or_apart, or_lt}
 use Rattle.std.specs.Int.Bits.{and_zero_r}
-use Rattle.termwiz_bindings.specs.Presses.{has_any, has_shift, with_shift, without_shift, all_but_locks, all_but_shift, all_but_shift_and_alt}
+use Rattle.termwiz_bindings.specs.Presses.{has_any, has_shift, with_shift, without_shift, all_but_locks, all_but_shift_and_alt}
 
 -- the bits are those of modifiers, without the locks
 abbrev pub IsHeld : ℕ → Type 0

@@ -1,5 +1,5 @@
 -- The main name of a key is its own main name, and makes a press where the key does.
-use Rattle.std.proofs.Common.{◌≡◌, ◌⊎◌, inl, inr, ◌∙◌, ℕ, ◌-◌, Bool, true, false, not, ◌==◌, ◌&&◌, ◌||◌, nat_le, List, [], ◌∷◌, refl, sym, ap, subst, arith, Option, Some, None}
+use Rattle.std.proofs.Common.{◌≡◌, ◌∙◌, ℕ, ◌-◌, Bool, true, false, not, ◌==◌, ◌||◌, List, [], ◌∷◌, refl, ap, subst, arith, Option, Some, None}
 use Rattle.std.specs.Prelude.{option_map, unwrap_or, if◌then◌else◌}
 use Rattle.std.specs.List.{AllByRecursion, list_all}
 use Rattle.std.proofs.lemmas.Bool.{and_parts}
@@ -80,8 +80,10 @@ name_of_number n = go (is_high_function n) refl (entry_at named_functional_keys 
     at : (entry : Option KeyCode) → MakesWhere n entry → IsNameOf n (unwrap_or (option_map Named entry) (Functional n))
     at None makes = refl
     at (Some key) makes = makes
+
     high : is_high_function n ≡ true → makes_where n (Function (n - 57363)) ≡ true
     high is = grind (arith, nat_tests)
+
     go : (b : Bool) → is_high_function n ≡ b → (entry : Option KeyCode) → MakesWhere n entry
         → IsNameOf n (if b then Named (Function (n - 57363)) else unwrap_or (option_map Named entry) (Functional n))
     go true is entry makes = high is

@@ -1,6 +1,6 @@
 -- Which reports have a second press, and which a text to insert.
-use Rattle.std.proofs.Common.{◌≡◌, ◌∙◌, ◌⊎◌, inl, inr, ℕ, ◌≤◌, Bool, true, false, not, ◌==◌, ◌&&◌, ◌||◌, nat_le, bit_and, List, [], ◌∷◌, refl, sym, ap, subst, arith, Option, Some, None}
-use Rattle.std.specs.Prelude.{◌↔◌, IsSome, is_some, option_and_then, if◌then◌else◌}
+use Rattle.std.proofs.Common.{◌≡◌, ◌⊎◌, inl, inr, ℕ, ◌≤◌, Bool, true, false, not, ◌&&◌, [], refl, sym, subst, arith, Option, Some, None}
+use Rattle.std.specs.Prelude.{IsSome, is_some, option_and_then, if◌then◌else◌}
 use Rattle.std.specs.Char.{is_control}
 use Rattle.std.specs.Str.{chars}
 use Rattle.std.proofs.lemmas.Bool.{and_parts}
@@ -76,6 +76,7 @@ never_both r = released (is_release r.kind) refl (makes_no_press r.key) refl
     typed false press = inr refl
     typed true (Some p) = inr refl
     typed true None = inl refl
+
     released : (b : Bool) → is_release r.kind ≡ b → (m : Bool) → makes_no_press r.key ≡ m
         → (canonical r ≡ None) ⊎ (typed_text r ≡ [])
     released true is m makes = inr (rw is refl)

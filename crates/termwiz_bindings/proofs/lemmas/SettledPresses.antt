@@ -1,24 +1,21 @@
 -- Each press is its own press.
-use Rattle.std.proofs.Common.{◌≡◌, ◌≢◌, ◌∙◌, ◌⊎◌, inl, inr, ⊎_elim, ℕ, Bool, true, false, not, ◌==◌, ◌&&◌, ◌||◌, bit_and, List, [], ◌∷◌, refl, sym, ap, subst, arith, Option, Some, None}
-use Rattle.std.specs.Prelude.{if◌then◌else◌, is_some}
+use Rattle.std.proofs.Common.{◌≡◌, ℕ, Bool, true, false, not, ◌==◌, ◌&&◌, ◌||◌, bit_and, List, [], ◌∷◌, refl, sym, subst, arith, Option, Some, None}
+use Rattle.std.specs.Prelude.{if◌then◌else◌}
 use Rattle.std.specs.List.{list_any}
-use Rattle.std.specs.Char.{is_control, is_ascii_control, is_ascii_uppercase, to_ascii_uppercase}
+use Rattle.std.specs.Char.{is_control, is_ascii_uppercase}
 use Rattle.std.specs.Str.{chars}
 use Rattle.std.proofs.lemmas.Bool.{and_parts}
 use Rattle.std.proofs.lemmas.Bool.Decides.{nat_tests}
 use Rattle.termwiz_keys.specs.declared.types.KeyCode.TheVariants.{Char}
 use Rattle.termwiz_extended_events.specs.declared.types.KeyReport.{KeyReport}
-use Rattle.termwiz_extended_events.specs.declared.types.KeyEventKind.{KeyEventKind}
-use Rattle.termwiz_extended_events.specs.declared.types.KeyEventKind.TheVariants.{Press, Repeat, Release}
 use Rattle.termwiz_extended_events.specs.declared.types.ReportedKey.{ReportedKey}
 use Rattle.termwiz_extended_events.specs.declared.types.ReportedKey.TheVariants.{Named}
 use Rattle.termwiz_bindings.specs.declared.press.KeyPress.{KeyPress}
-use Rattle.termwiz_bindings.specs.MainKeys.{makes_no_press, main_key}
-use Rattle.termwiz_bindings.specs.Presses.{canonical, typed_text, settled, settled_report, is_release, is_typed, is_counted_text, has_control, typed_press, typed_character, character, character_press, has_shift, counted, main_press, shown_press, control_press, cased_press, capital_press, unshifted_press, lowered_press}
-use Rattle.termwiz_bindings.specs.PressLaws.{report_of_press, PressesSettle}
-use Rattle.termwiz_bindings.proofs.lemmas.HeldBits.{IsHeld, some_held, none_held}
-use Rattle.termwiz_bindings.proofs.lemmas.MainKeyFacts.{main_key_makes}
-use Rattle.termwiz_bindings.proofs.lemmas.CharacterRules.{IsMainPress, main_is_main, main_stays, character_is_main, rules_keep, IsPlain, plain_character, plain_stays, control_plain, cased_plain, cased_settles, shown_settles, other_stays}
+use Rattle.termwiz_bindings.specs.MainKeys.{makes_no_press}
+use Rattle.termwiz_bindings.specs.Presses.{canonical, settled, settled_report, is_release, is_typed, is_counted_text, has_control, typed_press, typed_character, character_press, has_shift, counted, main_press, shown_press, control_press, cased_press, capital_press, unshifted_press, lowered_press}
+use Rattle.termwiz_bindings.specs.PressLaws.{report_of_press, PressesHaveNoLocks, PressesSettle}
+use Rattle.termwiz_bindings.proofs.lemmas.HeldBits.{IsHeld, held_below, some_held}
+use Rattle.termwiz_bindings.proofs.lemmas.CharacterRules.{IsMainPress, main_is_main, main_stays, character_is_main, rules_keep, IsPlain, plain_character, plain_stays, control_plain, cased_plain, cased_settles}
 
 -- a press that no rule changes
 pub record IsPress (p : KeyPress) : Type 0 where
@@ -122,11 +119,13 @@ canonical_is_press r p is = released (is_release r.kind) is
     typed makes false told some =
         let same : settled_report r ≡ p = cc in
         subst IsPress same (settled_is_press r.shifted (record { key = r.key; held = r.modifiers }) makes)
+
     pressed : (b : Bool) → makes_no_press r.key ≡ b
         → (if b then None else (if is_typed r then typed_press (chars r.text) r.modifiers else Some (settled_report r))) ≡ Some p
         → IsPress p
     pressed true makes some = cc
     pressed false makes some = typed makes (is_typed r) refl some
+
     released : (b : Bool)
         → (if b then None else (if makes_no_press r.key then None
         else (if is_typed r then typed_press (chars r.text) r.modifiers else Some (settled_report r)))) ≡ Some p
@@ -136,3 +135,6 @@ canonical_is_press r p is = released (is_release r.kind) is
 
 pub presses_settle : PressesSettle
 presses_settle r p is = own_press p (canonical_is_press r p is)
+
+pub presses_have_no_locks : PressesHaveNoLocks
+presses_have_no_locks r p is = held_below p.held (canonical_is_press r p is).main.held
