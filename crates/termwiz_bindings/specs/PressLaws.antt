@@ -1,5 +1,5 @@
 -- The laws of presses.
-use Rattle.std.specs.Prelude.{◌≡◌, ◌↔◌, ◌⊎◌, ◌<◌, ◌≤◌, ℕ, ◌+◌, true, false, [], Some, None, IsSome, bit_and}
+use Rattle.std.specs.Prelude.{◌≡◌, ◌↔◌, ◌⊎◌, ◌<◌, ◌≤◌, ℕ, ◌+◌, true, false, List, [], Some, None, IsSome, bit_and}
 use Rattle.std.specs.Char.{is_control}
 use Rattle.termwiz_base.specs.declared.modifiers.Modifiers.{Modifiers}
 use Rattle.termwiz_keys.specs.declared.types.KeyCode.TheVariants.{Char}
@@ -9,7 +9,7 @@ use Rattle.termwiz_extended_events.specs.declared.types.KeyEventKind.TheVariants
 use Rattle.termwiz_extended_events.specs.declared.types.ReportedKey.TheVariants.{Named}
 use Rattle.termwiz_extended_events.specs.KeyReports.{report_of}
 use Rattle.termwiz_bindings.specs.declared.press.KeyPress.{KeyPress}
-use Rattle.termwiz_bindings.specs.Presses.{canonical, second, typed_text, all_but_locks, is_shortcut, event_report}
+use Rattle.termwiz_bindings.specs.Presses.{canonical, second, typed_text, with_text, all_but_locks, is_shortcut, event_report}
 
 -- a press as the report of a press that says no more
 abbrev pub report_of_press : KeyPress → KeyReport
@@ -61,3 +61,7 @@ pub record IsTriedTwice (r : KeyReport) : Type 0 where
 -- Exactly such a report has a second press.
 abbrev pub SecondOnlyOf : Type 0
 SecondOnlyOf = (r : KeyReport) → IsSome (second r) ↔ IsTriedTwice r
+
+-- The text of a report says nothing of its second press.
+abbrev pub SecondWithoutText : Type 0
+SecondWithoutText = (r : KeyReport) (text : List ℕ) → second (with_text r text) ≡ second r

@@ -94,8 +94,8 @@ is_release Release = true
 is_release kind = false
 
 -- 3 and 4: what is typed has a text, and no modifiers but SHIFT and the locks
-abbrev pub is_typed : KeyReport → Bool
-is_typed r = is_counted_text r.text && not (is_shortcut r.modifiers)
+abbrev pub is_typed : ℕ → List ℕ → Bool
+is_typed modifiers text = is_counted_text text && not (is_shortcut modifiers)
 
 -- 3: a typed character is its press. SHIFT stays with the space alone.
 abbrev pub typed_character : ℕ → ℕ → KeyPress
@@ -166,6 +166,10 @@ cased_press p = lowered_press (unshifted_press (capital_press p))
 unfoldable pub settled : Option ℕ → KeyPress → KeyPress
 settled shifted p = cased_press (control_press (shown_press (counted shifted) (main_press p)))
 
+-- a report with another text in place of its own
+abbrev pub with_text : KeyReport → List ℕ → KeyReport
+with_text r text = record r { text = text }
+
 -- 5 to 10 for the key and the modifiers of a report
 abbrev pub settled_report : KeyReport → KeyPress
 settled_report r = settled r.shifted (record { key = r.key; held = r.modifiers })
@@ -175,14 +179,14 @@ unfoldable pub canonical : KeyReport → Option KeyPress
 canonical r =
     if is_release r.kind then None
     else (if makes_no_press r.key then None
-    else (if is_typed r then typed_press (chars r.text) r.modifiers
+    else (if is_typed r.modifiers r.text then typed_press (chars r.text) r.modifiers
     else Some (settled_report r)))
 
 -- the text of a report that has no press because it types several characters; any other text is empty
 unfoldable pub typed_text : KeyReport → List ℕ
 typed_text r =
     if is_release r.kind || makes_no_press r.key then []
-    else (if is_typed r && not (is_some (typed_press (chars r.text) r.modifiers)) then r.text else [])
+    else (if is_typed r.modifiers r.text && not (is_some (typed_press (chars r.text) r.modifiers)) then r.text else [])
 
 -- the bits of an event's modifiers as kitty's: the port's bit of SUPER is 16
 unfoldable pub kitty_bits : ℕ → ℕ

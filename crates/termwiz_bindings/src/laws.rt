@@ -1,7 +1,7 @@
 //! Laws of presses, each the contract of a function without effect.
 ghost use Rattle.std.specs.Prelude.{ℕ, Option};
 ghost use Rattle.termwiz_bindings.specs.Presses.{main_press, shown_press, control_press, capital_press, unshifted_press, lowered_press};
-ghost use Rattle.termwiz_bindings.specs.PressLaws.{IsSettled, LocksChangeNothing, NeverBoth, NoPressOfRelease, PressesHaveNoLocks, PressesSettle, SecondOnlyOf, SidesChangeNothing};
+ghost use Rattle.termwiz_bindings.specs.PressLaws.{IsSettled, LocksChangeNothing, NeverBoth, NoPressOfRelease, PressesHaveNoLocks, PressesSettle, SecondOnlyOf, SecondWithoutText, SidesChangeNothing};
 
 /// A press, taken as a report that says no more, is its own press (`settled`). So a program may keep presses, and read them as reports
 /// again. Of Kitty's bits it has only the six that are no locks (`held`).
@@ -35,7 +35,8 @@ pub fn no_press()
 {}
 
 /// A report has a second press exactly if it has a press with a modifier beside SHIFT, its key is a character that isn't of ASCII,
-/// and the terminal told what the same place types on a PC-101 keyboard.
+/// and the terminal told what the same place types on a PC-101 keyboard (`only`). Its text says nothing of it (`text`).
 pub fn second_presses()
-    ensures { SecondOnlyOf }
+    ensures only { SecondOnlyOf }
+    ensures text { SecondWithoutText }
 {}

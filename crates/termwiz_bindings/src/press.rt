@@ -98,11 +98,11 @@ fn is_release(kind: KeyEventKind) -> bool
     matches!(kind, KeyEventKind::Release)
 }
 
-// Whether the report has a text, and no modifiers but SHIFT and the locks.
-fn is_typed(report: &KeyReport) -> bool
-    ensures { result ≡ rules.is_typed report.now }
+// Whether a report with these modifiers and this text is typed: it has a text, and no modifiers but SHIFT and the locks.
+fn is_typed(modifiers: u8, text: &str) -> bool
+    ensures { result ≡ rules.is_typed modifiers text.now }
 {
-    is_counted_text(report.text.as_str()) && !is_shortcut(report.modifiers)
+    is_counted_text(text) && !is_shortcut(modifiers)
 }
 
 // The first character of a text, and the text behind it.
@@ -218,15 +218,23 @@ impl KeyPress {
 
     /// Returns the press of a key report. `None` is for a release, for a modifier or a lock by itself, and for a report that
     /// types several characters: [`typed_text`] returns these. A repeat counts as a press.
-    #[tactic(auto, unfolding(crate::specs::Presses::canonical))]
     pub fn of_report(report: &KeyReport) -> Option<KeyPress>
         ensures { result ≡ canonical report.now }
+    {
+        KeyPress::of_report_typing(report, report.text.as_str())
+    }
+
+    /// Returns the press of a key report with another text in place of its own, as [`KeyPress::of_report`] does. It is for callers
+    /// that have the text elsewhere.
+    #[tactic(auto, unfolding(crate::specs::Presses::canonical))]
+    pub fn of_report_typing(report: &KeyReport, text: &str) -> Option<KeyPress>
+        ensures { result ≡ canonical (rules.with_text report.now text.now) }
     {
         if is_release(report.kind) || makes_no_press(report.key) {
             return None;
         }
-        if is_typed(report) {
-            return typed_press(report.text.as_str(), report.modifiers);
+        if is_typed(report.modifiers, text) {
+            return typed_press(text, report.modifiers);
         }
         Some(settled(report.key, report.modifiers, report.shifted))
     }
@@ -281,10 +289,10 @@ impl KeyPress {
 pub fn typed_text<'a>(report: &'a KeyReport) -> &'a str
     ensures { result.now ≡ rules.typed_text report.now }
 {
-    if is_release(report.kind) || makes_no_press(report.key) || !is_typed(report) {
+    let text = report.text.as_str();
+    if is_release(report.kind) || makes_no_press(report.key) || !is_typed(report.modifiers, text) {
         return "";
     }
-    let text = report.text.as_str();
     match typed_press(text, report.modifiers) {
         Some(_) => "",
         None => text,

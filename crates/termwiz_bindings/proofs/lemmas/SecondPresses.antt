@@ -1,5 +1,5 @@
 -- Which reports have a second press, and which a text to insert.
-use Rattle.std.proofs.Common.{◌≡◌, ◌⊎◌, inl, inr, ℕ, ◌≤◌, Bool, true, false, not, ◌&&◌, [], refl, sym, subst, arith, Option, Some, None}
+use Rattle.std.proofs.Common.{◌≡◌, ◌⊎◌, inl, inr, ℕ, ◌≤◌, Bool, true, false, not, ◌&&◌, List, [], refl, sym, ap, subst, arith, Option, Some, None}
 use Rattle.std.specs.Prelude.{IsSome, is_some, option_and_then, if◌then◌else◌}
 use Rattle.std.specs.Char.{is_control}
 use Rattle.std.specs.Str.{chars}
@@ -11,8 +11,8 @@ use Rattle.termwiz_extended_events.specs.declared.types.ReportedKey.{ReportedKey
 use Rattle.termwiz_extended_events.specs.declared.types.ReportedKey.TheVariants.{Named}
 use Rattle.termwiz_bindings.specs.declared.press.KeyPress.{KeyPress}
 use Rattle.termwiz_bindings.specs.MainKeys.{makes_no_press}
-use Rattle.termwiz_bindings.specs.Presses.{canonical, typed_text, typed_press, is_release, is_typed, is_shortcut, is_beyond_ascii, has_second, second, counted, settled_report, standard_report}
-use Rattle.termwiz_bindings.specs.PressLaws.{IsTriedTwice, NeverBoth, SecondOnlyOf}
+use Rattle.termwiz_bindings.specs.Presses.{canonical, typed_text, with_text, is_counted_text, typed_press, is_release, is_typed, is_shortcut, is_beyond_ascii, has_second, second, counted, settled_report, standard_report}
+use Rattle.termwiz_bindings.specs.PressLaws.{IsTriedTwice, NeverBoth, SecondOnlyOf, SecondWithoutText}
 
 -- a character of a standard keyboard has a press
 standard_some : (base bits : ℕ) → is_some (canonical (standard_report base bits)) ≡ true
@@ -81,4 +81,30 @@ never_both r = released (is_release r.kind) refl (makes_no_press r.key) refl
         → (canonical r ≡ None) ⊎ (typed_text r ≡ [])
     released true is m makes = inr (rw is refl)
     released false is true makes = inr (rw (is, makes) refl)
-    released false is false makes = rw (is, makes) (typed (is_typed r) (typed_press (chars r.text) r.modifiers))
+    released false is false makes = rw (is, makes) (typed (is_typed r.modifiers r.text) (typed_press (chars r.text) r.modifiers))
+
+-- a shortcut types no text, whatever its text is
+never_typed : (r : KeyReport) (text : List ℕ) → is_shortcut r.modifiers ≡ true → canonical (with_text r text) ≡ canonical r
+unfolding canonical
+never_typed r text shortcut = rw (shortcut, no_text (is_counted_text text), no_text (is_counted_text r.text)) refl
+  where
+    no_text : (b : Bool) → (b && false) ≡ false
+    no_text true = refl
+    no_text false = refl
+
+same_second : (r : KeyReport) (text : List ℕ) → has_second (with_text r text) ≡ has_second r
+same_second r text = go (is_shortcut r.modifiers) refl
+  where
+    no_shortcut : (b : Bool) → (b && false) ≡ false
+    no_shortcut true = refl
+    no_shortcut false = refl
+
+    go : (b : Bool) → is_shortcut r.modifiers ≡ b → has_second (with_text r text) ≡ has_second r
+    go true is =
+        ap (λ (press : Option KeyPress). (is_some press && is_shortcut r.modifiers) && is_beyond_ascii r.key) (never_typed r text is)
+    go false is =
+        rw (is, no_shortcut (is_some (canonical (with_text r text))), no_shortcut (is_some (canonical r))) refl
+
+pub second_without_text : SecondWithoutText
+unfolding second
+second_without_text r text = rw (same_second r text) refl

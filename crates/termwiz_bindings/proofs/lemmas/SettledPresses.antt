@@ -84,7 +84,7 @@ counted_text (b ∷ bs) is = go (has_control (b ∷ bs)) is
     go false none = refl
     go true none = cc
 
-typed_text_counts : (r : KeyReport) → is_typed r ≡ true → has_control r.text ≡ false
+typed_text_counts : (r : KeyReport) → is_typed r.modifiers r.text ≡ true → has_control r.text ≡ false
 typed_text_counts r is = counted_text r.text (and_parts (is_counted_text r.text) _ is).0
 
 only_one : (cs : List ℕ) (held : ℕ) (p : KeyPress) → typed_press cs held ≡ Some p
@@ -101,7 +101,7 @@ only_counts c none = go (is_control c) none
     go false is = refl
     go true is = cc
 
-typed_own : (r : KeyReport) (p : KeyPress) → is_typed r ≡ true → typed_press (chars r.text) r.modifiers ≡ Some p → IsPress p
+typed_own : (r : KeyReport) (p : KeyPress) → is_typed r.modifiers r.text ≡ true → typed_press (chars r.text) r.modifiers ≡ Some p → IsPress p
 typed_own r p typed is =
     let one = only_one (chars r.text) r.modifiers p is in
     let none : list_any is_control (one.0 ∷ []) ≡ false =
@@ -113,7 +113,7 @@ pub canonical_is_press : (r : KeyReport) (p : KeyPress) → canonical r ≡ Some
 unfolding canonical
 canonical_is_press r p is = released (is_release r.kind) is
   where
-    typed : makes_no_press r.key ≡ false → (b : Bool) → is_typed r ≡ b
+    typed : makes_no_press r.key ≡ false → (b : Bool) → is_typed r.modifiers r.text ≡ b
         → (if b then typed_press (chars r.text) r.modifiers else Some (settled_report r)) ≡ Some p → IsPress p
     typed makes true told some = typed_own r p told some
     typed makes false told some =
@@ -121,14 +121,14 @@ canonical_is_press r p is = released (is_release r.kind) is
         subst IsPress same (settled_is_press r.shifted (record { key = r.key; held = r.modifiers }) makes)
 
     pressed : (b : Bool) → makes_no_press r.key ≡ b
-        → (if b then None else (if is_typed r then typed_press (chars r.text) r.modifiers else Some (settled_report r))) ≡ Some p
+        → (if b then None else (if is_typed r.modifiers r.text then typed_press (chars r.text) r.modifiers else Some (settled_report r))) ≡ Some p
         → IsPress p
     pressed true makes some = cc
-    pressed false makes some = typed makes (is_typed r) refl some
+    pressed false makes some = typed makes (is_typed r.modifiers r.text) refl some
 
     released : (b : Bool)
         → (if b then None else (if makes_no_press r.key then None
-        else (if is_typed r then typed_press (chars r.text) r.modifiers else Some (settled_report r)))) ≡ Some p
+        else (if is_typed r.modifiers r.text then typed_press (chars r.text) r.modifiers else Some (settled_report r)))) ≡ Some p
         → IsPress p
     released true some = cc
     released false some = pressed (makes_no_press r.key) refl some
