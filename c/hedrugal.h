@@ -773,6 +773,44 @@ uint32_t hed_extended_expire(hed_extended *parser, uint64_t now, hed_extended_ev
 uint32_t hed_encode_kitty(const hed_key_report *report, const uint8_t *text, size_t text_len, uint8_t flags, uint8_t *out, size_t len,
                           size_t *sent_len);
 
+/* The press of a key: the key and the modifiers held with it, the same however the terminal reports the key. A program compares presses,
+ * field by field, and looks up by them what a key does.
+ *
+ * Letters, digits and signs are the characters that they type: Shift with a is HED_KEY_CHAR with 'A'. So HED_KITTY_MOD_SHIFT is held only
+ * with keys that have a name, with the space, and with a to z where CTRL, SUPER, HYPER or META is held too. The keypad and the arrows in
+ * application mode are the keys of the main block, and a control character is its key, or a character with HED_KITTY_MOD_CTRL. */
+typedef struct hed_key_press {
+  uint16_t key; /* an enum hed_key, or 0 for a key that has no name there */
+  uint8_t held; /* a set of HED_KITTY_MOD_.., without the locks */
+  uint32_t detail; /* as in a hed_key_report; 0 for a key that has none */
+} hed_key_press;
+
+/* Writes the press of an event to *press. Which of two keys is held doesn't count, and neither does HED_TERMWIZ_MOD_LEADER.
+ *
+ * Returns false, and *press isn't written, if the event has none: it is no HED_KIND_KEY, or its key is a modifier or a lock by itself or
+ * the mark of a paste. So it does if a number names nothing. No memory is needed, here and in the next two calls. */
+bool hed_key_of_event(const hed_event *event, hed_key_press *press);
+
+/* Writes the press of a key report to *press. text is what the key types, text_len bytes of UTF-8, as hed_extended_text copies them, or
+ * nothing; a text with control characters counts as none. Pass the report of a hed_extended_event whose kind is HED_KIND_REPORT or
+ * HED_KIND_KEY. A repeat counts as a press.
+ *
+ * A program that turns Kitty's protocol on asks for HED_KITTY_FLAG_DISAMBIGUATE_ESCAPE_CODES and HED_KITTY_FLAG_REPORT_ALTERNATE_KEYS, and
+ * with HED_KITTY_FLAG_REPORT_ALL_KEYS_AS_ESCAPE_CODES for HED_KITTY_FLAG_REPORT_ASSOCIATED_TEXT too. Otherwise Ctrl, Shift and 1 is 1 with
+ * HED_KITTY_MOD_CTRL, and not !.
+ *
+ * Returns false, and *press isn't written, if the report has none: it is a release, its key is a modifier or a lock by itself or no key of
+ * Kitty's table, or it types several characters, which a program inserts as it inserts a paste. So it does if a number names nothing, or
+ * the text isn't UTF-8. */
+bool hed_key_of_report(const hed_key_report *report, const uint8_t *text, size_t text_len, hed_key_press *press);
+
+/* Writes a second press of a key report to *press, for a program in which the first one leads nowhere: that of the key at the same place
+ * of a PC-101 keyboard, with the same modifiers. So Ctrl with a Cyrillic letter is tried as Ctrl with a Latin one.
+ *
+ * Returns false, and *press isn't written, unless the report has a press with ALT, CTRL, SUPER, HYPER or META, its key is a character that
+ * isn't of ASCII, and the terminal told base. */
+bool hed_key_second(const hed_key_report *report, hed_key_press *press);
+
 /* Returns the version of the library that is linked, as HED_VERSION_NUMBER has that of the header. */
 uint32_t hed_version(void);
 
@@ -787,6 +825,7 @@ HED_IS(match, sizeof(hed_match) == 16 && offsetof(hed_match, value) == 8);
 HED_IS(extended, sizeof(hed_extended) == 24 && offsetof(hed_extended, state) == 8 && offsetof(hed_extended, timing) == 16);
 HED_IS(policy, sizeof(hed_policy) == 24 && offsetof(hed_policy, string) == 12 && offsetof(hed_policy, paste) == 20);
 HED_IS(report, sizeof(hed_key_report) == 16 && offsetof(hed_key_report, key) == 2 && offsetof(hed_key_report, base) == 12);
+HED_IS(press, sizeof(hed_key_press) == 8 && offsetof(hed_key_press, held) == 2 && offsetof(hed_key_press, detail) == 4);
 HED_IS(extended_event, sizeof(hed_extended_event) == 64 && offsetof(hed_extended_event, row) == 2);
 HED_IS(extended_width, offsetof(hed_extended_event, width) == 12);
 HED_IS(extended_end, offsetof(hed_extended_event, report) == 16 && offsetof(hed_extended_event, input) == 32);

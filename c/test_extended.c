@@ -947,6 +947,136 @@ static void reads_keys_back(hed_extended *parser) {
   EXPECT(reads_back(parser, &whole, "A") && reads_back(parser, &whole, "\303\251\364\217\277\277") && reads_back(parser, &with_base, ""));
 }
 
+/* A press, or one whose key is 0xffff where there is none. */
+#define NO_PRESS \
+  { 0xffff, 0, 0 }
+
+static const hed_key_press unwritten = { 0x5555, 0x55, 0x55555555 };
+
+/* What was written is the press, or nothing where there is none. */
+static void is_press(bool has, const hed_key_press *told, const hed_key_press *wanted) {
+  const hed_key_press *is = has ? wanted : &unwritten;
+  EXPECT(has == (wanted->key != 0xffff));
+  EXPECT(told->key == is->key && told->held == is->held && told->detail == is->detail);
+}
+
+static void tells_presses_of_events(void) {
+  static const struct {
+    uint16_t modifiers, key;
+    uint32_t detail;
+    hed_key_press press;
+  } rows[] = {
+    { HED_TERMWIZ_MOD_CTRL, HED_KEY_APPLICATION_UP_ARROW, 0, { HED_KEY_UP_ARROW, HED_KITTY_MOD_CTRL, 0 } },
+    { HED_TERMWIZ_MOD_NONE, HED_KEY_CHAR, 0, { HED_KEY_CHAR, HED_KITTY_MOD_CTRL, ' ' } },
+    { HED_TERMWIZ_MOD_ALT, HED_KEY_CHAR, 0x1f, { HED_KEY_CHAR, HED_KITTY_MOD_CTRL | HED_KITTY_MOD_ALT, '_' } },
+    { HED_TERMWIZ_MOD_CTRL, HED_KEY_CHAR, '\t', { HED_KEY_TAB, HED_KITTY_MOD_CTRL, 0 } },
+    { HED_TERMWIZ_MOD_CTRL, HED_KEY_CHAR, 'A', { HED_KEY_CHAR, HED_KITTY_MOD_CTRL | HED_KITTY_MOD_SHIFT, 'a' } },
+    { HED_TERMWIZ_MOD_SHIFT, HED_KEY_CHAR, '!', { HED_KEY_CHAR, 0, '!' } },
+    { HED_TERMWIZ_MOD_SHIFT, HED_KEY_CHAR, ' ', { HED_KEY_CHAR, HED_KITTY_MOD_SHIFT, ' ' } },
+    { HED_TERMWIZ_MOD_CTRL | HED_TERMWIZ_MOD_LEFT_CTRL | HED_TERMWIZ_MOD_LEADER,
+      HED_KEY_CHAR,
+      'a',
+      { HED_KEY_CHAR, HED_KITTY_MOD_CTRL, 'a' } },
+    { HED_TERMWIZ_MOD_SUPER, HED_KEY_FUNCTION, 12, { HED_KEY_FUNCTION, HED_KITTY_MOD_SUPER, 12 } },
+    { HED_TERMWIZ_MOD_CTRL, HED_KEY_LEFT_CONTROL, 0, NO_PRESS },
+    { HED_TERMWIZ_MOD_NONE, HED_KEY_CAPS_LOCK, 0, NO_PRESS },
+    { HED_TERMWIZ_MOD_NONE, HED_KEY_INTERNAL_PASTE_END, 0, NO_PRESS },
+    /* what names nothing */
+    { HED_TERMWIZ_MOD_NONE, 0, 57414, NO_PRESS },
+    { HED_TERMWIZ_MOD_NONE, KEYS + 1, 0, NO_PRESS },
+    { HED_TERMWIZ_MOD_NONE, HED_KEY_CHAR, 0xd800, NO_PRESS },
+    { HED_TERMWIZ_MOD_NONE, HED_KEY_FUNCTION, 256, NO_PRESS },
+    { 1, HED_KEY_CHAR, 'a', NO_PRESS },
+  };
+  for (size_t i = 0; i < sizeof rows / sizeof *rows; i++)
+    for (uint8_t kind = 0; kind < 18; kind++) {
+      hed_event event = { .kind = kind, .modifiers = rows[i].modifiers, .key = rows[i].key, .detail = rows[i].detail };
+      hed_key_press press = unwritten, none = NO_PRESS;
+      bool has = hed_key_of_event(&event, &press);
+      is_press(has, &press, kind == HED_KIND_KEY ? &rows[i].press : &none);
+    }
+}
+
+static void tells_presses_of_reports(void) {
+  static const struct {
+    hed_key_report report;
+    const char *text;
+    hed_key_press press, second;
+  } rows[] = {
+    { KEY(HED_KEY_EVENT_KIND_REPEAT, HED_KITTY_MOD_ALT | HED_KITTY_MOD_SHIFT, HED_KEY_CHAR, 'a'),
+      "",
+      { HED_KEY_CHAR, HED_KITTY_MOD_ALT, 'A' },
+      NO_PRESS },
+    { { HED_KEY_EVENT_KIND_PRESS, HED_KITTY_MOD_CTRL | HED_KITTY_MOD_SHIFT | HED_KITTY_MOD_CAPS_LOCK, HED_KEY_CHAR, 'a', 'A', HED_NO_CODE },
+      "",
+      { HED_KEY_CHAR, HED_KITTY_MOD_CTRL | HED_KITTY_MOD_SHIFT, 'a' },
+      NO_PRESS },
+    { { HED_KEY_EVENT_KIND_PRESS, HED_KITTY_MOD_CTRL | HED_KITTY_MOD_SHIFT, HED_KEY_CHAR, '1', '!', HED_NO_CODE },
+      "",
+      { HED_KEY_CHAR, HED_KITTY_MOD_CTRL, '!' },
+      NO_PRESS },
+    { PRESS(HED_KITTY_MOD_CAPS_LOCK, HED_KEY_CHAR, 'a'), "A", { HED_KEY_CHAR, 0, 'A' }, NO_PRESS },
+    { PRESS(0, HED_KEY_CHAR, 'q'), "@", { HED_KEY_CHAR, 0, '@' }, NO_PRESS },
+    { PRESS(0, HED_KEY_CHAR, 0), "fi", NO_PRESS, NO_PRESS },
+    { PRESS(HED_KITTY_MOD_NUM_LOCK, HED_KEY_NUMPAD_5, 0), "5", { HED_KEY_CHAR, 0, '5' }, NO_PRESS },
+    { PRESS(HED_KITTY_MOD_CTRL, 0, 57414), "", { HED_KEY_ENTER, HED_KITTY_MOD_CTRL, 0 }, NO_PRESS },
+    { PRESS(HED_KITTY_MOD_META, 0, 57428), "", { 0, HED_KITTY_MOD_META, 57428 }, NO_PRESS },
+    { PRESS(HED_KITTY_MOD_CTRL, HED_KEY_LEFT_CONTROL, 0), "", NO_PRESS, NO_PRESS },
+    { KEY(HED_KEY_EVENT_KIND_RELEASE, HED_KITTY_MOD_CTRL, HED_KEY_CHAR, 'a'), "", NO_PRESS, NO_PRESS },
+    { { HED_KEY_EVENT_KIND_PRESS, HED_KITTY_MOD_CTRL, HED_KEY_CHAR, 0x441, HED_NO_CODE, 'c' },
+      "",
+      { HED_KEY_CHAR, HED_KITTY_MOD_CTRL, 0x441 },
+      { HED_KEY_CHAR, HED_KITTY_MOD_CTRL, 'c' } },
+    { { HED_KEY_EVENT_KIND_PRESS, HED_KITTY_MOD_ALT | HED_KITTY_MOD_SHIFT, HED_KEY_CHAR, 0x431, 0x411, ',' },
+      "",
+      { HED_KEY_CHAR, HED_KITTY_MOD_ALT, 0x411 },
+      { HED_KEY_CHAR, HED_KITTY_MOD_ALT, '<' } },
+    { { HED_KEY_EVENT_KIND_PRESS, HED_KITTY_MOD_CTRL, HED_KEY_CHAR, 'c', HED_NO_CODE, 'i' },
+      "",
+      { HED_KEY_CHAR, HED_KITTY_MOD_CTRL, 'c' },
+      NO_PRESS },
+    { { HED_KEY_EVENT_KIND_RELEASE, HED_KITTY_MOD_CTRL, HED_KEY_CHAR, 0x441, HED_NO_CODE, 'c' }, "", NO_PRESS, NO_PRESS },
+    /* a text with control characters counts as none, and so does such another character */
+    { PRESS(0, HED_KEY_CHAR, 'a'), "b\t", { HED_KEY_CHAR, 0, 'a' }, NO_PRESS },
+    { { HED_KEY_EVENT_KIND_PRESS, HED_KITTY_MOD_CTRL | HED_KITTY_MOD_SHIFT, HED_KEY_CHAR, 0x441, '\r', 0x7f },
+      "",
+      { HED_KEY_CHAR, HED_KITTY_MOD_CTRL, 0x441 },
+      NO_PRESS },
+    /* what names nothing */
+    { KEY(0, 0, HED_KEY_CHAR, 'a'), "", NO_PRESS, NO_PRESS },
+    { PRESS(0, KEYS + 1, 0), "", NO_PRESS, NO_PRESS },
+    { PRESS(0, 0, 57343), "", NO_PRESS, NO_PRESS },
+    { { HED_KEY_EVENT_KIND_PRESS, HED_KITTY_MOD_CTRL, HED_KEY_CHAR, 0x441, 0xd800, 'c' }, "", NO_PRESS, NO_PRESS },
+    { PRESS(0, HED_KEY_CHAR, 'a'), "\377", NO_PRESS, NO_PRESS },
+  };
+  for (size_t i = 0; i < sizeof rows / sizeof *rows; i++) {
+    hed_key_press press = unwritten, second = unwritten;
+    bool has = hed_key_of_report(&rows[i].report, (const uint8_t *)rows[i].text, strlen(rows[i].text), &press);
+    is_press(has, &press, &rows[i].press);
+    has = hed_key_second(&rows[i].report, &second);
+    is_press(has, &second, &rows[i].second);
+  }
+  hed_key_report letter = PRESS(0, HED_KEY_CHAR, 'a');
+  hed_key_press press = unwritten, wanted = { HED_KEY_CHAR, 0, 'a' };
+  is_press(hed_key_of_report(&letter, NULL, 0, &press), &press, &wanted);
+}
+
+/* Each key with each set of modifiers has a press that is its own press, or none. */
+static void presses_are_their_own(void) {
+  unsigned count = 0;
+  for (uint16_t key = 0; key <= KEYS; key++)
+    for (unsigned held = 0; held < 256; held++) {
+      hed_key_report report = PRESS((uint8_t)held, key, key == HED_KEY_CHAR ? 'a' : key == HED_KEY_FUNCTION ? 1 : key == 0 ? 57428 : 0);
+      hed_key_press press, again = unwritten;
+      if (!hed_key_of_report(&report, NULL, 0, &press)) continue;
+      hed_key_report same = PRESS(press.held, press.key, press.detail);
+      is_press(hed_key_of_report(&same, NULL, 0, &again), &again, &press);
+      EXPECT(press.held < HED_KITTY_MOD_CAPS_LOCK && hed_key_second(&report, &again) == false);
+      count++;
+    }
+  EXPECT(count == (KEYS + 1 - 22) * 256);
+}
+
 /* What a program's loop takes from a parser, when bytes come at these times: each event after its time. */
 struct arrival {
   uint64_t at;
@@ -1053,6 +1183,9 @@ int main(void) {
   encodes_examples();
   refuses_numbers_under_all_flags();
   encodes_a_long_text();
+  tells_presses_of_events();
+  tells_presses_of_reports();
+  presses_are_their_own();
   EXPECT(hed_extended_init(&parser, HED_PROTOCOL_KITTY));
   reads_keys_back(&parser);
   hed_extended_free(&parser);

@@ -73,7 +73,7 @@ def test_types(words):
 
 
 @pytest.mark.parametrize(
-    "text, wanted", listings()[1:], ids=["key map", "extended parser", "key report"]
+    "text, wanted", listings()[1:], ids=["key map", "extended parser", "key report", "presses"]
 )
 def test_listings(text, wanted):
     assert_prints(text, wanted)

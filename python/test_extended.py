@@ -23,6 +23,7 @@ from hedrugal import (
     KeyCode,
     KeyEvent,
     KeyEventKind,
+    KeyPress,
     KeyReport,
     KittyKeyboardFlags,
     KittyModifiers,
@@ -39,6 +40,7 @@ from hedrugal import (
     Waiting,
     extended,
     key_report,
+    typed_text,
 )
 from helpers import assert_rest, constants, events_in_time
 
@@ -837,6 +839,106 @@ def test_refused_memory():
         RuntimeError
     ):
         KeyReport("a").encode(ALL)
+
+
+# Events of the port and their presses.
+EVENT_PRESSES = [
+    (KeyEvent(KeyCode.APPLICATION_UP_ARROW, Modifiers.CTRL), KeyPress(UP, CTRL)),
+    (KeyEvent("\0"), KeyPress(" ", CTRL)),
+    (KeyEvent("\x1f", Modifiers.ALT), KeyPress("_", CTRL | KittyModifiers.ALT)),
+    (KeyEvent("\t", Modifiers.CTRL), KeyPress(KeyCode.TAB, CTRL)),
+    (KeyEvent("A", Modifiers.CTRL), KeyPress("a", CTRL | SHIFT)),
+    (KeyEvent("!", Modifiers.SHIFT), KeyPress("!")),
+    (KeyEvent(" ", Modifiers.SHIFT), KeyPress(" ", SHIFT)),
+    (
+        KeyEvent("a", Modifiers.CTRL | Modifiers.LEFT_CTRL | Modifiers.LEADER),
+        KeyPress("a", CTRL),
+    ),
+    (KeyEvent(Function(3), Modifiers.SUPER), KeyPress(Function(3), KittyModifiers.SUPER)),
+    (KeyEvent(KeyCode.LEFT_CONTROL, Modifiers.CTRL), None),
+    (KeyEvent(KeyCode.INTERNAL_PASTE_END), None),
+    (Paste("a"), None),
+    (FocusGained(), None),
+]
+
+# Key reports, their presses, and the texts to insert.
+REPORT_PRESSES = [
+    (
+        KeyReport("a", KittyModifiers.ALT | SHIFT, REPEAT),
+        KeyPress("A", KittyModifiers.ALT),
+        "",
+    ),
+    (
+        KeyReport("a", CTRL | SHIFT | KittyModifiers.CAPS_LOCK, shifted="A"),
+        KeyPress("a", CTRL | SHIFT),
+        "",
+    ),
+    (KeyReport("1", CTRL | SHIFT, shifted="!"), KeyPress("!", CTRL), ""),
+    (KeyReport("a", KittyModifiers.CAPS_LOCK, text="A"), KeyPress("A"), ""),
+    (KeyReport("q", text="@"), KeyPress("@"), ""),
+    (KeyReport("\0", text="fi"), None, "fi"),
+    (KeyReport(KeyCode.NUMPAD_5, KittyModifiers.NUM_LOCK, text="5"), KeyPress("5"), ""),
+    (KeyReport(57414, CTRL), KeyPress(KeyCode.ENTER, CTRL), ""),
+    (KeyReport(57428), KeyPress(57428), ""),
+    (KeyReport(KeyCode.LEFT_CONTROL, CTRL), None, ""),
+    (KeyReport("a", CTRL, RELEASE), None, ""),
+    (KeyReport("a", SHIFT, RELEASE, text="ab"), None, ""),
+    (KeyReport("a", text="b\t"), KeyPress("a"), ""),
+    (KeyReport("\u0441", CTRL, base="c"), KeyPress("\u0441", CTRL), ""),
+]
+
+# Key reports with their second presses.
+SECOND_PRESSES = [
+    (KeyReport("\u0441", CTRL, base="c"), KeyPress("c", CTRL)),
+    (
+        KeyReport("\u0431", KittyModifiers.ALT | SHIFT, shifted="\u0411", base=","),
+        KeyPress("<", KittyModifiers.ALT),
+    ),
+    (KeyReport("c", CTRL, base="i"), None),
+    (KeyReport("\u0441", base="c"), None),
+    (KeyReport("\u0441", CTRL), None),
+]
+
+
+@pytest.mark.parametrize(("event", "press"), EVENT_PRESSES)
+def test_presses_of_events(event, press):
+    assert KeyPress.of_event(event) == press
+
+
+@pytest.mark.parametrize(("report", "press", "text"), REPORT_PRESSES)
+def test_presses_of_reports(report, press, text):
+    assert KeyPress.of_report(report) == KeyPress.of_event(report) == press
+    assert typed_text(report) == text
+    if press is not None:
+        assert {press: 1}[KeyPress.of_report(KeyReport(press.key, press.held))] == 1
+
+
+@pytest.mark.parametrize(("report", "press"), SECOND_PRESSES)
+def test_second_presses(report, press):
+    assert KeyPress.second(report) == press
+
+
+def test_texts_of_presses():
+    for press, text in [
+        (KeyPress("a"), "a"),
+        (KeyPress(" ", SHIFT), " "),
+        (KeyPress("a", CTRL), None),
+        (KeyPress("\x85"), None),
+        (KeyPress(KeyCode.ENTER), None),
+        (KeyPress(57428), None),
+    ]:
+        assert press.text == text
+
+
+def test_what_has_no_press():
+    assert KeyPress.of_event(KeyEvent("\ud800")) is None
+    assert KeyPress.of_report(KeyReport("a", text="a\ud800")) is None
+    assert KeyPress.of_report(KeyReport(57343)) is None
+    for wrong in (KeyEvent("a", CTRL), KeyReport("a", Modifiers.CTRL), KeyReport("a", kind=1)):
+        with pytest.raises(TypeError):
+            KeyPress.of_event(wrong)
+    with pytest.raises(EncodeError):
+        KeyPress.of_event(KeyEvent("ab"))
 
 
 # Memory for the bytes of an event is refused in Python: the event stays at the front.

@@ -81,6 +81,7 @@ __all__ = [
     "KeyEvent",
     "KeyEventKind",
     "KeyMap",
+    "KeyPress",
     "KeyReport",
     "KittyKeyboardFlags",
     "KittyModifiers",
@@ -102,6 +103,7 @@ __all__ = [
     "Waiting",
     "encode",
     "key_report",
+    "typed_text",
 ]
 
 
@@ -1640,6 +1642,7 @@ from .extended import (  # noqa: E402
     FocusLost,
     KeyboardFlags,
     KeyEventKind,
+    KeyPress,
     KeyReport,
     KittyModifiers,
     Osc,
@@ -1650,4 +1653,5 @@ from .extended import (  # noqa: E402
     StringKind,
     StringPart,
     key_report,
+    typed_text,
 )

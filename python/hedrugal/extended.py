@@ -170,6 +170,87 @@ class KeyReport:
 
 
 @dataclass(frozen=True)
+class KeyPress:
+    r"""A key that was pressed, and the modifiers held with it: one name for the key, whatever mode
+    the terminal is in and whichever protocol it speaks. A program looks up by it what a key does.
+
+        >>> with ExtendedParser(Protocol.KITTY) as parser:
+        ...     events = parser.parse(b"\x1b[65;5u\x1b[97;70u\x1bOA")
+        >>> for event in events:
+        ...     print(KeyPress.of_event(event))
+        KeyPress(key='a', held=KittyModifiers.SHIFT|CTRL)
+        KeyPress(key='a', held=KittyModifiers.SHIFT|CTRL)
+        KeyPress(key=KeyCode.UP_ARROW, held=KittyModifiers.NONE)
+
+    Letters, digits and signs are the characters that they type: Shift with a is A. So SHIFT is held
+    only with keys that have a name, with the space, and with a to z where CTRL, SUPER, HYPER or
+    META is held too. The keypad and the arrows in application mode are the keys of the main block,
+    and the locks are never held.
+
+    A program that turns Kitty's keyboard protocol on should ask for DISAMBIGUATE_ESCAPE_CODES and
+    REPORT_ALTERNATE_KEYS, and with REPORT_ALL_KEYS_AS_ESCAPE_CODES for REPORT_ASSOCIATED_TEXT too.
+    Otherwise Ctrl, Shift and 1 is 1 with CTRL, and not an exclamation mark."""
+
+    key: ReportedKey
+    held: KittyModifiers = KittyModifiers.NONE
+
+    @staticmethod
+    def of_event(event: ExtendedEvent) -> Optional[KeyPress]:
+        """Returns the press of a KeyEvent or a KeyReport, and None for any other event. A modifier
+        or a lock by itself has none. Of the modifiers of a KeyEvent SHIFT, ALT, CTRL and SUPER
+        count: not LEADER, nor which of two keys is held."""
+        if isinstance(event, KeyReport):
+            return KeyPress.of_report(event)
+        if not isinstance(event, KeyEvent):
+            return None
+        if not isinstance(event.modifiers, Modifiers):
+            raise TypeError("a KeyEvent has Modifiers")
+        number, detail = _number_and_detail(event.key)
+        raw = _RawEvent(_KIND_KEY, 0, event.modifiers.value, number, 0, 0, detail, 0)
+        return _written(functools.partial(_library.hed_key_of_event, raw))
+
+    @staticmethod
+    def of_report(report: KeyReport) -> Optional[KeyPress]:
+        """Returns the press of a key report. It is None for a release, for a modifier or a lock by
+        itself, and for a report that types several characters: typed_text returns these. A repeat
+        counts as a press."""
+        return _press_typing(report, report.text)
+
+    @staticmethod
+    def second(report: KeyReport) -> Optional[KeyPress]:
+        r"""Returns a second press of a key report, for a program in which the first one leads
+        nowhere: that of the key at the same place of a PC-101 keyboard, with the same modifiers.
+
+            >>> KeyPress.second(KeyReport("\u0441", KittyModifiers.CTRL, base="c"))
+            KeyPress(key='c', held=KittyModifiers.CTRL)
+
+        It is there only if the terminal told that key as base, the report has a press, one of ALT,
+        CTRL, SUPER, HYPER and META is held, and the key's character isn't of ASCII."""
+        return _written(functools.partial(_library.hed_key_second, _raw_report(report)))
+
+    @property
+    def text(self) -> Optional[str]:
+        """The character that the press types, or None. Nothing but SHIFT is then held. A program
+        inserts it if the press does nothing else. Enter and Tab type none."""
+        if not isinstance(self.key, str) or self.held.value & ~KittyModifiers.SHIFT.value:
+            return None
+        return None if _is_control(self.key) else self.key
+
+
+def typed_text(report: KeyReport) -> str:
+    """Returns the text of a report that has no press because it types several characters, as a
+    compose key or an input method may. It is to be inserted as a paste is. The text of any other
+    report is empty here.
+
+        >>> typed_text(KeyReport("\\0", text="fi"))
+        'fi'"""
+    # Without its text such a report has a press. A release has none, and neither has a modifier.
+    if KeyPress.of_report(report) is None and _press_typing(report, "") is not None:
+        return report.text
+    return ""
+
+
+@dataclass(frozen=True)
 class FocusGained:
     """The terminal's window gained the focus (mode 1004)."""
 
@@ -303,6 +384,14 @@ class _RawReport(ctypes.Structure):
     ]
 
 
+class _RawPress(ctypes.Structure):
+    _fields_ = [
+        ("key", ctypes.c_uint16),
+        ("held", ctypes.c_uint8),
+        ("detail", ctypes.c_uint32),
+    ]
+
+
 class _RawExtendedEvent(ctypes.Structure):
     _fields_ = [
         ("kind", ctypes.c_uint8),
@@ -328,6 +417,7 @@ _NO_CODE = 0xFFFFFFFF
 
 _PARSER = ctypes.POINTER(_RawExtended)
 _REPORT = ctypes.POINTER(_RawReport)
+_PRESS = ctypes.POINTER(_RawPress)
 _EVENT = ctypes.POINTER(_RawExtendedEvent)
 
 # The calls of hedrugal.h: the type of the result, and those of the arguments.
@@ -365,6 +455,9 @@ _CALLS: Dict[str, Tuple[Any, List[Any]]] = {
             _COUNT,
         ],
     ),
+    "hed_key_of_event": (ctypes.c_bool, [ctypes.POINTER(_RawEvent), _PRESS]),
+    "hed_key_of_report": (ctypes.c_bool, [_REPORT, _BYTES, ctypes.c_size_t, _PRESS]),
+    "hed_key_second": (ctypes.c_bool, [_REPORT, _PRESS]),
 }
 _declare(_library, _CALLS)
 
@@ -408,6 +501,27 @@ def _raw_report(report: KeyReport) -> _RawReport:
     return _RawReport(
         kind.value, modifiers.value, number, detail, _code(report.shifted), _code(report.base)
     )
+
+
+def _written(call: Callable[[_RawPress], bool]) -> Optional[KeyPress]:
+    """The press that a call wrote, if it did."""
+    press = _RawPress()
+    if not call(press):
+        return None
+    key = _key(press.key, press.detail) if press.key else press.detail
+    return KeyPress(key, KittyModifiers(press.held))
+
+
+def _press_typing(report: KeyReport, typed: str) -> Optional[KeyPress]:
+    """The press of a report with this text in place of its own."""
+    # A surrogate is passed on: the library refuses it.
+    text, length = _borrowed(str.encode(typed, "utf-8", "surrogatepass"))
+    raw = _raw_report(report)
+    return _written(functools.partial(_library.hed_key_of_report, raw, text, length))
+
+
+def _is_control(character: str) -> bool:
+    return character < " " or "\x7f" <= character <= "\x9f"
 
 
 @functools.lru_cache(maxsize=4096)

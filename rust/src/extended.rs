@@ -4,7 +4,8 @@
 //! termwiz's sequence table: the position of the cursor, focus reports, colours and other strings,
 //! further mouse reports, control sequences, and Kitty's keyboard protocol. docs/EXTENDED.md of the
 //! repository says what bytes mean to it. [`KeyReport::encode`] is the other way: what a terminal
-//! sends for a key under Kitty's keyboard protocol.
+//! sends for a key under Kitty's keyboard protocol. [`KeyPress`] is one name for a key, however its
+//! terminal reports it.
 //!
 //! ```
 //! use hedrugal::extended::{ExtendedEvent, ExtendedParser, Protocol};
@@ -21,8 +22,10 @@
 mod encode;
 mod events;
 mod parser;
+mod press;
 
 pub use crate::input::flags::KittyModifiers;
 pub use encode::KittyEncodeError;
 pub use events::{ExtendedEvent, KeyEventKind, KeyReport, ReportedKey, StringKind};
 pub use parser::{ExtendedParser, ExtendedWaiting, Protocol};
+pub use press::{typed_text, KeyPress};

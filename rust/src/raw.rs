@@ -271,6 +271,15 @@ pub struct KeyReport {
     pub base: u32,
 }
 
+/// A key, and the modifiers held with it.
+#[repr(C)]
+#[derive(Clone, Copy, Default)]
+pub struct KeyPress {
+    pub key: u16,
+    pub held: u8,
+    pub detail: u32,
+}
+
 /// An event of the extended parser. What its kind has no use for is 0.
 #[repr(C)]
 #[derive(Clone, Copy, Default)]
@@ -312,6 +321,11 @@ const _: () = {
         size_of::<KeyReport>() == 16
             && offset_of!(KeyReport, key) == 2
             && offset_of!(KeyReport, base) == 12
+    );
+    assert!(
+        size_of::<KeyPress>() == 8
+            && offset_of!(KeyPress, held) == 2
+            && offset_of!(KeyPress, detail) == 4
     );
     assert!(
         size_of::<ExtendedEvent>() == 64
@@ -413,4 +427,12 @@ extern "C" {
         len: usize,
         sent_len: *mut usize,
     ) -> u32;
+    pub fn hed_key_of_event(event: *const Event, press: *mut KeyPress) -> bool;
+    pub fn hed_key_of_report(
+        report: *const KeyReport,
+        text: *const u8,
+        text_len: usize,
+        press: *mut KeyPress,
+    ) -> bool;
+    pub fn hed_key_second(report: *const KeyReport, press: *mut KeyPress) -> bool;
 }

@@ -4,7 +4,8 @@
  * n up to 7, a string too long for one event repeats the bytes after it, in reads of 4 to the power of n. Its parts bring all of them.
  *
  * The first keys of the stream are encoded. Under all flags of Kitty's protocol what is sent is read as one key report, and that is then
- * read back whole. Under other flags, one set for each key, a room that is too short gets the front of what is sent. */
+ * read back whole. Under other flags, one set for each key, a room that is too short gets the front of what is sent. The press of each is
+ * its own press. */
 #include "fuzz.h"
 #include <string.h>
 
@@ -106,6 +107,24 @@ static void read_back(const event *key, const uint8_t *of_key) {
   HOLDS(same_extended_event(&first, &second));
 }
 
+/* The press of a key is its own press, if it has one, and its locks change nothing. A second one is there only beside the first. */
+static void check_press(const event *key, const uint8_t *of_key) {
+  hed_key_report report = key->report;
+  hed_key_press press, second, again;
+  bool has = hed_key_of_report(&report, of_key, key->text_len, &press);
+  HOLDS(has || report.kind == HED_KEY_EVENT_KIND_RELEASE || report.key == 0 || report.key != HED_KEY_CHAR || key->text_len > 1);
+  HOLDS(!hed_key_second(&report, &second) || (has && report.key == HED_KEY_CHAR && report.detail >= 0x80 && report.base != HED_NO_CODE));
+  if (!has) return;
+  report.modifiers ^= HED_KITTY_MOD_CAPS_LOCK;
+  HOLDS(hed_key_of_report(&report, of_key, key->text_len, &again) && memcmp(&again.detail, &press.detail, sizeof press.detail) == 0);
+  HOLDS(again.key == press.key && again.held == press.held && press.held < HED_KITTY_MOD_CAPS_LOCK);
+  hed_key_report own = { HED_KEY_EVENT_KIND_PRESS, press.held, press.key, press.detail, HED_NO_CODE, HED_NO_CODE };
+  HOLDS(hed_key_of_report(&own, NULL, 0, &again));
+  HOLDS(again.key == press.key && again.held == press.held && again.detail == press.detail);
+  HOLDS(key->kind != HED_KIND_KEY || (hed_key_of_event(&key->input, &again) && again.key == press.key && again.held == press.held));
+  note(0x90000u | press.key, press.held);
+}
+
 /* The first keys are read back, and each is encoded under some flags, into a room that has enough and into one that may not. */
 static void encode_keys(void) {
   static sent all, front;
@@ -114,6 +133,7 @@ static void encode_keys(void) {
   for (const event *key = whole.events; key < whole.events + whole.count && flags < ENCODED_KEYS; of_key += key++->text_len) {
     if (!is_key(key)) continue;
     read_back(key, of_key);
+    check_press(key, of_key);
     encode_event(&all, key, of_key, flags & ALL_FLAGS, sizeof all.bytes);
     encode_event(&front, key, of_key, flags & ALL_FLAGS, flags / 2);
     HOLDS(same_sent(&all, &front, flags / 2));

@@ -1,5 +1,5 @@
 -- What the numbers of a key report stand for, and what a terminal sends for it under Kitty's keyboard protocol.
-use Rattle.std.specs.Prelude.{◌≡◌, ℕ, List, length, Option, Some, None}
+use Rattle.std.specs.Prelude.{◌≡◌, ℕ, List, [], length, Option, Some, None}
 use Rattle.std.specs.Char.{IsScalar}
 use Rattle.termwiz_base.specs.Bits.{HasEvery}
 use Rattle.termwiz_base.specs.Kitty as kitty
@@ -28,6 +28,10 @@ StandForReport numbers report =
     (key_event_kind_number report.kind ≡ numbers.kind) × (report.modifiers ≡ numbers.modifiers)
     × StandForReported numbers.key numbers.detail report.key
     × IsCode numbers.shifted report.shifted × IsCode numbers.base report.base
+
+-- a report without its text
+abbrev pub without_text : KeyReport → KeyReport
+without_text report = record report { text = [] }
 
 -- the numbers and the text stand for this report, and each bit of the flags has a name
 abbrev pub IsAskedFor : CKeyReport → List ℕ → ℕ → KeyReport → Type 0

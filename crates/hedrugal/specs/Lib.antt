@@ -11,6 +11,7 @@ pub mod Lent
 pub mod LentIf
 pub mod Limits
 pub mod Owned
+pub mod PressCalls
 pub mod Presses
 pub mod Timings
 pub mod Views

@@ -138,7 +138,7 @@ fn key_event_kind_number(kind: KeyEventKind) -> u8
 
 // The number of a key: 0 if it has no name.
 #[tactic(auto, unfolding(crate::specs::ExtendedEvents::reported_number))]
-fn reported_number(key: ReportedKey) -> u16
+pub(crate) fn reported_number(key: ReportedKey) -> u16
     ensures { result ≡ reported_number key }
 {
     match key {
@@ -149,7 +149,7 @@ fn reported_number(key: ReportedKey) -> u16
 
 // What a key carries, or its number in Kitty's table if it has no name.
 #[tactic(auto, unfolding(crate::specs::ExtendedEvents::reported_detail))]
-fn reported_detail(key: ReportedKey) -> u32
+pub(crate) fn reported_detail(key: ReportedKey) -> u32
     ensures { result ≡ reported_detail key }
 {
     match key {

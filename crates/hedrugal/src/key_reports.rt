@@ -1,10 +1,10 @@
 // What the numbers of a key report stand for.
-ghost use Rattle.std.specs.Prelude.{◌≡◌, ℕ, [], Option, IfSome, IfNone};
+ghost use Rattle.std.specs.Prelude.{◌≡◌, ℕ, [], Option, Some, IfSome, IfNone};
 ghost use Rattle.termwiz_extended_events.specs.declared.types.KeyEventKind.{KeyEventKind as Kind};
 ghost use Rattle.termwiz_extended_events.specs.declared.types.KeyReport.{KeyReport as Report};
 ghost use Rattle.termwiz_extended_events.specs.declared.types.ReportedKey.{ReportedKey as Key};
 ghost use Rattle.hedrugal.specs.ExtendedEvents.{key_event_kind_number};
-ghost use Rattle.hedrugal.specs.KittyCalls.{IsCode, StandForReport, StandForReported};
+ghost use Rattle.hedrugal.specs.KittyCalls.{IsCode, StandForReport, StandForReported, without_text};
 
 use crate::extended_events::{
     CKeyReport, KEY_EVENT_KIND_PRESS, KEY_EVENT_KIND_RELEASE, KEY_EVENT_KIND_REPEAT, NO_CODE,
@@ -17,6 +17,7 @@ use termwiz_input_extended::types::{KeyEventKind, KeyReport, KeyText, ReportedKe
 #[tactic(auto, unfolding(crate::specs::ExtendedEvents::key_event_kind_number))]
 fn kind_of(number: u8) -> Option<KeyEventKind>
     ensures some { IfSome result (λ kind. key_event_kind_number kind ≡ number) }
+    ensures only { (kind : Kind) → key_event_kind_number kind ≡ number → result ≡ Some kind }
     ensures none { IfNone result ((kind : Kind) → ¬ (key_event_kind_number kind ≡ number)) }
 {
     match number {
@@ -30,6 +31,7 @@ fn kind_of(number: u8) -> Option<KeyEventKind>
 // The key of a report, by its number and its detail.
 fn reported_key(number: u16, detail: u32) -> Option<ReportedKey>
     ensures some { IfSome result (λ key. StandForReported number detail key) }
+    ensures only { (key : Key) → StandForReported number detail key → result ≡ Some key }
     ensures none { IfNone result ((key : Key) → ¬ StandForReported number detail key) }
 {
     if number == 0 {
@@ -44,6 +46,7 @@ fn reported_key(number: u16, detail: u32) -> Option<ReportedKey>
 // A character that may be missing, by its code point. The outer `None` is for a number that is neither.
 fn character_of(code: u32) -> Option<Option<char>>
     ensures some { IfSome result (λ character. IsCode code character) }
+    ensures only { (character : Option ℕ) → IsCode code character → result ≡ Some character }
     ensures none { IfNone result ((character : Option ℕ) → ¬ IsCode code character) }
 {
     if code == NO_CODE {
@@ -58,6 +61,7 @@ fn character_of(code: u32) -> Option<Option<char>>
 // The report that the numbers stand for, with no text.
 pub(crate) fn report_of(alloc: Global, numbers: &CKeyReport) -> Option<KeyReport>
     ensures some { IfSome result (λ report. StandForReport numbers.now report) }
+    ensures only { (report : Report) → StandForReport numbers.now report → result ≡ Some (without_text report) }
     ensures text { IfSome result (λ report. report.text ≡ []) }
     ensures none { IfNone result ((report : Report) → ¬ StandForReport numbers.now report) }
 {

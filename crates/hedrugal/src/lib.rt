@@ -3,7 +3,7 @@
 //!
 //! The caller keeps a `hed_parser`, all zero at first, gives bytes to it by `hed_parser_feed` and takes the events, one at a time,
 //! by `hed_parser_next`. A `hed_keymap` is kept in the same way. `hed_encode` and `hed_encode_kitty` go the other way, from a key to the
-//! bytes that a terminal sends for it.
+//! bytes that a terminal sends for it. `hed_key_of_event` and `hed_key_of_report` tell the press of a key.
 #![tactic(auto)]
 
 ghost use Rattle.std.specs.Prelude.{◌≡◌, ◌≢◌, ◌≤◌, ◌↔◌, ◌+◌, ◌*◌, ◌++◌, [], ◌∷◌, length, max, true, false, None, IsTrue};
@@ -31,6 +31,7 @@ mod keys;
 mod kitty_calls;
 mod modes;
 mod parser_and_paste;
+mod press_calls;
 mod raw_box;
 mod sending;
 mod sharing_calls;

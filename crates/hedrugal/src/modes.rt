@@ -40,7 +40,7 @@ pub(crate) struct Press {
 
 // The modifiers of these bits. `None` if a bit has no name.
 #[tactic(auto, using(std::proofs::lemmas::Nat::and_comm), unfolding(bitflags::proofs::OnLiterals::bitflags_on_literals))]
-fn modifiers_of(bits: u16) -> Option<Modifiers>
+pub(crate) fn modifiers_of(bits: u16) -> Option<Modifiers>
     ensures { (held : Held) → (result ≡ Some held) ↔ AreModifiers held bits }
 {
     Modifiers::from_bits(bits)

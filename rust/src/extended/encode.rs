@@ -1,5 +1,5 @@
 // Key reports to the bytes that a terminal sends for them.
-use super::{KeyEventKind, KeyReport, ReportedKey};
+use super::{KeyEventKind, KeyReport};
 use crate::input::{KittyKeyboardFlags, FAULT};
 use crate::raw;
 use std::{error, fmt};
@@ -153,11 +153,8 @@ impl KeyReport {
     }
 
     // The report as the library has it. Its text is passed beside it.
-    fn raw(&self) -> raw::KeyReport {
-        let (key, detail) = match self.key {
-            ReportedKey::Named(key) => (key.number(), key.detail()),
-            ReportedKey::Functional(number) => (0, number),
-        };
+    pub(super) fn raw(&self) -> raw::KeyReport {
+        let (key, detail) = self.key.numbers();
         raw::KeyReport {
             kind: match self.kind {
                 KeyEventKind::Press => raw::KEY_EVENT_KIND_PRESS,

@@ -248,6 +248,24 @@ impl StringKind {
     }
 }
 
+impl ReportedKey {
+    // The key of a number of the library and what it carries.
+    pub(super) fn of(number: u16, detail: u32) -> ReportedKey {
+        match number {
+            0 => ReportedKey::Functional(detail),
+            key => ReportedKey::Named(KeyCode::of(key, detail).expect(FAULT)),
+        }
+    }
+
+    // The number that the library has for the key, and what it carries.
+    pub(super) fn numbers(self) -> (u16, u32) {
+        match self {
+            ReportedKey::Named(key) => (key.number(), key.detail()),
+            ReportedKey::Functional(number) => (0, number),
+        }
+    }
+}
+
 impl KeyReport {
     // A key that was pressed, of which the terminal reports no more.
     fn pressed(event: &KeyEvent) -> KeyReport {
@@ -265,10 +283,7 @@ impl KeyReport {
     // A report of the library, and the text that the key types.
     fn of(report: &raw::KeyReport, text: Vec<u8>) -> KeyReport {
         KeyReport {
-            key: match report.key {
-                0 => ReportedKey::Functional(report.detail),
-                key => ReportedKey::Named(KeyCode::of(key, report.detail).expect(FAULT)),
-            },
+            key: ReportedKey::of(report.key, report.detail),
             modifiers: KittyModifiers::from_bits(report.modifiers).expect(FAULT),
             kind: match report.kind {
                 raw::KEY_EVENT_KIND_PRESS => KeyEventKind::Press,

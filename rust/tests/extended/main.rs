@@ -11,6 +11,7 @@ mod lines;
 mod long;
 mod parser;
 mod plain;
+mod presses;
 mod recorded;
 mod rows;
 mod streams;

@@ -4,6 +4,7 @@
 mod forms;
 mod keys;
 mod meanings;
+pub mod presses;
 mod strings;
 
 use crate::port::plain::{report_of, PlainReader as PortReader};

@@ -1,9 +1,10 @@
-use Rattle.std.proofs.Common.{◌≡◌, ℕ, refl}
+use Rattle.std.proofs.Common.{◌≡◌, ℕ, ◌≤◌, Option, Some, refl, sym, ap, arith}
 use Rattle.termwiz_input.specs.KeyCode.{KeyCode}
 use Rattle.termwiz_extended_events.specs.declared.types.ReportedKey.{ReportedKey}
 use Rattle.termwiz_extended_events.specs.declared.types.ReportedKey.TheVariants.{Named, Functional}
-use Rattle.hedrugal.specs.Keys.{StandFor}
+use Rattle.hedrugal.specs.Keys.{StandFor, key_number}
 use Rattle.hedrugal.specs.KittyCalls.{StandForReported}
+use Rattle.hedrugal.proofs.KeyNumbers.{number_within}
 use Rattle.hedrugal.proofs.key_reports.reported_key.Goals as goal
 
 pub returns-in-Some-clause-some : goal.returns-in-Some-clause-some
@@ -19,3 +20,15 @@ pub returns-in-None-clause-none : goal.returns-in-None-clause-none
 returns-in-None-clause-none c =
     no_key c.args.number c.args.detail c.if-number-eq0.false
     (λ named stands. absurd (cc ((c.in-None.ensures named).1 stands)))
+
+-- 0 stands for the key without a name alone
+only_functional : (number detail : ℕ) → number ≡ 0 → (key : ReportedKey) → StandForReported number detail key
+    → ◌≡◌ {A = Option ReportedKey} (Some (Functional detail)) (Some key)
+only_functional number detail zero (Named named) stands =
+    let above : 1 ≤ key_number named = (number_within named).0 in
+    let same : key_number named ≡ number = stands.0 in
+    absurd (omega arith)
+only_functional number detail zero (Functional functional) stands = ap (λ n. Some (Functional n)) (sym stands.1)
+
+pub returns-then-number-eq0-clause-only : goal.returns-then-number-eq0-clause-only
+returns-then-number-eq0-clause-only c = only_functional c.args.number c.args.detail c.if-number-eq0.true

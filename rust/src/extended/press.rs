@@ -1,0 +1,203 @@
+// One name for a key, however its terminal reports it.
+use super::{KeyReport, KittyModifiers, ReportedKey};
+use crate::input::{KeyCode, KeyEvent, Modifiers, FAULT};
+use crate::raw;
+use std::cmp::Ordering;
+
+/// A key that was pressed, and the modifiers held with it: one name for the key, whatever mode the
+/// terminal is in and whichever protocol it speaks. A program looks up by it what a key does.
+///
+/// Letters, digits and signs are the characters that they type: Shift with `a` is `A`, and with `1`
+/// on many keyboards `!`. So SHIFT is held only with keys that have a name, with the space, and with
+/// `a` to `z` where CTRL, SUPER, HYPER or META is held too. The keypad and the arrows in application
+/// mode are the keys of the main block, and the locks are never held. The rules are on the
+/// page of the crate `termwiz_bindings` of the repository.
+///
+/// A program that turns Kitty's keyboard protocol on should ask for `DISAMBIGUATE_ESCAPE_CODES` and
+/// `REPORT_ALTERNATE_KEYS`, and with `REPORT_ALL_KEYS_AS_ESCAPE_CODES` for `REPORT_ASSOCIATED_TEXT`
+/// too. Otherwise Ctrl, Shift and `1` come without the `!`, and are `1` with CTRL.
+///
+/// Presses are ordered by the numbers of their keys in the C library, then by their characters, and
+/// then by their modifiers.
+///
+/// ```
+/// use hedrugal::extended::{ExtendedParser, KeyPress, KittyModifiers, Protocol, ReportedKey};
+/// use hedrugal::input::KeyCode;
+///
+/// // Ctrl, Shift and a, as xterm reports it, and as kitty does with Caps Lock on.
+/// let events = ExtendedParser::new(Protocol::Kitty).parse_as_vec(b"\x1b[65;5u\x1b[97;70u", true);
+/// for event in events {
+///     let press = KeyPress::of_report(&event.key().unwrap()).unwrap();
+///     assert_eq!(press.key(), ReportedKey::Named(KeyCode::Char('a')));
+///     assert_eq!(press.held(), KittyModifiers::CTRL.union(KittyModifiers::SHIFT));
+/// }
+/// ```
+#[derive(Debug, Clone, Copy, PartialEq, Eq, Hash)]
+pub struct KeyPress {
+    key: ReportedKey,
+    held: KittyModifiers,
+}
+
+impl KeyPress {
+    /// Returns the press of a key event, or `None` for a modifier or a lock by itself, and for the
+    /// marks of a paste. Of the modifiers SHIFT, ALT, CTRL and SUPER count: not LEADER, nor which of
+    /// two keys is held.
+    ///
+    /// ```
+    /// use hedrugal::extended::{KeyPress, KittyModifiers, ReportedKey};
+    /// use hedrugal::input::{KeyCode, KeyEvent, Modifiers};
+    ///
+    /// let of = |key, modifiers| KeyPress::of_event(&KeyEvent { key, modifiers });
+    /// let up = of(KeyCode::ApplicationUpArrow, Modifiers::CTRL).unwrap();
+    /// assert_eq!(up.key(), ReportedKey::Named(KeyCode::UpArrow));
+    /// assert_eq!(up.held(), KittyModifiers::CTRL);
+    /// assert_eq!(of(KeyCode::LeftControl, Modifiers::CTRL), None);
+    /// ```
+    #[must_use]
+    pub fn of_event(event: &KeyEvent) -> Option<KeyPress> {
+        let event = raw::Event {
+            kind: raw::KIND_KEY,
+            modifiers: event.modifiers.intersection(Modifiers::all()).bits(),
+            key: event.key.number(),
+            detail: event.key.detail(),
+            ..raw::Event::default()
+        };
+        KeyPress::written(|press| {
+            // SAFETY: the pointers lead to values of their types that live through the call.
+            unsafe { raw::hed_key_of_event(&event, press) }
+        })
+    }
+
+    /// Returns the press of a key report. `None` is for a release, for a modifier or a lock by
+    /// itself, and for a report that types several characters: [`typed_text`] returns these. A
+    /// repeat counts as a press.
+    ///
+    /// ```
+    /// use hedrugal::extended::{ExtendedParser, KeyPress, Protocol};
+    ///
+    /// let mut parser = ExtendedParser::new(Protocol::Kitty);
+    /// let events = parser.parse_as_vec(b"\x1b[97;5u\x1b[97;5:2u\x1b[97;5:3u", true);
+    /// let presses: Vec<_> = events
+    ///     .iter()
+    ///     .map(|event| KeyPress::of_report(&event.key().unwrap()))
+    ///     .collect();
+    /// assert_eq!(presses[0], presses[1]);
+    /// assert_eq!(presses[2], None);
+    /// ```
+    #[must_use]
+    pub fn of_report(report: &KeyReport) -> Option<KeyPress> {
+        KeyPress::typing(report, &report.text)
+    }
+
+    /// Returns a second press of a key report, for a program in which the first one leads nowhere:
+    /// that of the key at the same place of a PC-101 keyboard, with the same modifiers. It is there
+    /// only if the terminal told that key (`REPORT_ALTERNATE_KEYS`), the report has a press, one of
+    /// ALT, CTRL, SUPER, HYPER and META is held, and the key's character isn't of ASCII.
+    ///
+    /// ```
+    /// use hedrugal::extended::{ExtendedParser, KeyPress, Protocol, ReportedKey};
+    /// use hedrugal::input::KeyCode;
+    ///
+    /// // Ctrl with the Cyrillic letter es, which is where c is on a PC-101 keyboard.
+    /// let events = ExtendedParser::new(Protocol::Kitty).parse_as_vec(b"\x1b[1089::99;5u", true);
+    /// let second = KeyPress::second(&events[0].key().unwrap()).unwrap();
+    /// assert_eq!(second.key(), ReportedKey::Named(KeyCode::Char('c')));
+    /// ```
+    #[must_use]
+    pub fn second(report: &KeyReport) -> Option<KeyPress> {
+        let report = report.raw();
+        KeyPress::written(|press| {
+            // SAFETY: as above.
+            unsafe { raw::hed_key_second(&report, press) }
+        })
+    }
+
+    /// Returns the key.
+    #[must_use]
+    pub fn key(self) -> ReportedKey {
+        self.key
+    }
+
+    /// Returns the modifiers, without the locks.
+    #[must_use]
+    pub fn held(self) -> KittyModifiers {
+        self.held
+    }
+
+    /// Returns the character that the press types, if it does: nothing but SHIFT is held. A program
+    /// inserts it if the press does nothing else. Enter and Tab type none.
+    ///
+    /// ```
+    /// use hedrugal::extended::KeyPress;
+    /// use hedrugal::input::{KeyCode, KeyEvent, Modifiers};
+    ///
+    /// let of = |key, modifiers| KeyPress::of_event(&KeyEvent { key, modifiers });
+    /// assert_eq!(of(KeyCode::Char('a'), Modifiers::SHIFT).unwrap().text(), Some('A'));
+    /// assert_eq!(of(KeyCode::Char('a'), Modifiers::CTRL).unwrap().text(), None);
+    /// assert_eq!(of(KeyCode::Enter, Modifiers::NONE).unwrap().text(), None);
+    /// ```
+    #[must_use]
+    pub fn text(self) -> Option<char> {
+        match self.key {
+            ReportedKey::Named(KeyCode::Char(c))
+                if KittyModifiers::SHIFT.contains(self.held) && !c.is_control() =>
+            {
+                Some(c)
+            }
+            _ => None,
+        }
+    }
+
+    // The press of a report with this text in place of its own.
+    fn typing(report: &KeyReport, text: &str) -> Option<KeyPress> {
+        let report = report.raw();
+        KeyPress::written(|press| {
+            // SAFETY: the pointers lead to values of their types that live through the call, with as
+            // many bytes as the length says.
+            unsafe { raw::hed_key_of_report(&report, text.as_ptr(), text.len(), press) }
+        })
+    }
+
+    // The press that a call wrote, if it did.
+    fn written(call: impl FnOnce(&mut raw::KeyPress) -> bool) -> Option<KeyPress> {
+        let mut press = raw::KeyPress::default();
+        call(&mut press).then(|| KeyPress {
+            key: ReportedKey::of(press.key, press.detail),
+            held: KittyModifiers::from_bits(press.held).expect(FAULT),
+        })
+    }
+}
+
+impl PartialOrd for KeyPress {
+    fn partial_cmp(&self, other: &KeyPress) -> Option<Ordering> {
+        Some(self.cmp(other))
+    }
+}
+
+impl Ord for KeyPress {
+    fn cmp(&self, other: &KeyPress) -> Ordering {
+        let place = |press: &KeyPress| (press.key.numbers(), press.held);
+        place(self).cmp(&place(other))
+    }
+}
+
+/// Returns the text of a report that has no press because it types several characters, as a compose
+/// key or an input method may. It is to be inserted as a paste is. The text of any other report is
+/// empty here.
+///
+/// ```
+/// use hedrugal::extended::{typed_text, ExtendedParser, Protocol};
+///
+/// let events = ExtendedParser::new(Protocol::Kitty).parse_as_vec(b"\x1b[0;;102:105u", true);
+/// assert_eq!(typed_text(&events[0].key().unwrap()), "fi");
+/// ```
+#[must_use]
+pub fn typed_text(report: &KeyReport) -> &str {
+    // Without its text such a report has a press. A release has none, and neither has a modifier.
+    let is_text = KeyPress::of_report(report).is_none() && KeyPress::typing(report, "").is_some();
+    if is_text {
+        &report.text
+    } else {
+        ""
+    }
+}
