@@ -8,7 +8,8 @@
  *
  * The answer has to be the one that the header promises for these numbers. A room that is too short gets as much of the text as it has
  * room for, and the rest of a longer one stays as it was. What isn't read makes no difference. A refused call writes nothing, and made
- * again it is granted; no memory is left. A character without modifiers is read back. The key's name goes into rooms of every size too. */
+ * again it is granted; no memory is left. A character without modifiers is read back. The key's name goes into rooms of every size too.
+ * The press of a report is its own press, and needs no memory. */
 #include "fuzz.h"
 #include <string.h>
 
@@ -189,6 +190,31 @@ static bool is_bad_report(const told_key *key) {
   return has_bad_kind || has_bad_code || key->flags & ~ALL_KITTY || is_bad_key(report->key, report->detail);
 }
 
+/* A report that names nothing has no press. Any other has one that is its own press, or none, and its text says nothing of a second one. */
+static void check_presses(const told_key *key) {
+  static room report, text;
+  room_with(&report, &key->report, sizeof key->report);
+  room_with(&text, key->text, key->len);
+  told_key without_flags = *key;
+  without_flags.flags = 0;
+  refuse_request(1);
+  hed_key_press press = { 0xffff, 0xff, 0xffffffff }, again;
+  bool has = hed_key_of_report((hed_key_report *)report.at, pointer_to(&text), key->len, &press);
+  HOLDS(is_unchanged(&report, &key->report) && is_unchanged(&text, key->text));
+  HOLDS(has ? !is_bad_report(&without_flags) && is_utf8(key->text, key->len) && press.held < HED_KITTY_MOD_CAPS_LOCK : press.key == 0xffff);
+  if (has) {
+    hed_key_report own = { HED_KEY_EVENT_KIND_PRESS, press.held, press.key, press.detail, HED_NO_CODE, HED_NO_CODE };
+    HOLDS(hed_key_of_report(&own, NULL, 0, &again) && again.key == press.key && again.held == press.held && again.detail == press.detail);
+    note(0x90000u | press.key, press.held);
+  }
+  bool has_second = hed_key_second((hed_key_report *)report.at, &again), is_beyond_ascii = key->report.detail >= 0x80;
+  HOLDS(!has_second || (!is_bad_report(&without_flags) && key->report.key == HED_KEY_CHAR && is_beyond_ascii));
+  HOLDS(!has_second || (key->report.base != HED_NO_CODE && key->report.kind != HED_KEY_EVENT_KIND_RELEASE));
+  HOLDS(requests == 0);
+  refuse_request(0);
+  note(0xa0000u | has_second, press.held);
+}
+
 /* Checks the answer that the header promises. A key without bytes is refused: that can't be told from the numbers alone. */
 static void check_told(const told_key *key, const sent *whole) {
   if (is_bad_report(key)) HOLDS(whole->encoded == HED_ENCODED_BAD_NUMBER);
@@ -237,6 +263,7 @@ void try_input(input *it) {
   check_press(&is, refused);
   told_key key = take_report(it, &is, stays);
   check_report(&key, refused);
+  check_presses(&key);
   check_name(is.key);
   HOLDS(blocks[TESTED] == 0);
 }
