@@ -3,3 +3,5 @@ pub mod FieldLemmas
 pub mod NumberLemmas
 pub mod ReportEnds
 pub mod PlainReports
+pub mod ReplyExamples
+pub mod ReplyLemmas

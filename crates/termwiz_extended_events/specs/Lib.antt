@@ -1,7 +1,10 @@
+pub mod Base64
 pub mod EventKeys
 pub mod FieldsLeft
 pub mod KeyReports
 pub mod Meanings
 pub mod Numbers
 pub mod Replies
+pub mod ReplyValues
 pub mod ReportedKeys
+pub mod SpelledReplies

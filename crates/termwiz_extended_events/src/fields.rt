@@ -6,7 +6,7 @@ ghost use Rattle.termwiz_extended_events.specs.FieldsLeft.{fields_in, fields_lef
 ghost use Rattle.termwiz_extended_events.specs.Numbers.{before_end, after_start};
 
 // The parts of a text between its separators, one after the other. A text without separators is one part.
-#[derive(Drop)]
+#[derive(Clone, Copy)]
 pub(crate) struct Fields<'t> {
     rest: Option<&'t [u8]>,
     separator: u8,

@@ -2,6 +2,9 @@
 //! sequence means.
 #![tactic(auto)]
 
+mod attributes;
+mod base64;
+mod colours;
 mod event_keys;
 mod fields;
 mod key_fields;
@@ -9,5 +12,7 @@ mod key_reports;
 pub mod meanings;
 mod numbers;
 mod replies;
+mod reply;
+pub mod reply_types;
 pub mod reported_keys;
 pub mod types;
