@@ -13,5 +13,6 @@ pub mod Limits
 pub mod Owned
 pub mod PressCalls
 pub mod Presses
+pub mod Replies
 pub mod Timings
 pub mod Views

@@ -1,4 +1,4 @@
-// Texts that are copied to memory of the caller.
+// Texts and numbers that are copied to memory of the caller.
 ghost use Rattle.std.specs.Prelude.{◌≡◌, ◌++◌, [], ◌∷◌, length};
 ghost use Rattle.hedrugal.specs.Calls.{copied};
 
@@ -22,4 +22,14 @@ pub(crate) fn copy_with_zero(text: &[u8], out: &mut [u8]) -> usize
         out[len] = 0;
     }
     len
+}
+
+// Copies as many of the numbers as `out` has room for, and returns how many they are.
+pub(crate) fn copy_numbers(numbers: &[u32], out: &mut [u32]) -> usize
+    ensures len { result ≡ length numbers.now }
+    ensures numbers { out.new ≡ copied numbers.now out.old }
+{
+    let len = numbers.len().min(out.len());
+    out[..len].copy_from_slice(&numbers[..len]);
+    numbers.len()
 }

@@ -28,11 +28,11 @@ const KIND_RESIZE: u8 = 8;
 
 const KIND_KEYBOARD_FLAGS: u8 = 9;
 
-const KIND_CSI: u8 = 10;
+pub(crate) const KIND_CSI: u8 = 10;
 
-const KIND_OSC: u8 = 11;
+pub(crate) const KIND_OSC: u8 = 11;
 
-const KIND_DCS: u8 = 12;
+pub(crate) const KIND_DCS: u8 = 12;
 
 const KIND_APC: u8 = 13;
 

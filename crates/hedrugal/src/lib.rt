@@ -33,6 +33,8 @@ mod modes;
 mod parser_and_paste;
 mod press_calls;
 mod raw_box;
+mod replies;
+mod reply_calls;
 mod sending;
 mod sharing_calls;
 mod slot;

@@ -12,7 +12,7 @@ mod key_reports;
 pub mod meanings;
 mod numbers;
 mod replies;
-mod reply;
+pub mod reply;
 pub mod reply_types;
 pub mod reported_keys;
 pub mod types;

@@ -99,9 +99,9 @@ fn short_reply(t: &[u8]) -> Option<Reply>
         .or_else(|| colour_scheme(t))
 }
 
-// What follows ESC [, by the first rule that fits.
+/// Returns what a control sequence says as a reply, if it is one: of its bytes after ESC `[`, by the first rule that fits.
 #[tactic(auto, unfolding(crate::specs::ReplyValues::csi_reply))]
-fn csi_reply(alloc: Global, t: &[u8]) -> Result<Option<Reply>, AllocError>
+pub fn csi_reply(alloc: Global, t: &[u8]) -> Result<Option<Reply>, AllocError>
     ensures ok { IfOk result (λ reply. reply ≡ rules.csi_reply t.now) }
     ensures refused { OnErr result (NeedsMemory (rules.csi_reply t.now)) }
 {
@@ -127,9 +127,9 @@ fn version(alloc: Global, t: &[u8]) -> Result<Option<Reply>, AllocError>
     Ok(Some(Reply::Version(text)))
 }
 
-// What follows ESC P, by the first rule that fits.
+/// Returns what a device control string says as a reply, if it is one: of its bytes after ESC `P`, without its end.
 #[tactic(auto, unfolding(crate::specs::ReplyValues::dcs_reply))]
-fn dcs_reply(alloc: Global, t: &[u8]) -> Result<Option<Reply>, AllocError>
+pub fn dcs_reply(alloc: Global, t: &[u8]) -> Result<Option<Reply>, AllocError>
     ensures ok { IfOk result (λ reply. reply ≡ rules.dcs_reply t.now) }
     ensures refused { OnErr result (NeedsMemory (rules.dcs_reply t.now)) }
 {
@@ -192,9 +192,9 @@ fn clipboard(alloc: Global, t: &[u8]) -> Result<Option<Reply>, AllocError>
     }))
 }
 
-// What follows ESC ], by the first rule that fits.
+/// Returns what an operating system command says as a reply, if it is one: of its bytes after ESC `]`, without its end.
 #[tactic(auto, unfolding(crate::specs::ReplyValues::osc_reply))]
-fn osc_reply(alloc: Global, t: &[u8]) -> Result<Option<Reply>, AllocError>
+pub fn osc_reply(alloc: Global, t: &[u8]) -> Result<Option<Reply>, AllocError>
     ensures ok { IfOk result (λ reply. reply ≡ rules.osc_reply t.now) }
     ensures refused { OnErr result (NeedsMemory (rules.osc_reply t.now)) }
 {
