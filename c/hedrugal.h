@@ -811,6 +811,100 @@ bool hed_key_of_report(const hed_key_report *report, const uint8_t *text, size_t
  * isn't of ASCII, and the terminal told base. */
 bool hed_key_second(const hed_key_report *report, hed_key_press *press);
 
+/* The kinds of replies: the field kind of a hed_reply. */
+enum hed_reply_kind {
+  /* numbers.txt: reply c */
+  HED_REPLY_DEVICE_ATTRIBUTES = 1, /* The terminal's attributes (DA1, DA2, DA3): some numbers. */
+  HED_REPLY_MODE = 2, /* The state of a mode (DECRPM). */
+  HED_REPLY_COLOUR = 3, /* A colour (OSC 4, 10, 11 and 12). */
+  HED_REPLY_VERSION = 4, /* The terminal's name and version (XTVERSION): some bytes. */
+  HED_REPLY_WINDOW_SIZE = 5, /* The size of the window in characters. */
+  HED_REPLY_COLOUR_SCHEME = 6, /* The preferred colour scheme. */
+  HED_REPLY_CLIPBOARD = 7 /* What is in the clipboard or in a selection (OSC 52): some bytes. */
+  /* numbers.txt: end */
+};
+
+/* Which report of a terminal's attributes it is: the field report of a hed_reply. */
+enum hed_device_attributes {
+  /* numbers.txt: device_attributes c */
+  HED_DEVICE_ATTRIBUTES_PRIMARY = 1, /* DA1: the class of the terminal, such as 62 for a VT220, and what it can do, such as 4 for sixels. */
+  HED_DEVICE_ATTRIBUTES_SECONDARY = 2, /* DA2: the type of the terminal, its version, and 0. */
+  HED_DEVICE_ATTRIBUTES_TERTIARY = 3 /* DA3: the bytes of the unit's number, mostly four. */
+  /* numbers.txt: end */
+};
+
+/* The states of a mode: the field state of a hed_reply. */
+enum hed_mode_state {
+  /* numbers.txt: mode_state c */
+  HED_MODE_STATE_NOT_RECOGNIZED = 0, /* The terminal doesn't know the mode. */
+  HED_MODE_STATE_SET = 1, /* The mode is on. */
+  HED_MODE_STATE_RESET = 2, /* The mode is off. */
+  HED_MODE_STATE_PERMANENTLY_SET = 3, /* The mode is on and can't be switched off. */
+  HED_MODE_STATE_PERMANENTLY_RESET = 4 /* The mode is off and can't be switched on. */
+  /* numbers.txt: end */
+};
+
+/* The colours that a terminal is asked for: the field name of a hed_reply. */
+enum hed_colour_name {
+  /* numbers.txt: colour_name c */
+  HED_COLOUR_NAME_PALETTE = 4, /* A colour of the palette, by its index. */
+  HED_COLOUR_NAME_FOREGROUND = 10, /* The colour of text. */
+  HED_COLOUR_NAME_BACKGROUND = 11, /* The colour behind text. */
+  HED_COLOUR_NAME_CURSOR = 12 /* The colour of the cursor. */
+  /* numbers.txt: end */
+};
+
+/* The colour schemes: the field scheme of a hed_reply. */
+enum hed_colour_scheme {
+  /* numbers.txt: colour_scheme c */
+  HED_COLOUR_SCHEME_DARK = 1, /* Bright text on a dark background. */
+  HED_COLOUR_SCHEME_LIGHT = 2 /* Dark text on a bright background. */
+  /* numbers.txt: end */
+};
+
+/* What a terminal's reply says. What its kind has no use for is 0. */
+typedef struct hed_reply {
+  uint8_t kind; /* an enum hed_reply_kind */
+  uint8_t report; /* HED_REPLY_DEVICE_ATTRIBUTES: an enum hed_device_attributes */
+  uint8_t state; /* HED_REPLY_MODE: an enum hed_mode_state */
+  bool is_private; /* HED_REPLY_MODE: whether the mode is a private one, asked for with a question mark, and not an ANSI mode */
+  uint8_t name; /* HED_REPLY_COLOUR: an enum hed_colour_name */
+  uint8_t scheme; /* HED_REPLY_COLOUR_SCHEME: an enum hed_colour_scheme */
+  uint8_t selection; /* HED_REPLY_CLIPBOARD: the selection: one of c, p, q, s and 0 to 7, or 0 if the terminal left it out */
+  uint16_t index; /* HED_REPLY_COLOUR: with HED_COLOUR_NAME_PALETTE the index of the colour */
+  uint16_t red; /* HED_REPLY_COLOUR: how red it is, from 0 to 65535 */
+  uint16_t green; /* HED_REPLY_COLOUR: how green it is */
+  uint16_t blue; /* HED_REPLY_COLOUR: how blue it is */
+  uint16_t rows; /* HED_REPLY_WINDOW_SIZE: the number of rows */
+  uint16_t columns; /* HED_REPLY_WINDOW_SIZE: the number of columns */
+  uint32_t mode; /* HED_REPLY_MODE: the number of the mode */
+  size_t len; /* how many numbers a HED_REPLY_DEVICE_ATTRIBUTES has, or how many bytes a HED_REPLY_VERSION or _CLIPBOARD */
+} hed_reply;
+
+/* What hed_read_reply returns. */
+enum hed_replied {
+  /* numbers.txt: replied c */
+  HED_REPLIED_NONE = 0, /* The event is no reply that is known. */
+  HED_REPLIED_VALUES = 1, /* What the reply says was written. */
+  HED_REPLIED_NO_MEMORY = 2 /* Memory was refused. The call may be made again. */
+  /* numbers.txt: end */
+};
+
+/* Reads what a terminal replied to a question. The caller passes the kind of an event that hed_extended_next wrote, and its bytes, as
+ * hed_extended_text copied them. Only a HED_KIND_CSI, a HED_KIND_OSC and a HED_KIND_DCS can be a reply. "Replies" of docs/EXTENDED.md says
+ * which bytes are, and where their rules come from. A position of the cursor, a new size and the flags of Kitty's protocol come as events
+ * of their own.
+ *
+ * Writes what the reply says to *reply. The numbers of a HED_REPLY_DEVICE_ATTRIBUTES go to numbers, at most numbers_capacity of them. The
+ * bytes of a HED_REPLY_VERSION and of a HED_REPLY_CLIPBOARD, decoded from base64, go to out, at most capacity of them. reply->len is the
+ * number of all of them, which is never more than len: a caller whose room was short can call again. The rest of numbers and out is
+ * unchanged.
+ *
+ * Returns HED_REPLIED_VALUES, HED_REPLIED_NONE if the event is no such reply, or HED_REPLIED_NO_MEMORY if memory was refused, which only a
+ * reply with numbers or bytes can meet. With these two nothing is written. */
+uint32_t hed_read_reply(uint8_t kind, const uint8_t *bytes, size_t len, hed_reply *reply, uint32_t *numbers, size_t numbers_capacity,
+                        uint8_t *out, size_t capacity);
+
 /* Returns the version of the library that is linked, as HED_VERSION_NUMBER has that of the header. */
 uint32_t hed_version(void);
 
@@ -830,6 +924,9 @@ HED_IS(extended_event, sizeof(hed_extended_event) == 64 && offsetof(hed_extended
 HED_IS(extended_width, offsetof(hed_extended_event, width) == 12);
 HED_IS(extended_end, offsetof(hed_extended_event, report) == 16 && offsetof(hed_extended_event, input) == 32);
 HED_IS(extended_text, offsetof(hed_extended_event, text_len) == 56);
+HED_IS(reply, sizeof(hed_reply) == 32 && offsetof(hed_reply, is_private) == 3 && offsetof(hed_reply, selection) == 6);
+HED_IS(reply_index, offsetof(hed_reply, index) == 8 && offsetof(hed_reply, columns) == 18);
+HED_IS(reply_end, offsetof(hed_reply, mode) == 20 && offsetof(hed_reply, len) == 24);
 HED_IS(modes, sizeof(hed_modes) == 16 && offsetof(hed_modes, encoding) == 8 && offsetof(hed_modes, has_modify_other_keys) == 12);
 #undef HED_IS
 

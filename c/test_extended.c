@@ -1152,6 +1152,132 @@ static void expires_by_its_limits(const hed_extended *other) {
   hed_extended_free(&parser);
 }
 
+/* A reply: the kind of its event and its bytes, what it says, and its numbers or bytes. */
+struct answer {
+  uint8_t kind;
+  const char *text;
+  hed_reply says;
+  uint32_t numbers[4];
+  const char *bytes;
+};
+
+#define ATTRIBUTES(which, count) { .kind = HED_REPLY_DEVICE_ATTRIBUTES, .report = HED_DEVICE_ATTRIBUTES_##which, .len = count }
+#define MODE_IS(number, private, now) { .kind = HED_REPLY_MODE, .mode = number, .is_private = private, .state = HED_MODE_STATE_##now }
+#define COLOUR_OF(which, at, r, g, b) \
+  { .kind = HED_REPLY_COLOUR, .name = HED_COLOUR_NAME_##which, .index = at, .red = r, .green = g, .blue = b }
+
+static const struct answer answers[] = {
+  { HED_KIND_CSI, "?62;4;22c", ATTRIBUTES(PRIMARY, 3), { 62, 4, 22 }, "" },
+  { HED_KIND_CSI, "?62;c", ATTRIBUTES(PRIMARY, 1), { 62 }, "" },
+  { HED_KIND_CSI, ">1;011301;0c", ATTRIBUTES(SECONDARY, 3), { 1, 11301, 0 }, "" },
+  { HED_KIND_DCS, "!|7E565445", ATTRIBUTES(TERTIARY, 4), { 0x7e, 0x56, 0x54, 0x45 }, "" },
+  { HED_KIND_CSI, "?9001;0$y", MODE_IS(9001, true, NOT_RECOGNIZED), { 0 }, "" },
+  { HED_KIND_CSI, "?2004;1$y", MODE_IS(2004, true, SET), { 0 }, "" },
+  { HED_KIND_CSI, "4;2$y", MODE_IS(4, false, RESET), { 0 }, "" },
+  { HED_KIND_CSI, "?7;3$y", MODE_IS(7, true, PERMANENTLY_SET), { 0 }, "" },
+  { HED_KIND_CSI, "20;4$y", MODE_IS(20, false, PERMANENTLY_RESET), { 0 }, "" },
+  { HED_KIND_OSC, "4;255;rgb:eeee/0000/0001", COLOUR_OF(PALETTE, 255, 0xeeee, 0, 1), { 0 }, "" },
+  { HED_KIND_OSC, "10;rgb:f/0/8", COLOUR_OF(FOREGROUND, 0, 0xffff, 0, 0x8888), { 0 }, "" },
+  { HED_KIND_OSC, "11;rgb:7f/80/00", COLOUR_OF(BACKGROUND, 0, 0x7f7f, 0x8080, 0), { 0 }, "" },
+  { HED_KIND_OSC, "12;rgb:001/7ff/fff", COLOUR_OF(CURSOR, 0, 16, 0x7ff7, 0xffff), { 0 }, "" },
+  { HED_KIND_DCS, ">|XTerm(379)", { .kind = HED_REPLY_VERSION, .len = 10 }, { 0 }, "XTerm(379)" },
+  { HED_KIND_DCS, ">|", { .kind = HED_REPLY_VERSION }, { 0 }, "" },
+  { HED_KIND_CSI, "8;24;65535t", { .kind = HED_REPLY_WINDOW_SIZE, .rows = 24, .columns = 65535 }, { 0 }, "" },
+  { HED_KIND_CSI, "?997;1n", { .kind = HED_REPLY_COLOUR_SCHEME, .scheme = HED_COLOUR_SCHEME_DARK }, { 0 }, "" },
+  { HED_KIND_CSI, "?997;2n", { .kind = HED_REPLY_COLOUR_SCHEME, .scheme = HED_COLOUR_SCHEME_LIGHT }, { 0 }, "" },
+  { HED_KIND_OSC, "52;c;Y2xpcA==", { .kind = HED_REPLY_CLIPBOARD, .selection = 'c', .len = 4 }, { 0 }, "clip" },
+  { HED_KIND_OSC, "52;7;Y2xpcCE=", { .kind = HED_REPLY_CLIPBOARD, .selection = '7', .len = 5 }, { 0 }, "clip!" },
+  { HED_KIND_OSC, "52;;", { .kind = HED_REPLY_CLIPBOARD }, { 0 }, "" },
+};
+
+/* What is no reply: other sequences, wrong ones, and right bytes of another kind. */
+static const struct {
+  uint8_t kind;
+  const char *text;
+} no_answers[] = {
+  { HED_KIND_CSI, "" },
+  { HED_KIND_CSI, "?c" },
+  { HED_KIND_CSI, "?10000000c" },
+  { HED_KIND_CSI, ">1;95c" },
+  { HED_KIND_CSI, "?25;5$y" },
+  { HED_KIND_CSI, "?25;1y" },
+  { HED_KIND_CSI, "8;65536;80t" },
+  { HED_KIND_CSI, "4;456;800t" },
+  { HED_KIND_CSI, "?997;3n" },
+  { HED_KIND_OSC, "" },
+  { HED_KIND_OSC, "11;rgba:0/0/0/0" },
+  { HED_KIND_OSC, "11;rgb:00000/0/0" },
+  { HED_KIND_OSC, "13;rgb:0/0/0" },
+  { HED_KIND_OSC, "4;rgb:0/0/0" },
+  { HED_KIND_OSC, "52;c;Y2xpcA" },
+  { HED_KIND_OSC, "52;c;Y2xpcB==" },
+  { HED_KIND_OSC, "52;x;YWJj" },
+  { HED_KIND_DCS, "!|464" },
+  { HED_KIND_DCS, "!|" },
+  { HED_KIND_DCS, "1$r0m" },
+  { HED_KIND_OSC, "?62;4;22c" },
+  { HED_KIND_CSI, "11;rgb:0/0/0" },
+  { HED_KIND_APC, "11;rgb:0/0/0" },
+  { HED_KIND_STRING_PART, "11;rgb:0/0/0" },
+  { HED_KIND_STRING_CUT, "11;rgb:0/0/0" },
+  { HED_KIND_OTHER, "?62;4;22c" },
+};
+
+static bool same_reply(const hed_reply *one, const hed_reply *other) {
+  return one->kind == other->kind && one->report == other->report && one->state == other->state && one->is_private == other->is_private
+         && one->name == other->name && one->scheme == other->scheme && one->selection == other->selection && one->index == other->index
+         && one->red == other->red && one->green == other->green && one->blue == other->blue && one->rows == other->rows
+         && one->columns == other->columns && one->mode == other->mode && one->len == other->len;
+}
+
+/* Reads a reply, with room for so many numbers and bytes: no more than these is written. */
+static void reads_answer(const struct answer *it, size_t room) {
+  uint32_t numbers[5] = { 77, 77, 77, 77, 77 };
+  uint8_t bytes[16];
+  hed_reply reply;
+  memset(&reply, 0x55, sizeof reply);
+  memset(bytes, 0x55, sizeof bytes);
+  EXPECT(hed_read_reply(it->kind, (const uint8_t *)it->text, strlen(it->text), &reply, numbers, room < 4 ? room : 4, bytes, room)
+         == HED_REPLIED_VALUES);
+  EXPECT(same_reply(&reply, &it->says));
+  size_t count = reply.kind == HED_REPLY_DEVICE_ATTRIBUTES ? reply.len : 0, len = reply.len - count;
+  for (size_t i = 0; i < 5; i++) EXPECT(numbers[i] == (i < count && i < room ? it->numbers[i] : 77));
+  for (size_t i = 0; i < sizeof bytes; i++) EXPECT(bytes[i] == (i < len && i < room ? (uint8_t)it->bytes[i] : 0x55));
+}
+
+static void reads_answers(void) {
+  for (size_t i = 0; i < sizeof answers / sizeof *answers; i++)
+    for (size_t room = 0; room < 16; room++) reads_answer(&answers[i], room);
+  for (size_t i = 0; i < sizeof no_answers / sizeof *no_answers; i++) {
+    uint32_t number = 77;
+    uint8_t byte = 0x55;
+    hed_reply reply, before;
+    memset(&reply, 0x55, sizeof reply);
+    before = reply;
+    const char *text = no_answers[i].text;
+    EXPECT(hed_read_reply(no_answers[i].kind, (const uint8_t *)text, strlen(text), &reply, &number, 1, &byte, 1) == HED_REPLIED_NONE);
+    EXPECT(number == 77 && byte == 0x55 && memcmp(&reply, &before, sizeof reply) == 0);
+  }
+  hed_reply reply;
+  EXPECT(hed_read_reply(HED_KIND_CSI, NULL, 0, &reply, NULL, 0, NULL, 0) == HED_REPLIED_NONE);
+  EXPECT(hed_read_reply(HED_KIND_CSI, (const uint8_t *)"?6c", 3, &reply, NULL, 0, NULL, 0) == HED_REPLIED_VALUES && reply.len == 1);
+}
+
+/* An event, its bytes, and what they say. */
+static void reads_the_reply_of_an_event(void) {
+  static const char text[] = "\033]52;p;YWJj\a";
+  hed_extended parser = HED_EXTENDED_NONE;
+  hed_extended_event event;
+  hed_reply reply;
+  uint8_t bytes[32], held[32];
+  EXPECT(hed_extended_init(&parser, HED_PROTOCOL_LEGACY) && hed_extended_feed(&parser, (const uint8_t *)text, sizeof text - 1));
+  EXPECT(hed_extended_next(&parser, true, &event) == HED_NEXT_EVENT);
+  size_t len = hed_extended_text(&parser, bytes, sizeof bytes);
+  EXPECT(hed_read_reply(event.kind, bytes, len, &reply, NULL, 0, held, sizeof held) == HED_REPLIED_VALUES);
+  EXPECT(reply.kind == HED_REPLY_CLIPBOARD && reply.selection == 'p' && reply.len == 3 && memcmp(held, "abc", 3) == 0);
+  hed_extended_free(&parser);
+}
+
 int main(void) {
   hed_extended parser = HED_EXTENDED_NONE;
   answers_before_init_and_after_free();
@@ -1180,6 +1306,8 @@ int main(void) {
   keeps_texts_past_other_events();
   reads_long_strings();
   reads_from_a_page_that_is_read_only();
+  reads_answers();
+  reads_the_reply_of_an_event();
   encodes_examples();
   refuses_numbers_under_all_flags();
   encodes_a_long_text();

@@ -362,6 +362,42 @@ static void shrinks(void) {
   EXPECT(in_use == 0);
 }
 
+/* What a reply says, with each request refused in turn: a refusal is told, and the call may be made again. A reply without numbers and bytes
+ * needs no memory. */
+static void refuse_replies(void) {
+  static const struct {
+    uint8_t kind;
+    const char *text;
+    bool needs_memory;
+  } replies[] = {
+    { HED_KIND_CSI, "?62;4;22c", true }, { HED_KIND_CSI, ">41;379;0c", true },   { HED_KIND_DCS, "!|7E565445", true },
+    { HED_KIND_DCS, ">|foot", true },    { HED_KIND_OSC, "52;c;Y2xpcA==", true }, { HED_KIND_CSI, "?25;1$y", false },
+    { HED_KIND_CSI, "8;24;80t", false }, { HED_KIND_OSC, "11;rgb:0/0/0", false }, { HED_KIND_CSI, "?997;1n", false },
+    { HED_KIND_CSI, "?62;x", false },    { HED_KIND_OSC, "52;c;Y2xpcA", false },  { HED_KIND_DCS, "!|464", false },
+  };
+  for (size_t i = 0; i < sizeof replies / sizeof *replies; i++) {
+    const uint8_t *text = (const uint8_t *)replies[i].text;
+    size_t len = strlen(replies[i].text);
+    unsigned met;
+    long number = 0;
+    do {
+      uint32_t numbers[4] = { 77, 77, 77, 77 };
+      uint8_t bytes[8] = { 0 };
+      hed_reply reply, before;
+      memset(&reply, 0x55, sizeof reply);
+      before = reply;
+      refuse(++number);
+      uint32_t answer = hed_read_reply(replies[i].kind, text, len, &reply, numbers, 4, bytes, sizeof bytes);
+      met = refused;
+      refuse(0);
+      EXPECT((answer == HED_REPLIED_NO_MEMORY) == (met != 0));
+      EXPECT(!met || (memcmp(&reply, &before, sizeof reply) == 0 && numbers[0] == 77 && bytes[0] == 0));
+    } while (met);
+    EXPECT((number > 1) == replies[i].needs_memory);
+    EXPECT(in_use == 0);
+  }
+}
+
 int main(int argc, char **argv) {
   long step = argc > 1 ? atol(argv[1]) : 1;
   if (step < 1) return 2;
@@ -371,6 +407,7 @@ int main(int argc, char **argv) {
   refuse_parts();
   refuse_time();
   refuse_while_encoding();
+  refuse_replies();
   need_no_memory();
   refuse_init(step);
   refuse_sharing();

@@ -68,10 +68,11 @@ def read_list() -> Numbers:
 PLACES = {
     HEADER: {
         "c": "kind next waiting termwiz_mod button key encoding kitty_flag encoded found protocol"
-        " key_event_kind kitty_mod"
+        " key_event_kind kitty_mod replied reply device_attributes mode_state colour_name colour_scheme"
     },
     "rust/src/raw.rs": {
-        "const": "next waiting encoded found kind protocol key_event_kind encoding"
+        "const": "next waiting encoded found kind protocol key_event_kind encoding replied reply"
+        " device_attributes mode_state colour_name colour_scheme"
     },
     "rust/src/input/flags.rs": {"flag": "termwiz_mod button kitty_flag kitty_mod"},
     "rust/src/input/keys.rs": {"variant": "key", "number": "key", "of": "key"},
@@ -81,6 +82,10 @@ PLACES = {
         "private": "next encoded found kind key",
     },
     "python/hedrugal/extended.py": {"member": "protocol key_event_kind kitty_mod"},
+    "python/hedrugal/replies.py": {
+        "member": "device_attributes mode_state colour_name colour_scheme",
+        "private": "replied reply",
+    },
     "keys/names.c": {"table": "termwiz_mod button kitty_mod"},
 }
 
@@ -108,7 +113,8 @@ FORMS = {
 
 # The types of groups in Rust; the others are u32.
 RUST_TYPES = {
-    **dict.fromkeys(["kind", "key_event_kind", "encoding"], "u8"),
+    **dict.fromkeys("kind key_event_kind encoding reply device_attributes".split(), "u8"),
+    **dict.fromkeys("mode_state colour_name colour_scheme".split(), "u8"),
     **{"termwiz_mod": "Modifiers", "button": "MouseButtons"},
 }
 
@@ -216,6 +222,12 @@ PROVED = [
     ("waiting", "hedrugal/src/lib.rt", constants("WAITING")),
     ("found", "hedrugal/src/keymap_calls.rt", constants("FOUND")),
     ("protocol", "hedrugal/src/extended_calls.rt", constants("PROTOCOL")),
+    ("replied", "hedrugal/src/reply_calls.rt", constants("REPLIED")),
+    ("reply", "hedrugal/src/replies.rt", constants("REPLY")),
+    ("device_attributes", "hedrugal/src/replies.rt", constants("DEVICE_ATTRIBUTES")),
+    ("mode_state", "hedrugal/src/replies.rt", constants("MODE_STATE")),
+    ("colour_name", "hedrugal/src/replies.rt", constants("COLOUR_NAME")),
+    ("colour_scheme", "hedrugal/src/replies.rt", constants("COLOUR_SCHEME")),
     ("termwiz_mod", "termwiz_base/src/modifiers.rt", FLAG),
     ("kitty_flag", "termwiz_base/src/kitty.rt", FLAG),
     ("button", "termwiz_keys/src/types.rt", FLAG),

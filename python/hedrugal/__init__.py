@@ -58,10 +58,18 @@ __version__ = "0.1.0"
 __all__ = [
     "Ambiguous",
     "Apc",
+    "ClipboardReply",
+    "Colour",
+    "ColourName",
+    "ColourReply",
+    "ColourScheme",
+    "ColourSchemeReply",
     "Completions",
     "Csi",
     "CursorPosition",
     "Dcs",
+    "DeviceAttributes",
+    "DeviceAttributesReply",
     "EncodeError",
     "Entry",
     "Event",
@@ -85,6 +93,8 @@ __all__ = [
     "KeyReport",
     "KittyKeyboardFlags",
     "KittyModifiers",
+    "ModeReply",
+    "ModeState",
     "Modifiers",
     "MouseButtons",
     "MouseEvent",
@@ -95,14 +105,18 @@ __all__ = [
     "Paste",
     "Policy",
     "Protocol",
+    "Reply",
     "ReportedKey",
     "Resize",
     "StringCut",
     "StringKind",
     "StringPart",
+    "VersionReply",
     "Waiting",
+    "WindowSizeReply",
     "encode",
     "key_report",
+    "reply",
     "typed_text",
 ]
 
@@ -1629,8 +1643,8 @@ def encode(
     _fault()
 
 
-# The extended parser has a file of its own, which imports names of this one: so these lines come
-# last.
+# The extended parser and replies have files of their own, which import names of this one: so these
+# lines come last.
 from .extended import (  # noqa: E402
     Apc,
     Csi,
@@ -1654,4 +1668,20 @@ from .extended import (  # noqa: E402
     StringPart,
     key_report,
     typed_text,
+)
+from .replies import (  # noqa: E402
+    ClipboardReply,
+    Colour,
+    ColourName,
+    ColourReply,
+    ColourScheme,
+    ColourSchemeReply,
+    DeviceAttributes,
+    DeviceAttributesReply,
+    ModeReply,
+    ModeState,
+    Reply,
+    VersionReply,
+    WindowSizeReply,
+    reply,
 )

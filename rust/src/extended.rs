@@ -23,9 +23,11 @@ mod encode;
 mod events;
 mod parser;
 mod press;
+mod replies;
 
 pub use crate::input::flags::KittyModifiers;
 pub use encode::KittyEncodeError;
 pub use events::{ExtendedEvent, KeyEventKind, KeyReport, ReportedKey, StringKind};
 pub use parser::{ExtendedParser, ExtendedWaiting, Protocol};
 pub use press::{typed_text, KeyPress};
+pub use replies::{Colour, ColourName, ColourScheme, DeviceAttributes, ModeState, Reply};

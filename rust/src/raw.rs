@@ -124,6 +124,72 @@ pub const ENCODING_WIN32: u8 = 2;
 pub const ENCODING_KITTY: u8 = 3;
 // numbers.txt: end
 
+// numbers.txt: replied const
+/// The event is no reply that is known.
+pub const REPLIED_NONE: u32 = 0;
+/// What the reply says was written.
+pub const REPLIED_VALUES: u32 = 1;
+/// Memory was refused. The call may be made again.
+pub const REPLIED_NO_MEMORY: u32 = 2;
+// numbers.txt: end
+
+// numbers.txt: reply const
+/// The terminal's attributes (DA1, DA2, DA3): some numbers.
+pub const REPLY_DEVICE_ATTRIBUTES: u8 = 1;
+/// The state of a mode (DECRPM).
+pub const REPLY_MODE: u8 = 2;
+/// A colour (OSC 4, 10, 11 and 12).
+pub const REPLY_COLOUR: u8 = 3;
+/// The terminal's name and version (XTVERSION): some bytes.
+pub const REPLY_VERSION: u8 = 4;
+/// The size of the window in characters.
+pub const REPLY_WINDOW_SIZE: u8 = 5;
+/// The preferred colour scheme.
+pub const REPLY_COLOUR_SCHEME: u8 = 6;
+/// What is in the clipboard or in a selection (OSC 52): some bytes.
+pub const REPLY_CLIPBOARD: u8 = 7;
+// numbers.txt: end
+
+// numbers.txt: device_attributes const
+/// DA1: the class of the terminal, such as 62 for a VT220, and what it can do, such as 4 for sixels.
+pub const DEVICE_ATTRIBUTES_PRIMARY: u8 = 1;
+/// DA2: the type of the terminal, its version, and 0.
+pub const DEVICE_ATTRIBUTES_SECONDARY: u8 = 2;
+/// DA3: the bytes of the unit's number, mostly four.
+pub const DEVICE_ATTRIBUTES_TERTIARY: u8 = 3;
+// numbers.txt: end
+
+// numbers.txt: mode_state const
+/// The terminal doesn't know the mode.
+pub const MODE_STATE_NOT_RECOGNIZED: u8 = 0;
+/// The mode is on.
+pub const MODE_STATE_SET: u8 = 1;
+/// The mode is off.
+pub const MODE_STATE_RESET: u8 = 2;
+/// The mode is on and can't be switched off.
+pub const MODE_STATE_PERMANENTLY_SET: u8 = 3;
+/// The mode is off and can't be switched on.
+pub const MODE_STATE_PERMANENTLY_RESET: u8 = 4;
+// numbers.txt: end
+
+// numbers.txt: colour_name const
+/// A colour of the palette, by its index.
+pub const COLOUR_NAME_PALETTE: u8 = 4;
+/// The colour of text.
+pub const COLOUR_NAME_FOREGROUND: u8 = 10;
+/// The colour behind text.
+pub const COLOUR_NAME_BACKGROUND: u8 = 11;
+/// The colour of the cursor.
+pub const COLOUR_NAME_CURSOR: u8 = 12;
+// numbers.txt: end
+
+// numbers.txt: colour_scheme const
+/// Bright text on a dark background.
+pub const COLOUR_SCHEME_DARK: u8 = 1;
+/// Dark text on a bright background.
+pub const COLOUR_SCHEME_LIGHT: u8 = 2;
+// numbers.txt: end
+
 /// A parser, or none.
 #[repr(C)]
 pub struct Parser {
@@ -297,6 +363,27 @@ pub struct ExtendedEvent {
     pub text_len: usize,
 }
 
+/// What a reply says. What its kind has no use for is 0.
+#[repr(C)]
+#[derive(Clone, Copy, Default)]
+pub struct Reply {
+    pub kind: u8,
+    pub report: u8,
+    pub state: u8,
+    pub is_private: bool,
+    pub name: u8,
+    pub scheme: u8,
+    pub selection: u8,
+    pub index: u16,
+    pub red: u16,
+    pub green: u16,
+    pub blue: u16,
+    pub rows: u16,
+    pub columns: u16,
+    pub mode: u32,
+    pub len: usize,
+}
+
 // The layouts that the library was proved with.
 const _: () = {
     assert!(size_of::<Parser>() == 24 && offset_of!(Parser, expiring) == 4);
@@ -334,6 +421,13 @@ const _: () = {
     );
     assert!(offset_of!(ExtendedEvent, report) == 16 && offset_of!(ExtendedEvent, input) == 32);
     assert!(offset_of!(ExtendedEvent, text_len) == 56);
+    assert!(
+        size_of::<Reply>() == 32
+            && offset_of!(Reply, is_private) == 3
+            && offset_of!(Reply, selection) == 6
+    );
+    assert!(offset_of!(Reply, index) == 8 && offset_of!(Reply, columns) == 18);
+    assert!(offset_of!(Reply, mode) == 20 && offset_of!(Reply, len) == 24);
 };
 
 extern "C" {
@@ -435,4 +529,14 @@ extern "C" {
         press: *mut KeyPress,
     ) -> bool;
     pub fn hed_key_second(report: *const KeyReport, press: *mut KeyPress) -> bool;
+    pub fn hed_read_reply(
+        kind: u8,
+        bytes: *const u8,
+        len: usize,
+        reply: *mut Reply,
+        numbers: *mut u32,
+        numbers_capacity: usize,
+        out: *mut u8,
+        capacity: usize,
+    ) -> u32;
 }

@@ -156,6 +156,35 @@ fn goes_on_with_the_extended_parser() {
     }
 }
 
+// What replies say, with each request refused in turn: a refusal is told, and the call may be made
+// again.
+#[test]
+fn reads_replies_after_a_refusal() {
+    for event in [
+        ExtendedEvent::Csi(b"?62;4;22c".to_vec()),
+        ExtendedEvent::Csi(b">41;379;0c".to_vec()),
+        ExtendedEvent::Csi(b"?25;1$y".to_vec()),
+        ExtendedEvent::Dcs(b"!|7E565445".to_vec()),
+        ExtendedEvent::Dcs(b">|XTerm(379)".to_vec()),
+        ExtendedEvent::Dcs(b">|a\xff".to_vec()),
+        ExtendedEvent::Osc(b"11;rgb:0/0/0".to_vec()),
+        ExtendedEvent::Osc(b"52;c;Y2xpcA==".to_vec()),
+    ] {
+        let whole = event.reply();
+        assert!(whole.is_some());
+        for number in 1.. {
+            let (told, refused) = refusing(number, || event.try_reply());
+            if refused == 0 {
+                assert_eq!(told.as_ref(), Ok(&whole));
+                assert!(number > 1, "{event:?}");
+                break;
+            }
+            assert_eq!((told, refused), (Err(AllocError), 1), "{event:?}");
+            assert_eq!(event.try_reply().as_ref(), Ok(&whole));
+        }
+    }
+}
+
 // A parser with an open paste, which has the text `OPEN_TEXT` if it is ended.
 fn parser_in_a_paste() -> InputParser {
     let mut parser = InputParser::new();

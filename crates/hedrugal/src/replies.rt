@@ -41,13 +41,13 @@ const MODE_STATE_PERMANENTLY_SET: u8 = 3;
 const MODE_STATE_PERMANENTLY_RESET: u8 = 4;
 
 // The colours that have a name.
-const COLOUR_PALETTE: u8 = 4;
+const COLOUR_NAME_PALETTE: u8 = 4;
 
-const COLOUR_FOREGROUND: u8 = 10;
+const COLOUR_NAME_FOREGROUND: u8 = 10;
 
-const COLOUR_BACKGROUND: u8 = 11;
+const COLOUR_NAME_BACKGROUND: u8 = 11;
 
-const COLOUR_CURSOR: u8 = 12;
+const COLOUR_NAME_CURSOR: u8 = 12;
 
 // The colour schemes.
 const COLOUR_SCHEME_DARK: u8 = 1;
@@ -142,10 +142,10 @@ fn name_number(name: ColourName) -> u8
     ensures { result ≡ name_number name }
 {
     match name {
-        ColourName::Palette(_) => COLOUR_PALETTE,
-        ColourName::Foreground => COLOUR_FOREGROUND,
-        ColourName::Background => COLOUR_BACKGROUND,
-        ColourName::Cursor => COLOUR_CURSOR,
+        ColourName::Palette(_) => COLOUR_NAME_PALETTE,
+        ColourName::Foreground => COLOUR_NAME_FOREGROUND,
+        ColourName::Background => COLOUR_NAME_BACKGROUND,
+        ColourName::Cursor => COLOUR_NAME_CURSOR,
     }
 }
 

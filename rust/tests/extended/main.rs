@@ -13,6 +13,7 @@ mod parser;
 mod plain;
 mod presses;
 mod recorded;
+mod replies;
 mod rows;
 mod streams;
 mod waiting;

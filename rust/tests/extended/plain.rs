@@ -5,6 +5,7 @@ mod forms;
 mod keys;
 mod meanings;
 pub mod presses;
+pub mod replies;
 mod strings;
 
 use crate::port::plain::{report_of, PlainReader as PortReader};
