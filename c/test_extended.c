@@ -1161,8 +1161,10 @@ struct answer {
   const char *bytes;
 };
 
-#define ATTRIBUTES(which, count) { .kind = HED_REPLY_DEVICE_ATTRIBUTES, .report = HED_DEVICE_ATTRIBUTES_##which, .len = count }
-#define MODE_IS(number, private, now) { .kind = HED_REPLY_MODE, .mode = number, .is_private = private, .state = HED_MODE_STATE_##now }
+#define ATTRIBUTES(which, count) \
+  { .kind = HED_REPLY_DEVICE_ATTRIBUTES, .report = HED_DEVICE_ATTRIBUTES_##which, .len = count }
+#define MODE_IS(number, private, now) \
+  { .kind = HED_REPLY_MODE, .mode = number, .is_private = private, .state = HED_MODE_STATE_##now }
 #define COLOUR_OF(which, at, r, g, b) \
   { .kind = HED_REPLY_COLOUR, .name = HED_COLOUR_NAME_##which, .index = at, .red = r, .green = g, .blue = b }
 

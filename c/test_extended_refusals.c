@@ -370,7 +370,7 @@ static void refuse_replies(void) {
     const char *text;
     bool needs_memory;
   } replies[] = {
-    { HED_KIND_CSI, "?62;4;22c", true }, { HED_KIND_CSI, ">41;379;0c", true },   { HED_KIND_DCS, "!|7E565445", true },
+    { HED_KIND_CSI, "?62;4;22c", true }, { HED_KIND_CSI, ">41;379;0c", true },    { HED_KIND_DCS, "!|7E565445", true },
     { HED_KIND_DCS, ">|foot", true },    { HED_KIND_OSC, "52;c;Y2xpcA==", true }, { HED_KIND_CSI, "?25;1$y", false },
     { HED_KIND_CSI, "8;24;80t", false }, { HED_KIND_OSC, "11;rgb:0/0/0", false }, { HED_KIND_CSI, "?997;1n", false },
     { HED_KIND_CSI, "?62;x", false },    { HED_KIND_OSC, "52;c;Y2xpcA", false },  { HED_KIND_DCS, "!|464", false },

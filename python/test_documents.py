@@ -10,11 +10,11 @@ from pathlib import Path
 import pytest
 
 import hedrugal
-from hedrugal import ExtendedParser, InputParser, KeyMap, extended
+from hedrugal import ExtendedParser, InputParser, KeyMap, extended, replies
 from helpers import HERE, LIBRARY, SECONDS, TOP, assert_prints, listings
 
 
-@pytest.mark.parametrize("module", [hedrugal, extended])
+@pytest.mark.parametrize("module", [hedrugal, extended, replies])
 def test_docstrings(module):
     failed, tried = doctest.testmod(module)
     assert (failed, tried > 0) == (0, True)
@@ -23,7 +23,7 @@ def test_docstrings(module):
 def test_every_call_says_what_it_does():
     for it in (hedrugal, InputParser, KeyMap, ExtendedParser):
         names = hedrugal.__all__ if it is hedrugal else [name for name in dir(it) if name[0] != "_"]
-        for name in {*names} - {"Event", "ExtendedEvent", "Found", "Key", "ReportedKey"}:
+        for name in {*names} - {"Event", "ExtendedEvent", "Found", "Key", "Reply", "ReportedKey"}:
             said = getattr(it, name).__doc__
             assert said and said[0].isupper(), name
 
@@ -73,7 +73,9 @@ def test_types(words):
 
 
 @pytest.mark.parametrize(
-    "text, wanted", listings()[1:], ids=["key map", "extended parser", "key report", "presses"]
+    "text, wanted",
+    listings()[1:],
+    ids=["key map", "extended parser", "replies", "key report", "presses"],
 )
 def test_listings(text, wanted):
     assert_prints(text, wanted)

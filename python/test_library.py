@@ -8,16 +8,21 @@ import pytest
 
 import hedrugal
 from hedrugal import (
+    ColourName,
+    ColourScheme,
+    DeviceAttributes,
     KeyboardEncoding,
     KeyCode,
     KeyEventKind,
     KittyKeyboardFlags,
     KittyModifiers,
+    ModeState,
     Modifiers,
     MouseButtons,
     Protocol,
     Waiting,
     extended,
+    replies,
 )
 from helpers import HERE, LIBRARY, constants, read, run_python
 
@@ -33,6 +38,10 @@ from helpers import HERE, LIBRARY, constants, read, run_python
         (Waiting, "HED_WAITING_"),
         (Protocol, "HED_PROTOCOL_"),
         (KeyEventKind, "HED_KEY_EVENT_KIND_"),
+        (DeviceAttributes, "HED_DEVICE_ATTRIBUTES_"),
+        (ModeState, "HED_MODE_STATE_"),
+        (ColourName, "HED_COLOUR_NAME_"),
+        (ColourScheme, "HED_COLOUR_SCHEME_"),
     ],
 )
 def test_enums(enum, prefix):
@@ -107,7 +116,7 @@ def test_calls():
     header = re.sub(r"/\*.*?\*/", "", read("c/hedrugal.h"), flags=re.S)
     calls = re.findall(r"^[a-z].*?[ *](hed_\w+)\(([^;]*)\);", header, flags=re.M)
     counts = {name: 0 if taken == "void" else taken.count(",") + 1 for name, taken in calls}
-    declared = {**hedrugal._CALLS, **hedrugal.extended._CALLS}
+    declared = {**hedrugal._CALLS, **extended._CALLS, **replies._CALLS}
     assert counts == {name: len(taken) for name, (_, taken) in declared.items()}
 
 
@@ -131,6 +140,13 @@ def test_layouts_of_the_extended_parser():
     raw = event(report=report(1, 2, 3, 4, 5, 6), input=hedrugal._RawEvent(1, 2, 3, 4, 5, 6, 7, 8))
     assert extended._report_fields_of(raw, extended._REPORT_AT) == (1, 2, 3, 4, 5, 6)
     assert hedrugal._fields_of(raw, extended._INPUT_AT) == (1, 2, 3, 4, 5, 6, 7, 8)
+
+
+def test_layout_of_replies():
+    raw = replies._RawReply
+    assert ctypes.sizeof(raw) == 32
+    offsets = [raw.is_private.offset, raw.selection.offset, raw.index.offset, raw.columns.offset]
+    assert offsets + [raw.mode.offset, raw.len.offset] == [3, 6, 8, 18, 20, 24]
 
 
 IMPORT = """

@@ -76,7 +76,7 @@ def test_recorded(protocol):
     with ExtendedParser(protocol) as parser:
         for it in lines:
             sent, wanted = it.split(" =", 1)
-            [event] = parser.parse(bytes.fromhex(sent), more=False)
+            [event] = parser.parse(bytes.fromhex(sent), False)
             assert line(reply(event)).rstrip() == wanted.lstrip(), sent
 
 

@@ -68,7 +68,8 @@ def read_list() -> Numbers:
 PLACES = {
     HEADER: {
         "c": "kind next waiting termwiz_mod button key encoding kitty_flag encoded found protocol"
-        " key_event_kind kitty_mod replied reply device_attributes mode_state colour_name colour_scheme"
+        " key_event_kind kitty_mod replied reply device_attributes mode_state colour_name"
+        " colour_scheme"
     },
     "rust/src/raw.rs": {
         "const": "next waiting encoded found kind protocol key_event_kind encoding replied reply"

@@ -1,11 +1,13 @@
-r"""What a terminal's replies say, in values: its attributes, the state of a mode, a colour, its name
-and version, its size, its colour scheme, and what is in the clipboard.
+r"""What a terminal's replies say, in values: its attributes, the state of a mode, a colour, its
+name and version, its size, its colour scheme, and what is in the clipboard.
 
+    >>> from hedrugal import ExtendedParser
     >>> with ExtendedParser() as parser:
-    ...     for event in parser.parse(b"\x1b[?62;4c\x1b]11;rgb:0/80/ffff\x07"):
+    ...     for event in parser.parse(b"\x1b[?62;4c\x1b[8;24;80t\x1bP>|foot(1.13.1)\x1b\\"):
     ...         print(reply(event))
     DeviceAttributesReply(report=DeviceAttributes.PRIMARY, numbers=(62, 4))
-    ColourReply(name=ColourName.BACKGROUND, colour=Colour(red=0, green=32896, blue=65535), index=None)
+    WindowSizeReply(rows=24, columns=80)
+    VersionReply(text='foot(1.13.1)')
 
 A program imports these names from the package hedrugal. "Replies" of docs/EXTENDED.md says which
 bytes are a reply."""
@@ -27,7 +29,7 @@ from . import (
     _Named,
     _refused,
 )
-from .extended import Csi, Dcs, ExtendedEvent, ExtendedParser, Osc
+from .extended import Csi, Dcs, ExtendedEvent, Osc
 
 # What the call answers, and the kinds of replies.
 # numbers.txt: replied private
@@ -238,6 +240,7 @@ def reply(event: ExtendedEvent) -> Optional[Reply]:
     r"""Returns what a terminal's reply says, if the event is one: a Csi, an Osc or a Dcs. Returns
     None for any other event.
 
+        >>> from hedrugal import ExtendedParser
         >>> with ExtendedParser() as parser:
         ...     events = parser.parse(b"\x1b[?2004;1$y\x1b]52;c;Y2xpcA==\x07q")
         >>> for event in events:

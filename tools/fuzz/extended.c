@@ -5,7 +5,9 @@
  *
  * The first keys of the stream are encoded. Under all flags of Kitty's protocol what is sent is read as one key report, and that is then
  * read back whole. Under other flags, one set for each key, a room that is too short gets the front of what is sent. The press of each is
- * its own press. */
+ * its own press.
+ *
+ * The first sequences and strings are read as replies, with room for all that they say and with less. */
 #include "fuzz.h"
 #include <string.h>
 
@@ -13,7 +15,7 @@ typedef hed_extended tested;
 typedef hed_extended_event event;
 
 enum { KITTY = 0x40, LONG = 0x80, READS = 7, NO_END = 0xfd, OPENING = 5, PART = 65535, CONTROL_REST = 256, STRING_MAX = 1 << 17 };
-enum { ALL_FLAGS = 2 * HED_KITTY_FLAG_REPORT_ASSOCIATED_TEXT - 1, SEQUENCE_MAX = 256, ENCODED_KEYS = 40 };
+enum { ALL_FLAGS = 2 * HED_KITTY_FLAG_REPORT_ASSOCIATED_TEXT - 1, SEQUENCE_MAX = 256, ENCODED_KEYS = 40, REPLIES = 40, REPLY_MAX = 4096 };
 
 static bool is_key(const event *it) {
   return it->kind == HED_KIND_KEY || it->kind == HED_KIND_REPORT;
@@ -141,6 +143,41 @@ static void encode_keys(void) {
   }
 }
 
+/* What an event says as a reply, into rooms that end where nothing can be touched, with room for so many numbers and bytes. Returns whether
+ * it is one. */
+static bool read_reply(const event *it, const uint8_t *of_event, size_t capacity, hed_reply *reply) {
+  static room text, numbers, out;
+  room_with(&text, of_event, it->text_len);
+  room_of(&numbers, capacity * sizeof(uint32_t));
+  room_of(&out, capacity);
+  uint32_t answer =
+      hed_read_reply(it->kind, pointer_to(&text), it->text_len, reply, pointer_to(&numbers), capacity, pointer_to(&out), capacity);
+  HOLDS(answer == HED_REPLIED_VALUES || answer == HED_REPLIED_NONE);
+  HOLDS(is_unchanged(&text, of_event));
+  bool has_numbers = answer == HED_REPLIED_VALUES && reply->kind == HED_REPLY_DEVICE_ATTRIBUTES;
+  size_t written = answer != HED_REPLIED_VALUES ? 0 : reply->len < capacity ? reply->len : capacity;
+  HOLDS(is_untouched(&numbers, has_numbers ? written * sizeof(uint32_t) : 0) && is_untouched(&out, has_numbers ? 0 : written));
+  return answer == HED_REPLIED_VALUES;
+}
+
+/* The first events that may be replies are read with room for everything, and with less. */
+static void read_replies(void) {
+  static hed_reply all, some;
+  const uint8_t *of_event = whole.texts;
+  unsigned read = 0;
+  for (const event *it = whole.events; it < whole.events + whole.count && read < REPLIES; of_event += it++->text_len) {
+    if (it->kind < HED_KIND_CSI || it->text_len > REPLY_MAX) continue;
+    memset(&all, 0, sizeof all);
+    memset(&some, 0, sizeof some);
+    bool is_reply = read_reply(it, of_event, it->text_len, &all);
+    HOLDS(read_reply(it, of_event, read++ % 8, &some) == is_reply && memcmp(&all, &some, sizeof all) == 0);
+    if (!is_reply) continue;
+    HOLDS(it->kind <= HED_KIND_DCS && all.kind >= HED_REPLY_DEVICE_ATTRIBUTES && all.kind <= HED_REPLY_CLIPBOARD);
+    HOLDS(all.len <= it->text_len && all.state <= HED_MODE_STATE_PERMANENTLY_RESET && all.scheme <= HED_COLOUR_SCHEME_LIGHT);
+    note(0x90000u | all.kind, all.report + all.state + all.name + all.scheme + all.selection);
+  }
+}
+
 /* A string of STRING_MAX bytes, which has no end. Each event brings the opening and the next bytes, and none is a key. */
 static void read_long_string(const uint8_t *bytes, size_t len, size_t size) {
   static uint8_t string[STRING_MAX] = "\033]52;", got[STRING_MAX];
@@ -171,4 +208,5 @@ void try_input(input *it) {
   if ((first & ~READS) == LONG && it->left > 0) read_long_string(it->at, it->left, (size_t)1 << 2 * (first & READS));
   read_both(it, first);
   encode_keys();
+  read_replies();
 }

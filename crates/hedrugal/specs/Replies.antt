@@ -1,5 +1,5 @@
 -- What a reply says, as C has it.
-use Rattle.std.specs.Prelude.{◌≡◌, ℕ, ◌==◌, List, [], Bool, false, true, length, Option, Some, None, if◌then◌else◌, unwrap_or}
+use Rattle.std.specs.Prelude.{◌≡◌, ℕ, ◌==◌, List, [], false, length, Option, Some, None, if◌then◌else◌, unwrap_or}
 use Rattle.termwiz_extended_events.specs.ReplyValues.{csi_reply, osc_reply, dcs_reply}
 use Rattle.termwiz_extended_events.specs.declared.reply_types.Reply.{Reply}
 use Rattle.termwiz_extended_events.specs.declared.reply_types.Reply.TheVariants.{DeviceAttributes, Mode, Version, WindowSize, Clipboard}

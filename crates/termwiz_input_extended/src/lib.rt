@@ -9,5 +9,4 @@ mod next_item;
 mod string;
 pub mod time;
 
-pub use termwiz_extended_events::reply_types;
-pub use termwiz_extended_events::types;
+pub use termwiz_extended_events::{reply_types, types};
