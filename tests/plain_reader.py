@@ -18,7 +18,9 @@ NUMBERED = [*range(11, 16), *range(17, 22), *range(23, 27), 28, 29, *range(31, 3
 NUMBERED = {str(code): f"f{it}" for it, code in enumerate(NUMBERED, 1)}
 HIGH = {str(42 + it): f"f{21 + it}" for it in range(4)}
 TILDE = EDIT | NUMBERED | HIGH
-URXVT = {it: EDIT[it] for it in "235678"} | NUMBERED | {str(35 + it): f"f{21 + it}" for it in range(4)}
+URXVT = (
+    {it: EDIT[it] for it in "235678"} | NUMBERED | {str(35 + it): f"f{21 + it}" for it in range(4)}
+)
 URXVT_ENDS = {"^": CTRL, "@": CTRL | SHIFT, "$": SHIFT}
 KEYPAD = {"M": 57414, "X": 57415, "E": "keypadbegin"}
 KEYPAD |= dict(zip("jklmno", "multiply add separator subtract decimal divide".split()))

@@ -27,9 +27,7 @@ KITTY_NAMES |= {57376 + it: f"f{13 + it}" for it in range(23)}
 KITTY_NAMES |= {57399 + it: f"numpad{it}" for it in range(10)}
 KITTY_NAMES |= dict(enumerate("decimal divide multiply subtract add".split(), 57409))
 KITTY_NAMES |= {57416: "separator"}
-KITTY_NAMES |= dict(
-    enumerate("keypadpageup keypadpagedown keypadhome keypadend".split(), 57421)
-)
+KITTY_NAMES |= dict(enumerate("keypadpageup keypadpagedown keypadhome keypadend".split(), 57421))
 KITTY_NAMES |= {57427: "keypadbegin"}
 KITTY_NAMES |= {57430: "mediaplaypause", 57432: "mediastop"}
 KITTY_NAMES |= {57435: "medianexttrack", 57436: "mediaprevtrack"}

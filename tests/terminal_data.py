@@ -1,0 +1,46 @@
+"""The lines of tests/terminals: what terminals sent. Its README.md says what the columns mean."""
+from pathlib import Path
+from typing import NamedTuple
+
+FOLDER = Path(__file__).resolve().parent / "terminals"
+KEY_MODES = "default decckm deckpam decckm+deckpam mok1 mok2 kitty1 kitty3 kitty31".split()
+COLUMNS = ("kind", "modes", "bytes", "what", "also", "details", "count", "why")
+
+
+class Line(NamedTuple):
+    kind: str
+    modes: str
+    bytes: bytes
+    what: str
+    also: str
+    details: str
+    count: str
+    why: str
+
+    @property
+    def right(self):
+        """The names of the presses that are right."""
+        return {*self.what.split(), *self.also.split()}
+
+    def fields(self):
+        return self._replace(bytes=self.bytes.hex())
+
+
+def is_kitty(mode):
+    """Whether a program in this mode turned Kitty's protocol on."""
+    return mode.startswith("kitty")
+
+
+def data_files():
+    return sorted(FOLDER.glob("*.tsv"))
+
+
+def load(path):
+    """The first line of a file, which names the terminal's version, and its lines."""
+    head, columns, *lines = path.read_text().splitlines()
+    assert tuple(columns.split("\t")) == COLUMNS, path
+    found = []
+    for text in lines:
+        kind, modes, digits, *rest = text.split("\t")
+        found.append(Line(kind, modes, bytes.fromhex(digits), *rest))
+    return head + "\n", found

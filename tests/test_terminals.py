@@ -1,0 +1,272 @@
+"""What real terminals sent, read by both parsers: tests/terminals has it.
+
+    tests/test_terminals.py --write    makes the tables of docs/TERMINALS.md anew
+
+Each press is read whole and byte by byte, with more to come; then what waits is flushed, if it is a
+lone ESC or ESC and one byte, as after a pause. It is read exactly if that gives one key, and its
+press is one of those that send these bytes. Modes of Kitty's flags are read by Kitty's protocol."""
+import collections
+import functools
+import re
+import sys
+
+import pytest
+from conftest import TOP  # noqa: F401
+from plain_reader import read as plain_read
+from presses import CAPS_LOCK, press, printed
+from terminal_data import is_kitty
+from terminal_tables import DOCUMENT, in_document, load_all, tables
+
+FILES = load_all()
+TERMINALS = sorted(FILES)
+BUTTONS = {
+    **{"Left": "LEFT", "Middle": "MIDDLE", "Right": "RIGHT", "Move": "NONE"},
+    **{"WheelUp": "VERT_WHEEL+WHEEL_POSITIVE", "WheelDown": "VERT_WHEEL"},
+    **{"WheelLeft": "HORZ_WHEEL+WHEEL_POSITIVE", "WheelRight": "HORZ_WHEEL"},
+}
+
+
+@functools.cache
+def parsers():
+    """The parsers by name: the port's, and the extended one by both protocols."""
+    from hedrugal import ExtendedParser, InputParser, Protocol
+
+    return {
+        "port": InputParser(),
+        "legacy": ExtendedParser(Protocol.LEGACY),
+        "kitty": ExtendedParser(Protocol.KITTY),
+    }
+
+
+def read_pieces(reader, pieces):
+    """The events of pieces, and how many bytes stay buffered after a pause."""
+    from hedrugal import Waiting
+
+    parser = parsers()[reader]
+    events = [event for piece in pieces for event in parser.parse(piece)]
+    flushed = parser.flush_escape()
+    events += [flushed] if flushed is not None else []
+    if parser.waiting_len == 2 and parser.waiting is Waiting.SEQUENCE:
+        events += parser.flush()
+    rest = parser.waiting_len
+    parser.reset()
+    return events, rest
+
+
+@functools.cache
+def read(reader, data):
+    """The same of bytes, whole and byte by byte."""
+    found = read_pieces(reader, [data])
+    assert read_pieces(reader, [data[at : at + 1] for at in range(len(data))]) == found, data
+    return found
+
+
+def plain_key(key):
+    """A key as presses.py names it."""
+    from hedrugal import Function, KeyCode
+
+    if isinstance(key, Function):
+        return f"f{key.number}"
+    return key.name.lower().replace("_", "") if isinstance(key, KeyCode) else key
+
+
+def plain_press(event):
+    """What an event tells, as plain_reader.py says it: `key` or `release`, and a press."""
+    from hedrugal import KeyEvent, KeyEventKind, key_report
+
+    report = key_report(event)
+    if report is None:
+        return None
+    of = plain_key(report.key), report.modifiers.value
+    more = {"text": report.text, "shifted": report.shifted}
+    is_release = report.kind is KeyEventKind.RELEASE
+    if not is_release:
+        check_press(event, press(*of, **more))
+    assert isinstance(event, KeyEvent) or press(*of, **more, is_release=True) == "-"
+    return ("release" if is_release else "key", press(*of, **more))
+
+
+def check_press(event, wanted):
+    """Compares the library's press of an event with that of presses.py."""
+    import hedrugal
+
+    if hasattr(hedrugal, "KeyPress"):
+        is_report = isinstance(event, hedrugal.KeyReport)
+        of = hedrugal.KeyPress.of_report if is_report else hedrugal.KeyPress.of_event
+        found = of(event)
+        assert ("-" if found is None else str(found)) == wanted, event
+
+
+def is_exact(reader, line):
+    events, rest = read(reader, line.bytes)
+    if len(events) != 1 or rest:
+        return False
+    kind, name = plain_press(events[0]) or (None, None)
+    return kind == {"press": "key", "release": "release"}[line.kind] and name in line.right
+
+
+def reader_of(mode):
+    return "kitty" if is_kitty(mode) else "legacy"
+
+
+def keys_of(terminal):
+    """The lines of a terminal's presses and releases, each with one mode."""
+    for line in FILES[terminal][1]:
+        if line.kind in ("press", "release"):
+            for mode in line.modes.split(","):
+                yield line, mode
+
+
+@functools.cache
+def judged():
+    """How many presses of a terminal in a mode a reader reads exactly, and how many there are."""
+    found = collections.defaultdict(lambda: (0, 0))
+    for terminal in TERMINALS:
+        for line, mode in keys_of(terminal):
+            for name, reader in (("port", "port"), ("extended", reader_of(mode))):
+                if line.kind == "press":
+                    good, all_ = found[terminal, mode, name]
+                    count = int(line.count)
+                    good += count * is_exact(reader, line)
+                    found[terminal, mode, name] = (good, all_ + count)
+    return found
+
+
+@pytest.mark.parametrize("terminal", TERMINALS)
+def test_keys(terminal):
+    """What has no reason is read exactly, and what has one isn't: the reason would be stale."""
+    wrong = [
+        (line, mode, read(reader_of(mode), line.bytes))
+        for line, mode in keys_of(terminal)
+        if is_exact(reader_of(mode), line) == bool(line.why)
+    ]
+    assert not wrong, "\n".join(map(str, [len(wrong), *wrong[:20]]))
+
+
+@pytest.mark.parametrize("terminal", TERMINALS)
+def test_plain_reader(terminal):
+    """The plain reader reads the same keys, and finds as many events."""
+    for line, mode in keys_of(terminal):
+        events, rest = read(reader_of(mode), line.bytes)
+        wanted, wanted_rest = plain_read(line.bytes, is_kitty(mode))
+        found = [plain_press(event) for event in events]
+        wanted = [it if it[0] in ("key", "release") else None for it in wanted]
+        assert (found, rest) == (wanted, wanted_rest), (line, mode)
+
+
+def test_port():
+    """What the port reads as one key, the extended parser reads as that key, by legacy rules."""
+    for terminal in TERMINALS:
+        for line, mode in keys_of(terminal):
+            if not is_kitty(mode) and is_exact("port", line):
+                assert is_exact("legacy", line), (terminal, line)
+
+
+@pytest.mark.parametrize("terminal", TERMINALS)
+def test_mouse(terminal):
+    """Reports of the modes 1006, 1015 and 1016 tell button and modifiers."""
+    from hedrugal import Modifiers, MouseButtons, MouseEvent
+
+    def flags(kind, names):
+        return functools.reduce(lambda all_, it: all_ | kind[it], names, kind.NONE)
+
+    for line in FILES[terminal][1]:
+        if line.kind != "mouse" or not re.search(r"\+10(06|15|16)", line.modes):
+            continue
+        pressed, _, what = line.what.rpartition(" ")
+        *held, button = pressed.replace("Left-corner", "Left").split("+")
+        if button not in BUTTONS:
+            continue
+        events, rest = read("legacy", line.bytes)
+        assert len(events) == 1 and not rest and isinstance(events[0], MouseEvent), line
+        names = BUTTONS[button].split("+") if what != "release" else ["NONE"]
+        assert events[0].buttons == flags(MouseButtons, names), line
+        # Some terminals keep Shift for themselves.
+        modifiers = flags(Modifiers, (it.upper() for it in held))
+        assert events[0].modifiers in (modifiers, modifiers & ~Modifiers.SHIFT), line
+
+
+@pytest.mark.parametrize("terminal", TERMINALS)
+def test_focus(terminal):
+    from hedrugal import FocusGained, FocusLost
+
+    for line in FILES[terminal][1]:
+        if line.kind == "focus":
+            wanted = {"gained": FocusGained(), "lost": FocusLost()}[line.what]
+            assert read("legacy", line.bytes) == read("kitty", line.bytes) == ([wanted], 0), line
+
+
+@pytest.mark.parametrize("terminal", TERMINALS)
+def test_pastes(terminal):
+    """A paste is one event. What follows an END in its text is typed, and then comes the other
+    END, a key of its own. Without an END it stays open."""
+    from hedrugal import KeyCode, KeyEvent, Paste
+
+    for line in FILES[terminal][1]:
+        if line.kind != "paste" or "2004" not in line.modes:
+            continue
+        start, end = b"\x1b[200~", b"\x1b[201~"
+        assert line.bytes.startswith(start), line
+        text, *typed = line.bytes[len(start) :].split(end)
+        for reader in parsers():
+            events, rest = read(reader, line.bytes)
+            if not typed:
+                assert (events, rest) == ([], len(line.bytes)), line
+                continue
+            assert events[0] == Paste(text.decode("utf-8", "replace")) and not rest, line
+            is_forged = typed != [b""]
+            assert is_forged == (events[-1] == KeyEvent(KeyCode.INTERNAL_PASTE_END)), line
+            assert is_forged or len(events) == 1, line
+
+
+@pytest.mark.parametrize("terminal", TERMINALS)
+def test_replies(terminal):
+    """Replies aren't keys, but for those that the documents name."""
+    for line in FILES[terminal][1]:
+        if line.kind == "reply":
+            for reader in ("legacy", "kitty"):
+                events, _ = read(reader, line.bytes)
+                keys = [it for it in map(plain_press, events) if it]
+                assert not keys or is_known(terminal, line, reader), (line, reader, keys)
+
+
+def is_known(terminal, line, reader):
+    """Whether a reply is one that is read as keys."""
+    if re.fullmatch(rb"\x1b\[1;\d+R", line.bytes):
+        return reader == "legacy"  # F3 with modifiers
+    return False
+
+
+def test_every_line_is_read():
+    kinds = collections.Counter(it.kind for _, lines in FILES.values() for it in lines)
+    assert set(kinds) == {"press", "release", "mouse", "focus", "paste", "reply"}
+    assert kinds["press"] > 8000
+
+
+@pytest.mark.parametrize("name", ["versions", "exact", "apart", "pastes", "replies", "peers"])
+def test_document(name):
+    """The tables of docs/TERMINALS.md are those of the data and the parsers."""
+    text = DOCUMENT.read_text()
+    first, last = in_document(name, text)
+    assert text[first:last] == tables(FILES, judged())[name]
+
+
+def test_presses():
+    """Rows of presses that no recorded terminal sends."""
+    assert press("a", CAPS_LOCK, text="A") == "A"
+    assert press("\0", 0, text="fi") == "-"
+    assert printed(("\u0441", 4)) == "ctrl+с"
+
+
+def write_tables():
+    text = DOCUMENT.read_text()
+    for name, made in tables(FILES, judged()).items():
+        first, last = in_document(name, text)
+        text = text[:first] + made + text[last:]
+    DOCUMENT.write_text(text)
+
+
+if __name__ == "__main__":
+    if sys.argv[1:] != ["--write"]:
+        sys.exit(__doc__)
+    write_tables()
