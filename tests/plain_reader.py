@@ -1,5 +1,5 @@
-"""A plain model of the extended parser, for what a key sends: the sequence table of docs/GRAMMAR.md,
-and the keys and reports of docs/EXTENDED.md. Strings and pastes are left out.
+"""A plain model of the extended parser, for what a key sends: the sequence table of
+docs/GRAMMAR.md, and the keys and reports of docs/EXTENDED.md. Strings and pastes are left out.
 
 `read` feeds bytes as a program does whose user makes a pause after a key: more may come, and then
 a lone ESC, and ESC and one byte, are flushed."""
@@ -11,7 +11,6 @@ from presses import ALT, CTRL, SHIFT, press
 ARROWS = dict(zip("ABCD", "uparrow downarrow rightarrow leftarrow".split()))
 CURSOR = ARROWS | {"H": "home", "F": "end"}
 FUNCTION = dict(zip("PQRS", "f1 f2 f3 f4".split()))
-EDIT = dict(zip("23178456", "insert delete home home end end pageup pagedown".split()))
 EDIT = {"2": "insert", "3": "delete", "1": "home", "7": "home"}
 EDIT |= {"4": "end", "8": "end", "5": "pageup", "6": "pagedown"}
 NUMBERED = [*range(11, 16), *range(17, 22), *range(23, 27), 28, 29, *range(31, 35)]
@@ -226,7 +225,8 @@ def item(text, is_kitty):
 
 
 def read(data, is_kitty):
-    """The events of bytes, each a kind and a press or what else it tells, and how many bytes stay."""
+    """The events of bytes, each a kind and a press or what else it tells, and how many bytes
+    stay buffered."""
     events = []
     while data:
         waits = is_open(data) or data[:1] == b"\x1b" and is_open(data[1:])

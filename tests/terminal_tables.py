@@ -2,7 +2,7 @@
 import re
 from pathlib import Path
 
-from terminal_data import KEY_MODES, data_files, load
+from terminal_data import FOLDER, KEY_MODES, data_files, load
 
 DOCUMENT = Path(__file__).resolve().parent.parent / "docs/TERMINALS.md"
 TITLES = {
@@ -13,37 +13,11 @@ TITLES = {
 END = b"\x1b[201~"
 
 # What is pressed, and the press from which it is to be told apart.
-PAIRS = [
-    ("shift+enter", "enter"),
-    ("ctrl+enter", "enter"),
-    ("alt+enter", "enter"),
-    ("shift+tab", "tab"),
-    ("ctrl+tab", "tab"),
-    ("shift+backspace", "backspace"),
-    ("ctrl+backspace", "backspace"),
-    ("ctrl+backspace", "ctrl+h"),
-    ("shift+space", "space"),
-    ("ctrl+i", "tab"),
-    ("ctrl+m", "enter"),
-    ("ctrl+[", "escape"),
-    ("ctrl+shift+a", "ctrl+a"),
-    ("ctrl+1", "1"),
-    ("ctrl+,", ","),
-    ("ctrl+é", "é"),
-    ("alt+a", "a"),
-    ("ctrl+up", "up"),
-    ("ctrl+shift+up", "ctrl+up"),
-    ("ctrl+home", "home"),
-    ("ctrl+delete", "delete"),
-    ("ctrl+pageup", "pageup"),
-    ("ctrl+f1", "f1"),
-    ("ctrl+f5", "f5"),
-    ("f13", "shift+f1"),
-    ("super+a", "a"),
-    ("super+up", "up"),
-]
-# Keys of the keypad, and the main keys.
-KEYPAD_PAIRS = [("KP_Enter", "enter"), ("KP_Add", "+"), ("KP_Home", "home"), ("KP_7", "7")]
+PAIRS = """shift+enter enter | ctrl+enter enter | ctrl+m enter | ctrl+tab tab | ctrl+i tab
+    ctrl+[ escape | ctrl+backspace ctrl+h | shift+space space | ctrl+shift+a ctrl+a | ctrl+1 1 | ctrl+, ,
+    ctrl+é é | super+a a | ctrl+up up | ctrl+home home | ctrl+delete delete | ctrl+f5 f5
+    f13 shift+f1 | KP_Enter enter | KP_7 7 | KP_Home home"""
+PAIRS = [tuple(it.split()) for it in re.split(r" \| |\n", PAIRS)]
 
 QUESTIONS = {
     "cursor, ESC `[6n`": "DSR6",
@@ -89,25 +63,39 @@ def table(head, rows):
     return row(*head) + "|" + "---|" * len(head) + "\n" + "".join(row(*it) for it in rows)
 
 
-def versions(files):
-    shown = ((title(it), version) for it, (version, _) in files.items())
-    return table(("Terminal", "Version of Debian 12"), shown)
-
-
 def percent(good, all_):
-    return str(100 * good // all_) if all_ else ""
+    return str(100 * good // all_)
+
+
+def peers():
+    """Of each terminal and mode how many presses there were when other parsers were measured, and
+    how many each read exactly."""
+    lines = (FOLDER / "peers.txt").read_text().splitlines()
+    rows = [it.split("\t") for it in lines if not it.startswith("#")]
+    return rows[0][3:], {tuple(it[:2]): list(map(int, it[2:])) for it in rows[1:]}
 
 
 def exact(files, judged):
     """`judged` has of each terminal, mode and reader how many presses were read exactly, and how
-    many there are."""
-
-    def cell(terminal, mode):
-        counts = [judged.get((terminal, mode, it)) for it in ("port", "extended")]
-        return ", ".join(percent(*it) for it in counts) if counts[0] else ""
-
-    rows = ([title(it), *(cell(it, mode) for mode in KEY_MODES)] for it in files)
-    return table(("", *KEY_MODES), rows)
+    many there are. Modes with the same numbers are one row."""
+    names, others = peers()
+    found = {}
+    for terminal in files:
+        for mode in KEY_MODES:
+            if (terminal, mode, "port") not in judged:
+                continue
+            counts = [judged[terminal, mode, it] for it in ("port", "extended")]
+            all_ = counts[0][1]
+            measured, *goods = others.get((terminal, mode), [None])
+            # Those that were measured on other presses are left out.
+            goods = goods if measured == all_ else [None] * len(names)
+            cells = [percent(*it) for it in counts]
+            cells += ["" if it is None else percent(it, all_) for it in goods]
+            found.setdefault((terminal, str(all_), *cells), []).append(mode)
+    rows = (
+        [title(terminal), ", ".join(modes), *cells] for (terminal, *cells), modes in found.items()
+    )
+    return table(("Terminal", "Modes", "Presses", "InputParser", "ExtendedParser", *names), rows)
 
 
 def is_told(lines, mode, pressed, other):
@@ -143,40 +131,33 @@ def apart(files):
             return "?"
         return " ".join(names) if names else "-"
 
-    rows = (
-        [f"{one} {other}", *(cell(lines, (one, other)) for _, lines in files.values())]
-        for one, other in PAIRS + KEYPAD_PAIRS
-    )
-    return table(("", *map(title, files)), rows)
+    rows = ([*it, *(cell(lines, it) for _, lines in files.values())] for it in PAIRS)
+    return table(("Press", "and not", *map(title, files)), rows)
 
 
 def pastes(files):
     """What becomes of bytes inside a bracketed paste."""
     rows = []
-    for terminal, (_, lines) in files.items():
+    for terminal, (version, lines) in files.items():
         came = {it.what: it.bytes for it in lines if it.kind == "paste" and "2004" in it.modes}
-        if not came:
-            rows.append([title(terminal), *["not recorded"] * 4])
-            continue
 
         def end_of(name):
             if name not in came:
-                return "sends nothing"
-            inside = came[name][6:]
+                return "nothing" if came else "?"
+            inside = came[name][len(END) :]
             if not inside.endswith(END):
                 return "**loses the end**"
-            return "**passes END**" if END in inside[: -len(END)] else "no END inside"
+            return "**passes END**" if END in inside[: -len(END)] else "one END"
 
         def escape():
             if "escape" not in came:
-                return "sends nothing"
-            inside = came["escape"][6:-6]
-            return "ESC" if b"\x1b" in inside else repr(inside.decode()[1:2])[1:-1]
+                return "nothing" if came else "?"
+            after = came["escape"][len(END) :].decode()[1]
+            return {"\x1b": "ESC", " ": "a space", "[": "no byte"}.get(after, after)
 
-        rows.append(
-            [title(terminal), end_of("end"), end_of("splitend"), end_of("controls"), escape()]
-        )
-    head = ("", "text with END", "END in halves", "control characters", "ESC becomes")
+        cells = [end_of(it) for it in ("end", "splitend", "controls")]
+        rows.append([title(terminal), version, escape(), *cells])
+    head = ("", "Version", "ESC", "END", "END in END", "Control characters")
     return table(head, rows)
 
 
@@ -203,10 +184,8 @@ def in_document(name, text):
 def tables(files, judged):
     """The tables by their names in the document."""
     return {
-        "versions": versions(files),
         "exact": exact(files, judged),
         "apart": apart(files),
         "pastes": pastes(files),
         "replies": replies(files),
-        "peers": "",
     }

@@ -247,7 +247,7 @@ def test_every_line_is_read():
     assert kinds["press"] > 8000
 
 
-@pytest.mark.parametrize("name", ["versions", "exact", "apart", "pastes", "replies", "peers"])
+@pytest.mark.parametrize("name", ["exact", "apart", "pastes", "replies"])
 def test_document(name):
     """The tables of docs/TERMINALS.md are those of the data and the parsers."""
     text = DOCUMENT.read_text()

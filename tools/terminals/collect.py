@@ -31,25 +31,24 @@ NAMED |= {"Space": " ", "Menu": "applications", "Print": "printscreen"}
 NAMED |= {"Shift_L": "leftshift", "Control_L": "leftcontrol", "Alt_L": "leftalt"}
 NAMED |= {"Super_L": "leftwindows", "Caps_Lock": "capslock", "Num_Lock": "numlock"}
 NAMED |= {"Scroll_Lock": "scrolllock"}
-# The keys of the keypad by their names without Num Lock, with it, and as keys.
+# The keys of the keypad by their names without Num Lock and with it: what is on them.
 KEYPAD = {}
 for off, on in zip(
     "Home Up PageUp Left Begin Right End Down PageDown Insert Delete".split(),
-    "789456123 0.".replace(" ", ""),
+    "7 8 9 4 5 6 1 2 3 0 Decimal".split(),
 ):
-    KEYPAD["Decimal" if on == "." else on] = KEYPAD[off] = (
-        {"Begin": "keypadbegin"}.get(off) or NAMED[off],
-        on,
-    )
-KEYPAD_ONE = {"Add": "+", "Subtract": "-", "Multiply": "*", "Divide": "/", "Equal": "="}
-KEYPAD_ONE |= {"Enter": "enter"}
+    key = NAMED.get(off, "keypadbegin")
+    KEYPAD[on] = KEYPAD[off] = [key, on.replace("Decimal", ".")]
+for it in {"Add": "+", "Subtract": "-", "Multiply": "*", "Divide": "/", "Equal": "="}.items():
+    KEYPAD[it[0]] = [it[1]]
+KEYPAD["Enter"] = ["enter"]
 
 LISTED = [
     # The name of the terminals, the bytes, the reason.
     (
         "st",
         rb"\x1b\[(2?[JK]|4[hl]|[LMP])",
-        "st sends editing sequences for keys without keypad mode: send ESC =",
+        "st sends this where keypad mode, or of shift+home DECCKM, is off",
     ),
     ("konsole|qterminal", rb"\x18@s.*", "Konsole writes Super as Ctrl-X, @, s before the key"),
     ("foot", rb"\x1b\[27;\d+;6\d{4}~", "foot sends X11's numbers of keypad keys as characters"),
@@ -63,21 +62,18 @@ LISTED = [
 
 
 def right_presses(name, mods):
-    """The names of the presses that a key with modifiers is. On the keypad Shift inverts Num Lock."""
+    """The names of the presses that a key with modifiers is. A key of the keypad with two labels
+    counts as both: in keypad mode most terminals send the same with Num Lock and without, and
+    Shift turns Num Lock around."""
     held = sum(HELD[it] for it in mods.split("+")) if mods != "-" else 0
     if not name.startswith("KP_"):
         key = NAMED.get(name, name)
         shifted = SHIFTED.get(key, key.upper() if key.isascii() else key) if len(key) == 1 else None
         return {press(key, held, shifted=shifted)}
-    name = name[3:]
-    if name in KEYPAD_ONE:
-        return {press(KEYPAD_ONE[name], held)}
-    this, other = KEYPAD[name]
-    if name.isdigit() or name == "Decimal":
-        this, other = other, this
-    if not held & SHIFT:
-        return {press(this, held)}
-    return {press(this, held), press(other, held), press(other, held & ~SHIFT)}
+    keys = KEYPAD[name[3:]]
+    return {
+        press(key, it) for key in keys for it in ({held, held & ~SHIFT} if keys[1:] else {held})
+    }
 
 
 def pressed_name(name, mods):
@@ -144,7 +140,8 @@ def other_lines(recorded):
     found = collections.OrderedDict()
 
     def add(kind, mode, data, what, details=""):
-        found.setdefault((kind, joined(data), what, "", details, "1"), []).append(mode)
+        modes = found.setdefault((kind, joined(data), what, "", details, "1"), [])
+        modes += [mode] * (mode not in modes)
 
     for mode, name, mods, first, second, note in recorded:
         if mode.startswith("mouse"):
@@ -154,10 +151,10 @@ def other_lines(recorded):
                     add("mouse", mode[5:], field, f"{pressed_name(name, mods)} {what}")
         elif mode == "focus1004" and first and name != "on":
             add("focus", "1004", first, name)
-        elif (
-            mode.startswith("paste") and first and not name.startswith("long") and mods == "middle"
-        ):
-            add("paste", mode[5:].lstrip("-"), first, name, note.split("; ")[-1])
+        elif mode.startswith("paste") and not name.startswith("long"):
+            # Shift-Insert is a key in some terminals.
+            if joined(first).startswith(b"\x1b[200~") or first and mods == "middle":
+                add("paste", mode[5:].lstrip("-"), first, name, note.split("; ")[-1])
         elif mode == "query" and first and name != "ALL":
             add("reply", mode, first, name)
     return lines_of(found)

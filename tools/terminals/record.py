@@ -180,7 +180,7 @@ class Driver:
 
     def __init__(self, name, out, options):
         self.name, self.terminal, self.options = name, TERMINALS[name], options
-        self.version = f"{self.terminal.package} {self.terminal.version()}"
+        self.version = self.terminal.version()
         self.folder = tempfile.mkdtemp(prefix="terminal-")
         self.processes, self.link, self.buffered, self.stray = [], None, b"", ""
         self.origin = (0, 0, 400, 300)

@@ -28,7 +28,7 @@ class Terminal:
     within: str = ""  # another program that has to be there
 
     def version(self):
-        """The package and its version."""
+        """The version of its package."""
         words = ["dpkg-query", "-W", "-f", "${Version}", self.package]
         done = subprocess.run(words, capture_output=True, text=True, check=False)
         return done.stdout.strip() or "unknown"
