@@ -16,10 +16,9 @@ EDIT |= {"4": "end", "8": "end", "5": "pageup", "6": "pagedown"}
 NUMBERED = [*range(11, 16), *range(17, 22), *range(23, 27), 28, 29, *range(31, 35)]
 NUMBERED = {str(code): f"f{it}" for it, code in enumerate(NUMBERED, 1)}
 HIGH = {str(42 + it): f"f{21 + it}" for it in range(4)}
-TILDE = EDIT | NUMBERED | HIGH
-URXVT = (
-    {it: EDIT[it] for it in "235678"} | NUMBERED | {str(35 + it): f"f{21 + it}" for it in range(4)}
-)
+RXVT_HIGH = {str(35 + it): f"f{21 + it}" for it in range(4)}
+TILDE = EDIT | NUMBERED | HIGH | RXVT_HIGH
+URXVT = {it: EDIT[it] for it in "235678"} | NUMBERED | RXVT_HIGH
 URXVT_ENDS = {"^": CTRL, "@": CTRL | SHIFT, "$": SHIFT}
 KEYPAD = {"M": 57414, "X": 57415, "E": "keypadbegin"}
 KEYPAD |= dict(zip("jklmno", "multiply add separator subtract decimal divide".split()))
@@ -111,9 +110,10 @@ def report(key, mods, kind="", **more):
     return ("release" if is_release else "key", key, int(mods or 1) - 1, more)
 
 
-def key_report(t, is_kitty):
+def key_report(t):
     """The event of ESC [ and t as a key or a cursor's position, or None."""
     number, mods = r"(\d{1,7})", r"(?:;(\d{0,7})(:\d)?)?"
+    letters = CURSOR | FUNCTION | {"E": "keypadbegin"}
     try:
         if m := re.fullmatch(rf"{number}(?::(\d*)(?::(\d+))?)?(?:;(\d*)(:\d)?(?:;([\d:]*))?)?u", t):
             key, shifted, base, held, kind, text = m.groups()
@@ -122,24 +122,19 @@ def key_report(t, is_kitty):
             text = "".join(scalar(it) for it in text.split(":")) if text else ""
             shifted = scalar(shifted) if shifted else None
             return report(key_of(key), held, kind or "", text=text, shifted=shifted)
-        if m := re.fullmatch(rf"1?{mods}([A-Z])", t):
-            held, kind, letter = m.groups()
-            keys = CURSOR | FUNCTION | {"E": "keypadbegin"}
-            is_key = letter != "R" or is_kitty and (t == "R" or kind)
-            if letter in keys and is_key:
-                return report(keys[letter], held, kind or "")
         if m := re.fullmatch(rf"{number}{mods}~", t):
             code, held, kind = m.groups()
             if code in TILDE or 57344 <= int(code) <= 63743:
                 return report(TILDE.get(code) or key_of(code), held, kind or "")
-        if m := re.fullmatch(rf"27;([1-8]);{number}~", t):
-            code = int(m[2])
-            return report(OF_CODE.get(code) or scalar(m[2]), m[1])
-        if (m := re.fullmatch(r"(\d+)([$^@])", t)) and m[1] in URXVT:
-            return ("key", URXVT[m[1]], URXVT_ENDS[m[2]], {})
+        if m := re.fullmatch(rf"27;{number};{number}~", t):
+            return report(OF_CODE.get(int(m[2])) or scalar(m[2]), m[1])
         if m := re.fullmatch(r"\??(\d{1,5});(\d{1,5})R|\?(\d{1,5});(\d{1,5});(\d{1,5})R", t):
             if all(int(it) <= 65535 for it in m.groups() if it):
                 return ("reply", t)
+        if (m := re.fullmatch(rf"1?{mods}([A-Z])", t)) and m[3] in letters:
+            return report(letters[m[3]], m[1], m[2] or "")
+        if (m := re.fullmatch(r"(\d+)([$^@])", t)) and m[1] in URXVT:
+            return ("key", URXVT[m[1]], URXVT_ENDS[m[2]], {})
     except ValueError:
         pass
     return None
@@ -157,12 +152,12 @@ def extra(text, is_kitty):
     if (m := re.match(rb"\x1b\[(\d+)\$", text)) and m[1].decode() in URXVT:
         if m[0] in rows():
             return None
-        return m.end(), key_report(m[0][2:].decode(), is_kitty)
+        return m.end(), key_report(m[0][2:].decode())
     m = re.match(rb"\x1b\[[ -?]*[@-~]", text)
     if not m or len(m[0]) > 256 or text.startswith(b"\x1b[["):
         return None
     t = m[0][2:].decode()
-    event = key_report(t, is_kitty)
+    event = key_report(t)
     if m[0] in rows() and not (is_kitty and event):
         return None
     if t == "I" or t == "O":

@@ -122,6 +122,6 @@ def printed(press):
 
 
 def press(*report, **more):
-    """The name of a report's press; `-` if it has none."""
+    """The name of a report's press, or `none`."""
     found = canonical(*report, **more)
-    return "-" if found is None else printed(found)
+    return "none" if found is None else printed(found)

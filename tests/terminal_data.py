@@ -4,7 +4,7 @@ from typing import NamedTuple
 
 FOLDER = Path(__file__).resolve().parent / "terminals"
 KEY_MODES = "default decckm deckpam decckm+deckpam mok1 mok2 kitty1 kitty3 kitty31".split()
-COLUMNS = ("kind", "modes", "bytes", "what", "also", "details", "count", "why")
+COLUMNS = ("kind", "modes", "bytes", "what", "also", "details", "why", "count")
 
 
 class Line(NamedTuple):
@@ -14,8 +14,8 @@ class Line(NamedTuple):
     what: str
     also: str
     details: str
-    count: str
     why: str
+    count: str
 
     @property
     def right(self):

@@ -14,10 +14,25 @@ END = b"\x1b[201~"
 
 # What is pressed, and the press from which it is to be told apart.
 PAIRS = """shift+enter enter | ctrl+enter enter | ctrl+m enter | ctrl+tab tab | ctrl+i tab
-    ctrl+[ escape | ctrl+backspace ctrl+h | shift+space space | ctrl+shift+a ctrl+a | ctrl+1 1 | ctrl+, ,
-    ctrl+é é | super+a a | ctrl+up up | ctrl+home home | ctrl+delete delete | ctrl+f5 f5
-    f13 shift+f1 | KP_Enter enter | KP_7 7 | KP_Home home"""
+    ctrl+[ escape | ctrl+backspace ctrl+h | shift+space space | ctrl+shift+a ctrl+a | ctrl+1 1
+    ctrl+, , | ctrl+é é | super+a a | ctrl+up up | ctrl+home home | ctrl+delete delete
+    ctrl+f5 f5 | f13 shift+f1 | KP_Enter enter | KP_7 7 | KP_Home home"""
 PAIRS = [tuple(it.split()) for it in re.split(r" \| |\n", PAIRS)]
+
+# Why a press isn't read: the beginnings of the column `why`.
+REASONS = {
+    "typed: ": "a character from U+0080 on, as in typed text: xterm writes Alt so",
+    "listed: Kitty's": "Kitty's protocol without flag 4: Shift, another modifier and `1` or `/`",
+    "listed: foot": "foot's keypad with modifiers, as numbers of X11",
+    "listed: Konsole": "Super in Konsole and QTerminal, as Ctrl-X, `@`, `s` and the key",
+    "listed: st": "st's Insert, Delete, End and Home, where keypad mode or DECCKM is off",
+    "listed: ESC": "Alt and F21 to F24 in urxvt: Escape, and then the key",
+    "listed: VTE": "the keypad's Delete with modifiers in VTE in keypad mode",
+    "row: ": "the sequence table says otherwise: Ctrl-J, Super as ESC `[1;9A`",
+    "other: ": "another terminal, or another mode, sends the same for what is read: Ctrl-H",
+    "reply: ": "F3 with modifiers under Kitty's protocol is the cursor's position",
+    "focus: ": "QTerminal's keypad 5 in keypad mode begins as a focus report",
+}
 
 QUESTIONS = {
     "cursor, ESC `[6n`": "DSR6",
@@ -96,6 +111,27 @@ def exact(files, judged):
         [title(terminal), ", ".join(modes), *cells] for (terminal, *cells), modes in found.items()
     )
     return table(("Terminal", "Modes", "Presses", "InputParser", "ExtendedParser", *names), rows)
+
+
+def reasons(files):
+    """Of each reason how many byte strings it has, and in which terminals."""
+    found = {it: (set(), []) for it in REASONS}
+    for terminal, (_, lines) in files.items():
+        for line in lines:
+            if line.kind == "press" and line.why:
+                strings, terminals = found[next(it for it in REASONS if line.why.startswith(it))]
+                strings.add(line.bytes)
+                terminals += [title(terminal)] * (title(terminal) not in terminals)
+    rows = (
+        (
+            REASONS[it],
+            str(len(strings)),
+            ", ".join(terminals) if len(terminals) < 5 else f"{len(terminals)} of {len(files)}",
+        )
+        for it, (strings, terminals) in found.items()
+        if strings
+    )
+    return table(("What isn't read exactly, and why", "Byte strings", "Terminals"), rows)
 
 
 def is_told(lines, mode, pressed, other):
@@ -185,6 +221,7 @@ def tables(files, judged):
     """The tables by their names in the document."""
     return {
         "exact": exact(files, judged),
+        "reasons": reasons(files),
         "apart": apart(files),
         "pastes": pastes(files),
         "replies": replies(files),

@@ -1,3 +1,4 @@
+#!/usr/bin/python3
 """What real terminals sent, read by both parsers: tests/terminals has it.
 
     tests/test_terminals.py --write    makes the tables of docs/TERMINALS.md anew
@@ -11,9 +12,8 @@ import re
 import sys
 
 import pytest
-from conftest import TOP  # noqa: F401
 from plain_reader import read as plain_read
-from presses import CAPS_LOCK, press, printed
+from presses import ALT, CAPS_LOCK, CTRL, NUM_LOCK, SHIFT, canonical, press
 from terminal_data import is_kitty
 from terminal_tables import DOCUMENT, in_document, load_all, tables
 
@@ -72,29 +72,24 @@ def plain_key(key):
 
 def plain_press(event):
     """What an event tells, as plain_reader.py says it: `key` or `release`, and a press."""
-    from hedrugal import KeyEvent, KeyEventKind, key_report
+    from hedrugal import KeyEventKind, key_report
 
     report = key_report(event)
     if report is None:
         return None
-    of = plain_key(report.key), report.modifiers.value
-    more = {"text": report.text, "shifted": report.shifted}
+    of = plain_key(report.key), report.modifiers.value, report.text, report.shifted
     is_release = report.kind is KeyEventKind.RELEASE
-    if not is_release:
-        check_press(event, press(*of, **more))
-    assert isinstance(event, KeyEvent) or press(*of, **more, is_release=True) == "-"
-    return ("release" if is_release else "key", press(*of, **more))
+    check_press(event, canonical(*of, is_release))
+    return ("release" if is_release else "key", press(*of))
 
 
 def check_press(event, wanted):
-    """Compares the library's press of an event with that of presses.py."""
+    """Compares the press that the library gives with that of presses.py."""
     import hedrugal
 
     if hasattr(hedrugal, "KeyPress"):
-        is_report = isinstance(event, hedrugal.KeyReport)
-        of = hedrugal.KeyPress.of_report if is_report else hedrugal.KeyPress.of_event
-        found = of(event)
-        assert ("-" if found is None else str(found)) == wanted, event
+        found = hedrugal.KeyPress.of_event(event)
+        assert (found and (plain_key(found.key), found.held.value)) == wanted, event
 
 
 def is_exact(reader, line):
@@ -225,20 +220,14 @@ def test_pastes(terminal):
 
 @pytest.mark.parametrize("terminal", TERMINALS)
 def test_replies(terminal):
-    """Replies aren't keys, but for those that the documents name."""
+    """Replies aren't keys. By legacy rules the cursor's position in the first row is F3."""
     for line in FILES[terminal][1]:
         if line.kind == "reply":
             for reader in ("legacy", "kitty"):
                 events, _ = read(reader, line.bytes)
-                keys = [it for it in map(plain_press, events) if it]
-                assert not keys or is_known(terminal, line, reader), (line, reader, keys)
-
-
-def is_known(terminal, line, reader):
-    """Whether a reply is one that is read as keys."""
-    if re.fullmatch(rb"\x1b\[1;\d+R", line.bytes):
-        return reader == "legacy"  # F3 with modifiers
-    return False
+                keys = [it[1] for it in map(plain_press, events) if it]
+                is_third = all(it.endswith("f3") for it in keys) and b"R" in line.bytes
+                assert not keys or is_third and reader == "legacy", (line, reader, keys)
 
 
 def test_every_line_is_read():
@@ -247,7 +236,7 @@ def test_every_line_is_read():
     assert kinds["press"] > 8000
 
 
-@pytest.mark.parametrize("name", ["exact", "apart", "pastes", "replies"])
+@pytest.mark.parametrize("name", ["exact", "reasons", "apart", "pastes", "replies"])
 def test_document(name):
     """The tables of docs/TERMINALS.md are those of the data and the parsers."""
     text = DOCUMENT.read_text()
@@ -255,11 +244,35 @@ def test_document(name):
     assert text[first:last] == tables(FILES, judged())[name]
 
 
-def test_presses():
-    """Rows of presses that no recorded terminal sends."""
-    assert press("a", CAPS_LOCK, text="A") == "A"
-    assert press("\0", 0, text="fi") == "-"
-    assert printed(("\u0441", 4)) == "ctrl+с"
+@pytest.mark.parametrize(
+    "report, wanted",
+    [
+        (("applicationuparrow", CTRL), "ctrl+up"),
+        (("\0", 0), "ctrl+space"),
+        (("\x1f", ALT), "ctrl+alt+_"),
+        (("\t", CTRL), "ctrl+tab"),
+        (("A", CTRL), "ctrl+shift+a"),
+        (("!", SHIFT), "!"),
+        ((" ", SHIFT), "shift+space"),
+        (("a", ALT | SHIFT), "alt+A"),
+        (("a", CTRL | SHIFT | CAPS_LOCK, "", "A"), "ctrl+shift+a"),
+        (("1", CTRL | SHIFT, "", "!"), "ctrl+!"),
+        (("a", CAPS_LOCK, "A"), "A"),
+        (("q", 0, "@"), "@"),
+        (("\0", 0, "fi"), "none"),
+        (("numpad5", NUM_LOCK, "5"), "5"),
+        ((57414, CTRL), "ctrl+enter"),
+        (("leftcontrol", CTRL), "none"),
+        (("a", CTRL, "", None, True), "none"),
+        (("с", CTRL), "ctrl+с"),
+        (("б", ALT | SHIFT, "", "Б"), "alt+Б"),
+        (("\u200b", 0), "U+200B"),
+        ((57428, 0), "kitty57428"),
+    ],
+)
+def test_presses(report, wanted):
+    """Further presses: a report, and its name."""
+    assert press(*report) == wanted
 
 
 def write_tables():
@@ -273,4 +286,6 @@ def write_tables():
 if __name__ == "__main__":
     if sys.argv[1:] != ["--write"]:
         sys.exit(__doc__)
+    import conftest  # noqa: F401, which finds the library
+
     write_tables()

@@ -3,7 +3,7 @@
 terminal, with what was pressed and the presses that are right.
 
     tools/terminals/collect.py FOLDER    reads FOLDER/*.tsv, writes tests/terminals/NAME.tsv of each
-    tools/terminals/collect.py           makes the last column, `why`, of all files anew
+    tools/terminals/collect.py           makes the column `why` of all files anew
 
 tests/terminals/README.md says what the columns mean."""
 import argparse
@@ -52,6 +52,7 @@ LISTED = [
     ),
     ("konsole|qterminal", rb"\x18@s.*", "Konsole writes Super as Ctrl-X, @, s before the key"),
     ("foot", rb"\x1b\[27;\d+;6\d{4}~", "foot sends X11's numbers of keypad keys as characters"),
+    ("urxvt", rb"\x1b\x1b\[3[5-8]~", "ESC isn't joined to a number that is no row"),
     ("xfce4-terminal", rb"\x1bO3~", "VTE joins ESC O and half of a sequence"),
     (
         "kitty|foot",
@@ -132,7 +133,10 @@ def key_lines(terminal, recorded):
 
 
 def lines_of(found):
-    return [Line(kind, ",".join(modes), *more, "") for (kind, *more), modes in found.items()]
+    return [
+        Line(kind, ",".join(modes), *more, "", count)
+        for (kind, *more, count), modes in found.items()
+    ]
 
 
 def other_lines(recorded):
@@ -155,7 +159,7 @@ def other_lines(recorded):
             # Shift-Insert is a key in some terminals.
             if joined(first).startswith(b"\x1b[200~") or first and mods == "middle":
                 add("paste", mode[5:].lstrip("-"), first, name, note.split("; ")[-1])
-        elif mode == "query" and first and name != "ALL":
+        elif mode == "query" and first:
             add("reply", mode, first, name)
     return lines_of(found)
 

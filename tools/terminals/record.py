@@ -9,7 +9,8 @@ ended. For the mouse the note has the bytes of the drag, for a paste its text, f
 question. KP_Home and so on are the keypad without Num Lock, KP_7 with it. Of long pastes each read
 is shortened.
 
-All of one terminal takes 10 to 25 minutes. tools/terminals/collect.py makes tests/terminals of it.
+All of xterm takes three minutes; with Kitty's protocol there is more. tools/terminals/collect.py
+makes tests/terminals of it.
 
 It needs Debian's xvfb, openbox, xclip, x11-xkb-utils (setxkbmap) and python3-xlib, the locale
 en_US.UTF-8, and the terminal."""
@@ -515,6 +516,8 @@ class Driver:
             words = ["xclip", "-selection", which, "-i"]
             quiet = {"stdout": subprocess.DEVNULL, "stderr": subprocess.DEVNULL}
             subprocess.run(words, input=text, timeout=5, check=False, **quiet)
+        # It owns the selections a moment after it returns.
+        time.sleep(0.2)
 
     def pastes(self):
         for mode, on, off in (
@@ -732,7 +735,9 @@ def main():
         sys.exit(f"record: there is no {', '.join(missing)} for {options.terminal}")
     locales = subprocess.run(["locale", "-a"], capture_output=True, text=True, check=False).stdout
     if "en_US.utf8" not in locales:
-        sys.exit("record: there is no locale en_US.UTF-8: locale-gen en_US.UTF-8")
+        sys.exit("record: no locale en_US.UTF-8: localedef -i en_US -f UTF-8 en_US.UTF-8")
+    # What was started is ended then too.
+    signal.signal(signal.SIGTERM, lambda *_: sys.exit(1))
     options.folder.mkdir(parents=True, exist_ok=True)
     is_whole = Driver(options.terminal, options.folder, options).run(options.sections)
     sys.exit(not is_whole)
