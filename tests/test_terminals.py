@@ -85,11 +85,10 @@ def plain_press(event):
 
 def check_press(event, wanted):
     """Compares the press that the library gives with that of presses.py."""
-    import hedrugal
+    from hedrugal import KeyPress
 
-    if hasattr(hedrugal, "KeyPress"):
-        found = hedrugal.KeyPress.of_event(event)
-        assert (found and (plain_key(found.key), found.held.value)) == wanted, event
+    found = KeyPress.of_event(event)
+    assert (found and (plain_key(found.key), found.held.value)) == wanted, event
 
 
 def is_exact(reader, line):
