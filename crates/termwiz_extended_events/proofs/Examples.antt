@@ -10,13 +10,15 @@ use Rattle.termwiz_extended_events.specs.declared.types.KeyEventKind.{KeyEventKi
 use Rattle.termwiz_extended_events.specs.declared.types.KeyEventKind.TheVariants.{Press, Repeat, Release}
 use Rattle.termwiz_extended_events.specs.declared.types.ReportedKey.{ReportedKey}
 use Rattle.termwiz_extended_events.specs.declared.types.ReportedKey.TheVariants.{Named, Functional}
+use Rattle.termwiz_extended_events.specs.declared.types.SideButtonKind.{SideButtonKind}
+use Rattle.termwiz_extended_events.specs.declared.types.SideButtonKind.TheVariants.{Press as SidePress, Drag as SideDrag, Release as SideRelease}
 use Rattle.termwiz_extended_events.specs.declared.types.ExtendedEvent.{ExtendedEvent}
-use Rattle.termwiz_extended_events.specs.declared.types.ExtendedEvent.TheVariants.{Input, Key, FocusGained, FocusLost, CursorPosition, Resize, KeyboardFlags, Csi, Osc, Dcs, Apc}
+use Rattle.termwiz_extended_events.specs.declared.types.ExtendedEvent.TheVariants.{Input, Key, FocusGained, FocusLost, CursorPosition, Resize, KeyboardFlags, SideButton, Csi, Osc, Dcs, Apc}
 use Rattle.termwiz_extended_events.specs.Numbers.{before_end, after_start, number_within, scalar}
-use Rattle.termwiz_extended_events.specs.ReportedKeys.{functional_key, key_of, tilde_key}
+use Rattle.termwiz_extended_events.specs.ReportedKeys.{functional_key, key_of, tilde_key, rxvt_key_at}
 use Rattle.termwiz_extended_events.specs.KeyReports as reports
 use Rattle.termwiz_extended_events.specs.Replies as replies
-use Rattle.termwiz_extended_events.specs.Meanings.{reported, string_text, command_text, event_after, event_of}
+use Rattle.termwiz_extended_events.specs.Meanings.{reported, keypad_reported, string_text, command_text, event_after, event_of}
 
 -- the event of a sequence: to unfold this is to unfold every rule
 unfoldable pub written_out : List ℕ → ExtendedEvent
@@ -24,7 +26,8 @@ unfolding event_of event_after command_text string_text reported replies.focus r
     replies.resize replies.reply replies.urxvt_mouse replies.x10_mouse replies.mouse_report reports.modifiers_of
     reports.kind_of reports.manner_of reports.optional_scalar reports.codes_of reports.text_of reports.character_key
     reports.lettered_key reports.numbered_key reports.other_key reports.key_report reports.console_key reports.keypad_key
-    functional_key key_of tilde_key before_end after_start number_within scalar mouse_event button_of modifiers_of row_of
+    functional_key key_of tilde_key rxvt_key_at reports.third_function_key reports.rxvt_key reports.modified_keypad_key keypad_reported
+    replies.sgr_side_button replies.urxvt_side_button replies.x10_side_button replies.side_button before_end after_start number_within scalar mouse_event button_of modifiers_of row_of
     encode_utf8
 written_out text = event_of text
 
@@ -66,6 +69,10 @@ typed c bits shifted base text = Key (record {
 abbrev clicked : ℕ → ℕ → ℕ → ExtendedEvent
 clicked x y bits =
     Input (Mouse (record { x = x; y = y; mouse_buttons = record { 0 = LEFT }; modifiers = record { 0 = bits } }))
+
+-- a report of a side button at a place, with the port's modifiers
+abbrev side : ℕ → SideButtonKind → ℕ → ℕ → ℕ → ExtendedEvent
+side number kind x y bits = SideButton (record { number = number; kind = kind; x = x; y = y; modifiers = record { 0 = bits } })
 
 cursor_24_80 : event_of (27 ∷ codes "[24;80R") ≡ CursorPosition 24 80
 unfolding written_out
@@ -127,9 +134,33 @@ sgr_semicolon : event_of (27 ∷ codes "[<0;20;10;M") ≡ Csi (codes "<0;20;10;M
 unfolding written_out
 sgr_semicolon = refl
 
-sgr_code_too_large : event_of (27 ∷ codes "[<128;20;10M") ≡ Csi (codes "<128;20;10M")
+sgr_code_too_large : event_of (27 ∷ codes "[<192;20;10M") ≡ Csi (codes "<192;20;10M")
 unfolding written_out
 sgr_code_too_large = refl
+
+sgr_wheel_eight : event_of (27 ∷ codes "[<96;20;10M") ≡ Csi (codes "<96;20;10M")
+unfolding written_out
+sgr_wheel_eight = refl
+
+side_press : event_of (27 ∷ codes "[<128;20;10M") ≡ side 8 SidePress 20 10 0
+unfolding written_out
+side_press = refl
+
+side_drag : event_of (27 ∷ codes "[<181;20;10M") ≡ side 9 SideDrag 20 10 10
+unfolding written_out
+side_drag = refl
+
+side_release : event_of (27 ∷ codes "[<131;20;10m") ≡ side 11 SideRelease 20 10 0
+unfolding written_out
+side_release = refl
+
+side_urxvt : event_of (27 ∷ codes "[161;30;40M") ≡ side 9 SidePress 30 40 0
+unfolding written_out
+side_urxvt = refl
+
+side_x10 : event_of (27 ∷ codes "[M" ++ 0xa4 ∷ 0x60 ∷ 0x70 ∷ []) ≡ side 8 SidePress 64 80 2
+unfolding written_out
+side_x10 = refl
 
 lone_x : event_of (27 ∷ codes "[x") ≡ Csi (codes "x")
 unfolding written_out
@@ -319,9 +350,57 @@ keypad_begin : event_of (27 ∷ codes "[E") ≡ told (Named KeyPadBegin) 0 Press
 unfolding written_out
 keypad_begin = refl
 
-letter_r : event_of (27 ∷ codes "[R") ≡ Csi (codes "R")
+letter_r : event_of (27 ∷ codes "[R") ≡ told (Named (Function 3)) 0 Press
 unfolding written_out
 letter_r = refl
+
+letter_r_press : event_of (27 ∷ codes "[1;1:1R") ≡ told (Named (Function 3)) 0 Press
+unfolding written_out
+letter_r_press = refl
+
+letter_r_release : event_of (27 ∷ codes "[1;5:3R") ≡ told (Named (Function 3)) CTRL Release
+unfolding written_out
+letter_r_release = refl
+
+rxvt_ctrl : event_of (27 ∷ codes "[11^") ≡ told (Named (Function 1)) CTRL Press
+unfolding written_out
+rxvt_ctrl = refl
+
+rxvt_both : event_of (27 ∷ codes "[3@") ≡ told (Named Delete) (SHIFT + CTRL) Press
+unfolding written_out
+rxvt_both = refl
+
+rxvt_shift : event_of (27 ∷ codes "[23$") ≡ told (Named (Function 11)) SHIFT Press
+unfolding written_out
+rxvt_shift = refl
+
+rxvt_f24 : event_of (27 ∷ codes "[38^") ≡ told (Named (Function 24)) CTRL Press
+unfolding written_out
+rxvt_f24 = refl
+
+rxvt_f21 : event_of (27 ∷ codes "[35~") ≡ told (Named (Function 21)) 0 Press
+unfolding written_out
+rxvt_f21 = refl
+
+rxvt_four : event_of (27 ∷ codes "[4^") ≡ Csi (codes "4^")
+unfolding written_out
+rxvt_four = refl
+
+rxvt_zero : event_of (27 ∷ codes "[03^") ≡ Csi (codes "03^")
+unfolding written_out
+rxvt_zero = refl
+
+keypad_ctrl_f1 : event_of (27 ∷ codes "O5P") ≡ told (Named (Function 1)) CTRL Press
+unfolding written_out
+keypad_ctrl_f1 = refl
+
+keypad_shift_nine : event_of (27 ∷ codes "O0;2y") ≡ told (Named Numpad9) SHIFT Press
+unfolding written_out
+keypad_shift_nine = refl
+
+keypad_all_enter : event_of (27 ∷ codes "O8M") ≡ told (Functional 57414) (SHIFT + ALT + CTRL) Press
+unfolding written_out
+keypad_all_enter = refl
 
 f4_ctrl : event_of (27 ∷ codes "[1;5S") ≡ told (Named (Function 4)) CTRL Press
 unfolding written_out

@@ -2,9 +2,10 @@
 -- read: `u`, `~` or a letter. First come the readings of one field: of the modifiers and what happened (`manner_of`), of the key's codes
 -- (`codes_of`) and of its text (`text_of`). Then come the rules, one for each end, which put the fields together. `key_report` is the first
 -- rule that fits. A reading or a rule is None where the bytes aren't such a field or sequence.
-use Rattle.std.specs.Prelude.{◌≡◌, ℕ, Bool, true, false, ◌-◌, ◌==◌, List, [], ◌∷◌, length, take, slice_get, codes, Option, Some, None, if◌then◌else◌, option_map, option_and_then, encode_utf8_all, bytes_eq}
+use Rattle.std.specs.Prelude.{◌≡◌, ℕ, Bool, true, false, ◌+◌, ◌-◌, ◌==◌, ◌&&◌, List, [], ◌∷◌, length, take, slice_get, codes, nat_le, Option, Some, None, if◌then◌else◌, option_map, option_and_then, encode_utf8_all, bytes_eq}
 use Rattle.termwiz_grammar.specs.Table.{key_of_code}
 use Rattle.termwiz_keys.specs.declared.types.KeyCode.{KeyCode}
+use Rattle.termwiz_keys.specs.declared.types.KeyCode.TheVariants.{Function}
 use Rattle.termwiz_extended_events.specs.declared.types.KeyReport.{KeyReport}
 use Rattle.termwiz_extended_events.specs.declared.types.KeyEventKind.{KeyEventKind}
 use Rattle.termwiz_extended_events.specs.declared.types.KeyEventKind.TheVariants.{Press, Repeat, Release}
@@ -14,8 +15,8 @@ use Rattle.termwiz_extended_events.specs.declared.types.Manner.{Manner}
 use Rattle.termwiz_extended_events.specs.declared.key_fields.Codes.{Codes}
 use Rattle.termwiz_extended_events.specs.declared.types.PlainReport.{PlainReport}
 use Rattle.termwiz_extended_events.specs.declared.key_reports.SpelledReport.{SpelledReport}
-use Rattle.termwiz_extended_events.specs.Numbers.{fields, parts, before_end, first_some, number, scalar}
-use Rattle.termwiz_extended_events.specs.ReportedKeys.{last_functional, entry_at, lettered_keys, key_of, tilde_key, keypad_keys, console_keys}
+use Rattle.termwiz_extended_events.specs.Numbers.{fields, parts, before_end, first_some, number, number_within, scalar}
+use Rattle.termwiz_extended_events.specs.ReportedKeys.{last_functional, entry_at, lettered_keys, key_of, tilde_key, keypad_keys, modified_keypad_keys, console_keys, rxvt_key_at}
 
 -- the modifiers of a number: it is one more than their bits, and 1 where it is missing
 unfoldable pub modifiers_of : List ℕ → Option ℕ
@@ -42,6 +43,13 @@ manner_of_parts _ = None
 
 unfoldable pub manner_of : List ℕ → Option Manner
 manner_of field = manner_of_parts (parts field)
+
+-- Shift and Ctrl as kitty's bits
+abbrev pub shift_bit : ℕ
+shift_bit = 1
+
+abbrev pub ctrl_bit : ℕ
+ctrl_bit = 4
 
 -- a press with no modifier
 abbrev pub pressed : Manner
@@ -178,7 +186,7 @@ other_report (Some m) (Some c) = Some (report_of (Named (key_of_code c)) (record
 other_report _ _ = None
 
 abbrev pub other_of_fields : List (List ℕ) → Option KeyReport
-other_of_fields (front ∷ m ∷ c ∷ []) = if bytes_eq front (codes "27") then other_report (number 1 8 m) (scalar c) else None
+other_of_fields (front ∷ m ∷ c ∷ []) = if bytes_eq front (codes "27") then other_report (number 1 256 m) (scalar c) else None
 other_of_fields _ = None
 
 -- 27 ; m ; c ~: the key of c, as xterm's modifyOtherKeys reports it
@@ -188,6 +196,26 @@ other_key t = option_and_then (λ body. other_of_fields (fields body)) (before_e
 -- the report of a key by the first of these rules that fits
 unfoldable pub key_report : List ℕ → Option KeyReport
 key_report t = first_some (character_key t ∷ lettered_key t ∷ numbered_key t ∷ other_key t ∷ [])
+
+-- 1 ; modifiers : kind R, of which only R must be there: F3, where no position of the cursor can be meant
+unfoldable pub third_function_key : List ℕ → Option KeyReport
+third_function_key t = option_and_then (λ body. lettered_of_fields (Function 3) (fields body)) (before_end (codes "R") t)
+
+-- the number of a key of rxvt-unicode's, without a leading zero
+abbrev pub rxvt_number : List ℕ → Option ℕ
+rxvt_number [] = None
+rxvt_number (first ∷ more) = if first == 48 then None else number_within 2 2 38 (first ∷ more)
+
+-- its key with these modifiers
+abbrev pub rxvt_report : ℕ → Option (List ℕ) → Option KeyReport
+rxvt_report bits digits = option_map (λ key. report_of (Named key) (record { modifiers = bits; kind = Press }))
+    (option_and_then rxvt_key_at (option_and_then rxvt_number digits))
+
+-- n and ^, @ or $: the key of n with Ctrl, with Ctrl and Shift, or with Shift, as rxvt-unicode sends it
+unfoldable pub rxvt_key : List ℕ → Option KeyReport
+rxvt_key t = first_some (
+    rxvt_report ctrl_bit (before_end (codes "^") t) ∷ rxvt_report (shift_bit + ctrl_bit) (before_end (codes "@") t)
+    ∷ rxvt_report shift_bit (before_end (codes "$") t) ∷ [])
 
 -- [ and a letter from A to E: F1 to F5, as the Linux console reports them
 unfoldable pub console_key : List ℕ → Option KeyReport
@@ -199,3 +227,20 @@ console_key _ = None
 unfoldable pub keypad_key : List ℕ → Option KeyReport
 keypad_key (letter ∷ []) = option_map (λ key. report_of key pressed) (entry_at keypad_keys letter)
 keypad_key _ = None
+
+-- the key of a letter behind ESC O and a number: F1 to F4, or a key of the keypad but its middle one
+abbrev pub modified_keypad_entry : ℕ → Option ReportedKey
+modified_keypad_entry letter = entry_at modified_keypad_keys letter
+
+-- the same key with the modifiers of a number from 2 to 8, which is one more than their bits
+abbrev pub modified_report : ℕ → ℕ → Option KeyReport
+modified_report m letter = if nat_le 50 m && nat_le m 56
+    then option_map (λ key. report_of key (record { modifiers = m - 49; kind = Press })) (modified_keypad_entry letter)
+    else None
+
+-- m and a letter behind ESC O, where 0 ; may stand before m: a key of the keypad, or F1 to F4, with modifiers
+unfoldable pub modified_keypad_key : List ℕ → Option KeyReport
+modified_keypad_key (m ∷ letter ∷ []) = modified_report m letter
+modified_keypad_key (zero_digit ∷ separator ∷ m ∷ letter ∷ []) =
+    if (zero_digit == 48) && (separator == 59) then modified_report m letter else None
+modified_keypad_key _ = None

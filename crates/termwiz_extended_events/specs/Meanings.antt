@@ -3,14 +3,14 @@ use Rattle.std.specs.Prelude.{◌≡◌, ◌≢◌, ℕ, ◌==◌, List, [], ◌
 use Rattle.termwiz_keys.specs.declared.types.MouseEvent.{MouseEvent}
 use Rattle.termwiz_keys.specs.declared.types.InputEvent.TheVariants.{Mouse, Paste}
 use Rattle.termwiz_extended_events.specs.declared.types.ExtendedEvent.{ExtendedEvent}
-use Rattle.termwiz_extended_events.specs.declared.types.ExtendedEvent.TheVariants.{Input, Csi, Osc, Dcs, Apc, Key, FocusGained, FocusLost, CursorPosition, Resize, KeyboardFlags, StringPart, StringCut}
+use Rattle.termwiz_extended_events.specs.declared.types.ExtendedEvent.TheVariants.{Input, Csi, Osc, Dcs, Apc, Key, FocusGained, FocusLost, CursorPosition, Resize, KeyboardFlags, SideButton, StringPart, StringCut}
 use Rattle.termwiz_extended_events.specs.declared.types.StringKind.{StringKind}
 use Rattle.termwiz_extended_events.specs.declared.types.StringKind.TheVariants as kinds
 use Rattle.termwiz_extended_events.specs.declared.meanings.Meaning.{Meaning}
 use Rattle.termwiz_extended_events.specs.declared.meanings.Meaning.TheVariants as meaning
 use Rattle.termwiz_extended_events.specs.Numbers.{before_end, first_some}
-use Rattle.termwiz_extended_events.specs.KeyReports.{key_report, console_key, keypad_key, spelled_report}
-use Rattle.termwiz_extended_events.specs.Replies.{focus, reply, mouse_report}
+use Rattle.termwiz_extended_events.specs.KeyReports.{key_report, third_function_key, rxvt_key, console_key, keypad_key, modified_keypad_key, spelled_report}
+use Rattle.termwiz_extended_events.specs.Replies.{focus, reply, mouse_report, side_button}
 
 -- the event of a mouse report
 abbrev pub mouse : MouseEvent → ExtendedEvent
@@ -19,8 +19,12 @@ mouse event = Input (Mouse event)
 -- the event of what follows ESC [, by the first rule that fits
 unfoldable pub reported : List ℕ → Option ExtendedEvent
 reported t = first_some (
-    focus t ∷ option_map Key (key_report t) ∷ reply t ∷ option_map mouse (mouse_report t)
-    ∷ option_map Key (console_key t) ∷ [])
+    focus t ∷ option_map Key (key_report t) ∷ reply t ∷ option_map Key (third_function_key t) ∷ option_map Key (rxvt_key t)
+    ∷ option_map mouse (mouse_report t) ∷ option_map SideButton (side_button t) ∷ option_map Key (console_key t) ∷ [])
+
+-- the event of what follows ESC O, by the first rule that fits
+unfoldable pub keypad_reported : List ℕ → Option ExtendedEvent
+keypad_reported t = first_some (option_map Key (keypad_key t) ∷ option_map Key (modified_keypad_key t) ∷ [])
 
 -- what ends a string: ESC and a backslash, or for commands the byte BEL
 abbrev pub string_end : List ℕ
@@ -41,7 +45,7 @@ command_text t = unwrap_or (before_end string_end t) (unwrap_or (before_end bell
 unfoldable pub event_after : ℕ → List ℕ → ExtendedEvent
 event_after b t =
     if b == 91 then unwrap_or (reported t) (Csi t)
-    else (if b == 79 then unwrap_or (option_map Key (keypad_key t)) (Csi t)
+    else (if b == 79 then unwrap_or (keypad_reported t) (Csi t)
     else (if b == 93 then Osc (command_text t)
     else (if b == 80 then Dcs (string_text t)
     else (if b == 95 then Apc (string_text t)
@@ -57,6 +61,16 @@ abbrev pub whole_string : StringKind → List ℕ → ExtendedEvent
 whole_string kinds.Osc bytes = Osc bytes
 whole_string kinds.Dcs bytes = Dcs bytes
 whole_string kinds.Apc bytes = Apc bytes
+
+-- a report of a key
+abbrev pub IsKey : ExtendedEvent → Type 0
+IsKey (Key report) = Unit {0}
+IsKey _ = ⊥
+
+-- a report of the cursor's position
+abbrev pub IsPosition : ExtendedEvent → Type 0
+IsPosition (CursorPosition row column) = Unit {0}
+IsPosition _ = ⊥
 
 -- a report of a key, or of the cursor's position
 abbrev pub IsKeyOrPosition : ExtendedEvent → Type 0
@@ -84,6 +98,7 @@ event_from (meaning.CursorPosition row column) = Some (CursorPosition row column
 event_from (meaning.Resize rows columns height width) = Some (Resize rows columns height width)
 event_from (meaning.KeyboardFlags flags) = Some (KeyboardFlags flags)
 event_from (meaning.Mouse event) = Some (mouse event)
+event_from (meaning.SideButton event) = Some (SideButton event)
 event_from (meaning.Key report) = option_map Key (spelled_report report)
 event_from (meaning.Csi bytes) = Some (Csi bytes.now)
 event_from (meaning.Osc bytes) = Some (Osc bytes.now)

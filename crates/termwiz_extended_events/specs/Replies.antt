@@ -1,9 +1,12 @@
 -- The sequences that report something else than a key: the focus, the mouse, and what a terminal replies to questions.
-use Rattle.std.specs.Prelude.{ℕ, ◌-◌, ◌==◌, ◌&&◌, List, [], ◌∷◌, codes, nat_le, Option, Some, None, if◌then◌else◌, option_map, option_and_then, bytes_eq}
+use Rattle.std.specs.Prelude.{ℕ, ◌+◌, ◌-◌, ◌%◌, ◌==◌, ◌&&◌, List, [], ◌∷◌, codes, nat_le, Option, Some, None, if◌then◌else◌, option_map, option_and_then, bytes_eq}
 use Rattle.termwiz_keys.specs.declared.types.MouseEvent.{MouseEvent}
-use Rattle.termwiz_base.specs.Mouse.{final_press}
+use Rattle.termwiz_base.specs.Mouse.{final_press, modifiers_of}
 use Rattle.termwiz_grammar.specs.MouseReports.{mouse_event}
 use Rattle.termwiz_extended_events.specs.declared.types.ExtendedEvent.{ExtendedEvent}
+use Rattle.termwiz_extended_events.specs.declared.types.SideButtonEvent.{SideButtonEvent}
+use Rattle.termwiz_extended_events.specs.declared.types.SideButtonKind.{SideButtonKind}
+use Rattle.termwiz_extended_events.specs.declared.types.SideButtonKind.TheVariants.{Press, Release, Drag}
 use Rattle.termwiz_extended_events.specs.declared.types.ExtendedEvent.TheVariants.{FocusGained, FocusLost, CursorPosition, KeyboardFlags, Resize}
 use Rattle.termwiz_extended_events.specs.Numbers.{fields, before_end, after_start, number_within, few_digits, first_some, short_number}
 
@@ -99,6 +102,60 @@ x10_mouse (first ∷ b ∷ x ∷ y ∷ []) =
     then Some (mouse_event (b - offset) (x - offset) (y - offset) final_press)
     else None
 x10_mouse _ = None
+
+-- the codes of the side buttons, which are numbered from 8 to 11: with the bits of modifiers, and 32 for a drag
+abbrev pub first_side_code : ℕ
+first_side_code = 128
+
+abbrev pub last_side_code : ℕ
+last_side_code = 191
+
+-- what happened to a side button, by its code without the first one
+abbrev pub side_button_kind : ℕ → SideButtonKind
+side_button_kind low = if nat_le 32 low then Drag else Press
+
+-- the report of a side button, by its code without the first one, and where it was
+abbrev pub side_event : SideButtonKind → ℕ → ℕ → ℕ → SideButtonEvent
+side_event kind low x y = record { number = 8 + low % 4; kind = kind; x = x; y = y; modifiers = modifiers_of low }
+
+-- a press or a drag of a side button at a place
+abbrev pub side_held : ℕ → ℕ → ℕ → SideButtonEvent
+side_held low x y = side_event (side_button_kind low) low x y
+
+-- the report of a side button of three numbers, if all are there, by what its code says
+abbrev pub side_at : (ℕ → ℕ → ℕ → SideButtonEvent) → ℕ → Option ℕ → Option ℕ → Option ℕ → Option SideButtonEvent
+side_at told first (Some code) (Some x) (Some y) = Some (told (code - first) x y)
+side_at told first _ _ _ = None
+
+-- the same of three fields, where the codes begin with this one
+abbrev pub side_of_fields : (ℕ → ℕ → ℕ → SideButtonEvent) → ℕ → List (List ℕ) → Option SideButtonEvent
+side_of_fields told first (code ∷ x ∷ y ∷ []) =
+    side_at told first (number_within few_digits first (first + 63) code) (short_number x) (short_number y)
+side_of_fields told first _ = None
+
+-- < code ; x ; y M or m: a side button as the SGR mode writes it, which tells a release by m
+unfoldable pub sgr_side_button : List ℕ → Option SideButtonEvent
+sgr_side_button t = option_and_then (λ t. first_some (
+    option_and_then (λ body. side_of_fields side_held first_side_code (fields body)) (before_end (codes "M") t)
+    ∷ option_and_then (λ body. side_of_fields (side_event Release) first_side_code (fields body)) (before_end (codes "m") t)
+    ∷ [])) (after_start (codes "<") t)
+
+-- code ; x ; y M: a side button as urxvt writes it
+unfoldable pub urxvt_side_button : List ℕ → Option SideButtonEvent
+urxvt_side_button t =
+    option_and_then (λ body. side_of_fields side_held (first_side_code + offset) (fields body)) (before_end (codes "M") t)
+
+-- M and three bytes: a side button as X10 writes it
+unfoldable pub x10_side_button : List ℕ → Option SideButtonEvent
+x10_side_button (first ∷ b ∷ x ∷ y ∷ []) =
+    if (first == 77) && nat_le (first_side_code + offset) b && nat_le b (last_side_code + offset) && nat_le offset x && nat_le offset y
+    then Some (side_held (b - (first_side_code + offset)) (x - offset) (y - offset))
+    else None
+x10_side_button _ = None
+
+-- the report of a side button by the first of these rules that fits
+unfoldable pub side_button : List ℕ → Option SideButtonEvent
+side_button t = first_some (sgr_side_button t ∷ urxvt_side_button t ∷ x10_side_button t ∷ [])
 
 -- a mouse report by the first of these rules that fits
 unfoldable pub mouse_report : List ℕ → Option MouseEvent

@@ -1,5 +1,5 @@
 -- The keys of control sequences, by their letters and their numbers.
-use Rattle.std.specs.Prelude.{ℕ, Bool, ◌-◌, ◌==◌, ◌&&◌, List, [], ◌∷◌, nat_le, Option, Some, if◌then◌else◌, option_map, find, unwrap_or}
+use Rattle.std.specs.Prelude.{ℕ, Bool, ◌-◌, ◌==◌, ◌&&◌, List, [], ◌∷◌, nat_le, Option, Some, None, if◌then◌else◌, option_map, find, unwrap_or}
 use Rattle.std.specs.Option.{option_or}
 use Rattle.termwiz_keys.specs.declared.types.KeyCode.{KeyCode}
 use Rattle.termwiz_keys.specs.declared.types.KeyCode.TheVariants.{Char, Tab, Enter, Escape, Backspace, UpArrow, DownArrow, RightArrow, LeftArrow, Home, End, KeyPadBegin, Function, CapsLock, ScrollLock, NumLock, PrintScreen, Pause, Applications, Numpad0, Numpad1, Numpad2, Numpad3, Numpad4, Numpad5, Numpad6, Numpad7, Numpad8, Numpad9, Decimal, Divide, Multiply, Subtract, Add, Separator, KeyPadPageUp, KeyPadPageDown, KeyPadHome, KeyPadEnd, MediaPlayPause, MediaStop, MediaNextTrack, MediaPrevTrack, VolumeDown, VolumeUp, VolumeMute, LeftShift, LeftControl, LeftAlt, LeftWindows, RightShift, RightControl, RightAlt, RightWindows}
@@ -69,14 +69,35 @@ abbrev pub numbered_key : ℕ → Option KeyCode
 numbered_key n =
     option_or (option_or (entry_at digit_keys n) (function_key function_codes n)) (function_key high_function_codes n)
 
+-- F21 to F24 by rxvt-unicode's numbers, which run from 35 to 38
+abbrev pub is_rxvt_function : ℕ → Bool
+is_rxvt_function n = nat_le 35 n && nat_le n 38
+
+-- the key of a number, by these numbers too
+abbrev pub key_with_number : ℕ → Option KeyCode
+key_with_number n = if is_rxvt_function n then Some (Function (n - 14)) else numbered_key n
+
 -- the key of a number with a tilde at the end
 unfoldable pub tilde_key : ℕ → Option ReportedKey
-tilde_key n = if is_functional n then Some (functional_key n) else option_map Named (numbered_key n)
+tilde_key n = if is_functional n then Some (functional_key n) else option_map Named (key_with_number n)
+
+-- the key of a number with ^, @ or $ at the end: none of rxvt-unicode's has the number 4
+unfoldable pub rxvt_key_at : ℕ → Option KeyCode
+rxvt_key_at n = if n == 4 then None else key_with_number n
 
 -- the keys of the keypad in application mode, by their letters
 abbrev pub keypad_keys : List (ℕ × ReportedKey)
 keypad_keys =
     (77, Functional 57414) ∷ (88, Functional 57415) ∷ (69, Named KeyPadBegin) ∷ (106, Named Multiply) ∷ (107, Named Add)
+    ∷ (108, Named Separator) ∷ (109, Named Subtract) ∷ (110, Named Decimal) ∷ (111, Named Divide) ∷ (112, Named Numpad0)
+    ∷ (113, Named Numpad1) ∷ (114, Named Numpad2) ∷ (115, Named Numpad3) ∷ (116, Named Numpad4) ∷ (117, Named Numpad5)
+    ∷ (118, Named Numpad6) ∷ (119, Named Numpad7) ∷ (120, Named Numpad8) ∷ (121, Named Numpad9) ∷ []
+
+-- the keys with modifiers behind ESC O, by their letters: F1 to F4, and those of the keypad but its middle one
+abbrev pub modified_keypad_keys : List (ℕ × ReportedKey)
+modified_keypad_keys =
+    (80, Named (Function 1)) ∷ (81, Named (Function 2)) ∷ (82, Named (Function 3)) ∷ (83, Named (Function 4))
+    ∷ (77, Functional 57414) ∷ (88, Functional 57415) ∷ (106, Named Multiply) ∷ (107, Named Add)
     ∷ (108, Named Separator) ∷ (109, Named Subtract) ∷ (110, Named Decimal) ∷ (111, Named Divide) ∷ (112, Named Numpad0)
     ∷ (113, Named Numpad1) ∷ (114, Named Numpad2) ∷ (115, Named Numpad3) ∷ (116, Named Numpad4) ∷ (117, Named Numpad5)
     ∷ (118, Named Numpad6) ∷ (119, Named Numpad7) ∷ (120, Named Numpad8) ∷ (121, Named Numpad9) ∷ []

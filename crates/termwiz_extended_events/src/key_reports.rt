@@ -2,6 +2,7 @@
 ghost use Rattle.std.specs.Prelude.{◌≡◌, ◌≢◌, ◌∷◌, [], IfOk, IfSome, IsSome, OnErr, Some, option_map};
 ghost use Rattle.termwiz_extended_events.specs.declared.types.ReportedKey.{ReportedKey as Key};
 ghost use Rattle.termwiz_extended_events.specs.Numbers.{first_some};
+ghost use Rattle.termwiz_extended_events.specs.Numbers as numbers;
 ghost use Rattle.termwiz_extended_events.specs.KeyReports as rules;
 ghost use Rattle.termwiz_extended_events.specs.KeyReports.{IsSpelled, report_of, report_behind, plain_report, spelled_report};
 ghost use Rattle.termwiz_grammar.specs.Table.{key_of_code};
@@ -9,12 +10,17 @@ ghost use Rattle.termwiz_extended_events.specs.FieldsLeft.{fields_left};
 
 use crate::fields::{Fields, before_end};
 use crate::key_fields::{codes_of, is_text, manner_of, text_of};
-use crate::numbers::{number, scalar};
+use crate::numbers::{number, number_within, scalar};
 use crate::reported_keys;
 use crate::reported_keys::LAST_FUNCTIONAL;
 use crate::types::{KeyEventKind, KeyReport, Manner, PlainReport, ReportedKey};
 use std::alloc::{AllocError, Global};
 use termwiz_keys::types::KeyCode;
+
+// Shift and Ctrl as Kitty's bits.
+const SHIFT_BIT: u8 = 1;
+
+const CTRL_BIT: u8 = 4;
 
 // A press with no modifier.
 const PRESSED: Manner = Manner {
@@ -161,7 +167,7 @@ fn other_key(t: &[u8]) -> Option<PlainReport>
     if fields.next()? != b"27".as_slice() {
         return None;
     }
-    let one_more = number(fields.next()?, 1, 8)?;
+    let one_more = number(fields.next()?, 1, 256)?;
     let c = scalar(fields.next()?)?;
     if fields.next().is_some() {
         return None;
@@ -238,6 +244,65 @@ pub(crate) fn key_report(t: &[u8]) -> Option<SpelledReport<'_>>
     without_text(lettered_key(t))
 }
 
+// 1 ; modifiers : kind R, of which only R must be there: F3, where no position of the cursor can be meant.
+#[tactic(auto, unfolding(crate::specs::KeyReports::third_function_key))]
+pub(crate) fn third_function_key(t: &[u8]) -> Option<PlainReport>
+    ensures { option_map plain_report result ≡ rules.third_function_key t.now }
+{
+    let mut fields = Fields::new(before_end(t, b"R")?, b';');
+    match fields.next()? {
+        [] | [b'1'] => {
+            let manner = manner_behind(fields)?;
+            Some(PlainReport {
+                key: ReportedKey::Named(KeyCode::Function(3)),
+                manner,
+            })
+        }
+        _ => None,
+    }
+}
+
+// The number of a key of rxvt-unicode's, without a leading zero.
+fn rxvt_number(digits: &[u8]) -> Option<u32>
+    ensures { result ≡ rules.rxvt_number digits.now }
+{
+    match digits {
+        [] | [b'0', ..] => None,
+        _ => number_within(digits, 2, 2, 38),
+    }
+}
+
+// The key of such a number with these modifiers.
+fn rxvt_report(modifiers: u8, digits: &[u8]) -> Option<PlainReport>
+    ensures { option_map plain_report result ≡ rules.rxvt_report modifiers (Some digits.now) }
+{
+    let key = reported_keys::rxvt_key_at(rxvt_number(digits)?)?;
+    Some(PlainReport {
+        key: ReportedKey::Named(key),
+        manner: Manner {
+            modifiers,
+            kind: KeyEventKind::Press,
+        },
+    })
+}
+
+// The key of such a number before this end.
+fn rxvt_key_before(t: &[u8], end: &[u8], modifiers: u8) -> Option<PlainReport>
+    ensures { option_map plain_report result ≡ rules.rxvt_report modifiers (numbers.before_end end.now t.now) }
+{
+    rxvt_report(modifiers, before_end(t, end)?)
+}
+
+// n and ^, @ or $: the key of n with Ctrl, with Ctrl and Shift, or with Shift, as rxvt-unicode sends it.
+#[tactic(auto, unfolding(crate::specs::KeyReports::rxvt_key))]
+pub(crate) fn rxvt_key(t: &[u8]) -> Option<PlainReport>
+    ensures { option_map plain_report result ≡ rules.rxvt_key t.now }
+{
+    rxvt_key_before(t, b"^", CTRL_BIT)
+        .or_else(|| rxvt_key_before(t, b"@", SHIFT_BIT + CTRL_BIT))
+        .or_else(|| rxvt_key_before(t, b"$", SHIFT_BIT))
+}
+
 // [ and a letter from A to E: F1 to F5, as the Linux console reports them.
 #[tactic(auto, unfolding(crate::specs::KeyReports::console_key))]
 pub(crate) fn console_key(t: &[u8]) -> Option<PlainReport>
@@ -265,6 +330,34 @@ pub(crate) fn keypad_key(t: &[u8]) -> Option<PlainReport>
             key: reported_keys::keypad_key(*letter)?,
             manner: PRESSED,
         }),
+        _ => None,
+    }
+}
+
+// The key of a letter with the modifiers of a number from 2 to 8, which is one more than their bits.
+fn modified_report(number: u8, letter: u8) -> Option<PlainReport>
+    ensures { option_map plain_report result ≡ rules.modified_report number letter }
+{
+    match number {
+        b'2'..=b'8' => Some(PlainReport {
+            key: reported_keys::modified_keypad_key(letter)?,
+            manner: Manner {
+                modifiers: number - b'1',
+                kind: KeyEventKind::Press,
+            },
+        }),
+        _ => None,
+    }
+}
+
+// m and a letter after ESC O, where 0 ; may stand before m: a key of the keypad, or F1 to F4, with modifiers.
+#[tactic(auto, unfolding(crate::specs::KeyReports::modified_keypad_key))]
+pub(crate) fn modified_keypad_key(t: &[u8]) -> Option<PlainReport>
+    ensures { option_map plain_report result ≡ rules.modified_keypad_key t.now }
+{
+    match t {
+        [number, letter] => modified_report(*number, *letter),
+        [b'0', b';', number, letter] => modified_report(*number, *letter),
         _ => None,
     }
 }

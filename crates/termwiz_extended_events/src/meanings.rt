@@ -1,16 +1,19 @@
 // What a sequence means that the port doesn't know.
 ghost use Rattle.std.specs.Prelude.{◌≡◌, ◌↔◌, IfOk, IfSome, IsSome, IsTrue, OnErr, Some, unwrap_or};
+ghost use Rattle.termwiz_extended_events.specs.declared.types.ExtendedEvent.{ExtendedEvent as Event};
 ghost use Rattle.termwiz_extended_events.specs.declared.types.ExtendedEvent.TheVariants.{Csi, Key};
 ghost use Rattle.termwiz_extended_events.specs.KeyReports.{plain_report};
 ghost use Rattle.termwiz_extended_events.specs.Meanings as meaning;
-ghost use Rattle.termwiz_extended_events.specs.Meanings.{reported, command_text, string_text, event_after, event_from, IsKeyOrPosition, NeedsMemory};
+ghost use Rattle.termwiz_extended_events.specs.Meanings.{reported, command_text, string_text, event_after, event_from, IsKey, IsPosition, IsKeyOrPosition, NeedsMemory};
 
 use crate::fields::before_end;
 use crate::key_reports;
 pub use crate::key_reports::SpelledReport;
-use crate::key_reports::{console_key, key_report, keypad_key};
-use crate::replies::{focus, mouse_report, reply};
-use crate::types::{ExtendedEvent, PlainReport, SequenceBytes, StringKind};
+use crate::key_reports::{
+    console_key, key_report, keypad_key, modified_keypad_key, rxvt_key, third_function_key,
+};
+use crate::replies::{focus, mouse_report, reply, side_button};
+use crate::types::{ExtendedEvent, PlainReport, SequenceBytes, SideButtonEvent, StringKind};
 use std::alloc::{AllocError, Global};
 use termwiz_keys::types::{InputEvent, MouseEvent};
 
@@ -49,6 +52,8 @@ pub enum Meaning<'t> {
     KeyboardFlags(u8),
     /// A mouse report.
     Mouse(MouseEvent),
+    /// A report of one of the mouse buttons 8 to 11.
+    SideButton(SideButtonEvent),
     /// A key report.
     Key(SpelledReport<'t>),
     /// A control sequence that no rule reads: its bytes after ESC `[`.
@@ -94,6 +99,26 @@ impl<'t> Meaning<'t> {
         }
     }
 
+    /// Whether the event is a report of a key.
+    pub fn is_key(&self) -> bool
+        ensures { IsTrue result ↔ IfSome (event_from self.now) IsKey }
+    {
+        match self {
+            Meaning::Key(_) => true,
+            _ => false,
+        }
+    }
+
+    /// Whether the event is a report of the position of the cursor.
+    pub fn is_position(&self) -> bool
+        ensures { (event : Event) → event_from self.now ≡ Some event → IsTrue result ↔ IsPosition event }
+    {
+        match self {
+            Meaning::CursorPosition { .. } => true,
+            _ => false,
+        }
+    }
+
     /// Makes the event. Only its text or its bytes need memory.
     pub fn event(self, alloc: Global) -> Result<ExtendedEvent, AllocError>
         requires { IsSome (event_from self) }
@@ -119,6 +144,7 @@ impl<'t> Meaning<'t> {
             }),
             Meaning::KeyboardFlags(flags) => Ok(ExtendedEvent::KeyboardFlags(flags)),
             Meaning::Mouse(event) => Ok(ExtendedEvent::Input(InputEvent::Mouse(event))),
+            Meaning::SideButton(event) => Ok(ExtendedEvent::SideButton(event)),
             Meaning::Key(report) => Ok(ExtendedEvent::Key(report.whole(alloc)?)),
             Meaning::Csi(text) => Ok(ExtendedEvent::Csi(bytes(alloc, text)?)),
             Meaning::Osc(text) => Ok(ExtendedEvent::Osc(bytes(alloc, text)?)),
@@ -150,10 +176,30 @@ fn reported(t: &[u8]) -> Meaning<'_>
     if let Some(meaning) = reply(t) {
         return meaning;
     }
+    if let Some(report) = third_function_key(t) {
+        return Meaning::Key(SpelledReport::plain(report));
+    }
+    if let Some(report) = rxvt_key(t) {
+        return Meaning::Key(SpelledReport::plain(report));
+    }
     if let Some(event) = mouse_report(t) {
         return Meaning::Mouse(event);
     }
+    if let Some(event) = side_button(t) {
+        return Meaning::SideButton(event);
+    }
     match console_key(t) {
+        Some(report) => Meaning::Key(SpelledReport::plain(report)),
+        None => Meaning::Csi(t),
+    }
+}
+
+// What follows ESC O, by the first rule that fits.
+#[tactic(auto, unfolding(crate::specs::Meanings::keypad_reported))]
+fn keypad_reported(t: &[u8]) -> Meaning<'_>
+    ensures { event_from result ≡ Some (unwrap_or (meaning.keypad_reported t.now) (Csi t.now)) }
+{
+    match keypad_key(t).or_else(|| modified_keypad_key(t)) {
         Some(report) => Meaning::Key(SpelledReport::plain(report)),
         None => Meaning::Csi(t),
     }
@@ -184,10 +230,7 @@ fn meaning_after(byte: u8, t: &[u8]) -> Meaning<'_>
 {
     match byte {
         b'[' => reported(t),
-        b'O' => match keypad_key(t) {
-            Some(report) => Meaning::Key(SpelledReport::plain(report)),
-            None => Meaning::Csi(t),
-        },
+        b'O' => keypad_reported(t),
         b']' => Meaning::Osc(command_text(t)),
         b'P' => Meaning::Dcs(string_text(t)),
         b'_' => Meaning::Apc(string_text(t)),

@@ -1,18 +1,23 @@
 // The sequences that report something else than a key: the focus, the mouse, and what a terminal replies to questions.
-ghost use Rattle.std.specs.Prelude.{◌≡◌, ◌≤◌, Some};
+ghost use Rattle.std.specs.Prelude.{◌≡◌, ◌<◌, ◌≤◌, Some, codes, option_and_then};
 ghost use Rattle.termwiz_base.specs.Mouse.{final_press, largest_code};
 ghost use Rattle.termwiz_grammar.specs.MouseReports.{mouse_event};
+ghost use Rattle.termwiz_extended_events.specs.declared.types.SideButtonKind.TheVariants.{Release};
 ghost use Rattle.termwiz_extended_events.specs.FieldsLeft.{fields_left};
 ghost use Rattle.termwiz_extended_events.specs.Meanings.{IsMeant};
-ghost use Rattle.termwiz_extended_events.specs.Numbers.{fields};
+ghost use Rattle.termwiz_extended_events.specs.Numbers.{before_end, fields};
 ghost use Rattle.termwiz_extended_events.specs.Replies as rules;
 ghost use Rattle.termwiz_extended_events.specs.Replies.{position_of_fields, marked_position_of_fields, size_of_fields};
 
 use crate::fields::{Fields, after_start, before_end};
 use crate::meanings::Meaning;
 use crate::numbers::{FEW_DIGITS, number_within, short_number};
+use crate::types::{SideButtonEvent, SideButtonKind};
 use termwiz_base::{MouseReport, sgr_mouse};
 use termwiz_keys::types::{MouseButtons, MouseEvent};
+
+// The code of the first side button without modifiers.
+const FIRST_SIDE_CODE: u32 = 128;
 
 // I or O: the window gained the focus, or lost it.
 #[tactic(auto, unfolding(crate::specs::Replies::focus))]
@@ -178,4 +183,119 @@ pub(crate) fn mouse_report(t: &[u8]) -> Option<MouseEvent>
     ensures { result ≡ rules.mouse_report t.now }
 {
     urxvt_mouse(t).or_else(|| x10_mouse(t))
+}
+
+// The report of a side button by its code without the first one.
+#[tactic(auto, unfolding(termwiz_base::specs::Mouse::modifiers_of))]
+fn side_button_at(kind: SideButtonKind, low: u16, x: u16, y: u16) -> Option<SideButtonEvent>
+    requires { low < 64 }
+    ensures { result ≡ Some (rules.side_event kind low x y) }
+{
+    match sgr_mouse(low, x, y, b'M') {
+        Some(MouseReport::SGR1006 { modifiers, .. }) => Some(SideButtonEvent {
+            number: 8 + (low % 4) as u8,
+            kind,
+            x,
+            y,
+            modifiers,
+        }),
+        _ => None,
+    }
+}
+
+// What happened to a side button that isn't released.
+fn side_button_kind(low: u16) -> SideButtonKind
+    ensures { result ≡ rules.side_button_kind low }
+{
+    if 32 <= low {
+        SideButtonKind::Drag
+    } else {
+        SideButtonKind::Press
+    }
+}
+
+// code ; x ; y, where the codes begin with this one: a side button that was pressed or dragged.
+fn side_held(body: &[u8], first: u32) -> Option<SideButtonEvent>
+    requires { first ≤ 160 }
+    ensures { result ≡ rules.side_of_fields rules.side_held first (fields body.now) }
+{
+    let mut fields = Fields::new(body, b';');
+    let low = (number_within(fields.next()?, FEW_DIGITS, first, first + 63)? - first) as u16;
+    let x = short_number(fields.next()?)?;
+    let y = short_number(fields.next()?)?;
+    if fields.next().is_some() {
+        return None;
+    }
+    side_button_at(side_button_kind(low), low, x, y)
+}
+
+// code ; x ; y: a side button that was released.
+fn side_released(body: &[u8]) -> Option<SideButtonEvent>
+    ensures { result ≡ rules.side_of_fields (rules.side_event Release) rules.first_side_code (fields body.now) }
+{
+    let released = side_held(body, FIRST_SIDE_CODE)?;
+    Some(SideButtonEvent {
+        kind: SideButtonKind::Release,
+        ..released
+    })
+}
+
+// The same before M.
+fn side_held_before(t: &[u8]) -> Option<SideButtonEvent>
+    ensures { result ≡ option_and_then (λ body. rules.side_of_fields rules.side_held rules.first_side_code (fields body)) (before_end (codes "M") t.now) }
+{
+    side_held(before_end(t, b"M")?, FIRST_SIDE_CODE)
+}
+
+// The same of a release, before m.
+fn side_released_before(t: &[u8]) -> Option<SideButtonEvent>
+    ensures { result ≡ option_and_then (λ body. rules.side_of_fields (rules.side_event Release) rules.first_side_code (fields body)) (before_end (codes "m") t.now) }
+{
+    side_released(before_end(t, b"m")?)
+}
+
+// < code ; x ; y M or m: a side button as the SGR mode writes it.
+#[tactic(auto, unfolding(crate::specs::Replies::sgr_side_button))]
+fn sgr_side_button(t: &[u8]) -> Option<SideButtonEvent>
+    ensures { result ≡ rules.sgr_side_button t.now }
+{
+    let t = after_start(t, b"<")?;
+    side_held_before(t).or_else(|| side_released_before(t))
+}
+
+// code ; x ; y M: a side button as urxvt writes it.
+#[tactic(auto, unfolding(crate::specs::Replies::urxvt_side_button))]
+fn urxvt_side_button(t: &[u8]) -> Option<SideButtonEvent>
+    ensures { result ≡ rules.urxvt_side_button t.now }
+{
+    side_held(before_end(t, b"M")?, FIRST_SIDE_CODE + 32)
+}
+
+// M and three bytes: a side button as X10 writes it.
+#[tactic(auto, unfolding(crate::specs::Replies::x10_side_button))]
+fn x10_side_button(t: &[u8]) -> Option<SideButtonEvent>
+    ensures { result ≡ rules.x10_side_button t.now }
+{
+    match t {
+        [b'M', b @ 160..=223, x @ 32..=255, y @ 32..=255] => {
+            let low = u16::from(*b - 160);
+            side_button_at(
+                side_button_kind(low),
+                low,
+                u16::from(*x - 32),
+                u16::from(*y - 32),
+            )
+        }
+        _ => None,
+    }
+}
+
+// The report of a side button by the first of these rules that fits.
+#[tactic(auto, unfolding(crate::specs::Replies::side_button))]
+pub(crate) fn side_button(t: &[u8]) -> Option<SideButtonEvent>
+    ensures { result ≡ rules.side_button t.now }
+{
+    sgr_side_button(t)
+        .or_else(|| urxvt_side_button(t))
+        .or_else(|| x10_side_button(t))
 }

@@ -1,6 +1,6 @@
 //! The keys of control sequences, by their letters and their numbers.
 ghost use Rattle.std.specs.Prelude.{◌≡◌, option_map};
-ghost use Rattle.termwiz_extended_events.specs.ReportedKeys.{entry_at, lettered_keys, keypad_keys, console_keys, functional_key, is_functional, key_of, tilde_key};
+ghost use Rattle.termwiz_extended_events.specs.ReportedKeys.{entry_at, lettered_keys, keypad_keys, modified_keypad_keys, console_keys, functional_key, is_functional, key_of, key_with_number, rxvt_key_at, tilde_key};
 ghost use Rattle.termwiz_keys.specs.declared.types.KeyCode.TheVariants.{Function};
 
 use crate::types::ReportedKey;
@@ -40,6 +40,32 @@ const KEYPAD_KEYS: &[(u8, ReportedKey)] = &[
     (b'M', ReportedKey::Functional(57414)),
     (b'X', ReportedKey::Functional(57415)),
     (b'E', ReportedKey::Named(KeyCode::KeyPadBegin)),
+    (b'j', ReportedKey::Named(KeyCode::Multiply)),
+    (b'k', ReportedKey::Named(KeyCode::Add)),
+    (b'l', ReportedKey::Named(KeyCode::Separator)),
+    (b'm', ReportedKey::Named(KeyCode::Subtract)),
+    (b'n', ReportedKey::Named(KeyCode::Decimal)),
+    (b'o', ReportedKey::Named(KeyCode::Divide)),
+    (b'p', ReportedKey::Named(KeyCode::Numpad0)),
+    (b'q', ReportedKey::Named(KeyCode::Numpad1)),
+    (b'r', ReportedKey::Named(KeyCode::Numpad2)),
+    (b's', ReportedKey::Named(KeyCode::Numpad3)),
+    (b't', ReportedKey::Named(KeyCode::Numpad4)),
+    (b'u', ReportedKey::Named(KeyCode::Numpad5)),
+    (b'v', ReportedKey::Named(KeyCode::Numpad6)),
+    (b'w', ReportedKey::Named(KeyCode::Numpad7)),
+    (b'x', ReportedKey::Named(KeyCode::Numpad8)),
+    (b'y', ReportedKey::Named(KeyCode::Numpad9)),
+];
+
+// The keys with modifiers after ESC O, by their letters.
+const MODIFIED_KEYPAD_KEYS: &[(u8, ReportedKey)] = &[
+    (b'P', ReportedKey::Named(KeyCode::Function(1))),
+    (b'Q', ReportedKey::Named(KeyCode::Function(2))),
+    (b'R', ReportedKey::Named(KeyCode::Function(3))),
+    (b'S', ReportedKey::Named(KeyCode::Function(4))),
+    (b'M', ReportedKey::Functional(57414)),
+    (b'X', ReportedKey::Functional(57415)),
     (b'j', ReportedKey::Named(KeyCode::Multiply)),
     (b'k', ReportedKey::Named(KeyCode::Add)),
     (b'l', ReportedKey::Named(KeyCode::Separator)),
@@ -159,6 +185,13 @@ pub(crate) fn keypad_key(letter: u8) -> Option<ReportedKey>
     entry_of(KEYPAD_KEYS, letter)
 }
 
+// The key with modifiers of a letter after ESC O.
+pub(crate) fn modified_keypad_key(letter: u8) -> Option<ReportedKey>
+    ensures { result ≡ entry_at modified_keypad_keys letter }
+{
+    entry_of(MODIFIED_KEYPAD_KEYS, letter)
+}
+
 /// Returns the key of a number in Kitty's table of functional keys: by its name where [`KeyCode`] has one, and else
 /// `Functional` of the number ("Functional key definitions" of Kitty's page).
 #[tactic(auto, unfolding(crate::specs::ReportedKeys::functional_key))]
@@ -206,6 +239,18 @@ fn function_key(codes: &[(u8, u8)], number: u32) -> Option<KeyCode>
     None
 }
 
+// The key of a number that isn't functional.
+fn key_with_number(number: u32) -> Option<KeyCode>
+    ensures { result ≡ key_with_number number }
+{
+    if 35 <= number && number <= 38 {
+        return Some(KeyCode::Function((number - 14) as u8));
+    }
+    entry_at(EDIT_KEYS, number)
+        .or(function_key(FUNCTION_CODES, number))
+        .or(function_key(HIGH_FUNCTION_CODES, number))
+}
+
 // The key of a number with a tilde at the end.
 #[tactic(auto, unfolding(crate::specs::ReportedKeys::tilde_key))]
 pub(crate) fn tilde_key(number: u32) -> Option<ReportedKey>
@@ -214,8 +259,17 @@ pub(crate) fn tilde_key(number: u32) -> Option<ReportedKey>
     if is_functional(number) {
         return Some(functional_key(number));
     }
-    let key = entry_at(EDIT_KEYS, number)
-        .or(function_key(FUNCTION_CODES, number))
-        .or(function_key(HIGH_FUNCTION_CODES, number))?;
-    Some(ReportedKey::Named(key))
+    Some(ReportedKey::Named(key_with_number(number)?))
+}
+
+// The key of a number with ^, @ or $ at the end.
+#[tactic(auto, unfolding(crate::specs::ReportedKeys::rxvt_key_at))]
+pub(crate) fn rxvt_key_at(number: u32) -> Option<KeyCode>
+    ensures { result ≡ rxvt_key_at number }
+{
+    if number == 4 {
+        None
+    } else {
+        key_with_number(number)
+    }
 }

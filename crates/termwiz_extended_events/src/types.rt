@@ -1,5 +1,5 @@
 //! The events of the extended parser.
-ghost use Rattle.std.specs.Prelude.{◌≡◌, ◌==◌, string_bytes};
+ghost use Rattle.std.specs.Prelude.{◌≡◌, ◌==◌, false, string_bytes};
 ghost use Rattle.std.specs.Cmp.Rules.{comparing};
 ghost use Rattle.std.specs.Cmp.Lexicographic.{pointwise};
 ghost use Rattle.std.proofs.Common.{rules};
@@ -7,6 +7,7 @@ ghost use Rattle.termwiz_extended_events.specs.KeyReports.{plain_report};
 
 use std::alloc::Global;
 use std::marker::Model;
+use termwiz_base::Modifiers;
 use termwiz_keys::types::{InputEvent, KeyCode};
 
 /// Which sequences of the table keep the key that the port reads from them.
@@ -17,6 +18,33 @@ pub enum Protocol {
     /// Rows that report a key, or the position of the cursor, are read as these reports. For programs that turn Kitty's
     /// keyboard protocol on, so that a press and its release name the same key.
     Kitty,
+}
+
+/// How an extended parser reads: whose keys the rows of the sequence table are, what else is looked for, and what the program has asked.
+/// It may be set between any two calls.
+#[derive(Clone, Copy, PartialEq, Eq, Debug)]
+pub struct Reading {
+    /// Which rows of the sequence table keep their keys.
+    pub protocol: Protocol,
+    /// Whether ESC `[M` begins a mouse report of three bytes, as xterm's modes 9 and 1000 send it without mode 1006. Otherwise it is a control
+    /// sequence.
+    pub x10_mouse: bool,
+    /// How many questions for the cursor's position (DSR 6) have no reply yet. While there are any, a row of the table that can be a reply is
+    /// one.
+    pub questions: u8,
+}
+
+impl Reading {
+    /// The reading of a protocol, without X10 mouse reports and open questions.
+    pub fn new(protocol: Protocol) -> Reading
+        ensures { result ≡ record { protocol = protocol; x10_mouse = false; questions = 0 } }
+    {
+        Reading {
+            protocol,
+            x10_mouse: false,
+            questions: 0,
+        }
+    }
 }
 
 /// What happened to a key.
@@ -195,6 +223,32 @@ impl PlainReport {
     }
 }
 
+/// What happened to a side button of the mouse.
+#[derive(Clone, Copy, PartialEq, Eq, Debug)]
+pub enum SideButtonKind {
+    /// It was pressed.
+    Press,
+    /// It was released. Only SGR reports (mode 1006) tell which button was.
+    Release,
+    /// The mouse was moved while it was down.
+    Drag,
+}
+
+/// A report of one of the mouse buttons 8 to 11, which the port has no names for.
+#[derive(Clone, Copy, PartialEq, Eq, Debug)]
+pub struct SideButtonEvent {
+    /// The number of the button, from 8 to 11.
+    pub number: u8,
+    /// What happened to it.
+    pub kind: SideButtonKind,
+    /// The column, as the terminal sent it: the leftmost is 1.
+    pub x: u16,
+    /// The row, as the terminal sent it: the topmost is 1.
+    pub y: u16,
+    /// The modifier keys that were held: SHIFT, ALT and CTRL.
+    pub modifiers: Modifiers,
+}
+
 /// The kind of a string.
 #[derive(Clone, Copy, PartialEq, Eq, Debug)]
 pub enum StringKind {
@@ -237,6 +291,8 @@ pub enum ExtendedEvent {
     },
     /// The reply to a question for the flags of Kitty's keyboard protocol.
     KeyboardFlags(u8),
+    /// A report of one of the mouse buttons 8 to 11.
+    SideButton(SideButtonEvent),
     /// Any other control sequence: its bytes after ESC `[`.
     Csi(SequenceBytes),
     /// An operating system command: its bytes after ESC `]`, without its end.
