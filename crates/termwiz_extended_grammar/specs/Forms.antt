@@ -1,7 +1,7 @@
 -- The forms of what terminals send beyond the rows of the table and SGR mouse reports, and what strings begin with, have and end with.
 -- Control sequences and strings are from ECMA-48. From xterm's control sequences are X10 mouse reports, titles, BEL as the end of an operating
 -- system command, and the application keypad; function keys are from the Linux console.
-use Rattle.std.specs.Prelude.{◌≡◌, ◌≢◌, ℕ, ◌≤◌, ◌<◌, ◌⊎◌, List, [], ◌∷◌, ◌++◌, length, codes}
+use Rattle.std.specs.Prelude.{◌≡◌, ◌≢◌, ℕ, ◌≤◌, ◌<◌, ◌⊎◌, Bool, true, List, [], ◌∷◌, ◌++◌, length, codes}
 use Rattle.std.specs.List.{AllByRecursion}
 use Rattle.termwiz_keymap.specs.Bytes.{Begins}
 use Rattle.termwiz_keys.specs.Introducers.{ESC, CSI, SS3}
@@ -40,6 +40,32 @@ IsConsoleLetter b = (65 ≤ b) × (b ≤ 69)
 abbrev pub IsKeypadLetter : ℕ → Type 0
 IsKeypadLetter b = (b ≡ 77) ⊎ ((b ≡ 88) ⊎ ((b ≡ 69) ⊎ ((106 ≤ b) × (b ≤ 121))))
 
+-- a digit from 2 to 8, which is one more than the bits of the modifiers
+abbrev pub IsModifierDigit : ℕ → Type 0
+IsModifierDigit b = (50 ≤ b) × (b ≤ 56)
+
+-- the letter of a key with modifiers behind ESC O: P to S, M, X, and j to y
+abbrev pub IsModifiedLetter : ℕ → Type 0
+IsModifiedLetter b = ((80 ≤ b) × (b ≤ 83)) ⊎ ((b ≡ 77) ⊎ ((b ≡ 88) ⊎ ((106 ≤ b) × (b ≤ 121))))
+
+-- the digit by which rxvt-unicode tells a key: 2, 3, 5 to 8
+abbrev pub IsRxvtDigit : ℕ → Type 0
+IsRxvtDigit d = (d ≡ 50) ⊎ ((d ≡ 51) ⊎ ((53 ≤ d) × (d ≤ 56)))
+
+-- two digits by which it tells one: 11 to 15, 17 to 21, 23 to 26, 28, 29, 31 to 38
+abbrev pub IsRxvtPair : ℕ → ℕ → Type 0
+IsRxvtPair d e =
+    ((d ≡ 49) × (((49 ≤ e) × (e ≤ 53)) ⊎ ((55 ≤ e) × (e ≤ 57))))
+    ⊎ (((d ≡ 50) × (((48 ≤ e) × (e ≤ 49)) ⊎ (((51 ≤ e) × (e ≤ 54)) ⊎ ((56 ≤ e) × (e ≤ 57)))))
+    ⊎ ((d ≡ 51) × ((49 ≤ e) × (e ≤ 56))))
+
+-- a number by which rxvt-unicode tells a key
+abbrev pub IsRxvtNumber : List ℕ → Type 0
+IsRxvtNumber [] = ⊥
+IsRxvtNumber (d ∷ []) = IsRxvtDigit d
+IsRxvtNumber (d ∷ e ∷ []) = IsRxvtPair d e
+IsRxvtNumber (d ∷ e ∷ c ∷ digits) = ⊥
+
 -- what strings of a kind begin with: ESC and `]`, P or _
 abbrev pub introducer : StringKind → List ℕ
 introducer Osc = ESC ++ codes "]"
@@ -74,18 +100,19 @@ IsTitleLetter b = (b ≡ 108) ⊎ (b ≡ 76)
 abbrev pub typed_title : ℕ
 typed_title = 252
 
--- A control sequence: ESC [, inner bytes, and a final byte. ESC [M begins a mouse report, ESC [[ a console key, and ESC [, a digit and $ a row:
--- none of these is one.
-pub record IsControl (text : List ℕ) : Type 0 where
+-- A control sequence: ESC [, inner bytes, and a final byte. ESC [M begins a mouse report, where X10 reports are read. ESC [[ begins a console
+-- key, ESC [, a digit and $ a row, and ESC [, a number and $ a key of rxvt-unicode's with Shift. None of these is one.
+pub record IsControl (x10_mouse : Bool) (text : List ℕ) : Type 0 where
   pub inner : List ℕ
   pub last : ℕ
   pub form : text ≡ CSI ++ inner ++ last ∷ []
   pub each : AllByRecursion IsInner inner
   pub last_is : IsFinal last
   pub short : length text ≤ most_control
-  pub no_mouse : ¬ Begins (CSI ++ codes "M") text
+  pub no_mouse : x10_mouse ≡ true → ¬ Begins (CSI ++ codes "M") text
   pub no_console : ¬ Begins (CSI ++ codes "[") text
   pub no_row : (digit : ℕ) → IsRowDigit digit → ¬ Begins (CSI ++ digit ∷ codes "$") text
+  pub no_shifted : (number : List ℕ) → IsRxvtNumber number → ¬ Begins (CSI ++ number ++ codes "$") text
 
 -- An X10 mouse report: ESC [M and three bytes.
 pub record IsX10Report (text : List ℕ) : Type 0 where
@@ -109,6 +136,22 @@ pub record IsKeypadKey (text : List ℕ) : Type 0 where
   pub form : text ≡ SS3 ++ letter ∷ []
   pub letter_is : IsKeypadLetter letter
 
+-- A key of the application keypad, or F1 to F4, with modifiers: ESC O, a digit and a letter. mlterm writes 0; before the digit.
+pub record IsModifiedKeypadKey (text : List ℕ) : Type 0 where
+  pub front : List ℕ
+  pub digit : ℕ
+  pub letter : ℕ
+  pub form : text ≡ SS3 ++ front ++ digit ∷ letter ∷ []
+  pub front_is : (front ≡ []) ⊎ (front ≡ codes "0;")
+  pub digit_is : IsModifierDigit digit
+  pub letter_is : IsModifiedLetter letter
+
+-- A key of rxvt-unicode's with Shift: ESC [, its number and $.
+pub record IsShiftedKey (text : List ℕ) : Type 0 where
+  pub number : List ℕ
+  pub form : text ≡ CSI ++ number ++ codes "$"
+  pub number_is : IsRxvtNumber number
+
 -- A title: ESC `]`, its letter, few bytes, and the end of a command. Its beginning can be typed.
 pub record IsTitle (text : List ℕ) : Type 0 where
   pub letter : ℕ
@@ -120,16 +163,18 @@ pub record IsTitle (text : List ℕ) : Type 0 where
   pub short : length body < typed_title
   pub end_is : IsStringEnd Osc end
 
--- a text of one of these forms
-pub data IsForm (text : List ℕ) : Type 0 where
-  control : IsControl text → IsForm text
-  x10_report : IsX10Report text → IsForm text
-  console_key : IsConsoleKey text → IsForm text
-  keypad_key : IsKeypadKey text → IsForm text
-  title : IsTitle text → IsForm text
+-- a text of one of these forms, where X10 mouse reports are read or not
+pub data IsForm (x10_mouse : Bool) (text : List ℕ) : Type 0 where
+  control : IsControl x10_mouse text → IsForm x10_mouse text
+  x10_report : x10_mouse ≡ true → IsX10Report text → IsForm x10_mouse text
+  console_key : IsConsoleKey text → IsForm x10_mouse text
+  keypad_key : IsKeypadKey text → IsForm x10_mouse text
+  modified_key : IsModifiedKeypadKey text → IsForm x10_mouse text
+  shifted_key : IsShiftedKey text → IsForm x10_mouse text
+  title : IsTitle text → IsForm x10_mouse text
 
 -- some text of a form is longer than u and begins with u
-pub record IsUnfinishedForm (u : List ℕ) : Type 0 where
+pub record IsUnfinishedForm (x10_mouse : Bool) (u : List ℕ) : Type 0 where
   pub tail : List ℕ
   pub longer : tail ≢ []
-  pub is_form : IsForm (u ++ tail)
+  pub is_form : IsForm x10_mouse (u ++ tail)

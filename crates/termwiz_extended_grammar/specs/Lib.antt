@@ -5,4 +5,5 @@ pub mod ExtendedStreams
 pub mod ExtraSequences
 pub mod Forms
 pub mod ExtendedParts
+pub mod Readings
 pub mod Strings

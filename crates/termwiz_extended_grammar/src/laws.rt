@@ -1,7 +1,7 @@
-//! Laws of the extended grammar, each the contract of a function without effect. Each holds for both readings of the rows.
+//! Laws of the extended grammar, each the contract of a function without effect. Each holds for every reading.
 //!
 //! They speak of the definitions alone. That the parser obeys the definitions is said by its own contracts.
-ghost use Rattle.termwiz_extended_grammar.specs.ExtendedLaws.{Conservative, CutIndependent, EmptyIsRest, ExtraIsLongest, FewEvents, FewEventsInStream, FourBeginnings, OneByOneMeans, OneMeaning, OpeningIsLongest, Resumes, SequenceStands, StepsJoin, StringStands, TitlesAreCommands, Undecided, WaitingShape};
+ghost use Rattle.termwiz_extended_grammar.specs.ExtendedLaws.{BareKeysAreJoined, Conservative, CutIndependent, EmptyIsRest, ExtraIsLongest, FewEvents, FewEventsInStream, FourBeginnings, OneByOneMeans, OneMeaning, OpeningIsLongest, QuestionsMoveNothing, Resumes, SequenceStands, StepsJoin, StringStands, TitlesAreCommands, Undecided, WaitingShape};
 ghost use Rattle.termwiz_extended_grammar.specs.ExtendedKinds.{WaitingKinds};
 ghost use Rattle.termwiz_extended_grammar.specs.ExtendedParts.{PartsJoin};
 
@@ -72,9 +72,21 @@ pub fn undecided()
 
 /// A complete extra sequence is its event, however the text around it is cut. What stands before it is read as a flush reads it, and what
 /// comes after it by itself, if a flush leaves nothing of what stands before it. So no byte of the sequence becomes a key, and nothing
-/// before it is lost.
+/// before it is lost. Of a bare key this holds only where the text before it doesn't end with an ESC that is an item by itself.
 pub fn sequence_stands()
     ensures { SequenceStands }
+{}
+
+/// A bare key after an ESC that is left for more to come is one item with it: the key with ALT. A bare key is a key report that a terminal sends
+/// after ESC where Alt is held: a row of the table, a key of the keypad, or one of rxvt-unicode's that ends with `^`, `@` or `$`.
+pub fn bare_keys_are_joined()
+    ensures { BareKeysAreJoined }
+{}
+
+/// Which texts are known, open or rests doesn't depend on the number of open questions for the cursor's position: the questions decide only
+/// what a row means.
+pub fn questions_move_nothing()
+    ensures { QuestionsMoveNothing }
 {}
 
 /// A string is some parts or none and one more event, of its kind, whatever stands before it, if a flush leaves nothing of that. The last

@@ -5,3 +5,4 @@ pub mod SequencesStand
 pub mod StringsStand
 pub mod SameAsPort
 pub mod PartsOfPastes
+pub mod QuestionsMoveNothing

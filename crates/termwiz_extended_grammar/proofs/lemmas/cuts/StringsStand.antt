@@ -7,19 +7,22 @@ use Rattle.termwiz_keys.specs.Introducers.{ESC}
 use Rattle.termwiz_grammar.specs.Laws.{IsHeldEscape}
 use Rattle.termwiz_extended_events.specs.declared.types.ExtendedEvent.{ExtendedEvent}
 use Rattle.termwiz_extended_events.specs.declared.types.ExtendedEvent.TheVariants.{StringPart, StringCut}
-use Rattle.termwiz_extended_events.specs.declared.types.Protocol.{Protocol}
+use Rattle.termwiz_extended_events.specs.declared.types.Reading.{Reading}
 use Rattle.termwiz_extended_events.specs.declared.types.StringKind.{StringKind}
+use Rattle.termwiz_extended_events.specs.declared.types.StringKind.TheVariants.{Osc, Dcs, Apc}
+use Rattle.termwiz_extended_events.specs.Meanings.{whole_string}
 use Rattle.termwiz_extended_grammar.specs.Forms.{introducer, IsData, most_string}
-use Rattle.termwiz_extended_grammar.specs.Strings.{IsHead, IsString, string_length, Ends}
+use Rattle.termwiz_extended_grammar.specs.Readings.{after_event, after_events}
+use Rattle.termwiz_extended_grammar.specs.Strings.{IsHead, IsString, string_length, Ends, StartsWithOpening}
 use Rattle.termwiz_extended_grammar.specs.Strings.Ends.{ended, cut, cut_by_two, flushed}
 use Rattle.termwiz_extended_grammar.specs.Strings.Comes.{part, last}
-use Rattle.termwiz_extended_grammar.specs.ExtendedGrammar.{Steps}
+use Rattle.termwiz_extended_grammar.specs.ExtendedGrammar.{IsRest, Steps}
 use Rattle.termwiz_extended_grammar.specs.ExtendedGrammar.Stands.{string}
 use Rattle.termwiz_extended_grammar.specs.ExtendedLaws.{StringStands, Closes}
 use Rattle.termwiz_extended_grammar.specs.ExtendedLaws.Closes.{by_end, by_cut, by_two, by_flush}
 use Rattle.termwiz_extended_grammar.proofs.lemmas.forms.FormOrNot.{opening_length}
 use Rattle.termwiz_extended_grammar.proofs.lemmas.items.StringRests.{parted}
-use Rattle.termwiz_extended_grammar.proofs.lemmas.cuts.ExtendedCuts.{join_steps}
+use Rattle.termwiz_extended_grammar.proofs.lemmas.cuts.ExtendedCuts.{after_both, join_steps}
 use Rattle.termwiz_extended_grammar.proofs.lemmas.cuts.SequencesStand.{flushed_before}
 
 -- data that are parted, before what closes them
@@ -42,17 +45,36 @@ closes_ends kind bytes z S event f (by_flush held none no_more) =
     subst (λ y. Ends kind bytes (z ++ S) f y (StringCut kind bytes)) (sym none)
     (flushed (subst IsHeldEscape (sym (ap (λ y. z ++ y) none ∙ append-nil z)) held) no_more)
 
+-- the last event of a string leaves the reading as it is
+whole_leaves : (reading : Reading) (kind : StringKind) (bytes : List ℕ) → after_event reading (whole_string kind bytes) ≡ reading
+whole_leaves reading Osc bytes = refl
+whole_leaves reading Dcs bytes = refl
+whole_leaves reading Apc bytes = refl
+
+last_leaves : (reading : Reading) (kind : StringKind) (bytes z S : List ℕ) (event : List ℕ → ExtendedEvent) (f : Bool) → Closes kind z S f event
+    → after_event reading (event bytes) ≡ reading
+last_leaves reading kind bytes z S event f (by_end is) = whole_leaves reading kind bytes
+last_leaves reading kind bytes z S event f (by_cut b r none e n m) = refl
+last_leaves reading kind bytes z S event f (by_two r single e) = refl
+last_leaves reading kind bytes z S event f (by_flush held none no_more) = refl
+
+-- and so do its parts
+parts_leave : (reading : Reading) (kind : StringKind) (head : List ℕ) (parts : List (List ℕ)) (D : List ExtendedEvent)
+    → after_events reading (map (λ part. StringPart kind (head ++ part)) parts ++ D) ≡ after_events reading D
+parts_leave reading kind head [] D = refl
+parts_leave reading kind head (bytes ∷ parts) D = parts_leave reading kind head parts D
+
 -- the events of a string, of which the data have at most n bytes
-abbrev Strung : Protocol → StringKind → List ℕ → List ℕ → List ℕ → List ℕ → List ℕ → List ExtendedEvent → (List ℕ → ExtendedEvent) → Bool → Type 0
-Strung protocol kind head d z S W D event f = (parts : List (List ℕ)) × (last : List ℕ) × (concat parts ++ last ≡ d)
-    × Steps protocol (introducer kind ++ head ++ (d ++ z ++ S)) f
+abbrev Strung : Reading → StringKind → List ℕ → List ℕ → List ℕ → List ℕ → List ℕ → List ExtendedEvent → (List ℕ → ExtendedEvent) → Bool → Type 0
+Strung reading kind head d z S W D event f = (parts : List (List ℕ)) × (last : List ℕ) × (concat parts ++ last ≡ d)
+    × Steps reading (introducer kind ++ head ++ (d ++ z ++ S)) f
     (map (λ part. StringPart kind (head ++ part)) parts ++ event (head ++ last) ∷ D) W
 
-module _ (protocol : Protocol) (kind : StringKind) (head z S W : List ℕ) (D : List ExtendedEvent) (event : List ℕ → ExtendedEvent) (f : Bool)
-    (is : IsHead kind head) (closes : Closes kind z S f event) (after : Steps protocol S f D W) where
+module _ (reading : Reading) (kind : StringKind) (head z S W : List ℕ) (D : List ExtendedEvent) (event : List ℕ → ExtendedEvent) (f : Bool)
+    (is : IsHead kind head) (closes : Closes kind z S f event) (after : Steps reading S f D W) where
   -- data that are short
   short_string : (d : List ℕ) → AllByRecursion (IsData kind) d → string_length kind head d < most_string
-      → Strung protocol kind head d z S W D event f
+      → Strung reading kind head d z S W D event f
   short_string d each short =
       let it : IsString (introducer kind ++ head ++ (d ++ z ++ S)) kind head d (z ++ S) = record {
         is_head = is;
@@ -66,11 +88,11 @@ module _ (protocol : Protocol) (kind : StringKind) (head z S W : List ℕ) (D : 
           S,
           string kind head d (z ++ S) S (event (head ++ d)) it
               (last S (event (head ++ d)) short (closes_ends kind (head ++ d) z S event f closes)),
-          after,
+          subst (λ r. Steps r S f D W) (sym (last_leaves reading kind (head ++ d) z S event f closes)) after,
         ),
       )
 
-  strung : (n : ℕ) (d : List ℕ) → length d ≤ n → AllByRecursion (IsData kind) d → Strung protocol kind head d z S W D event f
+  strung : (n : ℕ) (d : List ℕ) → length d ≤ n → AllByRecursion (IsData kind) d → Strung reading kind head d z S W D event f
   strung zero [] l each = short_string [] each (
       let o : length (introducer kind ++ head) ≤ 255 = opening_length kind head is in
       omega (arith, length-append (introducer kind ++ head) [])
@@ -82,8 +104,8 @@ module _ (protocol : Protocol) (kind : StringKind) (head z S W : List ℕ) (D : 
       (cases_lt (string_length kind head d) most_string)
     where
       long : most_string ≤ string_length kind head d
-          → ((t : List ℕ) → length t ≤ n → AllByRecursion (IsData kind) t → Strung protocol kind head t z S W D event f)
-          → Strung protocol kind head d z S W D event f
+          → ((t : List ℕ) → length t ≤ n → AllByRecursion (IsData kind) t → Strung reading kind head t z S W D event f)
+          → Strung reading kind head d z S W D event f
       long full below =
           let o : length (introducer kind ++ head) ≤ 255 = opening_length kind head is in
           let p = parted (most_string - length (introducer kind ++ head)) d (omega (arith, length-append (introducer kind ++ head) d)) in
@@ -106,18 +128,24 @@ module _ (protocol : Protocol) (kind : StringKind) (head z S W : List ℕ) (D : 
           )
 
 pub string_stands : StringStands
-string_stands protocol kind T head d z S W E D event f before is each closes after =
+string_stands reading kind T head d z S W E D event f before is each closes after =
+    let next = after_events reading E in
     let text = introducer kind ++ head ++ (d ++ z ++ S) in
-    let s = strung protocol kind head z S W D event f is closes after.steps (length d) d (omega arith) each in
+    let s = strung next kind head z S W D event f is closes after.steps (length d) d (omega arith) each in
     let parts = map (λ part. StringPart kind (head ++ part)) s.0 in
-    let first = flushed_before protocol T text E f
-    (inr (record { kind = kind; head = head; is_head = is; begins = (d ++ z ++ S, refl) })) before.steps in (
+    let more = parts ++ event (head ++ s.1) ∷ D in
+    let opening : StartsWithOpening text = record { kind = kind; head = head; is_head = is; begins = (d ++ z ++ S, refl) } in
+    let first = flushed_before reading T text E f (inr opening) (λ left steps. inr opening) before.steps in
+    let same : after_events next more ≡ after_events next D =
+    parts_leave next kind head s.0 (event (head ++ s.1) ∷ D)
+    ∙ ap (λ r. after_events r D) (last_leaves next kind (head ++ s.1) z S event f closes) in
+    let all : E ++ parts ++ event (head ++ s.1) ∷ D ≡ E ++ more = append_assoc E parts (event (head ++ s.1) ∷ D) in (
       s.0,
       s.1,
       s.2,
       record {
-        steps = subst (λ y. Steps protocol (T ++ text) f y W) (sym (append_assoc E parts (event (head ++ s.1) ∷ D)))
-            (join_steps protocol E (parts ++ event (head ++ s.1) ∷ D) (T ++ text) text W f first s.3);
-        rest = after.rest;
+        steps = subst (λ y. Steps reading (T ++ text) f y W) (sym all) (join_steps reading E more (T ++ text) text W f first s.3);
+        rest = subst (λ y. IsRest (after_events reading y) W f) (sym all)
+            (subst (λ r. IsRest r W f) (sym (after_both reading E more ∙ same)) after.rest);
       },
     )

@@ -1,12 +1,12 @@
 -- The bytes of the forms and of the openings. Either is a mark.
-use Rattle.std.proofs.Common.{◌≡◌, ◌≢◌, ◌⊎◌, inl, inr, ℕ, List, [], ◌∷◌, ◌++◌, refl, sym, ap, ap₂, ◌∙◌, subst, arith, append-nil}
+use Rattle.std.proofs.Common.{◌≡◌, ◌≢◌, ◌⊎◌, inl, inr, ℕ, Bool, List, [], ◌∷◌, ◌++◌, refl, sym, ap, ap₂, ◌∙◌, subst, arith, append-nil}
 use Rattle.std.specs.List.{AllByRecursion}
 use Rattle.termwiz_keymap.proofs.lemmas.lists.CommonPrefixes.{append-some, true_from}
 use Rattle.termwiz_grammar.specs.MouseReports.{IsDigit}
 use Rattle.termwiz_extended_events.specs.declared.types.StringKind.{StringKind}
 use Rattle.termwiz_extended_events.specs.declared.types.StringKind.TheVariants.{Osc, Dcs, Apc}
-use Rattle.termwiz_extended_grammar.specs.Forms.{ST, BEL, introducer, IsInner, IsData, IsKeypadLetter, IsStringEnd, IsTitleLetter, IsForm}
-use Rattle.termwiz_extended_grammar.specs.Forms.IsForm.{control, x10_report, console_key, keypad_key, title}
+use Rattle.termwiz_extended_grammar.specs.Forms.{ST, BEL, introducer, IsInner, IsData, IsKeypadLetter, IsRxvtNumber, IsStringEnd, IsTitleLetter, IsForm}
+use Rattle.termwiz_extended_grammar.specs.Forms.IsForm.{control, x10_report, console_key, keypad_key, modified_key, shifted_key, title}
 use Rattle.termwiz_extended_grammar.specs.Strings.{IsHead, StartsWithOpening}
 
 -- an opening, as a text
@@ -16,8 +16,8 @@ pub record IsOpening (text : List ℕ) : Type 0 where
   pub is_head : IsHead kind head
   pub form : text ≡ introducer kind ++ head
 
-abbrev pub IsMark : List ℕ → Type 0
-IsMark text = IsForm text ⊎ IsOpening text
+abbrev pub IsMark : Bool → List ℕ → Type 0
+IsMark x10_mouse text = IsForm x10_mouse text ⊎ IsOpening text
 
 -- the byte that introduces a string
 abbrev pub IsStringIntroducer : ℕ → Type 0
@@ -43,13 +43,21 @@ head_some Dcs head (inr (inr (inr r))) = λ h. append-some r.digits (r.sign ∷ 
 head_some Apc head g = λ h. cc (g.form, h)
 
 -- every form is ESC, such a byte, and more
-pub form_shape : (text : List ℕ) → IsForm text
+pub form_shape : {x10_mouse : Bool} (text : List ℕ) → IsForm x10_mouse text
     → (b : ℕ) × (r : List ℕ) × (text ≡ 27 ∷ b ∷ r) × (r ≢ []) × IsSecond b
 form_shape text (control f) =
     (91, f.inner ++ f.last ∷ [], f.form, append-some f.inner (f.last ∷ []) (λ h. cc (h)), inl refl)
-form_shape text (x10_report f) = (91, 77 ∷ f.button ∷ f.x ∷ f.y ∷ [], f.form, (λ h. cc (h)), inl refl)
+form_shape text (x10_report on f) = (91, 77 ∷ f.button ∷ f.x ∷ f.y ∷ [], f.form, (λ h. cc (h)), inl refl)
 form_shape text (console_key f) = (91, 91 ∷ f.letter ∷ [], f.form, (λ h. cc (h)), inl refl)
 form_shape text (keypad_key f) = (79, f.letter ∷ [], f.form, (λ h. cc (h)), inr (inl refl))
+form_shape text (modified_key f) = (
+  79,
+  f.front ++ f.digit ∷ f.letter ∷ [],
+  f.form,
+  append-some f.front (f.digit ∷ f.letter ∷ []) (λ h. cc (h)),
+  inr (inl refl),
+)
+form_shape text (shifted_key f) = (91, f.number ++ 36 ∷ [], f.form, append-some f.number (36 ∷ []) (λ h. cc (h)), inl refl)
 form_shape text (title f) = (93, f.letter ∷ (f.body ++ f.end), f.form, (λ h. cc (h)), inr (inr (inl refl)))
 
 -- and so is every opening
@@ -58,7 +66,7 @@ introducer_shape Osc = (93, refl, inl refl)
 introducer_shape Dcs = (80, refl, inr (inl refl))
 introducer_shape Apc = (95, refl, inr (inr refl))
 
-pub mark_shape : (text : List ℕ) → IsMark text
+pub mark_shape : {x10_mouse : Bool} (text : List ℕ) → IsMark x10_mouse text
     → (b : ℕ) × (r : List ℕ) × (text ≡ 27 ∷ b ∷ r) × (r ≢ []) × IsSecond b
 mark_shape text (inl f) = form_shape text f
 mark_shape text (inr o) =
@@ -88,12 +96,27 @@ pub all_append : (P : ℕ → Type 0) (s t : List ℕ) → AllByRecursion P s �
 all_append P [] t a b = b
 all_append P (x ∷ s) t a b = (a.0, all_append P s t a.1 b)
 
+clean_front : (front : List ℕ) → (front ≡ []) ⊎ (front ≡ 48 ∷ 59 ∷ []) → AllByRecursion IsClean front
+clean_front front (inl e) = subst (AllByRecursion IsClean) (sym e) tt
+clean_front front (inr e) = subst (AllByRecursion IsClean) (sym e) ((λ k. omega arith), ((λ k. omega arith), tt))
+
+-- the numbers of rxvt-unicode are digits
+pub rxvt_digits : (number : List ℕ) → IsRxvtNumber number → AllByRecursion IsDigit number
+rxvt_digits [] is = absurd is
+rxvt_digits (d ∷ []) is = ((omega (arith, is), omega (arith, is)), tt)
+rxvt_digits (d ∷ e ∷ []) is = ((omega (arith, is), omega (arith, is)), ((omega (arith, is), omega (arith, is)), tt))
+rxvt_digits (d ∷ e ∷ c ∷ digits) is = absurd is
+
+pub rxvt_some : (number : List ℕ) → IsRxvtNumber number → number ≢ []
+rxvt_some [] is = absurd is
+rxvt_some (d ∷ digits) is = λ h. cc (h)
+
 -- what a form ends with, if it is a title
 abbrev pub IsEnd : List ℕ → Type 0
 IsEnd end = (end ≡ []) ⊎ ((end ≡ ST) ⊎ (end ≡ BEL))
 
 -- after its ESC a form has no ESC up to its end
-form_bytes : (text : List ℕ) → IsForm text
+form_bytes : {x10_mouse : Bool} (text : List ℕ) → IsForm x10_mouse text
     → (clean end : List ℕ) × (text ≡ 27 ∷ (clean ++ end)) × AllByRecursion IsClean clean × IsEnd end
 form_bytes text (control f) = (
   91 ∷ (f.inner ++ f.last ∷ []),
@@ -106,7 +129,7 @@ form_bytes text (control f) = (
   ),
   inl refl,
 )
-form_bytes text (x10_report f) = (
+form_bytes text (x10_report on f) = (
   91 ∷ 77 ∷ f.button ∷ f.x ∷ f.y ∷ [],
   [],
   f.form,
@@ -128,6 +151,28 @@ form_bytes text (console_key f) = (
 )
 form_bytes text (keypad_key f) =
     (79 ∷ f.letter ∷ [], [], f.form, ((λ e. omega arith), (clean_letter f.letter f.letter_is, tt)), inl refl)
+form_bytes text (modified_key f) = (
+  79 ∷ (f.front ++ f.digit ∷ f.letter ∷ []),
+  [],
+  f.form ∙ ap (λ t. 27 ∷ 79 ∷ t) (sym (append-nil (f.front ++ f.digit ∷ f.letter ∷ []))),
+  (
+    (λ e. omega arith),
+    all_append IsClean f.front (f.digit ∷ f.letter ∷ []) (clean_front f.front f.front_is)
+        ((λ e. omega (arith, f.digit_is)), ((λ e. omega (arith, f.letter_is)), tt)),
+  ),
+  inl refl,
+)
+form_bytes text (shifted_key f) = (
+  91 ∷ (f.number ++ 36 ∷ []),
+  [],
+  f.form ∙ ap (λ t. 27 ∷ 91 ∷ t) (sym (append-nil (f.number ++ 36 ∷ []))),
+  (
+    (λ e. omega arith),
+    all_append IsClean f.number (36 ∷ []) (true_from IsDigit IsClean clean_digit f.number (rxvt_digits f.number f.number_is))
+        ((λ e. omega arith), tt),
+  ),
+  inl refl,
+)
 form_bytes text (title f) = (
   93 ∷ f.letter ∷ f.body,
   f.end,
@@ -165,7 +210,7 @@ head_clean Dcs head (inr (inr (inr r))) = subst (AllByRecursion IsClean) (sym r.
 head_clean Apc head g = subst (AllByRecursion IsClean) (sym g.form)
     ((λ e. omega arith), ((λ e. omega (arith, g.letter_is)), ((λ e. omega arith), tt)))
 
-mark_bytes : (text : List ℕ) → IsMark text
+mark_bytes : {x10_mouse : Bool} (text : List ℕ) → IsMark x10_mouse text
     → (clean end : List ℕ) × (text ≡ 27 ∷ (clean ++ end)) × AllByRecursion IsClean clean × IsEnd end
 mark_bytes text (inl f) = form_bytes text f
 mark_bytes text (inr o) =
@@ -213,7 +258,7 @@ escape_in [] q (c ∷ clean) end a is e = absurd (let same : c ≡ 27 = cc (e) i
 escape_in (x ∷ p) q (c ∷ clean) end a is e = escape_in p q clean end a.1 is (cc (e))
 
 -- an ESC within a mark comes before its last byte, which is a backslash
-pub escape_within : (p q : List ℕ) → p ≢ [] → IsMark (p ++ 27 ∷ q) → q ≡ 92 ∷ []
+pub escape_within : {x10_mouse : Bool} (p q : List ℕ) → p ≢ [] → IsMark x10_mouse (p ++ 27 ∷ q) → q ≡ 92 ∷ []
 escape_within [] q n f = absurd (n refl)
 escape_within (x ∷ p) q n f =
     let h = mark_bytes (x ∷ p ++ 27 ∷ q) f in

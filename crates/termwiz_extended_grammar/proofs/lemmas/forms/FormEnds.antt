@@ -1,5 +1,5 @@
 -- No mark and no sequence of the port goes on after a mark.
-use Rattle.std.proofs.Common.{◌≡◌, ◌≢◌, ◌⊎◌, inl, inr, ℕ, ◌<◌, ◌≤◌, List, [], ◌∷◌, ◌++◌, length, refl, sym, ap, ◌∙◌, subst, arith, append_assoc, append-nil, length-append}
+use Rattle.std.proofs.Common.{◌≡◌, ◌≢◌, ◌⊎◌, inl, inr, ℕ, ◌<◌, ◌≤◌, Bool, List, [], ◌∷◌, ◌++◌, length, refl, sym, ap, ◌∙◌, subst, arith, append_assoc, append-nil, length-append}
 use Rattle.std.specs.List.{AllByRecursion}
 use Rattle.termwiz_keymap.proofs.lemmas.lists.CommonPrefixes.{Overlaps, overlap, append-some, append-some_left, true_from, true_at_end}
 use Rattle.termwiz_keymap.proofs.lemmas.lists.CommonPrefixes.Overlaps.{within, past}
@@ -8,13 +8,13 @@ use Rattle.termwiz_grammar.specs.MouseReports.{IsDigit}
 use Rattle.termwiz_grammar.specs.Sequences.{Meaning, IsSequence}
 use Rattle.termwiz_extended_events.specs.declared.types.StringKind.{StringKind}
 use Rattle.termwiz_extended_events.specs.declared.types.StringKind.TheVariants.{Osc, Dcs, Apc}
-use Rattle.termwiz_extended_grammar.specs.Forms.{introducer, IsInner, IsFinal, IsData, IsStringEnd, IsTitleLetter, IsForm}
-use Rattle.termwiz_extended_grammar.specs.Forms.IsForm.{control, x10_report, console_key, keypad_key, title}
+use Rattle.termwiz_extended_grammar.specs.Forms.{introducer, IsInner, IsFinal, IsData, IsRxvtNumber, IsStringEnd, IsTitleLetter, IsForm}
+use Rattle.termwiz_extended_grammar.specs.Forms.IsForm.{control, x10_report, console_key, keypad_key, modified_key, shifted_key, title}
 use Rattle.termwiz_extended_grammar.specs.Strings.{IsHead, IsShortNumber, IsReplySign, IsNumberedReply}
-use Rattle.termwiz_extended_grammar.proofs.lemmas.forms.FormBytes.{IsSecond, IsStringIntroducer, IsOpening, IsMark, introducer_shape, mark_shape, first_other}
-use Rattle.termwiz_extended_grammar.proofs.lemmas.forms.FormKinds.{Kind, Bracketed, Command, mark_kind, bracketed_some}
+use Rattle.termwiz_extended_grammar.proofs.lemmas.forms.FormBytes.{IsSecond, IsStringIntroducer, IsOpening, IsMark, introducer_shape, mark_shape, first_other, all_append, rxvt_digits}
+use Rattle.termwiz_extended_grammar.proofs.lemmas.forms.FormKinds.{Kind, Bracketed, Keypad, Command, mark_kind, bracketed_some}
 use Rattle.termwiz_extended_grammar.proofs.lemmas.forms.FormKinds.Kind.{bracketed, keypad, command, device, program}
-use Rattle.termwiz_extended_grammar.proofs.lemmas.forms.FormKinds.Bracketed.{inside, mouse, console}
+use Rattle.termwiz_extended_grammar.proofs.lemmas.forms.FormKinds.Bracketed.{inside, mouse, console, shifted}
 use Rattle.termwiz_extended_grammar.proofs.lemmas.forms.FormKinds.Command.{titled, numbered, long}
 use Rattle.termwiz_extended_grammar.proofs.lemmas.forms.PortLayouts.{IsMiddle, IsLast, Past, Layout, sequence_layout}
 use Rattle.termwiz_extended_grammar.proofs.lemmas.forms.PortLayouts.Past.{lettered, with_dollar}
@@ -32,12 +32,6 @@ first_in : (r tail t : List ℕ) (x : ℕ) → r ≢ [] → r ++ tail ≡ x ∷ 
 first_in [] tail t x n e = absurd (n refl)
 first_in (y ∷ r) tail t x n e = (r, cc (e))
 
--- one byte isn't gone on from
-one_byte : (r tail : List ℕ) (x : ℕ) → r ≢ [] → r ++ tail ≡ x ∷ [] → tail ≡ []
-one_byte [] tail x n e = absurd (n refl)
-one_byte (y ∷ []) tail x n e = cc (e)
-one_byte (y ∷ z ∷ r) tail x n e = absurd (cc (e))
-
 final_not_inner : (b : ℕ) → IsFinal b → ¬ IsInner b
 final_not_inner b f i = omega arith
 
@@ -47,29 +41,76 @@ inner_ends : (a b tail s : List ℕ) (v w : ℕ) → AllByRecursion IsInner a �
 inner_ends a b tail s v w pa pb nv nw e =
     (first_other IsInner a b tail s v w pa pb nv nw (sym (append_assoc a (v ∷ []) tail) ∙ e)).2
 
-bracketed_ends : (r tail s : List ℕ) → Bracketed r → Bracketed s → r ++ tail ≡ s → tail ≡ []
-bracketed_ends r tail s (inside a v e pa fv m n o) (inside b w g pb fw j k l) h =
+-- a final byte isn't among inner ones
+no_final_within : (a tail t : List ℕ) (v : ℕ) → IsFinal v → AllByRecursion IsInner t → (a ++ v ∷ []) ++ tail ≡ t → ⊥
+no_final_within a tail t v f all e =
+    let parts : AllByRecursion IsInner (a ++ v ∷ tail) = subst (AllByRecursion IsInner) (sym e ∙ append_assoc a (v ∷ []) tail) all in
+    final_not_inner v f (true_at_end IsInner a (v ∷ tail) parts).0
+
+-- a number of rxvt-unicode's and $ are inner bytes
+shifted_inner : (number : List ℕ) → IsRxvtNumber number → AllByRecursion IsInner (number ++ 36 ∷ [])
+shifted_inner number is = all_append IsInner number (36 ∷ [])
+    (true_from IsDigit IsInner (λ b d. (omega arith, omega arith)) number (rxvt_digits number is)) ((omega arith, omega arith), tt)
+
+-- it begins with a digit
+shifted_first : (number t : List ℕ) → IsRxvtNumber number → (d : ℕ) × (u : List ℕ) × (number ++ t ≡ d ∷ u) × IsDigit d
+shifted_first [] t is = absurd is
+shifted_first (d ∷ number) t is = (d, number ++ t, refl, (rxvt_digits (d ∷ number) is).0)
+
+-- so it doesn't begin with another byte
+shifted_no_first : (number t u : List ℕ) (x : ℕ) → IsRxvtNumber number → 57 < x → number ++ t ≡ x ∷ u → ⊥
+shifted_no_first number t u x is l e =
+    let d = shifted_first number t is in
+    (let same : d.0 ≡ x = cc (d.2, e) in omega (arith, d.3))
+
+-- digits and $, and the same again
+dollar_ends : (a b r s : List ℕ) → AllByRecursion IsDigit a → AllByRecursion IsDigit b → a ++ 36 ∷ r ≡ b ++ 36 ∷ s → r ≡ s
+dollar_ends a b r s pa pb e = (first_other IsDigit a b r s 36 36 pa pb (λ d. omega (arith, d)) (λ d. omega (arith, d)) e).2
+
+bracketed_ends : {x10_mouse : Bool} (r tail s : List ℕ) → Bracketed x10_mouse r → Bracketed x10_mouse s → r ++ tail ≡ s → tail ≡ []
+bracketed_ends r tail s (inside a v e pa fv m n o q) (inside b w g pb fw j k l i) h =
     inner_ends a b tail [] v w pa pb (final_not_inner v fv) (final_not_inner w fw)
     (ap (λ z. z ++ tail) (sym e) ∙ h ∙ g)
-bracketed_ends r tail s (inside a v e pa fv m n o) (mouse p x y g) h =
-    let f = first_in r tail _ 77 (bracketed_some r (inside a v e pa fv m n o)) (h ∙ g) in absurd (m f.0 f.1)
-bracketed_ends r tail s (inside a v e pa fv m n o) (console p g) h =
-    let f = first_in r tail _ 91 (bracketed_some r (inside a v e pa fv m n o)) (h ∙ g) in absurd (n f.0 f.1)
-bracketed_ends r tail s (mouse p x y e) (inside b w g pb fw j k l) h =
-    absurd (j (p ∷ x ∷ y ∷ tail) (sym h ∙ ap (λ z. z ++ tail) e))
-bracketed_ends r tail s (mouse p x y e) (mouse q u v g) h =
-    let all : 77 ∷ p ∷ x ∷ y ∷ tail ≡ 77 ∷ q ∷ u ∷ v ∷ [] = ap (λ z. z ++ tail) (sym e) ∙ h ∙ g in cc (all)
-bracketed_ends r tail s (mouse p x y e) (console q g) h = absurd (
+bracketed_ends r tail s (inside a v e pa fv m n o q) (mouse p x y on g) h =
+    let f = first_in r tail _ 77 (bracketed_some r (inside a v e pa fv m n o q)) (h ∙ g) in absurd (m on f.0 f.1)
+bracketed_ends r tail s (inside a v e pa fv m n o q) (shifted number g is) h =
+    absurd (no_final_within a tail (number ++ 36 ∷ []) v fv (shifted_inner number is) (ap (λ z. z ++ tail) (sym e) ∙ h ∙ g))
+bracketed_ends r tail s (inside a v e pa fv m n o q) (console p g) h =
+    let f = first_in r tail _ 91 (bracketed_some r (inside a v e pa fv m n o q)) (h ∙ g) in absurd (n f.0 f.1)
+bracketed_ends r tail s (mouse p x y on e) (inside b w g pb fw j k l i) h =
+    absurd (j on (p ∷ x ∷ y ∷ tail) (sym h ∙ ap (λ z. z ++ tail) e))
+bracketed_ends r tail s (mouse p x y on e) (mouse q2 u v on2 g) h =
+    let all : 77 ∷ p ∷ x ∷ y ∷ tail ≡ 77 ∷ q2 ∷ u ∷ v ∷ [] = ap (λ z. z ++ tail) (sym e) ∙ h ∙ g in cc (all)
+bracketed_ends r tail s (mouse p x y on e) (console q g) h = absurd (
     let all : 77 ∷ p ∷ x ∷ y ∷ tail ≡ 91 ∷ q ∷ [] = ap (λ z. z ++ tail) (sym e) ∙ h ∙ g in cc (all)
     )
-bracketed_ends r tail s (console p e) (inside b w g pb fw j k l) h =
+bracketed_ends r tail s (console p e) (inside b w g pb fw j k l i) h =
     absurd (k (p ∷ tail) (sym h ∙ ap (λ z. z ++ tail) e))
-bracketed_ends r tail s (console p e) (mouse q u v g) h = absurd (
-    let all : 91 ∷ p ∷ tail ≡ 77 ∷ q ∷ u ∷ v ∷ [] = ap (λ z. z ++ tail) (sym e) ∙ h ∙ g in
+bracketed_ends r tail s (console p e) (mouse q2 u v on2 g) h = absurd (
+    let all : 91 ∷ p ∷ tail ≡ 77 ∷ q2 ∷ u ∷ v ∷ [] = ap (λ z. z ++ tail) (sym e) ∙ h ∙ g in
     let first : ◌≡◌ {A = ℕ} 91 77 = cc (all) in omega arith
     )
 bracketed_ends r tail s (console p e) (console q g) h =
     let all : 91 ∷ p ∷ tail ≡ 91 ∷ q ∷ [] = ap (λ z. z ++ tail) (sym e) ∙ h ∙ g in cc (all)
+bracketed_ends r tail s (mouse p x y on e) (shifted number g is) h =
+    absurd (shifted_no_first number (36 ∷ []) _ 77 is (omega arith) (sym g ∙ sym h ∙ ap (λ z. z ++ tail) e))
+bracketed_ends r tail s (console p e) (shifted number g is) h =
+    absurd (shifted_no_first number (36 ∷ []) _ 91 is (omega arith) (sym g ∙ sym h ∙ ap (λ z. z ++ tail) e))
+bracketed_ends r tail s (shifted number e is) (inside b w g pb fw j k l i) h =
+    absurd (i number tail is (sym h ∙ ap (λ z. z ++ tail) e ∙ append_assoc number (36 ∷ []) tail))
+bracketed_ends r tail s (shifted number e is) (mouse q2 u v on2 g) h = absurd (shifted_no_first number (36 ∷ tail) _ 77 is (omega arith)
+    (sym (append_assoc number (36 ∷ []) tail) ∙ ap (λ z. z ++ tail) (sym e) ∙ h ∙ g))
+bracketed_ends r tail s (shifted number e is) (console q g) h = absurd (shifted_no_first number (36 ∷ tail) _ 91 is (omega arith)
+    (sym (append_assoc number (36 ∷ []) tail) ∙ ap (λ z. z ++ tail) (sym e) ∙ h ∙ g))
+bracketed_ends r tail s (shifted number e is) (shifted other g it) h =
+    dollar_ends number other tail [] (rxvt_digits number is) (rxvt_digits other it)
+    (sym (append_assoc number (36 ∷ []) tail) ∙ ap (λ z. z ++ tail) (sym e) ∙ h ∙ g)
+
+-- digits and semicolons and a letter, and the same again
+keypad_ends : (r tail s : List ℕ) → Keypad r → Keypad s → r ++ tail ≡ s → tail ≡ []
+keypad_ends r tail s a b h = (first_other IsMiddle a.front b.front tail [] a.letter b.letter a.each b.each
+    (λ m. omega (arith, m, a.letter_is)) (λ m. omega (arith, m, b.letter_is))
+    (sym (append_assoc a.front (a.letter ∷ []) tail) ∙ ap (λ z. z ++ tail) (sym a.form) ∙ h ∙ b.form)).2
 
 -- data up to a byte that is none, and the same again
 data_ends : (a b r s tail : List ℕ) (v w : ℕ) → AllByRecursion (IsData Osc) a → AllByRecursion (IsData Osc) b
@@ -253,46 +294,48 @@ second_of_opening text b r never e o =
     never (subst IsStringIntroducer same i.2)
 
 -- no mark goes on after a mark
-pub mark_ends : (text tail : List ℕ) → IsMark text → IsMark (text ++ tail) → tail ≡ []
-mark_ends text tail f g = go (mark_kind text f) (mark_kind (text ++ tail) g)
+pub mark_ends : {x10_mouse : Bool} (text tail : List ℕ) → IsMark x10_mouse text → IsMark x10_mouse (text ++ tail) → tail ≡ []
+mark_ends {x10_mouse = x10_mouse} text tail f g = go (mark_kind text f) (mark_kind (text ++ tail) g)
   where
     other : (b d : ℕ) (r s : List ℕ) → (b ≡ d → ⊥) → text ≡ 27 ∷ b ∷ r → text ++ tail ≡ 27 ∷ d ∷ s → tail ≡ []
     other b d r s never e h = absurd (never (meet text tail r s 27 b 27 d e h).1)
 
-    go : Kind text → Kind (text ++ tail) → tail ≡ []
+    go : Kind x10_mouse text → Kind x10_mouse (text ++ tail) → tail ≡ []
     go (bracketed r e a) (bracketed s h b) = bracketed_ends r tail s a b (meet text tail r s 27 91 27 91 e h).2
-    go (bracketed r e a) (keypad letter h k) = other 91 79 r _ (λ q. omega arith) e h
+    go (bracketed r e a) (keypad q h k) = other 91 79 r _ (λ q. omega arith) e h
     go (bracketed r e a) (command s h b) = other 91 93 r s (λ q. omega arith) e h
     go (bracketed r e a) (device s h b) = other 91 80 r s (λ q. omega arith) e h
     go (bracketed r e a) (program s h b) = other 91 95 r s (λ q. omega arith) e h
-    go (keypad letter e a) (bracketed s h b) = other 79 91 _ s (λ q. omega arith) e h
-    go (keypad letter e a) (keypad l h k) = cc ((meet text tail (letter ∷ []) (l ∷ []) 27 79 27 79 e h).2)
-    go (keypad letter e a) (command s h b) = other 79 93 _ s (λ q. omega arith) e h
-    go (keypad letter e a) (device s h b) = other 79 80 _ s (λ q. omega arith) e h
-    go (keypad letter e a) (program s h b) = other 79 95 _ s (λ q. omega arith) e h
+    go (keypad r e a) (bracketed s h b) = other 79 91 _ s (λ q. omega arith) e h
+    go (keypad r e a) (keypad s h k) = keypad_ends r tail s a k (meet text tail r s 27 79 27 79 e h).2
+    go (keypad r e a) (command s h b) = other 79 93 _ s (λ q. omega arith) e h
+    go (keypad r e a) (device s h b) = other 79 80 _ s (λ q. omega arith) e h
+    go (keypad r e a) (program s h b) = other 79 95 _ s (λ q. omega arith) e h
     go (command r e a) (bracketed s h b) = other 93 91 r s (λ q. omega arith) e h
-    go (command r e a) (keypad letter h k) = other 93 79 r _ (λ q. omega arith) e h
+    go (command r e a) (keypad q h k) = other 93 79 r _ (λ q. omega arith) e h
     go (command r e a) (command s h b) = command_ends r tail s a b (meet text tail r s 27 93 27 93 e h).2
     go (command r e a) (device s h b) = other 93 80 r s (λ q. omega arith) e h
     go (command r e a) (program s h b) = other 93 95 r s (λ q. omega arith) e h
     go (device r e a) (bracketed s h b) = other 80 91 r s (λ q. omega arith) e h
-    go (device r e a) (keypad letter h k) = other 80 79 r _ (λ q. omega arith) e h
+    go (device r e a) (keypad q h k) = other 80 79 r _ (λ q. omega arith) e h
     go (device r e a) (command s h b) = other 80 93 r s (λ q. omega arith) e h
     go (device r e a) (device s h b) =
         device_ends r tail s (device_head r a) (device_head s b) (meet text tail r s 27 80 27 80 e h).2
     go (device r e a) (program s h b) = other 80 95 r s (λ q. omega arith) e h
     go (program r e a) (bracketed s h b) = other 95 91 r s (λ q. omega arith) e h
-    go (program r e a) (keypad letter h k) = other 95 79 r _ (λ q. omega arith) e h
+    go (program r e a) (keypad q h k) = other 95 79 r _ (λ q. omega arith) e h
     go (program r e a) (command s h b) = other 95 93 r s (λ q. omega arith) e h
     go (program r e a) (device s h b) = other 95 80 r s (λ q. omega arith) e h
     go (program r e a) (program s h b) = program_ends r tail s a b (meet text tail r s 27 95 27 95 e h).2
 
 -- no form is an opening
-pub form_no_opening : (text : List ℕ) → IsForm text → IsOpening text → ⊥
+pub form_no_opening : {x10_mouse : Bool} (text : List ℕ) → IsForm x10_mouse text → IsOpening text → ⊥
 form_no_opening text (control f) o = second_of_opening text 91 _ (λ i. omega arith) f.form o
-form_no_opening text (x10_report f) o = second_of_opening text 91 _ (λ i. omega arith) f.form o
+form_no_opening text (x10_report on f) o = second_of_opening text 91 _ (λ i. omega arith) f.form o
 form_no_opening text (console_key f) o = second_of_opening text 91 _ (λ i. omega arith) f.form o
 form_no_opening text (keypad_key f) o = second_of_opening text 79 _ (λ i. omega arith) f.form o
+form_no_opening text (modified_key f) o = second_of_opening text 79 _ (λ i. omega arith) f.form o
+form_no_opening text (shifted_key f) o = second_of_opening text 91 _ (λ i. omega arith) f.form o
 form_no_opening text (title f) o = go o.kind o.head o.is_head o.form
   where
     go : (kind : StringKind) (head : List ℕ) → IsHead kind head → text ≡ introducer kind ++ head → ⊥
@@ -334,15 +377,15 @@ no_digit_row (x ∷ y ∷ a) tail v digit f d e = go a (cc (e))
     go [] h = cc (h)
     go (z ∷ a) h = cc (h)
 
-past_bracketed : (r tail s : List ℕ) → Bracketed r → Past s → r ++ tail ≡ s → tail ≡ []
-past_bracketed r tail s (inside a v e pa fv m n o) (lettered b w g pb lw j k) h =
+past_bracketed : {x10_mouse : Bool} (r tail s : List ℕ) → Bracketed x10_mouse r → Past s → r ++ tail ≡ s → tail ≡ []
+past_bracketed r tail s (inside a v e pa fv m n o q) (lettered b w g pb lw j k) h =
     inner_ends a b tail [] v w pa (true_from IsMiddle IsInner middle_inner b pb) (final_not_inner v fv)
     (last_not_inner w lw) (ap (λ z. z ++ tail) (sym e) ∙ h ∙ g)
-past_bracketed r tail s (inside a v e pa fv m n o) (with_dollar digit g d) h =
+past_bracketed r tail s (inside a v e pa fv m n o q) (with_dollar digit g d) h =
     absurd (no_digit_row a tail v digit fv (omega arith, omega arith) (ap (λ z. z ++ tail) (sym e) ∙ h ∙ g))
-past_bracketed r tail s (mouse p x y e) (lettered b w g pb lw j k) h =
+past_bracketed r tail s (mouse p x y on e) (lettered b w g pb lw j k) h =
     absurd (j (p ∷ x ∷ y ∷ tail) (sym h ∙ ap (λ z. z ++ tail) e))
-past_bracketed r tail s (mouse p x y e) (with_dollar digit g d) h = absurd (
+past_bracketed r tail s (mouse p x y on e) (with_dollar digit g d) h = absurd (
     let all : 77 ∷ p ∷ x ∷ y ∷ tail ≡ digit ∷ 36 ∷ [] = ap (λ z. z ++ tail) (sym e) ∙ h ∙ g in cc (all)
     )
 past_bracketed r tail s (console p e) (lettered b w g pb lw j k) h =
@@ -351,15 +394,28 @@ past_bracketed r tail s (console p e) (with_dollar digit g d) h = absurd (
     let all : 91 ∷ p ∷ tail ≡ digit ∷ 36 ∷ [] = ap (λ z. z ++ tail) (sym e) ∙ h ∙ g in
     let first : 91 ≡ digit = cc (all) in omega arith
     )
+past_bracketed r tail s (shifted number e is) (lettered b w g pb lw j k) h = absurd (
+    let same : 36 ≡ w = (first_other IsMiddle number b tail [] 36 w (true_from IsDigit IsMiddle (λ x d. (omega arith, omega arith)) number
+    (rxvt_digits number is)) pb (λ m. omega (arith, m)) (λ m. omega (arith, m, lw))
+    (sym (append_assoc number (36 ∷ []) tail) ∙ ap (λ z. z ++ tail) (sym e) ∙ h ∙ g)).1 in omega (arith, lw)
+    )
+past_bracketed r tail s (shifted number e is) (with_dollar digit g d) h =
+    dollar_ends number (digit ∷ []) tail [] (rxvt_digits number is) ((omega (arith, d), omega (arith, d)), tt)
+    (sym (append_assoc number (36 ∷ []) tail) ∙ ap (λ z. z ++ tail) (sym e) ∙ h ∙ g)
 
-past_letter : (letter : ℕ) (tail s : List ℕ) → 64 < letter → Past s → letter ∷ tail ≡ s → tail ≡ []
-past_letter letter tail s l (lettered b w g pb lw j k) h =
-    (first_other IsMiddle [] b tail [] letter w tt pb (λ m. omega arith) (λ m. omega arith) (h ∙ g)).2
-past_letter letter tail s l (with_dollar digit g d) h = absurd (let first : letter ≡ digit = cc (h, g) in omega arith)
+past_keypad : (r tail s : List ℕ) → Keypad r → Past s → r ++ tail ≡ s → tail ≡ []
+past_keypad r tail s a (lettered b w g pb lw j k) h = (first_other IsMiddle a.front b tail [] a.letter w a.each pb
+    (λ m. omega (arith, m, a.letter_is)) (λ m. omega (arith, m, lw))
+    (sym (append_assoc a.front (a.letter ∷ []) tail) ∙ ap (λ z. z ++ tail) (sym a.form) ∙ h ∙ g)).2
+past_keypad r tail s a (with_dollar digit g d) h = absurd (
+    let same : a.letter ≡ 36 = (first_other IsMiddle a.front (digit ∷ []) tail [] a.letter 36 a.each ((omega (arith, d), omega (arith, d)), tt)
+    (λ m. omega (arith, m, a.letter_is)) (λ m. omega (arith, m))
+    (sym (append_assoc a.front (a.letter ∷ []) tail) ∙ ap (λ z. z ++ tail) (sym a.form) ∙ h ∙ g)).1 in omega (arith, a.letter_is)
+    )
 
 -- no sequence of the port goes on after a mark
-pub sequence_after_mark : (text tail : List ℕ) (m : Meaning) → IsMark text → IsSequence (text ++ tail) m → tail ≡ []
-sequence_after_mark text tail m f s = go (mark_kind text f) (sequence_layout (text ++ tail) m s)
+pub sequence_after_mark : {x10_mouse : Bool} (text tail : List ℕ) (m : Meaning) → IsMark x10_mouse text → IsSequence (text ++ tail) m → tail ≡ []
+sequence_after_mark {x10_mouse = x10_mouse} text tail m f s = go (mark_kind text f) (sequence_layout (text ++ tail) m s)
   where
     shape : (b : ℕ) × (r : List ℕ) × (text ≡ 27 ∷ b ∷ r) × (r ≢ []) × IsSecond b
     shape = mark_shape text f
@@ -367,34 +423,52 @@ sequence_after_mark text tail m f s = go (mark_kind text f) (sequence_layout (te
     whole : text ++ tail ≡ 27 ∷ shape.0 ∷ (shape.1 ++ tail)
     whole = ap (λ z. z ++ tail) shape.2
 
-    go : Kind text → Layout (text ++ tail) → tail ≡ []
+    go : Kind x10_mouse text → Layout (text ++ tail) → tail ≡ []
     go kind (alone b e) = absurd (cc (whole, e))
     go kind (paired b e l) =
         absurd (append-some_left shape.1 tail shape.3 (meet text tail shape.1 [] 27 shape.0 27 b shape.2 e).2)
     go (bracketed r e a) (longer b s h k p) = past_bracketed r tail s a p (meet text tail r s 27 91 27 b e h).2
-    go (keypad letter e a) (longer b s h k p) =
-        past_letter letter tail s (omega arith) p (meet text tail (letter ∷ []) s 27 79 27 b e h).2
+    go (keypad r e a) (longer b s h k p) = past_keypad r tail s a p (meet text tail r s 27 79 27 b e h).2
     go (command r e a) (longer b t h q p) = absurd (omega (arith, (meet text tail r t 27 93 27 b e h).1))
     go (device r e a) (longer b t h q p) = absurd (omega (arith, (meet text tail r t 27 80 27 b e h).1))
     go (program r e a) (longer b t h q p) = absurd (omega (arith, (meet text tail r t 27 95 27 b e h).1))
 
-bracketed_past : (r tail s : List ℕ) → r ≢ [] → Past r → Bracketed s → r ++ tail ≡ s → tail ≡ []
-bracketed_past r tail s some (lettered a v e pa lv m n) (inside b w g pb fw j k l) h =
+bracketed_past : {x10_mouse : Bool} (r tail s : List ℕ) → r ≢ [] → Past r → Bracketed x10_mouse s → r ++ tail ≡ s → tail ≡ []
+bracketed_past r tail s some (lettered a v e pa lv m n) (inside b w g pb fw j k l i) h =
     inner_ends a b tail [] v w (true_from IsMiddle IsInner middle_inner a pa) pb (last_not_inner v lv)
     (final_not_inner w fw) (ap (λ z. z ++ tail) (sym e) ∙ h ∙ g)
-bracketed_past r tail s some (lettered a v e pa lv m n) (mouse p x y g) h =
+bracketed_past r tail s some (lettered a v e pa lv m n) (mouse p x y on g) h =
     let f = first_in r tail _ 77 some (h ∙ g) in absurd (m f.0 f.1)
 bracketed_past r tail s some (lettered a v e pa lv m n) (console p g) h =
     let f = first_in r tail _ 91 some (h ∙ g) in absurd (n f.0 f.1)
-bracketed_past r tail s some (with_dollar digit e d) (inside b w g pb fw j k l) h =
+bracketed_past r tail s some (with_dollar digit e d) (inside b w g pb fw j k l i) h =
     absurd (l digit tail d (sym h ∙ ap (λ z. z ++ tail) e))
-bracketed_past r tail s some (with_dollar digit e d) (mouse p x y g) h = absurd (
+bracketed_past r tail s some (with_dollar digit e d) (mouse p x y on g) h = absurd (
     let all : digit ∷ 36 ∷ tail ≡ 77 ∷ p ∷ x ∷ y ∷ [] = ap (λ z. z ++ tail) (sym e) ∙ h ∙ g in
     let first : digit ≡ 77 = cc (all) in omega arith
     )
 bracketed_past r tail s some (with_dollar digit e d) (console p g) h = absurd (
     let all : digit ∷ 36 ∷ tail ≡ 91 ∷ p ∷ [] = ap (λ z. z ++ tail) (sym e) ∙ h ∙ g in
     let first : digit ≡ 91 = cc (all) in omega arith
+    )
+bracketed_past r tail s some (lettered a v e pa lv m n) (shifted number g is) h = absurd (
+    let same : v ≡ 36 = (first_other IsMiddle a number tail [] v 36 pa (true_from IsDigit IsMiddle (λ x d. (omega arith, omega arith)) number
+    (rxvt_digits number is)) (λ m. omega (arith, m, lv)) (λ m. omega (arith, m))
+    (sym (append_assoc a (v ∷ []) tail) ∙ ap (λ z. z ++ tail) (sym e) ∙ h ∙ g)).1 in omega (arith, lv)
+    )
+bracketed_past r tail s some (with_dollar digit e d) (shifted number g is) h =
+    dollar_ends (digit ∷ []) number tail [] ((omega (arith, d), omega (arith, d)), tt) (rxvt_digits number is)
+    (ap (λ z. z ++ tail) (sym e) ∙ h ∙ g)
+
+-- a sequence of the port isn't gone on from by the letter of a keypad key
+keypad_past : (r tail s : List ℕ) → Past r → Keypad s → r ++ tail ≡ s → tail ≡ []
+keypad_past r tail s (lettered a v e pa lv m n) b h = (first_other IsMiddle a b.front tail [] v b.letter pa b.each
+    (λ m. omega (arith, m, lv)) (λ m. omega (arith, m, b.letter_is))
+    (sym (append_assoc a (v ∷ []) tail) ∙ ap (λ z. z ++ tail) (sym e) ∙ h ∙ b.form)).2
+keypad_past r tail s (with_dollar digit e d) b h = absurd (
+    let same : 36 ≡ b.letter = (first_other IsMiddle (digit ∷ []) b.front tail [] 36 b.letter ((omega (arith, d), omega (arith, d)), tt) b.each
+    (λ m. omega (arith, m)) (λ m. omega (arith, m, b.letter_is)) (ap (λ z. z ++ tail) (sym e) ∙ h ∙ b.form)).1 in
+    omega (arith, b.letter_is)
     )
 
 -- what begins a mark and is one byte or ESC and a letter
@@ -413,9 +487,10 @@ past_some r (lettered a v e pa lv m n) = λ h. append-some a (v ∷ []) (λ k. c
 past_some r (with_dollar digit e d) = λ h. cc (e, h)
 
 -- a sequence of the port that properly begins a mark is ESC, ESC [, ESC O or ESC P
-pub mark_after_sequence : (text tail : List ℕ) (m : Meaning) → IsSequence text m → tail ≢ [] → IsMark (text ++ tail)
+pub mark_after_sequence : {x10_mouse : Bool} (text tail : List ℕ) (m : Meaning) → IsSequence text m → tail ≢ []
+    → IsMark x10_mouse (text ++ tail)
     → (text ≡ ESC) ⊎ ((text ≡ CSI) ⊎ ((text ≡ SS3) ⊎ (text ≡ 27 ∷ 80 ∷ [])))
-mark_after_sequence text tail m s n f = go (sequence_layout text m s) (mark_kind (text ++ tail) f)
+mark_after_sequence {x10_mouse = x10_mouse} text tail m s n f = go (sequence_layout text m s) (mark_kind (text ++ tail) f)
   where
     shape : (b : ℕ) × (r : List ℕ) × (text ++ tail ≡ 27 ∷ b ∷ r) × (r ≢ []) × IsSecond b
     shape = mark_shape (text ++ tail) f
@@ -426,14 +501,13 @@ mark_after_sequence text tail m s n f = go (sequence_layout text m s) (mark_kind
         let first : b ≡ 27 = cc (all) in
         inl (e ∙ ap (λ z. z ∷ []) first)
 
-    go : Layout text → Kind (text ++ tail) → IsFront text
+    go : Layout text → Kind x10_mouse (text ++ tail) → IsFront text
     go (alone b e) kind = one_goes_on b e
     go (paired b e l) kind =
         front text b e l (subst IsSecond (sym (meet text tail [] shape.1 27 b 27 shape.0 e shape.2).1) shape.4)
     go (longer b r e k p) (bracketed s h a) =
         absurd (n (bracketed_past r tail s (past_some r p) p a (meet text tail r s 27 b 27 91 e h).2))
-    go (longer b r e k p) (keypad letter h a) =
-        absurd (n (one_byte r tail letter (past_some r p) (meet text tail r _ 27 b 27 79 e h).2))
+    go (longer b r e k p) (keypad s h a) = absurd (n (keypad_past r tail s p a (meet text tail r s 27 b 27 79 e h).2))
     go (longer b r e k p) (command t h a) = absurd (omega (arith, (meet text tail r t 27 b 27 93 e h).1))
     go (longer b r e k p) (device t h a) = absurd (omega (arith, (meet text tail r t 27 b 27 80 e h).1))
     go (longer b r e k p) (program t h a) = absurd (omega (arith, (meet text tail r t 27 b 27 95 e h).1))

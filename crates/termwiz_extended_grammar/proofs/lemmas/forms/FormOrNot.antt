@@ -1,5 +1,5 @@
 -- It can be told whether a text is a mark, and whether it properly begins one.
-use Rattle.std.proofs.Common.{◌≡◌, ◌≢◌, ◌⊎◌, inl, inr, ⊎_elim, ℕ, ◌<◌, ◌≤◌, List, [], ◌∷◌, ◌++◌, length, refl, sym, ap, ◌∙◌, subst, arith, length-append, append_assoc, append-nil}
+use Rattle.std.proofs.Common.{◌≡◌, ◌≢◌, ◌⊎◌, inl, inr, ⊎_elim, ℕ, ◌<◌, ◌≤◌, Bool, true, false, List, [], ◌∷◌, ◌++◌, length, refl, sym, ap, ◌∙◌, subst, arith, length-append, append_assoc, append-nil}
 use Rattle.std.specs.List.{AllByRecursion}
 use Rattle.termwiz_keymap.specs.Bytes.{Begins}
 use Rattle.termwiz_keymap.proofs.lemmas.lists.CommonPrefixes.{Overlaps, overlap, append-some, length-some, true_at_end, true_at_front, true_from}
@@ -8,10 +8,10 @@ use Rattle.termwiz_grammar.specs.MouseReports.{IsDigit}
 use Rattle.termwiz_grammar.proofs.lemmas.lists.Decidable.{Decision, decide_both, decide_either, decide_by, decide_le, decide_eq, decide_all, decide_parts, decide_below, decide_lists, decide_some, same_or_not}
 use Rattle.termwiz_extended_events.specs.declared.types.StringKind.{StringKind}
 use Rattle.termwiz_extended_events.specs.declared.types.StringKind.TheVariants.{Osc, Dcs, Apc}
-use Rattle.termwiz_extended_grammar.specs.Forms.{ST, BEL, introducer, IsInner, IsFinal, IsData, IsMouseByte, IsConsoleLetter, IsKeypadLetter, IsStringEnd, IsTitleLetter, typed_title, IsControl, IsX10Report, IsConsoleKey, IsKeypadKey, IsTitle, IsForm, IsUnfinishedForm}
-use Rattle.termwiz_extended_grammar.specs.Forms.IsForm.{control, x10_report, console_key, keypad_key, title}
+use Rattle.termwiz_extended_grammar.specs.Forms.{ST, BEL, introducer, IsInner, IsFinal, IsData, IsMouseByte, IsConsoleLetter, IsKeypadLetter, IsModifierDigit, IsModifiedLetter, IsRxvtNumber, IsStringEnd, IsTitleLetter, typed_title, IsControl, IsX10Report, IsConsoleKey, IsKeypadKey, IsModifiedKeypadKey, IsShiftedKey, IsTitle, IsForm, IsUnfinishedForm}
+use Rattle.termwiz_extended_grammar.specs.Forms.IsForm.{control, x10_report, console_key, keypad_key, modified_key, shifted_key, title}
 use Rattle.termwiz_extended_grammar.specs.Strings.{IsHead, IsShortNumber, IsNumbered, IsLongTitle, IsReplySign, IsNumberedReply, IsLetter, IsGraphics, StartsWithOpening, IsUnfinishedOpening}
-use Rattle.termwiz_extended_grammar.proofs.lemmas.forms.FormBytes.{all_append}
+use Rattle.termwiz_extended_grammar.proofs.lemmas.forms.FormBytes.{all_append, rxvt_digits}
 
 decide_not : {P : Type 0} → Decision P → Decision (¬ P)
 decide_not (inl p) = inr (λ n. n p)
@@ -65,24 +65,48 @@ decide_inside : (t : List ℕ) → Decision (Inside t)
 decide_inside t = decide_parts (λ a b. AllByRecursion IsInner a × Single IsFinal b)
     (λ a b. decide_both (decide_all IsInner (decide_range 32 63) a) (decide_single IsFinal (decide_range 64 126) b)) t
 
+decide_true : (b : Bool) → Decision (b ≡ true)
+decide_true true = inl refl
+decide_true false = inr (λ e. cc (e))
+
+decide_rxvt : (number : List ℕ) → Decision (IsRxvtNumber number)
+decide_rxvt [] = inr (λ h. h)
+decide_rxvt (d ∷ []) = decide_either (decide_eq d 50) (decide_either (decide_eq d 51) (decide_range 53 56 d))
+decide_rxvt (d ∷ e ∷ []) =
+    decide_either (decide_both (decide_eq d 49) (decide_either (decide_range 49 53 e) (decide_range 55 57 e)))
+    (decide_either
+    (decide_both (decide_eq d 50) (decide_either (decide_range 48 49 e) (decide_either (decide_range 51 54 e) (decide_range 56 57 e))))
+    (decide_both (decide_eq d 51) (decide_range 49 56 e)))
+decide_rxvt (d ∷ e ∷ c ∷ number) = inr (λ h. h)
+
+-- a number of rxvt-unicode's and what has P
+abbrev Numbered : (List ℕ → Type 0) → List ℕ → Type 0
+Numbered P r = (a b : List ℕ) × (r ≡ a ++ b) × (IsRxvtNumber a × P b)
+
+decide_numbered : (P : List ℕ → Type 0) → ((b : List ℕ) → Decision (P b)) → (r : List ℕ) → Decision (Numbered P r)
+decide_numbered P decide r = decide_parts (λ a b. IsRxvtNumber a × P b) (λ a b. decide_both (decide_rxvt a) (decide b)) r
+
 -- what no control sequence begins with
-abbrev BeginsOther : List ℕ → Type 0
-BeginsOther t = Begins (27 ∷ 91 ∷ 77 ∷ []) t ⊎ (Begins (27 ∷ 91 ∷ 91 ∷ []) t
-    ⊎ ((digit : ℕ) × (digit < 57) × ((49 ≤ digit) × Begins (27 ∷ 91 ∷ digit ∷ 36 ∷ []) t)))
+abbrev BeginsOther : Bool → List ℕ → Type 0
+BeginsOther x10_mouse t = ((x10_mouse ≡ true) × Begins (27 ∷ 91 ∷ 77 ∷ []) t) ⊎ (Begins (27 ∷ 91 ∷ 91 ∷ []) t
+    ⊎ (((digit : ℕ) × (digit < 57) × ((49 ≤ digit) × Begins (27 ∷ 91 ∷ digit ∷ 36 ∷ []) t))
+    ⊎ Next 27 (Next 91 (Numbered (Begins (36 ∷ [])))) t))
 
-decide_other : (t : List ℕ) → Decision (BeginsOther t)
-decide_other t = decide_either (begins_or_not (27 ∷ 91 ∷ 77 ∷ []) t) (decide_either
+decide_other : (x10_mouse : Bool) (t : List ℕ) → Decision (BeginsOther x10_mouse t)
+decide_other x10_mouse t = decide_either (decide_both (decide_true x10_mouse) (begins_or_not (27 ∷ 91 ∷ 77 ∷ []) t)) (decide_either
     (begins_or_not (27 ∷ 91 ∷ 91 ∷ []) t)
-    (decide_below _ (λ digit. decide_both (decide_le 49 digit) (begins_or_not (27 ∷ 91 ∷ digit ∷ 36 ∷ []) t)) 57))
+    (decide_either
+    (decide_below _ (λ digit. decide_both (decide_le 49 digit) (begins_or_not (27 ∷ 91 ∷ digit ∷ 36 ∷ []) t)) 57)
+    (decide_next 27 _ (decide_next 91 _ (decide_numbered (Begins (36 ∷ [])) (begins_or_not (36 ∷ [])))) t)))
 
-control_or_not : (t : List ℕ) → Decision (IsControl t)
-control_or_not t = decide_by
-    (λ (p : Next 27 (Next 91 Inside) t × ((length t ≤ 256) × ¬ BeginsOther t)). from p.0 p.1.0 p.1.1)
+control_or_not : (x10_mouse : Bool) (t : List ℕ) → Decision (IsControl x10_mouse t)
+control_or_not x10_mouse t = decide_by
+    (λ (p : Next 27 (Next 91 Inside) t × ((length t ≤ 256) × ¬ BeginsOther x10_mouse t)). from p.0 p.1.0 p.1.1)
     (λ f. (whole f, (f.short, none f)))
     (decide_both (decide_next 27 _ (decide_next 91 _ decide_inside) t)
-    (decide_both (decide_le (length t) 256) (decide_not (decide_other t))))
+    (decide_both (decide_le (length t) 256) (decide_not (decide_other x10_mouse t))))
   where
-    from : Next 27 (Next 91 Inside) t → length t ≤ 256 → ¬ BeginsOther t → IsControl t
+    from : Next 27 (Next 91 Inside) t → length t ≤ 256 → ¬ BeginsOther x10_mouse t → IsControl x10_mouse t
     from (a, r, e, (f, (b, s, g, (h, (inner, end, k, (each, (last, nil, l, (is, n)))))))) short others = record {
       inner = inner;
       last = last;
@@ -90,21 +114,34 @@ control_or_not t = decide_by
       each = each;
       last_is = is;
       short = short;
-      no_mouse = λ x. others (inl x);
+      no_mouse = λ on x. others (inl (on, x));
       no_console = λ x. others (inr (inl x));
-      no_row = λ digit d x. others (inr (inr (digit, omega arith, (omega arith, x))));
+      no_row = λ digit d x. others (inr (inr (inl (digit, omega arith, (omega arith, x)))));
+      no_shifted = λ number n x. others (inr (inr (inr (shifted number n x))));
     }
+      where
+        shifted : (number : List ℕ) → IsRxvtNumber number → Begins (27 ∷ 91 ∷ (number ++ 36 ∷ [])) t
+            → Next 27 (Next 91 (Numbered (Begins (36 ∷ [])))) t
+        shifted number n x = (
+          27,
+          _,
+          x.1 ∙ ap (λ z. 27 ∷ 91 ∷ z) (append_assoc number (36 ∷ []) x.0),
+          (refl, (91, _, refl, (refl, (number, 36 ∷ x.0, refl, (n, (x.0, refl)))))),
+        )
 
-    end_of : (f : IsControl t) → Single IsFinal (f.last ∷ [])
+    end_of : (f : IsControl x10_mouse t) → Single IsFinal (f.last ∷ [])
     end_of f = (f.last, [], refl, (f.last_is, refl))
 
-    whole : IsControl t → Next 27 (Next 91 Inside) t
+    whole : IsControl x10_mouse t → Next 27 (Next 91 Inside) t
     whole f = (27, _, f.form, (refl, (91, _, refl, (refl, (f.inner, f.last ∷ [], refl, (f.each, end_of f))))))
 
-    none : IsControl t → ¬ BeginsOther t
-    none f (inl x) = f.no_mouse x
+    none : IsControl x10_mouse t → ¬ BeginsOther x10_mouse t
+    none f (inl x) = f.no_mouse x.0 x.1
     none f (inr (inl x)) = f.no_console x
-    none f (inr (inr (digit, l, (m, x)))) = f.no_row digit (omega arith, omega arith) x
+    none f (inr (inr (inl (digit, l, (m, x))))) = f.no_row digit (omega arith, omega arith) x
+    none f (inr (inr (inr (a, r, e, (g, (b, s, h, (i, (number, rest, k, (n, (left, l)))))))))) =
+        let whole : t ≡ 27 ∷ 91 ∷ (number ++ 36 ∷ left) = cc (e, g, h, i, k, ap (λ z. number ++ z) l) in
+        f.no_shifted number n (left, whole ∙ ap (λ z. 27 ∷ 91 ∷ z) (sym (append_assoc number (36 ∷ []) left)))
 
 -- three bytes of an X10 mouse report
 abbrev Three : List ℕ → Type 0
@@ -147,7 +184,7 @@ decide_keypad : (b : ℕ) → Decision (IsKeypadLetter b)
 decide_keypad b = decide_either (decide_eq b 77) (decide_either (decide_eq b 88)
     (decide_either (decide_eq b 69) (decide_range 106 121 b)))
 
-keypad_or_not : (t : List ℕ) → Decision (IsKeypadKey t)
+pub keypad_or_not : (t : List ℕ) → Decision (IsKeypadKey t)
 keypad_or_not t = decide_by from
     (λ f. (27, _, f.form, (refl, (79, _, refl, (refl, (f.letter, [], refl, (f.letter_is, refl)))))))
     (decide_next 27 _ (decide_next 79 _ (decide_single IsKeypadLetter decide_keypad)) t)
@@ -155,6 +192,70 @@ keypad_or_not t = decide_by from
     from : Next 27 (Next 79 (Single IsKeypadLetter)) t → IsKeypadKey t
     from (a, r, e, (f, (b, s, g, (h, (letter, v, k, (is, n)))))) =
         record { letter = letter; form = cc (e, f, g, h, k, n); letter_is = is }
+
+decide_modified : (b : ℕ) → Decision (IsModifiedLetter b)
+decide_modified b = decide_either (decide_range 80 83 b)
+    (decide_either (decide_eq b 77) (decide_either (decide_eq b 88) (decide_range 106 121 b)))
+
+-- a digit and a letter of a key with modifiers
+abbrev Modified : List ℕ → Type 0
+Modified t = First (λ digit r. IsModifierDigit digit × Single IsModifiedLetter r) t
+
+decide_modified_end : (t : List ℕ) → Decision (Modified t)
+decide_modified_end t =
+    decide_first _ (λ digit r. decide_both (decide_range 50 56 digit) (decide_single IsModifiedLetter decide_modified r)) t
+
+modified_or_not : (t : List ℕ) → Decision (IsModifiedKeypadKey t)
+modified_or_not t = decide_by from to (decide_next 27 _ (decide_next 79 _ (λ r. decide_parts
+    (λ a b. ((a ≡ []) ⊎ (a ≡ 48 ∷ 59 ∷ [])) × Modified b)
+    (λ a b. decide_both (decide_either (same_or_not a []) (same_or_not a (48 ∷ 59 ∷ []))) (decide_modified_end b)) r)) t)
+  where
+    Parts : List ℕ → Type 0
+    Parts r = (a b : List ℕ) × (r ≡ a ++ b) × (((a ≡ []) ⊎ (a ≡ 48 ∷ 59 ∷ [])) × Modified b)
+
+    to : IsModifiedKeypadKey t → Next 27 (Next 79 Parts) t
+    to f = (
+      27,
+      _,
+      f.form,
+      (
+        refl,
+        (
+          79,
+          _,
+          refl,
+          (
+            refl,
+            (
+              f.front,
+              f.digit ∷ f.letter ∷ [],
+              refl,
+              (f.front_is, (f.digit, _, refl, (f.digit_is, (f.letter, [], refl, (f.letter_is, refl))))),
+            ),
+          ),
+        ),
+      ),
+    )
+
+    from : Next 27 (Next 79 Parts) t → IsModifiedKeypadKey t
+    from (a, r, e, (f, (b, s, g, (h, (front, end, i, (front_is, (digit, v, k, (digit_is, (letter, w, l, (letter_is, n)))))))))) = record {
+      front = front;
+      digit = digit;
+      letter = letter;
+      form = cc (e, f, g, h, i, k, l, n);
+      front_is = front_is;
+      digit_is = digit_is;
+      letter_is = letter_is;
+    }
+
+shifted_or_not : (t : List ℕ) → Decision (IsShiftedKey t)
+shifted_or_not t = decide_by from
+    (λ f. (27, _, f.form, (refl, (91, _, refl, (refl, (f.number, 36 ∷ [], refl, (f.number_is, refl)))))))
+    (decide_next 27 _ (decide_next 91 _ (decide_numbered (λ b. b ≡ 36 ∷ []) (λ b. same_or_not b (36 ∷ [])))) t)
+  where
+    from : Next 27 (Next 91 (Numbered (λ b. b ≡ 36 ∷ []))) t → IsShiftedKey t
+    from (a, r, e, (f, (b, s, g, (h, (number, end, k, (is, n)))))) =
+        record { number = number; form = cc (e, f, g, h, k, n); number_is = is }
 
 -- a title's letter, few bytes, and the end of a command
 abbrev Titled : List ℕ → Type 0
@@ -199,32 +300,39 @@ title_or_not t = decide_by from
     }
 
 -- the forms but titles
-abbrev IsFixed : List ℕ → Type 0
-IsFixed text = IsControl text ⊎ (IsX10Report text ⊎ (IsConsoleKey text ⊎ IsKeypadKey text))
+abbrev IsFixed : Bool → List ℕ → Type 0
+IsFixed x10_mouse text = IsControl x10_mouse text ⊎ (((x10_mouse ≡ true) × IsX10Report text)
+    ⊎ (IsConsoleKey text ⊎ (IsKeypadKey text ⊎ (IsModifiedKeypadKey text ⊎ IsShiftedKey text))))
 
-fixed_or_not : (text : List ℕ) → Decision (IsFixed text)
-fixed_or_not text = decide_either (control_or_not text) (decide_either (x10_or_not text) (decide_either (console_or_not text)
-    (keypad_or_not text)))
+fixed_or_not : (x10_mouse : Bool) (text : List ℕ) → Decision (IsFixed x10_mouse text)
+fixed_or_not x10_mouse text = decide_either (control_or_not x10_mouse text)
+    (decide_either (decide_both (decide_true x10_mouse) (x10_or_not text)) (decide_either (console_or_not text)
+    (decide_either (keypad_or_not text) (decide_either (modified_or_not text) (shifted_or_not text)))))
 
-form_fixed : (text : List ℕ) → IsFixed text → IsForm text
-form_fixed text (inl f) = control f
-form_fixed text (inr (inl f)) = x10_report f
-form_fixed text (inr (inr (inl f))) = console_key f
-form_fixed text (inr (inr (inr f))) = keypad_key f
+form_fixed : (x10_mouse : Bool) (text : List ℕ) → IsFixed x10_mouse text → IsForm x10_mouse text
+form_fixed x10_mouse text (inl f) = control f
+form_fixed x10_mouse text (inr (inl f)) = x10_report f.0 f.1
+form_fixed x10_mouse text (inr (inr (inl f))) = console_key f
+form_fixed x10_mouse text (inr (inr (inr (inl f)))) = keypad_key f
+form_fixed x10_mouse text (inr (inr (inr (inr (inl f))))) = modified_key f
+form_fixed x10_mouse text (inr (inr (inr (inr (inr f))))) = shifted_key f
 
-fixed_form : (text : List ℕ) → IsForm text → IsFixed text ⊎ IsTitle text
-fixed_form text (control f) = inl (inl f)
-fixed_form text (x10_report f) = inl (inr (inl f))
-fixed_form text (console_key f) = inl (inr (inr (inl f)))
-fixed_form text (keypad_key f) = inl (inr (inr (inr f)))
-fixed_form text (title f) = inr f
+fixed_form : (x10_mouse : Bool) (text : List ℕ) → IsForm x10_mouse text → IsFixed x10_mouse text ⊎ IsTitle text
+fixed_form x10_mouse text (control f) = inl (inl f)
+fixed_form x10_mouse text (x10_report on f) = inl (inr (inl (on, f)))
+fixed_form x10_mouse text (console_key f) = inl (inr (inr (inl f)))
+fixed_form x10_mouse text (keypad_key f) = inl (inr (inr (inr (inl f))))
+fixed_form x10_mouse text (modified_key f) = inl (inr (inr (inr (inr (inl f)))))
+fixed_form x10_mouse text (shifted_key f) = inl (inr (inr (inr (inr (inr f)))))
+fixed_form x10_mouse text (title f) = inr f
 
 -- it can be told whether a text is of a form
-pub form_or_not : (text : List ℕ) → Decision (IsForm text)
-form_or_not text = decide_by any (fixed_form text) (decide_either (fixed_or_not text) (title_or_not text))
+pub form_or_not : (x10_mouse : Bool) (text : List ℕ) → Decision (IsForm x10_mouse text)
+form_or_not x10_mouse text =
+    decide_by any (fixed_form x10_mouse text) (decide_either (fixed_or_not x10_mouse text) (title_or_not text))
   where
-    any : IsFixed text ⊎ IsTitle text → IsForm text
-    any (inl f) = form_fixed text f
+    any : IsFixed x10_mouse text ⊎ IsTitle text → IsForm x10_mouse text
+    any (inl f) = form_fixed x10_mouse text f
     any (inr f) = title f
 
 decide_digit : (b : ℕ) → Decision (IsDigit b)
@@ -345,17 +453,18 @@ opening_starts_or_not u = decide_by from
         record { kind = kind; head = head; is_head = is; begins = (b, e ∙ ap (λ z. z ++ b) f) }
 
 -- the marks that are short, and whose bytes are few
-abbrev IsSmall : List ℕ → Type 0
-IsSmall text = IsFixed text ⊎ Introduced IsShortHead text
+abbrev IsSmall : Bool → List ℕ → Type 0
+IsSmall x10_mouse text = IsFixed x10_mouse text ⊎ Introduced IsShortHead text
 
-small_or_not : (text : List ℕ) → Decision (IsSmall text)
-small_or_not text = decide_either (fixed_or_not text) (decide_introduced IsShortHead short_head_or_not text)
+small_or_not : (x10_mouse : Bool) (text : List ℕ) → Decision (IsSmall x10_mouse text)
+small_or_not x10_mouse text =
+    decide_either (fixed_or_not x10_mouse text) (decide_introduced IsShortHead short_head_or_not text)
 
 abbrev IsByte : ℕ → Type 0
 IsByte b = b < 256
 
-fixed_bytes : (text : List ℕ) → IsFixed text → AllByRecursion IsByte text
-fixed_bytes text (inl f) = subst (AllByRecursion IsByte) (sym f.form) (
+fixed_bytes : (x10_mouse : Bool) (text : List ℕ) → IsFixed x10_mouse text → AllByRecursion IsByte text
+fixed_bytes x10_mouse text (inl f) = subst (AllByRecursion IsByte) (sym f.form) (
   omega arith,
   (
     omega arith,
@@ -363,14 +472,34 @@ fixed_bytes text (inl f) = subst (AllByRecursion IsByte) (sym f.form) (
         (omega (arith, f.last_is), tt),
   ),
 )
-fixed_bytes text (inr (inl f)) = subst (AllByRecursion IsByte) (sym f.form) (
+fixed_bytes x10_mouse text (inr (inl (on, f))) = subst (AllByRecursion IsByte) (sym f.form) (
   omega arith,
   (omega arith, (omega arith, (omega (arith, f.button_is), (omega (arith, f.x_is), (omega (arith, f.y_is), tt))))),
 )
-fixed_bytes text (inr (inr (inl f))) =
+fixed_bytes x10_mouse text (inr (inr (inl f))) =
     subst (AllByRecursion IsByte) (sym f.form) (omega arith, (omega arith, (omega arith, (omega (arith, f.letter_is), tt))))
-fixed_bytes text (inr (inr (inr f))) =
+fixed_bytes x10_mouse text (inr (inr (inr (inl f)))) =
     subst (AllByRecursion IsByte) (sym f.form) (omega arith, (omega arith, (omega (arith, f.letter_is), tt)))
+fixed_bytes x10_mouse text (inr (inr (inr (inr (inl f))))) = subst (AllByRecursion IsByte) (sym f.form) (
+  omega arith,
+  (
+    omega arith,
+    all_append IsByte f.front (f.digit ∷ f.letter ∷ []) (front_bytes f.front f.front_is)
+        (omega (arith, f.digit_is), (omega (arith, f.letter_is), tt)),
+  ),
+)
+  where
+    front_bytes : (front : List ℕ) → (front ≡ []) ⊎ (front ≡ 48 ∷ 59 ∷ []) → AllByRecursion IsByte front
+    front_bytes front (inl e) = subst (AllByRecursion IsByte) (sym e) tt
+    front_bytes front (inr e) = subst (AllByRecursion IsByte) (sym e) (omega arith, (omega arith, tt))
+fixed_bytes x10_mouse text (inr (inr (inr (inr (inr f))))) = subst (AllByRecursion IsByte) (sym f.form) (
+  omega arith,
+  (
+    omega arith,
+    all_append IsByte f.number (36 ∷ []) (true_from IsDigit IsByte (λ b d. omega arith) f.number (rxvt_digits f.number f.number_is))
+        (omega arith, tt),
+  ),
+)
 
 digit_bytes : (digits : List ℕ) → IsShortNumber digits → AllByRecursion IsByte digits
 digit_bytes digits n = true_from IsDigit IsByte (λ b d. omega arith) digits n.each
@@ -388,20 +517,34 @@ head_bytes Dcs head (inr (inr (inr r))) = subst (AllByRecursion IsByte) (sym r.f
 head_bytes Apc head g = subst (AllByRecursion IsByte) (sym g.form)
     (omega arith, (omega (arith, g.letter_is), (omega arith, tt)))
 
-small_bytes : (text : List ℕ) → IsSmall text → AllByRecursion IsByte text
-small_bytes text (inl f) = fixed_bytes text f
-small_bytes text (inr (Osc, head, e, is)) =
+small_bytes : (x10_mouse : Bool) (text : List ℕ) → IsSmall x10_mouse text → AllByRecursion IsByte text
+small_bytes x10_mouse text (inl f) = fixed_bytes x10_mouse text f
+small_bytes x10_mouse text (inr (Osc, head, e, is)) =
     subst (AllByRecursion IsByte) (sym e) (omega arith, (omega arith, head_bytes Osc head is))
-small_bytes text (inr (Dcs, head, e, is)) =
+small_bytes x10_mouse text (inr (Dcs, head, e, is)) =
     subst (AllByRecursion IsByte) (sym e) (omega arith, (omega arith, head_bytes Dcs head is))
-small_bytes text (inr (Apc, head, e, is)) =
+small_bytes x10_mouse text (inr (Apc, head, e, is)) =
     subst (AllByRecursion IsByte) (sym e) (omega arith, (omega arith, head_bytes Apc head is))
 
-fixed_short : (text : List ℕ) → IsFixed text → length text ≤ 256
-fixed_short text (inl f) = f.short
-fixed_short text (inr (inl f)) = omega (arith, ap length f.form)
-fixed_short text (inr (inr (inl f))) = omega (arith, ap length f.form)
-fixed_short text (inr (inr (inr f))) = omega (arith, ap length f.form)
+pub rxvt_short : (number : List ℕ) → IsRxvtNumber number → length number ≤ 2
+rxvt_short [] is = absurd is
+rxvt_short (d ∷ []) is = omega arith
+rxvt_short (d ∷ e ∷ []) is = omega arith
+rxvt_short (d ∷ e ∷ c ∷ number) is = absurd is
+
+pub front_short : (front : List ℕ) → (front ≡ []) ⊎ (front ≡ 48 ∷ 59 ∷ []) → length front ≤ 2
+front_short front (inl e) = omega (arith, ap length e)
+front_short front (inr e) = omega (arith, ap length e)
+
+fixed_short : (x10_mouse : Bool) (text : List ℕ) → IsFixed x10_mouse text → length text ≤ 256
+fixed_short x10_mouse text (inl f) = f.short
+fixed_short x10_mouse text (inr (inl (on, f))) = omega (arith, ap length f.form)
+fixed_short x10_mouse text (inr (inr (inl f))) = omega (arith, ap length f.form)
+fixed_short x10_mouse text (inr (inr (inr (inl f)))) = omega (arith, ap length f.form)
+fixed_short x10_mouse text (inr (inr (inr (inr (inl f))))) =
+    omega (arith, ap length f.form, length-append f.front (f.digit ∷ f.letter ∷ []), front_short f.front f.front_is)
+fixed_short x10_mouse text (inr (inr (inr (inr (inr f))))) =
+    omega (arith, ap length f.form, length-append f.number (36 ∷ []), rxvt_short f.number f.number_is)
 
 pub head_short : (kind : StringKind) (head : List ℕ) → IsHead kind head → length head ≤ 253
 head_short Osc head (inl n) = omega (arith, ap length n.form, length-append n.digits (59 ∷ []), n.number.short)
@@ -423,27 +566,28 @@ head_of_short Osc head is = inl is
 head_of_short Dcs head is = is
 head_of_short Apc head is = is
 
-small_short : (text : List ℕ) → IsSmall text → length text ≤ 256
-small_short text (inl f) = fixed_short text f
-small_short text (inr (kind, head, e, is)) =
+small_short : (x10_mouse : Bool) (text : List ℕ) → IsSmall x10_mouse text → length text ≤ 256
+small_short x10_mouse text (inl f) = fixed_short x10_mouse text f
+small_short x10_mouse text (inr (kind, head, e, is)) =
     let short : length (introducer kind ++ head) ≤ 255 = opening_length kind head (head_of_short kind head is) in
     omega (arith, ap length e)
 
 -- a small mark is longer than u and begins with u
-abbrev BeginsSmall : List ℕ → Type 0
-BeginsSmall u = (t : List ℕ) × (t ≢ []) × IsSmall (u ++ t)
+abbrev BeginsSmall : Bool → List ℕ → Type 0
+BeginsSmall x10_mouse u = (t : List ℕ) × (t ≢ []) × IsSmall x10_mouse (u ++ t)
 
-begins_small_or_not : (u : List ℕ) → Decision (BeginsSmall u)
-begins_small_or_not u = decide_by
-    (λ (a : (t : List ℕ) × (length t ≤ 256) × AllByRecursion (λ b. b < 256) t × ((t ≢ []) × IsSmall (u ++ t))).
+begins_small_or_not : (x10_mouse : Bool) (u : List ℕ) → Decision (BeginsSmall x10_mouse u)
+begins_small_or_not x10_mouse u = decide_by
+    (λ (a : (t : List ℕ) × (length t ≤ 256) × AllByRecursion (λ b. b < 256) t × ((t ≢ []) × IsSmall x10_mouse (u ++ t))).
     (a.0, a.3.0, a.3.1))
-    (λ (f : BeginsSmall u). (
+    (λ (f : BeginsSmall x10_mouse u). (
       f.0,
-      omega (arith, length-append u f.0, small_short (u ++ f.0) f.2),
-      true_at_end (λ b. b < 256) u f.0 (small_bytes (u ++ f.0) f.2),
+      omega (arith, length-append u f.0, small_short x10_mouse (u ++ f.0) f.2),
+      true_at_end (λ b. b < 256) u f.0 (small_bytes x10_mouse (u ++ f.0) f.2),
       (f.1, f.2),
     ))
-    (decide_lists 256 256 (λ t. (t ≢ []) × IsSmall (u ++ t)) (λ t. decide_both (decide_some t) (small_or_not (u ++ t))))
+    (decide_lists 256 256 (λ t. (t ≢ []) × IsSmall x10_mouse (u ++ t))
+    (λ t. decide_both (decide_some t) (small_or_not x10_mouse (u ++ t))))
 
 -- few data bytes, and perhaps the ESC of an end
 abbrev UnendedTitle : List ℕ → Type 0
@@ -463,8 +607,8 @@ begins_title_or_not u = decide_either (same_or_not u []) (decide_either (same_or
     (λ a b. decide_both (decide_all (IsData Osc) decide_data a) (decide_both (decide_below_limit (length a) typed_title)
     (decide_either (same_or_not b []) (same_or_not b (27 ∷ []))))) r)) t)) u)))
 
-title_of : (letter : ℕ) (body end : List ℕ) → IsTitleLetter letter → AllByRecursion (IsData Osc) body → length body < typed_title
-    → IsStringEnd Osc end → IsForm (27 ∷ 93 ∷ letter ∷ (body ++ end))
+title_of : {x10_mouse : Bool} (letter : ℕ) (body end : List ℕ) → IsTitleLetter letter → AllByRecursion (IsData Osc) body → length body < typed_title
+    → IsStringEnd Osc end → IsForm x10_mouse (27 ∷ 93 ∷ letter ∷ (body ++ end))
 title_of letter body end is each short end_is = title (record {
   letter = letter;
   body = body;
@@ -476,41 +620,41 @@ title_of letter body end is each short end_is = title (record {
   end_is = end_is;
 })
 
-empty_title : IsForm (27 ∷ 93 ∷ 108 ∷ 7 ∷ [])
+empty_title : {x10_mouse : Bool} → IsForm x10_mouse (27 ∷ 93 ∷ 108 ∷ 7 ∷ [])
 empty_title = title_of 108 [] (7 ∷ []) (inl refl) tt (omega arith) (inr refl)
 
-unfinished_from_title : (u : List ℕ) → BeginsTitle u → IsUnfinishedForm u
-unfinished_from_title u (inl e) = record {
+unfinished_from_title : {x10_mouse : Bool} (u : List ℕ) → BeginsTitle u → IsUnfinishedForm x10_mouse u
+unfinished_from_title {x10_mouse = x10_mouse} u (inl e) = record {
   tail = 27 ∷ 93 ∷ 108 ∷ 7 ∷ [];
   longer = λ h. cc (h);
-  is_form = subst (λ z. IsForm (z ++ 27 ∷ 93 ∷ 108 ∷ 7 ∷ [])) (sym e) empty_title;
+  is_form = subst (λ z. IsForm x10_mouse (z ++ 27 ∷ 93 ∷ 108 ∷ 7 ∷ [])) (sym e) empty_title;
 }
-unfinished_from_title u (inr (inl e)) = record {
+unfinished_from_title {x10_mouse = x10_mouse} u (inr (inl e)) = record {
   tail = 93 ∷ 108 ∷ 7 ∷ [];
   longer = λ h. cc (h);
-  is_form = subst (λ z. IsForm (z ++ 93 ∷ 108 ∷ 7 ∷ [])) (sym e) empty_title;
+  is_form = subst (λ z. IsForm x10_mouse (z ++ 93 ∷ 108 ∷ 7 ∷ [])) (sym e) empty_title;
 }
-unfinished_from_title u (inr (inr (inl e))) = record {
+unfinished_from_title {x10_mouse = x10_mouse} u (inr (inr (inl e))) = record {
   tail = 108 ∷ 7 ∷ [];
   longer = λ h. cc (h);
-  is_form = subst (λ z. IsForm (z ++ 108 ∷ 7 ∷ [])) (sym e) empty_title;
+  is_form = subst (λ z. IsForm x10_mouse (z ++ 108 ∷ 7 ∷ [])) (sym e) empty_title;
 }
-unfinished_from_title u (inr (inr (inr (x, r, e, (f, (y, s, g, (h, (letter, t, k, (is, (a, b, l, (each, (short, m)))))))))))) =
+unfinished_from_title {x10_mouse = x10_mouse} u (inr (inr (inr (x, r, e, (f, (y, s, g, (h, (letter, t, k, (is, (a, b, l, (each, (short, m)))))))))))) =
     by_end m
   where
     whole : u ≡ 27 ∷ 93 ∷ letter ∷ (a ++ b)
     whole = cc (e, f, g, h, k, l)
 
-    finish : (tail end : List ℕ) → tail ≢ [] → b ++ tail ≡ end → IsStringEnd Osc end → IsUnfinishedForm u
+    finish : (tail end : List ℕ) → tail ≢ [] → b ++ tail ≡ end → IsStringEnd Osc end → IsUnfinishedForm x10_mouse u
     finish tail end longer same end_is = record {
       tail = tail;
       longer = longer;
-      is_form = subst (λ z. IsForm z)
+      is_form = subst (λ z. IsForm x10_mouse z)
           (sym (ap (λ z. z ++ tail) whole ∙ ap (λ z. 27 ∷ 93 ∷ letter ∷ z) (append_assoc a b tail ∙ ap (λ z. a ++ z) same)))
           (title_of letter a end is each short end_is);
     }
 
-    by_end : (b ≡ []) ⊎ (b ≡ 27 ∷ []) → IsUnfinishedForm u
+    by_end : (b ≡ []) ⊎ (b ≡ 27 ∷ []) → IsUnfinishedForm x10_mouse u
     by_end (inl none) = finish (7 ∷ []) (7 ∷ []) (λ z. cc (z)) (ap (λ z. z ++ 7 ∷ []) none) (inr refl)
     by_end (inr one) = finish (92 ∷ []) (27 ∷ 92 ∷ []) (λ z. cc (z)) (ap (λ z. z ++ 92 ∷ []) one) (inl refl)
 
@@ -569,16 +713,19 @@ begins_from_long u tail head longer l e =
     ))
 
 -- u properly begins a form or an opening
-abbrev pub IsUnfinishedMark : List ℕ → Type 0
-IsUnfinishedMark u = IsUnfinishedForm u ⊎ IsUnfinishedOpening u
+abbrev pub IsUnfinishedMark : Bool → List ℕ → Type 0
+IsUnfinishedMark x10_mouse u = IsUnfinishedForm x10_mouse u ⊎ IsUnfinishedOpening u
 
 -- it can be told whether a text properly begins a mark: few texts can complete it, or it begins a title
-pub unfinished_mark_or_not : (u : List ℕ) → Decision (IsUnfinishedMark u)
-unfinished_mark_or_not u = decide_by from to (decide_either (begins_title_or_not u) (begins_small_or_not u))
+pub unfinished_mark_or_not : (x10_mouse : Bool) (u : List ℕ) → Decision (IsUnfinishedMark x10_mouse u)
+unfinished_mark_or_not x10_mouse u = decide_by from to (decide_either (begins_title_or_not u) (begins_small_or_not x10_mouse u))
   where
-    from : BeginsTitle u ⊎ BeginsSmall u → IsUnfinishedMark u
+    Begun : Type 0
+    Begun = BeginsTitle u ⊎ BeginsSmall x10_mouse u
+
+    from : Begun → IsUnfinishedMark x10_mouse u
     from (inl h) = inl (unfinished_from_title u h)
-    from (inr (t, longer, (inl f))) = inl (record { tail = t; longer = longer; is_form = form_fixed (u ++ t) f })
+    from (inr (t, longer, (inl f))) = inl (record { tail = t; longer = longer; is_form = form_fixed x10_mouse (u ++ t) f })
     from (inr (t, longer, (inr (kind, head, e, is)))) = inr (record {
       tail = t;
       longer = longer;
@@ -588,16 +735,15 @@ unfinished_mark_or_not u = decide_by from to (decide_either (begins_title_or_not
       spells = sym e;
     })
 
-    by_head : (kind : StringKind) (head tail : List ℕ) → tail ≢ [] → IsHead kind head → introducer kind ++ head ≡ u ++ tail
-        → BeginsTitle u ⊎ BeginsSmall u
+    by_head : (kind : StringKind) (head tail : List ℕ) → tail ≢ [] → IsHead kind head → introducer kind ++ head ≡ u ++ tail → Begun
     by_head Osc head tail longer (inl n) e = inr (tail, longer, inr (Osc, head, sym e, n))
     by_head Osc head tail longer (inr l) e = inl (begins_from_long u tail head longer l e)
     by_head Dcs head tail longer is e = inr (tail, longer, inr (Dcs, head, sym e, is))
     by_head Apc head tail longer is e = inr (tail, longer, inr (Apc, head, sym e, is))
 
-    to : IsUnfinishedMark u → BeginsTitle u ⊎ BeginsSmall u
+    to : IsUnfinishedMark x10_mouse u → Begun
     to (inl h) = ⊎_elim
-        (λ (f : IsFixed (u ++ h.tail)). inr (h.tail, h.longer, inl f))
+        (λ (f : IsFixed x10_mouse (u ++ h.tail)). inr (h.tail, h.longer, inl f))
         (λ (f : IsTitle (u ++ h.tail)). inl (begins_from_title u h.tail h.longer f))
-        (fixed_form (u ++ h.tail) h.is_form)
+        (fixed_form x10_mouse (u ++ h.tail) h.is_form)
     to (inr h) = by_head h.kind h.head h.tail h.longer h.is_head h.spells

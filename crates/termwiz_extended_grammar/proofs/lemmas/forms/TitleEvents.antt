@@ -49,8 +49,8 @@ unfolding event_of event_after
 title_event text t = rw t.form (ap Osc (text_of_command (t.letter ∷ t.body) t.end (λ h. cc (h)) t.end_is))
 
 pub titles_are_commands : TitlesAreCommands
-titles_are_commands protocol text t = record {
+titles_are_commands reading text t = record {
   is_form = title t;
-  is_free = free_from_none protocol text (λ m is. title_free text t (sequence_layout text m is));
+  is_free = free_from_none reading text (λ m is. title_free text t (sequence_layout text m is));
   means = sym (title_event text t);
 }

@@ -1,26 +1,46 @@
 -- What properly begins a form: it is short, and it can go on to a form that the port doesn't know.
-use Rattle.std.proofs.Common.{◌≡◌, ◌≢◌, inl, inr, ℕ, ◌≤◌, List, [], ◌∷◌, ◌++◌, length, refl, sym, ap, ◌∙◌, subst, arith, append_assoc, length-append}
-use Rattle.termwiz_keymap.proofs.lemmas.lists.CommonPrefixes.{append-some, length-some}
+use Rattle.std.proofs.Common.{◌≡◌, ◌≢◌, ◌⊎◌, inl, inr, ℕ, ◌<◌, ◌≤◌, Bool, true, List, [], ◌∷◌, ◌++◌, length, refl, sym, ap, ◌∙◌, subst, arith, append_assoc, length-append}
+use Rattle.std.specs.Prelude.{codes}
+use Rattle.std.specs.List.{AllByRecursion}
+use Rattle.termwiz_keymap.proofs.lemmas.lists.CommonPrefixes.{append-some, length-some, true_at_end, true_at_front, true_from}
 use Rattle.termwiz_keys.specs.Introducers.{CSI, SS3}
+use Rattle.termwiz_grammar.specs.MouseReports.{IsDigit}
 use Rattle.termwiz_grammar.specs.Sequences.{Meaning, IsSequence}
+use Rattle.termwiz_grammar.specs.Sequences.Meaning.{Row}
 use Rattle.termwiz_extended_events.specs.declared.types.StringKind.TheVariants.{Osc}
-use Rattle.termwiz_extended_grammar.specs.Forms.{introducer, IsStringEnd, IsControl, IsX10Report, IsConsoleKey, IsTitle, IsForm, IsUnfinishedForm}
-use Rattle.termwiz_extended_grammar.specs.Forms.IsForm.{control, x10_report, console_key, keypad_key, title}
+use Rattle.termwiz_extended_grammar.specs.Forms.{introducer, IsInner, IsModifierDigit, IsRxvtNumber, IsStringEnd, IsControl, IsConsoleKey, IsKeypadKey, IsTitle, IsForm, IsUnfinishedForm}
+use Rattle.termwiz_extended_grammar.specs.Forms.IsForm.{control, x10_report, console_key, keypad_key, modified_key, shifted_key, title}
 use Rattle.termwiz_extended_grammar.specs.Strings.{IsUnfinishedOpening}
-use Rattle.termwiz_extended_grammar.proofs.lemmas.forms.FormOrNot.{opening_length}
+use Rattle.termwiz_extended_grammar.specs.ExtraSequences.{IsRow, EndsAsRxvt, IsBareKey}
+use Rattle.termwiz_extended_grammar.proofs.lemmas.forms.FormBytes.{all_append, rxvt_digits}
+use Rattle.termwiz_extended_grammar.proofs.lemmas.forms.FormOrNot.{opening_length, front_short, rxvt_short}
 use Rattle.termwiz_extended_grammar.proofs.lemmas.forms.PortLayouts.{IsPortSecond, Past, Layout, sequence_layout}
 use Rattle.termwiz_extended_grammar.proofs.lemmas.forms.PortLayouts.Past.{lettered, with_dollar}
 use Rattle.termwiz_extended_grammar.proofs.lemmas.forms.PortLayouts.Layout.{alone, paired, longer}
 
 -- what properly begins a form is short
-pub unfinished_form_short : (u : List ℕ) → IsUnfinishedForm u → length u ≤ 255
-unfinished_form_short u f = go f.is_form
+pub unfinished_form_short : {x10_mouse : Bool} (u : List ℕ) → IsUnfinishedForm x10_mouse u → length u ≤ 255
+unfinished_form_short {x10_mouse = x10_mouse} u f = go f.is_form
   where
-    go : IsForm (u ++ f.tail) → length u ≤ 255
+    go : IsForm x10_mouse (u ++ f.tail) → length u ≤ 255
     go (control g) = omega (arith, g.short, length-append u f.tail, length-some f.tail f.longer)
-    go (x10_report g) = omega (arith, ap length g.form, length-append u f.tail)
+    go (x10_report on g) = omega (arith, ap length g.form, length-append u f.tail)
     go (console_key g) = omega (arith, ap length g.form, length-append u f.tail)
     go (keypad_key g) = omega (arith, ap length g.form, length-append u f.tail)
+    go (modified_key g) = omega (
+      arith,
+      ap length g.form,
+      length-append g.front (g.digit ∷ g.letter ∷ []),
+      front_short g.front g.front_is,
+      length-append u f.tail,
+    )
+    go (shifted_key g) = omega (
+      arith,
+      ap length g.form,
+      length-append g.number (36 ∷ []),
+      rxvt_short g.number g.number_is,
+      length-append u f.tail,
+    )
     go (title g) = omega (
       arith,
       g.short,
@@ -46,7 +66,7 @@ last_of [] n = absurd (n refl)
 last_of (x ∷ []) n = ([], x, refl)
 last_of (x ∷ y ∷ t) n = let h = last_of (y ∷ t) (λ k. cc (k)) in (x ∷ h.0, h.1, ap (λ z. x ∷ z) h.2)
 
-one_last : (a b : List ℕ) (v w : ℕ) → a ++ v ∷ [] ≡ b ++ w ∷ [] → (a ≡ b) × (v ≡ w)
+pub one_last : (a b : List ℕ) (v w : ℕ) → a ++ v ∷ [] ≡ b ++ w ∷ [] → (a ≡ b) × (v ≡ w)
 one_last [] [] v w e = (refl, cc (e))
 one_last [] (y ∷ b) v w e = absurd (append-some b (w ∷ []) (λ k. cc (k)) (cc (e)))
 one_last (x ∷ a) [] v w e = absurd (append-some a (v ∷ []) (λ k. cc (k)) (cc (e)))
@@ -82,9 +102,6 @@ no_past_x : (a : List ℕ) → Past (a ++ 120 ∷ []) → ⊥
 no_past_x a (lettered b w e pb lw m n) = omega (arith, (one_last a b 120 w e).1)
 no_past_x a (with_dollar digit e d) = omega (arith, (one_last a (digit ∷ []) 120 36 e).1)
 
-x10_free : (text : List ℕ) → IsX10Report text → Layout text → ⊥
-x10_free text f l = no_past_mouse (f.button ∷ f.x ∷ f.y ∷ []) (past_of text 91 _ f.form (λ h. cc (h)) l).1
-
 console_free : (text : List ℕ) → IsConsoleKey text → Layout text → ⊥
 console_free text f l = no_past_console (f.letter ∷ []) (past_of text 91 _ f.form (λ h. cc (h)) l).1
 
@@ -102,8 +119,23 @@ two_inner [] t last b c n m e = absurd (n (cc (e)))
 two_inner (x ∷ []) t last b c n m e = absurd (m (cc (e)))
 two_inner (x ∷ y ∷ inner) t last b c n m e = (inner, cc (e))
 
+-- where another byte comes last than a text has, the text stands before it
+before_last : (inner pre t : List ℕ) (last : ℕ) → AllByRecursion (λ b. b ≢ last) pre → inner ++ last ∷ [] ≡ pre ++ t
+    → (s : List ℕ) × (inner ≡ pre ++ s)
+before_last inner [] t last others e = (inner, refl)
+before_last [] (b ∷ pre) t last others e = absurd (others.0 (cc (e)))
+before_last (x ∷ inner) (b ∷ pre) t last others e =
+    let rest = before_last inner pre t last others.1 (cc (e)) in
+    let first : x ≡ b = cc (e) in
+    (rest.0, cc (first, rest.1))
+
+-- no number of rxvt-unicode's has an x, nor its $
+shifted_no_x : (number : List ℕ) → IsRxvtNumber number → AllByRecursion (λ b. b ≢ 120) (number ++ 36 ∷ [])
+shifted_no_x number is = all_append (λ b. b ≢ 120) number (36 ∷ [])
+    (true_from IsDigit (λ b. b ≢ 120) (λ b d e. omega arith) number (rxvt_digits number is)) ((λ e. omega arith), tt)
+
 -- a control sequence with x at its end in place of its last byte
-ending_in_x : (text : List ℕ) (f : IsControl text) → IsControl (CSI ++ f.inner ++ 120 ∷ [])
+ending_in_x : {x10_mouse : Bool} (text : List ℕ) (f : IsControl x10_mouse text) → IsControl x10_mouse (CSI ++ f.inner ++ 120 ∷ [])
 ending_in_x text f = record {
   inner = f.inner;
   last = 120;
@@ -111,45 +143,162 @@ ending_in_x text f = record {
   each = f.each;
   last_is = (omega arith, omega arith);
   short = omega (arith, f.short, ap length f.form, length-append f.inner (f.last ∷ []), length-append f.inner (120 ∷ []));
-  no_mouse = λ h. let s = first_inner f.inner h.0 120 77 (λ k. omega arith) (cc (h.1)) in
-      f.no_mouse (s.0 ++ f.last ∷ [], before s.1);
+  no_mouse = λ on h. let s = first_inner f.inner h.0 120 77 (λ k. omega arith) (cc (h.1)) in
+      f.no_mouse on (s.0 ++ f.last ∷ [], before s.1);
   no_console = λ h. let s = first_inner f.inner h.0 120 91 (λ k. omega arith) (cc (h.1)) in
       f.no_console (s.0 ++ f.last ∷ [], before s.1);
   no_row = λ digit d h.
       let s = two_inner f.inner h.0 120 digit 36 (λ k. omega arith) (λ k. omega arith) (cc (h.1)) in
       f.no_row digit d (s.0 ++ f.last ∷ [], before s.1);
+  no_shifted = λ number n h.
+      let s = before_last f.inner (number ++ 36 ∷ []) h.0 120 (shifted_no_x number n) (cc (h.1)) in
+      f.no_shifted number n (
+        s.0 ++ f.last ∷ [],
+        before s.1 ∙ ap (λ z. 27 ∷ 91 ∷ z) (append_assoc (number ++ 36 ∷ []) s.0 (f.last ∷ [])),
+      );
 }
   where
     before : {s : List ℕ} → f.inner ≡ s → text ≡ 27 ∷ 91 ∷ (s ++ f.last ∷ [])
     before e = f.form ∙ ap (λ z. 27 ∷ 91 ∷ (z ++ f.last ∷ [])) e
 
--- what properly begins a form can go on to one that the port doesn't know
-pub free_completion : (u : List ℕ) → IsUnfinishedForm u
-    → (c : List ℕ) × (c ≢ []) × IsForm (u ++ c) × ((m : Meaning) → ¬ IsSequence (u ++ c) m)
-free_completion u f = go f.is_form
+-- and one with x in place of the $ of a key of rxvt-unicode's
+shifted_in_x : {x10_mouse : Bool} (number : List ℕ) → IsRxvtNumber number → IsControl x10_mouse (CSI ++ number ++ 120 ∷ [])
+shifted_in_x number is = record {
+  inner = number;
+  last = 120;
+  form = refl;
+  each = true_from IsDigit IsInner (λ b d. (omega arith, omega arith)) number (rxvt_digits number is);
+  last_is = (omega arith, omega arith);
+  short = omega (arith, length-append number (120 ∷ []), rxvt_short number is);
+  no_mouse = λ on h. absurd (no_first 77 h.0 (omega arith) (cc (h.1)));
+  no_console = λ h. absurd (no_first 91 h.0 (omega arith) (cc (h.1)));
+  no_row = λ digit d h. absurd (no_dollar (digit ∷ 36 ∷ []) h.0
+      ((λ k. omega arith), ((λ k. omega arith), tt)) (λ all. let low : IsDigit 36 = all.1.0 in omega (arith, low)) (cc (h.1)));
+  no_shifted = λ other n h. absurd (no_dollar (other ++ 36 ∷ []) h.0 (shifted_no_x other n)
+      (λ all. let low : IsDigit 36 = (true_at_end IsDigit other (36 ∷ []) all).0 in omega (arith, low)) (cc (h.1)));
+}
   where
-    Completes : Type 0
-    Completes = (c : List ℕ) × (c ≢ []) × IsForm (u ++ c) × ((m : Meaning) → ¬ IsSequence (u ++ c) m)
+    no_first : (x : ℕ) (t : List ℕ) → (57 < x) × (x < 120) → number ++ 120 ∷ [] ≡ x ∷ t → ⊥
+    no_first x t l e = (let s = before_last number (x ∷ []) t 120 ((λ k. omega arith), tt) e in
+        let first : IsDigit x = (subst (AllByRecursion IsDigit) s.1 (rxvt_digits number is)).0 in omega (arith, first))
 
-    by_tail : IsForm (u ++ f.tail) → (Layout (u ++ f.tail) → ⊥) → Completes
-    by_tail g free = (f.tail, f.longer, g, λ m s. free (sequence_layout (u ++ f.tail) m s))
+    no_dollar : (pre t : List ℕ) → AllByRecursion (λ b. b ≢ 120) pre → (AllByRecursion IsDigit pre → ⊥) → number ++ 120 ∷ [] ≡ pre ++ t → ⊥
+    no_dollar pre t others never e =
+        let s = before_last number pre t 120 others e in
+        never (true_at_front IsDigit pre s.0 (subst (AllByRecursion IsDigit) s.1 (rxvt_digits number is)))
 
-    by_other : (text : List ℕ) → (c : List ℕ) × (c ≢ []) × (u ++ c ≡ text) → IsForm text → (Layout text → ⊥) → Completes
-    by_other text c g free = (
-      c.0,
-      c.1,
-      subst IsForm (sym c.2) g,
-      λ m s. free (sequence_layout text m (subst (λ t. IsSequence t m) c.2 s)),
-    )
+-- a text that ends so, isn't ESC O and a letter, and isn't known to the port, is no bare key
+not_bare : (text front : List ℕ) (z : ℕ) → text ≡ front ++ z ∷ [] → z ≢ 94 → z ≢ 64 → z ≢ 36
+    → ((letter : ℕ) → text ≢ SS3 ++ letter ∷ []) → ((m : Meaning) → ¬ IsSequence text m) → ¬ IsBareKey text
+not_bare text front z e a b c keypad free is = go is.layout
+  where
+    go : IsRow text ⊎ (IsKeypadKey text ⊎ EndsAsRxvt text) → ⊥
+    go (inl row) = free (Row row.0) row.1
+    go (inr (inl k)) = keypad k.letter k.form
+    go (inr (inr (other, last, h, (inl l)))) = a ((one_last front other z last (sym e ∙ h)).1 ∙ l)
+    go (inr (inr (other, last, h, (inr (inl l))))) = b ((one_last front other z last (sym e ∙ h)).1 ∙ l)
+    go (inr (inr (other, last, h, (inr (inr l))))) = c ((one_last front other z last (sym e ∙ h)).1 ∙ l)
 
-    go : IsForm (u ++ f.tail) → Completes
-    go (control g) = by_other (CSI ++ g.inner ++ 120 ∷ [])
+-- what properly begins a form can go on to one that the port doesn't know, and that is no bare key
+pub record Completes (x10_mouse : Bool) (u : List ℕ) : Type 0 where
+  pub tail : List ℕ
+  pub longer : tail ≢ []
+  pub is_form : IsForm x10_mouse (u ++ tail)
+  pub free : (m : Meaning) → ¬ IsSequence (u ++ tail) m
+  pub not_bare : ¬ IsBareKey (u ++ tail)
+
+pub free_completion : {x10_mouse : Bool} (u : List ℕ) → IsUnfinishedForm x10_mouse u → Completes x10_mouse u
+free_completion {x10_mouse = x10_mouse} u f = go f.is_form
+  where
+    -- the text of a form that isn't laid out as the port's sequences, by its last byte
+    by : (text front : List ℕ) (z : ℕ) → (c : List ℕ) × (c ≢ []) × (u ++ c ≡ text) → text ≡ front ++ z ∷ [] → z ≢ 94 → z ≢ 64 → z ≢ 36
+        → ((letter : ℕ) → text ≢ SS3 ++ letter ∷ []) → IsForm x10_mouse text → (Layout text → ⊥) → Completes x10_mouse u
+    by text front z c ends a b d keypad g free =
+        let none : (m : Meaning) → ¬ IsSequence text m = λ m s. free (sequence_layout text m s) in
+        record {
+          tail = c.0;
+          longer = c.1;
+          is_form = subst (λ t. IsForm x10_mouse t) (sym c.2) g;
+          free = λ m s. none m (subst (λ t. IsSequence t m) c.2 s);
+          not_bare = λ k. not_bare text front z ends a b d keypad none (subst IsBareKey c.2 k);
+        }
+
+    -- a text that ends in x
+    by_x : (front : List ℕ) → (c : List ℕ) × (c ≢ []) × (u ++ c ≡ front ++ 120 ∷ [])
+        → ((letter : ℕ) → front ++ 120 ∷ [] ≢ SS3 ++ letter ∷ []) → IsForm x10_mouse (front ++ 120 ∷ []) → (Layout (front ++ 120 ∷ []) → ⊥)
+        → Completes x10_mouse u
+    by_x front c keypad g free =
+        by (front ++ 120 ∷ []) front 120 c refl (λ k. omega arith) (λ k. omega arith) (λ k. omega arith) keypad g free
+
+    bracket_no_keypad : (t : List ℕ) (letter : ℕ) → 27 ∷ 91 ∷ t ≢ SS3 ++ letter ∷ []
+    bracket_no_keypad t letter e = (let second : ◌≡◌ {A = ℕ} 91 79 = cc (e) in omega arith)
+
+    -- ESC O, m and x, where perhaps 0 ; is before m
+    modified_x : (front : List ℕ) (digit : ℕ) → (front ≡ []) ⊎ (front ≡ codes "0;") → IsModifierDigit digit
+        → (c : List ℕ) × (c ≢ []) × (u ++ c ≡ (SS3 ++ front ++ digit ∷ []) ++ 120 ∷ []) → Completes x10_mouse u
+    modified_x front digit front_is digit_is c =
+        let same : (SS3 ++ front ++ digit ∷ []) ++ 120 ∷ [] ≡ 27 ∷ 79 ∷ ((front ++ digit ∷ []) ++ 120 ∷ []) = refl in
+        by_x (SS3 ++ front ++ digit ∷ []) c
+        (λ letter e. no_letter letter (cc (e)))
+        (modified_key (record {
+          front = front;
+          digit = digit;
+          letter = 120;
+          form = ap (λ z. 27 ∷ 79 ∷ z) (append_assoc front (digit ∷ []) (120 ∷ []));
+          front_is = front_is;
+          digit_is = digit_is;
+          letter_is = inr (inr (inr (omega arith, omega arith)));
+        }))
+        (λ l. no_past_x (front ++ digit ∷ [])
+        (past_of _ 79 _ same (append-some (front ++ digit ∷ []) (120 ∷ []) (λ h. cc (h))) l).1)
+      where
+        no_letter : (letter : ℕ) → (front ++ digit ∷ []) ++ 120 ∷ [] ≡ letter ∷ [] → ⊥
+        no_letter letter e =
+            omega (arith, ap length e, length-append (front ++ digit ∷ []) (120 ∷ []), length-append front (digit ∷ []))
+
+    go : IsForm x10_mouse (u ++ f.tail) → Completes x10_mouse u
+    go (control g) = by_x (CSI ++ g.inner)
         (replaced u f.tail (CSI ++ g.inner) g.last 120 f.longer g.form)
+        (bracket_no_keypad (g.inner ++ 120 ∷ []))
         (control (ending_in_x (u ++ f.tail) g))
         (λ l. no_past_x g.inner (past_of _ 91 _ refl (append-some g.inner (120 ∷ []) (λ h. cc (h))) l).1)
-    go (x10_report g) = by_tail (x10_report g) (x10_free (u ++ f.tail) g)
-    go (console_key g) = by_tail (console_key g) (console_free (u ++ f.tail) g)
-    go (keypad_key g) = by_other (27 ∷ 79 ∷ 77 ∷ []) (replaced u f.tail SS3 g.letter 77 f.longer g.form)
-        (keypad_key (record { letter = 77; form = refl; letter_is = inl refl }))
-        (λ l. no_past_mouse [] (past_of _ 79 _ refl (λ h. cc (h)) l).1)
-    go (title g) = by_tail (title g) (title_free (u ++ f.tail) g)
+    go (x10_report on g) = by_x (27 ∷ 91 ∷ 77 ∷ g.button ∷ g.x ∷ [])
+        (replaced u f.tail (27 ∷ 91 ∷ 77 ∷ g.button ∷ g.x ∷ []) g.y 120 f.longer g.form)
+        (bracket_no_keypad (77 ∷ g.button ∷ g.x ∷ 120 ∷ []))
+        (x10_report on (record {
+          button = g.button;
+          x = g.x;
+          y = 120;
+          form = refl;
+          button_is = g.button_is;
+          x_is = g.x_is;
+          y_is = (omega arith, omega arith);
+        }))
+        (λ l. no_past_mouse (g.button ∷ g.x ∷ 120 ∷ []) (past_of _ 91 _ refl (λ h. cc (h)) l).1)
+    go (console_key g) = by (u ++ f.tail) (27 ∷ 91 ∷ 91 ∷ []) g.letter (f.tail, f.longer, refl) g.form
+        (λ k. omega (arith, g.letter_is)) (λ k. omega (arith, g.letter_is)) (λ k. omega (arith, g.letter_is))
+        (λ letter e. bracket_no_keypad (91 ∷ g.letter ∷ []) letter (sym g.form ∙ e))
+        (console_key g) (console_free (u ++ f.tail) g)
+    go (keypad_key g) =
+        let c = replaced u f.tail SS3 g.letter 50 f.longer g.form in
+        modified_x [] 50 (inl refl) (omega arith, omega arith)
+        (c.0 ++ 120 ∷ [], append-some c.0 (120 ∷ []) (λ h. cc (h)), sym (append_assoc u c.0 (120 ∷ [])) ∙ ap (λ z. z ++ 120 ∷ []) c.2)
+    go (modified_key g) = modified_x g.front g.digit g.front_is g.digit_is (replaced u f.tail (SS3 ++ g.front ++ g.digit ∷ []) g.letter 120 f.longer
+        (g.form ∙ ap (λ z. 27 ∷ 79 ∷ z) (sym (append_assoc g.front (g.digit ∷ []) (g.letter ∷ [])))))
+    go (shifted_key g) = by_x (CSI ++ g.number)
+        (replaced u f.tail (CSI ++ g.number) 36 120 f.longer g.form)
+        (bracket_no_keypad (g.number ++ 120 ∷ []))
+        (control (shifted_in_x g.number g.number_is))
+        (λ l. no_past_x g.number (past_of _ 91 _ refl (append-some g.number (120 ∷ []) (λ h. cc (h))) l).1)
+    go (title g) = by_end g.end_is
+      where
+        no_keypad : (letter : ℕ) → u ++ f.tail ≢ SS3 ++ letter ∷ []
+        no_keypad letter e = (let second : ◌≡◌ {A = ℕ} 93 79 = cc (g.form, e) in omega arith)
+
+        by_end : IsStringEnd Osc g.end → Completes x10_mouse u
+        by_end (inl e) = by (u ++ f.tail) (27 ∷ 93 ∷ g.letter ∷ (g.body ++ 27 ∷ [])) 92 (f.tail, f.longer, refl)
+            (g.form ∙ ap (λ z. 27 ∷ 93 ∷ g.letter ∷ (g.body ++ z)) e ∙ ap (λ z. 27 ∷ 93 ∷ g.letter ∷ z) (sym (append_assoc g.body (27 ∷ []) (92 ∷ []))))
+            (λ k. omega arith) (λ k. omega arith) (λ k. omega arith) no_keypad (title g) (title_free (u ++ f.tail) g)
+        by_end (inr e) = by (u ++ f.tail) (27 ∷ 93 ∷ g.letter ∷ g.body) 7 (f.tail, f.longer, refl)
+            (g.form ∙ ap (λ z. 27 ∷ 93 ∷ g.letter ∷ (g.body ++ z)) e)
+            (λ k. omega arith) (λ k. omega arith) (λ k. omega arith) no_keypad (title g) (title_free (u ++ f.tail) g)

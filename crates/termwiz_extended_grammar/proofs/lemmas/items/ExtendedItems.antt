@@ -13,22 +13,22 @@ use Rattle.termwiz_grammar.proofs.lemmas.items.OneItem.{item_once}
 use Rattle.termwiz_grammar.specs.Sequences.{IsSequence}
 use Rattle.termwiz_extended_events.specs.declared.types.ExtendedEvent.{ExtendedEvent}
 use Rattle.termwiz_extended_events.specs.declared.types.ExtendedEvent.TheVariants.{Input}
-use Rattle.termwiz_extended_events.specs.declared.types.Protocol.{Protocol}
+use Rattle.termwiz_extended_events.specs.declared.types.Reading.{Reading}
 use Rattle.termwiz_extended_events.specs.declared.types.StringKind.{StringKind}
 use Rattle.termwiz_extended_grammar.specs.Forms.{introducer, IsData}
 use Rattle.termwiz_extended_grammar.specs.Strings.{Comes, StartsWithOpening}
-use Rattle.termwiz_extended_grammar.specs.ExtraSequences.{IsExtra, StartsWithExtra}
-use Rattle.termwiz_extended_grammar.specs.ExtendedGrammar.{StartsExtended, BeginsKnown, IsOpen, IsUsual, Stands}
-use Rattle.termwiz_extended_grammar.specs.ExtendedGrammar.Stands.{extra, lone_escape, string, usual}
+use Rattle.termwiz_extended_grammar.specs.ExtraSequences.{IsExtra, StartsWithExtra, IsBareKey, with_alt}
+use Rattle.termwiz_extended_grammar.specs.ExtendedGrammar.{StartsExtended, StartsApart, BeginsKnown, IsOpen, IsUsual, Stands}
+use Rattle.termwiz_extended_grammar.specs.ExtendedGrammar.Stands.{extra, alt_key, lone_escape, string, usual}
 use Rattle.termwiz_extended_grammar.proofs.lemmas.forms.FormBytes.{IsSecond, IsStringIntroducer, mark_shape, opening_mark}
 use Rattle.termwiz_extended_grammar.proofs.lemmas.forms.FormEnds.{form_no_opening}
 use Rattle.termwiz_extended_grammar.proofs.lemmas.forms.ExtraFacts.{extra_once, extra_some, starts_mark}
 use Rattle.termwiz_extended_grammar.proofs.lemmas.items.StringItems.{mark_once, string_opening, string_once, string_append, comes_once, comes_stay, comes_less}
 
 -- what begins with an extra sequence or an opening begins with ESC and a byte that isn't ESC
-pub starts_shape : (protocol : Protocol) (u : List ℕ) → StartsExtended protocol u → (b : ℕ) × (r : List ℕ) × (u ≡ 27 ∷ b ∷ r) × IsSecond b
-starts_shape protocol u h =
-    let m = starts_mark protocol u h in
+pub starts_shape : (reading : Reading) (u : List ℕ) → StartsExtended reading u → (b : ℕ) × (r : List ℕ) × (u ≡ 27 ∷ b ∷ r) × IsSecond b
+starts_shape reading u h =
+    let m = starts_mark reading u h in
     let s = mark_shape m.0 m.2 in
     (s.0, s.1 ++ m.1, m.3 ∙ ap (λ x. x ++ m.1) s.2, s.4)
 
@@ -45,33 +45,33 @@ second_not_escape b is e = ⊎_elim
     is
 
 -- an extra sequence that begins a text is the only one that does
-pub starts_once : (protocol : Protocol) (u a b : List ℕ) (d e : ExtendedEvent) → IsExtra protocol a d → IsExtra protocol b e
+pub starts_once : (reading : Reading) (u a b : List ℕ) (d e : ExtendedEvent) → IsExtra reading a d → IsExtra reading b e
     → Begins a u → Begins b u → (a ≡ b) × (d ≡ e)
-starts_once protocol u a b d e is_a is_b p q =
+starts_once reading u a b d e is_a is_b p q =
     let same : a ≡ b = mark_once u a b (inl is_a.is_form) (inl is_b.is_form) p q in
-    (same, extra_once protocol b d e (subst (λ x. IsExtra protocol x d) same is_a) is_b)
+    (same, extra_once reading b d e (subst (λ x. IsExtra reading x d) same is_a) is_b)
 
 -- where one begins a text, no opening does
-pub extra_or_opening : (protocol : Protocol) (u : List ℕ) → StartsWithExtra protocol u → StartsWithOpening u → ⊥
-extra_or_opening protocol u h o =
+pub extra_or_opening : (reading : Reading) (u : List ℕ) → StartsWithExtra reading u → StartsWithOpening u → ⊥
+extra_or_opening reading u h o =
     let same : h.text ≡ introducer o.kind ++ o.head =
     mark_once u h.text (introducer o.kind ++ o.head) (inl h.is_extra.is_form) (inr (opening_mark u o)) h.begins o.begins in
     form_no_opening h.text h.is_extra.is_form (record { kind = o.kind; head = o.head; is_head = o.is_head; form = same })
 
 -- where one begins, none begins after the ESC
-pub one_starts : (protocol : Protocol) (u v : List ℕ) → StartsExtended protocol u → u ≡ ESC ++ v → StartsExtended protocol v → ⊥
-one_starts protocol u v here e after =
-    let s = starts_shape protocol u here in
-    let t = starts_shape protocol v after in
+pub one_starts : (reading : Reading) (u v : List ℕ) → StartsExtended reading u → u ≡ ESC ++ v → StartsExtended reading v → ⊥
+one_starts reading u v here e after =
+    let s = starts_shape reading u here in
+    let t = starts_shape reading v after in
     let same : s.0 ≡ 27 = cc (s.2, e, t.2) in
     second_not_escape s.0 s.3 same
 
 -- what begins the longer text begins the shorter one, if that isn't open
-pub starts_shorter : (protocol : Protocol) (u s : List ℕ) → u ≢ [] → ¬ IsOpen protocol u true → StartsExtended protocol (u ++ s)
-    → StartsExtended protocol u
-starts_shorter protocol u s some closed (inl h) = go (overlap h.text h.begins.0 u s h.begins.1)
+pub starts_shorter : (reading : Reading) (u s : List ℕ) → u ≢ [] → ¬ IsOpen reading u true → StartsExtended reading (u ++ s)
+    → StartsExtended reading u
+starts_shorter reading u s some closed (inl h) = go (overlap h.text h.begins.0 u s h.begins.1)
   where
-    go : Overlaps h.text h.begins.0 u s → StartsExtended protocol u
+    go : Overlaps h.text h.begins.0 u s → StartsExtended reading u
     go (within t e f) = inl (record { text = h.text; event = h.event; is_extra = h.is_extra; begins = (t, e) })
     go (past t longer e f) = absurd (closed (record {
       more_comes = refl;
@@ -80,12 +80,12 @@ starts_shorter protocol u s some closed (inl h) = go (overlap h.text h.begins.0 
         tail = t;
         longer = longer;
         event = h.event;
-        is_extra = subst (λ x. IsExtra protocol x h.event) e h.is_extra;
+        is_extra = subst (λ x. IsExtra reading x h.event) e h.is_extra;
       }));
     }))
-starts_shorter protocol u s some closed (inr o) = go (overlap (introducer o.kind ++ o.head) o.begins.0 u s o.begins.1)
+starts_shorter reading u s some closed (inr o) = go (overlap (introducer o.kind ++ o.head) o.begins.0 u s o.begins.1)
   where
-    go : Overlaps (introducer o.kind ++ o.head) o.begins.0 u s → StartsExtended protocol u
+    go : Overlaps (introducer o.kind ++ o.head) o.begins.0 u s → StartsExtended reading u
     go (within t e f) = inr (record { kind = o.kind; head = o.head; is_head = o.is_head; begins = (t, e) })
     go (past t longer e f) = absurd (closed (record {
       more_comes = refl;
@@ -101,42 +101,77 @@ starts_shorter protocol u s some closed (inr o) = go (overlap (introducer o.kind
     }))
 
 -- what begins with an extra sequence or an opening begins so whatever follows
-pub starts_longer : (protocol : Protocol) (u s : List ℕ) → StartsExtended protocol u → StartsExtended protocol (u ++ s)
-starts_longer protocol u s (inl h) = inl (record {
+pub starts_longer : (reading : Reading) (u s : List ℕ) → StartsExtended reading u → StartsExtended reading (u ++ s)
+starts_longer reading u s (inl h) = inl (record {
   text = h.text;
   event = h.event;
   is_extra = h.is_extra;
   begins = (h.begins.0 ++ s, ap (λ x. x ++ s) h.begins.1 ∙ append_assoc h.text h.begins.0 s);
 })
-starts_longer protocol u s (inr o) = inr (record {
+starts_longer reading u s (inr o) = inr (record {
   kind = o.kind;
   head = o.head;
   is_head = o.is_head;
   begins = (o.begins.0 ++ s, ap (λ x. x ++ s) o.begins.1 ∙ append_assoc (introducer o.kind ++ o.head) o.begins.0 s);
 })
 
+-- what ESC isn't joined to is an extra sequence or an opening
+pub apart_starts : (reading : Reading) (u : List ℕ) → StartsApart reading u → StartsExtended reading u
+apart_starts reading u (inl h) = inl (record { text = h.text; event = h.event; is_extra = h.is_extra; begins = h.begins })
+apart_starts reading u (inr o) = inr o
+
+-- and stays so whatever follows
+pub apart_longer : (reading : Reading) (u s : List ℕ) → StartsApart reading u → StartsApart reading (u ++ s)
+apart_longer reading u s (inl h) = inl (record {
+  text = h.text;
+  event = h.event;
+  is_extra = h.is_extra;
+  not_bare = h.not_bare;
+  begins = (h.begins.0 ++ s, ap (λ x. x ++ s) h.begins.1 ∙ append_assoc h.text h.begins.0 s);
+})
+apart_longer reading u s (inr o) = inr (record {
+  kind = o.kind;
+  head = o.head;
+  is_head = o.is_head;
+  begins = (o.begins.0 ++ s, ap (λ x. x ++ s) o.begins.1 ∙ append_assoc (introducer o.kind ++ o.head) o.begins.0 s);
+})
+
+-- a bare key isn't that
+pub joined_not_apart : (reading : Reading) (v text left : List ℕ) (event : ExtendedEvent) → IsExtra reading text event → IsBareKey text
+    → v ≡ text ++ left → StartsApart reading v → ⊥
+joined_not_apart reading v text left event is bare e (inl h) =
+    let same = starts_once reading v h.text text h.event event h.is_extra is h.begins (left, e) in
+    h.not_bare (subst IsBareKey (sym same.0) bare)
+joined_not_apart reading v text left event is bare e (inr o) =
+    extra_or_opening reading v (record { text = text; event = event; is_extra = is; begins = (left, e) }) o
+
+-- what begins a text, as such
+pub starts_with : (reading : Reading) (text left : List ℕ) (event : ExtendedEvent) → IsExtra reading text event
+    → StartsExtended reading (text ++ left)
+starts_with reading text left event is = inl (record { text = text; event = event; is_extra = is; begins = (left, refl) })
+
 -- what properly begins a sequence, a character or an opening properly begins it from an earlier place on too
-shorter_beginning : (protocol : Protocol) (u s : List ℕ) → BeginsKnown protocol (u ++ s) → BeginsKnown protocol u
-shorter_beginning protocol u s (inl (inl h)) = inl (inl (record {
+shorter_beginning : (reading : Reading) (u s : List ℕ) → BeginsKnown reading (u ++ s) → BeginsKnown reading u
+shorter_beginning reading u s (inl (inl h)) = inl (inl (record {
   tail = s ++ h.tail;
   longer = append-some s h.tail h.longer;
   meaning = h.meaning;
   is_sequence = subst (λ x. IsSequence x h.meaning) (append_assoc u s h.tail) h.is_sequence;
 }))
-shorter_beginning protocol u s (inl (inr h)) = inl (inr (record {
+shorter_beginning reading u s (inl (inr h)) = inl (inr (record {
   tail = s ++ h.tail;
   longer = append-some s h.tail h.longer;
   char = h.char;
   scalar = h.scalar;
   spells = h.spells ∙ append_assoc u s h.tail;
 }))
-shorter_beginning protocol u s (inr (inl h)) = inr (inl (record {
+shorter_beginning reading u s (inr (inl h)) = inr (inl (record {
   tail = s ++ h.tail;
   longer = append-some s h.tail h.longer;
   event = h.event;
-  is_extra = subst (λ x. IsExtra protocol x h.event) (append_assoc u s h.tail) h.is_extra;
+  is_extra = subst (λ x. IsExtra reading x h.event) (append_assoc u s h.tail) h.is_extra;
 }))
-shorter_beginning protocol u s (inr (inr h)) = inr (inr (record {
+shorter_beginning reading u s (inr (inr h)) = inr (inr (record {
   tail = s ++ h.tail;
   longer = append-some s h.tail h.longer;
   kind = h.kind;
@@ -146,15 +181,15 @@ shorter_beginning protocol u s (inr (inr h)) = inr (inr (record {
 }))
 
 -- what is usual stays so
-pub usual_stays : (protocol : Protocol) (u s : List ℕ) (f : Bool) → u ≢ [] → IsUsual protocol u true → IsUsual protocol (u ++ s) f
-usual_stays protocol u s f some is = record {
-  none = λ h. is.none (starts_shorter protocol u s some is.closed h);
-  closed = λ h. is.closed (record { more_comes = refl; some = some; beginning = shorter_beginning protocol u s h.beginning });
+pub usual_stays : (reading : Reading) (u s : List ℕ) (f : Bool) → u ≢ [] → IsUsual reading u true → IsUsual reading (u ++ s) f
+usual_stays reading u s f some is = record {
+  none = λ h. is.none (starts_shorter reading u s some is.closed h);
+  closed = λ h. is.closed (record { more_comes = refl; some = some; beginning = shorter_beginning reading u s h.beginning });
 }
 
 -- what is open to the port is open
-pub open_from_port : (protocol : Protocol) (u : List ℕ) (f : Bool) → port.IsOpen u f → IsOpen protocol u f
-open_from_port protocol u f h = record { more_comes = h.more_comes; some = h.some; beginning = inl h.beginning }
+pub open_from_port : (reading : Reading) (u : List ℕ) (f : Bool) → port.IsOpen u f → IsOpen reading u f
+open_from_port reading u f h = record { more_comes = h.more_comes; some = h.some; beginning = inl h.beginning }
 
 -- the text after the ESC of a longer text is that of the shorter one, made longer
 pub longer_after : (u s w : List ℕ) → u ≢ [] → (u ≡ ESC → ⊥) → u ++ s ≡ ESC ++ w
@@ -168,20 +203,22 @@ pub port_some : (u bytes left : List ℕ) (f : Bool) (event : InputEvent) → po
 port_some u bytes left f event stands e none = append-some_left bytes left (item_some u bytes event f stands.item) (sym e ∙ none)
 
 -- what an item leaves of a text with more to come, it leaves of every longer one, with what is longer
-pub stands_stays_extended : (protocol : Protocol) (u s left : List ℕ) (event : ExtendedEvent) (f : Bool)
-    → Stands protocol u true left event → Stands protocol (u ++ s) f (left ++ s) event
-stands_stays_extended protocol u s left event f (extra text left2 e is split) =
+pub stands_stays_extended : (reading : Reading) (u s left : List ℕ) (event : ExtendedEvent) (f : Bool)
+    → Stands reading u true left event → Stands reading (u ++ s) f (left ++ s) event
+stands_stays_extended reading u s left event f (extra text left2 e is split) =
     extra text (left2 ++ s) e is (ap (λ x. x ++ s) split ∙ append_assoc text left2 s)
-stands_stays_extended protocol u s left event f (lone_escape v split after) =
-    lone_escape (v ++ s) (ap (λ x. x ++ s) split) (starts_longer protocol v s after)
-stands_stays_extended protocol u s left event f (string kind head bytes after left2 e is comes) =
+stands_stays_extended reading u s left event f (alt_key text left2 e is bare split) =
+    alt_key text (left2 ++ s) e is bare (ap (λ x. x ++ s) split ∙ ap (λ x. 27 ∷ x) (append_assoc text left2 s))
+stands_stays_extended reading u s left event f (lone_escape v split after) =
+    lone_escape (v ++ s) (ap (λ x. x ++ s) split) (apart_longer reading v s after)
+stands_stays_extended reading u s left event f (string kind head bytes after left2 e is comes) =
     string kind head bytes (after ++ s) (left2 ++ s) e (string_append u s kind head bytes after is)
     (comes_stay kind head bytes after left2 s f e comes)
-stands_stays_extended protocol u s left event f (usual bytes left2 e stands split is after) =
+stands_stays_extended reading u s left event f (usual bytes left2 e stands split is after) =
     usual bytes (left2 ++ s) e (stands_stays u s bytes e f stands) (ap (λ x. x ++ s) split ∙ append_assoc bytes left2 s)
-    (usual_stays protocol u s f some is) (λ w split2.
+    (usual_stays reading u s f some is) (λ w split2.
     let l = longer_after u s w some not_escape split2 in
-    subst (λ x. IsUsual protocol x f) (sym l.2) (usual_stays protocol l.0 s f l.3 (after l.0 l.1)))
+    subst (λ x. IsUsual reading x f) (sym l.2) (usual_stays reading l.0 s f l.3 (after l.0 l.1)))
   where
     some : u ≢ []
     some = port_some u bytes left2 true e stands split
@@ -190,44 +227,66 @@ stands_stays_extended protocol u s left event f (usual bytes left2 e stands spli
     not_escape alone = stands.closed (escape_open u alone)
 
 -- at most one item stands at a text
-pub stands_once : (protocol : Protocol) (u : List ℕ) (f : Bool) (l m : List ℕ) (d e : ExtendedEvent)
-    → Stands protocol u f l d → Stands protocol u f m e → (l ≡ m) × (d ≡ e)
-stands_once protocol u f l m d e (extra s l2 p is at) (extra t m2 q it there) =
-    let one = starts_once protocol u s t p q is it (l2, at) (m2, there) in
+pub stands_once : (reading : Reading) (u : List ℕ) (f : Bool) (l m : List ℕ) (d e : ExtendedEvent)
+    → Stands reading u f l d → Stands reading u f m e → (l ≡ m) × (d ≡ e)
+stands_once reading u f l m d e (extra s l2 p is at) (extra t m2 q it there) =
+    let one = starts_once reading u s t p q is it (l2, at) (m2, there) in
     (append_cancel_left t l2 m2 (sym (ap (λ z. z ++ l2) one.0) ∙ sym at ∙ there), one.1)
-stands_once protocol u f l m d e (extra s l2 p is at) (lone_escape v split after) =
-    absurd (one_starts protocol u v (inl (record { text = s; event = p; is_extra = is; begins = (l2, at) })) split after)
-stands_once protocol u f l m d e (extra s l2 p is at) (string kind head bytes after m2 q it comes) =
-    absurd (extra_or_opening protocol u (record { text = s; event = p; is_extra = is; begins = (l2, at) })
+stands_once reading u f l m d e (extra s l2 p is at) (alt_key t m2 q it bare split) = absurd (one_starts reading u (t ++ m2)
+    (inl (record { text = s; event = p; is_extra = is; begins = (l2, at) })) split (starts_with reading t m2 q it))
+stands_once reading u f l m d e (extra s l2 p is at) (lone_escape v split after) = absurd (one_starts reading u v
+    (inl (record { text = s; event = p; is_extra = is; begins = (l2, at) })) split (apart_starts reading v after))
+stands_once reading u f l m d e (extra s l2 p is at) (string kind head bytes after m2 q it comes) =
+    absurd (extra_or_opening reading u (record { text = s; event = p; is_extra = is; begins = (l2, at) })
     (string_opening u kind head bytes after it))
-stands_once protocol u f l m d e (extra s l2 p is at) (usual t m2 q stands split it after) =
+stands_once reading u f l m d e (extra s l2 p is at) (usual t m2 q stands split it after) =
     absurd (it.none (inl (record { text = s; event = p; is_extra = is; begins = (l2, at) })))
-stands_once protocol u f l m d e (lone_escape v split after) (extra t m2 q it there) =
-    absurd (one_starts protocol u v (inl (record { text = t; event = q; is_extra = it; begins = (m2, there) })) split after)
-stands_once protocol u f l m d e (lone_escape v split after) (lone_escape w split2 after2) = (cc (split, split2), refl)
-stands_once protocol u f l m d e (lone_escape v split after) (string kind head bytes rest m2 q it comes) =
-    absurd (one_starts protocol u v (inr (string_opening u kind head bytes rest it)) split after)
-stands_once protocol u f l m d e (lone_escape v split after) (usual t m2 q stands split2 it gap) = absurd ((gap v split).none after)
-stands_once protocol u f l m d e (string kind head bytes after l2 p is comes) (extra t m2 q it there) =
-    absurd (extra_or_opening protocol u (record { text = t; event = q; is_extra = it; begins = (m2, there) })
+stands_once reading u f l m d e (alt_key s l2 p is bare split) (extra t m2 q it there) = absurd (one_starts reading u (s ++ l2)
+    (inl (record { text = t; event = q; is_extra = it; begins = (m2, there) })) split (starts_with reading s l2 p is))
+stands_once reading u f l m d e (alt_key s l2 p is bare split) (alt_key t m2 q it bare2 split2) =
+    let same : s ++ l2 ≡ t ++ m2 = cc (split, split2) in
+    let one = starts_once reading (s ++ l2) s t p q is it (l2, refl) (m2, same) in
+    (append_cancel_left t l2 m2 (sym (ap (λ z. z ++ l2) one.0) ∙ same), ap with_alt one.1)
+stands_once reading u f l m d e (alt_key s l2 p is bare split) (lone_escape w split2 after) =
+    absurd (joined_not_apart reading w s l2 p is bare (cc (split, split2)) after)
+stands_once reading u f l m d e (alt_key s l2 p is bare split) (string kind head bytes rest m2 q it comes) =
+    absurd (one_starts reading u (s ++ l2) (inr (string_opening u kind head bytes rest it)) split (starts_with reading s l2 p is))
+stands_once reading u f l m d e (alt_key s l2 p is bare split) (usual t m2 q stands split2 it gap) =
+    absurd ((gap (s ++ l2) split).none (starts_with reading s l2 p is))
+stands_once reading u f l m d e (lone_escape v split after) (extra t m2 q it there) = absurd (one_starts reading u v
+    (inl (record { text = t; event = q; is_extra = it; begins = (m2, there) })) split (apart_starts reading v after))
+stands_once reading u f l m d e (lone_escape v split after) (alt_key t m2 q it bare split2) =
+    absurd (joined_not_apart reading v t m2 q it bare (cc (split, split2)) after)
+stands_once reading u f l m d e (lone_escape v split after) (lone_escape w split2 after2) = (cc (split, split2), refl)
+stands_once reading u f l m d e (lone_escape v split after) (string kind head bytes rest m2 q it comes) =
+    absurd (one_starts reading u v (inr (string_opening u kind head bytes rest it)) split (apart_starts reading v after))
+stands_once reading u f l m d e (lone_escape v split after) (usual t m2 q stands split2 it gap) =
+    absurd ((gap v split).none (apart_starts reading v after))
+stands_once reading u f l m d e (string kind head bytes after l2 p is comes) (extra t m2 q it there) =
+    absurd (extra_or_opening reading u (record { text = t; event = q; is_extra = it; begins = (m2, there) })
     (string_opening u kind head bytes after is))
-stands_once protocol u f l m d e (string kind head bytes rest l2 p is comes) (lone_escape v split after) =
-    absurd (one_starts protocol u v (inr (string_opening u kind head bytes rest is)) split after)
-stands_once protocol u f l m d e (string k h a r l2 p is comes) (string j g b s m2 q it comes2) =
+stands_once reading u f l m d e (string kind head bytes rest l2 p is comes) (alt_key t m2 q it bare split) =
+    absurd (one_starts reading u (t ++ m2) (inr (string_opening u kind head bytes rest is)) split (starts_with reading t m2 q it))
+stands_once reading u f l m d e (string kind head bytes rest l2 p is comes) (lone_escape v split after) =
+    absurd (one_starts reading u v (inr (string_opening u kind head bytes rest is)) split (apart_starts reading v after))
+stands_once reading u f l m d e (string k h a r l2 p is comes) (string j g b s m2 q it comes2) =
     let one = string_once u k j h g a b r s is it in
     comes_once j g a b r s l2 m2 f p q (subst (λ z. All z a) one.0 is.each) it.each one.2
     (subst (λ z. Comes z g a r f l2 p) one.0 (subst (λ z. Comes k z a r f l2 p) one.1 comes)) comes2
   where
     All : StringKind → List ℕ → Type 0
     All kind bytes = AllByRecursion (IsData kind) bytes
-stands_once protocol u f l m d e (string kind head bytes after l2 p is comes) (usual t m2 q stands split it gap) =
+stands_once reading u f l m d e (string kind head bytes after l2 p is comes) (usual t m2 q stands split it gap) =
     absurd (it.none (inr (string_opening u kind head bytes after is)))
-stands_once protocol u f l m d e (usual s l2 p stands split is gap) (extra t m2 q it there) =
+stands_once reading u f l m d e (usual s l2 p stands split is gap) (extra t m2 q it there) =
     absurd (is.none (inl (record { text = t; event = q; is_extra = it; begins = (m2, there) })))
-stands_once protocol u f l m d e (usual s l2 p stands split is gap) (lone_escape w split2 after) = absurd ((gap w split2).none after)
-stands_once protocol u f l m d e (usual s l2 p stands split is gap) (string kind head bytes after m2 q it comes) =
+stands_once reading u f l m d e (usual s l2 p stands split is gap) (alt_key t m2 q it bare split2) =
+    absurd ((gap (t ++ m2) split2).none (starts_with reading t m2 q it))
+stands_once reading u f l m d e (usual s l2 p stands split is gap) (lone_escape w split2 after) =
+    absurd ((gap w split2).none (apart_starts reading w after))
+stands_once reading u f l m d e (usual s l2 p stands split is gap) (string kind head bytes after m2 q it comes) =
     absurd (is.none (inr (string_opening u kind head bytes after it)))
-stands_once protocol u f l m d e (usual s l2 p stands split is gap) (usual t m2 q stands2 split2 it gap2) =
+stands_once reading u f l m d e (usual s l2 p stands split is gap) (usual t m2 q stands2 split2 it gap2) =
     let one = item_once u f s t p q stands.item stands2.item in
     (append_cancel_left t l2 m2 (sym (ap (λ z. z ++ l2) one.0) ∙ sym split ∙ split2), ap (λ x. Input x) one.1)
 
@@ -235,11 +294,12 @@ taken : (u text left : List ℕ) → u ≡ text ++ left → text ≢ [] → leng
 taken u text left e some = omega (arith, ap length e, length-append text left, length-some text some)
 
 -- what an item leaves is shorter than the text
-pub stands_less : (protocol : Protocol) (u left : List ℕ) (event : ExtendedEvent) (f : Bool) → Stands protocol u f left event
+pub stands_less : (reading : Reading) (u left : List ℕ) (event : ExtendedEvent) (f : Bool) → Stands reading u f left event
     → length left < length u
-stands_less protocol u left event f (extra text left2 e is split) = taken u text left2 split (extra_some protocol text e is)
-stands_less protocol u left event f (lone_escape v split after) = taken u ESC v split (λ h. cc (h))
-stands_less protocol u left event f (string kind head bytes after left2 e is comes) =
+stands_less reading u left event f (extra text left2 e is split) = taken u text left2 split (extra_some reading text e is)
+stands_less reading u left event f (alt_key text left2 e is bare split) = taken u (ESC ++ text) left2 split (λ h. cc (h))
+stands_less reading u left event f (lone_escape v split after) = taken u ESC v split (λ h. cc (h))
+stands_less reading u left event f (string kind head bytes after left2 e is comes) =
     comes_less u kind head bytes after left2 f e is comes
-stands_less protocol u left event f (usual bytes left2 e stands split is gap) =
+stands_less reading u left event f (usual bytes left2 e stands split is gap) =
     taken u bytes left2 split (item_some u bytes e f stands.item)

@@ -20,14 +20,14 @@ use Rattle.termwiz_extended_grammar.proofs.lemmas.forms.FormEnds.{mark_ends, ope
 use Rattle.termwiz_extended_grammar.proofs.lemmas.forms.FormOrNot.{opening_length}
 
 -- two marks that begin one text are the same
-pub mark_once : (u a b : List ℕ) → IsMark a → IsMark b → Begins a u → Begins b u → a ≡ b
-mark_once u a b is_a is_b (r, p) (s, q) = go (overlap a r b s (sym q ∙ p))
+pub mark_once : {x10_mouse : Bool} (u a b : List ℕ) → IsMark x10_mouse a → IsMark x10_mouse b → Begins a u → Begins b u → a ≡ b
+mark_once {x10_mouse = x10_mouse} u a b is_a is_b (r, p) (s, q) = go (overlap a r b s (sym q ∙ p))
   where
     go : Overlaps a r b s → a ≡ b
     go (within t f g) =
-        let none : t ≡ [] = mark_ends a t is_a (subst (λ x. IsMark x) f is_b) in
+        let none : t ≡ [] = mark_ends a t is_a (subst (λ x. IsMark x10_mouse x) f is_b) in
         sym (f ∙ ap (λ x. a ++ x) none ∙ append-nil a)
-    go (past t n f g) = absurd (n (mark_ends b t is_b (subst (λ x. IsMark x) f is_a)))
+    go (past t n f g) = absurd (n (mark_ends b t is_b (subst (λ x. IsMark x10_mouse x) f is_a)))
 
 pub string_opening : (u : List ℕ) (kind : StringKind) (head bytes after : List ℕ) → IsString u kind head bytes after → StartsWithOpening u
 string_opening u kind head bytes after s =
@@ -37,7 +37,7 @@ string_opening u kind head bytes after s =
 pub string_once : (u : List ℕ) (k j : StringKind) (h g bytes other after rest : List ℕ) → IsString u k h bytes after
     → IsString u j g other rest → (k ≡ j) × (h ≡ g) × (bytes ++ after ≡ other ++ rest)
 string_once u k j h g bytes other after rest a b =
-    let same : introducer k ++ h ≡ introducer j ++ g = mark_once u (introducer k ++ h) (introducer j ++ g)
+    let same : introducer k ++ h ≡ introducer j ++ g = mark_once {x10_mouse = false} u (introducer k ++ h) (introducer j ++ g)
     (inr (record { kind = k; head = h; is_head = a.is_head; form = refl }))
     (inr (record { kind = j; head = g; is_head = b.is_head; form = refl })) (bytes ++ after, a.splits) (other ++ rest, b.splits) in
     let one = opening_once k j h g same in (

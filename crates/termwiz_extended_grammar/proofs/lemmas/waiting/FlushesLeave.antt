@@ -5,14 +5,15 @@ use Rattle.termwiz_keymap.proofs.lemmas.lists.CommonPrefixes.{Overlaps, overlap}
 use Rattle.termwiz_keymap.proofs.lemmas.lists.CommonPrefixes.Overlaps.{within, past}
 use Rattle.termwiz_keys.specs.Introducers.{ESC, START}
 use Rattle.termwiz_extended_events.specs.declared.types.ExtendedEvent.{ExtendedEvent}
-use Rattle.termwiz_extended_events.specs.declared.types.Protocol.{Protocol}
+use Rattle.termwiz_extended_events.specs.declared.types.Reading.{Reading}
 use Rattle.termwiz_extended_events.specs.declared.types.StringKind.{StringKind}
 use Rattle.termwiz_extended_grammar.specs.Forms.{introducer}
 use Rattle.termwiz_extended_grammar.specs.Strings.{IsHead, IsString, Ends, Comes}
 use Rattle.termwiz_extended_grammar.specs.Strings.Ends.{ended, cut, cut_by_two, flushed}
 use Rattle.termwiz_extended_grammar.specs.Strings.Comes.{part, last}
+use Rattle.termwiz_extended_grammar.specs.Readings.{after_event, after_events}
 use Rattle.termwiz_extended_grammar.specs.ExtendedGrammar.{Stands, Steps, IsRest}
-use Rattle.termwiz_extended_grammar.specs.ExtendedGrammar.Stands.{extra, lone_escape, string, usual}
+use Rattle.termwiz_extended_grammar.specs.ExtendedGrammar.Stands.{extra, alt_key, lone_escape, string, usual}
 use Rattle.termwiz_extended_grammar.specs.ExtendedLaws.{Waits}
 use Rattle.termwiz_extended_grammar.specs.ExtendedLaws.Waits.{nothing, open_paste, undecided, open_string}
 use Rattle.termwiz_extended_grammar.proofs.lemmas.forms.FormBytes.{IsMark, introducer_shape, escape_within}
@@ -20,10 +21,10 @@ use Rattle.termwiz_extended_grammar.proofs.lemmas.items.ExtendedItems.{stands_le
 use Rattle.termwiz_extended_grammar.proofs.lemmas.items.ExtendedRests.{Read, waiting_shape}
 
 -- nothing waits under a flush but an open paste
-pub rest_flushed : (protocol : Protocol) (W : List ℕ) (more : Bool) → IsRest protocol W more → more ≡ false → (W ≡ []) ⊎ Begins START W
-rest_flushed protocol W more rest ends = go (waiting_shape protocol W more rest)
+pub rest_flushed : (reading : Reading) (W : List ℕ) (more : Bool) → IsRest reading W more → more ≡ false → (W ≡ []) ⊎ Begins START W
+rest_flushed reading W more rest ends = go (waiting_shape reading W more rest)
   where
-    go : Waits protocol W more → (W ≡ []) ⊎ Begins START W
+    go : Waits reading W more → (W ≡ []) ⊎ Begins START W
     go (nothing e) = inl e
     go (open_paste body e never) = inr (body, e)
     go (undecided held bytes is e n b short m) = absurd (cc (m, ends))
@@ -49,7 +50,7 @@ no_start_opening kind head after is none front W e b = go front e (overlap (intr
     i : (x : ℕ) × (introducer kind ≡ 27 ∷ x ∷ []) × ((x ≡ 93) ⊎ ((x ≡ 80) ⊎ (x ≡ 95)))
     i = introducer_shape kind
 
-    mark : IsMark (introducer kind ++ head)
+    mark : IsMark false (introducer kind ++ head)
     mark = inr (record { kind = kind; head = head; is_head = is; form = refl })
 
     -- START at the front isn't an opening
@@ -65,7 +66,7 @@ no_start_opening kind head after is none front W e b = go front e (overlap (intr
     go (y ∷ front) same (past (x ∷ t) n f g) =
         let first : x ≡ 27 = cc (g, b.1) in
         let last : t ≡ 92 ∷ [] = escape_within (y ∷ front) t (λ h. cc (h))
-        (subst (λ z. IsMark (y ∷ front ++ z ∷ t)) first (subst IsMark f mark)) in
+        (subst (λ z. IsMark false (y ∷ front ++ z ∷ t)) first (subst (IsMark false) f mark)) in
         let second : ◌≡◌ {A = ℕ} 92 91 = cc (g, b.1, last) in omega arith
 
 ends_after : (kind : StringKind) (bytes after left : List ℕ) (f : Bool) (event : ExtendedEvent) → Ends kind bytes after f left event
@@ -92,37 +93,38 @@ comes_after u kind head bytes after left f event is (last left2 e p it) none =
     ends_after kind (head ++ bytes) after left2 f e it (after_data u kind head bytes after is none)
 
 -- so at no place in what an item leaves
-left_no_start : (protocol : Protocol) (u left : List ℕ) (f : Bool) (event : ExtendedEvent) → Stands protocol u f left event → HasNoStart u
+left_no_start : (reading : Reading) (u left : List ℕ) (f : Bool) (event : ExtendedEvent) → Stands reading u f left event → HasNoStart u
     → HasNoStart left
-left_no_start protocol u left f event (extra text left2 e is split) none = no_start_after u text left2 split none
-left_no_start protocol u left f event (lone_escape v split after) none = no_start_after u ESC v split none
-left_no_start protocol u left f event (string kind head bytes after left2 e is comes) none =
+left_no_start reading u left f event (extra text left2 e is split) none = no_start_after u text left2 split none
+left_no_start reading u left f event (alt_key text left2 e is bare split) none = no_start_after u (ESC ++ text) left2 split none
+left_no_start reading u left f event (lone_escape v split after) none = no_start_after u ESC v split none
+left_no_start reading u left f event (string kind head bytes after left2 e is comes) none =
     comes_after u kind head bytes after left2 f e is comes none
-left_no_start protocol u left f event (usual bytes left2 e stands split is gap) none = no_start_after u bytes left2 split none
+left_no_start reading u left f event (usual bytes left2 e stands split is gap) none = no_start_after u bytes left2 split none
 
-pub steps_no_start : (protocol : Protocol) (E : List ExtendedEvent) (T W : List ℕ) (f : Bool) → Steps protocol T f E W → HasNoStart T → HasNoStart W
-steps_no_start protocol [] T W f h none = subst HasNoStart h none
-steps_no_start protocol (e ∷ E) T W f (left, stands, steps) none =
-    steps_no_start protocol E left W f steps (left_no_start protocol T left f e stands none)
+pub steps_no_start : (reading : Reading) (E : List ExtendedEvent) (T W : List ℕ) (f : Bool) → Steps reading T f E W → HasNoStart T → HasNoStart W
+steps_no_start reading [] T W f h none = subst HasNoStart h none
+steps_no_start reading (e ∷ E) T W f (left, stands, steps) none =
+    steps_no_start (after_event reading e) E left W f steps (left_no_start reading T left f e stands none)
 
 -- a flush leaves nothing of such a text, so it gives an event
-pub flush_leaves : (protocol : Protocol) (T W : List ℕ) (E : List ExtendedEvent) → HasNoStart T → Read protocol T false E W → W ≡ []
-flush_leaves protocol T W E none (steps, rest) = ⊎_elim
+pub flush_leaves : (reading : Reading) (T W : List ℕ) (E : List ExtendedEvent) → HasNoStart T → Read reading T false E W → W ≡ []
+flush_leaves reading T W E none (steps, rest) = ⊎_elim
     (λ (e : W ≡ []). e)
-    (λ (b : Begins START W). absurd (steps_no_start protocol E T W false steps none [] W refl b))
-    (rest_flushed protocol W false rest refl)
+    (λ (b : Begins START W). absurd (steps_no_start reading E T W false steps none [] W refl b))
+    (rest_flushed (after_events reading E) W false rest refl)
 
-pub flush_gives : (protocol : Protocol) (T W : List ℕ) (E : List ExtendedEvent) → T ≢ [] → HasNoStart T → Read protocol T false E W → E ≢ []
-flush_gives protocol T W [] some none (h, rest) e = some (h ∙ flush_leaves protocol T W [] none (h, rest))
-flush_gives protocol T W (x ∷ E) some none m e = cc (e)
+pub flush_gives : (reading : Reading) (T W : List ℕ) (E : List ExtendedEvent) → T ≢ [] → HasNoStart T → Read reading T false E W → E ≢ []
+flush_gives reading T W [] some none (h, rest) e = some (h ∙ flush_leaves reading T W [] none (h, rest))
+flush_gives reading T W (x ∷ E) some none m e = cc (e)
 
-pub nothing_steps : (protocol : Protocol) (E : List ExtendedEvent) (W : List ℕ) (f : Bool) → Steps protocol [] f E W → E ≡ []
-nothing_steps protocol [] W f h = refl
-nothing_steps protocol (e ∷ E) W f (left, stands, steps) = absurd (omega (arith, stands_less protocol [] left e f stands))
+pub nothing_steps : (reading : Reading) (E : List ExtendedEvent) (W : List ℕ) (f : Bool) → Steps reading [] f E W → E ≡ []
+nothing_steps reading [] W f h = refl
+nothing_steps reading (e ∷ E) W f (left, stands, steps) = absurd (omega (arith, stands_less reading [] left e f stands))
 
 -- an item that leaves nothing is the last
-pub nothing_after : (protocol : Protocol) (left W : List ℕ) (E : List ExtendedEvent) → left ≡ [] → Steps protocol left false E W → E ≡ []
-nothing_after protocol left W E none steps = nothing_steps protocol E W false (subst (λ x. Steps protocol x false E W) none steps)
+pub nothing_after : (reading : Reading) (left W : List ℕ) (E : List ExtendedEvent) → left ≡ [] → Steps reading left false E W → E ≡ []
+nothing_after reading left W E none steps = nothing_steps reading E W false (subst (λ x. Steps reading x false E W) none steps)
 
 pub two_long : (E D : List ExtendedEvent) → E ≢ [] → D ≢ [] → 2 ≤ length (E ++ D)
 two_long [] D a b = absurd (a refl)

@@ -33,7 +33,7 @@ use Rattle.termwiz_grammar.proofs.lemmas.table.RowShape.Bytes.{one, more}
 use Rattle.termwiz_grammar.proofs.lemmas.table.SequenceFacts.{sequence_bytes, start, start_is_sequence, start_ends, report_ends}
 use Rattle.termwiz_extended_events.specs.declared.types.ExtendedEvent.{ExtendedEvent}
 use Rattle.termwiz_extended_events.specs.declared.types.ExtendedEvent.TheVariants.{Input, StringCut}
-use Rattle.termwiz_extended_events.specs.declared.types.Protocol.{Protocol}
+use Rattle.termwiz_extended_events.specs.declared.types.Reading.{Reading}
 use Rattle.termwiz_extended_events.specs.declared.types.StringKind.{StringKind}
 use Rattle.termwiz_extended_events.specs.declared.types.StringKind.TheVariants.{Osc, Dcs, Apc}
 use Rattle.termwiz_extended_events.specs.Meanings.{event_of, whole_string}
@@ -41,9 +41,10 @@ use Rattle.termwiz_extended_grammar.specs.Forms.{ST, introducer, IsForm}
 use Rattle.termwiz_extended_grammar.specs.Strings.{IsUnfinishedOpening, IsOpenString}
 use Rattle.termwiz_extended_grammar.specs.Strings.Ends.{ended, flushed}
 use Rattle.termwiz_extended_grammar.specs.Strings.Comes.{last}
-use Rattle.termwiz_extended_grammar.specs.ExtraSequences.{IsExtra}
-use Rattle.termwiz_extended_grammar.specs.ExtendedGrammar.{StartsExtended, BeginsKnown, Stands, Steps, Means}
-use Rattle.termwiz_extended_grammar.specs.ExtendedGrammar.Stands.{extra, lone_escape, string, usual}
+use Rattle.termwiz_extended_grammar.specs.Readings.{after_event, after_events}
+use Rattle.termwiz_extended_grammar.specs.ExtraSequences.{IsExtra, IsBareKey}
+use Rattle.termwiz_extended_grammar.specs.ExtendedGrammar.{StartsExtended, StartsApart, BeginsKnown, Stands, Steps, Means}
+use Rattle.termwiz_extended_grammar.specs.ExtendedGrammar.Stands.{extra, alt_key, lone_escape, string, usual}
 use Rattle.termwiz_extended_grammar.specs.ExtendedLaws.{FlushMatters, Undecided}
 use Rattle.termwiz_extended_grammar.proofs.lemmas.forms.FormBytes.{IsSecond, IsStringIntroducer, IsMark, mark_shape, escape_within}
 use Rattle.termwiz_extended_grammar.proofs.lemmas.forms.FormEnds.{mark_ends, sequence_after_mark, mark_after_sequence}
@@ -52,7 +53,7 @@ use Rattle.termwiz_extended_grammar.proofs.lemmas.forms.Unfinished.{free_complet
 use Rattle.termwiz_extended_grammar.proofs.lemmas.forms.ExtraFacts.{start_form, free_from_none, mark_from_unfinished, mark_unfinished, starts_mark}
 use Rattle.termwiz_extended_grammar.proofs.lemmas.items.StringItems.{string_opening, string_append}
 use Rattle.termwiz_extended_grammar.proofs.lemmas.items.StringRests.{st_ends}
-use Rattle.termwiz_extended_grammar.proofs.lemmas.items.ExtendedItems.{starts_shape, starts_longer, second_not_escape, stands_once}
+use Rattle.termwiz_extended_grammar.proofs.lemmas.items.ExtendedItems.{apart_starts, starts_shape, starts_longer, starts_with, second_not_escape, stands_once}
 use Rattle.termwiz_extended_grammar.proofs.lemmas.items.ExtendedRests.{Read, read_of, one_meaning, empty_is_rest}
 use Rattle.termwiz_extended_grammar.proofs.lemmas.cuts.BeforeEscape.{escape_comes_first}
 use Rattle.termwiz_extended_grammar.proofs.lemmas.waiting.FlushesLeave.{HasNoStart, no_start_cons, flush_leaves, flush_gives, nothing_after, two_long}
@@ -64,18 +65,18 @@ alt_not_escape j e =
     omega (arith, le_or_r j.modifiers.0 4)
 
 -- x ∷ p goes on by c so that the whole is read at once
-record GoesOn (protocol : Protocol) (x : ℕ) (p c : List ℕ) : Type 0 where
+record GoesOn (reading : Reading) (x : ℕ) (p c : List ℕ) : Type 0 where
   longer : c ≢ []
   -- read whole it gives one event at most, and after an ESC one at most, or an Escape first
-  whole_short : (E : List ExtendedEvent) (W : List ℕ) → Read protocol (x ∷ p ++ c) false E W → length E ≤ 1
-  whole_held : (e : ExtendedEvent) (E : List ExtendedEvent) (W : List ℕ) → Read protocol (27 ∷ x ∷ p ++ c) false (e ∷ E) W
+  whole_short : (E : List ExtendedEvent) (W : List ℕ) → Read reading (x ∷ p ++ c) false E W → length E ≤ 1
+  whole_held : (e : ExtendedEvent) (E : List ExtendedEvent) (W : List ℕ) → Read reading (27 ∷ x ∷ p ++ c) false (e ∷ E) W
       → (e ≡ Input (Key escape)) ⊎ (E ≡ [])
   -- flushed, nothing of either part is left, and an Escape before x ∷ p is joined to its head
   no_start : HasNoStart (x ∷ p)
   no_start_after : HasNoStart c
   alone : (x ≤ 64) ⊎ (92 ≤ x)
   second : IsSecond x → ⊥
-  no_extra : StartsExtended protocol (x ∷ p) → ⊥
+  no_extra : StartsExtended reading (x ∷ p) → ⊥
   no_report : (text : List ℕ) (r : MouseEvent) → IsSequence text (Report r) → Begins text (x ∷ p) → ⊥
 
 -- an item of the port that takes a whole text leaves nothing
@@ -92,12 +93,12 @@ escape_gives x t bytes e alone item =
     subst (λ h. Gives (27 ∷ x ∷ t) false h bytes e) same g.2
 
 -- no extra sequence and no opening begins an ESC and such a byte
-no_extra_with_escape : (protocol : Protocol) (x : ℕ) (t : List ℕ) → (IsSecond x → ⊥) → StartsExtended protocol (27 ∷ x ∷ t) → ⊥
-no_extra_with_escape protocol x t never h =
-    let s = starts_shape protocol (27 ∷ x ∷ t) h in
+no_extra_with_escape : (reading : Reading) (x : ℕ) (t : List ℕ) → (IsSecond x → ⊥) → StartsExtended reading (27 ∷ x ∷ t) → ⊥
+no_extra_with_escape reading x t never h =
+    let s = starts_shape reading (27 ∷ x ∷ t) h in
     let same : s.0 ≡ x = cc (s.2) in never (subst IsSecond same s.3)
 
-module _ (protocol : Protocol) (x : ℕ) (p c : List ℕ) (on : GoesOn protocol x p c) where
+module _ (reading : Reading) (x : ℕ) (p c : List ℕ) (on : GoesOn reading x p c) where
   -- flushed after an Escape, it gives a key with ALT first
   flush_row : (bytes : List ℕ) (e : InputEvent) → RowGives (27 ∷ x ∷ p) false ESC escape bytes e
       → (j : KeyEvent) × (e ≡ Key (with_alt j))
@@ -113,19 +114,23 @@ module _ (protocol : Protocol) (x : ℕ) (p c : List ℕ) (on : GoesOn protocol 
       near (Broken d) is far = far
   flush_row bytes e (joined at v h j split some closed is near d f) = (j, f)
 
-  flush_stands : (left : List ℕ) (e : ExtendedEvent) → Stands protocol (27 ∷ x ∷ p) false left e
+  flush_stands : (left : List ℕ) (e : ExtendedEvent) → Stands reading (27 ∷ x ∷ p) false left e
       → (j : KeyEvent) × (e ≡ Input (Key (with_alt j)))
-  flush_stands left e (extra text left2 d is split) = absurd (no_extra_with_escape protocol x p on.second
+  flush_stands left e (extra text left2 d is split) = absurd (no_extra_with_escape reading x p on.second
       (inl (record { text = text; event = d; is_extra = is; begins = (left2, split) })))
+  flush_stands left e (alt_key text left2 d is bare split) =
+      let same : text ++ left2 ≡ x ∷ p = cc (split) in
+      absurd (on.no_extra (subst (λ z. StartsExtended reading z) same (starts_with reading text left2 d is)))
   flush_stands left e (lone_escape v split after) =
-      let same : v ≡ x ∷ p = cc (split) in absurd (on.no_extra (subst (λ z. StartsExtended protocol z) same after))
+      let same : v ≡ x ∷ p = cc (split) in
+      absurd (on.no_extra (subst (λ z. StartsExtended reading z) same (apart_starts reading v after)))
   flush_stands left e (string kind head bytes after left2 d is comes) =
-      absurd (no_extra_with_escape protocol x p on.second (inr (string_opening (27 ∷ x ∷ p) kind head bytes after is)))
+      absurd (no_extra_with_escape reading x p on.second (inr (string_opening (27 ∷ x ∷ p) kind head bytes after is)))
   flush_stands left e (usual s left2 d stands split is gap) =
       let j = flush_row s d (escape_gives x p s d on.alone stands.item) in (j.0, ap (λ z. Input z) j.1)
 
-  apart_events : (E D : List ExtendedEvent) (V W : List ℕ) (F : List ExtendedEvent) → Read protocol (27 ∷ x ∷ p ++ c) false E W
-      → Read protocol (27 ∷ x ∷ p) false D V
+  apart_events : (E D : List ExtendedEvent) (V W : List ℕ) (F : List ExtendedEvent) → Read reading (27 ∷ x ∷ p ++ c) false E W
+      → Read reading (27 ∷ x ∷ p) false D V
       → D ≢ [] → F ≢ [] → E ≡ D ++ F → ⊥
   apart_events [] D V W F mw md nd nf e = let two = two_long D F nd nf in omega (arith, ap length e)
   apart_events (y ∷ E) [] V W F mw md nd nf e = nd refl
@@ -146,39 +151,39 @@ module _ (protocol : Protocol) (x : ℕ) (p c : List ℕ) (on : GoesOn protocol 
       not_here b = omega (arith, (escape_alone x p on.alone).longest START (Row start) start_is_sequence b)
 
   differ : (held : List ℕ) → IsHeldEscape held → (E E1 E2 : List ExtendedEvent) (W W1 W2 : List ℕ)
-      → Means protocol (held ++ x ∷ p ++ c) false E W → Means protocol (held ++ x ∷ p) false E1 W1
-      → Means protocol (W1 ++ c) false E2 W2 → E ≢ E1 ++ E2
+      → Means reading (held ++ x ∷ p ++ c) false E W → Means reading (held ++ x ∷ p) false E1 W1
+      → Means (after_events reading E1) (W1 ++ c) false E2 W2 → E ≢ E1 ++ E2
   differ held is E E1 E2 W W1 W2 mw m1 m2 e =
       let none = no_start_held held is in
-      let gone : W1 ≡ [] = flush_leaves protocol (held ++ x ∷ p) W1 E1 none (read_of m1) in
+      let gone : W1 ≡ [] = flush_leaves reading (held ++ x ∷ p) W1 E1 none (read_of m1) in
       let some : E1 ≢ [] =
-      flush_gives protocol (held ++ x ∷ p) W1 E1 (append-some held (x ∷ p) (λ z. cc (z))) none (read_of m1) in
+      flush_gives reading (held ++ x ∷ p) W1 E1 (append-some held (x ∷ p) (λ z. cc (z))) none (read_of m1) in
       let last : E2 ≢ [] =
-      flush_gives protocol c W2 E2 on.longer on.no_start_after
-      (subst (λ z. Read protocol (z ++ c) false E2 W2) gone (read_of m2)) in
+      flush_gives (after_events reading E1) c W2 E2 on.longer on.no_start_after
+      (subst (λ z. Read (after_events reading E1) (z ++ c) false E2 W2) gone (read_of m2)) in
       ⊎_elim
-      (λ (h : held ≡ []). let short = on.whole_short E W (subst (λ z. Read protocol (z ++ x ∷ p ++ c) false E W) h (read_of mw)) in
+      (λ (h : held ≡ []). let short = on.whole_short E W (subst (λ z. Read reading (z ++ x ∷ p ++ c) false E W) h (read_of mw)) in
       let two = two_long E1 E2 some last in omega (arith, ap length e))
-      (λ (h : held ≡ ESC). apart_events E E1 W1 W E2 (subst (λ z. Read protocol (z ++ x ∷ p ++ c) false E W) h (read_of mw))
-      (subst (λ z. Read protocol (z ++ x ∷ p) false E1 W1) h (read_of m1)) some last e)
+      (λ (h : held ≡ ESC). apart_events E E1 W1 W E2 (subst (λ z. Read reading (z ++ x ∷ p ++ c) false E W) h (read_of mw))
+      (subst (λ z. Read reading (z ++ x ∷ p) false E1 W1) h (read_of m1)) some last e)
       is
 
 -- a text that goes on to a mark, of which a flush makes one event
-module _ (protocol : Protocol) (x : ℕ) (p c : List ℕ) (longer : c ≢ []) (mark : IsMark (x ∷ p ++ c))
-    (starts : StartsExtended protocol (x ∷ p ++ c)) (event : ExtendedEvent) (whole : Stands protocol (x ∷ p ++ c) false [] event) where
+module _ (reading : Reading) (x : ℕ) (p c : List ℕ) (longer : c ≢ []) (mark : IsMark reading.x10_mouse (x ∷ p ++ c))
+    (starts : StartsApart reading (x ∷ p ++ c)) (event : ExtendedEvent) (whole : Stands reading (x ∷ p ++ c) false [] event) where
   first_is_escape : x ≡ 27
   first_is_escape = (let s = mark_shape (x ∷ p ++ c) mark in cc (s.2))
 
-  mark_whole_short : (E : List ExtendedEvent) (W : List ℕ) → Read protocol (x ∷ p ++ c) false E W → length E ≤ 1
+  mark_whole_short : (E : List ExtendedEvent) (W : List ℕ) → Read reading (x ∷ p ++ c) false E W → length E ≤ 1
   mark_whole_short [] W m = omega arith
   mark_whole_short (e ∷ E) W ((left, stands, steps), r) =
-      let same = stands_once protocol (x ∷ p ++ c) false left [] e event stands whole in
-      omega (arith, ap length (nothing_after protocol left W E same.0 steps))
+      let same = stands_once reading (x ∷ p ++ c) false left [] e event stands whole in
+      omega (arith, ap length (nothing_after (after_event reading e) left W E same.0 steps))
 
-  mark_whole_held : (e : ExtendedEvent) (E : List ExtendedEvent) (W : List ℕ) → Read protocol (27 ∷ x ∷ p ++ c) false (e ∷ E) W
+  mark_whole_held : (e : ExtendedEvent) (E : List ExtendedEvent) (W : List ℕ) → Read reading (27 ∷ x ∷ p ++ c) false (e ∷ E) W
       → (e ≡ Input (Key escape)) ⊎ (E ≡ [])
   mark_whole_held e E W ((left, stands, steps), r) =
-      inl (stands_once protocol (27 ∷ x ∷ p ++ c) false left (x ∷ p ++ c) e (Input (Key escape)) stands
+      inl (stands_once reading (27 ∷ x ∷ p ++ c) false left (x ∷ p ++ c) e (Input (Key escape)) stands
       (lone_escape (x ∷ p ++ c) refl starts)).1
 
   -- no mark has a START
@@ -186,12 +191,12 @@ module _ (protocol : Protocol) (x : ℕ) (p c : List ℕ) (longer : c ≢ []) (m
   no_start_in front W e b some =
       let last : 91 ∷ 50 ∷ 48 ∷ 48 ∷ 126 ∷ b.0 ≡ 92 ∷ [] =
       escape_within front (91 ∷ 50 ∷ 48 ∷ 48 ∷ 126 ∷ b.0) some
-      (subst (λ z. IsMark z) (e ∙ ap (λ z. front ++ z) b.1) mark) in
+      (subst (λ z. IsMark reading.x10_mouse z) (e ∙ ap (λ z. front ++ z) b.1) mark) in
       omega (arith, ap length last)
 
   mark_no_start : HasNoStart (x ∷ p)
   mark_no_start [] W e b = append-some b.0 c longer
-      (mark_ends START (b.0 ++ c) (inl start_form) (subst (λ z. IsMark z) (ap (λ z. z ++ c) (e ∙ b.1)) mark))
+      (mark_ends START (b.0 ++ c) (inl start_form) (subst (λ z. IsMark reading.x10_mouse z) (ap (λ z. z ++ c) (e ∙ b.1)) mark))
   mark_no_start (y ∷ front) W e b = no_start_in (y ∷ front) (W ++ c)
       (ap (λ z. z ++ c) e ∙ append_assoc (y ∷ front) W c) (b.0 ++ c, ap (λ z. z ++ c) b.1) (λ h. cc (h))
 
@@ -210,9 +215,9 @@ module _ (protocol : Protocol) (x : ℕ) (p c : List ℕ) (longer : c ≢ []) (m
       (λ (k : text ≡ CSI). cc (k, f.1))
       (λ (k : (text ≡ SS3) ⊎ (text ≡ 27 ∷ 80 ∷ [])). ⊎_elim (λ (l : text ≡ SS3). cc (l, f.1)) (λ (l : text ≡ 27 ∷ 80 ∷ []). cc (l, f.1)) k)
       h)
-      (mark_after_sequence text (b.0 ++ c) (Report r) is (append-some b.0 c longer) (subst (λ z. IsMark z) e mark))
+      (mark_after_sequence text (b.0 ++ c) (Report r) is (append-some b.0 c longer) (subst (λ z. IsMark reading.x10_mouse z) e mark))
 
-  mark_goes_on : GoesOn protocol x p c
+  mark_goes_on : GoesOn reading x p c
   mark_goes_on = record {
     longer = longer;
     whole_short = mark_whole_short;
@@ -221,36 +226,36 @@ module _ (protocol : Protocol) (x : ℕ) (p c : List ℕ) (longer : c ≢ []) (m
     no_start_after = mark_no_start_after;
     alone = inl (let e : x ≡ 27 = first_is_escape in omega arith);
     second = λ is. second_not_escape x is first_is_escape;
-    no_extra = λ h. (let m = starts_mark protocol (x ∷ p) h in append-some m.1 c longer (mark_ends m.0 (m.1 ++ c) m.2
-        (subst (λ z. IsMark z) (ap (λ z. z ++ c) m.3 ∙ append_assoc m.0 m.1 c) mark)));
+    no_extra = λ h. (let m = starts_mark reading (x ∷ p) h in append-some m.1 c longer (mark_ends m.0 (m.1 ++ c) m.2
+        (subst (λ z. IsMark reading.x10_mouse z) (ap (λ z. z ++ c) m.3 ∙ append_assoc m.0 m.1 c) mark)));
     no_report = mark_no_report;
   }
 
 -- a text that goes on to an extra sequence
-extra_goes_on : (protocol : Protocol) (x : ℕ) (p c : List ℕ) → c ≢ [] → IsForm (x ∷ p ++ c) → ((m : Meaning) → ¬ IsSequence (x ∷ p ++ c) m)
-    → GoesOn protocol x p c
-extra_goes_on protocol x p c longer form free =
-    let is : IsExtra protocol (x ∷ p ++ c) (event_of (x ∷ p ++ c)) =
-    record { is_form = form; is_free = free_from_none protocol (x ∷ p ++ c) free; means = refl } in
+extra_goes_on : (reading : Reading) (x : ℕ) (p c : List ℕ) → c ≢ [] → IsForm reading.x10_mouse (x ∷ p ++ c)
+    → ((m : Meaning) → ¬ IsSequence (x ∷ p ++ c) m) → ¬ IsBareKey (x ∷ p ++ c) → GoesOn reading x p c
+extra_goes_on reading x p c longer form free other =
+    let is : IsExtra reading (x ∷ p ++ c) (event_of (x ∷ p ++ c)) =
+    record { is_form = form; is_free = free_from_none reading (x ∷ p ++ c) free; means = refl } in
     let whole : x ∷ p ++ c ≡ (x ∷ p ++ c) ++ [] = sym (append-nil (x ∷ p ++ c)) in
-    mark_goes_on protocol x p c longer (inl form)
-    (inl (record { text = x ∷ p ++ c; event = event_of (x ∷ p ++ c); is_extra = is; begins = ([], whole) }))
+    mark_goes_on reading x p c longer (inl form)
+    (inl (record { text = x ∷ p ++ c; event = event_of (x ∷ p ++ c); is_extra = is; not_bare = other; begins = ([], whole) }))
     (event_of (x ∷ p ++ c)) (extra (x ∷ p ++ c) [] (event_of (x ∷ p ++ c)) is whole)
 
 -- a text that goes on to an opening
-opening_goes_on : (protocol : Protocol) (x : ℕ) (p : List ℕ) (o : IsUnfinishedOpening (x ∷ p)) → GoesOn protocol x p o.tail
-opening_goes_on protocol x p o =
+opening_goes_on : (reading : Reading) (x : ℕ) (p : List ℕ) (o : IsUnfinishedOpening (x ∷ p)) → GoesOn reading x p o.tail
+opening_goes_on reading x p o =
     let form : x ∷ p ++ o.tail ≡ introducer o.kind ++ o.head = sym o.spells in
     let short : length (introducer o.kind ++ o.head) ≤ 255 = opening_length o.kind o.head o.is_head in
     let whole : x ∷ p ++ o.tail ≡ introducer o.kind ++ o.head ++ [] = form ∙ sym (append-nil (introducer o.kind ++ o.head)) in
-    mark_goes_on protocol x p o.tail o.longer (inr (record { kind = o.kind; head = o.head; is_head = o.is_head; form = form }))
+    mark_goes_on reading x p o.tail o.longer (inr (record { kind = o.kind; head = o.head; is_head = o.is_head; form = form }))
     (inr (record { kind = o.kind; head = o.head; is_head = o.is_head; begins = ([], whole) }))
     (StringCut o.kind (o.head ++ []))
     (string o.kind o.head [] [] [] (StringCut o.kind (o.head ++ [])) (record { is_head = o.is_head; each = tt; splits = whole })
     (last [] (StringCut o.kind (o.head ++ [])) (omega (arith, length-append (introducer o.kind ++ o.head) [])) (flushed (inl refl) refl)))
 
 -- what the port reads at once, and no extra sequence and no opening begins
-record IsPortsOwn (protocol : Protocol) (x : ℕ) (p c : List ℕ) : Type 0 where
+record IsPortsOwn (reading : Reading) (x : ℕ) (p c : List ℕ) : Type 0 where
   longer : c ≢ []
   head : Head
   whole : IsHead (x ∷ p ++ c) head
@@ -261,29 +266,31 @@ record IsPortsOwn (protocol : Protocol) (x : ℕ) (p c : List ℕ) : Type 0 wher
   no_start_after : HasNoStart c
   alone : (x ≤ 64) ⊎ (92 ≤ x)
   second : IsSecond x → ⊥
-  no_extra : StartsExtended protocol (x ∷ p ++ c) → ⊥
-  no_extra_after : (v : List ℕ) → x ∷ p ++ c ≡ ESC ++ v → StartsExtended protocol v → ⊥
+  no_extra : StartsExtended reading (x ∷ p ++ c) → ⊥
+  no_extra_after : (v : List ℕ) → x ∷ p ++ c ≡ ESC ++ v → StartsExtended reading v → ⊥
   no_report : (text : List ℕ) (r : MouseEvent) → IsSequence text (Report r) → Begins text (x ∷ p) → ⊥
 
-module _ (protocol : Protocol) (x : ℕ) (p c : List ℕ) (own : IsPortsOwn protocol x p c) where
-  own_stands : (left W : List ℕ) (e : ExtendedEvent) (E : List ExtendedEvent) → Stands protocol (x ∷ p ++ c) false left e
-      → Steps protocol left false E W → E ≡ []
+module _ (reading : Reading) (x : ℕ) (p c : List ℕ) (own : IsPortsOwn reading x p c) where
+  own_stands : (left W : List ℕ) (e : ExtendedEvent) (E : List ExtendedEvent) → Stands reading (x ∷ p ++ c) false left e
+      → Steps (after_event reading e) left false E W → E ≡ []
   own_stands left W e E (extra text left2 d is split) steps =
       absurd (own.no_extra (inl (record { text = text; event = d; is_extra = is; begins = (left2, split) })))
-  own_stands left W e E (lone_escape v split after) steps = absurd (own.no_extra_after v split after)
+  own_stands left W e E (alt_key text left2 d is bare split) steps =
+      absurd (own.no_extra_after (text ++ left2) split (starts_with reading text left2 d is))
+  own_stands left W e E (lone_escape v split after) steps = absurd (own.no_extra_after v split (apart_starts reading v after))
   own_stands left W e E (string kind head bytes after left2 d is comes) steps =
       absurd (own.no_extra (inr (string_opening (x ∷ p ++ c) kind head bytes after is)))
   own_stands left W e E (usual s left2 d stands split is gap) steps =
       let same = item_once (x ∷ p ++ c) false s (x ∷ p ++ c) d own.event stands.item own.item in
-      nothing_after protocol left2 W E (nothing_left (x ∷ p ++ c) s left2 same.0 split) steps
+      nothing_after reading left2 W E (nothing_left (x ∷ p ++ c) s left2 same.0 split) steps
 
-  own_whole_short : (E : List ExtendedEvent) (W : List ℕ) → Read protocol (x ∷ p ++ c) false E W → length E ≤ 1
+  own_whole_short : (E : List ExtendedEvent) (W : List ℕ) → Read reading (x ∷ p ++ c) false E W → length E ≤ 1
   own_whole_short [] W m = omega arith
   own_whole_short (e ∷ E) W ((left, stands, steps), r) = omega (arith, ap length (own_stands left W e E stands steps))
 
   own_held_row : (bytes rest W : List ℕ) (e : InputEvent) (E : List ExtendedEvent)
       → RowGives (27 ∷ x ∷ p ++ c) false ESC escape bytes e
-      → 27 ∷ x ∷ p ++ c ≡ bytes ++ rest → Steps protocol rest false E W → (e ≡ Key escape) ⊎ (E ≡ [])
+      → 27 ∷ x ∷ p ++ c ≡ bytes ++ rest → Steps reading rest false E W → (e ≡ Key escape) ⊎ (E ≡ [])
   own_held_row bytes rest W e E (its_key a b d f) splits steps = absurd (let h : 27 ∷ x ∷ p ++ c ≡ ESC = b refl in cc (h))
   own_held_row bytes rest W e E (its_paste at body left first g d f) splits steps = absurd (cc (at))
   own_held_row bytes rest W e E (apart at v h split some closed is far d f) splits steps = inl f
@@ -291,25 +298,28 @@ module _ (protocol : Protocol) (x : ℕ) (p c : List ℕ) (own : IsPortsOwn prot
       let after : v ≡ x ∷ p ++ c = cc (split) in
       let same : h ≡ own.head = head_once (x ∷ p ++ c) h own.head (subst (λ z. IsHead z h) after is) own.whole in
       let all : bytes ≡ 27 ∷ x ∷ p ++ c = d ∙ ap (λ k. ESC ++ bytes_of k) same ∙ ap (λ z. 27 ∷ z) own.spells in
-      inr (nothing_after protocol rest W E (nothing_left (27 ∷ x ∷ p ++ c) bytes rest all splits) steps)
+      inr (nothing_after reading rest W E (nothing_left (27 ∷ x ∷ p ++ c) bytes rest all splits) steps)
 
-  own_held_stands : (left W : List ℕ) (e : ExtendedEvent) (E : List ExtendedEvent) → Stands protocol (27 ∷ x ∷ p ++ c) false left e
-      → Steps protocol left false E W → (e ≡ Input (Key escape)) ⊎ (E ≡ [])
-  own_held_stands left W e E (extra text left2 d is split) steps = absurd (no_extra_with_escape protocol x (p ++ c) own.second
+  own_held_stands : (left W : List ℕ) (e : ExtendedEvent) (E : List ExtendedEvent) → Stands reading (27 ∷ x ∷ p ++ c) false left e
+      → Steps (after_event reading e) left false E W → (e ≡ Input (Key escape)) ⊎ (E ≡ [])
+  own_held_stands left W e E (extra text left2 d is split) steps = absurd (no_extra_with_escape reading x (p ++ c) own.second
       (inl (record { text = text; event = d; is_extra = is; begins = (left2, split) })))
+  own_held_stands left W e E (alt_key text left2 d is bare split) steps =
+      let same : text ++ left2 ≡ x ∷ p ++ c = cc (split) in
+      absurd (own.no_extra (subst (λ z. StartsExtended reading z) same (starts_with reading text left2 d is)))
   own_held_stands left W e E (lone_escape v split after) steps = inl refl
-  own_held_stands left W e E (string kind head bytes after left2 d is comes) steps = absurd (no_extra_with_escape protocol x (p ++ c)
+  own_held_stands left W e E (string kind head bytes after left2 d is comes) steps = absurd (no_extra_with_escape reading x (p ++ c)
       own.second (inr (string_opening (27 ∷ x ∷ p ++ c) kind head bytes after is)))
   own_held_stands left W e E (usual s left2 d stands split is gap) steps = ⊎_elim
       (λ (h : d ≡ Key escape). inl (ap (λ z. Input z) h))
       (λ (h : E ≡ []). inr h)
       (own_held_row s left2 W d E (escape_gives x (p ++ c) s d own.alone stands.item) split steps)
 
-  own_whole_held : (e : ExtendedEvent) (E : List ExtendedEvent) (W : List ℕ) → Read protocol (27 ∷ x ∷ p ++ c) false (e ∷ E) W
+  own_whole_held : (e : ExtendedEvent) (E : List ExtendedEvent) (W : List ℕ) → Read reading (27 ∷ x ∷ p ++ c) false (e ∷ E) W
       → (e ≡ Input (Key escape)) ⊎ (E ≡ [])
   own_whole_held e E W ((left, stands, steps), r) = own_held_stands left W e E stands steps
 
-  own_goes_on : GoesOn protocol x p c
+  own_goes_on : GoesOn reading x p c
   own_goes_on = record {
     longer = own.longer;
     whole_short = own_whole_short;
@@ -318,13 +328,13 @@ module _ (protocol : Protocol) (x : ℕ) (p c : List ℕ) (own : IsPortsOwn prot
     no_start_after = own.no_start_after;
     alone = own.alone;
     second = own.second;
-    no_extra = λ h. own.no_extra (starts_longer protocol (x ∷ p) c h);
+    no_extra = λ h. own.no_extra (starts_longer reading (x ∷ p) c h);
     no_report = own.no_report;
   }
 
 -- a text that goes on to a sequence of the port, and to no mark
-module _ (protocol : Protocol) (x : ℕ) (p c : List ℕ) (longer : c ≢ []) (m : Meaning) (is : IsSequence (x ∷ p ++ c) m)
-    (no_mark : IsUnfinishedMark (x ∷ p) → ⊥) where
+module _ (reading : Reading) (x : ℕ) (p c : List ℕ) (longer : c ≢ []) (m : Meaning) (is : IsSequence (x ∷ p ++ c) m)
+    (no_mark : IsUnfinishedMark reading.x10_mouse (x ∷ p) → ⊥) where
   sequence_first : x ≡ 27
   sequence_first = go (sequence_bytes (x ∷ p ++ c) m is)
     where
@@ -347,20 +357,20 @@ module _ (protocol : Protocol) (x : ℕ) (p c : List ℕ) (longer : c ≢ []) (m
       ap (λ z. x ∷ p ++ z) (e ∙ ap (λ z. front ++ z) b.1) ∙ sym (append_assoc (x ∷ p) front (START ++ b.0)) in
       escape_comes_first (x ∷ p ++ front) (91 ∷ 50 ∷ 48 ∷ 48 ∷ 126 ∷ b.0) m (λ h. cc (h)) (subst (λ z. IsSequence z m) whole is)
 
-  sequence_no_extra : StartsExtended protocol (x ∷ p ++ c) → ⊥
-  sequence_no_extra h = go (starts_mark protocol (x ∷ p ++ c) h)
+  sequence_no_extra : StartsExtended reading (x ∷ p ++ c) → ⊥
+  sequence_no_extra h = go (starts_mark reading (x ∷ p ++ c) h)
     where
-      go : (text rest : List ℕ) × IsMark text × (x ∷ p ++ c ≡ text ++ rest) → ⊥
+      go : (text rest : List ℕ) × IsMark reading.x10_mouse text × (x ∷ p ++ c ≡ text ++ rest) → ⊥
       go (text, rest, mark, e) = by_place (overlap text rest (x ∷ p) c e)
         where
           by_place : Overlaps text rest (x ∷ p) c → ⊥
           by_place (within t f g) = append-some t c longer (sequence_after_mark text (t ++ c) m mark
               (subst (λ z. IsSequence z m) (ap (λ z. z ++ c) f ∙ append_assoc text t c) is))
-          by_place (past t n f g) = no_mark (mark_unfinished (x ∷ p) t n (subst (λ z. IsMark z) f mark))
+          by_place (past t n f g) = no_mark (mark_unfinished (x ∷ p) t n (subst (λ z. IsMark reading.x10_mouse z) f mark))
 
-  sequence_no_extra_after : (v : List ℕ) → x ∷ p ++ c ≡ ESC ++ v → StartsExtended protocol v → ⊥
+  sequence_no_extra_after : (v : List ℕ) → x ∷ p ++ c ≡ ESC ++ v → StartsExtended reading v → ⊥
   sequence_no_extra_after v split h =
-      let s = starts_shape protocol v h in
+      let s = starts_shape reading v h in
       escape_comes_first ESC (s.0 ∷ s.1) m (λ e. cc (e))
       (subst (λ z. IsSequence z m) (split ∙ ap (λ z. 27 ∷ z) s.2) is)
 
@@ -368,11 +378,11 @@ module _ (protocol : Protocol) (x : ℕ) (p c : List ℕ) (longer : c ≢ []) (m
   sequence_item (Row k) it = (
     Key k,
     key (x ∷ p ++ c) k (longest_whole (x ∷ p ++ c) (Row k) it)
-        (λ e. no_mark (inl (record { tail = c; longer = longer; is_form = subst (λ z. IsForm z) (sym e) start_form }))) (λ e. e),
+        (λ e. no_mark (inl (record { tail = c; longer = longer; is_form = subst (λ z. IsForm reading.x10_mouse z) (sym e) start_form }))) (λ e. e),
   )
   sequence_item (Report r) it = (Mouse r, mouse (x ∷ p ++ c) r (longest_whole (x ∷ p ++ c) (Report r) it))
 
-  sequence_own : IsPortsOwn protocol x p c
+  sequence_own : IsPortsOwn reading x p c
   sequence_own = record {
     longer = longer;
     head = Sequence (x ∷ p ++ c) m;
@@ -410,7 +420,7 @@ second_low x is = ⊎_elim
     is
 
 -- a text that goes on to a character
-module _ (protocol : Protocol) (x : ℕ) (p c : List ℕ) (longer : c ≢ []) (d : ℕ) (scalar : IsScalar d)
+module _ (reading : Reading) (x : ℕ) (p c : List ℕ) (longer : c ≢ []) (d : ℕ) (scalar : IsScalar d)
     (spells : encode_utf8 d ≡ x ∷ p ++ c) where
   high : AllByRecursion IsHigh (x ∷ p ++ c)
   high = parted_high d (x ∷ p) c scalar (λ e. cc (e)) longer spells
@@ -431,7 +441,7 @@ module _ (protocol : Protocol) (x : ℕ) (p c : List ℕ) (longer : c ≢ []) (d
         begins = ([], sym spells ∙ sym (append-nil (encode_utf8 d)));
       }
 
-  character_own : IsPortsOwn protocol x p c
+  character_own : IsPortsOwn reading x p c
   character_own = record {
     longer = longer;
     head = Character d;
@@ -447,30 +457,30 @@ module _ (protocol : Protocol) (x : ℕ) (p c : List ℕ) (longer : c ≢ []) (d
     no_start_after = no_start_high c (true_at_end IsHigh (x ∷ p) c high);
     alone = inr (omega (arith, first_high));
     second = λ h. (let l : x ≤ 95 = second_low x h in omega (arith, first_high));
-    no_extra = λ h. (let s = starts_shape protocol (x ∷ p ++ c) h in no_escape_first (s.0 ∷ s.1) s.2);
+    no_extra = λ h. (let s = starts_shape reading (x ∷ p ++ c) h in no_escape_first (s.0 ∷ s.1) s.2);
     no_extra_after = λ v split h. no_escape_first v split;
     no_report = λ text r is b. sequence_low text (x ∷ p) (Report r) is (true_at_front IsHigh (x ∷ p) c high) b;
   }
 
-goes_on : (protocol : Protocol) (x : ℕ) (p : List ℕ) → BeginsKnown protocol (x ∷ p) → Decision (IsUnfinishedMark (x ∷ p))
-    → (c : List ℕ) × GoesOn protocol x p c
-goes_on protocol x p beginning (inl (inl form)) =
-    let c = free_completion (x ∷ p) form in (c.0, extra_goes_on protocol x p c.0 c.1 c.2 c.3)
-goes_on protocol x p beginning (inl (inr o)) = (o.tail, opening_goes_on protocol x p o)
-goes_on protocol x p (inl (inl h)) (inr never) =
-    (h.tail, own_goes_on protocol x p h.tail (sequence_own protocol x p h.tail h.longer h.meaning h.is_sequence never))
-goes_on protocol x p (inl (inr h)) (inr never) =
-    (h.tail, own_goes_on protocol x p h.tail (character_own protocol x p h.tail h.longer h.char h.scalar h.spells))
-goes_on protocol x p (inr h) (inr never) = absurd (never (mark_from_unfinished protocol (x ∷ p) h))
+goes_on : (reading : Reading) (x : ℕ) (p : List ℕ) → BeginsKnown reading (x ∷ p) → Decision (IsUnfinishedMark reading.x10_mouse (x ∷ p))
+    → (c : List ℕ) × GoesOn reading x p c
+goes_on reading x p beginning (inl (inl form)) =
+    let c = free_completion (x ∷ p) form in (c.tail, extra_goes_on reading x p c.tail c.longer c.is_form c.free c.not_bare)
+goes_on reading x p beginning (inl (inr o)) = (o.tail, opening_goes_on reading x p o)
+goes_on reading x p (inl (inl h)) (inr never) =
+    (h.tail, own_goes_on reading x p h.tail (sequence_own reading x p h.tail h.longer h.meaning h.is_sequence never))
+goes_on reading x p (inl (inr h)) (inr never) =
+    (h.tail, own_goes_on reading x p h.tail (character_own reading x p h.tail h.longer h.char h.scalar h.spells))
+goes_on reading x p (inr h) (inr never) = absurd (never (mark_from_unfinished reading (x ∷ p) h))
 
-beginning_undecided : (protocol : Protocol) (held p : List ℕ) → IsHeldEscape held → p ≢ [] → BeginsKnown protocol p
-    → (c : List ℕ) × FlushMatters protocol (held ++ p) c
-beginning_undecided protocol held [] is some beginning = absurd (some refl)
-beginning_undecided protocol held (x ∷ p) is some beginning =
-    let on = goes_on protocol x p beginning (unfinished_mark_or_not (x ∷ p)) in
-    let w = one_meaning protocol (held ++ x ∷ p ++ on.0) false in
-    let a = one_meaning protocol (held ++ x ∷ p) false in
-    let b = one_meaning protocol (a.1 ++ on.0) false in (
+beginning_undecided : (reading : Reading) (held p : List ℕ) → IsHeldEscape held → p ≢ [] → BeginsKnown reading p
+    → (c : List ℕ) × FlushMatters reading (held ++ p) c
+beginning_undecided reading held [] is some beginning = absurd (some refl)
+beginning_undecided reading held (x ∷ p) is some beginning =
+    let on = goes_on reading x p beginning (unfinished_mark_or_not reading.x10_mouse (x ∷ p)) in
+    let w = one_meaning reading (held ++ x ∷ p ++ on.0) false in
+    let a = one_meaning reading (held ++ x ∷ p) false in
+    let b = one_meaning (after_events reading a.0) (a.1 ++ on.0) false in (
       on.0,
       (
         w.0,
@@ -482,7 +492,7 @@ beginning_undecided protocol held (x ∷ p) is some beginning =
         w.2,
         a.2,
         b.2,
-        differ protocol x p on.0 on.1 held is w.0 a.0 b.0 w.1 a.1 b.1 w.2 a.2 b.2,
+        differ reading x p on.0 on.1 held is w.0 a.0 b.0 w.1 a.1 b.1 w.2 a.2 b.2,
       ),
     )
 
@@ -498,15 +508,15 @@ end_of_held held (inl none) = (ST, ap (λ z. z ++ ST) none)
 end_of_held held (inr single) = (92 ∷ [], ap (λ z. z ++ 92 ∷ []) single)
 
 -- an item that leaves nothing, as a meaning
-one_item : (protocol : Protocol) (u : List ℕ) (event : ExtendedEvent) → Stands protocol u false [] event
-    → Means protocol u false (event ∷ []) []
-one_item protocol u event stands = record { steps = ([], stands, refl); rest = empty_is_rest protocol false }
+one_item : (reading : Reading) (u : List ℕ) (event : ExtendedEvent) → Stands reading u false [] event
+    → Means reading u false (event ∷ []) []
+one_item reading u event stands = record { steps = ([], stands, refl); rest = empty_is_rest (after_event reading event) false }
 
-string_undecided : (protocol : Protocol) (u : List ℕ) → IsOpenString u → (c : List ℕ) × FlushMatters protocol u c
-string_undecided protocol u o =
+string_undecided : (reading : Reading) (u : List ℕ) → IsOpenString u → (c : List ℕ) × FlushMatters reading u c
+string_undecided reading u o =
     let c = end_of_held o.held o.is_held in
     let bytes = o.head ++ o.bytes in
-    let b = one_meaning protocol ([] ++ c.0) false in (
+    let b = one_meaning (after_event reading (StringCut o.kind bytes)) ([] ++ c.0) false in (
       c.0,
       (
         whole_string o.kind bytes ∷ [],
@@ -515,11 +525,11 @@ string_undecided protocol u o =
         [],
         [],
         b.1,
-        one_item protocol (u ++ c.0) (whole_string o.kind bytes)
+        one_item reading (u ++ c.0) (whole_string o.kind bytes)
             (string o.kind o.head o.bytes (o.held ++ c.0) [] (whole_string o.kind bytes)
             (string_append u c.0 o.kind o.head o.bytes o.held o.is_string)
             (last [] (whole_string o.kind bytes) o.short (ended ST [] (st_ends o.kind) c.1))),
-        one_item protocol u (StringCut o.kind bytes) (string o.kind o.head o.bytes o.held [] (StringCut o.kind bytes) o.is_string
+        one_item reading u (StringCut o.kind bytes) (string o.kind o.head o.bytes o.held [] (StringCut o.kind bytes) o.is_string
             (last [] (StringCut o.kind bytes) o.short (flushed o.is_held refl))),
         b.2,
         λ e. whole_not_cut o.kind bytes (cc (e)),
@@ -527,10 +537,10 @@ string_undecided protocol u o =
     )
 
 pub undecided : Undecided
-undecided protocol = (beginning_undecided protocol, string_undecided protocol)
+undecided reading = (beginning_undecided reading, string_undecided reading)
 
 -- START begins at no place in what waits as a beginning
-pub beginning_no_start : (protocol : Protocol) (held p : List ℕ) → IsHeldEscape held → p ≢ [] → BeginsKnown protocol p → HasNoStart (held ++ p)
-beginning_no_start protocol held [] is some beginning = absurd (some refl)
-beginning_no_start protocol held (x ∷ p) is some beginning =
-    let on = goes_on protocol x p beginning (unfinished_mark_or_not (x ∷ p)) in no_start_held protocol x p on.0 on.1 held is
+pub beginning_no_start : (reading : Reading) (held p : List ℕ) → IsHeldEscape held → p ≢ [] → BeginsKnown reading p → HasNoStart (held ++ p)
+beginning_no_start reading held [] is some beginning = absurd (some refl)
+beginning_no_start reading held (x ∷ p) is some beginning =
+    let on = goes_on reading x p beginning (unfinished_mark_or_not reading.x10_mouse (x ∷ p)) in no_start_held reading x p on.0 on.1 held is

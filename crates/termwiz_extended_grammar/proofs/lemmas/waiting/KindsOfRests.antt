@@ -15,7 +15,7 @@ use Rattle.termwiz_grammar.proofs.lemmas.table.RowShape.{Bytes}
 use Rattle.termwiz_grammar.proofs.lemmas.table.RowShape.Bytes.{one, more}
 use Rattle.termwiz_grammar.proofs.lemmas.table.SequenceFacts.{sequence_bytes, start_ends}
 use Rattle.termwiz_grammar.proofs.lemmas.waiting.RestKinds.{CharacterBytes}
-use Rattle.termwiz_extended_events.specs.declared.types.Protocol.{Protocol}
+use Rattle.termwiz_extended_events.specs.declared.types.Reading.{Reading}
 use Rattle.termwiz_extended_grammar.specs.declared.waiting.ExtendedWaiting.{ExtendedWaiting}
 use Rattle.termwiz_extended_grammar.specs.declared.waiting.ExtendedWaiting.TheVariants.{Nothing, Escape, Sequence, Character, Paste, String}
 use Rattle.termwiz_extended_grammar.specs.ExtendedGrammar.{IsRest}
@@ -40,9 +40,9 @@ second_of : (x : ℕ) (t tail : List ℕ) (b : ℕ) (r : List ℕ) → x ∷ t +
 second_of x t tail b r e y s k = (let all : x ∷ y ∷ (s ++ tail) ≡ 27 ∷ b ∷ r = ap (λ z. x ∷ z ++ tail) (sym k) ∙ e in cc (all))
 
 -- what properly begins a sequence begins so
-pub unfinished_low : (protocol : Protocol) (u : List ℕ) → u ≢ [] → IsUnfinished protocol u → IsLow u
-unfinished_low protocol [] some h = absurd (some refl)
-unfinished_low protocol (x ∷ t) some (inl h) = go (sequence_bytes (x ∷ t ++ h.tail) h.meaning h.is_sequence)
+pub unfinished_low : (reading : Reading) (u : List ℕ) → u ≢ [] → IsUnfinished reading u → IsLow u
+unfinished_low reading [] some h = absurd (some refl)
+unfinished_low reading (x ∷ t) some (inl h) = go (sequence_bytes (x ∷ t ++ h.tail) h.meaning h.is_sequence)
   where
     plain_first : (y : ℕ) (s n : List ℕ) → AllByRecursion IsPlain n → n ≡ t ++ h.tail → t ≡ y ∷ s → y < 128
     plain_first y s n p e k =
@@ -57,8 +57,8 @@ unfinished_low protocol (x ∷ t) some (inl h) = go (sequence_bytes (x ∷ t ++ 
       splits = (let first : x ≡ 27 = cc (e) in ap (λ z. z ∷ t) first);
       low = λ y s k. plain_first y s n p (let rest : n ≡ t ++ h.tail = cc (e) in rest) k;
     }
-unfinished_low protocol (x ∷ t) some (inr h) =
-    let m = completed_mark (x ∷ t) (mark_from_unfinished protocol (x ∷ t) h) in
+unfinished_low reading (x ∷ t) some (inr h) =
+    let m = completed_mark (x ∷ t) (mark_from_unfinished reading (x ∷ t) h) in
     let s = mark_shape (x ∷ t ++ m.0) m.2 in
     record {
       after = t;
@@ -115,19 +115,19 @@ character_bytes u held bytes is e some h =
     }
 
 -- START properly begins no sequence
-start_begins_none : (protocol : Protocol) (u : List ℕ) → Begins START u → IsUnfinished protocol u → ⊥
-start_begins_none protocol u b (inl h) = append-some b.0 h.tail h.longer (start_ends (b.0 ++ h.tail) h.meaning
+start_begins_none : (reading : Reading) (u : List ℕ) → Begins START u → IsUnfinished reading u → ⊥
+start_begins_none reading u b (inl h) = append-some b.0 h.tail h.longer (start_ends (b.0 ++ h.tail) h.meaning
     (subst (λ z. IsSequence z h.meaning) (ap (λ z. z ++ h.tail) b.1) h.is_sequence))
-start_begins_none protocol u b (inr h) =
-    let m = completed_mark u (mark_from_unfinished protocol u h) in
-    append-some b.0 m.0 m.1 (mark_ends START (b.0 ++ m.0) (inl start_form) (subst (λ z. IsMark z) (ap (λ z. z ++ m.0) b.1) m.2))
+start_begins_none reading u b (inr h) =
+    let m = completed_mark u (mark_from_unfinished reading u h) in
+    append-some b.0 m.0 m.1 (mark_ends START (b.0 ++ m.0) (inl start_form) (subst (λ z. IsMark reading.x10_mouse z) (ap (λ z. z ++ m.0) b.1) m.2))
 
-pub start_not_held : (protocol : Protocol) (u held bytes : List ℕ) → Begins START u → IsHeldEscape held → u ≡ held ++ bytes → bytes ≢ []
-    → IsUnfinished protocol bytes → ⊥
-start_not_held protocol u held bytes b is e some h = ⊎_elim
-    (λ (none : held ≡ []). start_begins_none protocol bytes (b.0, sym (e ∙ ap (λ z. z ++ bytes) none) ∙ b.1) h)
+pub start_not_held : (reading : Reading) (u held bytes : List ℕ) → Begins START u → IsHeldEscape held → u ≡ held ++ bytes → bytes ≢ []
+    → IsUnfinished reading bytes → ⊥
+start_not_held reading u held bytes b is e some h = ⊎_elim
+    (λ (none : held ≡ []). start_begins_none reading bytes (b.0, sym (e ∙ ap (λ z. z ++ bytes) none) ∙ b.1) h)
     (λ (single : held ≡ ESC).
-    let low = unfinished_low protocol bytes some h in
+    let low = unfinished_low reading bytes some h in
     let first : ◌≡◌ {A = ℕ} 91 27 = cc (b.1, e, ap (λ z. z ++ bytes) single, low.splits) in omega arith)
     is
 
@@ -138,18 +138,18 @@ start_no_character u b c = ⊎_elim
     c.spells
 
 -- what waits is nothing, an open paste, an open string, or the beginning of a sequence or of a character
-pub data Kinds (protocol : Protocol) (u : List ℕ) (f : Bool) : Type 0 where
-  none : u ≡ [] → Kinds protocol u f
-  pasted : (body : List ℕ) → u ≡ START ++ body → IsKind protocol u f Paste → Kinds protocol u f
-  sequence : (held bytes : List ℕ) → IsHeldEscape held → u ≡ held ++ bytes → bytes ≢ [] → IsUnfinished protocol bytes
-      → f ≡ true → Kinds protocol u f
-  open_now : IsOpenString u → f ≡ true → Kinds protocol u f
-  character : CharacterBytes u → IsHeldThen IsUnfinishedCharacter u → f ≡ true → Kinds protocol u f
+pub data Kinds (reading : Reading) (u : List ℕ) (f : Bool) : Type 0 where
+  none : u ≡ [] → Kinds reading u f
+  pasted : (body : List ℕ) → u ≡ START ++ body → IsKind reading u f Paste → Kinds reading u f
+  sequence : (held bytes : List ℕ) → IsHeldEscape held → u ≡ held ++ bytes → bytes ≢ [] → IsUnfinished reading bytes
+      → f ≡ true → Kinds reading u f
+  open_now : IsOpenString u → f ≡ true → Kinds reading u f
+  character : CharacterBytes u → IsHeldThen IsUnfinishedCharacter u → f ≡ true → Kinds reading u f
 
-pub kinds : (protocol : Protocol) (u : List ℕ) (f : Bool) → IsRest protocol u f → Kinds protocol u f
-kinds protocol u f rest = go (waiting_shape protocol u f rest)
+pub kinds : (reading : Reading) (u : List ℕ) (f : Bool) → IsRest reading u f → Kinds reading u f
+kinds reading u f rest = go (waiting_shape reading u f rest)
   where
-    go : Waits protocol u f → Kinds protocol u f
+    go : Waits reading u f → Kinds reading u f
     go (nothing e) = none e
     go (open_paste body e never) = pasted body e (record { body = body; splits = e; endless = never })
     go (undecided held bytes is e n (inl (inl h)) short m) = sequence held bytes is e n (inl h) m
@@ -183,13 +183,13 @@ held_some u is empty = append-some is.held is.bytes is.some (sym is.splits ∙ e
 bytes_of_character : (u : List ℕ) → IsHeldThen IsUnfinishedCharacter u → CharacterBytes u
 bytes_of_character u is = character_bytes u is.held is.bytes is.is_held is.splits is.some is.unfinished
 
-sequence_no_character : (protocol : Protocol) (u : List ℕ) → IsHeldThen (IsUnfinished protocol) u → CharacterBytes u → ⊥
-sequence_no_character protocol u is c =
-    no_high u is.held is.bytes c is.is_held is.splits (unfinished_low protocol is.bytes is.some is.unfinished)
+sequence_no_character : (reading : Reading) (u : List ℕ) → IsHeldThen (IsUnfinished reading) u → CharacterBytes u → ⊥
+sequence_no_character reading u is c =
+    no_high u is.held is.bytes c is.is_held is.splits (unfinished_low reading is.bytes is.some is.unfinished)
 
-sequence_no_paste : (protocol : Protocol) (u body : List ℕ) → IsHeldThen (IsUnfinished protocol) u → u ≡ START ++ body → ⊥
-sequence_no_paste protocol u body is e =
-    start_not_held protocol u is.held is.bytes (body, e) is.is_held is.splits is.some is.unfinished
+sequence_no_paste : (reading : Reading) (u body : List ℕ) → IsHeldThen (IsUnfinished reading) u → u ≡ START ++ body → ⊥
+sequence_no_paste reading u body is e =
+    start_not_held reading u is.held is.bytes (body, e) is.is_held is.splits is.some is.unfinished
 
 -- an open string is ESC, its introducer, and more
 string_shape : (u : List ℕ) → IsOpenString u → (b : ℕ) × (r : List ℕ) × (u ≡ 27 ∷ b ∷ r) × (r ≢ []) × IsStringIntroducer b
@@ -215,8 +215,8 @@ escapes_no_string u o is = (let s = string_shape u o in ⊎_elim
     is)
 
 -- the opening of a string begins no longer sequence
-string_begins_none : (protocol : Protocol) (u : List ℕ) → IsOpenString u → IsUnfinished protocol u → ⊥
-string_begins_none protocol u o h = go h
+string_begins_none : (reading : Reading) (u : List ℕ) → IsOpenString u → IsUnfinished reading u → ⊥
+string_begins_none reading u o h = go h
   where
     opening : List ℕ
     opening = introducer o.kind ++ o.head
@@ -224,26 +224,26 @@ string_begins_none protocol u o h = go h
     rest : List ℕ
     rest = o.bytes ++ o.held
 
-    mark : IsMark opening
+    mark : IsMark reading.x10_mouse opening
     mark = inr (record { kind = o.kind; head = o.head; is_head = o.is_string.is_head; form = refl })
 
     longer : (tail : List ℕ) → u ++ tail ≡ opening ++ (rest ++ tail)
     longer tail = ap (λ z. z ++ tail) o.is_string.splits ∙ append_assoc opening rest tail
 
-    go : IsUnfinished protocol u → ⊥
+    go : IsUnfinished reading u → ⊥
     go (inl k) = append-some rest k.tail k.longer
         (sequence_after_mark opening (rest ++ k.tail) k.meaning mark (subst (λ z. IsSequence z k.meaning) (longer k.tail) k.is_sequence))
     go (inr k) =
-        let m = completed_mark u (mark_from_unfinished protocol u k) in
-        append-some rest m.0 m.1 (mark_ends opening (rest ++ m.0) mark (subst (λ z. IsMark z) (longer m.0) m.2))
+        let m = completed_mark u (mark_from_unfinished reading u k) in
+        append-some rest m.0 m.1 (mark_ends opening (rest ++ m.0) mark (subst (λ z. IsMark reading.x10_mouse z) (longer m.0) m.2))
 
-sequence_no_string : (protocol : Protocol) (u : List ℕ) → IsHeldThen (IsUnfinished protocol) u → IsOpenString u → ⊥
-sequence_no_string protocol u is o = ⊎_elim
-    (λ (none : is.held ≡ []). string_begins_none protocol u o
-    (subst (IsUnfinished protocol) (sym (is.splits ∙ ap (λ z. z ++ is.bytes) none)) is.unfinished))
+sequence_no_string : (reading : Reading) (u : List ℕ) → IsHeldThen (IsUnfinished reading) u → IsOpenString u → ⊥
+sequence_no_string reading u is o = ⊎_elim
+    (λ (none : is.held ≡ []). string_begins_none reading u o
+    (subst (IsUnfinished reading) (sym (is.splits ∙ ap (λ z. z ++ is.bytes) none)) is.unfinished))
     (λ (single : is.held ≡ ESC).
     let s = string_shape u o in
-    let low = unfinished_low protocol is.bytes is.some is.unfinished in
+    let low = unfinished_low reading is.bytes is.some is.unfinished in
     let whole : u ≡ 27 ∷ 27 ∷ low.after = is.splits ∙ ap (λ z. z ++ is.bytes) single ∙ ap (λ z. 27 ∷ z) low.splits in
     introducer_not_escape s.0 s.4 (cc (s.2, whole)))
     is.is_held
@@ -258,43 +258,43 @@ paste_no_string : (u body : List ℕ) → u ≡ START ++ body → IsOpenString u
 paste_no_string u body e o = (let s = string_shape u o in let second : s.0 ≡ 91 = cc (e, s.2) in omega (arith, s.4))
 
 -- what is of two kinds is of one
-one_kind : (protocol : Protocol) (u : List ℕ) (f : Bool) (a b : ExtendedWaiting) → IsKind protocol u f a → IsKind protocol u f b → b ≡ a
-one_kind protocol u f Nothing Nothing p q = refl
-one_kind protocol u f Nothing Escape p q = absurd (escapes_some u q.0 p)
-one_kind protocol u f Nothing Sequence p q = absurd (held_some u q.0 p)
-one_kind protocol u f Nothing Character p q = absurd (held_some u q.0 p)
-one_kind protocol u f Nothing Paste p q = absurd (cc (p, q.splits))
-one_kind protocol u f Nothing String p q = absurd (string_some u q.0 p)
-one_kind protocol u f Escape Nothing p q = absurd (escapes_some u p.0 q)
-one_kind protocol u f Escape Escape p q = refl
-one_kind protocol u f Escape Sequence p q = absurd (q.1 p.0)
-one_kind protocol u f Escape Character p q = absurd (escapes_no_character u p.0 (bytes_of_character u q.0))
-one_kind protocol u f Escape Paste p q = absurd (escapes_no_paste u q.body p.0 q.splits)
-one_kind protocol u f Escape String p q = absurd (escapes_no_string u q.0 p.0)
-one_kind protocol u f Sequence Nothing p q = absurd (held_some u p.0 q)
-one_kind protocol u f Sequence Escape p q = absurd (p.1 q.0)
-one_kind protocol u f Sequence Sequence p q = refl
-one_kind protocol u f Sequence Character p q = absurd (sequence_no_character protocol u p.0 (bytes_of_character u q.0))
-one_kind protocol u f Sequence Paste p q = absurd (sequence_no_paste protocol u q.body p.0 q.splits)
-one_kind protocol u f Sequence String p q = absurd (sequence_no_string protocol u p.0 q.0)
-one_kind protocol u f Character Nothing p q = absurd (held_some u p.0 q)
-one_kind protocol u f Character Escape p q = absurd (escapes_no_character u q.0 (bytes_of_character u p.0))
-one_kind protocol u f Character Sequence p q = absurd (sequence_no_character protocol u q.0 (bytes_of_character u p.0))
-one_kind protocol u f Character Character p q = refl
-one_kind protocol u f Character Paste p q = absurd (start_no_character u (q.body, q.splits) (bytes_of_character u p.0))
-one_kind protocol u f Character String p q = absurd (character_no_string u (bytes_of_character u p.0) q.0)
-one_kind protocol u f Paste Nothing p q = absurd (cc (q, p.splits))
-one_kind protocol u f Paste Escape p q = absurd (escapes_no_paste u p.body q.0 p.splits)
-one_kind protocol u f Paste Sequence p q = absurd (sequence_no_paste protocol u p.body q.0 p.splits)
-one_kind protocol u f Paste Character p q = absurd (start_no_character u (p.body, p.splits) (bytes_of_character u q.0))
-one_kind protocol u f Paste Paste p q = refl
-one_kind protocol u f Paste String p q = absurd (paste_no_string u p.body p.splits q.0)
-one_kind protocol u f String Nothing p q = absurd (string_some u p.0 q)
-one_kind protocol u f String Escape p q = absurd (escapes_no_string u p.0 q.0)
-one_kind protocol u f String Sequence p q = absurd (sequence_no_string protocol u q.0 p.0)
-one_kind protocol u f String Character p q = absurd (character_no_string u (bytes_of_character u q.0) p.0)
-one_kind protocol u f String Paste p q = absurd (paste_no_string u q.body q.splits p.0)
-one_kind protocol u f String String p q = refl
+one_kind : (reading : Reading) (u : List ℕ) (f : Bool) (a b : ExtendedWaiting) → IsKind reading u f a → IsKind reading u f b → b ≡ a
+one_kind reading u f Nothing Nothing p q = refl
+one_kind reading u f Nothing Escape p q = absurd (escapes_some u q.0 p)
+one_kind reading u f Nothing Sequence p q = absurd (held_some u q.0 p)
+one_kind reading u f Nothing Character p q = absurd (held_some u q.0 p)
+one_kind reading u f Nothing Paste p q = absurd (cc (p, q.splits))
+one_kind reading u f Nothing String p q = absurd (string_some u q.0 p)
+one_kind reading u f Escape Nothing p q = absurd (escapes_some u p.0 q)
+one_kind reading u f Escape Escape p q = refl
+one_kind reading u f Escape Sequence p q = absurd (q.1 p.0)
+one_kind reading u f Escape Character p q = absurd (escapes_no_character u p.0 (bytes_of_character u q.0))
+one_kind reading u f Escape Paste p q = absurd (escapes_no_paste u q.body p.0 q.splits)
+one_kind reading u f Escape String p q = absurd (escapes_no_string u q.0 p.0)
+one_kind reading u f Sequence Nothing p q = absurd (held_some u p.0 q)
+one_kind reading u f Sequence Escape p q = absurd (p.1 q.0)
+one_kind reading u f Sequence Sequence p q = refl
+one_kind reading u f Sequence Character p q = absurd (sequence_no_character reading u p.0 (bytes_of_character u q.0))
+one_kind reading u f Sequence Paste p q = absurd (sequence_no_paste reading u q.body p.0 q.splits)
+one_kind reading u f Sequence String p q = absurd (sequence_no_string reading u p.0 q.0)
+one_kind reading u f Character Nothing p q = absurd (held_some u p.0 q)
+one_kind reading u f Character Escape p q = absurd (escapes_no_character u q.0 (bytes_of_character u p.0))
+one_kind reading u f Character Sequence p q = absurd (sequence_no_character reading u q.0 (bytes_of_character u p.0))
+one_kind reading u f Character Character p q = refl
+one_kind reading u f Character Paste p q = absurd (start_no_character u (q.body, q.splits) (bytes_of_character u p.0))
+one_kind reading u f Character String p q = absurd (character_no_string u (bytes_of_character u p.0) q.0)
+one_kind reading u f Paste Nothing p q = absurd (cc (q, p.splits))
+one_kind reading u f Paste Escape p q = absurd (escapes_no_paste u p.body q.0 p.splits)
+one_kind reading u f Paste Sequence p q = absurd (sequence_no_paste reading u p.body q.0 p.splits)
+one_kind reading u f Paste Character p q = absurd (start_no_character u (p.body, p.splits) (bytes_of_character u q.0))
+one_kind reading u f Paste Paste p q = refl
+one_kind reading u f Paste String p q = absurd (paste_no_string u p.body p.splits q.0)
+one_kind reading u f String Nothing p q = absurd (string_some u p.0 q)
+one_kind reading u f String Escape p q = absurd (escapes_no_string u p.0 q.0)
+one_kind reading u f String Sequence p q = absurd (sequence_no_string reading u q.0 p.0)
+one_kind reading u f String Character p q = absurd (character_no_string u (bytes_of_character u q.0) p.0)
+one_kind reading u f String Paste p q = absurd (paste_no_string u q.body q.splits p.0)
+one_kind reading u f String String p q = refl
 
 one_or_two_or_not : (u : List ℕ) → IsOneOrTwoEscapes u ⊎ (IsOneOrTwoEscapes u → ⊥)
 one_or_two_or_not u = ⊎_elim
@@ -305,20 +305,20 @@ one_or_two_or_not u = ⊎_elim
     (same_or_not u (ESC ++ ESC)))
     (same_or_not u ESC)
 
-some_kind : (protocol : Protocol) (u : List ℕ) (f : Bool) → Kinds protocol u f → (kind : ExtendedWaiting) × IsKind protocol u f kind
-some_kind protocol u f (none e) = (Nothing, e)
-some_kind protocol u f (pasted body e is) = (Paste, is)
-some_kind protocol u f (sequence held bytes is e n h m) = ⊎_elim
+some_kind : (reading : Reading) (u : List ℕ) (f : Bool) → Kinds reading u f → (kind : ExtendedWaiting) × IsKind reading u f kind
+some_kind reading u f (none e) = (Nothing, e)
+some_kind reading u f (pasted body e is) = (Paste, is)
+some_kind reading u f (sequence held bytes is e n h m) = ⊎_elim
     (λ (escapes : IsOneOrTwoEscapes u). (Escape, (escapes, m)))
     (λ other. (
       Sequence,
       (record { held = held; bytes = bytes; is_held = is; splits = e; some = n; unfinished = h }, other, m),
     ))
     (one_or_two_or_not u)
-some_kind protocol u f (open_now is m) = (String, (is, m))
-some_kind protocol u f (character c is m) = (Character, (is, m))
+some_kind reading u f (open_now is m) = (String, (is, m))
+some_kind reading u f (character c is m) = (Character, (is, m))
 
 pub waiting_kinds : WaitingKinds
-waiting_kinds protocol u f rest =
-    let it = some_kind protocol u f (kinds protocol u f rest) in
-    (it.0, it.1, λ other is. one_kind protocol u f it.0 other it.1 is)
+waiting_kinds reading u f rest =
+    let it = some_kind reading u f (kinds reading u f rest) in
+    (it.0, it.1, λ other is. one_kind reading u f it.0 other it.1 is)
