@@ -1,4 +1,5 @@
--- The laws of the encoder: the extended parser reads back what is written.
+-- The laws of the encoder: the extended parser reads back what is written. Key reports are read back by every reading under Kitty's protocol,
+-- and the other texts by every reading.
 use Rattle.std.specs.Prelude.{◌≡◌, ⊤, ℕ, ◌<◌, ◌≤◌, Bool, List, [], ◌∷◌, true, false, length, Contains, map, Option, Some, None, if◌then◌else◌}
 use Rattle.std.specs.Char.{IsScalar, is_ascii_lowercase}
 use Rattle.std.specs.Str.{chars, IsUtf8}
@@ -14,6 +15,7 @@ use Rattle.termwiz_extended_events.specs.declared.types.ReportedKey.TheVariants.
 use Rattle.termwiz_extended_events.specs.declared.types.ExtendedEvent.{ExtendedEvent}
 use Rattle.termwiz_extended_events.specs.declared.types.ExtendedEvent.TheVariants.{Input, Key}
 use Rattle.termwiz_extended_events.specs.declared.types.Protocol.TheVariants.{Kitty}
+use Rattle.termwiz_extended_events.specs.declared.types.Reading.{Reading}
 use Rattle.termwiz_extended_events.specs.EventKeys.{key_of_event}
 use Rattle.termwiz_extended_events.specs.KeyReports.{report_of}
 use Rattle.termwiz_extended_grammar.specs.ExtendedGrammar.{Means}
@@ -43,11 +45,11 @@ pub record IsReport (r : KeyReport) : Type 0 where
   pub base_is : IsScalarOrMissing r.base
   pub text_is : IsUtf8 r.text
 
--- The sequence of a report that isn't too long means that report, and nothing else, whether or not more may come.
+-- Under Kitty's protocol the sequence of a report that isn't too long means that report, and nothing else, whether or not more may come.
 abbrev pub KittyReadBack : Type 0
-KittyReadBack = (r : KeyReport) (flags : ℕ) (text : List ℕ) (more : Bool) → IsReport r → telling r flags ≡ Reported
-    → kitty_text r flags ≡ Some text → length text ≤ most_bytes
-    → Means Kitty text more (Key (reported r flags) ∷ []) []
+KittyReadBack = (reading : Reading) (r : KeyReport) (flags : ℕ) (text : List ℕ) (more : Bool) → reading.protocol ≡ Kitty → IsReport r
+    → telling r flags ≡ Reported → kitty_text r flags ≡ Some text → length text ≤ most_bytes
+    → Means reading text more (Key (reported r flags) ∷ []) []
 
 -- What a terminal can write: the key in its normal form; what it types with Shift only while Shift is held, and this and what its place
 -- types only of a key that types a character; and a text only in a sequence that has room for one, and without control characters.
@@ -83,16 +85,16 @@ typed_events key r text = if is_typed_text r.text then characters_pressed text e
 
 -- A key that is sent as its text: the text means exactly these events, whether or not more may come, and nothing waits.
 abbrev pub TypedReadBack : Type 0
-TypedReadBack = (r : KeyReport) (flags : ℕ) (text : List ℕ) (more : Bool) → IsReport r → telling r flags ≡ Typed
-    → kitty_text r flags ≡ Some text → Means Kitty text more (typed_events (told_key r flags) r text) []
+TypedReadBack = (reading : Reading) (r : KeyReport) (flags : ℕ) (text : List ℕ) (more : Bool) → IsReport r → telling r flags ≡ Typed
+    → kitty_text r flags ≡ Some text → Means reading text more (typed_events (told_key r flags) r text) []
 
 -- the press of a key with these of kitty's bits
 abbrev pub press_of : KeyCode → ℕ → KeyReport
 press_of key bits = report_of (Named key) (record { modifiers = bits; kind = Press })
 
 -- The text is one event, a key with this report, and nothing waits.
-abbrev pub IsReadAs : List ℕ → Bool → KeyReport → Type 0
-IsReadAs text more report = (event : ExtendedEvent) × Means Kitty text more (event ∷ []) [] × (key_of_event event ≡ Some report)
+abbrev pub IsReadAs : Reading → List ℕ → Bool → KeyReport → Type 0
+IsReadAs reading text more report = (event : ExtendedEvent) × Means reading text more (event ∷ []) [] × (key_of_event event ≡ Some report)
 
 -- The keys whose texts begin sequences or strings, with kitty's bits of their modifiers: Escape, Escape with Alt, and [ O P ] and _ with Alt.
 abbrev pub keys_that_wait : List (KeyCode × ℕ)
@@ -115,16 +117,16 @@ pub data IsReadBack : KeyCode → ℕ → Type 0 where
 -- Such a key that is sent as before the protocol: its text is its press, with all modifiers of its report. With more to come that is so of the
 -- keys whose texts begin no sequence and no string.
 abbrev pub LegacyReadBack : Type 0
-LegacyReadBack = (r : KeyReport) (key : KeyCode) (flags : ℕ) (sent : LegacyText) (text : List ℕ) (more : Bool) → IsReport r
-    → told_key r flags ≡ Named key → telling r flags ≡ Legacy sent → kitty_text r flags ≡ Some text
+LegacyReadBack = (reading : Reading) (r : KeyReport) (key : KeyCode) (flags : ℕ) (sent : LegacyText) (text : List ℕ) (more : Bool)
+    → IsReport r → told_key r flags ≡ Named key → telling r flags ≡ Legacy sent → kitty_text r flags ≡ Some text
     → IsReadBack key (without_locks r.modifiers)
     → (more ≡ true → ¬ Contains keys_that_wait (key, without_locks r.modifiers))
-    → IsReadAs text more (press_of key (without_locks r.modifiers))
+    → IsReadAs reading text more (press_of key (without_locks r.modifiers))
 
 -- A text key with Alt, or with Shift and Alt, is sent as ESC and the character that it shows: that is read as this character's key with Alt.
 abbrev pub AltReadBack : Type 0
-AltReadBack = (r : KeyReport) (c shown flags : ℕ) (text : List ℕ) (more : Bool) → IsReport r
+AltReadBack = (reading : Reading) (r : KeyReport) (c shown flags : ℕ) (text : List ℕ) (more : Bool) → IsReport r
     → told_key r flags ≡ Named (Char c) → telling r flags ≡ Legacy (AfterEscape shown) → kitty_text r flags ≡ Some text
     → Contains (ALT ∷ SHIFT_ALT ∷ []) (without_locks r.modifiers)
     → (more ≡ true → ¬ Contains keys_that_wait (Char shown, ALT))
-    → IsReadAs text more (press_of (Char shown) ALT)
+    → IsReadAs reading text more (press_of (Char shown) ALT)

@@ -1,4 +1,5 @@
-//! Laws of the encoder, each the contract of a function without effect.
+//! Laws of the encoder, each the contract of a function without effect. What is said of the extended parser holds whether it reads X10 mouse
+//! reports or not, and however many questions for the cursor's position are open.
 ghost use Rattle.termwiz_kitty.specs.KittyLaws.{AltReadBack, FullyTold, KittyReadBack, LegacyReadBack, TypedReadBack};
 
 /// If a key is sent as a key report, and its sequence has at most 256 bytes, then the extended parser under `Protocol::Kitty` reads it as
@@ -14,7 +15,8 @@ pub fn fully_told()
 {}
 
 /// A key that is sent as its text is read back as that text: its characters, each the press of a key without modifiers. What Enter, Tab and
-/// Backspace type by themselves is read back as these keys. Nothing stays buffered, whether or not more may come.
+/// Backspace type by themselves is read back as these keys. Nothing stays buffered, whether or not more may come. That holds under either
+/// protocol.
 pub fn typed_read_back()
     ensures { TypedReadBack }
 {}
@@ -22,8 +24,8 @@ pub fn typed_read_back()
 /// A text from before the protocol is read back as the press of its key, with all modifiers of its report but the locks (`keys`). That
 /// holds of F1 to F4; Escape alone or with Alt; Enter, Backspace and Tab with Alt; Tab with Shift, or with Shift and Alt; and letters but
 /// h, i, j and m with Ctrl, or with Ctrl and Alt. A text key with Alt, or with Shift and Alt, is read back as the character that it
-/// shows, with Alt (`characters`). With more to come the law says nothing of Escape, Escape with Alt, and `[`, `O`, `P`, `]` and `_`
-/// with Alt: their texts begin sequences or strings.
+/// shows, with Alt (`characters`). Both hold under `Protocol::Legacy` and `Protocol::Kitty`. With more to come the law says nothing of
+/// Escape, Escape with Alt, and `[`, `O`, `P`, `]` and `_` with Alt: their texts begin sequences or strings.
 pub fn legacy_read_back()
     ensures keys { LegacyReadBack }
     ensures characters { AltReadBack }

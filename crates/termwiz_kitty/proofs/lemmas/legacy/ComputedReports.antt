@@ -1,4 +1,4 @@
--- What the texts of keys report under Protocol::Kitty, computed over lists of keys with modifiers.
+-- What the texts of keys report, computed over lists of keys with modifiers.
 use Rattle.std.proofs.Common.{◌≡◌, ℕ, Bool, true, false, List, map, drop, Option, Some, None, refl, sym, ap, ◌∙◌, subst, Contains}
 use Rattle.std.specs.Prelude.{if◌then◌else◌}
 use Rattle.termwiz_keys.specs.Encoding.{enc}
@@ -9,7 +9,8 @@ use Rattle.termwiz_grammar.proofs.lemmas.lists.ListMembers.{same_on}
 use Rattle.termwiz_laws.proofs.lemmas.further_keys.ComputedReadings.{Held}
 use Rattle.termwiz_extended_events.specs.declared.types.KeyReport.{KeyReport}
 use Rattle.termwiz_extended_events.specs.declared.types.ExtendedEvent.{ExtendedEvent}
-use Rattle.termwiz_extended_events.specs.declared.types.ExtendedEvent.TheVariants.{Input, Key, FocusGained, FocusLost, CursorPosition, Resize, KeyboardFlags, Csi, Osc, Dcs, Apc, StringPart, StringCut}
+use Rattle.termwiz_extended_events.specs.declared.types.ExtendedEvent.TheVariants.{Input, Key, FocusGained, FocusLost, CursorPosition, Resize, KeyboardFlags, SideButton, Csi, Osc, Dcs, Apc, StringPart, StringCut}
+use Rattle.termwiz_extended_events.specs.declared.types.Reading.{Reading}
 use Rattle.termwiz_extended_events.specs.EventKeys.{pressed_key, key_of_event}
 use Rattle.termwiz_extended_events.specs.Meanings.{event_of, IsKeyOrPosition}
 use Rattle.termwiz_kitty.specs.KittyLaws.{IsReadAs}
@@ -40,6 +41,7 @@ reports_tested FocusLost h = absurd h
 reports_tested (CursorPosition row column) h = refl
 reports_tested (Resize r c h w) k = absurd k
 reports_tested (KeyboardFlags flags) h = absurd h
+reports_tested (SideButton event) h = absurd h
 reports_tested (Csi bytes) h = absurd h
 reports_tested (Osc bytes) h = absurd h
 reports_tested (Dcs bytes) h = absurd h
@@ -55,6 +57,7 @@ key_is FocusLost r h k = absurd h
 key_is (CursorPosition row column) r h k = cc (k)
 key_is (Resize a b c d) r h k = absurd h
 key_is (KeyboardFlags flags) r h k = absurd h
+key_is (SideButton event) r h k = absurd h
 key_is (Csi bytes) r h k = absurd h
 key_is (Osc bytes) r h k = absurd h
 key_is (Dcs bytes) r h k = absurd h
@@ -67,13 +70,13 @@ some_if true o r e = cc (e)
 some_if false o r e = (refl, e)
 
 -- a text whose report is that of its key is read as that key
-pub told_is_read : (text : List ℕ) (k : KeyEvent) (more : Bool) → ReadAs text k more
-    → told_report text (pressed_key k) ≡ Some (pressed_key k) → IsReadAs text more (pressed_key k)
-told_is_read text k more (as_key means) e = (Input (input.Key k), means, refl)
-told_is_read text k more (as_report is means) e =
+pub told_is_read : (reading : Reading) (text : List ℕ) (k : KeyEvent) (more : Bool) → ReadAs reading text k more
+    → told_report text (pressed_key k) ≡ Some (pressed_key k) → IsReadAs reading text more (pressed_key k)
+told_is_read reading text k more (as_key means) e = (Input (input.Key k), means, refl)
+told_is_read reading text k more (as_report is means) e =
     let both = some_if (is_report (event_of (drop 1 text))) (report_or (event_of text) (pressed_key k)) (pressed_key k) e in
     (event_of text, means, key_is (event_of text) (pressed_key k) is.reports both.1)
-told_is_read text k more (apart v splits is) e =
+told_is_read reading text k more (apart v splits is) e =
     let both = some_if (is_report (event_of (drop 1 text))) (report_or (event_of text) (pressed_key k)) (pressed_key k) e in
     let test : is_report (event_of v) ≡ false = subst (λ t. is_report (event_of (drop 1 t)) ≡ false) splits both.0 in
     let no = reports_tested (event_of v) is.reports in absurd (cc (test, no))

@@ -28,6 +28,7 @@ use Rattle.termwiz_laws.proofs.lemmas.shared_texts.TwinKeys.{sent_means}
 use Rattle.termwiz_extended_events.specs.declared.types.KeyReport.{KeyReport}
 use Rattle.termwiz_extended_events.specs.declared.types.ReportedKey.TheVariants.{Named}
 use Rattle.termwiz_extended_events.specs.declared.types.ExtendedEvent.TheVariants.{Input}
+use Rattle.termwiz_extended_events.specs.declared.types.Reading.{Reading}
 use Rattle.termwiz_extended_events.specs.EventKeys.{pressed_key}
 use Rattle.termwiz_extended_events.proofs.Examples.{written_out as events_written_out}
 use Rattle.termwiz_extended_grammar.proofs.lemmas.forms.FormBytes.{form_shape}
@@ -53,21 +54,21 @@ abbrev Sends : KeyCode → ℕ → List ℕ → Type 0
 Sends key held text = enc key (record { 0 = held }) xterm_modes ≡ Some text
 
 -- the text is read as the key
-abbrev Back : KeyCode → ℕ → List ℕ → Bool → Type 0
-Back key held text more = IsReadAs text more (pressed_key (key_with key held))
+abbrev Back : Reading → KeyCode → ℕ → List ℕ → Bool → Type 0
+Back reading key held text more = IsReadAs reading text more (pressed_key (key_with key held))
 
 abbrev press : KeyCode → ℕ → Press
 press key held = record { key = key; modifiers = record { 0 = held }; modes = xterm_modes }
 
 -- what the port reads back needs no flush, where it doesn't begin a sequence
-is_read : (key : KeyCode) (held : ℕ) (text : List ℕ) (more : Bool) → DoesReadBack (press key held) → Sends key held text
-    → (more ≡ true → ¬ Contains held_that_wait (key, held)) → IsRead text (key_with key held) more
-is_read key held text more back sends apart' = record {
+is_read : (reading : Reading) (key : KeyCode) (held : ℕ) (text : List ℕ) (more : Bool) → DoesReadBack (press key held) → Sends key held text
+    → (more ≡ true → ¬ Contains held_that_wait (key, held)) → IsRead reading text (key_with key held) more
+is_read reading key held text more back sends apart' = record {
   flushed = flushed;
   means = means more apart';
-  closed = λ h. apart' h.more_comes (text_waits text k flushed h.some h.beginning (no_beginning h.more_comes));
+  closed = λ h. apart' h.more_comes (text_waits reading text k flushed h.some h.beginning (no_beginning h.more_comes));
   closed_after = λ v split h.
-      apart' h.more_comes (rest_waits text v k flushed split h.some h.beginning (no_beginning h.more_comes));
+      apart' h.more_comes (rest_waits reading text v k flushed split h.some h.beginning (no_beginning h.more_comes));
 }
   where
     k : KeyEvent
@@ -88,12 +89,14 @@ is_read key held text more back sends apart' = record {
     means true other = others_at_once (press key held) text (back, no_flush true refl other) sends
 
 -- by what was computed of a list of keys
-by_list : (cases : List Held) (key : KeyCode) (held : ℕ) (text : List ℕ) (more : Bool) → AllRead xterm_modes cases → AllTold cases
+by_list : (reading : Reading) (cases : List Held) (key : KeyCode) (held : ℕ) (text : List ℕ) (more : Bool) → AllRead xterm_modes cases
+    → AllTold cases
     → Contains cases (key, held) → Sends key held text → (more ≡ true → ¬ Contains held_that_wait (key, held))
-    → Back key held text more
-by_list cases key held text more read told here sends apart' =
+    → Back reading key held text more
+by_list reading cases key held text more read told here sends apart' =
     let back = reads_back_in xterm_modes cases key (record { 0 = held }) read here in
-    told_is_read text (key_with key held) more (read_as text (key_with key held) more (is_read key held text more back sends apart'))
+    told_is_read reading text (key_with key held) more
+    (read_as reading text (key_with key held) more (is_read reading key held text more back sends apart'))
     (told_in cases (key, held) text told here sends)
 
 in_chars : (codes' held' : List ℕ) (c held : ℕ) → Contains codes' c → Contains held' held
@@ -197,9 +200,9 @@ unfolding kitty_text
 written_as r flags sent tells = rw tells refl
 
 pub legacy_read_back : LegacyReadBack
-legacy_read_back r key flags sent text more is named tells writes own apart' =
-    subst (λ b. IsReadAs text more (press_of key b)) bits
-    (by_list (map in_port own_keys) key (port_bits held) text more own_keys_read own_keys_told
+legacy_read_back reading r key flags sent text more is named tells writes own apart' =
+    subst (λ b. IsReadAs reading text more (press_of key b)) bits
+    (by_list reading (map in_port own_keys) key (port_bits held) text more own_keys_read own_keys_told
     (in_map in_port own_keys (key, held) here) sends (λ e waits. apart' e (waiting waits)))
   where
     held : ℕ
@@ -247,33 +250,33 @@ char_with_alt c high =
     let no_letter : is_ascii_alphanumeric c || is_ascii_punctuation c ≡ false = grind (arith, nat_tests) in
     rw (key_with_alt c (λ e. omega arith) (λ e. omega arith), held_with_alt c, no_letter)
 
-alt_back : (c : ℕ) (text : List ℕ) (f : Bool) → IsScalar c → 128 ≤ c → 27 ∷ encode_utf8 c ≡ text
-    → ReadAs text (key_with (Char c) port_alt) f → Back (Char c) port_alt text f
-alt_back c text f scalar high e (as_key means) = (Input (input.Key (key_with (Char c) port_alt)), means, refl)
-alt_back c text f scalar high e (as_report is means) =
+alt_back : (reading : Reading) (c : ℕ) (text : List ℕ) (f : Bool) → IsScalar c → 128 ≤ c → 27 ∷ encode_utf8 c ≡ text
+    → ReadAs reading text (key_with (Char c) port_alt) f → Back reading (Char c) port_alt text f
+alt_back reading c text f scalar high e (as_key means) = (Input (input.Key (key_with (Char c) port_alt)), means, refl)
+alt_back reading c text f scalar high e (as_report is means) =
     let shape = form_shape text is.is_extra.is_form in
     let first = first_high c shape.0 shape.1 high (cc (e, shape.2)) in
     let range = second_range shape.0 shape.4 in absurd (omega (arith, first, range.1))
-alt_back c text f scalar high e (apart v splits is) =
+alt_back reading c text f scalar high e (apart v splits is) =
     let shape = form_shape v is.is_extra.is_form in
     absurd (no_escape_before c shape.0 shape.1 scalar (cc (e, splits, shape.2)))
 
 -- ESC and a character is that character with Alt
-escaped_back : (c : ℕ) (more : Bool) → IsShown c → (more ≡ true → ¬ Contains held_that_wait (Char c, port_alt))
-    → Back (Char c) port_alt (27 ∷ encode_utf8 c) more
-escaped_back c more is apart' = go (below_or_not 32) (below_or_not 127) (below_or_not 128)
+escaped_back : (reading : Reading) (c : ℕ) (more : Bool) → IsShown c → (more ≡ true → ¬ Contains held_that_wait (Char c, port_alt))
+    → Back reading (Char c) port_alt (27 ∷ encode_utf8 c) more
+escaped_back reading c more is apart' = go (below_or_not 32) (below_or_not 127) (below_or_not 128)
   where
     below_or_not : (n : ℕ) → (c < n) ⊎ (n ≤ c)
     below_or_not n = grind arith
 
-    control : is_control c ≡ true → Back (Char c) port_alt (27 ∷ encode_utf8 c) more
+    control : is_control c ≡ true → Back reading (Char c) port_alt (27 ∷ encode_utf8 c) more
     control e = absurd (let no = is.no_control in cc (e, no))
 
-    go : (c < 32) ⊎ (32 ≤ c) → (c < 127) ⊎ (127 ≤ c) → (c < 128) ⊎ (128 ≤ c) → Back (Char c) port_alt (27 ∷ encode_utf8 c) more
+    go : (c < 32) ⊎ (32 ≤ c) → (c < 127) ⊎ (127 ≤ c) → (c < 128) ⊎ (128 ≤ c) → Back reading (Char c) port_alt (27 ∷ encode_utf8 c) more
     go (inl low) b d = control (low_is_control c low)
     go (inr low) (inl high) d =
         let here = at_number 32 95 c low (omega arith) in
-        by_list printable_with_alt (Char c) port_alt (27 ∷ encode_utf8 c) more printable_read printable_told
+        by_list reading printable_with_alt (Char c) port_alt (27 ∷ encode_utf8 c) more printable_read printable_told
         (in_chars (numbers 32 95) (port_alt ∷ []) c port_alt here (0, lit< tt, refl))
         (same_on (λ c. enc (Char c) (record { 0 = port_alt }) xterm_modes) (λ c. Some (27 ∷ encode_utf8 c)) (numbers 32 95) c
         printable_sent here) apart'
@@ -282,9 +285,9 @@ escaped_back c more is apart' = go (below_or_not 32) (below_or_not 127) (below_o
     go (inr low) (inr past) (inr high) =
         let back = further_keys_read_back (Char c) (record { 0 = port_alt }) xterm_modes
         (alt_beyond_ascii c xterm_modes refl is.scalar high) in
-        alt_back c (27 ∷ encode_utf8 c) more is.scalar high refl
-        (read_as (27 ∷ encode_utf8 c) (key_with (Char c) port_alt) more
-        (is_read (Char c) port_alt (27 ∷ encode_utf8 c) more back (char_with_alt c high) apart'))
+        alt_back reading c (27 ∷ encode_utf8 c) more is.scalar high refl
+        (read_as reading (27 ∷ encode_utf8 c) (key_with (Char c) port_alt) more
+        (is_read reading (Char c) port_alt (27 ∷ encode_utf8 c) more back (char_with_alt c high) apart'))
 
 -- the character after ESC is one that is shown
 
@@ -301,7 +304,8 @@ IsAltHeld held = Contains (ALT ∷ SHIFT_ALT ∷ []) held
 with_alt_shown : (c d : ℕ) (shifted : Option ℕ) → IsScalar c → character_text c ALT shifted ≡ Some (AfterEscape d) → IsShown d
 with_alt_shown c d shifted scalar = go (c == 32) (is_text_key c) refl
   where
-    go : (a b : Bool) → is_text_key c ≡ b → (if a then Some (AfterEscape 32) else (if b then Some (AfterEscape c) else None)) ≡ Some (AfterEscape d)
+    go : (a b : Bool) → is_text_key c ≡ b
+        → (if a then Some (AfterEscape 32) else (if b then Some (AfterEscape c) else None)) ≡ Some (AfterEscape d)
         → IsShown d
     go true b text e = after_escape_is (Some 32) d (record { scalar = refl; no_control = refl }) e
     go false true text e = after_escape_is (Some c) d (text_key_shown c text scalar) e
@@ -311,7 +315,8 @@ with_shift_shown : (c d : ℕ) (shifted : Option ℕ) → IsScalarOrMissing shif
     → character_text c SHIFT_ALT shifted ≡ Some (AfterEscape d) → IsShown d
 with_shift_shown c d shifted is = go (c == 32) (is_text_key c)
   where
-    go : (a b : Bool) → (if a then Some (AfterEscape 32) else (if b then option_map AfterEscape (with_shift c shifted) else None)) ≡ Some (AfterEscape d)
+    go : (a b : Bool)
+        → (if a then Some (AfterEscape 32) else (if b then option_map AfterEscape (with_shift c shifted) else None)) ≡ Some (AfterEscape d)
         → IsShown d
     go true b e = after_escape_is (Some 32) d (record { scalar = refl; no_control = refl }) e
     go false true e = after_escape_is (with_shift c shifted) d (with_shift_is c shifted is) e
@@ -335,9 +340,9 @@ unfolding legacy_bytes
 escaped c = refl
 
 pub alt_read_back : AltReadBack
-alt_read_back r c shown flags text more is named tells writes alt apart' =
-    subst (λ t. IsReadAs t more (press_of (Char shown) ALT)) same
-    (escaped_back shown more is_shown (λ e waits. apart' e
+alt_read_back reading r c shown flags text more is named tells writes alt apart' =
+    subst (λ t. IsReadAs reading t more (press_of (Char shown) ALT)) same
+    (escaped_back reading shown more is_shown (λ e waits. apart' e
     (subst (λ l. Contains l (Char shown, ALT)) waits_same (in_map in_kitty held_that_wait (Char shown, port_alt) waits))))
   where
     held : ℕ

@@ -1,4 +1,4 @@
--- A text that the port reads as one key is, under Protocol::Kitty, that key, or one extra sequence, or ESC before one.
+-- A text that the port reads as one key is that key to the extended parser, or one extra sequence, or ESC before one.
 use Rattle.std.proofs.Common.{◌≡◌, ◌≢◌, inl, inr, ⊎_elim, ℕ, ◌<◌, ◌≤◌, Bool, false, List, [], ◌∷◌, ◌++◌, length, refl, sym, ap, ◌∙◌, subst, arith, Contains, append-nil, length-append}
 use Rattle.std.specs.Char.{IsScalar, encode_utf8}
 use Rattle.termwiz_keymap.proofs.lemmas.lists.CommonPrefixes.{append-some_left}
@@ -18,11 +18,14 @@ use Rattle.termwiz_laws.proofs.lemmas.first_bytes.NoSequence.{first_byte}
 use Rattle.termwiz_laws.proofs.lemmas.further_keys.SingleKey.{Plainly, Single, single}
 use Rattle.termwiz_laws.proofs.lemmas.further_keys.SingleKey.Plainly.{by_row, by_character, by_broken_byte}
 use Rattle.termwiz_laws.proofs.lemmas.further_keys.SingleKey.Single.{plainly, after_escape}
-use Rattle.termwiz_extended_events.specs.declared.types.ExtendedEvent.TheVariants.{Input}
-use Rattle.termwiz_extended_events.specs.declared.types.Protocol.TheVariants.{Kitty}
-use Rattle.termwiz_extended_events.specs.Meanings.{event_of, IsKeyOrPosition}
+use Rattle.termwiz_extended_events.specs.declared.types.ExtendedEvent.{ExtendedEvent}
+use Rattle.termwiz_extended_events.specs.declared.types.ExtendedEvent.TheVariants.{Input, Key, FocusGained, FocusLost, CursorPosition, Resize, KeyboardFlags, SideButton, Csi, Osc, Dcs, Apc, StringPart, StringCut}
+use Rattle.termwiz_extended_events.specs.declared.types.Protocol.{Protocol}
+use Rattle.termwiz_extended_events.specs.declared.types.Protocol.TheVariants.{Legacy, Kitty}
+use Rattle.termwiz_extended_events.specs.declared.types.Reading.{Reading}
+use Rattle.termwiz_extended_events.specs.Meanings.{event_of, IsPosition, IsKeyOrPosition}
 use Rattle.termwiz_extended_grammar.specs.Forms.{introducer}
-use Rattle.termwiz_extended_grammar.specs.ExtraSequences.{IsExtra}
+use Rattle.termwiz_extended_grammar.specs.ExtraSequences.{Overrides, IsExtra}
 use Rattle.termwiz_extended_grammar.specs.Strings.{StartsWithOpening}
 use Rattle.termwiz_extended_grammar.specs.ExtendedGrammar.{StartsExtended, IsOpen, IsUsual, Steps, Means}
 use Rattle.termwiz_extended_grammar.specs.ExtendedGrammar.Stands.{usual}
@@ -36,8 +39,8 @@ use Rattle.termwiz_extended_grammar.proofs.lemmas.items.ExtraHeads.{extra_is_lon
 use Rattle.termwiz_kitty.proofs.lemmas.read_back.SequencesMean.{means_alone}
 
 -- the whole text is one extra sequence, a row that reports a key or the cursor's position
-pub record IsReportText (text : List ℕ) : Type 0 where
-  pub is_extra : IsExtra Kitty text (event_of text)
+pub record IsReportText (reading : Reading) (text : List ℕ) : Type 0 where
+  pub is_extra : IsExtra reading text (event_of text)
   pub reports : IsKeyOrPosition (event_of text)
 
 pub row_is : (s : List ℕ) (k : KeyEvent) → Contains rows (s, k) → IsSequence s (Row k)
@@ -71,21 +74,43 @@ row_no_opening v j is o = go (sequence_layout v (Row j) is)
     go (paired b e l) = append-some_left o.head o.begins.0 (head_some o.kind o.head o.is_head) (cc (all, e))
     go (longer b r e k p) = let same : b ≡ i.0 = cc (all, e) in omega (arith, i.2)
 
+position_is_report : (event : ExtendedEvent) → IsPosition event → IsKeyOrPosition event
+position_is_report (Input event) is = absurd is
+position_is_report (Key r) is = absurd is
+position_is_report FocusGained is = absurd is
+position_is_report FocusLost is = absurd is
+position_is_report (CursorPosition row column) is = is
+position_is_report (Resize r c h w) is = absurd is
+position_is_report (KeyboardFlags flags) is = absurd is
+position_is_report (SideButton event) is = absurd is
+position_is_report (Csi bytes) is = absurd is
+position_is_report (Osc bytes) is = absurd is
+position_is_report (Dcs bytes) is = absurd is
+position_is_report (Apc bytes) is = absurd is
+position_is_report (StringPart kind bytes) is = absurd is
+position_is_report (StringCut kind bytes) is = absurd is
+
+-- a row that isn't left to the port is such a report
+override_reports : (protocol : Protocol) (questions : ℕ) (event : ExtendedEvent) → Overrides protocol questions event
+    → IsKeyOrPosition event
+override_reports Legacy questions event is = position_is_report event is.1
+override_reports Kitty questions event is = is
+
 -- an extra sequence that begins what is read as one key is all of it, and no opening begins that
-whole : (v : List ℕ) (j : KeyEvent) → Plainly v j → StartsExtended Kitty v → IsReportText v
-whole v j (by_row c) (inl s) =
+whole : (reading : Reading) (v : List ℕ) (j : KeyEvent) → Plainly v j → StartsExtended reading v → IsReportText reading v
+whole reading v j (by_row c) (inl s) =
     let is = row_is v j c in
-    let longest = (extra_is_longest Kitty v s.text s.event s.is_extra s.begins).0 v (Row j) is ([], sym (append-nil v)) in
+    let longest = (extra_is_longest reading v s.text s.event s.is_extra s.begins).0 v (Row j) is ([], sym (append-nil v)) in
     let same : v ≡ s.text = same_length s.text s.begins.0 v s.begins.1 longest in
-    let extra : IsExtra Kitty v s.event = subst (λ t. IsExtra Kitty t s.event) (sym same) s.is_extra in
+    let extra : IsExtra reading v s.event = subst (λ t. IsExtra reading t s.event) (sym same) s.is_extra in
     record {
       is_extra = record { is_form = extra.is_form; is_free = extra.is_free; means = refl };
-      reports = (extra.is_free (Row j) is).2;
+      reports = override_reports reading.protocol reading.questions (event_of v) (extra.is_free (Row j) is).2;
     }
-whole v j (by_row c) (inr o) = absurd (row_no_opening v j (row_is v j c) o)
-whole v j (by_character c scalar e k) s =
-    let shape = starts_shape Kitty v s in absurd (no_escape_before c shape.0 shape.1 scalar (sym e ∙ shape.2))
-whole v j (by_broken_byte b e k) s = (let shape = starts_shape Kitty v s in absurd (cc (e, shape.2)))
+whole reading v j (by_row c) (inr o) = absurd (row_no_opening v j (row_is v j c) o)
+whole reading v j (by_character c scalar e k) s =
+    let shape = starts_shape reading v s in absurd (no_escape_before c shape.0 shape.1 scalar (sym e ∙ shape.2))
+whole reading v j (by_broken_byte b e k) s = (let shape = starts_shape reading v s in absurd (cc (e, shape.2)))
 
 pub second_range : (b : ℕ) → IsSecond b → (79 ≤ b) × (b ≤ 95)
 second_range b h = (omega arith, omega arith)
@@ -105,21 +130,21 @@ second_byte b r t j second some e (by_character c scalar spells k) =
     (encode_forms c scalar)
 second_byte b r t j second some e (by_broken_byte x is k) = some (cc (is, e))
 
-not_behind : (t : List ℕ) (j : KeyEvent) → Plainly t j → StartsExtended Kitty (27 ∷ t) → ⊥
-not_behind t j p s =
-    let mark = starts_mark Kitty (27 ∷ t) s in
+not_behind : (reading : Reading) (t : List ℕ) (j : KeyEvent) → Plainly t j → StartsExtended reading (27 ∷ t) → ⊥
+not_behind reading t j p s =
+    let mark = starts_mark reading (27 ∷ t) s in
     let shape = mark_shape mark.0 mark.2 in
     let text : 27 ∷ t ≡ 27 ∷ shape.0 ∷ (shape.1 ++ mark.1) = mark.3 ∙ ap (λ x. x ++ mark.1) shape.2 in
     second_byte shape.0 (shape.1 ++ mark.1) t j shape.4 (append-some_left shape.1 mark.1 shape.3) (cc (text)) p
 
-starts_whole : (text : List ℕ) (k : KeyEvent) → Single text k → StartsExtended Kitty text → IsReportText text
-starts_whole text k (plainly p) s = whole text k p s
-starts_whole text k (after_escape t j e p g) s = absurd (not_behind t j p (subst (StartsExtended Kitty) e s))
+starts_whole : (reading : Reading) (text : List ℕ) (k : KeyEvent) → Single text k → StartsExtended reading text → IsReportText reading text
+starts_whole reading text k (plainly p) s = whole reading text k p s
+starts_whole reading text k (after_escape t j e p g) s = absurd (not_behind reading t j p (subst (StartsExtended reading) e s))
 
 -- an extra sequence after the first byte: that is ESC, and the sequence is the rest
-record AfterEscape (c : ℕ) (v : List ℕ) : Type 0 where
+record AfterEscape (reading : Reading) (c : ℕ) (v : List ℕ) : Type 0 where
   escape : c ≡ 27
-  report : IsReportText v
+  report : IsReportText reading v
 
 no_second_escape : (c b : ℕ) (r : List ℕ) → Bytes (c ∷ 27 ∷ b ∷ r) → ⊥
 no_second_escape c b r (one y l e) = cc (e)
@@ -129,14 +154,15 @@ no_second_escape c b r (more (x ∷ t) n e p) = (let same : x ≡ 27 = cc (e) in
 several_on : (c b : ℕ) (r : List ℕ) → IsSeveral (c ∷ 27 ∷ b ∷ r) → ⊥
 several_on c b r h = omega (arith, h.3.0.0)
 
-after_first : (c : ℕ) (v text : List ℕ) (k : KeyEvent) → text ≡ c ∷ v → Single text k → StartsExtended Kitty v → AfterEscape c v
-after_first c v text k e (after_escape t j split p g) s =
+after_first : (reading : Reading) (c : ℕ) (v text : List ℕ) (k : KeyEvent) → text ≡ c ∷ v → Single text k → StartsExtended reading v
+    → AfterEscape reading c v
+after_first reading c v text k e (after_escape t j split p g) s =
     let same : t ≡ v = cc (split, e) in
-    record { escape = cc (split, e); report = whole v j (subst (λ x. Plainly x j) same p) s }
-after_first c v text k e (plainly p) s = absurd (go p)
+    record { escape = cc (split, e); report = whole reading v j (subst (λ x. Plainly x j) same p) s }
+after_first reading c v text k e (plainly p) s = absurd (go p)
   where
     shape : (b : ℕ) × (r : List ℕ) × (v ≡ 27 ∷ b ∷ r) × IsSecond b
-    shape = starts_shape Kitty v s
+    shape = starts_shape reading v s
 
     all : text ≡ c ∷ 27 ∷ shape.0 ∷ shape.1
     all = e ∙ ap (λ x. c ∷ x) shape.2
@@ -150,48 +176,50 @@ after_first c v text k e (plainly p) s = absurd (go p)
     go (by_broken_byte b is g) = cc (is, all)
 
 -- where no extra sequence and no opening begins the text, nor what follows its ESC, and neither is open, the port's key is the event
-as_in_port : (text : List ℕ) (k : KeyEvent) (f : Bool) → port.Means text f (input.Key k ∷ []) [] → IsUsual Kitty text f
-    → ((v : List ℕ) → text ≡ ESC ++ v → IsUsual Kitty v f) → Means Kitty text f (Input (input.Key k) ∷ []) []
-as_in_port text k f means whole' after = record { steps = from means.steps; rest = empty_is_rest Kitty f }
+as_in_port : (reading : Reading) (text : List ℕ) (k : KeyEvent) (f : Bool) → port.Means text f (input.Key k ∷ []) []
+    → IsUsual reading text f
+    → ((v : List ℕ) → text ≡ ESC ++ v → IsUsual reading v f) → Means reading text f (Input (input.Key k) ∷ []) []
+as_in_port reading text k f means whole' after = record { steps = from means.steps; rest = empty_is_rest reading f }
   where
-    from : port.Steps text f (input.Key k ∷ []) [] → Steps Kitty text f (Input (input.Key k) ∷ []) []
+    from : port.Steps text f (input.Key k ∷ []) [] → Steps reading text f (Input (input.Key k) ∷ []) []
     from (bytes, rest, stands, splits, nothing) = (rest, usual bytes rest (input.Key k) stands splits whole' after, nothing)
 
 -- what a text that the port reads as one key is read as
-pub data ReadAs (text : List ℕ) (k : KeyEvent) (f : Bool) : Type 0 where
-  as_key : Means Kitty text f (Input (input.Key k) ∷ []) [] → ReadAs text k f
-  as_report : IsReportText text → Means Kitty text f (event_of text ∷ []) [] → ReadAs text k f
-  apart : (v : List ℕ) → text ≡ ESC ++ v → IsReportText v → ReadAs text k f
+pub data ReadAs (reading : Reading) (text : List ℕ) (k : KeyEvent) (f : Bool) : Type 0 where
+  as_key : Means reading text f (Input (input.Key k) ∷ []) [] → ReadAs reading text k f
+  as_report : IsReportText reading text → Means reading text f (event_of text ∷ []) [] → ReadAs reading text k f
+  apart : (v : List ℕ) → text ≡ ESC ++ v → IsReportText reading v → ReadAs reading text k f
 
 -- The port reads the text as the key, also if more may come; and neither the text nor what follows its ESC is open.
-pub record IsRead (text : List ℕ) (k : KeyEvent) (f : Bool) : Type 0 where
+pub record IsRead (reading : Reading) (text : List ℕ) (k : KeyEvent) (f : Bool) : Type 0 where
   pub flushed : port.Means text false (input.Key k ∷ []) []
   pub means : port.Means text f (input.Key k ∷ []) []
-  pub closed : ¬ IsOpen Kitty text f
-  pub closed_after : (v : List ℕ) → text ≡ ESC ++ v → ¬ IsOpen Kitty v f
+  pub closed : ¬ IsOpen reading text f
+  pub closed_after : (v : List ℕ) → text ≡ ESC ++ v → ¬ IsOpen reading v f
 
-pub read_as : (text : List ℕ) (k : KeyEvent) (f : Bool) → IsRead text k f → ReadAs text k f
-read_as text k f is = go (starts_extended_or_not Kitty text)
+pub read_as : (reading : Reading) (text : List ℕ) (k : KeyEvent) (f : Bool) → IsRead reading text k f → ReadAs reading text k f
+read_as reading text k f is = go (starts_extended_or_not reading text)
   where
     is_single : Single text k
     is_single = single text k is.flushed
 
-    key_where : ¬ StartsExtended Kitty text → ((v : List ℕ) → text ≡ ESC ++ v → ¬ StartsExtended Kitty v) → ReadAs text k f
-    key_where none after = as_key (as_in_port text k f is.means (record { none = none; closed = is.closed })
+    key_where : ¬ StartsExtended reading text → ((v : List ℕ) → text ≡ ESC ++ v → ¬ StartsExtended reading v) → ReadAs reading text k f
+    key_where none after = as_key (as_in_port reading text k f is.means (record { none = none; closed = is.closed })
         (λ v split. record { none = after v split; closed = is.closed_after v split }))
 
-    behind : ¬ StartsExtended Kitty text → (u : List ℕ) → text ≡ u → ReadAs text k f
+    behind : ¬ StartsExtended reading text → (u : List ℕ) → text ≡ u → ReadAs reading text k f
     behind none [] e = key_where none (λ v split. absurd (cc (e, split)))
-    behind none (c ∷ v) e = at (starts_extended_or_not Kitty v)
+    behind none (c ∷ v) e = at (starts_extended_or_not reading v)
       where
-        at : Decision (StartsExtended Kitty v) → ReadAs text k f
+        at : Decision (StartsExtended reading v) → ReadAs reading text k f
         at (inl s) =
-            let it = after_first c v text k e is_single s in
+            let it = after_first reading c v text k e is_single s in
             apart v (e ∙ ap (λ x. x ∷ v) it.escape) it.report
         at (inr never) = key_where none
-            (λ w split s. never (subst (StartsExtended Kitty) (let same : w ≡ v = cc (split, e) in same) s))
+            (λ w split s. never (subst (StartsExtended reading) (let same : w ≡ v = cc (split, e) in same) s))
 
-    go : Decision (StartsExtended Kitty text) → ReadAs text k f
+    go : Decision (StartsExtended reading text) → ReadAs reading text k f
     go (inl s) =
-        let report = starts_whole text k is_single s in as_report report (means_alone text f (event_of text) report.is_extra)
+        let report = starts_whole reading text k is_single s in
+        as_report report (means_alone reading text f (event_of text) report.is_extra)
     go (inr none) = behind none text refl

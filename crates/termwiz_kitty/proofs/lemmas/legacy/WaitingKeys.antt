@@ -24,7 +24,7 @@ use Rattle.termwiz_laws.proofs.lemmas.further_keys.SingleKey.{Plainly, Single, s
 use Rattle.termwiz_laws.proofs.lemmas.further_keys.SingleKey.Plainly.{by_row, by_character, by_broken_byte}
 use Rattle.termwiz_laws.proofs.lemmas.further_keys.SingleKey.Single.{plainly, after_escape}
 use Rattle.termwiz_laws.proofs.lemmas.shared_texts.TwinKeys.{read_once, sent_means}
-use Rattle.termwiz_extended_events.specs.declared.types.Protocol.TheVariants.{Kitty}
+use Rattle.termwiz_extended_events.specs.declared.types.Reading.{Reading}
 use Rattle.termwiz_extended_grammar.specs.ExtendedGrammar.{BeginsExtended, BeginsKnown}
 use Rattle.termwiz_extended_grammar.proofs.lemmas.forms.FormBytes.{IsSecond, mark_shape}
 use Rattle.termwiz_extended_grammar.proofs.lemmas.forms.ExtraFacts.{completed_mark, mark_from_unfinished}
@@ -93,8 +93,8 @@ escapes_wait text k means e =
     (1, lit< tt, refl)
 
 -- a row that properly begins an extra sequence or an opening
-row_front : (text : List ℕ) (k : KeyEvent) → IsSequence text (Row k) → BeginsExtended Kitty text → IsFront text
-row_front text k is x = ⊎_elim
+row_front : (reading : Reading) (text : List ℕ) (k : KeyEvent) → IsSequence text (Row k) → BeginsExtended reading text → IsFront text
+row_front reading text k is x = ⊎_elim
     (λ (e : text ≡ ESC). escape_alone e)
     (λ (rest : (text ≡ CSI) ⊎ ((text ≡ SS3) ⊎ (text ≡ ESC ++ codes "P"))). ⊎_elim
     (λ (e : text ≡ CSI). with_second 91 (inl refl) e)
@@ -103,7 +103,7 @@ row_front text k is x = ⊎_elim
     (λ (e : text ≡ ESC ++ codes "P"). with_second 80 (inr (inr (inr (inl refl)))) e)
     last)
     rest)
-    ((four_beginnings Kitty text (Row k) is).0 x)
+    ((four_beginnings reading text (Row k) is).0 x)
 
 -- a first byte of a character that is ESC is all of it
 escape_character : (c : ℕ) (r : List ℕ) → IsScalar c → encode_utf8 c ≡ 27 ∷ r → r ≡ []
@@ -119,9 +119,9 @@ record BeginsMark (x : ℕ) (u : List ℕ) : Type 0 where
   first : x ≡ 27
   after : u ++ tail ≡ second ∷ rest
 
-begins_mark : (x : ℕ) (u : List ℕ) → BeginsExtended Kitty (x ∷ u) → BeginsMark x u
-begins_mark x u h =
-    let mark = completed_mark (x ∷ u) (mark_from_unfinished Kitty (x ∷ u) h) in
+begins_mark : (reading : Reading) (x : ℕ) (u : List ℕ) → BeginsExtended reading (x ∷ u) → BeginsMark x u
+begins_mark reading x u h =
+    let mark = completed_mark (x ∷ u) (mark_from_unfinished reading (x ∷ u) h) in
     let shape = mark_shape (x ∷ u ++ mark.0) mark.2 in
     record {
       second = shape.0;
@@ -133,31 +133,31 @@ begins_mark x u h =
     }
 
 -- a text of one key that properly begins one of them
-text_front : (text : List ℕ) (k : KeyEvent) → text ≢ [] → Single text k → BeginsExtended Kitty text → IsFront text
-text_front [] k some is x = absurd (some refl)
-text_front (y ∷ u) k some (plainly (by_row r)) x = row_front (y ∷ u) k (row_is (y ∷ u) k r) x
-text_front (y ∷ u) k some (plainly (by_character c scalar e g)) x =
-    let mark = begins_mark y u x in
+text_front : (reading : Reading) (text : List ℕ) (k : KeyEvent) → text ≢ [] → Single text k → BeginsExtended reading text → IsFront text
+text_front reading [] k some is x = absurd (some refl)
+text_front reading (y ∷ u) k some (plainly (by_row r)) x = row_front reading (y ∷ u) k (row_is (y ∷ u) k r) x
+text_front reading (y ∷ u) k some (plainly (by_character c scalar e g)) x =
+    let mark = begins_mark reading y u x in
     let none : u ≡ [] = escape_character c u scalar (sym e ∙ ap (λ b. b ∷ u) mark.first) in
     escape_alone (cc (mark.first, none))
-text_front (y ∷ u) k some (plainly (by_broken_byte b e g)) x =
-    let mark = begins_mark y u x in escape_alone (cc (mark.first, e))
-text_front (y ∷ []) k some (after_escape t j e p g) x = let mark = begins_mark y [] x in escape_alone (cc (mark.first))
-text_front (y ∷ z ∷ []) k some (after_escape t j e p g) x =
-    let mark = begins_mark y (z ∷ []) x in
+text_front reading (y ∷ u) k some (plainly (by_broken_byte b e g)) x =
+    let mark = begins_mark reading y u x in escape_alone (cc (mark.first, e))
+text_front reading (y ∷ []) k some (after_escape t j e p g) x = let mark = begins_mark reading y [] x in escape_alone (cc (mark.first))
+text_front reading (y ∷ z ∷ []) k some (after_escape t j e p g) x =
+    let mark = begins_mark reading y (z ∷ []) x in
     let same : mark.second ≡ z = cc (mark.after) in
     with_second z (subst IsSecond same mark.is_second) (cc (mark.first))
-text_front (y ∷ z ∷ w ∷ u) k some (after_escape t j e p g) x =
-    let mark = begins_mark y (z ∷ w ∷ u) x in
+text_front reading (y ∷ z ∷ w ∷ u) k some (after_escape t j e p g) x =
+    let mark = begins_mark reading y (z ∷ w ∷ u) x in
     let same : mark.second ≡ z = cc (mark.after) in
     absurd (second_byte z (w ∷ u) t j (subst IsSecond same mark.is_second) (λ n. cc (n)) (cc (e)) p)
 
 -- A text of one key that properly begins a sequence, a character or an opening is that of a key that waits.
-pub text_waits : (text : List ℕ) (k : KeyEvent) → IsKeyOf text k → text ≢ [] → BeginsKnown Kitty text → ¬ MayGoOn text
+pub text_waits : (reading : Reading) (text : List ℕ) (k : KeyEvent) → IsKeyOf text k → text ≢ [] → BeginsKnown reading text → ¬ MayGoOn text
     → Waits k
-text_waits text k means some (inl beginning) never =
+text_waits reading text k means some (inl beginning) never =
     absurd (never (record { held = []; bytes = text; is_held = inl refl; some = some; splits = refl; beginning = beginning }))
-text_waits text k means some (inr x) never = front_waits text k means (text_front text k some (single text k means) x)
+text_waits reading text k means some (inr x) never = front_waits text k means (text_front reading text k some (single text k means) x)
 
 no_second_escape : (r : List ℕ) → Bytes (27 ∷ 27 ∷ r) → ⊥
 no_second_escape r (one y l e) = cc (e)
@@ -169,32 +169,32 @@ data IsFrontKey (v : List ℕ) (j : KeyEvent) : Type 0 where
   escape_only : v ≡ ESC → IsFrontKey v j
   second_key : (b : ℕ) → IsSecond b → j ≡ key_with (Char b) ALT → IsFrontKey v j
 
-front_key : (v : List ℕ) (j : KeyEvent) → v ≢ [] → Plainly v j → BeginsExtended Kitty v → IsFrontKey v j
-front_key v j some (by_row r) x = go (row_front v j (row_is v j r) x)
+front_key : (reading : Reading) (v : List ℕ) (j : KeyEvent) → v ≢ [] → Plainly v j → BeginsExtended reading v → IsFrontKey v j
+front_key reading v j some (by_row r) x = go (row_front reading v j (row_is v j r) x)
   where
     go : IsFront v → IsFrontKey v j
     go (escape_alone e) = escape_only e
     go (with_second b second e) =
         second_key b second (read_once (27 ∷ b ∷ []) j (key_with (Char b) ALT)
         (subst (λ t. IsKeyOf t j) e (row_means v j r (λ start. cc (e, start)))) (second_sent b second))
-front_key [] j some (by_character c scalar e g) x = absurd (some refl)
-front_key (y ∷ u) j some (by_character c scalar e g) x =
-    let mark = begins_mark y u x in
+front_key reading [] j some (by_character c scalar e g) x = absurd (some refl)
+front_key reading (y ∷ u) j some (by_character c scalar e g) x =
+    let mark = begins_mark reading y u x in
     let none : u ≡ [] = escape_character c u scalar (sym e ∙ ap (λ b. b ∷ u) mark.first) in
     escape_only (cc (mark.first, none))
-front_key [] j some (by_broken_byte b e g) x = absurd (some refl)
-front_key (y ∷ u) j some (by_broken_byte b e g) x = let mark = begins_mark y u x in escape_only (cc (mark.first, e))
+front_key reading [] j some (by_broken_byte b e g) x = absurd (some refl)
+front_key reading (y ∷ u) j some (by_broken_byte b e g) x = let mark = begins_mark reading y u x in escape_only (cc (mark.first, e))
 
 -- The same of what follows its ESC.
-pub rest_waits : (text v : List ℕ) (k : KeyEvent) → IsKeyOf text k → text ≡ ESC ++ v → v ≢ [] → BeginsKnown Kitty v
+pub rest_waits : (reading : Reading) (text v : List ℕ) (k : KeyEvent) → IsKeyOf text k → text ≡ ESC ++ v → v ≢ [] → BeginsKnown reading v
     → ¬ MayGoOn text → Waits k
-rest_waits text v k means split some (inl beginning) never =
+rest_waits reading text v k means split some (inl beginning) never =
     absurd (never (record { held = ESC; bytes = v; is_held = inr refl; some = some; splits = split; beginning = beginning }))
-rest_waits text [] k means split some (inr x) never = absurd (some refl)
-rest_waits text (y ∷ u) k means split some (inr x) never = go (single text k means)
+rest_waits reading text [] k means split some (inr x) never = absurd (some refl)
+rest_waits reading text (y ∷ u) k means split some (inr x) never = go (single text k means)
   where
     mark : BeginsMark y u
-    mark = begins_mark y u x
+    mark = begins_mark reading y u x
 
     all : text ≡ 27 ∷ 27 ∷ u
     all = split ∙ ap (λ b. 27 ∷ b ∷ u) mark.first
@@ -210,4 +210,4 @@ rest_waits text (y ∷ u) k means split some (inr x) never = go (single text k m
     go (plainly (by_broken_byte b e g)) = absurd (cc (e, all))
     go (after_escape t j e p g) =
         let same : t ≡ y ∷ u = cc (e, split) in
-        after j g (front_key (y ∷ u) j some (subst (λ s. Plainly s j) same p) x)
+        after j g (front_key reading (y ∷ u) j some (subst (λ s. Plainly s j) same p) x)

@@ -1,16 +1,17 @@
 -- A written sequence has the form of a control sequence, and no row of the port that it may be keeps its key.
-use Rattle.std.proofs.Common.{◌≡◌, ◌≢◌, ℕ, ◌<◌, ◌≤◌, List, [], ◌∷◌, ◌++◌, length, refl, sym, subst, arith}
+use Rattle.std.proofs.Common.{◌≡◌, ◌≢◌, ℕ, ◌<◌, ◌≤◌, Bool, List, [], ◌∷◌, ◌++◌, length, refl, sym, ◌∙◌, subst, arith, append_assoc}
 use Rattle.std.specs.List.{AllByRecursion}
-use Rattle.termwiz_keymap.proofs.lemmas.lists.CommonPrefixes.{true_from}
+use Rattle.termwiz_keymap.proofs.lemmas.lists.CommonPrefixes.{append-some, true_from}
 use Rattle.termwiz_grammar.specs.Sequences.{IsSequence}
 use Rattle.termwiz_grammar.specs.Sequences.Meaning.{Row, Report}
 use Rattle.termwiz_grammar.proofs.lemmas.mouse.OneReport.{report_plain}
 use Rattle.termwiz_extended_events.specs.declared.types.ExtendedEvent.{ExtendedEvent}
 use Rattle.termwiz_extended_events.specs.declared.types.Protocol.TheVariants.{Kitty}
+use Rattle.termwiz_extended_events.specs.declared.types.Reading.{Reading}
 use Rattle.termwiz_extended_events.specs.Meanings.{event_of, IsKeyOrPosition}
 use Rattle.termwiz_extended_grammar.specs.Forms.{IsInner, IsControl}
 use Rattle.termwiz_extended_grammar.specs.Forms.IsForm.{control}
-use Rattle.termwiz_extended_grammar.specs.ExtraSequences.{IsFree, IsExtra}
+use Rattle.termwiz_extended_grammar.specs.ExtraSequences.{Overrides, IsFree, IsExtra}
 
 -- a digit, a colon or a semicolon
 abbrev pub IsParameter : ℕ → Type 0
@@ -43,8 +44,16 @@ no_letter : (body : List ℕ) (l x : ℕ) (t : List ℕ) → AllByRecursion IsPa
 no_letter [] l x t a high n e = n (cc (e))
 no_letter (y ∷ body) l x t a high n e = let same : y ≡ x = cc (e) in let is : IsParameter y = a.0 in omega arith
 
-pub is_control : (body : List ℕ) (l : ℕ) → AllByRecursion IsParameter body → IsKeyEnd l → length (written body l) ≤ 256
-    → IsControl (written body l)
+-- nor a $ anywhere
+no_shift : (number body : List ℕ) (l : ℕ) (t : List ℕ) → AllByRecursion IsParameter body → IsKeyEnd l
+    → body ++ l ∷ [] ≡ number ++ 36 ∷ t → ⊥
+no_shift [] [] l t a end e = let same : l ≡ 36 = cc (e) in omega (arith, end.0)
+no_shift [] (y ∷ body) l t a end e = let same : y ≡ 36 = cc (e) in let is : IsParameter y = a.0 in omega arith
+no_shift (x ∷ number) [] l t a end e = append-some number (36 ∷ t) (λ h. cc (h)) (cc (e))
+no_shift (x ∷ number) (y ∷ body) l t a end e = no_shift number body l t a.1 end (cc (e))
+
+pub is_control : {x10_mouse : Bool} (body : List ℕ) (l : ℕ) → AllByRecursion IsParameter body → IsKeyEnd l
+    → length (written body l) ≤ 256 → IsControl x10_mouse (written body l)
 is_control body l a end short = record {
   inner = body;
   last = l;
@@ -52,24 +61,30 @@ is_control body l a end short = record {
   each = true_from IsParameter IsInner inner body a;
   last_is = (end.0, end.1);
   short = short;
-  no_mouse = λ (t, e). no_letter body l 77 t a (omega arith) end.2 (cc (e));
+  no_mouse = λ on. λ (t, e). no_letter body l 77 t a (omega arith) end.2 (cc (e));
   no_console = λ (t, e). no_letter body l 91 t a (omega arith) end.3 (cc (e));
   no_row = λ digit is. λ (t, e). no_dollar body l digit t a end (cc (e));
+  no_shifted = λ number is. λ (t, e).
+      (let same : body ++ l ∷ [] ≡ (number ++ 36 ∷ []) ++ t = cc (e) in
+      no_shift number body l t a end (same ∙ append_assoc number (36 ∷ []) t));
 }
 
 -- where the sequence is read as a key or the cursor's position, a row is too
-is_free : (body : List ℕ) (l : ℕ) (e : ExtendedEvent) → AllByRecursion IsParameter body → IsKeyEnd l → IsKeyOrPosition e
-    → event_of (written body l) ≡ e → IsFree Kitty (written body l)
+is_free : (reading : Reading) (body : List ℕ) (l : ℕ) (e : ExtendedEvent) → reading.protocol ≡ Kitty → AllByRecursion IsParameter body
+    → IsKeyEnd l → IsKeyOrPosition e → event_of (written body l) ≡ e → IsFree reading (written body l)
 unfolding IsSequence
-is_free body l e a end reports same (Row key) s = (key, refl, subst IsKeyOrPosition (sym same) reports)
-is_free body l e a end reports same (Report report) s =
+is_free reading body l e kitty a end reports same (Row key) s =
+    let told : IsKeyOrPosition (event_of (written body l)) = subst IsKeyOrPosition (sym same) reports in
+    (key, refl, subst (λ p. Overrides p reading.questions (event_of (written body l))) (sym kitty) told)
+is_free reading body l e kitty a end reports same (Report report) s =
     let plain = report_plain (written body l) report s in
     absurd (no_sign body l plain.0 a end (cc (plain.1)))
 
-pub is_extra : (body : List ℕ) (l : ℕ) (e : ExtendedEvent) → AllByRecursion IsParameter body → IsKeyEnd l
-    → length (written body l) ≤ 256 → IsKeyOrPosition e → event_of (written body l) ≡ e → IsExtra Kitty (written body l) e
-is_extra body l e a end short reports same = record {
+pub is_extra : (reading : Reading) (body : List ℕ) (l : ℕ) (e : ExtendedEvent) → reading.protocol ≡ Kitty → AllByRecursion IsParameter body
+    → IsKeyEnd l → length (written body l) ≤ 256 → IsKeyOrPosition e → event_of (written body l) ≡ e
+    → IsExtra reading (written body l) e
+is_extra reading body l e kitty a end short reports same = record {
   is_form = control (is_control body l a end short);
-  is_free = is_free body l e a end reports same;
+  is_free = is_free reading body l e kitty a end reports same;
   means = sym same;
 }

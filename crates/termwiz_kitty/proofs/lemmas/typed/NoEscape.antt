@@ -6,7 +6,7 @@ use Rattle.termwiz_keys.specs.declared.types.InputEvent.{InputEvent}
 use Rattle.termwiz_grammar.specs.Grammar as port
 use Rattle.termwiz_grammar.specs.Grammar.{IsBeginning}
 use Rattle.termwiz_extended_events.specs.declared.types.ExtendedEvent.TheVariants.{Input}
-use Rattle.termwiz_extended_events.specs.declared.types.Protocol.{Protocol}
+use Rattle.termwiz_extended_events.specs.declared.types.Reading.{Reading}
 use Rattle.termwiz_extended_grammar.specs.ExtendedGrammar.{BeginsKnown, Means}
 use Rattle.termwiz_extended_grammar.specs.ExtendedLaws.{HasNoExtra, LooksAt}
 use Rattle.termwiz_extended_grammar.specs.ExtendedLaws.LooksAt.{at_item, after_escape}
@@ -35,21 +35,21 @@ looked_at T u f a (after_escape E before steps is splits) =
     after_front ESC u (subst HasNoEscape splits (left_over E T before f steps a))
 
 -- no extra sequence and no opening begins without ESC
-has_no_extra : (protocol : Protocol) (u : List ℕ) (f : Bool) → HasNoEscape u → HasNoExtra protocol u f
-has_no_extra protocol [] f a = record { none = none_at_end protocol; open_to_port = λ h. absurd (h.some refl) }
-has_no_extra protocol (c ∷ t) f a = record {
-  none = λ h. (let s = starts_shape protocol (c ∷ t) h in a.0 (cc (s.2)));
+has_no_extra : (reading : Reading) (u : List ℕ) (f : Bool) → HasNoEscape u → HasNoExtra reading u f
+has_no_extra reading [] f a = record { none = none_at_end reading; open_to_port = λ h. absurd (h.some refl) }
+has_no_extra reading (c ∷ t) f a = record {
+  none = λ h. (let s = starts_shape reading (c ∷ t) h in a.0 (cc (s.2)));
   open_to_port = λ h. record { more_comes = h.more_comes; some = h.some; beginning = to_port h.beginning };
 }
   where
-    to_port : BeginsKnown protocol (c ∷ t) → IsBeginning (c ∷ t)
+    to_port : BeginsKnown reading (c ∷ t) → IsBeginning (c ∷ t)
     to_port (inl b) = b
     to_port (inr x) =
-        let m = completed_mark (c ∷ t) (mark_from_unfinished protocol (c ∷ t) x) in
+        let m = completed_mark (c ∷ t) (mark_from_unfinished reading (c ∷ t) x) in
         let s = mark_shape (c ∷ t ++ m.0) m.2 in
         absurd (a.0 (cc (s.2)))
 
-pub same_without_escape : (protocol : Protocol) (T W : List ℕ) (E : List InputEvent) (f : Bool) → HasNoEscape T → port.Means T f E W
-    → Means protocol T f (map (λ e. Input e) E) W
-same_without_escape protocol T W E f a means =
-    conservative protocol T W E f (λ u looks. has_no_extra protocol u f (looked_at T u f a looks)) means
+pub same_without_escape : (reading : Reading) (T W : List ℕ) (E : List InputEvent) (f : Bool) → HasNoEscape T → port.Means T f E W
+    → Means reading T f (map (λ e. Input e) E) W
+same_without_escape reading T W E f a means =
+    conservative reading T W E f (λ u looks. has_no_extra reading u f (looked_at T u f a looks)) means

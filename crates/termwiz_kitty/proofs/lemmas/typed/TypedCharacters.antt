@@ -11,7 +11,7 @@ use Rattle.std.proofs.lemmas.Str.{chars-encodes, encodes-chars, scalars-chars, I
 use Rattle.termwiz_keymap.proofs.lemmas.lists.CommonPrefixes.{true_from}
 use Rattle.termwiz_keys.specs.declared.types.KeyCode.TheVariants.{Char}
 use Rattle.termwiz_extended_events.specs.declared.types.ExtendedEvent.TheVariants.{Input}
-use Rattle.termwiz_extended_events.specs.declared.types.Protocol.TheVariants.{Kitty}
+use Rattle.termwiz_extended_events.specs.declared.types.Reading.{Reading}
 use Rattle.termwiz_extended_grammar.specs.ExtendedGrammar.{Means}
 use Rattle.termwiz_extended_grammar.proofs.lemmas.forms.FormBytes.{all_append}
 use Rattle.termwiz_laws.specs.BrokenBytes.{GoesOn}
@@ -80,13 +80,13 @@ keys_are_pressed : (cs : List ℕ) → map (λ e. Input e) (keys_of cs) ≡ map 
 keys_are_pressed [] = refl
 keys_are_pressed (c ∷ cs) = ap (λ t. pressed (Char c) ∷ t) (keys_are_pressed cs)
 
-pub characters_mean : (text : List ℕ) (more : Bool) → IsUtf8 text → has_control text ≡ false
-    → Means Kitty text more (map (λ c. pressed (Char c)) (chars text)) []
-characters_mean text more utf8 none =
+pub characters_mean : (reading : Reading) (text : List ℕ) (more : Bool) → IsUtf8 text → has_control text ≡ false
+    → Means reading text more (map (λ c. pressed (Char c)) (chars text)) []
+characters_mean reading text more utf8 none =
     let are = text_characters (chars text) (scalars-chars text utf8) none in
-    subst (λ t. Means Kitty t more (map (λ c. pressed (Char c)) (chars text)) []) (encodes-chars text utf8)
-    (subst (λ E. Means Kitty (encode_utf8_all (chars text)) more E []) (keys_are_pressed (chars text))
-    (same_without_escape Kitty (encode_utf8_all (chars text)) [] (keys_of (chars text)) more
+    subst (λ t. Means reading t more (map (λ c. pressed (Char c)) (chars text)) []) (encodes-chars text utf8)
+    (subst (λ E. Means reading (encode_utf8_all (chars text)) more E []) (keys_are_pressed (chars text))
+    (same_without_escape reading (encode_utf8_all (chars text)) [] (keys_of (chars text)) more
     (characters_no_escape (chars text) are) (plain_text_alone (chars text) more are)))
 
 -- one character
@@ -94,9 +94,9 @@ chars_of_one : (c : ℕ) → IsScalar c → chars (encode_utf8 c) ≡ c ∷ []
 chars_of_one c scalar =
     ap chars (sym (append-nil (encode_utf8 c))) ∙ chars-encodes (c ∷ []) (let is : IsScalar c = scalar in rw is refl)
 
-pub character_means : (c : ℕ) (more : Bool) → IsScalar c → is_control c ≡ false
-    → Means Kitty (encode_utf8 c) more (map (λ d. pressed (Char d)) (chars (encode_utf8 c))) []
-character_means c more scalar none = characters_mean (encode_utf8 c) more (IsUtf8-encode c scalar) no_control
+pub character_means : (reading : Reading) (c : ℕ) (more : Bool) → IsScalar c → is_control c ≡ false
+    → Means reading (encode_utf8 c) more (map (λ d. pressed (Char d)) (chars (encode_utf8 c))) []
+character_means reading c more scalar none = characters_mean reading (encode_utf8 c) more (IsUtf8-encode c scalar) no_control
   where
     no_control : has_control (encode_utf8 c) ≡ false
     no_control = rw (chars_of_one c scalar, none) refl

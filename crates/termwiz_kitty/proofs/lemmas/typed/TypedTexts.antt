@@ -24,7 +24,7 @@ use Rattle.termwiz_laws.proofs.lemmas.shared_texts.TwinKeys.{sent_means}
 use Rattle.termwiz_extended_events.specs.declared.types.KeyReport.{KeyReport}
 use Rattle.termwiz_extended_events.specs.declared.types.ReportedKey.{ReportedKey}
 use Rattle.termwiz_extended_events.specs.declared.types.ReportedKey.TheVariants.{Named, Functional}
-use Rattle.termwiz_extended_events.specs.declared.types.Protocol.TheVariants.{Kitty}
+use Rattle.termwiz_extended_events.specs.declared.types.Reading.{Reading}
 use Rattle.termwiz_extended_grammar.specs.ExtendedGrammar.{Means}
 use Rattle.termwiz_kitty.specs.declared.telling.Telling.TheVariants.{Nothing, Typed, Reported}
 use Rattle.termwiz_kitty.specs.declared.legacy.LegacyText.{LegacyText}
@@ -92,9 +92,10 @@ shown_is c bits other is o = go (is_shifted bits)
     go false = is
 
 -- the text of a report
-text_means : (text : List ℕ) (more : Bool) → IsUtf8 text → is_typed_text text ≡ true → Means Kitty text more (characters_pressed text) []
-text_means [] more utf8 e = cc (e)
-text_means (b ∷ bs) more utf8 e = characters_mean (b ∷ bs) more utf8 (not_true (has_control (b ∷ bs)) e)
+text_means : (reading : Reading) (text : List ℕ) (more : Bool) → IsUtf8 text → is_typed_text text ≡ true
+    → Means reading text more (characters_pressed text) []
+text_means reading [] more utf8 e = cc (e)
+text_means reading (b ∷ bs) more utf8 e = characters_mean reading (b ∷ bs) more utf8 (not_true (has_control (b ∷ bs)) e)
 
 -- a control character of one byte can't go on
 goes_not_on : (b : ℕ) → b ≢ 27 → b < 128 → ¬ MayGoOn (b ∷ [])
@@ -112,11 +113,11 @@ abbrev alone_held : KeyCode → Press
 alone_held key = record { key = key; modifiers = record { 0 = NONE }; modes = xterm_modes }
 
 -- the text of a key that is sent as one control character
-control_means : (key : KeyCode) (b : ℕ) (more : Bool) → ReadsBackToo key NONE xterm_modes
+control_means : (reading : Reading) (key : KeyCode) (b : ℕ) (more : Bool) → ReadsBackToo key NONE xterm_modes
     → enc key (record { 0 = NONE }) xterm_modes ≡ Some (b ∷ []) → b ≢ 27 → b < 128
-    → Means Kitty (b ∷ []) more (pressed key ∷ []) []
-control_means key b more too sends other low =
-    same_without_escape Kitty (b ∷ []) [] (event_of (alone_held key) ∷ []) more (other, tt) (means_to_port more)
+    → Means reading (b ∷ []) more (pressed key ∷ []) []
+control_means reading key b more too sends other low =
+    same_without_escape reading (b ∷ []) [] (event_of (alone_held key) ∷ []) more (other, tt) (means_to_port more)
   where
     flushed : port.Means (b ∷ []) false (event_of (alone_held key) ∷ []) []
     flushed = sent_means (alone_held key) (b ∷ []) (further_keys_read_back key (record { 0 = NONE }) xterm_modes too) sends
@@ -130,22 +131,22 @@ without_false true e = refl
 without_false false e = e
 
 -- what a key types by itself
-by_itself_means : (key : ReportedKey) (r : KeyReport) (more : Bool) → IsReport r → IsKey key
-    → (types_character key || sends_control key) ≡ true → Means Kitty (typed_by key r) more (typed_by_events key (typed_by key r)) []
+by_itself_means : (reading : Reading) (key : ReportedKey) (r : KeyReport) (more : Bool) → IsReport r → IsKey key
+    → (types_character key || sends_control key) ≡ true → Means reading (typed_by key r) more (typed_by_events key (typed_by key r)) []
 unfolding enc key_text normal_key normal_held shows_shift named_key shifted enter_text tab_text backspace_text
-by_itself_means (Named (Char c)) r more is k e =
+by_itself_means reading (Named (Char c)) r more is k e =
     let types : not (is_control c) ≡ true = without_false (not (is_control c)) e in
     let one = shown_is c r.modifiers r.shifted (record { scalar = k; no_control = not_true (is_control c) types }) is.shifted_is in
-    character_means (shown c r.modifiers r.shifted) more one.scalar one.no_control
-by_itself_means (Named Enter) r more is k e =
-    control_means Enter 13 more (enter NONE xterm_modes refl (zero, lit< tt, refl)) refl (λ same. omega arith) (lit< tt)
-by_itself_means (Named Tab) r more is k e =
-    control_means Tab 9 more (alone Tab xterm_modes (4, lit< tt, refl)) refl (λ same. omega arith) (lit< tt)
-by_itself_means (Named Backspace) r more is k e =
-    control_means Backspace 127 more (none_or_alt Backspace NONE xterm_modes (1, lit< tt, refl) (zero, lit< tt, refl)) refl
+    character_means reading (shown c r.modifiers r.shifted) more one.scalar one.no_control
+by_itself_means reading (Named Enter) r more is k e =
+    control_means reading Enter 13 more (enter NONE xterm_modes refl (zero, lit< tt, refl)) refl (λ same. omega arith) (lit< tt)
+by_itself_means reading (Named Tab) r more is k e =
+    control_means reading Tab 9 more (alone Tab xterm_modes (4, lit< tt, refl)) refl (λ same. omega arith) (lit< tt)
+by_itself_means reading (Named Backspace) r more is k e =
+    control_means reading Backspace 127 more (none_or_alt Backspace NONE xterm_modes (1, lit< tt, refl) (zero, lit< tt, refl)) refl
     (λ same. omega arith) (lit< tt)
-by_itself_means (Named key) r more is k e = absurd (cc (e))
-by_itself_means (Functional n) r more is k e = absurd (cc (e))
+by_itself_means reading (Named key) r more is k e = absurd (cc (e))
+by_itself_means reading (Functional n) r more is k e = absurd (cc (e))
 
 by_itself : (at_most text character control bare : Bool) → text ≡ false
     → ((at_most && (text || character)) || (control && bare)) ≡ true → (character || control) ≡ true
@@ -155,14 +156,14 @@ by_itself true false false false b e h = h
 by_itself false t false false b e h = h
 by_itself true true false false b e h = cc (e)
 
-typed_means : (key : ReportedKey) (r : KeyReport) (more : Bool) → IsReport r → IsKey key → types key r ≡ true
-    → Means Kitty (typed_text key r) more (typed_events key r (typed_text key r)) []
+typed_means : (reading : Reading) (key : ReportedKey) (r : KeyReport) (more : Bool) → IsReport r → IsKey key → types key r ≡ true
+    → Means reading (typed_text key r) more (typed_events key r (typed_text key r)) []
 unfolding typed_text
-typed_means key r more is k e = go (is_typed_text r.text) refl
+typed_means reading key r more is k e = go (is_typed_text r.text) refl
   where
-    go : (v : Bool) → is_typed_text r.text ≡ v → Means Kitty (typed_text key r) more (typed_events key r (typed_text key r)) []
-    go true typed = rw typed (text_means r.text more is.text_is typed)
-    go false none = rw none (by_itself_means key r more is k
+    go : (v : Bool) → is_typed_text r.text ≡ v → Means reading (typed_text key r) more (typed_events key r (typed_text key r)) []
+    go true typed = rw typed (text_means reading r.text more is.text_is typed)
+    go false none = rw none (by_itself_means reading key r more is k
         (by_itself (is_at_most_shifted r.modifiers) (is_typed_text r.text) (types_character key) (sends_control key)
         (is_bare r.modifiers) none e))
 
@@ -193,8 +194,8 @@ unfolding kitty_text
 written_as r flags tells = rw tells refl
 
 pub typed_read_back : TypedReadBack
-typed_read_back r flags text more is tells writes =
+typed_read_back reading r flags text more is tells writes =
     let whole : Some (typed_text (told_key r flags) r) ≡ Some text = written_as r flags tells ∙ writes in
     let same : typed_text (told_key r flags) r ≡ text = cc (whole) in
-    subst (λ t. Means Kitty t more (typed_events (told_key r flags) r t) []) same
-    (typed_means (told_key r flags) r more is (told_is_key r flags is.key_is) (types_it r flags tells))
+    subst (λ t. Means reading t more (typed_events (told_key r flags) r t) []) same
+    (typed_means reading (told_key r flags) r more is (told_is_key r flags is.key_is) (types_it r flags tells))
