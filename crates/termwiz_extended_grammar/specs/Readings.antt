@@ -1,8 +1,13 @@
 -- How a reading changes by what is read, and by what the program asks.
-use Rattle.std.specs.Prelude.{ℕ, ◌-◌, List, [], ◌∷◌}
+use Rattle.std.specs.Prelude.{ℕ, ◌-◌, false, List, [], ◌∷◌}
 use Rattle.termwiz_extended_events.specs.declared.types.ExtendedEvent.{ExtendedEvent}
 use Rattle.termwiz_extended_events.specs.declared.types.ExtendedEvent.TheVariants.{CursorPosition}
+use Rattle.termwiz_extended_events.specs.declared.types.Protocol.{Protocol}
 use Rattle.termwiz_extended_events.specs.declared.types.Reading.{Reading}
+
+-- the reading of a protocol, without X10 mouse reports and open questions
+abbrev pub first_reading : Protocol → Reading
+first_reading protocol = record { protocol = protocol; x10_mouse = false; questions = 0 }
 
 -- the reading with so many open questions for the cursor's position
 abbrev pub asking : Reading → ℕ → Reading

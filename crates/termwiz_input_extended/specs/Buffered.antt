@@ -5,14 +5,14 @@ use Rattle.termwiz_keys.specs.Introducers.{START}
 use Rattle.termwiz_grammar.specs.WaitingKinds.{IsOneOrTwoEscapes}
 use Rattle.termwiz_input.specs.Matches.{BeginsWithHighByte}
 use Rattle.termwiz_input.specs.WaitingBytes.{IsNoOtherKind}
-use Rattle.termwiz_extended_events.specs.declared.types.Protocol.{Protocol}
+use Rattle.termwiz_extended_events.specs.declared.types.Reading.{Reading}
 use Rattle.termwiz_extended_grammar.specs.declared.waiting.ExtendedWaiting.{ExtendedWaiting}
 use Rattle.termwiz_extended_grammar.specs.declared.waiting.ExtendedWaiting.TheVariants.{Nothing, Escape, Sequence, Character, Paste, String}
 use Rattle.termwiz_extended_grammar.specs.Strings.{StartsWithOpening}
 
--- how it reads the rows of the sequence table, and the text that waits: what it has taken and not turned into events
+-- how it reads, and the text that waits: what it has taken and not turned into events
 pub record Buffered : Type 0 where
-  pub protocol : Protocol
+  pub reading : Reading
   pub text : List ℕ
 
 -- the bytes tell this kind

@@ -1,23 +1,23 @@
 -- What the recogniser of forms answers.
-use Rattle.std.specs.Prelude.{◌≡◌, ℕ, ◌+◌, ◌≤◌, List, ◌++◌, length, take, slice_index}
+use Rattle.std.specs.Prelude.{◌≡◌, ◌⊎◌, ℕ, ◌+◌, ◌≤◌, Bool, List, [], ◌∷◌, ◌++◌, codes, length, take, slice_index}
 use Rattle.std.specs.List.{AllByRecursion}
 use Rattle.termwiz_keymap.specs.Bytes.{Begins}
 use Rattle.termwiz_keys.specs.Introducers.{CSI}
 use Rattle.termwiz_extended_events.specs.declared.types.StringKind.{StringKind}
-use Rattle.termwiz_extended_grammar.specs.Forms.{IsInner, IsRowDigit, IsForm, IsUnfinishedForm}
+use Rattle.termwiz_extended_grammar.specs.Forms.{IsInner, IsRowDigit, IsRxvtDigit, IsRxvtPair, IsRxvtNumber, IsForm, IsUnfinishedForm}
 use Rattle.termwiz_extended_grammar.specs.Strings.{IsString, string_length}
 use Rattle.termwiz_input_extended.specs.declared.form.FormAt.{FormAt}
 use Rattle.termwiz_input_extended.specs.declared.form.FormAt.TheVariants.{Whole, Unfinished, Absent}
 
 -- no text of a form begins u
-abbrev pub NoFormBegins : List ℕ → Type 0
-NoFormBegins u = (text : List ℕ) → IsForm text → ¬ Begins text u
+abbrev pub NoFormBegins : Bool → List ℕ → Type 0
+NoFormBegins x10_mouse u = (text : List ℕ) → IsForm x10_mouse text → ¬ Begins text u
 
--- what is at the front of a text, as far as forms go
-abbrev pub HasForm : List ℕ → FormAt → Type 0
-HasForm u (Whole len) = (len ≤ length u) × IsForm (take len u)
-HasForm u Unfinished = NoFormBegins u × IsUnfinishedForm u
-HasForm u Absent = NoFormBegins u × (¬ IsUnfinishedForm u)
+-- what is at the front of a text, as far as forms go, where X10 mouse reports are read or not
+abbrev pub HasForm : Bool → List ℕ → FormAt → Type 0
+HasForm x10_mouse u (Whole len) = (len ≤ length u) × IsForm x10_mouse (take len u)
+HasForm x10_mouse u Unfinished = NoFormBegins x10_mouse u × IsUnfinishedForm x10_mouse u
+HasForm x10_mouse u Absent = NoFormBegins x10_mouse u × (¬ IsUnfinishedForm x10_mouse u)
 
 -- The bytes before this place, but for the first two, were looked at: at most two, or bytes that go on within a control sequence
 -- after ESC [, or an opening and data of a string.
@@ -27,6 +27,26 @@ pub data IsScanned (u : List ℕ) (scanned : ℕ) : Type 0 where
       → IsScanned u scanned
   in_string : (kind : StringKind) (head bytes after : List ℕ) → IsString u kind head bytes after → scanned ≤ string_length kind head bytes
       → IsScanned u scanned
+
+-- what follows ESC [ begins with a number of rxvt-unicode's and `$`
+abbrev pub StartsShifted : List ℕ → Type 0
+StartsShifted rest = (number left : List ℕ) × IsRxvtNumber number × (rest ≡ number ++ 36 ∷ left)
+
+-- the same, and these are so many bytes
+abbrev pub IsShiftedOf : List ℕ → ℕ → Type 0
+IsShiftedOf rest len = (number left : List ℕ) × IsRxvtNumber number × (rest ≡ number ++ 36 ∷ left) × (len ≡ length number + 1)
+
+-- what follows ESC [ begins with a digit of rxvt-unicode's keys and `$`
+abbrev pub IsShiftedDigit : List ℕ → Type 0
+IsShiftedDigit rest = (2 ≤ length rest) × (slice_index rest 1 ≡ 36) × IsRxvtDigit (slice_index rest 0)
+
+-- the same with two digits
+abbrev pub IsShiftedPair : List ℕ → Type 0
+IsShiftedPair rest = (3 ≤ length rest) × (slice_index rest 2 ≡ 36) × IsRxvtPair (slice_index rest 0) (slice_index rest 1)
+
+-- what may stand between ESC O and the digit of a key with modifiers
+abbrev pub IsModifiedFront : List ℕ → Type 0
+IsModifiedFront front = (front ≡ []) ⊎ (front ≡ codes "0;")
 
 -- what follows ESC [ begins like a row with `$`
 abbrev pub IsRow : List ℕ → Type 0

@@ -7,7 +7,7 @@ ghost use Rattle.termwiz_input.specs.Matches.{IsItemAt};
 ghost use Rattle.termwiz_input_extended.specs.NextItems.{IsControlKey, IsPortsOwn};
 
 use termwiz_base::{Flags, Modifiers};
-use termwiz_extended_events::types::Protocol;
+use termwiz_extended_events::types::Reading;
 use termwiz_input::input::{character_at, is_printable_ascii};
 use termwiz_keys::types::{KeyCode, KeyEvent};
 
@@ -48,8 +48,8 @@ pub(crate) fn control_key(byte: u8) -> KeyEvent
 // follows it.
 #[inline(always)]
 pub(crate) fn match_character(text: &[u8]) -> Option<(char, usize)>
-    ensures { IfSome result (λ found. (protocol : Protocol) (more : Bool)
-        → IsPortsOwn protocol text.now more × IsItemAt text.now more (Key (plain found.0)) found.1) }
+    ensures { IfSome result (λ found. (reading : Reading) (more : Bool)
+        → IsPortsOwn reading text.now more × IsItemAt text.now more (Key (plain found.0)) found.1) }
 {
     match text {
         [first, ..] if is_printable_ascii(*first) => Some((char::from(*first), 1)),

@@ -1,6 +1,6 @@
 // Forms of extra sequences, recognised at the front of a text: control sequences, X10 mouse reports, console and keypad keys, and
 // titles.
-ghost use Rattle.std.specs.Prelude.{◌≡◌, ◌≢◌, ◌+◌, ◌<◌, ◌≤◌, ◌↔◌, List, [], ◌∷◌, ◌++◌, length, take, slice_index, IsTrue};
+ghost use Rattle.std.specs.Prelude.{◌≡◌, ◌≢◌, ◌+◌, ◌<◌, ◌≤◌, ◌↔◌, List, [], ◌∷◌, ◌++◌, length, take, slice_index, Bool, true, codes, IfSome, IfNone, IsTrue, ℕ};
 ghost use Rattle.std.specs.List.{AllByRecursion};
 ghost use Rattle.termwiz_keys.specs.Introducers.{ESC, CSI, SS3};
 ghost use Rattle.termwiz_extended_grammar.specs.Forms.{
@@ -9,10 +9,14 @@ ghost use Rattle.termwiz_extended_grammar.specs.Forms.{
   IsFinal,
   IsConsoleLetter,
   IsKeypadLetter,
+  IsModifierDigit,
+  IsModifiedLetter,
+  IsRxvtDigit,
+  IsRxvtPair,
   IsTitleLetter,
   IsUnfinishedForm,
 };
-ghost use Rattle.termwiz_input_extended.specs.FormAnswers.{HasForm, IsScanned, IsRow};
+ghost use Rattle.termwiz_input_extended.specs.FormAnswers.{HasForm, IsModifiedFront, IsScanned, IsShiftedDigit, IsShiftedOf, IsShiftedPair, IsRow, StartsShifted};
 
 use crate::string::{EndAt, TYPED_TITLE, data_end, end_at};
 use termwiz_extended_events::types::StringKind;
@@ -58,7 +62,7 @@ fn is_console_letter(byte: u8) -> bool
 }
 
 // Whether a byte is the letter of a key of the application keypad.
-fn is_keypad_letter(byte: u8) -> bool
+pub(crate) fn is_keypad_letter(byte: u8) -> bool
     ensures { IsTrue result ↔ IsKeypadLetter byte }
 {
     matches!(byte, b'M' | b'X' | b'E' | b'j'..=b'y')
@@ -71,6 +75,67 @@ pub(crate) fn is_title_letter(byte: u8) -> bool
     matches!(byte, b'l' | b'L')
 }
 
+// Whether a byte is the digit of a key with modifiers: one more than their bits.
+fn is_modifier_digit(byte: u8) -> bool
+    ensures { IsTrue result ↔ IsModifierDigit byte }
+{
+    matches!(byte, b'2'..=b'8')
+}
+
+// Whether a byte is the letter of a key with modifiers after ESC O.
+fn is_modified_letter(byte: u8) -> bool
+    ensures { IsTrue result ↔ IsModifiedLetter byte }
+{
+    matches!(byte, b'P'..=b'S' | b'M' | b'X' | b'j'..=b'y')
+}
+
+// Whether a digit alone is a number by which rxvt-unicode tells a key.
+fn is_rxvt_digit(digit: u8) -> bool
+    ensures { IsTrue result ↔ IsRxvtDigit digit }
+{
+    matches!(digit, b'2' | b'3' | b'5'..=b'8')
+}
+
+// Whether two digits are such a number.
+fn is_rxvt_pair(first: u8, second: u8) -> bool
+    ensures { IsTrue result ↔ IsRxvtPair first second }
+{
+    match first {
+        b'1' => matches!(second, b'1'..=b'5' | b'7'..=b'9'),
+        b'2' => matches!(second, b'0' | b'1' | b'3'..=b'6' | b'8' | b'9'),
+        b'3' => matches!(second, b'1'..=b'8'),
+        _ => false,
+    }
+}
+
+// Whether what follows ESC [ begins with such a digit and `$`.
+fn is_shifted_digit(rest: &[u8]) -> bool
+    ensures { IsTrue result ↔ IsShiftedDigit rest.now }
+{
+    rest.len() >= 2 && rest[1] == b'$' && is_rxvt_digit(rest[0])
+}
+
+// Whether what follows ESC [ begins with two such digits and `$`.
+fn is_shifted_pair(rest: &[u8]) -> bool
+    ensures { IsTrue result ↔ IsShiftedPair rest.now }
+{
+    rest.len() >= 3 && rest[2] == b'$' && is_rxvt_pair(rest[0], rest[1])
+}
+
+// How many bytes such a number and `$` are, where what follows ESC [ begins with them: a key with Shift.
+fn shifted_len(rest: &[u8]) -> Option<usize>
+    ensures some { IfSome result (IsShiftedOf rest.now) }
+    ensures none { IfNone result (¬ StartsShifted rest.now) }
+{
+    if is_shifted_digit(rest) {
+        return Some(2);
+    }
+    if is_shifted_pair(rest) {
+        return Some(3);
+    }
+    None
+}
+
 // Whether what follows ESC [ begins like a row with `$`: a digit from 1 to 8, and `$`.
 fn is_row(rest: &[u8]) -> bool
     ensures { IsTrue result ↔ IsRow rest.now }
@@ -78,14 +143,17 @@ fn is_row(rest: &[u8]) -> bool
     matches!(rest, [b'1'..=b'8', b'$', ..])
 }
 
-// The form at the front of ESC [ and the rest, where neither M nor [ comes first.
+// The form at the front of ESC [ and the rest, where [ doesn't come first, nor M, if it begins a mouse report.
 #[inline(always)]
-pub(crate) fn control_at(rest: &[u8], scanned: usize) -> FormAt
-    requires no_mouse { slice_index rest.now 0 ≢ 77 }
+pub(crate) fn control_at(rest: &[u8], scanned: usize, x10_mouse: bool) -> FormAt
+    requires no_mouse { x10_mouse ≡ true → slice_index rest.now 0 ≢ 77 }
     requires no_console { slice_index rest.now 0 ≢ 91 }
     requires scanned { AllByRecursion IsInner (take scanned rest.now) }
-    ensures { HasForm (CSI ++ rest.now) result }
+    ensures { HasForm x10_mouse (CSI ++ rest.now) result }
 {
+    if let Some(len) = shifted_len(rest) {
+        return FormAt::Whole(INTRODUCED + len);
+    }
     if is_row(rest) {
         return FormAt::Absent;
     }
@@ -106,9 +174,9 @@ pub(crate) fn control_at(rest: &[u8], scanned: usize) -> FormAt
     }
 }
 
-// The form at the front of ESC [M and the rest.
+// The form at the front of ESC [M and the rest, where it begins a mouse report.
 fn x10_report_at(rest: &[u8]) -> FormAt
-    ensures { HasForm (CSI ++ 77 ∷ rest.now) result }
+    ensures { HasForm true (CSI ++ 77 ∷ rest.now) result }
 {
     for len in 0..rest.len().min(3) {
         if rest[len] < 0x20 {
@@ -124,7 +192,7 @@ fn x10_report_at(rest: &[u8]) -> FormAt
 
 // The form at the front of ESC [[ and the rest.
 fn console_key_at(rest: &[u8]) -> FormAt
-    ensures { HasForm (CSI ++ 91 ∷ rest.now) result }
+    ensures { (x10_mouse : Bool) → HasForm x10_mouse (CSI ++ 91 ∷ rest.now) result }
 {
     match rest.first() {
         Some(letter) => {
@@ -138,14 +206,68 @@ fn console_key_at(rest: &[u8]) -> FormAt
     }
 }
 
-// The form at the front of ESC O and the rest.
-fn keypad_key_at(rest: &[u8]) -> FormAt
-    ensures { HasForm (SS3 ++ rest.now) result }
+// The form at the front of ESC O, what may stand before a digit, the digit, and the rest: `before` bytes are before the rest.
+fn modified_key_at(rest: &[u8], before: usize) -> FormAt
+    requires { before < 10 }
+    ensures { (x10_mouse : Bool) (front : List ℕ) (digit : ℕ) → IsModifiedFront front → IsModifierDigit digit → before ≡ 3 + length front
+        → HasForm x10_mouse (SS3 ++ front ++ digit ∷ rest.now) result }
 {
     match rest.first() {
         Some(letter) => {
-            if is_keypad_letter(*letter) {
+            if is_modified_letter(*letter) {
+                FormAt::Whole(before + 1)
+            } else {
+                FormAt::Absent
+            }
+        }
+        None => FormAt::Unfinished,
+    }
+}
+
+// The form at the front of ESC O0; and the rest.
+fn parted_key_at(rest: &[u8]) -> FormAt
+    ensures { (x10_mouse : Bool) → HasForm x10_mouse (SS3 ++ 48 ∷ 59 ∷ rest.now) result }
+{
+    match rest.first() {
+        Some(digit) => {
+            if is_modifier_digit(*digit) {
+                modified_key_at(&rest[1..], 5)
+            } else {
+                FormAt::Absent
+            }
+        }
+        None => FormAt::Unfinished,
+    }
+}
+
+// The form at the front of ESC O0 and the rest.
+fn zeroed_key_at(rest: &[u8]) -> FormAt
+    ensures { (x10_mouse : Bool) → HasForm x10_mouse (SS3 ++ 48 ∷ rest.now) result }
+{
+    match rest.first() {
+        Some(separator) => {
+            if *separator == b';' {
+                parted_key_at(&rest[1..])
+            } else {
+                FormAt::Absent
+            }
+        }
+        None => FormAt::Unfinished,
+    }
+}
+
+// The form at the front of ESC O and the rest.
+fn keypad_key_at(rest: &[u8]) -> FormAt
+    ensures { (x10_mouse : Bool) → HasForm x10_mouse (SS3 ++ rest.now) result }
+{
+    match rest.first() {
+        Some(first) => {
+            if is_keypad_letter(*first) {
                 FormAt::Whole(3)
+            } else if is_modifier_digit(*first) {
+                modified_key_at(&rest[1..], 3)
+            } else if *first == b'0' {
+                zeroed_key_at(&rest[1..])
             } else {
                 FormAt::Absent
             }
@@ -155,14 +277,14 @@ fn keypad_key_at(rest: &[u8]) -> FormAt
 }
 
 // The form at the front of ESC [ and the rest, of which the first bytes were looked at before.
-fn bracketed_at(rest: &[u8], scanned: usize) -> FormAt
+fn bracketed_at(rest: &[u8], scanned: usize, x10_mouse: bool) -> FormAt
     requires { AllByRecursion IsInner (take scanned rest.now) }
-    ensures { HasForm (CSI ++ rest.now) result }
+    ensures { HasForm x10_mouse (CSI ++ rest.now) result }
 {
     match rest.first() {
-        Some(b'M') => x10_report_at(&rest[1..]),
+        Some(b'M') if x10_mouse => x10_report_at(&rest[1..]),
         Some(b'[') => console_key_at(&rest[1..]),
-        _ => control_at(rest, scanned),
+        _ => control_at(rest, scanned, x10_mouse),
     }
 }
 
@@ -170,7 +292,7 @@ fn bracketed_at(rest: &[u8], scanned: usize) -> FormAt
 fn lettered_title_at(rest: &[u8]) -> FormAt
     requires some { rest.now ≢ [] }
     requires letter { IsTitleLetter (slice_index rest.now 0) }
-    ensures { HasForm (introducer StringKind.Osc ++ rest.now) result }
+    ensures { (x10_mouse : Bool) → HasForm x10_mouse (introducer StringKind.Osc ++ rest.now) result }
 {
     let body = &rest[1..];
     let len = data_end(StringKind::Osc, &body[..body.len().min(TYPED_TITLE)]);
@@ -186,7 +308,7 @@ fn lettered_title_at(rest: &[u8]) -> FormAt
 
 // The form at the front of ESC ] and the rest. It is a title.
 fn title_at(rest: &[u8]) -> FormAt
-    ensures { HasForm (introducer StringKind.Osc ++ rest.now) result }
+    ensures { (x10_mouse : Bool) → HasForm x10_mouse (introducer StringKind.Osc ++ rest.now) result }
 {
     match rest.first() {
         Some(letter) if is_title_letter(*letter) => lettered_title_at(rest),
@@ -196,10 +318,10 @@ fn title_at(rest: &[u8]) -> FormAt
 }
 
 // The form at the front of a text. The bytes before `scanned` were looked at before.
-pub(crate) fn form_at(text: &[u8], scanned: usize) -> FormAt
+pub(crate) fn form_at(text: &[u8], scanned: usize, x10_mouse: bool) -> FormAt
     requires some { text.now ≢ [] }
     requires scanned { IsScanned text.now scanned }
-    ensures { HasForm text.now result }
+    ensures { HasForm x10_mouse text.now result }
 {
     if text[0] != ESCAPE {
         return FormAt::Absent;
@@ -210,7 +332,7 @@ pub(crate) fn form_at(text: &[u8], scanned: usize) -> FormAt
     let rest = &text[INTRODUCED..];
     let scanned = scanned.saturating_sub(INTRODUCED);
     match text[1] {
-        b'[' => bracketed_at(rest, scanned),
+        b'[' => bracketed_at(rest, scanned, x10_mouse),
         b'O' => keypad_key_at(rest),
         b']' => title_at(rest),
         _ => FormAt::Absent,
@@ -219,7 +341,7 @@ pub(crate) fn form_at(text: &[u8], scanned: usize) -> FormAt
 
 // Where the next search starts once more bytes come: in a control sequence at its last byte, else at the start.
 pub(crate) fn next_scan(text: &[u8]) -> usize
-    requires { IsUnfinishedForm text.now }
+    requires { (x10_mouse : Bool) × IsUnfinishedForm x10_mouse text.now }
     ensures place { IsScanned text.now result }
     ensures within { result ≤ length text.now }
 {

@@ -1,17 +1,19 @@
 //! The extended parser.
-ghost use Rattle.std.specs.Prelude.{◌≡◌, ◌≢◌, ◌++◌, ◌+◌, ◌≤◌, ◌<◌, max, ℕ, Bool, List, [], ◌∷◌, length, take, drop, true, false, OnErr, IfOk, IfErr, IfSome, IfNone, IsSome, IsTrue, ◌↔◌, ◌⊎◌, OnOk, IsOk, IsErrOf, vec_len, vec_capacity};
+ghost use Rattle.std.specs.Prelude.{◌≡◌, ◌≢◌, ◌++◌, ◌+◌, ◌≤◌, ◌<◌, max, min, ℕ, Bool, List, [], ◌∷◌, length, take, drop, true, false, OnErr, IfOk, IfErr, IfSome, IfNone, IsSome, IsTrue, ◌↔◌, ◌⊎◌, OnOk, IsOk, IsErrOf, vec_len, vec_capacity};
 ghost use Rattle.termwiz_keymap.specs.Bytes.{Begins};
-ghost use Rattle.termwiz_keys.specs.Introducers.{START};
+ghost use Rattle.termwiz_keys.specs.Introducers.{ESC, START};
 ghost use Rattle.termwiz_keys.specs.declared.types.InputEvent.TheVariants as Port;
 ghost use Rattle.termwiz_grammar.specs.PasteParts.{HasPart, IsSkipped, IsTaken};
 ghost use Rattle.termwiz_grammar.specs.WaitingKinds.{IsOneOrTwoEscapes, IsOpenPaste};
 ghost use Rattle.termwiz_extended_events.specs.declared.types.ExtendedEvent.{ExtendedEvent as Event};
+ghost use Rattle.termwiz_extended_grammar.specs.ExtraSequences.{with_alt};
+ghost use Rattle.termwiz_extended_grammar.specs.Readings.{after_event, after_events, asking, first_reading};
 ghost use Rattle.termwiz_extended_grammar.specs.ExtendedGrammar.{HasItem, IsRest, Means, Steps};
 ghost use Rattle.termwiz_extended_grammar.specs.ExtendedKinds.{IsKind};
 ghost use Rattle.termwiz_extended_grammar.specs.ExtendedLaws.{Waits};
 ghost use Rattle.termwiz_input_extended.specs.Buffered.{IsToldByBytes};
 ghost use Rattle.termwiz_input_extended.specs.EventCallbacks.{MayBeCalledOn, WasCalledOn};
-ghost use Rattle.termwiz_input_extended.specs.NextItems.{Emits, GivesNoneThatNeedsMemory, HasItemThatNeedsMemory, IsNextItem, IsFormAt, IsPasteEvent, IsPortsOwn, Stores};
+ghost use Rattle.termwiz_input_extended.specs.NextItems.{Emits, GivesNoneThatNeedsMemory, HasItemThatNeedsMemory, IsBareKeyAt, IsNextItem, IsFormAt, IsPasteEvent, IsPortsOwn, Stores};
 ghost use Rattle.termwiz_input_extended.specs.StringAnswers.{IsOpeningOf};
 
 use crate::characters::{control_key, match_character};
@@ -21,7 +23,7 @@ use crate::string::{OpeningAt, StringAt, opening_at, string_at};
 use std::alloc::{AllocError, Global};
 use std::marker::Model;
 use termwiz_extended_events::meanings::meaning_of;
-use termwiz_extended_events::types::{ExtendedEvent, Protocol, StringKind};
+use termwiz_extended_events::types::{ExtendedEvent, KeyReport, Protocol, Reading, StringKind};
 pub use termwiz_extended_grammar::waiting::ExtendedWaiting;
 pub use termwiz_input::input::ParseError;
 use termwiz_input::input::{
@@ -42,12 +44,12 @@ pub struct ExtendedVecError {
 /// Reads events from the bytes that a terminal sends, however they are cut: those of [`InputParser`], and the sequences that it doesn't know,
 /// such as replies, focus reports and Kitty's keyboard protocol.
 ///
-/// Contracts see a parser as its `Protocol` and its buffered bytes.
+/// Contracts see a parser as its `Reading` and its buffered bytes.
 #[derive(Debug, Drop)]
 pub struct ExtendedParser {
     // Its buffered bytes are those of this parser.
     parser: InputParser,
-    protocol: Protocol,
+    reading: Reading,
     // The bytes of the buffer before this offset were looked at: a search for the end of a sequence goes on from there.
     scanned: usize,
     alloc: Global,
@@ -59,7 +61,7 @@ impl Model for ExtendedParser {
 
     ghost Value = { Buffered };
 
-    ghost view = { λ p. record { protocol = p.protocol; text = p.parser } };
+    ghost view = { λ p. record { reading = p.reading; text = p.parser } };
 
     ghost invariant = { λ p. IsScannedTo p.parser p.scanned };
 }
@@ -81,33 +83,53 @@ fn mouse_event(event: MouseEvent) -> ExtendedEvent
     ExtendedEvent::Input(InputEvent::Mouse(event))
 }
 
+// Kitty's bit of ALT.
+const ALT_BIT: u8 = 2;
+
+// The event of a bare key after ESC.
+fn with_alt(event: ExtendedEvent) -> ExtendedEvent
+    ensures { result ≡ with_alt event }
+{
+    match event {
+        ExtendedEvent::Key(report) => ExtendedEvent::Key(KeyReport {
+            key: report.key,
+            modifiers: report.modifiers | ALT_BIT,
+            kind: report.kind,
+            shifted: report.shifted,
+            base: report.base,
+            text: report.text,
+        }),
+        other => other,
+    }
+}
+
 impl ExtendedParser {
-    /// A parser that reads the rows of the sequence table in this way, and whose buffer is empty.
+    /// A parser for this protocol, whose buffer is empty: by [`Reading::new`] it reads no X10 mouse reports, and no question is open.
     pub fn new(alloc: Global, protocol: Protocol) -> Result<ExtendedParser, AllocError>
         ensures empty { IfOk result (λ parser. parser.text ≡ []) }
-        ensures protocol { IfOk result (λ parser. parser.protocol ≡ protocol) }
+        ensures reading { IfOk result (λ parser. parser.reading ≡ first_reading protocol) }
     {
-        Ok(ExtendedParser::over(alloc, InputParser::new(alloc)?, protocol))
+        Ok(ExtendedParser::over(alloc, InputParser::new(alloc)?, Reading::new(protocol)))
     }
 
     // A parser over another, of whose buffer nothing was searched.
-    fn over(alloc: Global, parser: InputParser, protocol: Protocol) -> ExtendedParser
+    fn over(alloc: Global, parser: InputParser, reading: Reading) -> ExtendedParser
         ensures text { result.text ≡ parser }
-        ensures protocol { result.protocol ≡ protocol }
+        ensures reading { result.reading ≡ reading }
     {
         ExtendedParser {
             parser,
-            protocol,
+            reading,
             scanned: 0,
             alloc,
         }
     }
 
-    /// Another parser with the sequence table of this one, which reads its rows in this way, and whose buffer is empty. It asks for
-    /// no memory; see [`InputParser::sharing`].
+    /// Another parser with the sequence table of this one, for this protocol, whose buffer is empty. It asks for no memory; see
+    /// [`InputParser::sharing`].
     pub fn sharing(&self, protocol: Protocol) -> Result<ExtendedParser, AllocError>
         ensures empty { IfOk result (λ parser. parser.text ≡ []) }
-        ensures protocol { IfOk result (λ parser. parser.protocol ≡ protocol) }
+        ensures reading { IfOk result (λ parser. parser.reading ≡ first_reading protocol) }
     {
         ExtendedParser::sharing_table_of(self.alloc, &self.parser, protocol)
     }
@@ -120,9 +142,9 @@ impl ExtendedParser {
         protocol: Protocol,
     ) -> Result<ExtendedParser, AllocError>
         ensures empty { IfOk result (λ parser. parser.text ≡ []) }
-        ensures protocol { IfOk result (λ parser. parser.protocol ≡ protocol) }
+        ensures reading { IfOk result (λ parser. parser.reading ≡ first_reading protocol) }
     {
-        Ok(ExtendedParser::over(alloc, parser.sharing()?, protocol))
+        Ok(ExtendedParser::over(alloc, parser.sharing()?, Reading::new(protocol)))
     }
 
     /// An [`InputParser`] with the sequence table of this parser, whose buffer is empty.
@@ -139,11 +161,40 @@ impl ExtendedParser {
         self.parser.shrink_to(min_capacity);
     }
 
-    /// How the rows of the sequence table are read.
-    pub fn protocol(&self) -> Protocol
-        ensures { result ≡ self.now.protocol }
+    /// How it reads. The number of open questions is that after the events so far.
+    pub fn reading(&self) -> Reading
+        ensures { result ≡ self.now.reading }
     {
-        self.protocol
+        self.reading
+    }
+
+    /// Has it read so from now on. What is buffered is read by this reading too.
+    pub fn set_reading(&mut self, reading: Reading)
+        ensures { self.new ≡ record self.old { reading = reading } }
+    {
+        self.reading = reading;
+    }
+
+    /// The protocol of its reading.
+    pub fn protocol(&self) -> Protocol
+        ensures { result ≡ self.now.reading.protocol }
+    {
+        self.reading.protocol
+    }
+
+    /// Expects one more reply to a question for the cursor's position, up to 255: call it with each ESC `[6n` that is written. While a reply is
+    /// expected, ESC `[1;5R` and the like are positions, and not F3 with modifiers.
+    pub fn expect_position(&mut self)
+        ensures { self.new ≡ record self.old { reading = asking self.old.reading (min (self.old.reading.questions + 1) 255) } }
+    {
+        self.reading.questions = self.reading.questions.saturating_add(1);
+    }
+
+    /// Expects no reply any more to questions for the cursor's position: call it when a reply is overdue, or when a later question was answered.
+    pub fn forget_positions(&mut self)
+        ensures { self.new ≡ record self.old { reading = asking self.old.reading 0 } }
+    {
+        self.reading.questions = 0;
     }
 
     /// The buffered bytes.
@@ -170,26 +221,37 @@ impl ExtendedParser {
     // What is at the front of the buffer.
     #[inline(always)]
     fn next_item(&self, maybe_more: bool) -> NextItem<'_>
-        ensures { IsNextItem self.now.protocol self.now.text maybe_more result }
+        ensures { IsNextItem self.now.reading self.now.text maybe_more result }
     {
         next_item(
             &self.parser,
-            self.protocol,
+            self.reading,
             self.parser.waiting_text(),
             self.scanned,
             maybe_more,
         )
     }
 
-    /// Forgets what stays buffered, and returns how many bytes these were. It asks for no memory and frees none.
+    /// Forgets what stays buffered and which positions are expected, and returns how many bytes were buffered. It asks for no memory and frees
+    /// none.
     pub fn reset(&mut self) -> usize
         ensures count { result ≡ length self.old.text }
         ensures nothing { self.new.text ≡ [] }
-        ensures protocol { self.new.protocol ≡ self.old.protocol }
+        ensures reading { self.new.reading ≡ asking self.old.reading 0 }
     {
         let len = self.waiting_len();
         self.consume(len);
+        self.reading.questions = 0;
         len
+    }
+
+    // Counts a position of the cursor as the reply to a question.
+    fn note_event(&mut self, event: &ExtendedEvent)
+        ensures { self.new ≡ record self.old { reading = after_event self.old.reading event.now } }
+    {
+        if let ExtendedEvent::CursorPosition { .. } = event {
+            self.reading.questions = self.reading.questions.saturating_sub(1);
+        }
     }
 
     // Drops the first buffered bytes. What is left wasn't looked at.
@@ -251,7 +313,7 @@ impl ExtendedParser {
 
     // Consumes what the port finds at the front of the buffer.
     fn next_of_port(&mut self, maybe_more: bool) -> Result<Option<ExtendedEvent>, AllocError>
-        requires { IsPortsOwn self.old.protocol self.old.text maybe_more }
+        requires { IsPortsOwn self.old.reading self.old.text maybe_more }
         ensures { Emits self.old maybe_more self.new result }
     {
         match self.parser.next_event(maybe_more)? {
@@ -282,17 +344,34 @@ impl ExtendedParser {
         len: usize,
         maybe_more: bool,
     ) -> Result<Option<ExtendedEvent>, AllocError>
-        requires { IsFormAt self.old.protocol self.old.text len }
+        requires { IsFormAt self.old.reading self.old.text len }
         ensures { Emits self.old maybe_more self.new result }
     {
         let text = self.waiting_text();
         let meaning = meaning_of(&text[..len]);
-        if !is_extra_at(&self.parser, self.protocol, text, len, &meaning) {
+        if !is_extra_at(&self.parser, self.reading, text, len, &meaning) {
             return self.next_of_port(maybe_more);
         }
         let event = meaning.event(self.alloc)?;
         self.consume(len);
+        self.note_event(&event);
         Ok(Some(event))
+    }
+
+    // Consumes ESC and the bare key of so many bytes after it, and returns the key with ALT.
+    #[inline(never)]
+    fn next_alt_form(
+        &mut self,
+        len: usize,
+        maybe_more: bool,
+    ) -> Result<Option<ExtendedEvent>, AllocError>
+        requires { (v : List ℕ) × (self.old.text ≡ ESC ++ v) × IsBareKeyAt self.old.reading v len }
+        ensures { Emits self.old maybe_more self.new result }
+    {
+        let text = self.waiting_text();
+        let event = meaning_of(&text[1..1 + len]).event(self.alloc)?;
+        self.consume(1 + len);
+        Ok(Some(with_alt(event)))
     }
 
     // Consumes the item at the front of the buffer, and returns its event. `None` if no item is there. `next_event` is quicker for
@@ -313,12 +392,13 @@ impl ExtendedParser {
             }
             NextItem::Form(len) => {
                 // The frame of `next_form` is large, and an event that is returned from here isn't copied on its way.
-                if let Some(report) = plain_report_at(self.protocol, self.waiting_text(), len) {
+                if let Some(report) = plain_report_at(self.reading, self.waiting_text(), len) {
                     self.consume(len);
                     return Ok(Some(ExtendedEvent::Key(report.whole(self.alloc))));
                 }
                 self.next_form(len, maybe_more)
             }
+            NextItem::AltForm(len) => self.next_alt_form(len, maybe_more),
             NextItem::String(kind, opening) => self.next_string(kind, opening, maybe_more),
             NextItem::MouseReport(event, len) => {
                 self.consume(len);
@@ -347,21 +427,22 @@ impl ExtendedParser {
     /// Pass `maybe_more` as for [`ExtendedParser::parse`]. Memory is needed for the text of a paste or of a key, and for the bytes of `Csi`,
     /// `Osc`, `Dcs`, `Apc`, `StringPart` and `StringCut`. If it is refused, the parser is unchanged and the item still at its front, and the same call may be made again.
     /// Any other event needs none.
-    #[tactic(auto, using(crate::proofs::lemmas::fronts::LeftBounded::left_flushed, crate::proofs::lemmas::fronts::LeftBounded::left_waits))]
+    #[tactic(auto, using(crate::proofs::lemmas::fronts::LeftBounded::left_flushed, crate::proofs::lemmas::fronts::LeftBounded::left_waits, crate::proofs::lemmas::calls::ProtocolKept::protocol_emitted))]
     pub fn next_event(&mut self, maybe_more: bool) -> Result<Option<ExtendedEvent>, AllocError>
-        ensures event { IfOk result (λ found. IfSome found (λ event. Steps self.old.protocol self.old.text maybe_more (event ∷ []) self.new.text)) }
-        ensures protocol { self.new.protocol ≡ self.old.protocol }
-        ensures none { IfOk result (λ found. IfNone found (IsRest self.old.protocol self.old.text maybe_more)) }
+        ensures event { IfOk result (λ found. IfSome found (λ event. Steps self.old.reading self.old.text maybe_more (event ∷ []) self.new.text)) }
+        ensures reading { IfOk result (λ found. IfSome found (λ event. self.new.reading ≡ after_event self.old.reading event)) }
+        ensures protocol { self.new.reading.protocol ≡ self.old.reading.protocol }
+        ensures none { IfOk result (λ found. IfNone found (IsRest self.old.reading self.old.text maybe_more)) }
         ensures none_same { IfOk result (λ found. IfNone found (self.new ≡ self.old)) }
-        ensures refused { OnErr result (HasItemThatNeedsMemory self.old.protocol self.old.text maybe_more) }
+        ensures refused { OnErr result (HasItemThatNeedsMemory self.old.reading self.old.text maybe_more) }
         ensures refused_same { OnErr result (self.new ≡ self.old) }
-        ensures granted { ¬ HasItemThatNeedsMemory self.old.protocol self.old.text maybe_more → IsOk result }
+        ensures granted { ¬ HasItemThatNeedsMemory self.old.reading self.old.text maybe_more → IsOk result }
 
         // Without more to come only an open paste stays buffered.
         ensures flushed { maybe_more ≡ false → IfOk result (λ found. IfNone found ((self.new.text ≡ []) ⊎ Begins START self.new.text)) }
 
         // At most 256 bytes stay buffered, an open string of at most 65535, or an open paste.
-        ensures waits { IfOk result (λ found. IfNone found (Waits self.new.protocol self.new.text maybe_more)) }
+        ensures waits { IfOk result (λ found. IfNone found (Waits self.new.reading self.new.text maybe_more)) }
     {
         match match_character(self.waiting_text()) {
             Some((character, len)) => {
@@ -376,7 +457,7 @@ impl ExtendedParser {
     ///
     /// How long each kind may stay buffered is in [`Policy`](crate::time::Policy), and [`expire`](crate::time::expire) flushes it then.
     pub fn waiting(&self) -> ExtendedWaiting
-        ensures kind { (more : Bool) → IsRest self.now.protocol self.now.text more → IsKind self.now.protocol self.now.text more result }
+        ensures kind { (more : Bool) → IsRest self.now.reading self.now.text more → IsKind self.now.reading self.now.text more result }
 
         // The first bytes alone tell the kind, also where an item is matched.
         ensures bytes { IsToldByBytes self.now.text result }
@@ -399,8 +480,8 @@ impl ExtendedParser {
     /// It is for a program with limits in time of its own; [`expire`](crate::time::expire) flushes by those of a policy. Unlike a flush, it
     /// breaks only what is cut right after its ESC or ESC ESC.
     pub fn flush_escape(&mut self) -> Option<ExtendedEvent>
-        ensures event { IfSome result (λ event. Means self.old.protocol self.old.text false (event ∷ []) self.new.text) }
-        ensures protocol { self.new.protocol ≡ self.old.protocol }
+        ensures event { IfSome result (λ event. Means self.old.reading self.old.text false (event ∷ []) self.new.text) }
+        ensures reading { self.new.reading ≡ self.old.reading }
         ensures when { IsSome result ↔ IsOneOrTwoEscapes self.old.text }
         ensures none { IfNone result (self.new ≡ self.old) }
     {
@@ -422,7 +503,7 @@ impl ExtendedParser {
     pub fn end_paste(&mut self) -> Result<Option<ExtendedEvent>, AllocError>
         ensures event { IfOk result (λ found. IfSome found (IsPasteEvent self.old.text)) }
         ensures nothing { IfOk result (λ found. IfSome found (λ _. self.new.text ≡ [])) }
-        ensures protocol { self.new.protocol ≡ self.old.protocol }
+        ensures reading { self.new.reading ≡ self.old.reading }
         ensures none { IfOk result (λ found. IfNone found (¬ IsOpenPaste self.old.text)) }
         ensures none_same { IfOk result (λ found. IfNone found (self.new ≡ self.old)) }
         ensures refused { OnErr result (IsOpenPaste self.old.text) }
@@ -446,7 +527,7 @@ impl ExtendedParser {
     /// unchanged.
     pub fn take_paste(&mut self, limit: usize) -> Result<Option<PastedText>, AllocError>
         ensures part { IfOk result (λ found. IfSome found (λ text. IsTaken self.old.text limit text self.new.text)) }
-        ensures protocol { self.new.protocol ≡ self.old.protocol }
+        ensures reading { self.new.reading ≡ self.old.reading }
         ensures none { IfOk result (λ found. IfNone found (¬ HasPart self.old.text limit)) }
         ensures none_same { IfOk result (λ found. IfNone found (self.new ≡ self.old)) }
         ensures refused { OnErr result (HasPart self.old.text limit) }
@@ -471,7 +552,7 @@ impl ExtendedParser {
     /// So no byte of the paste becomes a key. It asks for no memory, and afterwards at most 11 bytes of the paste stay buffered.
     pub fn skip_paste(&mut self) -> Option<usize>
         ensures skipped { IfSome result (λ count. IsSkipped self.old.text count self.new.text) }
-        ensures protocol { self.new.protocol ≡ self.old.protocol }
+        ensures reading { self.new.reading ≡ self.old.reading }
         ensures none { IfNone result (¬ IsOpenPaste self.old.text) }
         ensures none_same { IfNone result (self.new ≡ self.old) }
 
@@ -497,22 +578,22 @@ impl ExtendedParser {
         callback: &mut F,
         maybe_more: bool,
     ) -> Result<(), AllocError>
-        requires { (events : List Event) (rest : List ℕ) → Steps self.old.protocol self.old.text maybe_more events rest
+        requires { (events : List Event) (rest : List ℕ) → Steps self.old.reading self.old.text maybe_more events rest
             → MayBeCalledOn F.FnMut callback.old events }
-        ensures ok { OnOk result ((events : List Event) × Means self.old.protocol self.old.text maybe_more events self.new.text
-            × WasCalledOn F.step callback.old events callback.new) }
-        ensures protocol { self.new.protocol ≡ self.old.protocol }
+        ensures ok { OnOk result ((events : List Event) × Means self.old.reading self.old.text maybe_more events self.new.text
+            × (self.new.reading ≡ after_events self.old.reading events) × WasCalledOn F.step callback.old events callback.new) }
+        ensures protocol { self.new.reading.protocol ≡ self.old.reading.protocol }
 
         // Without more to come only an open paste stays buffered.
         ensures flushed { maybe_more ≡ false → OnOk result ((self.new.text ≡ []) ⊎ Begins START self.new.text) }
 
         // At most 256 bytes stay buffered, an open string of at most 65535, or an open paste.
-        ensures waits { OnOk result (Waits self.new.protocol self.new.text maybe_more) }
+        ensures waits { OnOk result (Waits self.new.reading self.new.text maybe_more) }
 
         // Exactly the emitted events were consumed, and an item whose event needs memory is at the front.
-        ensures refused { OnErr result ((events : List Event) × Steps self.old.protocol self.old.text maybe_more events self.new.text
-            × WasCalledOn F.step callback.old events callback.new) }
-        ensures refused_item { OnErr result (HasItemThatNeedsMemory self.new.protocol self.new.text maybe_more) }
+        ensures refused { OnErr result ((events : List Event) × Steps self.old.reading self.old.text maybe_more events self.new.text
+            × (self.new.reading ≡ after_events self.old.reading events) × WasCalledOn F.step callback.old events callback.new) }
+        ensures refused_item { OnErr result (HasItemThatNeedsMemory self.new.reading self.new.text maybe_more) }
     {
         loop {
             match self.next_event(maybe_more)? {
@@ -533,18 +614,18 @@ impl ExtendedParser {
         callback: &mut F,
         maybe_more: bool,
     ) -> Result<(), ParseError>
-        requires { (events : List Event) (rest : List ℕ) → Steps self.old.protocol (self.old.text ++ bytes.now) maybe_more events rest
+        requires { (events : List Event) (rest : List ℕ) → Steps self.old.reading (self.old.text ++ bytes.now) maybe_more events rest
             → MayBeCalledOn F.FnMut callback.old events }
         ensures ok { OnOk result ((events : List Event)
-            × Means self.old.protocol (self.old.text ++ bytes.now) maybe_more events self.new.text
-            × WasCalledOn F.step callback.old events callback.new) }
-        ensures protocol { self.new.protocol ≡ self.old.protocol }
+            × Means self.old.reading (self.old.text ++ bytes.now) maybe_more events self.new.text
+            × (self.new.reading ≡ after_events self.old.reading events) × WasCalledOn F.step callback.old events callback.new) }
+        ensures protocol { self.new.reading.protocol ≡ self.old.reading.protocol }
 
         // Without more to come only an open paste stays buffered.
         ensures flushed { maybe_more ≡ false → OnOk result ((self.new.text ≡ []) ⊎ Begins START self.new.text) }
 
         // At most 256 bytes stay buffered, an open string of at most 65535, or an open paste.
-        ensures waits { OnOk result (Waits self.new.protocol self.new.text maybe_more) }
+        ensures waits { OnOk result (Waits self.new.reading self.new.text maybe_more) }
 
         // If the bytes weren't taken, nothing happened.
         ensures not_taken_same { IsErrOf result ParseError.NotTaken → self.new ≡ self.old }
@@ -553,12 +634,12 @@ impl ExtendedParser {
 
         // If they were, exactly the emitted events were consumed, and an item whose event needs memory is at the front.
         ensures taken { IsErrOf result ParseError.Taken
-            → (events : List Event) × Steps self.old.protocol (self.old.text ++ bytes.now) maybe_more events self.new.text
-            × WasCalledOn F.step callback.old events callback.new }
-        ensures taken_item { IsErrOf result ParseError.Taken → HasItemThatNeedsMemory self.new.protocol self.new.text maybe_more }
+            → (events : List Event) × Steps self.old.reading (self.old.text ++ bytes.now) maybe_more events self.new.text
+            × (self.new.reading ≡ after_events self.old.reading events) × WasCalledOn F.step callback.old events callback.new }
+        ensures taken_item { IsErrOf result ParseError.Taken → HasItemThatNeedsMemory self.new.reading self.new.text maybe_more }
 
         // No bytes need no memory, unless the buffered bytes give an event that does.
-        ensures granted { bytes.now ≡ [] → GivesNoneThatNeedsMemory self.old.protocol self.old.text maybe_more → IsOk result }
+        ensures granted { bytes.now ≡ [] → GivesNoneThatNeedsMemory self.old.reading self.old.text maybe_more → IsOk result }
     {
         if self.feed(bytes).is_err() {
             return Err(ParseError::NotTaken);
@@ -571,15 +652,14 @@ impl ExtendedParser {
 
     // Whether an item is at the front of the buffer.
     fn has_item(&self, maybe_more: bool) -> bool
-        ensures some { IsTrue result → HasItem self.now.protocol self.now.text maybe_more }
-        ensures none { result ≡ false → IsRest self.now.protocol self.now.text maybe_more }
+        ensures some { IsTrue result → HasItem self.now.reading self.now.text maybe_more }
+        ensures none { result ≡ false → IsRest self.now.reading self.now.text maybe_more }
     {
-        let protocol = self.protocol;
+        let reading = self.reading;
         let text = self.waiting_text();
         match self.next_item(maybe_more) {
             NextItem::Form(len)
-                if is_extra_at(&self.parser, protocol, text, len, &meaning_of(&text[..len])) =>
-                true,
+                if is_extra_at(&self.parser, reading, text, len, &meaning_of(&text[..len])) => true,
             NextItem::Form(_) => self.parser.has_item(maybe_more),
             NextItem::Paste => self.parser.has_item(maybe_more),
             NextItem::Usual => self.parser.has_item(maybe_more),
@@ -598,8 +678,8 @@ impl ExtendedParser {
     // Makes room in the list for one more event, if an item is at the front of the buffer.
     fn make_room(&self, events: &mut Vec<ExtendedEvent>, maybe_more: bool) -> Result<(), AllocError>
         ensures items { events.new.items ≡ events.old.items }
-        ensures room { OnOk result (HasItem self.now.protocol self.now.text maybe_more → vec_len events.new < vec_capacity events.new) }
-        ensures item { OnErr result (HasItem self.now.protocol self.now.text maybe_more) }
+        ensures room { OnOk result (HasItem self.now.reading self.now.text maybe_more → vec_len events.new < vec_capacity events.new) }
+        ensures item { OnErr result (HasItem self.now.reading self.now.text maybe_more) }
     {
         if events.len() < events.capacity() {
             return Ok(());
@@ -636,10 +716,11 @@ impl ExtendedParser {
         maybe_more: bool,
     ) -> Result<(), AllocError>
         requires { events.old.items ≡ [] }
-        ensures steps { Steps self.old.protocol self.old.text maybe_more events.new.items self.new.text }
-        ensures same_rows { self.new.protocol ≡ self.old.protocol }
-        ensures rest { OnOk result (IsRest self.new.protocol self.new.text maybe_more) }
-        ensures item { OnErr result (HasItem self.new.protocol self.new.text maybe_more) }
+        ensures steps { Steps self.old.reading self.old.text maybe_more events.new.items self.new.text }
+        ensures reading { self.new.reading ≡ after_events self.old.reading events.new.items }
+        ensures protocol { self.new.reading.protocol ≡ self.old.reading.protocol }
+        ensures rest { OnOk result (IsRest self.new.reading self.new.text maybe_more) }
+        ensures item { OnErr result (HasItem self.new.reading self.new.text maybe_more) }
         ensures few { length events.new.items + length self.new.text ≤ length self.old.text }
     {
         while self.store_next(events, maybe_more)? {}
@@ -657,15 +738,16 @@ impl ExtendedParser {
         bytes: &[u8],
         maybe_more: bool,
     ) -> Result<Vec<ExtendedEvent>, ExtendedVecError>
-        ensures ok { IfOk result (λ events. Means self.old.protocol (self.old.text ++ bytes.now) maybe_more events.items self.new.text) }
+        ensures ok { IfOk result (λ events. Means self.old.reading (self.old.text ++ bytes.now) maybe_more events.items self.new.text) }
         ensures few { IfOk result (λ events. length events.items + length self.new.text ≤ length self.old.text + length bytes.now) }
-        ensures protocol { self.new.protocol ≡ self.old.protocol }
+        ensures reading { IfOk result (λ events. self.new.reading ≡ after_events self.old.reading events.items) }
+        ensures protocol { self.new.reading.protocol ≡ self.old.reading.protocol }
 
         // Without more to come only an open paste stays buffered.
         ensures flushed { maybe_more ≡ false → OnOk result ((self.new.text ≡ []) ⊎ Begins START self.new.text) }
 
         // At most 256 bytes stay buffered, an open string of at most 65535, or an open paste.
-        ensures waits { OnOk result (Waits self.new.protocol self.new.text maybe_more) }
+        ensures waits { OnOk result (Waits self.new.reading self.new.text maybe_more) }
 
         // If the bytes weren't taken, nothing happened.
         ensures not_taken_none { IfErr result (λ e. e.taken ≡ false → e.events.items ≡ []) }
@@ -674,8 +756,9 @@ impl ExtendedParser {
 
         // If they were, exactly the events of the error were consumed, and an item is at the front.
         ensures taken { IfErr result (λ e. e.taken ≡ true
-            → Steps self.old.protocol (self.old.text ++ bytes.now) maybe_more e.events.items self.new.text) }
-        ensures taken_item { IfErr result (λ e. e.taken ≡ true → HasItem self.new.protocol self.new.text maybe_more) }
+            → Steps self.old.reading (self.old.text ++ bytes.now) maybe_more e.events.items self.new.text) }
+        ensures taken_reading { IfErr result (λ e. e.taken ≡ true → self.new.reading ≡ after_events self.old.reading e.events.items) }
+        ensures taken_item { IfErr result (λ e. e.taken ≡ true → HasItem self.new.reading self.new.text maybe_more) }
         ensures taken_few { IfErr result (λ e. e.taken ≡ true
             → length e.events.items + length self.new.text ≤ length self.old.text + length bytes.now) }
     {

@@ -2,10 +2,10 @@
 ghost use Rattle.termwiz_input_extended.specs.ExtendedExpiryLaws.{FlushEnds, FlushOneByOne, NoPauses};
 
 pub use termwiz_extended_grammar::laws::{
-    conservative, cut_independent, empty_is_rest, extra_is_longest, few_events,
-    few_events_in_stream, four_beginnings, one_by_one, one_meaning, opening_is_longest, parts_join,
-    resumes, sequence_stands, steps_join, string_stands, titles_are_commands, undecided,
-    waiting_kinds, waiting_shape,
+    bare_keys_are_joined, conservative, cut_independent, empty_is_rest, extra_is_longest,
+    few_events, few_events_in_stream, four_beginnings, one_by_one, one_meaning, opening_is_longest,
+    parts_join, questions_move_nothing, resumes, sequence_stands, steps_join, string_stands,
+    titles_are_commands, undecided, waiting_kinds, waiting_shape,
 };
 pub use termwiz_input::laws::{any_clock, held_key, timers_exact, timers_not_early, usual_times};
 

@@ -9,20 +9,20 @@ ghost use Rattle.termwiz_grammar.specs.MouseReports.{IsMouseReport};
 ghost use Rattle.termwiz_grammar.specs.Table.{rows as table_rows};
 ghost use Rattle.termwiz_input.specs.Matches.{IsItemAt};
 ghost use Rattle.termwiz_input.specs.MouseReportAnswers.{HasNoPartInMouseReports};
-ghost use Rattle.termwiz_extended_events.specs.declared.types.Protocol.TheVariants.{Legacy};
 ghost use Rattle.termwiz_extended_events.specs.declared.types.ExtendedEvent.TheVariants.{Key as KeyReported};
 ghost use Rattle.termwiz_extended_events.specs.KeyReports.{plain_report};
 ghost use Rattle.termwiz_extended_events.specs.Meanings.{event_from, event_of};
-ghost use Rattle.termwiz_extended_grammar.specs.Forms.{IsForm};
+ghost use Rattle.termwiz_extended_grammar.specs.Forms.{IsForm, IsKeypadKey};
+ghost use Rattle.termwiz_extended_grammar.specs.ExtraSequences.{EndsAsRxvt, IsBareKey};
 ghost use Rattle.termwiz_input_extended.specs.FormAnswers.{IsScanned};
 ghost use Rattle.termwiz_input_extended.specs.StringAnswers.{HasOpening, string_event};
-ghost use Rattle.termwiz_input_extended.specs.NextItems.{IsFormMatch, HasNoLongRow, IsNextItem, IsExtraAt, IsFormAt, IsRowMatch, IsPortsOwn, IsReported, IsScannedTo, IsSomeExtra};
+ghost use Rattle.termwiz_input_extended.specs.NextItems.{IsFormMatch, HasNoLongRow, IsNextItem, IsExtraAt, IsFormAt, IsRowMatch, IsPortsOwn, IsReadAfterEscape, IsReported, IsScannedTo, IsSomeExtra, LeavesRows};
 
 use crate::characters::is_control_key;
-use crate::form::{ESCAPE, FormAt, form_at, next_scan};
+use crate::form::{ESCAPE, FormAt, form_at, is_keypad_letter, next_scan};
 use crate::string::{OpeningAt, StringItem, StringManner, opening_at};
 use termwiz_extended_events::meanings::{Meaning, meaning_of, plain_report};
-use termwiz_extended_events::types::{PlainReport, Protocol, StringKind};
+use termwiz_extended_events::types::{PlainReport, Protocol, Reading, StringKind};
 use termwiz_input::input::{
     FrontReport, InputParser, begins_paste, follows_escape, mouse_report_at,
 };
@@ -64,13 +64,15 @@ pub(crate) enum NextItem<'k> {
     Control(u8),
     // A row of the sequence table that is read as its key.
     Key(&'k KeyEvent, usize),
-    // A form that is no mouse report: an extra sequence or, under `Protocol::Kitty`, a row of the sequence table.
+    // A form that is no mouse report: an extra sequence, or a row of the sequence table where not all rows are left to the port.
     Form(usize),
+    // ESC and a bare key of so many bytes.
+    AltForm(usize),
     // The opening of a string.
     String(StringKind, usize),
     // A mouse report, which the port finds there too.
     MouseReport(MouseEvent, usize),
-    // The Escape key before an extra sequence or a string.
+    // The Escape key before an extra sequence that is no bare key, or before a string.
     Escape,
     // The Escape key with ALT: two ESC before a third one.
     AltEscape,
@@ -94,68 +96,128 @@ fn is_table_row(parser: &InputParser, bytes: &[u8]) -> bool
     }
 }
 
-// Whether a form of this meaning is read as a report of a key or of the cursor's position, even if it is a row.
-fn is_reported(protocol: Protocol, meaning: &Meaning<'_>) -> bool
-    ensures { (form : List ℕ) → event_from meaning.now ≡ Some (event_of form) → IsTrue result ↔ IsReported protocol form }
+// Whether all rows of the sequence table are left to the port.
+fn leaves_rows(reading: Reading) -> bool
+    ensures { IsTrue result ↔ LeavesRows reading }
 {
-    match protocol {
-        Protocol::Legacy => false,
+    match reading.protocol {
+        Protocol::Legacy => reading.questions == 0,
+        Protocol::Kitty => false,
+    }
+}
+
+// Whether a form of this meaning isn't left to the port, even if it is a row.
+fn is_reported(reading: Reading, meaning: &Meaning<'_>) -> bool
+    ensures { (form : List ℕ) → event_from meaning.now ≡ Some (event_of form) → IsTrue result ↔ IsReported reading form }
+{
+    match reading.protocol {
+        Protocol::Legacy => reading.questions > 0 && meaning.is_position(),
         Protocol::Kitty => meaning.is_key_or_position(),
     }
 }
 
 // Whether a form that is no mouse report is an extra sequence.
-fn is_extra(parser: &InputParser, protocol: Protocol, form: &[u8], meaning: &Meaning<'_>) -> bool
-    requires form { IsForm form.now }
+fn is_extra(parser: &InputParser, reading: Reading, form: &[u8], meaning: &Meaning<'_>) -> bool
+    requires form { IsForm reading.x10_mouse form.now }
     requires no_mouse { (event : Mouse) → ¬ IsMouseReport form.now event }
     requires means { event_from meaning.now ≡ Some (event_of form.now) }
-    ensures { IsTrue result ↔ IsSomeExtra protocol form.now }
+    ensures { IsTrue result ↔ IsSomeExtra reading form.now }
 {
-    if is_reported(protocol, meaning) {
+    if is_reported(reading, meaning) {
         return true;
     }
     !is_table_row(parser, form)
 }
 
-// The same of a form whose meaning isn't asked for. Inlined, that meaning would have its place in the frame of every sequence.
-#[inline(never)]
-fn is_extra_form(parser: &InputParser, protocol: Protocol, form: &[u8]) -> bool
-    requires form { IsForm form.now }
-    requires no_mouse { (event : Mouse) → ¬ IsMouseReport form.now event }
-    ensures { IsTrue result ↔ IsSomeExtra protocol form.now }
+// Whether a form of this meaning is a key of the application keypad: ESC O and a letter.
+fn is_keypad_key(form: &[u8]) -> bool
+    ensures { IsTrue result ↔ IsKeypadKey form.now }
 {
-    is_extra(parser, protocol, form, &meaning_of(form))
+    match form {
+        [ESCAPE, b'O', letter] => is_keypad_letter(*letter),
+        _ => false,
+    }
 }
 
-// Whether the form of so many bytes at the front of a text, which has this meaning, is an extra sequence. Under `Protocol::Legacy` the text was
-// looked up before: the form is no row.
+// Whether a text ends with ^, @ or $, as the keys that rxvt-unicode sends with Ctrl or Shift.
+fn ends_as_rxvt(form: &[u8]) -> bool
+    ensures { IsTrue result ↔ EndsAsRxvt form.now }
+{
+    matches!(form.last(), Some(b'^' | b'@' | b'$'))
+}
+
+// Whether a text of this meaning is a bare key, to which ESC is joined.
+fn is_bare_key(parser: &InputParser, form: &[u8], meaning: &Meaning<'_>) -> bool
+    requires { event_from meaning.now ≡ Some (event_of form.now) }
+    ensures { IsTrue result ↔ IsBareKey form.now }
+{
+    if !meaning.is_key() {
+        return false;
+    }
+    if is_keypad_key(form) || ends_as_rxvt(form) {
+        return true;
+    }
+    is_table_row(parser, form)
+}
+
+// How a form that follows an ESC is read.
+#[derive(Clone, Copy)]
+enum AfterEscape {
+    // As a bare key, to which the ESC is joined.
+    Joined,
+    // As another extra sequence, before which the ESC is the Escape key.
+    Apart,
+    // As the port reads it.
+    OfPort,
+}
+
+// How a form that is no mouse report is read after an ESC. It isn't inlined, since its meaning would have its place in the frame of every
+// sequence.
+#[inline(never)]
+fn after_escape(parser: &InputParser, reading: Reading, form: &[u8]) -> AfterEscape
+    requires form { IsForm reading.x10_mouse form.now }
+    requires no_mouse { (event : Mouse) → ¬ IsMouseReport form.now event }
+    ensures { IsReadAfterEscape reading form.now result }
+{
+    let meaning = meaning_of(form);
+    if !is_extra(parser, reading, form, &meaning) {
+        AfterEscape::OfPort
+    } else if is_bare_key(parser, form, &meaning) {
+        AfterEscape::Joined
+    } else {
+        AfterEscape::Apart
+    }
+}
+
+// Whether the form of so many bytes at the front of a text, which has this meaning, is an extra sequence. Where all rows are left to the port the
+// text was looked up before: the form is no row.
 #[inline(always)]
 pub(crate) fn is_extra_at(
     parser: &InputParser,
-    protocol: Protocol,
+    reading: Reading,
     text: &[u8],
     len: usize,
     meaning: &Meaning<'_>,
 ) -> bool
-    requires form { IsFormAt protocol text.now len }
+    requires form { IsFormAt reading text.now len }
     requires means { event_from meaning.now ≡ Some (event_of (take len text.now)) }
-    ensures some { IsTrue result → IsExtraAt protocol text.now len }
-    ensures none { result ≡ false → (more : Bool) → IsPortsOwn protocol text.now more }
+    ensures some { IsTrue result → IsExtraAt reading text.now len }
+    ensures none { result ≡ false → (more : Bool) → IsPortsOwn reading text.now more }
 {
-    match protocol {
-        Protocol::Legacy => true,
-        Protocol::Kitty => is_extra(parser, protocol, &text[..len], meaning),
+    if leaves_rows(reading) {
+        return true;
     }
+    is_extra(parser, reading, &text[..len], meaning)
 }
 
 // The key report of the form of so many bytes at the front of a text, if it is read as one that says no more than a key and its manner. It
 // is a small value, from which the event is built once, and so it is quicker than a meaning. `None` decides nothing.
 #[inline(never)]
-pub(crate) fn plain_report_at(protocol: Protocol, text: &[u8], len: usize) -> Option<PlainReport>
-    requires { IsFormAt protocol text.now len }
-    ensures { IfSome result (λ report. IsExtraAt protocol text.now len × (event_of (take len text.now) ≡ KeyReported (plain_report report))) }
+pub(crate) fn plain_report_at(reading: Reading, text: &[u8], len: usize) -> Option<PlainReport>
+    requires { IsFormAt reading text.now len }
+    ensures { IfSome result (λ report. IsExtraAt reading text.now len × (event_of (take len text.now) ≡ KeyReported (plain_report report))) }
 {
-    match protocol {
+    match reading.protocol {
         Protocol::Legacy => None,
         Protocol::Kitty => plain_report(&text[..len]),
     }
@@ -176,16 +238,16 @@ fn match_opening(text: &[u8]) -> OpeningAt
 
 // What form is at the front of a text where no opening is. The bytes before `scanned` were looked at before.
 #[inline(always)]
-fn match_form(text: &[u8], scanned: usize) -> FormMatch
+fn match_form(text: &[u8], scanned: usize, x10_mouse: bool) -> FormMatch
     requires some { text.now ≢ [] }
     requires no_opening { HasOpening text.now OpeningAt.Absent }
     requires scanned { IsScanned text.now scanned }
-    ensures { IsFormMatch text.now result }
+    ensures { IsFormMatch x10_mouse text.now result }
 {
     match mouse_report_at(text) {
         FrontReport::Whole(..) => FormMatch::MouseReport,
         FrontReport::Begun => FormMatch::Unfinished(next_scan(text)),
-        FrontReport::Absent => match form_at(text, scanned) {
+        FrontReport::Absent => match form_at(text, scanned, x10_mouse) {
             FormAt::Whole(len) => FormMatch::Form(len),
             FormAt::Unfinished => FormMatch::Unfinished(next_scan(text)),
             FormAt::Absent => FormMatch::Absent,
@@ -195,15 +257,15 @@ fn match_form(text: &[u8], scanned: usize) -> FormMatch
 
 // What form or opening is at the front of a text that begins with ESC. The bytes before `scanned` were looked at before.
 #[inline(always)]
-fn match_front(text: &[u8], scanned: usize) -> FormMatch
+fn match_front(text: &[u8], scanned: usize, x10_mouse: bool) -> FormMatch
     requires escape { Begins ESC text.now }
     requires scanned { IsScanned text.now scanned }
-    ensures { IsFormMatch text.now result }
+    ensures { IsFormMatch x10_mouse text.now result }
 {
     match match_opening(text) {
         OpeningAt::Opening(..) => FormMatch::Opening,
         OpeningAt::Unfinished => FormMatch::Unfinished(0),
-        OpeningAt::Absent => match_form(text, scanned),
+        OpeningAt::Absent => match_form(text, scanned, x10_mouse),
     }
 }
 
@@ -226,22 +288,25 @@ pub(crate) fn string_meaning(item: StringItem, bytes: &[u8]) -> Meaning<'_>
 // What is at the front of a text that starts with ESC ESC, by what follows the first one.
 fn item_of_two_escapes<'k>(
     parser: &InputParser,
-    protocol: Protocol,
+    reading: Reading,
     after: &[u8],
     scanned: usize,
     maybe_more: bool,
 ) -> NextItem<'k>
     requires escape { Begins ESC after.now }
     requires scanned { IsScanned after.now scanned }
-    ensures { IsNextItem protocol (ESC ++ after.now) maybe_more result }
+    ensures { IsNextItem reading (ESC ++ after.now) maybe_more result }
 {
     // Before a third ESC the first two are a key, whatever comes.
     if let [_, ESCAPE, ..] = after {
         return NextItem::AltEscape;
     }
-    match match_front(after, scanned) {
-        FormMatch::Form(len) if is_extra_form(parser, protocol, &after[..len]) => NextItem::Escape,
-        FormMatch::Form(_) => NextItem::Usual,
+    match match_front(after, scanned, reading.x10_mouse) {
+        FormMatch::Form(len) => match after_escape(parser, reading, &after[..len]) {
+            AfterEscape::Joined => NextItem::AltForm(len),
+            AfterEscape::Apart => NextItem::Escape,
+            AfterEscape::OfPort => NextItem::Usual,
+        },
         FormMatch::Opening => NextItem::Escape,
         FormMatch::MouseReport => NextItem::Usual,
         FormMatch::Unfinished(place) if maybe_more => NextItem::Incomplete(1 + place),
@@ -252,15 +317,16 @@ fn item_of_two_escapes<'k>(
 
 // What is at the front of a text that begins with one ESC alone, and with no part of a mouse report: a form, or what the port finds.
 #[inline(always)]
-fn item_of_form<'k>(text: &[u8], scanned: usize, maybe_more: bool) -> NextItem<'k>
+fn item_of_form<'k>(text: &[u8], scanned: usize, x10_mouse: bool, maybe_more: bool) -> NextItem<'k>
     requires escape { Begins ESC text.now }
     requires one { ¬ Begins (ESC ++ ESC) text.now }
     requires no_mouse { HasNoPartInMouseReports text.now }
     requires no_opening { HasOpening text.now OpeningAt.Absent }
     requires scanned { IsScanned text.now scanned }
-    ensures { (protocol : Protocol) → (protocol ≡ Legacy → HasNoLongRow text.now) → IsNextItem protocol text.now maybe_more result }
+    ensures { (reading : Reading) → reading.x10_mouse ≡ x10_mouse → (LeavesRows reading → HasNoLongRow text.now)
+        → IsNextItem reading text.now maybe_more result }
 {
-    match form_at(text, scanned) {
+    match form_at(text, scanned, x10_mouse) {
         FormAt::Whole(len) => NextItem::Form(len),
         FormAt::Unfinished if maybe_more => NextItem::Incomplete(next_scan(text)),
         FormAt::Unfinished => NextItem::Usual,
@@ -274,6 +340,7 @@ fn item_of_short_row<'k>(
     text: &[u8],
     key: &'k KeyEvent,
     scanned: usize,
+    x10_mouse: bool,
     maybe_more: bool,
 ) -> NextItem<'k>
     requires escape { Begins ESC text.now }
@@ -283,35 +350,35 @@ fn item_of_short_row<'k>(
     requires scanned { IsScanned text.now scanned }
     requires row { IsItemAt text.now maybe_more (PortsKey key.now) 2 }
     requires no_row { HasNoLongRow text.now }
-    ensures { (protocol : Protocol) → IsNextItem protocol text.now maybe_more result }
+    ensures { (reading : Reading) → reading.x10_mouse ≡ x10_mouse → IsNextItem reading text.now maybe_more result }
 {
-    match item_of_form(text, scanned, maybe_more) {
+    match item_of_form(text, scanned, x10_mouse, maybe_more) {
         NextItem::Usual => NextItem::Key(key, 2),
         form => form,
     }
 }
 
-// Looks for a row of two or more bytes at the front of a text, under `Protocol::Legacy`.
+// Looks for a row of two or more bytes at the front of a text, where all rows are left to the port.
 #[inline(always)]
 fn match_row<'k>(
     parser: &'k InputParser,
-    protocol: Protocol,
+    reading: Reading,
     text: &[u8],
     maybe_more: bool,
 ) -> RowMatch<'k>
     requires { HasNoPartInMouseReports text.now }
-    ensures { IsRowMatch protocol text.now maybe_more result }
+    ensures { IsRowMatch reading text.now maybe_more result }
 {
-    match protocol {
-        Protocol::Legacy => match parser.lookup(text, maybe_more) {
-            Found::Exact(2, key) => RowMatch::Short(key),
-            Found::Exact(len, key) if len > 2 => RowMatch::Long(key, len),
-            Found::Exact(..) => RowMatch::Absent,
-            Found::Ambiguous(..) => RowMatch::Begun,
-            Found::NeedData => RowMatch::Absent,
-            Found::None => RowMatch::Absent,
-        },
-        Protocol::Kitty => RowMatch::Absent,
+    if !leaves_rows(reading) {
+        return RowMatch::Absent;
+    }
+    match parser.lookup(text, maybe_more) {
+        Found::Exact(2, key) => RowMatch::Short(key),
+        Found::Exact(len, key) if len > 2 => RowMatch::Long(key, len),
+        Found::Exact(..) => RowMatch::Absent,
+        Found::Ambiguous(..) => RowMatch::Begun,
+        Found::NeedData => RowMatch::Absent,
+        Found::None => RowMatch::Absent,
     }
 }
 
@@ -319,7 +386,7 @@ fn match_row<'k>(
 #[inline(always)]
 fn item_of_sequence<'k>(
     parser: &'k InputParser,
-    protocol: Protocol,
+    reading: Reading,
     text: &[u8],
     scanned: usize,
     maybe_more: bool,
@@ -328,18 +395,24 @@ fn item_of_sequence<'k>(
     requires one { ¬ Begins (ESC ++ ESC) text.now }
     requires no_opening { HasOpening text.now OpeningAt.Absent }
     requires scanned { IsScanned text.now scanned }
-    ensures { IsNextItem protocol text.now maybe_more result }
+    ensures { IsNextItem reading text.now maybe_more result }
 {
     match mouse_report_at(text) {
         FrontReport::Whole(event, len) => NextItem::MouseReport(event, len),
         FrontReport::Begun if maybe_more => NextItem::Incomplete(next_scan(text)),
         FrontReport::Begun => NextItem::Usual,
         FrontReport::Absent if begins_paste(text) => NextItem::Paste,
-        FrontReport::Absent => match match_row(parser, protocol, text, maybe_more) {
+        FrontReport::Absent => match match_row(parser, reading, text, maybe_more) {
             RowMatch::Long(key, len) => NextItem::Key(key, len),
-            RowMatch::Short(key) => item_of_short_row(text, key, scanned, maybe_more),
+            RowMatch::Short(key) => item_of_short_row(
+                text,
+                key,
+                scanned,
+                reading.x10_mouse,
+                maybe_more,
+            ),
             RowMatch::Begun => NextItem::Incomplete(0),
-            RowMatch::Absent => item_of_form(text, scanned, maybe_more),
+            RowMatch::Absent => item_of_form(text, scanned, reading.x10_mouse, maybe_more),
         },
     }
 }
@@ -348,7 +421,7 @@ fn item_of_sequence<'k>(
 #[inline(always)]
 fn item_of_one_escape<'k>(
     parser: &'k InputParser,
-    protocol: Protocol,
+    reading: Reading,
     text: &[u8],
     scanned: usize,
     maybe_more: bool,
@@ -356,13 +429,13 @@ fn item_of_one_escape<'k>(
     requires escape { Begins ESC text.now }
     requires one { ¬ Begins (ESC ++ ESC) text.now }
     requires scanned { IsScanned text.now scanned }
-    ensures { IsNextItem protocol text.now maybe_more result }
+    ensures { IsNextItem reading text.now maybe_more result }
 {
     match match_opening(text) {
         OpeningAt::Opening(kind, len) => NextItem::String(kind, len),
         OpeningAt::Unfinished if maybe_more => NextItem::Incomplete(0),
         OpeningAt::Unfinished => NextItem::Usual,
-        OpeningAt::Absent => item_of_sequence(parser, protocol, text, scanned, maybe_more),
+        OpeningAt::Absent => item_of_sequence(parser, reading, text, scanned, maybe_more),
     }
 }
 
@@ -370,7 +443,7 @@ fn item_of_one_escape<'k>(
 #[inline(always)]
 fn item_without_escape<'k>(text: &[u8]) -> NextItem<'k>
     requires { ¬ Begins ESC text.now }
-    ensures { (protocol : Protocol) (more : Bool) → IsNextItem protocol text.now more result }
+    ensures { (reading : Reading) (more : Bool) → IsNextItem reading text.now more result }
 {
     match text {
         [] => NextItem::Incomplete(0),
@@ -384,13 +457,13 @@ fn item_without_escape<'k>(text: &[u8]) -> NextItem<'k>
 #[inline(always)]
 pub(crate) fn next_item<'k>(
     parser: &'k InputParser,
-    protocol: Protocol,
+    reading: Reading,
     text: &[u8],
     scanned: usize,
     maybe_more: bool,
 ) -> NextItem<'k>
     requires { IsScannedTo text.now scanned }
-    ensures { IsNextItem protocol text.now maybe_more result }
+    ensures { IsNextItem reading text.now maybe_more result }
 {
     match follows_escape(text) {
         None => item_without_escape(text),
@@ -398,13 +471,13 @@ pub(crate) fn next_item<'k>(
             Some(_) => {
                 item_of_two_escapes(
                     parser,
-                    protocol,
+                    reading,
                     after,
                     scanned.saturating_sub(1),
                     maybe_more,
                 )
             }
-            None => item_of_one_escape(parser, protocol, text, scanned, maybe_more),
+            None => item_of_one_escape(parser, reading, text, scanned, maybe_more),
         },
     }
 }

@@ -5,6 +5,7 @@ ghost use Rattle.std.specs.Prelude.{◌≡◌, ◌⊎◌, ◌∷◌, [], List, �
 ghost use Rattle.termwiz_grammar.specs.WaitingKinds.{IsOpenPaste};
 ghost use Rattle.termwiz_input.specs.Time.{IsDue, noted};
 ghost use Rattle.termwiz_extended_events.specs.declared.types.ExtendedEvent.{ExtendedEvent as Event};
+ghost use Rattle.termwiz_extended_grammar.specs.Readings.{after_event, after_events};
 ghost use Rattle.termwiz_extended_grammar.specs.ExtendedGrammar.{Steps};
 ghost use Rattle.termwiz_input_extended.specs.EventCallbacks.{MayBeCalledOn, WasCalledOn};
 ghost use Rattle.termwiz_input_extended.specs.ExtendedExpiry.{Expires, FlushStep, IsLimitOf, IsSeen, limit_of_waiting};
@@ -32,14 +33,14 @@ fn limit(policy: &Policy, waiting: ExtendedWaiting, len: usize) -> Limit
 
 /// The limit of what a parser has buffered, once it emitted all events.
 pub fn limit_of(parser: &ExtendedParser, policy: &Policy) -> Limit
-    ensures { IsLimitOf policy.now parser.now.protocol parser.now.text result }
+    ensures { IsLimitOf policy.now parser.now.reading parser.now.text result }
 {
     limit(policy, parser.waiting(), parser.waiting_len())
 }
 
 /// What to tell a timer of a parser that emitted all events: whether bytes were fed, and an event was taken, since the last note.
 pub fn seen_of(parser: &ExtendedParser, policy: &Policy, fed: bool, taken: bool) -> Seen
-    ensures { IsSeen policy.now parser.now.protocol parser.now.text fed taken result }
+    ensures { IsSeen policy.now parser.now.reading parser.now.text fed taken result }
 {
     Seen {
         limit: limit_of(parser, policy),
@@ -61,16 +62,16 @@ pub fn expire<F: FnMut(ExtendedEvent)>(
     callback: &mut F,
 ) -> Result<(), AllocError>
     requires paste { (event : Event) → IsPasteEvent parser.old.text event → MayBeCalledOn F.FnMut callback.old (event ∷ []) }
-    requires read { (events : List Event) (rest : List ℕ) → Steps parser.old.protocol parser.old.text false events rest
+    requires read { (events : List Event) (rest : List ℕ) → Steps parser.old.reading parser.old.text false events rest
         → MayBeCalledOn F.FnMut callback.old events }
     ensures ok { OnOk result ((more : Bool) × (events : List Event)
-        × Expires policy.now parser.old.protocol parser.old.text timer.old now more events parser.new.text timer.new
-        × WasCalledOn F.step callback.old events callback.new) }
-    ensures protocol { parser.new.protocol ≡ parser.old.protocol }
-    ensures refused { OnErr result ((events : List Event) × Steps parser.old.protocol parser.old.text false events parser.new.text
-        × WasCalledOn F.step callback.old events callback.new) }
-    ensures refused_item { OnErr result (IsOpenPaste parser.new.text ⊎ HasItemThatNeedsMemory parser.new.protocol parser.new.text false) }
-    ensures refused_timer { OnErr result ((seen : Seen) × IsSeen policy.now parser.old.protocol parser.old.text false false seen
+        × Expires policy.now parser.old.reading parser.old.text timer.old now more events parser.new.text timer.new
+        × (parser.new.reading ≡ after_events parser.old.reading events) × WasCalledOn F.step callback.old events callback.new) }
+    ensures protocol { parser.new.reading.protocol ≡ parser.old.reading.protocol }
+    ensures refused { OnErr result ((events : List Event) × Steps parser.old.reading parser.old.text false events parser.new.text
+        × (parser.new.reading ≡ after_events parser.old.reading events) × WasCalledOn F.step callback.old events callback.new) }
+    ensures refused_item { OnErr result (IsOpenPaste parser.new.text ⊎ HasItemThatNeedsMemory parser.new.reading parser.new.text false) }
+    ensures refused_timer { OnErr result ((seen : Seen) × IsSeen policy.now parser.old.reading parser.old.text false false seen
         × (timer.new ≡ noted timer.old now seen)) }
     ensures refused_due { OnErr result (IsDue timer.new now) }
 {
@@ -91,11 +92,12 @@ pub fn expire<F: FnMut(ExtendedEvent)>(
 /// Call it up to `None` when [`Timer::is_due`] is true, and then note that events were taken. If memory for an event is refused, the parser is
 /// unchanged, and the same call may be made again.
 pub fn next_flushed(parser: &mut ExtendedParser) -> Result<Option<ExtendedEvent>, AllocError>
-    ensures event { IfOk result (λ found. IfSome found (λ event. FlushStep parser.old.protocol parser.old.text event parser.new.text)) }
-    ensures protocol { parser.new.protocol ≡ parser.old.protocol }
+    ensures event { IfOk result (λ found. IfSome found (λ event. FlushStep parser.old.reading parser.old.text event parser.new.text)) }
+    ensures reading { IfOk result (λ found. IfSome found (λ event. parser.new.reading ≡ after_event parser.old.reading event)) }
+    ensures protocol { parser.new.reading.protocol ≡ parser.old.reading.protocol }
     ensures none { IfOk result (λ found. IfNone found (parser.old.text ≡ [])) }
     ensures none_same { IfOk result (λ found. IfNone found (parser.new ≡ parser.old)) }
-    ensures refused { OnErr result (IsOpenPaste parser.old.text ⊎ HasItemThatNeedsMemory parser.old.protocol parser.old.text false) }
+    ensures refused { OnErr result (IsOpenPaste parser.old.text ⊎ HasItemThatNeedsMemory parser.old.reading parser.old.text false) }
     ensures refused_same { OnErr result (parser.new ≡ parser.old) }
 {
     match parser.end_paste()? {

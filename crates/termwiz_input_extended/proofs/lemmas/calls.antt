@@ -1,1 +1,2 @@
 pub mod EventCalls
+pub mod ProtocolKept

@@ -48,7 +48,7 @@ no_final_within a tail t v f all e =
     final_not_inner v f (true_at_end IsInner a (v ∷ tail) parts).0
 
 -- a number of rxvt-unicode's and $ are inner bytes
-shifted_inner : (number : List ℕ) → IsRxvtNumber number → AllByRecursion IsInner (number ++ 36 ∷ [])
+pub shifted_inner : (number : List ℕ) → IsRxvtNumber number → AllByRecursion IsInner (number ++ 36 ∷ [])
 shifted_inner number is = all_append IsInner number (36 ∷ [])
     (true_from IsDigit IsInner (λ b d. (omega arith, omega arith)) number (rxvt_digits number is)) ((omega arith, omega arith), tt)
 

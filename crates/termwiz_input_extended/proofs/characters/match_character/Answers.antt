@@ -6,9 +6,9 @@ use Rattle.termwiz_input_extended.proofs.lemmas.fronts.KnownFronts.{high_charact
 use Rattle.termwiz_input_extended.proofs.characters.match_character.Goals as goal
 
 pub returns-in-len1-up : goal.returns-in-len1-up
-returns-in-len1-up c = λ protocol more.
+returns-in-len1-up c = λ reading more.
     let is = c.is_printable_ascii.ensures.0 c.if-is_printable_ascii.true in (
-      own_printable protocol c.args.text.now more is,
+      own_printable reading c.args.text.now more is,
       subst (λ x. IsItemAt c.args.text.now more (Key (plain x)) 1) (sym c.from.ensures)
           (printable_item c.args.text.now more (omega arith) is),
     )

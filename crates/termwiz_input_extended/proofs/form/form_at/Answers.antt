@@ -22,19 +22,19 @@ bracketed_at-requires c = scanned_control_at c.args.text.now c.args.scanned c.sa
     c.saturating_sub-scanned.ensures c.requires.scanned
 
 pub returns-in-91 : goal.returns-in-91
-returns-in-91 c = subst (λ z. HasForm z c.bracketed_at.result)
+returns-in-91 c = subst (λ z. HasForm c.args.x10_mouse z c.bracketed_at.result)
     (two_first c.args.text.now 27 91 (long_text c.args.text.now c.requires.some c.if-text-eq1.false)
     c.if-text-ne-ESCAPE.false c.in-91.is) c.bracketed_at.ensures
 
 pub returns-in-79 : goal.returns-in-79
-returns-in-79 c = subst (λ z. HasForm z c.keypad_key_at.result)
+returns-in-79 c = subst (λ z. HasForm c.args.x10_mouse z c.keypad_key_at.result)
     (two_first c.args.text.now 27 79 (long_text c.args.text.now c.requires.some c.if-text-eq1.false)
-    c.if-text-ne-ESCAPE.false c.in-79.is) c.keypad_key_at.ensures
+    c.if-text-ne-ESCAPE.false c.in-79.is) (c.keypad_key_at.ensures c.args.x10_mouse)
 
 pub returns-in-93 : goal.returns-in-93
-returns-in-93 c = subst (λ z. HasForm z c.title_at.result)
+returns-in-93 c = subst (λ z. HasForm c.args.x10_mouse z c.title_at.result)
     (two_first c.args.text.now 27 93 (long_text c.args.text.now c.requires.some c.if-text-eq1.false)
-    c.if-text-ne-ESCAPE.false c.in-93.is) c.title_at.ensures
+    c.if-text-ne-ESCAPE.false c.in-93.is) (c.title_at.ensures c.args.x10_mouse)
 
 pub returns-in_default : goal.returns-in_default
 returns-in_default c = no_second_at c.args.text.now (get_or c.args.text.now 1 0)

@@ -1,34 +1,42 @@
 -- Calls of a callback, one after another: a text's events are given one by one.
-use Rattle.std.proofs.Common.{ℕ, Bool, List, [], ◌∷◌, ◌++◌, refl}
+use Rattle.std.proofs.Common.{◌≡◌, ◌∙◌, ℕ, Bool, List, [], ◌∷◌, ◌++◌, refl, sym, ap, subst}
 use Rattle.std.specs.Fn.{Mut}
 use denote.Param.Members.{Called}
 use Rattle.termwiz_extended_events.specs.declared.types.ExtendedEvent.{ExtendedEvent}
-use Rattle.termwiz_extended_events.specs.declared.types.Protocol.{Protocol}
+use Rattle.termwiz_extended_events.specs.declared.types.Reading.{Reading}
 use Rattle.termwiz_extended_grammar.specs.ExtendedGrammar.{Steps}
-use Rattle.termwiz_extended_grammar.proofs.lemmas.cuts.ExtendedCuts.{join_steps}
+use Rattle.termwiz_extended_grammar.specs.Readings.{after_event, after_events}
+use Rattle.termwiz_extended_grammar.proofs.lemmas.cuts.ExtendedCuts.{after_both, join_steps}
 use Rattle.termwiz_input.proofs.lemmas.pieces.CallSequence.{FoldsTo-append}
+use Rattle.termwiz_input_extended.specs.Buffered.{Buffered}
 use Rattle.termwiz_input_extended.specs.EventCallbacks.{MayBeCalledOn, WasCalledOn}
 
-module _ {F : Type 0} (g : Mut F (ExtendedEvent × Unit {0}) (Unit {0})) (protocol : Protocol) (more : Bool) where
-  -- the callback was called on the events from one text to another
-  abbrev pub WasGiven : List ℕ → F → List ℕ → F → Type 0
-  WasGiven T first U now = (events : List ExtendedEvent) × Steps protocol T more events U
+module _ {F : Type 0} (g : Mut F (ExtendedEvent × Unit {0}) (Unit {0})) (more : Bool) where
+  -- the callback was called on the events between two states of a parser
+  abbrev pub WasGiven : Buffered → F → Buffered → F → Type 0
+  WasGiven start first here now = (events : List ExtendedEvent) × Steps start.reading start.text more events here.text
+      × (here.reading ≡ after_events start.reading events)
       × WasCalledOn (λ before event done after. Called g before (event, done) tt after) first events now
 
   -- the callback may be called on all events of a text
-  abbrev pub MayBeGiven : List ℕ → F → Type 0
-  MayBeGiven U now = (events : List ExtendedEvent) (rest : List ℕ) → Steps protocol U more events rest → MayBeCalledOn g now events
+  abbrev pub MayBeGiven : Buffered → F → Type 0
+  MayBeGiven here now = (events : List ExtendedEvent) (rest : List ℕ) → Steps here.reading here.text more events rest
+      → MayBeCalledOn g now events
 
-  pub given_one_more : (T : List ℕ) (first : F) (U : List ℕ) (now : F) (event : ExtendedEvent) (V : List ℕ) (next : F)
-      → WasGiven T first U now → Steps protocol U more (event ∷ []) V → Called g now (event, tt) tt next
-      → WasGiven T first V next
-  given_one_more T first U now event V next (events, steps, calls) step called = (
+  pub given_one_more : (start : Buffered) (first : F) (here : Buffered) (now : F) (event : ExtendedEvent) (left : Buffered) (next : F)
+      → WasGiven start first here now → Steps here.reading here.text more (event ∷ []) left.text
+      → left.reading ≡ after_event here.reading event → Called g now (event, tt) tt next → WasGiven start first left next
+  given_one_more start first here now event left next (events, steps, read, calls) step reading called = (
     events ++ event ∷ [],
-    join_steps protocol events (event ∷ []) T U V more steps step,
+    join_steps start.reading events (event ∷ []) start.text here.text left.text more steps
+        (subst (λ (r : Reading). Steps r here.text more (event ∷ []) left.text) read step),
+    reading ∙ ap (λ (r : Reading). after_event r event) read ∙ sym (after_both start.reading events (event ∷ [])),
     FoldsTo-append _ first events now (event ∷ []) next calls (next, called, refl),
   )
 
-  pub may_give_more : (U : List ℕ) (now : F) (event : ExtendedEvent) (V : List ℕ) (next : F)
-      → MayBeGiven U now → Steps protocol U more (event ∷ []) V → Called g now (event, tt) tt next → MayBeGiven V next
-  may_give_more U now event V next may step called events rest steps =
-      (may (event ∷ events) rest (join_steps protocol (event ∷ []) events U V rest more step steps)).1 tt next called
+  pub may_give_more : (here : Buffered) (now : F) (event : ExtendedEvent) (left : Buffered) (next : F)
+      → MayBeGiven here now → Steps here.reading here.text more (event ∷ []) left.text
+      → left.reading ≡ after_event here.reading event → Called g now (event, tt) tt next → MayBeGiven left next
+  may_give_more here now event left next may step reading called events rest steps =
+      (may (event ∷ events) rest (join_steps here.reading (event ∷ []) events here.text left.text rest more step
+      (subst (λ (r : Reading). Steps r left.text more events rest) reading steps))).1 tt next called

@@ -1,5 +1,5 @@
 -- What is at the front of a text, from a form, from a completion, or from the want of both.
-use Rattle.std.proofs.Common.{◌≡◌, ◌≢◌, inl, ℕ, suc, ◌-◌, ◌<◌, ◌≤◌, List, [], ◌∷◌, ◌++◌, length, take, drop, get_or, refl, sym, ap, ◌∙◌, subst, arith, append_assoc, append-nil, length-append, take-append-drop, Some, None, take-take}
+use Rattle.std.proofs.Common.{◌≡◌, ◌≢◌, inl, ℕ, suc, ◌-◌, ◌<◌, ◌≤◌, Bool, List, [], ◌∷◌, ◌++◌, length, take, drop, get_or, refl, sym, ap, ◌∙◌, subst, arith, append_assoc, append-nil, length-append, take-append-drop, Some, None, take-take}
 use Rattle.std.specs.List.{slice_get}
 use Rattle.std.proofs.lemmas.List.{take_all, take_rest}
 use Rattle.std.specs.List.{AllByRecursion}
@@ -10,23 +10,23 @@ use Rattle.termwiz_extended_grammar.proofs.lemmas.forms.FormEnds.{mark_ends}
 use Rattle.termwiz_input_extended.specs.declared.form.FormAt.TheVariants.{Whole, Unfinished, Absent}
 use Rattle.termwiz_input_extended.specs.FormAnswers.{HasForm}
 
-pub whole_front : (text rest : List ℕ) (len : ℕ) → len ≡ length text → IsForm text → HasForm (text ++ rest) (Whole len)
-whole_front text rest len e f = (
+pub whole_front : {x10_mouse : Bool} (text rest : List ℕ) (len : ℕ) → len ≡ length text → IsForm x10_mouse text → HasForm x10_mouse (text ++ rest) (Whole len)
+whole_front {x10_mouse = x10_mouse} text rest len e f = (
   omega (arith, e, length-append text rest),
-  subst IsForm (sym (ap (λ n. take n (text ++ rest)) e ∙ take-append_seam text rest)) f,
+  subst (IsForm x10_mouse) (sym (ap (λ n. take n (text ++ rest)) e ∙ take-append_seam text rest)) f,
 )
 
 -- what properly begins a form doesn't begin with one
-pub unfinished_front : (u c : List ℕ) → c ≢ [] → IsForm (u ++ c) → HasForm u Unfinished
-unfinished_front u c n f = (
+pub unfinished_front : {x10_mouse : Bool} (u c : List ℕ) → c ≢ [] → IsForm x10_mouse (u ++ c) → HasForm x10_mouse u Unfinished
+unfinished_front {x10_mouse = x10_mouse} u c n f = (
   λ text is b.
-      let none = mark_ends text (b.0 ++ c) (inl is) (inl (subst IsForm (ap (λ z. z ++ c) b.1 ∙ append_assoc text b.0 c) f)) in
+      let none = mark_ends text (b.0 ++ c) (inl is) (inl (subst (IsForm x10_mouse) (ap (λ z. z ++ c) b.1 ∙ append_assoc text b.0 c) f)) in
       append-some b.0 c n none,
   record { tail = c; longer = n; is_form = f },
 )
 
 -- where no text that begins like u begins with a form
-pub absent_front : (u : List ℕ) → ((text x y : List ℕ) → IsForm text → text ++ x ≡ u ++ y → ⊥) → HasForm u Absent
+pub absent_front : {x10_mouse : Bool} (u : List ℕ) → ((text x y : List ℕ) → IsForm x10_mouse text → text ++ x ≡ u ++ y → ⊥) → HasForm x10_mouse u Absent
 absent_front u none = (
   λ text is b. none text b.0 [] is (sym b.1 ∙ sym (append-nil u)),
   λ h. none (u ++ h.tail) [] h.tail h.is_form (append-nil (u ++ h.tail)),

@@ -1,11 +1,12 @@
 -- Bytes that were looked at before.
-use Rattle.std.proofs.Common.{◌≡◌, ◌≢◌, ℕ, ◌+◌, ◌-◌, ◌<◌, ◌≤◌, List, [], ◌∷◌, ◌++◌, length, take, drop, get_or, sym, ap, ◌∙◌, subst, arith, append_assoc, append-nil}
+use Rattle.std.proofs.Common.{◌≡◌, ◌≢◌, ℕ, ◌+◌, ◌-◌, ◌<◌, ◌≤◌, Bool, List, [], ◌∷◌, ◌++◌, length, take, drop, get_or, sym, ap, ◌∙◌, subst, arith, append_assoc, append-nil}
 use Rattle.std.proofs.lemmas.List.{take-append-le}
 use Rattle.std.specs.List.{AllByRecursion}
-use Rattle.termwiz_keymap.proofs.lemmas.lists.CommonPrefixes.{append-some}
+use Rattle.termwiz_keymap.proofs.lemmas.lists.CommonPrefixes.{append-some, true_from}
+use Rattle.termwiz_grammar.specs.MouseReports.{IsDigit}
 use Rattle.termwiz_extended_grammar.specs.Forms.{IsInner, IsControl, IsForm, IsUnfinishedForm}
-use Rattle.termwiz_extended_grammar.specs.Forms.IsForm.{control, x10_report, console_key, keypad_key, title}
-use Rattle.termwiz_extended_grammar.proofs.lemmas.forms.FormBytes.{introducer_shape}
+use Rattle.termwiz_extended_grammar.specs.Forms.IsForm.{control, x10_report, console_key, keypad_key, modified_key, shifted_key, title}
+use Rattle.termwiz_extended_grammar.proofs.lemmas.forms.FormBytes.{introducer_shape, rxvt_digits}
 use Rattle.termwiz_extended_grammar.proofs.lemmas.items.StringItems.{string_append}
 use Rattle.termwiz_input_extended.specs.FormAnswers.{IsScanned}
 use Rattle.termwiz_input_extended.specs.FormAnswers.IsScanned.{at_start, in_control, in_string}
@@ -54,22 +55,28 @@ front_true P (c ∷ r) tail (b ∷ a) v all some e =
     (subst P (let q : b ≡ c = cc (e) in q) all.0, front_true P r tail a v all.1 some (cc (e)))
 
 -- where to look on in an unfinished control sequence
-pub scanned_unfinished : (u : List ℕ) → 2 < length u → get_or u 1 0 ≡ 91 → IsInner (get_or u 2 0) → IsUnfinishedForm u
+pub scanned_unfinished : {x10_mouse : Bool} (u : List ℕ) → 2 < length u → get_or u 1 0 ≡ 91 → IsInner (get_or u 2 0) → IsUnfinishedForm x10_mouse u
     → IsScanned u (length u - 1)
-scanned_unfinished [] l second third f = absurd (omega arith)
-scanned_unfinished (x ∷ []) l second third f = absurd (omega arith)
-scanned_unfinished (x ∷ y ∷ []) l second third f = absurd (omega arith)
-scanned_unfinished (x ∷ y ∷ c ∷ r) l second third f = go f.is_form
+scanned_unfinished {x10_mouse = x10_mouse} [] l second third f = absurd (omega arith)
+scanned_unfinished {x10_mouse = x10_mouse} (x ∷ []) l second third f = absurd (omega arith)
+scanned_unfinished {x10_mouse = x10_mouse} (x ∷ y ∷ []) l second third f = absurd (omega arith)
+scanned_unfinished {x10_mouse = x10_mouse} (x ∷ y ∷ c ∷ r) l second third f = go f.is_form
   where
-    by_control : IsControl (x ∷ y ∷ c ∷ (r ++ f.tail)) → IsScanned (x ∷ y ∷ c ∷ r) (length (x ∷ y ∷ c ∷ r) - 1)
+    by_control : IsControl x10_mouse (x ∷ y ∷ c ∷ (r ++ f.tail)) → IsScanned (x ∷ y ∷ c ∷ r) (length (x ∷ y ∷ c ∷ r) - 1)
     by_control g =
         let each = front_true IsInner (c ∷ r) f.tail g.inner g.last g.each f.longer (cc (g.form)) in
         let first : x ≡ 27 = cc (g.form) in
         in_control (c ∷ r) [] (cc (first, second, append-nil r)) each (omega arith)
 
-    go : IsForm (x ∷ y ∷ c ∷ (r ++ f.tail)) → IsScanned (x ∷ y ∷ c ∷ r) (length (x ∷ y ∷ c ∷ r) - 1)
+    go : IsForm x10_mouse (x ∷ y ∷ c ∷ (r ++ f.tail)) → IsScanned (x ∷ y ∷ c ∷ r) (length (x ∷ y ∷ c ∷ r) - 1)
     go (control g) = by_control g
-    go (x10_report g) = absurd (let same : c ≡ 77 = cc (g.form) in omega arith)
+    go (x10_report on g) = absurd (let same : c ≡ 77 = cc (g.form) in omega arith)
     go (console_key g) = absurd (let same : c ≡ 91 = cc (g.form) in omega arith)
     go (keypad_key g) = absurd (let same : y ≡ 79 = cc (g.form) in omega arith)
+    go (modified_key g) = absurd (let same : y ≡ 79 = cc (g.form) in omega arith)
+    go (shifted_key g) =
+        let each = front_true IsInner (c ∷ r) f.tail g.number 36
+        (true_from IsDigit IsInner (λ b d. (omega arith, omega arith)) g.number (rxvt_digits g.number g.number_is)) f.longer (cc (g.form)) in
+        let first : x ≡ 27 = cc (g.form) in
+        in_control (c ∷ r) [] (cc (first, second, append-nil r)) each (omega arith)
     go (title g) = absurd (let same : y ≡ 93 = cc (g.form) in omega arith)

@@ -4,7 +4,7 @@ use Rattle.termwiz_keys.specs.declared.types.KeyEvent.{KeyEvent}
 use Rattle.termwiz_keys.specs.declared.types.InputEvent.TheVariants.{Key}
 use Rattle.termwiz_grammar.specs.Table.{rows as table_rows}
 use Rattle.termwiz_input.specs.Matches.{IsItemAt}
-use Rattle.termwiz_extended_events.specs.declared.types.Protocol.{Protocol}
+use Rattle.termwiz_extended_events.specs.declared.types.Reading.{Reading}
 use Rattle.termwiz_input_extended.specs.NextItems.{IsControlKey, IsPortsOwn}
 use Rattle.termwiz_input_extended.proofs.lemmas.fronts.ControlCharacters.{one_byte_item}
 use Rattle.termwiz_input_extended.proofs.lemmas.fronts.FrontItems.{own_without_escape}
@@ -15,10 +15,10 @@ no_escape byte is e = ⊎_elim
     (λ (h : byte ≡ 127). omega (arith, e, h))
     is
 
-pub control_own : (protocol : Protocol) (u : List ℕ) (more : Bool) (byte : ℕ) (rest : List ℕ) → u ≡ byte ∷ rest → IsControlKey byte
-    → IsPortsOwn protocol u more
-control_own protocol u more byte rest split is =
-    own_without_escape protocol u more (λ b. let first : byte ≡ 27 = cc (split, b.1) in no_escape byte is first)
+pub control_own : (reading : Reading) (u : List ℕ) (more : Bool) (byte : ℕ) (rest : List ℕ) → u ≡ byte ∷ rest → IsControlKey byte
+    → IsPortsOwn reading u more
+control_own reading u more byte rest split is =
+    own_without_escape reading u more (λ b. let first : byte ≡ 27 = cc (split, b.1) in no_escape byte is first)
 
 pub control_item : (u : List ℕ) (more : Bool) (byte : ℕ) (rest : List ℕ) (key : KeyEvent) → u ≡ byte ∷ rest → IsControlKey byte
     → Contains table_rows (byte ∷ [], key) → IsItemAt u more (Key key) 1

@@ -1,35 +1,41 @@
 -- What a call answers that consumes the item at the front.
-use Rattle.std.proofs.Common.{◌≡◌, ℕ, Bool, List, [], ◌∷◌, ap, ◌∙◌, Option, Some, None, Result, Ok, Err, IsErr}
+use Rattle.std.proofs.Common.{◌≡◌, ◌+◌, ◌-◌, ℕ, suc, Bool, List, [], ◌∷◌, ◌++◌, take, drop, refl, sym, ap, ◌∙◌, take-append-drop, Option, Some, None, arith, Result, Ok, Err, IsErr}
 use Rattle.std.specs.Prelude.{IfOk, IfSome, OnErr}
+use Rattle.termwiz_keys.specs.Introducers.{ESC}
 use Rattle.termwiz_extended_events.specs.declared.types.ExtendedEvent.{ExtendedEvent}
-use Rattle.termwiz_extended_events.specs.declared.types.Protocol.{Protocol}
-use Rattle.termwiz_extended_grammar.specs.ExtendedGrammar.{IsRest, Steps}
+use Rattle.termwiz_extended_events.specs.declared.types.ExtendedEvent.TheVariants.{Input, Csi, Osc, Dcs, Apc, Key, FocusGained, FocusLost, CursorPosition, Resize, KeyboardFlags, SideButton, StringPart, StringCut}
+use Rattle.termwiz_extended_events.specs.declared.types.Reading.{Reading}
+use Rattle.termwiz_extended_events.specs.Meanings.{event_of, IsKey, NeedsMemory}
+use Rattle.termwiz_extended_grammar.specs.ExtraSequences.{with_alt}
+use Rattle.termwiz_extended_grammar.specs.Readings.{after_event}
+use Rattle.termwiz_extended_grammar.specs.ExtendedGrammar.{HasItem, IsRest, Steps}
+use Rattle.termwiz_extended_grammar.specs.ExtendedGrammar.Stands.{alt_key}
 use Rattle.termwiz_input_extended.specs.Buffered.{Buffered}
-use Rattle.termwiz_input_extended.specs.NextItems.{Emits, HasItemThatNeedsMemory}
+use Rattle.termwiz_input_extended.specs.NextItems.{Emits, HasItemThatNeedsMemory, IsBareKeyAt}
 
 -- a parser by its parts
-abbrev pub buffered : Protocol → List ℕ → Buffered
-buffered protocol text = record { protocol = protocol; text = text }
+abbrev pub buffered : Reading → List ℕ → Buffered
+buffered reading text = record { reading = reading; text = text }
 
 -- the same text, after a call that changed nothing
-pub still_buffered : (protocol : Protocol) (t u : List ℕ) (old : Buffered) → t ≡ u → buffered protocol u ≡ old → buffered protocol t ≡ old
-still_buffered protocol t u old same is = ap (λ x. buffered protocol x) same ∙ is
+pub still_buffered : (reading : Reading) (t u : List ℕ) (old : Buffered) → t ≡ u → buffered reading u ≡ old → buffered reading t ≡ old
+still_buffered reading t u old same is = ap (λ x. buffered reading x) same ∙ is
 
 module _ {F : Type 0} (old new : Buffered) (more : Bool) where
-  pub emits_event : (event : ExtendedEvent) → Steps old.protocol old.text more (event ∷ []) new.text → new.protocol ≡ old.protocol
-      → Emits {F = F} old more new (Ok (Some event))
-  emits_event event steps protocol =
-      record { event = steps; protocol = protocol; none = tt; none_same = tt; refused = tt; refused_same = tt }
+  pub emits_event : (event : ExtendedEvent) → Steps old.reading old.text more (event ∷ []) new.text
+      → new.reading ≡ after_event old.reading event → Emits {F = F} old more new (Ok (Some event))
+  emits_event event steps reading =
+      record { event = steps; reading = reading; none = tt; none_same = tt; refused = tt; refused_same = tt }
 
-  pub emits_none : IsRest old.protocol old.text more → new ≡ old → Emits {F = F} old more new (Ok None)
+  pub emits_none : IsRest old.reading old.text more → new ≡ old → Emits {F = F} old more new (Ok None)
   emits_none rest same =
-      record { event = tt; protocol = ap (λ (b : Buffered). b.protocol) same; none = rest; none_same = same; refused = tt; refused_same = tt }
+      record { event = tt; reading = tt; none = rest; none_same = same; refused = tt; refused_same = tt }
 
-  pub emits_refused : (result : Result (Option ExtendedEvent) F) → IsErr result → HasItemThatNeedsMemory old.protocol old.text more
+  pub emits_refused : (result : Result (Option ExtendedEvent) F) → IsErr result → HasItemThatNeedsMemory old.reading old.text more
       → new ≡ old → Emits old more new result
   emits_refused (Ok found) is item same = absurd (cc (is))
   emits_refused (Err fault) is item same =
-      record { event = tt; protocol = ap (λ (b : Buffered). b.protocol) same; none = tt; none_same = tt; refused = item; refused_same = same }
+      record { event = tt; reading = tt; none = tt; none_same = tt; refused = item; refused_same = same }
 
 -- what follows from what a call answers holds of it too
 pub if_ok : {A F : Type 0} {P Q : A → Type 0} (result : Result A F) → ((x : A) → P x → Q x) → IfOk result P → IfOk result Q
@@ -48,3 +54,71 @@ if_refused (Err fault) then p = then p
 pub on_refusal : {A F : Type 0} {P : Type 0} (result : Result A F) → P → OnErr result P
 on_refusal (Ok value) p = tt
 on_refusal (Err fault) p = p
+
+-- a bare key with ALT leaves the reading as it is, and needs memory if the key does
+pub alt_reading : (reading : Reading) (event : ExtendedEvent) → IsKey event → after_event reading (with_alt event) ≡ reading
+alt_reading reading (Key report) is = refl
+alt_reading reading (Input event) is = absurd is
+alt_reading reading FocusGained is = absurd is
+alt_reading reading FocusLost is = absurd is
+alt_reading reading (CursorPosition row column) is = absurd is
+alt_reading reading (Resize r c h w) is = absurd is
+alt_reading reading (KeyboardFlags flags) is = absurd is
+alt_reading reading (SideButton button) is = absurd is
+alt_reading reading (Csi bytes) is = absurd is
+alt_reading reading (Osc bytes) is = absurd is
+alt_reading reading (Dcs bytes) is = absurd is
+alt_reading reading (Apc bytes) is = absurd is
+alt_reading reading (StringPart kind bytes) is = absurd is
+alt_reading reading (StringCut kind bytes) is = absurd is
+
+alt_needs : (event : ExtendedEvent) → IsKey event → NeedsMemory event → NeedsMemory (with_alt event)
+alt_needs (Key report) is needs = needs
+alt_needs (Input event) is needs = absurd is
+alt_needs FocusGained is needs = absurd is
+alt_needs FocusLost is needs = absurd is
+alt_needs (CursorPosition row column) is needs = absurd is
+alt_needs (Resize r c h w) is needs = absurd is
+alt_needs (KeyboardFlags flags) is needs = absurd is
+alt_needs (SideButton button) is needs = absurd is
+alt_needs (Csi bytes) is needs = absurd is
+alt_needs (Osc bytes) is needs = absurd is
+alt_needs (Dcs bytes) is needs = absurd is
+alt_needs (Apc bytes) is needs = absurd is
+alt_needs (StringPart kind bytes) is needs = absurd is
+alt_needs (StringCut kind bytes) is needs = absurd is
+
+-- the bytes after the ESC
+pub after_escape_bytes : (t u v : List ℕ) (len : ℕ) → t ≡ u → u ≡ ESC ++ v → take (1 + len - 1) (drop 1 t) ≡ take len v
+after_escape_bytes t u v len same split =
+    ap (λ x. take (1 + len - 1) (drop 1 x)) (same ∙ split) ∙ ap (λ n. take n v) (let all : 1 + len - 1 ≡ len = omega arith in all)
+
+-- ESC and a bare key are one step, and need memory if the key does
+module _ (reading : Reading) (u v : List ℕ) (len : ℕ) (f : Bool) (split : u ≡ ESC ++ v) (is : IsBareKeyAt reading v len) where
+  alt_split : u ≡ ESC ++ (take len v ++ drop len v)
+  alt_split = split ∙ ap (λ x. ESC ++ x) (sym (take-append-drop len v))
+
+  alt_left : drop len v ≡ drop (1 + len) u
+  alt_left = sym (ap (λ x. drop (suc len) x) split) ∙ ap (λ n. drop n u) (let one : suc len ≡ 1 + len = omega arith in one)
+
+  pub alt_step : (made : ExtendedEvent) → made ≡ with_alt (event_of (take len v)) → Steps reading u f (made ∷ []) (drop (1 + len) u)
+  alt_step made means = (
+    drop len v,
+    rw means (alt_key (take len v) (drop len v) (event_of (take len v)) is.0.1 is.1 alt_split),
+    alt_left,
+  )
+
+  pub alt_refused : NeedsMemory (event_of (take len v)) → HasItemThatNeedsMemory reading u f
+  alt_refused needs = record {
+    left = drop len v;
+    event = with_alt (event_of (take len v));
+    stands = alt_key (take len v) (drop len v) (event_of (take len v)) is.0.1 is.1 alt_split;
+    needs = alt_needs (event_of (take len v)) is.1.is_key needs;
+  }
+
+  pub alt_has_item : HasItem reading u f
+  alt_has_item = (
+    drop len v,
+    with_alt (event_of (take len v)),
+    alt_key (take len v) (drop len v) (event_of (take len v)) is.0.1 is.1 alt_split,
+  )

@@ -21,15 +21,15 @@ use Rattle.termwiz_input.proofs.lemmas.heads.StartsNoSequence.{apart_from_sequen
 use Rattle.termwiz_input.proofs.lemmas.items.ItemByHead.{alt_row_stands, character_stands, row_stands}
 use Rattle.termwiz_input.proofs.lemmas.items.PrintableAscii.{printable_run}
 use Rattle.termwiz_extended_events.specs.declared.types.ExtendedEvent.{ExtendedEvent}
-use Rattle.termwiz_extended_events.specs.declared.types.ExtendedEvent.TheVariants.{Input, Csi}
-use Rattle.termwiz_extended_events.specs.declared.types.Protocol.{Protocol}
-use Rattle.termwiz_extended_events.specs.declared.types.Protocol.TheVariants.{Legacy, Kitty}
-use Rattle.termwiz_extended_events.specs.Meanings.{event_of, IsKeyOrPosition}
-use Rattle.termwiz_extended_events.proofs.Examples.{written_out}
+use Rattle.termwiz_extended_events.specs.declared.types.ExtendedEvent.TheVariants.{Input}
+use Rattle.termwiz_extended_events.specs.declared.types.Reading.{Reading}
+use Rattle.termwiz_extended_events.specs.declared.types.Protocol.TheVariants.{Legacy}
+use Rattle.termwiz_extended_events.specs.Meanings.{event_of}
 use Rattle.termwiz_extended_grammar.specs.Forms.{IsForm}
-use Rattle.termwiz_extended_grammar.specs.ExtraSequences.{IsExtra}
+use Rattle.termwiz_extended_grammar.specs.ExtraSequences.{IsExtra, Overrides}
 use Rattle.termwiz_extended_grammar.specs.Strings.{StartsWithOpening}
 use Rattle.termwiz_extended_grammar.specs.ExtendedGrammar.{BeginsExtended, StartsExtended, Steps}
+use Rattle.termwiz_extended_grammar.proofs.lemmas.cuts.PartsOfPastes.{start_not_extra}
 use Rattle.termwiz_extended_grammar.proofs.lemmas.forms.ExtraFacts.{completed_mark, mark_from_unfinished}
 use Rattle.termwiz_extended_grammar.proofs.lemmas.forms.FormBytes.{IsMark}
 use Rattle.termwiz_extended_grammar.proofs.lemmas.forms.FormEnds.{sequence_after_mark, mark_after_sequence}
@@ -39,7 +39,7 @@ use Rattle.termwiz_input_extended.proofs.lemmas.fronts.FrontItems.{not_two_escap
 use Rattle.termwiz_input_extended.proofs.lemmas.fronts.MouseForms.{report_escape, report_item, report_no_extra, report_not_unfinished, report_one}
 
 -- a sequence of more than two bytes properly begins no form and no opening
-long_ends : (y tail : List ℕ) (m : Meaning) → 2 < length y → IsSequence y m → tail ≢ [] → IsMark (y ++ tail) → ⊥
+long_ends : {x10_mouse : Bool} (y tail : List ℕ) (m : Meaning) → 2 < length y → IsSequence y m → tail ≢ [] → IsMark x10_mouse (y ++ tail) → ⊥
 long_ends y tail m long is some mark = ⊎_elim
     (λ (e : y ≡ ESC). omega (arith, ap length e))
     (λ (more : (y ≡ 27 ∷ 91 ∷ []) ⊎ ((y ≡ 27 ∷ 79 ∷ []) ⊎ (y ≡ 27 ∷ 80 ∷ []))). ⊎_elim
@@ -51,50 +51,41 @@ long_ends y tail m long is some mark = ⊎_elim
     more)
     (mark_after_sequence y tail m is some mark)
 
-module _ (protocol : Protocol) (u y : List ℕ) (m : Meaning) (long : 2 < length y) (is : IsSequence y m) (b : Begins y u) where
+module _ (reading : Reading) (u y : List ℕ) (m : Meaning) (long : 2 < length y) (is : IsSequence y m) (b : Begins y u) where
   -- the form at the front of a text that begins with such a sequence is the sequence
-  form_is : (text : List ℕ) → IsForm text → Begins text u → text ≡ y
+  form_is : (text : List ℕ) → IsForm reading.x10_mouse text → Begins text u → text ≡ y
   form_is text form c = go (overlap y b.0 text c.0 (sym c.1 ∙ b.1))
     where
       go : Overlaps y b.0 text c.0 → text ≡ y
       go (within [] e f) = e ∙ append-nil y
       go (within (x ∷ t) e f) =
-          absurd (long_ends y (x ∷ t) m long is (λ h. cc (h)) (inl (subst (λ z. IsForm z) e form)))
+          absurd (long_ends y (x ∷ t) m long is (λ h. cc (h)) (inl (subst (λ z. IsForm reading.x10_mouse z) e form)))
       go (past t n e f) = absurd (n (sequence_after_mark text t m (inl form) (subst (λ z. IsSequence z m) e is)))
 
   -- so the text is the port's own, unless the sequence is extra or an opening begins it
   pub own_by_sequence : (f : Bool) → Begins ESC u → (Begins (ESC ++ ESC) u → ⊥) → (StartsWithOpening u → ⊥)
-      → (((event : ExtendedEvent) × IsExtra protocol y event) → ⊥) → IsPortsOwn protocol u f
-  own_by_sequence f escape one no_opening never = own_after_escape protocol u f escape one none (λ comes. finished)
+      → (((event : ExtendedEvent) × IsExtra reading y event) → ⊥) → IsPortsOwn reading u f
+  own_by_sequence f escape one no_opening never = own_after_escape reading u f escape one none (λ comes. finished)
     where
-      none : StartsExtended protocol u → ⊥
+      none : StartsExtended reading u → ⊥
       none (inl h) = never
-          (h.event, subst (λ z. IsExtra protocol z h.event) (form_is h.text h.is_extra.is_form h.begins) h.is_extra)
+          (h.event, subst (λ z. IsExtra reading z h.event) (form_is h.text h.is_extra.is_form h.begins) h.is_extra)
       none (inr o) = no_opening o
 
-      finished : BeginsExtended protocol u → ⊥
+      finished : BeginsExtended reading u → ⊥
       finished h =
-          let c = completed_mark u (mark_from_unfinished protocol u h) in
+          let c = completed_mark u (mark_from_unfinished reading u h) in
           long_ends y (b.0 ++ c.0) m long is (append-some b.0 c.0 c.1)
-          (subst IsMark (ap (λ z. z ++ c.0) b.1 ∙ append_assoc y b.0 c.0) c.2)
+          (subst (IsMark reading.x10_mouse) (ap (λ z. z ++ c.0) b.1 ∙ append_assoc y b.0 c.0) c.2)
 
 -- no opening begins with ESC [
 no_opening_bracket : (u t : List ℕ) → u ≡ 27 ∷ 91 ∷ t → StartsWithOpening u → ⊥
 no_opening_bracket u t e o = no_opening_after 27 91 t (λ first second. omega arith) (subst StartsWithOpening e o)
 
--- the start of a paste reports no key and no position
-start_means : event_of START ≡ Csi (codes "200~")
-unfolding written_out
-start_means = refl
-
-start_not_extra : (protocol : Protocol) → ((event : ExtendedEvent) × IsExtra protocol START event) → ⊥
-start_not_extra Legacy h = h.1.is_free (Row start) start_is_sequence
-start_not_extra Kitty h = subst IsKeyOrPosition start_means (h.1.is_free (Row start) start_is_sequence).2
-
-pub own_start : (protocol : Protocol) (u : List ℕ) (f : Bool) → Begins START u → IsPortsOwn protocol u f
-own_start protocol u f b = own_by_sequence protocol u START (Row start) (omega arith) start_is_sequence b f
+pub own_start : (reading : Reading) (u : List ℕ) (f : Bool) → Begins START u → IsPortsOwn reading u f
+own_start reading u f b = own_by_sequence reading u START (Row start) (omega arith) start_is_sequence b f
     (codes "[200~" ++ b.0, b.1) (λ two. let second : ◌≡◌ {A = ℕ} 91 27 = cc (b.1, two.1) in omega arith)
-    (no_opening_bracket u (codes "200~" ++ b.0) b.1) (start_not_extra protocol)
+    (no_opening_bracket u (codes "200~" ++ b.0) b.1) (λ h. start_not_extra reading h.0 h.1)
 
 -- a character from SPACE to ~ at the front
 pub printable_item : (u : List ℕ) (f : Bool) → 0 < length u → IsPrintableAscii (get_or u 0 0)
@@ -102,8 +93,8 @@ pub printable_item : (u : List ℕ) (f : Bool) → 0 < length u → IsPrintableA
 printable_item [] f some is = absurd (omega arith)
 printable_item (b ∷ u) f some is = (printable_run (b ∷ u) 1 (omega arith) (is, tt) (omega arith)).first f
 
-pub own_printable : (protocol : Protocol) (u : List ℕ) (f : Bool) → IsPrintableAscii (get_or u 0 0) → IsPortsOwn protocol u f
-own_printable protocol u f is = own_without_escape protocol u f
+pub own_printable : (reading : Reading) (u : List ℕ) (f : Bool) → IsPrintableAscii (get_or u 0 0) → IsPortsOwn reading u f
+own_printable reading u f is = own_without_escape reading u f
     (λ b. let first : get_or u 0 0 ≡ 27 = ap (λ z. get_or z 0 0) b.1 in omega (arith, is.0))
 
 -- a character whose first byte is from 0x80 on, at the front
@@ -113,41 +104,43 @@ character_item u f c n some high is =
     let apart = apart_from_sequences u some (omega arith) (λ e. omega arith) in
     character_stands u f c n (character_closed u f c n (λ m. apart.finished) is) (character_front u c n apart.no_sequence is)
 
-pub own_high : (protocol : Protocol) (u : List ℕ) (f : Bool) → 0x80 ≤ slice_index_or u 0 0 → IsPortsOwn protocol u f
-own_high protocol u f high = own_without_escape protocol u f
+pub own_high : (reading : Reading) (u : List ℕ) (f : Bool) → 0x80 ≤ slice_index_or u 0 0 → IsPortsOwn reading u f
+own_high reading u f high = own_without_escape reading u f
     (λ b. let first : slice_index_or u 0 0 ≡ 27 = ap (λ z. slice_index_or z 0 0) b.1 in omega (arith, high))
 
 -- where the first byte is from 0x80 on, a character is an item
 pub high_character : (u : List ℕ) → 0 < length u → 0x80 ≤ slice_index_or u 0 0
-    → IfSome (character_of u) (λ found. (protocol : Protocol) (more : Bool)
-    → IsPortsOwn protocol u more × IsItemAt u more (Key (plain found.0)) found.1)
+    → IfSome (character_of u) (λ found. (reading : Reading) (more : Bool)
+    → IsPortsOwn reading u more × IsItemAt u more (Key (plain found.0)) found.1)
 high_character u some high = go (character_of u) refl
   where
     go : (found : Option (ℕ × ℕ)) → character_of u ≡ found
-        → IfSome found (λ found. (protocol : Protocol) (more : Bool)
-        → IsPortsOwn protocol u more × IsItemAt u more (Key (plain found.0)) found.1)
+        → IfSome found (λ found. (reading : Reading) (more : Bool)
+        → IsPortsOwn reading u more × IsItemAt u more (Key (plain found.0)) found.1)
     go None e = tt
-    go (Some (c, n)) e = λ protocol more. (own_high protocol u more high, character_item u more c n some high e)
+    go (Some (c, n)) e = λ reading more. (own_high reading u more high, character_item u more c n some high e)
 
 -- an item of the port's is one step
-pub item_step : (protocol : Protocol) (u : List ℕ) (event : InputEvent) (len : ℕ) (f : Bool) → IsPortsOwn protocol u f → IsItemAt u f event len
-    → Steps protocol u f (Input event ∷ []) (drop len u)
-item_step protocol u event len f own is =
-    (drop len u, own_item protocol u (take len u) (drop len u) event f own is.1 (sym (take-append-drop len u)), refl)
+pub item_step : (reading : Reading) (u : List ℕ) (event : InputEvent) (len : ℕ) (f : Bool) → IsPortsOwn reading u f → IsItemAt u f event len
+    → Steps reading u f (Input event ∷ []) (drop len u)
+item_step reading u event len f own is =
+    (drop len u, own_item reading u (take len u) (drop len u) event f own is.1 (sym (take-append-drop len u)), refl)
 
 -- a row of three or more bytes is the port's own under `Protocol::Legacy`, and an item
-module _ (protocol : Protocol) (u : List ℕ) (f : Bool) (key : KeyEvent) (len : ℕ) (is : IsLongRowAt protocol u f key len) where
+module _ (reading : Reading) (u : List ℕ) (f : Bool) (key : KeyEvent) (len : ℕ) (is : IsLongRowAt reading u f key len) where
   longer_than_two : 2 < length (take len u)
   longer_than_two = omega (arith, is.long, is.row.0, length-take-le len u is.row.0)
 
-  row_is_never_extra : (protocol : Protocol) → protocol ≡ Legacy → ((event : ExtendedEvent) × IsExtra protocol (take len u) event) → ⊥
+  row_is_never_extra : ((event : ExtendedEvent) × IsExtra reading (take len u) event) → ⊥
   unfolding IsSequence
-  row_is_never_extra Legacy e h = h.1.is_free (Row key) is.row.1.is_sequence
-  row_is_never_extra Kitty e h = cc (e)
+  row_is_never_extra h =
+      let open_question : Overrides Legacy reading.questions (event_of (take len u)) =
+      subst (λ p. Overrides p reading.questions (event_of (take len u))) is.port.0 (h.1.is_free (Row key) is.row.1.is_sequence).2 in
+      omega (arith, open_question.0, is.port.1)
 
-  pub long_row_own : Begins ESC u → (Begins (ESC ++ ESC) u → ⊥) → (StartsWithOpening u → ⊥) → IsPortsOwn protocol u f
-  long_row_own escape one no_opening = own_by_sequence protocol u (take len u) (Row key) longer_than_two is.row.1.is_sequence
-      is.row.1.begins f escape one no_opening (row_is_never_extra protocol is.port)
+  pub long_row_own : Begins ESC u → (Begins (ESC ++ ESC) u → ⊥) → (StartsWithOpening u → ⊥) → IsPortsOwn reading u f
+  long_row_own escape one no_opening = own_by_sequence reading u (take len u) (Row key) longer_than_two is.row.1.is_sequence
+      is.row.1.begins f escape one no_opening row_is_never_extra
 
   pub long_row_item : (Begins START u → ⊥) → IsItemAt u f (Key key) len
   long_row_item no_paste = row_stands u f key len is.closed is.row no_paste
@@ -159,31 +152,31 @@ short_row_item u f key is no_paste = row_stands u f key 2 is.closed is.row no_pa
     (λ e. let one : length (take 2 u) ≡ 1 = ap length e in absurd (omega (arith, one, is.row.0, length-take-le 2 u is.row.0)))
 
 -- a mouse report is one step
-pub mouse_report_step : (protocol : Protocol) (u : List ℕ) (event : MouseEvent) (len : ℕ) (f : Bool) → len ≤ length u
-    → IsMouseReport (take len u) event → Steps protocol u f (Input (Mouse event) ∷ []) (drop len u)
-mouse_report_step protocol u event len f inside is =
-    let own = own_after_escape protocol u f (report_escape protocol u len event is) (report_one protocol u len event is)
-    (report_no_extra protocol u len event is) (λ m. report_not_unfinished protocol u len event is) in
-    item_step protocol u (Mouse event) len f own (report_item protocol u len event is f inside)
+pub mouse_report_step : (reading : Reading) (u : List ℕ) (event : MouseEvent) (len : ℕ) (f : Bool) → len ≤ length u
+    → IsMouseReport (take len u) event → Steps reading u f (Input (Mouse event) ∷ []) (drop len u)
+mouse_report_step reading u event len f inside is =
+    let own = own_after_escape reading u f (report_escape reading u len event is) (report_one reading u len event is)
+    (report_no_extra reading u len event is) (λ m. report_not_unfinished reading u len event is) in
+    item_step reading u (Mouse event) len f own (report_item reading u len event is f inside)
 
 -- ESC ESC before a third ESC is the Escape key with ALT
-three_escapes : (protocol : Protocol) (u : List ℕ) (f : Bool)
-    → IsPortsOwn protocol (27 ∷ 27 ∷ 27 ∷ u) f × IsItemAt (27 ∷ 27 ∷ 27 ∷ u) f (Key (with_alt escape_key)) 2
-three_escapes protocol u f =
+three_escapes : (reading : Reading) (u : List ℕ) (f : Bool)
+    → IsPortsOwn reading (27 ∷ 27 ∷ 27 ∷ u) f × IsItemAt (27 ∷ 27 ∷ 27 ∷ u) f (Key (with_alt escape_key)) 2
+three_escapes reading u f =
     let here = lone_escape 27 (27 ∷ u) (λ h. omega (arith, h.0)) in
     let after = lone_escape 27 u (λ h. omega (arith, h.0)) in (
-      own_after_two_escapes protocol (27 ∷ 27 ∷ u) f (27 ∷ u, refl) (not_two_escapes protocol (27 ∷ u) (u, refl))
-          (λ m h. two_escapes_finished protocol (27 ∷ u) (u, refl) h),
+      own_after_two_escapes reading (27 ∷ 27 ∷ u) f (27 ∷ u, refl) (not_two_escapes reading (27 ∷ u) (u, refl))
+          (λ m h. two_escapes_finished reading (27 ∷ u) (u, refl) h),
       alt_row_stands (27 ∷ 27 ∷ u) f escape_key 1 (here.closed f) here.head (λ e. cc (e)) (after.closed f) (omega arith, after.head)
           (λ b. let second : ◌≡◌ {A = ℕ} 27 91 = cc (b.1) in omega arith),
     )
 
-pub escapes_front : (protocol : Protocol) (v : List ℕ) (f : Bool) → Begins ESC v → 1 < length v → slice_index_or v 1 0 ≡ 27
-    → IsPortsOwn protocol (27 ∷ v) f × IsItemAt (27 ∷ v) f (Key (with_alt escape_key)) 2
-escapes_front protocol [] f b long second = absurd (omega arith)
-escapes_front protocol (x ∷ []) f b long second = absurd (omega arith)
-escapes_front protocol (x ∷ y ∷ u) f b long second =
+pub escapes_front : (reading : Reading) (v : List ℕ) (f : Bool) → Begins ESC v → 1 < length v → slice_index_or v 1 0 ≡ 27
+    → IsPortsOwn reading (27 ∷ v) f × IsItemAt (27 ∷ v) f (Key (with_alt escape_key)) 2
+escapes_front reading [] f b long second = absurd (omega arith)
+escapes_front reading (x ∷ []) f b long second = absurd (omega arith)
+escapes_front reading (x ∷ y ∷ u) f b long second =
     let first : 27 ≡ x = cc (b.1) in
-    subst (λ z. IsPortsOwn protocol (27 ∷ z ∷ y ∷ u) f × IsItemAt (27 ∷ z ∷ y ∷ u) f (Key (with_alt escape_key)) 2) first
-    (subst (λ z. IsPortsOwn protocol (27 ∷ 27 ∷ z ∷ u) f × IsItemAt (27 ∷ 27 ∷ z ∷ u) f (Key (with_alt escape_key)) 2) (sym second)
-    (three_escapes protocol u f))
+    subst (λ z. IsPortsOwn reading (27 ∷ z ∷ y ∷ u) f × IsItemAt (27 ∷ z ∷ y ∷ u) f (Key (with_alt escape_key)) 2) first
+    (subst (λ z. IsPortsOwn reading (27 ∷ 27 ∷ z ∷ u) f × IsItemAt (27 ∷ 27 ∷ z ∷ u) f (Key (with_alt escape_key)) 2) (sym second)
+    (three_escapes reading u f))

@@ -10,9 +10,9 @@ use Rattle.termwiz_input_extended.specs.Buffered.{Buffered}
 use Rattle.termwiz_input_extended.specs.NextItems.{Emits}
 
 pub left_waits : {F : Type 0} (old new : Buffered) (more : Bool) (result : Result (Option ExtendedEvent) F)
-    → Emits old more new result → IfOk result (λ found. IfNone found (Waits new.protocol new.text more))
-left_waits old new more (Ok None) emits = subst (λ (b : Buffered). Waits b.protocol b.text more) (sym emits.none_same)
-    (waiting_shape old.protocol old.text more emits.none)
+    → Emits old more new result → IfOk result (λ found. IfNone found (Waits new.reading new.text more))
+left_waits old new more (Ok None) emits = subst (λ (b : Buffered). Waits b.reading b.text more) (sym emits.none_same)
+    (waiting_shape old.reading old.text more emits.none)
 left_waits old new more (Ok (Some event)) emits = tt
 left_waits old new more (Err fault) emits = tt
 
@@ -20,6 +20,6 @@ pub left_flushed : {F : Type 0} (old new : Buffered) (more : Bool) (result : Res
     → Emits old more new result → more ≡ false
     → IfOk result (λ found. IfNone found ((new.text ≡ []) ⊎ Begins START new.text))
 left_flushed old new more (Ok None) emits last = subst (λ t. (t ≡ []) ⊎ Begins START t)
-    (sym (ap (λ (b : Buffered). b.text) emits.none_same)) (rest_flushed old.protocol old.text more emits.none last)
+    (sym (ap (λ (b : Buffered). b.text) emits.none_same)) (rest_flushed old.reading old.text more emits.none last)
 left_flushed old new more (Ok (Some event)) emits last = tt
 left_flushed old new more (Err fault) emits last = tt

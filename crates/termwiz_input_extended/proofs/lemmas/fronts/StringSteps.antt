@@ -4,13 +4,17 @@ use Rattle.std.proofs.lemmas.List.{drop-take}
 use Rattle.termwiz_keymap.specs.Bytes.{Begins}
 use Rattle.termwiz_keys.specs.Introducers.{ESC}
 use Rattle.termwiz_extended_events.specs.declared.types.ExtendedEvent.{ExtendedEvent}
-use Rattle.termwiz_extended_events.specs.declared.types.Protocol.{Protocol}
+use Rattle.termwiz_extended_events.specs.declared.types.Reading.{Reading}
 use Rattle.termwiz_extended_events.specs.declared.types.StringKind.{StringKind}
+use Rattle.termwiz_extended_events.specs.declared.types.StringKind.TheVariants as kinds
 use Rattle.termwiz_extended_events.specs.Meanings.{NeedsMemory}
+use Rattle.termwiz_extended_grammar.specs.Readings.{after_event}
 use Rattle.termwiz_extended_grammar.specs.ExtendedGrammar.{Steps}
 use Rattle.termwiz_extended_grammar.specs.ExtendedGrammar.Stands.{string}
 use Rattle.termwiz_extended_grammar.proofs.lemmas.forms.FormBytes.{introducer_shape}
 use Rattle.termwiz_input_extended.specs.declared.string.StringItem.{StringItem}
+use Rattle.termwiz_input_extended.specs.declared.string.StringManner.{StringManner}
+use Rattle.termwiz_input_extended.specs.declared.string.StringManner.TheVariants.{Whole, Part, Cut}
 use Rattle.termwiz_input_extended.specs.FormAnswers.{IsScanned}
 use Rattle.termwiz_input_extended.specs.NextItems.{HasItemThatNeedsMemory, IsScannedTo}
 use Rattle.termwiz_input_extended.specs.StringAnswers.{IsOpeningOf, IsStringItem, string_event}
@@ -27,16 +31,25 @@ pub bytes_within : (t u : List ℕ) (more : Bool) (item : StringItem) → t ≡ 
 bytes_within t u more item same is =
     ap (λ x. take (item.end - 2) (drop 2 x)) same ∙ between u item.end is.introduced ∙ is.bytes_are
 
-module _ (protocol : Protocol) (u : List ℕ) (more : Bool) (item : StringItem) (is : IsStringItem u more item) where
+-- what comes of a string leaves the reading as it is
+pub string_reading : (reading : Reading) (manner : StringManner) (kind : StringKind) (bytes : List ℕ)
+    → after_event reading (string_event manner kind bytes) ≡ reading
+string_reading reading Whole kinds.Osc bytes = refl
+string_reading reading Whole kinds.Dcs bytes = refl
+string_reading reading Whole kinds.Apc bytes = refl
+string_reading reading Part kind bytes = refl
+string_reading reading Cut kind bytes = refl
+
+module _ (reading : Reading) (u : List ℕ) (more : Bool) (item : StringItem) (is : IsStringItem u more item) where
   abbrev pub left_of : List ℕ
   left_of = take item.kept u ++ drop item.taken u
 
   pub string_step : (event : ExtendedEvent) → event ≡ string_event item.manner item.kind (is.head ++ is.bytes)
-      → Steps protocol u more (event ∷ []) left_of
+      → Steps reading u more (event ∷ []) left_of
   string_step event made = (left_of, rw made (string item.kind is.head is.bytes is.after left_of _ is.is_string is.comes), refl)
 
   -- it needs memory
-  pub string_refused : NeedsMemory (string_event item.manner item.kind (is.head ++ is.bytes)) → HasItemThatNeedsMemory protocol u more
+  pub string_refused : NeedsMemory (string_event item.manner item.kind (is.head ++ is.bytes)) → HasItemThatNeedsMemory reading u more
   string_refused needs = record {
     left = left_of;
     event = string_event item.manner item.kind (is.head ++ is.bytes);

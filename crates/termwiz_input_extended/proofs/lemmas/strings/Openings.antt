@@ -1,5 +1,5 @@
 -- What is at the front of a text, as far as openings go: from a head, from a completion, or from the want of both.
-use Rattle.std.proofs.Common.{◌≡◌, ◌≢◌, ◌⊎◌, inl, inr, ℕ, suc, ◌+◌, ◌<◌, ◌≤◌, List, [], ◌∷◌, ◌++◌, length, take, drop, get_or, refl, sym, ap, ◌∙◌, subst, arith, append_assoc, append-nil, length-take-le}
+use Rattle.std.proofs.Common.{◌≡◌, ◌≢◌, ◌⊎◌, inl, inr, ℕ, suc, ◌+◌, ◌<◌, ◌≤◌, false, List, [], ◌∷◌, ◌++◌, length, take, drop, get_or, refl, sym, ap, ◌∙◌, subst, arith, append_assoc, append-nil, length-take-le}
 use Rattle.std.specs.List.{AllByRecursion}
 use Rattle.std.proofs.lemmas.Bool.{cases_lt}
 use Rattle.termwiz_keymap.specs.Bytes.{Begins}
@@ -43,7 +43,7 @@ opening_begun kind r tail longer is =
     none : (head : List ℕ) × IsHead kind head × Begins head r → ⊥
     none (head, it, (more, e)) =
         let whole : r ++ tail ≡ head ++ (more ++ tail) = ap (λ z. z ++ tail) e ∙ append_assoc head more tail in
-        append-some more tail longer (mark_ends (introducer kind ++ head) (more ++ tail) (inr (as_opening kind head it))
+        append-some more tail longer (mark_ends {x10_mouse = false} (introducer kind ++ head) (more ++ tail) (inr (as_opening kind head it))
         (inr (subst IsOpening (ap (λ z. introducer kind ++ z) whole ∙ sym (append_assoc (introducer kind) head (more ++ tail)))
         (as_opening kind (r ++ tail) is))))
 

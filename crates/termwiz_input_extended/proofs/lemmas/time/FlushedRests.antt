@@ -4,12 +4,13 @@ use Rattle.std.specs.List.{AllByRecursion}
 use Rattle.termwiz_grammar.specs.Laws.{IsHeldEscape}
 use Rattle.termwiz_grammar.specs.WaitingKinds.{IsOpenPaste}
 use Rattle.termwiz_extended_events.specs.declared.types.ExtendedEvent.{ExtendedEvent}
-use Rattle.termwiz_extended_events.specs.declared.types.Protocol.{Protocol}
+use Rattle.termwiz_extended_events.specs.declared.types.Reading.{Reading}
 use Rattle.termwiz_extended_events.specs.declared.types.StringKind.{StringKind}
 use Rattle.termwiz_extended_grammar.specs.ExtendedGrammar.{IsRest, Means, Steps}
 use Rattle.termwiz_extended_grammar.specs.ExtendedLaws.{Waits}
 use Rattle.termwiz_extended_grammar.specs.ExtendedLaws.Waits.{nothing, open_paste, open_string, undecided}
 use Rattle.termwiz_extended_grammar.specs.Forms.{IsData}
+use Rattle.termwiz_extended_grammar.specs.Readings.{after_event, after_events}
 use Rattle.termwiz_extended_grammar.specs.Strings.{IsOpenString}
 use Rattle.termwiz_extended_grammar.proofs.lemmas.cuts.ExtendedCuts.{steps_join}
 use Rattle.termwiz_extended_grammar.proofs.lemmas.items.ExtendedRests.{empty_is_rest, read_of, waiting_shape}
@@ -40,64 +41,65 @@ no_start_in_string u o = subst HasNoStart (sym o.is_string.splits) (no_start_ope
     (no_start_in_data o.kind o.bytes o.held o.is_string.each o.is_held))
 
 -- a rest is an open paste, or START begins at no place in it
-paste_or_no_start : (protocol : Protocol) (u : List ℕ) (f : Bool) → IsRest protocol u f → IsOpenPaste u ⊎ HasNoStart u
-paste_or_no_start protocol u f rest = by_shape (waiting_shape protocol u f rest)
+paste_or_no_start : (reading : Reading) (u : List ℕ) (f : Bool) → IsRest reading u f → IsOpenPaste u ⊎ HasNoStart u
+paste_or_no_start reading u f rest = by_shape (waiting_shape reading u f rest)
   where
-    by_shape : Waits protocol u f → IsOpenPaste u ⊎ HasNoStart u
+    by_shape : Waits reading u f → IsOpenPaste u ⊎ HasNoStart u
     by_shape (nothing e) = inr (subst HasNoStart (sym e) no_start_in_nothing)
     by_shape (open_paste body e never) = inl (record { body = body; splits = e; endless = never })
     by_shape (undecided held bytes is e some beginning short m) =
-        inr (subst HasNoStart (sym e) (beginning_no_start protocol held bytes is some beginning))
+        inr (subst HasNoStart (sym e) (beginning_no_start reading held bytes is some beginning))
     by_shape (open_string is short m) = inr (no_start_in_string u is)
 
-closed_rest : (protocol : Protocol) (u : List ℕ) (f : Bool) → IsRest protocol u f → ¬ IsOpenPaste u → HasNoStart u
-closed_rest protocol u f rest closed = ⊎_elim (λ is_open. absurd (closed is_open)) (λ none. none) (paste_or_no_start protocol u f rest)
+closed_rest : (reading : Reading) (u : List ℕ) (f : Bool) → IsRest reading u f → ¬ IsOpenPaste u → HasNoStart u
+closed_rest reading u f rest closed = ⊎_elim (λ is_open. absurd (closed is_open)) (λ none. none) (paste_or_no_start reading u f rest)
 
-pub flush_leaves_nothing : (protocol : Protocol) (text left : List ℕ) (events : List ExtendedEvent) → IsRest protocol text true
-    → ¬ IsOpenPaste text → Means protocol text false events left → left ≡ []
-flush_leaves_nothing protocol text left events rest closed means =
-    flush_leaves protocol text left events (closed_rest protocol text true rest closed) (read_of means)
+pub flush_leaves_nothing : (reading : Reading) (text left : List ℕ) (events : List ExtendedEvent) → IsRest reading text true
+    → ¬ IsOpenPaste text → Means reading text false events left → left ≡ []
+flush_leaves_nothing reading text left events rest closed means =
+    flush_leaves reading text left events (closed_rest reading text true rest closed) (read_of means)
 
 -- without more to come nothing waits but an open paste
-pub closed_is_nothing : (protocol : Protocol) (text : List ℕ) → IsRest protocol text false → ¬ IsOpenPaste text → text ≡ []
-closed_is_nothing protocol text rest closed =
-    flush_leaves protocol text text [] (closed_rest protocol text false rest closed) (refl, rest)
+pub closed_is_nothing : (reading : Reading) (text : List ℕ) → IsRest reading text false → ¬ IsOpenPaste text → text ≡ []
+closed_is_nothing reading text rest closed =
+    flush_leaves reading text text [] (closed_rest reading text false rest closed) (refl, rest)
 
 -- one event of a flush, where no paste begins
-item_of_step : (protocol : Protocol) (text left : List ℕ) (event : ExtendedEvent) → HasNoStart text → FlushStep protocol text event left
-    → Steps protocol text false (event ∷ []) left
-item_of_step protocol text left event none (paste_ended given (paste, so_far, same)) = absurd (none [] text refl (so_far.body, so_far.splits))
-item_of_step protocol text left event none (item_read given end closed steps) = steps
+item_of_step : (reading : Reading) (text left : List ℕ) (event : ExtendedEvent) → HasNoStart text → FlushStep reading text event left
+    → Steps reading text false (event ∷ []) left
+item_of_step reading text left event none (paste_ended given (paste, so_far, same)) = absurd (none [] text refl (so_far.body, so_far.splits))
+item_of_step reading text left event none (item_read given end closed steps) = steps
 
-flushed_steps : (protocol : Protocol) (events : List ExtendedEvent) (text : List ℕ) → HasNoStart text
-    → FlushedOneByOne protocol text events [] → Steps protocol text false events []
-flushed_steps protocol [] text none same = same
-flushed_steps protocol (event ∷ events) text none (between, step, later) =
-    let first = item_of_step protocol text between event none step in
-    let after : HasNoStart between = steps_no_start protocol (event ∷ []) text between false first none in
-    steps_join protocol text between [] (event ∷ []) events false first (flushed_steps protocol events between after later)
+flushed_steps : (reading : Reading) (events : List ExtendedEvent) (text : List ℕ) → HasNoStart text
+    → FlushedOneByOne reading text events [] → Steps reading text false events []
+flushed_steps reading [] text none same = same
+flushed_steps reading (event ∷ events) text none (between, step, later) =
+    let first = item_of_step reading text between event none step in
+    let after : HasNoStart between = steps_no_start reading (event ∷ []) text between false first none in
+    steps_join reading text between [] (event ∷ []) events false first
+    (flushed_steps (after_event reading event) events between after later)
 
 -- nothing more comes of no bytes
-no_step_of_nothing : (protocol : Protocol) (left : List ℕ) (event : ExtendedEvent) → FlushStep protocol [] event left → ⊥
-no_step_of_nothing protocol left event step =
-    let none = nothing_steps protocol (event ∷ []) left false (item_of_step protocol [] left event no_start_in_nothing step) in cc (none)
+no_step_of_nothing : (reading : Reading) (left : List ℕ) (event : ExtendedEvent) → FlushStep reading [] event left → ⊥
+no_step_of_nothing reading left event step =
+    let none = nothing_steps reading (event ∷ []) left false (item_of_step reading [] left event no_start_in_nothing step) in cc (none)
 
-after_paste : (protocol : Protocol) (events : List ExtendedEvent) (event : ExtendedEvent) (text between : List ℕ) → IsOpenPaste text
-    → FlushStep protocol text event between → FlushedOneByOne protocol between events [] → Flushes protocol text (event ∷ events) []
-after_paste protocol [] event text between is_open (paste_ended given is) later = ends_paste given is
-after_paste protocol (next ∷ events) event text between is_open (paste_ended given is) later =
-    absurd (no_step_of_nothing protocol later.0 next later.1)
-after_paste protocol events event text between is_open (item_read given end closed steps) later = absurd (closed is_open)
+after_paste : (reading : Reading) (events : List ExtendedEvent) (event : ExtendedEvent) (text between : List ℕ) → IsOpenPaste text
+    → FlushStep reading text event between → FlushedOneByOne (after_event reading event) between events [] → Flushes reading text (event ∷ events) []
+after_paste reading [] event text between is_open (paste_ended given is) later = ends_paste given is
+after_paste reading (next ∷ events) event text between is_open (paste_ended given is) later =
+    absurd (no_step_of_nothing (after_event reading given) later.0 next later.1)
+after_paste reading events event text between is_open (item_read given end closed steps) later = absurd (closed is_open)
 
-paste_one_by_one : (protocol : Protocol) (text : List ℕ) (events : List ExtendedEvent) → IsOpenPaste text
-    → FlushedOneByOne protocol text events [] → Flushes protocol text events []
-paste_one_by_one protocol text [] is_open same = let splits = is_open.splits in absurd (cc (splits, same))
-paste_one_by_one protocol text (event ∷ events) is_open (between, step, later) =
-    after_paste protocol events event text between is_open step later
+paste_one_by_one : (reading : Reading) (text : List ℕ) (events : List ExtendedEvent) → IsOpenPaste text
+    → FlushedOneByOne reading text events [] → Flushes reading text events []
+paste_one_by_one reading text [] is_open same = let splits = is_open.splits in absurd (cc (splits, same))
+paste_one_by_one reading text (event ∷ events) is_open (between, step, later) =
+    after_paste reading events event text between is_open step later
 
 pub flush_one_by_one : FlushOneByOne
-flush_one_by_one protocol text events rest one_by_one = ⊎_elim
-    (λ (is_open : IsOpenPaste text). paste_one_by_one protocol text events is_open one_by_one)
+flush_one_by_one reading text events rest one_by_one = ⊎_elim
+    (λ (is_open : IsOpenPaste text). paste_one_by_one reading text events is_open one_by_one)
     (λ (none : HasNoStart text). reads_all events [] (λ is_open. none [] text refl (is_open.body, is_open.splits))
-    (record { steps = flushed_steps protocol events text none one_by_one; rest = empty_is_rest protocol false }))
-    (paste_or_no_start protocol text true rest)
+    (record { steps = flushed_steps reading events text none one_by_one; rest = empty_is_rest (after_events reading events) false }))
+    (paste_or_no_start reading text true rest)

@@ -13,15 +13,15 @@ to_not false never = refl
 
 pub returns-then-is_reported : goal.returns-then-is_reported
 returns-then-is_reported c = (
-  λ t. reported_is_extra c.args.protocol c.args.form.now c.requires.form (λ h. c.requires.no_mouse h.0 h.1)
+  λ t. reported_is_extra c.args.reading c.args.form.now c.requires.form (λ h. c.requires.no_mouse h.0 h.1)
       ((c.is_reported.ensures c.args.form.now c.requires.means).0 c.if-is_reported.true),
   λ h. refl,
 )
 
 pub returns : goal.returns
 returns c = (
-  λ t. unknown_is_extra c.args.protocol c.args.form.now c.requires.form (λ h. c.requires.no_mouse h.0 h.1)
+  λ t. unknown_is_extra c.args.reading c.args.form.now c.requires.form (λ h. c.requires.no_mouse h.0 h.1)
       (denied c.is_table_row.ensures.1 (from_not c.is_table_row.result t)),
-  λ h. to_not c.is_table_row.result (λ e. row_not_extra c.args.protocol c.args.form.now (c.is_table_row.ensures.0 e).0 (c.is_table_row.ensures.0 e).1
+  λ h. to_not c.is_table_row.result (λ e. row_not_extra c.args.reading c.args.form.now (c.is_table_row.ensures.0 e).0 (c.is_table_row.ensures.0 e).1
       (denied (c.is_reported.ensures c.args.form.now c.requires.means).1 c.if-is_reported.false) h),
 )

@@ -5,7 +5,7 @@ use Rattle.termwiz_input_extended.proofs.lemmas.fronts.MouseForms.{begun_no_form
 use Rattle.termwiz_input_extended.proofs.next_item.match_form.Goals as goal
 
 pub next_scan-requires : goal.next_scan-requires
-next_scan-requires c = begun_unfinished c.args.text.now c.in-Begun.ensures
+next_scan-requires c = (c.args.x10_mouse, begun_unfinished c.args.text.now c.in-Begun.ensures)
 
 pub returns-in-Begun : goal.returns-in-Begun
 returns-in-Begun c = (
@@ -35,7 +35,7 @@ pub returns-in-Absent-form_at : goal.returns-in-Absent-form_at
 returns-in-Absent-form_at c = (
   record { no_form = c.in-Absent-form_at.ensures.0; no_opening = c.requires.no_opening.0 },
   λ h. ⊎_elim
-      (λ (f : IsUnfinishedForm c.args.text.now). c.in-Absent-form_at.ensures.1 f)
+      (λ (f : IsUnfinishedForm c.args.x10_mouse c.args.text.now). c.in-Absent-form_at.ensures.1 f)
       (λ (o : IsUnfinishedOpening c.args.text.now). c.requires.no_opening.1 o)
       h,
 )

@@ -1,4 +1,5 @@
 use Rattle.std.proofs.Common.{arith, subst}
+use Rattle.termwiz_keymap.proofs.lemmas.lists.PrefixTest.{denied}
 use Rattle.termwiz_keymap.specs.Lookup.{IsLongestKey}
 use Rattle.termwiz_grammar.specs.Table.{table}
 use Rattle.termwiz_input.proofs.lemmas.heads.HeadLookup.{exact_closed, longest_from_key}
@@ -7,7 +8,7 @@ use Rattle.termwiz_input_extended.proofs.next_item.match_row.Goals as goal
 
 pub returns-in-Exact : goal.returns-in-Exact
 returns-in-Exact c = record {
-  port = c.in-Legacy.is;
+  port = c.leaves_rows.ensures.0 c.if-not-leaves_rows.false;
   long = omega arith;
   row = longest_from_key c.args.text.now c.in-Exact.len c.in-Exact.key.now c.requires.0 c.in-Exact.ensures.0;
   closed = exact_closed c.args.text.now c.args.maybe_more c.in-Exact.len c.in-Exact.key.now (λ m. c.requires.1)
@@ -36,8 +37,8 @@ returns-in-NeedData c = λ port. no_row_begins c.args.text.now c.in-NeedData.ens
 pub returns-in-None : goal.returns-in-None
 returns-in-None c = λ port. no_row_begins c.args.text.now c.in-None.ensures.0
 
-pub returns-in-Kitty : goal.returns-in-Kitty
-returns-in-Kitty c = λ port. absurd (cc (port, c.in-Kitty.is))
+pub returns-then-not-leaves_rows : goal.returns-then-not-leaves_rows
+returns-then-not-leaves_rows c = λ port. absurd (denied c.leaves_rows.ensures.1 c.if-not-leaves_rows.true port)
 
 pub returns-in-Ambiguous : goal.returns-in-Ambiguous
 returns-in-Ambiguous c = (c.in-Ambiguous.ensures.2, row_unfinished c.args.text.now c.in-Ambiguous.ensures.1)

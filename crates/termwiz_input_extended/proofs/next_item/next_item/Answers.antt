@@ -2,7 +2,7 @@ use Rattle.termwiz_input_extended.proofs.lemmas.fronts.ScannedPlaces.{no_second_
 use Rattle.termwiz_input_extended.proofs.next_item.next_item.Goals as goal
 
 pub returns-in-None : goal.returns-in-None
-returns-in-None c = c.item_without_escape.ensures c.args.protocol c.args.maybe_more
+returns-in-None c = c.item_without_escape.ensures c.args.reading c.args.maybe_more
 
 pub item_of_two_escapes-requires-clause-scanned : goal.item_of_two_escapes-requires-clause-scanned
 item_of_two_escapes-requires-clause-scanned c =

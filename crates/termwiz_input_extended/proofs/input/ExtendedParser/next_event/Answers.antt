@@ -11,16 +11,16 @@ use Rattle.termwiz_input_extended.proofs.input.ExtendedParser.next_event.Goals a
 
 pub consume-requires : goal.consume-requires
 consume-requires c =
-    let is = subst (λ t. IsPortsOwn c.args.self.now.protocol t c.args.maybe_more × IsItemAt t c.args.maybe_more (Key (plain c.in-Some.character)) c.in-Some.len)
-    c.waiting_text.ensures (c.in-Some.ensures c.args.self.now.protocol c.args.maybe_more) in
+    let is = subst (λ t. IsPortsOwn c.args.self.now.reading t c.args.maybe_more × IsItemAt t c.args.maybe_more (Key (plain c.in-Some.character)) c.in-Some.len)
+    c.waiting_text.ensures (c.in-Some.ensures c.args.self.now.reading c.args.maybe_more) in
     is.1.0
 
 pub returns-in-Some-clause-event : goal.returns-in-Some-clause-event
 returns-in-Some-clause-event c =
     let u = c.args.self.now.text in
-    let is = subst (λ t. IsPortsOwn c.args.self.now.protocol t c.args.maybe_more × IsItemAt t c.args.maybe_more (Key (plain c.in-Some.character)) c.in-Some.len)
-    c.waiting_text.ensures (c.in-Some.ensures c.args.self.now.protocol c.args.maybe_more) in
+    let is = subst (λ t. IsPortsOwn c.args.self.now.reading t c.args.maybe_more × IsItemAt t c.args.maybe_more (Key (plain c.in-Some.character)) c.in-Some.len)
+    c.waiting_text.ensures (c.in-Some.ensures c.args.self.now.reading c.args.maybe_more) in
     rw (c.key_event.ensures, c.plain_key.ensures)
-    (subst (λ t. Steps c.args.self.now.protocol u c.args.maybe_more (Input (Key (plain c.in-Some.character)) ∷ []) t)
+    (subst (λ t. Steps c.args.self.now.reading u c.args.maybe_more (Input (Key (plain c.in-Some.character)) ∷ []) t)
     (sym (ap (λ (b : Buffered). b.text) c.consume.ensures))
-    (item_step c.args.self.now.protocol u _ c.in-Some.len c.args.maybe_more is.0 is.1))
+    (item_step c.args.self.now.reading u _ c.in-Some.len c.args.maybe_more is.0 is.1))

@@ -1,7 +1,8 @@
-use Rattle.std.proofs.Common.{◌≡◌, ◌∷◌, [], take, refl, sym, ap, subst, Some}
+use Rattle.std.proofs.Common.{◌≡◌, ◌∷◌, [], take, refl, sym, ap, ◌∙◌, subst, Some}
 use Rattle.std.specs.Prelude.{IfSome}
 use Rattle.termwiz_extended_events.specs.Meanings.{NeedsMemory, event_from, event_of}
 use Rattle.termwiz_extended_grammar.specs.ExtendedGrammar.{Steps}
+use Rattle.termwiz_extended_grammar.specs.Readings.{after_event}
 use Rattle.termwiz_input_extended.specs.Buffered.{Buffered}
 use Rattle.termwiz_input_extended.specs.NextItems.{IsExtraAt, IsPortsOwn}
 use Rattle.termwiz_input_extended.proofs.lemmas.fronts.EmittedItems.{emits_event, emits_refused}
@@ -10,34 +11,34 @@ use Rattle.termwiz_input_extended.proofs.input.ExtendedParser.next_form.Goals as
 
 pub returns-in_err-event : goal.returns-in_err-event
 returns-in_err-event c =
-    let protocol = ap (λ (b : Buffered). b.protocol) c.self.view_is in
+    let reading = ap (λ (b : Buffered). b.reading) c.self.view_is in
     let u = c.args.self.now.text in
-    let is = subst (λ r. IsExtraAt r u c.args.len) protocol
-    (subst (λ t. IsExtraAt c.self.inside.protocol t c.args.len) c.waiting_text-text.ensures (c.is_extra_at.ensures.some c.if-not-is_extra_at.false)) in
+    let is = subst (λ r. IsExtraAt r u c.args.len) reading
+    (subst (λ t. IsExtraAt c.self.inside.reading t c.args.len) c.waiting_text-text.ensures (c.is_extra_at.ensures.some c.if-not-is_extra_at.false)) in
     let means = subst (λ t. event_from c.meaning_of-meaning.result ≡ Some (event_of (take c.args.len t))) c.waiting_text-text.ensures
     c.meaning_of-meaning.ensures in
     emits_refused c.args.self.now _ c.args.maybe_more _ c.from_residual.ensures.0
-    (extra_refused c.args.self.now.protocol u c.args.len _ c.args.maybe_more is.1
+    (extra_refused c.args.self.now.reading u c.args.len _ c.args.maybe_more is.1
     (subst (λ made. IfSome made NeedsMemory) means c.in_err-event.ensures.refused))
     refl
 
 pub returns : goal.returns
 returns c =
-    let protocol = ap (λ (b : Buffered). b.protocol) c.self.view_is in
+    let reading = ap (λ (b : Buffered). b.reading) c.self.view_is in
     let u = c.args.self.now.text in
     let event = c.in_ok-event.event in
-    let is = subst (λ r. IsExtraAt r u c.args.len) protocol
-    (subst (λ t. IsExtraAt c.self.inside.protocol t c.args.len) c.waiting_text-text.ensures (c.is_extra_at.ensures.some c.if-not-is_extra_at.false)) in
+    let is = subst (λ r. IsExtraAt r u c.args.len) reading
+    (subst (λ t. IsExtraAt c.self.inside.reading t c.args.len) c.waiting_text-text.ensures (c.is_extra_at.ensures.some c.if-not-is_extra_at.false)) in
     let means = subst (λ t. event_from c.meaning_of-meaning.result ≡ Some (event_of (take c.args.len t))) c.waiting_text-text.ensures
     c.meaning_of-meaning.ensures in
     emits_event c.args.self.now _ c.args.maybe_more event
-    (subst (λ t. Steps c.args.self.now.protocol u c.args.maybe_more (event ∷ []) t) (sym (ap (λ (b : Buffered). b.text) c.consume.ensures))
-    (extra_step c.args.self.now.protocol u c.args.len _ c.args.maybe_more is.1 event (cc (means, c.in_ok-event.ensures.ok))))
-    (ap (λ (b : Buffered). b.protocol) c.consume.ensures)
+    (subst (λ t. Steps c.args.self.now.reading u c.args.maybe_more (event ∷ []) t) (sym (ap (λ (b : Buffered). b.text) c.note_event.ensures ∙ ap (λ (b : Buffered). b.text) c.consume.ensures))
+    (extra_step c.args.self.now.reading u c.args.len _ c.args.maybe_more is.1 event (cc (means, c.in_ok-event.ensures.ok))))
+    (ap (λ (b : Buffered). b.reading) c.note_event.ensures ∙ ap (λ (b : Buffered). after_event b.reading event) c.consume.ensures)
 
 pub next_of_port-requires : goal.next_of_port-requires
 next_of_port-requires c =
-    let protocol = ap (λ (b : Buffered). b.protocol) c.self.view_is in
-    subst (λ r. IsPortsOwn r c.args.self.now.text c.args.maybe_more) protocol
-    (subst (λ t. IsPortsOwn c.self.inside.protocol t c.args.maybe_more) c.waiting_text-text.ensures
+    let reading = ap (λ (b : Buffered). b.reading) c.self.view_is in
+    subst (λ r. IsPortsOwn r c.args.self.now.text c.args.maybe_more) reading
+    (subst (λ t. IsPortsOwn c.self.inside.reading t c.args.maybe_more) c.waiting_text-text.ensures
     (c.is_extra_at.ensures.none c.if-not-is_extra_at.true c.args.maybe_more))

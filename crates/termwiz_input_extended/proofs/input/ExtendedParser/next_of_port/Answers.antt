@@ -19,7 +19,7 @@ returns-in-Some c =
     emits_event c.args.self.now _ c.args.maybe_more _
     (own_step _ _ _ _ _ c.requires
     (subst (λ t. port.Steps t c.args.maybe_more (c.in-Some.event ∷ []) c.next_event.new.self) text step))
-    (ap (λ (b : Buffered). b.protocol) c.self.view_is)
+    (ap (λ (b : Buffered). b.reading) c.self.view_is)
 
 pub returns-in-None : goal.returns-in-None
 returns-in-None c =

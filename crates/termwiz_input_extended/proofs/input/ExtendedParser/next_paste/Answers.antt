@@ -13,8 +13,8 @@ pub returns-then-awaits_paste_end : goal.returns-then-awaits_paste_end
 returns-then-awaits_paste_end c =
     let text : c.self.inside.parser ≡ c.args.self.now.text = ap (λ (b : Buffered). b.text) c.self.view_is in
     emits_none c.args.self.now _ c.args.maybe_more
-    (own_rest c.args.self.now.protocol c.args.self.now.text c.args.maybe_more
-    (own_start c.args.self.now.protocol c.args.self.now.text c.args.maybe_more c.requires)
+    (own_rest c.args.self.now.reading c.args.self.now.text c.args.maybe_more
+    (own_start c.args.self.now.reading c.args.self.now.text c.args.maybe_more c.requires)
     (open_waits c.args.self.now.text c.args.maybe_more
     (subst IsOpenPaste text (c.awaits_paste_end.ensures.open.0 c.if-awaits_paste_end.true))))
     (still_buffered _ _ _ _ c.awaits_paste_end.ensures.same c.self.view_is)
@@ -22,5 +22,5 @@ returns-then-awaits_paste_end c =
 pub next_of_port-requires : goal.next_of_port-requires
 next_of_port-requires c =
     let text : c.self.inside.parser ≡ c.args.self.now.text = ap (λ (b : Buffered). b.text) c.self.view_is in
-    own_start c.self.inside.protocol c.awaits_paste_end.new.self c.args.maybe_more
+    own_start c.self.inside.reading c.awaits_paste_end.new.self c.args.maybe_more
     (subst (λ t. Begins START t) (sym text ∙ sym c.awaits_paste_end.ensures.same) c.requires)

@@ -1,13 +1,14 @@
-use Rattle.std.proofs.Common.{◌≡◌, ◌∷◌, [], ◌++◌, refl, sym, ap, subst, Some}
+use Rattle.std.proofs.Common.{◌≡◌, ◌∷◌, [], ◌++◌, refl, sym, ap, ◌∙◌, subst, Some}
 use Rattle.std.specs.Prelude.{IfSome}
 use Rattle.termwiz_extended_events.specs.Meanings.{NeedsMemory, event_from}
 use Rattle.termwiz_extended_grammar.specs.Strings.{IsOpenString}
+use Rattle.termwiz_extended_grammar.specs.Readings.{after_event}
 use Rattle.termwiz_extended_grammar.specs.ExtendedGrammar.{Steps}
 use Rattle.termwiz_extended_grammar.proofs.lemmas.items.ExtendedRests.{string_rests}
 use Rattle.termwiz_input_extended.specs.Buffered.{Buffered}
 use Rattle.termwiz_input_extended.specs.StringAnswers.{IsStringItem, string_event}
 use Rattle.termwiz_input_extended.proofs.lemmas.fronts.EmittedItems.{emits_event, emits_none, emits_refused}
-use Rattle.termwiz_input_extended.proofs.lemmas.fronts.StringSteps.{bytes_within, opening_scanned, scanned_open, string_refused, string_step}
+use Rattle.termwiz_input_extended.proofs.lemmas.fronts.StringSteps.{bytes_within, opening_scanned, scanned_open, string_reading, string_refused, string_step}
 use Rattle.termwiz_input_extended.proofs.input.ExtendedParser.next_string.Goals as goal
 
 pub string_at-requires-clause-scanned : goal.string_at-requires-clause-scanned
@@ -25,7 +26,7 @@ pub returns-in-Open : goal.returns-in-Open
 returns-in-Open c =
     let found = c.in-Open.ensures in
     emits_none c.args.self.now _ c.args.maybe_more
-    (string_rests c.args.self.now.protocol c.args.self.now.text c.args.maybe_more
+    (string_rests c.args.self.now.reading c.args.self.now.text c.args.maybe_more
     (subst IsOpenString c.waiting_text-text.ensures found.0) found.1) c.self.view_is
 
 pub returns-in_ok-event-in-Item : goal.returns-in_ok-event-in-Item
@@ -39,9 +40,11 @@ returns-in_ok-event-in-Item c =
     let made : event ≡ string_event item.manner item.kind (is.head ++ is.bytes) =
     cc (c.string_meaning.ensures, c.in_ok-event-in-Item.ensures.ok, bytes) in
     emits_event c.args.self.now _ more event
-    (subst (λ t. Steps c.args.self.now.protocol u more (event ∷ []) t) (sym (ap (λ (b : Buffered). b.text) c.cut_out.ensures))
-    (string_step c.args.self.now.protocol u more item is event made))
-    (ap (λ (b : Buffered). b.protocol) c.cut_out.ensures)
+    (subst (λ t. Steps c.args.self.now.reading u more (event ∷ []) t) (sym (ap (λ (b : Buffered). b.text) c.cut_out.ensures))
+    (string_step c.args.self.now.reading u more item is event made))
+    (ap (λ (b : Buffered). b.reading) c.cut_out.ensures
+    ∙ sym (ap (λ e. after_event c.args.self.now.reading e) made
+    ∙ string_reading c.args.self.now.reading item.manner item.kind (is.head ++ is.bytes)))
 
 pub returns-in_err-event-in-Item : goal.returns-in_err-event-in-Item
 returns-in_err-event-in-Item c =
@@ -53,6 +56,6 @@ returns-in_err-event-in-Item c =
     let made : event_from c.string_meaning.result ≡ Some (string_event item.manner item.kind (is.head ++ is.bytes)) =
     cc (c.string_meaning.ensures, bytes) in
     emits_refused c.args.self.now _ more _ c.from_residual.ensures.0
-    (string_refused c.args.self.now.protocol u more item is
+    (string_refused c.args.self.now.reading u more item is
     (subst (λ found. IfSome found NeedsMemory) made c.in_err-event-in-Item.ensures.refused))
     refl

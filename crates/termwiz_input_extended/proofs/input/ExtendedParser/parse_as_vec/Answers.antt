@@ -7,5 +7,5 @@ use Rattle.termwiz_input_extended.proofs.input.ExtendedParser.parse_as_vec.Goals
 pub returns-then-is_ok-clause-waits : goal.returns-then-is_ok-clause-waits
 returns-then-is_ok-clause-waits c =
     let left = c.store_events.new.self in
-    let waits : IsRest left.protocol left.text c.args.maybe_more = grind (arith, common_steps) in
-    waiting_shape left.protocol left.text c.args.maybe_more waits
+    let waits : IsRest left.reading left.text c.args.maybe_more = grind (arith, common_steps) in
+    waiting_shape left.reading left.text c.args.maybe_more waits
