@@ -103,7 +103,8 @@ enum hed_kind {
   HED_KIND_APC = 13, /* An application program command, such as a reply of Kitty's graphics protocol. */
   HED_KIND_PASTE_PART = 14, /* Text of a paste whose end is still to come. */
   HED_KIND_STRING_PART = 15, /* The first bytes of a long string whose end is still to come. */
-  HED_KIND_STRING_CUT = 16 /* A string that was cut off before its end. */
+  HED_KIND_STRING_CUT = 16, /* A string that was cut off before its end. */
+  HED_KIND_SIDE_BUTTON = 17 /* One of the mouse buttons 8 to 11 was pressed, released or dragged. */
   /* numbers.txt: end */
 };
 
@@ -590,6 +591,15 @@ enum hed_protocol {
   /* numbers.txt: end */
 };
 
+/* What happened to a side button: the field flags of a hed_extended_event. */
+enum hed_side_button {
+  /* numbers.txt: side_button c */
+  HED_SIDE_BUTTON_PRESS = 1, /* It was pressed. */
+  HED_SIDE_BUTTON_RELEASE = 2, /* It was released. Only SGR reports (mode 1006) tell which button was. */
+  HED_SIDE_BUTTON_DRAG = 3 /* The mouse was moved while it was down. */
+  /* numbers.txt: end */
+};
+
 /* What happened to a key: the field kind of a hed_key_report. */
 enum hed_key_event_kind {
   /* numbers.txt: key_event_kind c */
@@ -631,7 +641,8 @@ typedef struct hed_key_report {
 /* An event of the extended parser. What its kind has no use for is 0. */
 typedef struct hed_extended_event {
   uint8_t kind; /* an enum hed_kind */
-  uint8_t flags; /* HED_KIND_KEYBOARD_FLAGS: a set of HED_KITTY_FLAG_..; HED_KIND_STRING_PART, _CUT: HED_KIND_OSC, _DCS or _APC */
+  uint8_t flags; /* HED_KIND_KEYBOARD_FLAGS: a set of HED_KITTY_FLAG_..; HED_KIND_STRING_PART, _CUT: HED_KIND_OSC, _DCS or _APC;
+                  * HED_KIND_SIDE_BUTTON: an enum hed_side_button */
   uint16_t row; /* HED_KIND_CURSOR_POSITION: the row, as the terminal sent it: the topmost is 1 */
   uint16_t column; /* HED_KIND_CURSOR_POSITION: the column, as the terminal sent it: the leftmost is 1 */
   uint16_t rows; /* HED_KIND_RESIZE: the number of rows */
@@ -639,7 +650,8 @@ typedef struct hed_extended_event {
   uint16_t height; /* HED_KIND_RESIZE: the height in pixels */
   uint16_t width; /* HED_KIND_RESIZE: the width in pixels */
   hed_key_report report; /* HED_KIND_REPORT: the report; HED_KIND_KEY: the same key as a press, so that a program needs one case for both */
-  hed_event input; /* HED_KIND_KEY, HED_KIND_MOUSE, HED_KIND_PASTE, HED_KIND_PASTE_PART: the event as the calls of a hed_parser write it */
+  hed_event input; /* HED_KIND_KEY, HED_KIND_MOUSE, HED_KIND_PASTE, HED_KIND_PASTE_PART: the event as the calls of a hed_parser write it;
+                    * HED_KIND_SIDE_BUTTON: x, y and modifiers as of the mouse, and in detail the number of the button, from 8 to 11 */
   size_t text_len; /* the number of bytes that the event brought, which hed_extended_text copies: see there */
 } hed_extended_event;
 
@@ -662,6 +674,29 @@ bool hed_extended_init_sharing_parser(hed_extended *parser, uint32_t protocol, c
 
 /* Makes a parser that shares the table of an extended parser, as hed_parser_init_sharing does from a parser. */
 bool hed_parser_init_sharing_extended(hed_parser *parser, const hed_extended *other);
+
+/* How an extended parser reads. A new one has its protocol, and the rest is 0. */
+typedef struct hed_reading {
+  uint32_t protocol; /* an enum hed_protocol */
+  bool x10_mouse; /* X10 mouse reports are read: ESC [M and three bytes. Without it ESC [M is a control sequence */
+  uint8_t questions; /* how many questions for the cursor's position are open */
+} hed_reading;
+
+/* Has the parser read so from now on, also what is buffered. So a program begins with HED_PROTOCOL_LEGACY, asks ESC [?u, and sets
+ * HED_PROTOCOL_KITTY once a reply came.
+ *
+ * Returns false if the protocol is no enum hed_protocol, or there is no parser: then the parser is unchanged. */
+bool hed_extended_set_reading(hed_extended *parser, const hed_reading *reading);
+
+/* Writes how the parser reads. Returns false if there is no parser: then *reading is unchanged. */
+bool hed_extended_reading(const hed_extended *parser, hed_reading *reading);
+
+/* Expects one more reply to a question for the cursor's position, up to 255: call it with each ESC [6n that is written. While a reply is
+ * expected, ESC [1;5R and the like are HED_KIND_CURSOR_POSITION, and not F3 with modifiers; each such event answers one question. */
+void hed_extended_expect_position(hed_extended *parser);
+
+/* Expects no reply any more to such questions: call it when a reply is overdue, or when a later question was answered. */
+void hed_extended_forget_positions(hed_extended *parser);
 
 /* Frees what the parser owns, and leaves HED_EXTENDED_NONE. If there is no parser, it does nothing, so it may be called twice. */
 void hed_extended_free(hed_extended *parser);

@@ -68,12 +68,12 @@ def read_list() -> Numbers:
 PLACES = {
     HEADER: {
         "c": "kind next waiting termwiz_mod button key encoding kitty_flag encoded found protocol"
-        " key_event_kind kitty_mod replied reply device_attributes mode_state colour_name"
-        " colour_scheme"
+        " side_button key_event_kind kitty_mod replied reply device_attributes mode_state"
+        " colour_name colour_scheme"
     },
     "rust/src/raw.rs": {
-        "const": "next waiting encoded found kind protocol key_event_kind encoding replied reply"
-        " device_attributes mode_state colour_name colour_scheme"
+        "const": "next waiting encoded found kind protocol side_button key_event_kind encoding"
+        " replied reply device_attributes mode_state colour_name colour_scheme"
     },
     "rust/src/input/flags.rs": {"flag": "termwiz_mod button kitty_flag kitty_mod"},
     "rust/src/input/keys.rs": {"variant": "key", "number": "key", "of": "key"},
@@ -82,7 +82,7 @@ PLACES = {
         "member": "termwiz_mod button kitty_flag encoding waiting key",
         "private": "next encoded found kind key",
     },
-    "python/hedrugal/extended.py": {"member": "protocol key_event_kind kitty_mod"},
+    "python/hedrugal/extended.py": {"member": "protocol side_button key_event_kind kitty_mod"},
     "python/hedrugal/replies.py": {
         "member": "device_attributes mode_state colour_name colour_scheme",
         "private": "replied reply",
@@ -114,7 +114,7 @@ FORMS = {
 
 # The types of groups in Rust; the others are u32.
 RUST_TYPES = {
-    **dict.fromkeys("kind key_event_kind encoding reply device_attributes".split(), "u8"),
+    **dict.fromkeys("kind side_button key_event_kind encoding reply device_attributes".split(), "u8"),
     **dict.fromkeys("mode_state colour_name colour_scheme".split(), "u8"),
     **{"termwiz_mod": "Modifiers", "button": "MouseButtons"},
 }
@@ -216,6 +216,7 @@ FLAG_NAME = r'name: "(?P<text>\w+)",\n *value: \w+::(?P<name>\w+),$'
 PROVED = [
     ("key", "hedrugal/src/keys.rt", r"^ *KeyCode::(?P<name>\w+)(?:\(_\))? => (?P<number>\d+),?$"),
     ("kind", "hedrugal/src/events.rt hedrugal/src/extended_events.rt", constants("KIND")),
+    ("side_button", "hedrugal/src/extended_events.rt", constants("SIDE_BUTTON")),
     ("key_event_kind", "hedrugal/src/extended_events.rt", constants("KEY_EVENT_KIND")),
     ("encoding", "hedrugal/src/modes.rt", r"^ *(?P<number>\d+) => Some\(\w+::(?P<name>\w+)"),
     ("next", "hedrugal/src/lib.rt", constants("NEXT")),

@@ -584,6 +584,7 @@ _KIND_APC = 13
 _KIND_PASTE_PART = 14
 _KIND_STRING_PART = 15
 _KIND_STRING_CUT = 16
+_KIND_SIDE_BUTTON = 17
 # numbers.txt: end
 # numbers.txt: key private
 _KEY_CHAR = 1

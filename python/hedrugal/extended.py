@@ -81,6 +81,16 @@ class Protocol(_Named):
     # numbers.txt: end
 
 
+class SideButtonKind(_Named):
+    """What happened to a side button of the mouse."""
+
+    # numbers.txt: side_button member
+    PRESS = 1  # It was pressed.
+    RELEASE = 2  # It was released. Only SGR reports (mode 1006) tell which button was.
+    DRAG = 3  # The mouse was moved while it was down.
+    # numbers.txt: end
+
+
 class KeyEventKind(_Named):
     """What happened to a key."""
 

@@ -95,6 +95,8 @@ pub const KIND_PASTE_PART: u8 = 14;
 pub const KIND_STRING_PART: u8 = 15;
 /// A string that was cut off before its end.
 pub const KIND_STRING_CUT: u8 = 16;
+/// One of the mouse buttons 8 to 11 was pressed, released or dragged.
+pub const KIND_SIDE_BUTTON: u8 = 17;
 // numbers.txt: end
 
 // numbers.txt: protocol const
@@ -102,6 +104,15 @@ pub const KIND_STRING_CUT: u8 = 16;
 pub const PROTOCOL_LEGACY: u32 = 0;
 /// For programs that turn it on: an entry that reports a key or the cursor's position is read as that report.
 pub const PROTOCOL_KITTY: u32 = 1;
+// numbers.txt: end
+
+// numbers.txt: side_button const
+/// It was pressed.
+pub const SIDE_BUTTON_PRESS: u8 = 1;
+/// It was released. Only SGR reports (mode 1006) tell which button was.
+pub const SIDE_BUTTON_RELEASE: u8 = 2;
+/// The mouse was moved while it was down.
+pub const SIDE_BUTTON_DRAG: u8 = 3;
 // numbers.txt: end
 
 // numbers.txt: key_event_kind const
@@ -363,6 +374,15 @@ pub struct ExtendedEvent {
     pub text_len: usize,
 }
 
+/// How an extended parser reads.
+#[repr(C)]
+#[derive(Clone, Copy, Default)]
+pub struct Reading {
+    pub protocol: u32,
+    pub x10_mouse: bool,
+    pub questions: u8,
+}
+
 /// What a reply says. What its kind has no use for is 0.
 #[repr(C)]
 #[derive(Clone, Copy, Default)]
@@ -512,6 +532,10 @@ extern "C" {
     pub fn hed_extended_timeout(parser: *mut Extended, now: u64) -> i32;
     pub fn hed_extended_expire(parser: *mut Extended, now: u64, event: *mut ExtendedEvent) -> u32;
     pub fn hed_extended_reset(parser: *mut Extended) -> usize;
+    pub fn hed_extended_set_reading(parser: *mut Extended, reading: *const Reading) -> bool;
+    pub fn hed_extended_reading(parser: *const Extended, reading: *mut Reading) -> bool;
+    pub fn hed_extended_expect_position(parser: *mut Extended);
+    pub fn hed_extended_forget_positions(parser: *mut Extended);
     pub fn hed_encode_kitty(
         report: *const KeyReport,
         text: *const u8,

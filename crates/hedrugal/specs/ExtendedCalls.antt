@@ -6,6 +6,7 @@ use Rattle.termwiz_input.specs.WaitingKinds.{IsOneOrTwoEscapes, IsOpenPaste}
 use Rattle.termwiz_extended_events.specs.declared.types.ExtendedEvent.{ExtendedEvent}
 use Rattle.termwiz_extended_events.specs.declared.types.Protocol.{Protocol}
 use Rattle.termwiz_extended_grammar.specs.ExtendedGrammar.{IsRest, Means, Steps}
+use Rattle.termwiz_extended_grammar.specs.Readings.{after_event, asking, first_reading}
 use Rattle.termwiz_input_extended.specs.NextItems.{HasItemThatNeedsMemory, IsPasteEvent}
 use Rattle.termwiz_extended_grammar.specs.ExtendedKinds.{IsKind}
 use Rattle.termwiz_extended_grammar.specs.declared.waiting.ExtendedWaiting.{ExtendedWaiting}
@@ -15,7 +16,8 @@ use Rattle.hedrugal.specs.ExtendedEvents.{c_extended_event, c_extended_part, ext
 
 -- there is a parser for the protocol with this number, nothing is buffered in it, and no event brought bytes
 abbrev pub IsFresh : Option ExtendedAndText → ℕ → Type 0
-IsFresh (Some held) protocol = (protocol_number held.parser.protocol ≡ protocol) × (held.parser.text ≡ []) × (held.text.items ≡ [])
+IsFresh (Some held) protocol = (protocol_number held.parser.reading.protocol ≡ protocol)
+    × (held.parser.reading ≡ first_reading held.parser.reading.protocol) × (held.parser.text ≡ []) × (held.text.items ≡ [])
 IsFresh None protocol = ⊥
 
 -- no protocol has this number
@@ -40,7 +42,7 @@ kept None = []
 -- the bytes were buffered behind what was, and nothing else changed
 abbrev pub Took : Option ExtendedAndText → List ℕ → Option ExtendedAndText → Type 0
 Took (Some before) bytes (Some after) =
-    (after.parser.text ≡ before.parser.text ++ bytes) × (after.parser.protocol ≡ before.parser.protocol)
+    (after.parser.text ≡ before.parser.text ++ bytes) × (after.parser.reading ≡ before.parser.reading)
     × (after.text.items ≡ before.text.items)
 Took _ bytes _ = ⊥
 
@@ -48,33 +50,33 @@ Took _ bytes _ = ⊥
 abbrev pub text_after : ExtendedEvent → List ℕ → List ℕ
 text_after event before = unwrap_or (own_bytes event) before
 
--- this is the event in numbers, its bytes are kept, and the protocol is as before
+-- this is the event in numbers, its bytes are kept, and the reading is that after it
 abbrev pub Shows : ExtendedAndText → ExtendedEvent → CExtendedEvent → ExtendedAndText → Type 0
 Shows before event shown after =
     (shown ≡ c_extended_event event) × (after.text.items ≡ text_after event before.text.items)
-    × (after.parser.protocol ≡ before.parser.protocol)
+    × (after.parser.reading ≡ after_event before.parser.reading event)
 
 -- the item at the front was taken, and this is its event
 abbrev pub Gave : Option ExtendedAndText → Bool → CExtendedEvent → Option ExtendedAndText → Type 0
 Gave (Some before) more shown (Some after) =
-    (event : ExtendedEvent) × Steps before.parser.protocol before.parser.text more (event ∷ []) after.parser.text
+    (event : ExtendedEvent) × Steps before.parser.reading before.parser.text more (event ∷ []) after.parser.text
     × Shows before event shown after
 Gave _ more shown _ = ⊥
 
 -- no item stands at the front of what is buffered
 abbrev pub Rests : Option ExtendedAndText → Bool → Type 0
-Rests (Some held) more = IsRest held.parser.protocol held.parser.text more
+Rests (Some held) more = IsRest held.parser.reading held.parser.text more
 Rests None more = ⊥
 
 -- an item whose event may hold memory stands at the front of what is buffered
 abbrev pub NeedsMemoryNext : Option ExtendedAndText → Bool → Type 0
-NeedsMemoryNext (Some held) more = HasItemThatNeedsMemory held.parser.protocol held.parser.text more
+NeedsMemoryNext (Some held) more = HasItemThatNeedsMemory held.parser.reading held.parser.text more
 NeedsMemoryNext None more = ⊥
 
 -- a rest that is buffered is of the kind with this number; 0 without a parser
 abbrev pub HasKind : Option ExtendedAndText → ℕ → Type 0
 HasKind (Some held) number = (kind : ExtendedWaiting) × (number ≡ extended_waiting_number kind) × ((more : Bool)
-    → IsRest held.parser.protocol held.parser.text more → IsKind held.parser.protocol held.parser.text more kind)
+    → IsRest held.parser.reading held.parser.text more → IsKind held.parser.reading held.parser.text more kind)
 HasKind None number = number ≡ 0
 
 -- ESC or ESC ESC is buffered
@@ -85,8 +87,8 @@ HasEscape None = ⊥
 -- what was buffered is this event, with no more to come
 abbrev pub Flushed : Option ExtendedAndText → CExtendedEvent → Option ExtendedAndText → Type 0
 Flushed (Some before) shown (Some after) =
-    (event : ExtendedEvent) × Means before.parser.protocol before.parser.text false (event ∷ []) after.parser.text
-    × (shown ≡ c_extended_event event) × (after.text.items ≡ before.text.items) × (after.parser.protocol ≡ before.parser.protocol)
+    (event : ExtendedEvent) × Means before.parser.reading before.parser.text false (event ∷ []) after.parser.text
+    × (shown ≡ c_extended_event event) × (after.text.items ≡ before.text.items) × (after.parser.reading ≡ before.parser.reading)
 Flushed _ shown _ = ⊥
 
 -- a paste without an end is buffered, and no more than it
@@ -105,24 +107,24 @@ abbrev pub HasPartOfPaste : Option ExtendedAndText → ℕ → Type 0
 HasPartOfPaste (Some held) limit = HasPart held.parser.text limit
 HasPartOfPaste None limit = ⊥
 
--- that part was taken, this is its event, its text is kept, and the protocol is as before
+-- that part was taken, this is its event, its text is kept, and the reading is as before
 abbrev pub TookPart : Option ExtendedAndText → ℕ → CExtendedEvent → Option ExtendedAndText → Type 0
 TookPart (Some before) limit shown (Some after) =
     (text : List ℕ) × IsTaken before.parser.text limit text after.parser.text × (shown ≡ c_extended_part text)
-    × (after.text.items ≡ text) × (after.parser.protocol ≡ before.parser.protocol)
+    × (after.text.items ≡ text) × (after.parser.reading ≡ before.parser.reading)
 TookPart _ limit shown _ = ⊥
 
 -- so many bytes of the open paste are forgotten, and nothing else changed
 abbrev pub Skipped : Option ExtendedAndText → ℕ → Option ExtendedAndText → Type 0
 Skipped (Some before) count (Some after) =
-    IsSkipped before.parser.text count after.parser.text × (after.parser.protocol ≡ before.parser.protocol)
+    IsSkipped before.parser.text count after.parser.text × (after.parser.reading ≡ before.parser.reading)
     × (after.text.items ≡ before.text.items)
 Skipped _ count _ = ⊥
 
--- what was buffered is forgotten, and nothing else changed
+-- what was buffered is forgotten, no question is open, and nothing else changed
 abbrev pub IsReset : Option ExtendedAndText → Option ExtendedAndText → Type 0
 IsReset (Some before) (Some after) =
-    (after.parser.text ≡ []) × (after.parser.protocol ≡ before.parser.protocol) × (after.text.items ≡ before.text.items)
+    (after.parser.text ≡ []) × (after.parser.reading ≡ asking before.parser.reading 0) × (after.text.items ≡ before.text.items)
 IsReset before after = after ≡ before
 
 -- the bytes of the last event are forgotten, and nothing else changed
@@ -130,7 +132,7 @@ abbrev pub HasDroppedText : Option ExtendedAndText → Option ExtendedAndText �
 HasDroppedText (Some before) (Some after) = (after.parser ≡ before.parser) × (after.text.items ≡ [])
 HasDroppedText before after = after ≡ before
 
--- what is buffered, the protocol and the bytes of the last event are as they were
+-- what is buffered, the reading and the bytes of the last event are as they were
 abbrev pub IsUnchanged : Option ExtendedAndText → Option ExtendedAndText → Type 0
 IsUnchanged (Some before) (Some after) = (after.parser ≡ before.parser) × (after.text.items ≡ before.text.items)
 IsUnchanged before after = after ≡ before

@@ -2,7 +2,7 @@
 use Rattle.std.specs.Prelude.{ℕ, List, [], length, Option, Some, None, unwrap_or}
 use Rattle.termwiz_input.specs.InputEvent.TheVariants as input
 use Rattle.termwiz_extended_events.specs.declared.types.ExtendedEvent.{ExtendedEvent}
-use Rattle.termwiz_extended_events.specs.declared.types.ExtendedEvent.TheVariants.{Input, Key, FocusGained, FocusLost, CursorPosition, Resize, KeyboardFlags, Csi, Osc, Dcs, Apc, StringPart, StringCut}
+use Rattle.termwiz_extended_events.specs.declared.types.ExtendedEvent.TheVariants.{Input, Key, FocusGained, FocusLost, CursorPosition, Resize, KeyboardFlags, SideButton, Csi, Osc, Dcs, Apc, StringPart, StringCut}
 use Rattle.termwiz_extended_events.specs.declared.types.KeyEventKind.{KeyEventKind}
 use Rattle.termwiz_extended_events.specs.declared.types.KeyEventKind.TheVariants.{Press, Repeat, Release}
 use Rattle.termwiz_extended_events.specs.declared.types.KeyReport.{KeyReport}
@@ -10,6 +10,9 @@ use Rattle.termwiz_extended_events.specs.declared.types.ReportedKey.{ReportedKey
 use Rattle.termwiz_extended_events.specs.declared.types.ReportedKey.TheVariants.{Named, Functional}
 use Rattle.termwiz_extended_events.specs.declared.types.Protocol.{Protocol}
 use Rattle.termwiz_extended_events.specs.declared.types.Protocol.TheVariants.{Legacy, Kitty}
+use Rattle.termwiz_extended_events.specs.declared.types.SideButtonEvent.{SideButtonEvent}
+use Rattle.termwiz_extended_events.specs.declared.types.SideButtonKind.{SideButtonKind}
+use Rattle.termwiz_extended_events.specs.declared.types.SideButtonKind.TheVariants as side
 use Rattle.termwiz_extended_events.specs.declared.types.StringKind.{StringKind}
 use Rattle.termwiz_extended_events.specs.declared.types.StringKind.TheVariants as kinds
 use Rattle.termwiz_extended_events.specs.EventKeys.{key_of_event}
@@ -96,6 +99,7 @@ kind_number (Dcs bytes) = 12
 kind_number (Apc bytes) = 13
 kind_number (StringPart kind bytes) = 15
 kind_number (StringCut kind bytes) = 16
+kind_number (SideButton report) = 17
 
 -- the number of a string's kind: that of the event of a whole one
 unfoldable pub string_kind_number : StringKind → ℕ
@@ -103,9 +107,19 @@ string_kind_number kinds.Osc = 11
 string_kind_number kinds.Dcs = 12
 string_kind_number kinds.Apc = 13
 
+-- the number of what happened to a side button
+unfoldable pub side_button_number : SideButtonKind → ℕ
+side_button_number side.Press = 1
+side_button_number side.Release = 2
+side_button_number side.Drag = 3
+
 -- the event of the port that C has of an event of another kind: all of it is 0
 abbrev pub no_input : CEvent
 no_input = record { kind = 0; buttons = 0; modifiers = 0; key = 0; x = 0; y = 0; detail = 0; paste_len = 0 }
+
+-- that of a side button: its number, and where the mouse was
+abbrev pub side_input : SideButtonEvent → CEvent
+side_input report = record no_input { modifiers = report.modifiers.0; x = report.x; y = report.y; detail = report.number }
 
 -- of an event what each kind has: its number, the report of its key, and how many bytes it brings
 abbrev pub common : ExtendedEvent → CExtendedEvent
@@ -130,6 +144,7 @@ with_own (CursorPosition row column) shown = record shown { row = row; column = 
 with_own (Resize rows columns height width) shown =
     record shown { rows = rows; columns = columns; height = height; width = width }
 with_own (KeyboardFlags flags) shown = record shown { flags = flags }
+with_own (SideButton report) shown = record shown { flags = side_button_number report.kind; input = side_input report }
 with_own (StringPart kind bytes) shown = record shown { flags = string_kind_number kind }
 with_own (StringCut kind bytes) shown = record shown { flags = string_kind_number kind }
 with_own event shown = shown

@@ -33,7 +33,7 @@ BeginsTime after = (after.timing.held ≡ None) × (after.since ≡ nothing_sinc
 
 -- the timer was told the time and what is buffered
 abbrev pub Notes : ExtendedAndText → Since → Timing → ℕ → Timing → Type 0
-Notes held since before now after = (seen : Seen) × IsSeen before.policy held.parser.protocol held.parser.text since.fed since.taken seen
+Notes held since before now after = (seen : Seen) × IsSeen before.policy held.parser.reading held.parser.text since.fed since.taken seen
     × (after ≡ record { policy = before.policy; timer = noted before.timer now seen })
 
 -- The timer is told, and the answer is how long what is buffered may still wait. Memory is refused only where no timer is held: then the answer
@@ -53,7 +53,7 @@ IsNothing None = ⊥
 -- one event of a flush was taken, and this is it
 abbrev pub TookFlushed : Option ExtendedAndText → CExtendedEvent → Option ExtendedAndText → Type 0
 TookFlushed (Some before) shown (Some after) = (event : ExtendedEvent)
-    × FlushStep before.parser.protocol before.parser.text event after.parser.text × Shows before event shown after
+    × FlushStep before.parser.reading before.parser.text event after.parser.text × Shows before event shown after
 TookFlushed _ shown _ = ⊥
 
 -- what is buffered is flushed: a flush goes on, or it is due, as the timer says once it was told
@@ -65,7 +65,7 @@ IsFlushed None since before now after = ⊥
 
 -- the next event of a flush may hold memory
 abbrev pub FlushNeedsMemory : Option ExtendedAndText → Type 0
-FlushNeedsMemory (Some held) = IsOpenPaste held.parser.text ⊎ HasItemThatNeedsMemory held.parser.protocol held.parser.text false
+FlushNeedsMemory (Some held) = IsOpenPaste held.parser.text ⊎ HasItemThatNeedsMemory held.parser.reading held.parser.text false
 FlushNeedsMemory None = ⊥
 
 -- a flush goes on, or what is buffered is due at this time

@@ -13,6 +13,7 @@ pub mod Limits
 pub mod Owned
 pub mod PressCalls
 pub mod Presses
+pub mod ReadingCalls
 pub mod Replies
 pub mod Timings
 pub mod Views

@@ -4,6 +4,7 @@ ghost use Rattle.termwiz_input.specs.PasteParts.{HasPart, IsTaken};
 ghost use Rattle.termwiz_input.specs.WaitingKinds.{IsOneOrTwoEscapes, IsOpenPaste};
 ghost use Rattle.termwiz_extended_events.specs.declared.types.ExtendedEvent.{ExtendedEvent as Event};
 ghost use Rattle.termwiz_extended_grammar.specs.ExtendedGrammar.{IsRest, Means, Steps};
+ghost use Rattle.termwiz_extended_grammar.specs.Readings.{after_event};
 ghost use Rattle.termwiz_input_extended.specs.ExtendedExpiry.{FlushStep, IsSeen};
 ghost use Rattle.termwiz_input_extended.specs.NextItems.{HasItemThatNeedsMemory, IsPasteEvent};
 ghost use Rattle.hedrugal.specs.ExtendedEvents.{c_extended_event, c_extended_part};
@@ -53,13 +54,13 @@ impl ExtendedAndText {
     // The next event, as C has it.
     pub(crate) fn next(&mut self, maybe_more: bool) -> Result<Option<CExtendedEvent>, AllocError>
         ensures event { IfOk result (λ found. IfSome found (λ shown. (event : Event)
-            × Steps self.old.parser.protocol self.old.parser.text maybe_more (event ∷ []) self.new.parser.text
+            × Steps self.old.parser.reading self.old.parser.text maybe_more (event ∷ []) self.new.parser.text
             × (shown ≡ c_extended_event event)
-            × (self.new.text.items ≡ text_after event self.old.text.items))) }
-        ensures protocol { self.new.parser.protocol ≡ self.old.parser.protocol }
-        ensures none { IfOk result (λ found. IfNone found (IsRest self.old.parser.protocol self.old.parser.text maybe_more)) }
+            × (self.new.text.items ≡ text_after event self.old.text.items)
+            × (self.new.parser.reading ≡ after_event self.old.parser.reading event))) }
+        ensures none { IfOk result (λ found. IfNone found (IsRest self.old.parser.reading self.old.parser.text maybe_more)) }
         ensures none_same { IfOk result (λ found. IfNone found (self.new ≡ self.old)) }
-        ensures refused { OnErr result (HasItemThatNeedsMemory self.old.parser.protocol self.old.parser.text maybe_more) }
+        ensures refused { OnErr result (HasItemThatNeedsMemory self.old.parser.reading self.old.parser.text maybe_more) }
         ensures refused_same { OnErr result (self.new ≡ self.old) }
     {
         match self.parser.next_event(maybe_more)? {
@@ -71,9 +72,9 @@ impl ExtendedAndText {
     // The Escape key, as C has it, if nothing else is buffered.
     pub(crate) fn flush_escape(&mut self) -> Option<CExtendedEvent>
         ensures event { IfSome result (λ shown. (event : Event)
-            × Means self.old.parser.protocol self.old.parser.text false (event ∷ []) self.new.parser.text
+            × Means self.old.parser.reading self.old.parser.text false (event ∷ []) self.new.parser.text
             × (shown ≡ c_extended_event event)) }
-        ensures protocol { self.new.parser.protocol ≡ self.old.parser.protocol }
+        ensures reading { self.new.parser.reading ≡ self.old.parser.reading }
         ensures when { IsSome result ↔ IsOneOrTwoEscapes self.old.parser.text }
         ensures none { IfNone result (self.new.parser ≡ self.old.parser) }
         ensures text { self.new.text ≡ self.old.text }
@@ -87,9 +88,10 @@ impl ExtendedAndText {
         ensures event { IfOk result (λ found. IfSome found (λ shown. (event : Event)
             × IsPasteEvent self.old.parser.text event
             × (shown ≡ c_extended_event event)
-            × (self.new.text.items ≡ text_after event self.old.text.items))) }
+            × (self.new.text.items ≡ text_after event self.old.text.items)
+            × (self.new.parser.reading ≡ after_event self.old.parser.reading event))) }
         ensures nothing { IfOk result (λ found. IfSome found (λ _. self.new.parser.text ≡ [])) }
-        ensures protocol { self.new.parser.protocol ≡ self.old.parser.protocol }
+        ensures reading { self.new.parser.reading ≡ self.old.parser.reading }
         ensures none { IfOk result (λ found. IfNone found (¬ IsOpenPaste self.old.parser.text)) }
         ensures none_same { IfOk result (λ found. IfNone found (self.new ≡ self.old)) }
         ensures refused { OnErr result (IsOpenPaste self.old.parser.text) }
@@ -104,14 +106,14 @@ impl ExtendedAndText {
     // The next event of a flush, as C has it: that of an open paste where it is ended, or of an item with no more to come.
     pub(crate) fn next_flushed(&mut self) -> Result<Option<CExtendedEvent>, AllocError>
         ensures event { IfOk result (λ found. IfSome found (λ shown. (event : Event)
-            × FlushStep self.old.parser.protocol self.old.parser.text event self.new.parser.text
+            × FlushStep self.old.parser.reading self.old.parser.text event self.new.parser.text
             × (shown ≡ c_extended_event event)
-            × (self.new.text.items ≡ text_after event self.old.text.items))) }
-        ensures protocol { self.new.parser.protocol ≡ self.old.parser.protocol }
+            × (self.new.text.items ≡ text_after event self.old.text.items)
+            × (self.new.parser.reading ≡ after_event self.old.parser.reading event))) }
         ensures none { IfOk result (λ found. IfNone found (self.old.parser.text ≡ [])) }
         ensures none_same { IfOk result (λ found. IfNone found (self.new ≡ self.old)) }
         ensures refused { OnErr result (IsOpenPaste self.old.parser.text
-            ⊎ HasItemThatNeedsMemory self.old.parser.protocol self.old.parser.text false) }
+            ⊎ HasItemThatNeedsMemory self.old.parser.reading self.old.parser.text false) }
         ensures refused_same { OnErr result (self.new ≡ self.old) }
     {
         match time::next_flushed(&mut self.parser)? {
@@ -122,7 +124,7 @@ impl ExtendedAndText {
 
     // What the timer is told of what is buffered.
     pub(crate) fn seen(&self, policy: &Policy, since: Since) -> Seen
-        ensures { IsSeen policy.now self.now.parser.protocol self.now.parser.text since.fed since.taken result }
+        ensures { IsSeen policy.now self.now.parser.reading self.now.parser.text since.fed since.taken result }
     {
         time::seen_of(&self.parser, policy, since.fed, since.taken)
     }
@@ -134,7 +136,7 @@ impl ExtendedAndText {
             × IsTaken self.old.parser.text limit text self.new.parser.text
             × (shown ≡ c_extended_part text)
             × (self.new.text.items ≡ text))) }
-        ensures protocol { self.new.parser.protocol ≡ self.old.parser.protocol }
+        ensures reading { self.new.parser.reading ≡ self.old.parser.reading }
         ensures none { IfOk result (λ found. IfNone found (¬ HasPart self.old.parser.text limit)) }
         ensures none_same { IfOk result (λ found. IfNone found (self.new ≡ self.old)) }
         ensures bounded { OnOk result (IsOpenPaste self.new.parser.text → length self.new.parser.text ≤ 6 + max limit 5) }

@@ -32,6 +32,17 @@ pub(crate) fn protocol_at(number: u32) -> Option<Protocol>
     }
 }
 
+// The number of a protocol.
+#[tactic(auto, unfolding(crate::specs::ExtendedEvents::protocol_number))]
+pub(crate) fn protocol_number(protocol: Protocol) -> u32
+    ensures { result ≡ protocol_number protocol }
+{
+    match protocol {
+        Protocol::Legacy => PROTOCOL_LEGACY,
+        Protocol::Kitty => PROTOCOL_KITTY,
+    }
+}
+
 /// Makes an extended parser for the protocol with this number, and frees the one that was there. If memory is refused, or no protocol has
 /// the number, the answer is false and nothing changes.
 #[unsafe(no_mangle)]

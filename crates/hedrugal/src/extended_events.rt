@@ -1,7 +1,7 @@
 // Events of the extended parser, and the kinds of what stays buffered, as C has them.
 ghost use Rattle.std.specs.Prelude.{◌≡◌, option_map};
 ghost use Rattle.termwiz_extended_events.specs.EventKeys.{key_of_event, pressed_key};
-ghost use Rattle.hedrugal.specs.ExtendedEvents.{key_event_kind_number, bytes_of, c_extended_event, c_report, c_report_if, extended_waiting_number, kind_number, own_bytes, reported_detail, reported_number, string_kind_number};
+ghost use Rattle.hedrugal.specs.ExtendedEvents.{key_event_kind_number, bytes_of, c_extended_event, c_report, c_report_if, extended_waiting_number, kind_number, own_bytes, reported_detail, reported_number, side_button_number, side_input, string_kind_number};
 
 use crate::events::{CEvent, KIND_KEY, KIND_MOUSE, KIND_OTHER, KIND_PASTE, NO_EVENT, c_event};
 use crate::keys::{key_detail, key_number};
@@ -9,10 +9,12 @@ use crate::{
     WAITING_CHARACTER, WAITING_ESCAPE, WAITING_NOTHING, WAITING_PASTE, WAITING_SEQUENCE,
     WAITING_STRING,
 };
+use bitflags::Flags;
 use termwiz_input::types::{InputEvent, KeyEvent};
 use termwiz_input_extended::input::ExtendedWaiting;
 use termwiz_input_extended::types::{
-    ExtendedEvent, KeyEventKind, KeyReport, ReportedKey, StringKind,
+    ExtendedEvent, KeyEventKind, KeyReport, ReportedKey, SideButtonEvent, SideButtonKind,
+    StringKind,
 };
 
 // The kinds of events that only this parser has.
@@ -39,6 +41,15 @@ const KIND_APC: u8 = 13;
 const KIND_STRING_PART: u8 = 15;
 
 const KIND_STRING_CUT: u8 = 16;
+
+const KIND_SIDE_BUTTON: u8 = 17;
+
+// What happened to a side button.
+const SIDE_BUTTON_PRESS: u8 = 1;
+
+const SIDE_BUTTON_RELEASE: u8 = 2;
+
+const SIDE_BUTTON_DRAG: u8 = 3;
 
 // What happened to a key.
 pub(crate) const KEY_EVENT_KIND_PRESS: u8 = 1;
@@ -74,10 +85,11 @@ pub struct CKeyReport {
 pub struct CExtendedEvent {
     /// 1 for a key, 2 for the mouse, 3 for a paste, 4 for a key report, 5 and 6 for a focus gained and lost, 7 for the position of
     /// the cursor, 8 for a new size, 9 for keyboard flags, 10 to 13 for a control sequence, an operating system command, a device
-    /// control string and an application program command, 14 for a part of a paste, 15 for a part of a string, and 16 for a string that
-    /// was cut off.
+    /// control string and an application program command, 14 for a part of a paste, 15 for a part of a string, 16 for a string that
+    /// was cut off, and 17 for a side button of the mouse.
     pub kind: u8,
-    /// The flags of Kitty's keyboard protocol. With 15 and 16 the kind of the string: 11, 12 or 13.
+    /// The flags of Kitty's keyboard protocol. With 15 and 16 the kind of the string: 11, 12 or 13. With 17 what happened to the button: 1
+    /// for a press, 2 for a release, 3 for a drag.
     pub flags: u8,
     /// The cursor's row.
     pub row: u16,
@@ -93,7 +105,7 @@ pub struct CExtendedEvent {
     pub width: u16,
     /// The report of a key; also of a key of the port, as a press.
     pub report: CKeyReport,
-    /// An event of the port.
+    /// An event of the port. With 17 where the mouse was, and `detail` is the number of the button.
     pub input: CEvent,
     /// How many bytes the event brings.
     pub text_len: usize,
@@ -256,6 +268,7 @@ fn kind_number(event: &ExtendedEvent) -> u8
         ExtendedEvent::Apc(_) => KIND_APC,
         ExtendedEvent::StringPart { .. } => KIND_STRING_PART,
         ExtendedEvent::StringCut { .. } => KIND_STRING_CUT,
+        ExtendedEvent::SideButton(_) => KIND_SIDE_BUTTON,
     }
 }
 
@@ -268,6 +281,31 @@ fn string_kind_number(kind: StringKind) -> u8
         StringKind::Osc => KIND_OSC,
         StringKind::Dcs => KIND_DCS,
         StringKind::Apc => KIND_APC,
+    }
+}
+
+// The number of what happened to a side button.
+#[tactic(auto, unfolding(crate::specs::ExtendedEvents::side_button_number))]
+fn side_button_number(kind: SideButtonKind) -> u8
+    ensures { result ≡ side_button_number kind }
+{
+    match kind {
+        SideButtonKind::Press => SIDE_BUTTON_PRESS,
+        SideButtonKind::Release => SIDE_BUTTON_RELEASE,
+        SideButtonKind::Drag => SIDE_BUTTON_DRAG,
+    }
+}
+
+// Where the mouse was, and the number of a side button.
+fn side_input(report: &SideButtonEvent) -> CEvent
+    ensures { result ≡ side_input report.now }
+{
+    CEvent {
+        modifiers: report.modifiers.bits(),
+        x: report.x,
+        y: report.y,
+        detail: report.number.into(),
+        ..NO_EVENT
     }
 }
 
@@ -306,6 +344,11 @@ pub(crate) fn c_extended_event(event: &ExtendedEvent) -> CExtendedEvent
         },
         ExtendedEvent::KeyboardFlags(flags) => CExtendedEvent {
             flags: *flags,
+            ..shown
+        },
+        ExtendedEvent::SideButton(report) => CExtendedEvent {
+            flags: side_button_number(report.kind),
+            input: side_input(report),
             ..shown
         },
         ExtendedEvent::StringPart { kind, .. } | ExtendedEvent::StringCut { kind, .. } => {

@@ -33,6 +33,7 @@ mod modes;
 mod parser_and_paste;
 mod press_calls;
 mod raw_box;
+mod reading_calls;
 mod replies;
 mod reply_calls;
 mod sending;
