@@ -11,9 +11,10 @@ use Rattle.termwiz_input.specs.Pieces.{AreNumbered, NumberedEvent, ReadsFirst, e
 use Rattle.test_calls.specs.declared.parses.Stop.{Stop}
 use Rattle.test_calls.specs.declared.parses.PiecesStop.{PiecesStop}
 use Rattle.termwiz_extended_events.specs.declared.types.ExtendedEvent.{ExtendedEvent}
-use Rattle.termwiz_extended_events.specs.declared.types.Protocol.{Protocol}
+use Rattle.termwiz_extended_events.specs.declared.types.Reading.{Reading as ExtendedReading}
 use Rattle.termwiz_extended_grammar.specs.ExtendedGrammar as extended
 use Rattle.termwiz_extended_grammar.specs.ExtendedLaws as extended_laws
+use Rattle.termwiz_extended_grammar.specs.Readings.{after_events}
 use Rattle.test_calls.specs.GoingOn.{StopsAt, Describes, GoesOn, GoesOnWithPieces, Reading}
 
 module _ {Event : Type 0} (Items Meaning : Reading Event) (before bytes left waiting : List ℕ) (stop : Stop)
@@ -29,27 +30,33 @@ module _ {Event : Type 0} (Items Meaning : Reading Event) (before bytes left wai
         (left, subst (λ taken. StopsAt Items before bytes taken given left) (sym not_taken) (none, same), tells);
   }
 
-  -- a call without bytes, if they were; reading that stops between two items may go on
+  -- a call without bytes, if they were
+  pub gone_on : (given later : List Event) → stop.taken ≡ true → Items (before ++ bytes) false given left
+      → Meaning (before ++ bytes) false (given ++ later) waiting → GoesOn Items Meaning before bytes (Some stop) given later waiting
+  gone_on given later taken steps means = record {
+    means = means;
+    at_once = tt;
+    stopped = (left, subst (λ taken. StopsAt Items before bytes taken given left) (sym taken) steps, tells);
+  }
+
+  -- the same, where reading that stops between two items may go on
   pub without_bytes
       : ((text middle rest : List ℕ) (E D : List Event) → Items text false E middle → Meaning middle false D rest
       → Meaning text false (E ++ D) rest)
       → (given later : List Event) → stop.taken ≡ true → Items (before ++ bytes) false given left
       → Meaning (left ++ []) false later waiting → GoesOn Items Meaning before bytes (Some stop) given later waiting
-  without_bytes resumes given later taken steps means = record {
-    means = resumes (before ++ bytes) left waiting given later steps (rw append-nil at means);
-    at_once = tt;
-    stopped = (left, subst (λ taken. StopsAt Items before bytes taken given left) (sym taken) steps, tells);
-  }
+  without_bytes resumes given later taken steps means =
+      gone_on given later taken steps (resumes (before ++ bytes) left waiting given later steps (rw append-nil at means))
 
 -- the first half of a text's items, and what is left of it, by the laws on the resumption of reading
 pub resumes_port : port.Resumes → (text middle rest : List ℕ) (E D : List InputEvent) → Steps text false E middle
     → Means middle false D rest → Means text false (E ++ D) rest
 resumes_port resumes text middle rest E D = (resumes text [] middle rest E D false).1
 
-pub resumes_extended : extended_laws.Resumes → (protocol : Protocol) (text middle rest : List ℕ) (E D : List ExtendedEvent)
-    → extended.Steps protocol text false E middle → extended.Means protocol middle false D rest
-    → extended.Means protocol text false (E ++ D) rest
-resumes_extended resumes protocol text middle rest E D = (resumes protocol text [] middle rest E D false).1
+pub resumes_extended : extended_laws.Resumes → (reading : ExtendedReading) (text middle rest : List ℕ) (E D : List ExtendedEvent)
+    → extended.Steps reading text false E middle → extended.Means (after_events reading E) middle false D rest
+    → extended.Means reading text false (E ++ D) rest
+resumes_extended resumes reading text middle rest E D = (resumes reading text [] middle rest E D false).1
 
 -- the first k pieces, which were read so far, and then the others
 joined : port.Resumes → (before : List ℕ) (pieces : List (List ℕ)) (k : ℕ) (left waiting : List ℕ) (E D : List InputEvent)

@@ -6,6 +6,7 @@ ghost use Rattle.termwiz_input.specs.PasteParts.{IsTaken};
 ghost use Rattle.termwiz_input.specs.WaitingKinds.{IsOpenPaste};
 ghost use Rattle.termwiz_extended_events.specs.declared.types.ExtendedEvent.{ExtendedEvent as Event};
 ghost use Rattle.termwiz_extended_grammar.specs.ExtendedGrammar.{IsRest, Means, Steps};
+ghost use Rattle.termwiz_extended_grammar.specs.Readings.{first_reading};
 ghost use Rattle.termwiz_input_extended.specs.EventCallbacks.{WasCalledOn};
 ghost use Rattle.termwiz_input_extended.specs.NextItems.{IsPasteEvent};
 ghost use Rattle.test_calls.specs.GoingOn.{Describes, GoesOn};
@@ -30,7 +31,7 @@ fn left_in(parser: &ExtendedParser) -> Left
 /// A parser with an empty buffer, and whether the first call was refused.
 pub fn make_parser(alloc: Global, protocol: Protocol) -> Result<(ExtendedParser, bool), AllocError>
     ensures empty { IfOk result (λ made. made.0.text ≡ []) }
-    ensures protocol { IfOk result (λ made. made.0.protocol ≡ protocol) }
+    ensures reading { IfOk result (λ made. made.0.reading ≡ first_reading protocol) }
 {
     match ExtendedParser::new(alloc, protocol) {
         Ok(parser) => Ok((parser, false)),
@@ -57,8 +58,8 @@ pub fn next_event(
     parser: &mut ExtendedParser,
 ) -> Result<(Option<ExtendedEvent>, Option<usize>), AllocError>
     ensures event { IfOk result (λ next. IfSome next.0 (λ event.
-        Steps parser.old.protocol parser.old.text false (event ∷ []) parser.new.text)) }
-    ensures none { IfOk result (λ next. IfNone next.0 (IsRest parser.old.protocol parser.old.text false)) }
+        Steps parser.old.reading parser.old.text false (event ∷ []) parser.new.text)) }
+    ensures none { IfOk result (λ next. IfNone next.0 (IsRest parser.old.reading parser.old.text false)) }
     ensures none_same { IfOk result (λ next. IfNone next.0 (parser.new ≡ parser.old)) }
     ensures unchanged { IfOk result (λ next. IfSome next.1 (λ len. len ≡ length parser.old.text)) }
 {
@@ -115,7 +116,7 @@ pub fn for_each_event<F: FnMut(ExtendedEvent), G: FnMut(ExtendedEvent)>(
     ensures { IfOk result (λ stop. (given going_on : List Event)
         × WasCalledOn F.step first.old given first.new
         × WasCalledOn G.step later.old going_on later.new
-        × GoesOn (Steps parser.old.protocol) (Means parser.old.protocol) parser.old.text [] stop given going_on parser.new.text) }
+        × GoesOn (Steps parser.old.reading) (Means parser.old.reading) parser.old.text [] stop given going_on parser.new.text) }
 {
     // The law by which the events of both calls are the events of the bytes.
     resumes();
@@ -142,7 +143,7 @@ pub fn parse<F: FnMut(ExtendedEvent), G: FnMut(ExtendedEvent)>(
     ensures { IfOk result (λ stop. (given going_on : List Event)
         × WasCalledOn F.step first.old given first.new
         × WasCalledOn G.step later.old going_on later.new
-        × GoesOn (Steps parser.old.protocol) (Means parser.old.protocol) parser.old.text bytes.now stop given going_on
+        × GoesOn (Steps parser.old.reading) (Means parser.old.reading) parser.old.text bytes.now stop given going_on
         parser.new.text) }
 {
     resumes();
@@ -179,7 +180,7 @@ pub fn parse_as_vec(
     parser: &mut ExtendedParser,
     bytes: &[u8],
 ) -> Result<ExtendedLists, ExtendedVecError>
-    ensures { IfOk result (λ lists. GoesOn (Steps parser.old.protocol) (Means parser.old.protocol) parser.old.text bytes.now
+    ensures { IfOk result (λ lists. GoesOn (Steps parser.old.reading) (Means parser.old.reading) parser.old.text bytes.now
         lists.stop lists.first.items lists.later.items parser.new.text) }
 {
     resumes();

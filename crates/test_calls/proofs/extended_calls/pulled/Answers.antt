@@ -6,6 +6,6 @@ loop-events-smaller c =
     let step = rw c.in-Some.is at c.in_ok-event.ensures.event in
     omega (
       arith,
-      c.few_events.ensures c.loop-events.parser.protocol c.loop-events.parser.text c.next_event.new.self.text (c.in-Some.event ∷ [])
+      c.few_events.ensures c.loop-events.parser.reading c.loop-events.parser.text c.next_event.new.self.text (c.in-Some.event ∷ [])
           c.args.more step,
     )
