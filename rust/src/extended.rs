@@ -11,9 +11,11 @@
 //! use hedrugal::extended::{ExtendedEvent, ExtendedParser, Protocol};
 //!
 //! let mut parser = ExtendedParser::new(Protocol::Legacy);
-//! for event in parser.parse_as_vec(b"\x1b[?24;80R\x1b]11;rgb:1e1e/1e1e/1e1e\x1b\\q", true) {
+//! // The program has asked for the position of the cursor, by ESC `[6n`.
+//! parser.expect_position();
+//! for event in parser.parse_as_vec(b"\x1b[1;5R\x1b]11;rgb:1e1e/1e1e/1e1e\x1b\\q", true) {
 //!     match event {
-//!         ExtendedEvent::CursorPosition { row, column } => assert_eq!((row, column), (24, 80)),
+//!         ExtendedEvent::CursorPosition { row, column } => assert_eq!((row, column), (1, 5)),
 //!         ExtendedEvent::Osc(bytes) => assert_eq!(bytes, b"11;rgb:1e1e/1e1e/1e1e"),
 //!         event => assert!(event.key().is_some()),
 //!     }
@@ -27,7 +29,10 @@ mod replies;
 
 pub use crate::input::flags::KittyModifiers;
 pub use encode::KittyEncodeError;
-pub use events::{ExtendedEvent, KeyEventKind, KeyReport, ReportedKey, StringKind};
-pub use parser::{ExtendedParser, ExtendedWaiting, Protocol};
+pub use events::{
+    ExtendedEvent, KeyEventKind, KeyReport, ReportedKey, SideButtonEvent, SideButtonKind,
+    StringKind,
+};
+pub use parser::{ExtendedParser, ExtendedWaiting, Protocol, Reading};
 pub use press::{typed_text, KeyPress};
 pub use replies::{Colour, ColourName, ColourScheme, DeviceAttributes, ModeState, Reply};

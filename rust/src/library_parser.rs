@@ -80,7 +80,7 @@ impl<Raw: RawParser> LibraryParser<Raw> {
     }
 
     // The library's parser, for a call that has this one alone.
-    fn raw(&mut self) -> &mut Raw {
+    pub fn raw(&mut self) -> &mut Raw {
         self.raw.get_mut().unwrap_or_else(PoisonError::into_inner)
     }
 

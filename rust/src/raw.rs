@@ -442,6 +442,11 @@ const _: () = {
     assert!(offset_of!(ExtendedEvent, report) == 16 && offset_of!(ExtendedEvent, input) == 32);
     assert!(offset_of!(ExtendedEvent, text_len) == 56);
     assert!(
+        size_of::<Reading>() == 8
+            && offset_of!(Reading, x10_mouse) == 4
+            && offset_of!(Reading, questions) == 5
+    );
+    assert!(
         size_of::<Reply>() == 32
             && offset_of!(Reply, is_private) == 3
             && offset_of!(Reply, selection) == 6
@@ -533,7 +538,7 @@ extern "C" {
     pub fn hed_extended_expire(parser: *mut Extended, now: u64, event: *mut ExtendedEvent) -> u32;
     pub fn hed_extended_reset(parser: *mut Extended) -> usize;
     pub fn hed_extended_set_reading(parser: *mut Extended, reading: *const Reading) -> bool;
-    pub fn hed_extended_reading(parser: *const Extended, reading: *mut Reading) -> bool;
+    pub fn hed_extended_reading(parser: *mut Extended, reading: *mut Reading) -> bool;
     pub fn hed_extended_expect_position(parser: *mut Extended);
     pub fn hed_extended_forget_positions(parser: *mut Extended);
     pub fn hed_encode_kitty(

@@ -6,7 +6,7 @@ mod malloc;
 
 use hedrugal::extended::{
     ExtendedEvent, ExtendedParser, KeyEventKind, KeyReport, KittyEncodeError, KittyModifiers,
-    Protocol, ReportedKey, StringKind,
+    Protocol, Reading, ReportedKey, StringKind,
 };
 use hedrugal::input::{
     AllocError, EncodeError, InputEvent, InputParser, KeyCode, KeyCodeEncodeModes, KeyboardEncoding,
@@ -154,6 +154,52 @@ fn goes_on_with_the_extended_parser() {
         }
         assert!(number > 8);
     }
+}
+
+// Replies to two questions for the cursor's position, around one that needs memory, with each
+// request refused in turn. No question is answered twice.
+#[test]
+fn answers_each_question_once_after_a_refusal() {
+    let bytes = b"\x1b[1;5R\x1b]4;\x07\x1b[1;5R\x1b[?1;5c\x1b[1;5R";
+    for number in 1.. {
+        let mut parser = ExtendedParser::new(Protocol::Legacy);
+        parser.expect_position();
+        parser.expect_position();
+        let (first, refused) = refusing(number, || parser.try_parse_as_vec(bytes, true));
+        let events = match first {
+            Ok(events) => events,
+            Err(error) => {
+                let rest: &[u8] = if error.taken { b"" } else { bytes };
+                let mut events = error.events;
+                events.extend(parser.parse_as_vec(rest, true));
+                events
+            }
+        };
+        let position = ExtendedEvent::CursorPosition { row: 1, column: 5 };
+        let is_position: Vec<bool> = events.iter().map(|event| *event == position).collect();
+        assert_eq!(is_position, [true, false, true, false, false]);
+        assert_eq!(parser.reading(), Reading::new(Protocol::Legacy));
+        if refused == 0 {
+            assert!(number > 3);
+            break;
+        }
+    }
+}
+
+#[test]
+fn changes_a_reading_without_memory() {
+    let mut parser = ExtendedParser::new(Protocol::Legacy);
+    let reading = Reading {
+        protocol: Protocol::Kitty,
+        x10_mouse: true,
+        questions: 3,
+    };
+    assert_eq!(refusing(1, || parser.set_reading(reading)).1, 0);
+    assert_eq!(refusing(1, || parser.reading()), (reading, 0));
+    assert_eq!(refusing(1, || parser.expect_position()).1, 0);
+    assert_eq!(parser.reading().questions, 4);
+    assert_eq!(refusing(1, || parser.forget_positions()).1, 0);
+    assert_eq!(parser.reading().questions, 0);
 }
 
 // What replies say, with each request refused in turn: a refusal is told, and the call may be made

@@ -3,6 +3,10 @@
 //!
 //!     HEDRUGAL_LIBRARY=DIR cargo run --example ask
 //!
+//! The reply to ESC [6n may have the bytes of an F3 with modifiers. All recorded terminals answer
+//! that question, and only few answer ESC [?6n, whose reply is no key. So the program asks ESC [6n,
+//! and tells the parser that a position is expected.
+//!
 //! A terminal leaves a question without a reply if it doesn't know it. So the last question is for
 //! its attributes (DA1), which nearly every terminal answers: once that reply came, no other will.
 //! The program waits for a second at most.
@@ -28,8 +32,8 @@ use std::time::{Duration, Instant};
 use terminal::Terminal;
 use unix::signals;
 
-/// Under `Protocol::Legacy` the reply to ESC [6n may be an F3, and that to ESC [?6n never is.
-const QUESTIONS: &[u8] = b"\x1b[?6n\x1b]11;?\x1b\\\x1b[?u\x1b[c";
+/// The first is for the cursor's position, which the parser has to expect.
+const QUESTIONS: &[u8] = b"\x1b[6n\x1b]11;?\x1b\\\x1b[?u\x1b[c";
 
 const LONGEST_WAIT: Duration = Duration::from_secs(1);
 
@@ -59,7 +63,7 @@ impl Replies {
                 self.typed += 1;
                 return;
             }
-            // Another reply, or one that was cut off, is nothing that was typed.
+            // Another reply, one that was cut off, or a side button is nothing that was typed.
             _ => return,
         };
         self.lines.push(line);
@@ -147,6 +151,7 @@ fn ask() -> io::Result<Replies> {
     let mut wake = signals::note_all()?;
     terminal.enter()?;
     let mut output = io::stdout();
+    parser.expect_position();
     output.write_all(QUESTIONS)?;
     output.flush()?;
     read_replies(&mut terminal.input, &mut wake, &mut parser)

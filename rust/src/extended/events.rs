@@ -1,6 +1,6 @@
 // What happens at a terminal, and what it replies.
 use super::KittyModifiers;
-use crate::input::{AllocError, InputEvent, KeyCode, KeyEvent, FAULT};
+use crate::input::{AllocError, InputEvent, KeyCode, KeyEvent, Modifiers, FAULT};
 use crate::raw;
 
 /// What happened to a key.
@@ -101,6 +101,67 @@ pub enum StringKind {
     Apc,
 }
 
+/// What happened to a side button of the mouse.
+///
+/// ```
+/// use hedrugal::extended::{ExtendedEvent, ExtendedParser, Protocol, SideButtonKind};
+///
+/// let mut parser = ExtendedParser::new(Protocol::Legacy);
+/// for (bytes, kind) in [
+///     (b"\x1b[<128;3;4M", SideButtonKind::Press),
+///     (b"\x1b[<160;3;4M", SideButtonKind::Drag),
+///     (b"\x1b[<128;3;4m", SideButtonKind::Release),
+/// ] {
+///     let [ExtendedEvent::SideButton(button)] = parser.parse_as_vec(bytes, true)[..] else {
+///         unreachable!()
+///     };
+///     assert_eq!((button.number, button.kind), (8, kind));
+/// }
+/// ```
+#[derive(Debug, Clone, Copy, PartialEq, Eq, Hash)]
+#[cfg_attr(feature = "use_serde", derive(serde::Serialize, serde::Deserialize))]
+pub enum SideButtonKind {
+    /// It was pressed.
+    Press,
+    /// It was released. Only SGR reports (mode 1006) tell which button was.
+    Release,
+    /// The mouse was moved while it was down.
+    Drag,
+}
+
+/// A report of one of the mouse buttons 8 to 11, with the position in cells. Of most mice 8 goes
+/// back and 9 goes forward.
+///
+/// ```
+/// use hedrugal::extended::{ExtendedEvent, ExtendedParser, Protocol};
+/// use hedrugal::extended::{SideButtonEvent, SideButtonKind};
+/// use hedrugal::input::Modifiers;
+///
+/// let event = SideButtonEvent {
+///     number: 9,
+///     kind: SideButtonKind::Press,
+///     x: 3,
+///     y: 4,
+///     modifiers: Modifiers::CTRL,
+/// };
+/// let events = ExtendedParser::new(Protocol::Legacy).parse_as_vec(b"\x1b[<145;3;4M", true);
+/// assert_eq!(events, [ExtendedEvent::SideButton(event)]);
+/// ```
+#[derive(Debug, Clone, Copy, PartialEq, Eq)]
+#[cfg_attr(feature = "use_serde", derive(serde::Serialize, serde::Deserialize))]
+pub struct SideButtonEvent {
+    /// The number of the button, from 8 to 11.
+    pub number: u8,
+    /// Whether it was pressed, released or dragged.
+    pub kind: SideButtonKind,
+    /// The column, as the terminal sent it: the leftmost is 1.
+    pub x: u16,
+    /// The row, as the terminal sent it: the topmost is 1.
+    pub y: u16,
+    /// The modifier keys that were held.
+    pub modifiers: Modifiers,
+}
+
 /// Something that happened at the terminal, or that it replied.
 ///
 /// ```
@@ -142,6 +203,8 @@ pub enum ExtendedEvent {
     /// The reply to a question for the flags of Kitty's keyboard protocol, as the bits of
     /// [`KittyKeyboardFlags`](crate::input::KittyKeyboardFlags).
     KeyboardFlags(u8),
+    /// One of the mouse buttons 8 to 11 was pressed, released or dragged.
+    SideButton(SideButtonEvent),
     /// Any other control sequence: its bytes after ESC `[`.
     Csi(Vec<u8>),
     /// An operating system command: its bytes after ESC `]`, without its end.
@@ -219,6 +282,7 @@ impl ExtendedEvent {
                 width: event.width,
             },
             raw::KIND_KEYBOARD_FLAGS => ExtendedEvent::KeyboardFlags(event.flags),
+            raw::KIND_SIDE_BUTTON => ExtendedEvent::SideButton(SideButtonEvent::of(event)),
             raw::KIND_CSI => ExtendedEvent::Csi(text(event.text_len)?),
             raw::KIND_OSC => ExtendedEvent::Osc(text(event.text_len)?),
             raw::KIND_DCS => ExtendedEvent::Dcs(text(event.text_len)?),
@@ -233,6 +297,31 @@ impl ExtendedEvent {
             },
             _ => unreachable!("{FAULT}"),
         })
+    }
+}
+
+impl SideButtonKind {
+    // What happened, by the number of the library.
+    fn of(number: u8) -> SideButtonKind {
+        match number {
+            raw::SIDE_BUTTON_PRESS => SideButtonKind::Press,
+            raw::SIDE_BUTTON_RELEASE => SideButtonKind::Release,
+            raw::SIDE_BUTTON_DRAG => SideButtonKind::Drag,
+            _ => unreachable!("{FAULT}"),
+        }
+    }
+}
+
+impl SideButtonEvent {
+    // The report in an event of the library.
+    fn of(event: &raw::ExtendedEvent) -> SideButtonEvent {
+        SideButtonEvent {
+            number: u8::try_from(event.input.detail).expect(FAULT),
+            kind: SideButtonKind::of(event.flags),
+            x: event.input.x,
+            y: event.input.y,
+            modifiers: Modifiers::from_bits(event.input.modifiers).expect(FAULT),
+        }
     }
 }
 

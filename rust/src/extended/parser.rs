@@ -22,10 +22,12 @@ use std::time::{Duration, Instant};
 /// let events = ExtendedParser::new(Protocol::Kitty).parse_as_vec(b"\x1b[1;5R", true);
 /// assert_eq!(events, [ExtendedEvent::CursorPosition { row: 1, column: 5 }]);
 /// ```
-#[derive(Debug, Clone, Copy, PartialEq, Eq, Hash)]
+#[derive(Debug, Clone, Copy, PartialEq, Eq, Hash, Default)]
 pub enum Protocol {
-    /// All entries keep their keys. For programs that leave Kitty's keyboard protocol off. Ask for
-    /// the cursor's position by ESC `[?6n`, since the reply to ESC `[6n` may be the entry of an F3.
+    /// All entries keep their keys. For programs that leave Kitty's keyboard protocol off. The
+    /// reply to ESC `[6n` may be the entry of an F3: [`ExtendedParser::expect_position`] tells the
+    /// two apart.
+    #[default]
     Legacy,
     /// Entries that report a key, or the position of the cursor, are read as these reports. For
     /// programs that turn Kitty's keyboard protocol on, so that a press and its release name the
@@ -39,6 +41,69 @@ impl Protocol {
         match self {
             Protocol::Legacy => raw::PROTOCOL_LEGACY,
             Protocol::Kitty => raw::PROTOCOL_KITTY,
+        }
+    }
+
+    // What the library's number stands for.
+    fn of(number: u32) -> Protocol {
+        match number {
+            raw::PROTOCOL_LEGACY => Protocol::Legacy,
+            raw::PROTOCOL_KITTY => Protocol::Kitty,
+            _ => unreachable!("{FAULT}"),
+        }
+    }
+}
+
+/// How an [`ExtendedParser`] reads. A program may change it between any two calls.
+///
+/// ```
+/// use hedrugal::extended::{ExtendedEvent, ExtendedParser, Protocol, Reading};
+/// use hedrugal::input::{InputEvent, Modifiers, MouseButtons, MouseEvent};
+///
+/// // A program that turned mode 1000 on at a terminal without SGR reports.
+/// let reading = Reading { x10_mouse: true, ..Reading::new(Protocol::Legacy) };
+/// let mut parser = ExtendedParser::new(Protocol::Legacy);
+/// parser.set_reading(reading);
+/// let event = MouseEvent {
+///     x: 1,
+///     y: 2,
+///     mouse_buttons: MouseButtons::LEFT,
+///     modifiers: Modifiers::NONE,
+/// };
+/// assert_eq!(
+///     parser.parse_as_vec(b"\x1b[M !\"", true),
+///     [ExtendedEvent::Input(InputEvent::Mouse(event))]
+/// );
+/// ```
+#[derive(Debug, Clone, Copy, PartialEq, Eq, Hash, Default)]
+pub struct Reading {
+    /// The keyboard protocol that the program turned on.
+    pub protocol: Protocol,
+    /// X10 mouse reports are read: ESC `[M` and three bytes. Without it ESC `[M` is a control
+    /// sequence. For programs that turn a mouse mode on, and neither SGR reports (mode 1006) nor
+    /// urxvt's (1015).
+    pub x10_mouse: bool,
+    /// How many questions for the cursor's position are open: see
+    /// [`ExtendedParser::expect_position`].
+    pub questions: u8,
+}
+
+impl Reading {
+    /// Reads by this protocol, without X10 mouse reports and open questions.
+    ///
+    /// ```
+    /// use hedrugal::extended::{ExtendedParser, Protocol, Reading};
+    ///
+    /// let reading = Reading::new(Protocol::Kitty);
+    /// assert_eq!((reading.x10_mouse, reading.questions), (false, 0));
+    /// assert_eq!(ExtendedParser::new(Protocol::Kitty).reading(), reading);
+    /// ```
+    #[must_use]
+    pub const fn new(protocol: Protocol) -> Reading {
+        Reading {
+            protocol,
+            x10_mouse: false,
+            questions: 0,
         }
     }
 }
@@ -140,7 +205,6 @@ unsafe impl RawParser for raw::Extended {
 /// ```
 pub struct ExtendedParser {
     parser: LibraryParser<raw::Extended>,
-    protocol: Protocol,
 }
 
 impl ExtendedParser {
@@ -181,11 +245,100 @@ impl ExtendedParser {
             raw::hed_extended_init_sharing_parser(&mut raw, protocol.number(), idle)
         })?;
         let parser = LibraryParser::of(raw);
-        Ok(ExtendedParser { parser, protocol })
+        Ok(ExtendedParser { parser })
     }
 
-    /// Returns the keyboard protocol that the program turned on, as [`ExtendedParser::new`] was
-    /// told.
+    /// Returns how the parser reads. Each [`ExtendedEvent::CursorPosition`] answers one of its
+    /// questions, if any is open.
+    ///
+    /// ```
+    /// use hedrugal::extended::{ExtendedParser, Protocol};
+    ///
+    /// let mut parser = ExtendedParser::new(Protocol::Legacy);
+    /// parser.expect_position();
+    /// assert_eq!(parser.reading().questions, 1);
+    /// parser.parse(b"\x1b[24;80R", |_| {}, true);
+    /// assert_eq!(parser.reading().questions, 0);
+    /// ```
+    #[must_use]
+    pub fn reading(&self) -> Reading {
+        let mut reading = raw::Reading::default();
+        // SAFETY: the pointer leads to a parser, which this thread alone has, and `reading` is
+        // another value.
+        let is_read =
+            unsafe { raw::hed_extended_reading(&mut *self.parser.locked(), &mut reading) };
+        assert!(is_read, "{FAULT}");
+        Reading {
+            protocol: Protocol::of(reading.protocol),
+            x10_mouse: reading.x10_mouse,
+            questions: reading.questions,
+        }
+    }
+
+    /// Has the parser read so from now on, also what is buffered. The next call that parses emits
+    /// what that decides.
+    ///
+    /// A program begins with [`Protocol::Legacy`], asks ESC `[?u`, and goes on with
+    /// [`Protocol::Kitty`] once a reply came and it turned the protocol on.
+    ///
+    /// ```
+    /// use hedrugal::extended::{ExtendedEvent, ExtendedParser, Protocol, Reading};
+    ///
+    /// let mut parser = ExtendedParser::new(Protocol::Legacy);
+    /// assert_eq!(parser.parse_as_vec(b"\x1b[?0u", true), [ExtendedEvent::KeyboardFlags(0)]);
+    /// parser.set_reading(Reading { protocol: Protocol::Kitty, ..parser.reading() });
+    /// assert_eq!(parser.protocol(), Protocol::Kitty);
+    /// ```
+    pub fn set_reading(&mut self, reading: Reading) {
+        let reading = raw::Reading {
+            protocol: reading.protocol.number(),
+            x10_mouse: reading.x10_mouse,
+            questions: reading.questions,
+        };
+        // SAFETY: the pointer leads to a parser, and `reading` is another value.
+        let is_set = unsafe { raw::hed_extended_set_reading(self.parser.raw(), &reading) };
+        assert!(is_set, "{FAULT}");
+    }
+
+    /// Expects one more reply to a question for the cursor's position, up to 255. Call it with each
+    /// ESC `[6n` that is written.
+    ///
+    /// While a reply is expected, ESC `[1;5R` and the like are
+    /// [`ExtendedEvent::CursorPosition`], and not F3 with modifiers. Each such event answers one
+    /// question.
+    ///
+    /// ```
+    /// use hedrugal::extended::{ExtendedEvent, ExtendedParser, Protocol};
+    ///
+    /// let mut parser = ExtendedParser::new(Protocol::Legacy);
+    /// parser.expect_position();
+    /// let events = parser.parse_as_vec(b"\x1b[1;5R\x1b[1;5R", true);
+    /// assert_eq!(events[0], ExtendedEvent::CursorPosition { row: 1, column: 5 });
+    /// assert!(matches!(events[1], ExtendedEvent::Input(_)));
+    /// ```
+    pub fn expect_position(&mut self) {
+        // SAFETY: the pointer leads to a parser.
+        unsafe { raw::hed_extended_expect_position(self.parser.raw()) }
+    }
+
+    /// Expects no reply any more to questions for the cursor's position. Call it when a reply is
+    /// overdue, or when a later question was answered.
+    ///
+    /// ```
+    /// use hedrugal::extended::{ExtendedParser, Protocol};
+    ///
+    /// let mut parser = ExtendedParser::new(Protocol::Legacy);
+    /// parser.expect_position();
+    /// parser.forget_positions();
+    /// assert_eq!(parser.reading().questions, 0);
+    /// ```
+    pub fn forget_positions(&mut self) {
+        // SAFETY: the pointer leads to a parser.
+        unsafe { raw::hed_extended_forget_positions(self.parser.raw()) }
+    }
+
+    /// Returns the keyboard protocol that the program turned on, as [`ExtendedParser::new`] or
+    /// [`ExtendedParser::set_reading`] was told.
     ///
     /// ```
     /// use hedrugal::extended::{ExtendedParser, Protocol};
@@ -194,7 +347,7 @@ impl ExtendedParser {
     /// ```
     #[must_use]
     pub fn protocol(&self) -> Protocol {
-        self.protocol
+        self.reading().protocol
     }
 
     /// Appends `bytes` to the buffer. [`ExtendedParser::next_event`] then emits the events, one at
@@ -603,7 +756,8 @@ impl ExtendedParser {
         self.parser.expire(now, callback)
     }
 
-    /// Forgets all that is buffered, an open paste too, and an event that was refused memory.
+    /// Forgets all that is buffered, an open paste too, an event that was refused memory, and open
+    /// questions for the cursor's position. The protocol and X10 mouse reports stay as they are.
     /// Returns the number of bytes that were buffered, as [`ExtendedParser::waiting_len`] counts
     /// them.
     ///
@@ -645,7 +799,7 @@ impl ExtendedParser {
 impl fmt::Debug for ExtendedParser {
     fn fmt(&self, f: &mut fmt::Formatter<'_>) -> fmt::Result {
         f.debug_struct("ExtendedParser")
-            .field("protocol", &self.protocol)
+            .field("reading", &self.reading())
             .field("waiting_len", &self.waiting_len())
             .finish_non_exhaustive()
     }

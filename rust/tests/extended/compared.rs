@@ -3,31 +3,68 @@ use crate::draws::Draws;
 use crate::examples::{Step, BOTH, LAST, MORE};
 use crate::generated::any_text;
 use crate::plain::PlainReader;
-use hedrugal::extended::{ExtendedParser, Protocol};
+use hedrugal::extended::{ExtendedParser, Protocol, Reading};
 
 // The end of a paste.
 const END: &[u8] = b"\x1b[201~";
 
-// The parser, the plain reader, and what the reader has buffered.
+// The parser, the plain reader, how both read first, and what the reader has buffered.
 pub struct Comparison {
     parser: ExtendedParser,
     reader: PlainReader,
+    first: Reading,
     waiting: Vec<u8>,
 }
 
 impl Comparison {
     pub fn new(protocol: Protocol) -> Comparison {
+        let first = Reading::new(protocol);
         Comparison {
             parser: ExtendedParser::new(protocol),
-            reader: PlainReader::new(protocol),
+            reader: PlainReader::new(first),
+            first,
             waiting: Vec::new(),
         }
     }
 
-    // Forgets what is buffered.
+    // How both read from the next beginning on.
+    pub fn set_first(&mut self, reading: Reading) {
+        self.first = reading;
+    }
+
+    // Forgets what is buffered, and reads as at first.
     fn begin(&mut self) {
         self.parser.reset();
         self.waiting.clear();
+        self.set_reading(self.first);
+    }
+
+    // Both read so from now on.
+    fn set_reading(&mut self, reading: Reading) {
+        self.parser.set_reading(reading);
+        self.reader.set_reading(reading);
+    }
+
+    // Another drawn call between two reads, or none. What is buffered stays, but for a reset.
+    fn call_between(&mut self, draws: &mut Draws, protocol: Protocol) {
+        match draws.below(10) {
+            0 => {
+                self.parser.reset();
+                self.waiting.clear();
+                self.reader.forget_positions();
+            }
+            1 => {
+                self.parser.forget_positions();
+                self.reader.forget_positions();
+            }
+            2..=4 => {
+                self.parser.expect_position();
+                self.reader.expect_position();
+            }
+            5 => self.set_reading(draws.reading(protocol)),
+            _ => (),
+        }
+        assert_eq!(self.parser.reading(), self.reader.reading());
     }
 
     // The calls have the events of the plain reader. Returns whether an extra sequence is among them.
@@ -60,6 +97,7 @@ impl Comparison {
             "{}, {more}",
             text.escape_ascii()
         );
+        assert_eq!(self.parser.reading(), self.reader.reading());
         self.waiting = rest;
     }
 
@@ -100,6 +138,7 @@ fn check_texts(seed: u64) {
         for _ in 0..TEXTS {
             let text = any_text(&mut draws);
             let place = draws.place_in(&text);
+            comparison.set_first(draws.reading(*protocol));
             comparison.check_text(&text, place);
         }
     }
@@ -115,6 +154,28 @@ fn reads_as_the_plain_reader_2() {
     check_texts(4);
 }
 
+// Reads with other calls between them: questions are asked and forgotten, and the reading changes,
+// also its protocol, while bytes are buffered.
+#[test]
+fn reads_as_the_plain_reader_however_asked() {
+    let mut draws = Draws::new(5);
+    let mut comparison = Comparison::new(Protocol::Legacy);
+    for _ in 0..TEXTS {
+        comparison.set_first(draws.reading(Protocol::Legacy));
+        comparison.begin();
+        for _ in 0..4 {
+            let text = any_text(&mut draws);
+            let place = draws.place_in(&text);
+            for piece in [&text[..place], &text[place..]] {
+                let protocol = BOTH[draws.below(2)];
+                comparison.call_between(&mut draws, protocol);
+                comparison.check_call(piece, MORE);
+            }
+        }
+        comparison.check_rest();
+    }
+}
+
 // Each number that may name a key, and each letter.
 #[test]
 fn reads_keys_as_the_plain_reader() {
@@ -125,13 +186,79 @@ fn reads_keys_as_the_plain_reader() {
                 format!("\x1b[{number}u"),
                 format!("\x1b[{number}~"),
                 format!("\x1b[27;5;{number}~"),
+                format!("\x1b[27;{number};97~"),
+                format!("\x1b[{number}^"),
+                format!("\x1b[{number}@"),
+                format!("\x1b\x1b[{number}$x"),
             ] {
                 comparison.check_text(text.as_bytes(), 3);
             }
         }
         for letter in '@'..='~' {
-            for start in ["\x1b[", "\x1b[1;2", "\x1b[[", "\x1bO"] {
+            for start in [
+                "\x1b[",
+                "\x1b[1;2",
+                "\x1b[1;1:3",
+                "\x1b[[",
+                "\x1bO",
+                "\x1bO2",
+                "\x1bO0;8",
+                "\x1b\x1bO",
+                "\x1b\x1bO5",
+            ] {
                 comparison.check_text(format!("{start}{letter}").as_bytes(), start.len());
+            }
+        }
+    }
+}
+
+// Each code of a mouse report, in all three ways to write it.
+#[test]
+fn reads_mouse_reports_as_the_plain_reader() {
+    for protocol in BOTH {
+        let mut comparison = Comparison::new(*protocol);
+        for x10_mouse in [false, true] {
+            comparison.set_first(Reading {
+                x10_mouse,
+                ..Reading::new(*protocol)
+            });
+            for code in 0..=300 {
+                for text in [
+                    format!("\x1b[<{code};3;4M"),
+                    format!("\x1b[<{code};3;4m"),
+                    format!("\x1b[{code};3;4M"),
+                ] {
+                    comparison.check_text(text.as_bytes(), 4);
+                }
+            }
+            for code in 0..=255 {
+                comparison.check_text(&[0x1b, b'[', b'M', code, b'!', 0xff], 3);
+                comparison.check_text(&[0x1b, b'[', b'M', b' ', code, b'!'], 4);
+            }
+        }
+    }
+}
+
+// Each entry that ends in R, while so many questions are open, and after ESC.
+#[test]
+fn reads_positions_as_the_plain_reader() {
+    for protocol in BOTH {
+        let mut comparison = Comparison::new(*protocol);
+        for questions in [0, 1, 2, 255] {
+            comparison.set_first(Reading {
+                questions,
+                ..Reading::new(*protocol)
+            });
+            for column in 0..=20 {
+                let entry = format!("\x1b[1;{column}R");
+                for text in [
+                    entry.clone(),
+                    format!("\x1b{entry}"),
+                    format!("{entry}{entry}\x1b[1;5P{entry}"),
+                    format!("\x1b[?1;{column}R{entry}\x1b{entry}"),
+                ] {
+                    comparison.check_text(text.as_bytes(), 5);
+                }
             }
         }
     }

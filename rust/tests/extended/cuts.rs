@@ -1,8 +1,8 @@
 // Examples whose calls are cut: each call gives the same events, and as many bytes are buffered
 // after it.
 use crate::examples::{Step, MORE};
-use crate::parser::given;
-use hedrugal::extended::{ExtendedEvent, ExtendedParser};
+use crate::parser::{begin, given};
+use hedrugal::extended::{ExtendedEvent, ExtendedParser, Reading};
 
 // The events of bytes that are cut: those before `place` in pieces of `size`, with more to come,
 // and the others by one call under the flag.
@@ -23,15 +23,20 @@ pub fn read_cut(
 }
 
 // Makes the calls of an example, each cut in this way.
-fn check_cut(parser: &mut ExtendedParser, steps: &[Step], place: usize, size: usize) {
-    parser.reset();
+fn check_cut(
+    parser: &mut ExtendedParser,
+    reading: Reading,
+    steps: &[Step],
+    place: usize,
+    size: usize,
+) {
+    begin(parser, reading);
     for (bytes, more, wanted) in steps {
         let events = read_cut(parser, bytes, *more, place, size);
         assert_eq!(
             given(&events, parser),
             *wanted,
-            "{:?} {}, to {place} in pieces of {size}",
-            parser.protocol(),
+            "{reading:?} {}, to {place} in pieces of {size}",
             bytes.escape_ascii()
         );
     }
@@ -39,10 +44,10 @@ fn check_cut(parser: &mut ExtendedParser, steps: &[Step], place: usize, size: us
 
 // Makes the calls of an example whole, cut in two at each place, and with the bytes before each
 // place one by one.
-pub fn check_cuts(parser: &mut ExtendedParser, steps: &[Step]) {
+pub fn check_cuts(parser: &mut ExtendedParser, reading: Reading, steps: &[Step]) {
     let longest = steps.iter().map(|(bytes, _, _)| bytes.len()).max();
     for place in 0..=longest.unwrap_or(0) {
-        check_cut(parser, steps, place, 1);
-        check_cut(parser, steps, place, place.max(1));
+        check_cut(parser, reading, steps, place, 1);
+        check_cut(parser, reading, steps, place, place.max(1));
     }
 }

@@ -1,4 +1,5 @@
-// Texts that look random, and are the same in each run.
+// Texts and readings that look random, and are the same in each run.
+use hedrugal::extended::{Protocol, Reading};
 
 // A linear congruential generator.
 pub struct Draws(u64);
@@ -20,6 +21,15 @@ impl Draws {
     // A place in the text, and 0 in an empty one.
     pub fn place_in(&mut self, text: &[u8]) -> usize {
         self.below(text.len().max(1))
+    }
+
+    // A reading of this protocol, often with open questions.
+    pub fn reading(&mut self, protocol: Protocol) -> Reading {
+        Reading {
+            protocol,
+            x10_mouse: self.below(2) == 0,
+            questions: [0, 0, 1, 2, 255][self.below(5)],
+        }
     }
 
     // A text of so many symbols.

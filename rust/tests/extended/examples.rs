@@ -321,7 +321,7 @@ pub const KEYS: &[Example] = &[
         )],
     ),
     (KITTY, &[(b"\x1b[5~\x1b[H", MORE, "report PageUp NONE, report Home NONE")]),
-    (KITTY, &[(b"\x1b\x1b[97;5u", MORE, "key Escape NONE, report Char('a') CTRL")]),
+    (KITTY, &[(b"\x1b\x1b[97;5u", MORE, "report Char('a') ALT|CTRL")]),
     (LEGACY, &[(b"\x1b\x1b[97;5u", MORE, "key Char('a') ALT|CTRL")]),
 ];
 
@@ -453,6 +453,54 @@ pub const MOUSE_REPORTS: &[Example] = &[
             "mouse 20 10 LEFT NONE, mouse 20 10 NONE NONE",
         )],
     ),
+    // Without X10 reports ESC `[M` is a control sequence.
+    (
+        BOTH,
+        &[
+            (b"\x1b[M", MORE, "csi M"),
+            (b"0a", MORE, "key Char('0') NONE, key Char('a') NONE"),
+        ],
+    ),
+    (BOTH, &[(b"\x1b\x1b[M", MORE, "key Escape NONE, csi M")]),
+    (
+        BOTH,
+        &[(
+            b"\x1b[32;30;40M\x1b[35;30;40M",
+            MORE,
+            "mouse 30 40 LEFT NONE, mouse 30 40 NONE NONE",
+        )],
+    ),
+    // By xterm's ctlseqs, "Mouse Tracking", the wheel turned right is 32 + 64 + 3. Shift adds 4,
+    // Meta 8 and Control 16: 127 in all.
+    (
+        BOTH,
+        &[(
+            b"\x1b[127;1;1M\x1b[128;1;1M",
+            MORE,
+            "mouse 1 1 HORZ_WHEEL SHIFT|ALT|CTRL, csi 128;1;1M",
+        )],
+    ),
+    (BOTH, &[(b"\x1b[32;30;40;M", MORE, "csi 32;30;40;M")]),
+    (
+        BOTH,
+        &[(
+            b"\x1b[<0;20;10;M\x1b[<0;20;10;m",
+            MORE,
+            "csi <0;20;10;M, csi <0;20;10;m",
+        )],
+    ),
+    (
+        BOTH,
+        &[(
+            b"\x1b[<96;20;10M\x1b[<0;-5;10M",
+            MORE,
+            "csi <96;20;10M, csi <0;-5;10M",
+        )],
+    ),
+];
+
+// Where X10 mouse reports are read.
+pub const X10_REPORTS: &[Example] = &[
     (BOTH, &[(b"\x1b[M0\x60\x70", MORE, "mouse 64 80 LEFT CTRL")]),
     (
         BOTH,
@@ -471,44 +519,334 @@ pub const MOUSE_REPORTS: &[Example] = &[
     (
         BOTH,
         &[(
-            b"\x1b[32;30;40M\x1b[35;30;40M",
+            b"\x1b\x1b[M !!",
             MORE,
-            "mouse 30 40 LEFT NONE, mouse 30 40 NONE NONE",
-        )],
-    ),
-    // By xterm's ctlseqs, "Mouse Tracking", the wheel turned right is 32 + 64 + 3. Shift adds 4,
-    // Meta 8 and Control 16: 127 in all.
-    (
-        BOTH,
-        &[(
-            b"\x1b[M\x7f!!\x1b[127;1;1M",
-            MORE,
-            "mouse 1 1 HORZ_WHEEL SHIFT|ALT|CTRL, mouse 1 1 HORZ_WHEEL SHIFT|ALT|CTRL",
+            "key Escape NONE, mouse 1 1 LEFT NONE",
         )],
     ),
     (
         BOTH,
         &[(
-            b"\x1b[M\x80!!\x1b[128;1;1M",
+            b"\x1b[M\x7f!!\x1b[M\x80!!",
             MORE,
-            r"csi M\x80!!, csi 128;1;1M",
+            r"mouse 1 1 HORZ_WHEEL SHIFT|ALT|CTRL, csi M\x80!!",
         )],
     ),
-    (BOTH, &[(b"\x1b[32;30;40;M", MORE, "csi 32;30;40;M")]),
+    // 160 is 32 + 128, and 223 is 32 + 128 + 3 + 4 + 8 + 16 + 32.
     (
         BOTH,
         &[(
-            b"\x1b[<0;20;10;M\x1b[<0;20;10;m",
+            b"\x1b[M\xa0!\xff\x1b[M\xdf!!\x1b[M\xe0!!",
             MORE,
-            "csi <0;20;10;M, csi <0;20;10;m",
+            r"side 8 Press 1 223 NONE, side 11 Drag 1 1 SHIFT|ALT|CTRL, csi M\xe0!!",
+        )],
+    ),
+];
+
+// The buttons 8 to 11 have the codes 128 to 131. Shift adds 4, Meta 8, Control 16 and a drag 32.
+pub const SIDE_BUTTONS: &[Example] = &[
+    (
+        BOTH,
+        &[(
+            b"\x1b[<128;20;10M\x1b[<160;21;10M\x1b[<128;21;10m",
+            MORE,
+            "side 8 Press 20 10 NONE, side 8 Drag 21 10 NONE, side 8 Release 21 10 NONE",
         )],
     ),
     (
         BOTH,
         &[(
-            b"\x1b[<128;20;10M\x1b[<0;-5;10M",
+            b"\x1b[<129;1;1M\x1b[<134;1;1M\x1b[<139;1;1M\x1b[<147;1;1m",
             MORE,
-            "csi <128;20;10M, csi <0;-5;10M",
+            "side 9 Press 1 1 NONE, side 10 Press 1 1 SHIFT, side 11 Press 1 1 ALT, side 11 Release 1 1 CTRL",
+        )],
+    ),
+    (
+        BOTH,
+        &[(
+            b"\x1b[<191;65535;65535M\x1b[<191;1;1m",
+            MORE,
+            "side 11 Drag 65535 65535 SHIFT|ALT|CTRL, side 11 Release 1 1 SHIFT|ALT|CTRL",
+        )],
+    ),
+    (
+        BOTH,
+        &[(
+            b"\x1b[160;30;40M\x1b[193;30;40M\x1b[223;1;1M",
+            MORE,
+            "side 8 Press 30 40 NONE, side 9 Drag 30 40 NONE, side 11 Drag 1 1 SHIFT|ALT|CTRL",
+        )],
+    ),
+    (
+        BOTH,
+        &[(
+            b"\x1b[<127;1;1M\x1b[<192;1;1M\x1b[<128;1;65536M\x1b[159;1;1M\x1b[224;1;1M",
+            MORE,
+            "csi <127;1;1M, csi <192;1;1M, csi <128;1;65536M, csi 159;1;1M, csi 224;1;1M",
+        )],
+    ),
+    (
+        BOTH,
+        &[(
+            b"\x1b[<128;1M\x1b[<128;1;1;1M\x1b[<128;;1m",
+            MORE,
+            "csi <128;1M, csi <128;1;1;1M, csi <128;;1m",
+        )],
+    ),
+    (
+        BOTH,
+        &[(
+            b"\x1b\x1b[<128;1;1M",
+            MORE,
+            "key Escape NONE, side 8 Press 1 1 NONE",
+        )],
+    ),
+];
+
+// Keys of rxvt-unicode, and those behind ESC `O` and a number.
+pub const RXVT_AND_KEYPAD_KEYS: &[Example] = &[
+    (
+        BOTH,
+        &[(
+            b"\x1bO0;2P\x1bO0;8y\x1bO5M\x1bO3X\x1bO2j",
+            MORE,
+            "report Function(1) SHIFT, report Numpad9 SHIFT|ALT|CTRL, report 57414 CTRL, report 57415 ALT, report Multiply SHIFT",
+        )],
+    ),
+    (
+        BOTH,
+        &[(
+            b"\x1bO0;5P\x1bO0;5Q\x1bO0;5R\x1bO0;5S",
+            MORE,
+            "report Function(1) CTRL, report Function(2) CTRL, report Function(3) CTRL, report Function(4) CTRL",
+        )],
+    ),
+    // What begins such a key is undecided, and what is none is typed.
+    (
+        BOTH,
+        &[
+            (b"\x1bO0", MORE, "; 3"),
+            (b";", MORE, "; 4"),
+            (b"2", MORE, "; 5"),
+            (b"k", MORE, "report Add SHIFT"),
+        ],
+    ),
+    (
+        BOTH,
+        &[
+            (b"\x1bO2", MORE, "; 3"),
+            (b"", LAST, "key Char('O') ALT, key Char('2') NONE"),
+        ],
+    ),
+    (
+        BOTH,
+        &[(
+            b"\x1bO2~\x1bO9",
+            MORE,
+            "key Char('O') ALT, key Char('2') NONE, key Char('~') NONE, key Char('O') ALT, key Char('9') NONE",
+        )],
+    ),
+    (
+        BOTH,
+        &[(
+            b"\x1bO0;9P",
+            MORE,
+            "key Char('O') ALT, key Char('0') NONE, key Char(';') NONE, key Char('9') NONE, key Char('P') NONE",
+        )],
+    ),
+    // ESC isn't joined to a key behind a number that is no row.
+    (
+        BOTH,
+        &[(
+            b"\x1b\x1bO0;5j",
+            MORE,
+            "key Escape NONE, report Multiply CTRL",
+        )],
+    ),
+    (
+        KITTY,
+        &[(
+            b"\x1b[3^\x1b[3@\x1b[3$\x1b[23^\x1b[23$",
+            MORE,
+            "report Delete CTRL, report Delete SHIFT|CTRL, report Delete SHIFT, report Function(11) CTRL, report Function(11) SHIFT",
+        )],
+    ),
+    (
+        BOTH,
+        &[(
+            b"\x1b[11^\x1b[38@\x1b[24$x",
+            MORE,
+            "report Function(1) CTRL, report Function(24) SHIFT|CTRL, report Function(12) SHIFT, key Char('x') NONE",
+        )],
+    ),
+    (
+        BOTH,
+        &[(
+            b"\x1b[35~\x1b[38~\x1b[38;5~\x1b[39~",
+            MORE,
+            "report Function(21) NONE, report Function(24) NONE, report Function(24) CTRL, csi 39~",
+        )],
+    ),
+    (
+        BOTH,
+        &[(
+            b"\x1b[9^\x1b[16@\x1b[011^\x1b[39^\x1b[22$y",
+            MORE,
+            "csi 9^, csi 16@, csi 011^, csi 39^, csi 22$y",
+        )],
+    ),
+    // The modifiers of modifyOtherKeys are one less than the number, as Kitty's.
+    (
+        BOTH,
+        &[(
+            b"\x1b[27;9;97~\x1b[27;256;97~\x1b[27;257;97~\x1b[27;0;97~",
+            MORE,
+            "report Char('a') SUPER, report Char('a') SHIFT|ALT|CTRL|SUPER|HYPER|META|CAPS_LOCK|NUM_LOCK, csi 27;257;97~, csi 27;0;97~",
+        )],
+    ),
+];
+
+// F3 by the letter R, where no position can be meant.
+pub const THIRD_FUNCTION_KEYS: &[Example] = &[
+    (
+        BOTH,
+        &[(
+            b"\x1b[R\x1b[1;1:1R\x1b[1;2:1R\x1b[1;1:3R\x1b[;5R\x1b[1;R",
+            MORE,
+            "report Function(3) NONE, report Function(3) NONE, report Function(3) SHIFT, report Function(3) NONE Release, report Function(3) CTRL, report Function(3) NONE",
+        )],
+    ),
+    (
+        BOTH,
+        &[(
+            b"\x1b[2R\x1b[1;257:1R\x1b[1;1:4R",
+            MORE,
+            "csi 2R, csi 1;257:1R, csi 1;1:4R",
+        )],
+    ),
+    (
+        LEGACY,
+        &[(
+            b"\x1b[1R\x1b[1;1R\x1b[1;2R",
+            MORE,
+            "key Function(3) NONE, key Function(3) NONE, key Function(3) SHIFT",
+        )],
+    ),
+    (
+        KITTY,
+        &[(
+            b"\x1b[1R\x1b[1;1R\x1b[1;2R",
+            MORE,
+            "report Function(3) NONE, cursor 1 1, cursor 1 2",
+        )],
+    ),
+];
+
+// ESC and a key report: a bare key has ALT, and before any other one stands Escape.
+pub const BARE_KEYS: &[Example] = &[
+    (
+        KITTY,
+        &[(
+            b"\x1b\x1b[A\x1b\x1b[1;5A\x1b\x1b[3~",
+            MORE,
+            "report UpArrow ALT, report UpArrow ALT|CTRL, report Delete ALT",
+        )],
+    ),
+    (
+        BOTH,
+        &[(
+            b"\x1b\x1bOq\x1b\x1bOM\x1b\x1b[11^\x1b\x1b[24$\x1b\x1b[38@",
+            MORE,
+            "report Numpad1 ALT, report 57414 ALT, report Function(1) ALT|CTRL, report Function(12) SHIFT|ALT, report Function(24) SHIFT|ALT|CTRL",
+        )],
+    ),
+    (
+        BOTH,
+        &[
+            (b"\x1b", MORE, "; 1"),
+            (b"\x1b", MORE, "; 2"),
+            (b"O", MORE, "; 3"),
+            (b"q", MORE, "report Numpad1 ALT"),
+        ],
+    ),
+    (
+        BOTH,
+        &[(
+            b"\x1b\x1b[97;1:3u\x1b\x1b[R\x1b\x1b[[A",
+            MORE,
+            "key Escape NONE, report Char('a') NONE Release, key Escape NONE, report Function(3) NONE, key Escape NONE, report Function(1) NONE",
+        )],
+    ),
+    // Of more than one ESC the first two are Escape with Alt.
+    (
+        BOTH,
+        &[(b"\x1b\x1b\x1bOq", MORE, "key Escape ALT, report Numpad1 NONE")],
+    ),
+    (
+        KITTY,
+        &[(
+            b"\x1b\x1b[1;2R",
+            MORE,
+            "key Escape NONE, cursor 1 2",
+        )],
+    ),
+    (
+        LEGACY,
+        &[(b"\x1b\x1b[1;2R", MORE, "key Function(3) SHIFT|ALT")],
+    ),
+];
+
+// Where two questions for the cursor's position are open.
+pub const EXPECTED_POSITIONS: &[Example] = &[
+    (
+        LEGACY,
+        &[(
+            b"\x1b[1;5R\x1b[1;2R\x1b[1;5R",
+            MORE,
+            "cursor 1 5, cursor 1 2, key Function(3) CTRL",
+        )],
+    ),
+    (
+        LEGACY,
+        &[
+            (b"\x1b[24;80R\x1b[1;", MORE, "cursor 24 80; 4"),
+            (
+                b"5R\x1b[1;5R",
+                MORE,
+                "cursor 1 5, key Function(3) CTRL",
+            ),
+        ],
+    ),
+    (
+        LEGACY,
+        &[(
+            b"\x1b[?1;5R\x1b[?1;5R\x1b[1;5R\x1b[?1;5R",
+            MORE,
+            "cursor 1 5, cursor 1 5, key Function(3) CTRL, cursor 1 5",
+        )],
+    ),
+    (
+        LEGACY,
+        &[(
+            b"\x1b\x1b[1;5R\x1b\x1b[1;5R\x1b\x1b[1;5R",
+            MORE,
+            "key Escape NONE, cursor 1 5, key Escape NONE, cursor 1 5, key Function(3) ALT|CTRL",
+        )],
+    ),
+    (
+        LEGACY,
+        &[(
+            b"\x1b[1;5A\x1b[1;5P\x1b[R\x1b[1;5R\x1b[D",
+            MORE,
+            "key UpArrow CTRL, key Function(1) CTRL, report Function(3) NONE, cursor 1 5, key LeftArrow NONE",
+        )],
+    ),
+    (
+        KITTY,
+        &[(
+            b"\x1b[1;5R\x1b[1;2R\x1b[1;5R",
+            MORE,
+            "cursor 1 5, cursor 1 2, cursor 1 5",
         )],
     ),
 ];
@@ -588,5 +926,6 @@ pub const OTHERS: &[Example] = &[
         BOTH,
         &[(b"\x1b[[x", MORE, "key Char('[') ALT, key Char('[') NONE, key Char('x') NONE")],
     ),
-    (BOTH, &[(b"\x1b[2$y", MORE, "key Insert SHIFT, key Char('y') NONE")]),
+    (LEGACY, &[(b"\x1b[2$y", MORE, "key Insert SHIFT, key Char('y') NONE")]),
+    (KITTY, &[(b"\x1b[2$y", MORE, "report Insert SHIFT, key Char('y') NONE")]),
 ];

@@ -3,8 +3,8 @@
 use crate::cuts::read_cut;
 use crate::draws::Draws;
 use crate::examples::BOTH;
-use crate::parser::{parsed, CALLS};
-use hedrugal::extended::{ExtendedEvent, ExtendedParser, Protocol};
+use crate::parser::{begin, parsed, CALLS};
+use hedrugal::extended::{ExtendedEvent, ExtendedParser, Protocol, Reading};
 use hedrugal::input::InputParser;
 
 // The bytes that the forms name, and parts and wholes of sequences. ESC stands twice, so that it is
@@ -37,10 +37,23 @@ const SYMBOLS: &[&[u8]] = &[
     b"A",
     b"j",
     b"a",
+    b"S",
+    b"m",
+    b"^",
+    b"@",
     b"\xc3",
     b"\xa9",
     b"\r",
     b"\x1b[",
+    b"\x1b[M",
+    b"\x1b[1;5R",
+    b"\x1b[24;80R",
+    b"\x1b[3$",
+    b"\x1b[24",
+    b"\x1b[<129;",
+    b"\x1b[D",
+    b"\x1bO0;",
+    b"\x1bOq",
     b"\x1b]",
     b"\x1b]4;",
     b"\x1b]l",
@@ -99,14 +112,21 @@ pub fn any_text(draws: &mut Draws) -> Vec<u8> {
 }
 
 // The text has the same events, and as many bytes are buffered, in whatever pieces it is read.
-fn check_cuts(draws: &mut Draws, parser: &mut ExtendedParser, text: &[u8], more: bool) {
-    parser.reset();
+fn check_cuts(
+    draws: &mut Draws,
+    parser: &mut ExtendedParser,
+    reading: Reading,
+    text: &[u8],
+    more: bool,
+) {
+    begin(parser, reading);
     let wanted = parser.parse_as_vec(text, more);
+    let left = parser.reading();
     let waiting_len = parser.waiting_len();
     for limit in [1, 2, 4, 16] {
         let place = draws.place_in(text);
         let size = 1 + draws.below(limit);
-        parser.reset();
+        begin(parser, reading);
         let events = read_cut(parser, text, more, place, size);
         assert_eq!(
             events,
@@ -115,16 +135,17 @@ fn check_cuts(draws: &mut Draws, parser: &mut ExtendedParser, text: &[u8], more:
             text.escape_ascii()
         );
         assert_eq!(parser.waiting_len(), waiting_len, "{}", text.escape_ascii());
+        assert_eq!(parser.reading(), left, "{}", text.escape_ascii());
     }
 }
 
 // The text has the same events, and as many bytes are buffered, by whatever call it is read.
-fn check_calls(parser: &mut ExtendedParser, text: &[u8], more: bool) {
-    parser.reset();
+fn check_calls(parser: &mut ExtendedParser, reading: Reading, text: &[u8], more: bool) {
+    begin(parser, reading);
     let wanted = parser.parse_as_vec(text, more);
     let waiting_len = parser.waiting_len();
     for call in 0..CALLS {
-        parser.reset();
+        begin(parser, reading);
         assert_eq!(
             parsed(call, parser, text, more),
             wanted,
@@ -147,8 +168,9 @@ fn reads_2000_texts_however_cut() {
         for _ in 0..2000 {
             let text = any_text(&mut draws);
             let more = draws.below(2) == 0;
-            check_cuts(&mut draws, &mut parser, &text, more);
-            check_calls(&mut parser, &text, more);
+            let reading = draws.reading(*protocol);
+            check_cuts(&mut draws, &mut parser, reading, &text, more);
+            check_calls(&mut parser, reading, &text, more);
         }
     }
 }

@@ -62,6 +62,10 @@ pub fn line(event: &ExtendedEvent) -> String {
             width,
         } => format!("size {rows} {columns} {height} {width}"),
         ExtendedEvent::KeyboardFlags(flags) => format!("flags {flags}"),
+        ExtendedEvent::SideButton(button) => format!(
+            "side {} {:?} {} {} {}",
+            button.number, button.kind, button.x, button.y, button.modifiers
+        ),
         ExtendedEvent::Csi(text) => bytes("csi", text),
         ExtendedEvent::Osc(text) => bytes("osc", text),
         ExtendedEvent::Dcs(text) => bytes("dcs", text),

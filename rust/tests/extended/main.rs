@@ -12,6 +12,7 @@ mod long;
 mod parser;
 mod plain;
 mod presses;
+mod reading;
 mod recorded;
 mod replies;
 mod rows;

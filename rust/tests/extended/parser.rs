@@ -2,13 +2,14 @@
 use crate::compared::Comparison;
 use crate::cuts::check_cuts;
 use crate::examples::{
-    Example, Step, BOTH, KEYS, KINDS_AND_MODIFIERS, MOUSE_REPORTS, NAMES_AND_FIELDS, OTHERS,
-    PASTES, REPLIES, STRINGS,
+    Example, Step, BARE_KEYS, BOTH, EXPECTED_POSITIONS, KEYS, KINDS_AND_MODIFIERS, MOUSE_REPORTS,
+    NAMES_AND_FIELDS, OTHERS, PASTES, REPLIES, RXVT_AND_KEYPAD_KEYS, SIDE_BUTTONS, STRINGS,
+    THIRD_FUNCTION_KEYS, X10_REPORTS,
 };
 use crate::lines::lines;
 use hedrugal::extended::{
     ExtendedEvent, ExtendedParser, ExtendedWaiting, KeyEventKind, KeyReport, KittyModifiers,
-    Protocol, ReportedKey,
+    Protocol, Reading, ReportedKey, SideButtonEvent,
 };
 use hedrugal::input::{InputEvent, InputParser, KeyCode, KittyKeyboardFlags};
 
@@ -22,6 +23,12 @@ pub fn given(events: &[ExtendedEvent], parser: &ExtendedParser) -> String {
         given += " in a paste";
     }
     given
+}
+
+// Forgets what is buffered, and reads so from now on.
+pub fn begin(parser: &mut ExtendedParser, reading: Reading) {
+    parser.reset();
+    parser.set_reading(reading);
 }
 
 // The events of a call, by each way to call the parser.
@@ -60,16 +67,15 @@ pub fn parsed(
 // How many ways there are.
 pub const CALLS: usize = 6;
 
-fn check_steps(parser: &mut ExtendedParser, steps: &[Step]) {
+fn check_steps(parser: &mut ExtendedParser, reading: Reading, steps: &[Step]) {
     for call in 0..CALLS {
-        parser.reset();
+        begin(parser, reading);
         for (bytes, more, wanted) in steps {
             let events = parsed(call, parser, bytes, *more);
             assert_eq!(
                 given(&events, parser),
                 *wanted,
-                "{:?} {}, call {call}",
-                parser.protocol(),
+                "{reading:?} {}, call {call}",
                 bytes.escape_ascii()
             );
         }
@@ -79,9 +85,10 @@ fn check_steps(parser: &mut ExtendedParser, steps: &[Step]) {
 // The events of a text in pieces and what is buffered then, and then of a flush.
 fn in_pieces<'a>(
     parser: &mut ExtendedParser,
+    reading: Reading,
     pieces: impl IntoIterator<Item = &'a [u8]>,
 ) -> [String; 2] {
-    parser.reset();
+    begin(parser, reading);
     let mut events = Vec::new();
     for bytes in pieces {
         parser.parse(bytes, |event| events.push(event), true);
@@ -92,21 +99,21 @@ fn in_pieces<'a>(
 }
 
 // All bytes of an example, byte by byte and cut at each place, give what they give as a whole.
-fn check_pieces(parser: &mut ExtendedParser, steps: &[Step]) {
+fn check_pieces(parser: &mut ExtendedParser, reading: Reading, steps: &[Step]) {
     let text: Vec<u8> = steps
         .iter()
         .flat_map(|(bytes, _, _)| bytes.iter().copied())
         .collect();
-    let whole = in_pieces(parser, [&text[..]]);
+    let whole = in_pieces(parser, reading, [&text[..]]);
     assert_eq!(
-        in_pieces(parser, text.chunks(1)),
+        in_pieces(parser, reading, text.chunks(1)),
         whole,
         "{}",
         text.escape_ascii()
     );
     for place in 0..text.len() {
         assert_eq!(
-            in_pieces(parser, [&text[..place], &text[place..]]),
+            in_pieces(parser, reading, [&text[..place], &text[place..]]),
             whole,
             "{}, cut at {place}",
             text.escape_ascii()
@@ -114,18 +121,25 @@ fn check_pieces(parser: &mut ExtendedParser, steps: &[Step]) {
     }
 }
 
-fn check_all(examples: &[Example]) {
+// The examples under a protocol are read by the reading that is made of it.
+fn check_all_by(reading_of: fn(Protocol) -> Reading, examples: &[Example]) {
     for protocol in BOTH {
         let (mut parser, mut comparison) =
             (ExtendedParser::new(*protocol), Comparison::new(*protocol));
         assert_eq!(parser.protocol(), *protocol);
+        let reading = reading_of(*protocol);
+        comparison.set_first(reading);
         for (_, steps) in examples.iter().filter(|(read, _)| read.contains(protocol)) {
-            check_steps(&mut parser, steps);
-            check_cuts(&mut parser, steps);
-            check_pieces(&mut parser, steps);
+            check_steps(&mut parser, reading, steps);
+            check_cuts(&mut parser, reading, steps);
+            check_pieces(&mut parser, reading, steps);
             comparison.check_steps(steps);
         }
     }
+}
+
+fn check_all(examples: &[Example]) {
+    check_all_by(Reading::new, examples);
 }
 
 #[test]
@@ -146,8 +160,35 @@ fn keys() {
 }
 
 #[test]
+fn keys_of_other_terminals() {
+    check_all(RXVT_AND_KEYPAD_KEYS);
+    check_all(THIRD_FUNCTION_KEYS);
+    check_all(BARE_KEYS);
+}
+
+#[test]
+fn expected_positions() {
+    let asked = |protocol| Reading {
+        questions: 2,
+        ..Reading::new(protocol)
+    };
+    check_all_by(asked, EXPECTED_POSITIONS);
+}
+
+#[test]
 fn mouse_reports() {
     check_all(MOUSE_REPORTS);
+    check_all(SIDE_BUTTONS);
+}
+
+#[test]
+fn x10_mouse_reports() {
+    let with_x10 = |protocol| Reading {
+        x10_mouse: true,
+        ..Reading::new(protocol)
+    };
+    check_all_by(with_x10, X10_REPORTS);
+    check_all_by(with_x10, SIDE_BUTTONS);
 }
 
 #[test]
@@ -278,6 +319,7 @@ fn shares_a_parser_between_threads() {
                         (ExtendedWaiting::String, 9)
                     );
                     assert!(!parser.is_paste_open());
+                    assert_eq!(parser.reading(), Reading::new(Protocol::Kitty));
                 }
             });
         }
@@ -295,6 +337,8 @@ fn has_the_traits() {
     is_shared::<ExtendedParser>();
     is_shared::<ExtendedEvent>();
     is_shared::<KittyModifiers>();
+    is_shared::<Reading>();
+    is_shared::<SideButtonEvent>();
 }
 
 #[test]
@@ -303,7 +347,8 @@ fn shows_a_parser() {
     parser.parse(b"\x1b[", |_| (), true);
     assert_eq!(
         format!("{parser:?}"),
-        "ExtendedParser { protocol: Legacy, waiting_len: 2, .. }"
+        "ExtendedParser { reading: Reading { protocol: Legacy, x10_mouse: false, questions: 0 }, \
+         waiting_len: 2, .. }"
     );
 }
 

@@ -9,8 +9,8 @@ pub mod replies;
 mod strings;
 
 use crate::port::plain::{report_of, PlainReader as PortReader};
-use forms::is_form;
-use hedrugal::extended::{ExtendedEvent, Protocol};
+use forms::{is_form, is_keypad_key};
+use hedrugal::extended::{ExtendedEvent, KittyModifiers, Protocol, Reading};
 use hedrugal::input::{InputEvent, KeyCode, KeyEvent, Modifiers};
 use meanings::event_of;
 use strings::{begins_opening, opening_of, string_at};
@@ -20,7 +20,7 @@ const ESC: &[u8] = b"\x1b";
 // 8: ends of forms. With one of these each text that properly begins a form is a whole one, and it
 // is no sequence of the port, since no row ends with `x`.
 const ENDS_OF_FORMS: &[&[u8]] = &[
-    b"[x", b"x", b"   ", b"  ", b" ", b"A", b"M", b"l\x07", b"\x07", b"\\",
+    b"[x", b"x", b"   ", b"  ", b" ", b"A", b"M", b"l\x07", b"\x07", b"\\", b";2x", b"2x",
 ];
 
 // 11: the key Escape.
@@ -31,17 +31,31 @@ fn escape_key() -> ExtendedEvent {
     }))
 }
 
-// 3: whether the events read a row as a key report or a cursor position.
-fn is_key_or_position(event: &ExtendedEvent) -> bool {
-    matches!(
-        event,
-        ExtendedEvent::Key(_) | ExtendedEvent::CursorPosition { .. }
-    )
+// 3: whether the event of a row isn't left to the port.
+fn overrides(reading: Reading, event: &ExtendedEvent) -> bool {
+    match event {
+        ExtendedEvent::Key(_) => reading.protocol == Protocol::Kitty,
+        ExtendedEvent::CursorPosition { .. } => {
+            reading.protocol == Protocol::Kitty || reading.questions > 0
+        }
+        _ => false,
+    }
 }
 
-// The reader, by the protocol.
+// 11: the event of a bare key after ESC.
+fn with_alt(event: ExtendedEvent) -> ExtendedEvent {
+    match event {
+        ExtendedEvent::Key(mut report) => {
+            report.modifiers |= KittyModifiers::ALT;
+            ExtendedEvent::Key(report)
+        }
+        event => event,
+    }
+}
+
+// The reader, and how it reads.
 pub struct PlainReader {
-    protocol: Protocol,
+    reading: Reading,
     port: PortReader,
 }
 
@@ -49,10 +63,35 @@ pub struct PlainReader {
 type Item = (ExtendedEvent, Vec<u8>);
 
 impl PlainReader {
-    pub fn new(protocol: Protocol) -> PlainReader {
+    pub fn new(reading: Reading) -> PlainReader {
         PlainReader {
-            protocol,
+            reading,
             port: PortReader::new(),
+        }
+    }
+
+    pub fn reading(&self) -> Reading {
+        self.reading
+    }
+
+    pub fn set_reading(&mut self, reading: Reading) {
+        self.reading = reading;
+    }
+
+    // One more question is open, of 255 at most.
+    pub fn expect_position(&mut self) {
+        self.reading.questions = self.reading.questions.saturating_add(1);
+    }
+
+    // No question is open any more.
+    pub fn forget_positions(&mut self) {
+        self.reading.questions = 0;
+    }
+
+    // A position answers one question, if any is open.
+    fn note(&mut self, event: &ExtendedEvent) {
+        if let ExtendedEvent::CursorPosition { .. } = event {
+            self.reading.questions = self.reading.questions.saturating_sub(1);
         }
     }
 
@@ -63,22 +102,42 @@ impl PlainReader {
 
     // 3: the event of a text that is an extra sequence.
     fn extra_event(&self, text: &[u8]) -> Option<ExtendedEvent> {
-        if !is_form(text) || report_of(text).is_some() {
+        if !is_form(text, self.reading.x10_mouse) || report_of(text).is_some() {
             return None;
         }
         let event = event_of(text)?;
-        if self.is_row(text) && (self.protocol == Protocol::Legacy || !is_key_or_position(&event)) {
+        if self.is_row(text) && !overrides(self.reading, &event) {
             return None;
         }
         Some(event)
     }
 
-    // 9: the extra sequence that begins the text: its event, and what follows it.
-    fn extra_at(&self, text: &[u8]) -> Option<Item> {
+    // The extra sequence that begins the text: it, its event, and what follows it.
+    fn extra_parts<'a>(&self, text: &'a [u8]) -> Option<(&'a [u8], ExtendedEvent, &'a [u8])> {
         (0..=text.len().min(256)).find_map(|len| {
             let (bytes, rest) = text.split_at(len);
-            Some((self.extra_event(bytes)?, rest.to_vec()))
+            Some((bytes, self.extra_event(bytes)?, rest))
         })
+    }
+
+    // 9: the item of that sequence.
+    fn extra_at(&self, text: &[u8]) -> Option<Item> {
+        let (_, event, rest) = self.extra_parts(text)?;
+        Some((event, rest.to_vec()))
+    }
+
+    // 11: whether an extra sequence is a bare key.
+    fn is_bare(&self, text: &[u8], event: &ExtendedEvent) -> bool {
+        let is_key = matches!(event, ExtendedEvent::Key(_));
+        let ends_as_rxvt = matches!(text, [.., b'^' | b'@' | b'$']);
+        is_key && (self.is_row(text) || is_keypad_key(text) || ends_as_rxvt)
+    }
+
+    // 11: the item of a bare key after ESC.
+    fn alt_key_at(&self, after: &[u8]) -> Option<Item> {
+        let (bytes, event, rest) = self.extra_parts(after)?;
+        self.is_bare(bytes, &event)
+            .then(|| (with_alt(event), rest.to_vec()))
     }
 
     // 8: whether some extra sequence or some opening is longer than the text and begins with it.
@@ -121,6 +180,10 @@ impl PlainReader {
             return string_at(opening, text, more);
         }
         if let Some(after) = text.strip_prefix(ESC) {
+            let alt_key = self.alt_key_at(after);
+            if alt_key.is_some() {
+                return alt_key;
+            }
             if self.is_extra_at(after) {
                 return Some((escape_key(), after.to_vec()));
             }
@@ -134,16 +197,19 @@ impl PlainReader {
         self.item_of_port(text, more)
     }
 
-    // Whether an extra sequence or an opening begins an item of a text under a flag.
-    pub fn has_extra(&self, text: &[u8], more: bool) -> bool {
-        let mut rest = text.to_vec();
-        while let Some((_, left)) = self.item_at(&rest, more) {
-            if self.is_extra_at(&rest) {
-                return true;
-            }
+    // Whether an extra sequence or an opening begins an item of a text under a flag, after at most
+    // one ESC. The reading stays.
+    pub fn has_extra(&mut self, text: &[u8], more: bool) -> bool {
+        let reading = self.reading;
+        let (mut rest, mut has_extra) = (text.to_vec(), false);
+        while let Some((event, left)) = self.item_at(&rest, more) {
+            let after = rest.strip_prefix(ESC).unwrap_or(&rest);
+            has_extra |= self.is_extra_at(&rest) || self.is_extra_at(after);
+            self.note(&event);
             rest = left;
         }
-        false
+        self.reading = reading;
+        has_extra
     }
 
     // Whether a rest has or begins an extra sequence or an opening, after at most one ESC.
@@ -154,10 +220,12 @@ impl PlainReader {
             .any(|text| self.is_extra_at(text) || self.begins_more(text))
     }
 
-    // 13: the events of a text under a flag, and the rest that stays buffered.
-    pub fn read(&self, text: &[u8], more: bool) -> (Vec<ExtendedEvent>, Vec<u8>) {
+    // 13: the events of a text under a flag, and the rest that stays buffered. Each event is noted
+    // before the next item is matched.
+    pub fn read(&mut self, text: &[u8], more: bool) -> (Vec<ExtendedEvent>, Vec<u8>) {
         let (mut events, mut rest) = (Vec::new(), text.to_vec());
         while let Some((event, left)) = self.item_at(&rest, more) {
+            self.note(&event);
             events.push(event);
             rest = left;
         }

@@ -229,22 +229,22 @@ fn check_drawn(seed: u64, others: usize) {
 
 #[test]
 fn generated_texts_1() {
-    check_drawn(1, 419);
+    check_drawn(1, 421);
 }
 
 #[test]
 fn generated_texts_2() {
-    check_drawn(2, 461);
+    check_drawn(2, 462);
 }
 
 #[test]
 fn generated_texts_3() {
-    check_drawn(3, 414);
+    check_drawn(3, 415);
 }
 
 #[test]
 fn generated_texts_4() {
-    check_drawn(4, 414);
+    check_drawn(4, 422);
 }
 
 // Long ones, which the plain reader reads.

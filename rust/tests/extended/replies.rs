@@ -5,7 +5,7 @@ use crate::port::feeder::data;
 use crate::port::lines::{bytes, hex};
 use hedrugal::extended::{
     ColourName, ColourScheme, DeviceAttributes, ExtendedEvent, ExtendedParser, ModeState, Protocol,
-    Reply, StringKind,
+    Reply, SideButtonEvent, SideButtonKind, StringKind,
 };
 use hedrugal::input::{InputEvent, KeyCode, KeyEvent, Modifiers};
 
@@ -83,11 +83,19 @@ fn other_events_are_no_replies() {
         key: KeyCode::Char('c'),
         modifiers: Modifiers::NONE,
     };
+    let side_button = SideButtonEvent {
+        number: 8,
+        kind: SideButtonKind::Press,
+        x: 1,
+        y: 1,
+        modifiers: Modifiers::NONE,
+    };
     for event in [
         ExtendedEvent::Input(InputEvent::Key(key)),
         ExtendedEvent::FocusGained,
         ExtendedEvent::CursorPosition { row: 1, column: 1 },
         ExtendedEvent::KeyboardFlags(1),
+        ExtendedEvent::SideButton(side_button),
         ExtendedEvent::Apc(bytes()),
         ExtendedEvent::Dcs(bytes()),
         ExtendedEvent::Csi(bytes()),

@@ -3,10 +3,10 @@
 use crate::draws::Draws;
 use crate::examples::BOTH;
 use crate::plain::PlainReader;
-use crate::port::feeder::{events_in_time, Timed};
+use crate::port::feeder::{events_in_time, Reader, Timed};
 use crate::recorded::answer_line;
 use crate::waiting::{limit_of, LIMITS};
-use hedrugal::extended::{ExtendedEvent, ExtendedParser, ExtendedWaiting};
+use hedrugal::extended::{ExtendedEvent, ExtendedParser, ExtendedWaiting, Reading};
 use hedrugal::input::InputEvent;
 
 const SYMBOLS: &[&[u8]] = &[
@@ -38,20 +38,37 @@ const SYMBOLS: &[&[u8]] = &[
     b"\r",
     b"\x1b[I",
     b"\x1b[24;80R",
+    b"\x1b[1;5R",
     b"\x1b[1;2:3A",
+    b"\x1b[R",
+    b"\x1b[3^",
+    b"\x1b[24$",
+    b"\x1b[D",
+    b"\x1bO5P",
+    b"\x1bO0;",
+    b"2j",
+    b"\x1bOq",
     b"\x1b[97;5u",
     b"\x1b]0;t\x07",
     b"\x1b]4;",
     b"\x1bP>|",
     b"\x1b_Gi=",
     b"\x1b[<0;3;4M",
+    b"\x1b[<129;3;4M",
+    b"\x1b[M ",
+    b"!\xff",
     b"\x1b[200~",
     b"\x1b[201~",
 ];
 
+// What comes of a text: the events, how many bytes are buffered before a flush, and the reading at
+// the end.
+type Read = (Vec<ExtendedEvent>, usize, Reading);
+
 // The events of a text in pieces, and of a flush at its end; then what an open paste gives. As much
 // is buffered after each cut.
-fn read(parser: &mut ExtendedParser, text: &[u8], piece: usize) -> (Vec<ExtendedEvent>, usize) {
+fn read(parser: &mut ExtendedParser, reading: Reading, text: &[u8], piece: usize) -> Read {
+    parser.set_reading(reading);
     let mut events = Vec::new();
     for bytes in text.chunks(piece) {
         parser.parse(bytes, |event| events.push(event), true);
@@ -60,7 +77,7 @@ fn read(parser: &mut ExtendedParser, text: &[u8], piece: usize) -> (Vec<Extended
     parser.parse(b"", |event| events.push(event), false);
     events.extend(parser.end_paste());
     assert_eq!(parser.waiting_len(), 0);
-    (events, waiting)
+    (events, waiting, parser.reading())
 }
 
 #[test]
@@ -71,12 +88,13 @@ fn cuts_change_nothing() {
         for _ in 0..5000 {
             let count = 1 + draws.below(20);
             let text = draws.text(count, SYMBOLS);
-            let whole = read(&mut parser, &text, text.len());
+            let reading = draws.reading(*protocol);
+            let whole = read(&mut parser, reading, &text, text.len());
             for piece in [1, 2, 3, 7] {
                 assert_eq!(
-                    read(&mut parser, &text, piece),
+                    read(&mut parser, reading, &text, piece),
                     whole,
-                    "{protocol:?}, pieces of {piece}: {}",
+                    "{reading:?}, pieces of {piece}: {}",
                     text.escape_ascii()
                 );
             }
@@ -122,7 +140,7 @@ impl Rest {
     }
 
     // The events of a flush, or of the end of a paste.
-    fn flush(&mut self, reader: &PlainReader) -> Vec<ExtendedEvent> {
+    fn flush(&mut self, reader: &mut PlainReader) -> Vec<ExtendedEvent> {
         let bytes = std::mem::take(&mut self.bytes);
         if let Some(text) = bytes.strip_prefix(b"\x1b[200~") {
             let text = String::from_utf8_lossy(text).into_owned();
@@ -134,7 +152,7 @@ impl Rest {
     }
 
     // The events of a read.
-    fn read(&mut self, reader: &PlainReader, time: u64, bytes: &[u8]) -> Vec<ExtendedEvent> {
+    fn read(&mut self, reader: &mut PlainReader, time: u64, bytes: &[u8]) -> Vec<ExtendedEvent> {
         let (events, left) = reader.read(&[&self.bytes, bytes].concat(), true);
         if self.bytes.is_empty() || !events.is_empty() {
             self.first = time;
@@ -145,17 +163,25 @@ impl Rest {
     }
 }
 
-// The events of the plain reader, each rest of which is flushed when its limit has passed.
-fn plain_events(reader: &PlainReader, reads: &[Timed<Vec<u8>>]) -> Vec<Timed<Vec<String>>> {
+// The events of the plain reader, each rest of which is flushed when its limit has passed. Before
+// some of the reads a position is asked for.
+fn plain_events(
+    reader: &mut PlainReader,
+    reads: &[Timed<Vec<u8>>],
+    asks: &[bool],
+) -> Vec<Timed<Vec<String>>> {
     let (mut rest, mut events) = (Rest::default(), Vec::new());
     let mut note = |time: u64, came: Vec<ExtendedEvent>| {
         if !came.is_empty() {
             events.push((time, came.iter().map(answer_line).collect()));
         }
     };
-    for (time, bytes) in reads {
+    for ((time, bytes), is_asked) in reads.iter().zip(asks) {
         if let Some(due) = rest.due(reader).filter(|due| due < time) {
             note(due, rest.flush(reader));
+        }
+        if *is_asked {
+            reader.expect_position();
         }
         note(*time, rest.read(reader, *time, bytes));
     }
@@ -165,22 +191,67 @@ fn plain_events(reader: &PlainReader, reads: &[Timed<Vec<u8>>]) -> Vec<Timed<Vec
     events
 }
 
+// A parser that expects a position before some of the reads.
+struct Asking<'a> {
+    parser: &'a mut ExtendedParser,
+    asks: std::slice::Iter<'a, bool>,
+}
+
+impl Reader for Asking<'_> {
+    fn reset(&mut self) {
+        Reader::reset(self.parser);
+    }
+
+    fn call(&mut self, bytes: &[u8], more: bool) -> Vec<String> {
+        if self.asks.next() == Some(&true) {
+            self.parser.expect_position();
+        }
+        self.parser.call(bytes, more)
+    }
+
+    fn waiting_len(&self) -> usize {
+        self.parser.waiting_len()
+    }
+
+    fn timeout(&mut self, now: u64) -> Option<u64> {
+        Reader::timeout(self.parser, now)
+    }
+
+    fn expire(&mut self, now: u64) -> Vec<String> {
+        Reader::expire(self.parser, now)
+    }
+
+    fn check_other(&mut self, came: &str, waiting: &[u8], wanted: &str) {
+        self.parser.check_other(came, waiting, wanted);
+    }
+}
+
 #[test]
 fn pauses_flush_in_time() {
     for protocol in BOTH {
         let (mut draws, mut parser) = (Draws::new(32), ExtendedParser::new(*protocol));
-        let reader = PlainReader::new(*protocol);
+        let mut reader = PlainReader::new(Reading::new(*protocol));
         assert_eq!(parser.set_policy(LIMITS), Ok(()));
         let mut flushed = 0;
         for _ in 0..2000 {
-            let (mut time, mut reads) = (0, Vec::new());
+            let (mut time, mut reads, mut asks) = (0, Vec::new(), Vec::new());
+            let reading = draws.reading(*protocol);
+            parser.set_reading(reading);
+            reader.set_reading(reading);
             for _ in 0..=draws.below(12) {
                 let count = 1 + draws.below(3);
                 reads.push((time, draws.text(count, SYMBOLS)));
+                asks.push(draws.below(4) == 0);
                 time += [0, 5, 9, 10, 11, 19, 20, 21, 30, 45, 51, 70][draws.below(12)];
             }
-            let events = events_in_time(&mut parser, &reads, None);
-            assert_eq!(events, plain_events(&reader, &reads), "{reads:?}");
+            let mut asking = Asking {
+                parser: &mut parser,
+                asks: asks.iter(),
+            };
+            let events = events_in_time(&mut asking, &reads, None);
+            let wanted = plain_events(&mut reader, &reads, &asks);
+            assert_eq!(events, wanted, "{reading:?}, {reads:?}, {asks:?}");
+            assert_eq!(parser.reading(), reader.reading());
             flushed += events
                 .iter()
                 .filter(|(time, _)| reads.iter().all(|(read, _)| read != time))

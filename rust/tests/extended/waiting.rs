@@ -3,7 +3,9 @@ use crate::examples::BOTH;
 use crate::lines::lines;
 use crate::port::feeder::{at, events_in_time, Timed};
 use crate::recorded::answer_line;
-use hedrugal::extended::{ExtendedEvent, ExtendedParser, ExtendedWaiting as Waiting, StringKind};
+use hedrugal::extended::{
+    ExtendedEvent, ExtendedParser, ExtendedWaiting as Waiting, Reading, StringKind,
+};
 use hedrugal::input::{InputEvent, Policy};
 use std::time::{Duration, Instant};
 
@@ -17,7 +19,10 @@ const RESTS: &[(&[u8], Waiting)] = &[
     (b"\x1b[24;8", Waiting::Sequence),
     (b"\x1b[?62;2", Waiting::Sequence),
     (b"\x1b\x1b[97;5:", Waiting::Sequence),
-    (b"\x1b[M0\xc3", Waiting::Sequence),
+    (b"\x1bO2", Waiting::Sequence),
+    (b"\x1bO0;", Waiting::Sequence),
+    (b"\x1b\x1bO0;5", Waiting::Sequence),
+    (b"\x1b[24", Waiting::Sequence),
     (b"\x1b[[", Waiting::Sequence),
     (b"\x1b]", Waiting::Sequence),
     (b"\x1b]12345", Waiting::Sequence),
@@ -81,6 +86,23 @@ fn tells_kinds() {
             "key Char('q') NONE"
         );
     });
+}
+
+// X10 mouse reports are read where the reading has them.
+#[test]
+fn tells_kinds_of_mouse_reports() {
+    for protocol in BOTH {
+        let mut parser = ExtendedParser::new(*protocol);
+        parser.set_reading(Reading {
+            x10_mouse: true,
+            ..Reading::new(*protocol)
+        });
+        for rest in [&b"\x1b[M"[..], b"\x1b[M0\xc3", b"\x1b\x1b[M0\xc3"] {
+            assert_eq!(parser.parse_as_vec(rest, true), []);
+            check_rest(&parser, rest, Waiting::Sequence);
+            assert_eq!(parser.reset(), rest.len());
+        }
+    }
 }
 
 #[test]

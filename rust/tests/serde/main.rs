@@ -1,6 +1,7 @@
 // The derives behind the feature `use_serde`, which rust/serde builds.
 use hedrugal::extended::{
-    ExtendedEvent, KeyEventKind, KeyReport, KittyModifiers, ReportedKey, StringKind,
+    ExtendedEvent, KeyEventKind, KeyReport, KittyModifiers, ReportedKey, SideButtonEvent,
+    SideButtonKind, StringKind,
 };
 use hedrugal::input::{
     InputEvent, KeyCode, KeyEvent, KittyKeyboardFlags, Modifiers, MouseButtons, MouseEvent,
@@ -117,6 +118,16 @@ fn writes_and_reads_extended_events() {
             column: 80,
         },
         r#"{"CursorPosition":{"row":24,"column":80}}"#,
+    );
+    check(
+        ExtendedEvent::SideButton(SideButtonEvent {
+            number: 9,
+            kind: SideButtonKind::Drag,
+            x: 3,
+            y: 4,
+            modifiers: BOTH,
+        }),
+        r#"{"SideButton":{"number":9,"kind":"Drag","x":3,"y":4,"modifiers":"SHIFT | CTRL"}}"#,
     );
     check(ExtendedEvent::Osc(b"1;".to_vec()), r#"{"Osc":[49,59]}"#);
     let (kind, bytes) = (StringKind::Dcs, b">|".to_vec());

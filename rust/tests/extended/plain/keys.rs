@@ -130,10 +130,31 @@ fn function_key(number: u32) -> Option<ReportedKey> {
     Some(ReportedKey::Named(KeyCode::Function(place as u8 + 1)))
 }
 
+// F21 to F24 by rxvt-unicode's numbers.
+fn rxvt_function_key(number: u32) -> Option<ReportedKey> {
+    let place = [35, 36, 37, 38].iter().position(|code| *code == number)?;
+    Some(ReportedKey::Named(KeyCode::Function(place as u8 + 21)))
+}
+
+// The numbers before `^`, `@` and `$`.
+const RXVT_NUMBERS: &[&str] = &[
+    "2", "3", "5", "6", "7", "8", "11", "12", "13", "14", "15", "17", "18", "19", "20", "21", "23",
+    "24", "25", "26", "28", "29", "31", "32", "33", "34", "35", "36", "37", "38",
+];
+
+// The key of such a number.
+pub fn rxvt_key_of(number: &[u8]) -> Option<ReportedKey> {
+    let known = RXVT_NUMBERS
+        .iter()
+        .find(|known| known.as_bytes() == number)?;
+    key_of_number(known.parse().ok()?)
+}
+
 // The key of n before `~`.
 pub fn key_of_number(number: u32) -> Option<ReportedKey> {
     listed(EDIT_KEYS, number)
         .or_else(|| function_key(number))
+        .or_else(|| rxvt_function_key(number))
         .or_else(|| {
             (57344..=63743)
                 .contains(&number)
@@ -152,6 +173,15 @@ pub fn console_key_of(letter: u8) -> Option<ReportedKey> {
         _ => return None,
     };
     Some(ReportedKey::Named(KeyCode::Function(place)))
+}
+
+// The key of a letter behind ESC `O` and a number.
+pub fn modified_keypad_key_of(letter: u8) -> Option<ReportedKey> {
+    match letter {
+        b'P'..=b'S' => Some(ReportedKey::Named(KeyCode::Function(letter - b'P' + 1))),
+        b'E' => None,
+        _ => keypad_key_of(letter),
+    }
 }
 
 // The key of a letter of the keypad.

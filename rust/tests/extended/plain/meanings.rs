@@ -1,11 +1,15 @@
 // "Events": the event of a text of a form. `t` is what follows ESC `[`.
 use super::keys::{
-    console_key_of, key_of, key_of_letter, key_of_number, keypad_key_of, other_key_of,
+    console_key_of, key_of, key_of_letter, key_of_number, keypad_key_of, modified_keypad_key_of,
+    other_key_of, rxvt_key_of,
 };
 use super::strings::event_of_string;
 use crate::port::plain::buttons_of;
-use hedrugal::extended::{ExtendedEvent, KeyEventKind, KeyReport, KittyModifiers, ReportedKey};
-use hedrugal::input::{InputEvent, Modifiers, MouseEvent};
+use hedrugal::extended::{
+    ExtendedEvent, KeyEventKind, KeyReport, KittyModifiers, ReportedKey, SideButtonEvent,
+    SideButtonKind,
+};
+use hedrugal::input::{InputEvent, KeyCode, Modifiers, MouseEvent};
 use std::str;
 
 // A number of at most so many digits.
@@ -148,11 +152,39 @@ fn character_key(t: &[u8]) -> Option<KeyReport> {
     })
 }
 
+// [`1`] [`;` [mods] [`:` type]].
+fn manner_before_letter(body: &[u8]) -> Option<Manner> {
+    manner_after(body.strip_prefix(b"1").unwrap_or(body))
+}
+
 // The line of the keys that end in a letter.
 fn lettered_key(t: &[u8]) -> Option<KeyReport> {
     let (letter, body) = t.split_last()?;
-    let tail = body.strip_prefix(b"1").unwrap_or(body);
-    Some(report_of(key_of_letter(*letter)?, manner_after(tail)?))
+    Some(report_of(
+        key_of_letter(*letter)?,
+        manner_before_letter(body)?,
+    ))
+}
+
+// The line of F3 where no position can be meant.
+fn third_function_key(t: &[u8]) -> Option<ExtendedEvent> {
+    let manner = manner_before_letter(t.strip_suffix(b"R")?)?;
+    let key = ReportedKey::Named(KeyCode::Function(3));
+    Some(ExtendedEvent::Key(report_of(key, manner)))
+}
+
+// The line of rxvt-unicode's keys.
+fn rxvt_key(t: &[u8]) -> Option<ExtendedEvent> {
+    let (last, number) = t.split_last()?;
+    let modifiers = match last {
+        b'^' => KittyModifiers::CTRL,
+        b'@' => KittyModifiers::SHIFT | KittyModifiers::CTRL,
+        b'$' => KittyModifiers::SHIFT,
+        _ => return None,
+    };
+    let kind = KeyEventKind::Press;
+    let report = report_of(rxvt_key_of(number)?, Manner { modifiers, kind });
+    Some(ExtendedEvent::Key(report))
 }
 
 // The line of the keys that end in `~`.
@@ -170,7 +202,7 @@ fn numbered_key(t: &[u8]) -> Option<KeyReport> {
 fn other_key(t: &[u8]) -> Option<KeyReport> {
     let body = t.strip_prefix(b"27;")?.strip_suffix(b"~")?;
     let mut fields = body.split(|byte| *byte == b';');
-    let m = number_up_to(fields.next()?, 8)?;
+    let m = number_up_to(fields.next()?, 256)?;
     let c = scalar_of(fields.next()?)?;
     if fields.next().is_some() {
         return None;
@@ -238,22 +270,67 @@ fn resize(t: &[u8]) -> Option<ExtendedEvent> {
     }
 }
 
-// The mouse event of code b - 32 at x, y; b is from 32 to 127.
-fn mouse_event(b: u16, x: u16, y: u16) -> Option<ExtendedEvent> {
-    if !(32..=127).contains(&b) {
-        return None;
-    }
-    let code = b - 32;
+// The modifiers of a code.
+fn held_with(code: u16) -> Modifiers {
     let mut modifiers = Modifiers::NONE;
     modifiers.set(Modifiers::SHIFT, code & 4 != 0);
     modifiers.set(Modifiers::ALT, code & 8 != 0);
     modifiers.set(Modifiers::CTRL, code & 16 != 0);
+    modifiers
+}
+
+// The side button of a code from 128 to 191 at x, y. A button that isn't released is pressed or
+// dragged.
+fn side_button(code: u16, x: u16, y: u16, is_released: bool) -> Option<ExtendedEvent> {
+    let number = match code & !(4 | 8 | 16 | 32) {
+        128 => 8,
+        129 => 9,
+        130 => 10,
+        131 => 11,
+        _ => return None,
+    };
+    let kind = match (is_released, code & 32) {
+        (true, _) => SideButtonKind::Release,
+        (false, 0) => SideButtonKind::Press,
+        (false, _) => SideButtonKind::Drag,
+    };
+    Some(ExtendedEvent::SideButton(SideButtonEvent {
+        number,
+        kind,
+        x,
+        y,
+        modifiers: held_with(code),
+    }))
+}
+
+// The mouse event of code b - 32 at x, y; b is from 32 to 127. From 160 to 223 it is a side button.
+fn mouse_event(b: u16, x: u16, y: u16) -> Option<ExtendedEvent> {
+    let code = b.checked_sub(32)?;
+    if code >= 96 {
+        return side_button(code, x, y, false);
+    }
     Some(ExtendedEvent::Input(InputEvent::Mouse(MouseEvent {
         x,
         y,
         mouse_buttons: buttons_of(code & !(4 | 8 | 16)),
-        modifiers,
+        modifiers: held_with(code),
     })))
+}
+
+// The line of side buttons in SGR reports.
+fn sgr_side_button(t: &[u8]) -> Option<ExtendedEvent> {
+    let (last, body) = t.split_last()?;
+    if !matches!(last, b'M' | b'm') {
+        return None;
+    }
+    let mut fields = body.strip_prefix(b"<")?.split(|byte| *byte == b';');
+    let code = short_number(fields.next()?)?;
+    let x = short_number(fields.next()?)?;
+    let y = short_number(fields.next()?)?;
+    match fields.next() {
+        Some(_) => None,
+        None => side_button(code, x, y, *last == b'm'),
+    }
 }
 
 // The line of urxvt's mouse reports.
@@ -298,10 +375,23 @@ fn event_of_control(t: &[u8]) -> ExtendedEvent {
         .or_else(|| cursor_position(t))
         .or_else(|| keyboard_flags(t))
         .or_else(|| resize(t))
+        .or_else(|| third_function_key(t))
+        .or_else(|| rxvt_key(t))
         .or_else(|| urxvt_report(t))
         .or_else(|| x10_report(t))
+        .or_else(|| sgr_side_button(t))
         .or_else(|| console_key(t))
         .unwrap_or_else(|| ExtendedEvent::Csi(t.to_vec()))
+}
+
+// The key behind ESC `O` and a number.
+fn modified_key(m: u8, letter: u8) -> Option<ExtendedEvent> {
+    let manner = Manner {
+        modifiers: modifiers_of(&[m])?,
+        kind: KeyEventKind::Press,
+    };
+    let report = report_of(modified_keypad_key_of(letter)?, manner);
+    Some(ExtendedEvent::Key(report))
 }
 
 // The event of a text of a form.
@@ -318,6 +408,7 @@ pub fn event_of(text: &[u8]) -> Option<ExtendedEvent> {
             keypad_key_of(*letter)?,
             PRESSED,
         ))),
+        [0x1b, b'O', m, letter] | [0x1b, b'O', b'0', b';', m, letter] => modified_key(*m, *letter),
         _ => None,
     }
 }

@@ -1,0 +1,220 @@
+// How a parser reads: the reading that it begins with, what changes it, and what is buffered then.
+use crate::examples::BOTH;
+use crate::lines::lines;
+use crate::parser::given;
+use hedrugal::extended::{ExtendedParser, Protocol, Reading};
+
+// What a call with more to come gives.
+fn read(parser: &mut ExtendedParser, bytes: &[u8]) -> String {
+    let events = parser.parse_as_vec(bytes, true);
+    given(&events, parser)
+}
+
+fn questions(parser: &ExtendedParser) -> u8 {
+    parser.reading().questions
+}
+
+#[test]
+fn begins_without_questions() {
+    for protocol in BOTH {
+        let parser = ExtendedParser::new(*protocol);
+        let wanted = Reading {
+            protocol: *protocol,
+            x10_mouse: false,
+            questions: 0,
+        };
+        assert_eq!(parser.reading(), wanted);
+        assert_eq!(Reading::new(*protocol), wanted);
+    }
+    assert_eq!(Reading::default(), Reading::new(Protocol::Legacy));
+}
+
+// Each reading is the one that was set.
+#[test]
+fn tells_the_reading() {
+    let mut parser = ExtendedParser::new(Protocol::Legacy);
+    for protocol in BOTH {
+        for x10_mouse in [true, false] {
+            for questions in [0, 1, 254, 255] {
+                let reading = Reading {
+                    protocol: *protocol,
+                    x10_mouse,
+                    questions,
+                };
+                parser.set_reading(reading);
+                assert_eq!(parser.reading(), reading);
+                assert_eq!(parser.protocol(), *protocol);
+            }
+        }
+    }
+}
+
+// A question is answered once. The next reply that nobody asked for is a key.
+#[test]
+fn expects_each_position_once() {
+    let mut parser = ExtendedParser::new(Protocol::Legacy);
+    assert_eq!(read(&mut parser, b"\x1b[1;5R"), "key Function(3) CTRL");
+    parser.expect_position();
+    parser.expect_position();
+    assert_eq!(questions(&parser), 2);
+    assert_eq!(read(&mut parser, b"\x1b[1;5R"), "cursor 1 5");
+    assert_eq!(questions(&parser), 1);
+    assert_eq!(
+        read(&mut parser, b"\x1b[24;80R\x1b[1;5R"),
+        "cursor 24 80, key Function(3) CTRL"
+    );
+    assert_eq!(questions(&parser), 0);
+}
+
+// A position that nobody asked for, or that no entry has the bytes of, takes no question below 0.
+#[test]
+fn counts_from_0_to_255() {
+    for protocol in BOTH {
+        let mut parser = ExtendedParser::new(*protocol);
+        assert_eq!(read(&mut parser, b"\x1b[?24;80R"), "cursor 24 80");
+        assert_eq!(questions(&parser), 0);
+        for count in 1..=300 {
+            parser.expect_position();
+            assert_eq!(questions(&parser), u8::try_from(count).unwrap_or(255));
+        }
+        parser.parse(&b"\x1b[24;80R".repeat(254), |_| (), true);
+        assert_eq!(questions(&parser), 1);
+        parser.parse(&b"\x1b[24;80R".repeat(3), |_| (), true);
+        assert_eq!(questions(&parser), 0);
+    }
+}
+
+// A reply that is overdue is expected no longer. Bytes that came before are read by the later call.
+#[test]
+fn forgets_positions() {
+    let mut parser = ExtendedParser::new(Protocol::Legacy);
+    parser.expect_position();
+    parser.expect_position();
+    assert_eq!(read(&mut parser, b"\x1b[1;"), "; 4");
+    parser.forget_positions();
+    assert_eq!((questions(&parser), parser.waiting_len()), (0, 4));
+    assert_eq!(read(&mut parser, b"5R"), "key Function(3) CTRL");
+    assert_eq!(read(&mut parser, b"\x1b[1;"), "; 4");
+    parser.expect_position();
+    assert_eq!(read(&mut parser, b"5R"), "cursor 1 5");
+    parser.forget_positions();
+    assert_eq!(questions(&parser), 0);
+}
+
+// A flush at a limit in time keeps the questions.
+#[test]
+fn keeps_questions_over_a_pause() {
+    let mut parser = ExtendedParser::new(Protocol::Legacy);
+    parser.expect_position();
+    assert_eq!(read(&mut parser, b"\x1b"), "; 1");
+    assert_eq!(lines(parser.flush_escape().as_slice()), "key Escape NONE");
+    assert_eq!(read(&mut parser, b"\x1b[1;2"), "; 5");
+    assert!(!parser.parse_as_vec(b"", false).is_empty());
+    assert_eq!(questions(&parser), 1);
+    assert_eq!(read(&mut parser, b"\x1b[1;2R"), "cursor 1 2");
+}
+
+// A reset forgets questions alone of the reading.
+#[test]
+fn resets_questions() {
+    for protocol in BOTH {
+        let mut parser = ExtendedParser::new(*protocol);
+        let with_x10 = Reading {
+            x10_mouse: true,
+            ..Reading::new(*protocol)
+        };
+        parser.set_reading(Reading {
+            questions: 7,
+            ..with_x10
+        });
+        assert_eq!(read(&mut parser, b"\x1b[M!"), "; 4");
+        assert_eq!(parser.reset(), 4);
+        assert_eq!(parser.reading(), with_x10);
+        assert_eq!(read(&mut parser, b"\x1b[M !!"), "mouse 1 1 LEFT NONE");
+        parser.expect_position();
+        assert_eq!(parser.reset(), 0);
+        assert_eq!(parser.reading(), with_x10);
+    }
+}
+
+// What is buffered is read by the reading that is set.
+#[test]
+fn reads_what_is_buffered_anew() {
+    let mut parser = ExtendedParser::new(Protocol::Legacy);
+    let kitty = Reading::new(Protocol::Kitty);
+    parser.feed(b"\x1b[1;5R\x1b[A");
+    parser.set_reading(kitty);
+    assert_eq!(read(&mut parser, b""), "cursor 1 5, report UpArrow NONE");
+    parser.feed(b"\x1b[1;5R\x1b[A");
+    parser.set_reading(Reading::new(Protocol::Legacy));
+    assert_eq!(
+        read(&mut parser, b""),
+        "key Function(3) CTRL, key UpArrow NONE"
+    );
+    assert_eq!(read(&mut parser, b"\x1b\x1b[97;5"), "; 7");
+    parser.set_reading(kitty);
+    assert_eq!(read(&mut parser, b"u"), "report Char('a') ALT|CTRL");
+}
+
+// Between two events of one read the reading may change too.
+#[test]
+fn changes_between_events() {
+    let mut parser = ExtendedParser::new(Protocol::Legacy);
+    parser.feed(b"\x1b[?1u\x1b[1;9A\x1b[1;9A");
+    let flags = parser.next_event(true);
+    assert_eq!(lines(flags.as_slice()), "flags 1");
+    parser.set_reading(Reading::new(Protocol::Kitty));
+    assert_eq!(
+        lines(parser.next_event(true).as_slice()),
+        "report UpArrow SUPER"
+    );
+    parser.set_reading(Reading::new(Protocol::Legacy));
+    assert_eq!(lines(parser.next_event(true).as_slice()), "key UpArrow ALT");
+    assert_eq!(parser.next_event(true), None);
+}
+
+// The beginning of an X10 report is decided once these are read no longer.
+#[test]
+fn decides_the_beginning_of_a_mouse_report() {
+    for protocol in BOTH {
+        let mut parser = ExtendedParser::new(*protocol);
+        let without_x10 = parser.reading();
+        parser.set_reading(Reading {
+            x10_mouse: true,
+            ..without_x10
+        });
+        assert_eq!(read(&mut parser, b"\x1b[M !"), "; 5");
+        parser.set_reading(without_x10);
+        assert_eq!(parser.waiting_len(), 5);
+        assert_eq!(
+            read(&mut parser, b""),
+            "csi M, key Char(' ') NONE, key Char('!') NONE"
+        );
+    }
+}
+
+// An open paste and an open string stay as they are.
+#[test]
+fn keeps_pastes_and_strings() {
+    let mut parser = ExtendedParser::new(Protocol::Legacy);
+    for (begin, waiting, end, wanted) in [
+        (
+            &b"\x1b[200~\x1b[1;5R"[..],
+            "; 12 in a paste",
+            &b"\x1b[201~"[..],
+            "paste \"\\u{1b}[1;5R\"",
+        ),
+        (b"\x1b]0;t", "; 5", b"\x07", "osc 0;t"),
+    ] {
+        assert_eq!(read(&mut parser, begin), waiting);
+        parser.expect_position();
+        parser.set_reading(Reading {
+            protocol: Protocol::Kitty,
+            x10_mouse: true,
+            questions: 3,
+        });
+        assert_eq!(read(&mut parser, end), wanted);
+        assert_eq!(questions(&parser), 3);
+        parser.set_reading(Reading::default());
+    }
+}
