@@ -19,9 +19,8 @@
 
 enum { TIMEOUT_MS = 1000, LONGEST_REPLY = 256 };
 
-/* The cursor's position (DECXCPR), the colours of text and background (OSC 10, 11), Kitty's flags, and DA1. With its question mark no reply
- * for the position looks like a key. */
-static const char questions[] = "\033[?6n\033]10;?\033\\\033]11;?\033\\\033[?u\033[c";
+/* The cursor's position (CPR), the colours of text and background (OSC 10, 11), Kitty's flags, and DA1. */
+static const char questions[] = "\033[6n\033]10;?\033\\\033]11;?\033\\\033[?u\033[c";
 
 static volatile sig_atomic_t ending;
 static struct termios saved;
@@ -139,7 +138,9 @@ static bool read_replies(hed_extended *parser) {
   return is_over;
 }
 
+/* A reply for the position in the first row looks like F3 with modifiers, so the parser is told that one is to come. */
 static bool ask(hed_extended *parser) {
+  hed_extended_expect_position(parser);
   fputs(questions, stdout);
   if (fflush(stdout) != 0) return false;
   if (read_replies(parser)) return true;

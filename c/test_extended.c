@@ -84,6 +84,16 @@ static void tell_input_key(const hed_extended_event *event) {
   EXPECT(!(held & HED_KITTY_MOD_CTRL) == !(event->input.modifiers & HED_TERMWIZ_MOD_CTRL));
 }
 
+/* A side button. Of the fields of the input it has no others. */
+static void tell_side_button(const hed_extended_event *event) {
+  static const char *const names[] = { "Press", "Release", "Drag" };
+  const hed_event *input = &event->input;
+  EXPECT(event->flags >= HED_SIDE_BUTTON_PRESS && event->flags <= HED_SIDE_BUTTON_DRAG && event->text_len == 0);
+  EXPECT(input->kind == HED_KIND_OTHER && input->buttons == 0 && input->key == 0 && input->paste_len == 0);
+  tell("Button %u %s(%u, %u, %u)", (unsigned)input->detail, names[event->flags - HED_SIDE_BUTTON_PRESS], input->x, input->y,
+       input->modifiers);
+}
+
 static void tell_event(const hed_extended *parser, const hed_extended_event *event) {
   switch (event->kind) {
     case HED_KIND_KEY: tell_input_key(event); break;
@@ -104,6 +114,7 @@ static void tell_event(const hed_extended *parser, const hed_extended_event *eve
     case HED_KIND_APC: tell_text(parser, "Apc", event->text_len); break;
     case HED_KIND_STRING_PART:
     case HED_KIND_STRING_CUT: tell_string(parser, event); break;
+    case HED_KIND_SIDE_BUTTON: tell_side_button(event); break;
     default: EXPECT(!"an event has a kind");
   }
   tell("; ");
@@ -187,18 +198,26 @@ static const struct example examples[] = {
   { BOTH, TEXT("\033[?62;22c\033[>1;10;0c"), MORE, "Csi(?62;22c); Csi(>1;10;0c); ", 0 },
   { BOTH, TEXT("\033[?2026;2$y\033[?997;1n\033[?5u"), MORE, "Csi(?2026;2$y); Csi(?997;1n); KeyboardFlags(5); ", 0 },
   { BOTH, TEXT("\033[48;24;80;480;800t"), MORE, "Resize(24, 80, 480, 800); ", 0 },
-  { BOTH, TEXT("\033[M0\x60\x70"), MORE, "Mouse(64, 80, 2, 8); ", 0 },
+  /* X10 mouse reports are read by a reading of their own */
+  { BOTH, TEXT("\033[M0\x60\x70"), MORE, "Csi(M); 0; `; p; ", 0 },
   { BOTH, TEXT("\033[32;30;40M"), MORE, "Mouse(30, 40, 2, 0); ", 0 },
   /* the largest code: a wheel turned right, 64 + 3, with Shift, Alt and Ctrl, 4 + 8 + 16 */
-  { BOTH, TEXT("\033[M\177!!\033[127;1;1M"), MORE, "Mouse(1, 1, 32, 14); Mouse(1, 1, 32, 14); ", 0 },
-  { BOTH, TEXT("\033[M\200!!\033[128;1;1M"), MORE, "Csi(M\\x80!!); Csi(128;1;1M); ", 0 },
+  { BOTH, TEXT("\033[<95;1;1M\033[127;1;1M"), MORE, "Mouse(1, 1, 32, 14); Mouse(1, 1, 32, 14); ", 0 },
+  { BOTH, TEXT("\033[<96;1;1M\033[128;1;1M"), MORE, "Csi(<96;1;1M); Csi(128;1;1M); ", 0 },
+  /* the side buttons: from 128 to 131, and 32 more but in SGR reports; 4, 8 and 16 are modifiers, and 32 is a drag */
+  { BOTH, TEXT("\033[<128;20;10M\033[<129;20;10m"), MORE, "Button 8 Press(20, 10, 0); Button 9 Release(20, 10, 0); ", 0 },
+  { BOTH, TEXT("\033[<162;3;4M\033[<163;3;4m"), MORE, "Button 10 Drag(3, 4, 0); Button 11 Release(3, 4, 0); ", 0 },
+  { BOTH, TEXT("\033[<156;3;4M\033[<136;3;4M"), MORE, "Button 8 Press(3, 4, 14); Button 8 Press(3, 4, 4); ", 0 },
+  { BOTH, TEXT("\033[160;3;4M\033[223;3;4M"), MORE, "Button 8 Press(3, 4, 0); Button 11 Drag(3, 4, 14); ", 0 },
+  { BOTH, TEXT("\033[<127;1;1M\033[<192;1;1M\033[159;1;1M"), MORE, "Csi(<127;1;1M); Csi(<192;1;1M); Csi(159;1;1M); ", 0 },
+  { BOTH, TEXT("\033[224;1;1M\033[<128;1M"), MORE, "Csi(224;1;1M); Csi(<128;1M); ", 0 },
   { BOTH, TEXT("\033[<0;20;10M\033[<0;20;10m"), MORE, "Mouse(20, 10, 2, 0); Mouse(20, 10, 0, 0); ", 0 },
   { BOTH, TEXT("\033[200~\033[I\033]0;a\007\033[201~"), MORE, "Paste(\\x1b[I\\x1b]0;a\\x07); ", 0 },
   { BOTH, TEXT("\033[200~\033]0;a\r\033[201~"), MORE, "Paste(\\x1b]0;a\\x0d); ", 0 },
   { BOTH, TEXT("\033[[A\033OM\033Oq"), MORE, "Key(F1); Key(functional 57414); Key(Numpad1); ", 0 },
   { HED_PROTOCOL_LEGACY, TEXT("\033[97;5u\033[27u\033[1;9A"), MORE, "a CTRL; U+001B; UpArrow ALT; ", 0 },
   { HED_PROTOCOL_KITTY, TEXT("\033[13u\033[27u\033[1;9A"), MORE, "Key(Enter); Key(Escape); Key(UpArrow SUPER); ", 0 },
-  { HED_PROTOCOL_KITTY, TEXT("\033\033[97;5u"), MORE, "Escape; Key(a CTRL); ", 0 },
+  { HED_PROTOCOL_KITTY, TEXT("\033\033[97;5u"), MORE, "Key(a ALT CTRL); ", 0 },
   { HED_PROTOCOL_LEGACY, TEXT("\033\033[97;5u"), MORE, "a ALT CTRL; ", 0 },
   { BOTH, TEXT("\033[97;1:2u\033[97;1:3u\033[97;65u\033[49;129u"), MORE, "Key(a Repeat); Key(a Release); Key(a CAPS); Key(1 NUM); ", 0 },
   { BOTH, TEXT("\033[97;9u\033[97;17u\033[97;33u"), MORE, "Key(a SUPER); Key(a HYPER); Key(a META); ", 0 },
@@ -210,6 +229,29 @@ static const struct example examples[] = {
   { BOTH, TEXT("\033[57358u\033[57376u\033[57428u"), MORE, "Key(CapsLock); Key(F13); Key(functional 57428); ", 0 },
   { BOTH, TEXT("\033[97:65:99;2:1;65u\033[97::99;5u"), MORE, "Key(a SHIFT shifted A base c text(A)); Key(a CTRL base c); ", 0 },
   { BOTH, TEXT("\033[0;;229:230u"), MORE, "Key(U+0000 text(\\xc3\\xa5\\xc3\\xa6)); ", 0 },
+  /* keys behind ESC O with modifiers, and what isn't one */
+  { BOTH, TEXT("\033O2P\033O5q\033O0;8M"), MORE, "Key(F1 SHIFT); Key(Numpad1 CTRL); Key(functional 57414 SHIFT ALT CTRL); ", 0 },
+  { BOTH, TEXT("\033O2~\033O9P\033O2E"), MORE, "O ALT; 2; ~; O ALT; 9; P; O ALT; 2; E; ", 0 },
+  { BOTH, TEXT("\033O2"), MORE, "", 3 },
+  { BOTH, TEXT("\033O0;5"), MORE, "", 5 },
+  { BOTH, TEXT("\033O2"), LAST, "O ALT; 2; ", 0 },
+  /* F3, where no position of the cursor can be meant */
+  { BOTH, TEXT("\033[R\033[1;1:1R\033[1;1:3R\033[1;2:1R"), MORE, "Key(F3); Key(F3); Key(F3 Release); Key(F3 SHIFT); ", 0 },
+  { HED_PROTOCOL_LEGACY, TEXT("\033[1;2R\033[1;3R"), MORE, "F3 SHIFT; F3 ALT; ", 0 },
+  { HED_PROTOCOL_KITTY, TEXT("\033[1;2R\033[1;3R"), MORE, "CursorPosition(1, 2); CursorPosition(1, 3); ", 0 },
+  /* rxvt-unicode's keys, and a control sequence with a dollar sign */
+  { BOTH, TEXT("\033[23^\033[23@\033[23$"), MORE, "Key(F11 CTRL); Key(F11 SHIFT CTRL); Key(F11 SHIFT); ", 0 },
+  { BOTH, TEXT("\033[35~\033[38~\033[35;2~"), MORE, "Key(F21); Key(F24); Key(F21 SHIFT); ", 0 },
+  { BOTH, TEXT("\033[16^\033[4@\033[9$p"), MORE, "Csi(16^); End SHIFT CTRL; Csi(9$p); ", 0 },
+  { BOTH, TEXT("\033[9$"), MORE, "", 4 },
+  /* modifiers of modifyOtherKeys up to 256 */
+  { BOTH, TEXT("\033[27;9;97~\033[27;257;97~"), MORE, "Key(a SUPER); Csi(27;257;97~); ", 0 },
+  /* ESC before a key that is sent so, and before one that isn't */
+  { BOTH, TEXT("\033\033OM\033\033[23^\033\033[38$"), MORE, "Key(functional 57414 ALT); Key(F11 ALT CTRL); Key(F24 SHIFT ALT); ", 0 },
+  { BOTH, TEXT("\033\033O2P\033\033[35~"), MORE, "Escape; Key(F1 SHIFT); Escape; Key(F21); ", 0 },
+  { BOTH, TEXT("\033\033[97;5:3u\033\033[24;80R"), MORE, "Escape; Key(a CTRL Release); Escape; CursorPosition(24, 80); ", 0 },
+  { HED_PROTOCOL_KITTY, TEXT("\033\033[1;5R\033\033[A"), MORE, "Escape; CursorPosition(1, 5); Key(UpArrow ALT); ", 0 },
+  { HED_PROTOCOL_LEGACY, TEXT("\033\033[1;5R\033\033[A"), MORE, "F3 ALT CTRL; UpArrow ALT; ", 0 },
   { HED_PROTOCOL_LEGACY, TEXT("q\303\251\033[A"), MORE, "q; U+00E9; UpArrow; ", 0 },
   { HED_PROTOCOL_KITTY, TEXT("q\303\251\033[A"), MORE, "q; U+00E9; Key(UpArrow); ", 0 },
 };
@@ -299,6 +341,16 @@ static const struct reading readings[] = {
   { HED_PROTOCOL_LEGACY, TEXT("\033]11;rgb:0/0/0\007"), { .kind = HED_KIND_OSC }, "11;rgb:0/0/0" },
   { HED_PROTOCOL_LEGACY, TEXT("\033P>|kitty\033\\"), { .kind = HED_KIND_DCS }, ">|kitty" },
   { HED_PROTOCOL_LEGACY, TEXT("\033_Gi=31;OK\033\\"), { .kind = HED_KIND_APC }, "Gi=31;OK" },
+  { HED_PROTOCOL_LEGACY,
+    TEXT("\033[<137;7;9m"),
+    { .kind = HED_KIND_SIDE_BUTTON,
+      .flags = HED_SIDE_BUTTON_RELEASE,
+      .input = { .modifiers = HED_TERMWIZ_MOD_ALT, .x = 7, .y = 9, .detail = 9 } },
+    "" },
+  { HED_PROTOCOL_LEGACY,
+    TEXT("\033[195;65535;1M"),
+    { .kind = HED_KIND_SIDE_BUTTON, .flags = HED_SIDE_BUTTON_DRAG, .input = { .x = 65535, .y = 1, .detail = 11 } },
+    "" },
   { HED_PROTOCOL_LEGACY, TEXT("\033]11;rgb:0"), { .kind = HED_KIND_STRING_CUT, .flags = HED_KIND_OSC }, "11;rgb:0" },
   { HED_PROTOCOL_LEGACY, TEXT("\033P>|kitt\033"), { .kind = HED_KIND_STRING_CUT, .flags = HED_KIND_DCS }, ">|kitt" },
   { HED_PROTOCOL_LEGACY, TEXT("\033_Gi=31;"), { .kind = HED_KIND_STRING_CUT, .flags = HED_KIND_APC }, "Gi=31;" },
@@ -345,7 +397,8 @@ static void has_numbers(void) {
   EXPECT(HED_KIND_KEY == 1 && HED_KIND_MOUSE == 2 && HED_KIND_PASTE == 3 && HED_KIND_REPORT == 4 && HED_KIND_FOCUS_GAINED == 5);
   EXPECT(HED_KIND_FOCUS_LOST == 6 && HED_KIND_CURSOR_POSITION == 7 && HED_KIND_RESIZE == 8 && HED_KIND_KEYBOARD_FLAGS == 9);
   EXPECT(HED_KIND_CSI == 10 && HED_KIND_OSC == 11 && HED_KIND_DCS == 12 && HED_KIND_APC == 13 && HED_KIND_PASTE_PART == 14);
-  EXPECT(HED_KIND_STRING_PART == 15 && HED_KIND_STRING_CUT == 16 && HED_WAITING_STRING == 5);
+  EXPECT(HED_KIND_STRING_PART == 15 && HED_KIND_STRING_CUT == 16 && HED_KIND_SIDE_BUTTON == 17 && HED_WAITING_STRING == 5);
+  EXPECT(HED_SIDE_BUTTON_PRESS == 1 && HED_SIDE_BUTTON_RELEASE == 2 && HED_SIDE_BUTTON_DRAG == 3);
   EXPECT(HED_KEY_EVENT_KIND_PRESS == 1 && HED_KEY_EVENT_KIND_REPEAT == 2 && HED_KEY_EVENT_KIND_RELEASE == 3);
   EXPECT(HED_KITTY_MOD_SHIFT == 1 && HED_KITTY_MOD_ALT == 2 && HED_KITTY_MOD_CTRL == 4 && HED_KITTY_MOD_NUM_LOCK == 128);
   EXPECT(HED_KITTY_FLAG_DISAMBIGUATE_ESCAPE_CODES == 1 && HED_KITTY_FLAG_REPORT_EVENT_TYPES == 2
@@ -370,6 +423,12 @@ static void none_answers(hed_extended *parser) {
   EXPECT(hed_extended_take_paste(parser, 0, &event) == HED_NEXT_NO_PARSER && !hed_extended_skip_paste(parser, &count) && count == 7);
   EXPECT(memcmp(&event, &before, sizeof event) == 0);
   EXPECT(hed_extended_text(parser, &byte, 1) == 0 && byte == 'x');
+  hed_reading reading = { 7, true, 7 };
+  EXPECT(!hed_extended_reading(parser, &reading) && reading.protocol == 7 && reading.x10_mouse && reading.questions == 7);
+  reading.protocol = HED_PROTOCOL_KITTY;
+  EXPECT(!hed_extended_set_reading(parser, &reading));
+  hed_extended_expect_position(parser);
+  hed_extended_forget_positions(parser);
   hed_extended_drop_text(parser);
   hed_extended_shrink_to(parser, 1);
   EXPECT(hed_extended_waiting_len(parser) == 0 && hed_extended_waiting(parser) == HED_WAITING_NOTHING);
@@ -393,6 +452,98 @@ static void answers_before_init_and_after_free(void) {
   none_answers(&moved);
 }
 
+static bool reads_by(const hed_extended *parser, uint32_t protocol, bool x10_mouse, unsigned questions) {
+  hed_reading reading;
+  return hed_extended_reading(parser, &reading) && reading.protocol == protocol && reading.x10_mouse == x10_mouse
+         && reading.questions == questions;
+}
+
+static bool set_reading(hed_extended *parser, uint32_t protocol, bool x10_mouse, uint8_t questions) {
+  hed_reading reading = { protocol, x10_mouse, questions };
+  return hed_extended_set_reading(parser, &reading);
+}
+
+/* The events of a text, told from the front. */
+static void is_told(hed_extended *parser, const char *text, size_t len, const char *events) {
+  told[0] = '\0';
+  feed(parser, text, len, true);
+  EXPECT(strcmp(told, events) == 0);
+}
+
+/* A new parser has its protocol, and the rest is off. Any reading may be set, but for a protocol that is none. A reset forgets the
+ * questions. */
+static void keeps_its_reading(void) {
+  static const uint32_t no_protocols[] = { 2, 256, 65536, UINT32_MAX };
+  hed_extended parser = HED_EXTENDED_NONE, other = HED_EXTENDED_NONE;
+  EXPECT(hed_extended_init(&parser, HED_PROTOCOL_LEGACY) && reads_by(&parser, HED_PROTOCOL_LEGACY, false, 0));
+  EXPECT(set_reading(&parser, HED_PROTOCOL_KITTY, true, 255) && reads_by(&parser, HED_PROTOCOL_KITTY, true, 255));
+  EXPECT(set_reading(&parser, HED_PROTOCOL_LEGACY, true, 3) && reads_by(&parser, HED_PROTOCOL_LEGACY, true, 3));
+  for (size_t i = 0; i < 4; i++)
+    EXPECT(!set_reading(&parser, no_protocols[i], false, 0) && reads_by(&parser, HED_PROTOCOL_LEGACY, true, 3));
+  EXPECT(hed_extended_init_sharing(&other, HED_PROTOCOL_KITTY, &parser) && reads_by(&other, HED_PROTOCOL_KITTY, false, 0));
+  EXPECT(hed_extended_reset(&parser) == 0 && reads_by(&parser, HED_PROTOCOL_LEGACY, true, 0));
+  EXPECT(hed_extended_init(&parser, HED_PROTOCOL_KITTY) && reads_by(&parser, HED_PROTOCOL_KITTY, false, 0));
+  hed_extended_free(&other);
+  hed_extended_free(&parser);
+}
+
+/* What is buffered is read by the reading that is set, and the bytes of the last event stay. */
+static void reads_anew(const hed_extended *other) {
+  uint8_t room[8] = "........";
+  hed_extended parser = HED_EXTENDED_NONE;
+  hed_extended_event event;
+  EXPECT(hed_extended_init_sharing(&parser, HED_PROTOCOL_LEGACY, other));
+  EXPECT(FEED(&parser, "\033]0;t\007\033[1;9A\033[1;5R\033[M !!") && hed_extended_next(&parser, true, &event) == HED_NEXT_EVENT);
+  EXPECT(set_reading(&parser, HED_PROTOCOL_KITTY, true, 0) && hed_extended_waiting_len(&parser) == 18);
+  EXPECT(hed_extended_text(&parser, room, 8) == 3 && memcmp(room, "0;t.....", 8) == 0);
+  is_told(&parser, NULL, 0, "Key(UpArrow SUPER); CursorPosition(1, 5); Mouse(1, 1, 2, 0); ");
+  is_told(&parser, TEXT("\033[M"), "");
+  EXPECT(hed_extended_waiting_len(&parser) == 3 && hed_extended_waiting(&parser) == HED_WAITING_SEQUENCE);
+  EXPECT(set_reading(&parser, HED_PROTOCOL_LEGACY, false, 0));
+  is_told(&parser, NULL, 0, "Csi(M); ");
+  hed_extended_free(&parser);
+}
+
+/* X10 mouse reports, of the mouse and of side buttons, by a reading that has them. */
+static void reads_x10_reports(const hed_extended *other, uint32_t protocol) {
+  hed_extended parser = HED_EXTENDED_NONE;
+  EXPECT(hed_extended_init_sharing(&parser, protocol, other) && set_reading(&parser, protocol, true, 0));
+  is_told(&parser, TEXT("\033[M0\x60\x70\033[M\177!!"), "Mouse(64, 80, 2, 8); Mouse(1, 1, 32, 14); ");
+  is_told(&parser, TEXT("\033[M\200!!\033[M\345!!"), "Csi(M\\x80!!); Csi(M\\xe5!!); ");
+  is_told(&parser, TEXT("\033[M\240!!\033[M\337\377\377"), "Button 8 Press(1, 1, 0); Button 11 Drag(223, 223, 14); ");
+  is_told(&parser, TEXT("\033\033[M\241!!"), "Escape; Button 9 Press(1, 1, 0); ");
+  is_told(&parser, TEXT("\033[M0`"), "");
+  EXPECT(hed_extended_waiting_len(&parser) == 5 && hed_extended_waiting(&parser) == HED_WAITING_SEQUENCE);
+  tell_events(&parser, false);
+  EXPECT(strcmp(told, "[ ALT; M; 0; `; ") == 0);
+  hed_extended_free(&parser);
+}
+
+/* Each position answers one question, also one that can be no key. While none is open, the row is F3. */
+static void expects_positions(const hed_extended *other) {
+  hed_extended parser = HED_EXTENDED_NONE;
+  EXPECT(hed_extended_init_sharing(&parser, HED_PROTOCOL_LEGACY, other));
+  hed_extended_expect_position(&parser);
+  hed_extended_expect_position(&parser);
+  EXPECT(reads_by(&parser, HED_PROTOCOL_LEGACY, false, 2));
+  is_told(&parser, TEXT("\033[1;"), "");
+  is_told(&parser, TEXT("5R\033[1;5R\033[1;5R"), "CursorPosition(1, 5); CursorPosition(1, 5); F3 CTRL; ");
+  EXPECT(reads_by(&parser, HED_PROTOCOL_LEGACY, false, 0));
+  hed_extended_expect_position(&parser);
+  is_told(&parser, TEXT("\033[?24;80R\033[1;5R"), "CursorPosition(24, 80); F3 CTRL; ");
+  hed_extended_expect_position(&parser);
+  is_told(&parser, TEXT("\033[R\033\033[1;5R\033\033[1;5R"), "Key(F3); Escape; CursorPosition(1, 5); F3 ALT CTRL; ");
+  hed_extended_expect_position(&parser);
+  hed_extended_forget_positions(&parser);
+  is_told(&parser, TEXT("\033[1;5R"), "F3 CTRL; ");
+  hed_extended_expect_position(&parser);
+  EXPECT(hed_extended_reset(&parser) == 0);
+  is_told(&parser, TEXT("\033[1;5R"), "F3 CTRL; ");
+  for (int i = 0; i < 300; i++) hed_extended_expect_position(&parser);
+  EXPECT(reads_by(&parser, HED_PROTOCOL_LEGACY, false, 255));
+  hed_extended_free(&parser);
+}
+
 /* What stays buffered, by kind; a lone ESC is flushed, and nothing else is. All of it can be forgotten. */
 static void tells_kinds(hed_extended *parser) {
   static const struct {
@@ -405,6 +556,7 @@ static void tells_kinds(hed_extended *parser) {
     { TEXT("\033\033"), HED_WAITING_ESCAPE },
     { TEXT("\033[1;"), HED_WAITING_SEQUENCE },
     { TEXT("\033[97;2"), HED_WAITING_SEQUENCE },
+    { TEXT("\033O2"), HED_WAITING_SEQUENCE },
     { TEXT("\033]"), HED_WAITING_SEQUENCE },
     { TEXT("\033]11"), HED_WAITING_SEQUENCE },
     { TEXT("\033]lrm"), HED_WAITING_SEQUENCE },
@@ -1301,6 +1453,11 @@ int main(void) {
     reads_strings_at_the_limit(&parser);
     ends_what_was_fed(protocol);
   }
+  keeps_its_reading();
+  reads_anew(&parser);
+  reads_x10_reports(&parser, HED_PROTOCOL_LEGACY);
+  reads_x10_reports(&parser, HED_PROTOCOL_KITTY);
+  expects_positions(&parser);
   expires(&parser);
   expires_by_its_limits(&parser);
   hed_extended_free(&parser);

@@ -77,17 +77,24 @@ static void take(hed_extended *parser, bool more) {
   }
 }
 
+static void set_x10_mouse(hed_extended *parser) {
+  hed_reading reading = { HED_PROTOCOL_KITTY, true, 0 };
+  EXPECT(hed_extended_set_reading(parser, &reading));
+}
+
 static const char stream[] =
     "q\033[A\033[<0;12;3M\303\251\033[24;80R\033[200~hello w\303\266rld, and some more text that needs memory\033[201~\033[?62;22c"
     "\033[97:65:99;2:1;65u\033]11;rgb:1e1e/1e1e/1e1e\033\\x\033P>|kitty\033\\\033_Gi=31;OK\033\\\033[I\033[200~\033[201~"
-    "\033]4;1;rgb:\033\033P>|foo\033[O\033";
+    "\033]4;1;rgb:\033\033P>|foo\033[O\033[<129;12;3m\033[M\240!!\033\033[23^\033";
 
-/* Reads the stream in pieces, with one request after init refused. */
+/* Reads the stream in pieces, with one request after init refused. X10 mouse reports are read, and a position is expected. */
 static void read_stream(size_t piece, long number) {
   size_t len = sizeof stream - 1;
   hed_extended parser = HED_EXTENDED_NONE;
   refuse(0);
   EXPECT(hed_extended_init(&parser, HED_PROTOCOL_KITTY));
+  set_x10_mouse(&parser);
+  hed_extended_expect_position(&parser);
   seen_len = told = 0;
   refuse(number);
   for (size_t at = 0; at < len; at += piece) {
@@ -98,7 +105,9 @@ static void read_stream(size_t piece, long number) {
   take(&parser, false);
   to_refusal = 0;
   EXPECT(told == refused);
+  hed_reading reading;
   EXPECT(hed_extended_waiting_len(&parser) == 0);
+  EXPECT(hed_extended_reading(&parser, &reading) && reading.questions == 0);
   hed_extended_free(&parser);
 }
 
@@ -283,16 +292,19 @@ static void refuse_sharing(void) {
   hed_extended_free(&parser);
 }
 
-/* What brings no bytes needs no memory. */
+/* What brings no bytes needs no memory, and neither does a reading. */
 static void need_no_memory(void) {
-  static const char text[] = "\033[A\033[24;80R\033[I\033[97;5:3uq\033[?5u\033";
+  static const char text[] = "\033[A\033[24;80R\033[I\033[97;5:3uq\033[?5u\033[<128;1;1M\033\033[A\033";
   hed_extended parser = HED_EXTENDED_NONE;
   hed_extended_event event;
   unsigned count = 0;
   EXPECT(hed_extended_init(&parser, HED_PROTOCOL_KITTY) && hed_extended_feed(&parser, (const uint8_t *)text, sizeof text - 1));
   refuse(1);
+  set_x10_mouse(&parser);
+  hed_extended_expect_position(&parser);
   while (hed_extended_next(&parser, true, &event) == HED_NEXT_EVENT) count++;
-  EXPECT(count == 6 && hed_extended_waiting(&parser) == HED_WAITING_ESCAPE);
+  hed_extended_forget_positions(&parser);
+  EXPECT(count == 8 && hed_extended_waiting(&parser) == HED_WAITING_ESCAPE);
   EXPECT(hed_extended_flush_escape(&parser, &event) == HED_NEXT_EVENT && hed_extended_feed(&parser, NULL, 0));
   hed_extended_drop_text(&parser);
   EXPECT(hed_extended_reset(&parser) == 0 && !refused);

@@ -93,6 +93,12 @@ static void put_mouse(const hed_event *event) {
   put_flags("modifiers", modifier_flags, event->modifiers);
 }
 
+static void put_side_button(const hed_extended_event *event) {
+  const hed_event *input = &event->input;
+  printf(",\"number\":%u,\"action\":\"%s\",\"x\":%u,\"y\":%u", (unsigned)input->detail, side_button_name(event->flags), input->x, input->y);
+  put_flags("modifiers", modifier_flags, input->modifiers);
+}
+
 static void put_size(const hed_extended_event *event) {
   printf(",\"rows\":%u,\"columns\":%u,\"height\":%u,\"width\":%u", event->rows, event->columns, event->height, event->width);
 }
@@ -110,13 +116,14 @@ static void put_fields(const hed_extended_event *event) {
     case HED_KIND_CURSOR_POSITION: printf(",\"row\":%u,\"column\":%u", event->row, event->column); break;
     case HED_KIND_RESIZE: put_size(event); break;
     case HED_KIND_KEYBOARD_FLAGS: printf(",\"flags\":%u", event->flags); break;
+    case HED_KIND_SIDE_BUTTON: put_side_button(event); break;
     default: break;
   }
 }
 
 /* Whether an event of this kind brings bytes, if only none. */
 static bool brings_bytes(uint8_t kind) {
-  return kind == HED_KIND_PASTE || kind == HED_KIND_REPORT || kind >= HED_KIND_CSI;
+  return kind == HED_KIND_PASTE || kind == HED_KIND_REPORT || (kind >= HED_KIND_CSI && kind != HED_KIND_SIDE_BUTTON);
 }
 
 bool json_event(const line *of, const group *its, const reader *reader) {

@@ -61,6 +61,7 @@ const char *kind_name(uint8_t kind) {
     [HED_KIND_PASTE_PART] = "part",
     [HED_KIND_STRING_PART] = "part",
     [HED_KIND_STRING_CUT] = "cut",
+    [HED_KIND_SIDE_BUTTON] = "button",
   };
   return names[kind];
 }
@@ -74,6 +75,11 @@ const char *whole_name(const hed_extended_event *event) {
 const char *key_event_kind_name(uint8_t kind) {
   if (kind == HED_KEY_EVENT_KIND_REPEAT) return "repeat";
   return kind == HED_KEY_EVENT_KIND_RELEASE ? "release" : "press";
+}
+
+const char *side_button_name(uint8_t flags) {
+  if (flags == HED_SIDE_BUTTON_DRAG) return "drag";
+  return flags == HED_SIDE_BUTTON_RELEASE ? "release" : "press";
 }
 
 void add_byte(text *out, uint8_t byte, bool is_hex) {

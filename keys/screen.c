@@ -176,6 +176,12 @@ static void add_report(text *out, const group *of) {
   if (of->event.text_len > 0) add_text(out, " text", of);
 }
 
+static void add_side_button(text *out, const hed_extended_event *event) {
+  const hed_event *input = &event->input;
+  text_add(out, "button %u %s %u %u ", (unsigned)input->detail, side_button_name(event->flags), input->x, input->y);
+  add_flags(out, modifier_flags, input->modifiers);
+}
+
 static void add_input(text *out, const hed_event *event) {
   if (event->kind == HED_KIND_MOUSE) {
     text_add(out, "mouse %u %u ", event->x, event->y);
@@ -199,6 +205,7 @@ static void add_event(text *out, const group *of) {
     case HED_KIND_CURSOR_POSITION: text_add(out, "cursor %u %u", event->row, event->column); break;
     case HED_KIND_RESIZE: text_add(out, "resize %u %u %u %u", event->rows, event->columns, event->height, event->width); break;
     case HED_KIND_KEYBOARD_FLAGS: text_add(out, "keyboard flags %u", event->flags); break;
+    case HED_KIND_SIDE_BUTTON: add_side_button(out, event); break;
     case HED_KIND_KEY:
     case HED_KIND_MOUSE: add_input(out, &event->input); break;
     default: add_text(out, kind_name(event->kind), of);

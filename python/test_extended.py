@@ -1,5 +1,6 @@
 """What an ExtendedParser reads beyond an InputParser, and key reports to bytes."""
 import contextlib
+import dataclasses
 import itertools
 import pickle
 import random
@@ -33,7 +34,10 @@ from hedrugal import (
     Osc,
     Paste,
     Protocol,
+    Reading,
     Resize,
+    SideButton,
+    SideButtonKind,
     StringCut,
     StringKind,
     StringPart,
@@ -44,7 +48,7 @@ from hedrugal import (
 )
 from helpers import assert_rest, constants, events_in_time
 
-CTRL, SHIFT = KittyModifiers.CTRL, KittyModifiers.SHIFT
+CTRL, SHIFT, ALT = KittyModifiers.CTRL, KittyModifiers.SHIFT, KittyModifiers.ALT
 RELEASE, REPEAT = KeyEventKind.RELEASE, KeyEventKind.REPEAT
 UP, DOWN, RIGHT, LEFT = (
     KeyCode.UP_ARROW,
@@ -92,9 +96,7 @@ CASES = {
         (b"\x1b[8;24;80t", [Csi(b"8;24;80t")]),
     ],
     "mouse": [
-        (b"\x1b[M0\x60\x70", [MouseEvent(64, 80, MouseButtons.LEFT, Modifiers.CTRL)]),
-        (b"\x1b[M \xff!", [MouseEvent(223, 1, MouseButtons.LEFT)]),
-        (b"\x1b[M\x80!!", [Csi(b"M\x80!!")]),
+        (b"\x1b[M !!", [Csi(b"M"), *typed(" !!")]),
         (b"\x1b[32;30;40M", [MouseEvent(30, 40, MouseButtons.LEFT)]),
         (
             b"\x1b[96;300;2M",
@@ -103,6 +105,38 @@ CASES = {
         (
             b"\x1b[<0;20;10M\x1b[<0;20;10m",
             [MouseEvent(20, 10, MouseButtons.LEFT), MouseEvent(20, 10)],
+        ),
+    ],
+    "side buttons": [
+        (
+            b"\x1b[<128;20;10M\x1b[<129;20;10m\x1b[<163;1;2M",
+            [
+                SideButton(8, SideButtonKind.PRESS, 20, 10),
+                SideButton(9, SideButtonKind.RELEASE, 20, 10),
+                SideButton(11, SideButtonKind.DRAG, 1, 2),
+            ],
+        ),
+        (
+            b"\x1b[<156;3;4M\x1b[160;30;40M\x1b[202;30;40M",
+            [
+                SideButton(
+                    8,
+                    SideButtonKind.PRESS,
+                    3,
+                    4,
+                    Modifiers.SHIFT | Modifiers.ALT | Modifiers.CTRL,
+                ),
+                SideButton(8, SideButtonKind.PRESS, 30, 40),
+                SideButton(10, SideButtonKind.DRAG, 30, 40, Modifiers.ALT),
+            ],
+        ),
+        (
+            b"\x1b[<127;1;1M\x1b[<192;1;1M\x1b[128;1;1M\x1b[224;1;1M",
+            [Csi(b"<127;1;1M"), Csi(b"<192;1;1M"), Csi(b"128;1;1M"), Csi(b"224;1;1M")],
+        ),
+        (
+            b"\x1b\x1b[<128;1;1M",
+            [KeyEvent(KeyCode.ESCAPE), SideButton(8, SideButtonKind.PRESS, 1, 1)],
         ),
     ],
     "control sequences": [
@@ -180,6 +214,13 @@ CASES = {
         ),
         (b"\x1b[97;256u", [KeyReport("a", KittyModifiers(255))]),
         (b"\x1b[27;5;233~", [KeyReport("é", CTRL)]),
+        (
+            b"\x1b[27;9;97~\x1b[27;256;97~",
+            [
+                KeyReport("a", KittyModifiers.SUPER),
+                KeyReport("a", KittyModifiers(255)),
+            ],
+        ),
     ],
     "alternates and text": [
         (b"\x1b[97:65:99;2:1;65u", [KeyReport("a", SHIFT, shifted="A", base="c", text="A")]),
@@ -206,6 +247,56 @@ CASES = {
             [KeyReport(57414), KeyReport(57415), KeyReport(KeyCode.KEY_PAD_BEGIN)],
         ),
         (b"\x1bOj\x1bOy", [KeyReport(KeyCode.MULTIPLY), KeyReport(KeyCode.NUMPAD_9)]),
+    ],
+    "keypad and F1 to F4 with modifiers": [
+        (
+            b"\x1bO2P\x1bO5q\x1bO0;8M",
+            [
+                KeyReport(Function(1), SHIFT),
+                KeyReport(KeyCode.NUMPAD_1, CTRL),
+                KeyReport(57414, KittyModifiers(7)),
+            ],
+        ),
+        (b"\x1bO2~", [KeyEvent("O", Modifiers.ALT), *typed("2~")]),
+        (b"\x1bO9P", [KeyEvent("O", Modifiers.ALT), *typed("9P")]),
+    ],
+    "the third function key": [
+        (
+            b"\x1b[R\x1b[1;1:1R\x1b[1;1:3R\x1b[1;2:1R",
+            [
+                KeyReport(Function(3)),
+                KeyReport(Function(3)),
+                KeyReport(Function(3), kind=RELEASE),
+                KeyReport(Function(3), SHIFT),
+            ],
+        ),
+    ],
+    "keys of rxvt-unicode": [
+        (
+            b"\x1b[23^\x1b[23@\x1b[23$\x1b[38~\x1b[35;2~",
+            [
+                KeyReport(Function(11), CTRL),
+                KeyReport(Function(11), CTRL | SHIFT),
+                KeyReport(Function(11), SHIFT),
+                KeyReport(Function(24)),
+                KeyReport(Function(21), SHIFT),
+            ],
+        ),
+        (b"\x1b[9$p\x1b[16^", [Csi(b"9$p"), Csi(b"16^")]),
+    ],
+    "ESC before a key": [
+        (
+            b"\x1b\x1bOM\x1b\x1b[23^\x1b\x1b[38$",
+            [
+                KeyReport(57414, ALT),
+                KeyReport(Function(11), ALT | CTRL),
+                KeyReport(Function(24), ALT | SHIFT),
+            ],
+        ),
+        (b"\x1b\x1bO2P", [KeyEvent(KeyCode.ESCAPE), KeyReport(Function(1), SHIFT)]),
+        (b"\x1b\x1b[35~", [KeyEvent(KeyCode.ESCAPE), KeyReport(Function(21))]),
+        (b"\x1b\x1b[97;5:3u", [KeyEvent(KeyCode.ESCAPE), KeyReport("a", CTRL, RELEASE)]),
+        (b"\x1b\x1b[24;80R", [KeyEvent(KeyCode.ESCAPE), CursorPosition(24, 80)]),
     ],
     "pastes": [
         (
@@ -251,8 +342,14 @@ ENTRY_CASES = [
     (
         b"\x1b\x1b[97;5u",
         [KeyEvent("a", Modifiers.ALT | Modifiers.CTRL)],
-        [KeyEvent(KeyCode.ESCAPE), KeyReport("a", CTRL)],
+        [KeyReport("a", ALT | CTRL)],
     ),
+    (
+        b"\x1b\x1b[1;5R",
+        [KeyEvent(Function(3), Modifiers.ALT | Modifiers.CTRL)],
+        [KeyEvent(KeyCode.ESCAPE), CursorPosition(1, 5)],
+    ),
+    (b"\x1b[2$", [KeyEvent(KeyCode.INSERT, Modifiers.SHIFT)], [KeyReport(KeyCode.INSERT, SHIFT)]),
     (b"\x1bOP", [KeyEvent(Function(1))], [KeyEvent(Function(1))]),
 ]
 
@@ -261,8 +358,9 @@ ENTRY_CASES = [
 RESTS = [
     (b"\x1b[24;8", "[24;8"),
     (b"\x1b[?62;", "[?62;"),
-    (b"\x1b[M", "[M"),
-    (b"\x1b[M0", "[M0"),
+    (b"\x1bO2", "O2"),
+    (b"\x1bO0;", "O0;"),
+    (b"\x1b[9$", "[9$"),
     (b"\x1b[[", "[["),
     (b"\x1b]", "]"),
     (b"\x1b]12345", "]12345"),
@@ -386,7 +484,7 @@ def test_events_are_values():
         for event in events
     }
     assert len({*seen.values()}) == len(seen)
-    assert len({type(event) for event in seen.values()}) == 14
+    assert len({type(event) for event in seen.values()}) == 15
     for event in seen.values():
         again = pickle.loads(pickle.dumps(event))
         assert (again, hash(again)) == (event, hash(event))
@@ -428,6 +526,136 @@ def test_reprs(legacy):
         assert repr(event) == wanted
 
 
+# How a parser reads can be changed between any two calls.
+
+
+def test_reading(legacy, kitty):
+    """A new parser has its protocol, and the rest is off. A reset forgets the questions alone."""
+    assert legacy.reading == Reading(Protocol.LEGACY)
+    assert kitty.reading == Reading(Protocol.KITTY, x10_mouse=False, questions=0)
+    for reading in (Reading(Protocol.KITTY, True, 255), Reading(Protocol.LEGACY, False, 1)):
+        legacy.reading = reading
+        assert (legacy.reading, legacy.protocol) == (reading, reading.protocol)
+        legacy.reset()
+        assert legacy.reading == dataclasses.replace(reading, questions=0)
+
+
+def test_wrong_readings(legacy):
+    before = Reading(Protocol.KITTY, True, 3)
+    legacy.reading = before
+    for wrong, error in [
+        (None, TypeError),
+        (Protocol.KITTY, TypeError),
+        (Reading(1), TypeError),
+        (Reading(Protocol.KITTY, questions=1.5), TypeError),
+        (Reading(Protocol.KITTY, questions=-1), ValueError),
+        (Reading(Protocol.KITTY, questions=256), ValueError),
+    ]:
+        with pytest.raises(error):
+            legacy.reading = wrong
+        assert legacy.reading == before
+    raw = extended._RawReading(2, False, 0)
+    assert not hedrugal._library.hed_extended_set_reading(legacy._raw, raw)
+    assert legacy.reading == before
+
+
+def test_readings_of_a_closed_parser():
+    parser = ExtendedParser()
+    parser.close()
+    for call in (
+        lambda: parser.reading,
+        lambda: parser.protocol,
+        lambda: setattr(parser, "reading", Reading(Protocol.KITTY)),
+        parser.expect_position,
+        parser.forget_positions,
+    ):
+        with pytest.raises(ValueError, match="closed"):
+            call()
+
+
+def test_what_is_buffered_is_read_anew(legacy):
+    """It was fed before the reading changed."""
+    legacy.feed(b"\x1b[1;9A\x1b[1;5R\x1b[M !!")
+    assert legacy.next_event() == KeyEvent(KeyCode.UP_ARROW, Modifiers.ALT)
+    legacy.reading = Reading(Protocol.KITTY, x10_mouse=True)
+    assert [*legacy] == [CursorPosition(1, 5), MouseEvent(1, 1, MouseButtons.LEFT)]
+    assert legacy.parse(b"\x1b[M") == []
+    assert_rest(legacy, 3, Waiting.SEQUENCE)
+    legacy.reading = Reading(Protocol.LEGACY)
+    assert legacy.parse(b"") == [Csi(b"M")]
+
+
+X10 = [
+    (b"\x1b[M0\x60\x70", [MouseEvent(64, 80, MouseButtons.LEFT, Modifiers.CTRL)]),
+    (b"\x1b[M \xff!", [MouseEvent(223, 1, MouseButtons.LEFT)]),
+    (b"\x1b[M\x80!!", [Csi(b"M\x80!!")]),
+    (b"\x1b[M\xa0!!", [SideButton(8, SideButtonKind.PRESS, 1, 1)]),
+    (b"\x1b[M\xe5!!", [Csi(b"M\xe5!!")]),
+    (
+        b"\x1b\x1b[M\xdf\xff\xff",
+        [
+            KeyEvent(KeyCode.ESCAPE),
+            SideButton(
+                11,
+                SideButtonKind.DRAG,
+                223,
+                223,
+                Modifiers.SHIFT | Modifiers.ALT | Modifiers.CTRL,
+            ),
+        ],
+    ),
+]
+
+
+@pytest.mark.parametrize(("data", "events"), X10)
+def test_x10_mouse(parser, data, events):
+    parser.reading = Reading(parser.protocol, x10_mouse=True)
+    assert parser.parse(data) + parser.flush() == events
+    for at in range(len(data) + 1):
+        assert read(parser, [data[:at], data[at:]]) == events
+
+
+def test_x10_beginnings(parser):
+    """They stay buffered, and a flush types them."""
+    parser.reading = Reading(parser.protocol, x10_mouse=True)
+    for rest, text in ((b"\x1b[M", "[M"), (b"\x1b[M0", "[M0"), (b"\x1b[M0!", "[M0!")):
+        assert parser.parse(rest) == []
+        assert_rest(parser, len(rest), Waiting.SEQUENCE)
+        assert parser.flush() == [KeyEvent(text[0], Modifiers.ALT), *typed(text[1:])]
+
+
+def test_expected_positions(legacy):
+    """Each position answers one question, also one that needs none. The next is F3 again."""
+    asked, third = b"\x1b[1;5R", KeyEvent(Function(3), Modifiers.CTRL)
+    position = CursorPosition(1, 5)
+    assert legacy.parse(asked) == [third]
+    legacy.expect_position()
+    legacy.expect_position()
+    assert legacy.reading.questions == 2
+    assert legacy.parse(asked[:3]) == []
+    assert legacy.parse(asked[3:] + asked * 2) == [position, position, third]
+    assert legacy.reading.questions == 0
+    legacy.expect_position()
+    assert legacy.parse(b"\x1b[24;80R" + asked) == [CursorPosition(24, 80), third]
+    legacy.expect_position()
+    wanted = [KeyReport(Function(3)), KeyEvent(KeyCode.ESCAPE), position, third]
+    assert legacy.parse(b"\x1b[R\x1b" + asked * 2) == wanted
+
+
+def test_forgotten_positions(legacy):
+    for forget in (legacy.forget_positions, legacy.reset):
+        legacy.expect_position()
+        forget()
+        assert legacy.reading.questions == 0
+        assert legacy.parse(b"\x1b[1;5R") == [KeyEvent(Function(3), Modifiers.CTRL)]
+
+
+def test_most_positions(kitty):
+    for _ in range(300):
+        kitty.expect_position()
+    assert kitty.reading == Reading(Protocol.KITTY, questions=255)
+
+
 def test_wrong_protocols():
     for wrong in (None, 0, "LEGACY", KeyEventKind.PRESS):
         with pytest.raises(TypeError, match="^a Protocol is required, not"):
@@ -443,7 +671,8 @@ def test_unknown_numbers(legacy):
         {"kind": 0},
         {"kind": 14},
         {"kind": 15, "flags": 3},
-        {"kind": 17},
+        {"kind": 17, "flags": 4},
+        {"kind": 18},
         {"kind": 4, "report": report},
         {"kind": 10, "text_len": 5},
     ):

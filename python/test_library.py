@@ -20,6 +20,7 @@ from hedrugal import (
     Modifiers,
     MouseButtons,
     Protocol,
+    SideButtonKind,
     Waiting,
     extended,
     replies,
@@ -38,6 +39,7 @@ from helpers import HERE, LIBRARY, constants, read, run_python
         (Waiting, "HED_WAITING_"),
         (Protocol, "HED_PROTOCOL_"),
         (KeyEventKind, "HED_KEY_EVENT_KIND_"),
+        (SideButtonKind, "HED_SIDE_BUTTON_"),
         (DeviceAttributes, "HED_DEVICE_ATTRIBUTES_"),
         (ModeState, "HED_MODE_STATE_"),
         (ColourName, "HED_COLOUR_NAME_"),
@@ -137,6 +139,9 @@ def test_layouts_of_the_extended_parser():
         event.text_len.offset,
     ]
     assert offsets == [2, 12, 16, 32, 56]
+    reading = extended._RawReading
+    offsets = [ctypes.sizeof(reading), reading.x10_mouse.offset, reading.questions.offset]
+    assert offsets == [8, 4, 5]
     raw = event(report=report(1, 2, 3, 4, 5, 6), input=hedrugal._RawEvent(1, 2, 3, 4, 5, 6, 7, 8))
     assert extended._report_fields_of(raw, extended._REPORT_AT) == (1, 2, 3, 4, 5, 6)
     assert hedrugal._fields_of(raw, extended._INPUT_AT) == (1, 2, 3, 4, 5, 6, 7, 8)

@@ -45,10 +45,12 @@ def test_the_first_listing():
 
 
 ASK = os.path.join(HERE, "examples", "ask.py")
-QUESTIONS = b"\x1b[?6n\x1b]11;?\x1b\\\x1b[?u\x1b[c"
-ANSWERS = b"\x1b[?24;80R\x1b]11;rgb:1e1e/1e1e/2e2e\x1b\\\x1b[?5u\x1b[?62;22c"
+QUESTIONS = b"\x1b[6n\x1b]11;?\x1b\\\x1b[?u\x1b[c"
+# From the first row it would be a key, if the program didn't expect it.
+POSITION = b"\x1b[1;8R"
+ANSWERS = POSITION + b"\x1b]11;rgb:1e1e/1e1e/2e2e\x1b\\\x1b[?5u\x1b[?62;22c"
 LINES = [
-    "cursor: row 24, column 80",
+    "cursor: row 1, column 8",
     "background: rgb:1e1e/1e1e/2e2e",
     "keyboard: KittyKeyboardFlags.DISAMBIGUATE_ESCAPE_CODES|REPORT_ALTERNATE_KEYS",
     "attributes: 62;22",
@@ -108,7 +110,7 @@ def test_no_answer(ask):
 
 @pytest.mark.parametrize("ask", [4], indirect=True)
 def test_a_cut_answer(ask):
-    ask.child.send(b"\x1b[?24;80R\x1b[?6")
+    ask.child.send(b"\x1b[24;80R\x1b[?6")
     ask.assert_end(
         ["cursor: row 24, column 80", "typed: 3", "no answer to the last question in 4 s"], 1
     )
@@ -159,7 +161,8 @@ def test_control_characters(ask):
 
 
 def test_typed_meanwhile(ask):
-    ask.child.send(b"q\x1b[A" + ANSWERS[:9] + b"\x1b[I" + ANSWERS[9:])
+    length = len(POSITION)
+    ask.child.send(b"q\x1b[A" + POSITION + b"\x1b[I" + ANSWERS[length:])
     ask.assert_end([*LINES[:4], "typed: 2"])
 
 

@@ -16,8 +16,11 @@ EDIT |= {"4": "end", "8": "end", "5": "pageup", "6": "pagedown"}
 NUMBERED = [*range(11, 16), *range(17, 22), *range(23, 27), 28, 29, *range(31, 35)]
 NUMBERED = {str(code): f"f{it}" for it, code in enumerate(NUMBERED, 1)}
 HIGH = {str(42 + it): f"f{21 + it}" for it in range(4)}
-TILDE = EDIT | NUMBERED | HIGH
-RXVT_ENDS = {"^": CTRL, "@": CTRL | SHIFT, "$": SHIFT}
+RXVT_HIGH = {str(35 + it): f"f{21 + it}" for it in range(4)}
+TILDE = EDIT | NUMBERED | HIGH | RXVT_HIGH
+URXVT = {it: EDIT[it] for it in "235678"} | NUMBERED | RXVT_HIGH
+URXVT_ENDS = {"^": CTRL, "@": CTRL | SHIFT, "$": SHIFT}
+SHIFTED = re.compile(rb"\x1b\[(%s)\$" % "|".join(URXVT).encode())
 KEYPAD = {"M": 57414, "X": 57415, "E": "keypadbegin"}
 KEYPAD |= dict(zip("jklmno", "multiply add separator subtract decimal divide".split()))
 KEYPAD |= dict(zip("pqrstuvwxy", (f"numpad{it}" for it in range(10))))
@@ -69,7 +72,7 @@ def rows():
         for suffix, held in META_SUFFIXES.items():
             add(f"\x1b[{code}{suffix}~", key, held)
     for code, key in EDIT.items():
-        for end, held in ({"~": 0} | RXVT_ENDS).items():
+        for end, held in ({"~": 0} | URXVT_ENDS).items():
             add(f"\x1b[{code}{end}", key, held)
         if code in "2356":
             for suffix, held in SUFFIXES.items():
@@ -112,7 +115,6 @@ def key_report(t):
     """The event of ESC [ and t as a key or a cursor's position, or None."""
     number, mods = r"(\d{1,7})", r"(?:;(\d{0,7})(:\d)?)?"
     letters = CURSOR | FUNCTION | {"E": "keypadbegin"}
-    del letters["R"]
     try:
         if m := re.fullmatch(rf"{number}(?::(\d*)(?::(\d+))?)?(?:;(\d*)(:\d)?(?:;([\d:]*))?)?u", t):
             key, shifted, base, held, kind, text = m.groups()
@@ -125,13 +127,15 @@ def key_report(t):
             code, held, kind = m.groups()
             if code in TILDE or 57344 <= int(code) <= 63743:
                 return report(TILDE.get(code) or key_of(code), held, kind or "")
-        if m := re.fullmatch(rf"27;([1-8]);{number}~", t):
+        if m := re.fullmatch(rf"27;{number};{number}~", t):
             return report(OF_CODE.get(int(m[2])) or scalar(m[2]), m[1])
         if m := re.fullmatch(r"\??(\d{1,5});(\d{1,5})R|\?(\d{1,5});(\d{1,5});(\d{1,5})R", t):
             if all(int(it) <= 65535 for it in m.groups() if it):
                 return ("reply", t)
         if (m := re.fullmatch(rf"1?{mods}([A-Z])", t)) and m[3] in letters:
             return report(letters[m[3]], m[1], m[2] or "")
+        if (m := re.fullmatch(r"(\d+)([$^@])", t)) and m[1] in URXVT:
+            return ("key", URXVT[m[1]], URXVT_ENDS[m[2]], {})
     except ValueError:
         pass
     return None
@@ -143,9 +147,10 @@ def extra(text, is_kitty):
         return 4, ("key", f"f{m[1][0] - 64}", 0, {})
     if m := re.match(rb"\x1bO([MXEj-y])", text):
         return 3, ("key", KEYPAD[m[1].decode()], 0, {})
-    if m := re.match(rb"\x1b\[M[ -\xff]{3}", text):
-        return 6, ("mouse", text[3:6])
-    m = re.match(rb"\x1b\[(?![M[]|[1-8]\$)[ -?]*[@-~]", text)
+    if m := re.match(rb"\x1bO(?:0;)?([2-8])([P-SMXj-y])", text):
+        letter = m[2].decode()
+        return m.end(), ("key", (FUNCTION | KEYPAD)[letter], int(m[1]) - 1, {})
+    m = SHIFTED.match(text) or re.match(rb"\x1b\[(?!\[|[1-8]\$)[ -?]*[@-~]", text)
     if not m or len(m[0]) > 256:
         return None
     t = m[0][2:].decode()
@@ -157,11 +162,20 @@ def extra(text, is_kitty):
     return m.end(), event or ("csi", t)
 
 
+def takes_alt(text, event):
+    """Whether ESC before this extra sequence is one item with it: the key with ALT."""
+    is_key = event[0] in ("key", "release")
+    return is_key and bool(text in rows() or re.fullmatch(rb"\x1bO[MXEj-y]|\x1b\[\d+[$^@]", text))
+
+
 def is_open(text):
     """Whether something longer begins with the text."""
     if text in beginnings() or text in (b"\x1b", b"\x1b]", b"\x1bP", b"\x1b_"):
         return True
-    return bool(re.fullmatch(rb"\x1b\[(?![1-8]\$)[ -?]*|\x1b\[\[|\x1b\[M[ -\xff]{0,2}|\x1bO", text))
+    if SHIFTED.match(text):
+        return False
+    begun = rb"\x1b\[(?![1-8]\$)[ -?]*|\x1b\[\[|\x1bO([2-8]|0|0;[2-8]?)?"
+    return len(text) < 256 and bool(re.fullmatch(begun, text))
 
 
 def character(text):
@@ -179,12 +193,16 @@ def item(text, is_kitty):
         return found
     after = text[1:]
     if text[:1] == b"\x1b" and after:
-        if extra(after, is_kitty):
-            return 1, ("key", "escape", 0, {})
+        found = extra(after, is_kitty)
         longest = max((it for it in range(2, 12) if text[:it] in rows()), default=1)
         if longest > 1:
             key, held = rows()[text[:longest]]
             return longest, ("key", key, held, {})
+        if found and not takes_alt(after[: found[0]], found[1]):
+            return 1, ("key", "escape", 0, {})
+        if found:
+            length, (kind, key, held, more) = found
+            return length + 1, (kind, key, held | ALT, more)
         row = max((it for it in range(1, 12) if after[:it] in rows()), default=0)
         if row:
             key, held = rows()[after[:row]]

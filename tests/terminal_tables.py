@@ -21,17 +21,12 @@ PAIRS = [tuple(it.split()) for it in re.split(r" \| |\n", PAIRS)]
 
 # Why a press isn't read: the beginnings of the column `why`.
 REASONS = {
-    "unread: ESC O": "not read yet: F1 to F4 and the keypad as ESC `O`, modifiers and a letter",
-    "unread: a number": "not read yet: urxvt's F1 to F24 as ESC `[`, a number and `^`, `@` or `$`",
-    "unread: ESC before": "not read yet: ESC before a key of the keypad, as ESC ESC `OM`",
-    "unread: ESC [3": "not read yet: urxvt's F21 to F24 as ESC `[35~` to ESC `[38~`",
-    "unread: ESC [27": "not read yet: Super in foot, as ESC `[27;9;13~`",
-    "unread: ESC [R": "not read yet: F3 as ESC `[R`, or with a type as ESC `[1;2:1R`",
     "typed: ": "a character from U+0080 on, as in typed text: xterm writes Alt so",
     "listed: Kitty's": "Kitty's protocol without flag 4: Shift, another modifier and `1` or `/`",
     "listed: foot": "foot's keypad with modifiers, as numbers of X11",
     "listed: Konsole": "Super in Konsole and QTerminal, as Ctrl-X, `@`, `s` and the key",
     "listed: st": "st's Insert, Delete, End and Home, where keypad mode or DECCKM is off",
+    "listed: ESC": "Alt and F21 to F24 in urxvt: Escape, and then the key",
     "listed: VTE": "the keypad's Delete with modifiers in VTE in keypad mode",
     "row: ": "the sequence table says otherwise: Ctrl-J, Super as ESC `[1;9A`",
     "other: ": "another terminal, or another mode, sends the same for what is read: Ctrl-H",

@@ -11,8 +11,10 @@ from terminal import Terminal
 
 # The question that every terminal answers, and so the last.
 LAST_QUESTION = b"\033[c"
-POSITION, FLAGS, ATTRIBUTES = b"\033[?12;40R", b"\033[?5u", b"\033[?62;22c"
+POSITION, FLAGS, ATTRIBUTES = b"\033[12;40R", b"\033[?5u", b"\033[?62;22c"
 TEXT, GROUND = b"\033]10;rgb:dada/dada/dada\033\\", b"\033]11;rgb:1e1e/1e1e/1e1e\007"
+# It would be Ctrl-F3, if the program didn't expect a position.
+FIRST_ROW = b"\033[1;5R"
 REPLIES = POSITION + TEXT + GROUND + FLAGS + ATTRIBUTES
 # Keys that are typed between the replies are no part of them.
 WITH_KEYS = [b"q" + POSITION + b"\033[A" + TEXT + b"x", GROUND + FLAGS + ATTRIBUTES]
@@ -24,6 +26,7 @@ ANSWERED = {
     "all replies, byte by byte": ([bytes([it]) for it in REPLIES], 0.002, ALL, 0),
     # A terminal that knows neither colours nor Kitty's protocol.
     "few replies": ([POSITION, ATTRIBUTES], 0, [b"12", b"40", b"62;22"], 0),
+    "a cursor in the first row": ([FIRST_ROW, ATTRIBUTES], 0, [b"row 1, column 5", b"62;22"], 0),
     "keys between the replies": (WITH_KEYS, 0, ALL, 0),
     "half of the last reply": ([POSITION, b"\033[?62;"], 0, [b"12", b"40"], 1),
 }

@@ -457,6 +457,8 @@ A = {"kind": "report", "key": "U+0061", "modifiers": ["SHIFT"], "action": "repea
 A.update(shifted=65, base=99, length=1, text="A")
 VOLUME = {"kind": "report", "key": "functional 57428", "modifiers": [], "action": "press"}
 VOLUME.update(length=0, text="")
+BACK = {"kind": "button", "number": 8, "action": "press", "x": 3, "y": 4, "modifiers": []}
+FORWARD = {**BACK, "number": 9, "action": "release", "modifiers": ["ALT"]}
 SIZE = {"kind": "resize", "rows": 24, "columns": 80, "height": 480, "width": 800}
 A_LINE = "report U+0061 SHIFT repeat shifted U+0041 base U+0063 text 1:41"
 REPORTS = [
@@ -472,6 +474,10 @@ REPORTS = [
     (b"\033_Gi=\033\\", "apc 3:47693d", {"kind": "apc", "length": 3, "data": "47693d"}),
     (b"\033]4;", "osc cut 2:343b", {"kind": "cut", "of": "osc", "length": 2, "data": "343b"}),
     (b"\033[57428u", "report functional 57428 NONE press", VOLUME),
+    (b"\033[<128;3;4M", "button 8 press 3 4 NONE", BACK),
+    (b"\033[<137;3;4m", "button 9 release 3 4 ALT", FORWARD),
+    (b"\033[162;3;4M", "button 10 press 3 4 NONE", {**BACK, "number": 10}),
+    (b"\033[<163;3;4M", "button 11 drag 3 4 NONE", {**BACK, "number": 11, "action": "drag"}),
 ]
 REPORTS_AS_LINE = " | ".join(f"{spelled(typed)} -> {line}" for typed, line, _ in REPORTS)
 REPORTS_AS_JSON = as_json((typed, told) for typed, _, told in REPORTS)

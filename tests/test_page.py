@@ -403,7 +403,7 @@ WAITING = {
         "\\eP>|": (["the beginning of a device control string (DCS)"], "dcs cut 2:3e7c"),
         "\\e_G": (["the beginning of an application command (APC)"], "key U+005F ALT"),
         "\\e[[": (["the beginning of a key report"], "key U+005B ALT"),
-        "\\e[M!": ([f"They begin a mouse report, {TO_COME}"], "key U+005B ALT"),
+        "\\eO2": (["the beginning of a key report"], "key U+004F ALT"),
         "\\e[<0;3": (["They may become a mouse report, too"], "key U+005B ALT"),
         "\\e[1;": ([OR_CONTROL], "key U+005B ALT"),
         "\\e": (["A reply or a report may begin with it, too."], "key Escape NONE"),

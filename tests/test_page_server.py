@@ -30,9 +30,9 @@ RESTS = [b"", *RESTS.split()]
 EXTENDED_STREAM = b"q\x1b[24;80R\x1b\x1b[I\x1b]11;#fff\a\x1b[1;9A\x1b[97;5:3u\x1bP>|x\x1b\\"
 EXTENDED_STREAM += b"\x1b]a\rb\x1b[M !!\x1b[?62;4c\xc3\xa9"
 # The beginnings, and what each is called that begins no entry of the table.
-BEGINNINGS = b"\x1b[? \x1b]11 \x1b]l\x1b \x1bP@ \x1bP1$ \x1b_ \x1b[[ \x1b[M! \x1b\x1b]1 \x1b\x1b[?1"
+BEGINNINGS = b"\x1b[? \x1b]11 \x1b]l\x1b \x1bP@ \x1bP1$ \x1b_ \x1b[[ \x1bO2 \x1b\x1b]1 \x1b\x1b[?1"
 BEGINNINGS = BEGINNINGS.split()
-BEGUN = ["csi", "osc", "osc", "dcs", "dcs", "apc", "report", None, "osc", "csi"]
+BEGUN = ["csi", "osc", "osc", "dcs", "dcs", "apc", "report", "report", "osc", "csi"]
 SECONDS = 60
 # What each answer, also a refusal, tells the browser.
 POLICY = """default-src 'none'; script-src 'self'; style-src 'self'; img-src 'self';
@@ -423,7 +423,12 @@ REPORTS = [
     (b"\x1b[48;24;80;480;800t", "resize 24 80 480 800", ""),
     (b"\x1b[?31u", "keyboard flags 31", ""),
     (b"\x1b[32;3;4M", "mouse 3 4 LEFT NONE", ""),
-    (b"\x1b[M !!", "mouse 1 1 LEFT NONE", ""),
+    (b"\x1b[<136;3;4M", "button 8 press 3 4 ALT", ""),
+    (b"\x1b[<129;3;4m", "button 9 release 3 4 NONE", ""),
+    (b"\x1b[23$", "report F11 SHIFT press", ""),
+    (b"\x1bO5Q", "report F2 CTRL press", ""),
+    (b"\x1b[R", "report F3 NONE press", ""),
+    (b"\x1b[M", "csi 1:4d", "M"),
     (b"\x1b[?62;4c", "csi 6:3f36323b3463", "?62;4c"),
     (b"\x1b]11;#fff\a", "osc 7:31313b23666666", "11;#fff"),
     (b"\x1b]4;\xff<b>\x1b\\", "osc 6:343bff3c623e", "4;\ufffd<b>"),
@@ -448,7 +453,7 @@ def test_beginnings(client, reading):
         wanted = {"kind": "Sequence", "length": len(rest), "count": 0, "named": []}
         waits = client.waits(rest, reading, begins=begins, **wanted)
         assert waits["emits"] == len(waits["flushed"])
-        assert (waits["mouse"] is not None) == (rest == b"\x1b[M!"), rest
+        assert waits["mouse"] is None, rest
 
 
 def test_beginnings_of_the_table_too(client):

@@ -24,25 +24,34 @@ BUTTONS = {
     **{"WheelUp": "VERT_WHEEL+WHEEL_POSITIVE", "WheelDown": "VERT_WHEEL"},
     **{"WheelLeft": "HORZ_WHEEL+WHEEL_POSITIVE", "WheelRight": "HORZ_WHEEL"},
 }
+SIDE_BUTTONS = {"Back": 8, "Forward": 9}
+# urxvt reports these as a wheel, and VTE as the left button.
+WITHOUT_SIDE_BUTTONS = ("urxvt", "xfce4-terminal")
 
 
 @functools.cache
 def parsers():
-    """The parsers by name: the port's, and the extended one by both protocols."""
-    from hedrugal import ExtendedParser, InputParser, Protocol
+    """The parsers by name: the port's, and the extended one by several readings. `asked` is that
+    of a program that asked for the cursor's position."""
+    from hedrugal import ExtendedParser, InputParser, Protocol, Reading
 
-    return {
-        "port": InputParser(),
-        "legacy": ExtendedParser(Protocol.LEGACY),
-        "kitty": ExtendedParser(Protocol.KITTY),
+    readings = {
+        "legacy": Reading(Protocol.LEGACY),
+        "kitty": Reading(Protocol.KITTY),
+        "x10": Reading(Protocol.LEGACY, x10_mouse=True),
+        "asked": Reading(Protocol.LEGACY, questions=1),
     }
+    extended = {name: (ExtendedParser(), reading) for name, reading in readings.items()}
+    return {"port": (InputParser(), None), **extended}
 
 
 def read_pieces(reader, pieces):
     """The events of pieces, and how many bytes stay buffered after a pause."""
     from hedrugal import Waiting
 
-    parser = parsers()[reader]
+    parser, reading = parsers()[reader]
+    if reading:
+        parser.reading = reading
     events = [event for piece in pieces for event in parser.parse(piece)]
     flushed = parser.flush_escape()
     events += [flushed] if flushed is not None else []
@@ -156,14 +165,15 @@ def test_port():
                 assert is_exact("legacy", line), (terminal, line)
 
 
-# A report of the modes 1006 and 1016, and one of 1015.
-ONE_REPORT = rb"\x1b\[<[\d;]+[Mm]|\x1b\[[\d;]+M"
+# A report of the modes 1006 and 1016, one of 1015, and one of the others.
+ONE_REPORT = rb"\x1b\[<[\d;]+[Mm]|\x1b\[[\d;]+M|\x1b\[M[ -\xff]{3}"
 
 
 @pytest.mark.parametrize("terminal", TERMINALS)
 def test_mouse(terminal):
-    """A report tells the button and the modifiers. None is a key."""
-    from hedrugal import Modifiers, MouseButtons
+    """A report tells the button and the modifiers. None is a key. The short form of a report is
+    read by a parser that was told so."""
+    from hedrugal import Modifiers, MouseButtons, SideButton, SideButtonKind
 
     def flags(kind, names):
         return functools.reduce(lambda all_, it: all_ | kind[it], names, kind.NONE)
@@ -173,15 +183,22 @@ def test_mouse(terminal):
             continue
         pressed, _, what = line.what.replace("-corner", "").rpartition(" ")
         *held, button = pressed.split("+")
-        for reader in ("legacy", "kitty"):
+        # QTerminal doesn't report Ctrl and Alt.
+        modifiers = flags(Modifiers, map(str.upper, held * (terminal != "qterminal")))
+        for reader in ["x10"] if line.bytes.startswith(b"\x1b[M") else ["legacy", "kitty"]:
             events, rest = read(reader, line.bytes)
             assert len(events) == 1 and not rest and not plain_press(events[0]), line
             # In the mode 1003 a move may come in between, and few terminals say what was released.
-            if what == "press" and button in BUTTONS and "1000" in line.modes:
+            if "1000" not in line.modes or what == "release" and not line.bytes.endswith(b"m"):
+                continue
+            if what == "press" and button in BUTTONS:
                 buttons = flags(MouseButtons, BUTTONS[button].split("+"))
-                # QTerminal doesn't report Ctrl and Alt.
-                modifiers = flags(Modifiers, map(str.upper, held * (terminal != "qterminal")))
                 assert (events[0].buttons, events[0].modifiers) == (buttons, modifiers), line
+            if button in SIDE_BUTTONS and terminal not in WITHOUT_SIDE_BUTTONS:
+                event = events[0]
+                wanted = SIDE_BUTTONS[button], SideButtonKind[what.upper()], modifiers
+                assert isinstance(event, SideButton), line
+                assert (event.number, event.kind, event.modifiers) == wanted, line
 
 
 @pytest.mark.parametrize("terminal", TERMINALS)
@@ -206,7 +223,7 @@ def test_pastes(terminal):
         start, end = b"\x1b[200~", b"\x1b[201~"
         assert line.bytes.startswith(start), line
         text, *typed = line.bytes[len(start) :].split(end)
-        for reader in parsers():
+        for reader in ("port", "legacy", "kitty"):
             events, rest = read(reader, line.bytes)
             if not typed:
                 assert (events, rest) == ([], len(line.bytes)), line
@@ -219,14 +236,19 @@ def test_pastes(terminal):
 
 @pytest.mark.parametrize("terminal", TERMINALS)
 def test_replies(terminal):
-    """Replies aren't keys. By legacy rules the cursor's position in the first row is F3."""
+    """Replies aren't keys. By legacy rules the cursor's position in the first row is F3, unless the
+    program asked for it."""
+    from hedrugal import CursorPosition
+
     for line in FILES[terminal][1]:
         if line.kind == "reply":
-            for reader in ("legacy", "kitty"):
+            for reader in ("legacy", "kitty", "asked"):
                 events, _ = read(reader, line.bytes)
                 keys = [it[1] for it in map(plain_press, events) if it]
                 is_third = all(it.endswith("f3") for it in keys) and b"R" in line.bytes
                 assert not keys or is_third and reader == "legacy", (line, reader, keys)
+                if line.what == "DSR6" and reader != "legacy":
+                    assert any(isinstance(it, CursorPosition) for it in events), line
 
 
 def test_every_line_is_read():

@@ -114,7 +114,9 @@ FORMS = {
 
 # The types of groups in Rust; the others are u32.
 RUST_TYPES = {
-    **dict.fromkeys("kind side_button key_event_kind encoding reply device_attributes".split(), "u8"),
+    **dict.fromkeys(
+        "kind side_button key_event_kind encoding reply device_attributes".split(), "u8"
+    ),
     **dict.fromkeys("mode_state colour_name colour_scheme".split(), "u8"),
     **{"termwiz_mod": "Modifiers", "button": "MouseButtons"},
 }

@@ -3,6 +3,9 @@ keyboard protocol are set, and prints what it replies:
 
     python3 python/examples/ask.py [SECONDS]
 
+Every terminal that was recorded answers ESC [6n, and few ESC [?6n. A reply from the first row looks
+like F3 with modifiers. So the program says that it expects one.
+
 The last question is the one for the terminal's attributes (DA1). Every terminal answers it, and
 answers in order, so what wasn't answered before won't be. The program ends with that answer, or
 after so many seconds, one if none are named. What is typed meanwhile is counted, and what is pasted
@@ -29,7 +32,7 @@ from hedrugal import (
     Paste,
 )
 
-CURSOR, BACKGROUND, KEYBOARD, ATTRIBUTES = b"\x1b[?6n", b"\x1b]11;?\x1b\\", b"\x1b[?u", b"\x1b[c"
+CURSOR, BACKGROUND, KEYBOARD, ATTRIBUTES = b"\x1b[6n", b"\x1b]11;?\x1b\\", b"\x1b[?u", b"\x1b[c"
 
 
 class Ended(BaseException):
@@ -54,10 +57,11 @@ def is_attributes(event: ExtendedEvent) -> bool:
 def ask(terminal: int, seconds: float) -> List[ExtendedEvent]:
     """Asks all questions at once. Returns the events until the last answer, or until the time is
     over."""
-    os.write(terminal, CURSOR + BACKGROUND + KEYBOARD + ATTRIBUTES)
     events: List[ExtendedEvent] = []
     end = time.monotonic() + seconds
     with ExtendedParser() as parser:
+        parser.expect_position()
+        os.write(terminal, CURSOR + BACKGROUND + KEYBOARD + ATTRIBUTES)
         while not any(is_attributes(event) for event in events):
             left, wait = end - time.monotonic(), parser.timeout()
             if left <= 0:

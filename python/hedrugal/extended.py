@@ -14,6 +14,7 @@ from __future__ import annotations
 
 import ctypes
 import functools
+import operator
 import struct
 from dataclasses import dataclass
 from typing import Any, Callable, Dict, List, Optional, Tuple, Union
@@ -40,6 +41,7 @@ from . import (
     _KIND_PASTE,
     _KIND_REPORT,
     _KIND_RESIZE,
+    _KIND_SIDE_BUTTON,
     _KIND_STRING_CUT,
     _KIND_STRING_PART,
     EncodeError,
@@ -79,6 +81,19 @@ class Protocol(_Named):
     # that report.
     KITTY = 1
     # numbers.txt: end
+
+
+@dataclass(frozen=True)
+class Reading:
+    """How an ExtendedParser reads: by which protocol, whether X10 mouse reports are among what it
+    reads, and how many questions for the cursor's position are open. See
+    `ExtendedParser.reading`."""
+
+    protocol: Protocol
+    # ESC [M and three bytes are a report. Without it ESC [M is a Csi. A program that asks for the
+    # mode 1006 leaves it off.
+    x10_mouse: bool = False
+    questions: int = 0  # From 0 to 255.
 
 
 class SideButtonKind(_Named):
@@ -261,6 +276,18 @@ def typed_text(report: KeyReport) -> str:
 
 
 @dataclass(frozen=True)
+class SideButton:
+    """One of the mouse's buttons 8 to 11 was pressed, released or dragged: 8 leads back and 9 leads
+    on. The place is as in a MouseEvent."""
+
+    number: int
+    kind: SideButtonKind
+    x: int
+    y: int
+    modifiers: Modifiers = Modifiers.NONE
+
+
+@dataclass(frozen=True)
 class FocusGained:
     """The terminal's window gained the focus (mode 1004)."""
 
@@ -373,6 +400,7 @@ ExtendedEvent = Union[
     Apc,
     StringPart,
     StringCut,
+    SideButton,
 ]
 
 
@@ -381,6 +409,14 @@ ExtendedEvent = Union[
 
 class _RawExtended(ctypes.Structure):
     _fields_ = _PARSER_FIELDS
+
+
+class _RawReading(ctypes.Structure):
+    _fields_ = [
+        ("protocol", ctypes.c_uint32),
+        ("x10_mouse", ctypes.c_bool),
+        ("questions", ctypes.c_uint8),
+    ]
 
 
 class _RawReport(ctypes.Structure):
@@ -426,6 +462,7 @@ _report_fields_of = struct.Struct("@BBHIII").unpack_from
 _NO_CODE = 0xFFFFFFFF
 
 _PARSER = ctypes.POINTER(_RawExtended)
+_READING = ctypes.POINTER(_RawReading)
 _REPORT = ctypes.POINTER(_RawReport)
 _PRESS = ctypes.POINTER(_RawPress)
 _EVENT = ctypes.POINTER(_RawExtendedEvent)
@@ -436,6 +473,10 @@ _CALLS: Dict[str, Tuple[Any, List[Any]]] = {
     "hed_extended_init_sharing": (ctypes.c_bool, [_PARSER, ctypes.c_uint32, _PARSER]),
     "hed_extended_init_sharing_parser": (ctypes.c_bool, [_PARSER, ctypes.c_uint32, _INPUT_PARSER]),
     "hed_parser_init_sharing_extended": (ctypes.c_bool, [_INPUT_PARSER, _PARSER]),
+    "hed_extended_set_reading": (ctypes.c_bool, [_PARSER, _READING]),
+    "hed_extended_reading": (ctypes.c_bool, [_PARSER, _READING]),
+    "hed_extended_expect_position": (None, [_PARSER]),
+    "hed_extended_forget_positions": (None, [_PARSER]),
     "hed_extended_free": (None, [_PARSER]),
     "hed_extended_feed": (ctypes.c_bool, [_PARSER, _BYTES, ctypes.c_size_t]),
     "hed_extended_next": (ctypes.c_uint32, [_PARSER, ctypes.c_bool, _EVENT]),
@@ -482,7 +523,9 @@ _of_string: Dict[int, Callable[[StringKind, bytes], ExtendedEvent]] = {
     _KIND_STRING_PART: StringPart,
     _KIND_STRING_CUT: StringCut,
 }
+_protocols = {protocol.value: protocol for protocol in Protocol}
 _kinds = {kind.value: kind for kind in KeyEventKind}
+_side_button_kinds = {kind.value: kind for kind in SideButtonKind}
 _string_kinds = {kind.value: kind for kind in StringKind}
 # The bits of all flags that have names.
 _NAMED_FLAGS = (~KittyKeyboardFlags.NONE).value
@@ -549,8 +592,28 @@ def _key_report(
     )
 
 
+def _side_button(kind: int, event: _RawEvent) -> SideButton:
+    of = _side_button_kinds.get(kind) or _fault()
+    return SideButton(event.detail, of, event.x, event.y, Modifiers(event.modifiers))
+
+
 def _keyboard_flags(bits: int) -> KeyboardFlags:
     return KeyboardFlags(KittyKeyboardFlags(bits & _NAMED_FLAGS), bits & ~_NAMED_FLAGS)
+
+
+def _checked(protocol: Protocol) -> Protocol:
+    if not isinstance(protocol, Protocol):
+        raise TypeError(f"a Protocol is required, not {type(protocol).__name__}")
+    return protocol
+
+
+def _raw_reading(reading: Reading) -> _RawReading:
+    if not isinstance(reading, Reading):
+        raise TypeError(f"a Reading is required, not {type(reading).__name__}")
+    protocol, questions = _checked(reading.protocol), operator.index(reading.questions)
+    if not 0 <= questions <= 255:
+        raise ValueError("questions are a number from 0 to 255")
+    return _RawReading(protocol.value, bool(reading.x10_mouse), questions)
 
 
 class ExtendedParser(_EventParser[ExtendedEvent]):
@@ -596,21 +659,74 @@ class ExtendedParser(_EventParser[ExtendedEvent]):
     )
 
     def __init__(self, protocol: Protocol = Protocol.LEGACY) -> None:
-        if not isinstance(protocol, Protocol):
-            raise TypeError(f"a Protocol is required, not {type(protocol).__name__}")
+        number = _checked(protocol).value
 
         def init(raw: _RawExtended) -> bool:
             return bool(
-                _library.hed_extended_init_sharing_parser(raw, protocol.value, _parser_with_table())
+                _library.hed_extended_init_sharing_parser(raw, number, _parser_with_table())
             )
 
         super().__init__(_RawExtended(), _RawExtendedEvent(), init, _library.hed_extended_free)
-        self._protocol = protocol
 
     @property
     def protocol(self) -> Protocol:
-        """The keyboard protocol that the program turned on."""
-        return self._protocol
+        """The keyboard protocol by which it reads: that of its `reading`."""
+        return self.reading.protocol
+
+    @property
+    def reading(self) -> Reading:
+        r"""How it reads, a Reading. Assign another to change it; what is buffered is then read by
+        the new one. So a program may read as by LEGACY at first, ask ESC [?u, and read as by KITTY
+        once the terminal replied:
+
+            >>> with ExtendedParser() as parser:
+            ...     [event] = parser.parse(b"\x1b[?1u")
+            ...     if isinstance(event, KeyboardFlags):
+            ...         parser.reading = Reading(Protocol.KITTY)
+            ...     parser.parse(b"\x1b[1;2R"), parser.protocol
+            ([CursorPosition(row=1, column=2)], Protocol.KITTY)
+
+        To assign raises TypeError for what is no Reading, and ValueError if questions is none of 0
+        to 255. The reading is that from before then."""
+        raw = _RawReading()
+        with self._lock:
+            self._check_open()
+            if not _library.hed_extended_reading(self._raw, raw):
+                _fault()
+        protocol = _protocols.get(raw.protocol) or _fault()
+        return Reading(protocol, raw.x10_mouse, raw.questions)
+
+    @reading.setter
+    def reading(self, reading: Reading) -> None:
+        raw = _raw_reading(reading)
+        with self._lock:
+            self._check_open()
+            if not _library.hed_extended_set_reading(self._raw, raw):
+                _fault()
+
+    def expect_position(self) -> None:
+        r"""Expects one more reply to a question for the cursor's position. Call it with each
+        ESC [6n that is written; 255 may be open.
+
+            >>> with ExtendedParser() as parser:
+            ...     parser.expect_position()
+            ...     for event in parser.parse(b"\x1b[1;5R\x1b[1;5R"):
+            ...         print(event)
+            CursorPosition(row=1, column=5)
+            KeyEvent(key=Function(number=3), modifiers=Modifiers.CTRL)
+
+        While one is open, ESC [1;5R and the like are a CursorPosition, and not F3 with modifiers.
+        Each such event answers one question, and `reset` forgets all."""
+        with self._lock:
+            self._check_open()
+            _library.hed_extended_expect_position(self._raw)
+
+    def forget_positions(self) -> None:
+        """Expects no reply any more to such questions. Call it when a reply is overdue, or when a
+        later question was answered."""
+        with self._lock:
+            self._check_open()
+            _library.hed_extended_forget_positions(self._raw)
 
     def _front_event(self) -> ExtendedEvent:
         front = self._front
@@ -627,6 +743,8 @@ class ExtendedParser(_EventParser[ExtendedEvent]):
             return _of_string[kind](of, bytes(self._text(front.text_len)))
         if kind == _KIND_CURSOR_POSITION:
             return CursorPosition(front.row, front.column)
+        if kind == _KIND_SIDE_BUTTON:
+            return _side_button(front.flags, front.input)
         if kind == _KIND_RESIZE:
             return Resize(front.rows, front.columns, front.height, front.width)
         if kind == _KIND_KEYBOARD_FLAGS:

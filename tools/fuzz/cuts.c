@@ -5,6 +5,8 @@ typedef hed_parser tested;
 typedef hed_event event;
 #define CALL(name) hed_parser_##name
 #define SHARE hed_parser_init_sharing
+#define RESET hed_parser_reset
+#define BEGIN(parser) (void)parser
 #define COPY_TEXT hed_parser_paste
 #define DROP_TEXT hed_parser_drop_paste
 #define TEXT_LEN paste_len

@@ -1,6 +1,7 @@
 /* The events of the extended parser don't depend on how a stream is cut, and its keys can be encoded and read back.
  *
- * reading.h says how streams are read. The bit 0x40 of an input's first byte asks for Kitty's reading of the rows. If the byte is 0x80 + n,
+ * reading.h says how streams are read. The bit 0x40 of an input's first byte asks for Kitty's reading of the rows. With the bit 0x80 X10
+ * mouse reports are read too, and as many replies for the cursor's position are expected as the two low bits say. If the byte is 0x80 + n,
  * n up to 7, a string too long for one event repeats the bytes after it, in reads of 4 to the power of n. Its parts bring all of them.
  *
  * The first keys of the stream are encoded. Under all flags of Kitty's protocol what is sent is read as one key report, and that is then
@@ -14,7 +15,18 @@
 typedef hed_extended tested;
 typedef hed_extended_event event;
 
-enum { KITTY = 0x40, LONG = 0x80, READS = 7, NO_END = 0xfd, OPENING = 5, PART = 65535, CONTROL_REST = 256, STRING_MAX = 1 << 17 };
+enum {
+  KITTY = 0x40,
+  X10_AND_QUESTIONS = 0x80,
+  QUESTIONS = 3,
+  LONG = 0x80,
+  READS = 7,
+  NO_END = 0xfd,
+  OPENING = 5,
+  PART = 65535,
+  CONTROL_REST = 256,
+  STRING_MAX = 1 << 17
+};
 enum { ALL_FLAGS = 2 * HED_KITTY_FLAG_REPORT_ASSOCIATED_TEXT - 1, SEQUENCE_MAX = 256, ENCODED_KEYS = 40, REPLIES = 40, REPLY_MAX = 4096 };
 
 static bool is_key(const event *it) {
@@ -29,15 +41,25 @@ static void check_report(const hed_key_report *report) {
   HOLDS((report->shifted <= 0x10ffff || report->shifted == HED_NO_CODE) && (report->base <= 0x10ffff || report->base == HED_NO_CODE));
 }
 
+/* What holds for the report of a side button: its number, what happened, where it was, and which modifiers were held. */
+static void check_side_button(const event *it) {
+  const hed_event *input = &it->input;
+  HOLDS(it->flags >= HED_SIDE_BUTTON_PRESS && it->flags <= HED_SIDE_BUTTON_DRAG && input->detail >= 8 && input->detail <= 11);
+  HOLDS((input->modifiers & ~(HED_TERMWIZ_MOD_SHIFT | HED_TERMWIZ_MOD_ALT | HED_TERMWIZ_MOD_CTRL)) == 0);
+  HOLDS(input->key == 0 && input->buttons == 0 && input->paste_len == 0 && it->text_len == 0);
+}
+
 /* What holds for every event. */
 static void check_extended_event(const event *it) {
   static const hed_key_report none;
-  HOLDS(it->kind >= HED_KIND_KEY && it->kind <= HED_KIND_STRING_CUT && it->kind != HED_KIND_PASTE_PART);
+  HOLDS(it->kind >= HED_KIND_KEY && it->kind <= HED_KIND_SIDE_BUTTON && it->kind != HED_KIND_PASTE_PART);
   if (is_key(it)) check_report(&it->report);
   else HOLDS(memcmp(&it->report, &none, sizeof none) == 0);
   HOLDS(it->input.kind == (it->kind > HED_KIND_PASTE ? HED_KIND_OTHER : it->kind));
   HOLDS(it->kind != HED_KIND_PASTE || it->text_len == it->input.paste_len);
-  HOLDS(it->kind < HED_KIND_STRING_PART || (it->flags >= HED_KIND_OSC && it->flags <= HED_KIND_APC));
+  bool is_string = it->kind == HED_KIND_STRING_PART || it->kind == HED_KIND_STRING_CUT;
+  HOLDS(!is_string || (it->flags >= HED_KIND_OSC && it->flags <= HED_KIND_APC));
+  if (it->kind == HED_KIND_SIDE_BUTTON) check_side_button(it);
   note(0x60000u | it->kind, is_key(it) ? it->report.kind : it->flags);
 }
 
@@ -61,6 +83,43 @@ static void check_extended_rest(const tested *parser, const uint8_t *waiting, si
 
 static uint32_t protocol;
 
+/* How the stream is read at first. */
+static hed_reading first_reading;
+
+static bool same_reading(const hed_reading *one, const hed_reading *other) {
+  return one->protocol == other->protocol && one->x10_mouse == other->x10_mouse && one->questions == other->questions;
+}
+
+static hed_reading reading_of(const tested *it) {
+  hed_reading found;
+  HOLDS(hed_extended_reading(it, &found));
+  return found;
+}
+
+/* Makes a parser read as at first. Each question is one more. */
+static void begin_reading(tested *it) {
+  hed_reading none = first_reading;
+  none.questions = 0;
+  hed_extended_expect_position(it);
+  hed_extended_forget_positions(it);
+  HOLDS(hed_extended_set_reading(it, &none));
+  for (unsigned count = 0; count < first_reading.questions; count++) hed_extended_expect_position(it);
+  hed_reading found = reading_of(it);
+  HOLDS(same_reading(&found, &first_reading));
+}
+
+/* Resets a parser, which forgets its questions: they are open again then. */
+static size_t reset_and_read_on(tested *it) {
+  hed_reading before = reading_of(it), wanted = before;
+  size_t len = hed_extended_reset(it);
+  hed_reading after = reading_of(it);
+  wanted.questions = 0;
+  HOLDS(same_reading(&after, &wanted) && hed_extended_set_reading(it, &before));
+  return len;
+}
+
+#define RESET reset_and_read_on
+#define BEGIN begin_reading
 #define CALL(name) hed_extended_##name
 #define SHARE(sharing, other) hed_extended_init_sharing(sharing, protocol, other)
 #define COPY_TEXT hed_extended_text
@@ -70,6 +129,14 @@ static uint32_t protocol;
 #define SAME same_extended_event
 #define CHECK_REST check_extended_rest
 #include "reading.h"
+
+/* Each position of the cursor answered one of the questions, as long as there were any. */
+static void check_questions(void) {
+  hed_reading wanted = first_reading, found = reading_of(parser);
+  for (size_t i = 0; i < cut.count; i++)
+    if (cut.events[i].kind == HED_KIND_CURSOR_POSITION && wanted.questions > 0) wanted.questions--;
+  HOLDS(same_reading(&found, &wanted));
+}
 
 /* Encodes the key of an event into a room of that size. */
 static void encode_event(sent *it, const event *key, const uint8_t *of_key, uint8_t flags, size_t capacity) {
@@ -200,6 +267,7 @@ void try_input(input *it) {
   hed_parser between = HED_PARSER_NONE;
   uint8_t first = take_byte(it);
   protocol = first & KITTY ? HED_PROTOCOL_KITTY : HED_PROTOCOL_LEGACY;
+  first_reading = (hed_reading){ protocol, first & X10_AND_QUESTIONS, first & X10_AND_QUESTIONS ? first & QUESTIONS : 0 };
   parser = &parsers[protocol];
   if (!parser->live) HOLDS(hed_extended_init(parser, protocol));
   if (!back.live)
@@ -207,6 +275,7 @@ void try_input(input *it) {
   hed_parser_free(&between);
   if ((first & ~READS) == LONG && it->left > 0) read_long_string(it->at, it->left, (size_t)1 << 2 * (first & READS));
   read_both(it, first);
+  check_questions();
   encode_keys();
   read_replies();
 }

@@ -1,5 +1,6 @@
 /* Reads a stream whole and in pieces, for both parsers. A harness says which before it includes this: the types `tested` of a parser and
- * `event`; CALL, the name of a call; those calls whose names differ otherwise; and the checks CHECK, SAME and CHECK_REST.
+ * `event`; CALL, the name of a call; those calls whose names differ otherwise; RESET, which resets a parser and changes nothing else of
+ * it; BEGIN, which makes a parser that was reset read as at first; and the checks CHECK, SAME and CHECK_REST.
  *
  * An input is a byte whose five low bits are a number of pieces, a byte for each of them, and the stream. The five low bits of a piece's
  * byte are its size. The others say what is done after the piece, and none of it may make a difference. With 0x20 the parser is reset and
@@ -72,7 +73,7 @@ static void read_up_to(reading *it, const uint8_t *stream, size_t from, size_t t
 /* Forgets what waits and feeds it once more: it is all that the parser remembers of the stream. */
 static void read_rest_again(reading *it, const uint8_t *stream, size_t to) {
   size_t count = it->count;
-  HOLDS(CALL(reset)(parser) == it->rest);
+  HOLDS(RESET(parser) == it->rest);
   read_up_to(it, stream, to - it->rest, to);
   HOLDS(it->count == count);
 }
@@ -103,6 +104,7 @@ static void read_end(reading *it, const uint8_t *stream, size_t len) {
 static void begin(reading *it) {
   it->count = it->texts_len = it->rest = 0;
   CALL(reset)(parser);
+  BEGIN(parser);
   DROP_TEXT(parser);
 }
 

@@ -52,22 +52,13 @@ LISTED = [
     ),
     ("konsole|qterminal", rb"\x18@s.*", "Konsole writes Super as Ctrl-X, @, s before the key"),
     ("foot", rb"\x1b\[27;\d+;6\d{4}~", "foot sends X11's numbers of keypad keys as characters"),
+    ("urxvt", rb"\x1b\x1b\[3[5-8]~", "ESC isn't joined to a number that is no row"),
     ("xfce4-terminal", rb"\x1bO3~", "VTE joins ESC O and half of a sequence"),
     (
         "kitty|foot",
         rb"\x1b\[\d+;\d+(:\d)?u",
         "Kitty's protocol tells what Shift makes of the key by flag 4 alone",
     ),
-]
-
-# What the extended parser doesn't read as keys yet: the bytes, and what they are.
-UNREAD = [
-    (rb"\x1b?\x1bO(0;)?[2-8][P-SMXj-y]", "ESC O, modifiers and a letter"),
-    (rb"\x1b\x1bO[MXEj-y]", "ESC before a key of the keypad"),
-    (rb"\x1b?\x1b\[\d+[$^@]", "a number and ^, @ or $"),
-    (rb"\x1b?\x1b\[3[5-8]~", "ESC [35~ to ESC [38~"),
-    (rb"\x1b\[27;(9|\d{2,});\d+~", "ESC [27; and modifiers from 9"),
-    (rb"\x1b\[(1;\d:\d)?R", "ESC [R, and ESC [1; modifiers : type R"),
 ]
 
 
@@ -194,9 +185,6 @@ def reason(terminal, line, mode, elsewhere):
         text = data.decode("utf-8", "replace")
         if len(text) == 1 and ord(text) >= 128:
             return f"typed: {name}"
-    for bytes_of, what in UNREAD:
-        if re.fullmatch(bytes_of, data):
-            return "unread: " + what
     if kind == "reply":
         return "reply: a cursor's position"
     if events and events[0][0] == "focus":

@@ -34,6 +34,7 @@ from hedrugal import (
     Protocol,
     ReportedKey,
     Resize,
+    SideButton,
     StringCut,
     StringKind,
     StringPart,
@@ -74,7 +75,9 @@ READINGS: Dict[str, Callable[[], AnyParser]] = {
 # what may end them. The end of a string may come after the rest of its opening.
 BEGUN = {Csi: "csi", Osc: "osc", Dcs: "dcs", Apc: "apc", KeyReport: "report"}
 STRINGS = (b"]0;\a", b"P>|\x1b\\", b"P@kitty-\x1b\\", b"P0$r\x1b\\", b"_Ga=\x1b\\")
-ENDINGS = [b"\\", b"\x1b\\", b"\a", b"A"] + [it[at:] for it in STRINGS for at in range(len(it) - 1)]
+ENDINGS = [b"\\", b"\x1b\\", b"\a", b"A", b"P", b"2P"] + [
+    it[at:] for it in STRINGS for at in range(len(it) - 1)
+]
 
 # What introduces a string. An event has the bytes after it.
 INTRODUCERS = {StringKind.OSC: b"\x1b]", StringKind.DCS: b"\x1bP", StringKind.APC: b"\x1b_"}
@@ -143,6 +146,9 @@ EXTENDED_LINES: Dict[type, Callable[[Any], str]] = {
     Apc: lambda it: text_line("apc", it.data),
     StringPart: lambda it: text_line(f"{it.kind.name.lower()} part", it.data),
     StringCut: lambda it: text_line(f"{it.kind.name.lower()} cut", it.data),
+    SideButton: lambda it: (
+        f"button {it.number} {it.kind.name.lower()} {it.x} {it.y} {set_name(it.modifiers)}"
+    ),
 }
 
 
