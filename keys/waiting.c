@@ -84,7 +84,7 @@ static const char *begun_by(const reader *reader, const uint8_t *waiting, size_t
     case ']': return "a command (OSC)";
     case 'P': return "a device control string (DCS)";
     case '_': return "an application command (APC)";
-    case 'O': return "a key of the keypad";
+    case 'O': return "a key with modifiers";
     default: return "a control sequence";
   }
 }

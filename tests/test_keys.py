@@ -139,12 +139,18 @@ STRING = [
     "   1  ESC ] 1 1 ; r -> goes on in read 2",
     "   2  (ESC ] 1 1 ; r) ^G -> osc 4:31313b72 | ESC [ I -> focus gained",
 ]
+KEYPAD = f"the beginning of a key with modifiers: {UP_TO}"
+KEYPAD_KEY = [
+    "   1  ESC O 2 -> goes on in read 2",
+    "   2  (ESC O 2) P -> report F1 SHIFT press",
+]
 # The words, what is typed in time, with texts to wait for and pauses, and the lines. The line of a
 # read says where its bytes went. A second ESC belongs to the group of the first.
 IN_TIME = {
     "ESC, then [ A": ("", [b"\033", ESCAPE, b"[A"], [BEGUN, "   2  (ESC) [ A -> key UpArrow NONE"]),
     "ESC, then ESC": ("", [b"\033", ESCAPE, b"\033"], [BEGUN, "   2  (ESC) ESC -> key Escape ALT"]),
     "a sequence over three reads": ("", THREE_READS, THREE_LINES),
+    "a key over two reads": ("--extended", [b"\033O2", KEYPAD, b"P"], KEYPAD_KEY),
     "a string over two reads": ("--extended", [b"\033]11;r", OSC, b"\007\033[I"], STRING),
 }
 
