@@ -1,3 +1,5 @@
+pub mod BindingLaws
+pub mod Bindings
 pub mod Chords
 pub mod Codes
 pub mod CodeLaws

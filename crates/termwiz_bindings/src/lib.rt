@@ -1,6 +1,7 @@
 //! One name for a key, however its terminal reports it: the press, by which programs look up what a key does.
 #![tactic(auto)]
 
+pub mod bindings;
 pub mod chord;
 pub mod laws;
 pub mod numbers;
