@@ -5,6 +5,7 @@ pub mod CodedPresses
 pub mod EventModifiers
 pub mod KeyNumbers
 pub mod HeldBits
+pub mod MadePresses
 pub mod MainKeyFacts
 pub mod OneChord
 pub mod SecondPresses

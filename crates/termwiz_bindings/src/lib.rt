@@ -6,3 +6,5 @@ pub mod chord;
 pub mod laws;
 pub mod numbers;
 pub mod press;
+#[cfg(test)]
+mod tests;
