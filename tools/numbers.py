@@ -23,6 +23,7 @@ LIST = "c/numbers.txt"
 HEADER = "c/hedrugal.h"
 NAMES = "crates/event_text/specs/Names.antt"
 LAWS = "crates/termwiz_grammar/specs/Laws.antt"
+CHORD = "crates/termwiz_bindings/src/chord.rt"
 
 
 class Number(NamedTuple):
@@ -213,13 +214,14 @@ def constants(prefix: str) -> str:
 
 
 FLAG = r"^ *pub const (?P<name>[A-Z0-9_]+): \w+ = \w+\((?P<number>\d+)(?: << (?P<shift>\d+))?\);$"
+KEY_NUMBER = r"^ *KeyCode::(?P<name>\w+)(?:\(_\))? => (?P<number>\d+),?$"
 KEY_NAME = r'^ *KeyCode::(?P<name>\w+)(?:\(_\))? => "(?P<text>\w+)"'
 KEY_NAME_DEFINED = r'^variant_name \(?(?P<name>\w+).* = codes "(?P<text>\w+)"'
 FLAG_NAME = r'name: "(?P<text>\w+)",\n *value: \w+::(?P<name>\w+),$'
 
 # What has a group's numbers or the names that are printed of it: files, and a pattern for all.
 PROVED = [
-    ("key", "termwiz_bindings/src/numbers.rt", r"^ *KeyCode::(?P<name>\w+)(?:\(_\))? => (?P<number>\d+),?$"),
+    ("key", "termwiz_bindings/src/numbers.rt", KEY_NUMBER),
     ("kind", "hedrugal/src/events.rt hedrugal/src/extended_events.rt", constants("KIND")),
     ("side_button", "hedrugal/src/extended_events.rt", constants("SIDE_BUTTON")),
     ("key_event_kind", "hedrugal/src/extended_events.rt", constants("KEY_EVENT_KIND")),
@@ -284,7 +286,7 @@ SAME = [
     ("HED_ENTRY_COUNT", LAWS, r"^row_count = (?P<it>\d+)$"),
     ("HED_ENTRY_MOST", LAWS, r"^  pub one_has_\w+_bytes .*length bytes ≡ (?P<it>\d+)\)$"),
     ("HED_ENTRY_MOST", "rust/src/raw.rs", r"^pub const ENTRY_MOST: usize = (?P<it>\d+);$"),
-    ("HED_CHORD_MOST", "crates/termwiz_bindings/src/chord.rt", r"^pub const MAX_KEYS: usize = (?P<it>\d+);$"),
+    ("HED_CHORD_MOST", CHORD, r"^pub const MAX_KEYS: usize = (?P<it>\d+);$"),
     ("HED_CHORD_MOST", "rust/src/raw.rs", r"^pub const CHORD_MOST: usize = (?P<it>\d+);$"),
     ("HED_CHORD_MOST", "python/hedrugal/extended.py", r"^_CHORD_MOST = (?P<it>\d+)$"),
     ("HED_VERSION", "c/hedrugal.pc", rf"^Version: {VERSION}$"),
