@@ -5,7 +5,7 @@ use Rattle.termwiz_bindings.specs.declared.names.ReadError.{ReadError}
 use Rattle.termwiz_bindings.specs.declared.names.ReadErrorKind.{ReadErrorKind}
 use Rattle.termwiz_bindings.specs.declared.names.ReadErrorKind.TheVariants.{ControlCharacter, ModifierTwice, UnknownModifier, MissingKey, BadNumber, UnknownName, Ambiguous, NotAKey, ShiftedCharacter, TooLong, Empty}
 use Rattle.termwiz_bindings.specs.declared.press.KeyPress.{KeyPress}
-use Rattle.termwiz_bindings.specs.Names.{printed_chord, read}
+use Rattle.termwiz_bindings.specs.ChordNames.{printed_chord, read}
 use Rattle.termwiz_bindings.specs.Presses.{text_of_press}
 use Rattle.hedrugal.specs.declared.press_calls.CKeyPress.{CKeyPress}
 use Rattle.hedrugal.specs.Calls.{copied}

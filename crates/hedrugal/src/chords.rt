@@ -1,21 +1,30 @@
 // Presses and chords in numbers.
-ghost use Rattle.std.specs.Prelude.{◌≡◌, ◌↔◌, List, Some, length, IfSome, IfNone};
+ghost use Rattle.std.specs.Prelude.{◌≡◌, ◌↔◌, List, Some, length, IfSome, IfNone, IsTrue};
 ghost use Rattle.termwiz_bindings.specs.declared.press.KeyPress.{KeyPress as Pressed};
 ghost use Rattle.hedrugal.specs.Chords.{AreOfChord, AreOfPress, with_presses};
+ghost use Rattle.hedrugal.specs.PressCalls.{c_press as numbers_of};
 
 use crate::press_calls::{CKeyPress, c_press};
 use termwiz_bindings::chord::{Chord, MAX_KEYS};
 use termwiz_bindings::numbers::reported_key;
 use termwiz_bindings::press::KeyPress;
 
+// Whether these are the numbers of a press.
+fn are_of(numbers: &CKeyPress, press: KeyPress) -> bool
+    ensures { IsTrue result ↔ (numbers.now ≡ numbers_of press) }
+{
+    let own = c_press(press);
+    own.key == numbers.key && own.held == numbers.held && own.detail == numbers.detail
+}
+
 // The press that has these numbers.
 pub(crate) fn press_of(numbers: &CKeyPress) -> Option<KeyPress>
-    ensures { (press : Pressed) → (result ≡ Some press) ↔ AreOfPress numbers.now press }
+    ensures some { IfSome result (λ press. AreOfPress numbers.now press) }
+    ensures only { (press : Pressed) → AreOfPress numbers.now press → result ≡ Some press }
 {
     let key = reported_key(numbers.key, numbers.detail)?;
     let press = KeyPress::new(key, numbers.held)?;
-    let own = c_press(press);
-    if own.key == numbers.key && own.held == numbers.held && own.detail == numbers.detail {
+    if are_of(numbers, press) {
         Some(press)
     } else {
         None
