@@ -2,5 +2,12 @@ pub mod CharacterRules
 pub mod EventModifiers
 pub mod HeldBits
 pub mod MainKeyFacts
+pub mod ModifiersRead
+pub mod NamesRead
+pub mod NumberNames
+pub mod PressesRead
+pub mod PrintedNumbers
 pub mod SecondPresses
 pub mod SettledPresses
+pub mod WordSteps
+pub mod WordTables

@@ -1,3 +1,5 @@
 pub mod MainKeys
 pub mod Presses
 pub mod PressLaws
+pub mod Words
+pub mod Names

@@ -1,6 +1,8 @@
 //! Presses: a key and the modifiers held with it, the same however the terminal reports the key.
 ghost use Rattle.std.specs.Prelude.{◌≡◌, [], ◌∷◌, MatchOption};
 ghost use Rattle.std.specs.Str.{chars};
+ghost use Rattle.termwiz_extended_events.specs.declared.types.KeyEventKind.TheVariants.{Press};
+ghost use Rattle.termwiz_extended_events.specs.KeyReports.{report_of};
 ghost use Rattle.termwiz_extended_events.specs.ReportedKeys.{entry_at};
 ghost use Rattle.termwiz_bindings.specs.Presses as rules;
 ghost use Rattle.termwiz_bindings.specs.Presses.{canonical, event_report};
@@ -8,18 +10,26 @@ ghost use Rattle.termwiz_bindings.specs.Presses.{canonical, event_report};
 mod characters;
 mod keys;
 
-use characters::{character, character_press, character_rules};
-use keys::{main_key, makes_no_press};
+pub(crate) use characters::character;
+use characters::{character_press, character_rules};
+pub(crate) use keys::main_key;
+use keys::makes_no_press;
 use termwiz_base::{Flags, Modifiers};
 use termwiz_extended_events::types::{KeyEventKind, KeyReport, ReportedKey};
 use termwiz_keys::types::{KeyCode, KeyEvent};
 
 // Kitty's bits of the modifiers.
-const SHIFT: u8 = 1;
+pub(crate) const SHIFT: u8 = 1;
 
-const CTRL: u8 = 4;
+pub(crate) const ALT: u8 = 2;
 
-const SUPER: u8 = 8;
+pub(crate) const CTRL: u8 = 4;
+
+pub(crate) const SUPER: u8 = 8;
+
+pub(crate) const HYPER: u8 = 16;
+
+pub(crate) const META: u8 = 32;
 
 // All modifiers but the locks.
 const ALL_BUT_LOCKS: u8 = 63;
@@ -106,7 +116,7 @@ fn is_typed(modifiers: u8, text: &str) -> bool
 }
 
 // The first character of a text, and the text behind it.
-fn split_first(text: &str) -> Option<(char, &str)>
+pub(crate) fn split_first(text: &str) -> Option<(char, &str)>
     ensures { MatchOption result (chars text.now ≡ []) (λ parts. chars text.now ≡ parts.0 ∷ chars parts.1.now) }
 {
     let mut rest = text.chars();
@@ -203,6 +213,18 @@ fn has_second(report: &KeyReport) -> bool
 }
 
 impl KeyPress {
+    /// Returns the press of a key with modifiers, given as Kitty's bits: 1 SHIFT, 2 ALT, 4 CTRL, 8 SUPER, 16 HYPER, 32 META. `None`
+    /// is for a modifier or a lock by itself, and for the marks of a paste.
+    #[tactic(auto, unfolding(crate::specs::Presses::canonical))]
+    pub fn new(key: ReportedKey, held: u8) -> Option<KeyPress>
+        ensures { result ≡ canonical (report_of key (record { modifiers = held; kind = Press })) }
+    {
+        if makes_no_press(key) {
+            return None;
+        }
+        Some(settled(key, held, None))
+    }
+
     /// Returns the press of a key event, or `None` for a modifier or a lock by itself, and for the marks of a paste. Of the
     /// modifiers SHIFT, ALT, CTRL and SUPER count: not LEADER, nor which of two keys is held.
     #[tactic(auto, unfolding(crate::specs::Presses::canonical))]
