@@ -1,6 +1,8 @@
 pub mod CharacterRules
+pub mod ChordsRead
 pub mod EventModifiers
 pub mod HeldBits
+pub mod LetterSteps
 pub mod MainKeyFacts
 pub mod ModifiersRead
 pub mod NamesRead
@@ -9,5 +11,5 @@ pub mod PressesRead
 pub mod PrintedNumbers
 pub mod SecondPresses
 pub mod SettledPresses
+pub mod ShownTexts
 pub mod WordSteps
-pub mod WordTables

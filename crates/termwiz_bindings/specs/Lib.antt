@@ -3,3 +3,4 @@ pub mod Presses
 pub mod PressLaws
 pub mod Words
 pub mod Names
+pub mod ChordNames

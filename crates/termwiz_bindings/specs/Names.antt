@@ -188,7 +188,7 @@ modifier_of_letter Vim letter = entry_at vim_letters (to_ascii_lowercase letter)
 modifier_of_letter Emacs letter = entry_at emacs_letters letter
 
 -- the modifier of a letter before -
-abbrev pub modifier_before : Style → ℕ → ℕ → Option ℕ
+unfoldable pub modifier_before : Style → ℕ → ℕ → Option ℕ
 modifier_before style letter dash = if dash == 45 then modifier_of_letter style letter else None
 
 -- what stands between < and >, if anything does
@@ -197,12 +197,14 @@ between_brackets text =
     if (slice_index text 0 == 60) && (slice_index text (length text - 1) == 62) && nat_le 3 (length text)
     then Some (take (length text - 2) (drop 1 text)) else None
 
--- the name behind letters of Emacs's: a word may have brackets
+-- to Emacs a word may have brackets
+abbrev pub emacs_key : ℕ → ℕ → List ℕ → Option (List ℕ) → Result KeyPress ReadError
+emacs_key held at name (Some word) = named_press held (at + 1) (word_key word)
+emacs_key held at name None = named_press held at (named_key name)
+
+-- the name behind letters of Emacs's
 abbrev pub emacs_name : ℕ → ℕ → List ℕ → Result KeyPress ReadError
-emacs_name held at name = elim (between_brackets name) [
-  | Some word ↦ named_press held (at + 1) (word_key word)
-  | None ↦ named_press held at (named_key name)
-]
+emacs_name held at name = emacs_key held at name (between_brackets name)
 
 -- The name behind letters. Between Vim's brackets a character stands only behind a letter.
 unfoldable pub lettered_name : Style → ℕ → ℕ → List ℕ → Result KeyPress ReadError
@@ -226,12 +228,14 @@ abbrev pub begins_as_emacs : List ℕ → Bool
 begins_as_emacs (letter ∷ dash ∷ name) = is_some (modifier_before Emacs letter dash) && not (is_empty name)
 begins_as_emacs text = false
 
--- The press of a key's text, which has no blanks and stands at a byte of the whole text. In brackets it is Vim's.
+-- In brackets a text is Vim's.
+abbrev pub key_between : ℕ → List ℕ → Option (List ℕ) → Result KeyPress ReadError
+key_between at text (Some name) = lettered_press Vim 0 (at + 1) name
+key_between at text None = if begins_as_emacs text then lettered_press Emacs 0 at text else worded_press 0 at [] text
+
+-- The press of a key's text, which has no blanks and stands at a byte of the whole text.
 unfoldable pub read_key : ℕ → List ℕ → Result KeyPress ReadError
-read_key at text = elim (between_brackets text) [
-  | Some name ↦ lettered_press Vim 0 (at + 1) name
-  | None ↦ if begins_as_emacs text then lettered_press Emacs 0 at text else worded_press 0 at [] text
-]
+read_key at text = key_between at text (between_brackets text)
 
 -- ## Printing
 

@@ -93,7 +93,7 @@ WordReads key = named_key (printed_word key) ≡ Ok (Named key)
 
 word_reads : (key : KeyCode) → WordReads key
 unfolding named_key spelled_key word_key code_point_key code_point_number function_key kitty_key numbered number_within value_in
-    key_of_word worded_key worded_keys other_words printed_word one_character chars is_utf8
+    key_of_word worded_key worded_keys other_words printed_word one_character chars is_utf8 encode
 word_reads (Char c) = tt
 word_reads (Function n) = tt
 word_reads Menu = tt
@@ -219,7 +219,7 @@ module _ (c : ℕ) (scalar : IsScalar c) where
       rw (none, code_point_read c (scalar_below c scalar), scalar_passes c scalar) refl
 
   pub code_point_name : IsNameOf (Named (Char c)) (code_point c)
-  unfolding worded_press modifier_of_word modifier_words one_character chars is_utf8 last_press
+  unfolding worded_press modifier_of_word modifier_words one_character chars is_utf8 encode last_press
   code_point_name held at = ap (named_press held at) point_named
 
 -- a character as it is
@@ -229,6 +229,13 @@ high_stands b high =
     let no_minus : (b == 45) ≡ false = grind (arith, nat_tests) in
     rw (no_plus, no_minus) refl
 
+-- the byte is no blank
+abbrev pub IsSolid : ℕ → Bool
+IsSolid b = nat_lt 32 b
+
+high_solid : (b : ℕ) → 128 ≤ b → IsSolid b ≡ true
+high_solid b high = grind (arith, nat_tests)
+
 -- the bytes of a character beyond ASCII
 pub record HighBytes (bs : List ℕ) : Type 0 where
   pub lead : ℕ
@@ -236,6 +243,7 @@ pub record HighBytes (bs : List ℕ) : Type 0 where
   pub more : List ℕ
   pub is : bs ≡ lead ∷ next ∷ more
   pub stands : list_all IsNoSeparator bs ≡ true
+  pub solid : list_all IsSolid bs ≡ true
   pub lead_high : 128 ≤ lead
   pub next_high : 128 ≤ next
 
@@ -248,6 +256,7 @@ high_encode c true three high past is2 is3 = rw (past, is2) (record {
   more = [];
   is = refl;
   stands = rw (high_stands (192 + c / 64) (omega arith), high_stands (128 + c % 64) (omega arith)) refl;
+  solid = rw (high_solid (192 + c / 64) (omega arith), high_solid (128 + c % 64) (omega arith)) refl;
   lead_high = omega arith;
   next_high = omega arith;
 })
@@ -260,6 +269,11 @@ high_encode c false true high past is2 is3 = rw (past, is2, is3) (record {
     high_stands (224 + c / 4096) (omega arith),
     high_stands (128 + c / 64 % 64) (omega arith),
     high_stands (128 + c % 64) (omega arith),
+  ) refl;
+  solid = rw (
+    high_solid (224 + c / 4096) (omega arith),
+    high_solid (128 + c / 64 % 64) (omega arith),
+    high_solid (128 + c % 64) (omega arith),
   ) refl;
   lead_high = omega arith;
   next_high = omega arith;
@@ -274,6 +288,12 @@ high_encode c false false high past is2 is3 = rw (past, is2, is3) (record {
     high_stands (128 + c / 4096 % 64) (omega arith),
     high_stands (128 + c / 64 % 64) (omega arith),
     high_stands (128 + c % 64) (omega arith),
+  ) refl;
+  solid = rw (
+    high_solid (240 + c / 262144) (omega arith),
+    high_solid (128 + c / 4096 % 64) (omega arith),
+    high_solid (128 + c / 64 % 64) (omega arith),
+    high_solid (128 + c % 64) (omega arith),
   ) refl;
   lead_high = omega arith;
   next_high = omega arith;
@@ -321,7 +341,7 @@ words_named key (b ∷ rest) is read plain = name_of (Named key) b rest plain re
 -- the space has a word
 space_name : IsNameOf (Named (Char 32)) (codes "space")
 unfolding named_key spelled_key word_key code_point_key code_point_number function_key kitty_key numbered number_within value_in
-    key_of_word worded_key worded_keys other_words printed_word one_character chars is_utf8
+    key_of_word worded_key worded_keys other_words printed_word one_character chars is_utf8 encode
 space_name = name_of (Named (Char 32)) 115 (codes "pace") refl refl
 
 -- a character of a press is one
@@ -334,7 +354,7 @@ abbrev pub HasByte : ReportedKey → Type 0
 HasByte (Named (Function n)) = n < 256
 HasByte key = Unit {0}
 
-functional_numbers : (n : ℕ) → makes_no_press (Functional n) ≡ false → (57344 ≤ n) × (n ≤ 63743)
+pub functional_numbers : (n : ℕ) → makes_no_press (Functional n) ≡ false → (57344 ≤ n) × (n ≤ 63743)
 unfolding makes_no_press
 functional_numbers n makes = go (is_modifier_number n) (is_functional n) refl makes
   where

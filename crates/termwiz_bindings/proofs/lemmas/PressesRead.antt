@@ -18,7 +18,7 @@ use Rattle.termwiz_bindings.specs.MainKeys.{main_key}
 use Rattle.termwiz_bindings.specs.Presses.{SHIFT, ALT, CTRL, SUPER, HYPER, META, canonical, character, character_press, has_any, has_shift, with_shift, without_shift, cased_press, capital_press, unshifted_press, lowered_press, all_but_shift_and_alt}
 use Rattle.termwiz_bindings.specs.PressLaws.{report_of_press}
 use Rattle.termwiz_bindings.specs.Words.{printed_word}
-use Rattle.termwiz_bindings.specs.Names.{between_brackets, modifier_of_letter, modifier_before, begins_as_emacs, worded_press, read_key, named_press, press_of, is_shifted_character, may_have_shift, lowered_key, printed, printed_key, printed_character, printed_modifier, printed_modifiers, is_shown, code_point}
+use Rattle.termwiz_bindings.specs.Names.{between_brackets, modifier_of_letter, modifier_before, begins_as_emacs, worded_press, lettered_press, key_between, read_key, named_press, press_of, is_shifted_character, may_have_shift, lowered_key, printed, printed_key, printed_character, printed_modifier, printed_modifiers, is_shown, code_point}
 use Rattle.termwiz_bindings.proofs.lemmas.HeldBits.{held_below, no_shift, others_stay}
 use Rattle.termwiz_bindings.proofs.lemmas.CharacterRules.{IsMainPress, main_stays}
 use Rattle.termwiz_bindings.proofs.lemmas.SettledPresses.{IsPress, canonical_is_press}
@@ -49,13 +49,13 @@ abbrev WordIsWorded : KeyCode → Type 0
 WordIsWorded key = IsWorded (printed_word key)
 
 word_is_worded : (key : KeyCode) → WordIsWorded key
-unfolding printed_word between_brackets modifier_of_letter
+unfolding printed_word between_brackets modifier_before modifier_of_letter
 word_is_worded (Char c) = record { bare = refl; plain = refl }
 word_is_worded (Function n) = record { bare = refl; plain = refl }
 word_is_worded key = record { bare = refl; plain = refl }
 
 no_modifier_f : (b : ℕ) → modifier_before Emacs 102 b ≡ None
-unfolding modifier_of_letter
+unfolding modifier_before modifier_of_letter
 no_modifier_f b = go (b == 45)
   where
     go : (t : Bool) → (if t then modifier_of_letter Emacs 102 else None) ≡ None
@@ -68,13 +68,14 @@ function_worded n small =
     subst (λ ds. IsWorded (102 ∷ ds)) (sym first.is) (from_two 102 first.digit first.more refl (no_modifier_f first.digit))
 
 high_worded : (name : List ℕ) → HighBytes name → IsWorded name
+unfolding modifier_before
 high_worded name bytes =
     let no_bracket : (bytes.lead == 60) ≡ false = grind (arith, nat_tests, bytes.lead_high) in
     let no_dash : (bytes.next == 45) ≡ false = grind (arith, nat_tests, bytes.next_high) in
     subst IsWorded (sym bytes.is) (from_two bytes.lead bytes.next bytes.more no_bracket (rw no_dash refl))
 
 character_worded : (c : ℕ) → IsWorded (printed_character c)
-unfolding printed_character
+unfolding printed_character modifier_before
 character_worded c = space (c == 32)
   where
     itself : IsWorded (encode_utf8 c)
@@ -92,7 +93,7 @@ character_worded c = space (c == 32)
     space false = shown (is_shown c)
 
 key_worded : (key : ReportedKey) → HasByte key → IsWorded (printed_key key)
-unfolding printed_key
+unfolding printed_key modifier_before
 key_worded (Functional n) byte = from_two 107 105 (codes "tty" ++ decimal n) refl refl
 key_worded (Named (Char c)) byte = character_worded c
 key_worded (Named (Function n)) byte = function_worded n byte
@@ -109,7 +110,7 @@ module _ (held : ℕ) where
       go false = is
 
   modifiers_worded : (name : List ℕ) → IsWorded name → IsWorded (printed_modifiers held ++ name)
-  unfolding printed_modifiers
+  unfolding printed_modifiers modifier_before
   modifiers_worded name is =
       simp append_assoc (
       in_front SUPER 115 117 (codes "per+") refl refl _
@@ -122,7 +123,8 @@ module _ (held : ℕ) where
 
 worded_only : (at : ℕ) (text : List ℕ) → IsWorded text → read_key at text ≡ worded_press 0 at [] text
 unfolding read_key
-worded_only at text is = rw (is.bare, is.plain) refl
+worded_only at text is = ap (key_between at text) is.bare
+    ∙ ap (λ (b : Bool). if b then lettered_press Emacs 0 at text else worded_press 0 at [] text) is.plain
 
 -- ## The press of a key and modifiers of a press
 
@@ -145,7 +147,7 @@ shift_stands c held settled shift = go (c == 32) (is_ascii_alphabetic c) refl re
     go false false is1 is2 =
         let same : character_press c (without_shift held) ≡ character_press c held =
         sym (shift_dropped c held shift is1 is2) ∙ settled in
-        let bits : without_shift held ≡ held = cc in
+        let bits : without_shift held ≡ held = ap (λ (p : KeyPress). p.held) same in
         let none : has_shift held ≡ false = subst (λ h. has_shift h ≡ false) bits (no_shift held) in
         cc
 
@@ -174,6 +176,7 @@ lower_stands c held below settled ctrl = go (is_ascii_uppercase c) refl
         let other : (c == 32) ≡ false = grind (arith, nat_tests) in
         let lowered : character_press (to_ascii_lowercase c) (with_shift (without_shift held)) ≡ character_press c held =
         sym (capital_lowered c held (has_shift held) refl same other upper counts) ∙ settled in
+        let keys : Named (Char (to_ascii_lowercase c)) ≡ Named (Char c) = ap (λ (p : KeyPress). p.key) lowered in
         cc
 
 -- the key stands with the modifiers of the press

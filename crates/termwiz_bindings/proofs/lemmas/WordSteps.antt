@@ -11,6 +11,33 @@ use Rattle.termwiz_bindings.specs.Presses.{has_any}
 use Rattle.termwiz_bindings.specs.Words.{modifier_of_word}
 use Rattle.termwiz_bindings.specs.Names.{worded_press, last_press, is_separator, is_empty, one_character, error_at, with_modifier}
 
+-- what is behind a place
+pub rest_of : (text : List ℕ) (n : ℕ) → take (length text - n) (drop n text) ≡ drop n text
+rest_of text n = take_all (length text - n) (drop n text) (omega (arith, length-drop n text))
+
+-- whether a modifier is held twice
+module _ (held modifier at : ℕ) where
+  abbrev with : Result ℕ ReadError
+  with = if has_any held modifier then Err (error_at ModifierTwice at) else Ok (with_modifier held modifier)
+
+  pub was_held : (error : ReadError) → Err error ≡ with → (has_any held modifier ≡ true) × (error ≡ error_at ModifierTwice at)
+  was_held error is = go (has_any held modifier) refl is
+    where
+      go : (b : Bool) → has_any held modifier ≡ b
+          → Err error ≡ (if b then Err (error_at ModifierTwice at) else Ok (with_modifier held modifier))
+          → (has_any held modifier ≡ true) × (error ≡ error_at ModifierTwice at)
+      go true some same = (some, cc)
+      go false none same = cc
+
+  pub was_new : (more : ℕ) → Ok more ≡ with → (has_any held modifier ≡ false) × (more ≡ with_modifier held modifier)
+  was_new more is = go (has_any held modifier) refl is
+    where
+      go : (b : Bool) → has_any held modifier ≡ b
+          → Ok more ≡ (if b then Err (error_at ModifierTwice at) else Ok (with_modifier held modifier))
+          → (has_any held modifier ≡ false) × (more ≡ with_modifier held modifier)
+      go true some same = cc
+      go false none same = (none, cc)
+
 -- the byte belongs to the word
 same_word : (held at b : ℕ) (word rest : List ℕ) → (not (is_empty word) && is_separator b) ≡ false
     → worded_press held at word (b ∷ rest) ≡ worded_press held at (word ++ b ∷ []) rest

@@ -1,6 +1,7 @@
 // The press of a key's name.
 ghost use Rattle.std.specs.Prelude.{◌≡◌, ◌+◌, ◌<◌, ◌^◌, [], length, IfSome, if◌then◌else◌};
 ghost use Rattle.std.specs.Option.{option_copied};
+ghost use Rattle.std.specs.Str.{chars};
 ghost use Rattle.termwiz_extended_events.specs.ReportedKeys.{entry_at};
 ghost use Rattle.termwiz_bindings.specs.declared.names.ReadErrorKind.TheVariants.{ModifierTwice};
 ghost use Rattle.termwiz_bindings.specs.Presses.{has_any};
@@ -23,13 +24,26 @@ enum Style {
     Emacs,
 }
 
+// The character that is the whole text, if one is.
+fn only_character(text: &str) -> Option<char>
+    ensures { result ≡ rules.only_character (chars text.now) }
+{
+    let (c, rest) = split_first(text)?;
+    if split_first(rest).is_some() {
+        None
+    } else {
+        Some(c)
+    }
+}
+
 // The character that is the whole name, if one is.
-#[tactic(auto, unfolding(crate::specs::Names::one_character))]
 fn one_character(name: &[u8]) -> Option<char>
     ensures { result ≡ rules.one_character name.now }
 {
-    let (c, rest) = split_first(str::from_utf8(name).ok()?)?;
-    if rest.is_empty() { Some(c) } else { None }
+    match str::from_utf8(name) {
+        Ok(text) => only_character(text),
+        Err(_) => None,
+    }
 }
 
 // A word: a function key, a functional key by its number, or one of the words for keys.
@@ -222,6 +236,7 @@ fn modifier_of_letter(style: Style, letter: u8) -> Option<u8>
 }
 
 // The modifier of a letter with `-` behind it.
+#[tactic(auto, unfolding(crate::specs::Names::modifier_before))]
 fn modifier_before(style: Style, letter: u8, dash: u8) -> Option<u8>
     ensures { result ≡ rules.modifier_before style letter dash }
 {
@@ -280,13 +295,15 @@ fn lettered_press(style: Style, at: usize, text: &[u8]) -> Result<KeyPress, Read
     let mut held = 0;
     let mut start = at;
     let mut rest = text;
-    while let [letter, dash, name @ ..] = rest {
-        let Some(modifier) = modifier_before(style, *letter, *dash) else {
-            break;
-        };
-        held = with_modifier(held, modifier, start)?;
-        start += 2;
-        rest = name;
+    while rest.len() >= 2 {
+        match modifier_before(style, rest[0], rest[1]) {
+            Some(modifier) => {
+                held = with_modifier(held, modifier, start)?;
+                start += 2;
+                rest = &rest[2..];
+            }
+            None => return lettered_name(style, held, start, rest),
+        }
     }
     lettered_name(style, held, start, rest)
 }

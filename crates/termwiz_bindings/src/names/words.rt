@@ -1,5 +1,5 @@
 // The words that name keys and modifiers.
-ghost use Rattle.std.specs.Prelude.{◌≡◌, find, option_map};
+ghost use Rattle.std.specs.Prelude.{◌≡◌, find, map};
 ghost use Rattle.std.specs.Str.{str_eq_ignore_ascii_case};
 ghost use Rattle.termwiz_bindings.specs.Words as rules;
 
@@ -246,18 +246,21 @@ fn first_worded(keys: &[KeyCode], name: &[u8]) -> Option<KeyCode>
     ensures { result ≡ find (λ key. str_eq_ignore_ascii_case (rules.printed_word key) name.now) keys.now }
 {
     keys.iter()
-        .find(|key| is_same_word(printed_word(**key).as_bytes(), name))
         .copied()
+        .find(|key| is_same_word(printed_word(*key).as_bytes(), name))
 }
 
 // What a table has at a word.
-fn entry_at_word<V: Copy>(table: &[(&str, V)], name: &[u8]) -> Option<V>
-    ensures { result ≡ option_map (λ row. row.1) (find (λ row. str_eq_ignore_ascii_case row.0.now name.now) table.now) }
+fn entry_at_word<V: Copy>(mut table: &[(&str, V)], name: &[u8]) -> Option<V>
+    ensures { result ≡ rules.entry_at_word (map (λ row. (row.0.now, row.1)) table.entry.now) name.now }
 {
-    table
-        .iter()
-        .find(|row| is_same_word(row.0.as_bytes(), name))
-        .map(|row| row.1)
+    while let [row, rest @ ..] = table {
+        if is_same_word(row.0.as_bytes(), name) {
+            return Some(row.1);
+        }
+        table = rest;
+    }
+    None
 }
 
 // The key of a word.
