@@ -1,6 +1,7 @@
 pub mod BoundChords
 pub mod CharacterRules
 pub mod ChordBytes
+pub mod ChordSteps
 pub mod ChordsRead
 pub mod CodedPresses
 pub mod EventModifiers
@@ -11,11 +12,14 @@ pub mod MadePresses
 pub mod MainKeyFacts
 pub mod ModifiersRead
 pub mod NamesRead
+pub mod NamesReadBack
 pub mod NumberNames
 pub mod OneChord
 pub mod PressesRead
 pub mod PrintedNumbers
+pub mod ReadPresses
 pub mod SecondPresses
 pub mod SettledPresses
 pub mod ShownTexts
+pub mod TextPlaces
 pub mod WordSteps

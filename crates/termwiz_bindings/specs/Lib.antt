@@ -10,3 +10,4 @@ pub mod PressLaws
 pub mod Words
 pub mod Names
 pub mod ChordNames
+pub mod NameLaws

@@ -2,6 +2,7 @@
 ghost use Rattle.std.specs.Prelude.{ℕ, Option};
 ghost use Rattle.termwiz_bindings.specs.BindingLaws.{AreChordsInOrder, ChangeOneChord};
 ghost use Rattle.termwiz_bindings.specs.CodeLaws.{CodesBeginAsPresses, CodesHaveOneWidth, CodesTellPresses};
+ghost use Rattle.termwiz_bindings.specs.NameLaws.{NamesReadBack, ReadsPresses};
 ghost use Rattle.termwiz_bindings.specs.Presses.{main_press, shown_press, control_press, capital_press, unshifted_press, lowered_press};
 ghost use Rattle.termwiz_bindings.specs.PressLaws.{IsSettled, LocksChangeNothing, NeverBoth, NoPressOfRelease, PressesHaveNoLocks, PressesSettle, SecondOnlyOf, SecondWithoutText, SidesChangeNothing};
 
@@ -60,4 +61,11 @@ pub fn one_chord<V>()
 /// those at higher places have greater codes.
 pub fn chords_in_order<V>()
     ensures { AreChordsInOrder V }
+{}
+
+/// What is printed of a chord with a key is read as that chord (`read_back`). So a program may keep its bindings as text. What is read of
+/// any text is one or more presses, not too many, each of which is its own press (`presses`).
+pub fn names_read_back()
+    ensures read_back { NamesReadBack }
+    ensures presses { ReadsPresses }
 {}

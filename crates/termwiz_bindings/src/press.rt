@@ -1,5 +1,6 @@
 //! Presses: a key and the modifiers held with it, the same however the terminal reports the key.
-ghost use Rattle.std.specs.Prelude.{◌≡◌, ◌%◌, [], ◌∷◌, IfSome, MatchOption};
+ghost use Rattle.std.specs.Prelude.{◌≡◌, ◌%◌, [], ◌∷◌, ◌++◌, IfSome, MatchOption};
+ghost use Rattle.std.specs.Char.{encode_utf8};
 ghost use Rattle.std.specs.Str.{chars};
 ghost use Rattle.termwiz_extended_events.specs.declared.types.KeyEventKind.TheVariants.{Press};
 ghost use Rattle.termwiz_extended_events.specs.KeyReports.{report_of};
@@ -126,7 +127,8 @@ fn is_typed(modifiers: u8, text: &str) -> bool
 
 // The first character of a text, and the text behind it.
 pub(crate) fn split_first(text: &str) -> Option<(char, &str)>
-    ensures { MatchOption result (chars text.now ≡ []) (λ parts. chars text.now ≡ parts.0 ∷ chars parts.1.now) }
+    ensures chars { MatchOption result (chars text.now ≡ []) (λ parts. chars text.now ≡ parts.0 ∷ chars parts.1.now) }
+    ensures bytes { IfSome result (λ parts. text.now ≡ encode_utf8 parts.0 ++ parts.1.now) }
 {
     let mut rest = text.chars();
     let first = rest.next()?;

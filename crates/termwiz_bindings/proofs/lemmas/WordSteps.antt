@@ -2,18 +2,14 @@
 use Rattle.std.proofs.Common.{◌≡◌, ◌∙◌, ℕ, ◌+◌, ◌-◌, ◌<◌, ◌≤◌, zero, suc, Bool, true, false, not, ◌==◌, ◌&&◌, List, [], ◌∷◌, ◌++◌, length, take, drop, get_or, refl, sym, ap, subst, arith, drop-cons, length-drop, Option, Some, None, Result, Ok, Err}
 use Rattle.std.specs.Prelude.{if◌then◌else◌, is_some}
 use Rattle.std.proofs.lemmas.Bool.Decides.{nat_tests}
-use Rattle.std.proofs.lemmas.List.{take-append-drop, take_all, drop_all, take_more, length-take-le, get_or-drop}
-use Rattle.std.proofs.Math.Seq.{drop-drop}
+use Rattle.std.proofs.lemmas.List.{drop_all}
 use Rattle.termwiz_bindings.specs.declared.press.KeyPress.{KeyPress}
 use Rattle.termwiz_bindings.specs.declared.names.ReadError.{ReadError}
 use Rattle.termwiz_bindings.specs.declared.names.ReadErrorKind.TheVariants.{ModifierTwice, UnknownModifier}
 use Rattle.termwiz_bindings.specs.Presses.{has_any}
 use Rattle.termwiz_bindings.specs.Words.{modifier_of_word}
+use Rattle.termwiz_bindings.proofs.lemmas.TextPlaces.{part_and_rest, part_to_end, byte_and_rest, part_length, part_grown}
 use Rattle.termwiz_bindings.specs.Names.{worded_press, last_press, is_separator, is_empty, one_character, error_at, with_modifier}
-
--- what is behind a place
-pub rest_of : (text : List ℕ) (n : ℕ) → take (length text - n) (drop n text) ≡ drop n text
-rest_of text n = take_all (length text - n) (drop n text) (omega (arith, length-drop n text))
 
 -- whether a modifier is held twice
 module _ (held modifier at : ℕ) where
@@ -39,34 +35,34 @@ module _ (held modifier at : ℕ) where
       go false none same = (none, cc)
 
 -- the byte belongs to the word
-same_word : (held at b : ℕ) (word rest : List ℕ) → (not (is_empty word) && is_separator b) ≡ false
+pub same_word : (held at b : ℕ) (word rest : List ℕ) → (not (is_empty word) && is_separator b) ≡ false
     → worded_press held at word (b ∷ rest) ≡ worded_press held at (word ++ b ∷ []) rest
 unfolding worded_press
 same_word held at b word rest is = rw is refl
 
 -- or it stands behind a word
 module _ (held at b : ℕ) (word rest : List ℕ) (is : (not (is_empty word) && is_separator b) ≡ true) where
-  behind_new : (modifier : ℕ) → modifier_of_word word ≡ Some modifier → has_any held modifier ≡ false
+  pub behind_new : (modifier : ℕ) → modifier_of_word word ≡ Some modifier → has_any held modifier ≡ false
       → worded_press held at word (b ∷ rest) ≡ worded_press (with_modifier held modifier) (at + length word + 1) [] rest
   unfolding worded_press
   behind_new modifier named new = rw (is, named, new) refl
 
-  behind_held : (modifier : ℕ) → modifier_of_word word ≡ Some modifier → has_any held modifier ≡ true
+  pub behind_held : (modifier : ℕ) → modifier_of_word word ≡ Some modifier → has_any held modifier ≡ true
       → worded_press held at word (b ∷ rest) ≡ Err (error_at ModifierTwice at)
   unfolding worded_press
   behind_held modifier named twice = rw (is, named, twice) refl
 
-  behind_character : modifier_of_word word ≡ None → is_some (one_character word) ≡ true
+  pub behind_character : modifier_of_word word ≡ None → is_some (one_character word) ≡ true
       → worded_press held at word (b ∷ rest) ≡ last_press held at (word ++ b ∷ rest)
   unfolding worded_press
   behind_character none one = rw (is, none, one) refl
 
-  behind_unknown : modifier_of_word word ≡ None → is_some (one_character word) ≡ false
+  pub behind_unknown : modifier_of_word word ≡ None → is_some (one_character word) ≡ false
       → worded_press held at word (b ∷ rest) ≡ Err (error_at UnknownModifier at)
   unfolding worded_press
   behind_unknown none other = rw (is, none, other) refl
 
-at_end : (held at : ℕ) (word : List ℕ) → worded_press held at word [] ≡ last_press held at word
+pub at_end : (held at : ℕ) (word : List ℕ) → worded_press held at word [] ≡ last_press held at word
 unfolding worded_press
 at_end held at word = refl
 
@@ -79,31 +75,23 @@ module _ (text : List ℕ) (held at start i : ℕ) (behind : start ≤ i) where
   here = worded_press held (at + start) word (drop i text)
 
   whole : word ++ drop i text ≡ drop start text
-  whole =
-      let place : start + (i - start) ≡ i = omega arith in
-      ap (λ n. word ++ drop n text) (sym place) ∙ ap (λ l. word ++ l) (sym (drop-drop (i - start) start text))
-      ∙ take-append-drop (i - start) (drop start text)
+  whole = part_and_rest text start i behind
 
   pub ended : length text ≤ i → here ≡ last_press held (at + start) (drop start text)
   ended past =
       let none : drop i text ≡ [] = drop_all i text past in
-      let all : word ≡ drop start text = take_all (i - start) (drop start text) (omega (arith, length-drop start text)) in
+      let all : word ≡ drop start text = part_to_end text start i behind past in
       ap (λ l. worded_press held (at + start) word l) none ∙ at_end held (at + start) word ∙ ap (last_press held (at + start)) all
 
   module _ (b : ℕ) (inside : i < length text) (byte : b ≡ get_or text i 0) where
     next : drop i text ≡ b ∷ drop (i + 1) text
-    next = drop-cons text i 0 inside ∙ ap (λ c. c ∷ drop (suc i) text) (sym byte) ∙ ap (λ n. b ∷ drop n text) {x = suc i} {y = i + 1} (omega arith)
+    next = byte_and_rest text start i behind b inside byte
 
     word_length : length word ≡ i - start
-    word_length = length-take-le (i - start) (drop start text) (omega (arith, length-drop start text))
+    word_length = part_length text start i behind b inside byte
 
     grown : word ++ b ∷ [] ≡ take (i + 1 - start) (drop start text)
-    grown =
-        let place : start + (i - start) ≡ i = omega arith in
-        let last : get_or (drop start text) (i - start) 0 ≡ b = get_or-drop start text (i - start) 0 ∙ ap (λ n. get_or text n 0) place ∙ sym byte in
-        let more : i + 1 - start ≡ (i - start) + 1 = omega arith in
-        ap (λ c. word ++ c ∷ []) (sym last) ∙ sym (take_more (drop start text) (i - start) 0 (omega (arith, length-drop start text)))
-        ∙ ap (λ n. take n (drop start text)) (sym more)
+    grown = part_grown text start i behind b inside byte
 
     pub word_goes_on : (not (is_empty word) && is_separator b) ≡ false
         → here ≡ worded_press held (at + start) (take (i + 1 - start) (drop start text)) (drop (i + 1) text)

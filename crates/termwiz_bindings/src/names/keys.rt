@@ -160,15 +160,15 @@ fn is_separator(byte: u8) -> bool
     byte == b'+' || byte == b'-'
 }
 
-// The press of the name behind modifiers in words.
+// The press of what stands behind modifiers in words.
 #[tactic(auto, unfolding(crate::specs::Names::last_press))]
-fn last_press(held: u8, at: usize, name: &[u8]) -> Result<KeyPress, ReadError>
-    ensures { result ≡ rules.last_press held at name.now }
+fn last_press(held: u8, at: usize, rest: &[u8]) -> Result<KeyPress, ReadError>
+    ensures { result ≡ rules.last_press held at rest.now }
 {
-    if name.is_empty() {
+    if rest.is_empty() {
         return Err(error_at(ReadErrorKind::MissingKey, at));
     }
-    named_press(held, at, named_key(name))
+    named_press(held, at, named_key(rest))
 }
 
 // The press of a name with modifiers in words.

@@ -1,7 +1,8 @@
 use Rattle.std.proofs.Common.{◌≡◌, ◌∙◌, ◌+◌, sym, ap, arith, Err, drop, length-drop}
 use Rattle.std.proofs.lemmas.Result.{err_from_is_err_and}
 use Rattle.termwiz_bindings.specs.Names.{lettered_press}
-use Rattle.termwiz_bindings.proofs.lemmas.WordSteps.{rest_of, was_held, was_new}
+use Rattle.termwiz_bindings.proofs.lemmas.TextPlaces.{rest_of}
+use Rattle.termwiz_bindings.proofs.lemmas.WordSteps.{was_held, was_new}
 use Rattle.termwiz_bindings.proofs.lemmas.LetterSteps as steps
 use Rattle.termwiz_bindings.proofs.names.keys.lettered_press.Goals as goal
 

@@ -2,6 +2,7 @@ use Rattle.std.proofs.Common.{◌≡◌, ◌∙◌, ◌+◌, ◌-◌, [], take, 
 use Rattle.std.specs.Prelude.{is_some}
 use Rattle.std.proofs.lemmas.Result.{err_from_is_err_and}
 use Rattle.termwiz_bindings.specs.Names.{last_press, worded_press}
+use Rattle.termwiz_bindings.proofs.lemmas.TextPlaces.{rest_of}
 use Rattle.termwiz_bindings.proofs.lemmas.WordSteps as steps
 use Rattle.termwiz_bindings.proofs.names.keys.worded_press.Goals as goal
 use Rattle.termwiz_bindings.proofs.names.keys.worded_press.Goals.{then-i-start-via-then-i-start, then-i-start-via-else-i-start+then-not-is_separator}
@@ -42,7 +43,7 @@ returns-in_err-held-in-Some c =
 pub returns-in-None : goal.returns-in-None
 returns-in-None c =
     let l = c.loop-i in
-    c.last_press.ensures ∙ ap (last_press l.held (c.args.at + l.start)) (steps.rest_of c.args.text.now l.start)
+    c.last_press.ensures ∙ ap (last_press l.held (c.args.at + l.start)) (rest_of c.args.text.now l.start)
     ∙ sym (steps.character_ends c.args.text.now l.held c.args.at l.start l.i l.invariant.behind _ c.loop-i-test.true refl c.if-i-start.false
     (sym c.is_separator.ensures ∙ c.if-not-is_separator.false) (sym c.in-None.ensures)
     (ap is_some (sym c.one_character.ensures) ∙ sym c.if-is_some.ensures))
@@ -76,6 +77,6 @@ loop-i-preserved c =
 pub returns : goal.returns
 returns c =
     let l = c.loop-i in
-    c.last_press-2.ensures ∙ ap (last_press l.held (c.args.at + l.start)) (steps.rest_of c.args.text.now l.start)
+    c.last_press-2.ensures ∙ ap (last_press l.held (c.args.at + l.start)) (rest_of c.args.text.now l.start)
     ∙ sym (steps.ended c.args.text.now l.held c.args.at l.start l.i l.invariant.behind c.loop-i-test.false)
     ∙ l.invariant.same
