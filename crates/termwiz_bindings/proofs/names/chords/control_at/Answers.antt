@@ -9,7 +9,7 @@ pub loop-c-init : goal.loop-c-init
 loop-c-init c = record { utf8 = c.utf8.text; place = omega arith; same = refl }
 
 pub split_first-requires-text-text : goal.split_first-requires-text-text
-split_first-requires-text-text c = c.loop-c.invariant.utf8
+split_first-requires-text-text c = λ _. c.loop-c.invariant.utf8
 
 pub returns-then-is_refused : goal.returns-then-is_refused
 returns-then-is_refused c =
