@@ -7,3 +7,7 @@ pub mod MainKeys
 pub mod Numbers
 pub mod Presses
 pub mod PressLaws
+pub mod Words
+pub mod Names
+pub mod ChordNames
+pub mod NameLaws

@@ -4,6 +4,7 @@
 pub mod bindings;
 pub mod chord;
 pub mod laws;
+pub mod names;
 pub mod numbers;
 pub mod press;
 #[cfg(test)]
