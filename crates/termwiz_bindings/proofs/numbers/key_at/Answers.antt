@@ -1,6 +1,6 @@
 use Rattle.std.proofs.Common.{◌-◌, ◌∙◌, Some, ap, arith, sym}
-use Rattle.hedrugal.proofs.KeyNumbers.{number_at, place_is}
-use Rattle.hedrugal.proofs.keys.key_at.Goals as goal
+use Rattle.termwiz_bindings.proofs.lemmas.KeyNumbers.{number_at, place_is}
+use Rattle.termwiz_bindings.proofs.numbers.key_at.Goals as goal
 
 pub returns-in_default-clause-number : goal.returns-in_default-clause-number
 returns-in_default-clause-number c = number_at (c.from.result - 1) _ (omega arith) ∙ omega arith

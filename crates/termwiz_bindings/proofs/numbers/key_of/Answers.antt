@@ -1,5 +1,5 @@
-use Rattle.hedrugal.proofs.KeyNumbers.{stands}
-use Rattle.hedrugal.proofs.keys.key_of.Goals as goal
+use Rattle.termwiz_bindings.proofs.lemmas.KeyNumbers.{stands}
+use Rattle.termwiz_bindings.proofs.numbers.key_of.Goals as goal
 
 pub returns-in_err-key_at : goal.returns-in_err-key_at
 returns-in_err-key_at c = λ key. (
