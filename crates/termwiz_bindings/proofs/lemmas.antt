@@ -1,6 +1,10 @@
 pub mod CharacterRules
+pub mod ChordItems
+pub mod ChordReadings
 pub mod EventModifiers
 pub mod HeldBits
 pub mod MainKeyFacts
+pub mod PendingChords
 pub mod SecondPresses
 pub mod SettledPresses
+pub mod SharedBeginnings

@@ -1,3 +1,5 @@
+pub mod ChordLaws
 pub mod MainKeys
+pub mod Matching
 pub mod Presses
 pub mod PressLaws

@@ -1,0 +1,43 @@
+//! Laws of reading presses under chords, each the contract of a function without effect.
+ghost use Rattle.termwiz_bindings.specs.ChordLaws.{CutIndependent, LongestChord, NothingLost, NothingPending, OneChord, OneItem, OneMeaning, PendingShape, StepsJoin, UnboundOnly, Undecided};
+
+/// At the front of a list of presses that is neither open nor empty stands exactly one item.
+pub fn one_item<V>()
+    ensures { OneItem V }
+{}
+
+/// However a list of presses is cut, it gives the same outcomes and leaves the same presses (`cuts`). So a program may read after
+/// each press. Items that are taken one after another under one flag are steps of the whole list (`joined`).
+pub fn cut_independent<V>()
+    ensures cuts { CutIndependent V }
+    ensures joined { StepsJoin V }
+{}
+
+/// The presses of the outcomes, and then those that are pending, are the list.
+pub fn nothing_lost<V>()
+    ensures { NothingLost V }
+{}
+
+/// A bound chord is the longest that stands at its place (`bound`), and no chord stands at that of an unbound press (`unbound`).
+pub fn longest<V>()
+    ensures bound { LongestChord V }
+    ensures unbound { UnboundOnly V }
+{}
+
+/// What is pending is nothing, or 1 to 31 presses that begin a longer chord, with more to come (`shape`). So with no more to come
+/// nothing is pending (`none`).
+pub fn pending<V>()
+    ensures shape { PendingShape V }
+    ensures none { NothingPending V }
+{}
+
+/// Where a chord goes on after what is pending, giving up before it is pressed changes the outcomes. So nothing is pending that could
+/// be decided before.
+pub fn undecided<V>()
+    ensures { Undecided V }
+{}
+
+/// To bind a chord, to change its value or to unbind it changes the meaning of no list that doesn't have its first press.
+pub fn one_chord<V>()
+    ensures { OneChord V }
+{}
