@@ -1,6 +1,6 @@
 -- The laws of reading presses under chords.
 use Rattle.std.specs.Prelude.{◌≡◌, ◌≢◌, ◌⊎◌, ◌↔◌, ℕ, ◌≤◌, ◌<◌, Bool, true, false, List, [], ◌∷◌, ◌++◌, length, take, Some, None, Contains}
-use Rattle.std.specs.List.{AllZip, flat_map}
+use Rattle.std.specs.List.{AllZip, AllByRecursion, flat_map}
 use Rattle.termwiz_bindings.specs.declared.press.KeyPress.{KeyPress}
 use Rattle.termwiz_bindings.specs.declared.matcher.Outcome.{Outcome}
 use Rattle.termwiz_bindings.specs.declared.matcher.Outcome.TheVariants.{Bound, Unbound}
@@ -87,12 +87,12 @@ Undecided V = (find : Chords V) (more : Bool) (pending tail left between end : L
     → Means find false pending given_up between → Means find more (between ++ tail) next end
     → outcomes ≢ given_up ++ next
 
--- the same chords with the same values, but for one chord
-abbrev pub DifferOnlyAt : {V : Type 0} → List KeyPress → Chords V → Chords V → Type 0
-DifferOnlyAt chord find changed = (presses : List KeyPress) → presses ≢ chord → changed presses ≡ find presses
+-- the same chords that begin with a press, with the same values
+abbrev pub AgreeFrom : {V : Type 0} → Chords V → Chords V → KeyPress → Type 0
+AgreeFrom find other press = (rest : List KeyPress) → other (press ∷ rest) ≡ find (press ∷ rest)
 
--- What one chord does changes the meaning of no list without its first press.
-abbrev pub OneChord : Type 0 → Type 0
-OneChord V = (find changed : Chords V) (first : KeyPress) (others : List KeyPress) → DifferOnlyAt (first ∷ others) find changed
-    → (more : Bool) (presses left : List KeyPress) (outcomes : List (Outcome V)) → ¬ Contains presses first
-    → Means find more presses outcomes left ↔ Means changed more presses outcomes left
+-- Only the chords that begin with a press of a list say what it means.
+abbrev pub MeaningOfPresses : Type 0 → Type 0
+MeaningOfPresses V = (find other : Chords V) (more : Bool) (presses left : List KeyPress) (outcomes : List (Outcome V))
+    → other [] ≡ find [] → AllByRecursion (AgreeFrom find other) presses
+    → Means find more presses outcomes left ↔ Means other more presses outcomes left

@@ -1,5 +1,5 @@
 -- What presses do under chords: the outcomes that a list of them gives, and what stays pending.
-use Rattle.std.specs.Prelude.{◌≡◌, ◌≢◌, ℕ, ◌≤◌, ◌⊎◌, Bool, true, List, [], ◌∷◌, ◌++◌, length, Option, None, Some, IsSome, Contains}
+use Rattle.std.specs.Prelude.{◌≡◌, ◌≢◌, ℕ, ◌≤◌, ◌⊎◌, Bool, true, List, [], ◌∷◌, ◌++◌, length, Option, None, Some, IsSome}
 use Rattle.termwiz_bindings.specs.declared.press.KeyPress.{KeyPress}
 use Rattle.termwiz_bindings.specs.declared.matcher.Outcome.{Outcome}
 use Rattle.termwiz_bindings.specs.declared.matcher.Outcome.TheVariants.{Bound, Unbound}
@@ -20,17 +20,17 @@ module _ {V : Type 0} where
   abbrev pub IsChord : Chords V → List KeyPress → Type 0
   IsChord find presses = IsSome (find presses)
 
-  -- finitely many chords, each of 1 to 32 presses
-  pub record IsChordMap (find : Chords V) : Type 0 where
-    pub some : find [] ≡ None
-    pub short : (chord : List KeyPress) → IsChord find chord → length chord ≤ most_keys
-    pub finite : (chords : List (List KeyPress)) × ((chord : List KeyPress) → IsChord find chord → Contains chords chord)
-
   -- some chord is longer than the presses, and begins with them
   pub record IsContinued (find : Chords V) (presses : List KeyPress) : Type 0 where
     pub tail : List KeyPress
     pub longer : tail ≢ []
     pub is_chord : IsChord find (presses ++ tail)
+
+  -- Chords of 1 to 32 presses. There are finitely many, so it can be told of each list whether a chord goes on after it.
+  pub record IsChordMap (find : Chords V) : Type 0 where
+    pub some : find [] ≡ None
+    pub short : (chord : List KeyPress) → IsChord find chord → length chord ≤ most_keys
+    pub told : (presses : List KeyPress) → IsContinued find presses ⊎ ¬ IsContinued find presses
 
   -- More may come, there are some presses, and they may yet become a longer chord.
   pub record IsOpen (find : Chords V) (more : Bool) (presses : List KeyPress) : Type 0 where

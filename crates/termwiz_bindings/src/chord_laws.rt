@@ -1,9 +1,14 @@
 //! Laws of reading presses under chords, each the contract of a function without effect.
-ghost use Rattle.termwiz_bindings.specs.ChordLaws.{CutIndependent, LongestChord, NothingLost, NothingPending, OneChord, OneItem, OneMeaning, PendingShape, StepsJoin, UnboundOnly, Undecided};
+ghost use Rattle.termwiz_bindings.specs.ChordLaws.{CutIndependent, LongestChord, MeaningOfPresses, NothingLost, NothingPending, OneItem, OneMeaning, PendingShape, StepsJoin, UnboundOnly, Undecided};
 
 /// At the front of a list of presses that is neither open nor empty stands exactly one item.
 pub fn one_item<V>()
     ensures { OneItem V }
+{}
+
+/// Each list of presses gives, under each flag, one list of outcomes, and leaves one pending list.
+pub fn one_meaning<V>()
+    ensures { OneMeaning V }
 {}
 
 /// However a list of presses is cut, it gives the same outcomes and leaves the same presses (`cuts`). So a program may read after
@@ -37,7 +42,7 @@ pub fn undecided<V>()
     ensures { Undecided V }
 {}
 
-/// To bind a chord, to change its value or to unbind it changes the meaning of no list that doesn't have its first press.
-pub fn one_chord<V>()
-    ensures { OneChord V }
+/// Only the chords that begin with a press of a list say what the list means.
+pub fn meaning_of_presses<V>()
+    ensures { MeaningOfPresses V }
 {}

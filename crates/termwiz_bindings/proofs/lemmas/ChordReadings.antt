@@ -1,12 +1,12 @@
 -- Reading a list of presses item by item: however it is cut, it means the same, and nothing is lost.
-use Rattle.std.proofs.Common.{◌≡◌, ◌≢◌, ◌⊎◌, inl, inr, ⊎_elim, ℕ, zero, suc, ◌+◌, ◌<◌, ◌≤◌, Bool, true, false, List, [], ◌∷◌, ◌++◌, length, refl, sym, ap, ◌∙◌, subst, append_assoc, length-append, arith}
+use Rattle.std.proofs.Common.{◌≡◌, ◌≢◌, ◌⊎◌, inl, inr, ⊎_elim, ℕ, zero, suc, ◌+◌, ◌<◌, ◌≤◌, Bool, true, false, List, [], ◌∷◌, ◌++◌, length, Some, None, refl, sym, ap, ◌∙◌, subst, append_assoc, length-append, arith}
 use Rattle.std.proofs.lemmas.List.{append_cancel_left}
 use Rattle.std.specs.List.{AllZip, flat_map}
 use Rattle.termwiz_bindings.specs.declared.press.KeyPress.{KeyPress}
 use Rattle.termwiz_bindings.specs.declared.matcher.Outcome.{Outcome}
 use Rattle.termwiz_bindings.specs.declared.matcher.Outcome.TheVariants.{Bound, Unbound}
-use Rattle.termwiz_bindings.specs.Matching.{Chords, IsChord, BeginWith, IsContinued, IsOpen, IsItem, Stands, Steps, IsPending, Means}
-use Rattle.termwiz_bindings.specs.ChordLaws.{CutIndependent, StepsJoin, NothingLost, ArePressesOf}
+use Rattle.termwiz_bindings.specs.Matching.{Chords, IsChord, BeginWith, IsChordMap, IsContinued, IsOpen, IsItem, Stands, Steps, IsPending, Means}
+use Rattle.termwiz_bindings.specs.ChordLaws.{OneMeaning, CutIndependent, StepsJoin, NothingLost, ArePressesOf}
 use Rattle.termwiz_bindings.proofs.lemmas.SharedBeginnings.{length-some}
 use Rattle.termwiz_bindings.proofs.lemmas.ChordItems.{stands_stays, same_outcome, nothing_stands, some_stands}
 
@@ -90,6 +90,23 @@ module _ {V : Type 0} where
       let parts : List (List KeyPress) = later.0 in
       (taken ∷ parts, (of_item find u taken o stands.item, later.1),
       e ∙ ap (λ x. taken ++ x) later.2 ∙ sym (append_assoc taken (flat_map (λ part. part) parts) left))
+
+  some_taken : (find : Chords V) (u taken : List KeyPress) (o : Outcome V) → find [] ≡ None → IsItem find u taken o → taken ≢ []
+  some_taken find u taken (Bound keys value) none (l, i) e = cc (i.bound, ap find e, none)
+  some_taken find u taken (Unbound press) none (same, i) e = cc (same, e)
+
+  told_open : (find : Chords V) (f : Bool) (u : List KeyPress) → IsContinued find u ⊎ ¬ IsContinued find u
+      → IsOpen find f u ⊎ ¬ IsOpen find f u
+  told_open find false u told = inr (λ h. let e : false ≡ true = h.more_come in cc)
+  told_open find true [] told = inr (λ h. h.some refl)
+  told_open find true (x ∷ u) (inl c) = inl (record { more_come = refl; some = λ e. cc (e); continued = c })
+  told_open find true (x ∷ u) (inr ends) = inr (λ h. ends h.continued)
+
+pub one_meaning : (V : Type 0) → OneMeaning V
+one_meaning V find f u chords =
+    let one = some_reading find f (λ v taken o h. some_taken find v taken o chords.some h.item)
+        (λ v. told_open find f v (chords.told v)) (length u) u (omega arith) in
+    (one.0, one.1, one.2, λ D other k. one_reading find f u one.1 other one.0 D one.2 k)
 
 pub cut_independent : (V : Type 0) → CutIndependent V
 cut_independent V find f u s between left E D h k =

@@ -1,12 +1,13 @@
 -- What is pending, and what giving it up or another chord changes.
 use Rattle.std.proofs.Common.{◌≡◌, ◌≢◌, ◌⊎◌, inl, inr, ⊎_elim, ℕ, zero, suc, ◌+◌, ◌<◌, ◌≤◌, Bool, true, false, List, [], ◌∷◌, ◌++◌, length, take, drop, Option, Some, None, refl, sym, ap, ◌∙◌, subst, append_assoc, length-append, length-take-le, take-append-drop, Contains, arith, append-nil}
 use Rattle.std.specs.Prelude.{IsSome}
+use Rattle.std.specs.List.{AllByRecursion}
 use Rattle.std.proofs.lemmas.List.Elements.{Contains-append_right}
 use Rattle.termwiz_bindings.specs.declared.press.KeyPress.{KeyPress}
 use Rattle.termwiz_bindings.specs.declared.matcher.Outcome.{Outcome}
 use Rattle.termwiz_bindings.specs.declared.matcher.Outcome.TheVariants.{Bound, Unbound}
 use Rattle.termwiz_bindings.specs.Matching.{Chords, IsChord, IsChordMap, BeginWith, IsContinued, IsOpen, IsItem, Stands, Steps, IsPending, Means, most_keys}
-use Rattle.termwiz_bindings.specs.ChordLaws.{LongestChord, UnboundOnly, most_pending, IsWaiting, PendingShape, NothingPending, Undecided, DifferOnlyAt, OneChord}
+use Rattle.termwiz_bindings.specs.ChordLaws.{LongestChord, UnboundOnly, most_pending, IsWaiting, PendingShape, NothingPending, Undecided, AgreeFrom, MeaningOfPresses}
 use Rattle.termwiz_bindings.proofs.lemmas.SharedBeginnings.{length-some, append-some_left, taken_front, front_fits}
 use Rattle.termwiz_bindings.proofs.lemmas.ChordItems.{nothing_stands, item_begins}
 
@@ -53,15 +54,9 @@ none_left find left (inr is_open) = absurd (let e : false ≡ true = is_open.mor
 pub nothing_pending : (V : Type 0) → NothingPending V
 nothing_pending V find u left E h = none_left find left h.pending
 
-other_than : (x : KeyPress) (xs u : List KeyPress) → u ≢ [] → ¬ Contains u x → (t : List KeyPress) → u ++ t ≢ x ∷ xs
-other_than x xs [] some apart t e = some refl
-other_than x xs (y ∷ u) some apart t e = apart (zero, omega arith, let same : y ≡ x = cc (e) in same)
-
--- a chord that such a list begins with is another one
-front_than : (x : KeyPress) (xs u front : List KeyPress) → ¬ Contains u x → BeginWith u front → front ≢ x ∷ xs
-front_than x xs u front apart b e =
-    let whole : u ≡ x ∷ (xs ++ b.0) = b.1 ∙ ap (λ z. z ++ b.0) e in
-    apart (subst (λ z. Contains z x) (sym whole) (zero, omega arith, refl))
+of_rest : (P : KeyPress → Type 0) (s t : List KeyPress) → AllByRecursion P (s ++ t) → AllByRecursion P t
+of_rest P [] t a = a
+of_rest P (x ∷ s) t a = of_rest P s t a.1
 
 module _ {V : Type 0} where
   -- how many presses an item at a list that is itself a chord takes: all of them
@@ -92,76 +87,83 @@ module _ {V : Type 0} where
       let some_more : 0 < length t = length-some t longer in
       absurd (omega (arith, length-append p t))
 
-  turned : (x : List KeyPress) (find changed : Chords V) → DifferOnlyAt x find changed → DifferOnlyAt x changed find
-  turned x find changed d u n = sym (d u n)
+  turned : (find other : Chords V) (u : List KeyPress) → AllByRecursion (AgreeFrom find other) u → AllByRecursion (AgreeFrom other find) u
+  turned find other [] d = tt
+  turned find other (x ∷ u) d = (λ rest. sym (d.0 rest), turned find other u d.1)
 
-  still_continued : (find changed : Chords V) (x : KeyPress) (xs u : List KeyPress) → DifferOnlyAt (x ∷ xs) find changed
-      → u ≢ [] → ¬ Contains u x → IsContinued find u → IsContinued changed u
-  still_continued find changed x xs u d some apart c = record {
+  -- what begins such a list is a chord of both, or of neither
+  same_front : (find other : Chords V) (u front : List KeyPress) → other [] ≡ find [] → AllByRecursion (AgreeFrom find other) u
+      → BeginWith u front → other front ≡ find front
+  same_front find other u [] none d b = none
+  same_front find other [] (y ∷ front) none d b = absurd (cc (b.1))
+  same_front find other (x ∷ u) (y ∷ front) none d b =
+      let same : x ≡ y = cc (b.1) in subst (λ z. other (z ∷ front) ≡ find (z ∷ front)) same (d.0 front)
+
+  still_continued : (find other : Chords V) (u : List KeyPress) → u ≢ [] → AllByRecursion (AgreeFrom find other) u
+      → IsContinued find u → IsContinued other u
+  still_continued find other [] some d c = absurd (some refl)
+  still_continued find other (x ∷ u) some d c = record {
     tail = c.tail;
     longer = c.longer;
-    is_chord = subst IsSome (sym (d (u ++ c.tail) (other_than x xs u some apart c.tail))) c.is_chord;
+    is_chord = subst IsSome (sym (d.0 (u ++ c.tail))) c.is_chord;
   }
 
-  still_chord : (find changed : Chords V) (x : KeyPress) (xs u front : List KeyPress) → DifferOnlyAt (x ∷ xs) find changed
-      → ¬ Contains u x → BeginWith u front → changed front ≡ find front
-  still_chord find changed x xs u front d apart b = d front (front_than x xs u front apart b)
-
-  still_item : (find changed : Chords V) (x : KeyPress) (xs u taken : List KeyPress) (o : Outcome V)
-      → DifferOnlyAt (x ∷ xs) find changed → ¬ Contains u x → IsItem find u taken o → IsItem changed u taken o
-  still_item find changed x xs u taken (Bound keys value) d apart (l, i) = (l, record {
-    bound = still_chord find changed x xs u taken d apart i.begins ∙ i.bound;
-    begins = i.begins;
-    longest = λ other is b. i.longest other (subst IsSome (still_chord find changed x xs u other d apart b) is) b;
-  })
-  still_item find changed x xs u taken (Unbound y) d apart (e, i) = (e, record {
-    first = i.first;
-    unbound = λ other is b. i.unbound other (subst IsSome (still_chord find changed x xs u other d apart b) is) b;
-  })
-
-  still_stands : (find changed : Chords V) (f : Bool) (x : KeyPress) (xs u taken : List KeyPress) (o : Outcome V)
-      → DifferOnlyAt (x ∷ xs) find changed → ¬ Contains u x → Stands find f u taken o → Stands changed f u taken o
-  still_stands find changed f x xs u taken o d apart h = record {
-    closed = λ is_open. h.closed (record {
-      more_come = is_open.more_come;
-      some = is_open.some;
-      continued = still_continued changed find x xs u (turned (x ∷ xs) find changed d) is_open.some apart is_open.continued;
-    });
-    some = h.some;
-    item = still_item find changed x xs u taken o d apart h.item;
-  }
-
-  still_pending : (find changed : Chords V) (f : Bool) (x : KeyPress) (xs u : List KeyPress) → DifferOnlyAt (x ∷ xs) find changed
-      → ¬ Contains u x → IsPending find f u → IsPending changed f u
-  still_pending find changed f x xs u d apart (inl none) = inl none
-  still_pending find changed f x xs u d apart (inr is_open) = inr (record {
+  still_open : (find other : Chords V) (f : Bool) (u : List KeyPress) → AllByRecursion (AgreeFrom find other) u
+      → IsOpen find f u → IsOpen other f u
+  still_open find other f u d is_open = record {
     more_come = is_open.more_come;
     some = is_open.some;
-    continued = still_continued find changed x xs u d is_open.some apart is_open.continued;
+    continued = still_continued find other u is_open.some d is_open.continued;
+  }
+
+  still_item : (find other : Chords V) (u taken : List KeyPress) (o : Outcome V) → other [] ≡ find []
+      → AllByRecursion (AgreeFrom find other) u → IsItem find u taken o → IsItem other u taken o
+  still_item find other u taken (Bound keys value) none d (l, i) = (l, record {
+    bound = same_front find other u taken none d i.begins ∙ i.bound;
+    begins = i.begins;
+    longest = λ front is b. i.longest front (subst IsSome (same_front find other u front none d b) is) b;
+  })
+  still_item find other u taken (Unbound y) none d (e, i) = (e, record {
+    first = i.first;
+    unbound = λ front is b. i.unbound front (subst IsSome (same_front find other u front none d b) is) b;
   })
 
-  still_steps : (find changed : Chords V) (f : Bool) (x : KeyPress) (xs u left : List KeyPress) (E : List (Outcome V))
-      → DifferOnlyAt (x ∷ xs) find changed → ¬ Contains u x → Means find f u E left → Means changed f u E left
-  still_steps find changed f x xs u left [] d apart h = record {
-    steps = h.steps;
-    pending = still_pending find changed f x xs left d (subst (λ z. ¬ Contains z x) h.steps apart) h.pending;
+  still_stands : (find other : Chords V) (f : Bool) (u taken : List KeyPress) (o : Outcome V) → other [] ≡ find []
+      → AllByRecursion (AgreeFrom find other) u → Stands find f u taken o → Stands other f u taken o
+  still_stands find other f u taken o none d h = record {
+    closed = λ is_open. h.closed (still_open other find f u (turned find other u d) is_open);
+    some = h.some;
+    item = still_item find other u taken o none d h.item;
   }
-  still_steps find changed f x xs u left (o ∷ E) d apart h =
+
+  still_pending : (find other : Chords V) (f : Bool) (u : List KeyPress) → AllByRecursion (AgreeFrom find other) u
+      → IsPending find f u → IsPending other f u
+  still_pending find other f u d (inl none) = inl none
+  still_pending find other f u d (inr is_open) = inr (still_open find other f u d is_open)
+
+  still_means : (find other : Chords V) (f : Bool) (u left : List KeyPress) (E : List (Outcome V)) → other [] ≡ find []
+      → AllByRecursion (AgreeFrom find other) u → Means find f u E left → Means other f u E left
+  still_means find other f u left [] none d h = record {
+    steps = h.steps;
+    pending = still_pending find other f left (subst (AllByRecursion (AgreeFrom find other)) h.steps d) h.pending;
+  }
+  still_means find other f u left (o ∷ E) none d h =
       let taken : List KeyPress = h.steps.0 in
       let rest : List KeyPress = h.steps.1 in
       let splits : u ≡ taken ++ rest = h.steps.3 in
-      let apart_rest : ¬ Contains rest x = λ c. apart (subst (λ z. Contains z x) (sym splits) (Contains-append_right taken rest x c)) in
-      let later = still_steps find changed f x xs rest left E d apart_rest (record { steps = h.steps.4; pending = h.pending }) in
+      let agree : AllByRecursion (AgreeFrom find other) rest =
+          of_rest (AgreeFrom find other) taken rest (subst (AllByRecursion (AgreeFrom find other)) splits d) in
+      let later = still_means find other f rest left E none agree (record { steps = h.steps.4; pending = h.pending }) in
       record {
-        steps = (taken, rest, still_stands find changed f x xs u taken o d apart h.steps.2, splits, later.steps);
+        steps = (taken, rest, still_stands find other f u taken o none d h.steps.2, splits, later.steps);
         pending = later.pending;
       }
 
 pub undecided : (V : Type 0) → Undecided V
 undecided V find f p t left between end E E1 E2 some longer is h k m = gave_up find f p t left between end E E1 E2 some longer is h k m
 
-pub one_chord : (V : Type 0) → OneChord V
-one_chord V find changed x xs d f u left E apart = (
-  λ h. still_steps find changed f x xs u left E d apart h,
-  λ h. still_steps changed find f x xs u left E (turned (x ∷ xs) find changed d) apart h,
+pub meaning_of_presses : (V : Type 0) → MeaningOfPresses V
+meaning_of_presses V find other f u left E none d = (
+  λ h. still_means find other f u left E none d h,
+  λ h. still_means other find f u left E (sym none) (turned find other u d) h,
 )
