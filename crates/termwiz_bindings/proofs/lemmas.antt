@@ -4,6 +4,7 @@ pub mod ChordReadings
 pub mod EventModifiers
 pub mod HeldBits
 pub mod MainKeyFacts
+pub mod MatcherSteps
 pub mod PendingChords
 pub mod SecondPresses
 pub mod SettledPresses

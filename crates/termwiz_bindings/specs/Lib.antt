@@ -1,5 +1,6 @@
 pub mod ChordLaws
 pub mod MainKeys
+pub mod Matchers
 pub mod Matching
 pub mod Presses
 pub mod PressLaws

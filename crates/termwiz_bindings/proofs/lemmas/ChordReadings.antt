@@ -91,7 +91,7 @@ module _ {V : Type 0} where
       (taken ∷ parts, (of_item find u taken o stands.item, later.1),
       e ∙ ap (λ x. taken ++ x) later.2 ∙ sym (append_assoc taken (flat_map (λ part. part) parts) left))
 
-  some_taken : (find : Chords V) (u taken : List KeyPress) (o : Outcome V) → find [] ≡ None → IsItem find u taken o → taken ≢ []
+  pub some_taken : (find : Chords V) (u taken : List KeyPress) (o : Outcome V) → find [] ≡ None → IsItem find u taken o → taken ≢ []
   some_taken find u taken (Bound keys value) none (l, i) e = cc (i.bound, ap find e, none)
   some_taken find u taken (Unbound press) none (same, i) e = cc (same, e)
 
