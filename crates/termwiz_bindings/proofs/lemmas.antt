@@ -1,10 +1,16 @@
+pub mod BindingChords
+pub mod BoundChords
 pub mod CharacterRules
+pub mod ChordBytes
 pub mod ChordItems
 pub mod ChordReadings
+pub mod CodedPresses
 pub mod EventModifiers
 pub mod HeldBits
+pub mod KeyNumbers
 pub mod MainKeyFacts
 pub mod MatcherSteps
+pub mod OneChord
 pub mod PendingChords
 pub mod SecondPresses
 pub mod SettledPresses

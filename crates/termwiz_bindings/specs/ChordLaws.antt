@@ -1,9 +1,12 @@
 -- The laws of reading presses under chords.
 use Rattle.std.specs.Prelude.{◌≡◌, ◌≢◌, ◌⊎◌, ◌↔◌, ℕ, ◌≤◌, ◌<◌, Bool, true, false, List, [], ◌∷◌, ◌++◌, length, take, Some, None, Contains}
-use Rattle.std.specs.List.{AllZip, AllByRecursion, flat_map}
+use Rattle.std.specs.List.{All, AllZip, AllByRecursion, flat_map}
 use Rattle.termwiz_bindings.specs.declared.press.KeyPress.{KeyPress}
 use Rattle.termwiz_bindings.specs.declared.matcher.Outcome.{Outcome}
 use Rattle.termwiz_bindings.specs.declared.matcher.Outcome.TheVariants.{Bound, Unbound}
+use Rattle.termwiz_keymap.specs.Lookup.{ByteMap}
+use Rattle.termwiz_bindings.specs.Codes.{IsPress}
+use Rattle.termwiz_bindings.specs.Bindings.{AreBindings, bound, find, unbound}
 use Rattle.termwiz_bindings.specs.Matching.{Chords, IsChord, IsChordMap, BeginWith, BeginWithNone, IsContinued, IsOpen, Stands, Steps, IsPending, Means}
 
 -- At the front of a list that is neither open nor empty stands one item.
@@ -96,3 +99,15 @@ abbrev pub MeaningOfPresses : Type 0 → Type 0
 MeaningOfPresses V = (find other : Chords V) (more : Bool) (presses left : List KeyPress) (outcomes : List (Outcome V))
     → other [] ≡ find [] → AllByRecursion (AgreeFrom find other) presses
     → Means find more presses outcomes left ↔ Means other more presses outcomes left
+
+-- To bind or to unbind a chord changes the meaning of no list without its first press.
+abbrev pub OneChord : Type 0 → Type 0
+OneChord V = (m : ByteMap V) (first : KeyPress) (others : List KeyPress) (value : V)
+    (more : Bool) (presses left : List KeyPress) (outcomes : List (Outcome V))
+    → IsPress first → All IsPress presses → ¬ Contains presses first
+    → (Means (find m) more presses outcomes left ↔ Means (find (bound m (first ∷ others) value)) more presses outcomes left)
+    × (Means (find m) more presses outcomes left ↔ Means (find (unbound m (first ∷ others))) more presses outcomes left)
+
+-- Under bindings, too, each list has one meaning: they are finitely many chords.
+abbrev pub BindingsAreChords : Type 0 → Type 0
+BindingsAreChords V = (m : ByteMap V) → AreBindings m → IsChordMap (find m)

@@ -1,6 +1,12 @@
+pub mod Bindings
+pub mod BindingLaws
+pub mod Chords
 pub mod ChordLaws
+pub mod Codes
+pub mod CodeLaws
 pub mod MainKeys
 pub mod Matchers
 pub mod Matching
+pub mod Numbers
 pub mod Presses
 pub mod PressLaws

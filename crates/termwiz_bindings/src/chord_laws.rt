@@ -1,5 +1,5 @@
 //! Laws of reading presses under chords, each the contract of a function without effect.
-ghost use Rattle.termwiz_bindings.specs.ChordLaws.{CutIndependent, LongestChord, MeaningOfPresses, NothingLost, NothingPending, OneItem, OneMeaning, PendingShape, StepsJoin, UnboundOnly, Undecided};
+ghost use Rattle.termwiz_bindings.specs.ChordLaws.{BindingsAreChords, CutIndependent, LongestChord, MeaningOfPresses, NothingLost, NothingPending, OneChord, OneItem, OneMeaning, PendingShape, StepsJoin, UnboundOnly, Undecided};
 
 /// At the front of a list of presses that is neither open nor empty stands exactly one item.
 pub fn one_item<V>()
@@ -45,4 +45,14 @@ pub fn undecided<V>()
 /// Only the chords that begin with a press of a list say what the list means.
 pub fn meaning_of_presses<V>()
     ensures { MeaningOfPresses V }
+{}
+
+/// To bind or to unbind a chord changes the meaning of no list without its first press.
+pub fn one_chord<V>()
+    ensures { OneChord V }
+{}
+
+/// Bindings are finitely many chords of 1 to 32 presses, so each list of presses has one meaning under them.
+pub fn bindings_are_chords<V>()
+    ensures { BindingsAreChords V }
 {}

@@ -1,5 +1,6 @@
 //! Laws of presses, each the contract of a function without effect.
 ghost use Rattle.std.specs.Prelude.{ℕ, Option};
+ghost use Rattle.termwiz_bindings.specs.CodeLaws.{CodesBeginAsPresses, CodesHaveOneWidth, CodesTellPresses};
 ghost use Rattle.termwiz_bindings.specs.Presses.{main_press, shown_press, control_press, capital_press, unshifted_press, lowered_press};
 ghost use Rattle.termwiz_bindings.specs.PressLaws.{IsSettled, LocksChangeNothing, NeverBoth, NoPressOfRelease, PressesHaveNoLocks, PressesSettle, SecondOnlyOf, SecondWithoutText, SidesChangeNothing};
 
@@ -39,4 +40,12 @@ pub fn no_press()
 pub fn second_presses()
     ensures only { SecondOnlyOf }
     ensures text { SecondWithoutText }
+{}
+
+/// All codes have the same number of bytes (`width`), and different presses have different codes (`told`). So presses begin others
+/// exactly if their codes do (`begin`).
+pub fn codes_of_presses()
+    ensures width { CodesHaveOneWidth }
+    ensures told { CodesTellPresses }
+    ensures begin { CodesBeginAsPresses }
 {}

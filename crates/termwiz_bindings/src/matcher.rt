@@ -1,15 +1,17 @@
 //! What presses do: a matcher reads them one after another, and gives what the chords of some bindings make of them.
 ghost use Rattle.std.specs.Prelude.{◌≡◌, ◌↔◌, ◌<◌, ◌++◌, List, [], ◌∷◌, false, length, IsTrue, IfSome, MatchOption, if◌then◌else◌};
-ghost use Rattle.termwiz_bindings.specs.BoundChords.{chords_of};
+ghost use Rattle.termwiz_bindings.specs.Bindings.{find};
 ghost use Rattle.termwiz_bindings.specs.Codes.{IsPress};
 ghost use Rattle.termwiz_bindings.specs.declared.press.KeyPress.{KeyPress};
-ghost use Rattle.termwiz_bindings.specs.Matching.{IsPending, Steps};
-ghost use Rattle.termwiz_bindings.specs.Matchers.{IsDeadEnd, IsPreferred, IsTaken, LeadsOn, keys_of, outcome_copied, outcome_found};
+ghost use Rattle.termwiz_bindings.specs.Matching.{IsChordMap, IsContinued, IsPending, Steps};
+ghost use Rattle.termwiz_bindings.specs.Matchers.{FoundLongest, IsDeadEnd, IsPreferred, IsTaken, LeadsOn, keys_of, outcome_copied, outcome_found};
 
-use crate::bindings::{Bindings, Found};
+use crate::bindings::Bindings;
 use crate::chord::{Chord, MAX_KEYS};
 use crate::press::KeyPress;
+use std::fmt::Debug;
 use std::marker::Model;
+use termwiz_keymap::keymap::Found;
 
 /// What the first presses of a list do.
 #[derive(Clone, Copy, PartialEq, Eq, Debug)]
@@ -59,6 +61,42 @@ impl Model for Matcher {
     ghost view = { λ m. m.pending };
 }
 
+// What a lookup of some presses found.
+#[derive(Clone, Copy)]
+struct Front<'a, V> {
+    // How many presses the longest chord has that they begin with, and its value.
+    longest: Option<(usize, &'a V)>,
+
+    // Whether some chord is longer than the presses, and begins with them.
+    goes_on: bool,
+}
+
+// Looks presses up in bindings.
+fn front_of<'a, V: Debug + Clone + Drop>(bindings: &'a Bindings<V>, presses: &Chord) -> Front<'a, V>
+    ensures longest { FoundLongest (find bindings.now) presses.now result.longest }
+    ensures goes_on { IsTrue result.goes_on ↔ IsContinued (find bindings.now) presses.now }
+    ensures chords { IsChordMap (find bindings.now) }
+{
+    match bindings.find(presses, true) {
+        Found::Ambiguous(keys, value) => Front {
+            longest: Some((keys, value)),
+            goes_on: true,
+        },
+        Found::Exact(keys, value) => Front {
+            longest: Some((keys, value)),
+            goes_on: false,
+        },
+        Found::NeedData => Front {
+            longest: None,
+            goes_on: true,
+        },
+        Found::None => Front {
+            longest: None,
+            goes_on: false,
+        },
+    }
+}
+
 // The outcome of some presses, for which this was found; `None` if there are no presses.
 fn outcome_of<'a, V>(found: Option<(usize, &'a V)>, presses: &Chord) -> Option<Outcome<&'a V>>
     ensures { result ≡ outcome_found found.entry presses.now }
@@ -70,30 +108,30 @@ fn outcome_of<'a, V>(found: Option<(usize, &'a V)>, presses: &Chord) -> Option<O
 }
 
 // Whether some chord begins with these presses and this one.
-fn leads_on<V>(bindings: &Bindings<V>, presses: &Chord, press: KeyPress) -> bool
+fn leads_on<V: Debug + Clone + Drop>(bindings: &Bindings<V>, presses: &Chord, press: KeyPress) -> bool
     requires { IsPress press }
-    ensures { IsTrue result ↔ LeadsOn (chords_of bindings.now) presses.now press }
+    ensures { IsTrue result ↔ LeadsOn (find bindings.now) presses.now press }
 {
-    if !bindings.find(presses).goes_on {
+    if !front_of(bindings, presses).goes_on {
         return false;
     }
     let mut longer = *presses;
     if !longer.push(press) {
         return false;
     }
-    let found = bindings.find(&longer);
-    let is_chord = match found.longest {
+    let front = front_of(bindings, &longer);
+    let is_chord = match front.longest {
         Some((keys, _)) => keys == longer.len(),
         None => false,
     };
-    found.goes_on || is_chord
+    front.goes_on || is_chord
 }
 
 // The one of two presses that leads on after others: the first, if both do.
-fn preferred<V>(bindings: &Bindings<V>, presses: &Chord, first: KeyPress, second: KeyPress) -> Option<KeyPress>
+fn preferred<V: Debug + Clone + Drop>(bindings: &Bindings<V>, presses: &Chord, first: KeyPress, second: KeyPress) -> Option<KeyPress>
     requires first { IsPress first }
     requires second { IsPress second }
-    ensures { IsPreferred (chords_of bindings.now) presses.now first second result }
+    ensures { IsPreferred (find bindings.now) presses.now first second result }
 {
     if leads_on(bindings, presses, first) {
         Some(first)
@@ -129,16 +167,16 @@ impl Matcher {
     ///
     /// Returns `None` if nothing is pending, or if more may come and the presses may yet become a longer chord. With no more to
     /// come it decides all: a program gives up by calling it so until it returns `None`.
-    pub fn next<'a, V>(&mut self, bindings: &'a Bindings<V>, maybe_more: bool) -> Option<Outcome<&'a V>>
-        ensures outcome { MatchOption result (IsPending (chords_of bindings.now) maybe_more self.old)
-            (λ outcome. Steps (chords_of bindings.now) maybe_more self.old (outcome_copied outcome ∷ []) self.new) }
+    pub fn next<'a, V: Debug + Clone + Drop>(&mut self, bindings: &'a Bindings<V>, maybe_more: bool) -> Option<Outcome<&'a V>>
+        ensures outcome { MatchOption result (IsPending (find bindings.now) maybe_more self.old)
+            (λ outcome. Steps (find bindings.now) maybe_more self.old (outcome_copied outcome ∷ []) self.new) }
         ensures unchanged { MatchOption result ((self.new ≡ self.old) × (length self.new < MAX_KEYS)) (λ _. Unit {0}) }
     {
-        let found = bindings.find(&self.pending);
-        if maybe_more && found.goes_on {
+        let front = front_of(bindings, &self.pending);
+        if maybe_more && front.goes_on {
             return None;
         }
-        let outcome = outcome_of(found.longest, &self.pending)?;
+        let outcome = outcome_of(front.longest, &self.pending)?;
         self.pending.remove_first(outcome.keys());
         Some(outcome)
     }
@@ -147,28 +185,28 @@ impl Matcher {
     /// `None` is for nothing pending.
     ///
     /// While the answer is unbound, a program may as well wait for ever: giving up would run no command.
-    pub fn on_pause<'a, V>(&self, bindings: &'a Bindings<V>) -> Option<Outcome<&'a V>>
+    pub fn on_pause<'a, V: Debug + Clone + Drop>(&self, bindings: &'a Bindings<V>) -> Option<Outcome<&'a V>>
         ensures { MatchOption result (self.now ≡ [])
-            (λ outcome. (left : List KeyPress) × Steps (chords_of bindings.now) false self.now (outcome_copied outcome ∷ []) left) }
+            (λ outcome. (left : List KeyPress) × Steps (find bindings.now) false self.now (outcome_copied outcome ∷ []) left) }
     {
-        let found = bindings.find(&self.pending);
-        outcome_of(found.longest, &self.pending)
+        let front = front_of(bindings, &self.pending);
+        outcome_of(front.longest, &self.pending)
     }
 
     /// Whether more than one press is pending, no chord begins with them all, and they begin with no chord. A program that takes
     /// such presses as one mistake asks this after each press, and calls [`Matcher::cancel`].
-    pub fn is_dead_end<V>(&self, bindings: &Bindings<V>) -> bool
-        ensures { IsTrue result ↔ IsDeadEnd (chords_of bindings.now) self.now }
+    pub fn is_dead_end<V: Debug + Clone + Drop>(&self, bindings: &Bindings<V>) -> bool
+        ensures { IsTrue result ↔ IsDeadEnd (find bindings.now) self.now }
     {
-        let found = bindings.find(&self.pending);
-        self.pending.len() > 1 && !found.goes_on && found.longest.is_none()
+        let front = front_of(bindings, &self.pending);
+        self.pending.len() > 1 && !front.goes_on && front.longest.is_none()
     }
 
     // The one of two presses that is to be pressed.
-    fn taken<V>(&self, bindings: &Bindings<V>, first: KeyPress, second: Option<KeyPress>) -> KeyPress
+    fn taken<V: Debug + Clone + Drop>(&self, bindings: &Bindings<V>, first: KeyPress, second: Option<KeyPress>) -> KeyPress
         requires first { IsPress first }
         requires second { IfSome second IsPress }
-        ensures { IsTaken (chords_of bindings.now) self.now first second result }
+        ensures { IsTaken (find bindings.now) self.now first second result }
     {
         let Some(second) = second else {
             return first;
@@ -184,11 +222,11 @@ impl Matcher {
     ///
     /// The second press of a report is [`KeyPress::second`]. So Ctrl with a Cyrillic letter runs the command of the Latin letter
     /// at its place, unless it has one of its own. Returns false, and changes nothing, if [`MAX_KEYS`] are pending.
-    pub fn press_either<V>(&mut self, bindings: &Bindings<V>, first: KeyPress, second: Option<KeyPress>) -> bool
+    pub fn press_either<V: Debug + Clone + Drop>(&mut self, bindings: &Bindings<V>, first: KeyPress, second: Option<KeyPress>) -> bool
         requires first { IsPress first }
         requires second { IfSome second IsPress }
         ensures pressed { IsTrue result ↔ (length self.old < MAX_KEYS) }
-        ensures presses { (press : KeyPress) × IsTaken (chords_of bindings.now) self.old first second press
+        ensures presses { (press : KeyPress) × IsTaken (find bindings.now) self.old first second press
             × (self.new ≡ (if result then self.old ++ press ∷ [] else self.old)) }
     {
         let press = self.taken(bindings, first, second);

@@ -96,6 +96,22 @@ impl<V: Debug + Clone + Drop> KeyMap<V> {
         }
     }
 
+    /// Takes a key out of the map and returns its value, or `None` if the map doesn't have the key. Every other key keeps its value.
+    /// Takes no memory.
+    pub fn remove(&mut self, key: &[u8]) -> Option<V>
+        ensures value { result ≡ map.get self.old key.now }
+        ensures others { self.new ≡ map.remove self.old key.now }
+    {
+        match place_of(&self.rows, key, self.rows.gap()) {
+            Ok(place) => {
+                self.places.clear();
+                let row = self.rows.remove(place);
+                Some(row.into_value())
+            }
+            Err(_) => None,
+        }
+    }
+
     /// The number of keys. The empty key counts like any other.
     #[tactic(auto, using(crate::proofs::lemmas::rows::KeysInRows::counted))]
     pub fn len(&self) -> usize

@@ -2,4 +2,5 @@ pub mod ClonedEntries
 pub mod EntriesInOrder
 pub mod ExactStays
 pub mod KeysInEntries
+pub mod RemovedEntries
 pub mod ReplacedEntries

@@ -1,6 +1,6 @@
 //! A gap buffer: a list with a gap at the place of the last insert, as editors keep their texts. An insert near the last one moves few elements.
 ghost use Rattle.std.specs.Prelude.{◌≡◌, ◌+◌, ◌<◌, ◌≤◌, ◌++◌, length, reverse, set, get_or, OnOk, OnErr};
-ghost use Rattle.std.specs.List.{insert};
+ghost use Rattle.std.specs.List.{insert, remove};
 
 use std::alloc::{AllocError, Global};
 use std::marker::Model;
@@ -52,6 +52,21 @@ impl<T> GapBuffer<T> {
     /// How many elements are before the gap.
     pub fn gap(&self) -> usize {
         self.before.len()
+    }
+
+    /// Takes the element at a place out of the list. The gap stays between the same elements.
+    pub fn remove(&mut self, place: usize) -> T
+        requires { place < length self.old }
+        ensures value { result ≡ get_or self.old place result }
+        ensures items { self.new ≡ remove self.old place }
+    {
+        self.len -= 1;
+        if place < self.before.len() {
+            self.before.remove(place)
+        } else {
+            let from_end = self.len - place;
+            self.after.remove(from_end)
+        }
     }
 }
 

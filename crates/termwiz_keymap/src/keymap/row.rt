@@ -50,13 +50,20 @@ pub struct Row<V> {
 }
 
 impl<V> Row<V> {
-    ghost use Rattle.termwiz_keymap.specs.KeyRows.{key_of};
+    ghost use Rattle.termwiz_keymap.specs.KeyRows.{key_of, value_of};
 
     /// The bytes of the key.
     pub fn key(&self) -> &[u8]
         ensures { result.now ≡ key_of self.now }
     {
         self.key.as_slice()
+    }
+
+    /// The value, without the key.
+    pub fn into_value(self) -> V
+        ensures { result ≡ value_of self }
+    {
+        self.value
     }
 
     /// The byte of the key at a depth.

@@ -1,8 +1,9 @@
 -- A list in two parts, of which the second is kept with its last element first.
 use Rattle.std.proofs.Common.{◌≡◌, ◌∙◌, ◌+◌, ◌-◌, ◌≤◌, ℕ, zero, suc, List, [], ◌∷◌, ◌++◌, length, reverse, set, refl, sym, ap, arith}
-use Rattle.std.specs.List.{insert}
+use Rattle.std.specs.List.{insert, remove}
 use Rattle.std.proofs.lemmas.Grind.{reverse_onto}
-use Rattle.std.proofs.lemmas.List.{reverse-append, reverse-reverse, length-reverse, length-append, set-append_left, set-append_right}
+use Rattle.std.proofs.lemmas.List.{reverse-append, reverse-reverse, length-reverse, length-append, append-nil, set-append_left, set-append_right}
+use Rattle.std.proofs.lemmas.List.Edits.{remove-append_left, remove-append_right}
 use Rattle.std.proofs.Math.Seq.{set-append_seam}
 
 module _ {A : Type 0} where
@@ -41,6 +42,27 @@ module _ {A : Type 0} where
   set_after a b i j v past e =
       set-append_right a (reverse b) (length a) i v refl past
       ∙ ap (λ l. a ++ l) (set-reverse b (i - length a) j v (omega arith))
+
+  -- an element taken out of a list with its last element first
+  pub remove-reverse : (xs : List A) (i j : ℕ) → i + j + 1 ≡ length xs → remove (reverse xs) i ≡ reverse (remove xs j)
+  remove-reverse [] i j e = absurd (omega arith)
+  remove-reverse (x ∷ xs) i zero e =
+      let there : length (reverse xs) ≡ i = omega (arith, length-reverse xs) in
+      let at : i - i ≡ 0 = omega arith in
+      ap (λ l. remove l i) (reverse-cons x xs)
+      ∙ remove-append_right (reverse xs) (x ∷ []) i i there (omega arith)
+      ∙ ap (λ n. reverse xs ++ remove (x ∷ []) n) at ∙ append-nil (reverse xs)
+  remove-reverse (x ∷ xs) i (suc j) e =
+      ap (λ l. remove l i) (reverse-cons x xs)
+      ∙ remove-append_left (reverse xs) (x ∷ []) i (omega (arith, length-reverse xs))
+      ∙ ap (λ l. l ++ x ∷ []) (remove-reverse xs i j (omega arith)) ∙ sym (reverse-cons x (remove xs j))
+
+  -- an element taken out of the second part
+  pub removed_after : (a b : List A) (i j : ℕ) → length a ≤ i → i + j + 1 ≡ length a + length b
+      → remove (a ++ reverse b) i ≡ a ++ reverse (remove b j)
+  removed_after a b i j past e =
+      remove-append_right a (reverse b) (length a) i refl past
+      ∙ ap (λ l. a ++ l) (remove-reverse b (i - length a) j (omega arith))
 
   -- an element inserted between the parts
   pub inserted_between : (a b : List A) (v : A) (i : ℕ) → length a ≡ i → (a ++ v ∷ []) ++ b ≡ insert (a ++ b) i v

@@ -1,10 +1,10 @@
 -- Rows stay in ascending order.
 use Rattle.std.proofs.Common.{⊎_elim, ◌⊎◌, inl, inr, ◌≡◌, ◌∙◌, ◌+◌, ◌-◌, ◌<◌, ◌≤◌, ℕ, List, length, get_or, set, sym, ap, subst, arith}
-use Rattle.std.specs.List.{insert}
+use Rattle.std.specs.List.{insert, remove}
 use Rattle.std.proofs.lemmas.Bool.{cases_lt}
 use Rattle.std.proofs.lemmas.List.{get_or-set_same, get_or-set_other}
 use Rattle.std.proofs.Math.ListN.{length-set}
-use Rattle.std.proofs.lemmas.List.Edits.{length-insert, get_or-insert_below, get_or-insert_at, get_or-insert_above}
+use Rattle.std.proofs.lemmas.List.Edits.{length-insert, get_or-insert_below, get_or-insert_at, get_or-insert_above, length-remove, get_or-remove_below, get_or-remove_above}
 use Rattle.std.proofs.lemmas.List.Elements.{AllZip-get_or, length_all_zip}
 use Rattle.termwiz_keymap.specs.declared.keymap.row.Row.{Row}
 use Rattle.termwiz_keymap.specs.KeyRows.{key_of, AreAscending, IsAt, IsGapFor, IsRowClone, AreRowClones}
@@ -58,6 +58,28 @@ module _ {V : Type 0} where
       let len : length rows ≡ length copies = length_all_zip (IsRowClone is_clone) rows copies these in
       alike rows copies len
       (λ i r inside. let one = AllZip-get_or (IsRowClone is_clone) rows copies i r r these inside in one.key) up
+
+  -- rows without one of them
+  pub ascending_removed : (rows : List (Row V)) (place : ℕ) → AreAscending rows → place < length rows
+      → AreAscending (remove rows place)
+  ascending_removed rows place up at i j r less inside = ⊎_elim
+      (λ (j_below : j < place). before_at _ _ _ _ (below i (omega arith)) (below j j_below) (up i j r less (omega arith)))
+      (λ (j_from : place ≤ j). ⊎_elim
+      (λ (i_below : i < place). before_at _ _ _ _ (below i i_below) (above j j_from)
+      (up i (j + 1) r (omega arith) (omega (arith, shorter))))
+      (λ (i_from : place ≤ i). before_at _ _ _ _ (above i i_from) (above j j_from)
+      (up (i + 1) (j + 1) r (omega arith) (omega (arith, shorter))))
+      (cases_lt i place))
+      (cases_lt j place)
+    where
+      shorter : length (remove rows place) + 1 ≡ length rows
+      shorter = length-remove rows place at
+
+      below : (k : ℕ) → k < place → key_of (get_or (remove rows place) k r) ≡ key_of (get_or rows k r)
+      below k less = ap (λ (x : Row V). key_of x) (get_or-remove_below rows place r k less at)
+
+      above : (k : ℕ) → place ≤ k → key_of (get_or (remove rows place) k r) ≡ key_of (get_or rows (k + 1) r)
+      above k from = ap (λ (x : Row V). key_of x) (get_or-remove_above rows place r k from at)
 
   module _ (rows : List (Row V)) (up : AreAscending rows) (key : List ℕ) (place : ℕ) (gap : IsGapFor rows key place)
       (row : Row V) (key_is : key_of row ≡ key) where

@@ -2,17 +2,18 @@
 use Rattle.std.proofs.Common.{◌≡◌, ◌≢◌, ◌∙◌, ◌<◌, ◌≤◌, ◌+◌, ⊎_elim, ℕ, zero, suc, Bool, true, false, cond, List, [], ◌∷◌, ◌++◌, length, take, drop, set, get_or, nat_eq, refl, sym, ap, ap₂, subst, arith, take-append-drop}
 use Rattle.std.specs.Prelude.{Option, Some, None, IsSome, is_some}
 use Rattle.std.specs.Option.{option_or}
-use Rattle.std.specs.List.{insert}
+use Rattle.std.specs.List.{insert, remove}
 use Rattle.std.specs.Ordering.{nat_cmp}
 use Rattle.std.specs.Cmp.Lexicographic.{slice_cmp, pointwise, same_text}
 use Rattle.std.specs.FinMap as map
 use Rattle.std.proofs.lemmas.Cmp.{nat_list_cmp_total, nat_list_eq_equiv}
 use Rattle.std.proofs.lemmas.Bool.{cases_lt}
-use Rattle.std.proofs.lemmas.List.{get_or-map, get_or-take, take-map, drop-map, map-append, map-set, length-map, length-take-le}
+use Rattle.std.proofs.lemmas.List.{get_or-map, get_or-take, take-map, drop-map, map-append, map-set, length-map, length-take-le, get_or-drop, length-drop}
 use Rattle.termwiz_keymap.specs.declared.keymap.row.Row.{Row}
 use Rattle.termwiz_keymap.specs.Entries.{Entries, IsFirstPlace}
 use Rattle.termwiz_keymap.specs.KeyRows.{key_of, value_of, row_entries, AreAscending, IsAt, IsGapFor, IsRowOf}
 use Rattle.termwiz_keymap.proofs.lemmas.entries.KeysInEntries.{found, found-append, find_here, find_later, tied, tied_same, get-entries, key_set}
+use Rattle.termwiz_keymap.proofs.lemmas.entries.RemovedEntries.{removed}
 use Rattle.termwiz_keymap.proofs.lemmas.entries.ReplacedEntries.{replaced}
 use Rattle.termwiz_keymap.proofs.lemmas.rows.KeyOrder.{Before, not_itself}
 
@@ -99,6 +100,32 @@ module _ {V : Type 0} where
   abbrev entry : Row V → List ℕ × V
   entry row = (key_of row, value_of row)
 
+  -- no row has a key with a gap
+  none_in_gap : (rows : List (Row V)) (key : List ℕ) (i : ℕ) → IsGapFor rows key i → found key (row_entries rows) ≡ None
+  none_in_gap rows key i gap = absent rows key (λ j r inside same. ⊎_elim
+      (λ (before : j < i). not_itself key
+      (subst (λ (k : List ℕ). Before k key) same (gap.smaller_before j r before)))
+      (λ (after : i ≤ j). not_itself key
+      (subst (λ (k : List ℕ). Before key k) same (gap.greater_after j r after inside)))
+      (cases_lt j i))
+
+  -- the first entry of a key is that of the row at its place
+  first_place : (rows : List (Row V)) (key : List ℕ) (i : ℕ) (row : Row V) → AreAscending rows → IsAt rows key i
+      → IsFirstPlace (row_entries rows) key i
+  first_place rows key i row up at = record {
+    in_range = omega (arith, at.in_range, length-map rows entry);
+    none_before = ap (found key) (take-map entry i rows) ∙ absent (take i rows) key (λ j r inside same.
+        let len : length (take i rows) ≡ i = length-take-le i rows (omega (arith, at.in_range)) in
+        let there : key_of (get_or rows j r) ≡ key =
+        ap (λ (x : Row V). key_of x) (sym (get_or-take i rows j r (omega arith))) ∙ same in
+        not_itself key (rw (there, at.same r) at (up j i r (omega arith) at.in_range)));
+    here =
+        get_or-map (λ (x : List ℕ × V). x.0) (row_entries rows) i (entry row) []
+        (omega (arith, at.in_range, length-map rows entry))
+        ∙ ap (λ (x : List ℕ × V). x.0) (get_or-map entry rows i row (entry row) at.in_range)
+        ∙ at.same row;
+  }
+
   module _ (rows : List (Row V)) (key : List ℕ) (i : ℕ) (value : V) (row : Row V)
       (is : IsRowOf key value row) (up : AreAscending rows) where
     -- the entry of the row
@@ -106,15 +133,6 @@ module _ {V : Type 0} where
     entry_is = ap₂ (λ k v. (k, v)) is.key is.value
 
     module _ (gap : IsGapFor rows key i) where
-      -- no row has a key with a gap
-      none_in_gap : found key (row_entries rows) ≡ None
-      none_in_gap = absent rows key (λ j r inside same. ⊎_elim
-          (λ (before : j < i). not_itself key
-          (subst (λ (k : List ℕ). Before k key) same (gap.smaller_before j r before)))
-          (λ (after : i ≤ j). not_itself key
-          (subst (λ (k : List ℕ). Before key k) same (gap.greater_after j r after inside)))
-          (cases_lt j i))
-
       two_parts : (e : List ℕ × V) {xs ys us vs : Entries V} → xs ≡ us → ys ≡ vs → xs ++ e ∷ ys ≡ us ++ e ∷ vs
       two_parts e p q n = p n ++ e ∷ q n
 
@@ -128,28 +146,43 @@ module _ {V : Type 0} where
       row_inserted =
           ap (λ es. map.from_entries {R = slice_cmp nat_cmp} es)
           (entries-insert ∙ ap (insert (row_entries rows) i) entry_is)
-          ∙ added (row_entries rows) key i value none_in_gap
+          ∙ added (row_entries rows) key i value (none_in_gap rows key i gap)
 
     module _ (at : IsAt rows key i) where
-      first : IsFirstPlace (row_entries rows) key i
-      first = record {
-        in_range = omega (arith, at.in_range, length-map rows entry);
-        none_before = ap (found key) (take-map entry i rows) ∙ absent (take i rows) key (λ j r inside same.
-            let len : length (take i rows) ≡ i = length-take-le i rows (omega (arith, at.in_range)) in
-            let there : key_of (get_or rows j r) ≡ key =
-            ap (λ (x : Row V). key_of x) (sym (get_or-take i rows j r (omega arith))) ∙ same in
-            not_itself key (rw (there, at.same r) at (up j i r (omega arith) at.in_range)));
-        here =
-            get_or-map (λ (x : List ℕ × V). x.0) (row_entries rows) i (entry row) []
-            (omega (arith, at.in_range, length-map rows entry))
-            ∙ ap (λ (x : List ℕ × V). x.0) (get_or-map entry rows i row (entry row) at.in_range)
-            ∙ at.same row;
-      }
-
       -- a row in the place of the one with its key sets the key
       pub row_replaced : map.from_entries {R = slice_cmp nat_cmp} (row_entries (set rows i row))
           ≡ map.insert (map.from_entries (row_entries rows)) key value
       row_replaced =
           ap (λ es. map.from_entries {R = slice_cmp nat_cmp} es)
           (map-set entry rows i row ∙ ap (set (row_entries rows) i) entry_is)
-          ∙ replaced (row_entries rows) key i value first
+          ∙ replaced (row_entries rows) key i value (first_place rows key i row up at)
+
+  entries-remove : (rows : List (Row V)) (i : ℕ) → row_entries (remove rows i) ≡ remove (row_entries rows) i
+  entries-remove rows i = map-append entry (take i rows) (drop (suc i) rows)
+      ∙ ap₂ (λ (p q : Entries V). p ++ q) (sym (take-map entry i rows)) (sym (drop-map entry (suc i) rows))
+
+  -- without its row the map doesn't have the key
+  pub row_removed : (rows : List (Row V)) (key : List ℕ) (i : ℕ) (row : Row V) → AreAscending rows → IsAt rows key i
+      → map.from_entries {R = slice_cmp nat_cmp} (row_entries (remove rows i))
+      ≡ map.remove (map.from_entries (row_entries rows)) key
+  row_removed rows key i row up at =
+      ap (λ es. map.from_entries {R = slice_cmp nat_cmp} es) (entries-remove rows i)
+      ∙ removed (row_entries rows) key i (value_of row) (first_place rows key i row up at)
+      (ap (found key) (drop-map entry (suc i) rows) ∙ absent (drop (suc i) rows) key (λ j r inside same.
+      let there : key_of (get_or rows (suc i + j) r) ≡ key =
+      ap (λ (x : Row V). key_of x) (sym (get_or-drop (suc i) rows j r)) ∙ same in
+      let before : Before (key_of (get_or rows i r)) (key_of (get_or rows (suc i + j) r)) =
+      up i (suc i + j) r (omega arith) (omega (arith, length-drop (suc i) rows)) in
+      not_itself key (rw (there, at.same r) at before)))
+
+  -- the value of a row's key
+  pub value_there : (rows : List (Row V)) (key : List ℕ) (i : ℕ) (row : Row V) → AreAscending rows → IsAt rows key i
+      → row ≡ get_or rows i row → map.get (map.from_entries {R = slice_cmp nat_cmp} (row_entries rows)) key ≡ Some (value_of row)
+  value_there rows key i row up at there =
+      get-entries (row_entries rows) key ∙ ap (λ k. found k (row_entries rows)) (sym (at.same row))
+      ∙ stored rows up i row at.in_range ∙ ap (λ (x : Row V). Some (value_of x)) (sym there)
+
+  -- a key with a gap isn't in the map
+  pub none_there : (rows : List (Row V)) (key : List ℕ) (i : ℕ) → IsGapFor rows key i
+      → map.get (map.from_entries {R = slice_cmp nat_cmp} (row_entries rows)) key ≡ None
+  none_there rows key i gap = get-entries (row_entries rows) key ∙ none_in_gap rows key i gap

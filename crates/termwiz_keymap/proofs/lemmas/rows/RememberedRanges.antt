@@ -1,6 +1,6 @@
 -- A remembered range is the range of the bytes that it is remembered by.
 use Rattle.std.proofs.Common.{⊎_elim, ◌≡◌, ◌∙◌, ◌+◌, ◌*◌, ◌<◌, ◌≤◌, ◌^◌, min, ℕ, suc, List, [], ◌∷◌, ◌++◌, length, take, get_or, set, refl, sym, ap, subst, arith}
-use Rattle.std.specs.List.{insert}
+use Rattle.std.specs.List.{insert, remove}
 use Rattle.std.proofs.lemmas.Bool.{cases_lt}
 use Rattle.std.proofs.lemmas.List.{get_or-take, get_or_past, length-take-le, length-take, take_more}
 use Rattle.std.proofs.lemmas.List.Elements.{All-contains, All-nil, All-set}
@@ -10,7 +10,7 @@ use Rattle.termwiz_keymap.specs.declared.keymap.remembered.Remembered.{Remembere
 use Rattle.termwiz_keymap.specs.KeyRows.{key_of, AreAscending, IsAt, IsGapFor}
 use Rattle.termwiz_keymap.specs.KeyRanges.{IsLongest, IsRangeOf}
 use Rattle.termwiz_keymap.specs.Remembering.{number_after, number_of, AreBytes, range_in, IsAmongPlaces, IsFoundFor, IsRight, AreRemembered, AreSearchable}
-use Rattle.termwiz_keymap.proofs.lemmas.rows.AscendingRows.{ascending_set, ascending_inserted}
+use Rattle.termwiz_keymap.proofs.lemmas.rows.AscendingRows.{ascending_set, ascending_inserted, ascending_removed}
 
 number_after-more : (n : ℕ) (bytes : List ℕ) (b : ℕ) → number_after n (bytes ++ b ∷ []) ≡ number_after n bytes * 256 + b
 number_after-more n [] b = refl
@@ -131,3 +131,8 @@ module _ {V : Type 0} where
       → AreSearchable (insert rows place row) places
   searchable_inserted rows key place row places up gap same none =
       forgotten (insert rows place row) places none (ascending_inserted rows up key place gap row same)
+
+  pub searchable_removed : (rows : List (Row V)) (place : ℕ) (places : List Remembered) → AreAscending rows
+      → place < length rows → places ≡ [] → AreSearchable (remove rows place) places
+  searchable_removed rows place places up inside none =
+      forgotten (remove rows place) places none (ascending_removed rows place up inside)

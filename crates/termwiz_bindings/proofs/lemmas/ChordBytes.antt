@@ -1,0 +1,93 @@
+-- The bytes in which a chord is held.
+use Rattle.std.proofs.Common.{◌≡◌, ◌∙◌, ℕ, suc, ◌+◌, ◌*◌, ◌-◌, ◌/◌, ◌<◌, ◌≤◌, List, [], ◌∷◌, ◌++◌, length, take, drop, replicate, get_or, refl, sym, ap, ap₂, subst, append_assoc, drop-cons, arith}
+use Rattle.std.specs.List.{All, between}
+use Rattle.std.proofs.lemmas.List.{append-nil, drop-append-le, drop-replicate, drop_at, length-append, take-append-le, take_at}
+use Rattle.std.proofs.lemmas.List.Elements.{All-nil, All-push}
+use borrow.Rule.Slice.PartMut.{put_mid}
+use Rattle.termwiz_bindings.specs.declared.chord.TheConstants.{MAX_KEYS}
+use Rattle.termwiz_bindings.specs.declared.press.KeyPress.{KeyPress}
+use Rattle.termwiz_bindings.specs.Codes.{IsPress, code, code_len, codes, presses_with}
+use Rattle.termwiz_bindings.specs.Chords.{HoldChord, IsChord, held_presses, padded}
+use Rattle.termwiz_bindings.proofs.lemmas.CodedPresses.{code_length, codes_append, codes_drop, codes_length, presses_of, same_presses}
+
+-- a chord is held by its codes with zeros after them
+held_by : (ps : List KeyPress) → IsChord ps → held_presses (padded ps) (length ps) ≡ ps
+held_by ps is =
+    ap presses_with (take_at (codes ps) _ (length ps * code_len) (codes_length ps)) ∙ presses_of ps is.presses
+
+-- the presses that these bytes hold
+pub held_as : (bytes : List ℕ) (len : ℕ) (ps : List KeyPress) → bytes ≡ padded ps → len ≡ length ps → IsChord ps
+    → held_presses bytes len ≡ ps
+held_as bytes len ps same count is = ap₂ held_presses same count ∙ held_by ps is
+
+pub holds_as : (bytes : List ℕ) (len : ℕ) (ps : List KeyPress) → bytes ≡ padded ps → len ≡ length ps → IsChord ps
+    → HoldChord bytes len
+holds_as bytes len ps same count is =
+    let held : held_presses bytes len ≡ ps = held_as bytes len ps same count is in
+    record {
+      chord = subst IsChord (sym held) is;
+      count = ap length held ∙ sym count;
+      padding = ap padded held ∙ sym same;
+    }
+
+-- no press, and zeros alone
+pub no_presses : IsChord []
+no_presses = record { few = omega arith; presses = All-nil IsPress }
+
+-- one press more
+pub one_more : (ps : List KeyPress) (press : KeyPress) → IsChord ps → IsPress press → length ps < MAX_KEYS → IsChord (ps ++ press ∷ [])
+one_more ps press is one room = record {
+  few = omega (arith, length-append ps (press ∷ []));
+  presses = All-push IsPress ps press is.presses one;
+}
+
+codes_push : (ps : List KeyPress) (press : KeyPress) → codes (ps ++ press ∷ []) ≡ codes ps ++ code press
+codes_push ps press = codes_append ps (press ∷ []) ∙ ap (λ bytes. codes ps ++ bytes) (append-nil (code press))
+
+-- its code is written behind the others
+pub pushed_bytes : (ps : List KeyPress) (press : KeyPress) (start : ℕ) → start ≡ length ps * code_len → length ps < MAX_KEYS
+    → put_mid start code_len (padded ps) (code press) ≡ padded (ps ++ press ∷ [])
+pushed_bytes ps press start same room =
+    let zeros : List ℕ = replicate (MAX_KEYS * code_len - length ps * code_len) 0 in
+    let len : length (codes ps) ≡ start = codes_length ps ∙ sym same in
+    let longer : length (ps ++ press ∷ []) ≡ length ps + 1 = length-append ps (press ∷ []) in
+    let fewer : MAX_KEYS * code_len - length ps * code_len - code_len ≡ MAX_KEYS * code_len - length (ps ++ press ∷ []) * code_len =
+    omega (arith, longer) in
+    ap₂ (λ before after. before ++ (code press ++ after)) (take_at (codes ps) zeros start len)
+    (ap (drop code_len) (drop_at (codes ps) zeros start len)
+    ∙ drop-replicate code_len (MAX_KEYS * code_len - length ps * code_len) 0 ∙ ap (λ n. replicate n 0) fewer)
+    ∙ sym (append_assoc (codes ps) (code press) (replicate (MAX_KEYS * code_len - length (ps ++ press ∷ []) * code_len) 0))
+    ∙ ap (λ bytes. bytes ++ replicate (MAX_KEYS * code_len - length (ps ++ press ∷ []) * code_len) 0) (sym (codes_push ps press))
+
+-- the codes of a chord as it is held
+pub held_codes : (ps : List KeyPress) (len : ℕ) → len ≡ length ps * code_len → take len (padded ps) ≡ codes ps
+held_codes ps len same = take_at (codes ps) _ len (codes_length ps ∙ sym same)
+
+-- and those of one press
+pub held_code : (ps : List KeyPress) (index start end : ℕ) (d : KeyPress) → index < length ps → start ≡ index * code_len
+    → end ≡ start + code_len → between start end (padded ps) ≡ code (get_or ps index d)
+held_code ps index start end d inside same ends =
+    let zeros : List ℕ = replicate (MAX_KEYS * code_len - length ps * code_len) 0 in
+    let all : length (codes ps) ≡ length ps * code_len = codes_length ps in
+    let press : KeyPress = get_or ps index d in
+    let width : end - start ≡ code_len = omega arith in
+    let rest : drop start (codes ps) ≡ codes (press ∷ drop (suc index) ps) =
+    ap (λ n. drop n (codes ps)) same ∙ codes_drop ps index (omega arith) ∙ ap codes (drop-cons ps index d inside) in
+    ap₂ take width (drop-append-le start (codes ps) zeros (omega arith) ∙ ap (λ bytes. bytes ++ zeros) rest)
+    ∙ ap (take code_len) (append_assoc (code press) (codes (drop (suc index) ps)) zeros)
+    ∙ take_at (code press) (codes (drop (suc index) ps) ++ zeros) code_len (code_length press)
+
+-- codes, and zeros after them
+pub padded_codes : (bytes : List ℕ) (ps : List KeyPress) → bytes ≡ codes ps
+    → bytes ++ drop (length bytes) (replicate (MAX_KEYS * code_len) 0) ≡ padded ps
+padded_codes bytes ps same =
+    let len : length bytes ≡ length ps * code_len = ap length same ∙ codes_length ps in
+    ap₂ (λ front behind. front ++ behind) same
+    (drop-replicate (length bytes) (MAX_KEYS * code_len) 0
+    ∙ ap (λ n. replicate (MAX_KEYS * code_len - n) 0) len)
+
+-- how many presses have these codes
+pub counted_presses : (bytes : List ℕ) (ps : List KeyPress) → bytes ≡ codes ps → length bytes / code_len ≡ length ps
+counted_presses bytes ps same =
+    let len : length bytes ≡ length ps * code_len = ap length same ∙ codes_length ps in
+    omega arith
