@@ -1,20 +1,26 @@
 -- The codes of presses, five bytes each. A list of presses is looked up by its codes, one after another.
-use Rattle.std.specs.Prelude.{◌≡◌, ℕ, ◌+◌, ◌*◌, ◌-◌, ◌/◌, ◌%◌, zero, suc, List, [], ◌∷◌, ◌++◌, get_or, Some}
-use Rattle.std.specs.List.{All}
+use Rattle.std.specs.Prelude.{⊤, ◌≡◌, ◌≤◌, ℕ, ◌+◌, ◌*◌, ◌/◌, ◌%◌, zero, suc, List, [], ◌∷◌, ◌++◌, get_or, Some}
+use Rattle.std.specs.Char.{IsScalar}
 use Rattle.termwiz_keys.specs.declared.types.KeyCode.{KeyCode}
 use Rattle.termwiz_keys.specs.declared.types.KeyCode.TheVariants.{Char, Function}
 use Rattle.termwiz_extended_events.specs.declared.types.ReportedKey.{ReportedKey}
 use Rattle.termwiz_extended_events.specs.declared.types.ReportedKey.TheVariants.{Named, Functional}
 use Rattle.termwiz_bindings.specs.declared.numbers.TheConstants.{KEYS}
 use Rattle.termwiz_bindings.specs.declared.press.KeyPress.{KeyPress}
-use Rattle.termwiz_bindings.specs.Numbers.{StandForReported, reported_number, reported_detail}
+use Rattle.termwiz_bindings.specs.Numbers.{reported_number, reported_detail}
 use Rattle.termwiz_bindings.specs.Presses.{canonical}
 use Rattle.termwiz_bindings.specs.PressLaws.{report_of_press}
 
--- The press of some report: as a report that says no more, it is its own press. What its key carries, a key can carry.
+-- what the key carries is a character or the number of a function key, as its type has it
+abbrev pub IsKeyInRange : ReportedKey → Type 0
+IsKeyInRange (Named (Char c)) = IsScalar c
+IsKeyInRange (Named (Function n)) = n ≤ 255
+IsKeyInRange key = ⊤
+
+-- The press of some report: as a report that says no more, it is its own press.
 pub record IsPress (p : KeyPress) : Type 0 where
   pub own : canonical (report_of_press p) ≡ Some p
-  pub carried : StandForReported (reported_number p.key) (reported_detail p.key) p.key
+  pub in_range : IsKeyInRange p.key
 
 -- how many bytes a code has
 abbrev pub code_len : ℕ

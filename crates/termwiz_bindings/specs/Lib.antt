@@ -1,5 +1,5 @@
-pub mod Bindings
 pub mod BindingLaws
+pub mod Bindings
 pub mod Chords
 pub mod ChordLaws
 pub mod Codes

@@ -12,10 +12,10 @@ use Rattle.termwiz_extended_events.specs.declared.types.ReportedKey.{ReportedKey
 use Rattle.termwiz_extended_events.specs.declared.types.ReportedKey.TheVariants.{Named, Functional}
 use Rattle.termwiz_extended_events.specs.ReportedKeys.{is_functional}
 use Rattle.termwiz_bindings.specs.declared.press.KeyPress.{KeyPress}
-use Rattle.termwiz_bindings.specs.Codes.{IsPress, code, code_len, codes, key_with, press_with, presses_with}
+use Rattle.termwiz_bindings.specs.Codes.{IsKeyInRange, IsPress, code, code_len, codes, key_with, press_with, presses_with}
 use Rattle.termwiz_bindings.specs.CodeLaws.{BeginPresses, CodesBeginAsPresses, CodesHaveOneWidth, CodesTellPresses}
 use Rattle.termwiz_bindings.specs.MainKeys.{is_modifier_number, makes_no_press}
-use Rattle.termwiz_bindings.specs.Numbers.{Carries, StandForReported, key_detail, reported_detail, reported_number}
+use Rattle.termwiz_bindings.specs.Numbers.{key_detail, reported_detail, reported_number}
 use Rattle.termwiz_bindings.specs.Presses.{canonical}
 use Rattle.termwiz_bindings.specs.PressLaws.{report_of_press}
 use Rattle.termwiz_bindings.proofs.lemmas.KeyNumbers.{own_key}
@@ -34,13 +34,12 @@ unfolding makes_no_press
 functional_below n is = grind (arith, nat_tests)
 
 -- what the key of a press carries fits three bytes
-detail_below : (key : ReportedKey) → StandForReported (reported_number key) (reported_detail key) key
-    → makes_no_press key ≡ false → reported_detail key < 0x1000000
-unfolding reported_detail key_detail Carries
-detail_below (Named (Char c)) carried makes = omega (arith, carried.1.1)
-detail_below (Named (Function n)) carried makes = omega (arith, carried.1.1)
-detail_below (Named key) carried makes = omega arith
-detail_below (Functional n) carried makes = functional_below n makes
+detail_below : (key : ReportedKey) → IsKeyInRange key → makes_no_press key ≡ false → reported_detail key < 0x1000000
+unfolding reported_detail key_detail
+detail_below (Named (Char c)) inside makes = omega (arith, inside)
+detail_below (Named (Function n)) inside makes = omega arith
+detail_below (Named key) inside makes = omega arith
+detail_below (Functional n) inside makes = functional_below n makes
 
 -- a number by its three bytes
 from_bytes : (n : ℕ) → n < 0x1000000 → n / 0x10000 % 256 * 0x10000 + n / 0x100 % 256 * 0x100 + n % 256 ≡ n
@@ -51,7 +50,7 @@ pub own_press : (p : KeyPress) → IsPress p
     → press_with (reported_number p.key) (reported_detail p.key / 0x10000 % 256) (reported_detail p.key / 0x100 % 256) (reported_detail p.key % 256) p.held ≡ p
 own_press p is =
     ap (λ detail. record { key = key_with (reported_number p.key) detail; held = p.held })
-    (from_bytes (reported_detail p.key) (detail_below p.key is.carried (makes_one p is.own)))
+    (from_bytes (reported_detail p.key) (detail_below p.key is.in_range (makes_one p is.own)))
     ∙ ap (λ key. record { key = key; held = p.held }) (own_key p.key)
 
 -- presses are those with their codes

@@ -8,8 +8,8 @@ use Rattle.termwiz_keys.specs.declared.types.KeyCode.TheVariants.{Char, Function
 use Rattle.termwiz_extended_events.specs.declared.types.ReportedKey.{ReportedKey}
 use Rattle.termwiz_extended_events.specs.declared.types.ReportedKey.TheVariants.{Named, Functional}
 use Rattle.termwiz_bindings.specs.declared.numbers.TheConstants.{KEYS}
-use Rattle.termwiz_bindings.specs.Codes.{key_with}
-use Rattle.termwiz_bindings.specs.Numbers.{Carries, StandFor, bare, key_detail, key_number, reported_detail, reported_number}
+use Rattle.termwiz_bindings.specs.Codes.{IsKeyInRange, key_with}
+use Rattle.termwiz_bindings.specs.Numbers.{Carries, StandFor, StandForReported, bare, key_detail, key_number, reported_detail, reported_number}
 
 -- how many keys there are
 abbrev pub key_count : ℕ
@@ -82,3 +82,11 @@ own_key (Named (Char character)) = refl
 own_key (Named (Function number)) = refl
 own_key (Named key) = refl
 own_key (Functional number) = refl
+
+-- its number and its detail stand for it
+pub stands_for_itself : (key : ReportedKey) → IsKeyInRange key → StandForReported (reported_number key) (reported_detail key) key
+unfolding reported_number reported_detail key_detail Carries
+stands_for_itself (Named (Char character)) inside = (refl, refl, inside)
+stands_for_itself (Named (Function number)) inside = (refl, refl, inside)
+stands_for_itself (Named key) inside = (refl, tt)
+stands_for_itself (Functional number) inside = (refl, refl)
