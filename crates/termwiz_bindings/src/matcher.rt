@@ -1,5 +1,5 @@
 //! What presses do: a matcher reads them one after another, and gives what the chords of some bindings make of them.
-ghost use Rattle.std.specs.Prelude.{◌≡◌, ◌↔◌, ◌<◌, ◌++◌, List, [], ◌∷◌, false, length, IsTrue, IfSome, MatchOption, if◌then◌else◌};
+ghost use Rattle.std.specs.Prelude.{◌≡◌, ◌↔◌, ◌<◌, ◌++◌, List, [], ◌∷◌, false, length, IsTrue, IfNone, IfSome, MatchOption, if◌then◌else◌};
 ghost use Rattle.termwiz_bindings.specs.Bindings.{find};
 ghost use Rattle.termwiz_bindings.specs.Codes.{IsPress};
 ghost use Rattle.termwiz_bindings.specs.declared.press.KeyPress.{KeyPress};
@@ -48,6 +48,7 @@ impl<V> Outcome<V> {
 ///
 /// A program gives each press to [`Matcher::press`], and then calls [`Matcher::next`] until it returns `None`. If presses stay
 /// pending and no key comes for a while, it may give up: it calls `next` with no more to come, until that returns `None`.
+#[derive(Drop)]
 pub struct Matcher {
     pending: Chord,
 }
@@ -170,7 +171,8 @@ impl Matcher {
     pub fn next<'a, V: Debug + Clone + Drop>(&mut self, bindings: &'a Bindings<V>, maybe_more: bool) -> Option<Outcome<&'a V>>
         ensures outcome { MatchOption result (IsPending (find bindings.now) maybe_more self.old)
             (λ outcome. Steps (find bindings.now) maybe_more self.old (outcome_copied outcome ∷ []) self.new) }
-        ensures unchanged { MatchOption result ((self.new ≡ self.old) × (length self.new < MAX_KEYS)) (λ _. Unit {0}) }
+        ensures unchanged { IfNone result (self.new ≡ self.old) }
+        ensures room { IfNone result (length self.new < MAX_KEYS) }
     {
         let front = front_of(bindings, &self.pending);
         if maybe_more && front.goes_on {
@@ -189,8 +191,7 @@ impl Matcher {
         ensures { MatchOption result (self.now ≡ [])
             (λ outcome. (left : List KeyPress) × Steps (find bindings.now) false self.now (outcome_copied outcome ∷ []) left) }
     {
-        let front = front_of(bindings, &self.pending);
-        outcome_of(front.longest, &self.pending)
+        outcome_of(front_of(bindings, &self.pending).longest, &self.pending)
     }
 
     /// Whether more than one press is pending, no chord begins with them all, and they begin with no chord. A program that takes

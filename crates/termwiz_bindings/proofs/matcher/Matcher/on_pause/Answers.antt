@@ -13,5 +13,5 @@ returns g c =
     let at : c.self.inside.pending ≡ c.args.self.now = c.self.view_is in
     subst (λ u. MatchOption c.outcome_of.result (u ≡ []) (λ o. (left : List KeyPress)
     × Steps find false u (outcome_copied o ∷ []) left)) at
-    (given_up_first find c.self.inside.pending c.front_of-front.result.longest c.outcome_of.result c.front_of-front.ensures.chords
-    c.front_of-front.ensures.longest c.outcome_of.ensures)
+    (given_up_first find c.self.inside.pending c.front_of.result.longest c.outcome_of.result c.front_of.ensures.chords
+    c.front_of.ensures.longest c.outcome_of.ensures)
