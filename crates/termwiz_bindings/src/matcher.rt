@@ -109,7 +109,11 @@ fn outcome_of<'a, V>(found: Option<(usize, &'a V)>, presses: &Chord) -> Option<O
 }
 
 // Whether some chord begins with these presses and this one.
-fn leads_on<V: Debug + Clone + Drop>(bindings: &Bindings<V>, presses: &Chord, press: KeyPress) -> bool
+fn leads_on<V: Debug + Clone + Drop>(
+    bindings: &Bindings<V>,
+    presses: &Chord,
+    press: KeyPress,
+) -> bool
     requires { IsPress press }
     ensures { IsTrue result ↔ LeadsOn (find bindings.now) presses.now press }
 {
@@ -129,7 +133,12 @@ fn leads_on<V: Debug + Clone + Drop>(bindings: &Bindings<V>, presses: &Chord, pr
 }
 
 // The one of two presses that leads on after others: the first, if both do.
-fn preferred<V: Debug + Clone + Drop>(bindings: &Bindings<V>, presses: &Chord, first: KeyPress, second: KeyPress) -> Option<KeyPress>
+fn preferred<V: Debug + Clone + Drop>(
+    bindings: &Bindings<V>,
+    presses: &Chord,
+    first: KeyPress,
+    second: KeyPress,
+) -> Option<KeyPress>
     requires first { IsPress first }
     requires second { IsPress second }
     ensures { IsPreferred (find bindings.now) presses.now first second result }
@@ -168,7 +177,11 @@ impl Matcher {
     ///
     /// Returns `None` if nothing is pending, or if more may come and the presses may yet become a longer chord. With no more to
     /// come it decides all: a program gives up by calling it so until it returns `None`.
-    pub fn next<'a, V: Debug + Clone + Drop>(&mut self, bindings: &'a Bindings<V>, maybe_more: bool) -> Option<Outcome<&'a V>>
+    pub fn next<'a, V: Debug + Clone + Drop>(
+        &mut self,
+        bindings: &'a Bindings<V>,
+        maybe_more: bool,
+    ) -> Option<Outcome<&'a V>>
         ensures outcome { MatchOption result (IsPending (find bindings.now) maybe_more self.old)
             (λ outcome. Steps (find bindings.now) maybe_more self.old (outcome_copied outcome ∷ []) self.new) }
         ensures unchanged { IfNone result (self.new ≡ self.old) }
@@ -186,8 +199,11 @@ impl Matcher {
     /// What giving up would decide first: the outcome that [`Matcher::next`] returns with no more to come. It takes nothing.
     /// `None` is for nothing pending.
     ///
-    /// While the answer is unbound, a program may as well wait for ever: giving up would run no command.
-    pub fn on_pause<'a, V: Debug + Clone + Drop>(&self, bindings: &'a Bindings<V>) -> Option<Outcome<&'a V>>
+    /// While that is unbound, a program may prefer to wait for ever: the press may still begin a chord.
+    pub fn on_pause<'a, V: Debug + Clone + Drop>(
+        &self,
+        bindings: &'a Bindings<V>,
+    ) -> Option<Outcome<&'a V>>
         ensures { MatchOption result (self.now ≡ [])
             (λ outcome. (left : List KeyPress) × Steps (find bindings.now) false self.now (outcome_copied outcome ∷ []) left) }
     {
@@ -204,7 +220,12 @@ impl Matcher {
     }
 
     // The one of two presses that is to be pressed.
-    fn taken<V: Debug + Clone + Drop>(&self, bindings: &Bindings<V>, first: KeyPress, second: Option<KeyPress>) -> KeyPress
+    fn taken<V: Debug + Clone + Drop>(
+        &self,
+        bindings: &Bindings<V>,
+        first: KeyPress,
+        second: Option<KeyPress>,
+    ) -> KeyPress
         requires first { IsPress first }
         requires second { IfSome second IsPress }
         ensures { IsTaken (find bindings.now) self.now first second result }
@@ -223,7 +244,12 @@ impl Matcher {
     ///
     /// The second press of a report is [`KeyPress::second`]. So Ctrl with a Cyrillic letter runs the command of the Latin letter
     /// at its place, unless it has one of its own. Returns false, and changes nothing, if [`MAX_KEYS`] are pending.
-    pub fn press_either<V: Debug + Clone + Drop>(&mut self, bindings: &Bindings<V>, first: KeyPress, second: Option<KeyPress>) -> bool
+    pub fn press_either<V: Debug + Clone + Drop>(
+        &mut self,
+        bindings: &Bindings<V>,
+        first: KeyPress,
+        second: Option<KeyPress>,
+    ) -> bool
         requires first { IsPress first }
         requires second { IfSome second IsPress }
         ensures pressed { IsTrue result ↔ (length self.old < MAX_KEYS) }

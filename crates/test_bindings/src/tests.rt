@@ -31,7 +31,10 @@ type Done = (u32, char);
 fn press(rt: &impl Abort, key: Key) -> KeyPress
     ensures { IsPress result }
 {
-    KeyPress::new(ReportedKey::Named(KeyCode::Char(key.0)), key.1).expect(rt, "a character has a press")
+    KeyPress::new(ReportedKey::Named(KeyCode::Char(key.0)), key.1).expect(
+        rt,
+        "a character has a press",
+    )
 }
 
 fn chord(rt: &impl Abort, keys: &[Key]) -> Chord {
@@ -64,7 +67,12 @@ fn done(outcome: Outcome<&u32>) -> Done {
 }
 
 // Reads what is pending, as far as it can be.
-fn read(matcher: &mut Matcher, bindings: &Bindings<u32>, maybe_more: bool, all: &mut Vec<Done>) -> Result<(), Fail> {
+fn read(
+    matcher: &mut Matcher,
+    bindings: &Bindings<u32>,
+    maybe_more: bool,
+    all: &mut Vec<Done>,
+) -> Result<(), Fail> {
     for _ in 0..=MAX_KEYS {
         let Some(outcome) = matcher.next(bindings, maybe_more) else {
             break;
@@ -109,7 +117,11 @@ struct Row {
 
 const ROWS: &[Row] = &[
     Row {
-        chords: &[&[('x', CTRL), ('s', CTRL)], &[('g', 0)], &[('g', 0), ('g', 0)]],
+        chords: &[
+            &[('x', CTRL), ('s', CTRL)],
+            &[('g', 0)],
+            &[('g', 0), ('g', 0)],
+        ],
         keys: &[('x', CTRL), ('s', CTRL), ('g', 0), ('g', 0), ('g', 0)],
         pause: false,
         outcomes: &[(1, '-'), (3, '-')],
@@ -137,14 +149,22 @@ const ROWS: &[Row] = &[
         pending: NONE,
     },
     Row {
-        chords: &[&[('a', 0)], &[('a', 0), ('b', 0), ('c', 0)], &[('b', 0), ('d', 0)]],
+        chords: &[
+            &[('a', 0)],
+            &[('a', 0), ('b', 0), ('c', 0)],
+            &[('b', 0), ('d', 0)],
+        ],
         keys: &[('a', 0), ('b', 0), ('d', 0)],
         pause: false,
         outcomes: &[(1, '-'), (3, '-')],
         pending: NONE,
     },
     Row {
-        chords: &[&[('a', 0)], &[('a', 0), ('b', 0), ('c', 0)], &[('b', 0), ('d', 0)]],
+        chords: &[
+            &[('a', 0)],
+            &[('a', 0), ('b', 0), ('c', 0)],
+            &[('b', 0), ('d', 0)],
+        ],
         keys: &[('a', 0), ('b', 0)],
         pause: true,
         outcomes: &[(1, '-'), (0, 'b')],
@@ -220,13 +240,25 @@ fn waits_for_no_chord_that_was_unbound(rt: HostRuntime) -> Result<(), Fail> {
 }
 
 // The outcome of Ctrl-X where it is bound to a chord with Ctrl-C, and then of Ctrl with es, or else Ctrl-C.
-fn check_second(alloc: Global, rt: &impl Abort, chords: &[&[Key]], keys: &[Key], value: u32) -> Result<(), Fail> {
+fn check_second(
+    alloc: Global,
+    rt: &impl Abort,
+    chords: &[&[Key]],
+    keys: &[Key],
+    value: u32,
+) -> Result<(), Fail> {
     let bindings = bindings(alloc, rt, chords)?;
     let mut matcher = Matcher::new();
     let mut all = Vec::new(alloc);
     press_all(rt, &mut matcher, &bindings, keys, &mut all)?;
     assert!(rt; all.is_empty());
-    assert!(rt; matcher.press_either(&bindings, press(rt, (ES, CTRL)), Some(press(rt, ('c', CTRL)))));
+    assert!(rt;
+        matcher.press_either(
+            &bindings,
+            press(rt, (ES, CTRL)),
+            Some(press(rt, ('c', CTRL)))
+        )
+    );
     read(&mut matcher, &bindings, MORE, &mut all)?;
     assert!(rt; all.as_slice() == [(value, '-')].as_slice());
     Ok(())
@@ -234,7 +266,13 @@ fn check_second(alloc: Global, rt: &impl Abort, chords: &[&[Key]], keys: &[Key],
 
 #[test]
 fn tries_a_second_press(rt: HostRuntime) -> Result<(), Fail> {
-    check_second(rt.alloc(), &rt, &[&[('x', CTRL), ('c', CTRL)]], &[('x', CTRL)], 1)?;
+    check_second(
+        rt.alloc(),
+        &rt,
+        &[&[('x', CTRL), ('c', CTRL)]],
+        &[('x', CTRL)],
+        1,
+    )?;
     check_second(rt.alloc(), &rt, &[&[(ES, CTRL)], &[('c', CTRL)]], NONE, 1)
 }
 

@@ -3,6 +3,7 @@ use Rattle.std.proofs.Common.{◌≡◌, ◌≢◌, ◌⊎◌, ◌↔◌, inl, i
 use Rattle.std.specs.Prelude.{IsSome, is_some}
 use Rattle.std.specs.List.{All, AllByRecursion}
 use Rattle.std.specs.FinMap as map
+use Rattle.std.proofs.lemmas.Bool.{cases_lt}
 use Rattle.std.proofs.lemmas.List.{append_cancel_left, take_at, drop_at}
 use Rattle.std.proofs.lemmas.List.Elements.{All-head, All-tail}
 use Rattle.termwiz_keymap.specs.Entries.{Entries}
@@ -41,16 +42,17 @@ codes_behind : (u chord : List KeyPress) (rest : List ℕ) → codes chord ≡ c
     → (tail : List KeyPress) × (rest ≡ codes tail)
 codes_behind u chord rest e =
     let width : length u * code_len ≤ length chord * code_len =
-        omega (arith, codes_length u, codes_length chord, front_fits (codes chord) (codes u) rest e) in
+    omega (arith, codes_length u, codes_length chord, front_fits (codes chord) (codes u) rest e) in
     let fits : length u ≤ length chord = omega arith in
     let parts : codes chord ≡ codes (take (length u) chord) ++ codes (drop (length u) chord) =
-        ap codes (sym (take-append-drop (length u) chord)) ∙ codes_append (take (length u) chord) (drop (length u) chord) in
+    ap codes (sym (take-append-drop (length u) chord)) ∙ codes_append (take (length u) chord) (drop (length u) chord) in
     let wide : length (codes u) ≡ length (codes (take (length u) chord)) =
-        codes_length u ∙ sym (codes_length (take (length u) chord) ∙ ap (λ n. n * code_len) (length-take-le (length u) chord fits)) in
+    codes_length u ∙ sym (codes_length (take (length u) chord) ∙ ap (λ n. n * code_len) (length-take-le (length u) chord fits)) in
     let fronts : codes u ≡ codes (take (length u) chord) =
-        same_from_length (codes u) (codes (take (length u) chord)) rest (codes (drop (length u) chord)) (sym e ∙ parts) wide in
-    (drop (length u) chord,
-    append_cancel_left (codes u) rest (codes (drop (length u) chord)) (sym e ∙ parts ∙ ap (λ z. z ++ codes (drop (length u) chord)) (sym fronts)))
+    same_from_length (codes u) (codes (take (length u) chord)) rest (codes (drop (length u) chord)) (sym e ∙ parts) wide in (
+      drop (length u) chord,
+      append_cancel_left (codes u) rest (codes (drop (length u) chord)) (sym e ∙ parts ∙ ap (λ z. z ++ codes (drop (length u) chord)) (sym fronts)),
+    )
 
 front_is : (u other : List KeyPress) → BeginWith u other → other ≡ take (length other) u
 front_is u other b = sym (taken_front u other b.0 b.1)
@@ -103,7 +105,7 @@ module _ {V : Type 0} where
       found : Continuing (codes u) (map.entries m) → IsContinued (find m) u
       found (i, e, l, at, goes) =
           let stored : map.get m e.0 ≡ Some e.1 = (in_order.stored m e.0 e.1).1
-              (i, record { inside = subst (λ n. i < n) (sym (map.len-entries m)) l; there = at }) in
+          (i, record { inside = subst (λ n. i < n) (sym (map.len-entries m)) l; there = at }) in
           let is : IsSome (map.get m e.0) = known_some m e.0 e.1 stored in
           let chord = are e.0 is in
           let behind = codes_behind u chord.0 goes.0 (sym chord.3 ∙ goes.2) in
@@ -152,19 +154,22 @@ module _ {V : Type 0} where
 
   pub longest : (m : ByteMap V) (u : List KeyPress) (count : ℕ) (v : V) → IsLongestIn m u count v
       → (count ≤ length u) × IsLongestChord (find m) u (take count u) v
-  longest m u count v h = (h.within, record {
-    bound = h.stored;
-    begins = (drop count u, sym (take-append-drop count u));
-    longest = λ other is b.
-        let same : other ≡ take (length other) u = front_is u other b in
-        let fits : length other ≤ length u = front_fits u other b.0 b.1 in
-        let taken : length (take count u) ≡ count = length-take-le count u h.within in
-        ⊎_elim
-        (λ (few : length other ≤ count). omega arith)
-        (λ (more : count < length other).
-        absurd (missing (find m other) (ap (find m) same ∙ h.longest (length other) more fits) is))
-        (let split : (length other ≤ count) ⊎ (count < length other) = grind arith in split);
-  })
+  longest m u count v h = (
+    h.within,
+    record {
+      bound = h.stored;
+      begins = (drop count u, sym (take-append-drop count u));
+      longest = λ other is b.
+          let same : other ≡ take (length other) u = front_is u other b in
+          let fits : length other ≤ length u = front_fits u other b.0 b.1 in
+          let taken : length (take count u) ≡ count = length-take-le count u h.within in
+          ⊎_elim
+          (λ (more : count < length other).
+          absurd (missing (find m other) (ap (find m) same ∙ h.longest (length other) more fits) is))
+          (λ (few : length other ≤ count). omega arith)
+          (cases_lt count (length other));
+    },
+  )
 
   pub none_begins : (m : ByteMap V) (u : List KeyPress) → NoChordBegins m u → BeginWithNone (find m) u
   none_begins m u none chord is b =
@@ -218,13 +223,13 @@ module _ {V : Type 0} where
 pub one_chord : (V : Type 0) → OneChord V
 one_chord V m first others v f u left E is are none = (
   meaning_of_presses V (find m) (find (bound m (first ∷ others) v)) f u left E
-  (get-set m (codes (first ∷ others)) v (codes [])
-  ∙ untied_get (tied (codes []) (codes (first ∷ others))) (Some v) (find m [])
-  (λ same. no_code first others (tied_same (codes []) (codes (first ∷ others)) same)))
-  (agree_bound m first others v is u are none),
+      (get-set m (codes (first ∷ others)) v (codes [])
+      ∙ untied_get (tied (codes []) (codes (first ∷ others))) (Some v) (find m [])
+      (λ same. no_code first others (tied_same (codes []) (codes (first ∷ others)) same)))
+      (agree_bound m first others v is u are none),
   meaning_of_presses V (find m) (find (unbound m (first ∷ others))) f u left E
-  (get-without m (codes (first ∷ others)) (codes [])
-  ∙ untied_get (tied (codes []) (codes (first ∷ others))) None (find m [])
-  (λ same. no_code first others (tied_same (codes []) (codes (first ∷ others)) same)))
-  (agree_unbound m first others is u are none),
+      (get-without m (codes (first ∷ others)) (codes [])
+      ∙ untied_get (tied (codes []) (codes (first ∷ others))) None (find m [])
+      (λ same. no_code first others (tied_same (codes []) (codes (first ∷ others)) same)))
+      (agree_unbound m first others is u are none),
 )

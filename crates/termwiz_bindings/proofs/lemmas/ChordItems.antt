@@ -51,15 +51,21 @@ module _ {V : Type 0} where
       ends = ends_here find u taken o h
 
       stays : (o : Outcome V) → IsItem find u taken o → IsItem find (u ++ s) taken o
-      stays (Bound keys value) (l, i) = (l, record {
-        bound = i.bound;
-        begins = longer_begins u s taken i.begins;
-        longest = λ other is b. i.longest other is (begins_earlier find u s other ends is b);
-      })
-      stays (Unbound press) (e, i) = (e, record {
-        first = longer_begins u s (press ∷ []) i.first;
-        unbound = λ chord is b. i.unbound chord is (begins_earlier find u s chord ends is b);
-      })
+      stays (Bound keys value) (l, i) = (
+        l,
+        record {
+          bound = i.bound;
+          begins = longer_begins u s taken i.begins;
+          longest = λ other is b. i.longest other is (begins_earlier find u s other ends is b);
+        },
+      )
+      stays (Unbound press) (e, i) = (
+        e,
+        record {
+          first = longer_begins u s (press ∷ []) i.first;
+          unbound = λ chord is b. i.unbound chord is (begins_earlier find u s chord ends is b);
+        },
+      )
 
   pub item_begins : (find : Chords V) (u taken : List KeyPress) (o : Outcome V) → IsItem find u taken o → BeginWith u taken
   item_begins find u taken (Bound keys value) (l, i) = i.begins
@@ -115,15 +121,33 @@ module _ {V : Type 0} where
     where
       go : LongestWithin find (x ∷ u) (length (x ∷ u))
           → (taken rest : List KeyPress) × (o : Outcome V) × IsItem find (x ∷ u) taken o × (x ∷ u ≡ taken ++ rest)
-      go (some_chord chord value bound (rest, e) longest) = (chord, rest, Bound (length chord) value, (refl, record {
-        bound = bound;
-        begins = (rest, e);
-        longest = λ other is b. longest other is b (front_fits (x ∷ u) other b.0 b.1);
-      }), e)
-      go (no_chord none) = (x ∷ [], u, Unbound x, (refl, record {
-        first = (u, refl);
-        unbound = λ other is b. none other is b (front_fits (x ∷ u) other b.0 b.1);
-      }), refl)
+      go (some_chord chord value bound (rest, e) longest) = (
+        chord,
+        rest,
+        Bound (length chord) value,
+        (
+          refl,
+          record {
+            bound = bound;
+            begins = (rest, e);
+            longest = λ other is b. longest other is b (front_fits (x ∷ u) other b.0 b.1);
+          },
+        ),
+        e,
+      )
+      go (no_chord none) = (
+        x ∷ [],
+        u,
+        Unbound x,
+        (
+          refl,
+          record {
+            first = (u, refl);
+            unbound = λ other is b. none other is b (front_fits (x ∷ u) other b.0 b.1);
+          },
+        ),
+        refl,
+      )
 
   same_item : (find : Chords V) (u p q : List KeyPress) (o d : Outcome V) → IsItem find u p o → IsItem find u q d → (q ≡ p) × (d ≡ o)
   same_item find u p q (Bound m v) (Bound n w) (l, i) (k, j) = (same, cc (l, k, ap length same, values))

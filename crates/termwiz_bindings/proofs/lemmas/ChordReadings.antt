@@ -43,10 +43,10 @@ module _ {V : Type 0} where
       let q : List KeyPress = k.steps.0 in
       let first = same_outcome find f u p q o d h.steps.2 k.steps.2 in
       let rests : p ++ h.steps.1 ≡ p ++ k.steps.1 =
-          sym h.steps.3 ∙ k.steps.3 ∙ ap (λ x. x ++ k.steps.1) first.0 in
+      sym h.steps.3 ∙ k.steps.3 ∙ ap (λ x. x ++ k.steps.1) first.0 in
       let same : h.steps.1 ≡ k.steps.1 = append_cancel_left p h.steps.1 k.steps.1 rests in
       let later = one_reading find f h.steps.1 left other E D (record { steps = h.steps.4; pending = h.pending })
-          (record { steps = subst (λ x. Steps find f x D other) (sym same) k.steps.4; pending = k.pending }) in
+      (record { steps = subst (λ x. Steps find f x D other) (sym same) k.steps.4; pending = k.pending }) in
       (cc (first.1, later.0), later.1)
 
   abbrev pub Reading : Chords V → Bool → List KeyPress → Type 0
@@ -87,9 +87,11 @@ module _ {V : Type 0} where
   parts_joined find f u left [] h = ([], tt, h)
   parts_joined find f u left (o ∷ E) (taken, rest, stands, e, steps) =
       let later = parts_joined find f rest left E steps in
-      let parts : List (List KeyPress) = later.0 in
-      (taken ∷ parts, (of_item find u taken o stands.item, later.1),
-      e ∙ ap (λ x. taken ++ x) later.2 ∙ sym (append_assoc taken (flat_map (λ part. part) parts) left))
+      let parts : List (List KeyPress) = later.0 in (
+        taken ∷ parts,
+        (of_item find u taken o stands.item, later.1),
+        e ∙ ap (λ x. taken ++ x) later.2 ∙ sym (append_assoc taken (flat_map (λ part. part) parts) left),
+      )
 
   pub some_taken : (find : Chords V) (u taken : List KeyPress) (o : Outcome V) → find [] ≡ None → IsItem find u taken o → taken ≢ []
   some_taken find u taken (Bound keys value) none (l, i) e = cc (i.bound, ap find e, none)
@@ -105,7 +107,7 @@ module _ {V : Type 0} where
 pub one_meaning : (V : Type 0) → OneMeaning V
 one_meaning V find f u chords =
     let one = some_reading find f (λ v taken o h. some_taken find v taken o chords.some h.item)
-        (λ v. told_open find f v (chords.told v)) (length u) u (omega arith) in
+    (λ v. told_open find f v (chords.told v)) (length u) u (omega arith) in
     (one.0, one.1, one.2, λ D other k. one_reading find f u one.1 other one.0 D one.2 k)
 
 pub cut_independent : (V : Type 0) → CutIndependent V

@@ -49,12 +49,17 @@ module _ {V : Type 0} where
       → Steps find f u (outcome_copied o ∷ []) (drop (keys_of o) u)
   found_step find f u found o chords closed longest e =
       let one = found_item find u found o longest e in
-      let rest : List KeyPress = drop (keys_of o) u in
-      (one.0, rest, record {
-        closed = closed;
-        some = item_some find u one.0 rest (outcome_copied o) chords.some one.1 one.2;
-        item = one.1;
-      }, one.2, refl)
+      let rest : List KeyPress = drop (keys_of o) u in (
+        one.0,
+        rest,
+        record {
+          closed = closed;
+          some = item_some find u one.0 rest (outcome_copied o) chords.some one.1 one.2;
+          item = one.1;
+        },
+        one.2,
+        refl,
+      )
 
   pub never_open : (find : Chords V) (u : List KeyPress) → ¬ IsOpen find false u
   never_open find u h = let e : false ≡ true = h.more_come in absurd (cc (e))

@@ -19,12 +19,13 @@ longest_chord V find f u taken keys v h =
     let l : length taken ≡ keys = h.item.0 in
     let i = h.item.1 in
     let front : take keys u ≡ taken =
-        subst (λ n. take n u ≡ taken) l (taken_front u taken i.begins.0 i.begins.1) in
-    (ap find front ∙ i.bound,
-    λ count more fits is.
-    let short : length (take count u) ≤ length taken = i.longest (take count u) is (begins_with_taken u count) in
-    let same : length (take count u) ≡ count = length-take-le count u fits in
-    absurd (omega arith))
+    subst (λ n. take n u ≡ taken) l (taken_front u taken i.begins.0 i.begins.1) in (
+      ap find front ∙ i.bound,
+      λ count more fits is.
+          let short : length (take count u) ≤ length taken = i.longest (take count u) is (begins_with_taken u count) in
+          let same : length (take count u) ≡ count = length-take-le count u fits in
+          absurd (omega arith),
+    )
 
 pub unbound_only : (V : Type 0) → UnboundOnly V
 unbound_only V find f u taken x h count fits is = h.item.1.unbound (take count u) is (begins_with_taken u count)
@@ -82,7 +83,7 @@ module _ {V : Type 0} where
       let all = takes_all find (p ++ t) h.steps.0 o is h.steps.2.item in
       let same : d ≡ Bound all.0 all.1 = cc (e, all.2) in
       let few : all.0 ≤ length p =
-          takes_few find p k.steps.0 all.0 all.1 (subst (IsItem find p k.steps.0) same k.steps.2.item) in
+      takes_few find p k.steps.0 all.0 all.1 (subst (IsItem find p k.steps.0) same k.steps.2.item) in
       let more : length (p ++ t) ≤ all.0 = all.3 in
       let some_more : 0 < length t = length-some t longer in
       absurd (omega (arith, length-append p t))
@@ -118,15 +119,21 @@ module _ {V : Type 0} where
 
   still_item : (find other : Chords V) (u taken : List KeyPress) (o : Outcome V) → other [] ≡ find []
       → AllByRecursion (AgreeFrom find other) u → IsItem find u taken o → IsItem other u taken o
-  still_item find other u taken (Bound keys value) none d (l, i) = (l, record {
-    bound = same_front find other u taken none d i.begins ∙ i.bound;
-    begins = i.begins;
-    longest = λ front is b. i.longest front (subst IsSome (same_front find other u front none d b) is) b;
-  })
-  still_item find other u taken (Unbound y) none d (e, i) = (e, record {
-    first = i.first;
-    unbound = λ front is b. i.unbound front (subst IsSome (same_front find other u front none d b) is) b;
-  })
+  still_item find other u taken (Bound keys value) none d (l, i) = (
+    l,
+    record {
+      bound = same_front find other u taken none d i.begins ∙ i.bound;
+      begins = i.begins;
+      longest = λ front is b. i.longest front (subst IsSome (same_front find other u front none d b) is) b;
+    },
+  )
+  still_item find other u taken (Unbound y) none d (e, i) = (
+    e,
+    record {
+      first = i.first;
+      unbound = λ front is b. i.unbound front (subst IsSome (same_front find other u front none d b) is) b;
+    },
+  )
 
   still_stands : (find other : Chords V) (f : Bool) (u taken : List KeyPress) (o : Outcome V) → other [] ≡ find []
       → AllByRecursion (AgreeFrom find other) u → Stands find f u taken o → Stands other f u taken o
@@ -152,7 +159,7 @@ module _ {V : Type 0} where
       let rest : List KeyPress = h.steps.1 in
       let splits : u ≡ taken ++ rest = h.steps.3 in
       let agree : AllByRecursion (AgreeFrom find other) rest =
-          of_rest (AgreeFrom find other) taken rest (subst (AllByRecursion (AgreeFrom find other)) splits d) in
+      of_rest (AgreeFrom find other) taken rest (subst (AllByRecursion (AgreeFrom find other)) splits d) in
       let later = still_means find other f rest left E none agree (record { steps = h.steps.4; pending = h.pending }) in
       record {
         steps = (taken, rest, still_stands find other f u taken o none d h.steps.2, splits, later.steps);

@@ -13,15 +13,15 @@ returns-clause-outcome g c =
     let at : pending ≡ c.args.self.now = c.self.view_is in
     let o = c.in_ok-outcome.outcome in
     let closed : ¬ IsOpen find c.args.maybe_more pending =
-        elim c.else-maybe_more.branch as (λ _. ¬ IsOpen find c.args.maybe_more pending) [
-          | else-maybe_more-via-then-maybe_more+else-front w ↦
-              ended find c.args.maybe_more pending (λ goes. absurd (cc (c.front_of-front.ensures.goes_on.1 goes, w.if-front.false)))
-          | else-maybe_more-via-else-maybe_more w ↦
-              subst (λ more. ¬ IsOpen find more pending) (sym w.if-maybe_more.false) (never_open find pending)
-        ] in
+    elim c.else-maybe_more.branch as (λ _. ¬ IsOpen find c.args.maybe_more pending) [
+      | else-maybe_more-via-then-maybe_more+else-front w ↦
+          ended find c.args.maybe_more pending (λ goes. absurd (cc (c.front_of-front.ensures.goes_on.1 goes, w.if-front.false)))
+      | else-maybe_more-via-else-maybe_more w ↦
+          subst (λ more. ¬ IsOpen find more pending) (sym w.if-maybe_more.false) (never_open find pending)
+    ] in
     let step = found_step find c.args.maybe_more pending c.front_of-front.result.longest o c.front_of-front.ensures.chords closed
-        c.front_of-front.ensures.longest (sym c.outcome_of.ensures ∙ c.in_ok-outcome.was) in
+    c.front_of-front.ensures.longest (sym c.outcome_of.ensures ∙ c.in_ok-outcome.was) in
     let left : drop (keys_of o) pending ≡ c.remove_first.new.self =
-        ap (λ n. drop n pending) (sym c.keys.ensures) ∙ sym c.remove_first.ensures in
+    ap (λ n. drop n pending) (sym c.keys.ensures) ∙ sym c.remove_first.ensures in
     subst (λ z. Steps find c.args.maybe_more z (outcome_copied o ∷ []) c.remove_first.new.self) at
     (subst (λ z. Steps find c.args.maybe_more pending (outcome_copied o ∷ []) z) left step)
