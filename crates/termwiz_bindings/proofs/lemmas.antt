@@ -8,6 +8,7 @@ pub mod CodedPresses
 pub mod EventModifiers
 pub mod HeldBits
 pub mod KeyNumbers
+pub mod MadePresses
 pub mod MainKeyFacts
 pub mod MatcherSteps
 pub mod OneChord

@@ -1,5 +1,5 @@
 //! Chords: the presses that a program binds a command to, one after another.
-ghost use Rattle.std.specs.Prelude.{Some, ◌≡◌, ◌↔◌, ◌<◌, ◌≤◌, ◌++◌, ◌∷◌, [], length, drop, slice_get, IsTrue, IfSome, if◌then◌else◌};
+ghost use Rattle.std.specs.Prelude.{Some, ◌≡◌, ◌↔◌, ◌<◌, ◌≤◌, ◌++◌, ◌∷◌, [], ◌*◌, ◌-◌, length, drop, replicate, slice_get, IsTrue, IfSome, if◌then◌else◌};
 ghost use Rattle.termwiz_bindings.specs.declared.press.KeyPress.{KeyPress as Press};
 ghost use Rattle.termwiz_bindings.specs.Codes.{IsPress, code as code_of, codes};
 ghost use Rattle.termwiz_bindings.specs.Chords.{AreCodes, IsChord};
@@ -15,7 +15,7 @@ pub const MAX_KEYS: usize = 32;
 pub(crate) const CODE_LEN: usize = 5;
 
 /// A list of at most [`MAX_KEYS`] presses, as Ctrl-X and then Ctrl-S. It takes no memory beside its own.
-#[derive(Clone, Copy)]
+#[derive(Clone, Copy, PartialEq, Eq, Debug)]
 pub struct Chord {
     // The codes of the presses, and zeros after them.
     codes: [u8; MAX_KEYS * CODE_LEN],
@@ -101,6 +101,7 @@ impl Chord {
     }
 
     /// Takes presses away from the front, so many of them.
+    #[tactic(auto, using(crate::proofs::lemmas::CodedPresses::codes_length))]
     pub fn remove_first(&mut self, count: usize)
         requires { count ≤ length self.old }
         ensures { self.new ≡ drop count self.old }
@@ -112,14 +113,22 @@ impl Chord {
 
 // The press with a code.
 fn press_with(code: &[u8]) -> Option<KeyPress>
+    requires { length code.now ≡ CODE_LEN }
     ensures { (press : Press) → IsPress press → code.now ≡ code_of press → result ≡ Some press }
 {
-    let [number, high, middle, low, held] = code else {
-        return None;
-    };
-    let detail = u32::from_be_bytes([0, *high, *middle, *low]);
-    let key = reported_key(u16::from(*number), detail)?;
-    KeyPress::new(key, *held)
+    let detail = u32::from(code[1]) * 0x10000 + u32::from(code[2]) * 0x100 + u32::from(code[3]);
+    let key = reported_key(u16::from(code[0]), detail)?;
+    KeyPress::new(key, code[4])
+}
+
+// These bytes, and zeros after them.
+fn padded(bytes: &[u8]) -> [u8; MAX_KEYS * CODE_LEN]
+    requires { length bytes.now ≤ MAX_KEYS * CODE_LEN }
+    ensures { result ≡ bytes.now ++ replicate (MAX_KEYS * CODE_LEN - length bytes.now) 0 }
+{
+    let mut codes = [0; MAX_KEYS * CODE_LEN];
+    codes[..bytes.len()].copy_from_slice(bytes);
+    codes
 }
 
 /// The chord with these codes.
@@ -128,10 +137,8 @@ pub(crate) fn of_codes(bytes: &[u8]) -> Chord
     ensures codes { codes result ≡ bytes.now }
     ensures chord { IsChord result }
 {
-    let mut codes = [0; MAX_KEYS * CODE_LEN];
-    codes[..bytes.len()].copy_from_slice(bytes);
     Chord {
-        codes,
+        codes: padded(bytes),
         len: bytes.len() / CODE_LEN,
     }
 }

@@ -8,3 +8,5 @@ pub mod laws;
 pub mod matcher;
 pub mod numbers;
 pub mod press;
+#[cfg(test)]
+mod tests;

@@ -1,10 +1,10 @@
 //! Presses: a key and the modifiers held with it, the same however the terminal reports the key.
-ghost use Rattle.std.specs.Prelude.{◌≡◌, ◌%◌, [], ◌∷◌, MatchOption};
+ghost use Rattle.std.specs.Prelude.{◌≡◌, ◌%◌, [], ◌∷◌, IfSome, MatchOption};
 ghost use Rattle.std.specs.Str.{chars};
 ghost use Rattle.termwiz_extended_events.specs.declared.types.KeyEventKind.TheVariants.{Press};
 ghost use Rattle.termwiz_extended_events.specs.KeyReports.{report_of};
 ghost use Rattle.termwiz_extended_events.specs.ReportedKeys.{entry_at};
-ghost use Rattle.termwiz_bindings.specs.Codes.{code};
+ghost use Rattle.termwiz_bindings.specs.Codes.{IsPress, code};
 ghost use Rattle.termwiz_bindings.specs.Presses as rules;
 ghost use Rattle.termwiz_bindings.specs.Presses.{canonical, event_report};
 
@@ -219,7 +219,8 @@ impl KeyPress {
     /// Kitty's table.
     #[tactic(auto, unfolding(crate::specs::Presses::canonical))]
     pub fn new(key: ReportedKey, held: u8) -> Option<KeyPress>
-        ensures { result ≡ canonical (report_of key (record { modifiers = held; kind = Press })) }
+        ensures value { result ≡ canonical (report_of key (record { modifiers = held; kind = Press })) }
+        ensures press { IfSome result IsPress }
     {
         if makes_no_press(key) {
             return None;
@@ -230,7 +231,8 @@ impl KeyPress {
     /// Returns the press of a key event, or `None` for a modifier or a lock by itself, and for the marks of a paste. Of the
     /// modifiers SHIFT, ALT, CTRL and SUPER count: not LEADER, nor which of two keys is held.
     pub fn of_event(event: &KeyEvent) -> Option<KeyPress>
-        ensures { result ≡ canonical (event_report event.now) }
+        ensures value { result ≡ canonical (event_report event.now) }
+        ensures press { IfSome result IsPress }
     {
         KeyPress::new(ReportedKey::Named(event.key), kitty_bits(event.modifiers))
     }
@@ -238,7 +240,8 @@ impl KeyPress {
     /// Returns the press of a key report. `None` is for a release, for a modifier or a lock by itself, and for a report that
     /// types several characters: [`typed_text`] returns these. A repeat counts as a press.
     pub fn of_report(report: &KeyReport) -> Option<KeyPress>
-        ensures { result ≡ canonical report.now }
+        ensures value { result ≡ canonical report.now }
+        ensures press { IfSome result IsPress }
     {
         KeyPress::of_report_typing(report, report.text.as_str())
     }
@@ -247,7 +250,8 @@ impl KeyPress {
     /// that have the text elsewhere.
     #[tactic(auto, unfolding(crate::specs::Presses::canonical))]
     pub fn of_report_typing(report: &KeyReport, text: &str) -> Option<KeyPress>
-        ensures { result ≡ canonical (rules.with_text report.now text.now) }
+        ensures value { result ≡ canonical (rules.with_text report.now text.now) }
+        ensures press { IfSome result IsPress }
     {
         if is_release(report.kind) || makes_no_press(report.key) {
             return None;
@@ -266,7 +270,8 @@ impl KeyPress {
     /// tried as another key.
     #[tactic(auto, unfolding(crate::specs::Presses::second))]
     pub fn second(report: &KeyReport) -> Option<KeyPress>
-        ensures { result ≡ rules.second report.now }
+        ensures value { result ≡ rules.second report.now }
+        ensures press { IfSome result IsPress }
     {
         if !has_second(report) {
             return None;
@@ -292,7 +297,7 @@ impl KeyPress {
     /// Returns the code of the press: the key's number in the C header, what the key carries in three bytes, and the modifiers. Of a key
     /// without a name the number is 0, and it carries its number in Kitty's table. Presses have different codes, and a program may
     /// store these.
-    #[tactic(auto, using(crate::proofs::lemmas::KeyNumbers::number_below))]
+    #[tactic(auto, using(crate::proofs::lemmas::KeyNumbers::number_below), unfolding(crate::specs::Codes::code))]
     pub fn code(self) -> [u8; 5]
         ensures { result ≡ code self }
     {

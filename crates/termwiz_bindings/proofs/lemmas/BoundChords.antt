@@ -60,9 +60,16 @@ longer_chord ps chord are is = (
     codes_none : (rest : List KeyPress) → codes rest ≡ [] → length rest ≡ 0
     codes_none rest none = let a : length rest * code_len ≡ 0 = sym (codes_length rest) ∙ ap length none in omega arith
 
+-- an answer with the number of presses in place of that of bytes
+abbrev pub by_presses : {V : Type 0} → Found V → Found V
+by_presses (Ambiguous len value) = Ambiguous (len / code_len) value
+by_presses (Exact len value) = Exact (len / code_len) value
+by_presses NeedData = NeedData
+by_presses Nothing = Nothing
+
 module _ {V : Type 0} (m : ByteMap V) (are : AreBindings m) where
   pub some_at : (key : List ℕ) (value : V) → map.get m key ≡ Some value → IsSome (map.get m key)
-  some_at key value is = subst IsSome (sym is) tt
+  some_at key value is = ap is_some is
 
   module _ (ps : List KeyPress) (presses : All IsPress ps) where
     -- a longer key is that of a longer chord
@@ -107,20 +114,12 @@ module _ {V : Type 0} (m : ByteMap V) (are : AreBindings m) where
         ap (map.get m) (sym (codes_take ps k up)) ∙ none (k * code_len) (omega arith)
 
     -- what a lookup of the codes finds, by the number of presses
-    pub found_ambiguous : (more : Bool) (len : ℕ) (value : V) → LookupGives m (codes ps) more (Ambiguous len value)
-        → FindGives m ps more (Ambiguous (len / code_len) value)
-    found_ambiguous more len value (longest, extended, may) = (longest_chord len value longest, continued.0 extended, may)
-
-    pub found_exact : (more : Bool) (len : ℕ) (value : V) → LookupGives m (codes ps) more (Exact len value)
-        → FindGives m ps more (Exact (len / code_len) value)
-    found_exact more len value (longest, not_more) =
+    pub found_of : (more : Bool) (found : Found V) → LookupGives m (codes ps) more found → FindGives m ps more (by_presses found)
+    found_of more (Ambiguous len value) (longest, extended, may) = (longest_chord len value longest, continued.0 extended, may)
+    found_of more (Exact len value) (longest, not_more) =
         (longest_chord len value longest, λ goes_on. not_more (continued.1 goes_on))
-
-    pub found_data : (more : Bool) → LookupGives m (codes ps) more NeedData → FindGives m ps more NeedData
-    found_data more (none, extended) = (no_chord none, continued.0 extended)
-
-    pub found_nothing : (more : Bool) → LookupGives m (codes ps) more Nothing → FindGives m ps more Nothing
-    found_nothing more (none, not_extended) = (no_chord none, λ goes_on. not_extended (continued.1 goes_on))
+    found_of more NeedData (none, extended) = (no_chord none, continued.0 extended)
+    found_of more Nothing (none, not_extended) = (no_chord none, λ goes_on. not_extended (continued.1 goes_on))
 
     pub continuations_of : (low high : ℕ) → AreExtensions m (codes ps) low high → AreContinuations m ps low high
     continuations_of low high is = record {
@@ -155,7 +154,7 @@ module _ {V : Type 0} (m : ByteMap V) (are : AreBindings m) where
   bindings_unbound chord key there = go (tied key (codes chord)) (subst IsSome (get-without m (codes chord) key) there)
     where
       go : (b : Bool) → IsSome (cond b None (map.get m key)) → (c : List KeyPress) × IsChord c × (c ≢ []) × (key ≡ codes c)
-      go true found = absurd found
+      go true found = absurd (cc (found))
       go false found = are key found
 
   pub bindings_cloned : (is_clone : V → V → Type 0) (copy : ByteMap V) → IsClone is_clone m copy → AreBindings copy
@@ -164,28 +163,44 @@ module _ {V : Type 0} (m : ByteMap V) (are : AreBindings m) where
       go : (found : Option V) → map.get m key ≡ found
           → MatchOption found (map.get copy key ≡ None) (λ value. IsSomeAnd (map.get copy key) (is_clone value))
           → (c : List KeyPress) × IsChord c × (c ≢ []) × (key ≡ codes c)
-      go None is none = absurd (subst IsSome none there)
+      go None is none = absurd (cc (none, there))
       go (Some value) is some = are key (some_at key value is)
 
+-- no chord is bound in an empty map
+pub bindings_empty : (V : Type 0) (m : ByteMap V) → m ≡ map.empty → AreBindings m
+bindings_empty V m is key there =
+    let none : map.get m key ≡ None = ap (λ (n : ByteMap V). map.get n key) is ∙ map.get-empty (slice_cmp nat_cmp) key in
+    absurd (cc (none, there))
+
 module _ {V : Type 0} where
-  -- no chord is bound in an empty map
-  pub bindings_empty : AreBindings (map.empty {X = V})
-  bindings_empty key there = absurd (subst IsSome (map.get-empty (slice_cmp nat_cmp) key) there)
+  -- the same of a map and bytes that are known to be those of bindings and of a chord
+  module _ (m n : ByteMap V) (same : m ≡ n) (are : AreBindings m) (bytes : List ℕ) (ps : List KeyPress)
+      (is : IsChord ps) (spelled : bytes ≡ codes ps) where
+    pub same_bindings : AreBindings n
+    same_bindings = subst AreBindings same are
 
-  -- a whole key that was looked up
-  pub value_found : (m : ByteMap V) (text : List ℕ) (len : ℕ) (value : V) → LookupGives m text false (Exact len value)
-      → len ≡ length text → map.get m text ≡ Some value
-  value_found m text len value (is, more) whole =
-      ap (map.get m) (sym (take_all len text (omega arith))) ∙ is.stored
+    pub found_by : (more : Bool) (found : Found V) → LookupGives m bytes more found → FindGives n ps more (by_presses found)
+    found_by more found gives =
+        found_of n same_bindings ps is.presses more found (subst (λ (k : ByteMap V). LookupGives k (codes ps) more found) same
+        (subst (λ key. LookupGives m key more found) spelled gives))
 
-  no_key : (m : ByteMap V) (text : List ℕ) → NoKeyBegins m text → map.get m text ≡ None
-  no_key m text none = ap (map.get m) (sym (take_all (length text) text (omega arith))) ∙ none (length text) (omega arith)
+    pub continuations_by : (low high : ℕ) → AreExtensions m bytes low high → AreContinuations n ps low high
+    continuations_by low high are_those =
+        continuations_of n same_bindings ps is.presses low high (subst (λ (k : ByteMap V). AreExtensions k (codes ps) low high) same
+        (subst (λ key. AreExtensions m key low high) spelled are_those))
 
-  pub none_found : (m : ByteMap V) (text : List ℕ) (found : Found V) → LookupGives m text false found
-      → ((len : ℕ) (value : V) → found ≡ Exact len value → len ≢ length text) → map.get m text ≡ None
-  none_found m text (Ambiguous len value) (is, extended, may) shorter = absurd (cc (may))
-  none_found m text (Exact len value) (is, more) shorter =
-      let less : len < length text = omega (arith, is.within, shorter len value refl) in
-      ap (map.get m) (sym (take_all (length text) text (omega arith))) ∙ is.longest (length text) less (omega arith)
-  none_found m text NeedData (none, extended) shorter = no_key m text none
-  none_found m text Nothing (none, extended) shorter = no_key m text none
+    pub continued_by : (P : Type 0) → P ↔ IsExtended m bytes → P ↔ IsContinued n ps
+    continued_by P both =
+        let those : P ↔ IsExtended n (codes ps) = subst (λ (k : ByteMap V). P ↔ IsExtended k (codes ps)) same
+        (subst (λ key. P ↔ IsExtended m key) spelled both) in
+        let go = continued n same_bindings ps is.presses in (
+          λ p. go.0 (those.0 p),
+          λ goes_on. those.1 (go.1 goes_on),
+        )
+
+    pub bound_by : (value : V) (new : ByteMap V) → ps ≢ [] → new ≡ map.insert m bytes value → AreBindings new
+    bound_by value new some is_new =
+        subst AreBindings (sym (is_new ∙ ap (λ key. map.insert m key value) spelled)) (bindings_bound m are ps value is some)
+
+    pub unbound_by : (new : ByteMap V) → new ≡ map.remove m bytes → AreBindings new
+    unbound_by new is_new = subst AreBindings (sym (is_new ∙ ap (λ key. map.remove m key) spelled)) (bindings_unbound m are ps)

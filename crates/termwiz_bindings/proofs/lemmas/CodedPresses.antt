@@ -1,8 +1,9 @@
 -- Presses and their codes.
-use Rattle.std.proofs.Common.{◌≡◌, ◌∙◌, ◌↔◌, ℕ, ◌+◌, ◌*◌, ◌-◌, ◌/◌, ◌%◌, ◌<◌, ◌≤◌, zero, suc, List, [], ◌∷◌, ◌++◌, length, take, drop, Bool, true, false, not, ◌&&◌, ◌||◌, Some, None, refl, sym, ap, ap₂, subst, append_assoc, arith}
+use Rattle.std.proofs.Common.{◌≡◌, ◌∙◌, ◌↔◌, ⊎_elim, ℕ, ◌+◌, ◌*◌, ◌-◌, ◌/◌, ◌%◌, ◌<◌, ◌≤◌, zero, suc, List, [], ◌∷◌, ◌++◌, length, take, drop, get_or, Bool, true, false, not, ◌&&◌, ◌||◌, Some, None, refl, sym, ap, ap₂, subst, append_assoc, arith}
 use Rattle.std.specs.Prelude.{if◌then◌else◌}
+use Rattle.std.specs.Char.{IsScalar}
 use Rattle.std.specs.List.{All}
-use Rattle.std.proofs.lemmas.Bool.{and_parts}
+use Rattle.std.proofs.Math.Utf8.{scalar_cases}
 use Rattle.std.proofs.lemmas.Bool.Decides.{nat_tests}
 use Rattle.std.proofs.lemmas.List.{length-append, length-take-le, take-append-drop, take_at, drop_at}
 use Rattle.std.proofs.lemmas.List.Elements.{All-cons, All-head, All-nil, All-tail, All-take}
@@ -33,10 +34,13 @@ functional_below : (n : ℕ) → makes_no_press (Functional n) ≡ false → n <
 unfolding makes_no_press
 functional_below n is = grind (arith, nat_tests)
 
+scalar_below : (c : ℕ) → IsScalar c → c < 0x1000000
+scalar_below c is = ⊎_elim (λ (low : c < 0xD800). omega arith) (λ (high : (0xE000 ≤ c) × (c < 0x110000)). omega (arith, high.1)) (scalar_cases c is)
+
 -- what the key of a press carries fits three bytes
 detail_below : (key : ReportedKey) → IsKeyInRange key → makes_no_press key ≡ false → reported_detail key < 0x1000000
 unfolding reported_detail key_detail
-detail_below (Named (Char c)) inside makes = omega (arith, inside)
+detail_below (Named (Char c)) inside makes = scalar_below c inside
 detail_below (Named (Function n)) inside makes = omega arith
 detail_below (Named key) inside makes = omega arith
 detail_below (Functional n) inside makes = functional_below n makes
@@ -117,3 +121,18 @@ codes_begin ps qs are ours = (
   λ (rest, is). (codes rest, ap codes is ∙ codes_append ps rest),
   λ (rest, is). begun ps qs are ours rest is,
 )
+
+-- the parts of a code
+pub record IsReadFrom (bytes : List ℕ) (p : KeyPress) : Type 0 where
+  pub number : get_or bytes 0 0 ≡ reported_number p.key
+  pub detail : get_or bytes 1 0 * 0x10000 + get_or bytes 2 0 * 0x100 + get_or bytes 3 0 ≡ reported_detail p.key
+  pub held : get_or bytes 4 0 ≡ p.held
+
+pub read_from : (bytes : List ℕ) (p : KeyPress) → IsPress p → bytes ≡ code p → IsReadFrom bytes p
+unfolding code
+read_from bytes p is same = record {
+  number = ap (λ xs. get_or xs 0 0) same;
+  detail = ap (λ xs. get_or xs 1 0 * 0x10000 + get_or xs 2 0 * 0x100 + get_or xs 3 0) same
+      ∙ from_bytes (reported_detail p.key) (detail_below p.key is.in_range (makes_one p is.own));
+  held = ap (λ xs. get_or xs 4 0) same;
+}

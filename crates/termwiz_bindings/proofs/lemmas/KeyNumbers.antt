@@ -86,7 +86,7 @@ own_key (Functional number) = refl
 -- its number and its detail stand for it
 pub stands_for_itself : (key : ReportedKey) → IsKeyInRange key → StandForReported (reported_number key) (reported_detail key) key
 unfolding reported_number reported_detail key_detail Carries
-stands_for_itself (Named (Char character)) inside = (refl, refl, inside)
-stands_for_itself (Named (Function number)) inside = (refl, refl, inside)
+stands_for_itself (Named (Char character)) inside = (refl, (refl, inside))
+stands_for_itself (Named (Function number)) inside = (refl, (refl, inside))
 stands_for_itself (Named key) inside = (refl, tt)
 stands_for_itself (Functional number) inside = (refl, refl)

@@ -1,10 +1,10 @@
 use Rattle.std.proofs.Common.{◌≡◌, ℕ, ◌≤◌, Option, Some, refl, sym, ap, arith}
-use Rattle.termwiz_input.specs.KeyCode.{KeyCode}
+use Rattle.termwiz_keys.specs.declared.types.KeyCode.{KeyCode}
 use Rattle.termwiz_extended_events.specs.declared.types.ReportedKey.{ReportedKey}
 use Rattle.termwiz_extended_events.specs.declared.types.ReportedKey.TheVariants.{Named, Functional}
 use Rattle.termwiz_bindings.specs.Numbers.{StandFor, key_number}
 use Rattle.termwiz_bindings.specs.Numbers.{StandForReported}
-use Rattle.hedrugal.proofs.KeyNumbers.{number_within}
+use Rattle.termwiz_bindings.proofs.lemmas.KeyNumbers.{number_within}
 use Rattle.termwiz_bindings.proofs.numbers.reported_key.Goals as goal
 
 pub returns-in-Some-clause-some : goal.returns-in-Some-clause-some
