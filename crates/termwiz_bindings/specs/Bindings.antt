@@ -1,6 +1,5 @@
 -- Bindings: a finite map from chords to values. It is kept by the codes of the chords.
 use Rattle.std.specs.Prelude.{◌≡◌, ◌≢◌, ◌↔◌, ◌<◌, ◌≤◌, ℕ, Bool, true, false, List, [], ◌++◌, length, take, Option, None, Some, IsSome, IsSomeAnd, MatchOption}
-use Rattle.std.specs.List.{All}
 use Rattle.std.specs.FinMap as map
 use Rattle.termwiz_keymap.specs.declared.keymap.Found.{Found}
 use Rattle.termwiz_keymap.specs.declared.keymap.Found.TheVariants.{None as Nothing, Exact, Ambiguous, NeedData}

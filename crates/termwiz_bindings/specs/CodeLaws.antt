@@ -1,5 +1,5 @@
 -- The laws of codes.
-use Rattle.std.specs.Prelude.{◌≡◌, ◌↔◌, ◌<◌, ℕ, List, ◌++◌, length, get_or}
+use Rattle.std.specs.Prelude.{◌≡◌, ◌↔◌, List, ◌++◌, length}
 use Rattle.std.specs.List.{All}
 use Rattle.termwiz_keymap.specs.Bytes.{Begins}
 use Rattle.termwiz_bindings.specs.declared.press.KeyPress.{KeyPress}

@@ -1,15 +1,13 @@
 -- Bindings by the codes of their chords.
-use Rattle.std.proofs.Common.{◌≡◌, ◌≢◌, ◌∙◌, ◌↔◌, ⊎_elim, ℕ, ◌+◌, ◌*◌, ◌/◌, ◌<◌, ◌≤◌, Bool, true, false, cond, List, [], ◌∷◌, ◌++◌, length, take, drop, get_or, refl, sym, ap, subst, arith}
+use Rattle.std.proofs.Common.{◌≡◌, ◌≢◌, ◌∙◌, ◌↔◌, ℕ, ◌+◌, ◌*◌, ◌/◌, ◌<◌, ◌≤◌, Bool, true, false, cond, List, [], ◌∷◌, ◌++◌, length, take, refl, sym, ap, subst, arith}
 use Rattle.std.specs.Prelude.{Option, None, Some, IsSome, IsSomeAnd, MatchOption, is_some}
 use Rattle.std.specs.List.{All}
 use Rattle.std.specs.Ordering.{nat_cmp}
 use Rattle.std.specs.Cmp.Lexicographic.{slice_cmp}
 use Rattle.std.specs.FinMap as map
-use Rattle.std.proofs.lemmas.List.{length-append, length-take-le, take_all}
-use Rattle.std.proofs.lemmas.List.Elements.{All-nil}
+use Rattle.std.proofs.lemmas.List.{length-append, length-take-le}
 use Rattle.termwiz_keymap.specs.declared.keymap.Found.{Found}
 use Rattle.termwiz_keymap.specs.declared.keymap.Found.TheVariants.{None as Nothing, Exact, Ambiguous, NeedData}
-use Rattle.termwiz_keymap.specs.Bytes.{Begins}
 use Rattle.termwiz_keymap.specs.KeyRanges.{GoesOn}
 use Rattle.termwiz_keymap.specs.KeysInOrder.{AreExtensions, AreInOrder, IsEntryAt}
 use Rattle.termwiz_keymap.specs.Lookup.{ByteMap, IsClone, IsExtended, IsLongestKey, LookupGives, NoKeyBegins}
@@ -19,7 +17,7 @@ use Rattle.termwiz_keymap.proofs.lemmas.entries.RemovedEntries.{get-without}
 use Rattle.termwiz_bindings.specs.declared.press.KeyPress.{KeyPress}
 use Rattle.termwiz_bindings.specs.Codes.{IsPress, code_len, codes}
 use Rattle.termwiz_bindings.specs.Chords.{AreCodes, IsChord}
-use Rattle.termwiz_bindings.specs.Bindings.{AreBindings, AreContinuations, FindGives, GoesOnAfter, IsBindingAt, IsContinued, IsLongestChord, NoChordBegins, bound, find, unbound}
+use Rattle.termwiz_bindings.specs.Bindings.{AreBindings, AreContinuations, FindGives, GoesOnAfter, IsContinued, IsLongestChord, NoChordBegins, bound, unbound}
 use Rattle.termwiz_bindings.proofs.lemmas.CodedPresses.{begun, codes_append, codes_length, codes_take, same_presses}
 
 -- chords with the same codes are the same

@@ -1,7 +1,7 @@
 -- The bytes in which a chord is held.
-use Rattle.std.proofs.Common.{⊎_elim, ◌⊎◌, ◌≡◌, ◌∙◌, ℕ, suc, ◌+◌, ◌*◌, ◌-◌, ◌/◌, ◌<◌, ◌≤◌, ◌≢◌, List, [], ◌∷◌, ◌++◌, length, take, drop, replicate, get_or, refl, sym, ap, ap₂, subst, append_assoc, drop-cons, arith}
+use Rattle.std.proofs.Common.{⊎_elim, ◌≡◌, ◌∙◌, ℕ, suc, ◌+◌, ◌*◌, ◌-◌, ◌/◌, ◌<◌, ◌≤◌, ◌≢◌, List, [], ◌∷◌, ◌++◌, length, take, drop, replicate, get_or, sym, ap, ap₂, subst, append_assoc, drop-cons, arith}
 use Rattle.std.specs.Prelude.{None, Some, slice_get}
-use Rattle.std.specs.List.{All, between}
+use Rattle.std.specs.List.{between}
 use Rattle.std.proofs.lemmas.List.{append-nil, drop-append-le, drop-replicate, drop_at, length-append, length-drop, take_all, take_at}
 use Rattle.std.proofs.lemmas.Option.{slice_get_cases, slice_get_past}
 use Rattle.std.proofs.lemmas.List.Elements.{All-drop, All-get_or, All-nil, All-push}
@@ -10,7 +10,7 @@ use Rattle.termwiz_bindings.specs.declared.chord.TheConstants.{MAX_KEYS}
 use Rattle.termwiz_bindings.specs.declared.press.KeyPress.{KeyPress}
 use Rattle.termwiz_bindings.specs.Codes.{IsPress, code, code_len, codes, presses_with}
 use Rattle.termwiz_bindings.specs.Chords.{HoldChord, IsChord, held_presses, padded}
-use Rattle.termwiz_bindings.proofs.lemmas.CodedPresses.{code_length, codes_append, codes_drop, codes_length, presses_of, same_presses}
+use Rattle.termwiz_bindings.proofs.lemmas.CodedPresses.{code_length, codes_append, codes_drop, codes_length, presses_of}
 
 -- a chord is held by its codes with zeros after them
 held_by : (ps : List KeyPress) → IsChord ps → held_presses (padded ps) (length ps) ≡ ps

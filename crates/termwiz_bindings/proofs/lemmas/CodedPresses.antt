@@ -1,25 +1,24 @@
 -- Presses and their codes.
-use Rattle.std.proofs.Common.{◌≡◌, ◌∙◌, ◌↔◌, ⊎_elim, ℕ, ◌+◌, ◌*◌, ◌-◌, ◌/◌, ◌%◌, ◌<◌, ◌≤◌, zero, suc, List, [], ◌∷◌, ◌++◌, length, take, drop, get_or, Bool, true, false, not, ◌&&◌, ◌||◌, Some, None, refl, sym, ap, ap₂, subst, append_assoc, arith}
-use Rattle.std.specs.Prelude.{if◌then◌else◌}
+use Rattle.std.proofs.Common.{◌≡◌, ◌∙◌, ⊎_elim, ℕ, ◌+◌, ◌*◌, ◌/◌, ◌%◌, ◌<◌, ◌≤◌, List, [], ◌∷◌, ◌++◌, length, take, drop, get_or, Bool, true, false, Some, refl, sym, ap, ap₂, append_assoc, arith}
 use Rattle.std.specs.Char.{IsScalar}
 use Rattle.std.specs.List.{All}
 use Rattle.std.proofs.Math.Utf8.{scalar_cases}
 use Rattle.std.proofs.lemmas.Bool.Decides.{nat_tests}
 use Rattle.std.proofs.lemmas.List.{length-append, length-take-le, take-append-drop, take_at, drop_at}
 use Rattle.std.proofs.lemmas.List.Elements.{All-cons, All-head, All-nil, All-tail, All-take}
-use Rattle.termwiz_keymap.specs.Bytes.{Begins}
 use Rattle.termwiz_keys.specs.declared.types.KeyCode.TheVariants.{Char, Function}
 use Rattle.termwiz_extended_events.specs.declared.types.ReportedKey.{ReportedKey}
 use Rattle.termwiz_extended_events.specs.declared.types.ReportedKey.TheVariants.{Named, Functional}
-use Rattle.termwiz_extended_events.specs.ReportedKeys.{is_functional}
+use Rattle.termwiz_extended_events.specs.declared.types.KeyEventKind.TheVariants.{Press}
+use Rattle.termwiz_extended_events.specs.KeyReports.{report_of}
 use Rattle.termwiz_bindings.specs.declared.press.KeyPress.{KeyPress}
 use Rattle.termwiz_bindings.specs.Codes.{IsKeyInRange, IsPress, code, code_len, codes, key_with, press_with, presses_with}
 use Rattle.termwiz_bindings.specs.CodeLaws.{BeginPresses, CodesBeginAsPresses, CodesHaveOneWidth, CodesTellPresses}
-use Rattle.termwiz_bindings.specs.MainKeys.{is_modifier_number, makes_no_press}
-use Rattle.termwiz_bindings.specs.Numbers.{key_detail, reported_detail, reported_number}
+use Rattle.termwiz_bindings.specs.MainKeys.{makes_no_press}
+use Rattle.termwiz_bindings.specs.Numbers.{StandForReported, key_detail, reported_detail, reported_number}
 use Rattle.termwiz_bindings.specs.Presses.{canonical}
 use Rattle.termwiz_bindings.specs.PressLaws.{report_of_press}
-use Rattle.termwiz_bindings.proofs.lemmas.KeyNumbers.{own_key}
+use Rattle.termwiz_bindings.proofs.lemmas.KeyNumbers.{own_key, stands_for_itself}
 
 -- a press makes one
 makes_one : (p : KeyPress) → canonical (report_of_press p) ≡ Some p → makes_no_press p.key ≡ false
@@ -136,3 +135,17 @@ read_from bytes p is same = record {
       ∙ from_bytes (reported_detail p.key) (detail_below p.key is.in_range (makes_one p is.own));
   held = ap (λ xs. get_or xs 4 0) same;
 }
+
+-- the number and the detail that are read stand for the key
+pub stands_read : (bytes : List ℕ) (p : KeyPress) (number detail : ℕ) → IsPress p → bytes ≡ code p → number ≡ get_or bytes 0 0
+    → detail ≡ get_or bytes 1 0 * 0x10000 + get_or bytes 2 0 * 0x100 + get_or bytes 3 0 → StandForReported number detail p.key
+stands_read bytes p number detail is same number_is detail_is =
+    let read : IsReadFrom bytes p = read_from bytes p is same in
+    rw (number_is ∙ read.number, detail_is ∙ read.detail) (stands_for_itself p.key is.in_range)
+
+-- the key and the modifiers that are read have that press
+pub press_read : (bytes : List ℕ) (p : KeyPress) (key : ReportedKey) (held : ℕ) → IsPress p → bytes ≡ code p → key ≡ p.key
+    → held ≡ get_or bytes 4 0 → canonical (report_of key (record { modifiers = held; kind = Press })) ≡ Some p
+press_read bytes p key held is same key_is held_is =
+    let read : IsReadFrom bytes p = read_from bytes p is same in
+    ap₂ (λ k (h : ℕ). canonical (report_of k (record { modifiers = h; kind = Press }))) key_is (held_is ∙ read.held) ∙ is.own

@@ -1,8 +1,6 @@
 -- What binding and unbinding a chord change, and where chords are.
-use Rattle.std.proofs.Common.{◌≡◌, ◌≢◌, ◌∙◌, ⊎_elim, ℕ, zero, suc, ◌+◌, ◌<◌, ◌≤◌, Bool, true, false, cond, List, [], ◌∷◌, length, get_or, nat_eq, refl, sym, ap, subst, arith}
-use Rattle.std.specs.Prelude.{Option, None, Some}
-use Rattle.std.specs.Ordering.{nat_cmp}
-use Rattle.std.specs.Cmp.Lexicographic.{slice_cmp}
+use Rattle.std.proofs.Common.{◌≡◌, ◌≢◌, ◌∙◌, ⊎_elim, ℕ, zero, suc, ◌<◌, ◌≤◌, Bool, true, false, cond, List, [], ◌∷◌, length, get_or, refl, sym, ap, subst, arith}
+use Rattle.std.specs.Prelude.{None, Some}
 use Rattle.std.specs.FinMap as map
 use Rattle.std.proofs.lemmas.Bool.{cases_lt}
 use Rattle.std.proofs.lemmas.Cmp.{nat_list_eq_equiv}
@@ -15,7 +13,7 @@ use Rattle.termwiz_keymap.proofs.lemmas.rows.KeyOrder.{not_itself}
 use Rattle.termwiz_bindings.specs.declared.press.KeyPress.{KeyPress}
 use Rattle.termwiz_bindings.specs.Codes.{codes}
 use Rattle.termwiz_bindings.specs.Chords.{IsChord}
-use Rattle.termwiz_bindings.specs.Bindings.{AreBindings, IsBindingAt, bound, find, unbound}
+use Rattle.termwiz_bindings.specs.Bindings.{AreBindings, IsBindingAt}
 use Rattle.termwiz_bindings.specs.BindingLaws.{AreChordsInOrder, ChangeOneChord}
 use Rattle.termwiz_bindings.proofs.lemmas.BoundChords.{same_chord, some_at}
 

@@ -1,7 +1,6 @@
-use Rattle.std.proofs.Common.{◌≡◌, ◌∙◌, ap, refl, sym}
+use Rattle.std.proofs.Common.{◌∙◌, ap, refl, sym}
 use Rattle.termwiz_bindings.specs.Codes.{codes}
-use Rattle.termwiz_bindings.specs.Chords.{IsChord}
-use Rattle.termwiz_bindings.proofs.lemmas.ChordBytes.{codes_fit, codes_in, held_as, holds_in, view_in}
+use Rattle.termwiz_bindings.proofs.lemmas.ChordBytes.{codes_fit, codes_in, holds_in, view_in}
 use Rattle.termwiz_bindings.proofs.chord.of_codes.Goals as goal
 
 pub padded-requires : goal.padded-requires

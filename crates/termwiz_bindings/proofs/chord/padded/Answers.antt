@@ -1,4 +1,4 @@
-use Rattle.std.proofs.Common.{◌++◌, ap₂, length, arith}
+use Rattle.std.proofs.Common.{◌++◌, ap₂, length}
 use Rattle.std.proofs.lemmas.List.{drop-replicate}
 use Rattle.termwiz_bindings.proofs.chord.padded.Goals as goal
 

@@ -1,7 +1,6 @@
-use Rattle.std.proofs.Common.{◌≡◌, ◌≢◌, ◌∙◌, ◌+◌, ◌*◌, ◌-◌, ◌++◌, ◌∷◌, List, [], ℕ, arith, refl}
-use borrow.Rule.Slice.PartMut.{put_mid}
+use Rattle.std.proofs.Common.{◌≢◌, ◌∙◌, ◌+◌, ◌*◌, ◌-◌, ◌++◌, ◌∷◌, [], arith, refl}
 use Rattle.termwiz_bindings.specs.declared.chord.TheConstants.{MAX_KEYS}
-use Rattle.termwiz_bindings.proofs.lemmas.ChordBytes.{IsHeldIn, held_in, holds_in, pushed_in, view_in}
+use Rattle.termwiz_bindings.proofs.lemmas.ChordBytes.{held_in, holds_in, pushed_in, view_in}
 use Rattle.termwiz_bindings.proofs.chord.Chord.push.Goals as goal
 
 pub invariant_of-self : goal.invariant_of-self

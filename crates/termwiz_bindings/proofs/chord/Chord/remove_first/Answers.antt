@@ -1,4 +1,4 @@
-use Rattle.std.proofs.Common.{◌≡◌, ◌∙◌, ◌*◌, ◌-◌, List, drop, length, refl}
+use Rattle.std.proofs.Common.{◌∙◌, ◌*◌, List, drop, refl}
 use Rattle.termwiz_bindings.specs.declared.press.KeyPress.{KeyPress}
 use Rattle.termwiz_bindings.proofs.lemmas.ChordBytes.{rest_chord, rest_codes}
 use Rattle.termwiz_bindings.proofs.lemmas.CodedPresses.{same_presses}
