@@ -1,5 +1,5 @@
 -- The laws of reading presses under chords.
-use Rattle.std.specs.Prelude.{◌≡◌, ◌≢◌, ◌⊎◌, ◌↔◌, ℕ, ◌≤◌, ◌<◌, Bool, true, false, List, [], ◌∷◌, ◌++◌, length, take, Some, None, Contains}
+use Rattle.std.specs.Prelude.{◌≡◌, ◌≢◌, ◌⊎◌, ◌↔◌, ℕ, ◌≤◌, ◌<◌, Bool, true, false, List, [], ◌∷◌, ◌++◌, length, take, Some, Contains}
 use Rattle.std.specs.List.{All, AllZip, AllByRecursion, flat_map}
 use Rattle.termwiz_bindings.specs.declared.press.KeyPress.{KeyPress}
 use Rattle.termwiz_bindings.specs.declared.matcher.Outcome.{Outcome}
@@ -7,7 +7,7 @@ use Rattle.termwiz_bindings.specs.declared.matcher.Outcome.TheVariants.{Bound, U
 use Rattle.termwiz_keymap.specs.Lookup.{ByteMap}
 use Rattle.termwiz_bindings.specs.Codes.{IsPress}
 use Rattle.termwiz_bindings.specs.Bindings.{AreBindings, bound, find, unbound}
-use Rattle.termwiz_bindings.specs.Matching.{Chords, IsChord, IsChordMap, BeginWith, BeginWithNone, IsContinued, IsOpen, Stands, Steps, IsPending, Means}
+use Rattle.termwiz_bindings.specs.Matching.{Chords, IsChord, IsChordMap, IsContinued, Stands, Steps, IsPending, Means}
 
 -- At the front of a list that is neither open nor empty stands one item.
 abbrev pub OneItem : Type 0 → Type 0

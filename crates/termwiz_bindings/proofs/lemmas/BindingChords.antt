@@ -1,25 +1,23 @@
 -- The chords of bindings: they are known by codes, and still each list of presses has one meaning under them.
-use Rattle.std.proofs.Common.{◌≡◌, ◌≢◌, ◌⊎◌, ◌↔◌, inl, inr, ⊎_elim, ℕ, zero, suc, ◌+◌, ◌*◌, ◌<◌, ◌≤◌, Bool, true, false, cond, List, [], ◌∷◌, ◌++◌, length, take, drop, get_or, Option, Some, None, refl, sym, ap, ◌∙◌, subst, length-append, length-take-le, take-append-drop, Contains, arith}
-use Rattle.std.specs.Prelude.{IsSome, is_some}
+use Rattle.std.proofs.Common.{◌≡◌, ◌≢◌, ◌⊎◌, inl, inr, ⊎_elim, ℕ, zero, suc, ◌*◌, ◌<◌, ◌≤◌, Bool, true, false, cond, List, [], ◌∷◌, ◌++◌, length, take, drop, get_or, Option, Some, None, refl, sym, ap, ◌∙◌, subst, length-take-le, take-append-drop, Contains, arith}
+use Rattle.std.specs.Prelude.{IsSome}
 use Rattle.std.specs.List.{All, AllByRecursion}
 use Rattle.std.specs.FinMap as map
 use Rattle.std.proofs.lemmas.Bool.{cases_lt}
-use Rattle.std.proofs.lemmas.List.{append_cancel_left, take_at, drop_at}
+use Rattle.std.proofs.lemmas.List.{append_cancel_left}
 use Rattle.std.proofs.lemmas.List.Elements.{All-head, All-tail}
 use Rattle.termwiz_keymap.specs.Entries.{Entries}
 use Rattle.termwiz_keymap.specs.KeyRanges.{GoesOn}
-use Rattle.termwiz_keymap.specs.KeysInOrder.{IsEntryAt, AreInOrder}
+use Rattle.termwiz_keymap.specs.KeysInOrder.{AreInOrder}
 use Rattle.termwiz_keymap.specs.Lookup.{ByteMap}
 use Rattle.termwiz_keymap.proofs.lemmas.entries.EntriesInOrder.{in_order_of_bytes}
 use Rattle.termwiz_keymap.proofs.lemmas.entries.KeysInEntries.{tied, tied_same, get-set}
 use Rattle.termwiz_keymap.proofs.lemmas.entries.RemovedEntries.{get-without}
 use Rattle.termwiz_grammar.proofs.lemmas.lists.Decidable.{decide_eq}
 use Rattle.termwiz_bindings.specs.declared.press.KeyPress.{KeyPress}
-use Rattle.termwiz_bindings.specs.declared.matcher.Outcome.{Outcome}
 use Rattle.termwiz_bindings.specs.Codes.{IsPress, code, code_len, codes}
-use Rattle.termwiz_bindings.specs.Chords.{IsChord as IsRealChord}
-use Rattle.termwiz_bindings.specs.Bindings.{AreBindings, FindGives, IsContinued as IsContinuedIn, IsLongestChord as IsLongestIn, NoChordBegins, bound, find, unbound}
-use Rattle.termwiz_bindings.specs.Matching.{IsChord, IsChordMap, BeginWith, BeginWithNone, IsContinued, IsLongestChord, Means, most_keys}
+use Rattle.termwiz_bindings.specs.Bindings.{AreBindings, IsContinued as IsContinuedIn, IsLongestChord as IsLongestIn, NoChordBegins, bound, find, unbound}
+use Rattle.termwiz_bindings.specs.Matching.{IsChordMap, BeginWith, BeginWithNone, IsContinued, IsLongestChord, most_keys}
 use Rattle.termwiz_bindings.specs.ChordLaws.{AgreeFrom, OneChord}
 use Rattle.termwiz_bindings.proofs.lemmas.CodedPresses.{code_length, codes_append, codes_length, codes_tell}
 use Rattle.termwiz_bindings.proofs.lemmas.SharedBeginnings.{length-some, same_from_length, taken_front, front_fits}

@@ -1,12 +1,12 @@
 -- The item at the front of a list of presses: that there is exactly one, and that it stays however the list goes on.
-use Rattle.std.proofs.Common.{◌≡◌, ◌≢◌, ◌⊎◌, inl, inr, ⊎_elim, ℕ, zero, suc, ◌+◌, ◌<◌, ◌≤◌, Bool, true, false, List, [], ◌∷◌, ◌++◌, length, take, drop, Option, Some, None, refl, sym, ap, ◌∙◌, subst, append_assoc, length-append, length-take-le, take-append-drop, arith}
+use Rattle.std.proofs.Common.{◌≡◌, ◌≢◌, inl, inr, ⊎_elim, ℕ, zero, suc, ◌≤◌, Bool, true, List, [], ◌∷◌, ◌++◌, length, take, drop, Option, Some, None, refl, sym, ap, ◌∙◌, subst, append_assoc, length-take-le, take-append-drop, arith}
 use Rattle.std.specs.Prelude.{IsSome}
 use Rattle.termwiz_bindings.specs.declared.press.KeyPress.{KeyPress}
 use Rattle.termwiz_bindings.specs.declared.matcher.Outcome.{Outcome}
 use Rattle.termwiz_bindings.specs.declared.matcher.Outcome.TheVariants.{Bound, Unbound}
-use Rattle.termwiz_bindings.specs.Matching.{Chords, IsChord, BeginWith, BeginWithNone, IsContinued, IsOpen, IsLongestChord, IsUnboundPress, IsItem, Stands, IsPending}
+use Rattle.termwiz_bindings.specs.Matching.{Chords, IsChord, BeginWith, IsContinued, IsOpen, IsItem, Stands, IsPending}
 use Rattle.termwiz_bindings.specs.ChordLaws.{OneItem}
-use Rattle.termwiz_bindings.proofs.lemmas.SharedBeginnings.{Overlaps, Overlaps.within, Overlaps.past, overlap, append-some, append-some_left, length-some, some_from_length, same_from_length, front_fits}
+use Rattle.termwiz_bindings.proofs.lemmas.SharedBeginnings.{Overlaps, Overlaps.within, Overlaps.past, overlap, append-some, append-some_left, same_from_length, front_fits}
 
 longer_begins : (u s front : List KeyPress) → BeginWith u front → BeginWith (u ++ s) front
 longer_begins u s front (r, e) = (r ++ s, ap (λ x. x ++ s) e ∙ append_assoc front r s)

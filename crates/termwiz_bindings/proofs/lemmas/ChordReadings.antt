@@ -1,11 +1,11 @@
 -- Reading a list of presses item by item: however it is cut, it means the same, and nothing is lost.
-use Rattle.std.proofs.Common.{◌≡◌, ◌≢◌, ◌⊎◌, inl, inr, ⊎_elim, ℕ, zero, suc, ◌+◌, ◌<◌, ◌≤◌, Bool, true, false, List, [], ◌∷◌, ◌++◌, length, Some, None, refl, sym, ap, ◌∙◌, subst, append_assoc, length-append, arith}
+use Rattle.std.proofs.Common.{◌≡◌, ◌≢◌, ◌⊎◌, inl, inr, ℕ, zero, suc, ◌+◌, ◌<◌, ◌≤◌, Bool, true, false, List, [], ◌∷◌, ◌++◌, length, None, refl, sym, ap, ◌∙◌, subst, append_assoc, length-append, arith}
 use Rattle.std.proofs.lemmas.List.{append_cancel_left}
 use Rattle.std.specs.List.{AllZip, flat_map}
 use Rattle.termwiz_bindings.specs.declared.press.KeyPress.{KeyPress}
 use Rattle.termwiz_bindings.specs.declared.matcher.Outcome.{Outcome}
 use Rattle.termwiz_bindings.specs.declared.matcher.Outcome.TheVariants.{Bound, Unbound}
-use Rattle.termwiz_bindings.specs.Matching.{Chords, IsChord, BeginWith, IsChordMap, IsContinued, IsOpen, IsItem, Stands, Steps, IsPending, Means}
+use Rattle.termwiz_bindings.specs.Matching.{Chords, IsContinued, IsOpen, IsItem, Stands, Steps, IsPending, Means}
 use Rattle.termwiz_bindings.specs.ChordLaws.{OneMeaning, CutIndependent, StepsJoin, NothingLost, ArePressesOf}
 use Rattle.termwiz_bindings.proofs.lemmas.SharedBeginnings.{length-some}
 use Rattle.termwiz_bindings.proofs.lemmas.ChordItems.{stands_stays, same_outcome, nothing_stands, some_stands}

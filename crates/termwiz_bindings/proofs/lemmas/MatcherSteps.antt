@@ -1,12 +1,12 @@
 -- What a lookup says of the item at the front of the pending presses, and which of two presses is taken.
-use Rattle.std.proofs.Common.{◌≡◌, ◌≢◌, ◌⊎◌, inl, inr, ⊎_elim, ℕ, ◌+◌, ◌<◌, ◌≤◌, Bool, true, false, List, [], ◌∷◌, ◌++◌, length, take, drop, Option, Some, None, refl, sym, ap, ◌∙◌, subst, append_assoc, length-append, length-take-le, take-append-drop, append-nil, arith}
+use Rattle.std.proofs.Common.{◌≡◌, ◌≢◌, ◌⊎◌, inl, inr, ⊎_elim, ℕ, ◌<◌, ◌≤◌, Bool, true, false, List, [], ◌∷◌, ◌++◌, length, take, drop, Option, Some, None, refl, sym, ◌∙◌, subst, append_assoc, length-append, length-take-le, take-append-drop, append-nil, arith}
 use Rattle.std.proofs.lemmas.List.{take_all}
 use Rattle.std.specs.Prelude.{IsSome, IsTrue, MatchOption, ◌↔◌}
 use denote.Ref.{Bor}
 use Rattle.termwiz_bindings.specs.declared.press.KeyPress.{KeyPress}
 use Rattle.termwiz_bindings.specs.declared.matcher.Outcome.{Outcome}
 use Rattle.termwiz_bindings.specs.declared.matcher.Outcome.TheVariants.{Bound, Unbound}
-use Rattle.termwiz_bindings.specs.Matching.{Chords, IsChord, IsChordMap, BeginWith, BeginWithNone, IsContinued, IsOpen, IsLongestChord, IsItem, Stands, Steps, most_keys}
+use Rattle.termwiz_bindings.specs.Matching.{Chords, IsChord, IsChordMap, IsContinued, IsOpen, IsItem, Steps, most_keys}
 use Rattle.termwiz_bindings.specs.Matchers.{outcome_copied, keys_of, FoundLongest, outcome_found, LeadsOn, IsPreferred, OnlySecondLeadsOn, TakesSecond, IsTaken}
 use Rattle.termwiz_bindings.proofs.lemmas.SharedBeginnings.{length-some}
 use Rattle.termwiz_bindings.proofs.lemmas.ChordReadings.{some_taken}

@@ -1,15 +1,13 @@
 -- What is pending, and what giving it up or another chord changes.
-use Rattle.std.proofs.Common.{◌≡◌, ◌≢◌, ◌⊎◌, inl, inr, ⊎_elim, ℕ, zero, suc, ◌+◌, ◌<◌, ◌≤◌, Bool, true, false, List, [], ◌∷◌, ◌++◌, length, take, drop, Option, Some, None, refl, sym, ap, ◌∙◌, subst, append_assoc, length-append, length-take-le, take-append-drop, Contains, arith, append-nil}
+use Rattle.std.proofs.Common.{◌≡◌, ◌≢◌, ◌⊎◌, inl, inr, ℕ, ◌<◌, ◌≤◌, Bool, true, false, List, [], ◌∷◌, ◌++◌, length, take, drop, refl, sym, ap, ◌∙◌, subst, length-append, length-take-le, take-append-drop, arith, append-nil}
 use Rattle.std.specs.Prelude.{IsSome}
 use Rattle.std.specs.List.{AllByRecursion}
-use Rattle.std.proofs.lemmas.List.Elements.{Contains-append_right}
 use Rattle.termwiz_bindings.specs.declared.press.KeyPress.{KeyPress}
 use Rattle.termwiz_bindings.specs.declared.matcher.Outcome.{Outcome}
 use Rattle.termwiz_bindings.specs.declared.matcher.Outcome.TheVariants.{Bound, Unbound}
-use Rattle.termwiz_bindings.specs.Matching.{Chords, IsChord, IsChordMap, BeginWith, IsContinued, IsOpen, IsItem, Stands, Steps, IsPending, Means, most_keys}
+use Rattle.termwiz_bindings.specs.Matching.{Chords, IsChord, BeginWith, IsContinued, IsOpen, IsItem, Stands, IsPending, Means, most_keys}
 use Rattle.termwiz_bindings.specs.ChordLaws.{LongestChord, UnboundOnly, most_pending, IsWaiting, PendingShape, NothingPending, Undecided, AgreeFrom, MeaningOfPresses}
-use Rattle.termwiz_bindings.proofs.lemmas.SharedBeginnings.{length-some, append-some_left, taken_front, front_fits}
-use Rattle.termwiz_bindings.proofs.lemmas.ChordItems.{nothing_stands, item_begins}
+use Rattle.termwiz_bindings.proofs.lemmas.SharedBeginnings.{length-some, taken_front, front_fits}
 
 begins_with_taken : (u : List KeyPress) (n : ℕ) → BeginWith u (take n u)
 begins_with_taken u n = (drop n u, sym (take-append-drop n u))

@@ -1,6 +1,6 @@
-use Rattle.std.proofs.Common.{◌≡◌, ◌∙◌, true, false, [], ◌∷◌, drop, sym, ap, subst}
+use Rattle.std.proofs.Common.{◌≡◌, ◌∙◌, [], ◌∷◌, drop, sym, ap, subst}
 use Rattle.termwiz_bindings.specs.Bindings.{find as value_of}
-use Rattle.termwiz_bindings.specs.Matching.{IsOpen, IsContinued, Steps}
+use Rattle.termwiz_bindings.specs.Matching.{IsOpen, Steps}
 use Rattle.termwiz_bindings.specs.Matchers.{outcome_copied, keys_of}
 use Rattle.termwiz_bindings.proofs.lemmas.MatcherSteps.{found_step, never_open, ended}
 use Rattle.termwiz_bindings.proofs.matcher.Matcher.next.Goals as goal
