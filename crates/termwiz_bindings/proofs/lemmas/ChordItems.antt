@@ -67,10 +67,6 @@ module _ {V : Type 0} where
         },
       )
 
-  pub item_begins : (find : Chords V) (u taken : List KeyPress) (o : Outcome V) → IsItem find u taken o → BeginWith u taken
-  item_begins find u taken (Bound keys value) (l, i) = i.begins
-  item_begins find u taken (Unbound press) (e, i) = subst (BeginWith u) (sym e) i.first
-
   -- the longest chord that a list begins with, of at most n presses, or none
   pub data LongestWithin (find : Chords V) (u : List KeyPress) (n : ℕ) : Type 0 where
     some_chord : (chord : List KeyPress) (value : V) → find chord ≡ Some value → BeginWith u chord

@@ -1,14 +1,12 @@
 -- What a lookup says of the item at the front of the pending presses, and which of two presses is taken.
-use Rattle.std.proofs.Common.{◌≡◌, ◌≢◌, ◌⊎◌, inl, inr, ⊎_elim, ℕ, ◌<◌, ◌≤◌, Bool, true, false, List, [], ◌∷◌, ◌++◌, length, take, drop, Option, Some, None, refl, sym, ◌∙◌, subst, append_assoc, length-append, length-take-le, take-append-drop, append-nil, arith}
-use Rattle.std.proofs.lemmas.List.{take_all}
-use Rattle.std.specs.Prelude.{IsSome, IsTrue, MatchOption, ◌↔◌}
+use Rattle.std.proofs.Common.{◌≡◌, ◌≢◌, inl, inr, ℕ, Bool, true, false, List, [], ◌∷◌, ◌++◌, take, drop, Option, Some, None, refl, sym, ◌∙◌, subst, length-take-le, take-append-drop}
+use Rattle.std.specs.Prelude.{MatchOption, unwrap_or}
 use denote.Ref.{Bor}
 use Rattle.termwiz_bindings.specs.declared.press.KeyPress.{KeyPress}
 use Rattle.termwiz_bindings.specs.declared.matcher.Outcome.{Outcome}
 use Rattle.termwiz_bindings.specs.declared.matcher.Outcome.TheVariants.{Bound, Unbound}
-use Rattle.termwiz_bindings.specs.Matching.{Chords, IsChord, IsChordMap, IsContinued, IsOpen, IsItem, Steps, most_keys}
-use Rattle.termwiz_bindings.specs.Matchers.{outcome_copied, keys_of, FoundLongest, outcome_found, LeadsOn, IsPreferred, OnlySecondLeadsOn, TakesSecond, IsTaken}
-use Rattle.termwiz_bindings.proofs.lemmas.SharedBeginnings.{length-some}
+use Rattle.termwiz_bindings.specs.Matching.{Chords, IsChordMap, IsContinued, IsOpen, IsItem, Steps}
+use Rattle.termwiz_bindings.specs.Matchers.{outcome_copied, keys_of, FoundLongest, outcome_found, IsPreferred, TakesSecond, IsTaken}
 use Rattle.termwiz_bindings.proofs.lemmas.ChordReadings.{some_taken}
 
 module _ {V : Type 0} where
@@ -81,89 +79,18 @@ module _ {V : Type 0} where
   given_up_first find u found (Some o) chords longest e =
       (drop (keys_of o) u, found_step find false u found o chords (never_open find u) longest (sym e))
 
-  pub leads_continued : (find : Chords V) (u : List KeyPress) (x : KeyPress) → LeadsOn find u x → IsContinued find u
-  leads_continued find u x h = record { tail = x ∷ h.rest; longer = λ e. cc (e); is_chord = h.is_chord }
-
-  -- no chord goes on after as many presses as a chord may have
-  pub full_ends : (find : Chords V) (u : List KeyPress) → IsChordMap find → most_keys ≤ length u → ¬ IsContinued find u
-  full_ends find u chords full c =
-      let short : length (u ++ c.tail) ≤ most_keys = chords.short (u ++ c.tail) c.is_chord in
-      let some : 0 < length c.tail = length-some c.tail c.longer in
-      absurd (omega (arith, length-append u c.tail))
-
-  -- a press leads on if the longer list is a chord or is continued
-  pub leads_from_continued : (find : Chords V) (u : List KeyPress) (x : KeyPress) → IsContinued find (u ++ x ∷ []) → LeadsOn find u x
-  leads_from_continued find u x c = record {
-    rest = c.tail;
-    is_chord = subst (IsChord find) (append_assoc u (x ∷ []) c.tail) c.is_chord;
-  }
-
-  pub leads_from_chord : (find : Chords V) (u : List KeyPress) (x : KeyPress) → IsChord find (u ++ x ∷ []) → LeadsOn find u x
-  leads_from_chord find u x is = record { rest = []; is_chord = is }
-
-  pub leads_cases : (find : Chords V) (u : List KeyPress) (x : KeyPress) → LeadsOn find u x
-      → IsChord find (u ++ x ∷ []) ⊎ IsContinued find (u ++ x ∷ [])
-  leads_cases find u x h = go h.rest h.is_chord
-    where
-      go : (rest : List KeyPress) → IsChord find (u ++ x ∷ rest) → IsChord find (u ++ x ∷ []) ⊎ IsContinued find (u ++ x ∷ [])
-      go [] is = inl is
-      go (y ∷ rest) is = inr (record {
-        tail = y ∷ rest;
-        longer = λ e. cc (e);
-        is_chord = subst (IsChord find) (sym (append_assoc u (x ∷ []) (y ∷ rest))) is;
-      })
-
-  -- the longest chord that presses begin with has as many presses exactly if they are a chord
-  pub whole_from_longest : (find : Chords V) (u : List KeyPress) (found : ℕ × Bor V) → FoundLongest find u (Some found)
-      → found.0 ≡ length u → IsChord find u
-  whole_from_longest find u found (fits, longest) e =
-      let whole : take found.0 u ≡ u = take_all found.0 u (omega arith) in
-      subst (IsChord find) whole (subst IsSome (sym longest.bound) refl)
-
-  pub longest_of_chord : (find : Chords V) (u : List KeyPress) (found : ℕ × Bor V) → IsChord find u → FoundLongest find u (Some found)
-      → found.0 ≡ length u
-  longest_of_chord find u found is (fits, longest) =
-      let most : length u ≤ length (take found.0 u) = longest.longest u is ([], sym (append-nil u)) in
-      let count : length (take found.0 u) ≡ found.0 = length-take-le found.0 u fits in
-      omega arith
-
-  pub some_of_chord : (find : Chords V) (u : List KeyPress) → IsChord find u → ¬ FoundLongest find u None
-  some_of_chord find u is none = none u is ([], sym (append-nil u))
-
-  pub leads : (find : Chords V) (u : List KeyPress) (x : KeyPress) (found : Option (ℕ × Bor V)) (goes_on : Bool)
-      → FoundLongest find (u ++ x ∷ []) found → (IsTrue goes_on ↔ IsContinued find (u ++ x ∷ []))
-      → LeadsOn find u x → (goes_on ≡ true) ⊎ ((f : ℕ × Bor V) × (found ≡ Some f) × (f.0 ≡ length (u ++ x ∷ [])))
-  leads find u x (Some f) goes_on longest continued h = ⊎_elim
-      (λ (is : IsChord find (u ++ x ∷ [])). inr (f, refl, longest_of_chord find (u ++ x ∷ []) f is longest))
-      (λ (c : IsContinued find (u ++ x ∷ [])). inl (continued.1 c))
-      (leads_cases find u x h)
-  leads find u x None goes_on none continued h = ⊎_elim
-      (λ (is : IsChord find (u ++ x ∷ [])). absurd (some_of_chord find (u ++ x ∷ []) is none))
-      (λ (c : IsContinued find (u ++ x ∷ [])). inl (continued.1 c))
-      (leads_cases find u x h)
-
-  -- which of two presses is taken, after what leads on behind the pending ones and behind none
-  pub taken_of_pending : (find : Chords V) (u : List KeyPress) (a b press : KeyPress) → IsPreferred find u a b (Some press)
-      → IsTaken find u a (Some b) press
-  taken_of_pending find u a b press (inl (leads, is)) =
-      inr (⊎_elim (λ (h : OnlySecondLeadsOn find u a b). h.first_ends leads) (λ h. absurd (h.0 leads)), is)
-  taken_of_pending find u a b press (inr (ends, leads, is)) =
-      inl (inl (record { first_ends = ends; second_leads = leads }), is)
-
-  pub taken_of_none : (find : Chords V) (u : List KeyPress) (a b : KeyPress) (found : Option KeyPress) (press : KeyPress)
-      → IsPreferred find u a b None → IsPreferred find [] a b found
-      → (found ≡ Some press) ⊎ ((found ≡ None) × (press ≡ a)) → IsTaken find u a (Some b) press
-  taken_of_none find u a b None press none other (inl e) = absurd (cc (e))
-  taken_of_none find u a b None press none other (inr (e, is)) = inr (never, is)
+  -- which of two presses is taken where neither leads on behind the pending ones
+  pub taken_of_none : (find : Chords V) (u : List KeyPress) (a b : KeyPress) (found : Option KeyPress)
+      → IsPreferred find u a b None → IsPreferred find [] a b found → IsTaken find u a (Some b) (unwrap_or found a)
+  taken_of_none find u a b None none other = inr (never, refl)
     where
       never : ¬ TakesSecond find u a b
       never (inl h) = none.1 h.second_leads
       never (inr h) = other.1 h.2.second_leads
-  taken_of_none find u a b (Some chosen) press none (inl (leads, is)) (inl e) = inr (never, cc (e, is))
+  taken_of_none find u a b (Some chosen) none (inl (leads, is)) = inr (never, is)
     where
       never : ¬ TakesSecond find u a b
       never (inl h) = none.1 h.second_leads
       never (inr h) = h.2.first_ends leads
-  taken_of_none find u a b (Some chosen) press none (inr (ends, leads, is)) (inl e) =
-      inl (inr (none.0, none.1, record { first_ends = ends; second_leads = leads }), cc (e, is))
-  taken_of_none find u a b (Some chosen) press none other (inr (e, is)) = absurd (cc (e))
+  taken_of_none find u a b (Some chosen) none (inr (ends, leads, is)) =
+      inl (inr (none.0, none.1, record { first_ends = ends; second_leads = leads }), is)

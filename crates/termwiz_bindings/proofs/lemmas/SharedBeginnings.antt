@@ -32,10 +32,6 @@ module _ {X : Type 0} where
   length-some [] n = absurd (n refl)
   length-some (x ∷ t) n = omega arith
 
-  pub some_from_length : (t : List X) → 0 < length t → t ≢ []
-  some_from_length [] l = absurd (omega arith)
-  some_from_length (x ∷ t) l = λ h. cc
-
   -- two that begin one list and are equally long are the same
   pub same_from_length : (a b r s : List X) → a ++ r ≡ b ++ s → length a ≡ length b → a ≡ b
   same_from_length [] [] r s e l = refl
