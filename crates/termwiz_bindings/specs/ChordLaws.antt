@@ -101,8 +101,8 @@ MeaningOfPresses V = (find other : Chords V) (more : Bool) (presses left : List 
     → Means find more presses outcomes left ↔ Means other more presses outcomes left
 
 -- To bind or to unbind a chord changes the meaning of no list without its first press.
-abbrev pub OneChord : Type 0 → Type 0
-OneChord V = (m : ByteMap V) (first : KeyPress) (others : List KeyPress) (value : V)
+abbrev pub LeavesOtherLists : Type 0 → Type 0
+LeavesOtherLists V = (m : ByteMap V) (first : KeyPress) (others : List KeyPress) (value : V)
     (more : Bool) (presses left : List KeyPress) (outcomes : List (Outcome V))
     → IsPress first → All IsPress presses → ¬ Contains presses first
     → (Means (find m) more presses outcomes left ↔ Means (find (bound m (first ∷ others) value)) more presses outcomes left)

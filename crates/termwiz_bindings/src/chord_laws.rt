@@ -1,5 +1,5 @@
 //! Laws of reading presses under chords, each the contract of a function without effect.
-ghost use Rattle.termwiz_bindings.specs.ChordLaws.{BindingsAreChords, CutIndependent, LongestChord, MeaningOfPresses, NothingLost, NothingPending, OneChord, OneItem, OneMeaning, PendingShape, StepsJoin, UnboundOnly, Undecided};
+ghost use Rattle.termwiz_bindings.specs.ChordLaws.{BindingsAreChords, CutIndependent, LongestChord, MeaningOfPresses, NothingLost, NothingPending, LeavesOtherLists, OneItem, OneMeaning, PendingShape, StepsJoin, UnboundOnly, Undecided};
 
 /// At the front of a list of presses that is neither open nor empty stands exactly one item.
 pub fn one_item<V>()
@@ -48,8 +48,8 @@ pub fn meaning_of_presses<V>()
 {}
 
 /// To bind or to unbind a chord changes the meaning of no list without its first press.
-pub fn one_chord<V>()
-    ensures { OneChord V }
+pub fn leaves_other_lists<V>()
+    ensures { LeavesOtherLists V }
 {}
 
 /// Bindings are finitely many chords of 1 to 32 presses, so each list of presses has one meaning under them.

@@ -18,7 +18,7 @@ use Rattle.termwiz_bindings.specs.declared.press.KeyPress.{KeyPress}
 use Rattle.termwiz_bindings.specs.Codes.{IsPress, code, code_len, codes}
 use Rattle.termwiz_bindings.specs.Bindings.{AreBindings, IsContinued as IsContinuedIn, IsLongestChord as IsLongestIn, NoChordBegins, bound, find, unbound}
 use Rattle.termwiz_bindings.specs.Matching.{IsChordMap, BeginWith, BeginWithNone, IsContinued, IsLongestChord, most_keys}
-use Rattle.termwiz_bindings.specs.ChordLaws.{AgreeFrom, OneChord}
+use Rattle.termwiz_bindings.specs.ChordLaws.{AgreeFrom, LeavesOtherLists}
 use Rattle.termwiz_bindings.proofs.lemmas.CodedPresses.{code_length, codes_append, codes_length, codes_tell}
 use Rattle.termwiz_bindings.proofs.lemmas.SharedBeginnings.{length-some, same_from_length, taken_front, front_fits}
 use Rattle.termwiz_bindings.proofs.lemmas.PendingChords.{meaning_of_presses}
@@ -218,8 +218,8 @@ module _ {V : Type 0} where
         agree_unbound m first others is u (All-tail IsPress x u are) parts.1,
       )
 
-pub one_chord : (V : Type 0) → OneChord V
-one_chord V m first others v f u left E is are none = (
+pub leaves_other_lists : (V : Type 0) → LeavesOtherLists V
+leaves_other_lists V m first others v f u left E is are none = (
   meaning_of_presses V (find m) (find (bound m (first ∷ others) v)) f u left E
       (get-set m (codes (first ∷ others)) v (codes [])
       ∙ untied_get (tied (codes []) (codes (first ∷ others))) (Some v) (find m [])
