@@ -3,7 +3,9 @@
 
 pub mod bindings;
 pub mod chord;
+pub mod chord_laws;
 pub mod laws;
+pub mod matcher;
 pub mod numbers;
 pub mod press;
 #[cfg(test)]
