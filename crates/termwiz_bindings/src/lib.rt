@@ -8,5 +8,3 @@ pub mod laws;
 pub mod matcher;
 pub mod numbers;
 pub mod press;
-#[cfg(test)]
-mod tests;

@@ -1,5 +1,7 @@
-//! Tests of matchers: worked examples of what presses do under chords.
+//! Tests of bindings and of matchers.
 #![tactic(auto)]
 
 #[cfg(test)]
-mod tests;
+mod bindings;
+#[cfg(test)]
+mod matchers;
