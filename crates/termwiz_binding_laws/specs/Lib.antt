@@ -1,1 +1,2 @@
+pub mod EncodedPresses
 pub mod Twins

@@ -1,5 +1,5 @@
 -- Keys that a terminal's text doesn't tell apart: what is read in place of a key with modifiers. Each such key is its twin.
-use Rattle.std.specs.Prelude.{◌+◌, ◌==◌, ◌&&◌, ◌||◌, ℕ, Bool, not, List, [], ◌∷◌, Option, Some, None, option_map, is_some, codes, bit_and, bit_or, nat_le, if◌then◌else◌}
+use Rattle.std.specs.Prelude.{◌+◌, ◌==◌, ◌&&◌, ◌||◌, ℕ, Bool, not, List, [], ◌∷◌, Option, option_map, unwrap_or, is_some, codes, bit_and, bit_or, nat_le, if◌then◌else◌}
 use Rattle.std.specs.Char.{is_ascii_uppercase, is_ascii_lowercase, to_ascii_lowercase}
 use Rattle.std.specs.List.{find, list_any}
 use Rattle.bitflags.specs.Sets.{without}
@@ -67,16 +67,15 @@ unpaired_twin c held modes =
     if has_control c || (tells_codes modes && not (holds held ALT)) then key_with (Char c) held
     else key_with (Char c) (only_alt held)
 
--- CTRL and a character: the key of its row with ALT too, if that is held
-abbrev pub paired_twin : Option (KeyCode × ℕ) → ℕ → ℕ → KeyCodeEncodeModes → KeyEvent
-paired_twin (Some row) c held modes = key_with row.0 (bit_or row.1 (only_alt held))
-paired_twin None c held modes = unpaired_twin c held modes
+-- the key of a row, with ALT too if that is held
+abbrev pub row_twin : ℕ → KeyCode × ℕ → KeyEvent
+row_twin held row = key_with row.0 (bit_or row.1 (only_alt held))
 
 -- CTRL and a character of ASCII that isn't a capital letter
 abbrev pub control_twin : ℕ → ℕ → KeyCodeEncodeModes → KeyEvent
 control_twin c held modes =
     if in_csi_u modes && is_among told_in_csi_u c then key_with (Char c) held
-    else paired_twin (control_row c) c held modes
+    else unwrap_or (option_map (row_twin held) (control_row c)) (unpaired_twin c held modes)
 
 -- a letter is a capital, or SHIFT makes it one
 abbrev pub is_capital : ℕ → ℕ → Bool

@@ -1,18 +1,16 @@
 -- The presses that the texts of keys are read as, computed over lists of keys with modifiers.
-use Rattle.std.proofs.Common.{◌≡◌, ℕ, ℤ, ◌+◌, Bool, true, false, List, [], ◌∷◌, ◌++◌, map, Option, Some, None, refl, Contains}
+use Rattle.std.proofs.Common.{◌≡◌, ℕ, ◌+◌, List, ◌++◌, map, Option, Some, None}
 use Rattle.std.specs.Prelude.{option_and_then}
 use Rattle.std.specs.Str.{chars as text_chars}
 use Rattle.termwiz_keys.specs.declared.types.KeyCode.{KeyCode}
-use Rattle.termwiz_keys.specs.declared.types.KeyCode.TheVariants.{Char}
+use Rattle.termwiz_keys.specs.declared.types.KeyCode.TheVariants.{Char, Tab, Enter, Escape, Backspace}
 use Rattle.termwiz_keys.specs.declared.types.KeyEvent.{KeyEvent}
-use Rattle.termwiz_keys.specs.declared.encode.KeyboardEncoding.{KeyboardEncoding}
-use Rattle.termwiz_keys.specs.declared.encode.KeyboardEncoding.TheVariants.{Xterm, CsiU}
 use Rattle.termwiz_keys.specs.declared.encode.KeyCodeEncodeModes.{KeyCodeEncodeModes}
 use Rattle.termwiz_keys.specs.Encoding.{enc}
-use Rattle.termwiz_grammar.specs.Table.{TableRow, numbers, written_out}
+use Rattle.termwiz_grammar.specs.Table.{TableRow}
 use Rattle.termwiz_grammar.specs.Listed.{any_of_three}
-use Rattle.termwiz_grammar.proofs.lemmas.lists.ListMembers.{pairs}
-use Rattle.termwiz_laws.proofs.lemmas.further_keys.ComputedReadings.{mode, level, Held, enc_written_out, chars}
+use Rattle.termwiz_grammar.proofs.lemmas.read_back.RuleReader.{rows_for, csi_u_rows_of}
+use Rattle.termwiz_laws.proofs.lemmas.further_keys.ComputedReadings.{Held}
 use Rattle.termwiz_laws.proofs.lemmas.further_keys.WideReadings.{wide_reading, part_of}
 use Rattle.termwiz_extended_events.specs.declared.types.KeyReport.{KeyReport}
 use Rattle.termwiz_extended_events.specs.EventKeys.{pressed_key}
@@ -30,29 +28,45 @@ unfolding canonical rules.settled rules.main_press rules.shown_press rules.contr
     keys.main_code keys.main_of_named functional_key text_chars
 canonical_written_out = canonical
 
-abbrev read_key : List TableRow → Option (List ℕ) → Option KeyEvent
+-- The rows among which the texts of a key are, after at most one ESC. Enter, Escape, Tab and Backspace may be sent by their codes.
+abbrev pub coded_rows : List TableRow
+coded_rows = csi_u_rows_of 9 ++ csi_u_rows_of 13 ++ csi_u_rows_of 27 ++ csi_u_rows_of 8 ++ csi_u_rows_of 127
+
+abbrev pub part_of_key : KeyCode → List TableRow
+part_of_key (Char c) = part_of (Char c)
+part_of_key Tab = rows_for Tab ++ coded_rows
+part_of_key Enter = rows_for Enter ++ coded_rows
+part_of_key Escape = rows_for Escape ++ coded_rows
+part_of_key Backspace = rows_for Backspace ++ coded_rows
+part_of_key key = rows_for key
+
+-- the key that the port reads a text as
+abbrev pub read_key : List TableRow → Option (List ℕ) → Option KeyEvent
 read_key part (Some text) = wide_reading part text
 read_key part None = None
 
+-- the press of a key event that is there
+abbrev pub press_read : Option KeyEvent → Option KeyPress
+press_read read = option_and_then (λ k. canonical (pressed_key k)) read
+
+abbrev pub twin_of : KeyCodeEncodeModes → Held → KeyEvent
+twin_of modes p = twin p.0 p.1 modes
+
 -- the press of the key that the text of a key is read as, and that of its twin
 abbrev pub told : KeyCodeEncodeModes → Held → Option KeyPress × Option KeyPress
-told modes p =
-    (option_and_then (λ k. canonical (pressed_key k)) (read_key (part_of p.0) (enc p.0 (record { 0 = p.1 }) modes)),
-    canonical (event_report (twin p.0 p.1 modes)))
+told modes p = (
+  press_read (read_key (part_of_key p.0) (enc p.0 (record { 0 = p.1 }) modes)),
+  canonical (event_report (twin_of modes p)),
+)
 
--- both are the press of the twin
+-- both are there, and the same
 abbrev pub wanted : KeyCodeEncodeModes → Held → Option KeyPress × Option KeyPress
-wanted modes p = (Some (settled_report (event_report (twin p.0 p.1 modes))), Some (settled_report (event_report (twin p.0 p.1 modes))))
+wanted modes p =
+    (Some (settled_report (event_report (twin_of modes p))), Some (settled_report (event_report (twin_of modes p))))
 
 abbrev pub AllTold : KeyCodeEncodeModes → List Held → Type 0
 AllTold modes cases = map (told modes) cases ≡ map (wanted modes) cases
 
-abbrev four : List ℕ
-four = any_of_three ++ map (λ held. held + SUPER) any_of_three
-
-abbrev pub ascii : List Held
-ascii = pairs (chars (numbers 32 95)) four
-
-pub chars_xterm_off : (a n : Bool) → AllTold (mode Xterm a n None) ascii
-unfolding enc_written_out written_out canonical_written_out twin
-chars_xterm_off a n = refl
+-- the sets of SHIFT, ALT, CTRL and SUPER
+abbrev pub any_of_four : List ℕ
+any_of_four = any_of_three ++ map (λ held. held + SUPER) any_of_three
