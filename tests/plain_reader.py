@@ -20,6 +20,7 @@ RXVT_HIGH = {str(35 + it): f"f{21 + it}" for it in range(4)}
 TILDE = EDIT | NUMBERED | HIGH | RXVT_HIGH
 URXVT = {it: EDIT[it] for it in "235678"} | NUMBERED | RXVT_HIGH
 URXVT_ENDS = {"^": CTRL, "@": CTRL | SHIFT, "$": SHIFT}
+RXVT_OR_KEYPAD = re.compile(rb"\x1bO[MXEj-y]|\x1b\[(\d+[$^@]|3[5-8]~)")
 SHIFTED = re.compile(rb"\x1b\[(%s)\$" % "|".join(URXVT).encode())
 KEYPAD = {"M": 57414, "X": 57415, "E": "keypadbegin"}
 KEYPAD |= dict(zip("jklmno", "multiply add separator subtract decimal divide".split()))
@@ -165,7 +166,7 @@ def extra(text, is_kitty):
 def takes_alt(text, event):
     """Whether ESC before this extra sequence is one item with it: the key with ALT."""
     is_key = event[0] in ("key", "release")
-    return is_key and bool(text in rows() or re.fullmatch(rb"\x1bO[MXEj-y]|\x1b\[\d+[$^@]", text))
+    return is_key and bool(text in rows() or RXVT_OR_KEYPAD.fullmatch(text))
 
 
 def is_open(text):

@@ -21,15 +21,12 @@ PAIRS = [tuple(it.split()) for it in re.split(r" \| |\n", PAIRS)]
 
 # Why a press isn't read: the beginnings of the column `why`.
 REASONS = {
-    "typed: ": "a character from U+0080 on, as in typed text: xterm writes Alt so",
-    "listed: Kitty's": "Kitty's protocol without flag 4: Shift, another modifier and `1` or `/`",
     "listed: foot": "foot's keypad with modifiers, as numbers of X11",
     "listed: Konsole": "Super in Konsole and QTerminal, as Ctrl-X, `@`, `s` and the key",
     "listed: st": "st's Insert, Delete, End and Home, where keypad mode or DECCKM is off",
-    "listed: ESC": "Alt and F21 to F24 in urxvt: Escape, and then the key",
     "listed: VTE": "the keypad's Delete with modifiers in VTE in keypad mode",
-    "row: ": "the sequence table says otherwise: Ctrl-J, Super as ESC `[1;9A`",
-    "other: ": "another terminal, or another mode, sends the same for what is read: Ctrl-H",
+    "row: ": "the sequence table says otherwise: Super as ESC `[1;9A`",
+    "other: ": "another terminal, or another mode, sends the same for what is read",
     "reply: ": "F3 with modifiers under Kitty's protocol is the cursor's position",
     "focus: ": "QTerminal's keypad 5 in keypad mode begins as a focus report",
 }

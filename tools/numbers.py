@@ -216,7 +216,7 @@ FLAG_NAME = r'name: "(?P<text>\w+)",\n *value: \w+::(?P<name>\w+),$'
 
 # What has a group's numbers or the names that are printed of it: files, and a pattern for all.
 PROVED = [
-    ("key", "hedrugal/src/keys.rt", r"^ *KeyCode::(?P<name>\w+)(?:\(_\))? => (?P<number>\d+),?$"),
+    ("key", "termwiz_bindings/src/numbers.rt", r"^ *KeyCode::(?P<name>\w+)(?:\(_\))? => (?P<number>\d+),?$"),
     ("kind", "hedrugal/src/events.rt hedrugal/src/extended_events.rt", constants("KIND")),
     ("side_button", "hedrugal/src/extended_events.rt", constants("SIDE_BUTTON")),
     ("key_event_kind", "hedrugal/src/extended_events.rt", constants("KEY_EVENT_KIND")),

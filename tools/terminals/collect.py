@@ -52,21 +52,29 @@ LISTED = [
     ),
     ("konsole|qterminal", rb"\x18@s.*", "Konsole writes Super as Ctrl-X, @, s before the key"),
     ("foot", rb"\x1b\[27;\d+;6\d{4}~", "foot sends X11's numbers of keypad keys as characters"),
-    ("urxvt", rb"\x1b\x1b\[3[5-8]~", "ESC isn't joined to a number that is no row"),
     ("xfce4-terminal", rb"\x1bO3~", "VTE joins ESC O and half of a sequence"),
-    (
-        "kitty|foot",
-        rb"\x1b\[\d+;\d+(:\d)?u",
-        "Kitty's protocol tells what Shift makes of the key by flag 4 alone",
-    ),
 ]
+
+# The keys of which a control character is made with Ctrl, by tradition.
+CONTROLS = {chr(code): chr(code + 96) for code in range(1, 27)}
+CONTROLS |= {"\0": " @2`", "\x1b": "[3{", "\x1c": "\\4|", "\x1d": "]5}", "\x1e": "^6~"}
+CONTROLS |= {"\x1f": "_7/", "\x7f": "?8"}
+
+# Reports of Kitty's protocol, which tell what Shift makes of a key in this mode alone. Without a
+# program's asking, kitty sends them of keys with Super.
+WITH_SHIFTED = "kitty31"
+KITTY_REPORT = re.compile(rb"\x1b\[\d+;\d+(:\d)?u")
+
+
+def held_by(mods):
+    return sum(HELD[it] for it in mods.split("+")) if mods != "-" else 0
 
 
 def right_presses(name, mods):
     """The names of the presses that a key with modifiers is. A key of the keypad with two labels
     counts as both: in keypad mode most terminals send the same with Num Lock and without, and
     Shift turns Num Lock around."""
-    held = sum(HELD[it] for it in mods.split("+")) if mods != "-" else 0
+    held = held_by(mods)
     if not name.startswith("KP_"):
         key = NAMED.get(name, name)
         shifted = SHIFTED.get(key, key.upper() if key.isascii() else key) if len(key) == 1 else None
@@ -75,6 +83,23 @@ def right_presses(name, mods):
     return {
         press(key, it) for key in keys for it in ({held, held & ~SHIFT} if keys[1:] else {held})
     }
+
+
+def presses_of_text(data):
+    """The presses that a character may always be: a control character its key and those of which it
+    is made with Ctrl, all with Alt where ESC is before it; one from U+0080 on what it types."""
+    text = data.decode("utf-8", "surrogateescape")
+    alt, text = (ALT, text[1:]) if len(text) == 2 and text[0] == "\x1b" else (0, text)
+    if text in CONTROLS:
+        return {press(text, alt), *(press(it, alt | CTRL) for it in CONTROLS[text])}
+    return {press(text, 0)} if len(text) == 1 and ord(text) >= 128 and not alt else set()
+
+
+def press_without_shifted(mode, data, name, mods):
+    """The press of a key of which Kitty's protocol doesn't tell what Shift makes of it."""
+    if mode == WITH_SHIFTED or not KITTY_REPORT.fullmatch(data) or "KP_" in name:
+        return set()
+    return {press(NAMED.get(name, name), held_by(mods))}
 
 
 def pressed_name(name, mods):
@@ -114,19 +139,21 @@ def key_lines(terminal, recorded):
     classes = collections.defaultdict(lambda: (set(), set()))
     for (kind, mode), keys in sent.items():
         for (name, mods), data in keys.items():
-            classes[kind, mode, data]["KP_" in name].update(right_presses(name, mods))
+            main, other = classes[kind, mode, data]
+            (other if "KP_" in name else main).update(right_presses(name, mods))
+            other |= presses_of_text(data) | press_without_shifted(mode, data, name, mods)
     found = collections.OrderedDict()
     for (kind, mode), keys in sent.items():
         pressed = collections.OrderedDict()
         for (name, mods), data in keys.items():
             pressed.setdefault(data, []).append(pressed_name(name, mods))
         for data, names in pressed.items():
-            main, keypad = map(set, classes[kind, mode, data])
+            main, other = map(set, classes[kind, mode, data])
             if mode.startswith("dec"):
                 # Few keys are pressed in these modes: the others are as without them.
                 main |= classes[kind, "default", data][0]
             keys = " ".join(it for it in names if "KP_" in it)
-            also = " ".join(sorted(keypad - main))
+            also = " ".join(sorted(other - main))
             key = (kind, data, " ".join(sorted(main)), also, keys, str(len(names)))
             found.setdefault(key, []).append(mode)
     return lines_of(found)
@@ -182,9 +209,6 @@ def reason(terminal, line, mode, elsewhere):
                 return f"other: {name} in {other}, {of}"
         if data in rows() or data[:1] == b"\x1b" and data[1:] in rows():
             return f"row: {name}"
-        text = data.decode("utf-8", "replace")
-        if len(text) == 1 and ord(text) >= 128:
-            return f"typed: {name}"
     if kind == "reply":
         return "reply: a cursor's position"
     if events and events[0][0] == "focus":

@@ -91,6 +91,14 @@ add(
     settle=2.5,
     skip=keys("n Space f b"),
 )
+add("mlterm", "mlterm", "mlterm -g 80x24 -e", settle=1.5)
+add(
+    "zutty",
+    "zutty",
+    "zutty -font DejaVuSansMono -fontpath /usr/share/fonts/truetype/dejavu -e",
+    env=SOFTWARE,
+    settle=2.5,
+)
 add(
     "xfce4-terminal",
     "xfce4-terminal",

@@ -11,7 +11,7 @@ mod names;
 
 use bitflags::Flags;
 use itoa::Buffer;
-pub use names::{KEYS, variant_name};
+pub use names::variant_name;
 use std::alloc::AllocError;
 use std::fmt::Display;
 use std::io::Write;

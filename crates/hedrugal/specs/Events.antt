@@ -3,7 +3,7 @@ use Rattle.std.specs.Prelude.{ℕ, List, length}
 use Rattle.termwiz_input.specs.InputEvent.{InputEvent}
 use Rattle.termwiz_input.specs.InputEvent.TheVariants.{Key, Mouse, Paste}
 use Rattle.hedrugal.specs.declared.events.CEvent.{CEvent}
-use Rattle.hedrugal.specs.Keys.{key_number, key_detail}
+use Rattle.termwiz_bindings.specs.Numbers.{key_number, key_detail}
 
 -- An event in numbers. What its kind has no use for is 0.
 unfoldable pub c_event : InputEvent → CEvent

@@ -22,7 +22,7 @@ use Rattle.hedrugal.specs.declared.events.CEvent.{CEvent}
 use Rattle.hedrugal.specs.declared.extended_events.CExtendedEvent.{CExtendedEvent}
 use Rattle.hedrugal.specs.declared.extended_events.CKeyReport.{CKeyReport}
 use Rattle.hedrugal.specs.Events.{c_event, c_part}
-use Rattle.hedrugal.specs.Keys.{key_number, key_detail}
+use Rattle.termwiz_bindings.specs.Numbers.{reported_number, reported_detail}
 
 -- the number of the protocol that the program turned on
 unfoldable pub protocol_number : Protocol → ℕ
@@ -34,16 +34,6 @@ unfoldable pub key_event_kind_number : KeyEventKind → ℕ
 key_event_kind_number Press = 1
 key_event_kind_number Repeat = 2
 key_event_kind_number Release = 3
-
--- the number of a reported key: 0 if it has no name
-unfoldable pub reported_number : ReportedKey → ℕ
-reported_number (Named key) = key_number key
-reported_number (Functional number) = 0
-
--- what a reported key carries: the number in Kitty's table of functional keys, if it has no name
-unfoldable pub reported_detail : ReportedKey → ℕ
-reported_detail (Named key) = key_detail key
-reported_detail (Functional number) = number
 
 -- what stands for a code point that the terminal didn't report
 abbrev pub no_code : ℕ

@@ -10,12 +10,7 @@ use Rattle.termwiz_kitty.specs.KittyTexts.{kitty_text, IsTooLong, IsWithin}
 use Rattle.hedrugal.specs.declared.extended_events.CKeyReport.{CKeyReport}
 use Rattle.hedrugal.specs.Calls.{copied}
 use Rattle.hedrugal.specs.ExtendedEvents.{key_event_kind_number, no_code}
-use Rattle.hedrugal.specs.Keys.{StandFor}
-
--- the number and the detail stand for this key of a report: with the number 0 the detail is that of Kitty's table
-abbrev pub StandForReported : ℕ → ℕ → ReportedKey → Type 0
-StandForReported number detail (Named key) = StandFor number detail key
-StandForReported number detail (Functional functional) = (number ≡ 0) × (functional ≡ detail)
+use Rattle.termwiz_bindings.specs.Numbers.{StandForReported}
 
 -- the number is this character, or says that there is none
 abbrev pub IsCode : ℕ → Option ℕ → Type 0

@@ -8,8 +8,7 @@ use Rattle.termwiz_bindings.specs.Presses.{canonical, event_report, second}
 use Rattle.hedrugal.specs.declared.events.CEvent.{CEvent}
 use Rattle.hedrugal.specs.declared.extended_events.CKeyReport.{CKeyReport}
 use Rattle.hedrugal.specs.declared.press_calls.CKeyPress.{CKeyPress}
-use Rattle.hedrugal.specs.ExtendedEvents.{reported_number, reported_detail}
-use Rattle.hedrugal.specs.Keys.{StandFor}
+use Rattle.termwiz_bindings.specs.Numbers.{StandFor, reported_number, reported_detail}
 use Rattle.hedrugal.specs.KittyCalls.{StandForReport}
 use Rattle.hedrugal.specs.Presses.{AreModifiers}
 

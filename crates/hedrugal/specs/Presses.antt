@@ -12,7 +12,7 @@ use Rattle.termwiz_input.specs.Encoding.{enc, unhandled}
 use Rattle.hedrugal.specs.declared.modes.CModes.{CModes}
 use Rattle.hedrugal.specs.declared.modes.Press.{Press}
 use Rattle.hedrugal.specs.Calls.{copied}
-use Rattle.hedrugal.specs.Keys.{StandFor}
+use Rattle.termwiz_bindings.specs.Numbers.{StandFor}
 
 -- these modifiers have the bits, and each of the bits has a name
 abbrev pub AreModifiers : Modifiers → ℕ → Type 0

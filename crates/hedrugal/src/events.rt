@@ -2,8 +2,8 @@
 ghost use Rattle.std.specs.Prelude.{◌≡◌};
 ghost use Rattle.hedrugal.specs.Events.{c_event};
 
-use crate::keys::{key_detail, key_number};
 use bitflags::Flags;
+use termwiz_bindings::numbers::{key_detail, key_number};
 use termwiz_input::types::InputEvent;
 
 // The kinds of events that both parsers have.

@@ -1,15 +1,15 @@
 // Events of the extended parser, and the kinds of what stays buffered, as C has them.
 ghost use Rattle.std.specs.Prelude.{◌≡◌, option_map};
 ghost use Rattle.termwiz_extended_events.specs.EventKeys.{key_of_event, pressed_key};
-ghost use Rattle.hedrugal.specs.ExtendedEvents.{key_event_kind_number, bytes_of, c_extended_event, c_report, c_report_if, extended_waiting_number, kind_number, own_bytes, reported_detail, reported_number, side_button_number, side_input, string_kind_number};
+ghost use Rattle.hedrugal.specs.ExtendedEvents.{key_event_kind_number, bytes_of, c_extended_event, c_report, c_report_if, extended_waiting_number, kind_number, own_bytes, side_button_number, side_input, string_kind_number};
 
 use crate::events::{CEvent, KIND_KEY, KIND_MOUSE, KIND_OTHER, KIND_PASTE, NO_EVENT, c_event};
-use crate::keys::{key_detail, key_number};
 use crate::{
     WAITING_CHARACTER, WAITING_ESCAPE, WAITING_NOTHING, WAITING_PASTE, WAITING_SEQUENCE,
     WAITING_STRING,
 };
 use bitflags::Flags;
+use termwiz_bindings::numbers::{key_detail, key_number, reported_detail, reported_number};
 use termwiz_input::types::{InputEvent, KeyEvent};
 use termwiz_input_extended::input::ExtendedWaiting;
 use termwiz_input_extended::types::{
@@ -148,28 +148,6 @@ fn key_event_kind_number(kind: KeyEventKind) -> u8
     }
 }
 
-// The number of a key: 0 if it has no name.
-#[tactic(auto, unfolding(crate::specs::ExtendedEvents::reported_number))]
-pub(crate) fn reported_number(key: ReportedKey) -> u16
-    ensures { result ≡ reported_number key }
-{
-    match key {
-        ReportedKey::Named(named) => key_number(named),
-        ReportedKey::Functional(_) => 0,
-    }
-}
-
-// What a key carries, or its number in Kitty's table if it has no name.
-#[tactic(auto, unfolding(crate::specs::ExtendedEvents::reported_detail))]
-pub(crate) fn reported_detail(key: ReportedKey) -> u32
-    ensures { result ≡ reported_detail key }
-{
-    match key {
-        ReportedKey::Named(named) => key_detail(named),
-        ReportedKey::Functional(number) => number,
-    }
-}
-
 // A key report as C has it.
 fn c_report(report: &KeyReport) -> CKeyReport
     ensures { result ≡ c_report report.now }
@@ -185,7 +163,7 @@ fn c_report(report: &KeyReport) -> CKeyReport
 }
 
 // A key of the port, as the report of a press.
-#[tactic(auto, unfolding(crate::specs::ExtendedEvents::key_event_kind_number, crate::specs::ExtendedEvents::reported_number, crate::specs::ExtendedEvents::reported_detail))]
+#[tactic(auto, unfolding(crate::specs::ExtendedEvents::key_event_kind_number, termwiz_bindings::specs::Numbers::reported_number, termwiz_bindings::specs::Numbers::reported_detail))]
 fn c_press(event: &KeyEvent) -> CKeyReport
     ensures { result ≡ c_report (pressed_key event.now) }
 {

@@ -4,13 +4,13 @@ ghost use Rattle.termwiz_extended_events.specs.declared.types.KeyEventKind.{KeyE
 ghost use Rattle.termwiz_extended_events.specs.declared.types.KeyReport.{KeyReport as Report};
 ghost use Rattle.termwiz_extended_events.specs.declared.types.ReportedKey.{ReportedKey as Key};
 ghost use Rattle.hedrugal.specs.ExtendedEvents.{key_event_kind_number};
-ghost use Rattle.hedrugal.specs.KittyCalls.{IsCode, StandForReport, StandForReported, without_text};
+ghost use Rattle.hedrugal.specs.KittyCalls.{IsCode, StandForReport, without_text};
 
 use crate::extended_events::{
     CKeyReport, KEY_EVENT_KIND_PRESS, KEY_EVENT_KIND_RELEASE, KEY_EVENT_KIND_REPEAT, NO_CODE,
 };
-use crate::keys::key_of;
 use std::alloc::Global;
+use termwiz_bindings::numbers::reported_key;
 use termwiz_input_extended::types::{KeyEventKind, KeyReport, KeyText, ReportedKey};
 
 // What happened to a key, by its number.
@@ -25,21 +25,6 @@ fn kind_of(number: u8) -> Option<KeyEventKind>
         KEY_EVENT_KIND_REPEAT => Some(KeyEventKind::Repeat),
         KEY_EVENT_KIND_RELEASE => Some(KeyEventKind::Release),
         _ => None,
-    }
-}
-
-// The key of a report, by its number and its detail.
-fn reported_key(number: u16, detail: u32) -> Option<ReportedKey>
-    ensures some { IfSome result (λ key. StandForReported number detail key) }
-    ensures only { (key : Key) → StandForReported number detail key → result ≡ Some key }
-    ensures none { IfNone result ((key : Key) → ¬ StandForReported number detail key) }
-{
-    if number == 0 {
-        return Some(ReportedKey::Functional(detail));
-    }
-    match key_of(number, detail) {
-        Some(key) => Some(ReportedKey::Named(key)),
-        None => None,
     }
 }
 

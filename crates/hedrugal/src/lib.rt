@@ -10,7 +10,8 @@ ghost use Rattle.std.specs.Prelude.{◌≡◌, ◌≢◌, ◌≤◌, ◌↔◌, 
 ghost use Rattle.event_text.specs.Names.{variant_name};
 ghost use Rattle.termwiz_input.specs.KeyCode.{KeyCode as Key};
 ghost use Rattle.hedrugal.specs.Calls.{Ended, Flushed, Gave, HasDroppedPaste, HasEndlessPaste, HasEscape, HasKind, HasOpenPaste, HasPartOfPaste, HasPasteNext, IsFresh, IsReset, IsUnchanged, Rests, Skipped, Took, TookPart, copied, pasted, waiting_len, waiting_number};
-ghost use Rattle.hedrugal.specs.Keys.{IsNoKey, key_number};
+ghost use Rattle.termwiz_bindings.specs.Numbers.{key_number};
+ghost use Rattle.hedrugal.specs.Keys.{IsNoKey};
 ghost use Rattle.hedrugal.specs.Timings.{BeginsTime, KeepsTime, TakesBytes, TakesEvent};
 ghost use Rattle.hedrugal.specs.Presses.{HasNoText, IsBad, Wrote};
 
@@ -27,7 +28,6 @@ mod handles;
 mod holder;
 mod key_reports;
 mod keymap_calls;
-mod keys;
 mod kitty_calls;
 mod modes;
 mod parser_and_paste;
@@ -46,11 +46,11 @@ mod words;
 use crate::copying::{copy_prefix, copy_with_zero};
 use crate::events::CEvent;
 use crate::handles::ParserHandle;
-use crate::keys::key_at;
 use crate::modes::{CModes, press_of};
 use crate::parser_and_paste::ParserAndPaste;
 use event_text::variant_name;
 use std::alloc::Global;
+use termwiz_bindings::numbers::key_at;
 use termwiz_input::input::{EncodeError, InputParser, Waiting};
 
 // The version of the library, which the header and the other packages have too.

@@ -7,9 +7,9 @@ ghost use Rattle.termwiz_input.specs.KeyCodeEncodeModes.{KeyCodeEncodeModes as M
 ghost use Rattle.hedrugal.specs.declared.modes.Press.{Press as Pressed};
 ghost use Rattle.hedrugal.specs.Presses.{AreFlags, AreModes, AreModifiers, IsEncoding, IsPress};
 
-use crate::keys::key_of;
 use bitflags::Flags;
 use termwiz_base::{KittyKeyboardFlags, Modifiers};
+use termwiz_bindings::numbers::key_of;
 use termwiz_input::input::{KeyCode, KeyCodeEncodeModes, KeyboardEncoding};
 
 /// `hed_modes`: the modes of a terminal that change the text of a key.

@@ -5,13 +5,13 @@ ghost use Rattle.termwiz_bindings.specs.declared.press.KeyPress.{KeyPress as Pre
 ghost use Rattle.hedrugal.specs.PressCalls.{HasNoPressOfEvent, HasNoPressOfReport, HasNoSecondPress, StandForEvent, WrotePressOfEvent, WrotePressOfReport, WroteSecondPress, c_press};
 
 use crate::events::{CEvent, KIND_KEY};
-use crate::extended_events::{CKeyReport, reported_detail, reported_number};
+use crate::extended_events::CKeyReport;
 use crate::key_reports::report_of;
-use crate::keys::key_of;
 use crate::modes::modifiers_of;
 use std::alloc::Global;
 use std::str;
 use termwiz_bindings::laws::second_presses;
+use termwiz_bindings::numbers::{key_of, reported_detail, reported_number};
 use termwiz_bindings::press::KeyPress;
 use termwiz_input::types::KeyEvent;
 

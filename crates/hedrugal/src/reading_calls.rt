@@ -1,5 +1,5 @@
 //! The calls that say how an extended parser reads.
-ghost use Rattle.std.specs.Prelude.{◌≡◌, true, false, None};
+ghost use Rattle.std.specs.Prelude.{◌≡◌, ◌⊎◌, true, false, None};
 ghost use Rattle.termwiz_extended_events.specs.declared.types.Reading.{Reading as AReading};
 ghost use Rattle.hedrugal.specs.ExtendedCalls.{IsNoProtocol};
 ghost use Rattle.hedrugal.specs.ExtendedEvents.{protocol_number};
@@ -28,6 +28,7 @@ pub struct CReading {
 pub extern "C" fn hed_extended_set_reading(parser: &mut ExtendedHandle, reading: &CReading) -> bool
     ensures set { result ≡ true → ReadsBy parser.old.state.held reading.now parser.new.state.held }
     ensures refused { result ≡ false → parser.new.state.held ≡ parser.old.state.held }
+    ensures only { result ≡ false → IsNoProtocol reading.now.protocol ⊎ (parser.old.state.held ≡ None) }
     ensures no_protocol { IsNoProtocol reading.now.protocol → result ≡ false }
     ensures time { KeepsTime parser.old parser.new }
 {

@@ -1,6 +1,12 @@
+pub mod BoundChords
 pub mod CharacterRules
+pub mod ChordBytes
+pub mod CodedPresses
 pub mod EventModifiers
+pub mod KeyNumbers
 pub mod HeldBits
+pub mod MadePresses
 pub mod MainKeyFacts
+pub mod OneChord
 pub mod SecondPresses
 pub mod SettledPresses

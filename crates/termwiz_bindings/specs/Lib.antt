@@ -1,3 +1,9 @@
+pub mod BindingLaws
+pub mod Bindings
+pub mod Chords
+pub mod Codes
+pub mod CodeLaws
 pub mod MainKeys
+pub mod Numbers
 pub mod Presses
 pub mod PressLaws

@@ -1,5 +1,7 @@
 //! Laws of presses, each the contract of a function without effect.
 ghost use Rattle.std.specs.Prelude.{ℕ, Option};
+ghost use Rattle.termwiz_bindings.specs.BindingLaws.{AreChordsInOrder, ChangeOneChord};
+ghost use Rattle.termwiz_bindings.specs.CodeLaws.{CodesBeginAsPresses, CodesHaveOneWidth, CodesTellPresses};
 ghost use Rattle.termwiz_bindings.specs.Presses.{main_press, shown_press, control_press, capital_press, unshifted_press, lowered_press};
 ghost use Rattle.termwiz_bindings.specs.PressLaws.{IsSettled, LocksChangeNothing, NeverBoth, NoPressOfRelease, PressesHaveNoLocks, PressesSettle, SecondOnlyOf, SecondWithoutText, SidesChangeNothing};
 
@@ -39,4 +41,23 @@ pub fn no_press()
 pub fn second_presses()
     ensures only { SecondOnlyOf }
     ensures text { SecondWithoutText }
+{}
+
+/// All codes have the same number of bytes (`width`), and different presses have different codes (`told`). So presses begin others
+/// exactly if their codes do (`begin`).
+pub fn codes_of_presses()
+    ensures width { CodesHaveOneWidth }
+    ensures told { CodesTellPresses }
+    ensures begin { CodesBeginAsPresses }
+{}
+
+/// Binding a chord changes the value of that chord alone, and so does unbinding it.
+pub fn one_chord<V>()
+    ensures { ChangeOneChord V }
+{}
+
+/// What [`Bindings::entry`](crate::bindings::Bindings::entry) lists: each place has a chord, each chord is at exactly one place, and
+/// those at higher places have greater codes.
+pub fn chords_in_order<V>()
+    ensures { AreChordsInOrder V }
 {}

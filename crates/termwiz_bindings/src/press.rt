@@ -1,13 +1,17 @@
 //! Presses: a key and the modifiers held with it, the same however the terminal reports the key.
-ghost use Rattle.std.specs.Prelude.{◌≡◌, [], ◌∷◌, MatchOption};
+ghost use Rattle.std.specs.Prelude.{◌≡◌, ◌%◌, [], ◌∷◌, IfSome, MatchOption};
 ghost use Rattle.std.specs.Str.{chars};
+ghost use Rattle.termwiz_extended_events.specs.declared.types.KeyEventKind.TheVariants.{Press};
+ghost use Rattle.termwiz_extended_events.specs.KeyReports.{report_of};
 ghost use Rattle.termwiz_extended_events.specs.ReportedKeys.{entry_at};
+ghost use Rattle.termwiz_bindings.specs.Codes.{IsPress, code};
 ghost use Rattle.termwiz_bindings.specs.Presses as rules;
 ghost use Rattle.termwiz_bindings.specs.Presses.{canonical, event_report};
 
 mod characters;
 mod keys;
 
+use crate::numbers::{reported_detail, reported_number};
 use characters::{character, character_press, character_rules};
 use keys::{main_key, makes_no_press};
 use termwiz_base::{Flags, Modifiers};
@@ -58,6 +62,13 @@ fn kitty_bits(modifiers: Modifiers) -> u8
     } else {
         bits
     }
+}
+
+// The last byte of a number.
+fn low_byte(number: u32) -> u8
+    ensures { result ≡ number % 256 }
+{
+    (number % 256) as u8
 }
 
 // Whether a modifier is held beside SHIFT and the locks.
@@ -203,23 +214,34 @@ fn has_second(report: &KeyReport) -> bool
 }
 
 impl KeyPress {
-    /// Returns the press of a key event, or `None` for a modifier or a lock by itself, and for the marks of a paste. Of the
-    /// modifiers SHIFT, ALT, CTRL and SUPER count: not LEADER, nor which of two keys is held.
+    /// Returns the press of a key and of modifiers held with it, as Kitty's bits. So a key by another name is that of the main block,
+    /// and `A` with SHIFT is `A`. `None` is for a modifier or a lock by itself, for the marks of a paste, and for a number that is not in
+    /// Kitty's table.
     #[tactic(auto, unfolding(crate::specs::Presses::canonical))]
-    pub fn of_event(event: &KeyEvent) -> Option<KeyPress>
-        ensures { result ≡ canonical (event_report event.now) }
+    pub fn new(key: ReportedKey, held: u8) -> Option<KeyPress>
+        ensures value { result ≡ canonical (report_of key (record { modifiers = held; kind = Press })) }
+        ensures press { IfSome result IsPress }
     {
-        let key = ReportedKey::Named(event.key);
         if makes_no_press(key) {
             return None;
         }
-        Some(settled(key, kitty_bits(event.modifiers), None))
+        Some(settled(key, held, None))
+    }
+
+    /// Returns the press of a key event, or `None` for a modifier or a lock by itself, and for the marks of a paste. Of the
+    /// modifiers SHIFT, ALT, CTRL and SUPER count: not LEADER, nor which of two keys is held.
+    pub fn of_event(event: &KeyEvent) -> Option<KeyPress>
+        ensures value { result ≡ canonical (event_report event.now) }
+        ensures press { IfSome result IsPress }
+    {
+        KeyPress::new(ReportedKey::Named(event.key), kitty_bits(event.modifiers))
     }
 
     /// Returns the press of a key report. `None` is for a release, for a modifier or a lock by itself, and for a report that
     /// types several characters: [`typed_text`] returns these. A repeat counts as a press.
     pub fn of_report(report: &KeyReport) -> Option<KeyPress>
-        ensures { result ≡ canonical report.now }
+        ensures value { result ≡ canonical report.now }
+        ensures press { IfSome result IsPress }
     {
         KeyPress::of_report_typing(report, report.text.as_str())
     }
@@ -228,7 +250,8 @@ impl KeyPress {
     /// that have the text elsewhere.
     #[tactic(auto, unfolding(crate::specs::Presses::canonical))]
     pub fn of_report_typing(report: &KeyReport, text: &str) -> Option<KeyPress>
-        ensures { result ≡ canonical (rules.with_text report.now text.now) }
+        ensures value { result ≡ canonical (rules.with_text report.now text.now) }
+        ensures press { IfSome result IsPress }
     {
         if is_release(report.kind) || makes_no_press(report.key) {
             return None;
@@ -247,7 +270,8 @@ impl KeyPress {
     /// tried as another key.
     #[tactic(auto, unfolding(crate::specs::Presses::second))]
     pub fn second(report: &KeyReport) -> Option<KeyPress>
-        ensures { result ≡ rules.second report.now }
+        ensures value { result ≡ rules.second report.now }
+        ensures press { IfSome result IsPress }
     {
         if !has_second(report) {
             return None;
@@ -268,6 +292,23 @@ impl KeyPress {
         ensures { result ≡ self.held }
     {
         self.held
+    }
+
+    /// Returns the code of the press: the key's number in the C header, what the key carries in three bytes, and the modifiers. Of a key
+    /// without a name the number is 0, and it carries its number in Kitty's table. Presses have different codes, and a program may
+    /// store these.
+    #[tactic(auto, using(crate::proofs::lemmas::KeyNumbers::number_below), unfolding(crate::specs::Codes::code))]
+    pub fn code(self) -> [u8; 5]
+        ensures { result ≡ code self }
+    {
+        let detail = reported_detail(self.key);
+        [
+            reported_number(self.key) as u8,
+            low_byte(detail / 0x10000),
+            low_byte(detail / 0x100),
+            low_byte(detail),
+            self.held,
+        ]
     }
 
     /// Returns the character that the press types, if it does: nothing but SHIFT is held. A program inserts it if the press

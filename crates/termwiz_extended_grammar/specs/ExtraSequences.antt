@@ -1,5 +1,6 @@
 -- The extra sequences: the texts of such a form that the extended parser reads, each with its event.
-use Rattle.std.specs.Prelude.{◌≡◌, ◌≢◌, ℕ, ◌<◌, ◌⊎◌, List, [], ◌∷◌, ◌++◌, bit_or}
+use Rattle.std.specs.Prelude.{◌≡◌, ◌≢◌, ℕ, ◌<◌, ◌≤◌, ◌⊎◌, List, [], ◌∷◌, ◌++◌, codes, bit_or}
+use Rattle.termwiz_keys.specs.Introducers.{CSI}
 use Rattle.termwiz_keys.specs.declared.types.KeyEvent.{KeyEvent}
 use Rattle.termwiz_keymap.specs.Bytes.{Begins}
 use Rattle.termwiz_grammar.specs.Sequences.{Meaning, IsSequence}
@@ -51,11 +52,15 @@ IsRow text = (key : KeyEvent) × IsSequence text (Row key)
 abbrev pub EndsAsRxvt : List ℕ → Type 0
 EndsAsRxvt text = (front : List ℕ) × (last : ℕ) × (text ≡ front ++ last ∷ []) × ((last ≡ 94) ⊎ ((last ≡ 64) ⊎ (last ≡ 36)))
 
+-- ESC [, a number from 35 to 38 and ~: F21 to F24, as rxvt-unicode sends them. These numbers are in no row.
+abbrev pub IsRxvtFunction : List ℕ → Type 0
+IsRxvtFunction text = (digit : ℕ) × (text ≡ CSI ++ 51 ∷ digit ∷ codes "~") × ((53 ≤ digit) × (digit ≤ 56))
+
 -- A bare key: a key report that terminals send after ESC where Alt is held. It is a row of the table, a key of the keypad, or one of
 -- rxvt-unicode's.
 pub record IsBareKey (text : List ℕ) : Type 0 where
   pub is_key : IsKey (event_of text)
-  pub layout : IsRow text ⊎ (IsKeypadKey text ⊎ EndsAsRxvt text)
+  pub layout : IsRow text ⊎ (IsKeypadKey text ⊎ (EndsAsRxvt text ⊎ IsRxvtFunction text))
 
 -- the event of a bare key after ESC: its report has Kitty's bit of ALT too
 abbrev pub with_alt : ExtendedEvent → ExtendedEvent

@@ -13,7 +13,7 @@ ghost use Rattle.termwiz_extended_events.specs.declared.types.ExtendedEvent.TheV
 ghost use Rattle.termwiz_extended_events.specs.KeyReports.{plain_report};
 ghost use Rattle.termwiz_extended_events.specs.Meanings.{event_from, event_of};
 ghost use Rattle.termwiz_extended_grammar.specs.Forms.{IsForm, IsKeypadKey};
-ghost use Rattle.termwiz_extended_grammar.specs.ExtraSequences.{EndsAsRxvt, IsBareKey};
+ghost use Rattle.termwiz_extended_grammar.specs.ExtraSequences.{EndsAsRxvt, IsBareKey, IsRxvtFunction};
 ghost use Rattle.termwiz_input_extended.specs.FormAnswers.{IsScanned};
 ghost use Rattle.termwiz_input_extended.specs.StringAnswers.{HasOpening, string_event};
 ghost use Rattle.termwiz_input_extended.specs.NextItems.{IsFormMatch, HasNoLongRow, IsNextItem, IsExtraAt, IsFormAt, IsRowMatch, IsPortsOwn, IsReadAfterEscape, IsReported, IsScannedTo, IsSomeExtra, LeavesRows};
@@ -146,6 +146,13 @@ fn ends_as_rxvt(form: &[u8]) -> bool
     matches!(form.last(), Some(b'^' | b'@' | b'$'))
 }
 
+// Whether a text is F21, F22, F23 or F24 as rxvt-unicode sends it.
+fn is_rxvt_function(form: &[u8]) -> bool
+    ensures { IsTrue result ↔ IsRxvtFunction form.now }
+{
+    matches!(form, [ESCAPE, b'[', b'3', b'5'..=b'8', b'~'])
+}
+
 // Whether a text of this meaning is a bare key, to which ESC is joined.
 fn is_bare_key(parser: &InputParser, form: &[u8], meaning: &Meaning<'_>) -> bool
     requires { event_from meaning.now ≡ Some (event_of form.now) }
@@ -154,7 +161,7 @@ fn is_bare_key(parser: &InputParser, form: &[u8], meaning: &Meaning<'_>) -> bool
     if !meaning.is_key() {
         return false;
     }
-    if is_keypad_key(form) || ends_as_rxvt(form) {
+    if is_keypad_key(form) || ends_as_rxvt(form) || is_rxvt_function(form) {
         return true;
     }
     is_table_row(parser, form)

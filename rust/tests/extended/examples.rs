@@ -755,9 +755,9 @@ pub const BARE_KEYS: &[Example] = &[
     (
         BOTH,
         &[(
-            b"\x1b\x1bOq\x1b\x1bOM\x1b\x1b[11^\x1b\x1b[24$\x1b\x1b[38@",
+            b"\x1b\x1bOq\x1b\x1bOM\x1b\x1b[11^\x1b\x1b[24$\x1b\x1b[38@\x1b\x1b[35~",
             MORE,
-            "report Numpad1 ALT, report 57414 ALT, report Function(1) ALT|CTRL, report Function(12) SHIFT|ALT, report Function(24) SHIFT|ALT|CTRL",
+            "report Numpad1 ALT, report 57414 ALT, report Function(1) ALT|CTRL, report Function(12) SHIFT|ALT, report Function(24) SHIFT|ALT|CTRL, report Function(21) ALT",
         )],
     ),
     (
@@ -772,9 +772,9 @@ pub const BARE_KEYS: &[Example] = &[
     (
         BOTH,
         &[(
-            b"\x1b\x1b[97;1:3u\x1b\x1b[R\x1b\x1b[[A",
+            b"\x1b\x1b[97;1:3u\x1b\x1b[R\x1b\x1b[[A\x1b\x1b[35;2~",
             MORE,
-            "key Escape NONE, report Char('a') NONE Release, key Escape NONE, report Function(3) NONE, key Escape NONE, report Function(1) NONE",
+            "key Escape NONE, report Char('a') NONE Release, key Escape NONE, report Function(3) NONE, key Escape NONE, report Function(1) NONE, key Escape NONE, report Function(21) SHIFT",
         )],
     ),
     // Of more than one ESC the first two are Escape with Alt.

@@ -129,8 +129,9 @@ impl PlainReader {
     // 11: whether an extra sequence is a bare key.
     fn is_bare(&self, text: &[u8], event: &ExtendedEvent) -> bool {
         let is_key = matches!(event, ExtendedEvent::Key(_));
-        let ends_as_rxvt = matches!(text, [.., b'^' | b'@' | b'$']);
-        is_key && (self.is_row(text) || is_keypad_key(text) || ends_as_rxvt)
+        let is_rxvt = matches!(text, [.., b'^' | b'@' | b'$'])
+            || matches!(text, [0x1b, b'[', b'3', b'5'..=b'8', b'~']);
+        is_key && (self.is_row(text) || is_keypad_key(text) || is_rxvt)
     }
 
     // 11: the item of a bare key after ESC.

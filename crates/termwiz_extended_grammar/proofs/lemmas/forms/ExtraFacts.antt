@@ -15,11 +15,11 @@ use Rattle.termwiz_extended_events.specs.declared.types.Protocol.TheVariants.{Le
 use Rattle.termwiz_extended_events.specs.Meanings.{event_of, IsKey, IsPosition, IsKeyOrPosition}
 use Rattle.termwiz_extended_grammar.specs.Forms.{introducer, IsRxvtNumber, IsKeypadKey, IsForm, IsUnfinishedForm}
 use Rattle.termwiz_extended_grammar.specs.Forms.IsForm.{control}
-use Rattle.termwiz_extended_grammar.specs.ExtraSequences.{Overrides, IsFree, IsExtra, StartsWithExtra, IsUnfinishedExtra, IsRow, EndsAsRxvt, IsBareKey}
+use Rattle.termwiz_extended_grammar.specs.ExtraSequences.{Overrides, IsFree, IsExtra, StartsWithExtra, IsUnfinishedExtra, IsRow, EndsAsRxvt, IsRxvtFunction, IsBareKey}
 use Rattle.termwiz_extended_grammar.specs.ExtendedGrammar.{StartsExtended, BeginsExtended}
 use Rattle.termwiz_extended_grammar.specs.Strings.{IsUnfinishedOpening}
 use Rattle.termwiz_extended_grammar.proofs.lemmas.forms.FormBytes.{IsMark, form_shape, mark_shape, opening_mark}
-use Rattle.termwiz_extended_grammar.proofs.lemmas.forms.FormOrNot.{IsUnfinishedMark, form_or_not, keypad_or_not, opening_starts_or_not, unfinished_mark_or_not}
+use Rattle.termwiz_extended_grammar.proofs.lemmas.forms.FormOrNot.{IsUnfinishedMark, form_or_not, keypad_or_not, opening_starts_or_not, rxvt_function_or_not, unfinished_mark_or_not}
 use Rattle.termwiz_extended_grammar.proofs.lemmas.forms.Unfinished.{free_completion, unfinished_form_short, unfinished_opening_short, last_of, one_last}
 
 -- a text that the port doesn't read is free under every reading
@@ -144,10 +144,10 @@ rxvt_end_or_not (x ∷ t) =
 -- it can be told whether a text is a bare key
 pub bare_or_not : (text : List ℕ) → Decision (IsBareKey text)
 bare_or_not text = decide_by
-    (λ (h : IsKey (event_of text) × (IsRow text ⊎ (IsKeypadKey text ⊎ EndsAsRxvt text))). record { is_key = h.0; layout = h.1 })
+    (λ (h : IsKey (event_of text) × (IsRow text ⊎ (IsKeypadKey text ⊎ (EndsAsRxvt text ⊎ IsRxvtFunction text)))). record { is_key = h.0; layout = h.1 })
     (λ (b : IsBareKey text). (b.is_key, b.layout))
     (decide_both (key_or_not (event_of text))
-    (decide_either (row_or_not text) (decide_either (keypad_or_not text) (rxvt_end_or_not text))))
+    (decide_either (row_or_not text) (decide_either (keypad_or_not text) (decide_either (rxvt_end_or_not text) (rxvt_function_or_not text)))))
 
 -- and whether one begins a text
 pub starts_or_not : (reading : Reading) (u : List ℕ) → Decision (StartsWithExtra reading u)

@@ -10,6 +10,7 @@ use Rattle.termwiz_extended_events.specs.declared.types.StringKind.{StringKind}
 use Rattle.termwiz_extended_events.specs.declared.types.StringKind.TheVariants.{Osc, Dcs, Apc}
 use Rattle.termwiz_extended_grammar.specs.Forms.{ST, BEL, introducer, IsInner, IsFinal, IsData, IsMouseByte, IsConsoleLetter, IsKeypadLetter, IsModifierDigit, IsModifiedLetter, IsRxvtNumber, IsStringEnd, IsTitleLetter, typed_title, IsControl, IsX10Report, IsConsoleKey, IsKeypadKey, IsModifiedKeypadKey, IsShiftedKey, IsTitle, IsForm, IsUnfinishedForm}
 use Rattle.termwiz_extended_grammar.specs.Forms.IsForm.{control, x10_report, console_key, keypad_key, modified_key, shifted_key, title}
+use Rattle.termwiz_extended_grammar.specs.ExtraSequences.{IsRxvtFunction}
 use Rattle.termwiz_extended_grammar.specs.Strings.{IsHead, IsShortNumber, IsNumbered, IsLongTitle, IsReplySign, IsNumberedReply, IsLetter, IsGraphics, StartsWithOpening, IsUnfinishedOpening}
 use Rattle.termwiz_extended_grammar.proofs.lemmas.forms.FormBytes.{all_append, rxvt_digits}
 
@@ -192,6 +193,21 @@ keypad_or_not t = decide_by from
     from : Next 27 (Next 79 (Single IsKeypadLetter)) t → IsKeypadKey t
     from (a, r, e, (f, (b, s, g, (h, (letter, v, k, (is, n)))))) =
         record { letter = letter; form = cc (e, f, g, h, k, n); letter_is = is }
+
+pub rxvt_function_or_not : (t : List ℕ) → Decision (IsRxvtFunction t)
+rxvt_function_or_not t = decide_by from
+    (λ f. (27, _, f.1, (refl, (91, _, refl, (refl, (51, _, refl, (refl, (f.0, _, refl, (f.2, (126, [], refl, (refl, refl)))))))))))
+    (decide_next 27 _ (decide_next 91 _ (decide_next 51 _ decide_end)) t)
+  where
+    End : List ℕ → Type 0
+    End r = First (λ digit v. ((53 ≤ digit) × (digit ≤ 56)) × Single (λ b. b ≡ 126) v) r
+
+    decide_end : (r : List ℕ) → Decision (End r)
+    decide_end r = decide_first _ (λ digit v. decide_both (decide_range 53 56 digit) (decide_single _ (λ b. decide_eq b 126) v)) r
+
+    from : Next 27 (Next 91 (Next 51 End)) t → IsRxvtFunction t
+    from (a, r, e, (f, (b, s, g, (h, (c, u, i, (j, (digit, v, k, (is, (z, w, m, (n, o)))))))))) =
+        (digit, cc (e, f, g, h, i, j, k, m, n, o), is)
 
 decide_modified : (b : ℕ) → Decision (IsModifiedLetter b)
 decide_modified b = decide_either (decide_range 80 83 b)

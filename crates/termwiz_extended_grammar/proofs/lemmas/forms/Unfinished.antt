@@ -11,7 +11,7 @@ use Rattle.termwiz_extended_events.specs.declared.types.StringKind.TheVariants.{
 use Rattle.termwiz_extended_grammar.specs.Forms.{introducer, IsInner, IsModifierDigit, IsRxvtNumber, IsStringEnd, IsControl, IsConsoleKey, IsKeypadKey, IsTitle, IsForm, IsUnfinishedForm}
 use Rattle.termwiz_extended_grammar.specs.Forms.IsForm.{control, x10_report, console_key, keypad_key, modified_key, shifted_key, title}
 use Rattle.termwiz_extended_grammar.specs.Strings.{IsUnfinishedOpening}
-use Rattle.termwiz_extended_grammar.specs.ExtraSequences.{IsRow, EndsAsRxvt, IsBareKey}
+use Rattle.termwiz_extended_grammar.specs.ExtraSequences.{IsRow, EndsAsRxvt, IsRxvtFunction, IsBareKey}
 use Rattle.termwiz_extended_grammar.proofs.lemmas.forms.FormBytes.{all_append, rxvt_digits}
 use Rattle.termwiz_extended_grammar.proofs.lemmas.forms.FormOrNot.{opening_length, front_short, rxvt_short}
 use Rattle.termwiz_extended_grammar.proofs.lemmas.forms.PortLayouts.{IsPortSecond, Past, Layout, sequence_layout}
@@ -188,16 +188,17 @@ shifted_in_x number is = record {
         never (true_at_front IsDigit pre s.0 (subst (AllByRecursion IsDigit) s.1 (rxvt_digits number is)))
 
 -- a text that ends so, isn't ESC O and a letter, and isn't known to the port, is no bare key
-not_bare : (text front : List ℕ) (z : ℕ) → text ≡ front ++ z ∷ [] → z ≢ 94 → z ≢ 64 → z ≢ 36
+not_bare : (text front : List ℕ) (z : ℕ) → text ≡ front ++ z ∷ [] → z ≢ 94 → z ≢ 64 → z ≢ 36 → z ≢ 126
     → ((letter : ℕ) → text ≢ SS3 ++ letter ∷ []) → ((m : Meaning) → ¬ IsSequence text m) → ¬ IsBareKey text
-not_bare text front z e a b c keypad free is = go is.layout
+not_bare text front z e a b c d keypad free is = go is.layout
   where
-    go : IsRow text ⊎ (IsKeypadKey text ⊎ EndsAsRxvt text) → ⊥
+    go : IsRow text ⊎ (IsKeypadKey text ⊎ (EndsAsRxvt text ⊎ IsRxvtFunction text)) → ⊥
     go (inl row) = free (Row row.0) row.1
     go (inr (inl k)) = keypad k.letter k.form
-    go (inr (inr (other, last, h, (inl l)))) = a ((one_last front other z last (sym e ∙ h)).1 ∙ l)
-    go (inr (inr (other, last, h, (inr (inl l))))) = b ((one_last front other z last (sym e ∙ h)).1 ∙ l)
-    go (inr (inr (other, last, h, (inr (inr l))))) = c ((one_last front other z last (sym e ∙ h)).1 ∙ l)
+    go (inr (inr (inl (other, last, h, (inl l))))) = a ((one_last front other z last (sym e ∙ h)).1 ∙ l)
+    go (inr (inr (inl (other, last, h, (inr (inl l)))))) = b ((one_last front other z last (sym e ∙ h)).1 ∙ l)
+    go (inr (inr (inl (other, last, h, (inr (inr l)))))) = c ((one_last front other z last (sym e ∙ h)).1 ∙ l)
+    go (inr (inr (inr (digit, h, its)))) = d (one_last front (CSI ++ 51 ∷ digit ∷ []) z 126 (sym e ∙ h)).1
 
 -- what properly begins a form can go on to one that the port doesn't know, and that is no bare key
 pub record Completes (x10_mouse : Bool) (u : List ℕ) : Type 0 where
@@ -212,15 +213,15 @@ free_completion {x10_mouse = x10_mouse} u f = go f.is_form
   where
     -- the text of a form that isn't laid out as the port's sequences, by its last byte
     by : (text front : List ℕ) (z : ℕ) → (c : List ℕ) × (c ≢ []) × (u ++ c ≡ text) → text ≡ front ++ z ∷ [] → z ≢ 94 → z ≢ 64 → z ≢ 36
-        → ((letter : ℕ) → text ≢ SS3 ++ letter ∷ []) → IsForm x10_mouse text → (Layout text → ⊥) → Completes x10_mouse u
-    by text front z c ends a b d keypad g free =
+        → z ≢ 126 → ((letter : ℕ) → text ≢ SS3 ++ letter ∷ []) → IsForm x10_mouse text → (Layout text → ⊥) → Completes x10_mouse u
+    by text front z c ends a b d tilde keypad g free =
         let none : (m : Meaning) → ¬ IsSequence text m = λ m s. free (sequence_layout text m s) in
         record {
           tail = c.0;
           longer = c.1;
           is_form = subst (λ t. IsForm x10_mouse t) (sym c.2) g;
           free = λ m s. none m (subst (λ t. IsSequence t m) c.2 s);
-          not_bare = λ k. not_bare text front z ends a b d keypad none (subst IsBareKey c.2 k);
+          not_bare = λ k. not_bare text front z ends a b d tilde keypad none (subst IsBareKey c.2 k);
         }
 
     -- a text that ends in x
@@ -228,7 +229,7 @@ free_completion {x10_mouse = x10_mouse} u f = go f.is_form
         → ((letter : ℕ) → front ++ 120 ∷ [] ≢ SS3 ++ letter ∷ []) → IsForm x10_mouse (front ++ 120 ∷ []) → (Layout (front ++ 120 ∷ []) → ⊥)
         → Completes x10_mouse u
     by_x front c keypad g free =
-        by (front ++ 120 ∷ []) front 120 c refl (λ k. omega arith) (λ k. omega arith) (λ k. omega arith) keypad g free
+        by (front ++ 120 ∷ []) front 120 c refl (λ k. omega arith) (λ k. omega arith) (λ k. omega arith) (λ k. omega arith) keypad g free
 
     bracket_no_keypad : (t : List ℕ) (letter : ℕ) → 27 ∷ 91 ∷ t ≢ SS3 ++ letter ∷ []
     bracket_no_keypad t letter e = (let second : ◌≡◌ {A = ℕ} 91 79 = cc (e) in omega arith)
@@ -276,7 +277,7 @@ free_completion {x10_mouse = x10_mouse} u f = go f.is_form
         }))
         (λ l. no_past_mouse (g.button ∷ g.x ∷ 120 ∷ []) (past_of _ 91 _ refl (λ h. cc (h)) l).1)
     go (console_key g) = by (u ++ f.tail) (27 ∷ 91 ∷ 91 ∷ []) g.letter (f.tail, f.longer, refl) g.form
-        (λ k. omega (arith, g.letter_is)) (λ k. omega (arith, g.letter_is)) (λ k. omega (arith, g.letter_is))
+        (λ k. omega (arith, g.letter_is)) (λ k. omega (arith, g.letter_is)) (λ k. omega (arith, g.letter_is)) (λ k. omega (arith, g.letter_is))
         (λ letter e. bracket_no_keypad (91 ∷ g.letter ∷ []) letter (sym g.form ∙ e))
         (console_key g) (console_free (u ++ f.tail) g)
     go (keypad_key g) =
@@ -298,7 +299,7 @@ free_completion {x10_mouse = x10_mouse} u f = go f.is_form
         by_end : IsStringEnd Osc g.end → Completes x10_mouse u
         by_end (inl e) = by (u ++ f.tail) (27 ∷ 93 ∷ g.letter ∷ (g.body ++ 27 ∷ [])) 92 (f.tail, f.longer, refl)
             (g.form ∙ ap (λ z. 27 ∷ 93 ∷ g.letter ∷ (g.body ++ z)) e ∙ ap (λ z. 27 ∷ 93 ∷ g.letter ∷ z) (sym (append_assoc g.body (27 ∷ []) (92 ∷ []))))
-            (λ k. omega arith) (λ k. omega arith) (λ k. omega arith) no_keypad (title g) (title_free (u ++ f.tail) g)
+            (λ k. omega arith) (λ k. omega arith) (λ k. omega arith) (λ k. omega arith) no_keypad (title g) (title_free (u ++ f.tail) g)
         by_end (inr e) = by (u ++ f.tail) (27 ∷ 93 ∷ g.letter ∷ g.body) 7 (f.tail, f.longer, refl)
             (g.form ∙ ap (λ z. 27 ∷ 93 ∷ g.letter ∷ (g.body ++ z)) e)
-            (λ k. omega arith) (λ k. omega arith) (λ k. omega arith) no_keypad (title g) (title_free (u ++ f.tail) g)
+            (λ k. omega arith) (λ k. omega arith) (λ k. omega arith) (λ k. omega arith) no_keypad (title g) (title_free (u ++ f.tail) g)

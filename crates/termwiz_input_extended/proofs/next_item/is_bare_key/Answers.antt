@@ -3,7 +3,7 @@ use Rattle.std.specs.Prelude.{IfSome}
 use Rattle.termwiz_keymap.proofs.lemmas.lists.PrefixTest.{denied}
 use Rattle.termwiz_extended_events.specs.Meanings.{IsKey}
 use Rattle.termwiz_extended_grammar.specs.Forms.{IsKeypadKey}
-use Rattle.termwiz_extended_grammar.specs.ExtraSequences.{EndsAsRxvt, IsRow}
+use Rattle.termwiz_extended_grammar.specs.ExtraSequences.{EndsAsRxvt, IsRow, IsRxvtFunction}
 use Rattle.termwiz_input_extended.proofs.lemmas.fronts.ExtraAnswers.{row_known, row_stored}
 use Rattle.termwiz_input_extended.proofs.next_item.is_bare_key.Goals as goal
 
@@ -17,7 +17,10 @@ returns c = (
       (λ (row : IsRow c.args.form.now). row_stored c.args.form.now row)
       (λ h. absurd (⊎_elim
       (λ (keypad : IsKeypadKey c.args.form.now). denied c.is_keypad_key.ensures.1 c.if-is_keypad_key.false keypad)
-      (λ (rxvt : EndsAsRxvt c.args.form.now). denied c.ends_as_rxvt.ensures.1 c.if-ends_as_rxvt.false rxvt)
+      (λ rxvt. ⊎_elim
+      (λ (ends : EndsAsRxvt c.args.form.now). denied c.ends_as_rxvt.ensures.1 c.if-ends_as_rxvt.false ends)
+      (λ (function : IsRxvtFunction c.args.form.now). denied c.is_rxvt_function.ensures.1 c.if-is_rxvt_function.false function)
+      rxvt)
       h))
       bare.layout),
 )

@@ -1,0 +1,21 @@
+use Rattle.std.proofs.Common.{rules, sym}
+use Rattle.termwiz_bindings.specs.Presses.{canonical, with_text}
+use Rattle.termwiz_bindings.proofs.lemmas.MadePresses.{press_made, presses_made}
+use Rattle.termwiz_bindings.proofs.press.KeyPress.of_report_typing.Goals as goal
+
+pub returns-then-is_typed-clause-value : goal.returns-then-is_typed-clause-value
+unfolding canonical
+returns-then-is_typed-clause-value c = search rules
+
+pub returns-then-is_typed-clause-press : goal.returns-then-is_typed-clause-press
+returns-then-is_typed-clause-press c =
+    presses_made (with_text c.args.report.now c.args.text.now) c.typed_press.result (returns-then-is_typed-clause-value c)
+    (search rules)
+
+pub returns-clause-value : goal.returns-clause-value
+unfolding canonical
+returns-clause-value c = search rules
+
+pub returns-clause-press : goal.returns-clause-press
+returns-clause-press c =
+    press_made (with_text c.args.report.now c.args.text.now) c.settled.result (sym (returns-clause-value c)) (search rules)
