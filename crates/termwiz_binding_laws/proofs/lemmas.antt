@@ -1,8 +1,10 @@
 pub mod AsciiPresses
 pub mod BeginKey
 pub mod ComputedPresses
+pub mod EncodedKeys
 pub mod LegacyReading
 pub mod NamedPresses
 pub mod OtherCodes
 pub mod PortPresses
 pub mod WideCharacters
+pub mod WidePresses

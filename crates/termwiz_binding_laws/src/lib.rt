@@ -1,2 +1,5 @@
-//! Laws of presses with what a terminal sends, each the contract of a function without effect.
+//! Laws of presses with what a terminal sends for a key, each the contract of a function without effect. They speak of the definitions
+//! alone: of what `KeyCode::encode` writes, what the extended parser reads, and the press of a key.
 #![tactic(auto)]
+
+pub mod encoded_presses;

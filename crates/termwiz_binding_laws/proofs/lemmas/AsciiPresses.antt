@@ -5,7 +5,8 @@ use Rattle.termwiz_grammar.specs.Table.{numbers, written_out}
 use Rattle.termwiz_grammar.proofs.lemmas.lists.ListMembers.{pairs}
 use Rattle.termwiz_laws.proofs.lemmas.further_keys.ComputedReadings.{mode, level, Held, enc_written_out, chars}
 use Rattle.termwiz_binding_laws.specs.Twins.{twin}
-use Rattle.termwiz_binding_laws.proofs.lemmas.ComputedPresses.{canonical_written_out, AllTold, any_of_four}
+use Rattle.termwiz_binding_laws.specs.EncodedPresses.{any_of_four}
+use Rattle.termwiz_binding_laws.proofs.lemmas.ComputedPresses.{canonical_written_out, AllTold}
 
 -- printable characters of ASCII with each set of modifiers
 abbrev pub printable : List Held

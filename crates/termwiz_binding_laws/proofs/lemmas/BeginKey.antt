@@ -118,7 +118,7 @@ module _ (held : ℕ) (here : Contains any_of_four held) where
       go : (b : Bool) → IsForm false (if b then written [] 69 else written (49 ∷ 59 ∷ (49 + xterm_number held) ∷ []) 69)
       go true = control (is_control [] 69 tt (omega arith, omega arith, (λ same. omega arith), (λ same. omega arith)) (omega arith))
       go false = control (is_control (49 ∷ 59 ∷ (49 + xterm_number held) ∷ []) 69
-          ((omega arith, omega arith), (omega arith, omega arith), (omega arith, omega arith), tt)
+          ((omega arith, omega arith), ((omega arith, omega arith), ((omega arith, omega (arith, small)), tt)))
           (omega arith, omega arith, (λ same. omega arith), (λ same. omega arith)) (omega arith))
 
   event : event_of (begin_text held) ≡ Key (begin_report held)

@@ -1,5 +1,5 @@
 -- The presses that the texts of keys are read as, computed over lists of keys with modifiers.
-use Rattle.std.proofs.Common.{◌≡◌, ℕ, ◌+◌, List, ◌++◌, map, Option, Some, None}
+use Rattle.std.proofs.Common.{◌≡◌, List, ◌++◌, map, Option, Some, None}
 use Rattle.std.specs.Prelude.{option_and_then}
 use Rattle.std.specs.Str.{chars as text_chars}
 use Rattle.termwiz_keys.specs.declared.types.KeyCode.{KeyCode}
@@ -8,7 +8,6 @@ use Rattle.termwiz_keys.specs.declared.types.KeyEvent.{KeyEvent}
 use Rattle.termwiz_keys.specs.declared.encode.KeyCodeEncodeModes.{KeyCodeEncodeModes}
 use Rattle.termwiz_keys.specs.Encoding.{enc}
 use Rattle.termwiz_grammar.specs.Table.{TableRow}
-use Rattle.termwiz_grammar.specs.Listed.{any_of_three}
 use Rattle.termwiz_grammar.proofs.lemmas.read_back.RuleReader.{rows_for, csi_u_rows_of}
 use Rattle.termwiz_laws.proofs.lemmas.further_keys.ComputedReadings.{Held}
 use Rattle.termwiz_laws.proofs.lemmas.further_keys.WideReadings.{wide_reading, part_of}
@@ -19,7 +18,7 @@ use Rattle.termwiz_bindings.specs.declared.press.KeyPress.{KeyPress}
 use Rattle.termwiz_bindings.specs.MainKeys as keys
 use Rattle.termwiz_bindings.specs.Presses as rules
 use Rattle.termwiz_bindings.specs.Presses.{canonical, event_report, settled_report}
-use Rattle.termwiz_binding_laws.specs.Twins.{SUPER, twin}
+use Rattle.termwiz_binding_laws.specs.Twins.{twin}
 
 -- the press of a report: to unfold this is to unfold every rule
 unfoldable pub canonical_written_out : KeyReport → Option KeyPress
@@ -66,7 +65,3 @@ wanted modes p =
 
 abbrev pub AllTold : KeyCodeEncodeModes → List Held → Type 0
 AllTold modes cases = map (told modes) cases ≡ map (wanted modes) cases
-
--- the sets of SHIFT, ALT, CTRL and SUPER
-abbrev pub any_of_four : List ℕ
-any_of_four = any_of_three ++ map (λ held. held + SUPER) any_of_three

@@ -10,16 +10,24 @@ use Rattle.termwiz_grammar.proofs.lemmas.lists.ListMembers.{pairs}
 use Rattle.termwiz_laws.specs.FurtherKeys.{shift_or_ctrl}
 use Rattle.termwiz_laws.proofs.lemmas.further_keys.ComputedReadings.{mode, level, Held, enc_written_out}
 use Rattle.termwiz_binding_laws.specs.Twins.{SUPER, twin}
-use Rattle.termwiz_binding_laws.proofs.lemmas.ComputedPresses.{canonical_written_out, AllTold, any_of_four}
+use Rattle.termwiz_binding_laws.specs.EncodedPresses.{any_of_four}
+use Rattle.termwiz_binding_laws.proofs.lemmas.ComputedPresses.{canonical_written_out, AllTold}
 
 -- keys that send the same text in all modes
 abbrev pub function_keys : List KeyCode
 function_keys = map (λ n. Function n) (numbers 1 24)
 
+abbrev pub functions : List Held
+functions = pairs function_keys any_of_four
+
+pub functions_told : (e : KeyboardEncoding) (a n : Bool) (l : Option ℤ) → AllTold (mode e a n l) functions
+unfolding enc_written_out written_out canonical_written_out twin
+functions_told e a n l = refl
+
 abbrev pub steady_keys : List KeyCode
 steady_keys =
     ApplicationLeftArrow ∷ ApplicationRightArrow ∷ ApplicationUpArrow ∷ ApplicationDownArrow ∷ Insert ∷ Delete ∷ PageUp ∷ PageDown
-    ∷ KeyPadPageUp ∷ KeyPadPageDown ∷ function_keys
+    ∷ KeyPadPageUp ∷ KeyPadPageDown ∷ []
 
 abbrev pub steady : List Held
 steady = pairs steady_keys any_of_four

@@ -105,7 +105,7 @@ module _ (m c : ℕ) (one : 1 ≤ m) (eight : m ≤ 8) (high : 128 ≤ c) (is : 
 
   not_numbered : numbered_key (body m c ++ 126 ∷ []) ≡ None
   unfolding numbered_key tilde_key number_within
-  not_numbered = rw (before_end_here (body m c) 126, split) refl
+  not_numbered = rw (before_end_here (body m c) 126) refl
 
   reads : key_report (body m c ++ 126 ∷ []) ≡ Some report
   unfolding key_report
@@ -136,11 +136,10 @@ module _ (m c : ℕ) (one : 1 ≤ m) (eight : m ≤ 8) (high : 128 ≤ c) (is : 
   parameters : AllByRecursion IsParameter (body m c)
   parameters = (
     (omega arith, omega arith),
-    (omega arith, omega arith),
-    (omega arith, omega arith),
-    (omega arith, omega arith),
-    (omega arith, omega arith),
-    true_from IsFieldByte IsParameter in_parameters (decimal c) digits,
+    ((omega arith, omega arith),
+        ((omega arith, omega arith),
+        ((omega arith, omega arith),
+        ((omega arith, omega arith), true_from IsFieldByte IsParameter in_parameters (decimal c) digits)))),
   )
 
   short : length (written (body m c) 126) ≤ 256

@@ -1,0 +1,13 @@
+//! Laws of presses and the port's encoder: what a key sends is read as the press of its twin.
+ghost use Rattle.termwiz_binding_laws.specs.EncodedPresses.{PressesOfEncodedKeys};
+
+/// What a key sends is read as exactly one key, and this has the press of the key's twin. So it is for every set of SHIFT, ALT, CTRL and
+/// SUPER, in all modes and encodings of `KeyCode::encode`, with no more bytes to come. The parser is as it begins, before Kitty's
+/// protocol.
+///
+/// `twin` is the key itself, but for the keys that the terminal's bytes don't tell apart. Enter in newline mode is read as two keys. The
+/// law leaves out U+0000 to U+001F and U+007F as characters, and `Numpad0` to `Numpad9` and `Decimal`, which are sent as keys of the
+/// editing block.
+pub fn presses_of_encoded_keys()
+    ensures { PressesOfEncodedKeys }
+{}
