@@ -1,5 +1,5 @@
 -- The presses that the texts of keys are read as, computed over lists of keys with modifiers.
-use Rattle.std.proofs.Common.{◌≡◌, List, ◌++◌, map, Option, Some, None}
+use Rattle.std.proofs.Common.{◌≡◌, ℕ, List, ◌++◌, map, Option, Some, None}
 use Rattle.std.specs.Prelude.{option_and_then}
 use Rattle.std.specs.Str.{chars as text_chars}
 use Rattle.termwiz_keys.specs.declared.types.KeyCode.{KeyCode}

@@ -109,7 +109,7 @@ module _ (held : ℕ) (modes : KeyCodeEncodeModes) (text : List ℕ) (here : Con
   cursor_read : (key : KeyCode) → Contains cursor_keys key → AreRows (part_of_key key) → Sends key → Read key
   cursor_read key k are sends = go modes.application_cursor_keys refl
     where
-      abbrev Told : Bool → Type 0
+      Told : Bool → Type 0
       Told a = AllTold (mode modes.encoding a modes.newline_mode modes.modify_other_keys) cursor
 
       by : Told modes.application_cursor_keys → Read key

@@ -142,9 +142,9 @@ module _ (c held : ℕ) (modes : KeyCodeEncodeModes) (text : List ℕ) (scalar :
       go true alt = by_port false (ESC ++ encode_utf8 c) ALT off
           (sent ∙ ap (λ (b : Bool). Some ((if b then ESC else []) ++ encode_utf8 c)) alt) escaped
           (sym (ap (λ (b : Bool). told_bits (xterm_number (if b then ALT else NONE))) alt) ∙ same)
-      go false no = by_port false (encode_utf8 c) NONE off
-          (sent ∙ ap (λ (b : Bool). Some ((if b then ESC else []) ++ encode_utf8 c)) no) plain_means
-          (sym (ap (λ (b : Bool). told_bits (xterm_number (if b then ALT else NONE))) no) ∙ same)
+      go false none = by_port false (encode_utf8 c) NONE off
+          (sent ∙ ap (λ (b : Bool). Some ((if b then ESC else []) ++ encode_utf8 c)) none) plain_means
+          (sym (ap (λ (b : Bool). told_bits (xterm_number (if b then ALT else NONE))) none) ∙ same)
 
   pub wide_is_read : IsReadAsKey text (twin (Char c) held modes)
   wide_is_read = go (held == 0) refl (is_on modes) refl
