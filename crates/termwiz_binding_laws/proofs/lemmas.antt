@@ -3,8 +3,12 @@ pub mod BeginKey
 pub mod ComputedPresses
 pub mod EncodedKeys
 pub mod LegacyReading
+pub mod ModeClasses
 pub mod NamedPresses
+pub mod NewlineEnters
 pub mod OtherCodes
+pub mod OwnTwins
 pub mod PortPresses
+pub mod SameTexts
 pub mod WideCharacters
 pub mod WidePresses

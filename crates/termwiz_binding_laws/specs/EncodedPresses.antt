@@ -2,7 +2,7 @@
 use Rattle.std.specs.Prelude.{◌≡◌, ◌≢◌, ⊤, ◌+◌, ◌≤◌, ℕ, Bool, true, false, not, ◌&&◌, ◌||◌, List, [], ◌∷◌, ◌++◌, map, Option, Some, None, option_and_then, Contains}
 use Rattle.std.specs.Char.{IsScalar}
 use Rattle.termwiz_keys.specs.declared.types.KeyCode.{KeyCode}
-use Rattle.termwiz_keys.specs.declared.types.KeyCode.TheVariants.{Char, Enter, Numpad0, Numpad1, Numpad2, Numpad3, Numpad4, Numpad5, Numpad6, Numpad7, Numpad8, Numpad9, Decimal}
+use Rattle.termwiz_keys.specs.declared.types.KeyCode.TheVariants.{Char, Backspace, Tab, Enter, Numpad0, Numpad1, Numpad2, Numpad3, Numpad4, Numpad5, Numpad6, Numpad7, Numpad8, Numpad9, Decimal}
 use Rattle.termwiz_keys.specs.declared.types.KeyEvent.{KeyEvent}
 use Rattle.termwiz_keys.specs.declared.types.InputEvent.TheVariants as input
 use Rattle.termwiz_keys.specs.declared.encode.KeyCodeEncodeModes.{KeyCodeEncodeModes}
@@ -78,7 +78,35 @@ NewlinesAreTwoEnters = (held : ℕ) (modes : KeyCodeEncodeModes) (text : List �
     → is_newline Enter held modes ≡ true → enc Enter (record { 0 = held }) modes ≡ Some text
     → Means at_first text false (Input (input.Key (key_with Enter (only_alt held))) ∷ Input (input.Key (key_with Enter NONE)) ∷ []) []
 
--- A twin is its own twin.
+-- A key that the laws speak of, with such modifiers, that is its own twin.
+pub record IsOwnTwin (k : KeyEvent) (modes : KeyCodeEncodeModes) : Type 0 where
+  pub covered : IsCovered k.key
+  pub set : Contains any_of_four k.modifiers.0
+  pub own : twin k.key k.modifiers.0 modes ≡ k
+
+-- Every twin is such a key.
 abbrev pub TwinsAreTheirOwn : Type 0
 TwinsAreTheirOwn = (key : KeyCode) (held : ℕ) (modes : KeyCodeEncodeModes) → IsCovered key → Contains any_of_four held
-    → let k = twin key held modes in twin k.key k.modifiers.0 modes ≡ k
+    → IsOwnTwin (twin key held modes) modes
+
+-- What a key sends and what its twin sends are read as the same press, where neither is a newline.
+abbrev pub TwinsReadAlike : Type 0
+TwinsReadAlike = (key : KeyCode) (held : ℕ) (modes : KeyCodeEncodeModes) (text other : List ℕ) → IsCovered key → Contains any_of_four held
+    → is_newline key held modes ≡ false
+    → is_newline (twin key held modes).key (twin key held modes).modifiers.0 modes ≡ false
+    → enc key (record { 0 = held }) modes ≡ Some text
+    → enc (twin key held modes).key (twin key held modes).modifiers modes ≡ Some other
+    → text ≢ [] → other ≢ [] → (p : KeyPress) × IsReadAsPress text p × IsReadAsPress other p
+
+-- keys that are sent in more than one way: backspace as 127 and 8, Enter as 13 and 10, Tab as its byte and, with ALT, by its code
+abbrev pub has_more_texts : KeyCode → Bool
+has_more_texts Backspace = true
+has_more_texts Enter = true
+has_more_texts Tab = true
+has_more_texts key = false
+
+-- Without SUPER a key sends the very bytes of its twin, but where that is Backspace, Enter or Tab.
+abbrev pub TwinsSendTheSame : Type 0
+TwinsSendTheSame = (key : KeyCode) (held : ℕ) (modes : KeyCodeEncodeModes) → IsCovered key → Contains any_of_three held
+    → has_more_texts (twin key held modes).key ≡ false
+    → enc (twin key held modes).key (twin key held modes).modifiers modes ≡ enc key (record { 0 = held }) modes

@@ -25,12 +25,13 @@ use Rattle.termwiz_binding_laws.proofs.lemmas.AsciiPresses as ascii
 use Rattle.termwiz_binding_laws.proofs.lemmas.AsciiPresses.{printable}
 use Rattle.termwiz_binding_laws.proofs.lemmas.BeginKey.{begin_is_read}
 use Rattle.termwiz_binding_laws.proofs.lemmas.ComputedPresses.{AllTold, part_of_key}
+use Rattle.termwiz_binding_laws.proofs.lemmas.ModeClasses.{InEveryClass}
 use Rattle.termwiz_binding_laws.proofs.lemmas.NamedPresses as named
 use Rattle.termwiz_binding_laws.proofs.lemmas.NamedPresses.{function_keys, functions, steady_keys, steady, cursor_keys, cursor, coded_keys, coded, enters, with_shift_or_ctrl, without_shift_and_ctrl}
-use Rattle.termwiz_binding_laws.proofs.lemmas.PortPresses.{told_key, ToldInAll, told_in_all, rows_of_tab, rows_of_enter, rows_of_escape, rows_of_backspace, rows_of_character}
+use Rattle.termwiz_binding_laws.proofs.lemmas.PortPresses.{told_key, told_in_all, rows_of_tab, rows_of_enter, rows_of_escape, rows_of_backspace, rows_of_character}
 use Rattle.termwiz_binding_laws.proofs.lemmas.WidePresses.{wide_is_read}
 
-printable_told : (n : Bool) → ToldInAll n printable
+printable_told : (n : Bool) → InEveryClass (λ m. AllTold m printable) n
 printable_told n = record {
   xterm_off = λ a. ascii.printable_xterm_off a n;
   xterm_zero = λ a. ascii.printable_xterm_zero a n;
@@ -42,7 +43,7 @@ printable_told n = record {
   csi_two = λ a. ascii.printable_csi_two a n;
 }
 
-coded_told : (n : Bool) → ToldInAll n coded
+coded_told : (n : Bool) → InEveryClass (λ m. AllTold m coded) n
 coded_told n = record {
   xterm_off = λ a. named.coded_xterm_off a n;
   xterm_zero = λ a. named.coded_xterm_zero a n;
@@ -54,7 +55,7 @@ coded_told n = record {
   csi_two = λ a. named.coded_csi_two a n;
 }
 
-enters_told : ToldInAll false enters
+enters_told : InEveryClass (λ m. AllTold m enters) false
 enters_told = record {
   xterm_off = named.enters_xterm_off;
   xterm_zero = named.enters_xterm_zero;
@@ -132,7 +133,7 @@ module _ (held : ℕ) (modes : KeyCodeEncodeModes) (text : List ℕ) (here : Con
       (Contains-append_right (pairs coded_keys any_of_four) (pairs (Enter ∷ []) with_shift_or_ctrl) (Enter, held)
       (in_pairs (Enter ∷ []) with_shift_or_ctrl Enter held (0, lit< tt, refl) a)) rows_of_enter sends)
       (λ (b : Contains without_shift_and_ctrl held).
-      told_in_all enters modes (subst (λ n. ToldInAll n enters) (sym (off b)) enters_told) Enter held text
+      told_in_all enters modes (subst (InEveryClass (λ m. AllTold m enters)) (sym (off b)) enters_told) Enter held text
       (in_pairs (Enter ∷ []) without_shift_and_ctrl Enter held (0, lit< tt, refl) b) rows_of_enter sends)
       (parted any_of_four with_shift_or_ctrl without_shift_and_ctrl refl held here)
     where

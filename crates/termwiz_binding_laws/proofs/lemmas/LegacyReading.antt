@@ -1,5 +1,5 @@
 -- Before Kitty's protocol the extended parser reads a text as one key if the port does.
-use Rattle.std.proofs.Common.{◌≡◌, ◌≢◌, ℕ, false, List, [], ◌∷◌, ◌++◌, refl, sym, ap, ◌∙◌, subst, arith}
+use Rattle.std.proofs.Common.{◌≡◌, ◌≢◌, ℕ, Bool, false, List, [], ◌∷◌, ◌++◌, refl, sym, ap, ◌∙◌, subst, arith}
 use Rattle.termwiz_keys.specs.Introducers.{ESC}
 use Rattle.termwiz_keys.specs.declared.types.KeyEvent.{KeyEvent}
 use Rattle.termwiz_keys.specs.declared.types.InputEvent.TheVariants as input
@@ -18,7 +18,7 @@ use Rattle.termwiz_extended_events.specs.Meanings.{event_of}
 use Rattle.termwiz_extended_grammar.specs.ExtraSequences.{IsExtra}
 use Rattle.termwiz_extended_grammar.specs.ExtendedGrammar.{IsOpen, Means}
 use Rattle.termwiz_extended_grammar.proofs.lemmas.forms.FormBytes.{IsSecond, form_shape}
-use Rattle.termwiz_kitty.proofs.lemmas.legacy.ReadAsOne.{IsReportText, ReadAs, read_as, row_is, no_escape_before, second_byte}
+use Rattle.termwiz_kitty.proofs.lemmas.legacy.ReadAsOne.{IsReportText, IsRead, ReadAs, read_as, row_is, no_escape_before, second_byte}
 use Rattle.termwiz_kitty.proofs.lemmas.legacy.ReadAsOne.ReadAs.{as_key, as_report, apart}
 use Rattle.termwiz_binding_laws.specs.EncodedPresses.{at_first}
 
@@ -73,16 +73,20 @@ behind_free text v k split (plainly p) is = go p
     go (by_character c scalar e g) = no_escape_before c 27 (s.second ∷ s.rest) scalar (sym e ∙ all)
     go (by_broken_byte b e g) = cc (e, all)
 
+-- what the port reads as a key, with more to come or without, is that key
+pub key_read : (text : List ℕ) (k : KeyEvent) (f : Bool) → IsRead at_first text k f → Means at_first text f (Input (input.Key k) ∷ []) []
+key_read text k f is = go (read_as at_first text k f is)
+  where
+    go : ReadAs at_first text k f → Means at_first text f (Input (input.Key k) ∷ []) []
+    go (as_key it) = it
+    go (as_report report it) = absurd (single_free text k (single text k is.flushed) report)
+    go (apart v split report) = absurd (behind_free text v k split (single text k is.flushed) report)
+
 pub port_key_read : (text : List ℕ) (k : KeyEvent) → port.Means text false (input.Key k ∷ []) []
     → Means at_first text false (Input (input.Key k) ∷ []) []
-port_key_read text k means = go (read_as at_first text k false (record {
+port_key_read text k means = key_read text k false (record {
   flushed = means;
   means = means;
   closed = λ h. cc (h.more_comes);
   closed_after = λ v split h. cc (h.more_comes);
-}))
-  where
-    go : ReadAs at_first text k false → Means at_first text false (Input (input.Key k) ∷ []) []
-    go (as_key it) = it
-    go (as_report is it) = absurd (single_free text k (single text k means) is)
-    go (apart v split is) = absurd (behind_free text v k split (single text k means) is)
+})
