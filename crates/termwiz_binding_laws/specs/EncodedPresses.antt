@@ -1,5 +1,5 @@
 -- What is read of the texts of keys, as presses.
-use Rattle.std.specs.Prelude.{◌≡◌, ◌≢◌, ⊤, ◌+◌, ◌≤◌, ℕ, Bool, true, false, not, ◌&&◌, ◌||◌, List, [], ◌∷◌, ◌++◌, map, Option, Some, None, option_and_then, Contains}
+use Rattle.std.specs.Prelude.{◌≡◌, ◌≢◌, ⊤, ◌+◌, ◌≤◌, ℕ, Bool, true, false, not, ◌&&◌, ◌||◌, List, [], ◌∷◌, ◌++◌, map, Option, Some, option_and_then, Contains}
 use Rattle.std.specs.Char.{IsScalar}
 use Rattle.termwiz_keys.specs.declared.types.KeyCode.{KeyCode}
 use Rattle.termwiz_keys.specs.declared.types.KeyCode.TheVariants.{Char, Backspace, Tab, Enter, Numpad0, Numpad1, Numpad2, Numpad3, Numpad4, Numpad5, Numpad6, Numpad7, Numpad8, Numpad9, Decimal}
@@ -19,7 +19,7 @@ use Rattle.termwiz_extended_grammar.specs.ExtendedGrammar.{Means}
 use Rattle.termwiz_extended_grammar.specs.Readings.{first_reading}
 use Rattle.termwiz_bindings.specs.declared.press.KeyPress.{KeyPress}
 use Rattle.termwiz_bindings.specs.Presses.{canonical, event_report}
-use Rattle.termwiz_binding_laws.specs.Twins.{SUPER, only_alt, tells_codes, twin}
+use Rattle.termwiz_binding_laws.specs.Twins.{SUPER, only_alt, twin}
 
 -- a parser as it begins, before Kitty's protocol: X10 mouse reports aren't read, and no question is open
 abbrev pub at_first : Reading

@@ -1,5 +1,5 @@
 -- Keys that a terminal's text doesn't tell apart: what is read in place of a key with modifiers. Each such key is its twin.
-use Rattle.std.specs.Prelude.{◌+◌, ◌==◌, ◌&&◌, ◌||◌, ℕ, Bool, not, List, [], ◌∷◌, Option, option_map, unwrap_or, is_some, codes, bit_and, bit_or, nat_le, if◌then◌else◌}
+use Rattle.std.specs.Prelude.{◌==◌, ◌&&◌, ◌||◌, ℕ, Bool, not, List, [], ◌∷◌, Option, option_map, unwrap_or, is_some, codes, bit_and, bit_or, nat_le, if◌then◌else◌}
 use Rattle.std.specs.Char.{is_ascii_uppercase, is_ascii_lowercase, to_ascii_lowercase}
 use Rattle.std.specs.List.{find, list_any}
 use Rattle.bitflags.specs.Sets.{without}

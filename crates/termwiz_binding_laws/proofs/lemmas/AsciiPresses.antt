@@ -1,5 +1,5 @@
 -- Characters of ASCII: their texts are read as the presses of their twins.
-use Rattle.std.proofs.Common.{ℕ, Bool, List, None, refl}
+use Rattle.std.proofs.Common.{Bool, List, None, refl}
 use Rattle.termwiz_keys.specs.declared.encode.KeyboardEncoding.TheVariants.{Xterm, CsiU}
 use Rattle.termwiz_grammar.specs.Table.{numbers, written_out}
 use Rattle.termwiz_grammar.proofs.lemmas.lists.ListMembers.{pairs}

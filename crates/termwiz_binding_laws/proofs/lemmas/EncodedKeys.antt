@@ -1,7 +1,6 @@
 -- Every key is read as the press of its twin: by the key, its modifiers and the modes.
-use Rattle.std.proofs.Common.{◌≡◌, ◌≢◌, ◌∙◌, ◌⊎◌, inl, inr, ⊎_elim, ℕ, ◌+◌, ◌≤◌, ◌<◌, Bool, true, false, not, List, [], ◌∷◌, ◌++◌, map, Option, Some, refl, sym, ap, subst, arith, Contains, lit<, ◌&&◌, ◌||◌}
+use Rattle.std.proofs.Common.{◌≡◌, ◌≢◌, ◌∙◌, ◌⊎◌, inl, inr, ⊎_elim, ℕ, ◌≤◌, ◌<◌, Bool, true, false, not, List, [], ◌∷◌, map, Option, Some, refl, sym, subst, arith, Contains, lit<, ◌&&◌, ◌||◌}
 use Rattle.std.specs.List.{list_all}
-use Rattle.std.specs.Char.{IsScalar}
 use Rattle.std.proofs.lemmas.Bool.{or_cases}
 use Rattle.std.proofs.lemmas.List.Sums.{AllPass-from_list_all}
 use Rattle.std.proofs.lemmas.List.Elements.{All-contains, Contains-append_left, Contains-append_right}
@@ -13,8 +12,8 @@ use Rattle.termwiz_keys.specs.Keys.{SHIFT, CTRL}
 use Rattle.termwiz_keys.specs.KeyCodes.{holds, shifted}
 use Rattle.termwiz_grammar.specs.Table.{numbers}
 use Rattle.termwiz_grammar.proofs.lemmas.lists.ListMembers.{pairs, in_map, in_pairs, same_on}
-use Rattle.termwiz_grammar.proofs.lemmas.read_back.RuleReader.{AreRows, rows_for, rows_for_are}
-use Rattle.termwiz_laws.proofs.lemmas.further_keys.ComputedReadings.{mode, Held, chars}
+use Rattle.termwiz_grammar.proofs.lemmas.read_back.RuleReader.{AreRows, rows_for_are}
+use Rattle.termwiz_laws.proofs.lemmas.further_keys.ComputedReadings.{mode, chars}
 use Rattle.termwiz_laws.proofs.lemmas.further_keys.FurtherReadings.{bits}
 use Rattle.termwiz_laws.proofs.lemmas.further_keys.OtherKeys.{function_range}
 use Rattle.termwiz_laws.proofs.lemmas.further_keys.SingleKey.{among, among_contains}

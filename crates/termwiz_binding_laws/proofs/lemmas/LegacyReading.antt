@@ -16,7 +16,7 @@ use Rattle.termwiz_extended_events.specs.declared.types.ExtendedEvent.{ExtendedE
 use Rattle.termwiz_extended_events.specs.declared.types.ExtendedEvent.TheVariants.{Input}
 use Rattle.termwiz_extended_events.specs.Meanings.{event_of}
 use Rattle.termwiz_extended_grammar.specs.ExtraSequences.{IsExtra}
-use Rattle.termwiz_extended_grammar.specs.ExtendedGrammar.{IsOpen, Means}
+use Rattle.termwiz_extended_grammar.specs.ExtendedGrammar.{Means}
 use Rattle.termwiz_extended_grammar.proofs.lemmas.forms.FormBytes.{IsSecond, form_shape}
 use Rattle.termwiz_kitty.proofs.lemmas.legacy.ReadAsOne.{IsReportText, IsRead, ReadAs, read_as, row_is, no_escape_before, second_byte}
 use Rattle.termwiz_kitty.proofs.lemmas.legacy.ReadAsOne.ReadAs.{as_key, as_report, apart}

@@ -1,5 +1,5 @@
 -- Enter in newline mode: a carriage return and a line feed are Enter twice.
-use Rattle.std.proofs.Common.{◌≡◌, ◌∙◌, ℕ, Bool, true, false, not, List, [], ◌∷◌, ◌++◌, map, Option, Some, refl, sym, ap, subst, Contains, append_assoc, ◌||◌}
+use Rattle.std.proofs.Common.{◌≡◌, ◌∙◌, ℕ, Bool, true, false, not, List, [], ◌∷◌, ◌++◌, map, Some, refl, sym, ap, subst, Contains, append_assoc, ◌||◌}
 use Rattle.std.specs.List.{list_all}
 use Rattle.std.proofs.lemmas.Bool.{and_parts, not-true}
 use Rattle.std.proofs.lemmas.List.Sums.{AllPass-from_list_all}
@@ -23,7 +23,7 @@ use Rattle.termwiz_extended_grammar.proofs.lemmas.cuts.ExtendedCuts.{cut_indepen
 use Rattle.termwiz_kitty.proofs.lemmas.PortKeys.{xterm_modes, held_that_wait}
 use Rattle.termwiz_kitty.proofs.lemmas.legacy.LegacyKeys.{is_read}
 use Rattle.termwiz_binding_laws.specs.Twins.{only_alt}
-use Rattle.termwiz_binding_laws.specs.EncodedPresses.{at_first, any_of_four, is_newline, NewlinesAreTwoEnters}
+use Rattle.termwiz_binding_laws.specs.EncodedPresses.{at_first, any_of_four, NewlinesAreTwoEnters}
 use Rattle.termwiz_binding_laws.proofs.lemmas.LegacyReading.{key_read, port_key_read}
 
 -- the sets with ALT and without it

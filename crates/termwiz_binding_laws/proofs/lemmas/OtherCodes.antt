@@ -1,6 +1,5 @@
 -- A character beyond ASCII that is sent by its code, as xterm's modifyOtherKeys sends it.
-use Rattle.std.proofs.Common.{◌≡◌, ◌≢◌, ◌∙◌, ℕ, ◌+◌, ◌-◌, ◌^◌, ◌≤◌, ◌<◌, lt_trans, Bool, true, false, not, List, [], ◌∷◌, ◌++◌, length, drop, lit<, Option, Some, None, refl, sym, ap, ap₂, subst, arith, Contains, ◌&&◌, ◌==◌, nat_le, nat_lt, decimal, length-append}
-use Rattle.std.specs.Prelude.{codes}
+use Rattle.std.proofs.Common.{◌≡◌, ◌∙◌, ℕ, ◌+◌, ◌-◌, ◌^◌, ◌≤◌, ◌<◌, lt_trans, Bool, true, false, not, List, [], ◌∷◌, ◌++◌, length, drop, lit<, Option, Some, None, refl, sym, ap, subst, arith, Contains, nat_le, decimal, length-append}
 use Rattle.std.specs.List.{AllByRecursion, list_all}
 use Rattle.std.specs.Char.{IsScalar}
 use Rattle.std.proofs.lemmas.Bool.Decides.{nat_tests}
@@ -9,12 +8,11 @@ use Rattle.std.proofs.lemmas.List.Sums.{AllPass-from_list_all}
 use Rattle.std.proofs.lemmas.List.Elements.{All-contains}
 use Rattle.termwiz_base.specs.Modifiers.{xterm_number}
 use Rattle.termwiz_keymap.proofs.lemmas.lists.CommonPrefixes.{true_from}
-use Rattle.termwiz_keys.specs.declared.types.KeyCode.{KeyCode}
 use Rattle.termwiz_keys.specs.declared.types.KeyCode.TheVariants.{Char}
 use Rattle.termwiz_keys.specs.declared.types.KeyEvent.{KeyEvent}
 use Rattle.termwiz_keys.specs.Encoding.{other_keys_form}
 use Rattle.termwiz_grammar.specs.MouseReports.{IsDigit}
-use Rattle.termwiz_grammar.specs.Sequences.{Meaning, IsSequence}
+use Rattle.termwiz_grammar.specs.Sequences.{IsSequence}
 use Rattle.termwiz_grammar.specs.Sequences.Meaning.{Row, Report}
 use Rattle.termwiz_grammar.specs.Table.{TableRow, rows, written_out, key_of_code}
 use Rattle.termwiz_grammar.proofs.lemmas.mouse.OneReport.{report_plain}
@@ -25,12 +23,11 @@ use Rattle.termwiz_extended_events.specs.declared.types.ReportedKey.TheVariants.
 use Rattle.termwiz_extended_events.specs.declared.types.ExtendedEvent.TheVariants.{Key}
 use Rattle.termwiz_extended_events.specs.Numbers.{before_end, fields, number, number_within, scalar, is_scalar}
 use Rattle.termwiz_extended_events.specs.ReportedKeys.{tilde_key}
-use Rattle.termwiz_extended_events.specs.KeyReports.{report_of, character_key, lettered_key, numbered_key, other_of_fields, other_key, key_report}
+use Rattle.termwiz_extended_events.specs.KeyReports.{report_of, character_key, lettered_key, numbered_key, other_key, key_report}
 use Rattle.termwiz_extended_events.specs.Meanings.{event_of}
 use Rattle.termwiz_extended_grammar.specs.Forms.IsForm.{control}
 use Rattle.termwiz_extended_grammar.specs.ExtraSequences.{IsFree, IsExtra}
 use Rattle.termwiz_extended_grammar.specs.ExtendedGrammar.{Means}
-use Rattle.termwiz_extended_grammar.proofs.lemmas.forms.FormBytes.{all_append}
 use Rattle.termwiz_kitty.proofs.lemmas.read_back.Decimals.{IsDecimal, decimal_is, number_decimal, in_word, scalar_small, scalar_decimal}
 use Rattle.termwiz_kitty.proofs.lemmas.read_back.FieldSplits.{IsFieldByte, digit_in_field, one_field, more_fields, without_last, before_end_here, before_other_end, last_byte}
 use Rattle.termwiz_kitty.proofs.lemmas.read_back.KeysOfForms.{scalar_is}
@@ -136,10 +133,16 @@ module _ (m c : ℕ) (one : 1 ≤ m) (eight : m ≤ 8) (high : 128 ≤ c) (is : 
   parameters : AllByRecursion IsParameter (body m c)
   parameters = (
     (omega arith, omega arith),
-    ((omega arith, omega arith),
-        ((omega arith, omega arith),
-        ((omega arith, omega arith),
-        ((omega arith, omega arith), true_from IsFieldByte IsParameter in_parameters (decimal c) digits)))),
+    (
+      (omega arith, omega arith),
+      (
+        (omega arith, omega arith),
+        (
+          (omega arith, omega arith),
+          ((omega arith, omega arith), true_from IsFieldByte IsParameter in_parameters (decimal c) digits),
+        ),
+      ),
+    ),
   )
 
   short : length (written (body m c) 126) ≤ 256

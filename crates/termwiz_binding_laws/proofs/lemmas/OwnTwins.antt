@@ -1,22 +1,19 @@
 -- A twin is its own twin.
-use Rattle.std.proofs.Common.{◌≡◌, ◌≢◌, ◌∙◌, ◌⊎◌, inl, inr, ⊎_elim, ℕ, ◌+◌, ◌≤◌, ◌<◌, Bool, true, false, not, List, [], ◌∷◌, map, Some, refl, sym, ap, subst, arith, Contains, lit<, ◌&&◌, nat_le, nat_lt}
+use Rattle.std.proofs.Common.{◌≡◌, ◌∙◌, ◌⊎◌, inl, inr, ℕ, ◌≤◌, ◌<◌, Bool, true, false, List, [], ◌∷◌, map, Some, refl, sym, ap, subst, arith, Contains, lit<, ◌&&◌, nat_le, nat_lt}
 use Rattle.std.specs.Char.{IsScalar}
 use Rattle.std.proofs.Math.Utf8.{low_scalar}
 use Rattle.std.proofs.lemmas.Bool.{and_parts, ltb-true, leb-true}
 use Rattle.termwiz_keys.specs.declared.types.KeyCode.{KeyCode}
 use Rattle.termwiz_keys.specs.declared.types.KeyCode.TheVariants.{Char, Backspace, Tab, Enter, Escape}
 use Rattle.termwiz_keys.specs.declared.types.KeyEvent.{KeyEvent}
-use Rattle.termwiz_keys.specs.declared.encode.KeyboardEncoding.TheVariants.{Xterm, CsiU}
 use Rattle.termwiz_keys.specs.declared.encode.KeyCodeEncodeModes.{KeyCodeEncodeModes}
-use Rattle.termwiz_keys.specs.Encoding.{enc}
 use Rattle.termwiz_keys.specs.Keys.{key_with}
 use Rattle.termwiz_grammar.specs.Table.{numbers}
 use Rattle.termwiz_grammar.proofs.lemmas.lists.ListMembers.{pairs, in_map, in_pairs, same_on}
 use Rattle.termwiz_laws.proofs.lemmas.further_keys.AlikeModes.{Alike}
-use Rattle.termwiz_laws.proofs.lemmas.further_keys.ComputedReadings.{mode, level, Held, chars}
+use Rattle.termwiz_laws.proofs.lemmas.further_keys.ComputedReadings.{Held, chars}
 use Rattle.termwiz_laws.proofs.lemmas.further_keys.SingleKey.{among, among_contains}
 use Rattle.termwiz_kitty.proofs.lemmas.PortKeys.{at_number}
-use Rattle.termwiz_bindings.specs.declared.press.KeyPress.{KeyPress}
 use Rattle.termwiz_binding_laws.specs.Twins.{SUPER, dropping, is_on, twin}
 use Rattle.termwiz_binding_laws.specs.EncodedPresses.{any_of_four, IsCovered, IsReadAsPress, IsReadAsKey, IsOwnTwin, TwinsAreTheirOwn, TwinsReadAlike}
 use Rattle.termwiz_binding_laws.proofs.lemmas.AsciiPresses.{printable}

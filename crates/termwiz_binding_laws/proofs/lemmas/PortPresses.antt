@@ -1,12 +1,11 @@
 -- From what was computed to what is read, in every mode.
-use Rattle.std.proofs.Common.{◌≡◌, ◌∙◌, ⊎_elim, ℕ, ◌<◌, ℤ, Bool, true, false, List, [], ◌∷◌, ◌++◌, Option, Some, None, refl, sym, ap, subst, arith, Contains}
-use Rattle.std.specs.Prelude.{is_some}
+use Rattle.std.proofs.Common.{◌≡◌, ◌∙◌, ℕ, ◌<◌, List, ◌++◌, Option, Some, None, refl, sym, ap, subst, Contains}
 use Rattle.termwiz_keys.specs.declared.types.KeyCode.{KeyCode}
 use Rattle.termwiz_keys.specs.declared.types.KeyCode.TheVariants.{Char, Tab, Enter, Escape, Backspace}
 use Rattle.termwiz_keys.specs.declared.types.KeyEvent.{KeyEvent}
 use Rattle.termwiz_keys.specs.declared.types.InputEvent.TheVariants as input
 use Rattle.termwiz_keys.specs.declared.encode.KeyCodeEncodeModes.{KeyCodeEncodeModes}
-use Rattle.termwiz_keys.specs.Encoding.{enc, is_csi_u}
+use Rattle.termwiz_keys.specs.Encoding.{enc}
 use Rattle.termwiz_grammar.specs.Table.{TableRow}
 use Rattle.termwiz_grammar.proofs.lemmas.lists.ListMembers.{same_on}
 use Rattle.termwiz_grammar.proofs.lemmas.read_back.RuleReader.{AreRows, rows_for, rows_for_are, csi_u_rows_of, csi_u_are, both_are}
@@ -18,8 +17,8 @@ use Rattle.termwiz_extended_events.specs.declared.types.ExtendedEvent.TheVariant
 use Rattle.termwiz_bindings.specs.declared.press.KeyPress.{KeyPress}
 use Rattle.termwiz_bindings.specs.Presses.{event_report, settled_report}
 use Rattle.termwiz_binding_laws.specs.Twins.{twin}
-use Rattle.termwiz_binding_laws.specs.EncodedPresses.{IsReadAsPress, IsReadAsKey, press_of_key}
-use Rattle.termwiz_binding_laws.proofs.lemmas.ComputedPresses.{AllTold, told, wanted, twin_of, part_of_key, coded_rows, read_key, press_read}
+use Rattle.termwiz_binding_laws.specs.EncodedPresses.{IsReadAsPress, IsReadAsKey}
+use Rattle.termwiz_binding_laws.proofs.lemmas.ComputedPresses.{AllTold, told, wanted, part_of_key, coded_rows, read_key, press_read}
 use Rattle.termwiz_binding_laws.proofs.lemmas.LegacyReading.{port_key_read}
 use Rattle.termwiz_binding_laws.proofs.lemmas.ModeClasses.{twin_same, InEveryClass, in_all_modes}
 

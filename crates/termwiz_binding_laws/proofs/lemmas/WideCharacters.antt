@@ -1,32 +1,23 @@
 -- Characters beyond ASCII: what they send, and the presses of their twins.
-use Rattle.std.proofs.Common.{◌≡◌, ◌∙◌, ℕ, ◌≤◌, Bool, true, false, not, List, [], ◌∷◌, ◌++◌, map, Option, Some, None, refl, sym, ap, subst, arith, Contains, ◌==◌, ◌&&◌, ◌||◌, bit_and, nat_le, nat_lt}
-use Rattle.std.specs.Prelude.{is_some, if◌then◌else◌}
-use Rattle.std.specs.Char.{IsScalar, encode_utf8, is_ascii_control, is_ascii_lowercase, is_ascii_uppercase, is_ascii_alphanumeric, is_ascii_punctuation, to_ascii_uppercase}
+use Rattle.std.proofs.Common.{◌≡◌, ◌∙◌, ℕ, ◌≤◌, Bool, true, false, not, ◌++◌, Some, None, refl, ap, arith, ◌==◌, ◌&&◌, ◌||◌, bit_and, nat_le, nat_lt}
+use Rattle.std.specs.Prelude.{if◌then◌else◌}
+use Rattle.std.specs.Char.{encode_utf8, is_ascii_control, is_ascii_lowercase, is_ascii_uppercase, is_ascii_alphanumeric, is_ascii_punctuation, to_ascii_uppercase}
 use Rattle.std.proofs.lemmas.Bool.{and_right}
 use Rattle.std.proofs.lemmas.Bool.Decides.{nat_tests}
 use Rattle.termwiz_base.specs.Control.{control_of}
-use Rattle.termwiz_base.specs.Modifiers.{xterm_number}
 use Rattle.termwiz_keys.specs.declared.types.KeyCode.TheVariants.{Char}
-use Rattle.termwiz_keys.specs.declared.types.KeyEvent.{KeyEvent}
-use Rattle.termwiz_keys.specs.declared.types.InputEvent.TheVariants as input
 use Rattle.termwiz_keys.specs.declared.encode.KeyCodeEncodeModes.{KeyCodeEncodeModes}
 use Rattle.termwiz_keys.specs.Encoding.{enc, sideless, normal_key, normal_held, shows_shift, named_key, key_text, char_text, plain_char_text, other_text, other_keys_form, escape_if_alt, is_csi_u, is_level, is_ambiguous, stays_at_one}
 use Rattle.termwiz_keys.specs.Keys.{NONE, ALT, CTRL, key_with}
 use Rattle.termwiz_keys.specs.KeyCodes.{holds, shifted}
-use Rattle.termwiz_grammar.specs.Grammar as port
-use Rattle.termwiz_grammar.specs.Listed.{ReadsBack}
-use Rattle.termwiz_grammar.proofs.lemmas.lists.ListMembers.{same_on}
-use Rattle.termwiz_laws.specs.FurtherKeys.ReadsBackToo.{character, alt_beyond_ascii}
-use Rattle.termwiz_laws.proofs.lemmas.further_keys.FurtherReadings.{bits, further_keys_read_back}
+use Rattle.termwiz_laws.proofs.lemmas.further_keys.FurtherReadings.{bits}
 use Rattle.termwiz_extended_events.specs.declared.types.ReportedKey.TheVariants.{Named}
 use Rattle.termwiz_extended_events.specs.declared.types.KeyEventKind.TheVariants.{Press}
 use Rattle.termwiz_extended_events.specs.KeyReports.{report_of}
-use Rattle.termwiz_bindings.specs.declared.press.KeyPress.{KeyPress}
 use Rattle.termwiz_bindings.specs.MainKeys as keys
 use Rattle.termwiz_bindings.specs.Presses as rules
 use Rattle.termwiz_bindings.specs.Presses.{canonical, kitty_bits, character_press, without_shift, all_but_locks}
 use Rattle.termwiz_binding_laws.specs.Twins.{SUPER, dropping, is_on, twin}
-use Rattle.termwiz_binding_laws.specs.EncodedPresses.{any_of_four, press_of_key}
 
 if_same : {A : Type 0} (b : Bool) (x : A) → (if b then x else x) ≡ x
 if_same true x = refl

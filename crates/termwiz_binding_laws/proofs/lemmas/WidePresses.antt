@@ -24,7 +24,6 @@ use Rattle.termwiz_extended_events.specs.declared.types.ReportedKey.TheVariants.
 use Rattle.termwiz_extended_events.specs.KeyReports.{report_of}
 use Rattle.termwiz_extended_grammar.specs.ExtendedGrammar.{Means}
 use Rattle.termwiz_kitty.proofs.lemmas.read_back.SequenceForms.{written}
-use Rattle.termwiz_bindings.specs.declared.press.KeyPress.{KeyPress}
 use Rattle.termwiz_bindings.specs.Presses.{kitty_bits, character_press, without_shift, all_but_locks}
 use Rattle.termwiz_binding_laws.specs.Twins.{is_on, twin}
 use Rattle.termwiz_binding_laws.specs.EncodedPresses.{at_first, any_of_four, press_of_key, press_of_event, IsReadAsKey}
@@ -80,9 +79,11 @@ module _ (c held : ℕ) (modes : KeyCodeEncodeModes) (text : List ℕ) (scalar :
       → Means at_first t false (event ∷ []) [] → press_of_event event ≡ Some (character_press c (twin_bits on held))
       → IsReadAsKey text (twin (Char c) held modes)
   read_as on t event e sent means is =
-      let same : t ≡ text = (let s : Some t ≡ Some text = sym sent ∙ sends in cc (s)) in
-      (character_press c (twin_bits on held), twin_press on e,
-      (event, subst (λ u. Means at_first u false (event ∷ []) []) same means, is))
+      let same : t ≡ text = (let s : Some t ≡ Some text = sym sent ∙ sends in cc (s)) in (
+        character_press c (twin_bits on held),
+        twin_press on e,
+        (event, subst (λ u. Means at_first u false (event ∷ []) []) same means, is),
+      )
 
   -- a key of the port
   by_port : (on : Bool) (t : List ℕ) (k : ℕ) → is_on modes ≡ on → enc (Char c) (bits held) modes ≡ Some t
