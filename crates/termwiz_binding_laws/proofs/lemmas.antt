@@ -2,6 +2,7 @@ pub mod AsciiPresses
 pub mod BeginKey
 pub mod ComputedPresses
 pub mod EncodedKeys
+pub mod KittyReports
 pub mod LegacyReading
 pub mod ModeClasses
 pub mod NamedPresses
