@@ -2,7 +2,9 @@ pub mod AsciiPresses
 pub mod BeginKey
 pub mod ComputedPresses
 pub mod EncodedKeys
+pub mod KittyPresses
 pub mod KittyReports
+pub mod KittyTyped
 pub mod LegacyReading
 pub mod ModeClasses
 pub mod NamedPresses
