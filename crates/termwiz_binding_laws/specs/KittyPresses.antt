@@ -9,7 +9,7 @@ use Rattle.termwiz_extended_events.specs.declared.types.Protocol.TheVariants.{Ki
 use Rattle.termwiz_extended_events.specs.declared.types.Reading.{Reading}
 use Rattle.termwiz_extended_grammar.specs.ExtendedGrammar.{Means}
 use Rattle.termwiz_kitty.specs.KeyForms.{is_character}
-use Rattle.termwiz_kitty.specs.Telling.{DISAMBIGUATE, ALTERNATE_KEYS, ALL_KEYS, ASSOCIATED_TEXT, is_release, tells_all_keys, types}
+use Rattle.termwiz_kitty.specs.Telling.{DISAMBIGUATE, ALTERNATE_KEYS, ALL_KEYS, ASSOCIATED_TEXT, is_release, is_legacy, tells_all_keys, types}
 use Rattle.termwiz_kitty.specs.KittyTexts.{kitty_text, IsWithin}
 use Rattle.termwiz_kitty.specs.KittyLaws.{IsReport, IsWritable}
 use Rattle.termwiz_bindings.specs.declared.press.KeyPress.{KeyPress}
@@ -47,16 +47,29 @@ space_alone p = by_character (λ c held. character_press c (if (c == 32) && (hel
 abbrev pub is_sent_as_text : KeyReport → ℕ → Bool
 is_sent_as_text r flags = not (tells_all_keys flags) && types r.key r
 
--- The press that is told: a space that is sent as its text says nothing of SHIFT.
-abbrev pub told_press : KeyReport → ℕ → Option KeyPress
-told_press r flags = if is_sent_as_text r flags then option_map space_alone (canonical r) else canonical r
+-- What a report tells under these flags: with flag 4 what the key types with Shift, and with 8 and 16 its text.
+abbrev pub told_of : KeyReport → ℕ → KeyReport
+told_of r flags = record r {
+  shifted = if holds flags ALTERNATE_KEYS then r.shifted else None;
+  text = if tells_all_keys flags && holds flags ASSOCIATED_TEXT then r.text else [];
+}
 
 -- The text is one event, of this press or without one, and nothing waits.
 abbrev pub IsReadWith : Reading → List ℕ → Bool → Option KeyPress → Type 0
 IsReadWith reading text more p = (event : ExtendedEvent) × Means reading text more (event ∷ []) [] × (press_of_event event ≡ p)
 
--- What a terminal writes for such a press under these flags, if it writes something, is read as one event of that press.
+-- What a terminal writes for such a report, if it writes something, is read as one event. Of a report that event has the given press. Of a
+-- text it has the press of the key, where the space has no SHIFT.
+abbrev pub IsReadAsTold : KeyReport → ℕ → Option KeyPress → Type 0
+IsReadAsTold r flags reported = (reading : Reading) (text : List ℕ) (more : Bool) → reading.protocol ≡ Kitty
+    → kitty_text r flags ≡ Some text → text ≢ [] → IsWithin r flags text
+    → IsReadWith reading text more (if is_sent_as_text r flags then option_map space_alone (canonical r) else reported)
+
+-- With flag 1 or 8 a report is read as the press of what it tells.
+abbrev pub KittyTellsPresses : Type 0
+KittyTellsPresses = (r : KeyReport) (flags : ℕ) → IsPressed r → is_legacy flags ≡ false
+    → IsReadAsTold r flags (canonical (told_of r flags))
+
+-- With flags that tell presses it is read as the very press of the key.
 abbrev pub KittyKeepsPresses : Type 0
-KittyKeepsPresses = (reading : Reading) (r : KeyReport) (flags : ℕ) (text : List ℕ) (more : Bool) → reading.protocol ≡ Kitty
-    → IsPressed r → TellsPresses flags → kitty_text r flags ≡ Some text → text ≢ [] → IsWithin r flags text
-    → IsReadWith reading text more (told_press r flags)
+KittyKeepsPresses = (r : KeyReport) (flags : ℕ) → IsPressed r → TellsPresses flags → IsReadAsTold r flags (canonical r)

@@ -10,11 +10,11 @@ use Rattle.termwiz_extended_events.specs.declared.types.KeyEventKind.{KeyEventKi
 use Rattle.termwiz_extended_events.specs.declared.types.KeyEventKind.TheVariants.{Press, Repeat, Release}
 use Rattle.termwiz_extended_events.specs.declared.types.ReportedKey.{ReportedKey}
 use Rattle.termwiz_kitty.specs.KeyForms.{form_of, normal_key, is_character}
-use Rattle.termwiz_kitty.specs.Telling.{ASSOCIATED_TEXT, is_release, is_shifted, is_at_most_shifted, is_bare, is_typed_text, has_text, types, types_character, sends_control, is_legacy, told_key, told_shifted, told_text, hides_locks, tells_all_keys, tells_event_types, reported}
+use Rattle.termwiz_kitty.specs.Telling.{ALTERNATE_KEYS, ASSOCIATED_TEXT, is_release, is_shifted, is_at_most_shifted, is_bare, is_typed_text, has_text, types, types_character, sends_control, is_legacy, told_key, told_shifted, told_text, hides_locks, tells_all_keys, tells_event_types, reported}
 use Rattle.termwiz_bindings.specs.Presses as rules
 use Rattle.termwiz_bindings.specs.Presses.{canonical, is_counted_text, is_typed, is_shortcut, all_but_locks}
 use Rattle.termwiz_bindings.proofs.lemmas.EventModifiers.{locks_change_nothing}
-use Rattle.termwiz_binding_laws.specs.KittyPresses.{TellsPresses, IsPressed}
+use Rattle.termwiz_binding_laws.specs.KittyPresses.{TellsPresses, IsPressed, told_of}
 
 -- a press by what decides it
 abbrev pub pressed_with : ReportedKey → ℕ → Option ℕ → List ℕ → KeyReport
@@ -79,33 +79,44 @@ twice_not : (b : Bool) → not (not b) ≡ b
 twice_not true = refl
 twice_not false = refl
 
-module _ (r : KeyReport) (flags : ℕ) (is : IsPressed r) (asks : TellsPresses flags) where
-  pub no_legacy : is_legacy flags ≡ false
-  no_legacy = rw asks.keys refl
-
+module _ (r : KeyReport) (flags : ℕ) (is : IsPressed r) (reports : is_legacy flags ≡ false) where
   own_key : told_key r flags ≡ r.key
-  own_key = rw no_legacy refl
+  own_key = rw reports refl
 
-  -- what it types with Shift is told
-  shifted_told : told_shifted r flags ≡ r.shifted
-  shifted_told = go (is_character r.key) refl (is_shifted r.modifiers) refl
+  -- what it types with Shift
+  shifted_told : told_shifted r flags ≡ (told_of r flags).shifted
+  shifted_told = go (holds flags ALTERNATE_KEYS) refl (is_character r.key) refl (is_shifted r.modifiers) refl
     where
-      go : (c : Bool) → is_character r.key ≡ c → (s : Bool) → is_shifted r.modifiers ≡ s → told_shifted r flags ≡ r.shifted
-      go true e true f = rw (own_key, asks.shifted, e, f) refl
-      go true e false f = rw (own_key, asks.shifted, e, f) (sym (is.writable.shifted f))
-      go false e s f = rw (own_key, asks.shifted, e) (sym (is.writable.alternates e).0)
+      go : (a : Bool) → holds flags ALTERNATE_KEYS ≡ a → (c : Bool) → is_character r.key ≡ c → (s : Bool) → is_shifted r.modifiers ≡ s
+          → told_shifted r flags ≡ (told_of r flags).shifted
+      go false a c e s f = rw a refl
+      go true a true e true f = rw (own_key, a, e, f) refl
+      go true a true e false f = rw (own_key, a, e, f) (sym (is.writable.shifted f))
+      go true a false e s f = rw (own_key, a, e) (sym (is.writable.alternates e).0)
 
-  -- and so is its text, with all keys
-  text_told : tells_all_keys flags ≡ true → told_text r flags ≡ r.text
-  text_told all = go (has_text (form_of r.key)) refl
+  -- and its text
+  text_told : told_text r flags ≡ (told_of r flags).text
+  text_told = go (tells_all_keys flags) refl (holds flags ASSOCIATED_TEXT) refl (has_text (form_of r.key)) refl
     where
-      go : (b : Bool) → has_text (form_of r.key) ≡ b → told_text r flags ≡ r.text
-      go true e = rw (own_key, asks.text all, all, e, is.writable.no_control) refl
-      go false e = rw (own_key, asks.text all, all, e) (sym (is.writable.text e))
+      go : (a : Bool) → tells_all_keys flags ≡ a → (t : Bool) → holds flags ASSOCIATED_TEXT ≡ t → (b : Bool) → has_text (form_of r.key) ≡ b
+          → told_text r flags ≡ (told_of r flags).text
+      go false a t e b f = rw (a, and_right (holds flags ASSOCIATED_TEXT) false refl) refl
+      go true a false e b f = rw (a, e) refl
+      go true a true e true f = rw (own_key, a, e, f, is.writable.no_control) refl
+      go true a true e false f = rw (own_key, a, e, f) (sym (is.writable.text f))
 
-  text_untold : tells_all_keys flags ≡ false → told_text r flags ≡ []
-  text_untold some = rw (some, and_right (holds flags ASSOCIATED_TEXT) false refl) refl
+  pub report_tells : canonical (reported r flags) ≡ canonical (told_of r flags)
+  unfolding reported
+  report_tells =
+      same_press (reported r flags) (told_of r flags) (kind_kept (tells_event_types flags) r.kind is.kept) is.kept
+      (ap normal_key own_key ∙ is.writable.normal) (hidden (hides_locks r flags) r.modifiers) shifted_told
+      (ap (λ t. canonical (pressed_with r.key r.modifiers (told_of r flags).shifted t)) text_told)
 
+-- flags that tell presses ask for reports
+pub reports_keys : (flags : ℕ) → TellsPresses flags → is_legacy flags ≡ false
+reports_keys flags asks = rw asks.keys refl
+
+module _ (r : KeyReport) (flags : ℕ) (is : IsPressed r) (asks : TellsPresses flags) where
   -- what isn't typed has no text that counts
   is_untyped : types r.key r ≡ false → is_typed r.modifiers r.text ≡ false
   is_untyped none =
@@ -114,17 +125,18 @@ module _ (r : KeyReport) (flags : ℕ) (is : IsPressed r) (asks : TellsPresses f
       ∙ no_text (is_at_most_shifted r.modifiers) (is_typed_text r.text) (types_character r.key)
       (sends_control r.key) (is_bare r.modifiers) none
 
-  pub report_keeps : (tells_all_keys flags ≡ false → types r.key r ≡ false) → canonical (reported r flags) ≡ canonical r
-  unfolding reported
-  report_keeps untyped_unless =
-      same_press (reported r flags) r (kind_kept (tells_event_types flags) r.kind is.kept) is.kept
-      (ap normal_key own_key ∙ is.writable.normal) (hidden (hides_locks r flags) r.modifiers) shifted_told
-      (text (tells_all_keys flags) refl)
+  -- a report that isn't a text tells all of its press
+  pub all_told : (tells_all_keys flags ≡ false → types r.key r ≡ false) → canonical (told_of r flags) ≡ canonical r
+  all_told unless =
+      by_parts (told_of r flags) is.kept
+      ∙ ap (λ s. canonical (pressed_with r.key r.modifiers s (told_of r flags).text)) shifted
+      ∙ text (tells_all_keys flags) refl ∙ sym (by_parts r is.kept)
     where
+      shifted : (told_of r flags).shifted ≡ r.shifted
+      shifted = rw asks.shifted refl
+
       text : (b : Bool) → tells_all_keys flags ≡ b
-          → canonical (pressed_with r.key r.modifiers r.shifted (told_text r flags))
+          → canonical (pressed_with r.key r.modifiers r.shifted (told_of r flags).text)
           ≡ canonical (pressed_with r.key r.modifiers r.shifted r.text)
-      text true all = ap (λ t. canonical (pressed_with r.key r.modifiers r.shifted t)) (text_told all)
-      text false some =
-          ap (λ t. canonical (pressed_with r.key r.modifiers r.shifted t)) (text_untold some)
-          ∙ sym (untyped r.key r.modifiers r.shifted r.text (is_untyped (untyped_unless some)))
+      text true all = rw (all, asks.text all) refl
+      text false some = rw some (sym (untyped r.key r.modifiers r.shifted r.text (is_untyped (unless some))))
